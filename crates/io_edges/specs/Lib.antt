@@ -1,0 +1,4 @@
+pub mod Count
+pub mod Told
+pub mod Files
+pub mod Edges
