@@ -1,0 +1,46 @@
+-- A file that is read room by room: what was read and what is left are the file.
+use Rattle.std.proofs.Common.{◌≡◌, ℕ, ◌+◌, ◌<◌, List, [], ◌++◌, length, take, drop, Option, Some, ap, sym, ◌∙◌, append_assoc}
+use Rattle.std.proofs.lemmas.List.{take-append-drop, append-nil}
+use Rattle.std.proofs.Math.Seq.{drop-nil, take-append_seam, take-add}
+use Rattle.io_edges.specs.Edges.{Moves}
+
+-- these bytes were read, and with what is left they are the file
+abbrev pub Parts : Option (List ℕ) → List ℕ → Option (List ℕ) → Type 0
+Parts rest bytes file = (left : List ℕ) × (rest ≡ Some left) × (file ≡ Some (bytes ++ left))
+
+
+-- what a read moved goes behind what was read
+pub moved : (rest after : Option (List ℕ)) (bytes room : List ℕ) (n : ℕ) (file : Option (List ℕ))
+    → Parts rest bytes file → ((left : List ℕ) → rest ≡ Some left → Moves left n room after)
+    → Parts after (bytes ++ take n room) file
+moved rest after bytes room n file parts moves =
+    let left : List ℕ = parts.0 in
+    let step : Moves left n room after = moves left parts.1 in
+    let whole : (bytes ++ take n room) ++ drop n left ≡ bytes ++ left =
+        ap (λ (front : List ℕ). (bytes ++ front) ++ drop n left) step.front
+        ∙ append_assoc bytes (take n left) (drop n left)
+        ∙ ap (λ (both : List ℕ). bytes ++ both) (take-append-drop n left) in
+    (drop n left, step.left_over, parts.2 ∙ ap (λ (all : List ℕ). Some all) (sym whole))
+
+-- where no byte moves into a room, nothing is left
+pub ended : (rest after : Option (List ℕ)) (bytes room : List ℕ) (n : ℕ) (file : Option (List ℕ))
+    → Parts rest bytes file → ((left : List ℕ) → rest ≡ Some left → Moves left n room after)
+    → n ≡ 0 → 0 < length room → (file ≡ Some bytes) × (after ≡ Some [])
+ended rest after bytes room n file parts moves none room_there =
+    let left : List ℕ = parts.0 in
+    let step : Moves left n room after = moves left parts.1 in
+    let empty : left ≡ [] = step.ends none room_there in
+    ( parts.2 ∙ ap (λ (l : List ℕ). Some (bytes ++ l)) empty ∙ ap (λ (all : List ℕ). Some all) (append-nil bytes)
+    , step.left_over ∙ ap (λ (l : List ℕ). Some (drop n l)) empty ∙ ap (λ (l : List ℕ). Some l) (drop-nil n))
+
+-- the front of two lists joined, as long as the first
+pub front_of_both : (n : ℕ) (xs ys : List ℕ) → n ≡ length xs → take n (xs ++ ys) ≡ xs
+front_of_both n xs ys e = ap (λ (k : ℕ). take k (xs ++ ys)) e ∙ take-append_seam xs ys
+
+-- a front of what was left over goes behind the front that was sent
+pub sent_more : (before text : List ℕ) (sent n : ℕ) (piece : List ℕ) → piece ≡ drop sent text
+    → (before ++ take sent text) ++ take n piece ≡ before ++ take (sent + n) text
+sent_more before text sent n piece e =
+    ap (λ (rest : List ℕ). (before ++ take sent text) ++ take n rest) e
+    ∙ append_assoc before (take sent text) (take n (drop sent text))
+    ∙ ap (λ (both : List ℕ). before ++ both) (sym (take-add sent n text))
