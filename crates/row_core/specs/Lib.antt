@@ -6,3 +6,5 @@ pub mod Order
 pub mod Rows
 pub mod Statements
 pub mod Subscripts
+pub mod Tables
+pub mod Words

@@ -8,6 +8,13 @@ ghost use Rattle.std.specs.Prelude.{◌≡◌, ℕ, ℤ, ◌<◌, pos, true};
 ghost use Rattle.row_core.specs.Numbers.{ascends, variables_of, all_nonzero, all_fit, fits, InLowestTerms};
 ghost use Rattle.row_core.specs.Order.{var_cmp};
 
+mod equations;
+mod kinds;
+mod subscripts;
+
+pub use equations::{row_has, row_word};
+pub use kinds::{is_free, var_has, var_word};
+
 /// The subscripts of a variable or an equation, each a position in its set, counted from 0.
 /// A subscript that the kind or equation doesn't have is 0. Ordered by the fields as they stand here.
 #[derive(Clone, Copy, Debug, PartialEq, Eq, PartialOrd, Ord)]
