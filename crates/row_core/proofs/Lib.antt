@@ -1,0 +1,3 @@
+mod Examples
+mod Tables
+pub mod Words

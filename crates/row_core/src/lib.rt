@@ -1,0 +1,83 @@
+//! Rows of the linear program of an OSeMOSYS model, with the names of its variables and equations.
+//!
+//! The names and subscripts are those of the OSeMOSYS long code (Howells et al., "OSeMOSYS: The Open
+//! Source Energy Modeling System", Energy Policy 39, 2011).
+#![tactic(auto)]
+
+ghost use Rattle.std.specs.Prelude.{◌≡◌, ℕ, ℤ, ◌<◌, pos, true};
+ghost use Rattle.row_core.specs.Numbers.{ascends, variables_of, all_nonzero, all_fit, fits, InLowestTerms};
+ghost use Rattle.row_core.specs.Order.{var_cmp};
+
+mod equations;
+mod kinds;
+mod subscripts;
+
+pub use equations::{row_has, row_word};
+pub use kinds::{is_free, var_has, var_word};
+
+/// The subscripts of a variable or an equation, each a position in its set, counted from 0.
+/// A subscript that the kind or equation doesn't have is 0. Ordered by the fields as they stand here.
+#[derive(Clone, Copy, Debug, PartialEq, Eq, PartialOrd, Ord)]
+pub struct Index {
+    /// The region, `r`.
+    pub region: u16,
+    /// The other region of a trade, `rr`.
+    pub other: u16,
+    /// The timeslice, `l`.
+    pub slice: u16,
+    /// The technology, `t`.
+    pub tech: u16,
+    /// The fuel, `f`.
+    pub fuel: u16,
+    /// The emission, `e`.
+    pub emission: u16,
+    /// The mode of operation, `m`.
+    pub mode: u16,
+    /// The year, `y`.
+    pub year: u16,
+}
+
+/// A variable: the number of its kind, from 1 to 48, and its subscripts. Ordered by kind, then by
+/// subscripts.
+#[derive(Clone, Copy, Debug, PartialEq, Eq, PartialOrd, Ord)]
+pub struct Var {
+    pub kind: u8,
+    pub index: Index,
+}
+
+/// The name of a row: the number of its equation, from 1 to 64, and its subscripts. Ordered by
+/// equation, then by subscripts.
+#[derive(Clone, Copy, Debug, PartialEq, Eq, PartialOrd, Ord)]
+pub struct RowName {
+    pub eq: u8,
+    pub index: Index,
+}
+
+/// How the left side of a row stands to its right side.
+#[derive(Clone, Copy, Debug, PartialEq, Eq)]
+pub enum Sense {
+    /// At least the right side, `>=`.
+    Least,
+    /// The right side, `=`.
+    Equal,
+    /// At most the right side, `<=`.
+    Most,
+}
+
+/// A row: the sum of each variable times its number stands in `sense` to `rhs`.
+///
+/// Every number lies from -(2^127 - 1) to 2^127 - 1, and no number above 1 divides all of them, unless
+/// all are 0.
+#[derive(Debug, Drop)]
+pub struct Row {
+    pub name: RowName,
+    pub sense: Sense,
+    /// Strictly ascending by variable, with no 0.
+    pub entries: Vec<(Var, i128)>,
+    pub rhs: i128,
+    pub ghost ascending: { ascends var_cmp (variables_of entries.items) ≡ true },
+    pub ghost nonzero: { all_nonzero entries.items ≡ true },
+    pub ghost entries_fit: { all_fit entries.items ≡ true },
+    pub ghost rhs_fits: { fits rhs ≡ true },
+    pub ghost lowest: { InLowestTerms entries.items rhs },
+}
