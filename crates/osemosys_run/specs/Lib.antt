@@ -1,0 +1,2 @@
+pub mod FixedForm
+pub mod FixedFormView

@@ -1,0 +1,4 @@
+//! The commands of the program.
+#![tactic(auto)]
+
+mod fixed_form;
