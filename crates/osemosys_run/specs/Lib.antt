@@ -1,3 +1,13 @@
 pub mod Reading
 pub mod ReadEnds
 pub mod Sending
+pub mod FixedForm
+pub mod FixedFormView
+pub mod Words
+pub mod Equations
+pub mod MpsText
+pub mod Due
+pub mod Codes
+pub mod Commands
+pub mod CapacityRows
+pub mod NewCapacities

@@ -1,7 +1,14 @@
+//! The commands of the program.
 #![tactic(auto)]
 
+mod fixed_form;
+mod capacity_rows;
+mod lines;
 mod reading;
 mod sending;
+mod status;
+mod words;
 
 pub use reading::{ReadEnd, read_file};
 pub use sending::send;
+pub use status::{ReadStop, Refusal, Status, WordFault};

@@ -1,0 +1,13 @@
+-- The exit status of each end of a call. The numbers in between belong to ends that solving will add.
+use Rattle.std.specs.Prelude.{ℕ}
+use Rattle.osemosys_run.specs.declared.status.Status.{Status}
+use Rattle.osemosys_run.specs.declared.status.Status.TheVariants.{Done, Refused, Words, ReadFault, WriteFault, Memory}
+
+-- the exit status
+abbrev pub code_of : Status → ℕ
+code_of Done = 0
+code_of (Refused refusal) = 4
+code_of (Words fault) = 5
+code_of (ReadFault stop) = 6
+code_of WriteFault = 7
+code_of Memory = 8

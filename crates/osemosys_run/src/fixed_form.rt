@@ -1,0 +1,6 @@
+//! The reader of the fixed form of a data file: two sets of names, a set of years, and the two
+//! parameters over them, in one order and with nothing else (a small part of MathProg's data sections).
+
+mod facts;
+
+pub use facts::{FirstFacts, Name};

@@ -1,0 +1,65 @@
+// What a call of the program ends with.
+ghost use Rattle.std.specs.Prelude.{◌≡◌};
+ghost use Rattle.osemosys_run.specs.Codes.{code_of};
+
+/// How a call ended. `code` gives the exit status.
+#[derive(Clone, Copy, Debug, PartialEq, Eq)]
+pub enum Status {
+    /// The command did its work, and its text was written.
+    Done,
+    /// A named rule for the input failed.
+    Refused(Refusal),
+    /// The words ask for nothing that the program does.
+    Words(WordFault),
+    /// A file couldn't be read.
+    ReadFault(ReadStop),
+    /// A write failed; a front of the text due was written.
+    WriteFault,
+    /// Want of memory; nothing was written.
+    Memory,
+}
+
+/// Which rule for the input failed.
+#[derive(Clone, Copy, Debug, PartialEq, Eq)]
+pub enum Refusal {
+    /// The file isn't of the fixed form that is read so far.
+    NotYet,
+    /// The file of this number has more than 64 MiB.
+    TooLong(u8),
+}
+
+/// What is wrong with the words.
+#[derive(Clone, Copy, Debug, PartialEq, Eq)]
+pub enum WordFault {
+    /// There is no word.
+    NoCommand,
+    /// The first word is no command.
+    BadCommand,
+    /// The words after the command aren't one file.
+    BadForm,
+}
+
+/// Why a file couldn't be read. Files count from 1, in the order of the words.
+#[derive(Clone, Copy, Debug, PartialEq, Eq)]
+pub enum ReadStop {
+    /// No file has that name, on a shelf that tells its files.
+    NoFile(u8),
+    /// The shelf failed.
+    Failed(u8),
+}
+
+impl Status {
+    /// The exit status: 0 for `Done`, 4 `Refused`, 5 `Words`, 6 `ReadFault`, 7 `WriteFault`, 8 `Memory`.
+    pub fn code(&self) -> u8
+        ensures { result ≡ code_of self.now }
+    {
+        match self {
+            Status::Done => 0,
+            Status::Refused(_) => 4,
+            Status::Words(_) => 5,
+            Status::ReadFault(_) => 6,
+            Status::WriteFault => 7,
+            Status::Memory => 8,
+        }
+    }
+}
