@@ -1,3 +1,7 @@
 mod Examples
+pub mod Integers
+pub mod Orders
+pub mod PlanLaws
+pub mod StatementLaws
 mod Tables
 pub mod Words
