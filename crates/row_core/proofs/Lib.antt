@@ -2,6 +2,7 @@ mod Examples
 pub mod Integers
 pub mod Orders
 pub mod PlanLaws
+pub mod RowLaws
 pub mod StatementLaws
 mod Tables
 pub mod Words
