@@ -1,3 +1,8 @@
 mod Examples
+pub mod Integers
+pub mod Orders
+pub mod PlanLaws
+pub mod RowLaws
+pub mod StatementLaws
 mod Tables
 pub mod Words

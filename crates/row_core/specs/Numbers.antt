@@ -1,11 +1,21 @@
--- What the numbers of a row keep: they ascend by variable, none is 0, all fit, and they have no common divisor.
-use Rattle.std.specs.Prelude.{◌≡◌, ℕ, ℤ, pos, negsuc, Bool, true, false, List, [], ◌∷◌, ◌&&◌, not, map, ◌==◌, nat_lt, ◌<◌, ◌^◌, unsigned_abs, ⊤}
+-- What the entries and the right side of a row keep: the variables ascend, and the numbers aren't 0, lie in range, and have no common divisor.
+use Rattle.std.specs.Prelude.{◌≡◌, ℕ, ℤ, Bool, true, List, [], ◌∷◌, ◌&&◌, not, ◌==◌, nat_lt, ◌<◌, ◌^◌, unsigned_abs, IsTrue, ⊤}
 use Rattle.std.specs.Ordering.{is_lt}
 use Rattle.std.specs.declared.cmp.Ordering.{Ordering}
-use Prim.Native.Nat.{◌∣◌}
+use Rattle.std.specs.Int.{◌∣◌}
 use Rattle.row_core.specs.declared.Var.{Var}
 
--- x is before the first of the list, if the list has one
+-- the variables of the entries, in their order
+abbrev pub variables_of : List (Var × ℤ) → List Var
+variables_of [] = []
+variables_of (entry ∷ entries) = entry.0 ∷ variables_of entries
+
+-- the numbers of the entries, in their order
+abbrev pub numbers_of : List (Var × ℤ) → List ℤ
+numbers_of [] = []
+numbers_of (entry ∷ entries) = entry.1 ∷ numbers_of entries
+
+-- x is before the first of the list, if there is one
 abbrev pub before_first : {K : Type 0} → (K → K → Ordering) → K → List K → Bool
 before_first cmp x [] = true
 before_first cmp x (y ∷ ys) = is_lt (cmp x y)
@@ -15,40 +25,34 @@ abbrev pub ascends : {K : Type 0} → (K → K → Ordering) → List K → Bool
 ascends cmp [] = true
 ascends cmp (x ∷ xs) = before_first cmp x xs && ascends cmp xs
 
--- the variables of the entries, in their order
-abbrev pub variables_of : List (Var × ℤ) → List Var
-variables_of [] = []
-variables_of (e ∷ es) = e.0 ∷ variables_of es
-
 -- the number is 0
 abbrev pub is_zero : ℤ → Bool
 is_zero z = unsigned_abs z == 0
 
--- no entry is 0
-abbrev pub all_nonzero : List (Var × ℤ) → Bool
-all_nonzero [] = true
-all_nonzero (e ∷ es) = not (is_zero e.1) && all_nonzero es
+-- every number of the list is 0
+abbrev pub all_zero : List ℤ → Bool
+all_zero [] = true
+all_zero (z ∷ zs) = is_zero z && all_zero zs
+
+-- no number of the list is 0
+abbrev pub none_zero : List ℤ → Bool
+none_zero [] = true
+none_zero (z ∷ zs) = not (is_zero z) && none_zero zs
 
 -- the number lies from -(2^127 - 1) to 2^127 - 1
-abbrev pub fits : ℤ → Bool
-fits z = nat_lt (unsigned_abs z) (2 ^ 127)
+abbrev pub in_range : ℤ → Bool
+in_range z = nat_lt (unsigned_abs z) (2 ^ 127)
 
--- each entry fits
-abbrev pub all_fit : List (Var × ℤ) → Bool
-all_fit [] = true
-all_fit (e ∷ es) = fits e.1 && all_fit es
+-- every number of the list lies in this range
+abbrev pub all_in_range : List ℤ → Bool
+all_in_range [] = true
+all_in_range (z ∷ zs) = in_range z && all_in_range zs
 
--- the number divides each entry
-abbrev pub DividesEntries : ℕ → List (Var × ℤ) → Type 0
-DividesEntries d [] = ⊤
-DividesEntries d (e ∷ es) = (d ∣ unsigned_abs e.1) × DividesEntries d es
+-- d divides every number of the list
+abbrev pub DividesAll : ℕ → List ℤ → Type 0
+DividesAll d [] = ⊤
+DividesAll d (z ∷ zs) = (d ∣ unsigned_abs z) × DividesAll d zs
 
--- each entry is 0
-abbrev pub all_zero : List (Var × ℤ) → Bool
-all_zero [] = true
-all_zero (e ∷ es) = is_zero e.1 && all_zero es
-
--- a number above 1 divides each entry and the right side only where all of them are 0
-abbrev pub InLowestTerms : List (Var × ℤ) → ℤ → Type 0
-InLowestTerms entries rhs =
-    (d : ℕ) → 1 < d → DividesEntries d entries → d ∣ unsigned_abs rhs → (all_zero entries && is_zero rhs) ≡ true
+-- a number above 1 divides all of the list only where all of them are 0
+abbrev pub IsLowest : List ℤ → Type 0
+IsLowest zs = (d : ℕ) → 1 < d → DividesAll d zs → IsTrue (all_zero zs)

@@ -1,5 +1,5 @@
 -- What a row says of a plan. A plan is a positive whole number q and a whole number x v for each variable v: the value of v is x v over q.
-use Rattle.std.specs.Prelude.{ℕ, ℤ, pos, ◌+ℤ◌, ◌*ℤ◌, Bool, List, [], ◌∷◌, if◌then◌else◌}
+use Rattle.std.specs.Prelude.{◌≡◌, ℕ, ℤ, pos, ◌+ℤ◌, ◌*ℤ◌, Bool, List, [], ◌∷◌, if◌then◌else◌}
 use Rattle.std.specs.Ordering.{is_eq}
 use Rattle.row_core.specs.declared.Var.{Var}
 use Rattle.row_core.specs.declared.Row.{Row}
@@ -32,3 +32,7 @@ RowHolds row q x = Holds (row_statement row q x)
 -- the test whether the row holds of the plan
 abbrev pub row_holds : Row → ℕ → (Var → ℤ) → Bool
 row_holds row q x = holds (row_statement row q x)
+
+-- two plans, over q and over p, give every variable the same value
+abbrev pub SameValues : ℕ → (Var → ℤ) → ℕ → (Var → ℤ) → Type 0
+SameValues q x p y = (v : Var) → x v *ℤ pos p ≡ y v *ℤ pos q

@@ -4,8 +4,8 @@
 //! Source Energy Modeling System", Energy Policy 39, 2011).
 #![tactic(auto)]
 
-ghost use Rattle.std.specs.Prelude.{◌≡◌, ℕ, ℤ, ◌<◌, pos, true};
-ghost use Rattle.row_core.specs.Numbers.{ascends, variables_of, all_nonzero, all_fit, fits, InLowestTerms};
+ghost use Rattle.std.specs.Prelude.{IsTrue, ◌∷◌};
+ghost use Rattle.row_core.specs.Numbers.{variables_of, numbers_of, ascends, none_zero, all_in_range, IsLowest};
 ghost use Rattle.row_core.specs.Order.{var_cmp};
 
 mod equations;
@@ -75,9 +75,8 @@ pub struct Row {
     /// Strictly ascending by variable, with no 0.
     pub entries: Vec<(Var, i128)>,
     pub rhs: i128,
-    pub ghost ascending: { ascends var_cmp (variables_of entries.items) ≡ true },
-    pub ghost nonzero: { all_nonzero entries.items ≡ true },
-    pub ghost entries_fit: { all_fit entries.items ≡ true },
-    pub ghost rhs_fits: { fits rhs ≡ true },
-    pub ghost lowest: { InLowestTerms entries.items rhs },
+    pub ghost ascending: { IsTrue (ascends var_cmp (variables_of entries.items)) },
+    pub ghost nonzero: { IsTrue (none_zero (numbers_of entries.items)) },
+    pub ghost fits: { IsTrue (all_in_range (rhs ∷ numbers_of entries.items)) },
+    pub ghost lowest: { IsLowest (rhs ∷ numbers_of entries.items) },
 }
