@@ -10,4 +10,4 @@ pub mod Due
 pub mod Codes
 pub mod Commands
 pub mod CapacityRows
-pub mod NewCapacities
+pub mod CapacityEntries

@@ -2,10 +2,10 @@
 ghost use Rattle.std.specs.Prelude.{◌≡◌, ◌^◌, ◌<◌, ◌≤◌, length, IfOk};
 ghost use Rattle.row_core.specs.Names as names;
 ghost use Rattle.osemosys_run.specs.CapacityRows.{IsAt};
-ghost use Rattle.osemosys_run.specs.Equations.{IsRowOf, still_counts, given_capacity};
+ghost use Rattle.osemosys_run.specs.Equations.{IsRowOf, still_counts, years_counting, given_capacity};
 ghost use Rattle.osemosys_run.specs.FixedForm.{IsWellFormed};
 ghost use Rattle.osemosys_run.specs.FixedFormView.{facts_of};
-ghost use Rattle.osemosys_run.specs.NewCapacities.{new_capacities_counting};
+ghost use Rattle.osemosys_run.specs.CapacityEntries.{minus_new_capacities, accumulated_entries, total_entries};
 
 use std::alloc::{AllocError, Global};
 
@@ -63,8 +63,7 @@ fn accumulated_row(
     requires at { IsAt (facts_of facts.now) region tech year }
     ensures { IfOk result (λ row. IsRowOf (facts_of facts.now) (record { equation = Equation.CAa1; region = region; tech = tech; year = year }) row) }
 {
-    let mut entries = new_capacities(alloc, facts, region, tech, year)?;
-    entries.push((variable(ACCUMULATED_NEW_CAPACITY, region, tech, year), 1))?;
+    let entries = accumulated_entries(alloc, facts, region, tech, year)?;
     Ok(Row {
         name: row_name(ACCUMULATES, region, tech, year),
         sense: Sense::Equal,
@@ -85,15 +84,45 @@ fn total_row(
     requires at { IsAt (facts_of facts.now) region tech year }
     ensures { IfOk result (λ row. IsRowOf (facts_of facts.now) (record { equation = Equation.CAa2; region = region; tech = tech; year = year }) row) }
 {
-    let mut entries = Vec::new(alloc);
-    entries.push((variable(ACCUMULATED_NEW_CAPACITY, region, tech, year), -1))?;
-    entries.push((variable(TOTAL_CAPACITY_ANNUAL, region, tech, year), 1))?;
+    let entries = total_entries(alloc, region, tech, year)?;
     Ok(Row {
         name: row_name(TOTALS, region, tech, year),
         sense: Sense::Equal,
         entries,
         rhs: i128::from(residual_capacity(facts, region, tech, year)),
     })
+}
+
+// -1 at each NewCapacity that counts, and 1 at AccumulatedNewCapacity.
+fn accumulated_entries(
+    alloc: Global,
+    facts: &FirstFacts,
+    region: u16,
+    tech: u16,
+    year: u16,
+) -> Result<Vec<(Var, i128)>, AllocError>
+    requires well_formed { IsWellFormed (facts_of facts.now) }
+    requires at { IsAt (facts_of facts.now) region tech year }
+    ensures { IfOk result (λ entries. entries.items ≡ accumulated_entries region tech year (years_counting (facts_of facts.now) region tech year)) }
+{
+    let mut entries = new_capacities(alloc, facts, region, tech, year)?;
+    entries.push((variable(ACCUMULATED_NEW_CAPACITY, region, tech, year), 1))?;
+    Ok(entries)
+}
+
+// -1 at AccumulatedNewCapacity, and 1 at TotalCapacityAnnual.
+fn total_entries(
+    alloc: Global,
+    region: u16,
+    tech: u16,
+    year: u16,
+) -> Result<Vec<(Var, i128)>, AllocError>
+    ensures { IfOk result (λ entries. entries.items ≡ total_entries region tech year) }
+{
+    let mut entries = Vec::new(alloc);
+    entries.push((variable(ACCUMULATED_NEW_CAPACITY, region, tech, year), -1))?;
+    entries.push((variable(TOTAL_CAPACITY_ANNUAL, region, tech, year), 1))?;
+    Ok(entries)
 }
 
 // -1 at the NewCapacity of each year that counts, in the order of the years' positions.
@@ -106,7 +135,7 @@ fn new_capacities(
 ) -> Result<Vec<(Var, i128)>, AllocError>
     requires well_formed { IsWellFormed (facts_of facts.now) }
     requires at { IsAt (facts_of facts.now) region tech year }
-    ensures { IfOk result (λ entries. entries.items ≡ new_capacities_counting (facts_of facts.now) region tech year) }
+    ensures { IfOk result (λ entries. entries.items ≡ minus_new_capacities region tech (years_counting (facts_of facts.now) region tech year)) }
 {
     let mut entries = Vec::new(alloc);
     for built in 0..facts.years.len() {

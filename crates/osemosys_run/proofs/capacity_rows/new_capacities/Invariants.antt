@@ -2,7 +2,7 @@ use Rattle.std.proofs.Common.{◌≡◌}
 use Rattle.std.specs.List.{filter, range_with_len}
 use Rattle.osemosys_run.specs.Equations.{still_counts}
 use Rattle.osemosys_run.specs.FixedFormView.{facts_of}
-use Rattle.osemosys_run.specs.NewCapacities.{minus_new_capacities}
+use Rattle.osemosys_run.specs.CapacityEntries.{minus_new_capacities}
 use Rattle.osemosys_run.proofs.capacity_rows.new_capacities.Given as goal
 
 -- the entries so far are those of the years so far that count
