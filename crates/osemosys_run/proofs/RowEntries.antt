@@ -5,7 +5,7 @@ use Rattle.std.specs.Prelude.{ℤ, pos, negsuc, ◌+ℤ◌, ◌-ℤ◌, ◌*ℤ�
 use Rattle.std.specs.declared.cmp.Ordering.{Ordering}
 use Rattle.std.specs.declared.cmp.Ordering.TheVariants.{Less, Equal}
 use Rattle.std.specs.Cmp.{nat_cmp_is}
-use Rattle.std.specs.List.{filter, range_with_len}
+use Rattle.std.specs.List.{AllByRecursion, filter, range_with_len}
 use Rattle.std.specs.Ordering.{nat_cmp, is_lt}
 use Rattle.std.proofs.Math.IntN.{pos-*ℤ-pos, zero-*ℤ}
 use Rattle.std.proofs.lemmas.Int.{ints}
@@ -13,6 +13,7 @@ use Rattle.std.proofs.lemmas.List.{map-append, append-nil}
 use Rattle.row_core.proofs.Integers.{*ℤ_assoc}
 use Rattle.row_core.proofs.RowLaws.{has_unit}
 use Rattle.row_core.specs.declared.Var.{Var}
+use Rattle.row_core.specs.Kinds.{IsKind}
 use Rattle.row_core.specs.Names.{new_capacity, accumulated_new_capacity}
 use Rattle.row_core.specs.Numbers.{variables_of, numbers_of, before_first, ascends, none_zero, all_in_range, in_range}
 use Rattle.row_core.specs.Order.{var_cmp}
@@ -123,3 +124,8 @@ has_unit-behind z zs unit = ap (λ (b : Bool). nat_eq (unsigned_abs z) 1 || b) u
   or_true : (b : Bool) → (b || true) ≡ true
   or_true true = refl
   or_true false = refl
+
+-- the kinds of the entries' variables have words
+pub kinds-accumulated : (r t y : ℕ) (years : List ℕ) → AllByRecursion (λ e. IsKind e.0.kind) (accumulated_entries r t y years)
+kinds-accumulated r t y [] = ((omega arith, omega arith), tt)
+kinds-accumulated r t y (b ∷ bs) = ((omega arith, omega arith), kinds-accumulated r t y bs)

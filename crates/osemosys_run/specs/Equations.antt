@@ -74,11 +74,21 @@ pub record Instance : Type 0 where
   pub tech : ℕ
   pub year : ℕ
 
--- every instance: equation by equation, region by region, technology by technology, year by year
+-- an equation's instances for a technology in a region, year by year
+abbrev pub tech_instances : Facts → Equation → ℕ → ℕ → List Instance
+tech_instances facts e r t = map (λ y. record { equation = e; region = r; tech = t; year = y }) (positions facts.years)
+
+-- an equation's instances in a region, technology by technology
+abbrev pub region_instances : Facts → Equation → ℕ → List Instance
+region_instances facts e r = flat_map (tech_instances facts e r) (positions facts.technologies)
+
+-- an equation's instances, region by region
+abbrev pub instances_of : Facts → Equation → List Instance
+instances_of facts e = flat_map (region_instances facts e) (positions facts.regions)
+
+-- every instance, equation by equation
 abbrev pub instances : Facts → List Instance
-instances facts =
-    flat_map (λ e. flat_map (λ r. flat_map (λ t. map (λ y. record { equation = e; region = r; tech = t; year = y })
-        (positions facts.years)) (positions facts.technologies)) (positions facts.regions)) (CAa1 ∷ CAa2 ∷ [])
+instances facts = flat_map (instances_of facts) (CAa1 ∷ CAa2 ∷ [])
 
 -- the name of the instance's row
 abbrev pub name_at : Equation → ℕ → ℕ → ℕ → RowName

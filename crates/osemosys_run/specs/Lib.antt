@@ -11,3 +11,4 @@ pub mod Codes
 pub mod Commands
 pub mod CapacityRows
 pub mod CapacityEntries
+pub mod RowsAdded

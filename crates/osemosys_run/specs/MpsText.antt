@@ -1,7 +1,7 @@
 -- The text of rows in the free MPS format: https://lpsolve.sourceforge.net/5.5/mps-format.htm, "free MPS". Every line ends with a line
 -- feed; a line that begins with '*' is a comment.
 use Rattle.std.specs.Prelude.{◌≡◌, ℕ, ℤ, Bool, true, List, [], ◌∷◌, ◌++◌, map, filter, codes, ◌==◌, if◌then◌else◌, slice_index, slice_index_or, ◌↔◌, Contains}
-use Rattle.std.specs.List.{flat_map, range_with_len, enumerate_from, join_with_byte, list_any}
+use Rattle.std.specs.List.{flat_map, range_with_len, enumerate_from, join_with_byte, list_any, AllByRecursion}
 use Rattle.std.specs.Fmt.{decimal, signed_decimal}
 use Rattle.std.specs.Ordering.{is_eq}
 use Rattle.row_core.specs.declared.Index.{Index}
@@ -10,8 +10,8 @@ use Rattle.row_core.specs.declared.RowName.{RowName}
 use Rattle.row_core.specs.declared.Row.{Row}
 use Rattle.row_core.specs.declared.Sense.{Sense}
 use Rattle.row_core.specs.declared.Sense.TheVariants.{Least, Equal, Most}
-use Rattle.row_core.specs.Kinds.{word_of_kind, kind_has, kind_is_free}
-use Rattle.row_core.specs.Equations.{word_of_equation, equation_has}
+use Rattle.row_core.specs.Kinds.{IsKind, word_of_kind, kind_has, kind_is_free}
+use Rattle.row_core.specs.Equations.{IsEquation, word_of_equation, equation_has}
 use Rattle.row_core.specs.Numbers.{ascends, variables_of, is_zero}
 use Rattle.row_core.specs.Order.{var_cmp}
 
@@ -120,6 +120,11 @@ all_variables rows = flat_map (λ row. variables_of row.entries.items) rows
 pub record AreColumns (rows : List Row) (columns : List Var) : Type 0 where
   pub ascending : ascends var_cmp columns ≡ true
   pub each : (v : Var) → Contains columns v ↔ Contains (all_variables rows) v
+
+-- the row's equation and the kinds of its variables are in their lists, and so have words
+pub record HasWords (row : Row) : Type 0 where
+  pub equation : IsEquation row.name.eq
+  pub kinds : AllByRecursion (λ e. IsKind e.0.kind) row.entries.items
 
 -- the text is that of the rows
 abbrev pub IsMpsText : Members → List Row → List ℕ → Type 0

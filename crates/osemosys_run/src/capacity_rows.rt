@@ -5,6 +5,7 @@ ghost use Rattle.osemosys_run.specs.CapacityRows.{IsAt};
 ghost use Rattle.osemosys_run.specs.Equations.{IsRowOf, still_counts, years_counting, given_capacity};
 ghost use Rattle.osemosys_run.specs.FixedForm.{IsWellFormed};
 ghost use Rattle.osemosys_run.specs.FixedFormView.{facts_of};
+ghost use Rattle.osemosys_run.specs.MpsText.{HasWords};
 ghost use Rattle.osemosys_run.specs.CapacityEntries.{minus_new_capacities, accumulated_entries, total_entries};
 
 use std::alloc::{AllocError, Global};
@@ -43,7 +44,8 @@ pub fn row_at(
 ) -> Result<Row, AllocError>
     requires well_formed { IsWellFormed (facts_of facts.now) }
     requires at { IsAt (facts_of facts.now) region tech year }
-    ensures { IfOk result (λ row. IsRowOf (facts_of facts.now) (record { equation = equation; region = region; tech = tech; year = year }) row) }
+    ensures row { IfOk result (λ row. IsRowOf (facts_of facts.now) (record { equation = equation; region = region; tech = tech; year = year }) row) }
+    ensures words { IfOk result HasWords }
 {
     match equation {
         Equation::CAa1 => accumulated_row(alloc, facts, region, tech, year),
@@ -61,7 +63,8 @@ fn accumulated_row(
 ) -> Result<Row, AllocError>
     requires well_formed { IsWellFormed (facts_of facts.now) }
     requires at { IsAt (facts_of facts.now) region tech year }
-    ensures { IfOk result (λ row. IsRowOf (facts_of facts.now) (record { equation = Equation.CAa1; region = region; tech = tech; year = year }) row) }
+    ensures row { IfOk result (λ row. IsRowOf (facts_of facts.now) (record { equation = Equation.CAa1; region = region; tech = tech; year = year }) row) }
+    ensures words { IfOk result HasWords }
 {
     let entries = accumulated_entries(alloc, facts, region, tech, year)?;
     Ok(Row {
@@ -82,7 +85,8 @@ fn total_row(
 ) -> Result<Row, AllocError>
     requires well_formed { IsWellFormed (facts_of facts.now) }
     requires at { IsAt (facts_of facts.now) region tech year }
-    ensures { IfOk result (λ row. IsRowOf (facts_of facts.now) (record { equation = Equation.CAa2; region = region; tech = tech; year = year }) row) }
+    ensures row { IfOk result (λ row. IsRowOf (facts_of facts.now) (record { equation = Equation.CAa2; region = region; tech = tech; year = year }) row) }
+    ensures words { IfOk result HasWords }
 {
     let entries = total_entries(alloc, region, tech, year)?;
     Ok(Row {

@@ -5,6 +5,7 @@ mod fixed_form;
 mod capacity_rows;
 mod lines;
 mod reading;
+mod rows;
 mod sending;
 mod status;
 mod words;

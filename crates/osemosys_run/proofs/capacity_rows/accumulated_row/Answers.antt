@@ -1,6 +1,8 @@
-use Rattle.std.proofs.Common.{◌≡◌, ◌↔◌, ℕ, subst, ap, sym, ◌∙◌, List, ◌∷◌}
+use Rattle.std.proofs.Common.{◌≡◌, ◌↔◌, ℕ, subst, ap, sym, ◌∙◌, List, ◌∷◌, arith}
 use Rattle.std.specs.Prelude.{ℤ, pos, ◌*ℤ◌}
+use Rattle.std.specs.List.{AllByRecursion}
 use Rattle.row_core.specs.declared.Var.{Var}
+use Rattle.row_core.specs.Kinds.{IsKind}
 use Rattle.row_core.specs.Names.{new_capacity, accumulated_new_capacity}
 use Rattle.row_core.specs.Numbers.{variables_of, numbers_of, ascends, none_zero, all_in_range, IsLowest}
 use Rattle.row_core.specs.Order.{var_cmp}
@@ -9,7 +11,7 @@ use Rattle.row_core.proofs.RowLaws.{IsLowest-unit}
 use Rattle.osemosys_run.specs.Equations.{still_counts, years_counting, total}
 use Rattle.osemosys_run.specs.FixedFormView.{facts_of}
 use Rattle.osemosys_run.specs.CapacityEntries.{accumulated_entries}
-use Rattle.osemosys_run.proofs.RowEntries.{ascends-accumulated, none_zero-accumulated, in_range-accumulated, has_unit-accumulated, accumulated-both}
+use Rattle.osemosys_run.proofs.RowEntries.{ascends-accumulated, none_zero-accumulated, in_range-accumulated, has_unit-accumulated, accumulated-both, kinds-accumulated}
 use Rattle.osemosys_run.proofs.capacity_rows.accumulated_row.Goals as goal
 
 
@@ -26,12 +28,21 @@ invariant_of-result c =
         (IsLowest-unit (pos 0 ∷ numbers_of (accumulated_entries r t y years)) (has_unit-accumulated r t y years));
   }
 
-pub returns : goal.returns
-returns c =
+pub returns-clause-row : goal.returns-clause-row
+returns-clause-row c =
   let r = c.args.region in let t = c.args.tech in let y = c.args.year in
   let years = years_counting (facts_of c.args.facts.now) r t y in
   record {
     named = c.row_name.ensures;
     same = λ q x positive. subst (λ (es : List (Var × ℤ)). (row_sum x es ≡ pos 0 *ℤ pos q) ↔ (x (accumulated_new_capacity r t y) ≡ total years (λ b. x (new_capacity r t b))))
         (sym c.in_ok-entries.ensures) (accumulated-both r t y years x (pos q));
+  }
+
+pub returns-clause-words : goal.returns-clause-words
+returns-clause-words c =
+  let r = c.args.region in let t = c.args.tech in let y = c.args.year in
+  let years = years_counting (facts_of c.args.facts.now) r t y in
+  record {
+    equation = rw c.row_name.ensures (omega arith, omega arith);
+    kinds = subst (λ (es : List (Var × ℤ)). AllByRecursion (λ e. IsKind e.0.kind) es) (sym c.in_ok-entries.ensures) (kinds-accumulated r t y years);
   }

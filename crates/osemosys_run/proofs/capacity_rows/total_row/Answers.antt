@@ -27,8 +27,8 @@ invariant_of-result c =
     lowest = subst (λ (es : List (Var × ℤ)). IsLowest (to_z w128 (of_z w128 c.from.result) ∷ numbers_of es)) (sym entries) (IsLowest-unit (to_z w128 (of_z w128 c.from.result) ∷ numbers_of (total_entries r t y)) (has_unit-behind (to_z w128 (of_z w128 c.from.result)) (numbers_of (total_entries r t y)) refl));
   }
 
-pub returns : goal.returns
-returns c =
+pub returns-clause-row : goal.returns-clause-row
+returns-clause-row c =
   let r = c.args.region in let t = c.args.tech in let y = c.args.year in
   let right : to_z w128 (of_z w128 c.from.result) ≡ pos c.residual_capacity.result = omega (arith, ints, c.from.ensures) in
   record {
