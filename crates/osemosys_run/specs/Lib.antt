@@ -12,3 +12,5 @@ pub mod Commands
 pub mod CapacityRows
 pub mod CapacityEntries
 pub mod RowsAdded
+pub mod Columns
+pub mod SortedCells

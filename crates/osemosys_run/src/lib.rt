@@ -4,6 +4,7 @@
 mod fixed_form;
 mod capacity_rows;
 mod lines;
+mod mps;
 mod reading;
 mod rows;
 mod sending;
