@@ -2,3 +2,5 @@ pub mod Count
 pub mod Told
 pub mod Files
 pub mod Edges
+pub mod Memory
+pub mod Named

@@ -5,6 +5,11 @@
 //! files and standard output.
 #![tactic(auto)]
 
+mod failing;
+mod mem_shelf;
+mod mem_sink;
 mod traits;
 
+pub use mem_shelf::MemShelf;
+pub use mem_sink::MemSink;
 pub use traits::{Failed, OpenFault, Shelf, Sink};
