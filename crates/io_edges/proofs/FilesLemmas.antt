@@ -20,16 +20,16 @@ pub absent_from : (name : List ℕ) (files : List NamedFile) (start : ℕ) → p
 absent_from name [] start none = refl
 absent_from name (file ∷ files) start none =
     elim (has_name name file) as (λ b. cond b (Some start) (position_from (has_name name) (start + 1) files) ≡ None → cond b (Some file.bytes.items) (file_named (contents files) name) ≡ None) [
-      true ↦ λ h. cc
-    | false ↦ λ h. absent_from name files (start + 1) h
+      | true ↦ λ h. cc
+      | false ↦ λ h. absent_from name files (start + 1) h
     ] none
 
 pub behind_from : (new : NamedFile) (files : List NamedFile) (start : ℕ) → position_from (has_name new.name.items) start files ≡ None → put_file (contents files) new.name.items new.bytes.items ≡ contents (files ++ new ∷ [])
 behind_from new [] start none = refl
 behind_from new (file ∷ files) start none =
     elim (has_name new.name.items file) as (λ b. cond b (Some start) (position_from (has_name new.name.items) (start + 1) files) ≡ None → cond b ((new.name.items, new.bytes.items) ∷ contents files) ((file.name.items, file.bytes.items) ∷ put_file (contents files) new.name.items new.bytes.items) ≡ contents (file ∷ files ++ new ∷ [])) [
-      true ↦ λ h. cc
-    | false ↦ λ h. ap (λ rest. (file.name.items, file.bytes.items) ∷ rest) (behind_from new files (start + 1) h)
+      | true ↦ λ h. cc
+      | false ↦ λ h. ap (λ rest. (file.name.items, file.bytes.items) ∷ rest) (behind_from new files (start + 1) h)
     ] none
 
 -- at the first place whose file has the name, that file is found, and one that is put stands there
@@ -68,8 +68,8 @@ pub put_found : (files : List (List ℕ × List ℕ)) (name bytes : List ℕ) �
 put_found [] name bytes = rw (same_bytes name) refl
 put_found (file ∷ files) name bytes =
     elim (bytes_eq file.0 name) as (λ b. bytes_eq file.0 name ≡ b → file_named (cond b ((name, bytes) ∷ files) (file ∷ put_file files name bytes)) name ≡ Some bytes) [
-      true ↦ λ h. rw (same_bytes name) refl
-    | false ↦ λ h. rw h (put_found files name bytes)
+      | true ↦ λ h. rw (same_bytes name) refl
+      | false ↦ λ h. rw h (put_found files name bytes)
     ] refl
 
 pub other_bytes : (name other : List ℕ) → other ≢ name → bytes_eq name other ≡ false
@@ -79,9 +79,9 @@ pub put_others : (files : List (List ℕ × List ℕ)) (name bytes other : List 
 put_others [] name bytes other differs = rw (other_bytes name other differs) refl
 put_others (file ∷ files) name bytes other differs =
     elim (bytes_eq file.0 name) as (λ b. bytes_eq file.0 name ≡ b → file_named (cond b ((name, bytes) ∷ files) (file ∷ put_file files name bytes)) other ≡ cond (bytes_eq file.0 other) (Some file.1) (file_named files other)) [
-      true ↦ λ h.
-        let same : file.0 ≡ name = (bytes_eq-Decides file.0 name).0 h in
-        let differ : bytes_eq file.0 other ≡ false = ap (λ bs. bytes_eq bs other) same ∙ other_bytes name other differs in
-        rw (differ, other_bytes name other differs) refl
-    | false ↦ λ h. ap (λ rest. cond (bytes_eq file.0 other) (Some file.1) rest) (put_others files name bytes other differs)
+      | true ↦ λ h.
+          let same : file.0 ≡ name = (bytes_eq-Decides file.0 name).0 h in
+          let differ : bytes_eq file.0 other ≡ false = ap (λ bs. bytes_eq bs other) same ∙ other_bytes name other differs in
+          rw (differ, other_bytes name other differs) refl
+      | false ↦ λ h. ap (λ rest. cond (bytes_eq file.0 other) (Some file.1) rest) (put_others files name bytes other differs)
     ] refl

@@ -4,3 +4,4 @@ pub mod Files
 pub mod Edges
 pub mod Memory
 pub mod Named
+pub mod Disk

@@ -39,13 +39,13 @@ impl Model for MemShelf {
     ghost Value = { ShelfState };
 
     ghost view = { λ s. record {
-        files = contents s.files.items;
-        rest = drop s.at s.current.items;
-        failing = s.failing.numbers.items;
-        calls = s.failing.calls;
-        faults = s.failing.faults;
-        begins = s.begins;
-        taken = s.taken;
+      files = contents s.files.items;
+      rest = drop s.at s.current.items;
+      failing = s.failing.numbers.items;
+      calls = s.failing.calls;
+      faults = s.failing.faults;
+      begins = s.begins;
+      taken = s.taken;
     } };
 
     ghost invariant = { λ s. s.at ≤ length s.current.items };
@@ -55,7 +55,14 @@ impl MemShelf {
     /// A shelf with no files. `failing` has the numbers of the calls that fail.
     pub fn new(alloc: Global, failing: &[u64]) -> Result<MemShelf, AllocError>
         ensures { IfOk result (λ shelf. shelf ≡ record {
-            files = []; rest = []; failing = failing.now; calls = 0; faults = 0; begins = 0; taken = 0 }) }
+          files = [];
+          rest = [];
+          failing = failing.now;
+          calls = 0;
+          faults = 0;
+          begins = 0;
+          taken = 0;
+        }) }
     {
         Ok(MemShelf {
             alloc,

@@ -23,11 +23,11 @@ impl Model for MemSink {
     ghost Value = { SinkState };
 
     ghost view = { λ s. record {
-        room = s.room;
-        written = s.bytes.items;
-        failing = s.failing.numbers.items;
-        calls = s.failing.calls;
-        faults = s.failing.faults;
+      room = s.room;
+      written = s.bytes.items;
+      failing = s.failing.numbers.items;
+      calls = s.failing.calls;
+      faults = s.failing.faults;
     } };
 
     ghost invariant = { λ s. (vec_len s.bytes ≤ s.room) × (s.room ≤ vec_capacity s.bytes) };
@@ -38,7 +38,12 @@ impl MemSink {
     /// that fail.
     pub fn new(alloc: Global, room: usize, failing: &[u64]) -> Result<MemSink, AllocError>
         ensures { IfOk result (λ sink. sink ≡ record {
-            room = room; written = []; failing = failing.now; calls = 0; faults = 0 }) }
+          room = room;
+          written = [];
+          failing = failing.now;
+          calls = 0;
+          faults = 0;
+        }) }
     {
         Ok(MemSink {
             bytes: Vec::with_capacity(alloc, room)?,
