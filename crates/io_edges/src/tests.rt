@@ -1,69 +1,79 @@
 use super::*;
+use std::fs;
 use std::fs::{File, OpenOptions};
+use std::io;
 use std::io::Write;
+use std::process;
+use std::process::Abort;
 use std::test::Fail;
-use std::{env, fs, io, process};
 
-// Reads into a room of so many bytes, and compares the answer and the bytes with what is expected.
-fn reads<S: Shelf>(
-    rt: &impl process::Abort,
-    shelf: &mut S,
-    room: usize,
-    expected: Result<&str, Failed>,
-) {
-    let mut bytes = [0u8; 8];
-    let room = room.min(8);
-    let outcome = shelf.read(&mut bytes[..room]);
-    match (outcome, expected) {
-        (Ok(n), Ok(text)) => {
-            assert_eq!(rt; n, text.len(), "reading {text:?}");
-            assert!(rt; n <= 8);
-            assert_eq!(rt; &bytes[..n], text.as_bytes());
+// A call, and what it has to answer.
+#[derive(Clone, Copy)]
+enum Step<'a> {
+    Begin(&'a str, Result<(), OpenFault>),
+    // The length of the room, and the bytes that come.
+    Read(usize, Result<&'a str, Failed>),
+}
+
+fn run<S: Shelf>(rt: &impl Abort, shelf: &mut S, steps: &[Step<'_>]) {
+    for (i, step) in steps.iter().enumerate() {
+        match step {
+            Step::Begin(name, expected) => {
+                assert_eq!(rt; shelf.begin(name), *expected, "step {i}");
+            }
+            Step::Read(room, expected) => {
+                let mut bytes = [0u8; 8];
+                let outcome = shelf.read(&mut bytes[..(*room).min(8)]);
+                assert_eq!(rt; outcome, expected.map(|text| text.len()), "step {i}");
+                if let Ok(text) = expected {
+                    assert!(rt; bytes.starts_with(text.as_bytes()), "step {i}");
+                }
+            }
         }
-        (outcome, expected) => assert_eq!(rt; outcome.is_err(), expected.is_err()),
     }
 }
 
 #[test]
 fn a_file_in_memory_is_read_in_pieces(rt: HostRuntime) -> Result<(), Fail> {
     let mut shelf = MemShelf::new(rt.alloc(), &[])?;
-    reads(&rt, &mut shelf, 4, Ok(""));
     shelf.put("a", b"hello")?;
     shelf.put("ab", b"")?;
-    assert_eq!(rt; shelf.begin("a"), Ok(()));
-    reads(&rt, &mut shelf, 2, Ok("he"));
-    reads(&rt, &mut shelf, 0, Ok(""));
-    reads(&rt, &mut shelf, 2, Ok("ll"));
-    reads(&rt, &mut shelf, 2, Ok("o"));
-    reads(&rt, &mut shelf, 2, Ok(""));
-    assert_eq!(rt; shelf.begin("ab"), Ok(()));
-    reads(&rt, &mut shelf, 2, Ok(""));
-    assert_eq!(rt; shelf.begin("a"), Ok(()));
-    reads(&rt, &mut shelf, 8, Ok("hello"));
-    Ok(())
-}
-
-#[test]
-fn a_refused_begin_leaves_nothing_to_read(rt: HostRuntime) -> Result<(), Fail> {
-    let mut shelf = MemShelf::new(rt.alloc(), &[3])?;
-    shelf.put("a", b"hello")?;
-    assert_eq!(rt; shelf.begin("a"), Ok(()));
-    assert_eq!(rt; shelf.begin("b"), Err(OpenFault::NoFile));
-    assert_eq!(rt; shelf.begin("a"), Err(OpenFault::Failed));
-    reads(&rt, &mut shelf, 4, Ok(""));
+    let steps = [
+        Step::Read(4, Ok("")),
+        Step::Begin("a", Ok(())),
+        Step::Read(2, Ok("he")),
+        Step::Read(0, Ok("")),
+        Step::Read(2, Ok("ll")),
+        Step::Read(2, Ok("o")),
+        Step::Read(2, Ok("")),
+        Step::Begin("ab", Ok(())),
+        Step::Read(2, Ok("")),
+        Step::Begin("a", Ok(())),
+        Step::Read(8, Ok("hello")),
+    ];
+    run(&rt, &mut shelf, &steps);
     Ok(())
 }
 
 #[test]
 fn the_calls_that_fail_are_those_of_the_list(rt: HostRuntime) -> Result<(), Fail> {
-    let mut shelf = MemShelf::new(rt.alloc(), &[5, 1, 3, 1])?;
+    let mut shelf = MemShelf::new(rt.alloc(), &[5, 1, 3, 1, 7])?;
     shelf.put("a", b"hello")?;
-    assert_eq!(rt; shelf.begin("a"), Err(OpenFault::Failed));
-    assert_eq!(rt; shelf.begin("a"), Ok(()));
-    reads(&rt, &mut shelf, 2, Err(Failed));
-    reads(&rt, &mut shelf, 2, Ok("he"));
-    reads(&rt, &mut shelf, 2, Err(Failed));
-    reads(&rt, &mut shelf, 2, Ok("ll"));
+    let steps = [
+        Step::Begin("a", Err(OpenFault::Failed)),
+        Step::Begin("a", Ok(())),
+        Step::Read(2, Err(Failed)),
+        Step::Read(2, Ok("he")),
+        Step::Read(2, Err(Failed)),
+        Step::Read(2, Ok("ll")),
+        // A refused call leaves nothing to read.
+        Step::Begin("a", Err(OpenFault::Failed)),
+        Step::Read(2, Ok("")),
+        Step::Begin("a", Ok(())),
+        Step::Begin("b", Err(OpenFault::NoFile)),
+        Step::Read(2, Ok("")),
+    ];
+    run(&rt, &mut shelf, &steps);
     Ok(())
 }
 
@@ -72,14 +82,17 @@ fn a_file_that_is_replaced_is_read_on(rt: HostRuntime) -> Result<(), Fail> {
     let mut shelf = MemShelf::new(rt.alloc(), &[])?;
     shelf.put("a", b"hello")?;
     shelf.put("b", b"B")?;
-    assert_eq!(rt; shelf.begin("a"), Ok(()));
-    reads(&rt, &mut shelf, 2, Ok("he"));
+    let steps = [Step::Begin("a", Ok(())), Step::Read(2, Ok("he"))];
+    run(&rt, &mut shelf, &steps);
     shelf.put("a", b"XY")?;
-    reads(&rt, &mut shelf, 8, Ok("llo"));
-    assert_eq!(rt; shelf.begin("a"), Ok(()));
-    reads(&rt, &mut shelf, 8, Ok("XY"));
-    assert_eq!(rt; shelf.begin("b"), Ok(()));
-    reads(&rt, &mut shelf, 8, Ok("B"));
+    let steps = [
+        Step::Read(8, Ok("llo")),
+        Step::Begin("a", Ok(())),
+        Step::Read(8, Ok("XY")),
+        Step::Begin("b", Ok(())),
+        Step::Read(8, Ok("B")),
+    ];
+    run(&rt, &mut shelf, &steps);
     Ok(())
 }
 
@@ -101,30 +114,29 @@ fn a_sink_in_memory_takes_what_fits(rt: HostRuntime) -> Result<(), Fail> {
 
 #[test]
 fn the_files_of_the_system_are_read(rt: HostRuntime) -> Result<(), Fail> {
-    let alloc = rt.alloc();
-    let folder = env::temp_dir(&rt)?;
-    let path = format!(in alloc;
-        "{}/io_edges_{}",
-        folder.display(),
-        process::id(rt.process())
-    )?;
-    fs::write(&rt, path.as_str(), "hello")?;
+    let path = format!(in rt.alloc(); "/tmp/io_edges_{}", process::id(rt.process()))?;
+    let path = path.as_str();
+    fs::write(&rt, path, "hello")?;
     let mut shelf = DiskShelf::new(&rt);
-    reads(&rt, &mut shelf, 4, Ok(""));
-    assert_eq!(rt; shelf.begin(path.as_str()), Ok(()));
-    reads(&rt, &mut shelf, 4, Ok("hell"));
-    reads(&rt, &mut shelf, 4, Ok("o"));
-    reads(&rt, &mut shelf, 4, Ok(""));
-    // A folder is opened, and its reading fails.
-    assert_eq!(rt; shelf.begin("/"), Ok(()));
-    reads(&rt, &mut shelf, 4, Err(Failed));
-    fs::remove_file(&rt, path.as_str())?;
-    assert_eq!(rt; shelf.begin(path.as_str()), Err(OpenFault::Failed));
-    reads(&rt, &mut shelf, 4, Ok(""));
+    let steps = [
+        Step::Read(4, Ok("")),
+        Step::Begin(path, Ok(())),
+        Step::Read(4, Ok("hell")),
+        Step::Read(4, Ok("o")),
+        Step::Read(4, Ok("")),
+        // A folder is opened, and its reading fails.
+        Step::Begin("/", Ok(())),
+        Step::Read(4, Err(Failed)),
+        Step::Begin(path, Ok(())),
+        Step::Begin("no/such/file", Err(OpenFault::Failed)),
+        Step::Read(4, Ok("")),
+    ];
+    run(&rt, &mut shelf, &steps);
+    fs::remove_file(&rt, path)?;
     Ok(())
 }
 
-// What prints into a file; with no file, what takes nothing.
+// What prints into a file, and takes nothing where there is none.
 #[derive(Drop)]
 struct Printer(Option<File>);
 
@@ -154,10 +166,10 @@ fn a_full_or_stuck_output_fails(rt: HostRuntime) -> Result<(), Fail> {
     let mut out = OutSink::new(&rt);
     assert_eq!(rt; out.write(b"written at once\n"), Ok(16));
     assert_eq!(rt; out.write(b""), Ok(0));
-    let full = Printer(Some(OpenOptions::new().write(true).open(&rt, "/dev/full")?));
-    assert_eq!(rt; OutSink::new(&full).write(b"x"), Err(Failed));
-    let stuck = Printer(None);
-    assert_eq!(rt; OutSink::new(&stuck).write(b"x"), Err(Failed));
-    assert_eq!(rt; OutSink::new(&stuck).write(b""), Ok(0));
+    let full = OpenOptions::new().write(true).open(&rt, "/dev/full")?;
+    for printer in [Printer(Some(full)), Printer(None)] {
+        let mut out = OutSink::new(&printer);
+        assert_eq!(rt; out.write(b"x"), Err(Failed));
+    }
     Ok(())
 }
