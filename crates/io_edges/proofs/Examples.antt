@@ -1,5 +1,5 @@
 -- The definitions, computed.
-use Rattle.std.proofs.Common.{◌≡◌, ℕ, ◌-◌, ◌^◌, ◌≤◌, true, false, List, [], ◌∷◌, Some, None, refl, arith, lit≤}
+use Rattle.std.proofs.Common.{◌≡◌, ℕ, ◌-◌, ◌^◌, true, false, List, [], ◌∷◌, Some, None, refl, arith, lit≤}
 use Rattle.io_edges.specs.Count.{counted, counted_by, Rose}
 use Rattle.io_edges.specs.Files.{file_named, put_file}
 use Rattle.io_edges.specs.Edges.{Lacks}

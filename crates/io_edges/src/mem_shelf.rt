@@ -74,6 +74,7 @@ impl MemShelf {
             taken: 0,
         })
     }
+
     /// Puts a file there, in place of one of that name. The unread rest stays as it is, and so do all counts.
     pub fn put(&mut self, name: &str, bytes: &[u8]) -> Result<(), AllocError>
         ensures ok { OnOk result (self.new ≡ record self.old { files = put_file self.old.files name.now bytes.now }) }

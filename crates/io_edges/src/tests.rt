@@ -1,11 +1,9 @@
 use super::*;
-use std::fs;
 use std::fs::{File, OpenOptions};
-use std::io;
 use std::io::Write;
-use std::process;
 use std::process::Abort;
 use std::test::Fail;
+use std::{fs, io, process};
 
 // A call, and what it has to answer.
 #[derive(Clone, Copy)]
