@@ -1,5 +1,5 @@
 -- The test whether a statement is true answers what the statement says.
-use Rattle.std.proofs.Common.{◌≡◌, Bool, true, arith, ℤ}
+use Rattle.std.proofs.Common.{◌≡◌, true, arith, ℤ}
 use Rattle.std.proofs.lemmas.Int.{ints}
 use Rattle.std.proofs.lemmas.Bool.Decides.{Decides-int_eq}
 use Rattle.std.specs.Prelude.{◌≤ℤ◌, int_le}

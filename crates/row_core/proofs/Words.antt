@@ -1,5 +1,5 @@
 -- The words of kinds and of equations tell them apart, and have no bracket and no comma.
-use Rattle.std.proofs.Common.{◌≡◌, ℕ, ◌+◌, ◌-◌, ◌<◌, ◌≤◌, List, [], Bool, true, length, map, get_or, refl, sym, ap, ◌∙◌, arith, nat_eq, replicate, zero-add}
+use Rattle.std.proofs.Common.{◌≡◌, ℕ, ◌-◌, ◌<◌, List, [], Bool, true, length, map, get_or, refl, sym, ap, ◌∙◌, arith, nat_eq, replicate, zero-add}
 use Rattle.std.proofs.lemmas.List.{get_or-map, get_or-replicate}
 use Rattle.std.proofs.lemmas.List.FromFn.{get_or-range_with_len}
 use Rattle.std.specs.List.{range_with_len, position_or_len}

@@ -1,6 +1,10 @@
 //! The tables against the published equations, and rows made and compared.
 
+ghost use Rattle.std.specs.Prelude.{◌≡◌};
+ghost use Rattle.row_core.specs.Order.{var_cmp, row_name_cmp};
+
 use crate::{Index, Row, RowName, Sense, Var, is_free, row_has, row_word, var_has, var_word};
+use std::cmp::Ordering;
 use std::test::Fail;
 
 /// The kinds in order: the word, the letters of the subscripts at their places (o is the other region),
@@ -181,34 +185,50 @@ fn index(region: u16, tech: u16, year: u16) -> Index {
     }
 }
 
+/// The derived order of variables is the one that definitions name.
+fn compare_vars(a: Var, b: Var) -> Ordering
+    ensures { result ≡ var_cmp a b }
+{
+    a.cmp(&b)
+}
+
+/// The derived order of row names is the one that definitions name.
+fn compare_names(a: RowName, b: RowName) -> Ordering
+    ensures { result ≡ row_name_cmp a b }
+{
+    a.cmp(&b)
+}
+
 #[test]
 fn variables_and_names_go_by_number_then_by_subscripts(rt: HostRuntime) {
-    assert!(rt; var(2, 9, 9, 9) < var(5, 0, 0, 0));
-    assert!(rt; var(2, 0, 1, 0) < var(2, 1, 0, 0));
-    assert!(rt; var(2, 0, 0, 1) < var(2, 0, 1, 0));
+    let less = Ordering::Less;
+    assert_eq!(rt; compare_vars(var(2, 9, 9, 9), var(5, 0, 0, 0)), less);
+    assert_eq!(rt; compare_vars(var(2, 0, 1, 0), var(2, 1, 0, 0)), less);
+    assert_eq!(rt; compare_vars(var(2, 0, 0, 1), var(2, 0, 1, 0)), less);
     assert!(rt; var(2, 0, 0, 1) == var(2, 0, 0, 1));
     let trade = Index {
         other: 1,
         ..index(0, 0, 0)
     };
     assert!(rt; index(0, 9, 9) < trade);
-    assert!(rt;
-        RowName {
-            eq: 2,
-            index: trade
-        } < RowName {
-            eq: 3,
-            index: trade
-        }
-    );
-    assert!(rt;
-        RowName {
-            eq: 2,
-            index: index(0, 9, 9)
-        } < RowName {
-            eq: 2,
-            index: trade
-        }
+    let before = RowName {
+        eq: 2,
+        index: index(0, 9, 9),
+    };
+    let after = RowName {
+        eq: 2,
+        index: trade,
+    };
+    assert_eq!(rt; compare_names(before, after), less);
+    assert_eq!(rt;
+        compare_names(
+            after,
+            RowName {
+                eq: 3,
+                index: index(0, 0, 0)
+            }
+        ),
+        less
     );
     assert!(rt; Sense::Least != Sense::Most);
 }
