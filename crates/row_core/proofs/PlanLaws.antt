@@ -29,7 +29,7 @@ row_sum-append x (e ∷ es) fs =
     ap (λ z. (e.1 *ℤ x e.0) +ℤ z) (row_sum-append x es fs) ∙ sym (+ℤ_assoc (e.1 *ℤ x e.0) (row_sum x es) (row_sum x fs))
 
 -- two sides multiplied by a positive number stand as before
-Stands-scaled : (sense : Sense) (k : ℕ) (a b : ℤ) → 0 < k → Stands sense a b ↔ Stands sense (pos k *ℤ a) (pos k *ℤ b)
+pub Stands-scaled : (sense : Sense) (k : ℕ) (a b : ℤ) → 0 < k → Stands sense a b ↔ Stands sense (pos k *ℤ a) (pos k *ℤ b)
 Stands-scaled Least k a b h = (scaled_le k b a, unscaled_le k b a h)
 Stands-scaled Equal k a b h = (ap (λ z. pos k *ℤ z), unscaled_eq k a b h)
 Stands-scaled Most k a b h = (scaled_le k a b, unscaled_le k a b h)

@@ -1,10 +1,11 @@
 //! The tables against the published equations, and rows made and compared.
 
-ghost use Rattle.std.specs.Prelude.{◌≡◌};
+ghost use Rattle.std.specs.Prelude.{◌≡◌, length};
 ghost use Rattle.row_core.specs.Order.{var_cmp, row_name_cmp};
 
 use crate::{Index, Row, RowName, Sense, Var, is_free, row_has, row_word, var_has, var_word};
 use std::cmp::Ordering;
+use std::process::Abort;
 use std::test::Fail;
 
 /// The kinds in order: the word, the letters of the subscripts at their places (o is the other region),
@@ -132,10 +133,12 @@ const EQUATIONS: [(&[u8], &[u8; 8]); 64] = [
     (b"E9", b"r----e--"),
 ];
 
-#[test]
-fn kinds_have_the_words_subscripts_and_signs_of_the_long_code(rt: HostRuntime) {
+/// The kinds are those expected.
+fn assert_kinds(rt: &impl Abort, expected: &[(&[u8], &[u8; 8], bool)])
+    requires { length expected.now ≡ 48 }
+{
     for kind in 1..49u8 {
-        let (word, letters, free) = KINDS[kind as usize - 1];
+        let (word, letters, free) = expected[kind as usize - 1];
         assert_eq!(rt; var_word(kind).as_bytes(), word);
         assert_eq!(rt; is_free(kind), free, "kind {kind}");
         for place in 0..8u8 {
@@ -148,10 +151,12 @@ fn kinds_have_the_words_subscripts_and_signs_of_the_long_code(rt: HostRuntime) {
     }
 }
 
-#[test]
-fn equations_have_the_words_and_subscripts_of_the_long_code(rt: HostRuntime) {
+/// The equations are those expected.
+fn assert_equations(rt: &impl Abort, expected: &[(&[u8], &[u8; 8])])
+    requires { length expected.now ≡ 64 }
+{
     for eq in 1..65u8 {
-        let (word, letters) = EQUATIONS[eq as usize - 1];
+        let (word, letters) = expected[eq as usize - 1];
         assert_eq!(rt; row_word(eq).as_bytes(), word);
         for place in 0..8u8 {
             assert_eq!(rt;
@@ -161,6 +166,16 @@ fn equations_have_the_words_and_subscripts_of_the_long_code(rt: HostRuntime) {
             );
         }
     }
+}
+
+#[test]
+fn kinds_have_the_words_subscripts_and_signs_of_the_long_code(rt: HostRuntime) {
+    assert_kinds(&rt, &KINDS);
+}
+
+#[test]
+fn equations_have_the_words_and_subscripts_of_the_long_code(rt: HostRuntime) {
+    assert_equations(&rt, &EQUATIONS);
 }
 
 /// The variable of this kind with these subscripts and no others.
