@@ -1,2 +1,3 @@
 pub mod FixedForm
 pub mod FixedFormView
+pub mod FixedFormReading

@@ -2,5 +2,14 @@
 //! parameters over them, in one order and with nothing else (a small part of MathProg's data sections).
 
 mod facts;
+mod fault;
+mod numbers;
+mod reading;
+mod statements;
+mod tokens;
+
+#[cfg(test)]
+mod tests;
 
 pub use facts::{FirstFacts, Name};
+pub use reading::read_fixed_form;
