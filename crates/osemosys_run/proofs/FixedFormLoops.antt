@@ -1,6 +1,8 @@
 -- The steps of the loops that read the fixed form: what is still read, after what was read.
 use Rattle.std.proofs.Common.{◌≡◌, ℕ, suc, ◌+◌, ◌-◌, ◌*◌, ◌<◌, ◌≤◌, Bool, true, false, cond, ltb, leb, List, [], ◌∷◌, ◌++◌, length, get_or, drop, map, Option, Some, None, refl, sym, ap, ◌∙◌, append_assoc, arith}
 use Rattle.std.specs.Borrow.{Bor}
+use Rattle.std.specs.Prelude.{bytes_eq, ◌||◌, codes}
+use Rattle.std.specs.List.{list_any, list_all}
 use Rattle.std.specs.Char.{is_ascii_digit}
 use Rattle.std.proofs.lemmas.Bool.{lt-leb, le-leb, and_right, and_left, and_from}
 use Rattle.std.proofs.lemmas.List.{drop_more, drop_all, append-nil}
@@ -8,8 +10,8 @@ use Rattle.osemosys_run.specs.declared.fixed_form.fault.FormError.{FormError}
 use Rattle.osemosys_run.specs.declared.fixed_form.fault.FormError.TheVariants as errors
 use Rattle.osemosys_run.specs.declared.fixed_form.tokens.Token.{Token as SlicedToken}
 use Rattle.osemosys_run.specs.FixedFormView.{token_of, slices_of}
-use Rattle.osemosys_run.specs.FixedForm.{Token, Symbol, Gives, Semicolon, has_leading_zero}
-use Rattle.osemosys_run.specs.FixedFormReading.{◌>>=◌, Fails, value_from, expect_at, expect_all, token_at, member_step, members_at, number_of, numbers_of, number_behind, single, each_at, with_front}
+use Rattle.osemosys_run.specs.FixedForm.{Token, Symbol, Gives, Semicolon, has_leading_zero, is_blank, Facts}
+use Rattle.osemosys_run.specs.FixedFormReading.{◌>>=◌, Fails, value_from, expect_at, expect_all, token_at, member_step, members_at, number_of, numbers_of, number_behind, single, each_at, with_front, param_at, no_double, set_at, region_lives_at, region_capacities_at, all_of}
 
 -- what is left of a list, behind the element that is read
 pub drop_item : {X : Type 0} (xs : List X) (i : ℕ) (x : X) → i < length xs → x ≡ get_or xs i x → drop i xs ≡ x ∷ drop (i + 1) xs
@@ -197,3 +199,71 @@ single_fails errors.NotTheForm front r fails = rw fails refl
 
 pub single_some : (front : List ℕ) (r : Option (ℕ × List ℕ)) (n : ℕ) (after : List ℕ) → r ≡ Some (n, after) → with_front front (single r) ≡ Some (front ++ n ∷ [], after)
 single_some front r n after found = rw found refl
+
+-- nothing was read before
+pub nil_front : (read : Option (List ℕ × List ℕ)) → with_front [] read ≡ read
+nil_front None = refl
+nil_front (Some x) = refl
+
+-- a test of the slices is one of their bytes
+pub any_slice : (name : List ℕ) (slices : List (Bor (List ℕ))) → list_any (λ slice. bytes_eq slice.now name) slices ≡ list_any (λ other. bytes_eq other name) (slices_of slices)
+any_slice name [] = refl
+any_slice name (slice ∷ slices) = ap (λ b. bytes_eq slice.now name || b) (any_slice name slices)
+
+-- ---- a parameter, step by step
+
+-- 'param NAME :='
+abbrev pub head_of : List ℕ → List Token
+head_of name = Symbol (codes "param") ∷ Symbol name ∷ Gives ∷ []
+
+pub param_head_fails : (e : FormError) (name : List ℕ) (values : List ℕ → Option (List ℕ × List ℕ)) (text : List ℕ) → Fails e (expect_all (head_of name) text) → Fails e (param_at name values text)
+unfolding param_at
+param_head_fails errors.Memory name values text fails = tt
+param_head_fails errors.NotTheForm name values text fails = rw fails refl
+
+pub param_values_fail : (e : FormError) (name : List ℕ) (values : List ℕ → Option (List ℕ × List ℕ)) (text start : List ℕ) → expect_all (head_of name) text ≡ Some start
+    → Fails e (values start) → Fails e (param_at name values text)
+unfolding param_at
+param_values_fail errors.Memory name values text start head fails = tt
+param_values_fail errors.NotTheForm name values text start head fails = rw (head, fails) refl
+
+pub param_end_fails : (e : FormError) (name : List ℕ) (values : List ℕ → Option (List ℕ × List ℕ)) (text start ns after : List ℕ) → expect_all (head_of name) text ≡ Some start
+    → values start ≡ Some (ns, after) → Fails e (expect_at Semicolon after) → Fails e (param_at name values text)
+unfolding param_at
+param_end_fails errors.Memory name values text start ns after head read fails = tt
+param_end_fails errors.NotTheForm name values text start ns after head read fails = rw (head, read, fails) refl
+
+pub param_reads : (name : List ℕ) (values : List ℕ → Option (List ℕ × List ℕ)) (text start ns after rest : List ℕ) → expect_all (head_of name) text ≡ Some start
+    → values start ≡ Some (ns, after) → expect_at Semicolon after ≡ Some rest → param_at name values text ≡ Some (ns, rest)
+unfolding param_at
+param_reads name values text start ns after rest head read end = rw (head, read, end) refl
+
+-- ---- doubles
+
+pub first_alone : (slices others : List (Bor (List ℕ))) (first : Bor (List ℕ)) (any : Bool) → slices ≡ first ∷ others → any ≡ list_any (λ slice. bytes_eq slice.now first.now) others → any ≡ false
+    → no_double (slices_of slices) ≡ no_double (slices_of others)
+unfolding no_double
+first_alone slices others first any is any-is none =
+    let e : list_any (λ other. bytes_eq other first.now) (slices_of others) ≡ false = sym (any_slice first.now others) ∙ sym any-is ∙ none in
+    rw (is, e) refl
+
+pub first_again : (slices others : List (Bor (List ℕ))) (first : Bor (List ℕ)) (any : Bool) → slices ≡ first ∷ others → any ≡ list_any (λ slice. bytes_eq slice.now first.now) others → any ≡ true
+    → no_double (slices_of slices) ≡ false
+unfolding no_double
+first_again slices others first any is any-is some =
+    let e : list_any (λ other. bytes_eq other first.now) (slices_of others) ≡ true = sym (any_slice first.now others) ∙ sym any-is ∙ some in
+    rw (is, e) refl
+
+-- ---- the whole text
+
+pub whole_reads : (text : List ℕ) (regions technologies years : List (List ℕ)) (numbers lives capacities : List ℕ) (t1 t2 t3 t4 t5 : List ℕ)
+    → set_at (codes "REGION") text ≡ Some (regions, t1)
+    → set_at (codes "TECHNOLOGY") t1 ≡ Some (technologies, t2)
+    → set_at (codes "YEAR") t2 ≡ Some (years, t3)
+    → numbers_of 1 9999 years ≡ Some numbers
+    → param_at (codes "OperationalLife") (each_at (region_lives_at technologies) regions) t3 ≡ Some (lives, t4)
+    → param_at (codes "ResidualCapacity") (each_at (region_capacities_at technologies years) regions) t4 ≡ Some (capacities, t5)
+    → list_all is_blank t5 ≡ true
+    → all_of text ≡ Some (record { regions = regions; technologies = technologies; years = numbers; lives = lives; capacities = capacities })
+unfolding all_of
+whole_reads text regions technologies years numbers lives capacities t1 t2 t3 t4 t5 e1 e2 e3 e4 e5 e6 e7 = rw (e1, e2, e3, e4, e5, e6, e7) refl

@@ -9,7 +9,7 @@ use crate::fixed_form::facts::{FirstFacts, Name};
 use crate::fixed_form::fault::FormError;
 use crate::fixed_form::numbers::years_of;
 use crate::fixed_form::statements::{operational_life, residual_capacity, set};
-use crate::fixed_form::tokens::is_blank;
+use crate::fixed_form::tokens::is_gap;
 use std::alloc::{AllocError, Global};
 
 /// Names that own their bytes.
@@ -34,7 +34,7 @@ fn all(alloc: Global, text: &[u8]) -> Result<FirstFacts, FormError>
     let years = years_of(alloc, &year_names)?;
     let (lives, rest) = operational_life(alloc, &regions, &technologies, rest)?;
     let (capacities, rest) = residual_capacity(alloc, &regions, &technologies, &year_names, rest)?;
-    if !rest.iter().all(|byte| is_blank(*byte)) {
+    if !is_gap(rest) {
         return Err(FormError::NotTheForm);
     }
     Ok(FirstFacts {

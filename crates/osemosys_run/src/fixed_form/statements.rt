@@ -27,9 +27,14 @@ fn members<'a>(alloc: Global, text: &'a [u8]) -> Result<(Vec<&'a [u8]>, &'a [u8]
         let (token, after) = next_token(rest)?;
         rest = after;
         match token {
-            Token::Symbol(name) if !has_leading_zero(name) => names.push(name)?,
             Token::Semicolon => return Ok((names, rest)),
-            _ => return Err(FormError::NotTheForm),
+            Token::Gives => return Err(FormError::NotTheForm),
+            Token::Symbol(name) => {
+                if has_leading_zero(name) {
+                    return Err(FormError::NotTheForm);
+                }
+                names.push(name)?;
+            }
         }
     }
     rest = expect(&Token::Semicolon, rest)?;
@@ -41,9 +46,9 @@ fn members<'a>(alloc: Global, text: &'a [u8]) -> Result<(Vec<&'a [u8]>, &'a [u8]
 fn has_no_double(names: &[&[u8]]) -> bool
     ensures { result ≡ no_double (slices_of names.now) }
 {
-    match names {
-        [] => true,
-        [first, others @ ..] => !others.contains(first) && has_no_double(others),
+    match names.split_first() {
+        None => true,
+        Some((first, others)) => !others.contains(first) && has_no_double(others),
     }
 }
 
@@ -101,21 +106,22 @@ fn add_region_lives<'a>(
     Ok(rest)
 }
 
-/// Adds the lives of the technologies in each region.
-fn add_lives<'a>(
-    lives: &mut Vec<u16>,
+/// The lives of the technologies in each region, and the text after them.
+fn lives<'a>(
+    alloc: Global,
     regions: &[&[u8]],
     technologies: &[&[u8]],
     text: &'a [u8],
-) -> Result<&'a [u8], FormError>
-    ensures { Reads (λ rest. (lives.new.items, rest.now)) result
-        (with_front lives.old.items (each_at (region_lives_at (slices_of technologies.now)) (slices_of regions.now) text.now)) }
+) -> Result<(Vec<u16>, &'a [u8]), FormError>
+    ensures { Reads (λ x. (x.0.items, x.1.now)) result
+        (each_at (region_lives_at (slices_of technologies.now)) (slices_of regions.now) text.now) }
 {
+    let mut lives = Vec::new(alloc);
     let mut rest = text;
     for region in regions {
-        rest = add_region_lives(lives, region, technologies, rest)?;
+        rest = add_region_lives(&mut lives, region, technologies, rest)?;
     }
-    Ok(rest)
+    Ok((lives, rest))
 }
 
 /// Adds the capacities of a technology in a region, year by year.
@@ -161,22 +167,23 @@ fn add_region_capacities<'a>(
     Ok(rest)
 }
 
-/// Adds the capacities of the technologies in each region.
-fn add_capacities<'a>(
-    capacities: &mut Vec<u64>,
+/// The capacities of the technologies in each region, and the text after them.
+fn capacities<'a>(
+    alloc: Global,
     regions: &[&[u8]],
     technologies: &[&[u8]],
     years: &[&[u8]],
     text: &'a [u8],
-) -> Result<&'a [u8], FormError>
-    ensures { Reads (λ rest. (capacities.new.items, rest.now)) result
-        (with_front capacities.old.items (each_at (region_capacities_at (slices_of technologies.now) (slices_of years.now)) (slices_of regions.now) text.now)) }
+) -> Result<(Vec<u64>, &'a [u8]), FormError>
+    ensures { Reads (λ x. (x.0.items, x.1.now)) result
+        (each_at (region_capacities_at (slices_of technologies.now) (slices_of years.now)) (slices_of regions.now) text.now) }
 {
+    let mut capacities = Vec::new(alloc);
     let mut rest = text;
     for region in regions {
-        rest = add_region_capacities(capacities, region, technologies, years, rest)?;
+        rest = add_region_capacities(&mut capacities, region, technologies, years, rest)?;
     }
-    Ok(rest)
+    Ok((capacities, rest))
 }
 
 /// The lives, and the text after the statement.
@@ -196,8 +203,7 @@ pub fn operational_life<'a>(
         Token::Gives,
     ];
     let rest = expect_all(&head, text)?;
-    let mut lives = Vec::new(alloc);
-    let rest = add_lives(&mut lives, regions, technologies, rest)?;
+    let (lives, rest) = lives(alloc, regions, technologies, rest)?;
     let rest = expect(&Token::Semicolon, rest)?;
     Ok((lives, rest))
 }
@@ -220,8 +226,7 @@ pub fn residual_capacity<'a>(
         Token::Gives,
     ];
     let rest = expect_all(&head, text)?;
-    let mut capacities = Vec::new(alloc);
-    let rest = add_capacities(&mut capacities, regions, technologies, years, rest)?;
+    let (capacities, rest) = capacities(alloc, regions, technologies, years, rest)?;
     let rest = expect(&Token::Semicolon, rest)?;
     Ok((capacities, rest))
 }

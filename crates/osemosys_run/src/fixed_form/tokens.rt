@@ -1,7 +1,7 @@
 //! The tokens: bare symbols, `:=` and `;`, with gaps between them.
 
 ghost use Rattle.std.specs.Prelude.{◌≡◌, ◌≤◌, length, map};
-ghost use Rattle.std.specs.List.{prefix_len};
+ghost use Rattle.std.specs.List.{list_all, prefix_len};
 ghost use Rattle.osemosys_run.specs.FixedForm.{is_blank, is_symbol_byte};
 ghost use Rattle.osemosys_run.specs.FixedFormView.{token_of};
 ghost use Rattle.osemosys_run.specs.FixedFormReading.{Reads, gives_from, symbol_from, token_at, is_same, expect_at, expect_all};
@@ -20,10 +20,17 @@ pub enum Token<'a> {
 }
 
 /// Whether it is a blank, a tab, a line feed or a carriage return.
-pub fn is_blank(byte: u8) -> bool
+fn is_blank(byte: u8) -> bool
     ensures { result ≡ is_blank byte }
 {
     matches!(byte, b' ' | b'\t' | b'\n' | b'\r')
+}
+
+/// Whether it is a gap: blanks, tabs, line feeds and carriage returns, or nothing.
+pub fn is_gap(text: &[u8]) -> bool
+    ensures { result ≡ list_all is_blank text.now }
+{
+    text.iter().all(|byte| is_blank(*byte))
 }
 
 fn is_symbol_byte(byte: u8) -> bool
