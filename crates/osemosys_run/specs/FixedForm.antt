@@ -32,14 +32,14 @@ spelling (Symbol s) = s
 spelling Gives = 58 ∷ 61 ∷ []
 spelling Semicolon = 59 ∷ []
 
--- no byte of bare symbols stands first
-abbrev pub ends_symbol : List ℕ → Bool
-ends_symbol [] = true
-ends_symbol (b ∷ rest) = not (is_symbol_byte b)
+-- the first byte, if there is one, fails the test
+abbrev pub stops : (ℕ → Bool) → List ℕ → Bool
+stops p [] = true
+stops p (b ∷ rest) = not (p b)
 
 -- before this rest the token is whole: a bare symbol goes on as long as it can
 abbrev pub IsWholeBefore : Token → List ℕ → Type 0
-IsWholeBefore (Symbol s) rest = (is_symbol s ≡ true) × (ends_symbol rest ≡ true)
+IsWholeBefore (Symbol s) rest = (is_symbol s ≡ true) × (stops is_symbol_byte rest ≡ true)
 IsWholeBefore Gives rest = ⊤
 IsWholeBefore Semicolon rest = ⊤
 

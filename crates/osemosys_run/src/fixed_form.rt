@@ -12,4 +12,4 @@ mod tokens;
 mod tests;
 
 pub use facts::{FirstFacts, Name};
-pub use reading::read_fixed_form;
+pub use reading::{one_reading, read_fixed_form};
