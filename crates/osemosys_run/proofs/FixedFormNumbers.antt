@@ -116,7 +116,7 @@ number_at_takes least most text n rest small e =
         let n-is : b.0 ≡ n = ap (λ (p : ℕ × List ℕ). p.0) pair in
         let rest-is : after ≡ rest = ap (λ (p : ℕ × List ℕ). p.1) pair in
         let taken = number_takes least most s n small (b.1 ∙ ap (λ m. Some m) n-is) in
-        (found ∙ ap (λ bytes. Some (Symbol bytes, after)) taken.0 ∙ ap (λ left. Some (Symbol (decimal n), left)) rest-is, taken.1)
+        (rw (← taken.0, ← rest-is) found, taken.1)
     from_token Gives after found f = none_is (n, rest) f
     from_token Semicolon after found f = none_is (n, rest) f
 
