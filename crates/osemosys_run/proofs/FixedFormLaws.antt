@@ -1,11 +1,11 @@
 -- What is read from a text is what the text says, and what a text says is read.
-use Rattle.std.proofs.Common.{◌≡◌, ℕ, ◌+◌, ◌*◌, ◌<◌, ◌≤◌, ◌^◌, Bool, true, false, cond, List, [], ◌∷◌, ◌++◌, length, map, Option, Some, None, Result, Ok, Err, refl, sym, ap, subst, ◌∙◌, arith, inl, inr}
+use Rattle.std.proofs.Common.{◌≡◌, ℕ, ◌*◌, ◌^◌, true, cond, List, ◌++◌, length, map, Option, Some, None, sym, ap, subst, ◌∙◌, arith, inl, inr}
 use Rattle.std.specs.Prelude.{codes}
 use Rattle.std.specs.Fmt.{decimal}
 use Rattle.std.specs.List.{list_all, AllByRecursion}
 use Rattle.std.proofs.lemmas.Bool.{cases_Bool}
 use Rattle.std.proofs.lemmas.List.{length-map}
-use Rattle.osemosys_run.specs.FixedForm.{Token, is_blank, Facts, IsWithin, IsName, IsMemberList, IsWellFormed, set_statement, param_statement, life_keys, capacity_keys, statements, IsFixedForm, HasOneReading}
+use Rattle.osemosys_run.specs.FixedForm.{is_blank, Facts, IsWithin, set_statement, param_statement, life_keys, capacity_keys, statements, IsFixedForm, HasOneReading}
 use Rattle.osemosys_run.specs.FixedFormReading.{◌>>=◌, expect_all, set_at, numbers_of, each_at, region_lives_at, region_capacities_at, param_at, all_of}
 use Rattle.osemosys_run.proofs.FixedFormLoops.{whole_reads}
 use Rattle.osemosys_run.proofs.FixedFormTokens.{bind_is, some_is, none_is, expect_join, expect_split, expected_spells, spelled_expected}
@@ -55,7 +55,7 @@ parts_form text facts parts = record {
     life_count = parts.lives.count ∙ length-life_keys facts.regions facts.technologies;
     life_range = parts.lives.within;
     capacity_count = parts.capacities.count ∙ length-capacity_keys facts.regions facts.technologies (map decimal facts.years)
-      ∙ ap (λ n. length facts.regions * length facts.technologies * n) (length-map facts.years decimal);
+        ∙ ap (λ n. length facts.regions * length facts.technologies * n) (length-map facts.years decimal);
     capacity_range = parts.capacities.within;
   };
 }
@@ -89,7 +89,7 @@ form_parts text facts form =
       capacities = record {
         listed = s4.2;
         count = good.capacity_count ∙ ap (λ n. length facts.regions * length facts.technologies * n) (sym (length-map facts.years decimal))
-          ∙ sym (length-capacity_keys facts.regions facts.technologies (map decimal facts.years));
+            ∙ sym (length-capacity_keys facts.regions facts.technologies (map decimal facts.years));
         within = good.capacity_range;
       };
       gap = whole.2;
@@ -113,22 +113,22 @@ read_parts text regions technologies years numbers lives capacities t1 t2 t3 t4 
     let same = year_names.0 in
     elim (cases_Bool (list_all is_blank t5)) [
       | inl gap ↦
-        let made : Parts text read = record {
-          t1 = t1;
-          t2 = t2;
-          t3 = t3;
-          t4 = t4;
-          t5 = t5;
-          regions = set_takes (codes "REGION") text (regions, t1) e1;
-          technologies = set_takes (codes "TECHNOLOGY") t1 (technologies, t2) e2;
-          years = subst (λ names. IsSet (codes "YEAR") t2 names t3) same (set_takes (codes "YEAR") t2 (years, t3) e3);
-          year_range = year_names.1;
-          lives = param_takes (codes "OperationalLife") 1 200 (each_at (region_lives_at technologies) regions) (life_keys regions technologies) (lives_read regions technologies) t3 (lives, t4) e5;
-          capacities = subst (λ names. IsParam (codes "ResidualCapacity") 0 (10 ^ 15) (capacity_keys regions technologies names) t4 capacities t5) same
-            (param_takes (codes "ResidualCapacity") 0 (10 ^ 15) (each_at (region_capacities_at technologies years) regions) (capacity_keys regions technologies years) (capacities_read regions technologies years) t4 (capacities, t5) e6);
-          gap = gap;
-        } in
-        subst (Parts text) (some_is read facts (rw gap at e7)) made
+          let made : Parts text read = record {
+            t1 = t1;
+            t2 = t2;
+            t3 = t3;
+            t4 = t4;
+            t5 = t5;
+            regions = set_takes (codes "REGION") text (regions, t1) e1;
+            technologies = set_takes (codes "TECHNOLOGY") t1 (technologies, t2) e2;
+            years = subst (λ names. IsSet (codes "YEAR") t2 names t3) same (set_takes (codes "YEAR") t2 (years, t3) e3);
+            year_range = year_names.1;
+            lives = param_takes (codes "OperationalLife") 1 200 (each_at (region_lives_at technologies) regions) (life_keys regions technologies) (lives_read regions technologies) t3 (lives, t4) e5;
+            capacities = subst (λ names. IsParam (codes "ResidualCapacity") 0 (10 ^ 15) (capacity_keys regions technologies names) t4 capacities t5) same
+                (param_takes (codes "ResidualCapacity") 0 (10 ^ 15) (each_at (region_capacities_at technologies years) regions) (capacity_keys regions technologies years) (capacities_read regions technologies years) t4 (capacities, t5) e6);
+            gap = gap;
+          } in
+          subst (Parts text) (some_is read facts (rw gap at e7)) made
       | inr more ↦ none_is facts (rw more at e7)
     ]
 
@@ -136,19 +136,19 @@ all_parts : (text : List ℕ) (facts : Facts) → all_of text ≡ Some facts →
 unfolding all_of
 all_parts text facts e =
     let made : List (List ℕ) → List (List ℕ) → List ℕ → List ℕ → List ℕ → Facts = λ regions technologies numbers lives capacities.
-      record { regions = regions; technologies = technologies; years = numbers; lives = lives; capacities = capacities } in
+    record { regions = regions; technologies = technologies; years = numbers; lives = lives; capacities = capacities } in
     let end : List (List ℕ) → List (List ℕ) → List ℕ → List ℕ → List ℕ × List ℕ → Option Facts = λ regions technologies numbers lives capacities.
-      cond (list_all is_blank capacities.1) (Some (made regions technologies numbers lives capacities.0)) None in
+    cond (list_all is_blank capacities.1) (Some (made regions technologies numbers lives capacities.0)) None in
     let after_lives : List (List ℕ) → List (List ℕ) → List (List ℕ) → List ℕ → List ℕ × List ℕ → Option Facts = λ regions technologies years numbers lives.
-      param_at (codes "ResidualCapacity") (each_at (region_capacities_at technologies years) regions) lives.1 >>= end regions technologies numbers lives.0 in
+    param_at (codes "ResidualCapacity") (each_at (region_capacities_at technologies years) regions) lives.1 >>= end regions technologies numbers lives.0 in
     let after_numbers : List (List ℕ) → List (List ℕ) → List (List ℕ) → List ℕ → List ℕ → Option Facts = λ regions technologies years text numbers.
-      param_at (codes "OperationalLife") (each_at (region_lives_at technologies) regions) text >>= after_lives regions technologies years numbers in
+    param_at (codes "OperationalLife") (each_at (region_lives_at technologies) regions) text >>= after_lives regions technologies years numbers in
     let after_years : List (List ℕ) → List (List ℕ) → List (List ℕ) × List ℕ → Option Facts = λ regions technologies years.
-      numbers_of 1 9999 years.0 >>= after_numbers regions technologies years.0 years.1 in
+    numbers_of 1 9999 years.0 >>= after_numbers regions technologies years.0 years.1 in
     let after_technologies : List (List ℕ) → List (List ℕ) × List ℕ → Option Facts = λ regions technologies.
-      set_at (codes "YEAR") technologies.1 >>= after_years regions technologies.0 in
+    set_at (codes "YEAR") technologies.1 >>= after_years regions technologies.0 in
     let after_regions : List (List ℕ) × List ℕ → Option Facts = λ regions.
-      set_at (codes "TECHNOLOGY") regions.1 >>= after_technologies regions.0 in
+    set_at (codes "TECHNOLOGY") regions.1 >>= after_technologies regions.0 in
     let r = bind_is (set_at (codes "REGION") text) after_regions facts e in
     let t = bind_is (set_at (codes "TECHNOLOGY") r.0.1) (after_technologies r.0.0) facts r.2 in
     let y = bind_is (set_at (codes "YEAR") t.0.1) (after_years r.0.0 t.0.0) facts t.2 in
@@ -164,14 +164,14 @@ pub again : (text : List ℕ) (facts : Facts) → IsFixedForm text facts → all
 again text facts form =
     let parts = form_parts text facts form in
     whole_reads text facts.regions facts.technologies (map decimal facts.years) facts.years facts.lives facts.capacities parts.t1 parts.t2 parts.t3 parts.t4 parts.t5
-      (set_again (codes "REGION") text facts.regions parts.t1 parts.regions)
-      (set_again (codes "TECHNOLOGY") parts.t1 facts.technologies parts.t2 parts.technologies)
-      (set_again (codes "YEAR") parts.t2 (map decimal facts.years) parts.t3 parts.years)
-      (numbers_again 1 9999 facts.years (omega arith) parts.year_range)
-      (param_again (codes "OperationalLife") 1 200 (each_at (region_lives_at facts.technologies) facts.regions) (life_keys facts.regions facts.technologies) (lives_read facts.regions facts.technologies) parts.t3 facts.lives parts.t4 parts.lives)
-      (param_again (codes "ResidualCapacity") 0 (10 ^ 15) (each_at (region_capacities_at facts.technologies (map decimal facts.years)) facts.regions)
-        (capacity_keys facts.regions facts.technologies (map decimal facts.years)) (capacities_read facts.regions facts.technologies (map decimal facts.years)) parts.t4 facts.capacities parts.t5 parts.capacities)
-      parts.gap
+    (set_again (codes "REGION") text facts.regions parts.t1 parts.regions)
+    (set_again (codes "TECHNOLOGY") parts.t1 facts.technologies parts.t2 parts.technologies)
+    (set_again (codes "YEAR") parts.t2 (map decimal facts.years) parts.t3 parts.years)
+    (numbers_again 1 9999 facts.years (omega arith) parts.year_range)
+    (param_again (codes "OperationalLife") 1 200 (each_at (region_lives_at facts.technologies) facts.regions) (life_keys facts.regions facts.technologies) (lives_read facts.regions facts.technologies) parts.t3 facts.lives parts.t4 parts.lives)
+    (param_again (codes "ResidualCapacity") 0 (10 ^ 15) (each_at (region_capacities_at facts.technologies (map decimal facts.years)) facts.regions)
+    (capacity_keys facts.regions facts.technologies (map decimal facts.years)) (capacities_read facts.regions facts.technologies (map decimal facts.years)) parts.t4 facts.capacities parts.t5 parts.capacities)
+    parts.gap
 
 pub one_reading : (text : List ℕ) → HasOneReading text
 one_reading text a b first second = some_is a b (sym (again text a first) ∙ again text b second)

@@ -1,21 +1,17 @@
 -- The steps of the loops that read the fixed form: what is still read, after what was read.
-use Rattle.std.proofs.Common.{◌≡◌, ℕ, suc, ◌+◌, ◌-◌, ◌*◌, ◌<◌, ◌≤◌, Bool, true, false, cond, ltb, leb, List, [], ◌∷◌, ◌++◌, length, get_or, drop, map, Option, Some, None, refl, sym, ap, ◌∙◌, append_assoc, arith}
+use Rattle.std.proofs.Common.{◌≡◌, ℕ, suc, ◌+◌, ◌-◌, ◌*◌, ◌<◌, ◌≤◌, Bool, true, false, leb, List, [], ◌∷◌, ◌++◌, length, get_or, drop, map, Option, Some, None, refl, sym, ap, ◌∙◌, append_assoc, arith}
 use Rattle.std.specs.Borrow.{Bor}
 use Rattle.std.specs.Prelude.{bytes_eq, ◌||◌, codes}
 use Rattle.std.specs.List.{list_any, list_all}
 use Rattle.std.specs.Char.{is_ascii_digit}
-use Rattle.std.proofs.lemmas.Bool.{lt-leb, le-leb, and_right, and_left, and_from}
+use Rattle.std.proofs.lemmas.Bool.{lt-leb, le-leb, and_right}
 use Rattle.std.proofs.lemmas.List.{drop_more, drop_all, append-nil}
 use Rattle.osemosys_run.specs.declared.fixed_form.fault.FormError.{FormError}
 use Rattle.osemosys_run.specs.declared.fixed_form.fault.FormError.TheVariants as errors
 use Rattle.osemosys_run.specs.declared.fixed_form.tokens.Token.{Token as SlicedToken}
 use Rattle.osemosys_run.specs.FixedFormView.{token_of, slices_of}
-use Rattle.osemosys_run.specs.FixedForm.{Token, Symbol, Gives, Semicolon, has_leading_zero, is_blank, Facts}
-use Rattle.osemosys_run.specs.FixedFormReading.{◌>>=◌, Fails, value_from, expect_at, expect_all, token_at, member_step, members_at, number_of, numbers_of, number_behind, single, each_at, with_front, param_at, no_double, set_at, region_lives_at, region_capacities_at, all_of}
-
--- what is left of a list, behind the element that is read
-pub drop_item : {X : Type 0} (xs : List X) (i : ℕ) (x : X) → i < length xs → x ≡ get_or xs i x → drop i xs ≡ x ∷ drop (i + 1) xs
-drop_item xs i x lt is = drop_more xs i x lt ∙ ap (λ (y : _). y ∷ drop (i + 1) xs) (sym is)
+use Rattle.osemosys_run.specs.FixedForm.{Token, Symbol, Gives, Semicolon, has_leading_zero, is_blank}
+use Rattle.osemosys_run.specs.FixedFormReading.{◌>>=◌, Fails, value_from, expect_at, expect_all, token_at, member_step, members_at, number_of, numbers_of, single, each_at, with_front, param_at, no_double, set_at, region_lives_at, region_capacities_at, all_of}
 
 -- a step that gives something
 pub bind_some : {A B : Type 0} (r : Option A) (f : A → Option B) (x : A) (total : Option B) → r ≡ Some x → (r >>= f) ≡ total → f x ≡ total
@@ -51,14 +47,14 @@ pub expected_fails : (e : FormError) (tokens : List SlicedToken) (i : ℕ) (d : 
 unfolding expect_all
 expected_fails e tokens i d text total lt fails so_far =
     bind_fails e (expect_at (token_of (get_or tokens i d)) text) (expect_all (map token_of (drop (i + 1) tokens))) total fails
-      (sym (ap (λ (left : List SlicedToken). expect_all (map token_of left) text) (drop_more tokens i d lt)) ∙ so_far)
+    (sym (ap (λ (left : List SlicedToken). expect_all (map token_of left) text) (drop_more tokens i d lt)) ∙ so_far)
 
 pub expected_more : (tokens : List SlicedToken) (i : ℕ) (d : SlicedToken) (text after : List ℕ) (total : Option (List ℕ)) → i < length tokens
     → expect_at (token_of (get_or tokens i d)) text ≡ Some after → expect_all (map token_of (drop i tokens)) text ≡ total → expect_all (map token_of (drop (i + 1) tokens)) after ≡ total
 unfolding expect_all
 expected_more tokens i d text after total lt found so_far =
     bind_some (expect_at (token_of (get_or tokens i d)) text) (expect_all (map token_of (drop (i + 1) tokens))) after total found
-      (sym (ap (λ (left : List SlicedToken). expect_all (map token_of left) text) (drop_more tokens i d lt)) ∙ so_far)
+    (sym (ap (λ (left : List SlicedToken). expect_all (map token_of left) text) (drop_more tokens i d lt)) ∙ so_far)
 
 pub expected_ends : (tokens : List SlicedToken) (i : ℕ) (text : List ℕ) (total : Option (List ℕ)) → length tokens ≤ i
     → expect_all (map token_of (drop i tokens)) text ≡ total → total ≡ Some text
@@ -157,7 +153,6 @@ members_last_done count i front text after total le found so_far =
 
 -- ---- values
 
-
 each_step : (f : List ℕ → List ℕ → Option (List ℕ × List ℕ)) (xs : List (List ℕ)) (front : List ℕ) (r : Option (List ℕ × List ℕ))
     → with_front front (r >>= λ first. each_at f xs first.1 >>= λ others. Some (first.0 ++ others.0, others.1)) ≡ (with_front front r >>= λ first. with_front first.0 (each_at f xs first.1))
 each_step f xs front None = refl
@@ -175,14 +170,14 @@ pub each_fails : (e : FormError) (f : List ℕ → List ℕ → Option (List ℕ
     → Fails e (with_front front (f (get_or slices i d).now text)) → with_front front (each_at f (slices_of (drop i slices)) text) ≡ total → Fails e total
 each_fails e f slices i d front text total lt fails so_far =
     bind_fails e (with_front front (f (get_or slices i d).now text)) (λ first. with_front first.0 (each_at f (slices_of (drop (i + 1) slices)) first.1)) total fails
-      (each_left f slices i d front text total lt so_far)
+    (each_left f slices i d front text total lt so_far)
 
 pub each_more : (f : List ℕ → List ℕ → Option (List ℕ × List ℕ)) (slices : List (Bor (List ℕ))) (i : ℕ) (d : Bor (List ℕ)) (front text new after : List ℕ) (total : Option (List ℕ × List ℕ)) → i < length slices
     → with_front front (f (get_or slices i d).now text) ≡ Some (new, after) → with_front front (each_at f (slices_of (drop i slices)) text) ≡ total
     → with_front new (each_at f (slices_of (drop (i + 1) slices)) after) ≡ total
 each_more f slices i d front text new after total lt found so_far =
     bind_some (with_front front (f (get_or slices i d).now text)) (λ first. with_front first.0 (each_at f (slices_of (drop (i + 1) slices)) first.1)) (new, after) total found
-      (each_left f slices i d front text total lt so_far)
+    (each_left f slices i d front text total lt so_far)
 
 pub each_ends : (f : List ℕ → List ℕ → Option (List ℕ × List ℕ)) (slices : List (Bor (List ℕ))) (i : ℕ) (front text : List ℕ) (total : Option (List ℕ × List ℕ)) → length slices ≤ i
     → with_front front (each_at f (slices_of (drop i slices)) text) ≡ total → total ≡ Some (front, text)

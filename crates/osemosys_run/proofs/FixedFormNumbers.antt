@@ -1,9 +1,9 @@
 -- A number that is read is the one that the digits write, and a number that is written is read.
-use Rattle.std.proofs.Common.{◌≡◌, ℕ, suc, ◌+◌, ◌-◌, ◌*◌, ◌^◌, ◌<◌, ◌≤◌, Bool, true, false, ◌&&◌, ◌||◌, cond, eqb, ltb, leb, List, [], ◌∷◌, length, get_or, map, Option, Some, None, refl, sym, ap, subst, ◌∙◌, arith, rules, inl, inr}
+use Rattle.std.proofs.Common.{◌≡◌, ℕ, ◌+◌, ◌-◌, ◌*◌, ◌^◌, ◌<◌, ◌≤◌, true, false, ◌&&◌, ◌||◌, cond, eqb, ltb, leb, List, [], ◌∷◌, length, get_or, map, Some, None, refl, sym, ap, subst, ◌∙◌, arith, rules, inl, inr}
 use Rattle.std.specs.Char.{is_ascii_digit}
 use Rattle.std.specs.Fmt.{decimal}
 use Rattle.std.specs.List.{list_all, AllByRecursion}
-use Rattle.std.proofs.lemmas.Bool.{cases_Bool, cases_eq, eqb-true, eqb-false, ne_eqb, ltb-false, ltb-true, lt-ltb, le-ltb, leb-true, le-leb, and_parts, and_from, and_right, or_parts}
+use Rattle.std.proofs.lemmas.Bool.{cases_Bool, cases_eq, eqb-false, ne_eqb, ltb-false, le-ltb, leb-true, le-leb, and_parts, and_from, and_right, or_parts}
 use Rattle.std.proofs.lemmas.Str.Parse.{IsNumeralModel, numerals_by_fold}
 use Rattle.std.proofs.lemmas.Fmt.{decimal-digits_value, digits_decimal, digits_value-decimal, decimal_nonempty, first_decimal, decimal_digit}
 use Rattle.osemosys_run.specs.FixedForm.{Token, Symbol, Gives, Semicolon, has_leading_zero, is_symbol_byte, is_symbol, IsName, IsWithin}
@@ -34,9 +34,9 @@ value_takes most n [] m le e = record { digits = refl; number = some_is n m e; w
 value_takes most n (c ∷ cs) m le e =
     elim (cases_Bool (is_ascii_digit c && leb (n * 10 + (c - 48)) most)) [
       | inl goes ↦
-        let parts = and_parts (is_ascii_digit c) (leb (n * 10 + (c - 48)) most) goes in
-        let more = value_takes most (n * 10 + (c - 48)) cs m (leb-true (n * 10 + (c - 48)) most parts.1) (rw goes at e) in
-        record { digits = and_from (is_ascii_digit c) (list_all is_ascii_digit cs) parts.0 more.digits; number = more.number; within = more.within }
+          let parts = and_parts (is_ascii_digit c) (leb (n * 10 + (c - 48)) most) goes in
+          let more = value_takes most (n * 10 + (c - 48)) cs m (leb-true (n * 10 + (c - 48)) most parts.1) (rw goes at e) in
+          record { digits = and_from (is_ascii_digit c) (list_all is_ascii_digit cs) parts.0 more.digits; number = more.number; within = more.within }
       | inr stops ↦ none_is m (rw stops at e)
     ]
 
@@ -54,9 +54,9 @@ one_zero : (s : List ℕ) → list_all is_ascii_digit s ≡ true → 0 < length 
 one_zero s digits long plain zero =
     elim (cases_Bool (ltb 1 (length s))) [
       | inl longer ↦
-        let first : eqb (get_or s 0 0) 48 ≡ true = rw zero refl in
-        let k : has_leading_zero s ≡ true = and_from (list_all is_ascii_digit s && ltb 1 (length s)) (eqb (get_or s 0 0) 48) (and_from (list_all is_ascii_digit s) (ltb 1 (length s)) digits longer) first in
-        absurd cc
+          let first : eqb (get_or s 0 0) 48 ≡ true = rw zero refl in
+          let k : has_leading_zero s ≡ true = and_from (list_all is_ascii_digit s && ltb 1 (length s)) (eqb (get_or s 0 0) 48) (and_from (list_all is_ascii_digit s) (ltb 1 (length s)) digits longer) first in
+          absurd cc
       | inr shorter ↦ let k = ltb-false 1 (length s) shorter in omega arith
     ]
 
@@ -65,8 +65,8 @@ decimal-plain n small =
     elim (cases_eq n 0) [
       | inl none ↦ rw (none, decimal_digit 0 (omega arith)) refl
       | inr some ↦
-        let first = first_decimal n (omega arith) small in
-        and_right (list_all is_ascii_digit (decimal n) && ltb 1 (length (decimal n))) (eqb (get_or (decimal n) 0 0) 48) (ne_eqb (get_or (decimal n) 0 0) 48 (λ e. omega (arith, first, e)))
+          let first = first_decimal n (omega arith) small in
+          and_right (list_all is_ascii_digit (decimal n) && ltb 1 (length (decimal n))) (eqb (get_or (decimal n) 0 0) 48) (ne_eqb (get_or (decimal n) 0 0) 48 (λ e. omega (arith, first, e)))
     ]
 
 -- ---- numbers
@@ -77,21 +77,21 @@ number_takes least most s n small e =
     elim (cases_Bool (eqb (length s) 0 || has_leading_zero s)) [
       | inl refused ↦ none_is n (rw refused at e)
       | inr kept ↦
-        let plain = or_parts (eqb (length s) 0) (has_leading_zero s) kept in
-        let b = bind_is (value_from most 0 s) (λ m. cond (ltb m least) None (Some m)) n (rw kept at e) in
-        let value = value_takes most 0 s b.0 (omega arith) b.1 in
-        let empty = eqb-false (length s) 0 plain.0 in
-        let long : 0 < length s = omega arith in
-        elim (cases_Bool (ltb b.0 least)) [
-          | inl below ↦ none_is n (rw below at b.2)
-          | inr within ↦
-            let m-is : b.0 ≡ n = some_is b.0 n (rw within at b.2) in
-            let ge = ltb-false b.0 least within in
-            let le = value.within in
-            let lt : read_on 0 s < 2 ^ 64 = rw value.number (omega arith) in
-            let back = decimal-digits_value own s value.digits long (one_zero s value.digits long plain.1) lt in
-            (sym back ∙ ap decimal (value.number ∙ m-is), (omega arith, omega arith))
-        ]
+          let plain = or_parts (eqb (length s) 0) (has_leading_zero s) kept in
+          let b = bind_is (value_from most 0 s) (λ m. cond (ltb m least) None (Some m)) n (rw kept at e) in
+          let value = value_takes most 0 s b.0 (omega arith) b.1 in
+          let empty = eqb-false (length s) 0 plain.0 in
+          let long : 0 < length s = omega arith in
+          elim (cases_Bool (ltb b.0 least)) [
+            | inl below ↦ none_is n (rw below at b.2)
+            | inr within ↦
+                let m-is : b.0 ≡ n = some_is b.0 n (rw within at b.2) in
+                let ge = ltb-false b.0 least within in
+                let le = value.within in
+                let lt : read_on 0 s < 2 ^ 64 = rw value.number (omega arith) in
+                let back = decimal-digits_value own s value.digits long (one_zero s value.digits long plain.1) lt in
+                (sym back ∙ ap decimal (value.number ∙ m-is), (omega arith, omega arith))
+          ]
     ]
 
 pub number_again : (least most n : ℕ) → most < 2 ^ 64 → IsWithin least most n → number_of least most (decimal n) ≡ Some n

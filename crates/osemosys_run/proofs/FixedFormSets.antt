@@ -1,5 +1,5 @@
 -- The members that are read are those that the statement lists, and the members that it lists are read.
-use Rattle.std.proofs.Common.{◌≡◌, ◌≢◌, ℕ, zero, suc, ◌+◌, ◌<◌, ◌≤◌, ◌^◌, Bool, true, false, not, ◌&&◌, cond, eqb, List, [], ◌∷◌, ◌++◌, length, map, Option, Some, None, refl, sym, ap, subst, ◌∙◌, arith, inl, inr}
+use Rattle.std.proofs.Common.{◌≡◌, ◌≢◌, ℕ, zero, suc, ◌<◌, ◌≤◌, ◌^◌, true, false, not, cond, eqb, List, [], ◌∷◌, ◌++◌, length, map, Option, Some, None, refl, sym, ap, subst, arith, inl, inr}
 use Rattle.std.specs.Prelude.{bytes_eq, codes}
 use Rattle.std.specs.Fmt.{decimal}
 use Rattle.std.specs.List.{list_any, AllByRecursion}
@@ -9,7 +9,7 @@ use Rattle.std.proofs.lemmas.Fmt.{decimal_injective}
 use Rattle.std.proofs.lemmas.Slice.Eq.{bytes_eq-Decides}
 use Rattle.osemosys_run.specs.FixedForm.{Token, Symbol, Gives, Semicolon, has_leading_zero, IsName, IsWithin, HasNoDouble, IsMemberList, set_statement}
 use Rattle.osemosys_run.specs.FixedFormReading.{◌>>=◌, token_at, expect_at, expect_all, member_step, members_at, no_double, set_at}
-use Rattle.osemosys_run.proofs.FixedFormTokens.{bind_is, some_is, none_is, pair_is, token_takes, first_expected, expected_first, expect_cons, expect_uncons, expect_nil, expect_join, expect_split}
+use Rattle.osemosys_run.proofs.FixedFormTokens.{bind_is, some_is, none_is, token_takes, first_expected, expected_first, expect_cons, expect_uncons, expect_nil, expect_join, expect_split}
 
 -- ---- doubles
 
@@ -23,8 +23,8 @@ differing_others : (name : List ℕ) (names : List (List ℕ)) → AllByRecursio
 differing_others name [] h = refl
 differing_others name (other ∷ names) h =
     or_from (bytes_eq other name) (list_any (λ y. bytes_eq y name) names)
-      (false_from_ne_true (bytes_eq other name) (λ same. h.0 (sym ((bytes_eq-Decides other name).0 same))))
-      (differing_others name names h.1)
+    (false_from_ne_true (bytes_eq other name) (λ same. h.0 (sym ((bytes_eq-Decides other name).0 same))))
+    (differing_others name names h.1)
 
 no_double_takes : (names : List (List ℕ)) → no_double names ≡ true → HasNoDouble names
 unfolding no_double
@@ -38,7 +38,7 @@ unfolding no_double
 no_double_again [] h = refl
 no_double_again (name ∷ names) h =
     and_from (not (list_any (λ other. bytes_eq other name) names)) (no_double names)
-      (not_from_false (list_any (λ other. bytes_eq other name) names) (differing_others name names h.0)) (no_double_again names h.1)
+    (not_from_false (list_any (λ other. bytes_eq other name) names) (differing_others name names h.0)) (no_double_again names h.1)
 
 -- ---- members
 
@@ -65,8 +65,8 @@ step_takes n others ih text (Symbol s) after x found e =
     elim (cases_Bool (has_leading_zero s)) [
       | inl padded ↦ none_is x (rw padded at e)
       | inr plain ↦
-        let b = bind_is (others after) (λ more. Some (s ∷ more.0, more.1)) x (rw plain at e) in
-        subst (λ y. AreMembers (suc n) text y.0 y.1) (some_is (s ∷ b.0.0, b.0.1) x b.2) (one_more n text s after b.0.0 b.0.1 found plain (ih after b.0 b.1))
+          let b = bind_is (others after) (λ more. Some (s ∷ more.0, more.1)) x (rw plain at e) in
+          subst (λ y. AreMembers (suc n) text y.0 y.1) (some_is (s ∷ b.0.0, b.0.1) x b.2) (one_more n text s after b.0.0 b.0.1 found plain (ih after b.0 b.1))
     ]
 step_takes n others ih text Gives after x found e = none_is x e
 step_takes n others ih text Semicolon after x found e =
@@ -102,7 +102,6 @@ pub record IsSet (name text : List ℕ) (names : List (List ℕ)) (rest : List �
   pub members : IsMemberList names
   pub named : AllByRecursion IsName names
 
-
 pub set_takes : (name text : List ℕ) (x : List (List ℕ) × List ℕ) → set_at name text ≡ Some x → IsSet name text x.0 x.1
 unfolding set_at
 set_takes name text x e =
@@ -112,17 +111,17 @@ set_takes name text x e =
     elim (cases_Bool (eqb (length b.0.0) 0)) [
       | inl empty ↦ none_is x (rw empty at b.2)
       | inr some ↦
-        elim (cases_Bool (no_double b.0.0)) [
-          | inl apart ↦
-            let long = eqb-false (length b.0.0) 0 some in
-            let read : IsSet name text b.0.0 b.0.1 = record {
-              listed = expect_join (Symbol (codes "set") ∷ Symbol name ∷ Gives ∷ []) (map (λ s. Symbol s) b.0.0 ++ Semicolon ∷ []) text a.0 b.0.1 a.1 h.listed;
-              members = record { some = omega arith; few = h.few; no_double = no_double_takes b.0.0 apart };
-              named = h.named;
-            } in
-            subst (λ y. IsSet name text y.0 y.1) (some_is b.0 x (rw (some, apart) at b.2)) read
-          | inr doubled ↦ none_is x (rw (some, doubled) at b.2)
-        ]
+          elim (cases_Bool (no_double b.0.0)) [
+            | inl apart ↦
+                let long = eqb-false (length b.0.0) 0 some in
+                let read : IsSet name text b.0.0 b.0.1 = record {
+                  listed = expect_join (Symbol (codes "set") ∷ Symbol name ∷ Gives ∷ []) (map (λ s. Symbol s) b.0.0 ++ Semicolon ∷ []) text a.0 b.0.1 a.1 h.listed;
+                  members = record { some = omega arith; few = h.few; no_double = no_double_takes b.0.0 apart };
+                  named = h.named;
+                } in
+                subst (λ y. IsSet name text y.0 y.1) (some_is b.0 x (rw (some, apart) at b.2)) read
+            | inr doubled ↦ none_is x (rw (some, doubled) at b.2)
+          ]
     ]
 
 pub set_again : (name text : List ℕ) (names : List (List ℕ)) (rest : List ℕ) → IsSet name text names rest → set_at name text ≡ Some (names, rest)

@@ -1,6 +1,5 @@
 -- A token that is read is the first token of the text, and the first token is read.
-use Rattle.std.proofs.Common.{◌≡◌, ℕ, suc, ◌+◌, ◌<◌, ◌≤◌, Bool, true, false, not, ◌&&◌, ◌||◌, cond, eqb, List, [], ◌∷◌, ◌++◌, length, take, drop, Option, Some, None, refl, sym, ap, subst, ◌∙◌, append_assoc, arith, inl, inr}
-use Rattle.std.specs.Prelude.{bytes_eq}
+use Rattle.std.proofs.Common.{◌≡◌, ℕ, suc, ◌+◌, Bool, true, false, cond, eqb, List, [], ◌∷◌, ◌++◌, length, take, drop, Option, Some, None, refl, sym, ap, subst, ◌∙◌, arith, inl, inr}
 use Rattle.std.specs.List.{list_all, prefix_len}
 use Rattle.std.proofs.lemmas.Bool.{cases_Bool, eqb-true, eqb-false, ne_eqb, and_parts, not-true, not_from_false}
 use Rattle.std.proofs.lemmas.List.{take_at, drop_at, take-append-drop, length-take-le}
@@ -72,10 +71,13 @@ symbol_taken text x e =
     elim (cases_Bool (eqb n 0)) [
       | inl empty ↦ none_is x (rw empty at e)
       | inr some ↦
-        subst (λ y. (text ≡ spelling y.0 ++ y.1) × IsWholeBefore y.0 y.1) (some_is (Symbol (take n text), drop n text) x (rw some at e))
-          ( sym (take-append-drop n text)
-          , ( nonempty_symbol (take n text) (run_passes is_symbol_byte text) (λ z. eqb-false n 0 some (sym (length-take-le n text (prefix_len-le-length is_symbol_byte text)) ∙ z))
-            , run_stops is_symbol_byte text))
+          subst (λ y. (text ≡ spelling y.0 ++ y.1) × IsWholeBefore y.0 y.1) (some_is (Symbol (take n text), drop n text) x (rw some at e)) (
+            sym (take-append-drop n text),
+            (
+              nonempty_symbol (take n text) (run_passes is_symbol_byte text) (λ z. eqb-false n 0 some (sym (length-take-le n text (prefix_len-le-length is_symbol_byte text)) ∙ z)),
+              run_stops is_symbol_byte text,
+            ),
+          )
     ]
 
 token_taken : (text : List ℕ) (x : Token × List ℕ) → token_from text ≡ Some x → Taken text x
@@ -85,10 +87,10 @@ token_taken (b ∷ bs) x e =
     elim (cases_Bool (eqb b 59)) [
       | inl semicolon ↦ subst (λ y. (b ∷ bs ≡ spelling y.0 ++ y.1) × IsWholeBefore y.0 y.1) (some_is (Semicolon, bs) x (rw semicolon at e)) (rw (eqb-true b 59 semicolon) refl, tt)
       | inr not_semicolon ↦
-        elim (cases_Bool (eqb b 58)) [
-          | inl colon ↦ gives_taken b bs x (eqb-true b 58 colon) (rw (not_semicolon, colon) at e)
-          | inr not_colon ↦ symbol_taken (b ∷ bs) x (rw (not_semicolon, not_colon) at e)
-        ]
+          elim (cases_Bool (eqb b 58)) [
+            | inl colon ↦ gives_taken b bs x (eqb-true b 58 colon) (rw (not_semicolon, colon) at e)
+            | inr not_colon ↦ symbol_taken (b ∷ bs) x (rw (not_semicolon, not_colon) at e)
+          ]
     ]
 
 pub token_takes : (text : List ℕ) (token : Token) (rest : List ℕ) → token_at text ≡ Some (token, rest) → StartsWith text token rest

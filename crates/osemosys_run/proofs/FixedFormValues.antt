@@ -1,12 +1,12 @@
 -- The values that are read are those that the statement lists, and the values that it lists are read.
-use Rattle.std.proofs.Common.{◌≡◌, ℕ, suc, ◌+◌, ◌*◌, ◌<◌, ◌≤◌, ◌^◌, List, [], ◌∷◌, ◌++◌, length, take, drop, map, Option, Some, None, refl, sym, ap, subst, ◌∙◌, append_assoc, arith}
+use Rattle.std.proofs.Common.{◌≡◌, ℕ, ◌*◌, ◌<◌, ◌^◌, List, [], ◌∷◌, ◌++◌, length, take, drop, map, Option, Some, refl, sym, ap, subst, ◌∙◌, append_assoc, arith}
 use Rattle.std.specs.Prelude.{codes}
 use Rattle.std.specs.Fmt.{decimal}
 use Rattle.std.specs.List.{flat_map, AllByRecursion}
-use Rattle.std.proofs.lemmas.List.{append-nil, length-append, length-map, length-take-le, length-drop, take-append-drop, nil_from_length}
-use Rattle.osemosys_run.specs.FixedForm.{Token, Symbol, Gives, Semicolon, IsWithin, records, life_keys, capacity_keys, param_statement}
-use Rattle.osemosys_run.specs.FixedFormReading.{◌>>=◌, token_at, expect_at, expect_all, number_at, number_behind, single, each_at, region_lives_at, technology_capacities_at, region_capacities_at, param_at}
-use Rattle.osemosys_run.proofs.FixedFormTokens.{bind_is, some_is, none_is, first_expected, expected_first, expect_cons, expect_uncons, expect_nil, expect_join, expect_split}
+use Rattle.std.proofs.lemmas.List.{length-append, length-map, length-take-le, length-drop, take-append-drop, nil_from_length}
+use Rattle.osemosys_run.specs.FixedForm.{Symbol, Gives, Semicolon, IsWithin, records, life_keys, capacity_keys, param_statement}
+use Rattle.osemosys_run.specs.FixedFormReading.{◌>>=◌, expect_at, expect_all, number_at, number_behind, single, each_at, region_lives_at, technology_capacities_at, region_capacities_at, param_at}
+use Rattle.osemosys_run.proofs.FixedFormTokens.{bind_is, some_is, first_expected, expected_first, expect_cons, expect_uncons, expect_nil, expect_join, expect_split}
 use Rattle.osemosys_run.proofs.FixedFormNumbers.{number_at_takes, number_at_again}
 
 -- ---- records
@@ -105,7 +105,7 @@ each_again least most f keys reads (x ∷ xs) text ns rest h =
     let back : length (drop n ns) ≡ length (flat_map keys xs) = length-drop n ns ∙ omega arith in
     let parts : take n ns ++ drop n ns ≡ ns = take-append-drop n ns in
     let joined : records (keys x ++ flat_map keys xs) ns ≡ records (keys x) (take n ns) ++ records (flat_map keys xs) (drop n ns) =
-      ap (records (keys x ++ flat_map keys xs)) (sym parts) ∙ records-append (keys x) (flat_map keys xs) (take n ns) (drop n ns) front in
+    ap (records (keys x ++ flat_map keys xs)) (sym parts) ∙ records-append (keys x) (flat_map keys xs) (take n ns) (drop n ns) front in
     let b = expect_split (records (keys x) (take n ns)) (records (flat_map keys xs) (drop n ns)) text rest (ap (λ tokens. expect_all tokens text) (sym joined) ∙ h.listed) in
     let all = All-split (IsWithin least most) (take n ns) (drop n ns) (subst (AllByRecursion (IsWithin least most)) (sym parts) h.within) in
     let one = (reads x).again text (take n ns) b.0 (record { listed = b.1; count = front; within = all.0 }) in
@@ -125,8 +125,8 @@ flat_map-single g (x ∷ xs) = ap (λ ys. g x ∷ ys) (flat_map-single g xs)
 region_lives_read : (technologies : List (List ℕ)) (region : List ℕ) → ReadsKeys 1 200 (region_lives_at technologies region) (map (λ technology. region ∷ technology ∷ []) technologies)
 region_lives_read technologies region =
     subst (ReadsKeys 1 200 (region_lives_at technologies region)) (flat_map-single (λ technology. region ∷ technology ∷ []) technologies)
-      (each_reads 1 200 (λ technology text. single (number_behind 1 200 (Symbol region ∷ Symbol technology ∷ []) text)) (λ technology. (region ∷ technology ∷ []) ∷ [])
-        (λ technology. one_reads 1 200 (region ∷ technology ∷ []) (omega arith)) technologies)
+    (each_reads 1 200 (λ technology text. single (number_behind 1 200 (Symbol region ∷ Symbol technology ∷ []) text)) (λ technology. (region ∷ technology ∷ []) ∷ [])
+    (λ technology. one_reads 1 200 (region ∷ technology ∷ []) (omega arith)) technologies)
 
 pub lives_read : (regions technologies : List (List ℕ)) → ReadsKeys 1 200 (each_at (region_lives_at technologies) regions) (life_keys regions technologies)
 lives_read regions technologies =
@@ -136,14 +136,14 @@ technology_capacities_read : (years : List (List ℕ)) (region technology : List
     → ReadsKeys 0 (10 ^ 15) (technology_capacities_at years region technology) (map (λ year. region ∷ technology ∷ year ∷ []) years)
 technology_capacities_read years region technology =
     subst (ReadsKeys 0 (10 ^ 15) (technology_capacities_at years region technology)) (flat_map-single (λ year. region ∷ technology ∷ year ∷ []) years)
-      (each_reads 0 (10 ^ 15) (λ year text. single (number_behind 0 (10 ^ 15) (Symbol region ∷ Symbol technology ∷ Symbol year ∷ []) text)) (λ year. (region ∷ technology ∷ year ∷ []) ∷ [])
-        (λ year. one_reads 0 (10 ^ 15) (region ∷ technology ∷ year ∷ []) (omega arith)) years)
+    (each_reads 0 (10 ^ 15) (λ year text. single (number_behind 0 (10 ^ 15) (Symbol region ∷ Symbol technology ∷ Symbol year ∷ []) text)) (λ year. (region ∷ technology ∷ year ∷ []) ∷ [])
+    (λ year. one_reads 0 (10 ^ 15) (region ∷ technology ∷ year ∷ []) (omega arith)) years)
 
 pub capacities_read : (regions technologies years : List (List ℕ)) → ReadsKeys 0 (10 ^ 15) (each_at (region_capacities_at technologies years) regions) (capacity_keys regions technologies years)
 capacities_read regions technologies years =
     each_reads 0 (10 ^ 15) (region_capacities_at technologies years) (λ region. flat_map (λ technology. map (λ year. region ∷ technology ∷ year ∷ []) years) technologies)
-      (λ region. each_reads 0 (10 ^ 15) (technology_capacities_at years region) (λ technology. map (λ year. region ∷ technology ∷ year ∷ []) years) (technology_capacities_read years region) technologies)
-      regions
+    (λ region. each_reads 0 (10 ^ 15) (technology_capacities_at years region) (λ technology. map (λ year. region ∷ technology ∷ year ∷ []) years) (technology_capacities_read years region) technologies)
+    regions
 
 -- ---- how many values
 

@@ -1,6 +1,6 @@
 -- Reading the fixed form from left to right, over lists. Only private functions cite these: what
 -- they give is shown to be what the fixed form says.
-use Rattle.std.specs.Prelude.{◌≡◌, ℕ, zero, suc, ◌+◌, ◌-◌, ◌*◌, ◌^◌, Bool, true, false, not, ◌&&◌, ◌||◌, ◌==◌, nat_lt, nat_le, if◌then◌else◌, List, [], ◌∷◌, ◌++◌, length, map, take, drop, codes, Option, Some, None, Result, Ok, Err, bytes_eq, ⊤}
+use Rattle.std.specs.Prelude.{◌≡◌, ℕ, zero, suc, ◌+◌, ◌-◌, ◌*◌, ◌^◌, Bool, true, false, not, ◌&&◌, ◌||◌, ◌==◌, nat_lt, nat_le, if◌then◌else◌, List, [], ◌∷◌, ◌++◌, length, take, drop, codes, Option, Some, None, Result, Ok, Err, bytes_eq, ⊤}
 use Rattle.std.specs.Char.{is_ascii_digit}
 use Rattle.std.specs.List.{list_all, list_any, prefix_len}
 use Rattle.osemosys_run.specs.declared.fixed_form.fault.FormError.{FormError}
@@ -173,5 +173,5 @@ all_of text = do
   lives ← param_at (codes "OperationalLife") (each_at (region_lives_at technologies.0) regions.0) years.1
   capacities ← param_at (codes "ResidualCapacity") (each_at (region_capacities_at technologies.0 years.0) regions.0) lives.1
   if list_all is_blank capacities.1
-    then Some (record { regions = regions.0; technologies = technologies.0; years = numbers; lives = lives.0; capacities = capacities.0 })
-    else None
+      then Some (record { regions = regions.0; technologies = technologies.0; years = numbers; lives = lives.0; capacities = capacities.0 })
+      else None

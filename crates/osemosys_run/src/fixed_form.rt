@@ -6,10 +6,9 @@ mod fault;
 mod numbers;
 mod reading;
 mod statements;
-mod tokens;
-
 #[cfg(test)]
 mod tests;
+mod tokens;
 
 pub use facts::{FirstFacts, Name};
 pub use reading::{one_reading, read_fixed_form};

@@ -67,5 +67,4 @@ pub fn read_fixed_form(alloc: Global, text: &[u8]) -> Result<Option<FirstFacts>,
 /// A text says one thing at most.
 pub fn one_reading()
     ensures { (text : List ℕ) → HasOneReading text }
-{
-}
+{}

@@ -27,9 +27,9 @@ loop-byte-preserved c =
     record {
       within = c.if-value-most.false;
       rest = ap (λ d. value_from c.args.most (c.loop-byte.value * 10 + d) (drop (i + 1) ds)) c.from.ensures
-        ∙ sym (value_more c.args.most c.loop-byte.value (get_or ds i 0) (drop (i + 1) ds) (sym c.is_ascii_digit.ensures.value ∙ c.if-not-is_ascii_digit.false) (rw c.from.ensures at c.if-value-most.false))
-        ∙ sym (ap (value_from c.args.most c.loop-byte.value) (drop_more ds i 0 c.loop-byte-test.true))
-        ∙ c.loop-byte.invariant.rest;
+          ∙ sym (value_more c.args.most c.loop-byte.value (get_or ds i 0) (drop (i + 1) ds) (sym c.is_ascii_digit.ensures.value ∙ c.if-not-is_ascii_digit.false) (rw c.from.ensures at c.if-value-most.false))
+          ∙ sym (ap (value_from c.args.most c.loop-byte.value) (drop_more ds i 0 c.loop-byte-test.true))
+          ∙ c.loop-byte.invariant.rest;
     }
 
 pub returns-clause-value : goal.returns-clause-value

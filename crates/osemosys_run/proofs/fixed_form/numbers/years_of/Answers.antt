@@ -1,7 +1,5 @@
-use Rattle.osemosys_run.proofs.FixedFormLoops.{behind, years_fail, years_more, years_end}
-use Rattle.osemosys_run.specs.FixedFormView.{slices_of}
-use Rattle.osemosys_run.specs.FixedFormReading.{numbers_of}
-use Rattle.std.proofs.Common.{sym, ◌∙◌, ◌≡◌, ◌+◌, ◌++◌, ◌∷◌, [], drop}
+use Rattle.osemosys_run.proofs.FixedFormLoops.{years_fail, years_more, years_end}
+use Rattle.std.proofs.Common.{sym, ◌∙◌}
 use Rattle.osemosys_run.proofs.fixed_form.numbers.years_of.Goals as goal
 
 pub returns-in_default : goal.returns-in_default
@@ -10,7 +8,7 @@ returns-in_default c = years_fail c.args.symbols.now c.loop-symbol.symbol-index 
 pub loop-symbol-preserved : goal.loop-symbol-preserved
 loop-symbol-preserved c =
     rw c.in_ok-push.ensures.items
-      (years_more c.args.symbols.now c.loop-symbol.symbol-index _ c.loop-symbol.years.items c.in-Some.year _ c.loop-symbol-test.true (sym c.number_of.ensures.value ∙ c.in-Some.is) c.loop-symbol.invariant)
+    (years_more c.args.symbols.now c.loop-symbol.symbol-index _ c.loop-symbol.years.items c.in-Some.year _ c.loop-symbol-test.true (sym c.number_of.ensures.value ∙ c.in-Some.is) c.loop-symbol.invariant)
 
 pub returns : goal.returns
 returns c = years_end c.args.symbols.now c.loop-symbol.symbol-index c.loop-symbol.years.items _ c.loop-symbol-test.false c.loop-symbol.invariant

@@ -1,4 +1,4 @@
-use Rattle.std.proofs.Common.{◌≡◌, ◌∙◌, sym}
+use Rattle.std.proofs.Common.{◌∙◌, sym}
 use Rattle.osemosys_run.specs.FixedFormView.{slices_of}
 use Rattle.osemosys_run.proofs.FixedFormLoops.{whole_reads}
 use Rattle.osemosys_run.proofs.fixed_form.reading.all.Goals as goal
@@ -15,5 +15,5 @@ returns c =
     let n1 = rw c.deref-7.ensures.value at c.in_ok-owned.ensures in
     let n2 = rw c.deref-8.ensures.value at c.in_ok-owned-2.ensures in
     rw (n1, n2) (whole_reads c.args.text.now (slices_of c.in_ok-regions.regions.items) (slices_of c.in_ok-technologies.technologies.items) (slices_of c.in_ok-year_names.year_names.items)
-      c.in_ok-years.years.items c.in_ok-lives.lives.items c.in_ok-capacities.capacities.items c.in_ok-regions.rest.now c.in_ok-technologies.rest.now c.in_ok-year_names.rest.now c.in_ok-lives.rest.now c.in_ok-capacities.rest.now
-      e1 e2 e3 e4 e5 e6 e7)
+    c.in_ok-years.years.items c.in_ok-lives.lives.items c.in_ok-capacities.capacities.items c.in_ok-regions.rest.now c.in_ok-technologies.rest.now c.in_ok-year_names.rest.now c.in_ok-lives.rest.now c.in_ok-capacities.rest.now
+    e1 e2 e3 e4 e5 e6 e7)

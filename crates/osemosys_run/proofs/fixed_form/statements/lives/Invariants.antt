@@ -1,6 +1,6 @@
 use Rattle.std.proofs.Common.{◌≡◌, drop}
 use Rattle.osemosys_run.specs.FixedFormView.{slices_of}
-use Rattle.osemosys_run.specs.FixedFormReading.{with_front, each_at, region_lives_at, region_capacities_at}
+use Rattle.osemosys_run.specs.FixedFormReading.{with_front, each_at, region_lives_at}
 use Rattle.osemosys_run.proofs.fixed_form.statements.lives.Given as goal
 
 abbrev pub invariant-loop-region : goal.invariant-loop-region

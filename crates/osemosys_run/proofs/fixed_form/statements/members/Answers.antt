@@ -1,9 +1,7 @@
-use Rattle.std.proofs.Common.{◌≡◌, ◌++◌, ◌∷◌, [], refl, ap, ◌∙◌, sym}
+use Rattle.std.proofs.Common.{◌≡◌, ◌++◌, ◌∷◌, [], ◌∙◌, sym}
 use Rattle.std.proofs.lemmas.Result.{err_from_is_err_and}
 use Rattle.std.proofs.lemmas.List.{map_push}
-use Rattle.osemosys_run.specs.FixedForm.{Symbol, Gives, Semicolon}
-use Rattle.osemosys_run.specs.FixedFormView.{token_of, slices_of}
-use Rattle.osemosys_run.specs.FixedFormReading.{token_at}
+use Rattle.osemosys_run.specs.FixedFormView.{slices_of}
 use Rattle.osemosys_run.proofs.FixedFormLoops.{members_fail, member_gives, member_zero, members_done, members_more, members_last_fails, members_last_done}
 use Rattle.osemosys_run.proofs.fixed_form.statements.members.Goals as goal
 
@@ -23,14 +21,14 @@ returns-in-Gives c =
 pub returns-then-has_leading_zero : goal.returns-then-has_leading_zero
 returns-then-has_leading_zero c =
     member_zero 20 c.loop.counter (slices_of c.loop.names.items) c.loop.rest.now c.in-Symbol.name.now c.in_ok-token.after.now _ c.loop-test.true
-      (rw c.in-Symbol.is at c.in_ok-token.ensures) (sym c.has_leading_zero.ensures ∙ c.if-has_leading_zero.true) c.loop.invariant
+    (rw c.in-Symbol.is at c.in_ok-token.ensures) (sym c.has_leading_zero.ensures ∙ c.if-has_leading_zero.true) c.loop.invariant
 
 pub loop-preserved : goal.loop-preserved
 loop-preserved c =
     let names-is : slices_of c.push.new.self.items ≡ slices_of c.loop.names.items ++ c.in-Symbol.name.now ∷ [] = rw c.in_ok-push-in-Symbol.ensures.items (map_push (λ slice. slice.now) c.loop.names.items c.in-Symbol.name) in
     rw names-is
-      (members_more 20 c.loop.counter (slices_of c.loop.names.items) c.loop.rest.now c.in-Symbol.name.now c.in_ok-token.after.now _ c.loop-test.true
-        (rw c.in-Symbol.is at c.in_ok-token.ensures) (sym c.has_leading_zero.ensures ∙ c.if-has_leading_zero.false) c.loop.invariant)
+    (members_more 20 c.loop.counter (slices_of c.loop.names.items) c.loop.rest.now c.in-Symbol.name.now c.in_ok-token.after.now _ c.loop-test.true
+    (rw c.in-Symbol.is at c.in_ok-token.ensures) (sym c.has_leading_zero.ensures ∙ c.if-has_leading_zero.false) c.loop.invariant)
 
 pub returns-in_err-rest : goal.returns-in_err-rest
 returns-in_err-rest c =

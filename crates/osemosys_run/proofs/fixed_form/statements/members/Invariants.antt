@@ -1,6 +1,6 @@
-use Rattle.std.proofs.Common.{◌≡◌, drop, ◌-◌}
+use Rattle.std.proofs.Common.{◌≡◌, ◌-◌}
 use Rattle.osemosys_run.specs.FixedFormView.{slices_of}
-use Rattle.osemosys_run.specs.FixedFormReading.{with_front, each_at, region_lives_at, technology_capacities_at, region_capacities_at, members_at}
+use Rattle.osemosys_run.specs.FixedFormReading.{with_front, members_at}
 use Rattle.osemosys_run.proofs.fixed_form.statements.members.Given as goal
 
 abbrev pub invariant-loop : goal.invariant-loop

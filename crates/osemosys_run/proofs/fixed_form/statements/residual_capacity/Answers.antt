@@ -1,7 +1,7 @@
 use Rattle.std.specs.Prelude.{codes}
 use Rattle.std.proofs.lemmas.Result.{err_from_is_err_and}
 use Rattle.osemosys_run.specs.FixedFormView.{slices_of}
-use Rattle.osemosys_run.specs.FixedFormReading.{each_at, region_lives_at, region_capacities_at}
+use Rattle.osemosys_run.specs.FixedFormReading.{each_at, region_capacities_at}
 use Rattle.osemosys_run.proofs.FixedFormLoops.{param_head_fails, param_values_fail, param_end_fails, param_reads}
 use Rattle.osemosys_run.proofs.fixed_form.statements.residual_capacity.Goals as goal
 
