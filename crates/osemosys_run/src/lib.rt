@@ -1,8 +1,10 @@
 //! The commands of the program.
 #![tactic(auto)]
 
-mod fixed_form;
+
+mod answer;
 mod capacity_rows;
+mod fixed_form;
 mod lines;
 mod mps;
 mod reading;
