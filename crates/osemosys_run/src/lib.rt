@@ -11,6 +11,8 @@ mod rows;
 mod run;
 mod sending;
 mod status;
+#[cfg(test)]
+mod tests;
 mod words;
 
 pub use run::osemosys;

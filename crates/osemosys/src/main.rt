@@ -1,0 +1,39 @@
+//! The program: its words are those behind its name, its files those of the system, and its text goes to the
+//! standard output. Its exit status is that of the call.
+#![tactic(auto)]
+
+use std::env;
+use std::io;
+use std::io::ErrorKind;
+use std::process::ExitCode;
+
+use io_edges::{DiskShelf, OutSink};
+use osemosys_run::osemosys;
+
+/// The exit status where memory doesn't suffice for the words.
+const WANT_OF_MEMORY: u8 = 8;
+
+/// The exit status where the system refuses the words for another cause, as for one that isn't UTF-8.
+const NO_WORDS: u8 = 10;
+
+fn main(rt: HostRuntime) -> ExitCode {
+    match words(&rt) {
+        Ok(words) => {
+            let mut shelf = DiskShelf::new(&rt);
+            let mut out = OutSink::new(&rt);
+            let status = osemosys(rt.alloc(), &words, &mut shelf, &mut out);
+            ExitCode::from(status.code())
+        }
+        Err(e) if e.kind() == ErrorKind::OutOfMemory => ExitCode::from(WANT_OF_MEMORY),
+        Err(_) => ExitCode::from(NO_WORDS),
+    }
+}
+
+// The words behind the program's name.
+fn words(rt: &HostRuntime) -> io::Result<Vec<String>> {
+    let mut words = Vec::new(rt.alloc());
+    for word in env::args(rt)?.skip(1) {
+        words.push(word)?;
+    }
+    Ok(words)
+}
