@@ -90,7 +90,7 @@ own_life = refl
 -- ---- instances
 
 -- an equation at a place
-abbrev at : Equation → ℕ → ℕ → ℕ → Instance
+abbrev pub at : Equation → ℕ → ℕ → ℕ → Instance
 at equation region tech year = record { equation = equation; region = region; tech = tech; year = year }
 
 four_instances : instances first_path ≡ at CAa1 0 0 0 ∷ at CAa1 0 0 1 ∷ at CAa2 0 0 0 ∷ at CAa2 0 0 1 ∷ []

@@ -54,7 +54,7 @@ columns =
     new_capacity 0 0 0 ∷ new_capacity 0 0 1 ∷ accumulated_new_capacity 0 0 0 ∷ accumulated_new_capacity 0 0 1
     ∷ total_capacity_annual 0 0 0 ∷ total_capacity_annual 0 0 1 ∷ []
 
-abbrev members : Members
+abbrev pub members : Members
 members = members_of first_path
 
 -- ---- names
@@ -72,6 +72,6 @@ row = refl
 abbrev pub text : List ℕ
 text = codes "NAME OSEMOSYS\nROWS\n N COST\n* CAa1[R,T,2020]\n E R1\n* CAa1[R,T,2021]\n E R2\n* CAa2[R,T,2020]\n E R3\n* CAa2[R,T,2021]\n E R4\nCOLUMNS\n* NewCapacity[R,T,2020]\n C1 R1 -1\n C1 R2 -1\n* NewCapacity[R,T,2021]\n C2 R2 -1\n* AccumulatedNewCapacity[R,T,2020]\n C3 R1 1\n C3 R3 -1\n* AccumulatedNewCapacity[R,T,2021]\n C4 R2 1\n C4 R4 -1\n* TotalCapacityAnnual[R,T,2020]\n C5 R3 1\n* TotalCapacityAnnual[R,T,2021]\n C6 R4 1\nRHS\n RHS R3 7\n RHS R4 3\nENDATA\n"
 
-whole_text : (memory : Global) → mps_text members (rows memory) columns ≡ text
+pub whole_text : (memory : Global) → mps_text members (rows memory) columns ≡ text
 unfolding digits
 whole_text memory = refl
