@@ -1,15 +1,13 @@
 -- What is due for worked examples: the words, the files, the status and the text.
-use Rattle.std.proofs.Common.{◌≡◌, ◌↔◌, ℕ, ◌<◌, ◌-◌, ◌*◌, ◌^◌, true, false, Bool, List, [], ◌∷◌, ◌++◌, length, map, refl, sym, ap, arith, Global}
-use Rattle.std.specs.Prelude.{ℤ, pos, negsuc, ◌*ℤ◌, codes, Option, Some, None, nat_lt}
+use Rattle.std.proofs.Common.{◌≡◌, ℕ, ◌<◌, ◌-◌, ◌^◌, List, [], ◌∷◌, ◌++◌, length, refl, sym, ap, arith, Global}
+use Rattle.std.specs.Prelude.{pos, codes, Option, Some, None}
 use Rattle.std.specs.Fmt.{digits}
 use Rattle.std.specs.List.{AllByRecursion, Contains}
 use Rattle.std.proofs.lemmas.List.Elements.{All-from_recursion, All-contains}
-use Rattle.row_core.specs.declared.Var.{Var}
-use Rattle.row_core.specs.declared.Row.{Row}
-use Rattle.row_core.specs.Names.{new_capacity, accumulated_new_capacity, total_capacity_annual}
-use Rattle.osemosys_run.specs.Due.{members_of, WritesEquations, HasFixedForm, DueForMps, DueForFile, Due, Sight, CausedByFile, Caused, Delivers, refusal_line}
+use Rattle.row_core.specs.Names.{accumulated_new_capacity, total_capacity_annual}
+use Rattle.osemosys_run.specs.Due.{WritesEquations, HasFixedForm, DueForMps, DueForFile, Due, Sight, Caused, Delivers}
 use Rattle.osemosys_run.specs.Equations.{instances, IsRowOf, AreRowsOf}
-use Rattle.osemosys_run.specs.MpsText.{AreColumns, all_variables, IsMpsText}
+use Rattle.osemosys_run.specs.MpsText.{AreColumns, all_variables}
 use Rattle.osemosys_run.proofs.EquationExamples.{first_path, at}
 use Rattle.osemosys_run.proofs.FirstPathExample.{first_file, first_file_form}
 use Rattle.osemosys_run.proofs.MpsTextExamples.{caa1_2020, caa1_2021, caa2_2020, caa2_2021, rows, columns, text, whole_text}
@@ -20,8 +18,6 @@ use Rattle.osemosys_run.specs.declared.status.Status.TheVariants.{Done, Refused,
 use Rattle.osemosys_run.specs.declared.status.Refusal.TheVariants as refusals
 use Rattle.osemosys_run.specs.declared.status.WordFault.TheVariants as faults
 use Rattle.osemosys_run.specs.declared.status.ReadStop.TheVariants as stops
-use Rattle.osemosys_run.specs.FixedForm.{Facts, IsFixedForm}
-use Rattle.osemosys_run.specs.Reading.{most_bytes}
 use Rattle.io_edges.specs.Count.{Rose}
 use mathlib.Core.Logic.{inl, inr}
 
@@ -48,16 +44,30 @@ module _ (memory : Global) where
   in_rows = ((0, omega arith, refl), ((3, omega arith, refl), ((1, omega arith, refl), ((4, omega arith, refl), ((6, omega arith, refl), ((8, omega arith, refl), tt))))))
 
   in_columns : AllByRecursion (Contains columns) (all_variables (rows memory))
-  in_columns =
-      ((0, omega arith, refl), ((2, omega arith, refl), ((0, omega arith, refl), ((1, omega arith, refl), ((3, omega arith, refl)
-      , ((2, omega arith, refl), ((4, omega arith, refl), ((3, omega arith, refl), ((5, omega arith, refl), tt)))))))))
+  in_columns = (
+    (0, omega arith, refl),
+    (
+      (2, omega arith, refl),
+      (
+        (0, omega arith, refl),
+        (
+          (1, omega arith, refl),
+          (
+            (3, omega arith, refl),
+            ((2, omega arith, refl), ((4, omega arith, refl), ((3, omega arith, refl), ((5, omega arith, refl), tt)))),
+          ),
+        ),
+      ),
+    ),
+  )
 
   six_columns : AreColumns (rows memory) columns
   six_columns = record {
     ascending = refl;
-    each = λ v.
-      ( All-contains (Contains (all_variables (rows memory))) columns v (All-from_recursion (Contains (all_variables (rows memory))) columns in_rows)
-      , All-contains (Contains columns) (all_variables (rows memory)) v (All-from_recursion (Contains columns) (all_variables (rows memory)) in_columns));
+    each = λ v. (
+      All-contains (Contains (all_variables (rows memory))) columns v (All-from_recursion (Contains (all_variables (rows memory))) columns in_rows),
+      All-contains (Contains columns) (all_variables (rows memory)) v (All-from_recursion (Contains columns) (all_variables (rows memory)) in_columns),
+    );
   }
 
   -- the text is that of the equations
@@ -86,9 +96,9 @@ first_path_not_refused line (inr h) = h.0 (first_path, first_file_form)
 no_form : HasFixedForm [] → ⊥
 no_form (facts, form) = nothing_in form.spelled.1.gap (codes "et" ++ form.spelled.0) form.spelled.1.parts
   where
-  nothing_in : (gap rest : List ℕ) → [] ≡ gap ++ (115 ∷ rest) → ⊥
-  nothing_in [] rest e = cc e
-  nothing_in (b ∷ gap) rest e = cc e
+    nothing_in : (gap rest : List ℕ) → [] ≡ gap ++ (115 ∷ rest) → ⊥
+    nothing_in [] rest e = cc e
+    nothing_in (b ∷ gap) rest e = cc e
 
 no_bytes_due : Due mps_file (with_file []) (Refused refusals.NotYet) (codes "refused NotYet\n")
 no_bytes_due = inr (no_form, refl, refl)

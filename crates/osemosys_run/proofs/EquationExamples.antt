@@ -1,7 +1,6 @@
 -- The two capacity equations, computed on worked examples: plans that meet them, and near misses that don't.
 use Rattle.std.proofs.Common.{◌≡◌, ℕ, ◌+◌, ◌^◌, ◌*◌, true, false, Bool, List, [], ◌∷◌, map, refl}
-use Rattle.std.specs.Prelude.{ℤ, pos, negsuc, ◌*ℤ◌, codes}
-use Rattle.std.specs.List.{list_all}
+use Rattle.std.specs.Prelude.{ℤ, pos, negsuc, codes}
 use Rattle.row_core.specs.declared.Var.{Var}
 use Rattle.row_core.specs.declared.Sense.TheVariants.{Equal}
 use Rattle.row_core.specs.Names.{new_capacity, accumulated_new_capacity, total_capacity_annual, caa1, caa2}

@@ -1,5 +1,5 @@
 -- What the words of the command line ask for, and the one-line texts, computed on examples.
-use Rattle.std.proofs.Common.{◌≡◌, ℕ, true, false, List, [], ◌∷◌, refl}
+use Rattle.std.proofs.Common.{◌≡◌, false, [], ◌∷◌, refl}
 use Rattle.std.specs.Prelude.{codes, Ok, Err}
 use Rattle.std.specs.Fmt.{digits}
 use Rattle.osemosys_run.specs.declared.status.WordFault.TheVariants.{NoCommand, BadCommand, BadForm}

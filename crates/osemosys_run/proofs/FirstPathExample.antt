@@ -1,5 +1,5 @@
 -- The first path's file is of the fixed form: its text says its facts.
-use Rattle.std.proofs.Common.{◌≡◌, ℕ, ◌<◌, ◌*◌, ◌^◌, true, false, Bool, List, [], ◌∷◌, ◌++◌, ◌&&◌, length, map, refl, arith}
+use Rattle.std.proofs.Common.{◌≡◌, ℕ, true, Bool, List, [], ◌∷◌, ◌++◌, ◌&&◌, map, refl, arith}
 use Rattle.std.specs.Prelude.{codes}
 use Rattle.std.specs.Fmt.{digits}
 use Rattle.std.specs.List.{list_all}
@@ -35,10 +35,11 @@ pub spells : (parts : List (List ℕ × Token)) → are_spelled parts ≡ true �
 spells [] h = refl
 spells (part ∷ parts) h =
     let first = and_parts (list_all is_blank part.0) (is_whole part.1 (spell parts) && are_spelled parts) h in
-    let second = and_parts (is_whole part.1 (spell parts)) (are_spelled parts) first.1 in
-    ( spell parts
-    , record { gap = part.0; blank = first.0; parts = refl; whole = whole_of part.1 (spell parts) second.0 }
-    , spells parts second.1)
+    let second = and_parts (is_whole part.1 (spell parts)) (are_spelled parts) first.1 in (
+      spell parts,
+      record { gap = part.0; blank = first.0; parts = refl; whole = whole_of part.1 (spell parts) second.0 },
+      spells parts second.1,
+    )
 
 -- ---- the file
 

@@ -1,5 +1,5 @@
 -- The MPS text, computed on the rows of a worked example, and on near misses.
-use Rattle.std.proofs.Common.{◌≡◌, ℕ, ◌<◌, ◌≤◌, ◌^◌, true, false, Bool, List, [], ◌∷◌, ◌++◌, length, map, refl, arith, Global}
+use Rattle.std.proofs.Common.{◌≡◌, ℕ, ◌<◌, ◌^◌, true, false, Bool, List, [], ◌∷◌, length, refl, arith, Global}
 use Rattle.std.specs.Prelude.{ℤ, pos, negsuc, codes, ◌==◌, ◌||◌, ◌-◌, if◌then◌else◌, Contains}
 use Rattle.std.specs.Fmt.{digits}
 use Rattle.std.specs.Str.{bytes_eq}
@@ -11,7 +11,7 @@ use Rattle.row_core.specs.declared.RowName.{RowName}
 use Rattle.row_core.specs.declared.Sense.{Sense}
 use Rattle.row_core.specs.declared.Sense.TheVariants.{Least, Equal, Most}
 use Rattle.row_core.specs.Names.{new_capacity, accumulated_new_capacity, total_capacity_annual, caa1, caa2}
-use Rattle.row_core.specs.Numbers.{variables_of, numbers_of, ascends, none_zero, all_in_range, IsLowest}
+use Rattle.row_core.specs.Numbers.{variables_of, numbers_of, ascends, none_zero, all_in_range}
 use Rattle.row_core.specs.Order.{var_cmp}
 use Rattle.row_core.proofs.RowLaws.{has_unit, IsLowest-unit}
 use Rattle.osemosys_run.specs.Due.{members_of}

@@ -1,5 +1,5 @@
 -- Which rows are those of the equations, on a worked example: near misses, each with a plan that tells the two apart.
-use Rattle.std.proofs.Common.{◌≡◌, ℕ, ◌<◌, true, false, Bool, List, [], ◌∷◌, ap, refl, arith, Global}
+use Rattle.std.proofs.Common.{◌≡◌, ℕ, ◌<◌, true, false, [], ◌∷◌, ap, refl, arith, Global}
 use Rattle.std.specs.Prelude.{ℤ, pos, negsuc}
 use Rattle.row_core.specs.declared.Var.{Var}
 use Rattle.row_core.specs.declared.Row.{Row}
@@ -7,12 +7,12 @@ use Rattle.row_core.specs.declared.RowName.{RowName}
 use Rattle.row_core.specs.declared.Sense.TheVariants.{Least, Equal, Most}
 use Rattle.row_core.specs.Names.{new_capacity, accumulated_new_capacity, total_capacity_annual, caa1, caa2}
 use Rattle.row_core.specs.Rows.{row_statement}
-use Rattle.row_core.specs.Statements.{Holds, holds}
+use Rattle.row_core.specs.Statements.{holds}
 use Rattle.row_core.proofs.StatementLaws.{holds_sound, holds_complete}
 use Rattle.osemosys_run.specs.declared.capacity_rows.Equation.TheVariants.{CAa1, CAa2}
 use Rattle.osemosys_run.specs.Equations.{Instance, instances, says, IsRowOf, AreRowsOf}
-use Rattle.osemosys_run.proofs.EquationExamples.{first_path, one_technology, at, plan}
-use Rattle.osemosys_run.proofs.MpsTextExamples.{made, caa1_2020, caa1_2021, caa2_2020, caa2_2021, rows}
+use Rattle.osemosys_run.proofs.EquationExamples.{first_path, at, plan}
+use Rattle.osemosys_run.proofs.MpsTextExamples.{made, caa1_2020, caa1_2021, caa2_2020, caa2_2021}
 
 -- a plan that meets the instance and not the row
 missed_by_row : (i : Instance) (row : Row) (q : ℕ) (x : Var → ℤ) → 0 < q → holds (says first_path i q x) ≡ true → holds (row_statement row q x) ≡ false → IsRowOf first_path i row → ⊥
