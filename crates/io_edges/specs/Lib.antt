@@ -2,3 +2,6 @@ pub mod Count
 pub mod Told
 pub mod Files
 pub mod Edges
+pub mod Memory
+pub mod Named
+pub mod Disk

@@ -5,6 +5,18 @@
 //! files and standard output.
 #![tactic(auto)]
 
+mod disk_shelf;
+mod failing;
+mod mem_shelf;
+mod mem_sink;
+mod out_sink;
 mod traits;
 
+pub use disk_shelf::DiskShelf;
+pub use mem_shelf::MemShelf;
+pub use mem_sink::MemSink;
+pub use out_sink::OutSink;
 pub use traits::{Failed, OpenFault, Shelf, Sink};
+
+#[cfg(test)]
+mod tests;

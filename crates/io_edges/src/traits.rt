@@ -4,6 +4,8 @@ ghost use Rattle.io_edges.specs.Count.{counted, counted_by, Rose};
 ghost use Rattle.io_edges.specs.Told.{WhereTold};
 ghost use Rattle.io_edges.specs.Edges.{Lacks, Opens, Moves};
 
+use std::alloc::AllocError;
+
 /// A read or a write that failed, for a cause outside. The count of faults rose.
 #[derive(Clone, Copy, Debug, PartialEq, Eq)]
 pub struct Failed;
@@ -17,6 +19,28 @@ pub enum OpenFault {
     Failed,
     /// Want of memory.
     Memory,
+}
+
+impl From<AllocError> for OpenFault {
+    ghost use Rattle.std.specs.Prelude.{◌≡◌};
+    ghost use Rattle.io_edges.specs.declared.traits.OpenFault.TheVariants.{Memory};
+
+    ghost from_gives = { λ _ fault. fault ≡ Memory };
+
+    fn from(_: AllocError) -> Self {
+        OpenFault::Memory
+    }
+}
+
+impl From<Failed> for OpenFault {
+    ghost use Rattle.std.specs.Prelude.{◌≡◌};
+    ghost use Rattle.io_edges.specs.declared.traits.OpenFault.TheVariants.{Failed};
+
+    ghost from_gives = { λ _ fault. fault ≡ Failed };
+
+    fn from(_: Failed) -> Self {
+        OpenFault::Failed
+    }
 }
 
 /// Files by name, one of which is read at a time, in pieces.

@@ -38,11 +38,19 @@ cut_short h = let f : false ≡ true = h.whole.1 in cc
 
 -- a sign needs no gap beside a symbol
 no_gaps : Spells (codes "R;:=R") (Symbol (codes "R") ∷ Semicolon ∷ Gives ∷ Symbol (codes "R") ∷ [])
-no_gaps =
-    ( codes ";:=R", record { gap = []; blank = refl; parts = refl; whole = (refl, refl) }
-    , ( codes ":=R", record { gap = []; blank = refl; parts = refl; whole = tt }
-      , ( codes "R", record { gap = []; blank = refl; parts = refl; whole = tt }
-        , ([], record { gap = []; blank = refl; parts = refl; whole = (refl, refl) }, refl))))
+no_gaps = (
+  codes ";:=R",
+  record { gap = []; blank = refl; parts = refl; whole = (refl, refl) },
+  (
+    codes ":=R",
+    record { gap = []; blank = refl; parts = refl; whole = tt },
+    (
+      codes "R",
+      record { gap = []; blank = refl; parts = refl; whole = tt },
+      ([], record { gap = []; blank = refl; parts = refl; whole = (refl, refl) }, refl),
+    ),
+  ),
+)
 
 -- the tokens of a set of two names
 two_names : set_statement (codes "REGION") (codes "A" ∷ codes "B" ∷ []) ≡ Symbol (codes "set") ∷ Symbol (codes "REGION") ∷ Gives ∷ Symbol (codes "A") ∷ Symbol (codes "B") ∷ Semicolon ∷ []

@@ -1,10 +1,9 @@
 -- The fixed form of a data file: which text says which data. Tokens and statements are those of
 -- MathProg's data sections (GNU MathProg manual, "Model data"), in one fixed order.
 use Rattle.std.specs.Prelude.{◌≡◌, ◌≢◌, ℕ, ◌*◌, ◌^◌, ◌≤◌, Bool, true, false, not, ◌&&◌, ◌||◌, ◌==◌, nat_lt, List, [], ◌∷◌, ◌++◌, length, map, slice_index, codes, ⊤}
-use Rattle.std.specs.Char.{is_ascii_alphanumeric}
+use Rattle.std.specs.Char.{is_ascii_alphanumeric, is_ascii_digit}
 use Rattle.std.specs.Fmt.{decimal}
 use Rattle.std.specs.List.{list_all, flat_map, AllByRecursion}
-use Rattle.std.specs.Str.{all_ascii_digits}
 
 -- ---- tokens
 
@@ -33,14 +32,14 @@ spelling (Symbol s) = s
 spelling Gives = 58 ∷ 61 ∷ []
 spelling Semicolon = 59 ∷ []
 
--- no byte of bare symbols stands first
-abbrev pub ends_symbol : List ℕ → Bool
-ends_symbol [] = true
-ends_symbol (b ∷ rest) = not (is_symbol_byte b)
+-- the first byte, if there is one, fails the test
+abbrev pub stops : (ℕ → Bool) → List ℕ → Bool
+stops p [] = true
+stops p (b ∷ rest) = not (p b)
 
 -- before this rest the token is whole: a bare symbol goes on as long as it can
 abbrev pub IsWholeBefore : Token → List ℕ → Type 0
-IsWholeBefore (Symbol s) rest = (is_symbol s ≡ true) × (ends_symbol rest ≡ true)
+IsWholeBefore (Symbol s) rest = (is_symbol s ≡ true) × (stops is_symbol_byte rest ≡ true)
 IsWholeBefore Gives rest = ⊤
 IsWholeBefore Semicolon rest = ⊤
 
@@ -69,7 +68,7 @@ pub record Facts : Type 0 where
 
 -- digits only, more than one, and the first is 0
 abbrev pub has_leading_zero : List ℕ → Bool
-has_leading_zero s = all_ascii_digits s && nat_lt 1 (length s) && slice_index s 0 == 48
+has_leading_zero s = list_all is_ascii_digit s && nat_lt 1 (length s) && slice_index s 0 == 48
 
 -- a name: a bare symbol, without leading zeros where it has digits only
 abbrev pub IsName : List ℕ → Type 0

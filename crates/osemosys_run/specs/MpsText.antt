@@ -1,6 +1,6 @@
 -- The text of rows in the free MPS format: https://lpsolve.sourceforge.net/5.5/mps-format.htm, "free MPS". Every line ends with a line
 -- feed; a line that begins with '*' is a comment.
-use Rattle.std.specs.Prelude.{◌≡◌, ℕ, ℤ, Bool, true, List, [], ◌∷◌, ◌++◌, map, filter, codes, ◌==◌, if◌then◌else◌, slice_index, slice_index_or, ◌↔◌, Contains}
+use Rattle.std.specs.Prelude.{◌≡◌, ℕ, ℤ, Bool, true, List, [], ◌∷◌, ◌++◌, map, filter, codes, ◌==◌, if◌then◌else◌, slice_index, slice_index_or}
 use Rattle.std.specs.List.{flat_map, range_with_len, enumerate_from, join_with_byte, list_any, AllByRecursion}
 use Rattle.std.specs.Fmt.{decimal, signed_decimal}
 use Rattle.std.specs.Ordering.{is_eq}
@@ -29,10 +29,13 @@ subscripts i = i.region ∷ i.other ∷ i.slice ∷ i.tech ∷ i.fuel ∷ i.emis
 abbrev pub member : Members → Index → ℕ → List ℕ
 member members i place = slice_index_or (members place) (slice_index (subscripts i) place) []
 
+-- the members of the subscripts that there are among the first places, with commas between them
+abbrev pub members_text : Members → (ℕ → Bool) → Index → ℕ → List ℕ
+members_text members has i places = join_with_byte 44 (map (member members i) (filter has (range_with_len 0 places)))
+
 -- a word, and in brackets the members of the subscripts that it has
 abbrev pub full_name : Members → List ℕ → (ℕ → Bool) → Index → List ℕ
-full_name members word has i =
-    word ++ codes "[" ++ join_with_byte 44 (map (member members i) (filter has (range_with_len 0 8))) ++ codes "]"
+full_name members word has i = word ++ codes "[" ++ members_text members has i 8 ++ codes "]"
 
 abbrev pub variable_name : Members → Var → List ℕ
 variable_name members v = full_name members (word_of_kind v.kind) (kind_has v.kind) v.index
@@ -87,8 +90,12 @@ abbrev pub column_lines : Members → List Row → ℕ × Var → List ℕ
 column_lines members rows c =
     line (codes "* " ++ variable_name members c.1) ++ cost_line c.0 c.1 ++ flat_map (entry_lines c.0 c.1) (numbered rows)
 
+-- a right side, unless it is 0
+abbrev pub rhs_line_of : ℕ → ℤ → List ℕ
+rhs_line_of i rhs = if is_zero rhs then [] else line (codes " RHS " ++ row_label i ++ codes " " ++ signed_decimal rhs)
+
 abbrev pub rhs_line : ℕ × Row → List ℕ
-rhs_line r = if is_zero r.1.rhs then [] else line (codes " RHS " ++ row_label r.0 ++ codes " " ++ signed_decimal r.1.rhs)
+rhs_line r = rhs_line_of r.0 r.1.rhs
 
 abbrev pub is_free_column : ℕ × Var → Bool
 is_free_column c = kind_is_free c.1.kind
@@ -116,10 +123,14 @@ mps_text members rows columns =
 abbrev pub all_variables : List Row → List Var
 all_variables rows = flat_map (λ row. variables_of row.entries.items) rows
 
--- the columns ascend, and are the variables of the rows
+-- the variable is one of these
+abbrev pub is_among : Var → List Var → Bool
+is_among v variables = list_any (λ w. is_same_variable w v) variables
+
+-- the columns ascend, and a variable is a column exactly where it is a variable of the rows
 pub record AreColumns (rows : List Row) (columns : List Var) : Type 0 where
   pub ascending : ascends var_cmp columns ≡ true
-  pub each : (v : Var) → Contains columns v ↔ Contains (all_variables rows) v
+  pub each : (v : Var) → is_among v columns ≡ is_among v (all_variables rows)
 
 -- the row's equation and the kinds of its variables are in their lists, and so have words
 pub record HasWords (row : Row) : Type 0 where

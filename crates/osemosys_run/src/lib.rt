@@ -1,9 +1,12 @@
 //! The commands of the program.
 #![tactic(auto)]
 
-mod fixed_form;
+
+mod answer;
 mod capacity_rows;
+mod fixed_form;
 mod lines;
+mod mps;
 mod reading;
 mod rows;
 mod sending;

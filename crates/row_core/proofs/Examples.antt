@@ -1,22 +1,19 @@
 -- The definitions, computed on examples: some that hold, and near misses that don't.
-use Rattle.std.proofs.Common.{◌≡◌, ℕ, ◌+◌, ◌-◌, ◌^◌, ◌<◌, ℤ, pos, negsuc, Bool, true, false, List, [], ◌∷◌, length, map, refl, arith, nat_lt}
+use Rattle.std.proofs.Common.{◌≡◌, ℕ, ◌-◌, ◌^◌, ℤ, pos, negsuc, Bool, true, false, List, [], ◌∷◌, length, map, refl, arith, nat_lt}
 use Rattle.std.specs.Prelude.{codes, count_by, nat_eq, ◌&&◌}
 use Rattle.std.specs.List.{list_all, range_with_len}
-use Rattle.std.specs.Int.{◌∣◌}
 use Rattle.std.specs.Ordering.{nat_cmp}
 use Rattle.std.proofs.lemmas.Nat.Gcd.{dvd_of_mod-eq-zero}
 use Rattle.std.specs.declared.cmp.Ordering.TheVariants.{Less, Greater, Equal as Alike}
 use lib.Pointwise.{pointwise}
-use Rattle.row_core.specs.declared.Index.{Index}
 use Rattle.row_core.specs.declared.Var.{Var}
-use Rattle.row_core.specs.declared.Sense.{Sense}
 use Rattle.row_core.specs.declared.Sense.TheVariants.{Least, Equal, Most}
 use Rattle.row_core.specs.Equations.{equations, Equation, word_of_equation, equation_has}
 use Rattle.row_core.specs.Kinds.{kinds, Kind, word_of_kind, kind_has, kind_is_free}
-use Rattle.row_core.specs.Names.{new_capacity, accumulated_new_capacity, total_capacity_annual, caa1, caa2}
-use Rattle.row_core.specs.Numbers.{variables_of, numbers_of, ascends, none_zero, in_range, all_in_range, DividesAll, IsLowest}
+use Rattle.row_core.specs.Names.{new_capacity, accumulated_new_capacity, caa1, caa2}
+use Rattle.row_core.specs.Numbers.{variables_of, numbers_of, ascends, none_zero, in_range, all_in_range, IsLowest}
 use Rattle.row_core.specs.Order.{var_cmp, row_name_cmp}
-use Rattle.row_core.specs.Rows.{number_at, row_sum, statement_of}
+use Rattle.row_core.specs.Rows.{number_at, statement_of}
 use Rattle.row_core.specs.Statements.{holds}
 use Rattle.row_core.specs.Words.{is_plain}
 use Rattle.row_core.proofs.RowLaws.{IsLowest-unit}

@@ -1,5 +1,5 @@
 -- Products over ℤ: their laws with sums, and that a positive factor keeps and reflects the order.
-use Rattle.std.proofs.Common.{◌≡◌, ℕ, zero, suc, ◌+◌, ◌*◌, ◌<◌, ◌≤◌, ℤ, pos, ◌+ℤ◌, ◌-ℤ◌, ◌*ℤ◌, sym, ap, ◌∙◌, arith}
+use Rattle.std.proofs.Common.{◌≡◌, ℕ, zero, suc, ◌*◌, ◌<◌, ℤ, pos, ◌+ℤ◌, ◌-ℤ◌, ◌*ℤ◌, sym, ap, ◌∙◌, arith}
 use Rattle.std.specs.Prelude.{unsigned_abs, ◌<ℤ◌, ◌≤ℤ◌}
 use Rattle.std.proofs.lemmas.Int.{ints, by_lt_z}
 use borrow.Author.Differences.{up, down, sum_is_lem, product_is}
@@ -50,9 +50,9 @@ scaled_le (suc k) a b h =
     by_lt_z a b
     (λ less. let lt : (pos (suc k) *ℤ a) <ℤ (pos (suc k) *ℤ b) = scaled_lt (suc k) a b (omega arith) less in omega (arith, ints))
     (λ back.
-        let same : a ≡ b = omega (arith, ints) in
-        let e : pos (suc k) *ℤ a ≡ pos (suc k) *ℤ b = ap (λ z. pos (suc k) *ℤ z) same in
-        omega (arith, ints))
+    let same : a ≡ b = omega (arith, ints) in
+    let e : pos (suc k) *ℤ a ≡ pos (suc k) *ℤ b = ap (λ z. pos (suc k) *ℤ z) same in
+    omega (arith, ints))
 
 pub unscaled_le : (k : ℕ) (a b : ℤ) → 0 < k → (pos k *ℤ a) ≤ℤ (pos k *ℤ b) → a ≤ℤ b
 unscaled_le k a b h scaled =

@@ -1,3 +1,4 @@
+pub mod AscendingLaws
 mod Examples
 pub mod Integers
 pub mod Orders

@@ -1,5 +1,5 @@
 -- The orders on subscripts, variables and row names are total, and what compares alike is the same.
-use Rattle.std.proofs.Common.{◌≡◌, ℕ, ap, refl}
+use Rattle.std.proofs.Common.{◌≡◌, ℕ, refl}
 use Rattle.std.specs.declared.cmp.Ordering.{Ordering}
 use Rattle.std.specs.declared.cmp.Ordering.TheVariants.{Less, Equal, Greater}
 use Rattle.std.specs.Cmp.{IsTotalOrder}
@@ -24,7 +24,14 @@ same_index : (a b : Index) → a.region ≡ b.region → a.other ≡ b.other →
 same_index a b =
     same_of_eight
     (λ region other slice tech fuel emission mode year. record {
-        region = region; other = other; slice = slice; tech = tech; fuel = fuel; emission = emission; mode = mode; year = year;
+      region = region;
+      other = other;
+      slice = slice;
+      tech = tech;
+      fuel = fuel;
+      emission = emission;
+      mode = mode;
+      year = year;
     })
     a.region a.other a.slice a.tech a.fuel a.emission a.mode a.year b.region b.other b.slice b.tech b.fuel b.emission b.mode b.year
 

@@ -1,13 +1,13 @@
 -- Whether a row holds of a plan doesn't depend on the common denominator over which the plan is written.
-use Rattle.std.proofs.Common.{◌≡◌, ℕ, ◌*◌, ◌<◌, ℤ, pos, ◌+ℤ◌, ◌*ℤ◌, List, [], ◌∷◌, ◌++◌, refl, sym, ap, ◌∙◌, subst, arith}
+use Rattle.std.proofs.Common.{◌≡◌, ℕ, ◌*◌, ◌<◌, ℤ, pos, ◌+ℤ◌, ◌*ℤ◌, List, [], ◌∷◌, ◌++◌, refl, sym, ap, ◌∙◌, subst}
 use Rattle.std.proofs.Math.Nat.{mul_comm}
-use Rattle.std.specs.Prelude.{◌↔◌, ◌≤ℤ◌}
+use Rattle.std.specs.Prelude.{◌↔◌}
 use Rattle.row_core.specs.declared.Sense.{Sense}
 use Rattle.row_core.specs.declared.Sense.TheVariants.{Least, Equal, Most}
 use Rattle.row_core.specs.declared.Var.{Var}
 use Rattle.row_core.specs.Rows.{row_sum, statement_of, SameValues}
 use Rattle.row_core.specs.Statements.{Stands, Holds}
-use Rattle.row_core.proofs.Integers.{*ℤ_comm, *ℤ_assoc, *ℤ_left_comm, *ℤ-+ℤ, *ℤ-zero, +ℤ_assoc, zero-+ℤ, scaled_le, unscaled_le, unscaled_eq}
+use Rattle.row_core.proofs.Integers.{*ℤ_comm, *ℤ_left_comm, *ℤ-+ℤ, *ℤ-zero, +ℤ_assoc, zero-+ℤ, scaled_le, unscaled_le, unscaled_eq}
 
 -- plans with the same numbers give the same sum
 pub row_sum-same : (x y : Var → ℤ) (es : List (Var × ℤ)) → ((v : Var) → x v ≡ y v) → row_sum x es ≡ row_sum y es
@@ -29,7 +29,7 @@ row_sum-append x (e ∷ es) fs =
     ap (λ z. (e.1 *ℤ x e.0) +ℤ z) (row_sum-append x es fs) ∙ sym (+ℤ_assoc (e.1 *ℤ x e.0) (row_sum x es) (row_sum x fs))
 
 -- two sides multiplied by a positive number stand as before
-Stands-scaled : (sense : Sense) (k : ℕ) (a b : ℤ) → 0 < k → Stands sense a b ↔ Stands sense (pos k *ℤ a) (pos k *ℤ b)
+pub Stands-scaled : (sense : Sense) (k : ℕ) (a b : ℤ) → 0 < k → Stands sense a b ↔ Stands sense (pos k *ℤ a) (pos k *ℤ b)
 Stands-scaled Least k a b h = (scaled_le k b a, unscaled_le k b a h)
 Stands-scaled Equal k a b h = (ap (λ z. pos k *ℤ z), unscaled_eq k a b h)
 Stands-scaled Most k a b h = (scaled_le k a b, unscaled_le k a b h)

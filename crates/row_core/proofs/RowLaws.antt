@@ -1,9 +1,12 @@
 -- How the facts that a row keeps come about: numbers without a common divisor, and lists that grow at their end.
-use Rattle.std.proofs.Common.{◌≡◌, ℕ, ◌<◌, ◌≤◌, ℤ, Bool, true, false, List, [], ◌∷◌, ◌||◌, nat_eq, refl, sym, ap, ◌∙◌, subst, arith}
+use Rattle.std.proofs.Common.{◌≡◌, ℕ, ◌*◌, ◌<◌, ◌≤◌, ℤ, pos, ◌*ℤ◌, Bool, true, false, List, [], ◌∷◌, ◌++◌, ◌&&◌, ◌||◌, not, nat_eq, refl, sym, ap, ◌∙◌, subst, arith}
 use Rattle.std.specs.Prelude.{unsigned_abs}
 use Rattle.std.specs.Int.{◌∣◌}
 use Rattle.std.proofs.lemmas.Nat.Gcd.{le_of_dvd}
-use Rattle.row_core.specs.Numbers.{DividesAll, IsLowest}
+use Rattle.std.proofs.lemmas.Int.{unsigned_abs-mul}
+use Rattle.std.proofs.Math.Nat.{mul-dvd-mul_right, mul-le-mul_right}
+use Rattle.row_core.specs.declared.Var.{Var}
+use Rattle.row_core.specs.Numbers.{variables_of, numbers_of, is_zero, none_zero, in_range, all_in_range, DividesAll, IsLowest}
 
 -- one of the numbers is 1 or -1
 abbrev pub has_unit : List ℤ → Bool
@@ -25,4 +28,48 @@ divides_unit d (z ∷ zs) h divides = divides_unit_by d z zs (nat_eq (unsigned_a
 pub IsLowest-unit : (zs : List ℤ) → has_unit zs ≡ true → IsLowest zs
 IsLowest-unit zs unit d above divides =
     let small : d ≤ 1 = le_of_dvd (omega arith) (divides_unit d zs unit divides) in
+    absurd (omega arith)
+
+-- ---- lists joined
+
+pub variables_of-append : (es fs : List (Var × ℤ)) → variables_of (es ++ fs) ≡ variables_of es ++ variables_of fs
+variables_of-append [] fs = refl
+variables_of-append (e ∷ es) fs = ap {B = List Var} (λ vs. e.0 ∷ vs) (variables_of-append es fs)
+
+pub numbers_of-append : (es fs : List (Var × ℤ)) → numbers_of (es ++ fs) ≡ numbers_of es ++ numbers_of fs
+numbers_of-append [] fs = refl
+numbers_of-append (e ∷ es) fs = ap {B = List ℤ} (λ zs. e.1 ∷ zs) (numbers_of-append es fs)
+
+and_assoc : (a b c : Bool) → (a && (b && c)) ≡ ((a && b) && c)
+and_assoc true b c = refl
+and_assoc false b c = refl
+
+pub none_zero-append : (zs ws : List ℤ) → none_zero (zs ++ ws) ≡ (none_zero zs && none_zero ws)
+none_zero-append [] ws = refl
+none_zero-append (z ∷ zs) ws =
+    ap (λ b. not (is_zero z) && b) (none_zero-append zs ws) ∙ and_assoc (not (is_zero z)) (none_zero zs) (none_zero ws)
+
+pub all_in_range-append : (zs ws : List ℤ) → all_in_range (zs ++ ws) ≡ (all_in_range zs && all_in_range ws)
+all_in_range-append [] ws = refl
+all_in_range-append (z ∷ zs) ws =
+    ap (λ b. in_range z && b) (all_in_range-append zs ws) ∙ and_assoc (in_range z) (all_in_range zs) (all_in_range ws)
+
+-- ---- division by the common divisor
+
+-- each number times g
+abbrev pub times_all : ℕ → List ℤ → List ℤ
+times_all g [] = []
+times_all g (z ∷ zs) = (z *ℤ pos g) ∷ times_all g zs
+
+DividesAll-times : (d g : ℕ) (zs : List ℤ) → DividesAll d zs → DividesAll (d * g) (times_all g zs)
+DividesAll-times d g [] h = tt
+DividesAll-times d g (z ∷ zs) h =
+    let product : unsigned_abs (z *ℤ pos g) ≡ unsigned_abs z * g = unsigned_abs-mul z (pos g) in
+    (subst (λ n. d * g ∣ n) (sym product) (mul-dvd-mul_right d h.0 g), DividesAll-times d g zs h.1)
+
+-- where a positive number is the greatest that divides them all, the quotients have no common divisor
+pub IsLowest-divided : (g : ℕ) (zs : List ℤ) → 0 < g → ((d : ℕ) → DividesAll d (times_all g zs) → d ∣ g) → IsLowest zs
+IsLowest-divided g zs positive greatest d above divides =
+    let small : d * g ≤ g = le_of_dvd positive (greatest (d * g) (DividesAll-times d g zs divides)) in
+    let large : 2 * g ≤ d * g = mul-le-mul_right g above in
     absurd (omega arith)

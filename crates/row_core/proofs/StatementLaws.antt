@@ -1,5 +1,5 @@
 -- The test whether a statement is true answers what the statement says.
-use Rattle.std.proofs.Common.{◌≡◌, Bool, true, arith, ℤ}
+use Rattle.std.proofs.Common.{◌≡◌, true, arith, ℤ}
 use Rattle.std.proofs.lemmas.Int.{ints}
 use Rattle.std.proofs.lemmas.Bool.Decides.{Decides-int_eq}
 use Rattle.std.specs.Prelude.{◌≤ℤ◌, int_le}
@@ -13,12 +13,12 @@ le_from_test a b h = grind (arith, ints)
 le_to_test : (a b : ℤ) → a ≤ℤ b → int_le a b ≡ true
 le_to_test a b h = grind (arith, ints)
 
-stands_sound : (sense : Sense) (left right : ℤ) → stands sense left right ≡ true → Stands sense left right
+pub stands_sound : (sense : Sense) (left right : ℤ) → stands sense left right ≡ true → Stands sense left right
 stands_sound Least left right h = le_from_test right left h
 stands_sound Equal left right h = (Decides-int_eq left right).0 h
 stands_sound Most left right h = le_from_test left right h
 
-stands_complete : (sense : Sense) (left right : ℤ) → Stands sense left right → stands sense left right ≡ true
+pub stands_complete : (sense : Sense) (left right : ℤ) → Stands sense left right → stands sense left right ≡ true
 stands_complete Least left right h = le_to_test right left h
 stands_complete Equal left right h = (Decides-int_eq left right).1 h
 stands_complete Most left right h = le_to_test left right h

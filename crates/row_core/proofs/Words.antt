@@ -1,5 +1,5 @@
 -- The words of kinds and of equations tell them apart, and have no bracket and no comma.
-use Rattle.std.proofs.Common.{◌≡◌, ℕ, ◌+◌, ◌-◌, ◌<◌, ◌≤◌, List, [], Bool, true, length, map, get_or, refl, sym, ap, ◌∙◌, arith, nat_eq, replicate, zero-add}
+use Rattle.std.proofs.Common.{◌≡◌, ℕ, ◌-◌, ◌<◌, List, [], Bool, true, length, map, get_or, refl, sym, ap, ◌∙◌, arith, nat_eq, replicate, zero-add}
 use Rattle.std.proofs.lemmas.List.{get_or-map, get_or-replicate}
 use Rattle.std.proofs.lemmas.List.FromFn.{get_or-range_with_len}
 use Rattle.std.specs.List.{range_with_len, position_or_len}
@@ -16,8 +16,8 @@ place_of words word = position_or_len (pointwise nat_eq word) words
 apart : (words : List (List ℕ)) (n : ℕ) → map (place_of words) words ≡ range_with_len 0 n → length words ≡ n → (i j : ℕ) (d : List ℕ) → i < n → j < n → get_or words i d ≡ get_or words j d → i ≡ j
 apart words n own long i j d h k same =
     let at : (x : ℕ) → x < n → place_of words (get_or words x d) ≡ x =
-            λ x below. let inside : x < length words = omega arith in
-            sym (get_or-map (place_of words) words x d 0 inside) ∙ ap (λ (ps : List ℕ). get_or ps x 0) own ∙ get_or-range_with_len 0 n x 0 below ∙ zero-add x in
+    λ x below. let inside : x < length words = omega arith in
+    sym (get_or-map (place_of words) words x d 0 inside) ∙ ap (λ (ps : List ℕ). get_or ps x 0) own ∙ get_or-range_with_len 0 n x 0 below ∙ zero-add x in
     sym (at i h) ∙ ap (place_of words) same ∙ at j k
 
 -- where each word is plain, so is the one at a place
@@ -38,7 +38,7 @@ equation_words = map (λ (equation : Equation). equation.word) equations
 pub word_of_kind_apart : (a b : ℕ) → IsKind a → IsKind b → word_of_kind a ≡ word_of_kind b → a ≡ b
 word_of_kind_apart a b h k same =
     let at : (x : ℕ) → x - 1 < 48 → get_or kind_words (x - 1) [] ≡ word_of_kind x =
-            λ x below. get_or-map (λ (kind : Kind). kind.word) kinds (x - 1) (bounded [] []) [] below in
+    λ x below. get_or-map (λ (kind : Kind). kind.word) kinds (x - 1) (bounded [] []) [] below in
     let in_a : a - 1 < 48 = omega arith in
     let in_b : b - 1 < 48 = omega arith in
     let place : a - 1 ≡ b - 1 = apart kind_words 48 refl refl (a - 1) (b - 1) [] in_a in_b (at a in_a ∙ same ∙ sym (at b in_b)) in
@@ -54,7 +54,7 @@ word_of_kind_plain kind h =
 pub word_of_equation_apart : (a b : ℕ) → IsEquation a → IsEquation b → word_of_equation a ≡ word_of_equation b → a ≡ b
 word_of_equation_apart a b h k same =
     let at : (x : ℕ) → x - 1 < 64 → get_or equation_words (x - 1) [] ≡ word_of_equation x =
-            λ x below. get_or-map (λ (equation : Equation). equation.word) equations (x - 1) (named [] []) [] below in
+    λ x below. get_or-map (λ (equation : Equation). equation.word) equations (x - 1) (named [] []) [] below in
     let in_a : a - 1 < 64 = omega arith in
     let in_b : b - 1 < 64 = omega arith in
     let place : a - 1 ≡ b - 1 = apart equation_words 64 refl refl (a - 1) (b - 1) [] in_a in_b (at a in_a ∙ same ∙ sym (at b in_b)) in

@@ -1,5 +1,5 @@
 -- What the entries and the right side of a row keep: the variables ascend, and the numbers aren't 0, lie in range, and have no common divisor.
-use Rattle.std.specs.Prelude.{◌≡◌, ℕ, ℤ, Bool, true, List, [], ◌∷◌, ◌&&◌, not, ◌==◌, nat_lt, ◌<◌, ◌^◌, unsigned_abs, IsTrue, ⊤}
+use Rattle.std.specs.Prelude.{ℕ, ℤ, Bool, true, List, [], ◌∷◌, ◌&&◌, not, ◌==◌, nat_lt, ◌<◌, ◌^◌, unsigned_abs, IsTrue, ⊤}
 use Rattle.std.specs.Ordering.{is_lt}
 use Rattle.std.specs.declared.cmp.Ordering.{Ordering}
 use Rattle.std.specs.Int.{◌∣◌}

@@ -1,5 +1,4 @@
 -- The order of subscripts, variables and row names, as the derived comparisons of the code compute it.
-use Rattle.std.specs.Prelude.{ℕ, Bool, true, false, List, [], ◌∷◌, ◌&&◌}
 use Rattle.std.specs.Ordering.{nat_cmp, ordering_then}
 use Rattle.std.specs.declared.cmp.Ordering.{Ordering}
 use Rattle.row_core.specs.declared.Index.{Index}

@@ -290,8 +290,9 @@ fn entry(eq: u8) -> &'static Equation
     look_up(&EQUATIONS, eq)
 }
 
-/// The word with which the names of this equation's rows begin: the short name that stands before the
-/// first underscore of the constraint's name in the long code. No two equations have the same word.
+/// The word with which the names of this equation's rows begin: mostly what stands before the first
+/// underscore of the constraint's name in the long code, as `CAa1` of `CAa1_TotalNewCapacity`. No two
+/// equations have the same word.
 pub fn row_word(eq: u8) -> &'static str
     requires { IsEquation eq }
     ensures word { result.now ≡ word_of_equation eq }

@@ -80,3 +80,6 @@ pub struct Row {
     pub ghost fits: { IsTrue (all_in_range (rhs ∷ numbers_of entries.items)) },
     pub ghost lowest: { IsLowest (rhs ∷ numbers_of entries.items) },
 }
+
+#[cfg(test)]
+mod tests;

@@ -1,0 +1,28 @@
+//! Why a text gives no facts.
+
+ghost use Rattle.std.specs.Prelude.{◌≡◌};
+ghost use Rattle.osemosys_run.specs.declared.fixed_form.fault.FormError.TheVariants.{Memory};
+
+use std::alloc::{AllocError, AllocFailed};
+
+#[derive(Debug, Drop)]
+pub enum FormError {
+    Memory,
+    NotTheForm,
+}
+
+impl From<AllocError> for FormError {
+    ghost from_gives = { λ _ e. e ≡ Memory };
+
+    fn from(_e: AllocError) -> FormError {
+        FormError::Memory
+    }
+}
+
+impl<T: Drop> From<AllocFailed<T>> for FormError {
+    ghost from_gives = { λ _ e. e ≡ Memory };
+
+    fn from(_e: AllocFailed<T>) -> FormError {
+        FormError::Memory
+    }
+}
