@@ -9,8 +9,8 @@ use std::io::{ErrorKind, Read};
 use std::marker::Model;
 use std::rt::Files;
 
-/// The system's files, by path. It tells nothing of them. Each error of the system is a fault, also where a file is
-/// missing; want of memory, where the system reports it as a file is opened, is none.
+/// The system's files, by path. It tells nothing of them. Each error of the system is a fault, also
+/// where a file is missing; want of memory, where the system reports it as a file is opened, is none.
 #[derive(Drop)]
 pub struct DiskShelf<'a, R: Files> {
     rt: &'a R,
@@ -84,7 +84,8 @@ impl<'a, R: Files> Shelf for DiskShelf<'a, R> {
     /// One read of the system. Where no file is begun it answers 0.
     fn read(&mut self, room: &mut [u8]) -> Result<usize, Failed>
         ensures fits { IfOk result (λ n. n ≤ length room.new) }
-        ensures ok { IfOk result (λ n. self.new ≡ record self.old { taken = counted_by self.old.taken n }) }
+        ensures ok { IfOk result
+            (λ n. self.new ≡ record self.old { taken = counted_by self.old.taken n }) }
         ensures err { OnErr result (self.new ≡ with_fault self.old) }
         ensures faults { self.old.faults ≤ self.new.faults }
     {

@@ -1,8 +1,8 @@
 //! The edges of a program: files that are read in pieces, and one place that is written to.
 //!
-//! `Shelf` and `Sink` say what a caller may rely on, also where nothing is known of the bytes. `MemShelf` and
-//! `MemSink` keep all in memory and fail where they are told to; `DiskShelf` and `OutSink` stand over the system's
-//! files and standard output.
+//! `Shelf` and `Sink` say what a caller may rely on, also where nothing is known of the bytes.
+//! `MemShelf` and `MemSink` keep all in memory and fail where they are told to; `DiskShelf` and
+//! `OutSink` stand over the system's files and standard output.
 #![tactic(auto)]
 
 mod disk_shelf;

@@ -17,8 +17,8 @@ struct NamedFile {
     bytes: Vec<u8>,
 }
 
-/// Files in memory. The calls whose numbers it was given fail, and no others; `begin` and `read` are counted
-/// together, from 1.
+/// Files in memory. The calls whose numbers it was given fail, and no others; `begin` and `read` are
+/// counted together, from 1.
 #[derive(Drop)]
 pub struct MemShelf {
     alloc: Global,
@@ -52,7 +52,8 @@ impl Model for MemShelf {
 }
 
 impl MemShelf {
-    /// A shelf with no files. `failing` has the numbers of the calls that fail.
+    /// A shelf with no files. `failing` has the numbers of the calls that fail. Refuses for want of
+    /// memory alone.
     pub fn new(alloc: Global, failing: &[u64]) -> Result<MemShelf, AllocError>
         ensures { IfOk result (λ shelf. shelf ≡ record {
           files = [];
@@ -75,14 +76,18 @@ impl MemShelf {
         })
     }
 
-    /// Puts a file there, in place of one of that name. The unread rest stays as it is, and so do all counts.
+    /// Puts a file there, in place of one of that name. The unread rest stays as it is, and so do all
+    /// counts. Refuses for want of memory alone, and then changes nothing.
     pub fn put(&mut self, name: &str, bytes: &[u8]) -> Result<(), AllocError>
-        ensures ok { OnOk result (self.new ≡ record self.old { files = put_file self.old.files name.now bytes.now }) }
+        ensures ok { OnOk result (self.new ≡ record self.old {
+          files = put_file self.old.files name.now bytes.now;
+        }) }
         ensures err { OnErr result (self.new ≡ self.old) }
 
         // What is found by name afterwards.
         ensures there { OnOk result (file_named self.new.files name.now ≡ Some bytes.now) }
-        ensures others { (other : List ℕ) → other ≢ name.now → file_named self.new.files other ≡ file_named self.old.files other }
+        ensures others { (other : List ℕ) → other ≢ name.now
+            → file_named self.new.files other ≡ file_named self.old.files other }
     {
         let file = NamedFile {
             name: Vec::from_slice(self.alloc, name.as_bytes())?,
@@ -112,7 +117,8 @@ fn bytes_of<'a>(files: &'a [NamedFile], name: &[u8]) -> Option<&'a [u8]>
 
 // Puts the file in the place of one of its name, else behind the others.
 fn place(files: &mut Vec<NamedFile>, file: NamedFile) -> Result<(), AllocError>
-    ensures ok { OnOk result (contents files.new.items ≡ put_file (contents files.old.items) file.name.items file.bytes.items) }
+    ensures ok { OnOk result (contents files.new.items
+        ≡ put_file (contents files.old.items) file.name.items file.bytes.items) }
     ensures err { OnErr result (files.new.items ≡ files.old.items) }
 {
     match position_of(files, &file.name) {
@@ -136,16 +142,19 @@ impl Shelf for MemShelf {
     ghost tells_rest = { λ shelf told. refl };
 
     fn begin(&mut self, name: &str) -> Result<(), OpenFault>
-        ensures opened { OnOk result (IsSomeAnd (file_named self.old.files name.now) (λ bytes. self.new ≡ begun self.old bytes)) }
+        ensures opened { OnOk result (IsSomeAnd (file_named self.old.files name.now)
+            (λ bytes. self.new ≡ begun self.old bytes)) }
         ensures no_file { IsErrOf result OpenFault.NoFile → self.new ≡ begun self.old [] }
         ensures memory { IsErrOf result OpenFault.Memory → self.new ≡ begun self.old [] }
         ensures failed { IsErrOf result OpenFault.Failed → self.new ≡ begin_failed self.old }
-
         ensures faults { self.old.faults ≤ self.new.faults }
 
         // When each refusal comes.
-        ensures fails { IsErrOf result OpenFault.Failed ↔ IsTrue (fails_next self.old.failing self.old.calls) }
-        ensures missing { IsErrOf result OpenFault.NoFile ↔ ((fails_next self.old.failing self.old.calls ≡ false) × (file_named self.old.files name.now ≡ None)) }
+        ensures fails { IsErrOf result OpenFault.Failed
+            ↔ IsTrue (fails_next self.old.failing self.old.calls) }
+        ensures missing { IsErrOf result OpenFault.NoFile
+            ↔ ((fails_next self.old.failing self.old.calls ≡ false)
+            × (file_named self.old.files name.now ≡ None)) }
     {
         self.begins = self.begins.saturating_add(1);
         self.taken = 0;

@@ -7,8 +7,9 @@ use crate::traits::{Failed, Sink};
 use std::alloc::{AllocError, Global};
 use std::marker::Model;
 
-/// A place to write to in memory, with room for a number of bytes. The calls of `write` whose numbers it was given
-/// fail, counted from 1, and so does a write of a piece that isn't empty into no room; no others.
+/// A place to write to in memory, with room for a number of bytes. The calls of `write` whose numbers
+/// it was given fail, counted from 1, and so does a write of a piece that isn't empty into no room; no
+/// others.
 #[derive(Drop)]
 pub struct MemSink {
     bytes: Vec<u8>,
@@ -34,8 +35,8 @@ impl Model for MemSink {
 }
 
 impl MemSink {
-    /// A sink with room for `room` bytes, taken now, and nothing written. `failing` has the numbers of the calls
-    /// that fail.
+    /// A sink with room for `room` bytes, taken now, and nothing written. `failing` has the numbers of
+    /// the calls that fail. Refuses for want of memory alone.
     pub fn new(alloc: Global, room: usize, failing: &[u64]) -> Result<MemSink, AllocError>
         ensures { IfOk result (λ sink. sink ≡ record {
           room = room;
@@ -67,7 +68,8 @@ impl Sink for MemSink {
 
     /// Takes the front of the piece that fits. It needs no memory.
     fn write(&mut self, piece: &[u8]) -> Result<usize, Failed>
-        ensures count { IfOk result (λ n. n ≡ min (length piece.now) (self.old.room - length self.old.written)) }
+        ensures count { IfOk result
+            (λ n. n ≡ min (length piece.now) (self.old.room - length self.old.written)) }
         ensures ok { IfOk result (λ n. self.new ≡ written_on self.old (take n piece.now)) }
         ensures err { OnErr result (self.new ≡ write_failed self.old) }
         ensures faults { self.old.faults ≤ self.new.faults }

@@ -5,8 +5,9 @@ ghost use Rattle.io_edges.specs.Count.{counted};
 use crate::traits::{Failed, Sink};
 use std::marker::Model;
 
-/// The standard output, with no buffer of its own: what a call has taken, the system has. It tells nothing of what
-/// was written. Each error of the system is a fault, and so is a write that takes nothing of a piece that isn't empty.
+/// The standard output, with no buffer of its own: what a call has taken, the system has. It tells
+/// nothing of what was written. Each error of the system is a fault, and so is a write that takes
+/// nothing of a piece that isn't empty.
 #[derive(Drop)]
 pub struct OutSink<'a, R> {
     rt: &'a R,

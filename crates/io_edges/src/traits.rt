@@ -63,7 +63,8 @@ pub trait Shelf {
     /// Begins a file: its bytes are the rest. A refused call leaves an empty rest.
     fn begin(&mut self, name: &str) -> Result<(), OpenFault>
         ensures files { files self.new ≡ files self.old }
-        ensures opens { OnOk result (WhereTold (files self.old) (λ all. Opens all name.now (rest self.new))) }
+        ensures opens { OnOk result (WhereTold (files self.old)
+            (λ all. Opens all name.now (rest self.new))) }
         ensures told { IsSome (rest self.old) → IsSome (rest self.new) }
         ensures refused { OnErr result (WhereTold (rest self.new) (λ left. left ≡ [])) }
 
@@ -79,13 +80,15 @@ pub trait Shelf {
         ensures begins { begins self.new ≡ counted (begins self.old) }
         ensures taken { taken self.new ≡ 0 };
 
-    /// Moves a front of the rest into the front of the room, and answers its length. In a room that isn't empty, 0
-    /// is the end of the file. What stands behind it in the room, and in the room of a refused call, is left open.
+    /// Moves a front of the rest into the front of the room, and answers its length. In a room that
+    /// isn't empty, 0 is the end of the file. What stands behind it in the room, and in the room of a
+    /// refused call, is left open.
     fn read(&mut self, room: &mut [u8]) -> Result<usize, Failed>
         ensures files { files self.new ≡ files self.old }
         ensures begins { begins self.new ≡ begins self.old }
         ensures fits { IfOk result (λ n. n ≤ length room.new) }
-        ensures moves { IfOk result (λ n. WhereTold (rest self.old) (λ left. Moves left n room.new (rest self.new))) }
+        ensures moves { IfOk result (λ n. WhereTold (rest self.old)
+            (λ left. Moves left n room.new (rest self.new))) }
         ensures taken { IfOk result (λ n. taken self.new ≡ counted_by (taken self.old) n) }
 
         // A refused call has a cause, and takes nothing.
@@ -111,7 +114,8 @@ pub trait Sink {
     fn write(&mut self, piece: &[u8]) -> Result<usize, Failed>
         ensures fits { IfOk result (λ n. n ≤ length piece.now) }
         ensures goes_on { IfOk result (λ n. 0 < length piece.now → 0 < n) }
-        ensures appends { IfOk result (λ n. WhereTold (written self.old) (λ bytes. written self.new ≡ Some (bytes ++ take n piece.now))) }
+        ensures appends { IfOk result (λ n. WhereTold (written self.old)
+            (λ bytes. written self.new ≡ Some (bytes ++ take n piece.now))) }
 
         // A refused call has a cause, and appends nothing.
         ensures failed { OnErr result (Rose (faults self.old) (faults self.new)) }

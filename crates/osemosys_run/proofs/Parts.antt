@@ -1,5 +1,5 @@
 -- A file that is read room by room: what was read and what is left are the file.
-use Rattle.std.proofs.Common.{◌≡◌, ℕ, ◌+◌, ◌<◌, List, [], ◌++◌, length, take, drop, Option, Some, ap, sym, ◌∙◌, append_assoc}
+use Rattle.std.proofs.Common.{◌≡◌, ℕ, ◌+◌, ◌<◌, List, [], ◌++◌, length, take, drop, Option, Some, None, IsSome, refl, subst, ap, sym, ◌∙◌, append_assoc}
 use Rattle.std.proofs.lemmas.List.{take-append-drop, append-nil}
 use Rattle.std.proofs.Math.Seq.{drop-nil, take-append_seam, take-add}
 use Rattle.io_edges.specs.Edges.{Moves}
@@ -22,16 +22,30 @@ moved rest after bytes room n file parts moves =
         ∙ ap (λ (both : List ℕ). bytes ++ both) (take-append-drop n left) in
     (drop n left, step.left_over, parts.2 ∙ ap (λ (all : List ℕ). Some all) (sym whole))
 
--- where no byte moves into a room, nothing is left
+-- where no byte moves into a room, the file was read
 pub ended : (rest after : Option (List ℕ)) (bytes room : List ℕ) (n : ℕ) (file : Option (List ℕ))
     → Parts rest bytes file → ((left : List ℕ) → rest ≡ Some left → Moves left n room after)
-    → n ≡ 0 → 0 < length room → (file ≡ Some bytes) × (after ≡ Some [])
+    → n ≡ 0 → 0 < length room → file ≡ Some bytes
 ended rest after bytes room n file parts moves none room_there =
     let left : List ℕ = parts.0 in
     let step : Moves left n room after = moves left parts.1 in
     let empty : left ≡ [] = step.ends none room_there in
-    ( parts.2 ∙ ap (λ (l : List ℕ). Some (bytes ++ l)) empty ∙ ap (λ (all : List ℕ). Some all) (append-nil bytes)
-    , step.left_over ∙ ap (λ (l : List ℕ). Some (drop n l)) empty ∙ ap (λ (l : List ℕ). Some l) (drop-nil n))
+    parts.2 ∙ ap (λ (l : List ℕ). Some (bytes ++ l)) empty ∙ ap (λ (all : List ℕ). Some all) (append-nil bytes)
+
+-- and nothing is left
+pub none_left : (rest after : Option (List ℕ)) (room : List ℕ) (n : ℕ) → IsSome rest → ((left : List ℕ) → rest ≡ Some left → Moves left n room after)
+    → n ≡ 0 → 0 < length room → after ≡ Some []
+none_left None after room n told moves none room_there = absurd (cc told)
+none_left (Some left) after room n told moves none room_there =
+    let step : Moves left n room after = moves left refl in
+    step.left_over ∙ ap (λ (l : List ℕ). Some (drop n l)) (step.ends none room_there) ∙ ap (λ (l : List ℕ). Some l) (drop-nil n)
+
+-- what is told stays told
+pub still_told : (rest after : Option (List ℕ)) (room : List ℕ) (n : ℕ) → IsSome rest → ((left : List ℕ) → rest ≡ Some left → Moves left n room after) → IsSome after
+still_told None after room n told moves = absurd (cc told)
+still_told (Some left) after room n told moves =
+    let step : Moves left n room after = moves left refl in
+    subst (λ (o : Option (List ℕ)). IsSome o) (sym step.left_over) refl
 
 -- the front of two lists joined, as long as the first
 pub front_of_both : (n : ℕ) (xs ys : List ℕ) → n ≡ length xs → take n (xs ++ ys) ≡ xs

@@ -1,7 +1,7 @@
 -- The entries of the rows of the capacity equations: how they grow, that they ascend, fit and have no common divisor, and what
 -- they add up to.
 use Rattle.std.proofs.Common.{◌≡◌, ℕ, zero, suc, ◌+◌, ◌*◌, ◌^◌, ◌<◌, ◌≤◌, ◌↔◌, List, [], ◌∷◌, ◌++◌, ◌&&◌, ◌||◌, nat_eq, Bool, true, false, cond, refl, ap, sym, ◌∙◌, map, arith, lt-ltb}
-use Rattle.std.specs.Prelude.{ℤ, pos, negsuc, ◌+ℤ◌, ◌-ℤ◌, ◌*ℤ◌, unsigned_abs}
+use Rattle.std.specs.Prelude.{ℤ, pos, negsuc, ◌+ℤ◌, ◌-ℤ◌, ◌*ℤ◌, ◌<ℤ◌, unsigned_abs}
 use Rattle.std.specs.declared.cmp.Ordering.{Ordering}
 use Rattle.std.specs.declared.cmp.Ordering.TheVariants.{Less, Equal}
 use Rattle.std.specs.Cmp.{nat_cmp_is}
@@ -14,13 +14,14 @@ use Rattle.row_core.proofs.Integers.{*ℤ_assoc}
 use Rattle.row_core.proofs.RowLaws.{has_unit}
 use Rattle.row_core.specs.declared.Var.{Var}
 use Rattle.row_core.specs.Kinds.{IsKind}
-use Rattle.row_core.specs.Names.{new_capacity, accumulated_new_capacity}
+use Rattle.row_core.specs.Names.{new_capacity, accumulated_new_capacity, total_capacity_annual}
 use Rattle.row_core.specs.Numbers.{variables_of, numbers_of, before_first, ascends, none_zero, all_in_range, in_range}
 use Rattle.row_core.specs.Order.{var_cmp}
-use Rattle.row_core.specs.Rows.{row_sum}
+use Rattle.row_core.specs.Rows.{row_sum, number_at}
 use Rattle.osemosys_run.specs.Equations.{total}
-use Rattle.osemosys_run.specs.CapacityEntries.{minus_new_capacities, accumulated_entries}
+use Rattle.osemosys_run.specs.CapacityEntries.{minus_new_capacities, accumulated_entries, total_entries}
 use Rattle.osemosys_run.proofs.Ranges.{filter-more}
+use Rattle.osemosys_run.proofs.SameVariables.{same-self}
 
 -- with one more year there is one more entry, where the year counts
 pub entries-more : (r t : ℕ) (p : ℕ → Bool) (n : ℕ) (counts : Bool) → p n ≡ counts
@@ -129,3 +130,16 @@ has_unit-behind z zs unit = ap (λ (b : Bool). nat_eq (unsigned_abs z) 1 || b) u
 pub kinds-accumulated : (r t y : ℕ) (years : List ℕ) → AllByRecursion (λ e. IsKind e.0.kind) (accumulated_entries r t y years)
 kinds-accumulated r t y [] = ((omega arith, omega arith), tt)
 kinds-accumulated r t y (b ∷ bs) = ((omega arith, omega arith), kinds-accumulated r t y bs)
+
+-- the number at the variable that CAa1 defines
+pub number_at-accumulated : (r t y : ℕ) (years : List ℕ) → number_at (accumulated_entries r t y years) (accumulated_new_capacity r t y) ≡ pos 1
+number_at-accumulated r t y [] =
+    ap (λ (b : Bool). cond b (pos 1) (pos 0)) (same-self (accumulated_new_capacity r t y))
+number_at-accumulated r t y (b ∷ bs) = number_at-accumulated r t y bs
+
+-- and at the variable that CAa2 defines
+pub number_at-total : (r t y : ℕ) → number_at (total_entries r t y) (total_capacity_annual r t y) ≡ pos 1
+number_at-total r t y = ap (λ (b : Bool). cond b (pos 1) (pos 0)) (same-self (total_capacity_annual r t y))
+
+pub above_zero : (z : ℤ) → z ≡ pos 1 → pos 0 <ℤ z
+above_zero z e = omega (arith, ints, e)

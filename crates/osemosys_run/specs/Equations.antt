@@ -1,6 +1,6 @@
 -- The named equations that are written: CAa1 and CAa2 of the OSeMOSYS long code, as statements on a plan. A plan is a positive
 -- whole number q and a whole number x v for each variable v: the value of v is x v over q.
-use Rattle.std.specs.Prelude.{◌≡◌, ℕ, ◌+◌, ◌*◌, ◌^◌, ◌<◌, ℤ, pos, ◌+ℤ◌, ◌*ℤ◌, Bool, ◌&&◌, nat_le, nat_lt, List, [], ◌∷◌, length, map, filter, slice_index, ◌↔◌}
+use Rattle.std.specs.Prelude.{◌≡◌, ℕ, ◌+◌, ◌*◌, ◌^◌, ◌<◌, ℤ, pos, ◌+ℤ◌, ◌*ℤ◌, ◌<ℤ◌, Bool, ◌&&◌, nat_le, nat_lt, List, [], ◌∷◌, length, map, filter, slice_index, ◌↔◌}
 use Rattle.std.specs.List.{flat_map, range_with_len}
 use Rattle.row_core.specs.declared.Var.{Var}
 use Rattle.row_core.specs.declared.RowName.{RowName}
@@ -8,7 +8,7 @@ use Rattle.row_core.specs.declared.Row.{Row}
 use Rattle.row_core.specs.declared.Sense.TheVariants.{Equal}
 use Rattle.row_core.specs.Names.{new_capacity, accumulated_new_capacity, total_capacity_annual, caa1, caa2}
 use Rattle.row_core.specs.Statements.{Statement, Holds}
-use Rattle.row_core.specs.Rows.{RowHolds}
+use Rattle.row_core.specs.Rows.{RowHolds, number_at}
 use Rattle.osemosys_run.specs.declared.capacity_rows.Equation.{Equation}
 use Rattle.osemosys_run.specs.declared.capacity_rows.Equation.TheVariants.{CAa1, CAa2}
 use Rattle.osemosys_run.specs.FixedForm.{Facts}
@@ -90,25 +90,38 @@ instances_of facts e = flat_map (region_instances facts e) (positions facts.regi
 abbrev pub instances : Facts → List Instance
 instances facts = flat_map (instances_of facts) (CAa1 ∷ CAa2 ∷ [])
 
--- the name of the instance's row
+-- the name of an equation's row
 abbrev pub name_at : Equation → ℕ → ℕ → ℕ → RowName
 name_at CAa1 = caa1
 name_at CAa2 = caa2
 
+-- the name of the instance's row
 abbrev pub name_of : Instance → RowName
 name_of i = name_at i.equation i.region i.tech i.year
 
--- what the instance says of a plan
+-- the variable that an equation defines
+abbrev pub variable_at : Equation → ℕ → ℕ → ℕ → Var
+variable_at CAa1 = accumulated_new_capacity
+variable_at CAa2 = total_capacity_annual
+
+-- the variable that the instance defines
+abbrev pub defined_by : Instance → Var
+defined_by i = variable_at i.equation i.region i.tech i.year
+
+-- what an equation says of a plan
 abbrev pub statement_at : Equation → Facts → ℕ → ℕ → ℕ → ℕ → (Var → ℤ) → Statement
 statement_at CAa1 facts region tech year q x = accumulates facts region tech year x
 statement_at CAa2 facts region tech year q x = totals facts region tech year q x
 
+-- what the instance says of a plan
 abbrev pub says : Facts → Instance → ℕ → (Var → ℤ) → Statement
 says facts i q x = statement_at i.equation facts i.region i.tech i.year q x
 
--- the row has the instance's name, and holds of every plan exactly where the instance does
+-- the row has the instance's name, a positive number at the variable that it defines, and holds of every plan exactly where the
+-- instance does
 pub record IsRowOf (facts : Facts) (i : Instance) (row : Row) : Type 0 where
   pub named : row.name ≡ name_of i
+  pub defines : pos 0 <ℤ number_at row.entries.items (defined_by i)
   pub same : (q : ℕ) (x : Var → ℤ) → 0 < q → RowHolds row q x ↔ Holds (says facts i q x)
 
 -- one row for each instance, in order

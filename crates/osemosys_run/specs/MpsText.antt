@@ -37,14 +37,17 @@ members_text members has i places = join_with_byte 44 (map (member members i) (f
 abbrev pub full_name : Members → List ℕ → (ℕ → Bool) → Index → List ℕ
 full_name members word has i = word ++ codes "[" ++ members_text members has i 8 ++ codes "]"
 
+-- the name of a variable
 abbrev pub variable_name : Members → Var → List ℕ
 variable_name members v = full_name members (word_of_kind v.kind) (kind_has v.kind) v.index
 
+-- the name of a row
 abbrev pub row_name : Members → RowName → List ℕ
 row_name members n = full_name members (word_of_equation n.eq) (equation_has n.eq) n.index
 
 -- ---- lines
 
+-- a text and a line feed
 abbrev pub line : List ℕ → List ℕ
 line text = text ++ codes "\n"
 
@@ -52,12 +55,15 @@ line text = text ++ codes "\n"
 abbrev pub numbered : {A : Type 0} → List A → List (ℕ × A)
 numbered items = enumerate_from 1 items
 
+-- a row by its number
 abbrev pub row_label : ℕ → List ℕ
 row_label i = codes "R" ++ decimal i
 
+-- a column by its number
 abbrev pub column_label : ℕ → List ℕ
 column_label j = codes "C" ++ decimal j
 
+-- G for >=, E for =, L for <=
 abbrev pub sense_letter : Sense → List ℕ
 sense_letter Least = codes "G"
 sense_letter Equal = codes "E"
@@ -74,6 +80,7 @@ row_lines members r =
 abbrev pub is_same_variable : Var → Var → Bool
 is_same_variable v w = is_eq (var_cmp v w)
 
+-- the entry n of row i in column j
 abbrev pub entry_line : ℕ → ℕ → ℤ → List ℕ
 entry_line j i n = line (codes " " ++ column_label j ++ codes " " ++ row_label i ++ codes " " ++ signed_decimal n)
 
@@ -94,12 +101,15 @@ column_lines members rows c =
 abbrev pub rhs_line_of : ℕ → ℤ → List ℕ
 rhs_line_of i rhs = if is_zero rhs then [] else line (codes " RHS " ++ row_label i ++ codes " " ++ signed_decimal rhs)
 
+-- a row's right side
 abbrev pub rhs_line : ℕ × Row → List ℕ
 rhs_line r = rhs_line_of r.0 r.1.rhs
 
+-- the column's variable may be below 0
 abbrev pub is_free_column : ℕ × Var → Bool
 is_free_column c = kind_is_free c.1.kind
 
+-- a free column's bound
 abbrev pub bound_line : ℕ × Var → List ℕ
 bound_line c = if is_free_column c then line (codes " FR BND " ++ column_label c.0) else []
 
@@ -138,5 +148,8 @@ pub record HasWords (row : Row) : Type 0 where
   pub kinds : AllByRecursion (λ e. IsKind e.0.kind) row.entries.items
 
 -- the text is that of the rows
-abbrev pub IsMpsText : Members → List Row → List ℕ → Type 0
-IsMpsText members rows text = (columns : List Var) × AreColumns rows columns × (text ≡ mps_text members rows columns)
+pub record IsMpsText (members : Members) (rows : List Row) (text : List ℕ) : Type 0 where
+  pub words : AllByRecursion HasWords rows
+  pub columns : List Var
+  pub are_columns : AreColumns rows columns
+  pub is : text ≡ mps_text members rows columns

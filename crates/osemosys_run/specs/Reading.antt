@@ -1,5 +1,5 @@
 -- What it means that a file was read to its end, or found to be too long.
-use Rattle.std.specs.Prelude.{◌≡◌, ℕ, ◌<◌, ◌≤◌, List, [], length, Option, Some}
+use Rattle.std.specs.Prelude.{◌≡◌, ℕ, ◌+◌, ◌<◌, ◌≤◌, List, [], length, Option, Some, IsSome}
 use Rattle.io_edges.specs.Files.{file_named}
 use Rattle.io_edges.specs.Told.{WhereTold}
 
@@ -7,14 +7,19 @@ use Rattle.io_edges.specs.Told.{WhereTold}
 abbrev pub most_bytes : ℕ
 most_bytes = 67108864
 
--- These are the bytes of the file of that name, nothing of it is left, and no more was taken.
-pub record IsWholeFile (files : Option (List (List ℕ × List ℕ))) (name bytes : List ℕ) (rest : Option (List ℕ)) (taken : ℕ) : Type 0 where
+-- the bytes that one read may take
+abbrev pub room_bytes : ℕ
+room_bytes = 65536
+
+-- These are the bytes of the file of that name, and no more was taken; where the rest is told, from before the call on, none is left.
+pub record IsWholeFile (files : Option (List (List ℕ × List ℕ))) (name bytes : List ℕ) (rest_before rest : Option (List ℕ)) (taken : ℕ) : Type 0 where
   pub short : length bytes ≤ most_bytes
   pub all_taken : taken ≡ length bytes
   pub named : WhereTold files (λ all. file_named all name ≡ Some bytes)
-  pub none_left : WhereTold files (λ _. rest ≡ Some [])
+  pub none_left : IsSome rest_before → rest ≡ Some []
 
--- More than the most was taken of the file of that name.
+-- The file of that name has more than the most bytes: more were taken, by at most one room.
 pub record IsTooLong (files : Option (List (List ℕ × List ℕ))) (name : List ℕ) (taken : ℕ) : Type 0 where
   pub many_taken : most_bytes < taken
+  pub at_once : taken ≤ most_bytes + room_bytes
   pub longer : WhereTold files (λ all. (bytes : List ℕ) × (file_named all name ≡ Some bytes) × (most_bytes < length bytes))

@@ -1,6 +1,5 @@
-//! The commands of the program.
+//! The commands of the program, over any shelf of files and any sink for the text.
 #![tactic(auto)]
-
 
 mod answer;
 mod capacity_rows;
@@ -9,10 +8,10 @@ mod lines;
 mod mps;
 mod reading;
 mod rows;
+mod run;
 mod sending;
 mod status;
 mod words;
 
-pub use reading::{ReadEnd, read_file};
-pub use sending::send;
+pub use run::osemosys;
 pub use status::{ReadStop, Refusal, Status, WordFault};

@@ -57,7 +57,7 @@ pub fn read_file<S: Shelf>(
     name: &str,
     shelf: &mut S,
 ) -> Result<Vec<u8>, ReadEnd>
-    ensures whole { IfOk result (λ bytes. IsWholeFile (S.files shelf.old) name.now bytes.items (S.rest shelf.new) (S.taken shelf.new)) }
+    ensures whole { IfOk result (λ bytes. IsWholeFile (S.files shelf.old) name.now bytes.items (S.rest shelf.old) (S.rest shelf.new) (S.taken shelf.new)) }
 
     // When each refusal comes. Want of memory has no cause.
     ensures no_file { IsErrOf result ReadEnd.NoFile → Lacks (S.files shelf.old) name.now }

@@ -1,13 +1,16 @@
-//! Why a text gives no facts.
+//! Why reading stops before a text has given its facts.
 
 ghost use Rattle.std.specs.Prelude.{◌≡◌};
 ghost use Rattle.osemosys_run.specs.declared.fixed_form.fault.FormError.TheVariants.{Memory};
 
 use std::alloc::{AllocError, AllocFailed};
 
+/// Why reading stops.
 #[derive(Debug, Drop)]
 pub enum FormError {
+    /// Memory ran out.
     Memory,
+    /// The text isn't of the fixed form.
     NotTheForm,
 }
 

@@ -50,7 +50,9 @@ fn all(alloc: Global, text: &[u8]) -> Result<FirstFacts, FormError>
 /// `set YEAR :=` and years, `param OperationalLife :=` and the life of each technology in each region,
 /// `param ResidualCapacity :=` and the capacity of each of these in each year, each statement ended by `;`.
 ///
-/// `None` is answered where the text isn't of this form.
+/// Tokens are bare symbols, `:=` and `;`, with blanks, tabs, carriage returns and line feeds between
+/// them. A symbol of digits only has no leading zero. `None` is answered exactly where the text isn't
+/// of this form, and `AllocError` only where memory runs out.
 pub fn read_fixed_form(alloc: Global, text: &[u8]) -> Result<Option<FirstFacts>, AllocError>
     // What is read is what the text says.
     ensures found { IfOk result (λ answer. IfSome answer (λ facts. IsFixedForm text.now (facts_of facts))) }

@@ -1,17 +1,17 @@
 use Rattle.std.proofs.Common.{◌≡◌, ◌↔◌, ℕ, subst, ap, sym, ◌∙◌, List, ◌∷◌, arith}
-use Rattle.std.specs.Prelude.{ℤ, pos, ◌*ℤ◌}
+use Rattle.std.specs.Prelude.{ℤ, pos, ◌*ℤ◌, ◌<ℤ◌}
 use Rattle.std.specs.List.{AllByRecursion}
 use Rattle.row_core.specs.declared.Var.{Var}
 use Rattle.row_core.specs.Kinds.{IsKind}
 use Rattle.row_core.specs.Names.{new_capacity, accumulated_new_capacity}
 use Rattle.row_core.specs.Numbers.{variables_of, numbers_of, ascends, none_zero, all_in_range, IsLowest}
 use Rattle.row_core.specs.Order.{var_cmp}
-use Rattle.row_core.specs.Rows.{row_sum}
+use Rattle.row_core.specs.Rows.{row_sum, number_at}
 use Rattle.row_core.proofs.RowLaws.{IsLowest-unit}
 use Rattle.osemosys_run.specs.Equations.{still_counts, years_counting, total}
 use Rattle.osemosys_run.specs.FixedFormView.{facts_of}
 use Rattle.osemosys_run.specs.CapacityEntries.{accumulated_entries}
-use Rattle.osemosys_run.proofs.RowEntries.{ascends-accumulated, none_zero-accumulated, in_range-accumulated, has_unit-accumulated, accumulated-both, kinds-accumulated}
+use Rattle.osemosys_run.proofs.RowEntries.{ascends-accumulated, none_zero-accumulated, in_range-accumulated, has_unit-accumulated, accumulated-both, kinds-accumulated, number_at-accumulated, above_zero}
 use Rattle.osemosys_run.proofs.capacity_rows.accumulated_row.Goals as goal
 
 
@@ -34,6 +34,7 @@ returns-clause-row c =
   let years = years_counting (facts_of c.args.facts.now) r t y in
   record {
     named = c.row_name.ensures;
+    defines = subst (λ (es : List (Var × ℤ)). pos 0 <ℤ number_at es (accumulated_new_capacity r t y)) (sym c.in_ok-entries.ensures) (above_zero _ (number_at-accumulated r t y years));
     same = λ q x positive. subst (λ (es : List (Var × ℤ)). (row_sum x es ≡ pos 0 *ℤ pos q) ↔ (x (accumulated_new_capacity r t y) ≡ total years (λ b. x (new_capacity r t b))))
         (sym c.in_ok-entries.ensures) (accumulated-both r t y years x (pos q));
   }

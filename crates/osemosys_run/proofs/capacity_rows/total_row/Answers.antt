@@ -1,5 +1,5 @@
 use Rattle.std.proofs.Common.{◌≡◌, ◌↔◌, ◌+◌, ◌*◌, ◌^◌, ◌<◌, ◌≤◌, ℕ, Bool, true, subst, ap, sym, ◌∙◌, List, [], ◌∷◌, ◌++◌, ◌&&◌, arith, refl}
-use Rattle.std.specs.Prelude.{ℤ, pos, negsuc, ◌+ℤ◌, ◌*ℤ◌}
+use Rattle.std.specs.Prelude.{ℤ, pos, negsuc, ◌+ℤ◌, ◌*ℤ◌, ◌<ℤ◌}
 use Rattle.std.specs.Int.{w128}
 use Rattle.std.proofs.lemmas.Int.{ints}
 use mir.Val.{to_z, of_z}
@@ -7,12 +7,12 @@ use Rattle.row_core.specs.declared.Var.{Var}
 use Rattle.row_core.specs.Names.{accumulated_new_capacity, total_capacity_annual}
 use Rattle.row_core.specs.Numbers.{variables_of, numbers_of, ascends, none_zero, all_in_range, in_range, IsLowest}
 use Rattle.row_core.specs.Order.{var_cmp}
-use Rattle.row_core.specs.Rows.{row_sum}
+use Rattle.row_core.specs.Rows.{row_sum, number_at}
 use Rattle.row_core.proofs.RowLaws.{IsLowest-unit}
 use Rattle.osemosys_run.specs.CapacityEntries.{total_entries}
 use Rattle.osemosys_run.specs.Equations.{given_capacity, residual_capacity}
 use Rattle.osemosys_run.specs.FixedFormView.{facts_of}
-use Rattle.osemosys_run.proofs.RowEntries.{totals-both, in_range-small, both_true, has_unit-behind}
+use Rattle.osemosys_run.proofs.RowEntries.{totals-both, in_range-small, both_true, has_unit-behind, number_at-total, above_zero}
 use Rattle.osemosys_run.proofs.capacity_rows.total_row.Goals as goal
 
 pub invariant_of-result : goal.invariant_of-result
@@ -33,6 +33,7 @@ returns-clause-row c =
   let right : to_z w128 (of_z w128 c.from.result) ≡ pos c.residual_capacity.result = omega (arith, ints, c.from.ensures) in
   record {
     named = c.row_name.ensures;
+    defines = subst (λ (es : List (Var × ℤ)). pos 0 <ℤ number_at es (total_capacity_annual r t y)) (sym c.in_ok-entries.ensures) (above_zero _ (number_at-total r t y));
     same = λ q x positive.
       let accumulated = x (accumulated_new_capacity r t y) in
       let whole = x (total_capacity_annual r t y) in

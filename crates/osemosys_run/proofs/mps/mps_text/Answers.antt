@@ -31,8 +31,11 @@ returns c =
   let columns_are : c.deref-2.result.now ≡ columns = c.deref-2.ensures.value ∙ c.in_ok-columns.ensures.columns ∙ ap (columns_from None) c.deref.ensures.value in
   let section : cell_lines members 0 None c.deref.result.now ≡ flat_map (column_lines members rows) (numbered columns) =
     ap (cell_lines members 0 None) c.deref.ensures.value ∙ columns-section members rows sorted c.in_ok-cells.ensures in
-  (columns, columns-are rows sorted c.in_ok-cells.ensures,
-    c.in_ok-extend_from_slice-3.ensures.items
+  record {
+    words = c.requires;
+    columns = columns;
+    are_columns = columns-are rows sorted c.in_ok-cells.ensures;
+    is = c.in_ok-extend_from_slice-3.ensures.items
     ∙ ap (λ (front : List ℕ). front ++ line (codes "ENDATA"))
       (c.in_ok-push_bounds.ensures ∙ ap (λ (vs : List Var). c.push_right_sides.new.out.items ++ bounds (numbered vs)) columns_are
       ∙ ap (λ (front : List ℕ). front ++ bounds (numbered columns))
@@ -45,4 +48,5 @@ returns c =
             ∙ ap (λ (front : List ℕ). front ++ flat_map (column_lines members rows) (numbered columns))
               (c.in_ok-extend_from_slice.ensures.items
               ∙ ap (λ (front : List ℕ). front ++ line (codes "COLUMNS"))
-                (c.in_ok-push_rows.ensures ∙ ap (λ (front : List ℕ). front ++ flat_map (row_lines members) (numbered rows)) c.in_ok-out.ensures.items)))))))
+                (c.in_ok-push_rows.ensures ∙ ap (λ (front : List ℕ). front ++ flat_map (row_lines members) (numbered rows)) c.in_ok-out.ensures.items))))));
+  }

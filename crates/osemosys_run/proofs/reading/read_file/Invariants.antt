@@ -1,4 +1,4 @@
-use Rattle.std.proofs.Common.{◌≡◌, ℕ, ◌-◌, ◌≤◌, ◌++◌, List, length, vec_len, Some}
+use Rattle.std.proofs.Common.{◌≡◌, ℕ, ◌-◌, ◌≤◌, ◌++◌, List, length, vec_len, Some, IsSome}
 use Rattle.io_edges.specs.Count.{counted}
 use Rattle.io_edges.specs.Files.{file_named}
 use Rattle.io_edges.specs.Told.{WhereTold}
@@ -14,6 +14,7 @@ invariant-rooms g l =
       short : vec_len l.bytes ≤ most_bytes;
       all_taken : shelf.taken l.shelf ≡ vec_len l.bytes;
       parts : WhereTold (shelf.files l.fn.shelf) (λ all. (left : List ℕ) × (shelf.rest l.shelf ≡ Some left) × (file_named all l.name ≡ Some (l.bytes.items ++ left)));
+      told : IsSome (shelf.rest l.fn.shelf) → IsSome (shelf.rest l.shelf);
       files : shelf.files l.shelf ≡ shelf.files l.fn.shelf;
       begins : shelf.begins l.shelf ≡ counted (shelf.begins l.fn.shelf);
       faults : shelf.faults l.fn.shelf ≤ shelf.faults l.shelf;

@@ -1,0 +1,103 @@
+// The top call: words, file, answer, text.
+ghost use Rattle.std.specs.Prelude.{◌≡◌, ◌≤◌, List, ℕ, IfOk, map};
+ghost use Rattle.std.specs.String.{string_bytes};
+ghost use Rattle.io_edges.specs.Count.{Rose, counted};
+ghost use Rattle.io_edges.specs.Told.{WhereTold};
+ghost use Rattle.osemosys_run.specs.Due.{Caused, CausedByFile, Delivers, Due, ReadsWhole};
+ghost use Rattle.osemosys_run.specs.FixedForm.{HasOneReading};
+
+use std::alloc::{AllocError, Global};
+
+use io_edges::{Shelf, Sink};
+
+use crate::answer::{Answer, answer_mps, refuse_input, refuse_words, stop_reading};
+use crate::fixed_form::one_reading;
+use crate::reading::{ReadEnd, read_file};
+use crate::sending::send;
+use crate::status::{ReadStop, Refusal, Status};
+use crate::words::{Command, read_command};
+
+/// The number of the first file that the words name.
+const FILE: u8 = 1;
+
+/// Runs the program on the words behind its name: reads the files that they name from the shelf, and
+/// writes the text that is due into the sink.
+///
+/// `mps FILE` writes the equations CAa1 and CAa2 of a data file of the fixed form as free MPS. Where the
+/// words, the file or what it says is refused, one line says why. Want of memory may come anywhere; then
+/// nothing is written.
+pub fn osemosys<S: Shelf, K: Sink>(
+    alloc: Global,
+    words: &[String],
+    shelf: &mut S,
+    out: &mut K,
+) -> Status
+    // Over a shelf that tells its files and had no fault, status and text are those that are due for the words and the files.
+    ensures due { WhereTold (S.files shelf.old) (λ files. (Rose (S.faults shelf.old) (S.faults shelf.new) → ⊥)
+        → Delivers (Due (map string_bytes words.now) files) result (K.written out.old) (K.written out.new) (K.faults out.old) (K.faults out.new)) }
+
+    // Over any shelf and any sink, status and text have their cause.
+    ensures caused { Delivers (Caused (map string_bytes words.now)
+        (record { files = S.files shelf.old; rest = S.rest shelf.old; faults = S.faults shelf.old; begins = S.begins shelf.old; taken = S.taken shelf.old })
+        (record { files = S.files shelf.new; rest = S.rest shelf.new; faults = S.faults shelf.new; begins = S.begins shelf.new; taken = S.taken shelf.new }))
+        result (K.written out.old) (K.written out.new) (K.faults out.old) (K.faults out.new) }
+
+    // The file was read to its end.
+    ensures read_whole { WhereTold (S.files shelf.old) (λ files. (Rose (S.faults shelf.old) (S.faults shelf.new) → ⊥)
+        → ReadsWhole (map string_bytes words.now) files result (S.rest shelf.new)) }
+
+    // What a text says is one thing.
+    ensures one_reading { (text : List ℕ) → HasOneReading text }
+
+    // What stays, and what doesn't fall.
+    ensures files { S.files shelf.new ≡ S.files shelf.old }
+    ensures read_faults { S.faults shelf.old ≤ S.faults shelf.new }
+    ensures write_faults { K.faults out.old ≤ K.faults out.new }
+{
+    one_reading();
+    match perform(alloc, words, shelf) {
+        Ok(answer) => match send(&answer.text, out) {
+            Ok(()) => answer.status,
+            Err(_) => Status::WriteFault,
+        },
+        Err(_) => Status::Memory,
+    }
+}
+
+// The answer to the words, with what the shelf holds.
+fn perform<S: Shelf>(
+    alloc: Global,
+    words: &[String],
+    shelf: &mut S,
+) -> Result<Answer, AllocError>
+    ensures caused { IfOk result (λ answer. Caused (map string_bytes words.now)
+        (record { files = S.files shelf.old; rest = S.rest shelf.old; faults = S.faults shelf.old; begins = S.begins shelf.old; taken = S.taken shelf.old })
+        (record { files = S.files shelf.new; rest = S.rest shelf.new; faults = S.faults shelf.new; begins = S.begins shelf.new; taken = S.taken shelf.new })
+        answer.status answer.text.items) }
+    ensures files { S.files shelf.new ≡ S.files shelf.old }
+    ensures faults { S.faults shelf.old ≤ S.faults shelf.new }
+{
+    match read_command(words) {
+        Ok(Command::Mps { file }) => perform_mps(alloc, file, shelf),
+        Err(fault) => refuse_words(alloc, fault),
+    }
+}
+
+// The answer of `mps` over the file of this name.
+fn perform_mps<S: Shelf>(alloc: Global, file: &str, shelf: &mut S) -> Result<Answer, AllocError>
+    ensures caused { IfOk result (λ answer. CausedByFile file.now
+        (record { files = S.files shelf.old; rest = S.rest shelf.old; faults = S.faults shelf.old; begins = S.begins shelf.old; taken = S.taken shelf.old })
+        (record { files = S.files shelf.new; rest = S.rest shelf.new; faults = S.faults shelf.new; begins = S.begins shelf.new; taken = S.taken shelf.new })
+        answer.status answer.text.items) }
+    ensures files { S.files shelf.new ≡ S.files shelf.old }
+    ensures begins { S.begins shelf.new ≡ counted (S.begins shelf.old) }
+    ensures faults { S.faults shelf.old ≤ S.faults shelf.new }
+{
+    match read_file(alloc, file, shelf) {
+        Ok(bytes) => answer_mps(alloc, &bytes),
+        Err(ReadEnd::NoFile) => stop_reading(alloc, ReadStop::NoFile(FILE)),
+        Err(ReadEnd::Failed) => stop_reading(alloc, ReadStop::Failed(FILE)),
+        Err(ReadEnd::TooLong) => refuse_input(alloc, Refusal::TooLong(FILE)),
+        Err(ReadEnd::Memory) => Err(AllocError),
+    }
+}
