@@ -1,13 +1,13 @@
 -- What is due for worked examples: the words, the files, the status and the text.
-use Rattle.std.proofs.Common.{◌≡◌, ℕ, ◌<◌, ◌-◌, ◌^◌, List, [], ◌∷◌, ◌++◌, length, refl, sym, ap, arith, Global}
+use Rattle.std.proofs.Common.{◌≡◌, ℕ, ◌<◌, ◌≤◌, ◌-◌, ◌^◌, ◌||◌, Bool, true, false, List, [], ◌∷◌, ◌++◌, length, refl, sym, ap, arith, Global}
 use Rattle.std.specs.Prelude.{pos, codes, Option, Some, None}
 use Rattle.std.specs.Fmt.{digits}
-use Rattle.std.specs.List.{AllByRecursion, Contains}
-use Rattle.std.proofs.lemmas.List.Elements.{All-from_recursion, All-contains}
-use Rattle.row_core.specs.Names.{accumulated_new_capacity, total_capacity_annual}
-use Rattle.osemosys_run.specs.Due.{WritesEquations, HasFixedForm, DueForMps, DueForFile, Due, Sight, Caused, Delivers}
+use Rattle.std.specs.List.{AllByRecursion}
+use Rattle.std.proofs.lemmas.Int.{ints}
+use Rattle.row_core.specs.Names.{new_capacity, accumulated_new_capacity, total_capacity_annual}
+use Rattle.osemosys_run.specs.Due.{WritesEquations, HasFixedForm, DueForMps, DueForFile, Due, Sight, CausedByFile, Caused, Delivers}
 use Rattle.osemosys_run.specs.Equations.{instances, IsRowOf, AreRowsOf}
-use Rattle.osemosys_run.specs.MpsText.{AreColumns, all_variables}
+use Rattle.osemosys_run.specs.MpsText.{is_same_variable, AreColumns, HasWords}
 use Rattle.osemosys_run.proofs.EquationExamples.{first_path, at}
 use Rattle.osemosys_run.proofs.FirstPathExample.{first_file, first_file_form}
 use Rattle.osemosys_run.proofs.MpsTextExamples.{caa1_2020, caa1_2021, caa2_2020, caa2_2021, rows, columns, text, whole_text}
@@ -19,60 +19,64 @@ use Rattle.osemosys_run.specs.declared.status.Refusal.TheVariants as refusals
 use Rattle.osemosys_run.specs.declared.status.WordFault.TheVariants as faults
 use Rattle.osemosys_run.specs.declared.status.ReadStop.TheVariants as stops
 use Rattle.io_edges.specs.Count.{Rose}
+use Rattle.io_edges.specs.Edges.{Lacks}
+use Rattle.osemosys_run.specs.Reading.{IsTooLong}
 use mathlib.Core.Logic.{inl, inr}
 
 -- ---- the rows of the first path's file
 
+-- one of six, and one of these nine, each of which is one of the six
+one_by_one : (a b c d e f : Bool) → (a || (b || (c || (d || (e || (f || false)))))) ≡ (a || (c || (a || (b || (d || (c || (e || (d || (f || false)))))))))
+one_by_one true b c d e f = refl
+one_by_one false true true d e f = refl
+one_by_one false true false d e f = refl
+one_by_one false false true d e f = refl
+one_by_one false false false true e f = refl
+one_by_one false false false false true f = refl
+one_by_one false false false false false true = refl
+one_by_one false false false false false false = refl
+
 module _ (memory : Global) where
   row_1 : IsRowOf first_path (at CAa1 0 0 0) (caa1_2020 memory)
-  row_1 = record { named = refl; same = λ q x positive. accumulated-both 0 0 0 (0 ∷ []) x (pos q) }
+  row_1 = record { named = refl; defines = omega (arith, ints); same = λ q x positive. accumulated-both 0 0 0 (0 ∷ []) x (pos q) }
 
   row_2 : IsRowOf first_path (at CAa1 0 0 1) (caa1_2021 memory)
-  row_2 = record { named = refl; same = λ q x positive. accumulated-both 0 0 1 (0 ∷ 1 ∷ []) x (pos q) }
+  row_2 = record { named = refl; defines = omega (arith, ints); same = λ q x positive. accumulated-both 0 0 1 (0 ∷ 1 ∷ []) x (pos q) }
 
   row_3 : IsRowOf first_path (at CAa2 0 0 0) (caa2_2020 memory)
-  row_3 = record { named = refl; same = λ q x positive. totals-both (x (accumulated_new_capacity 0 0 0)) (x (total_capacity_annual 0 0 0)) (pos q) 7 }
+  row_3 = record { named = refl; defines = omega (arith, ints); same = λ q x positive. totals-both (x (accumulated_new_capacity 0 0 0)) (x (total_capacity_annual 0 0 0)) (pos q) 7 }
 
   row_4 : IsRowOf first_path (at CAa2 0 0 1) (caa2_2021 memory)
-  row_4 = record { named = refl; same = λ q x positive. totals-both (x (accumulated_new_capacity 0 0 1)) (x (total_capacity_annual 0 0 1)) (pos q) 3 }
+  row_4 = record { named = refl; defines = omega (arith, ints); same = λ q x positive. totals-both (x (accumulated_new_capacity 0 0 1)) (x (total_capacity_annual 0 0 1)) (pos q) 3 }
 
   four_rows : AreRowsOf first_path (instances first_path) (rows memory)
   four_rows = (row_1, (row_2, (row_3, (row_4, tt))))
 
-  -- each column is a variable of a row, and each variable of a row is a column
-  in_rows : AllByRecursion (Contains (all_variables (rows memory))) columns
-  in_rows = ((0, omega arith, refl), ((3, omega arith, refl), ((1, omega arith, refl), ((4, omega arith, refl), ((6, omega arith, refl), ((8, omega arith, refl), tt))))))
+  -- the columns are the variables of the rows
+  six_columns : AreColumns (rows memory) columns
+  six_columns = record {
+    ascending = refl;
+    each = λ v.
+        one_by_one (is_same_variable (new_capacity 0 0 0) v) (is_same_variable (new_capacity 0 0 1) v) (is_same_variable (accumulated_new_capacity 0 0 0) v)
+        (is_same_variable (accumulated_new_capacity 0 0 1) v) (is_same_variable (total_capacity_annual 0 0 0) v) (is_same_variable (total_capacity_annual 0 0 1) v);
+  }
 
-  in_columns : AllByRecursion (Contains columns) (all_variables (rows memory))
-  in_columns = (
-    (0, omega arith, refl),
+  -- equations and kinds have words
+  row_words : AllByRecursion HasWords (rows memory)
+  row_words = (
+    record { equation = (omega arith, omega arith); kinds = ((omega arith, omega arith), ((omega arith, omega arith), tt)) },
     (
-      (2, omega arith, refl),
+      record { equation = (omega arith, omega arith); kinds = ((omega arith, omega arith), ((omega arith, omega arith), ((omega arith, omega arith), tt))) },
       (
-        (0, omega arith, refl),
-        (
-          (1, omega arith, refl),
-          (
-            (3, omega arith, refl),
-            ((2, omega arith, refl), ((4, omega arith, refl), ((3, omega arith, refl), ((5, omega arith, refl), tt)))),
-          ),
-        ),
+        record { equation = (omega arith, omega arith); kinds = ((omega arith, omega arith), ((omega arith, omega arith), tt)) },
+        (record { equation = (omega arith, omega arith); kinds = ((omega arith, omega arith), ((omega arith, omega arith), tt)) }, tt),
       ),
     ),
   )
 
-  six_columns : AreColumns (rows memory) columns
-  six_columns = record {
-    ascending = refl;
-    each = λ v. (
-      All-contains (Contains (all_variables (rows memory))) columns v (All-from_recursion (Contains (all_variables (rows memory))) columns in_rows),
-      All-contains (Contains columns) (all_variables (rows memory)) v (All-from_recursion (Contains columns) (all_variables (rows memory)) in_columns),
-    );
-  }
-
   -- the text is that of the equations
   writes : WritesEquations first_path text
-  writes = (rows memory, four_rows, (columns, six_columns, sym (whole_text memory)))
+  writes = (rows memory, four_rows, record { words = row_words; columns = columns; are_columns = six_columns; is = sym (whole_text memory) })
 
 -- ---- what is due
 
@@ -192,35 +196,66 @@ words_began line h =
     let same : 1 ≡ 0 = ap (λ (sight : Sight). sight.begins) h.2 in
     omega (arith, same)
 
--- without a rise of the count there is no read fault, and with one there is
+-- a read fault where the count rose
 failed_caused : Caused mps_file (counts 0 0 0) (counts 1 1 0) (ReadFault (stops.Failed 1)) (codes "read fault file 1\n")
 unfolding digits
-failed_caused = (refl, (refl, omega arith, refl))
+failed_caused = (refl, inr (inr (inr (refl, refl, omega arith))))
+
+-- counters at their last value show no rise
+failed_at_last : Caused mps_file (counts (2 ^ 64 - 1) (2 ^ 64 - 1) 0) (counts (2 ^ 64 - 1) (2 ^ 64 - 1) 0) (ReadFault (stops.Failed 1)) (codes "read fault file 1\n")
+unfolding digits
+failed_at_last = (refl, inr (inr (inr (refl, refl, omega arith))))
+
+-- no read fault where it didn't
+rose_at_failure : (name line : List ℕ) (before after : Sight) → CausedByFile name before after (ReadFault (stops.Failed 1)) line → Rose before.faults after.faults
+rose_at_failure name line before after (inl (bytes, whole, inl due)) = let same : ReadFault (stops.Failed 1) ≡ Done = due.2 in absurd (cc same)
+rose_at_failure name line before after (inl (bytes, whole, inr due)) = let same : ReadFault (stops.Failed 1) ≡ Refused refusals.NotYet = due.1 in absurd (cc same)
+rose_at_failure name line before after (inr (inl h)) = let same : ReadFault (stops.Failed 1) ≡ Refused (refusals.TooLong 1) = h.0 in absurd (cc same)
+rose_at_failure name line before after (inr (inr (inl h))) = let same : ReadFault (stops.Failed 1) ≡ ReadFault (stops.NoFile 1) = h.0 in absurd (cc same)
+rose_at_failure name line before after (inr (inr (inr h))) = h.2
 
 failed_for_nothing : (line : List ℕ) → Caused mps_file (counts 0 0 0) (counts 0 1 0) (ReadFault (stops.Failed 1)) line → ⊥
-failed_for_nothing line h = let rose : Rose 0 0 = h.1.1 in omega (arith, rose)
+failed_for_nothing line h =
+    let rose : Rose 0 0 = rose_at_failure (codes "FILE") line (counts 0 0 0) (counts 0 1 0) h.1 in
+    omega (arith, rose)
 
--- a read fault without a call of `begin`, or with two
+-- no read fault without a call of `begin`, or with two
 failed_unbegun : (line : List ℕ) → Caused mps_file (counts 0 0 0) (counts 1 0 0) (ReadFault (stops.Failed 1)) line → ⊥
 failed_unbegun line h = let once : 0 ≡ 1 = h.0 in omega (arith, once)
 
 failed_begun_twice : (line : List ℕ) → Caused mps_file (counts 0 0 0) (counts 1 2 0) (ReadFault (stops.Failed 1)) line → ⊥
 failed_begun_twice line h = let once : 2 ≡ 1 = h.0 in omega (arith, once)
 
--- counters at their last value show no rise
-failed_at_last : Caused mps_file (counts (2 ^ 64 - 1) (2 ^ 64 - 1) 0) (counts (2 ^ 64 - 1) (2 ^ 64 - 1) 0) (ReadFault (stops.Failed 1)) (codes "read fault file 1\n")
-unfolding digits
-failed_at_last = (refl, (refl, omega arith, refl))
-
 -- a shelf that doesn't tell its files has no missing file
+lacks_at_missing : (name line : List ℕ) (before after : Sight) → CausedByFile name before after (ReadFault (stops.NoFile 1)) line → Lacks before.files name
+lacks_at_missing name line before after (inl (bytes, whole, inl due)) = let same : ReadFault (stops.NoFile 1) ≡ Done = due.2 in absurd (cc same)
+lacks_at_missing name line before after (inl (bytes, whole, inr due)) = let same : ReadFault (stops.NoFile 1) ≡ Refused refusals.NotYet = due.1 in absurd (cc same)
+lacks_at_missing name line before after (inr (inl h)) = let same : ReadFault (stops.NoFile 1) ≡ Refused (refusals.TooLong 1) = h.0 in absurd (cc same)
+lacks_at_missing name line before after (inr (inr (inl h))) = h.2
+lacks_at_missing name line before after (inr (inr (inr h))) = let same : ReadFault (stops.NoFile 1) ≡ ReadFault (stops.Failed 1) = h.0 in absurd (cc same)
+
 missing_untold : (line : List ℕ) → Caused mps_file (counts 0 0 0) (counts 0 1 0) (ReadFault (stops.NoFile 1)) line → ⊥
-missing_untold line h = h.1.1
+missing_untold line h = lacks_at_missing (codes "FILE") line (counts 0 0 0) (counts 0 1 0) h.1
 
--- more than 64 MiB were taken
-too_long_caused : Caused mps_file (counts 0 0 0) (counts 0 1 67108865) (Refused (refusals.TooLong 1)) (codes "refused too long file 1\n")
+-- more than 64 MiB were taken, by up to one room
+too_long_caused : (taken : ℕ) → 67108864 < taken → taken ≤ 67174400 → Caused mps_file (counts 0 0 0) (counts 0 1 taken) (Refused (refusals.TooLong 1)) (codes "refused too long file 1\n")
 unfolding digits
-too_long_caused = (refl, (refl, record { many_taken = omega arith; longer = λ all told. absurd (cc told) }, refl))
+too_long_caused taken more within = (refl, inr (inl (refl, refl, record { many_taken = more; at_once = within; longer = λ all told. absurd (cc told) })))
 
--- or just 64 MiB
+-- and no fewer
+many_at_too_long : (name line : List ℕ) (before after : Sight) → CausedByFile name before after (Refused (refusals.TooLong 1)) line → IsTooLong before.files name after.taken
+many_at_too_long name line before after (inl (bytes, whole, inl due)) = let same : Refused (refusals.TooLong 1) ≡ Done = due.2 in absurd (cc same)
+many_at_too_long name line before after (inl (bytes, whole, inr due)) = let same : Refused (refusals.TooLong 1) ≡ Refused refusals.NotYet = due.1 in absurd (cc same)
+many_at_too_long name line before after (inr (inl h)) = h.2
+many_at_too_long name line before after (inr (inr (inl h))) = let same : Refused (refusals.TooLong 1) ≡ ReadFault (stops.NoFile 1) = h.0 in absurd (cc same)
+many_at_too_long name line before after (inr (inr (inr h))) = let same : Refused (refusals.TooLong 1) ≡ ReadFault (stops.Failed 1) = h.0 in absurd (cc same)
+
 not_long_enough : (line : List ℕ) → Caused mps_file (counts 0 0 0) (counts 0 1 67108864) (Refused (refusals.TooLong 1)) line → ⊥
-not_long_enough line h = let many : 67108864 < 67108864 = h.1.1.many_taken in omega (arith, many)
+not_long_enough line h =
+    let many : 67108864 < 67108864 = (many_at_too_long (codes "FILE") line (counts 0 0 0) (counts 0 1 67108864) h.1).many_taken in
+    omega (arith, many)
+
+read_on_and_on : (line : List ℕ) → Caused mps_file (counts 0 0 0) (counts 0 1 67174401) (Refused (refusals.TooLong 1)) line → ⊥
+read_on_and_on line h =
+    let soon : 67174401 ≤ 67174400 = (many_at_too_long (codes "FILE") line (counts 0 0 0) (counts 0 1 67174401) h.1).at_once in
+    omega (arith, soon)

@@ -4,7 +4,7 @@ use Rattle.std.specs.Prelude.{codes}
 use Rattle.std.specs.Fmt.{digits}
 use Rattle.std.specs.List.{list_all}
 use Rattle.std.proofs.lemmas.Bool.{and_parts}
-use Rattle.osemosys_run.specs.FixedForm.{Token, Symbol, Gives, Semicolon, is_blank, is_symbol, ends_symbol, spelling, IsWholeBefore, Spells, statements, IsWellFormed, IsFixedForm}
+use Rattle.osemosys_run.specs.FixedForm.{Token, Symbol, Gives, Semicolon, is_blank, is_symbol, is_symbol_byte, stops, spelling, IsWholeBefore, Spells, statements, IsWellFormed, IsFixedForm}
 use Rattle.osemosys_run.proofs.EquationExamples.{first_path}
 
 -- ---- texts made of gaps and tokens
@@ -16,7 +16,7 @@ spell (part ∷ parts) = part.0 ++ (spelling part.1 ++ spell parts)
 
 -- the token is whole before this rest
 abbrev is_whole : Token → List ℕ → Bool
-is_whole (Symbol s) rest = is_symbol s && ends_symbol rest
+is_whole (Symbol s) rest = is_symbol s && stops is_symbol_byte rest
 is_whole Gives rest = true
 is_whole Semicolon rest = true
 
@@ -26,7 +26,7 @@ are_spelled [] = true
 are_spelled (part ∷ parts) = list_all is_blank part.0 && (is_whole part.1 (spell parts) && are_spelled parts)
 
 whole_of : (token : Token) (rest : List ℕ) → is_whole token rest ≡ true → IsWholeBefore token rest
-whole_of (Symbol s) rest h = and_parts (is_symbol s) (ends_symbol rest) h
+whole_of (Symbol s) rest h = and_parts (is_symbol s) (stops is_symbol_byte rest) h
 whole_of Gives rest h = tt
 whole_of Semicolon rest h = tt
 

@@ -1,6 +1,7 @@
 -- Which rows are those of the equations, on a worked example: near misses, each with a plan that tells the two apart.
 use Rattle.std.proofs.Common.{◌≡◌, ℕ, ◌<◌, true, false, [], ◌∷◌, ap, refl, arith, Global}
-use Rattle.std.specs.Prelude.{ℤ, pos, negsuc}
+use Rattle.std.proofs.lemmas.Int.{ints}
+use Rattle.std.specs.Prelude.{◌<ℤ◌, ℤ, pos, negsuc}
 use Rattle.row_core.specs.declared.Var.{Var}
 use Rattle.row_core.specs.declared.Row.{Row}
 use Rattle.row_core.specs.declared.RowName.{RowName}
@@ -46,6 +47,13 @@ module _ (memory : Global) where
   -- one sign turned
   sign_turned : IsRowOf first_path (at CAa1 0 0 0) (made memory (caa1 0 0 0) Equal ((new_capacity 0 0 0, pos 1) ∷ (accumulated_new_capacity 0 0 0, pos 1) ∷ []) (pos 0) (omega arith) refl refl refl refl) → ⊥
   sign_turned = missed_by_row (at CAa1 0 0 0) _ 1 good (omega arith) refl refl
+
+  -- all signs turned: that holds of the same plans, but the variable that the equation defines has a negative number
+  all_turned : IsRowOf first_path (at CAa1 0 0 0) (made memory (caa1 0 0 0) Equal ((new_capacity 0 0 0, pos 1) ∷ (accumulated_new_capacity 0 0 0, negsuc 0) ∷ []) (pos 0) (omega arith) refl refl refl refl) → ⊥
+  all_turned h = let positive : pos 0 <ℤ negsuc 0 = h.defines in omega (arith, ints, positive)
+
+  all_turned_in_total : IsRowOf first_path (at CAa2 0 0 0) (made memory (caa2 0 0 0) Equal ((accumulated_new_capacity 0 0 0, pos 1) ∷ (total_capacity_annual 0 0 0, negsuc 0) ∷ []) (negsuc 6) (omega arith) refl refl refl refl) → ⊥
+  all_turned_in_total h = let positive : pos 0 <ℤ negsuc 0 = h.defines in omega (arith, ints, positive)
 
   -- an inequality in place of the equation, either way
   most : IsRowOf first_path (at CAa1 0 0 0) (made memory (caa1 0 0 0) Most ((new_capacity 0 0 0, negsuc 0) ∷ (accumulated_new_capacity 0 0 0, pos 1) ∷ []) (pos 0) (omega arith) refl refl refl refl) → ⊥
