@@ -1,0 +1,116 @@
+-- What the words of the command line ask for, and the one-line texts, computed on examples.
+use Rattle.std.proofs.Common.{◌≡◌, false, [], ◌∷◌, refl}
+use Rattle.std.specs.Prelude.{codes, Ok, Err}
+use Rattle.std.specs.Fmt.{digits}
+use Rattle.osemosys_run.specs.declared.status.WordFault.TheVariants.{NoCommand, BadCommand, BadForm}
+use Rattle.osemosys_run.specs.declared.status.Refusal.TheVariants as refusals
+use Rattle.osemosys_run.specs.declared.status.ReadStop.TheVariants as stops
+use Rattle.osemosys_run.specs.Words.{Mps, is_option, asked}
+use Rattle.osemosys_run.specs.Due.{words_line, stop_line, refusal_line}
+
+-- ---- words
+
+no_words : asked [] ≡ Err NoCommand
+no_words = refl
+
+one_file : asked (codes "mps" ∷ codes "FILE" ∷ []) ≡ Ok (Mps (codes "FILE"))
+one_file = refl
+
+unknown_command : asked (codes "mpz" ∷ codes "FILE" ∷ []) ≡ Err BadCommand
+unknown_command = refl
+
+-- a front of a command is none
+front_of_command : asked (codes "mp" ∷ codes "FILE" ∷ []) ≡ Err BadCommand
+front_of_command = refl
+
+longer_than_command : asked (codes "mps " ∷ codes "FILE" ∷ []) ≡ Err BadCommand
+longer_than_command = refl
+
+capital_letters : asked (codes "MPS" ∷ codes "FILE" ∷ []) ≡ Err BadCommand
+capital_letters = refl
+
+empty_command : asked ([] ∷ []) ≡ Err BadCommand
+empty_command = refl
+
+-- an option before the command is taken for the command
+option_first : asked (codes "--help" ∷ []) ≡ Err BadCommand
+option_first = refl
+
+-- the command is looked at before the number of words
+unknown_command_alone : asked (codes "solve" ∷ []) ≡ Err BadCommand
+unknown_command_alone = refl
+
+no_file : asked (codes "mps" ∷ []) ≡ Err BadForm
+no_file = refl
+
+two_files : asked (codes "mps" ∷ codes "a" ∷ codes "b" ∷ []) ≡ Err BadForm
+two_files = refl
+
+help : asked (codes "mps" ∷ codes "--help" ∷ []) ≡ Err BadForm
+help = refl
+
+named_like_an_option : asked (codes "mps" ∷ codes "-x" ∷ []) ≡ Err BadForm
+named_like_an_option = refl
+
+two_dashes : asked (codes "mps" ∷ codes "--" ∷ []) ≡ Err BadForm
+two_dashes = refl
+
+file_after_two_dashes : asked (codes "mps" ∷ codes "--" ∷ codes "FILE" ∷ []) ≡ Err BadForm
+file_after_two_dashes = refl
+
+option_after_file : asked (codes "mps" ∷ codes "FILE" ∷ codes "--gap" ∷ codes "5" ∷ []) ≡ Err BadForm
+option_after_file = refl
+
+-- '-' alone is the name of a file
+one_dash : asked (codes "mps" ∷ codes "-" ∷ []) ≡ Ok (Mps (codes "-"))
+one_dash = refl
+
+-- and so is a word of no bytes
+empty_name : asked (codes "mps" ∷ [] ∷ []) ≡ Ok (Mps [])
+empty_name = refl
+
+-- a '-' further on makes no option
+dash_inside : asked (codes "mps" ∷ codes "a-b" ∷ []) ≡ Ok (Mps (codes "a-b"))
+dash_inside = refl
+
+-- the command may be the name of a file too
+command_twice : asked (codes "mps" ∷ codes "mps" ∷ []) ≡ Ok (Mps (codes "mps"))
+command_twice = refl
+
+blank_before_dash : is_option (codes " -x") ≡ false
+blank_before_dash = refl
+
+-- ---- one-line texts
+
+no_command_line : words_line NoCommand ≡ codes "words refused NoCommand\n"
+no_command_line = refl
+
+bad_command_line : words_line BadCommand ≡ codes "words refused BadCommand\n"
+bad_command_line = refl
+
+bad_form_line : words_line BadForm ≡ codes "words refused BadForm\n"
+bad_form_line = refl
+
+no_file_line : stop_line (stops.NoFile 1) ≡ codes "no such file 1\n"
+unfolding digits
+no_file_line = refl
+
+failed_line : stop_line (stops.Failed 1) ≡ codes "read fault file 1\n"
+unfolding digits
+failed_line = refl
+
+not_yet_line : refusal_line refusals.NotYet ≡ codes "refused NotYet\n"
+not_yet_line = refl
+
+too_long_line : refusal_line (refusals.TooLong 1) ≡ codes "refused too long file 1\n"
+unfolding digits
+too_long_line = refl
+
+-- the number of a file is written whole
+third_file_line : refusal_line (refusals.TooLong 3) ≡ codes "refused too long file 3\n"
+unfolding digits
+third_file_line = refl
+
+last_number_line : stop_line (stops.Failed 255) ≡ codes "read fault file 255\n"
+unfolding digits
+last_number_line = refl
