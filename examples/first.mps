@@ -1,0 +1,156 @@
+NAME OSEMOSYS
+ROWS
+ N COST
+* CAa1[NORTH,WIND,2030]
+ E R1
+* CAa1[NORTH,WIND,2031]
+ E R2
+* CAa1[NORTH,WIND,2032]
+ E R3
+* CAa1[NORTH,GAS,2030]
+ E R4
+* CAa1[NORTH,GAS,2031]
+ E R5
+* CAa1[NORTH,GAS,2032]
+ E R6
+* CAa1[SOUTH,WIND,2030]
+ E R7
+* CAa1[SOUTH,WIND,2031]
+ E R8
+* CAa1[SOUTH,WIND,2032]
+ E R9
+* CAa1[SOUTH,GAS,2030]
+ E R10
+* CAa1[SOUTH,GAS,2031]
+ E R11
+* CAa1[SOUTH,GAS,2032]
+ E R12
+* CAa2[NORTH,WIND,2030]
+ E R13
+* CAa2[NORTH,WIND,2031]
+ E R14
+* CAa2[NORTH,WIND,2032]
+ E R15
+* CAa2[NORTH,GAS,2030]
+ E R16
+* CAa2[NORTH,GAS,2031]
+ E R17
+* CAa2[NORTH,GAS,2032]
+ E R18
+* CAa2[SOUTH,WIND,2030]
+ E R19
+* CAa2[SOUTH,WIND,2031]
+ E R20
+* CAa2[SOUTH,WIND,2032]
+ E R21
+* CAa2[SOUTH,GAS,2030]
+ E R22
+* CAa2[SOUTH,GAS,2031]
+ E R23
+* CAa2[SOUTH,GAS,2032]
+ E R24
+COLUMNS
+* NewCapacity[NORTH,WIND,2030]
+ C1 R1 -1
+ C1 R2 -1
+* NewCapacity[NORTH,WIND,2031]
+ C2 R2 -1
+ C2 R3 -1
+* NewCapacity[NORTH,WIND,2032]
+ C3 R3 -1
+* NewCapacity[NORTH,GAS,2030]
+ C4 R4 -1
+ C4 R5 -1
+ C4 R6 -1
+* NewCapacity[NORTH,GAS,2031]
+ C5 R5 -1
+ C5 R6 -1
+* NewCapacity[NORTH,GAS,2032]
+ C6 R6 -1
+* NewCapacity[SOUTH,WIND,2030]
+ C7 R7 -1
+ C7 R8 -1
+* NewCapacity[SOUTH,WIND,2031]
+ C8 R8 -1
+ C8 R9 -1
+* NewCapacity[SOUTH,WIND,2032]
+ C9 R9 -1
+* NewCapacity[SOUTH,GAS,2030]
+ C10 R10 -1
+ C10 R11 -1
+ C10 R12 -1
+* NewCapacity[SOUTH,GAS,2031]
+ C11 R11 -1
+ C11 R12 -1
+* NewCapacity[SOUTH,GAS,2032]
+ C12 R12 -1
+* AccumulatedNewCapacity[NORTH,WIND,2030]
+ C13 R1 1
+ C13 R13 -1
+* AccumulatedNewCapacity[NORTH,WIND,2031]
+ C14 R2 1
+ C14 R14 -1
+* AccumulatedNewCapacity[NORTH,WIND,2032]
+ C15 R3 1
+ C15 R15 -1
+* AccumulatedNewCapacity[NORTH,GAS,2030]
+ C16 R4 1
+ C16 R16 -1
+* AccumulatedNewCapacity[NORTH,GAS,2031]
+ C17 R5 1
+ C17 R17 -1
+* AccumulatedNewCapacity[NORTH,GAS,2032]
+ C18 R6 1
+ C18 R18 -1
+* AccumulatedNewCapacity[SOUTH,WIND,2030]
+ C19 R7 1
+ C19 R19 -1
+* AccumulatedNewCapacity[SOUTH,WIND,2031]
+ C20 R8 1
+ C20 R20 -1
+* AccumulatedNewCapacity[SOUTH,WIND,2032]
+ C21 R9 1
+ C21 R21 -1
+* AccumulatedNewCapacity[SOUTH,GAS,2030]
+ C22 R10 1
+ C22 R22 -1
+* AccumulatedNewCapacity[SOUTH,GAS,2031]
+ C23 R11 1
+ C23 R23 -1
+* AccumulatedNewCapacity[SOUTH,GAS,2032]
+ C24 R12 1
+ C24 R24 -1
+* TotalCapacityAnnual[NORTH,WIND,2030]
+ C25 R13 1
+* TotalCapacityAnnual[NORTH,WIND,2031]
+ C26 R14 1
+* TotalCapacityAnnual[NORTH,WIND,2032]
+ C27 R15 1
+* TotalCapacityAnnual[NORTH,GAS,2030]
+ C28 R16 1
+* TotalCapacityAnnual[NORTH,GAS,2031]
+ C29 R17 1
+* TotalCapacityAnnual[NORTH,GAS,2032]
+ C30 R18 1
+* TotalCapacityAnnual[SOUTH,WIND,2030]
+ C31 R19 1
+* TotalCapacityAnnual[SOUTH,WIND,2031]
+ C32 R20 1
+* TotalCapacityAnnual[SOUTH,WIND,2032]
+ C33 R21 1
+* TotalCapacityAnnual[SOUTH,GAS,2030]
+ C34 R22 1
+* TotalCapacityAnnual[SOUTH,GAS,2031]
+ C35 R23 1
+* TotalCapacityAnnual[SOUTH,GAS,2032]
+ C36 R24 1
+RHS
+ RHS R13 4
+ RHS R14 4
+ RHS R16 12
+ RHS R17 11
+ RHS R18 10
+ RHS R22 7
+ RHS R23 7
+ RHS R24 7
+ENDATA
