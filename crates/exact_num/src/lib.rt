@@ -1,0 +1,10 @@
+// Exact fractions of 128-bit whole numbers.
+#![tactic(auto)]
+
+mod divisor;
+mod fraction;
+mod range;
+
+pub use divisor::gcd;
+pub use fraction::Frac;
+pub use range::{TooWide, difference, fits, product, total};
