@@ -1,7 +1,7 @@
 -- Which numbers fit, as a test and as a fact.
 use Rattle.std.proofs.Common.{◌≡◌, ℕ, ◌+◌, ◌*◌, ◌<◌, ◌≤◌, ◌^◌, ℤ, pos, negsuc, neg_ℤ, ◌+ℤ◌, ◌*ℤ◌, Bool, true, false, List, [], ◌∷◌, ◌++◌, ◌&&◌, sym, refl, ap, ◌∙◌, inl, inr, arith, to_z, of_z, lit<}
 use Rattle.std.proofs.lemmas.Bool.{cases_lt}
-use Rattle.std.specs.Prelude.{unsigned_abs, FitsSigned}
+use Rattle.std.specs.Prelude.{unsigned_abs, FitsSigned, Result, Ok, Err, IsErr, IfOk, is_ok}
 use Rattle.std.specs.Int.{w128}
 use Rattle.std.proofs.lemmas.Int.{ints, unsigned_abs-mul, to_z-of_z, fits_signed_mul}
 use Rattle.std.proofs.lemmas.Bool.Decides.{nat_tests}
@@ -52,3 +52,13 @@ pub false-in_range_wide : (z : ℤ) → ¬ (FitsSigned w128 z) → false ≡ in_
 false-in_range_wide z h = sym (in_range-not_i128 z h)
 
 pub ruleset ranges = (narrow_is, in_range-yes, in_range-no, InRange-from_test, in_range-not_i128, true-in_range, false-in_range, false-in_range_wide)
+
+-- a result that is an error is not `Ok`
+pub is_ok-false : {T E : Type 0} (r : Result T E) → IsErr r → is_ok r ≡ false
+is_ok-false (Ok x) h = cc
+is_ok-false (Err e) h = refl
+
+-- what is said of a result's value goes over to an equal value
+pub IfOk-equal : {T E V : Type 0} (f : T → V) (r : Result T E) {v w : V} → v ≡ w → IfOk r (λ x. f x ≡ v) → IfOk r (λ x. f x ≡ w)
+IfOk-equal f (Ok x) e h = h ∙ e
+IfOk-equal f (Err x) e h = h

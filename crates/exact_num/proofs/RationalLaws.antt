@@ -6,10 +6,11 @@ use Rattle.std.proofs.lemmas.Int.{ints, unsigned_abs-mul}
 use Rattle.std.proofs.lemmas.Nat.Gcd.{dvd_antisymm}
 use Rattle.std.proofs.Math.Nat.{dvd-mul_left, dvd-mul_right, div-mul_cancel, mul_comm}
 use Rattle.exact_num.specs.Gcd.{gcd_of}
-use Rattle.exact_num.specs.Rational.{Rational, IsLowest, signed_by, lowest, whole, negated, reciprocal, plus, minus, times, divided}
+use Rattle.exact_num.specs.Formed.{common}
+use Rattle.exact_num.specs.Rational.{Rational, pair, IsLowest, signed_by, lowest, whole, negated, reciprocal, plus, minus, times, divided}
 use Rattle.exact_num.proofs.GcdLaws.{gcd_of_comm, gcd_of-dvd_left, gcd_of-dvd_right, gcd_of_pos_right, coprime-div, dvd_from_coprime, gcd_of-one}
 use Rattle.exact_num.proofs.Integers.{unsigned_abs-signed_by, unsigned_abs-int_div, unsigned_abs_pos, unsigned_abs-neg_ℤ, pos-unsigned_abs, int_div-mul, signed_by-mul, *ℤ_cancel, nonzero_of_pos, *ℤ_nonzero, *ℤ_pos}
-use Rattle.exact_num.proofs.Ring.{ring, products, *ℤ_comm, *ℤ_assoc, *ℤ-one, zero-*ℤ, one-*ℤ, neg_ℤ-*ℤ}
+use Rattle.exact_num.proofs.Ring.{ring, products, *ℤ_comm, *ℤ_assoc, *ℤ-one, zero-*ℤ, one-*ℤ, neg_ℤ-*ℤ, *ℤ-neg_ℤ}
 
 same_pair : (x y : Rational) → x.top ≡ y.top → x.bottom ≡ y.bottom → x ≡ y
 same_pair x y p q = ap₂ (λ (t b : ℤ). let r : Rational = record { top = t; bottom = b } in r) p q
@@ -165,3 +166,37 @@ divided-IsLowest x y p q n = rw (divided-is_times x y p q n) (times-IsLowest x (
 pub divided-cross : (x y : Rational) → IsLowest x → y.top ≢ pos 0 → (divided x y).top *ℤ (x.bottom *ℤ y.top) ≡ (x.top *ℤ y.bottom) *ℤ (divided x y).bottom
 unfolding divided
 divided-cross x y p n = lowest-cross (x.top *ℤ y.bottom) (x.bottom *ℤ y.top) (*ℤ_nonzero x.bottom y.top (bottom_nonzero x p) n)
+
+-- ---- what the code computes
+-- a numerator and a denominator divided by their greatest common divisor
+pub divided_out : (n d : ℤ) → pos 0 <ℤ d → pair (int_div n (common n d)) (int_div d (common n d)) ≡ lowest n d
+unfolding lowest
+divided_out n (pos d) h = refl
+divided_out n (negsuc d) h = absurd (omega (arith, ints))
+
+pub lowest-neg_ℤ : (n d : ℤ) → d ≢ pos 0 → lowest (neg_ℤ n) (neg_ℤ d) ≡ lowest n d
+lowest-neg_ℤ n d h = lowest_same (neg_ℤ n) (neg_ℤ d) n d (λ e. h (omega (arith, ints))) h (neg_ℤ-*ℤ n d ∙ sym (*ℤ-neg_ℤ n d))
+
+-- the common divisor with a denominator is positive
+pub common_pos : (n d : ℤ) → pos 0 <ℤ d → pos 0 <ℤ common n d
+common_pos n d h =
+    let above : 0 < gcd_of (unsigned_abs n) (unsigned_abs d) = gcd_of_pos_right (unsigned_abs n) (unsigned_abs d) (unsigned_abs_pos d (nonzero_of_pos d h)) in
+    omega (arith, ints)
+
+-- the same from a divisor and quotients that were computed
+pub divided_by : (n d g t b : ℤ) → pos 0 <ℤ d → g ≡ common n d → t ≡ int_div n g → b ≡ int_div d g → pair t b ≡ lowest n d
+divided_by n d g t b h e p q = ap₂ pair (p ∙ ap (int_div n) e) (q ∙ ap (int_div d) e) ∙ divided_out n d h
+
+top_neg : (n d : ℤ) → n <ℤ pos 0 → pair (neg_ℤ d) (neg_ℤ n) ≡ reciprocal (pair n d)
+top_neg (pos n) d h = absurd (omega (arith, ints))
+top_neg (negsuc n) d h = refl
+
+top_pos : (n d : ℤ) → pos 0 ≤ℤ n → pair d n ≡ reciprocal (pair n d)
+top_pos (pos n) d h = refl
+top_pos (negsuc n) d h = absurd (omega (arith, ints))
+
+pub reciprocal_of_neg : (x : Rational) → x.top <ℤ pos 0 → pair (neg_ℤ x.bottom) (neg_ℤ x.top) ≡ reciprocal x
+reciprocal_of_neg x h = top_neg x.top x.bottom h
+
+pub reciprocal_of_pos : (x : Rational) → pos 0 ≤ℤ x.top → pair x.bottom x.top ≡ reciprocal x
+reciprocal_of_pos x h = top_pos x.top x.bottom h

@@ -9,6 +9,10 @@ pub record Rational : Type 0 where
   pub top : ℤ
   pub bottom : ℤ
 
+-- the two numbers as they are
+abbrev pub pair : ℤ → ℤ → Rational
+pair n d = record { top = n; bottom = d }
+
 -- the denominator is positive, and no number above 1 divides both
 pub record IsLowest (x : Rational) : Type 0 where
   pub positive : pos 0 <ℤ x.bottom

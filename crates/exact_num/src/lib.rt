@@ -1,10 +1,12 @@
 // Exact fractions of 128-bit whole numbers.
 #![tactic(auto)]
 
+mod arithmetic;
 mod divisor;
 mod fraction;
 mod range;
 
+pub use arithmetic::{add, div, mul, ratio, sub};
 pub use divisor::gcd;
 pub use fraction::Frac;
 pub use range::{TooWide, difference, fits, product, total};

@@ -49,7 +49,7 @@ pub fn product(a: i128, b: i128) -> Result<i128, TooWide>
     if is_narrow(a) && is_narrow(b) {
         Ok(narrow_product(a, b))
     } else {
-        wide_product(a, b)
+        checked_product(a, b)
     }
 }
 
@@ -73,7 +73,7 @@ fn narrow_product(a: i128, b: i128) -> i128
 
 // The same as `product`, for any two numbers.
 #[tactic(auto, using(crate::proofs::RangeLaws::ranges))]
-fn wide_product(a: i128, b: i128) -> Result<i128, TooWide>
+fn checked_product(a: i128, b: i128) -> Result<i128, TooWide>
     ensures refused { is_ok result ≡ in_range (a *ℤ b) }
     ensures value { IfOk result (λ v. v ≡ a *ℤ b) }
     ensures range { IfOk result (λ v. InRange v) }
