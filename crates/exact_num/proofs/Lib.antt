@@ -2,6 +2,7 @@ pub mod GcdExamples
 pub mod GcdLaws
 pub mod Integers
 pub mod OperationLaws
+pub mod OrderLaws
 pub mod RangeLaws
 pub mod RationalLaws
 pub mod Ring

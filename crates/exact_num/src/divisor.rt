@@ -4,7 +4,7 @@ ghost use Rattle.exact_num.specs.Gcd.{gcd_of};
 ghost use Rattle.exact_num.specs.Range.{InRange};
 
 // The greatest number of 64 bits.
-const NARROW: u128 = 0xffff_ffff_ffff_ffff;
+pub const NARROW: u128 = 0xffff_ffff_ffff_ffff;
 
 /// The greatest common divisor of the absolute values of `a` and `b`; 0 of 0 and 0.
 #[tactic(auto, using(crate::proofs::GcdLaws::gcd_of_below))]

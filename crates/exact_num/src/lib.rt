@@ -4,9 +4,11 @@
 mod arithmetic;
 mod divisor;
 mod fraction;
+mod order;
 mod range;
 
 pub use arithmetic::{add, div, mul, ratio, sub};
 pub use divisor::gcd;
 pub use fraction::Frac;
+pub use order::cmp_frac;
 pub use range::{TooWide, difference, fits, product, total};
