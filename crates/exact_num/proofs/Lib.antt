@@ -1,3 +1,4 @@
+pub mod ArithmeticLaws
 pub mod GcdExamples
 pub mod GcdLaws
 pub mod Integers
@@ -6,3 +7,4 @@ pub mod OrderLaws
 pub mod RangeLaws
 pub mod RationalLaws
 pub mod Ring
+pub mod StepLaws
