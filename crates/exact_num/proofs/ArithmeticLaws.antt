@@ -24,15 +24,15 @@ pub plus_of : (x y : Rational) (n d m e : ℤ) → IsLowest x → IsLowest y →
 unfolding plus
 plus_of x y n d m e p q h k s t =
     lowest_same (x.top *ℤ y.bottom +ℤ y.top *ℤ x.bottom) (x.bottom *ℤ y.bottom) (n *ℤ e +ℤ m *ℤ d) (d *ℤ e)
-      (*ℤ_nonzero x.bottom y.bottom (bottom_nonzero x p) (bottom_nonzero y q)) (*ℤ_nonzero d e h k)
-      (sum_cross x.top x.bottom n d y.top y.bottom m e s t)
+    (*ℤ_nonzero x.bottom y.bottom (bottom_nonzero x p) (bottom_nonzero y q)) (*ℤ_nonzero d e h k)
+    (sum_cross x.top x.bottom n d y.top y.bottom m e s t)
 
 pub times_of : (x y : Rational) (n d m e : ℤ) → IsLowest x → IsLowest y → d ≢ pos 0 → e ≢ pos 0 → x.top *ℤ d ≡ n *ℤ x.bottom → y.top *ℤ e ≡ m *ℤ y.bottom → times x y ≡ lowest (n *ℤ m) (d *ℤ e)
 unfolding times
 times_of x y n d m e p q h k s t =
     lowest_same (x.top *ℤ y.top) (x.bottom *ℤ y.bottom) (n *ℤ m) (d *ℤ e)
-      (*ℤ_nonzero x.bottom y.bottom (bottom_nonzero x p) (bottom_nonzero y q)) (*ℤ_nonzero d e h k)
-      (product_cross x.top x.bottom n d y.top y.bottom m e s t)
+    (*ℤ_nonzero x.bottom y.bottom (bottom_nonzero x p) (bottom_nonzero y q)) (*ℤ_nonzero d e h k)
+    (product_cross x.top x.bottom n d y.top y.bottom m e s t)
 
 -- ---- order and grouping
 pub plus_comm : (x y : Rational) → plus x y ≡ plus y x
@@ -77,7 +77,7 @@ times-plus x y z p q r =
     let under : ℤ = x.top *ℤ (y.top *ℤ z.bottom +ℤ z.top *ℤ y.bottom) in
     let left = times_of x (plus y z) x.top x.bottom (y.top *ℤ z.bottom +ℤ z.top *ℤ y.bottom) (y.bottom *ℤ z.bottom) p (plus-IsLowest y z q r) xb (*ℤ_nonzero y.bottom z.bottom yb zb) refl (plus-cross y z q r) in
     let right = plus_of (times x y) (times x z) (x.top *ℤ y.top) (x.bottom *ℤ y.bottom) (x.top *ℤ z.top) (x.bottom *ℤ z.bottom) (times-IsLowest x y p q) (times-IsLowest x z p r)
-          (*ℤ_nonzero x.bottom y.bottom xb yb) (*ℤ_nonzero x.bottom z.bottom xb zb) (times-cross x y p q) (times-cross x z p r) in
+    (*ℤ_nonzero x.bottom y.bottom xb yb) (*ℤ_nonzero x.bottom z.bottom xb zb) (times-cross x y p q) (times-cross x z p r) in
     left ∙ sym (lowest-mul under over x.bottom (*ℤ_nonzero x.bottom (y.bottom *ℤ z.bottom) xb (*ℤ_nonzero y.bottom z.bottom yb zb)) xb) ∙ ap₂ lowest (simp ring) (simp products) ∙ sym right
 
 -- ---- 0, 1 and negatives
@@ -102,14 +102,14 @@ pub plus-negated : (x : Rational) → IsLowest x → plus x (negated x) ≡ whol
 unfolding plus
 plus-negated x h =
     ap (λ t. lowest (x.top *ℤ x.bottom +ℤ t) (x.bottom *ℤ x.bottom)) (neg_ℤ-*ℤ x.top x.bottom)
-      ∙ ap (λ t. lowest t (x.bottom *ℤ x.bottom)) (+ℤ-neg_ℤ (x.top *ℤ x.bottom))
-      ∙ lowest-zero (x.bottom *ℤ x.bottom) (*ℤ_nonzero x.bottom x.bottom (bottom_nonzero x h) (bottom_nonzero x h))
+    ∙ ap (λ t. lowest t (x.bottom *ℤ x.bottom)) (+ℤ-neg_ℤ (x.top *ℤ x.bottom))
+    ∙ lowest-zero (x.bottom *ℤ x.bottom) (*ℤ_nonzero x.bottom x.bottom (bottom_nonzero x h) (bottom_nonzero x h))
 
 -- what was taken away and added again
 pub minus-plus : (x y : Rational) → IsLowest x → IsLowest y → plus (minus x y) y ≡ x
 minus-plus x y p q =
     ap (λ t. plus t y) (minus-is_plus x y) ∙ plus_assoc x (negated y) y p (negated-IsLowest y q) q
-      ∙ ap (plus x) (plus_comm (negated y) y ∙ plus-negated y q) ∙ plus-zero x p
+    ∙ ap (plus x) (plus_comm (negated y) y ∙ plus-negated y q) ∙ plus-zero x p
 
 pub lowest_negated : (n d : ℤ) → d ≢ pos 0 → negated (lowest n d) ≡ lowest (neg_ℤ n) d
 lowest_negated n d h =
@@ -120,7 +120,7 @@ pub negated-plus : (x y : Rational) → IsLowest x → IsLowest y → negated (p
 unfolding plus
 negated-plus x y p q =
     lowest_negated (x.top *ℤ y.bottom +ℤ y.top *ℤ x.bottom) (x.bottom *ℤ y.bottom) (*ℤ_nonzero x.bottom y.bottom (bottom_nonzero x p) (bottom_nonzero y q))
-      ∙ ap (λ t. lowest t (x.bottom *ℤ y.bottom)) (neg_ℤ-+ℤ (x.top *ℤ y.bottom) (y.top *ℤ x.bottom) ∙ ap₂ ◌+ℤ◌ (sym (neg_ℤ-*ℤ x.top y.bottom)) (sym (neg_ℤ-*ℤ y.top x.bottom)))
+    ∙ ap (λ t. lowest t (x.bottom *ℤ y.bottom)) (neg_ℤ-+ℤ (x.top *ℤ y.bottom) (y.top *ℤ x.bottom) ∙ ap₂ ◌+ℤ◌ (sym (neg_ℤ-*ℤ x.top y.bottom)) (sym (neg_ℤ-*ℤ y.top x.bottom)))
 
 -- the same added to both
 pub minus-plus_both : (x y z : Rational) → IsLowest x → IsLowest y → IsLowest z → minus (plus x z) (plus y z) ≡ minus x y
@@ -130,10 +130,10 @@ minus-plus_both x y z p q r =
     let low_m : IsLowest m = negated-IsLowest y q in
     let low_n : IsLowest n = negated-IsLowest z r in
     minus-is_plus (plus x z) (plus y z)
-      ∙ ap (plus (plus x z)) (negated-plus y z q r)
-      ∙ plus_assoc x z (plus m n) p r (plus-IsLowest m n low_m low_n)
-      ∙ ap (plus x) (plus_left_comm z m n r low_m low_n ∙ ap (plus m) (plus-negated z r) ∙ plus-zero m low_m)
-      ∙ sym (minus-is_plus x y)
+    ∙ ap (plus (plus x z)) (negated-plus y z q r)
+    ∙ plus_assoc x z (plus m n) p r (plus-IsLowest m n low_m low_n)
+    ∙ ap (plus x) (plus_left_comm z m n r low_m low_n ∙ ap (plus m) (plus-negated z r) ∙ plus-zero m low_m)
+    ∙ sym (minus-is_plus x y)
 
 -- what was divided and multiplied again
 pub divided-times : (x y : Rational) → IsLowest x → IsLowest y → y.top ≢ pos 0 → times (divided x y) y ≡ x
@@ -142,8 +142,8 @@ divided-times x y p q n =
     let yb = bottom_nonzero y q in
     let both : ℤ = y.bottom *ℤ y.top in
     times_of (divided x y) y (x.top *ℤ y.bottom) (x.bottom *ℤ y.top) y.top y.bottom (divided-IsLowest x y p q n) q (*ℤ_nonzero x.bottom y.top xb n) yb (divided-cross x y p n) refl
-      ∙ ap₂ lowest (*ℤ_assoc x.top y.bottom y.top) (simp products)
-      ∙ lowest-mul x.top x.bottom both xb (*ℤ_nonzero y.bottom y.top yb n) ∙ lowest-self x p
+    ∙ ap₂ lowest (*ℤ_assoc x.top y.bottom y.top) (simp products)
+    ∙ lowest-mul x.top x.bottom both xb (*ℤ_nonzero y.bottom y.top yb n) ∙ lowest-self x p
 
 -- ---- whole numbers
 pub plus-whole : (a b : ℤ) → plus (whole a) (whole b) ≡ whole (a +ℤ b)

@@ -1,5 +1,5 @@
 pub mod ArithmeticLaws
-pub mod GcdExamples
+mod Examples
 pub mod GcdLaws
 pub mod Integers
 pub mod OperationLaws

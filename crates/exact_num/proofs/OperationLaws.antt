@@ -25,19 +25,19 @@ gcd_of-mul_coprime a b c e =
     let P : ℕ → Type 0 = λ m. d ∣ m in
     let in_b : d ∣ b = dvd_from_coprime d c b apart (subst P (mul_comm b c) (gcd_of-dvd_right a (b * c))) in
     dvd_antisymm (dvd-gcd_of d a b (gcd_of-dvd_left a (b * c)) in_b)
-      (dvd-gcd_of (gcd_of a b) a (b * c) (gcd_of-dvd_left a b) (dvd-mul_right_of_dvd (gcd_of a b) (gcd_of-dvd_right a b) c))
+    (dvd-gcd_of (gcd_of a b) a (b * c) (gcd_of-dvd_left a b) (dvd-mul_right_of_dvd (gcd_of a b) (gcd_of-dvd_right a b) c))
 
 -- what divides a sum and its first number divides its second
 dvd_second : (d : ℕ) (x y : ℤ) → d ∣ unsigned_abs (x +ℤ y) → d ∣ unsigned_abs x → d ∣ unsigned_abs y
 dvd_second d x y p q =
     let P : ℕ → Type 0 = λ m. d ∣ m in
     elim (cases_eq (unsigned_abs (x +ℤ y) + unsigned_abs x) (unsigned_abs y)) [
-      inl e ↦ subst P e (dvd-add d p q)
-    | inr ne ↦
-        elim (cases_lt (unsigned_abs x) (unsigned_abs (x +ℤ y))) [
-          inl lt ↦ let e : unsigned_abs (x +ℤ y) - unsigned_abs x ≡ unsigned_abs y = omega (arith, ints) in subst P e (dvd-sub d p q)
-        | inr ge ↦ let e : unsigned_abs x - unsigned_abs (x +ℤ y) ≡ unsigned_abs y = omega (arith, ints) in subst P e (dvd-sub d q p)
-        ]
+      | inl e ↦ subst P e (dvd-add d p q)
+      | inr ne ↦
+          elim (cases_lt (unsigned_abs x) (unsigned_abs (x +ℤ y))) [
+            | inl lt ↦ let e : unsigned_abs (x +ℤ y) - unsigned_abs x ≡ unsigned_abs y = omega (arith, ints) in subst P e (dvd-sub d p q)
+            | inr ge ↦ let e : unsigned_abs x - unsigned_abs (x +ℤ y) ≡ unsigned_abs y = omega (arith, ints) in subst P e (dvd-sub d q p)
+          ]
     ]
 
 dvd_first : (d : ℕ) (x y : ℤ) → d ∣ unsigned_abs (x +ℤ y) → d ∣ unsigned_abs y → d ∣ unsigned_abs x
@@ -121,8 +121,8 @@ sum_value x y p q =
     let h : ℤ = int_div x.bottom g in
     let apart : g ≢ pos 0 = nonzero_of_pos g (common_pos x.bottom y.bottom q.positive) in
     sym (lowest-mul (sum_left x y +ℤ sum_right x y) (sum_bottom x y) g (nonzero_of_pos (sum_bottom x y) (sum_bottom_pos x y p q)) apart)
-      ∙ ap₂ lowest (cross_sum x.top x.bottom y.top y.bottom f h g (part_mul x.bottom y.bottom) (part_mul_left x.bottom y.bottom))
-          (*ℤ_assoc x.bottom f g ∙ ap (λ t. x.bottom *ℤ t) (part_mul x.bottom y.bottom))
+    ∙ ap₂ lowest (cross_sum x.top x.bottom y.top y.bottom f h g (part_mul x.bottom y.bottom) (part_mul_left x.bottom y.bottom))
+    (*ℤ_assoc x.bottom f g ∙ ap (λ t. x.bottom *ℤ t) (part_mul x.bottom y.bottom))
 
 -- a sum has no divisor in common with what one denominator has beside the other's: s/b + t/d over parts b' and d' of b and d
 own_part : (a c f h b : ℤ) → gcd_of (unsigned_abs a) (unsigned_abs b) ≡ 1 → unsigned_abs h ∣ unsigned_abs b → gcd_of (unsigned_abs h) (unsigned_abs f) ≡ 1 → gcd_of (unsigned_abs (a *ℤ f +ℤ c *ℤ h)) (unsigned_abs h) ≡ 1
@@ -150,7 +150,7 @@ sum_divisor x y p q =
     let turn : sum_right x y +ℤ sum_left x y ≡ n = omega (arith, ints) in
     let from_f : gcd_of (unsigned_abs n) (unsigned_abs f) ≡ 1 = sym (ap (λ z. gcd_of (unsigned_abs z) (unsigned_abs f)) turn) ∙ swapped in
     let whole_bottom : unsigned_abs (sum_bottom x y) ≡ unsigned_abs g * (unsigned_abs h * unsigned_abs f) =
-          unsigned_abs-mul x.bottom f ∙ ap (λ m. m * unsigned_abs f) (sym (ap unsigned_abs (part_mul_left x.bottom y.bottom)) ∙ unsigned_abs-mul h g) ∙ omega arith in
+    unsigned_abs-mul x.bottom f ∙ ap (λ m. m * unsigned_abs f) (sym (ap unsigned_abs (part_mul_left x.bottom y.bottom)) ∙ unsigned_abs-mul h g) ∙ omega arith in
     ap pos (sym (ap (gcd_of (unsigned_abs n)) whole_bottom ∙ gcd_of-mul_coprime (unsigned_abs n) (unsigned_abs g) (unsigned_abs h * unsigned_abs f) (coprime-mul (unsigned_abs n) (unsigned_abs h) (unsigned_abs f) from_h from_f)))
 
 -- ---- a product
@@ -181,11 +181,11 @@ product-IsLowest x y p q =
     let a_d : gcd_of (unsigned_abs a) (unsigned_abs d) ≡ 1 = parts_coprime x.top y.bottom q.positive in
     let c_b : gcd_of (unsigned_abs c) (unsigned_abs b) ≡ 1 = parts_coprime y.top x.bottom p.positive in
     let all : gcd_of (unsigned_abs a * unsigned_abs c) (unsigned_abs b * unsigned_abs d) ≡ 1 =
-          mul-coprime (unsigned_abs a) (unsigned_abs c) (unsigned_abs b * unsigned_abs d)
-            (coprime-mul (unsigned_abs a) (unsigned_abs b) (unsigned_abs d) a_b a_d) (coprime-mul (unsigned_abs c) (unsigned_abs b) (unsigned_abs d) c_b c_d) in
+    mul-coprime (unsigned_abs a) (unsigned_abs c) (unsigned_abs b * unsigned_abs d)
+    (coprime-mul (unsigned_abs a) (unsigned_abs b) (unsigned_abs d) a_b a_d) (coprime-mul (unsigned_abs c) (unsigned_abs b) (unsigned_abs d) c_b c_d) in
     record {
       positive = *ℤ_pos b d (part_pos y.top x.bottom p.positive) (part_pos x.top y.bottom q.positive);
-      coprime = ap₂ gcd_of (unsigned_abs-mul a c) (unsigned_abs-mul b d) ∙ all
+      coprime = ap₂ gcd_of (unsigned_abs-mul a c) (unsigned_abs-mul b d) ∙ all;
     }
 
 -- and they are the product
@@ -199,10 +199,10 @@ product_value x y p q =
     let c : ℤ = int_div y.top h in
     let d : ℤ = int_div y.bottom g in
     lowest_is (x.top *ℤ y.top) (x.bottom *ℤ y.bottom) (pair (product_top x y) (product_bottom x y))
-      (*ℤ_nonzero x.bottom y.bottom (bottom_nonzero x p) (bottom_nonzero y q)) (product-IsLowest x y p q)
-      (ap₂ (λ s t. (a *ℤ c) *ℤ (s *ℤ t)) (sym (part_mul y.top x.bottom)) (sym (part_mul x.top y.bottom))
-        ∙ four_factors a b c d g h
-        ∙ ap₂ (λ s t. (s *ℤ t) *ℤ (b *ℤ d)) (part_mul_left x.top y.bottom) (part_mul_left y.top x.bottom))
+    (*ℤ_nonzero x.bottom y.bottom (bottom_nonzero x p) (bottom_nonzero y q)) (product-IsLowest x y p q)
+    (ap₂ (λ s t. (a *ℤ c) *ℤ (s *ℤ t)) (sym (part_mul y.top x.bottom)) (sym (part_mul x.top y.bottom))
+    ∙ four_factors a b c d g h
+    ∙ ap₂ (λ s t. (s *ℤ t) *ℤ (b *ℤ d)) (part_mul_left x.top y.bottom) (part_mul_left y.top x.bottom))
 
 &&-true : (a : Bool) → (a && true) ≡ a
 &&-true true = refl
@@ -275,12 +275,12 @@ whole_product_bottom x y p q = ap₂ ◌*ℤ◌ (over_one x.bottom (common y.top
 pub whole_sum_fits : (x y : Rational) → InRange x.top → InRange y.top → x.bottom ≡ pos 1 → y.bottom ≡ pos 1 → all_fit (sum_formed x y) ≡ in_range (x.top +ℤ y.top)
 whole_sum_fits x y h k p q =
     all_fit-sum_formed x y
-      ∙ rw (whole_left x y p q, whole_right x y p q, whole_bottom x y p q, in_range-yes x.top h, in_range-yes y.top k, in_range-yes (pos 1) (lit< tt)) (&&-true (in_range (x.top +ℤ y.top)))
+    ∙ rw (whole_left x y p q, whole_right x y p q, whole_bottom x y p q, in_range-yes x.top h, in_range-yes y.top k, in_range-yes (pos 1) (lit< tt)) (&&-true (in_range (x.top +ℤ y.top)))
 
 pub whole_sum_value : (x y : Rational) → IsLowest x → IsLowest y → x.bottom ≡ pos 1 → y.bottom ≡ pos 1 → whole (x.top +ℤ y.top) ≡ plus x y
 whole_sum_value x y h k p q =
     sym (lowest-self (whole (x.top +ℤ y.top)) (whole-IsLowest (x.top +ℤ y.top)))
-      ∙ sym (ap₂ lowest (ap₂ ◌+ℤ◌ (whole_left x y p q) (whole_right x y p q)) (whole_bottom x y p q)) ∙ sum_value x y h k
+    ∙ sym (ap₂ lowest (ap₂ ◌+ℤ◌ (whole_left x y p q) (whole_right x y p q)) (whole_bottom x y p q)) ∙ sum_value x y h k
 
 pub whole_product_fits : (x y : Rational) → x.bottom ≡ pos 1 → y.bottom ≡ pos 1 → all_fit (product_formed x y) ≡ in_range (x.top *ℤ y.top)
 whole_product_fits x y p q =

@@ -29,12 +29,12 @@ nat_cmp-greater m n h = grind (arith, nat_tests)
 -- two comparisons agree where each difference is the same
 nat_cmp_shift : (m n k : ℕ) → nat_cmp (k + m) (k + n) ≡ nat_cmp m n
 nat_cmp_shift m n k = elim (cases_order m n) [
-      inl e ↦ nat_cmp-equal (k + m) (k + n) (omega arith) ∙ sym (nat_cmp-equal m n e)
-    | inr h ↦ elim h [
-        inl l ↦ nat_cmp-less (k + m) (k + n) (omega arith) ∙ sym (nat_cmp-less m n l)
-      | inr g ↦ nat_cmp-greater (k + m) (k + n) (omega arith) ∙ sym (nat_cmp-greater m n g)
-      ]
-    ]
+  | inl e ↦ nat_cmp-equal (k + m) (k + n) (omega arith) ∙ sym (nat_cmp-equal m n e)
+  | inr h ↦ elim h [
+    | inl l ↦ nat_cmp-less (k + m) (k + n) (omega arith) ∙ sym (nat_cmp-less m n l)
+    | inr g ↦ nat_cmp-greater (k + m) (k + n) (omega arith) ∙ sym (nat_cmp-greater m n g)
+  ]
+]
 
 -- ---- whole parts and remainders: a/b against c/d
 whole_less : (b d p k r s : ℕ) → r < b → 0 < d → (b * p + r) * d < (d * (p + suc k) + s) * b
@@ -56,12 +56,12 @@ whole_below a b c d p q h =
 -- the whole parts decide where they differ
 pub whole_decides : (a b c d : ℕ) → 0 < b → 0 < d → a / b ≢ c / d → nat_cmp (a / b) (c / d) ≡ nat_cmp (a * d) (c * b)
 whole_decides a b c d p q ne = elim (cases_order (a / b) (c / d)) [
-      inl e ↦ absurd (ne e)
-    | inr h ↦ elim h [
-        inl l ↦ nat_cmp-less (a / b) (c / d) l ∙ sym (nat_cmp-less (a * d) (c * b) (whole_below a b c d p q l))
-      | inr g ↦ nat_cmp-greater (a / b) (c / d) g ∙ sym (nat_cmp-greater (a * d) (c * b) (whole_below c d a b q p g))
-      ]
-    ]
+  | inl e ↦ absurd (ne e)
+  | inr h ↦ elim h [
+    | inl l ↦ nat_cmp-less (a / b) (c / d) l ∙ sym (nat_cmp-less (a * d) (c * b) (whole_below a b c d p q l))
+    | inr g ↦ nat_cmp-greater (a / b) (c / d) g ∙ sym (nat_cmp-greater (a * d) (c * b) (whole_below c d a b q p g))
+  ]
+]
 
 -- where they agree the remainders do
 pub rests_decide : (a b c d : ℕ) → 0 < b → 0 < d → a / b ≡ c / d → nat_cmp (a % b * d) (c % d * b) ≡ nat_cmp (a * d) (c * b)
@@ -89,21 +89,21 @@ turned_over a b c d p q e = ap₂ nat_cmp (mul_comm d (a % b)) (mul_comm b (c % 
 -- ---- signs: fractions of naturals, and of their negatives
 pub int_cmp-pos : (m n : ℕ) → int_cmp (pos m) (pos n) ≡ nat_cmp m n
 int_cmp-pos m n = elim (cases_order m n) [
-      inl e ↦ sym (int_cmp_is (pos m) (pos n) Equal (ap pos e)) ∙ sym (nat_cmp-equal m n e)
-    | inr h ↦ elim h [
-        inl l ↦ sym (int_cmp_is (pos m) (pos n) Less (omega (arith, ints))) ∙ sym (nat_cmp-less m n l)
-      | inr g ↦ sym (int_cmp_is (pos m) (pos n) Greater (omega (arith, ints))) ∙ sym (nat_cmp-greater m n g)
-      ]
-    ]
+  | inl e ↦ sym (int_cmp_is (pos m) (pos n) Equal (ap pos e)) ∙ sym (nat_cmp-equal m n e)
+  | inr h ↦ elim h [
+    | inl l ↦ sym (int_cmp_is (pos m) (pos n) Less (omega (arith, ints))) ∙ sym (nat_cmp-less m n l)
+    | inr g ↦ sym (int_cmp_is (pos m) (pos n) Greater (omega (arith, ints))) ∙ sym (nat_cmp-greater m n g)
+  ]
+]
 
 pub int_cmp-neg : (m n : ℕ) → int_cmp (neg_ℤ (pos m)) (neg_ℤ (pos n)) ≡ nat_cmp n m
 int_cmp-neg m n = elim (cases_order m n) [
-      inl e ↦ sym (int_cmp_is (neg_ℤ (pos m)) (neg_ℤ (pos n)) Equal (ap (λ k. neg_ℤ (pos k)) e)) ∙ sym (nat_cmp-equal n m (sym e))
-    | inr h ↦ elim h [
-        inl l ↦ sym (int_cmp_is (neg_ℤ (pos m)) (neg_ℤ (pos n)) Greater (omega (arith, ints))) ∙ sym (nat_cmp-greater n m l)
-      | inr g ↦ sym (int_cmp_is (neg_ℤ (pos m)) (neg_ℤ (pos n)) Less (omega (arith, ints))) ∙ sym (nat_cmp-less n m g)
-      ]
-    ]
+  | inl e ↦ sym (int_cmp_is (neg_ℤ (pos m)) (neg_ℤ (pos n)) Equal (ap (λ k. neg_ℤ (pos k)) e)) ∙ sym (nat_cmp-equal n m (sym e))
+  | inr h ↦ elim h [
+    | inl l ↦ sym (int_cmp_is (neg_ℤ (pos m)) (neg_ℤ (pos n)) Greater (omega (arith, ints))) ∙ sym (nat_cmp-greater n m l)
+    | inr g ↦ sym (int_cmp_is (neg_ℤ (pos m)) (neg_ℤ (pos n)) Less (omega (arith, ints))) ∙ sym (nat_cmp-less n m g)
+  ]
+]
 
 -- numbers that are not negative
 up_is : (a b : ℤ) → pos 0 ≤ℤ a → pos 0 <ℤ b → a *ℤ b ≡ pos (unsigned_abs a * unsigned_abs b)
@@ -268,7 +268,7 @@ scaled_back t b c m d e n f h =
 pub order_of-plus : (x y z : Rational) → IsLowest x → IsLowest y → IsLowest z → order_of (plus x z) (plus y z) ≡ order_of x y
 order_of-plus x y z p q r =
     order_of-minus (plus x z) (plus y z) (plus-IsLowest x z p r) (plus-IsLowest y z q r)
-      ∙ ap (λ t. int_cmp t.top (pos 0)) (minus-plus_both x y z p q r) ∙ sym (order_of-minus x y p q)
+    ∙ ap (λ t. int_cmp t.top (pos 0)) (minus-plus_both x y z p q r) ∙ sym (order_of-minus x y p q)
 
 pub order_of-times : (x y z : Rational) → IsLowest x → IsLowest y → IsLowest z → pos 0 <ℤ z.top → order_of (times x z) (times y z) ≡ order_of x y
 unfolding order_of

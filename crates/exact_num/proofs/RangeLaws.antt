@@ -31,8 +31,8 @@ back_in_range z h = to_z-of_z w128 z (FitsSigned-from_InRange z h)
 pub in_range-not_i128 : (z : ℤ) → ¬ (FitsSigned w128 z) → in_range z ≡ false
 in_range-not_i128 z h =
     elim (cases_lt (unsigned_abs z) (2 ^ 127)) [
-      inl small ↦ absurd (h (FitsSigned-from_InRange z small))
-    | inr large ↦ in_range-no z large
+      | inl small ↦ absurd (h (FitsSigned-from_InRange z small))
+      | inr large ↦ in_range-no z large
     ]
 
 -- what the code's product is where its factors have 63 bits

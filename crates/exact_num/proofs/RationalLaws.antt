@@ -23,10 +23,10 @@ bottom_nonzero x h = nonzero_of_pos x.bottom h.positive
 bottoms_divide : (x y : Rational) → IsLowest x → x.top *ℤ y.bottom ≡ y.top *ℤ x.bottom → unsigned_abs x.bottom ∣ unsigned_abs y.bottom
 bottoms_divide x y h e =
     let cross : unsigned_abs x.top * unsigned_abs y.bottom ≡ unsigned_abs y.top * unsigned_abs x.bottom
-          = sym (unsigned_abs-mul x.top y.bottom) ∙ ap unsigned_abs e ∙ unsigned_abs-mul y.top x.bottom in
+    = sym (unsigned_abs-mul x.top y.bottom) ∙ ap unsigned_abs e ∙ unsigned_abs-mul y.top x.bottom in
     let P : ℕ → Type 0 = λ n. unsigned_abs x.bottom ∣ n in
     dvd_from_coprime (unsigned_abs x.bottom) (unsigned_abs x.top) (unsigned_abs y.bottom) (gcd_of_comm (unsigned_abs x.bottom) (unsigned_abs x.top) ∙ h.coprime)
-      (subst P (sym cross) (dvd-mul_left (unsigned_abs x.bottom) (unsigned_abs y.top)))
+    (subst P (sym cross) (dvd-mul_left (unsigned_abs x.bottom) (unsigned_abs y.top)))
 
 pub lowest_unique : (x y : Rational) → IsLowest x → IsLowest y → x.top *ℤ y.bottom ≡ y.top *ℤ x.bottom → x ≡ y
 lowest_unique x y p q e =
@@ -79,7 +79,7 @@ lowest-IsLowest n d h =
     let quotient : 0 < unsigned_abs d / g = factor_pos (unsigned_abs d / g) g (unsigned_abs d) (div-mul_cancel g (gcd_of-dvd_right (unsigned_abs n) (unsigned_abs d))) above in
     record {
       positive = omega (arith, ints);
-      coprime = ap (λ m. gcd_of m (unsigned_abs d / g)) sizes ∙ coprime-div (unsigned_abs n) (unsigned_abs d) (gcd_of_pos_right (unsigned_abs n) (unsigned_abs d) above)
+      coprime = ap (λ m. gcd_of m (unsigned_abs d / g)) sizes ∙ coprime-div (unsigned_abs n) (unsigned_abs d) (gcd_of_pos_right (unsigned_abs n) (unsigned_abs d) above);
     }
 
 -- the pair in lowest terms whose value times d is n
@@ -95,7 +95,7 @@ pub lowest_same : (n d m e : ℤ) → d ≢ pos 0 → e ≢ pos 0 → n *ℤ e �
 lowest_same n d m e p q h =
     let x : Rational = lowest n d in
     let left : (x.top *ℤ e) *ℤ d ≡ (m *ℤ x.bottom) *ℤ d =
-      move_last x.top e d ∙ ap (λ t. t *ℤ e) (lowest-cross n d p) ∙ move_last n x.bottom e ∙ ap (λ t. t *ℤ x.bottom) h ∙ move_last m d x.bottom in
+    move_last x.top e d ∙ ap (λ t. t *ℤ e) (lowest-cross n d p) ∙ move_last n x.bottom e ∙ ap (λ t. t *ℤ x.bottom) h ∙ move_last m d x.bottom in
     lowest_is m e x q (lowest-IsLowest n d p) (*ℤ_cancel (x.top *ℤ e) (m *ℤ x.bottom) d p left)
 
 -- a common factor changes nothing
@@ -118,7 +118,7 @@ reciprocal-IsLowest x h n =
     let above : 0 < unsigned_abs x.top = unsigned_abs_pos x.top n in
     record {
       positive = omega (arith, ints);
-      coprime = ap (λ m. gcd_of m (unsigned_abs x.top)) (unsigned_abs-signed_by x.top x.bottom) ∙ gcd_of_comm (unsigned_abs x.bottom) (unsigned_abs x.top) ∙ h.coprime
+      coprime = ap (λ m. gcd_of m (unsigned_abs x.top)) (unsigned_abs-signed_by x.top x.bottom) ∙ gcd_of_comm (unsigned_abs x.bottom) (unsigned_abs x.top) ∙ h.coprime;
     }
 
 -- ---- sums and products are in lowest terms, and times the denominators they are what they were
@@ -157,8 +157,8 @@ divided-is_times x y p q n =
     let over : ℤ = pos (unsigned_abs y.top) in
     let apart : over ≢ pos 0 = nonzero_of_pos over (reciprocal-IsLowest y q n).positive in
     lowest_same (x.top *ℤ y.bottom) (x.bottom *ℤ y.top) (x.top *ℤ signed_by y.top y.bottom) (x.bottom *ℤ over)
-      (*ℤ_nonzero x.bottom y.top (bottom_nonzero x p) n) (*ℤ_nonzero x.bottom over (bottom_nonzero x p) apart)
-      (swap_middle x.top y.bottom x.bottom over ∙ ap (λ t. (x.top *ℤ x.bottom) *ℤ t) (sym (signed_by-mul y.top y.bottom)) ∙ sym (swap_middle x.top (signed_by y.top y.bottom) x.bottom y.top))
+    (*ℤ_nonzero x.bottom y.top (bottom_nonzero x p) n) (*ℤ_nonzero x.bottom over (bottom_nonzero x p) apart)
+    (swap_middle x.top y.bottom x.bottom over ∙ ap (λ t. (x.top *ℤ x.bottom) *ℤ t) (sym (signed_by-mul y.top y.bottom)) ∙ sym (swap_middle x.top (signed_by y.top y.bottom) x.bottom y.top))
 
 pub divided-IsLowest : (x y : Rational) → IsLowest x → IsLowest y → y.top ≢ pos 0 → IsLowest (divided x y)
 divided-IsLowest x y p q n = rw (divided-is_times x y p q n) (times-IsLowest x (reciprocal y) p (reciprocal-IsLowest y q n))

@@ -54,3 +54,8 @@ first_wide-none (s ∷ ss) = none (all_fit s.formed) s.place (first_wide ss) (fi
     none : {P : Type 0} (b : Bool) (p : P) (o : Option P) {c : Bool} → is_none o ≡ c → is_none (cond b o (Some p)) ≡ (b && c)
     none true p o e = e
     none false p o e = refl
+
+-- a list of formed numbers one by one, and a list of steps likewise
+pub ruleset formed = (all_fit-nil, all_fit-cons)
+
+pub ruleset steps = (all_fit-nil, all_fit-cons, first_wide-nil, first_wide-fits, first_wide-stops)

@@ -4,10 +4,9 @@ ghost use Rattle.std.specs.Ordering.{nat_cmp};
 ghost use Rattle.exact_num.specs.Rational.{order_of};
 ghost use Rattle.exact_num.specs.Value.{value_of};
 
-use std::cmp::Ordering;
-
 use crate::divisor::NARROW;
 use crate::fraction::Frac;
+use std::cmp::Ordering;
 
 /// How the exact value of `a` stands to that of `b`. It goes by whole parts and remainders, so that no product can leave the
 /// range.
@@ -17,14 +16,24 @@ pub fn cmp_frac(a: Frac, b: Frac) -> Ordering
     if a.num < 0 {
         if b.num < 0 {
             // The one further from 0 is less.
-            cmp_ratios(b.num.unsigned_abs(), b.den.unsigned_abs(), a.num.unsigned_abs(), a.den.unsigned_abs())
+            cmp_ratios(
+                b.num.unsigned_abs(),
+                b.den.unsigned_abs(),
+                a.num.unsigned_abs(),
+                a.den.unsigned_abs(),
+            )
         } else {
             Ordering::Less
         }
     } else if b.num < 0 {
         Ordering::Greater
     } else {
-        cmp_ratios(a.num.unsigned_abs(), a.den.unsigned_abs(), b.num.unsigned_abs(), b.den.unsigned_abs())
+        cmp_ratios(
+            a.num.unsigned_abs(),
+            a.den.unsigned_abs(),
+            b.num.unsigned_abs(),
+            b.den.unsigned_abs(),
+        )
     }
 }
 

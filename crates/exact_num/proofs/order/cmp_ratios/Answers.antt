@@ -18,12 +18,12 @@ returns-then-left_rest-eq0 c =
     let same : l.left / l.left_den ≡ l.right / l.right_den = omega arith in
     let decided = rests_decide l.left l.left_den l.right l.right_den l.invariant.0 l.invariant.1 same ∙ l.invariant.2 in
     elim c.then-left_rest-eq0.branch [
-      then-left_rest-eq0-via-then-left_rest-eq0 w ↦
-        let none : l.left % l.left_den ≡ 0 = omega arith in
-        c.cmp-then-left_rest-eq0.ensures ∙ rest_zero (l.left % l.left_den) (l.right % l.right_den) l.left_den l.right_den l.invariant.0 l.invariant.1 none ∙ decided
-    | then-left_rest-eq0-via-else-left_rest-eq0+then-right_rest-eq0 w ↦
-        let none : l.right % l.right_den ≡ 0 = omega arith in
-        c.cmp-then-left_rest-eq0.ensures ∙ zero_rest (l.left % l.left_den) (l.right % l.right_den) l.left_den l.right_den l.invariant.0 l.invariant.1 none ∙ decided
+      | then-left_rest-eq0-via-then-left_rest-eq0 w ↦
+          let none : l.left % l.left_den ≡ 0 = omega arith in
+          c.cmp-then-left_rest-eq0.ensures ∙ rest_zero (l.left % l.left_den) (l.right % l.right_den) l.left_den l.right_den l.invariant.0 l.invariant.1 none ∙ decided
+      | then-left_rest-eq0-via-else-left_rest-eq0+then-right_rest-eq0 w ↦
+          let none : l.right % l.right_den ≡ 0 = omega arith in
+          c.cmp-then-left_rest-eq0.ensures ∙ zero_rest (l.left % l.left_den) (l.right % l.right_den) l.left_den l.right_den l.invariant.0 l.invariant.1 none ∙ decided
     ]
 
 pub loop-left-preserved : goal.loop-left-preserved
