@@ -1,11 +1,9 @@
 -- The laws of arithmetic for exact values.
-use Rattle.std.proofs.Common.{◌≡◌, ◌≢◌, ℕ, ℤ, pos, negsuc, neg_ℤ, ◌+ℤ◌, ◌-ℤ◌, ◌*ℤ◌, sym, refl, ap, ap₂, ◌∙◌, subst, arith}
-use Rattle.std.specs.Prelude.{◌<ℤ◌, ◌≤ℤ◌}
-use Rattle.std.proofs.lemmas.Int.{ints}
+use Rattle.std.proofs.Common.{◌≡◌, ◌≢◌, ℤ, pos, neg_ℤ, ◌+ℤ◌, ◌*ℤ◌, sym, refl, ap, ap₂, ◌∙◌}
 use Rattle.exact_num.specs.Rational.{Rational, IsLowest, lowest, whole, negated, plus, minus, times, divided}
 use Rattle.exact_num.proofs.Integers.{*ℤ_nonzero}
 use Rattle.exact_num.proofs.RationalLaws.{bottom_nonzero, lowest_same, lowest_is, lowest-cross, lowest-IsLowest, lowest-mul, lowest-self, whole-IsLowest, negated-IsLowest, plus-IsLowest, plus-cross, times-IsLowest, times-cross, minus-is_plus, divided-cross, divided-IsLowest}
-use Rattle.exact_num.proofs.Ring.{ring, products, *ℤ_comm, *ℤ_assoc, *ℤ-one, one-*ℤ, *ℤ-zero, zero-*ℤ, +ℤ-zero, +ℤ_comm, neg_ℤ-*ℤ, neg_ℤ-+ℤ, +ℤ-neg_ℤ}
+use Rattle.exact_num.proofs.Ring.{ring, products, *ℤ_comm, *ℤ_assoc, *ℤ-one, *ℤ-zero, zero-*ℤ, +ℤ-zero, +ℤ_comm, neg_ℤ-*ℤ, neg_ℤ-+ℤ, +ℤ-neg_ℤ}
 
 -- ---- sums and products of values that are known as quotients n/d and m/e
 sum_cross : (t b n d u c m e : ℤ) → t *ℤ d ≡ n *ℤ b → u *ℤ e ≡ m *ℤ c → (t *ℤ c +ℤ u *ℤ b) *ℤ (d *ℤ e) ≡ (n *ℤ e +ℤ m *ℤ d) *ℤ (b *ℤ c)

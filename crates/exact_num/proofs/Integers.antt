@@ -1,13 +1,13 @@
 -- Signs, order, cancellation and exact division over ℤ.
-use Rattle.std.proofs.Common.{◌≡◌, ◌≢◌, ℕ, zero, suc, ◌+◌, ◌*◌, ◌/◌, ◌<◌, ◌≤◌, ℤ, pos, negsuc, neg_ℤ, ◌+ℤ◌, ◌-ℤ◌, ◌*ℤ◌, Bool, true, false, sym, refl, ap, ◌∙◌, subst, inl, inr, arith, ◌⊎◌}
+use Rattle.std.proofs.Common.{◌≡◌, ◌≢◌, ℕ, zero, suc, ◌+◌, ◌/◌, ◌<◌, ℤ, pos, negsuc, neg_ℤ, ◌*ℤ◌, sym, refl, ap, ◌∙◌, inl, inr, arith, ◌⊎◌}
 use Rattle.std.proofs.lemmas.Bool.{cases_lt}
-use Rattle.std.specs.Prelude.{unsigned_abs, int_div, int_lt, ◌<ℤ◌, ◌≤ℤ◌}
+use Rattle.std.specs.Prelude.{unsigned_abs, int_div, ◌<ℤ◌, ◌≤ℤ◌}
 use Rattle.std.specs.Int.{◌∣◌}
 use Rattle.std.proofs.lemmas.Int.{ints, unsigned_abs-mul}
 use Rattle.std.proofs.Math.Nat.{eq_of_mul-eq-mul_right, div-mul_cancel, mul-le-mul_left}
 use borrow.Author.Differences.{up, down, le_out, lt_out}
 use Rattle.exact_num.specs.Rational.{signed_by}
-use Rattle.exact_num.proofs.Ring.{ring, products, *ℤ_comm, *ℤ_assoc, neg_ℤ-*ℤ, *ℤ-neg_ℤ, zero-*ℤ}
+use Rattle.exact_num.proofs.Ring.{*ℤ_comm, neg_ℤ-*ℤ, *ℤ-neg_ℤ, zero-*ℤ}
 
 -- ---- absolute values and signs
 pub unsigned_abs-neg_ℤ : (a : ℤ) → unsigned_abs (neg_ℤ a) ≡ unsigned_abs a

@@ -1,11 +1,11 @@
 -- Which numbers fit, as a test and as a fact.
-use Rattle.std.proofs.Common.{◌≡◌, ℕ, ◌+◌, ◌*◌, ◌<◌, ◌≤◌, ◌^◌, ℤ, pos, negsuc, neg_ℤ, ◌+ℤ◌, ◌*ℤ◌, Bool, true, false, List, [], ◌∷◌, ◌++◌, ◌&&◌, sym, refl, ap, ◌∙◌, inl, inr, arith, to_z, of_z, lit<}
+use Rattle.std.proofs.Common.{◌≡◌, ◌<◌, ◌≤◌, ◌^◌, ℤ, ◌*ℤ◌, true, false, sym, refl, ◌∙◌, inl, inr, arith, to_z, of_z, lit<}
 use Rattle.std.proofs.lemmas.Bool.{cases_lt}
 use Rattle.std.specs.Prelude.{unsigned_abs, FitsSigned, Result, Ok, Err, IsErr, IfOk, is_ok}
 use Rattle.std.specs.Int.{w128}
-use Rattle.std.proofs.lemmas.Int.{ints, unsigned_abs-mul, to_z-of_z, fits_signed_mul}
+use Rattle.std.proofs.lemmas.Int.{ints, to_z-of_z, fits_signed_mul}
 use Rattle.std.proofs.lemmas.Bool.Decides.{nat_tests}
-use Rattle.exact_num.specs.Range.{InRange, in_range, all_fit}
+use Rattle.exact_num.specs.Range.{InRange, in_range}
 
 pub in_range-yes : (z : ℤ) → InRange z → in_range z ≡ true
 unfolding in_range

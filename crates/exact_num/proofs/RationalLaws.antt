@@ -1,16 +1,16 @@
 -- The laws of exact values: each number is one pair, and sums and products of such pairs obey the laws of arithmetic.
-use Rattle.std.proofs.Common.{◌≡◌, ◌≢◌, ℕ, zero, suc, ◌+◌, ◌*◌, ◌/◌, ◌<◌, ◌≤◌, ℤ, pos, negsuc, neg_ℤ, ◌+ℤ◌, ◌-ℤ◌, ◌*ℤ◌, sym, refl, ap, ap₂, ◌∙◌, subst, arith}
+use Rattle.std.proofs.Common.{◌≡◌, ◌≢◌, ℕ, zero, suc, ◌*◌, ◌/◌, ◌<◌, ℤ, pos, negsuc, neg_ℤ, ◌+ℤ◌, ◌-ℤ◌, ◌*ℤ◌, sym, refl, ap, ap₂, ◌∙◌, subst, arith}
 use Rattle.std.specs.Prelude.{unsigned_abs, int_div, ◌<ℤ◌, ◌≤ℤ◌}
 use Rattle.std.specs.Int.{◌∣◌}
 use Rattle.std.proofs.lemmas.Int.{ints, unsigned_abs-mul}
 use Rattle.std.proofs.lemmas.Nat.Gcd.{dvd_antisymm}
-use Rattle.std.proofs.Math.Nat.{dvd-mul_left, dvd-mul_right, div-mul_cancel, mul_comm}
+use Rattle.std.proofs.Math.Nat.{dvd-mul_left, div-mul_cancel}
 use Rattle.exact_num.specs.Gcd.{gcd_of}
 use Rattle.exact_num.specs.Formed.{common}
 use Rattle.exact_num.specs.Rational.{Rational, pair, IsLowest, signed_by, lowest, whole, negated, reciprocal, plus, minus, times, divided}
 use Rattle.exact_num.proofs.GcdLaws.{gcd_of_comm, gcd_of-dvd_left, gcd_of-dvd_right, gcd_of_pos_right, coprime-div, dvd_from_coprime, gcd_of-one}
-use Rattle.exact_num.proofs.Integers.{unsigned_abs-signed_by, unsigned_abs-int_div, unsigned_abs_pos, unsigned_abs-neg_ℤ, pos-unsigned_abs, int_div-mul, signed_by-mul, *ℤ_cancel, nonzero_of_pos, *ℤ_nonzero, *ℤ_pos}
-use Rattle.exact_num.proofs.Ring.{ring, products, *ℤ_comm, *ℤ_assoc, *ℤ-one, zero-*ℤ, one-*ℤ, neg_ℤ-*ℤ, *ℤ-neg_ℤ}
+use Rattle.exact_num.proofs.Integers.{unsigned_abs-signed_by, unsigned_abs-int_div, unsigned_abs_pos, unsigned_abs-neg_ℤ, pos-unsigned_abs, int_div-mul, signed_by-mul, *ℤ_cancel, nonzero_of_pos, *ℤ_nonzero}
+use Rattle.exact_num.proofs.Ring.{products, *ℤ_assoc, neg_ℤ-*ℤ, *ℤ-neg_ℤ}
 
 same_pair : (x y : Rational) → x.top ≡ y.top → x.bottom ≡ y.bottom → x ≡ y
 same_pair x y p q = ap₂ (λ (t b : ℤ). let r : Rational = record { top = t; bottom = b } in r) p q

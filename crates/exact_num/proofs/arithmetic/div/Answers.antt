@@ -1,5 +1,5 @@
 -- A quotient is the product with the reciprocal.
-use Rattle.std.proofs.Common.{◌≡◌, sym, ap, ◌∙◌}
+use Rattle.std.proofs.Common.{sym, ap, ◌∙◌}
 use Rattle.exact_num.specs.Formed.{product_formed, quotient_formed}
 use Rattle.exact_num.specs.Range.{all_fit}
 use Rattle.exact_num.specs.Rational.{IsLowest, times}

@@ -1,8 +1,7 @@
 -- The sign moves to the numerator.
-use Rattle.std.proofs.Common.{◌≡◌, ap₂, ◌∙◌}
+use Rattle.std.proofs.Common.{ap₂, ◌∙◌}
 use Rattle.exact_num.specs.Range.{InRange}
 use Rattle.exact_num.specs.Rational.{lowest}
-use Rattle.exact_num.proofs.OperationLaws.{sum_value, product_value}
 use Rattle.exact_num.proofs.RangeLaws.{back_in_range}
 use Rattle.exact_num.proofs.RationalLaws.{lowest-neg_ℤ}
 use Rattle.exact_num.proofs.arithmetic.ratio.Goals as goal

@@ -1,7 +1,6 @@
 -- The common divisor with a positive number is positive.
-use Rattle.std.proofs.Common.{◌≡◌, sym, ap₂, ◌∙◌, subst, ℤ, pos}
+use Rattle.std.proofs.Common.{sym, subst, ℤ, pos}
 use Rattle.std.specs.Prelude.{◌<ℤ◌}
-use Rattle.exact_num.specs.Formed.{common}
 use Rattle.exact_num.specs.Range.{InRange}
 use Rattle.exact_num.proofs.RangeLaws.{back_in_range}
 use Rattle.exact_num.proofs.RationalLaws.{common_pos}

@@ -1,5 +1,5 @@
 -- A difference is the sum with the negative.
-use Rattle.std.proofs.Common.{◌≡◌, sym, ap, ◌∙◌}
+use Rattle.std.proofs.Common.{sym, ap, ◌∙◌}
 use Rattle.exact_num.specs.Formed.{sum_formed}
 use Rattle.exact_num.specs.Range.{all_fit}
 use Rattle.exact_num.specs.Rational.{plus}

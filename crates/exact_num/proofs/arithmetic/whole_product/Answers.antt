@@ -1,7 +1,7 @@
 -- At denominators 1 one number alone is formed that may not fit.
-use Rattle.std.proofs.Common.{◌≡◌, sym, ap, ◌∙◌, subst, true, false, ℤ, pos, ◌*ℤ◌}
-use Rattle.exact_num.specs.Range.{InRange, in_range}
-use Rattle.exact_num.specs.Rational.{IsLowest, pair, whole}
+use Rattle.std.proofs.Common.{sym, ap, ◌∙◌}
+use Rattle.exact_num.specs.Range.{InRange}
+use Rattle.exact_num.specs.Rational.{IsLowest, whole}
 use Rattle.exact_num.specs.Value.{value_of}
 use Rattle.exact_num.proofs.OperationLaws.{whole_product_fits, whole_product_value}
 use Rattle.exact_num.proofs.RangeLaws.{back_in_range, is_ok-false}

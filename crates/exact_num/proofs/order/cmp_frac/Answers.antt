@@ -1,5 +1,5 @@
 -- By the signs of the two numerators.
-use Rattle.std.proofs.Common.{◌≡◌, sym, ap₂, ◌∙◌, ◌*◌, pos, arith}
+use Rattle.std.proofs.Common.{sym, ap₂, ◌∙◌, ◌*◌, pos, arith}
 use Rattle.std.specs.Prelude.{◌<ℤ◌, ◌≤ℤ◌}
 use Rattle.std.specs.Ordering.{nat_cmp}
 use Rattle.std.proofs.lemmas.Int.{ints}

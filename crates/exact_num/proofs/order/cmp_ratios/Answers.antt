@@ -1,7 +1,5 @@
 -- Each step keeps the comparison, and each exit decides it.
-use Rattle.std.proofs.Common.{◌≡◌, ◌≢◌, ℕ, ◌*◌, ◌/◌, ◌%◌, ◌<◌, ◌≤◌, ◌^◌, ◌∙◌, sym, arith}
-use Rattle.std.specs.Ordering.{nat_cmp}
-use Rattle.std.proofs.lemmas.Nat.{mul-lt}
+use Rattle.std.proofs.Common.{◌≡◌, ◌≢◌, ◌/◌, ◌%◌, ◌∙◌, arith}
 use Rattle.exact_num.proofs.OrderLaws.{whole_decides, rests_decide, rest_zero, zero_rest, turned_over}
 use Rattle.exact_num.proofs.order.cmp_ratios.Goals as goal
 use Rattle.exact_num.proofs.order.cmp_ratios.Goals.{then-left_rest-eq0-via-then-left_rest-eq0, then-left_rest-eq0-via-else-left_rest-eq0+then-right_rest-eq0}
