@@ -1,0 +1,10 @@
+pub mod ArithmeticLaws
+mod Examples
+pub mod GcdLaws
+pub mod Integers
+pub mod OperationLaws
+pub mod OrderLaws
+pub mod RangeLaws
+pub mod RationalLaws
+pub mod Ring
+pub mod StepLaws
