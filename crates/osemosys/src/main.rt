@@ -2,13 +2,11 @@
 //! standard output. Its exit status is that of the call.
 #![tactic(auto)]
 
-use std::env;
-use std::io;
-use std::io::ErrorKind;
-use std::process::ExitCode;
-
 use io_edges::{DiskShelf, OutSink};
 use osemosys_run::osemosys;
+use std::io::ErrorKind;
+use std::process::ExitCode;
+use std::{env, io};
 
 /// The exit status where memory doesn't suffice for the words.
 const WANT_OF_MEMORY: u8 = 8;

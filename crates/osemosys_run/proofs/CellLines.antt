@@ -14,8 +14,8 @@ lines-same members j before cells k c d less is same =
     at_drop_more (cell_lines members j before) cells k d less
     ∙ ap (λ (e : Cell). cell_lines members j before (e ∷ drop (k + 1) cells)) (sym is)
     ∙ ap (λ (b : Bool). cond b
-        (entry_line j c.row c.number ++ cell_lines members j before (drop (k + 1) cells))
-        (column_head members (j + 1, c.variable) ++ entry_line (j + 1) c.row c.number ++ cell_lines members (j + 1) (Some c.variable) (drop (k + 1) cells))) same
+    (entry_line j c.row c.number ++ cell_lines members j before (drop (k + 1) cells))
+    (column_head members (j + 1, c.variable) ++ entry_line (j + 1) c.row c.number ++ cell_lines members (j + 1) (Some c.variable) (drop (k + 1) cells))) same
 
 pub lines-new : (members : Members) (j : ℕ) (before : Option Var) (cells : List Cell) (k : ℕ) (c d : Cell) → k < length cells → c ≡ get_or cells k d
     → continues before c.variable ≡ false
@@ -25,8 +25,8 @@ lines-new members j before cells k c d less is same =
     at_drop_more (cell_lines members j before) cells k d less
     ∙ ap (λ (e : Cell). cell_lines members j before (e ∷ drop (k + 1) cells)) (sym is)
     ∙ ap (λ (b : Bool). cond b
-        (entry_line j c.row c.number ++ cell_lines members j before (drop (k + 1) cells))
-        (column_head members (j + 1, c.variable) ++ entry_line (j + 1) c.row c.number ++ cell_lines members (j + 1) (Some c.variable) (drop (k + 1) cells))) same
+    (entry_line j c.row c.number ++ cell_lines members j before (drop (k + 1) cells))
+    (column_head members (j + 1, c.variable) ++ entry_line (j + 1) c.row c.number ++ cell_lines members (j + 1) (Some c.variable) (drop (k + 1) cells))) same
 
 pub columns-same : (before : Option Var) (cells : List Cell) (k : ℕ) (c d : Cell) → k < length cells → c ≡ get_or cells k d
     → continues before c.variable ≡ true → columns_from before (drop k cells) ≡ columns_from before (drop (k + 1) cells)
@@ -65,6 +65,6 @@ turn-new members j n before cells k c d out mid new all less is same so_far numb
     ∙ append_assoc out (column_head members (n, c.variable)) (entry_line n c.row c.number ++ rest)
     ∙ ap (λ (m : ℕ). out ++ (column_head members (m, c.variable) ++ (entry_line m c.row c.number ++ cell_lines members m (Some c.variable) (drop (k + 1) cells)))) number
     ∙ ap (λ (lines : List ℕ). out ++ lines)
-        (sym (append_assoc (column_head members (j + 1, c.variable)) (entry_line (j + 1) c.row c.number) (cell_lines members (j + 1) (Some c.variable) (drop (k + 1) cells)))
-        ∙ sym (lines-new members j before cells k c d less is same))
+    (sym (append_assoc (column_head members (j + 1, c.variable)) (entry_line (j + 1) c.row c.number) (cell_lines members (j + 1) (Some c.variable) (drop (k + 1) cells)))
+    ∙ sym (lines-new members j before cells k c d less is same))
     ∙ so_far

@@ -36,7 +36,7 @@ pub known-columns : (before : Option Var) (cs : List Cell) → AllByRecursion Is
 known-columns before [] h = tt
 known-columns before (c ∷ cs) h = by_choice (continues before c.variable) (known-columns before cs h.1) (known-columns (Some c.variable) cs h.1)
   where
-  by_choice : (b : Bool) → AllByRecursion (λ v. IsKind v.kind) (columns_from before cs) → AllByRecursion (λ v. IsKind v.kind) (columns_from (Some c.variable) cs)
-      → AllByRecursion (λ v. IsKind v.kind) (cond b (columns_from before cs) (c.variable ∷ columns_from (Some c.variable) cs))
-  by_choice true same fresh = same
-  by_choice false same fresh = (h.0, fresh)
+    by_choice : (b : Bool) → AllByRecursion (λ v. IsKind v.kind) (columns_from before cs) → AllByRecursion (λ v. IsKind v.kind) (columns_from (Some c.variable) cs)
+        → AllByRecursion (λ v. IsKind v.kind) (cond b (columns_from before cs) (c.variable ∷ columns_from (Some c.variable) cs))
+    by_choice true same fresh = same
+    by_choice false same fresh = (h.0, fresh)

@@ -34,15 +34,15 @@ columns-after v [] rise = tt
 columns-after v (c ∷ cs) rise = by_choice (is_same_variable c.variable v) refl
     (λ same. columns-after v cs (subst (λ (w : Var). RiseFrom w cs) (same-is c.variable v same) rise.1))
     (λ fresh.
-        let less : var_cmp v c.variable ≡ Less = later v c.variable rise.0 fresh in
-        (less, all_after-earlier v c.variable (columns_from (Some c.variable) cs) less (columns-after c.variable cs rise.1)))
+    let less : var_cmp v c.variable ≡ Less = later v c.variable rise.0 fresh in
+    (less, all_after-earlier v c.variable (columns_from (Some c.variable) cs) less (columns-after c.variable cs rise.1)))
   where
-  by_choice : (b : Bool) → is_same_variable c.variable v ≡ b
-      → (is_same_variable c.variable v ≡ true → AllAfter v (columns_from (Some v) cs))
-      → (is_same_variable c.variable v ≡ false → AllAfter v (c.variable ∷ columns_from (Some c.variable) cs))
-      → AllAfter v (cond b (columns_from (Some v) cs) (c.variable ∷ columns_from (Some c.variable) cs))
-  by_choice true is same fresh = same is
-  by_choice false is same fresh = fresh is
+    by_choice : (b : Bool) → is_same_variable c.variable v ≡ b
+        → (is_same_variable c.variable v ≡ true → AllAfter v (columns_from (Some v) cs))
+        → (is_same_variable c.variable v ≡ false → AllAfter v (c.variable ∷ columns_from (Some c.variable) cs))
+        → AllAfter v (cond b (columns_from (Some v) cs) (c.variable ∷ columns_from (Some c.variable) cs))
+    by_choice true is same fresh = same is
+    by_choice false is same fresh = fresh is
 
 -- ---- lines
 
@@ -60,7 +60,7 @@ column_text-skip : (members : Members) (c : Cell) (cs : List Cell) (k : ℕ) (ws
 column_text-skip members c cs k [] after = refl
 column_text-skip members c cs k (w ∷ ws) after =
     ap (λ (b : Bool). (column_head members (k, w) ++ flat_map (lines_in k) (cond b (c ∷ filter (is_of w) cs) (filter (is_of w) cs)))
-        ++ flat_map (column_text members (c ∷ cs)) (enumerate_from (k + 1) ws)) (apart c.variable w after.0)
+    ++ flat_map (column_text members (c ∷ cs)) (enumerate_from (k + 1) ws)) (apart c.variable w after.0)
     ∙ ap (λ (rest : List ℕ). column_text members cs (k, w) ++ rest) (column_text-skip members c cs (k + 1) ws after.1)
 
 -- no entry from a later variable on is one of an earlier variable
@@ -71,9 +71,9 @@ none-earlier v u (c ∷ cs) less rise =
     ap (λ (b : Bool). cond b (c ∷ filter (is_of v) cs) (filter (is_of v) cs)) (apart-back v c.variable later_still)
     ∙ none-earlier v c.variable cs later_still rise.1
   where
-  by_choice : (b : Bool) → is_same_variable c.variable u ≡ b → var_cmp v c.variable ≡ Less
-  by_choice true is = subst (λ (w : Var). var_cmp v w ≡ Less) (sym (same-is c.variable u is)) less
-  by_choice false is = var_cmp_total.trans v u c.variable less (later u c.variable rise.0 is)
+    by_choice : (b : Bool) → is_same_variable c.variable u ≡ b → var_cmp v c.variable ≡ Less
+    by_choice true is = subst (λ (w : Var). var_cmp v w ≡ Less) (sym (same-is c.variable u is)) less
+    by_choice false is = var_cmp_total.trans v u c.variable less (later u c.variable rise.0 is)
 
 -- what the lines behind a column of v are
 abbrev Behind : Members → ℕ → Var → List Cell → Type 0
@@ -96,7 +96,7 @@ begins members j c cs rise behind =
     ∙ ap (λ (front : List ℕ). front ++ others) (append_assoc head first more)
     ∙ ap (λ (b : Bool). (head ++ flat_map (lines_in (j + 1)) (cond b (c ∷ filter (is_of v) cs) (filter (is_of v) cs))) ++ others) (sym (same-self v))
     ∙ ap (λ (rest : List ℕ). column_text members (c ∷ cs) (j + 1, v) ++ rest)
-        (sym (column_text-skip members c cs (j + 1 + 1) (columns_from (Some v) cs) (columns-after v cs rise)))
+    (sym (column_text-skip members c cs (j + 1 + 1) (columns_from (Some v) cs) (columns-after v cs rise)))
 
 lines-behind : (members : Members) (j : ℕ) (v : Var) (cs : List Cell) → RiseFrom v cs → Behind members j v cs
 lines-behind members j v [] rise = refl
@@ -104,26 +104,26 @@ lines-behind members j v (c ∷ cs) rise = by_choice (is_same_variable c.variabl
     (λ same. lines-behind members j v cs (subst (λ (w : Var). RiseFrom w cs) (same-is c.variable v same) rise.1))
     (begins members j c cs rise.1 (lines-behind members (j + 1) c.variable cs rise.1))
   where
-  by_choice : (b : Bool) → is_same_variable c.variable v ≡ b
-      → (is_same_variable c.variable v ≡ true → Behind members j v cs)
-      → (column_head members (j + 1, c.variable) ++ lines_in (j + 1) c ++ cell_lines members (j + 1) (Some c.variable) cs
-          ≡ flat_map (column_text members (c ∷ cs)) (enumerate_from (j + 1) (c.variable ∷ columns_from (Some c.variable) cs)))
-      → cond b (lines_in j c ++ cell_lines members j (Some v) cs)
-          (column_head members (j + 1, c.variable) ++ lines_in (j + 1) c ++ cell_lines members (j + 1) (Some c.variable) cs)
-      ≡ flat_map (lines_in j) (cond b (c ∷ filter (is_of v) cs) (filter (is_of v) cs))
-          ++ flat_map (column_text members (c ∷ cs)) (enumerate_from (j + 1) (cond b (columns_from (Some v) cs) (c.variable ∷ columns_from (Some c.variable) cs)))
-  by_choice true is same fresh =
-      let v_is : c.variable ≡ v = same-is c.variable v is in
-      let after = subst (λ (w : Var). AllAfter w (columns_from (Some v) cs)) (sym v_is)
-          (columns-after v cs (subst (λ (w : Var). RiseFrom w cs) v_is rise.1)) in
-      ap (λ (rest : List ℕ). lines_in j c ++ rest) (same is)
-      ∙ sym (append_assoc (lines_in j c) (flat_map (lines_in j) (filter (is_of v) cs)) (flat_map (column_text members cs) (enumerate_from (j + 1) (columns_from (Some v) cs))))
-      ∙ ap (λ (rest : List ℕ). (lines_in j c ++ flat_map (lines_in j) (filter (is_of v) cs)) ++ rest)
-          (sym (column_text-skip members c cs (j + 1) (columns_from (Some v) cs) after))
-  by_choice false is same fresh =
-      fresh
-      ∙ ap (λ (none : List Cell). flat_map (lines_in j) none ++ flat_map (column_text members (c ∷ cs)) (enumerate_from (j + 1) (c.variable ∷ columns_from (Some c.variable) cs)))
-          (sym (none-earlier v c.variable cs (later v c.variable rise.0 is) rise.1))
+    by_choice : (b : Bool) → is_same_variable c.variable v ≡ b
+        → (is_same_variable c.variable v ≡ true → Behind members j v cs)
+        → (column_head members (j + 1, c.variable) ++ lines_in (j + 1) c ++ cell_lines members (j + 1) (Some c.variable) cs
+        ≡ flat_map (column_text members (c ∷ cs)) (enumerate_from (j + 1) (c.variable ∷ columns_from (Some c.variable) cs)))
+        → cond b (lines_in j c ++ cell_lines members j (Some v) cs)
+        (column_head members (j + 1, c.variable) ++ lines_in (j + 1) c ++ cell_lines members (j + 1) (Some c.variable) cs)
+        ≡ flat_map (lines_in j) (cond b (c ∷ filter (is_of v) cs) (filter (is_of v) cs))
+        ++ flat_map (column_text members (c ∷ cs)) (enumerate_from (j + 1) (cond b (columns_from (Some v) cs) (c.variable ∷ columns_from (Some c.variable) cs)))
+    by_choice true is same fresh =
+        let v_is : c.variable ≡ v = same-is c.variable v is in
+        let after = subst (λ (w : Var). AllAfter w (columns_from (Some v) cs)) (sym v_is)
+        (columns-after v cs (subst (λ (w : Var). RiseFrom w cs) v_is rise.1)) in
+        ap (λ (rest : List ℕ). lines_in j c ++ rest) (same is)
+        ∙ sym (append_assoc (lines_in j c) (flat_map (lines_in j) (filter (is_of v) cs)) (flat_map (column_text members cs) (enumerate_from (j + 1) (columns_from (Some v) cs))))
+        ∙ ap (λ (rest : List ℕ). (lines_in j c ++ flat_map (lines_in j) (filter (is_of v) cs)) ++ rest)
+        (sym (column_text-skip members c cs (j + 1) (columns_from (Some v) cs) after))
+    by_choice false is same fresh =
+        fresh
+        ∙ ap (λ (none : List Cell). flat_map (lines_in j) none ++ flat_map (column_text members (c ∷ cs)) (enumerate_from (j + 1) (c.variable ∷ columns_from (Some c.variable) cs)))
+        (sym (none-earlier v c.variable cs (later v c.variable rise.0 is) rise.1))
 
 -- all lines
 pub lines-all : (members : Members) (cs : List Cell) → Rise cs
@@ -139,13 +139,14 @@ row-lines : (j : ℕ) (v : Var) (i : ℕ) (es : List (Var × ℤ))
 row-lines j v i [] = refl
 row-lines j v i (e ∷ es) = by_choice (is_same_variable e.0 v) (row-lines j v i es)
   where
-  rest : List ℕ
-  rest = flat_map (λ d. cond (is_same_variable d.0 v) (entry_line j i d.1) []) es
-  by_choice : (b : Bool) → flat_map (lines_in j) (filter (is_of v) (map (cell_of i) es)) ≡ flat_map (λ d. cond (is_same_variable d.0 v) (entry_line j i d.1) []) es
-      → flat_map (lines_in j) (cond b (cell_of i e ∷ filter (is_of v) (map (cell_of i) es)) (filter (is_of v) (map (cell_of i) es)))
-      ≡ cond b (entry_line j i e.1) [] ++ flat_map (λ d. cond (is_same_variable d.0 v) (entry_line j i d.1) []) es
-  by_choice true later_ones = ap (λ (more : List ℕ). entry_line j i e.1 ++ more) later_ones
-  by_choice false later_ones = later_ones
+    rest : List ℕ
+    rest = flat_map (λ d. cond (is_same_variable d.0 v) (entry_line j i d.1) []) es
+
+    by_choice : (b : Bool) → flat_map (lines_in j) (filter (is_of v) (map (cell_of i) es)) ≡ flat_map (λ d. cond (is_same_variable d.0 v) (entry_line j i d.1) []) es
+        → flat_map (lines_in j) (cond b (cell_of i e ∷ filter (is_of v) (map (cell_of i) es)) (filter (is_of v) (map (cell_of i) es)))
+        ≡ cond b (entry_line j i e.1) [] ++ flat_map (λ d. cond (is_same_variable d.0 v) (entry_line j i d.1) []) es
+    by_choice true later_ones = ap (λ (more : List ℕ). entry_line j i e.1 ++ more) later_ones
+    by_choice false later_ones = later_ones
 
 rows-lines : (j : ℕ) (v : Var) (rs : List (ℕ × Row)) → flat_map (lines_in j) (filter (is_of v) (flat_map row_cells rs)) ≡ flat_map (entry_lines j v) rs
 rows-lines j v [] = refl
@@ -165,9 +166,9 @@ pub columns-section : (members : Members) (rows : List Row) (sorted : List Cell)
 columns-section members rows sorted are =
     lines-all members sorted are.rising
     ∙ flat_map-same (column_text members sorted) (column_lines members rows)
-        (λ c. ap (λ (entries : List ℕ). column_head members c ++ entries)
-            (ap (flat_map (lines_in c.0)) (are.stable c.1) ∙ rows-lines c.0 c.1 (numbered rows)))
-        (numbered (columns_from None sorted))
+    (λ c. ap (λ (entries : List ℕ). column_head members c ++ entries)
+    (ap (flat_map (lines_in c.0)) (are.stable c.1) ∙ rows-lines c.0 c.1 (numbered rows)))
+    (numbered (columns_from None sorted))
 
 -- ---- which columns there are
 
@@ -177,13 +178,13 @@ ascends-behind v (c ∷ cs) rise = by_choice (is_same_variable c.variable v) ref
     (λ same. ascends-behind v cs (subst (λ (w : Var). RiseFrom w cs) (same-is c.variable v same) rise.1))
     (ascends-behind c.variable cs rise.1)
   where
-  by_choice : (b : Bool) → is_same_variable c.variable v ≡ b
-      → (is_same_variable c.variable v ≡ true → ascends var_cmp (v ∷ columns_from (Some v) cs) ≡ true)
-      → ascends var_cmp (c.variable ∷ columns_from (Some c.variable) cs) ≡ true
-      → ascends var_cmp (v ∷ cond b (columns_from (Some v) cs) (c.variable ∷ columns_from (Some c.variable) cs)) ≡ true
-  by_choice true is same fresh = same is
-  by_choice false is same fresh =
-      ap (λ (o : Ordering). is_lt o && ascends var_cmp (c.variable ∷ columns_from (Some c.variable) cs)) (later v c.variable rise.0 is) ∙ fresh
+    by_choice : (b : Bool) → is_same_variable c.variable v ≡ b
+        → (is_same_variable c.variable v ≡ true → ascends var_cmp (v ∷ columns_from (Some v) cs) ≡ true)
+        → ascends var_cmp (c.variable ∷ columns_from (Some c.variable) cs) ≡ true
+        → ascends var_cmp (v ∷ cond b (columns_from (Some v) cs) (c.variable ∷ columns_from (Some c.variable) cs)) ≡ true
+    by_choice true is same fresh = same is
+    by_choice false is same fresh =
+        ap (λ (o : Ordering). is_lt o && ascends var_cmp (c.variable ∷ columns_from (Some c.variable) cs)) (later v c.variable rise.0 is) ∙ fresh
 
 ascends-all : (cs : List Cell) → Rise cs → ascends var_cmp (columns_from None cs) ≡ true
 ascends-all [] rise = refl
@@ -201,15 +202,15 @@ among-behind : (w v : Var) (cs : List Cell) → is_among w (v ∷ columns_from (
 among-behind w v [] = refl
 among-behind w v (c ∷ cs) = by_choice (is_same_variable c.variable v) refl (among-behind w v cs) (among-behind w c.variable cs)
   where
-  by_choice : (b : Bool) → is_same_variable c.variable v ≡ b
-      → is_among w (v ∷ columns_from (Some v) cs) ≡ (is_same_variable v w || any_of w cs)
-      → is_among w (c.variable ∷ columns_from (Some c.variable) cs) ≡ (is_same_variable c.variable w || any_of w cs)
-      → is_among w (v ∷ cond b (columns_from (Some v) cs) (c.variable ∷ columns_from (Some c.variable) cs))
-      ≡ (is_same_variable v w || (is_same_variable c.variable w || any_of w cs))
-  by_choice true is same fresh =
-      same ∙ sym (or-again (is_same_variable v w) (any_of w cs))
-      ∙ ap (λ (u : Var). is_same_variable v w || (is_same_variable u w || any_of w cs)) (sym (same-is c.variable v is))
-  by_choice false is same fresh = ap (λ (b : Bool). is_same_variable v w || b) fresh
+    by_choice : (b : Bool) → is_same_variable c.variable v ≡ b
+        → is_among w (v ∷ columns_from (Some v) cs) ≡ (is_same_variable v w || any_of w cs)
+        → is_among w (c.variable ∷ columns_from (Some c.variable) cs) ≡ (is_same_variable c.variable w || any_of w cs)
+        → is_among w (v ∷ cond b (columns_from (Some v) cs) (c.variable ∷ columns_from (Some c.variable) cs))
+        ≡ (is_same_variable v w || (is_same_variable c.variable w || any_of w cs))
+    by_choice true is same fresh =
+        same ∙ sym (or-again (is_same_variable v w) (any_of w cs))
+        ∙ ap (λ (u : Var). is_same_variable v w || (is_same_variable u w || any_of w cs)) (sym (same-is c.variable v is))
+    by_choice false is same fresh = ap (λ (b : Bool). is_same_variable v w || b) fresh
 
 among-all : (w : Var) (cs : List Cell) → is_among w (columns_from None cs) ≡ any_of w cs
 among-all w [] = refl
@@ -225,18 +226,18 @@ unfolding is_some_of
 any-is w [] = refl
 any-is w (c ∷ cs) = by_choice (is_of w c) (any-is w cs)
   where
-  by_choice : (b : Bool) → any_of w cs ≡ is_some_of (filter (is_of w) cs)
-      → (b || any_of w cs) ≡ is_some_of (cond b (c ∷ filter (is_of w) cs) (filter (is_of w) cs))
-  by_choice true rest = refl
-  by_choice false rest = rest
+    by_choice : (b : Bool) → any_of w cs ≡ is_some_of (filter (is_of w) cs)
+        → (b || any_of w cs) ≡ is_some_of (cond b (c ∷ filter (is_of w) cs) (filter (is_of w) cs))
+    by_choice true rest = refl
+    by_choice false rest = rest
 
 any-append : (w : Var) (cs ds : List Cell) → any_of w (cs ++ ds) ≡ (any_of w cs || any_of w ds)
 any-append w [] ds = refl
 any-append w (c ∷ cs) ds = ap (λ (b : Bool). is_of w c || b) (any-append w cs ds) ∙ or_assoc (is_of w c) (any_of w cs) (any_of w ds)
   where
-  or_assoc : (a b d : Bool) → (a || (b || d)) ≡ ((a || b) || d)
-  or_assoc true b d = refl
-  or_assoc false b d = refl
+    or_assoc : (a b d : Bool) → (a || (b || d)) ≡ ((a || b) || d)
+    or_assoc true b d = refl
+    or_assoc false b d = refl
 
 any-row : (w : Var) (i : ℕ) (es : List (Var × ℤ)) → any_of w (map (cell_of i) es) ≡ is_among w (variables_of es)
 any-row w i [] = refl
@@ -246,9 +247,9 @@ among-append : (w : Var) (us vs : List Var) → is_among w (us ++ vs) ≡ (is_am
 among-append w [] vs = refl
 among-append w (u ∷ us) vs = ap (λ (b : Bool). is_same_variable u w || b) (among-append w us vs) ∙ or_assoc (is_same_variable u w) (is_among w us) (is_among w vs)
   where
-  or_assoc : (a b d : Bool) → (a || (b || d)) ≡ ((a || b) || d)
-  or_assoc true b d = refl
-  or_assoc false b d = refl
+    or_assoc : (a b d : Bool) → (a || (b || d)) ≡ ((a || b) || d)
+    or_assoc true b d = refl
+    or_assoc false b d = refl
 
 any-rows : (w : Var) (k : ℕ) (rows : List Row) → any_of w (flat_map row_cells (enumerate_from k rows)) ≡ is_among w (all_variables rows)
 any-rows w k [] = refl
@@ -263,5 +264,5 @@ pub columns-are : (rows : List Row) (sorted : List Cell) → AreSortedCells (cel
 columns-are rows sorted are = record {
   ascending = ascends-all sorted are.rising;
   each = λ w.
-    among-all w sorted ∙ any-is w sorted ∙ ap is_some_of (are.stable w) ∙ sym (any-is w (cells_of rows)) ∙ any-rows w 1 rows;
+      among-all w sorted ∙ any-is w sorted ∙ ap is_some_of (are.stable w) ∙ sym (any-is w (cells_of rows)) ∙ any-rows w 1 rows;
 }

@@ -20,35 +20,38 @@ due_for_file : (name : List ℕ) (before after : Sight) (files : List (List ℕ 
     → DueForFile (file_named files name) status text
 due_for_file name before after files status text told calm caused = by_cause caused
   where
-  whole : (bytes : List ℕ) → IsWholeFile before.files name bytes before.rest after.rest after.taken → DueForMps bytes status text → DueForFile (file_named files name) status text
-  whole bytes w due =
-      let not_long : nat_lt most_bytes (length bytes) ≡ false = le-ltb most_bytes (length bytes) w.short in
-      subst (λ (o : Option (List ℕ)). DueForFile o status text) (sym (w.named files told))
-      (subst (λ (b : Bool). MatchBool b ((status ≡ Refused (refusals.TooLong 1)) × (text ≡ refusal_line (refusals.TooLong 1))) (DueForMps bytes status text)) (sym not_long) due)
-  long : (status ≡ Refused (refusals.TooLong 1)) → (text ≡ refusal_line (refusals.TooLong 1)) → IsTooLong before.files name after.taken → DueForFile (file_named files name) status text
-  long s t l =
-      let there = l.longer files told in
-      let bytes : List ℕ = there.0 in
-      let is_long : nat_lt most_bytes (length bytes) ≡ true = lt-ltb most_bytes (length bytes) there.2 in
-      subst (λ (o : Option (List ℕ)). DueForFile o status text) (sym there.1)
-      (subst (λ (b : Bool). MatchBool b ((status ≡ Refused (refusals.TooLong 1)) × (text ≡ refusal_line (refusals.TooLong 1))) (DueForMps bytes status text)) (sym is_long) (s, t))
-  missing : (status ≡ ReadFault (stops.NoFile 1)) → (text ≡ stop_line (stops.NoFile 1)) → Lacks before.files name → DueForFile (file_named files name) status text
-  missing s t lacks =
-      let none : file_named files name ≡ None = subst (λ (o : Option (List (List ℕ × List ℕ))). Lacks o name) told lacks in
-      subst (λ (o : Option (List ℕ)). DueForFile o status text) (sym none) (s, t)
-  by_cause : CausedByFile name before after status text → DueForFile (file_named files name) status text
-  by_cause (inl c) = whole c.0 c.1 c.2
-  by_cause (inr (inl c)) = long c.0 c.1 c.2
-  by_cause (inr (inr (inl c))) = missing c.0 c.1 c.2
-  by_cause (inr (inr (inr c))) = absurd (calm c.2)
+    whole : (bytes : List ℕ) → IsWholeFile before.files name bytes before.rest after.rest after.taken → DueForMps bytes status text → DueForFile (file_named files name) status text
+    whole bytes w due =
+        let not_long : nat_lt most_bytes (length bytes) ≡ false = le-ltb most_bytes (length bytes) w.short in
+        subst (λ (o : Option (List ℕ)). DueForFile o status text) (sym (w.named files told))
+        (subst (λ (b : Bool). MatchBool b ((status ≡ Refused (refusals.TooLong 1)) × (text ≡ refusal_line (refusals.TooLong 1))) (DueForMps bytes status text)) (sym not_long) due)
+
+    long : (status ≡ Refused (refusals.TooLong 1)) → (text ≡ refusal_line (refusals.TooLong 1)) → IsTooLong before.files name after.taken → DueForFile (file_named files name) status text
+    long s t l =
+        let there = l.longer files told in
+        let bytes : List ℕ = there.0 in
+        let is_long : nat_lt most_bytes (length bytes) ≡ true = lt-ltb most_bytes (length bytes) there.2 in
+        subst (λ (o : Option (List ℕ)). DueForFile o status text) (sym there.1)
+        (subst (λ (b : Bool). MatchBool b ((status ≡ Refused (refusals.TooLong 1)) × (text ≡ refusal_line (refusals.TooLong 1))) (DueForMps bytes status text)) (sym is_long) (s, t))
+
+    missing : (status ≡ ReadFault (stops.NoFile 1)) → (text ≡ stop_line (stops.NoFile 1)) → Lacks before.files name → DueForFile (file_named files name) status text
+    missing s t lacks =
+        let none : file_named files name ≡ None = subst (λ (o : Option (List (List ℕ × List ℕ))). Lacks o name) told lacks in
+        subst (λ (o : Option (List ℕ)). DueForFile o status text) (sym none) (s, t)
+
+    by_cause : CausedByFile name before after status text → DueForFile (file_named files name) status text
+    by_cause (inl c) = whole c.0 c.1 c.2
+    by_cause (inr (inl c)) = long c.0 c.1 c.2
+    by_cause (inr (inr (inl c))) = missing c.0 c.1 c.2
+    by_cause (inr (inr (inr c))) = absurd (calm c.2)
 
 pub due_from_cause : (words : List (List ℕ)) (before after : Sight) (files : List (List ℕ × List ℕ)) (status : Status) (text : List ℕ)
     → before.files ≡ Some files → (Rose before.faults after.faults → ⊥) → Caused words before after status text → Due words files status text
 due_from_cause words before after files status text told calm caused = by_request (asked words) caused
   where
-  by_request : (request : Result Request WordFault) → CausedByRequest request before after status text → DueForRequest request files status text
-  by_request (Err fault) c = (c.0, c.1)
-  by_request (Ok (Mps name)) c = due_for_file name before after files status text told calm c.1
+    by_request : (request : Result Request WordFault) → CausedByRequest request before after status text → DueForRequest request files status text
+    by_request (Err fault) c = (c.0, c.1)
+    by_request (Ok (Mps name)) c = due_for_file name before after files status text told calm c.1
 
 -- what is due for one reason is due for a weaker one
 pub delivers_weaker : (due weaker : Status → List ℕ → Type 0) (result : Status) (before after : Option (List ℕ)) (f f' : ℕ)
@@ -66,20 +69,21 @@ pub is_answer : (words : List (List ℕ)) (before after : Sight) (status : Statu
     → (status ≢ WriteFault) × (status ≢ Memory)
 is_answer words before after status text caused = by_request (asked words) caused
   where
-  other : (s : Status) → s ≢ WriteFault → s ≢ Memory → status ≡ s → (status ≢ WriteFault) × (status ≢ Memory)
-  other s cut memory e = (λ h. cut (sym e ∙ h), λ h. memory (sym e ∙ h))
-  by_request : (request : Result Request WordFault) → CausedByRequest request before after status text → (status ≢ WriteFault) × (status ≢ Memory)
-  by_request (Err fault) c = other (Words fault) (λ h. cc) (λ h. cc) c.0
-  by_request (Ok (Mps name)) c = elim c.1 [
-      inl whole ↦ elim whole.2 [ inl done ↦ other Done (λ h. cc) (λ h. cc) done.2 | inr refused ↦ other (Refused refusals.NotYet) (λ h. cc) (λ h. cc) refused.1 ]
-    | inr stopped ↦ elim stopped [
-        inl long ↦ other (Refused (refusals.TooLong 1)) (λ h. cc) (λ h. cc) long.0
-      | inr unread ↦ elim unread [
-          inl missing ↦ other (ReadFault (stops.NoFile 1)) (λ h. cc) (λ h. cc) missing.0
-        | inr failed ↦ other (ReadFault (stops.Failed 1)) (λ h. cc) (λ h. cc) failed.0
+    other : (s : Status) → s ≢ WriteFault → s ≢ Memory → status ≡ s → (status ≢ WriteFault) × (status ≢ Memory)
+    other s cut memory e = (λ h. cut (sym e ∙ h), λ h. memory (sym e ∙ h))
+
+    by_request : (request : Result Request WordFault) → CausedByRequest request before after status text → (status ≢ WriteFault) × (status ≢ Memory)
+    by_request (Err fault) c = other (Words fault) (λ h. cc) (λ h. cc) c.0
+    by_request (Ok (Mps name)) c = elim c.1 [
+      | inl whole ↦ elim whole.2 [ inl done ↦ other Done (λ h. cc) (λ h. cc) done.2 | inr refused ↦ other (Refused refusals.NotYet) (λ h. cc) (λ h. cc) refused.1 ]
+      | inr stopped ↦ elim stopped [
+        | inl long ↦ other (Refused (refusals.TooLong 1)) (λ h. cc) (λ h. cc) long.0
+        | inr unread ↦ elim unread [
+          | inl missing ↦ other (ReadFault (stops.NoFile 1)) (λ h. cc) (λ h. cc) missing.0
+          | inr failed ↦ other (ReadFault (stops.Failed 1)) (λ h. cc) (λ h. cc) failed.0
         ]
       ]
-  ]
+    ]
 
 -- an answer whose text was written is delivered
 pub delivered : (due : Status → List ℕ → Type 0) (status : Status) (text : List ℕ) (before after : Option (List ℕ)) (f f' : ℕ) → due status text
@@ -97,24 +101,25 @@ pub read_to_end : (words : List (List ℕ)) (before after : Sight) (files : List
     → (name bytes : List ℕ) → asked words ≡ Ok (Mps name) → file_named files name ≡ Some bytes → length bytes ≤ most_bytes → after.rest ≡ Some []
 read_to_end words before after files status text told rest_told calm caused name bytes asks there short =
     let by_file : CausedByFile name before after status text =
-        (subst (λ (request : Result Request WordFault). CausedByRequest request before after status text) asks caused).1 in
+    (subst (λ (request : Result Request WordFault). CausedByRequest request before after status text) asks caused).1 in
     elim by_file [
-      inl whole ↦ whole.1.none_left rest_told
-    | inr stopped ↦ elim stopped [
-        inl long ↦
-          let longer = long.2.longer files told in
-          let same : longer.0 ≡ bytes = some_injective (sym longer.1 ∙ there) in
-          absurd (omega (arith, longer.2, ap length same))
-      | inr unread ↦ elim unread [
-          inl missing ↦
-            let none : file_named files name ≡ None = subst (λ (o : Option (List (List ℕ × List ℕ))). Lacks o name) told missing.2 in
-            absurd (some_none (sym there ∙ none))
-        | inr failed ↦ absurd (calm failed.2)
+      | inl whole ↦ whole.1.none_left rest_told
+      | inr stopped ↦ elim stopped [
+        | inl long ↦
+            let longer = long.2.longer files told in
+            let same : longer.0 ≡ bytes = some_injective (sym longer.1 ∙ there) in
+            absurd (omega (arith, longer.2, ap length same))
+        | inr unread ↦ elim unread [
+          | inl missing ↦
+              let none : file_named files name ≡ None = subst (λ (o : Option (List (List ℕ × List ℕ))). Lacks o name) told missing.2 in
+              absurd (some_none (sym there ∙ none))
+          | inr failed ↦ absurd (calm failed.2)
         ]
       ]
     ]
   where
-  some_injective : {a b : List ℕ} → Some a ≡ Some b → a ≡ b
-  some_injective e = cc
-  some_none : {a : List ℕ} → Some a ≡ None → ⊥
-  some_none e = cc
+    some_injective : {a b : List ℕ} → Some a ≡ Some b → a ≡ b
+    some_injective e = cc
+
+    some_none : {a : List ℕ} → Some a ≡ None → ⊥
+    some_none e = cc

@@ -8,7 +8,6 @@ use Rattle.io_edges.specs.Edges.{Moves}
 abbrev pub Parts : Option (List ℕ) → List ℕ → Option (List ℕ) → Type 0
 Parts rest bytes file = (left : List ℕ) × (rest ≡ Some left) × (file ≡ Some (bytes ++ left))
 
-
 -- what a read moved goes behind what was read
 pub moved : (rest after : Option (List ℕ)) (bytes room : List ℕ) (n : ℕ) (file : Option (List ℕ))
     → Parts rest bytes file → ((left : List ℕ) → rest ≡ Some left → Moves left n room after)
@@ -17,9 +16,9 @@ moved rest after bytes room n file parts moves =
     let left : List ℕ = parts.0 in
     let step : Moves left n room after = moves left parts.1 in
     let whole : (bytes ++ take n room) ++ drop n left ≡ bytes ++ left =
-        ap (λ (front : List ℕ). (bytes ++ front) ++ drop n left) step.front
-        ∙ append_assoc bytes (take n left) (drop n left)
-        ∙ ap (λ (both : List ℕ). bytes ++ both) (take-append-drop n left) in
+    ap (λ (front : List ℕ). (bytes ++ front) ++ drop n left) step.front
+    ∙ append_assoc bytes (take n left) (drop n left)
+    ∙ ap (λ (both : List ℕ). bytes ++ both) (take-append-drop n left) in
     (drop n left, step.left_over, parts.2 ∙ ap (λ (all : List ℕ). Some all) (sym whole))
 
 -- where no byte moves into a room, the file was read

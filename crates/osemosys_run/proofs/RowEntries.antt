@@ -32,10 +32,10 @@ entries-more r t p n counts is =
     ∙ ap (λ (b : Bool). minus_new_capacities r t (filter p (range_with_len 0 n) ++ cond b (n ∷ []) [])) is
     ∙ by_choice counts
   where
-  by_choice : (b : Bool) → minus_new_capacities r t (filter p (range_with_len 0 n) ++ cond b (n ∷ []) [])
-      ≡ cond b (minus_new_capacities r t (filter p (range_with_len 0 n)) ++ (new_capacity r t n, negsuc 0) ∷ []) (minus_new_capacities r t (filter p (range_with_len 0 n)))
-  by_choice true = map-append _ (filter p (range_with_len 0 n)) (n ∷ [])
-  by_choice false = ap (minus_new_capacities r t) (append-nil (filter p (range_with_len 0 n)))
+    by_choice : (b : Bool) → minus_new_capacities r t (filter p (range_with_len 0 n) ++ cond b (n ∷ []) [])
+        ≡ cond b (minus_new_capacities r t (filter p (range_with_len 0 n)) ++ (new_capacity r t n, negsuc 0) ∷ []) (minus_new_capacities r t (filter p (range_with_len 0 n)))
+    by_choice true = map-append _ (filter p (range_with_len 0 n)) (n ∷ [])
+    by_choice false = ap (minus_new_capacities r t) (append-nil (filter p (range_with_len 0 n)))
 
 -- ---- the row CAa1
 
@@ -56,7 +56,7 @@ before-counting : (r t y : ℕ) (p : ℕ → Bool) (b a n : ℕ) → b < a
 before-counting r t y p b a zero less = refl
 before-counting r t y p b a (suc n) less =
     let later : before_first var_cmp (new_capacity r t b) (variables_of (accumulated_entries r t y (filter p (range_with_len (a + 1) n)))) ≡ true =
-        before-counting r t y p b (a + 1) n (omega arith) in
+    before-counting r t y p b (a + 1) n (omega arith) in
     elim (p a) as (λ counts. before_first var_cmp (new_capacity r t b) (variables_of (accumulated_entries r t y (cond counts (a ∷ filter p (range_with_len (a + 1) n)) (filter p (range_with_len (a + 1) n))))) ≡ true)
     [ true ↦ ap is_lt (new_capacity-before r t b a less) | false ↦ later ]
 
@@ -66,9 +66,9 @@ pub ascends-accumulated : (r t y : ℕ) (p : ℕ → Bool) (a n : ℕ)
 ascends-accumulated r t y p a zero = refl
 ascends-accumulated r t y p a (suc n) =
     let later : ascends var_cmp (variables_of (accumulated_entries r t y (filter p (range_with_len (a + 1) n)))) ≡ true =
-        ascends-accumulated r t y p (a + 1) n in
+    ascends-accumulated r t y p (a + 1) n in
     let first : before_first var_cmp (new_capacity r t a) (variables_of (accumulated_entries r t y (filter p (range_with_len (a + 1) n)))) ≡ true =
-        before-counting r t y p a (a + 1) n (omega arith) in
+    before-counting r t y p a (a + 1) n (omega arith) in
     elim (p a) as (λ counts. ascends var_cmp (variables_of (accumulated_entries r t y (cond counts (a ∷ filter p (range_with_len (a + 1) n)) (filter p (range_with_len (a + 1) n))))) ≡ true)
     [ true ↦ both_true first later | false ↦ later ]
 
@@ -100,9 +100,10 @@ pub accumulated-both : (r t y : ℕ) (years : List ℕ) (x : Var → ℤ) (q : �
     → ((row_sum x (accumulated_entries r t y years) ≡ pos 0 *ℤ q) ↔ (x (accumulated_new_capacity r t y) ≡ total years (λ b. x (new_capacity r t b))))
 accumulated-both r t y years x q =
     let sum = sum-accumulated r t y years x in
-    let zero_times : pos 0 *ℤ q ≡ pos 0 = zero-*ℤ q in
-    ( λ h. let h' : row_sum x (accumulated_entries r t y years) ≡ pos 0 = h ∙ zero_times in omega (arith, ints, sum, h')
-    , λ h. let apart : x (accumulated_new_capacity r t y) -ℤ total years (λ b. x (new_capacity r t b)) ≡ pos 0 = omega (arith, ints, h) in sum ∙ apart ∙ sym zero_times)
+    let zero_times : pos 0 *ℤ q ≡ pos 0 = zero-*ℤ q in (
+      λ h. let h' : row_sum x (accumulated_entries r t y years) ≡ pos 0 = h ∙ zero_times in omega (arith, ints, sum, h'),
+      λ h. let apart : x (accumulated_new_capacity r t y) -ℤ total years (λ b. x (new_capacity r t b)) ≡ pos 0 = omega (arith, ints, h) in sum ∙ apart ∙ sym zero_times,
+    )
 
 -- ---- the row CAa2
 
@@ -112,7 +113,7 @@ pub totals-both : (accumulated whole q : ℤ) (given : ℕ)
     ↔ (pos (10 ^ 9) *ℤ whole ≡ (pos (10 ^ 9) *ℤ accumulated) +ℤ (pos (10 ^ 9 * given) *ℤ q)))
 totals-both accumulated whole q given =
     let scaled : pos (10 ^ 9 * given) *ℤ q ≡ pos (10 ^ 9) *ℤ (pos given *ℤ q) = ap (λ (z : ℤ). z *ℤ q) (sym (pos-*ℤ-pos (10 ^ 9) given)) ∙ *ℤ_assoc (pos (10 ^ 9)) (pos given) q in
-    ( λ h. omega (arith, ints, scaled, h), λ h. omega (arith, ints, scaled, h))
+    (λ h. omega (arith, ints, scaled, h), λ h. omega (arith, ints, scaled, h))
 
 -- a number of at most 10^15 is in range
 pub in_range-small : (n : ℕ) → n ≤ 10 ^ 15 → in_range (pos n) ≡ true
@@ -122,9 +123,9 @@ in_range-small n small = lt-ltb n (2 ^ 127) (omega arith)
 pub has_unit-behind : (z : ℤ) (zs : List ℤ) → has_unit zs ≡ true → has_unit (z ∷ zs) ≡ true
 has_unit-behind z zs unit = ap (λ (b : Bool). nat_eq (unsigned_abs z) 1 || b) unit ∙ or_true (nat_eq (unsigned_abs z) 1)
   where
-  or_true : (b : Bool) → (b || true) ≡ true
-  or_true true = refl
-  or_true false = refl
+    or_true : (b : Bool) → (b || true) ≡ true
+    or_true true = refl
+    or_true false = refl
 
 -- the kinds of the entries' variables have words
 pub kinds-accumulated : (r t y : ℕ) (years : List ℕ) → AllByRecursion (λ e. IsKind e.0.kind) (accumulated_entries r t y years)

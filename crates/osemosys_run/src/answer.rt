@@ -2,13 +2,12 @@
 ghost use Rattle.std.specs.Prelude.{◌≡◌, IfOk};
 ghost use Rattle.osemosys_run.specs.Due.{DueForMps, refusal_line, stop_line, words_line};
 
-use std::alloc::{AllocError, Global};
-
 use crate::fixed_form::read_fixed_form;
 use crate::lines::{refusal_line, stop_line, words_line};
 use crate::mps::mps_text;
 use crate::rows::all_rows;
 use crate::status::{ReadStop, Refusal, Status, WordFault};
+use std::alloc::{AllocError, Global};
 
 /// A status and the text that is due with it.
 #[derive(Debug, Drop)]

@@ -8,11 +8,9 @@ ghost use Rattle.osemosys_run.specs.FixedFormView.{facts_of};
 ghost use Rattle.osemosys_run.specs.MpsText.{HasWords};
 ghost use Rattle.osemosys_run.specs.CapacityEntries.{minus_new_capacities, accumulated_entries, total_entries};
 
-use std::alloc::{AllocError, Global};
-
-use row_core::{Index, Row, RowName, Sense, Var};
-
 use crate::fixed_form::FirstFacts;
+use row_core::{Index, Row, RowName, Sense, Var};
+use std::alloc::{AllocError, Global};
 
 /// The equations that are written, by their names in the long code.
 #[derive(Clone, Copy, Debug, PartialEq, Eq)]
@@ -30,7 +28,9 @@ const TOTALS: u8 = 3;
 
 /// The numbers of the kinds of variables that the two equations speak of.
 const NEW_CAPACITY: u8 = 2;
+
 const ACCUMULATED_NEW_CAPACITY: u8 = 5;
+
 const TOTAL_CAPACITY_ANNUAL: u8 = 6;
 
 /// The row of an equation at a region, a technology and a year, each a position in its set.

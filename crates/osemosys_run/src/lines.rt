@@ -3,11 +3,9 @@ ghost use Rattle.std.specs.Prelude.{◌≡◌, ◌++◌, IfOk, decimal};
 ghost use Rattle.osemosys_run.specs.Due.{words_line, stop_line, refusal_line};
 ghost use Rattle.osemosys_run.specs.MpsText.{line};
 
-use std::alloc::{AllocError, Global};
-
-use itoa::Buffer;
-
 use crate::status::{ReadStop, Refusal, WordFault};
+use itoa::Buffer;
+use std::alloc::{AllocError, Global};
 
 /// The line for words that ask for nothing: `words refused FAULT`.
 pub fn words_line(alloc: Global, fault: WordFault) -> Result<Vec<u8>, AllocError>

@@ -13,14 +13,12 @@ mod columns;
 mod lines;
 mod names;
 
-use std::alloc::{AllocError, Global};
-
-use row_core::{Row, Var, is_free};
-
 use crate::fixed_form::FirstFacts;
 use crate::mps::cells::sorted_cells;
 use crate::mps::columns::push_columns;
 use crate::mps::lines::{push_bound, push_rhs, push_row};
+use row_core::{Row, Var, is_free};
+use std::alloc::{AllocError, Global};
 
 /// The text of the rows, over the members that the facts name.
 pub fn mps_text(alloc: Global, facts: &FirstFacts, rows: &[Row]) -> Result<Vec<u8>, AllocError>

@@ -5,9 +5,8 @@ ghost use Rattle.io_edges.specs.Edges.{Lacks};
 ghost use Rattle.osemosys_run.specs.Reading.{IsWholeFile, IsTooLong};
 ghost use Rattle.osemosys_run.specs.declared.reading.ReadEnd.TheVariants.{Memory};
 
-use std::alloc::{AllocError, Global};
-
 use io_edges::{OpenFault, Shelf};
+use std::alloc::{AllocError, Global};
 
 /// The most bytes that a file may have: 64 MiB.
 pub const MOST_BYTES: usize = 67_108_864;
@@ -52,11 +51,7 @@ impl From<OpenFault> for ReadEnd {
 }
 
 /// Reads a file to its end, in rooms of 65,536 bytes. Every turn takes a byte, ends the file or fails.
-pub fn read_file<S: Shelf>(
-    alloc: Global,
-    name: &str,
-    shelf: &mut S,
-) -> Result<Vec<u8>, ReadEnd>
+pub fn read_file<S: Shelf>(alloc: Global, name: &str, shelf: &mut S) -> Result<Vec<u8>, ReadEnd>
     ensures whole { IfOk result (λ bytes. IsWholeFile (S.files shelf.old) name.now bytes.items (S.rest shelf.old) (S.rest shelf.new) (S.taken shelf.new)) }
 
     // When each refusal comes. Want of memory has no cause.

@@ -7,12 +7,10 @@ ghost use Rattle.osemosys_run.specs.FixedFormView.{facts_of};
 ghost use Rattle.osemosys_run.specs.MpsText.{HasWords};
 ghost use Rattle.osemosys_run.specs.RowsAdded.{AddsRows};
 
-use std::alloc::{AllocError, Global};
-
-use row_core::Row;
-
 use crate::capacity_rows::{Equation, row_at};
 use crate::fixed_form::FirstFacts;
+use row_core::Row;
+use std::alloc::{AllocError, Global};
 
 /// One row for each instance: CAa1 and then CAa2, each region by region, technology by technology and
 /// year by year in the order of the file.

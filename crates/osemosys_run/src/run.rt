@@ -6,16 +6,14 @@ ghost use Rattle.io_edges.specs.Told.{WhereTold};
 ghost use Rattle.osemosys_run.specs.Due.{Caused, CausedByFile, Delivers, Due, ReadsWhole};
 ghost use Rattle.osemosys_run.specs.FixedForm.{HasOneReading};
 
-use std::alloc::{AllocError, Global};
-
-use io_edges::{Shelf, Sink};
-
 use crate::answer::{Answer, answer_mps, refuse_input, refuse_words, stop_reading};
 use crate::fixed_form::one_reading;
 use crate::reading::{ReadEnd, read_file};
 use crate::sending::send;
 use crate::status::{ReadStop, Refusal, Status};
 use crate::words::{Command, read_command};
+use io_edges::{Shelf, Sink};
+use std::alloc::{AllocError, Global};
 
 /// The number of the first file that the words name.
 const FILE: u8 = 1;
@@ -65,11 +63,7 @@ pub fn osemosys<S: Shelf, K: Sink>(
 }
 
 // The answer to the words, with what the shelf holds.
-fn perform<S: Shelf>(
-    alloc: Global,
-    words: &[String],
-    shelf: &mut S,
-) -> Result<Answer, AllocError>
+fn perform<S: Shelf>(alloc: Global, words: &[String], shelf: &mut S) -> Result<Answer, AllocError>
     ensures caused { IfOk result (λ answer. Caused (map string_bytes words.now)
         (record { files = S.files shelf.old; rest = S.rest shelf.old; faults = S.faults shelf.old; begins = S.begins shelf.old; taken = S.taken shelf.old })
         (record { files = S.files shelf.new; rest = S.rest shelf.new; faults = S.faults shelf.new; begins = S.begins shelf.new; taken = S.taken shelf.new })

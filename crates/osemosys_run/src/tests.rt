@@ -1,16 +1,16 @@
 // Calls of the program over files and text in memory.
+use crate::{ReadStop, Refusal, Status, WordFault, osemosys};
+use io_edges::{MemShelf, MemSink};
 use std::alloc::Global;
 use std::test::Fail;
 
-use io_edges::{MemShelf, MemSink};
-
-use crate::{ReadStop, Refusal, Status, WordFault, osemosys};
-
 /// Two years, a life of two years, and a capacity of 7 and 3 from before.
-const FIRST: &[u8] = b"set REGION := R; set TECHNOLOGY := T; set YEAR := 2020 2021; param OperationalLife := R T 2; param ResidualCapacity := R T 2020 7 R T 2021 3;";
+const FIRST: &[u8] =
+    b"set REGION := R; set TECHNOLOGY := T; set YEAR := 2020 2021; param OperationalLife := R T 2; param ResidualCapacity := R T 2020 7 R T 2021 3;";
 
 /// The MPS text of that file, worked out by hand.
-const FIRST_TEXT: &[u8] = b"NAME OSEMOSYS\nROWS\n N COST\n* CAa1[R,T,2020]\n E R1\n* CAa1[R,T,2021]\n E R2\n* CAa2[R,T,2020]\n E R3\n* CAa2[R,T,2021]\n E R4\nCOLUMNS\n* NewCapacity[R,T,2020]\n C1 R1 -1\n C1 R2 -1\n* NewCapacity[R,T,2021]\n C2 R2 -1\n* AccumulatedNewCapacity[R,T,2020]\n C3 R1 1\n C3 R3 -1\n* AccumulatedNewCapacity[R,T,2021]\n C4 R2 1\n C4 R4 -1\n* TotalCapacityAnnual[R,T,2020]\n C5 R3 1\n* TotalCapacityAnnual[R,T,2021]\n C6 R4 1\nRHS\n RHS R3 7\n RHS R4 3\nENDATA\n";
+const FIRST_TEXT: &[u8] =
+    b"NAME OSEMOSYS\nROWS\n N COST\n* CAa1[R,T,2020]\n E R1\n* CAa1[R,T,2021]\n E R2\n* CAa2[R,T,2020]\n E R3\n* CAa2[R,T,2021]\n E R4\nCOLUMNS\n* NewCapacity[R,T,2020]\n C1 R1 -1\n C1 R2 -1\n* NewCapacity[R,T,2021]\n C2 R2 -1\n* AccumulatedNewCapacity[R,T,2020]\n C3 R1 1\n C3 R3 -1\n* AccumulatedNewCapacity[R,T,2021]\n C4 R2 1\n C4 R4 -1\n* TotalCapacityAnnual[R,T,2020]\n C5 R3 1\n* TotalCapacityAnnual[R,T,2021]\n C6 R4 1\nRHS\n RHS R3 7\n RHS R4 3\nENDATA\n";
 
 /// 64 MiB.
 const MOST: usize = 67_108_864;
@@ -45,13 +45,37 @@ fn words_that_ask_for_nothing_are_refused(rt: HostRuntime) -> Result<(), Fail> {
     let table: [(&[&str], WordFault, &[u8]); 9] = [
         (none, WordFault::NoCommand, b"words refused NoCommand\n"),
         (&[""], WordFault::BadCommand, b"words refused BadCommand\n"),
-        (&["solve", "first.dat"], WordFault::BadCommand, b"words refused BadCommand\n"),
-        (&["MPS", "first.dat"], WordFault::BadCommand, b"words refused BadCommand\n"),
+        (
+            &["solve", "first.dat"],
+            WordFault::BadCommand,
+            b"words refused BadCommand\n",
+        ),
+        (
+            &["MPS", "first.dat"],
+            WordFault::BadCommand,
+            b"words refused BadCommand\n",
+        ),
         (&["mps"], WordFault::BadForm, b"words refused BadForm\n"),
-        (&["mps", "first.dat", "b"], WordFault::BadForm, b"words refused BadForm\n"),
-        (&["mps", "--help"], WordFault::BadForm, b"words refused BadForm\n"),
-        (&["mps", "--"], WordFault::BadForm, b"words refused BadForm\n"),
-        (&["mps", "-x"], WordFault::BadForm, b"words refused BadForm\n"),
+        (
+            &["mps", "first.dat", "b"],
+            WordFault::BadForm,
+            b"words refused BadForm\n",
+        ),
+        (
+            &["mps", "--help"],
+            WordFault::BadForm,
+            b"words refused BadForm\n",
+        ),
+        (
+            &["mps", "--"],
+            WordFault::BadForm,
+            b"words refused BadForm\n",
+        ),
+        (
+            &["mps", "-x"],
+            WordFault::BadForm,
+            b"words refused BadForm\n",
+        ),
     ];
     for (words, fault, line) in table {
         let (status, out) = call(rt.alloc(), words, FIRST, &[])?;
@@ -91,7 +115,11 @@ fn texts_of_another_form_and_missing_files_are_refused(rt: HostRuntime) -> Resul
 fn a_shelf_that_fails_at_any_call_is_reported(rt: HostRuntime) -> Result<(), Fail> {
     for number in [1, 2, 3] {
         let (status, out) = call(rt.alloc(), &["mps", "first.dat"], FIRST, &[number])?;
-        assert_eq!(rt; status, Status::ReadFault(ReadStop::Failed(1)), "call {number}");
+        assert_eq!(rt;
+            status,
+            Status::ReadFault(ReadStop::Failed(1)),
+            "call {number}"
+        );
         assert_eq!(rt; out.bytes(), b"read fault file 1\n".as_slice());
     }
     let (status, _) = call(rt.alloc(), &["mps", "first.dat"], FIRST, &[4])?;

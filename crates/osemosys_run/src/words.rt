@@ -26,7 +26,9 @@ pub fn read_command(words: &[String]) -> Result<Command<'_>, WordFault>
         return Err(WordFault::BadCommand);
     }
     match others {
-        [file] if !is_option(file.as_str()) => Ok(Command::Mps { file: file.as_str() }),
+        [file] if !is_option(file.as_str()) => Ok(Command::Mps {
+            file: file.as_str(),
+        }),
         _ => Err(WordFault::BadForm),
     }
 }

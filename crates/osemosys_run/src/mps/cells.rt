@@ -3,9 +3,8 @@ ghost use Rattle.std.specs.Prelude.{◌≡◌, ◌++◌, IfOk, OnOk, List};
 ghost use Rattle.osemosys_run.specs.Columns.{cells_of, row_cells};
 ghost use Rattle.osemosys_run.specs.SortedCells.{AreSortedCells};
 
-use std::alloc::{AllocError, Global};
-
 use row_core::{Row, Var};
+use std::alloc::{AllocError, Global};
 
 /// An entry: its variable, its row's number and itself.
 #[derive(Clone, Copy, Debug)]

@@ -6,14 +6,12 @@ ghost use Rattle.osemosys_run.specs.Columns.{cell_lines, columns_from, continues
 ghost use Rattle.osemosys_run.specs.Due.{members_of};
 ghost use Rattle.osemosys_run.specs.FixedFormView.{facts_of};
 
-use std::alloc::{AllocError, Global};
-use std::cmp::Ordering;
-
-use row_core::Var;
-
 use crate::fixed_form::FirstFacts;
 use crate::mps::cells::Cell;
 use crate::mps::lines::{push_column_head, push_entry};
+use row_core::Var;
+use std::alloc::{AllocError, Global};
+use std::cmp::Ordering;
 
 /// Appends the columns, and answers their variables.
 pub fn push_columns(

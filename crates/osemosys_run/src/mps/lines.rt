@@ -6,14 +6,12 @@ ghost use Rattle.osemosys_run.specs.Due.{members_of};
 ghost use Rattle.osemosys_run.specs.FixedFormView.{facts_of};
 ghost use Rattle.osemosys_run.specs.MpsText.{HasWords, row_lines, entry_line, rhs_line_of, bound_line};
 
-use std::alloc::AllocError;
-
-use itoa::Buffer;
-use row_core::{Row, Sense, Var, is_free};
-
 use crate::fixed_form::FirstFacts;
 use crate::mps::cells::Cell;
 use crate::mps::names::{push_row_name, push_variable_name};
+use itoa::Buffer;
+use row_core::{Row, Sense, Var, is_free};
+use std::alloc::AllocError;
 
 /// The kind of TotalDiscountedCost, whose sum is the cost.
 const TOTAL_DISCOUNTED_COST: u8 = 37;

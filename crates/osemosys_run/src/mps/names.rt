@@ -6,12 +6,10 @@ ghost use Rattle.osemosys_run.specs.Due.{members_of};
 ghost use Rattle.osemosys_run.specs.FixedFormView.{facts_of, names_of};
 ghost use Rattle.osemosys_run.specs.MpsText.{full_name, members_text, subscripts, variable_name, row_name};
 
-use std::alloc::AllocError;
-
+use crate::fixed_form::{FirstFacts, Name};
 use itoa::Buffer;
 use row_core::{Index, RowName, Var, row_has, row_word, var_has, var_word};
-
-use crate::fixed_form::{FirstFacts, Name};
+use std::alloc::AllocError;
 
 /// How many subscripts an index has.
 const PLACES: usize = 8;
@@ -40,11 +38,7 @@ pub fn push_variable_name(
 }
 
 /// Appends a row's name.
-pub fn push_row_name(
-    out: &mut Vec<u8>,
-    facts: &FirstFacts,
-    name: RowName,
-) -> Result<(), AllocError>
+pub fn push_row_name(out: &mut Vec<u8>, facts: &FirstFacts, name: RowName) -> Result<(), AllocError>
     requires { IsEquation name.eq }
     ensures { OnOk result (out.new.items ≡ out.old.items ++ row_name (members_of (facts_of facts.now)) name) }
 {

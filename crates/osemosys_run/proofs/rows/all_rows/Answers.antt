@@ -9,6 +9,6 @@ use Rattle.osemosys_run.proofs.rows.all_rows.Goals as goal
 
 pub returns-clause-rows : goal.returns-clause-rows
 returns-clause-rows c =
-  let facts = facts_of c.args.facts.now in
-  let all : instances facts ≡ instances_of facts CAa1 ++ instances_of facts CAa2 = ap (λ (last : List Instance). instances_of facts CAa1 ++ last) (append-nil (instances_of facts CAa2)) in
-  added_to_none facts (instances facts) _ _ c.new-rows.ensures.items (adds_more facts _ _ _ _ _ _ all c.in_ok-add_rows.ensures c.in_ok-add_rows-2.ensures)
+    let facts = facts_of c.args.facts.now in
+    let all : instances facts ≡ instances_of facts CAa1 ++ instances_of facts CAa2 = ap (λ (last : List Instance). instances_of facts CAa1 ++ last) (append-nil (instances_of facts CAa2)) in
+    added_to_none facts (instances facts) _ _ c.new-rows.ensures.items (adds_more facts _ _ _ _ _ _ all c.in_ok-add_rows.ensures c.in_ok-add_rows-2.ensures)

@@ -8,32 +8,38 @@ use Rattle.osemosys_run.proofs.run.osemosys.Goals as goal
 
 pub returns-in-Ok-send-clause-due : goal.returns-in-Ok-send-clause-due
 returns-in-Ok-send-clause-due g c = λ files told calm.
-  let words = map string_bytes c.args.words.now in
-  let shelf = g.S.Shelf in
-  let old = c.args.shelf.now in
-  let new = c.perform.new.shelf in
-  let before : Sight = record { files = shelf.files old; rest = shelf.rest old; faults = shelf.faults old; begins = shelf.begins old; taken = shelf.taken old } in
-  let after : Sight = record { files = shelf.files new; rest = shelf.rest new; faults = shelf.faults new; begins = shelf.begins new; taken = shelf.taken new } in
-  let status = c.in-Ok.answer.status in
-  let text = c.in-Ok.answer.text.items in
-  let caused : Caused words before after status text = c.in-Ok.ensures.caused in
-  let sink = g.K.Sink in
-  let written : WhereTold (sink.written c.args.out.now) (λ bytes. sink.written c.send.new.out ≡ Some (bytes ++ text)) =
+    let words = map string_bytes c.args.words.now in
+    let shelf = g.S.Shelf in
+    let old = c.args.shelf.now in
+    let new = c.perform.new.shelf in
+    let before : Sight = record { files = shelf.files old; rest = shelf.rest old; faults = shelf.faults old; begins = shelf.begins old; taken = shelf.taken old } in
+    let after : Sight = record { files = shelf.files new; rest = shelf.rest new; faults = shelf.faults new; begins = shelf.begins new; taken = shelf.taken new } in
+    let status = c.in-Ok.answer.status in
+    let text = c.in-Ok.answer.text.items in
+    let caused : Caused words before after status text = c.in-Ok.ensures.caused in
+    let sink = g.K.Sink in
+    let written : WhereTold (sink.written c.args.out.now) (λ bytes. sink.written c.send.new.out ≡ Some (bytes ++ text)) =
     λ bytes is. subst (λ (t : List ℕ). sink.written c.send.new.out ≡ Some (bytes ++ t)) c.deref.ensures.value (c.in-Ok-send.ensures.sent bytes is) in
-  delivered (Due words files) status text (sink.written c.args.out.now) (sink.written c.send.new.out) (sink.faults c.args.out.now) (sink.faults c.send.new.out)
+    delivered (Due words files) status text (sink.written c.args.out.now) (sink.written c.send.new.out) (sink.faults c.args.out.now) (sink.faults c.send.new.out)
     (due_from_cause words before after files status text told calm caused) (is_answer words before after status text caused) written
 
 pub returns-in-Ok-clause-due : goal.returns-in-Ok-clause-due
 returns-in-Ok-clause-due g c = λ files told calm.
-  let words = map string_bytes c.args.words.now in
-  let shelf = g.S.Shelf in
-  let old = c.args.shelf.now in
-  let new = c.perform.new.shelf in
-  let before : Sight = record { files = shelf.files old; rest = shelf.rest old; faults = shelf.faults old; begins = shelf.begins old; taken = shelf.taken old } in
-  let after : Sight = record { files = shelf.files new; rest = shelf.rest new; faults = shelf.faults new; begins = shelf.begins new; taken = shelf.taken new } in
-  let status = c.in-Ok.answer.status in
-  let text = c.in-Ok.answer.text.items in
-  let caused : Caused words before after status text = c.in-Ok.ensures.caused in
-  let sink = g.K.Sink in
-  (c.in-Err-send.ensures.failed, (status, text, due_from_cause words before after files status text told calm caused,
-    λ bytes is. subst (λ (t : List ℕ). HoldsFrontOf t bytes (sink.written c.send.new.out)) c.deref.ensures.value (c.in-Err-send.ensures.cut bytes is)))
+    let words = map string_bytes c.args.words.now in
+    let shelf = g.S.Shelf in
+    let old = c.args.shelf.now in
+    let new = c.perform.new.shelf in
+    let before : Sight = record { files = shelf.files old; rest = shelf.rest old; faults = shelf.faults old; begins = shelf.begins old; taken = shelf.taken old } in
+    let after : Sight = record { files = shelf.files new; rest = shelf.rest new; faults = shelf.faults new; begins = shelf.begins new; taken = shelf.taken new } in
+    let status = c.in-Ok.answer.status in
+    let text = c.in-Ok.answer.text.items in
+    let caused : Caused words before after status text = c.in-Ok.ensures.caused in
+    let sink = g.K.Sink in (
+      c.in-Err-send.ensures.failed,
+      (
+        status,
+        text,
+        due_from_cause words before after files status text told calm caused,
+        λ bytes is. subst (λ (t : List ℕ). HoldsFrontOf t bytes (sink.written c.send.new.out)) c.deref.ensures.value (c.in-Err-send.ensures.cut bytes is),
+      ),
+    )
