@@ -96,6 +96,10 @@ pub record Sight : Type 0 where
   pub begins : ℕ
   pub taken : ℕ
 
+-- a sight by its parts
+abbrev pub sight : Option (List (List ℕ × List ℕ)) → Option (List ℕ) → ℕ → ℕ → ℕ → Sight
+sight files rest faults begins taken = record { files = files; rest = rest; faults = faults; begins = begins; taken = taken }
+
 -- for `mps` over the file of this name, between two sights of the shelf: the file was read to its end and this is due over its bytes,
 -- or it is too long, or missing, or the shelf failed and counted it
 abbrev pub CausedByFile : List ℕ → Sight → Sight → Status → List ℕ → Type 0

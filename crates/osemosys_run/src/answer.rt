@@ -33,7 +33,8 @@ pub fn answer_mps(alloc: Global, bytes: &[u8]) -> Result<Answer, AllocError>
 
 /// The answer to words that ask for nothing.
 pub fn refuse_words(alloc: Global, fault: WordFault) -> Result<Answer, AllocError>
-    ensures { IfOk result (λ answer. (answer.status ≡ Status.Words fault) × (answer.text.items ≡ words_line fault)) }
+    ensures { IfOk result (λ answer.
+        (answer.status ≡ Status.Words fault) × (answer.text.items ≡ words_line fault)) }
 {
     let text = words_line(alloc, fault)?;
     let status = Status::Words(fault);
@@ -42,7 +43,8 @@ pub fn refuse_words(alloc: Global, fault: WordFault) -> Result<Answer, AllocErro
 
 /// The answer where a file couldn't be read.
 pub fn stop_reading(alloc: Global, stop: ReadStop) -> Result<Answer, AllocError>
-    ensures { IfOk result (λ answer. (answer.status ≡ Status.ReadFault stop) × (answer.text.items ≡ stop_line stop)) }
+    ensures { IfOk result (λ answer.
+        (answer.status ≡ Status.ReadFault stop) × (answer.text.items ≡ stop_line stop)) }
 {
     let text = stop_line(alloc, stop)?;
     let status = Status::ReadFault(stop);
@@ -51,7 +53,8 @@ pub fn stop_reading(alloc: Global, stop: ReadStop) -> Result<Answer, AllocError>
 
 /// The answer where a rule for the input failed.
 pub fn refuse_input(alloc: Global, refusal: Refusal) -> Result<Answer, AllocError>
-    ensures { IfOk result (λ answer. (answer.status ≡ Status.Refused refusal) × (answer.text.items ≡ refusal_line refusal)) }
+    ensures { IfOk result (λ answer.
+        (answer.status ≡ Status.Refused refusal) × (answer.text.items ≡ refusal_line refusal)) }
 {
     let text = refusal_line(alloc, refusal)?;
     let status = Status::Refused(refusal);

@@ -44,7 +44,8 @@ pub fn row_at(
 ) -> Result<Row, AllocError>
     requires well_formed { IsWellFormed (facts_of facts.now) }
     requires at { IsAt (facts_of facts.now) region tech year }
-    ensures row { IfOk result (λ row. IsRowOf (facts_of facts.now) (record { equation = equation; region = region; tech = tech; year = year }) row) }
+    ensures row { IfOk result (IsRowOf (facts_of facts.now)
+        (record { equation = equation; region = region; tech = tech; year = year })) }
     ensures words { IfOk result HasWords }
 {
     match equation {
@@ -63,7 +64,8 @@ fn accumulated_row(
 ) -> Result<Row, AllocError>
     requires well_formed { IsWellFormed (facts_of facts.now) }
     requires at { IsAt (facts_of facts.now) region tech year }
-    ensures row { IfOk result (λ row. IsRowOf (facts_of facts.now) (record { equation = Equation.CAa1; region = region; tech = tech; year = year }) row) }
+    ensures row { IfOk result (IsRowOf (facts_of facts.now)
+        (record { equation = Equation.CAa1; region = region; tech = tech; year = year })) }
     ensures words { IfOk result HasWords }
 {
     let entries = accumulated_entries(alloc, facts, region, tech, year)?;
@@ -85,7 +87,8 @@ fn total_row(
 ) -> Result<Row, AllocError>
     requires well_formed { IsWellFormed (facts_of facts.now) }
     requires at { IsAt (facts_of facts.now) region tech year }
-    ensures row { IfOk result (λ row. IsRowOf (facts_of facts.now) (record { equation = Equation.CAa2; region = region; tech = tech; year = year }) row) }
+    ensures row { IfOk result (IsRowOf (facts_of facts.now)
+        (record { equation = Equation.CAa2; region = region; tech = tech; year = year })) }
     ensures words { IfOk result HasWords }
 {
     let entries = total_entries(alloc, region, tech, year)?;
@@ -107,7 +110,8 @@ fn accumulated_entries(
 ) -> Result<Vec<(Var, i128)>, AllocError>
     requires well_formed { IsWellFormed (facts_of facts.now) }
     requires at { IsAt (facts_of facts.now) region tech year }
-    ensures { IfOk result (λ entries. entries.items ≡ accumulated_entries region tech year (years_counting (facts_of facts.now) region tech year)) }
+    ensures { IfOk result (λ entries. entries.items
+        ≡ accumulated_entries region tech year (years_counting (facts_of facts.now) region tech year)) }
 {
     let mut entries = new_capacities(alloc, facts, region, tech, year)?;
     entries.push((variable(ACCUMULATED_NEW_CAPACITY, region, tech, year), 1))?;
@@ -121,7 +125,8 @@ fn total_entries(
     tech: u16,
     year: u16,
 ) -> Result<Vec<(Var, i128)>, AllocError>
-    ensures { IfOk result (λ entries. entries.items ≡ total_entries region tech year) }
+    ensures { IfOk result (λ entries. entries.items
+        ≡ total_entries region tech year) }
 {
     let mut entries = Vec::new(alloc);
     entries.push((variable(ACCUMULATED_NEW_CAPACITY, region, tech, year), -1))?;
@@ -139,7 +144,8 @@ fn new_capacities(
 ) -> Result<Vec<(Var, i128)>, AllocError>
     requires well_formed { IsWellFormed (facts_of facts.now) }
     requires at { IsAt (facts_of facts.now) region tech year }
-    ensures { IfOk result (λ entries. entries.items ≡ minus_new_capacities region tech (years_counting (facts_of facts.now) region tech year)) }
+    ensures { IfOk result (λ entries. entries.items
+        ≡ minus_new_capacities region tech (years_counting (facts_of facts.now) region tech year)) }
 {
     let mut entries = Vec::new(alloc);
     for built in 0..facts.years.len() {

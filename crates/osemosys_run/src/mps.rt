@@ -40,7 +40,8 @@ pub fn mps_text(alloc: Global, facts: &FirstFacts, rows: &[Row]) -> Result<Vec<u
 // The names and senses of all rows.
 fn push_rows(out: &mut Vec<u8>, facts: &FirstFacts, rows: &[Row]) -> Result<(), AllocError>
     requires { AllByRecursion HasWords rows.now }
-    ensures { OnOk result (out.new.items ≡ out.old.items ++ flat_map (row_lines (members_of (facts_of facts.now))) (numbered rows.now)) }
+    ensures { OnOk result (out.new.items
+        ≡ out.old.items ++ flat_map (row_lines (members_of (facts_of facts.now))) (numbered rows.now)) }
 {
     for (place, row) in rows.iter().enumerate() {
         push_row(out, facts, place as u64 + 1, row)?;
@@ -86,7 +87,8 @@ fn any_free(columns: &[Var]) -> bool
 // The free columns.
 fn push_free_columns(out: &mut Vec<u8>, columns: &[Var]) -> Result<(), AllocError>
     requires { AllByRecursion (λ v. IsKind v.kind) columns.now }
-    ensures { OnOk result (out.new.items ≡ out.old.items ++ flat_map bound_line (numbered columns.now)) }
+    ensures { OnOk result (out.new.items
+        ≡ out.old.items ++ flat_map bound_line (numbered columns.now)) }
 {
     for (place, column) in columns.iter().enumerate() {
         push_bound(out, place as u64 + 1, *column)?;

@@ -52,14 +52,16 @@ impl From<OpenFault> for ReadEnd {
 
 /// Reads a file to its end, in rooms of 65,536 bytes. Every turn takes a byte, ends the file or fails.
 pub fn read_file<S: Shelf>(alloc: Global, name: &str, shelf: &mut S) -> Result<Vec<u8>, ReadEnd>
-    ensures whole { IfOk result (λ bytes. IsWholeFile (S.files shelf.old) name.now bytes.items (S.rest shelf.old) (S.rest shelf.new) (S.taken shelf.new)) }
+    ensures whole { IfOk result (λ bytes. IsWholeFile (S.files shelf.old) name.now bytes.items
+        (S.rest shelf.old) (S.rest shelf.new) (S.taken shelf.new)) }
 
     // When each refusal comes. Want of memory has no cause.
     ensures no_file { IsErrOf result ReadEnd.NoFile → Lacks (S.files shelf.old) name.now }
     ensures missing { Lacks (S.files shelf.old) name.now → ¬ Rose (S.faults shelf.old) (S.faults shelf.new)
         → IsErrOf result ReadEnd.NoFile ⊎ IsErrOf result ReadEnd.Memory }
     ensures failed { IsErrOf result ReadEnd.Failed → Rose (S.faults shelf.old) (S.faults shelf.new) }
-    ensures too_long { IsErrOf result ReadEnd.TooLong → IsTooLong (S.files shelf.old) name.now (S.taken shelf.new) }
+    ensures too_long { IsErrOf result ReadEnd.TooLong
+        → IsTooLong (S.files shelf.old) name.now (S.taken shelf.new) }
 
     // What stays, and what is counted.
     ensures files { S.files shelf.new ≡ S.files shelf.old }

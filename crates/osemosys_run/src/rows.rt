@@ -16,7 +16,8 @@ use std::alloc::{AllocError, Global};
 /// year by year in the order of the file.
 pub fn all_rows(alloc: Global, facts: &FirstFacts) -> Result<Vec<Row>, AllocError>
     requires { IsWellFormed (facts_of facts.now) }
-    ensures rows { IfOk result (λ rows. AreRowsOf (facts_of facts.now) (instances (facts_of facts.now)) rows.items) }
+    ensures rows { IfOk result (λ rows.
+        AreRowsOf (facts_of facts.now) (instances (facts_of facts.now)) rows.items) }
     ensures words { IfOk result (λ rows. AllByRecursion HasWords rows.items) }
 {
     let mut rows = Vec::new(alloc);
@@ -33,7 +34,8 @@ fn add_rows(
     rows: &mut Vec<Row>,
 ) -> Result<(), AllocError>
     requires { IsWellFormed (facts_of facts.now) }
-    ensures { OnOk result (AddsRows (facts_of facts.now) (instances_of (facts_of facts.now) equation) rows.old.items rows.new.items) }
+    ensures { OnOk result (AddsRows (facts_of facts.now)
+        (instances_of (facts_of facts.now) equation) rows.old.items rows.new.items) }
 {
     for region in 0..facts.regions.len() {
         add_region_rows(alloc, facts, equation, region as u16, rows)?;
@@ -51,7 +53,8 @@ fn add_region_rows(
 ) -> Result<(), AllocError>
     requires well_formed { IsWellFormed (facts_of facts.now) }
     requires region_there { region < length (facts_of facts.now).regions }
-    ensures { OnOk result (AddsRows (facts_of facts.now) (region_instances (facts_of facts.now) equation region) rows.old.items rows.new.items) }
+    ensures { OnOk result (AddsRows (facts_of facts.now)
+        (region_instances (facts_of facts.now) equation region) rows.old.items rows.new.items) }
 {
     for tech in 0..facts.technologies.len() {
         add_tech_rows(alloc, facts, equation, region, tech as u16, rows)?;
@@ -71,7 +74,8 @@ fn add_tech_rows(
     requires well_formed { IsWellFormed (facts_of facts.now) }
     requires region_there { region < length (facts_of facts.now).regions }
     requires tech_there { tech < length (facts_of facts.now).technologies }
-    ensures { OnOk result (AddsRows (facts_of facts.now) (tech_instances (facts_of facts.now) equation region tech) rows.old.items rows.new.items) }
+    ensures { OnOk result (AddsRows (facts_of facts.now)
+        (tech_instances (facts_of facts.now) equation region tech) rows.old.items rows.new.items) }
 {
     for year in 0..facts.years.len() {
         rows.push(row_at(alloc, facts, equation, region, tech, year as u16)?)?;

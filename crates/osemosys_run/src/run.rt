@@ -3,7 +3,7 @@ ghost use Rattle.std.specs.Prelude.{◌≡◌, ◌≤◌, List, ℕ, IfOk, map};
 ghost use Rattle.std.specs.String.{string_bytes};
 ghost use Rattle.io_edges.specs.Count.{Rose, counted};
 ghost use Rattle.io_edges.specs.Told.{WhereTold};
-ghost use Rattle.osemosys_run.specs.Due.{Caused, CausedByFile, Delivers, Due, ReadsWhole};
+ghost use Rattle.osemosys_run.specs.Due.{Caused, CausedByFile, Delivers, Due, ReadsWhole, sight};
 ghost use Rattle.osemosys_run.specs.FixedForm.{HasOneReading};
 
 use crate::answer::{Answer, answer_mps, refuse_input, refuse_words, stop_reading};
@@ -30,18 +30,25 @@ pub fn osemosys<S: Shelf, K: Sink>(
     shelf: &mut S,
     out: &mut K,
 ) -> Status
-    // Over a shelf that tells its files and had no fault, status and text are those that are due for the words and the files.
-    ensures due { WhereTold (S.files shelf.old) (λ files. (Rose (S.faults shelf.old) (S.faults shelf.new) → ⊥)
-        → Delivers (Due (map string_bytes words.now) files) result (K.written out.old) (K.written out.new) (K.faults out.old) (K.faults out.new)) }
+    // Over a shelf that tells its files and had no fault, status and text are those that are due for
+    // the words and the files.
+    ensures due { WhereTold (S.files shelf.old) (λ files.
+        (Rose (S.faults shelf.old) (S.faults shelf.new) → ⊥)
+        → Delivers (Due (map string_bytes words.now) files) result
+        (K.written out.old) (K.written out.new) (K.faults out.old) (K.faults out.new)) }
 
     // Over any shelf and any sink, status and text have their cause.
     ensures caused { Delivers (Caused (map string_bytes words.now)
-        (record { files = S.files shelf.old; rest = S.rest shelf.old; faults = S.faults shelf.old; begins = S.begins shelf.old; taken = S.taken shelf.old })
-        (record { files = S.files shelf.new; rest = S.rest shelf.new; faults = S.faults shelf.new; begins = S.begins shelf.new; taken = S.taken shelf.new }))
-        result (K.written out.old) (K.written out.new) (K.faults out.old) (K.faults out.new) }
+        (sight (S.files shelf.old) (S.rest shelf.old)
+        (S.faults shelf.old) (S.begins shelf.old) (S.taken shelf.old))
+        (sight (S.files shelf.new) (S.rest shelf.new)
+        (S.faults shelf.new) (S.begins shelf.new) (S.taken shelf.new)))
+        result
+        (K.written out.old) (K.written out.new) (K.faults out.old) (K.faults out.new) }
 
     // The file was read to its end.
-    ensures read_whole { WhereTold (S.files shelf.old) (λ files. (Rose (S.faults shelf.old) (S.faults shelf.new) → ⊥)
+    ensures read_whole { WhereTold (S.files shelf.old) (λ files.
+        (Rose (S.faults shelf.old) (S.faults shelf.new) → ⊥)
         → ReadsWhole (map string_bytes words.now) files result (S.rest shelf.new)) }
 
     // What a text says is one thing.
@@ -52,6 +59,7 @@ pub fn osemosys<S: Shelf, K: Sink>(
     ensures read_faults { S.faults shelf.old ≤ S.faults shelf.new }
     ensures write_faults { K.faults out.old ≤ K.faults out.new }
 {
+    // The law that the clause of its name states.
     one_reading();
     match perform(alloc, words, shelf) {
         Ok(answer) => match send(&answer.text, out) {
@@ -65,8 +73,10 @@ pub fn osemosys<S: Shelf, K: Sink>(
 // The answer to the words, with what the shelf holds.
 fn perform<S: Shelf>(alloc: Global, words: &[String], shelf: &mut S) -> Result<Answer, AllocError>
     ensures caused { IfOk result (λ answer. Caused (map string_bytes words.now)
-        (record { files = S.files shelf.old; rest = S.rest shelf.old; faults = S.faults shelf.old; begins = S.begins shelf.old; taken = S.taken shelf.old })
-        (record { files = S.files shelf.new; rest = S.rest shelf.new; faults = S.faults shelf.new; begins = S.begins shelf.new; taken = S.taken shelf.new })
+        (sight (S.files shelf.old) (S.rest shelf.old)
+        (S.faults shelf.old) (S.begins shelf.old) (S.taken shelf.old))
+        (sight (S.files shelf.new) (S.rest shelf.new)
+        (S.faults shelf.new) (S.begins shelf.new) (S.taken shelf.new))
         answer.status answer.text.items) }
     ensures files { S.files shelf.new ≡ S.files shelf.old }
     ensures faults { S.faults shelf.old ≤ S.faults shelf.new }
@@ -80,8 +90,10 @@ fn perform<S: Shelf>(alloc: Global, words: &[String], shelf: &mut S) -> Result<A
 // The answer of `mps` over the file of this name.
 fn perform_mps<S: Shelf>(alloc: Global, file: &str, shelf: &mut S) -> Result<Answer, AllocError>
     ensures caused { IfOk result (λ answer. CausedByFile file.now
-        (record { files = S.files shelf.old; rest = S.rest shelf.old; faults = S.faults shelf.old; begins = S.begins shelf.old; taken = S.taken shelf.old })
-        (record { files = S.files shelf.new; rest = S.rest shelf.new; faults = S.faults shelf.new; begins = S.begins shelf.new; taken = S.taken shelf.new })
+        (sight (S.files shelf.old) (S.rest shelf.old)
+        (S.faults shelf.old) (S.begins shelf.old) (S.taken shelf.old))
+        (sight (S.files shelf.new) (S.rest shelf.new)
+        (S.faults shelf.new) (S.begins shelf.new) (S.taken shelf.new))
         answer.status answer.text.items) }
     ensures files { S.files shelf.new ≡ S.files shelf.old }
     ensures begins { S.begins shelf.new ≡ counted (S.begins shelf.old) }

@@ -22,7 +22,8 @@ pub fn push_columns(
 ) -> Result<Vec<Var>, AllocError>
     requires { AllByRecursion (λ c. IsKind c.variable.kind) cells.now }
     ensures columns { IfOk result (λ columns. columns.items ≡ columns_from None cells.now) }
-    ensures text { OnOk result (out.new.items ≡ out.old.items ++ cell_lines (members_of (facts_of facts.now)) 0 None cells.now) }
+    ensures text { OnOk result (out.new.items
+        ≡ out.old.items ++ cell_lines (members_of (facts_of facts.now)) 0 None cells.now) }
 {
     let mut columns = Vec::new(alloc);
     let mut before = None;

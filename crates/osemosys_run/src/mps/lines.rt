@@ -24,7 +24,8 @@ pub fn push_row(
     row: &Row,
 ) -> Result<(), AllocError>
     requires { HasWords row.now }
-    ensures { OnOk result (out.new.items ≡ out.old.items ++ row_lines (members_of (facts_of facts.now)) (number, row.now)) }
+    ensures { OnOk result (out.new.items
+        ≡ out.old.items ++ row_lines (members_of (facts_of facts.now)) (number, row.now)) }
 {
     out.extend_from_slice(b"* ")?;
     push_row_name(out, facts, row.name)?;
@@ -46,7 +47,8 @@ pub fn push_column_head(
     variable: Var,
 ) -> Result<(), AllocError>
     requires { IsKind variable.kind }
-    ensures { OnOk result (out.new.items ≡ out.old.items ++ column_head (members_of (facts_of facts.now)) (column, variable)) }
+    ensures { OnOk result (out.new.items
+        ≡ out.old.items ++ column_head (members_of (facts_of facts.now)) (column, variable)) }
 {
     out.extend_from_slice(b"* ")?;
     push_variable_name(out, facts, variable)?;
@@ -61,7 +63,8 @@ pub fn push_column_head(
 
 /// Appends an entry in a column.
 pub fn push_entry(out: &mut Vec<u8>, column: u64, cell: &Cell) -> Result<(), AllocError>
-    ensures { OnOk result (out.new.items ≡ out.old.items ++ entry_line column cell.now.row cell.now.number) }
+    ensures { OnOk result (out.new.items
+        ≡ out.old.items ++ entry_line column cell.now.row cell.now.number) }
 {
     out.extend_from_slice(b" C")?;
     push_number(out, column)?;

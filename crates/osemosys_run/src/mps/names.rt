@@ -21,7 +21,8 @@ pub fn push_variable_name(
     variable: Var,
 ) -> Result<(), AllocError>
     requires { IsKind variable.kind }
-    ensures { OnOk result (out.new.items ≡ out.old.items ++ variable_name (members_of (facts_of facts.now)) variable) }
+    ensures { OnOk result (out.new.items
+        ≡ out.old.items ++ variable_name (members_of (facts_of facts.now)) variable) }
 {
     let kind = variable.kind;
     let has = [
@@ -40,7 +41,8 @@ pub fn push_variable_name(
 /// Appends a row's name.
 pub fn push_row_name(out: &mut Vec<u8>, facts: &FirstFacts, name: RowName) -> Result<(), AllocError>
     requires { IsEquation name.eq }
-    ensures { OnOk result (out.new.items ≡ out.old.items ++ row_name (members_of (facts_of facts.now)) name) }
+    ensures { OnOk result (out.new.items
+        ≡ out.old.items ++ row_name (members_of (facts_of facts.now)) name) }
 {
     let eq = name.eq;
     let has = [
@@ -64,7 +66,8 @@ fn push_full_name(
     has: &[bool; PLACES],
     index: Index,
 ) -> Result<(), AllocError>
-    ensures { OnOk result (out.new.items ≡ out.old.items ++ full_name (members_of (facts_of facts.now)) word.now (λ place. slice_index_or has.now place false) index) }
+    ensures { OnOk result (out.new.items
+        ≡ out.old.items ++ full_name (members_of (facts_of facts.now)) word.now (λ place. slice_index_or has.now place false) index) }
 {
     out.extend_from_slice(word.as_bytes())?;
     out.extend_from_slice(b"[")?;
@@ -80,7 +83,8 @@ fn push_members(
     has: &[bool; PLACES],
     index: Index,
 ) -> Result<(), AllocError>
-    ensures { OnOk result (out.new.items ≡ out.old.items ++ members_text (members_of (facts_of facts.now)) (λ place. slice_index_or has.now place false) index 8) }
+    ensures { OnOk result (out.new.items
+        ≡ out.old.items ++ members_text (members_of (facts_of facts.now)) (λ place. slice_index_or has.now place false) index 8) }
 {
     let positions = subscripts(index);
     let mut first = true;
@@ -111,7 +115,8 @@ fn push_member(
     place: usize,
     position: u16,
 ) -> Result<(), AllocError>
-    ensures { OnOk result (out.new.items ≡ out.old.items ++ slice_index_or (members_of (facts_of facts.now) place) position []) }
+    ensures { OnOk result (out.new.items
+        ≡ out.old.items ++ slice_index_or (members_of (facts_of facts.now) place) position []) }
 {
     match place {
         0 | 1 => push_name(out, &facts.regions, position),
@@ -123,7 +128,8 @@ fn push_member(
 
 // The name at a position, if there is one.
 fn push_name(out: &mut Vec<u8>, names: &[Name], position: u16) -> Result<(), AllocError>
-    ensures { OnOk result (out.new.items ≡ out.old.items ++ slice_index_or (names_of names.now) position []) }
+    ensures { OnOk result (out.new.items
+        ≡ out.old.items ++ slice_index_or (names_of names.now) position []) }
 {
     match names.get(position as usize) {
         Some(name) => out.extend_from_slice(&name.bytes),
@@ -133,7 +139,8 @@ fn push_name(out: &mut Vec<u8>, names: &[Name], position: u16) -> Result<(), All
 
 // The year at a position, if there is one.
 fn push_year(out: &mut Vec<u8>, years: &[u16], position: u16) -> Result<(), AllocError>
-    ensures { OnOk result (out.new.items ≡ out.old.items ++ slice_index_or (map decimal years.now) position []) }
+    ensures { OnOk result (out.new.items
+        ≡ out.old.items ++ slice_index_or (map decimal years.now) position []) }
 {
     match years.get(position as usize) {
         Some(year) => out.extend_from_slice(Buffer::new().format(*year).as_bytes()),
