@@ -2,6 +2,7 @@ pub mod ArithmeticLaws
 mod Examples
 pub mod GcdLaws
 pub mod Integers
+pub mod OddLaws
 pub mod OperationLaws
 pub mod OrderLaws
 pub mod RangeLaws
