@@ -1,5 +1,5 @@
 -- Factors of 2: the greatest common divisor by odd parts and differences.
-use Rattle.std.proofs.Common.{◌≡◌, ℕ, zero, suc, ◌+◌, ◌-◌, ◌*◌, ◌/◌, ◌%◌, ◌^◌, ◌<◌, ◌≤◌, max, min, sym, refl, ap, ap₂, ◌∙◌, subst, inl, inr, arith}
+use Rattle.std.proofs.Common.{◌≡◌, ℕ, zero, suc, ◌+◌, ◌-◌, ◌*◌, ◌/◌, ◌%◌, ◌^◌, ◌<◌, max, min, sym, refl, ap, ap₂, ◌∙◌, inl, inr, arith}
 use Rattle.std.specs.Int.{abs_diff}
 use Rattle.std.specs.Int.Count.{count_trailing_zeros, under}
 use Rattle.std.proofs.lemmas.Bool.{cases_lt}
@@ -56,58 +56,58 @@ odd_part-shares n t b e h =
 -- ---- one step: the smaller number and the odd part of the difference
 pub gap_step : (a b : ℕ) → gcd_of (abs_diff a b) (min a b) ≡ gcd_of a b
 gap_step a b = elim (cases_lt a b) [
-      inl lt ↦
-        let gap : abs_diff a b ≡ b - a = omega arith in
-        let least : min a b ≡ a = omega arith in
-        ap₂ gcd_of gap least ∙ gcd_of-sub b a (omega arith) ∙ gcd_of_comm b a
-    | inr ge ↦
-        let gap : abs_diff a b ≡ a - b = omega arith in
-        let least : min a b ≡ b = omega arith in
-        ap₂ gcd_of gap least ∙ gcd_of-sub a b ge
-    ]
+  | inl lt ↦
+      let gap : abs_diff a b ≡ b - a = omega arith in
+      let least : min a b ≡ a = omega arith in
+      ap₂ gcd_of gap least ∙ gcd_of-sub b a (omega arith) ∙ gcd_of_comm b a
+  | inr ge ↦
+      let gap : abs_diff a b ≡ a - b = omega arith in
+      let least : min a b ≡ b = omega arith in
+      ap₂ gcd_of gap least ∙ gcd_of-sub a b ge
+]
 
 -- the greater number and the smaller
 pub ordered : (a b : ℕ) → gcd_of (max a b) (min a b) ≡ gcd_of a b
 ordered a b = elim (cases_lt a b) [
-      inl lt ↦
-        let most : max a b ≡ b = omega arith in
-        let least : min a b ≡ a = omega arith in
-        ap₂ gcd_of most least ∙ gcd_of_comm b a
-    | inr ge ↦
-        let most : max a b ≡ a = omega arith in
-        let least : min a b ≡ b = omega arith in
-        ap₂ gcd_of most least
-    ]
+  | inl lt ↦
+      let most : max a b ≡ b = omega arith in
+      let least : min a b ≡ a = omega arith in
+      ap₂ gcd_of most least ∙ gcd_of_comm b a
+  | inr ge ↦
+      let most : max a b ≡ a = omega arith in
+      let least : min a b ≡ b = omega arith in
+      ap₂ gcd_of most least
+]
 
 pub min_odd : (a b : ℕ) → a % 2 ≡ 1 → b % 2 ≡ 1 → min a b % 2 ≡ 1
 min_odd a b p q = elim (cases_lt a b) [
-      inl lt ↦ let least : min a b ≡ a = omega arith in ap (λ m. m % 2) least ∙ p
-    | inr ge ↦ let least : min a b ≡ b = omega arith in ap (λ m. m % 2) least ∙ q
-    ]
+  | inl lt ↦ let least : min a b ≡ a = omega arith in ap (λ m. m % 2) least ∙ p
+  | inr ge ↦ let least : min a b ≡ b = omega arith in ap (λ m. m % 2) least ∙ q
+]
 
 -- ---- the factors of 2 that both have
 twos_left : (x y i k : ℕ) → x % 2 ≡ 1 → gcd_of (x * 2 ^ i) (y * 2 ^ (i + k)) ≡ gcd_of x y * 2 ^ i
 twos_left x y i k p =
     let e : y * 2 ^ (i + k) ≡ 2 ^ i * (y * 2 ^ k) = omega (arith, ap (λ m. y * m) (pow-add 2 i k)) in
     ap₂ gcd_of (mul_comm x (2 ^ i)) e ∙ gcd_of-mul x (y * 2 ^ k) (2 ^ i)
-      ∙ ap (λ m. 2 ^ i * m) (gcd_of-mul_coprime x y (2 ^ k) (gcd_of_comm x (2 ^ k) ∙ pow-coprime k x p)) ∙ mul_comm (2 ^ i) (gcd_of x y)
+    ∙ ap (λ m. 2 ^ i * m) (gcd_of-mul_coprime x y (2 ^ k) (gcd_of_comm x (2 ^ k) ∙ pow-coprime k x p)) ∙ mul_comm (2 ^ i) (gcd_of x y)
 
 pub twos_both : (x y i j : ℕ) → x % 2 ≡ 1 → y % 2 ≡ 1 → gcd_of (x * 2 ^ i) (y * 2 ^ j) ≡ gcd_of x y * 2 ^ min i j
 twos_both x y i j p q = elim (cases_lt i j) [
-      inl lt ↦
-        let least : min i j ≡ i = omega arith in
-        let e : i + (j - i) ≡ j = omega arith in
-        ap (λ n. gcd_of (x * 2 ^ i) (y * 2 ^ n)) (sym e) ∙ twos_left x y i (j - i) p ∙ ap (λ n. gcd_of x y * 2 ^ n) (sym least)
-    | inr ge ↦
-        let least : min i j ≡ j = omega arith in
-        let e : j + (i - j) ≡ i = omega arith in
-        gcd_of_comm (x * 2 ^ i) (y * 2 ^ j) ∙ ap (λ n. gcd_of (y * 2 ^ j) (x * 2 ^ n)) (sym e) ∙ twos_left y x j (i - j) q
-          ∙ ap₂ ◌*◌ (gcd_of_comm y x) (ap (λ n. 2 ^ n) (sym least))
-    ]
+  | inl lt ↦
+      let least : min i j ≡ i = omega arith in
+      let e : i + (j - i) ≡ j = omega arith in
+      ap (λ n. gcd_of (x * 2 ^ i) (y * 2 ^ n)) (sym e) ∙ twos_left x y i (j - i) p ∙ ap (λ n. gcd_of x y * 2 ^ n) (sym least)
+  | inr ge ↦
+      let least : min i j ≡ j = omega arith in
+      let e : j + (i - j) ≡ i = omega arith in
+      gcd_of_comm (x * 2 ^ i) (y * 2 ^ j) ∙ ap (λ n. gcd_of (y * 2 ^ j) (x * 2 ^ n)) (sym e) ∙ twos_left y x j (i - j) q
+      ∙ ap₂ ◌*◌ (gcd_of_comm y x) (ap (λ n. 2 ^ n) (sym least))
+]
 
 -- of two numbers of k bits, from their odd parts and the lesser count of zeros
 pub twos_shared : (k a b : ℕ) → 0 < a → 0 < b → a < 2 ^ k → b < 2 ^ k →
-  gcd_of (a / 2 ^ count_trailing_zeros k a) (b / 2 ^ count_trailing_zeros k b) * 2 ^ min (count_trailing_zeros k a) (count_trailing_zeros k b) ≡ gcd_of a b
+    gcd_of (a / 2 ^ count_trailing_zeros k a) (b / 2 ^ count_trailing_zeros k b) * 2 ^ min (count_trailing_zeros k a) (count_trailing_zeros k b) ≡ gcd_of a b
 twos_shared k a b p q h g =
     let i : ℕ = count_trailing_zeros k a in
     let j : ℕ = count_trailing_zeros k b in

@@ -1,17 +1,17 @@
 -- What sums and products of fractions form, and that it is their value.
-use Rattle.std.proofs.Common.{◌≡◌, ◌≢◌, ℕ, zero, suc, ◌+◌, ◌-◌, ◌*◌, ◌<◌, ℤ, pos, negsuc, neg_ℤ, ◌+ℤ◌, ◌*ℤ◌, Bool, true, false, ◌&&◌, sym, refl, ap, ap₂, ◌∙◌, subst, inl, inr, arith, lit<}
-use Rattle.std.specs.Prelude.{unsigned_abs, int_div, ◌<ℤ◌, nat_lt, ◌^◌}
+use Rattle.std.proofs.Common.{◌≡◌, ◌≢◌, ℕ, zero, suc, ◌+◌, ◌-◌, ◌*◌, ◌<◌, ℤ, pos, negsuc, ◌+ℤ◌, ◌*ℤ◌, Bool, true, false, ◌&&◌, sym, refl, ap, ap₂, ◌∙◌, subst, inl, inr, arith, lit<}
+use Rattle.std.specs.Prelude.{unsigned_abs, int_div, ◌<ℤ◌}
 use Rattle.std.specs.Int.{◌∣◌}
 use Rattle.std.proofs.lemmas.Bool.{cases_lt, cases_eq}
 use Rattle.std.proofs.lemmas.Int.{ints, unsigned_abs-mul}
-use Rattle.std.proofs.lemmas.Nat.Gcd.{dvd_trans, dvd_refl, dvd_antisymm}
-use Rattle.std.proofs.Math.Nat.{dvd-mul_right, dvd-mul_left_of_dvd, dvd-mul_right_of_dvd, dvd-add, dvd-sub, mul_comm, eq-one_of_dvd-one, one-dvd}
+use Rattle.std.proofs.lemmas.Nat.Gcd.{dvd_trans, dvd_refl}
+use Rattle.std.proofs.Math.Nat.{dvd-mul_right, dvd-mul_left_of_dvd, dvd-add, dvd-sub, eq-one_of_dvd-one, one-dvd}
 use Rattle.exact_num.specs.Formed.{common, sum_formed, difference_formed, product_formed}
 use Rattle.exact_num.specs.Gcd.{gcd_of}
 use Rattle.exact_num.specs.Range.{InRange, in_range, all_fit}
 use Rattle.exact_num.specs.Rational.{Rational, IsLowest, pair, lowest, whole, negated, plus, times}
 use Rattle.exact_num.proofs.GcdLaws.{gcd_of-mul_coprime, gcd_of_comm, gcd_of-dvd_left, gcd_of-dvd_right, gcd_of_pos_right, dvd-gcd_of, coprime-div, coprime-mul, mul-coprime, coprime_of_dvd, dvd_from_coprime, gcd_of-one, one-gcd_of}
-use Rattle.exact_num.proofs.Integers.{unsigned_abs-neg_ℤ, unsigned_abs-int_div, int_div-mul, nonzero_of_pos, *ℤ_nonzero, *ℤ_pos}
+use Rattle.exact_num.proofs.Integers.{unsigned_abs-int_div, int_div-mul, nonzero_of_pos, *ℤ_nonzero, *ℤ_pos}
 use Rattle.exact_num.proofs.RationalLaws.{bottom_nonzero, lowest-mul, lowest_is, lowest-self, whole-IsLowest, common_pos}
 use Rattle.exact_num.proofs.RangeLaws.{in_range-yes, in_range-neg_ℤ}
 use Rattle.exact_num.proofs.Ring.{ring, products, *ℤ_assoc, +ℤ_comm, *ℤ-one, neg_ℤ-*ℤ}

@@ -61,7 +61,11 @@ fn narrow_gcd(a: u64, b: u64) -> u64
         close_gcd(large, small)
     } else {
         let rest = large % small;
-        if rest == 0 { small } else { close_gcd(small, rest) }
+        if rest == 0 {
+            small
+        } else {
+            close_gcd(small, rest)
+        }
     }
 }
 

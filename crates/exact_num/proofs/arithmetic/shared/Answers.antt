@@ -2,7 +2,6 @@
 use Rattle.std.proofs.Common.{◌≡◌, sym, ap, ◌∙◌, subst, ℤ, pos, to_z}
 use Rattle.std.specs.Int.{w128}
 use Rattle.std.specs.Prelude.{◌<ℤ◌}
-use Rattle.std.proofs.lemmas.Int.{ints}
 use Rattle.exact_num.specs.Range.{InRange}
 use Rattle.exact_num.proofs.OperationLaws.{common_whole}
 use Rattle.exact_num.proofs.RangeLaws.{back_in_range}
