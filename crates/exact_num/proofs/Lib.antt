@@ -9,3 +9,4 @@ pub mod RangeLaws
 pub mod RationalLaws
 pub mod Ring
 pub mod StepLaws
+pub mod ValueLaws
