@@ -1,8 +1,8 @@
 -- The laws of the greatest common divisor, over ℕ.
 use Rattle.std.proofs.Common.{◌≡◌, ℕ, zero, suc, ◌+◌, ◌*◌, ◌/◌, ◌%◌, ◌-◌, ◌<◌, ◌≤◌, sym, ap, subst, ◌∙◌, refl, arith}
 use Rattle.std.specs.Int.{IsGcd, ◌∣◌}
-use Rattle.std.proofs.lemmas.Nat.Gcd.{IsGcd-from_zero, IsGcd-from_mod, IsGcd-from_sub, IsGcd-swap, same_from_IsGcd, dvd_refl, dvd_trans, le_of_dvd}
-use Rattle.std.proofs.Math.Nat.{dvd-mul_left, dvd-mul_right_of_dvd, eq-one_of_dvd-one, div-mul_cancel, mul_comm, dvd-sub, eq_of_mul-eq-mul_right, mul-dvd-mul_left, pos_of_dvd_of_pos, mod-eq_of_lt, add-mod_right}
+use Rattle.std.proofs.lemmas.Nat.Gcd.{dvd_antisymm, IsGcd-from_zero, IsGcd-from_mod, IsGcd-from_sub, IsGcd-swap, same_from_IsGcd, dvd_refl, dvd_trans, le_of_dvd}
+use Rattle.std.proofs.Math.Nat.{dvd-mul_left, dvd-mul_right_of_dvd, eq-one_of_dvd-one, div-mul_cancel, mul_comm, dvd-sub, eq_of_mul-eq-mul_right, mul-dvd-mul_left, pos_of_dvd_of_pos}
 use Rattle.exact_num.specs.Gcd.{gcd_of, gcd_within}
 
 within-IsGcd : (k a b : ℕ) → b ≤ k → IsGcd a b (gcd_within k a b)
@@ -123,6 +123,16 @@ coprime-mul a b c p q =
 pub mul-coprime : (a b c : ℕ) → gcd_of a c ≡ 1 → gcd_of b c ≡ 1 → gcd_of (a * b) c ≡ 1
 mul-coprime a b c p q = gcd_of_comm (a * b) c ∙ coprime-mul c a b (gcd_of_comm c a ∙ p) (gcd_of_comm c b ∙ q)
 
+-- a factor with no divisor in common with a adds none to the greatest common divisor
+pub gcd_of-mul_coprime : (a b c : ℕ) → gcd_of a c ≡ 1 → gcd_of a (b * c) ≡ gcd_of a b
+gcd_of-mul_coprime a b c e =
+    let d : ℕ = gcd_of a (b * c) in
+    let apart : gcd_of d c ≡ 1 = coprime_of_dvd a c d c (gcd_of-dvd_left a (b * c)) (dvd_refl c) e in
+    let P : ℕ → Type 0 = λ m. d ∣ m in
+    let in_b : d ∣ b = dvd_from_coprime d c b apart (subst P (mul_comm b c) (gcd_of-dvd_right a (b * c))) in
+    dvd_antisymm (dvd-gcd_of d a b (gcd_of-dvd_left a (b * c)) in_b)
+    (dvd-gcd_of (gcd_of a b) a (b * c) (gcd_of-dvd_left a b) (dvd-mul_right_of_dvd (gcd_of a b) (gcd_of-dvd_right a b) c))
+
 -- two numbers divided by their greatest common divisor have none left
 pub coprime-div : (a b : ℕ) → 0 < gcd_of a b → gcd_of (a / gcd_of a b) (b / gcd_of a b) ≡ 1
 coprime-div a b h =
@@ -136,16 +146,3 @@ coprime-div a b h =
 pub gcd_of_below : (a b n : ℕ) → a < n → b < n → gcd_of a b < n
 gcd_of_below zero b n p q = rw (zero-gcd_of b) q
 gcd_of_below (suc a) b n p q = omega (arith, gcd_of-le_left (suc a) b (omega arith))
-
--- ---- remainders where the quotient is 0, 1 or more
-pub mod-less : (a b : ℕ) → a < b → a % b ≡ a
-mod-less a b h = mod-eq_of_lt h
-
--- taking the divisor away leaves the remainder
-pub mod-minus : (a b : ℕ) → b ≤ a → (a - b) % b ≡ a % b
-mod-minus a b h = sym (ap (λ n. n % b) (omega arith) ∙ add-mod_right (a - b) b)
-
-pub ruleset small_quotients = (mod-less, mod-minus)
-
--- the steps of Euclid's algorithm and its ends
-pub ruleset euclid = (gcd_of-mod, gcd_of_at_zero, gcd_of_at_one)

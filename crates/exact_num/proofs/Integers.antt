@@ -95,9 +95,6 @@ pub ≤ℤ_cancel : (a b k : ℤ) → pos 0 <ℤ k → (a *ℤ k) ≤ℤ (b *ℤ
 pub <ℤ_cancel : (a b k : ℤ) → pos 0 <ℤ k → (a *ℤ k) <ℤ (b *ℤ k) → a <ℤ b
 <ℤ_cancel a b k p h = elim (≤ℤ_or_<ℤ b a) [ inl le ↦ let back = *ℤ-≤ℤ b a k (omega (arith, ints)) le in absurd (omega (arith, ints)) | inr gt ↦ gt ]
 
-pub *ℤ_pos_unsigned : (a b : ℤ) → pos (unsigned_abs a) *ℤ pos (unsigned_abs b) ≡ pos (unsigned_abs (a *ℤ b))
-*ℤ_pos_unsigned a b = ap pos (sym (unsigned_abs-mul a b))
-
 -- ---- exact division by a natural
 pub unsigned_abs-int_div : (a : ℤ) (g : ℕ) → unsigned_abs (int_div a (pos g)) ≡ unsigned_abs a / g
 unsigned_abs-int_div (pos a) g = refl

@@ -1,32 +1,22 @@
 -- What sums and products of fractions form, and that it is their value.
-use Rattle.std.proofs.Common.{◌≡◌, ◌≢◌, ℕ, zero, suc, ◌+◌, ◌-◌, ◌*◌, ◌<◌, ℤ, pos, negsuc, neg_ℤ, ◌+ℤ◌, ◌*ℤ◌, Bool, true, false, ◌&&◌, sym, refl, ap, ap₂, ◌∙◌, subst, inl, inr, arith, lit<}
-use Rattle.std.specs.Prelude.{unsigned_abs, int_div, ◌<ℤ◌, nat_lt, ◌^◌}
+use Rattle.std.proofs.Common.{◌≡◌, ◌≢◌, ℕ, zero, suc, ◌+◌, ◌-◌, ◌*◌, ◌<◌, ℤ, pos, negsuc, ◌+ℤ◌, ◌*ℤ◌, Bool, true, false, ◌&&◌, sym, refl, ap, ap₂, ◌∙◌, subst, inl, inr, arith, lit<}
+use Rattle.std.specs.Prelude.{unsigned_abs, int_div, ◌<ℤ◌}
 use Rattle.std.specs.Int.{◌∣◌}
 use Rattle.std.proofs.lemmas.Bool.{cases_lt, cases_eq}
 use Rattle.std.proofs.lemmas.Int.{ints, unsigned_abs-mul}
-use Rattle.std.proofs.lemmas.Nat.Gcd.{dvd_trans, dvd_refl, dvd_antisymm}
-use Rattle.std.proofs.Math.Nat.{dvd-mul_right, dvd-mul_left_of_dvd, dvd-mul_right_of_dvd, dvd-add, dvd-sub, mul_comm, eq-one_of_dvd-one, one-dvd}
+use Rattle.std.proofs.lemmas.Nat.Gcd.{dvd_trans, dvd_refl}
+use Rattle.std.proofs.Math.Nat.{dvd-mul_right, dvd-mul_left_of_dvd, dvd-add, dvd-sub, eq-one_of_dvd-one, one-dvd}
 use Rattle.exact_num.specs.Formed.{common, sum_formed, difference_formed, product_formed}
 use Rattle.exact_num.specs.Gcd.{gcd_of}
 use Rattle.exact_num.specs.Range.{InRange, in_range, all_fit}
 use Rattle.exact_num.specs.Rational.{Rational, IsLowest, pair, lowest, whole, negated, plus, times}
-use Rattle.exact_num.proofs.GcdLaws.{gcd_of_comm, gcd_of-dvd_left, gcd_of-dvd_right, gcd_of_pos_right, dvd-gcd_of, coprime-div, coprime-mul, mul-coprime, coprime_of_dvd, dvd_from_coprime, gcd_of-one, one-gcd_of}
-use Rattle.exact_num.proofs.Integers.{unsigned_abs-neg_ℤ, unsigned_abs-int_div, int_div-mul, nonzero_of_pos, *ℤ_nonzero, *ℤ_pos}
+use Rattle.exact_num.proofs.GcdLaws.{gcd_of-mul_coprime, gcd_of_comm, gcd_of-dvd_left, gcd_of-dvd_right, gcd_of_pos_right, dvd-gcd_of, coprime-div, coprime-mul, mul-coprime, coprime_of_dvd, dvd_from_coprime, gcd_of-one, one-gcd_of}
+use Rattle.exact_num.proofs.Integers.{unsigned_abs-int_div, int_div-mul, nonzero_of_pos, *ℤ_nonzero, *ℤ_pos}
 use Rattle.exact_num.proofs.RationalLaws.{bottom_nonzero, lowest-mul, lowest_is, lowest-self, whole-IsLowest, common_pos}
-use Rattle.exact_num.proofs.RangeLaws.{in_range-yes}
+use Rattle.exact_num.proofs.RangeLaws.{in_range-yes, in_range-neg_ℤ}
 use Rattle.exact_num.proofs.Ring.{ring, products, *ℤ_assoc, +ℤ_comm, *ℤ-one, neg_ℤ-*ℤ}
 
 -- ---- common divisors over ℕ and ℤ
--- a factor with no divisor in common with a adds none to the greatest common divisor
-gcd_of-mul_coprime : (a b c : ℕ) → gcd_of a c ≡ 1 → gcd_of a (b * c) ≡ gcd_of a b
-gcd_of-mul_coprime a b c e =
-    let d : ℕ = gcd_of a (b * c) in
-    let apart : gcd_of d c ≡ 1 = coprime_of_dvd a c d c (gcd_of-dvd_left a (b * c)) (dvd_refl c) e in
-    let P : ℕ → Type 0 = λ m. d ∣ m in
-    let in_b : d ∣ b = dvd_from_coprime d c b apart (subst P (mul_comm b c) (gcd_of-dvd_right a (b * c))) in
-    dvd_antisymm (dvd-gcd_of d a b (gcd_of-dvd_left a (b * c)) in_b)
-    (dvd-gcd_of (gcd_of a b) a (b * c) (gcd_of-dvd_left a b) (dvd-mul_right_of_dvd (gcd_of a b) (gcd_of-dvd_right a b) c))
-
 -- what divides a sum and its first number divides its second
 dvd_second : (d : ℕ) (x y : ℤ) → d ∣ unsigned_abs (x +ℤ y) → d ∣ unsigned_abs x → d ∣ unsigned_abs y
 dvd_second d x y p q =
@@ -247,7 +237,7 @@ product_fits x y t b = sym (all_fit-product_formed x y ∙ rw (← t, ← b) ref
 whole_common : (d e : ℤ) → d ≡ pos 1 → common d e ≡ pos 1
 whole_common d e p = ap (λ z. common z e) p ∙ ap pos (one-gcd_of (unsigned_abs e))
 
-common_whole : (d e : ℤ) → e ≡ pos 1 → common d e ≡ pos 1
+pub common_whole : (d e : ℤ) → e ≡ pos 1 → common d e ≡ pos 1
 common_whole d e p = ap (common d) p ∙ ap pos (gcd_of-one (unsigned_abs d))
 
 int_div-one : (a : ℤ) → int_div a (pos 1) ≡ a
@@ -290,10 +280,6 @@ pub whole_product_value : (x y : Rational) → IsLowest x → IsLowest y → x.b
 whole_product_value x y h k p q = sym (ap₂ pair (whole_product_top x y p q) (whole_product_bottom x y p q)) ∙ product_value x y h k
 
 -- ---- differences
-pub in_range-neg_ℤ : (z : ℤ) → in_range (neg_ℤ z) ≡ in_range z
-unfolding in_range
-in_range-neg_ℤ z = ap (λ m. nat_lt m (2 ^ 127)) (unsigned_abs-neg_ℤ z)
-
 -- a difference forms what the sum with the negative does, up to the sign of its right part
 pub difference_fits : (x y : Rational) → all_fit (sum_formed x (negated y)) ≡ all_fit (difference_formed x y)
 unfolding sum_formed difference_formed all_fit

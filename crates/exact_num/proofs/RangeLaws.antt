@@ -1,10 +1,11 @@
 -- Which numbers fit, as a test and as a fact.
-use Rattle.std.proofs.Common.{◌≡◌, ◌<◌, ◌≤◌, ◌^◌, ℤ, ◌*ℤ◌, true, false, sym, refl, ◌∙◌, inl, inr, arith, to_z, of_z, lit<}
+use Rattle.std.proofs.Common.{◌≡◌, ◌<◌, ◌≤◌, ◌^◌, ℤ, neg_ℤ, ◌*ℤ◌, true, false, sym, refl, ap, ◌∙◌, inl, inr, arith, to_z, of_z, lit<}
 use Rattle.std.proofs.lemmas.Bool.{cases_lt}
-use Rattle.std.specs.Prelude.{unsigned_abs, FitsSigned, Result, Ok, Err, IsErr, IfOk, is_ok}
+use Rattle.std.specs.Prelude.{nat_lt, unsigned_abs, FitsSigned, Result, Ok, Err, IsErr, IfOk, is_ok}
 use Rattle.std.specs.Int.{w128}
 use Rattle.std.proofs.lemmas.Int.{ints, to_z-of_z, fits_signed_mul}
 use Rattle.std.proofs.lemmas.Bool.Decides.{nat_tests}
+use Rattle.exact_num.proofs.Integers.{unsigned_abs-neg_ℤ}
 use Rattle.exact_num.specs.Range.{InRange, in_range}
 
 pub in_range-yes : (z : ℤ) → InRange z → in_range z ≡ true
@@ -22,6 +23,21 @@ InRange-from_test z h = grind (arith, nat_tests)
 -- a number that fits is an i128
 pub FitsSigned-from_InRange : (z : ℤ) → InRange z → FitsSigned w128 z
 FitsSigned-from_InRange z h = omega (arith, ints)
+
+-- a number that is no further from 0 than one that fits
+pub InRange-le : (a b : ℤ) → unsigned_abs a ≤ unsigned_abs b → InRange b → InRange a
+InRange-le a b h k = omega arith
+
+pub InRange-neg_ℤ : (z : ℤ) → InRange z → InRange (neg_ℤ z)
+InRange-neg_ℤ z h = omega (arith, ints)
+
+-- what the test says depends on the absolute value alone
+pub in_range-abs : (a b : ℤ) → unsigned_abs a ≡ unsigned_abs b → in_range a ≡ in_range b
+unfolding in_range
+in_range-abs a b h = ap (λ m. nat_lt m (2 ^ 127)) h
+
+pub in_range-neg_ℤ : (z : ℤ) → in_range (neg_ℤ z) ≡ in_range z
+in_range-neg_ℤ z = in_range-abs (neg_ℤ z) z (unsigned_abs-neg_ℤ z)
 
 -- an i128 that fits, read back from its bits
 pub back_in_range : (z : ℤ) → InRange z → to_z w128 (of_z w128 z) ≡ z

@@ -72,14 +72,12 @@ pub +ℤ-neg_ℤ : (a : ℤ) → a +ℤ neg_ℤ a ≡ pos 0
 pub neg_ℤ-zero : neg_ℤ (pos 0) ≡ pos 0
 neg_ℤ-zero = refl
 
--- products multiplied out, signs in front, factors and summands sorted
-pub ruleset ring = (*ℤ-+ℤ, +ℤ-*ℤ, neg_ℤ-*ℤ, *ℤ-neg_ℤ, neg_ℤ-+ℤ, neg_ℤ-neg_ℤ, *ℤ_assoc, *ℤ_comm, *ℤ_left_comm, +ℤ_assoc, +ℤ_comm, +ℤ_left_comm)
+-- products multiplied out, signs in front, factors and summands sorted, 0 and 1 taken away
+pub ruleset ring = (*ℤ-+ℤ, +ℤ-*ℤ, neg_ℤ-*ℤ, *ℤ-neg_ℤ, neg_ℤ-+ℤ, neg_ℤ-neg_ℤ, neg_ℤ-zero, *ℤ-one, one-*ℤ, *ℤ-zero, zero-*ℤ, +ℤ-zero, zero-+ℤ, *ℤ_assoc, *ℤ_comm, *ℤ_left_comm, +ℤ_assoc, +ℤ_comm, +ℤ_left_comm)
 
 -- the same for products alone
 pub ruleset products = (*ℤ_assoc, *ℤ_comm, *ℤ_left_comm)
 
-test : (a b c d e f : ℤ) → (a *ℤ (d *ℤ f) +ℤ (c *ℤ b) *ℤ f) *ℤ (b *ℤ e) ≡ ((f *ℤ a) *ℤ d +ℤ f *ℤ (c *ℤ b)) *ℤ (b *ℤ e)
-test a b c d e f = simp ring
-
-test' : (a b c d e f : ℤ) → (a *ℤ (d *ℤ f) -ℤ (c *ℤ b) *ℤ f) *ℤ (b *ℤ e) ≡ ((f *ℤ a) *ℤ d -ℤ f *ℤ (c *ℤ b)) *ℤ (b *ℤ e)
-test' a b c d e f = simp ring
+-- both sides of an equation come to one form
+sorted_difference : (a b c d e f : ℤ) → (a *ℤ (d *ℤ f) -ℤ (c *ℤ b) *ℤ f) *ℤ (b *ℤ e) ≡ ((f *ℤ a) *ℤ d -ℤ f *ℤ (c *ℤ b)) *ℤ (b *ℤ e) +ℤ e *ℤ pos 0
+sorted_difference a b c d e f = simp ring

@@ -181,7 +181,7 @@ fn shared(a: i128, b: i128) -> i128
     ensures range { InRange result }
     ensures positive { pos 0 <ℤ result }
 {
-    gcd(a, b)
+    if b == 1 { 1 } else { gcd(a, b) }
 }
 
 // `n / divisor`. Most divisors are 1.

@@ -2,10 +2,11 @@
 use Rattle.std.proofs.Common.{sym, ap, ◌∙◌}
 use Rattle.exact_num.specs.Formed.{product_formed, quotient_formed}
 use Rattle.exact_num.specs.Range.{all_fit}
-use Rattle.exact_num.specs.Rational.{IsLowest, times}
+use Rattle.exact_num.specs.Rational.{times}
 use Rattle.exact_num.specs.Value.{value_of}
 use Rattle.exact_num.proofs.RangeLaws.{IfOk-equal}
 use Rattle.exact_num.proofs.RationalLaws.{divided-is_times}
+use Rattle.exact_num.proofs.ValueLaws.{value_of-IsLowest}
 use Rattle.exact_num.proofs.arithmetic.div.Goals as goal
 
 pub returns-clause-refused : goal.returns-clause-refused
@@ -16,6 +17,6 @@ pub returns-clause-value : goal.returns-clause-value
 returns-clause-value c =
     let x = value_of c.args.a in
     let y = value_of c.args.b in
-    let low_x : IsLowest x = record { positive = c.args.a.positive; coprime = c.args.a.lowest } in
-    let low_y : IsLowest y = record { positive = c.args.b.positive; coprime = c.args.b.lowest } in
+    let low_x = value_of-IsLowest c.args.a in
+    let low_y = value_of-IsLowest c.args.b in
     IfOk-equal value_of c.mul.result (ap (times x) c.inverse.ensures ∙ sym (divided-is_times x y low_x low_y c.requires)) c.mul.ensures.value

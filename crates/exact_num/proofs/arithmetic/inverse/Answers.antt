@@ -7,11 +7,12 @@ use Rattle.exact_num.specs.Rational.{IsLowest, pair}
 use Rattle.exact_num.specs.Value.{value_of}
 use Rattle.exact_num.proofs.RangeLaws.{back_in_range}
 use Rattle.exact_num.proofs.RationalLaws.{reciprocal-IsLowest, reciprocal_of_neg, reciprocal_of_pos}
+use Rattle.exact_num.proofs.ValueLaws.{value_of-IsLowest}
 use Rattle.exact_num.proofs.arithmetic.inverse.Goals as goal
 
 pub lowest_pair-requires-clause-lowest : goal.lowest_pair-requires-clause-lowest
 lowest_pair-requires-clause-lowest c =
-    let low : IsLowest (value_of c.args.a) = record { positive = c.args.a.positive; coprime = c.args.a.lowest } in
+    let low = value_of-IsLowest c.args.a in
     let num_fits : InRange c.args.a.num = c.args.a.num_fits in
     let den_fits : InRange c.args.a.den = c.args.a.den_fits in
     let top_fits : InRange c.opposite.result = c.opposite.ensures.range in
@@ -25,7 +26,7 @@ lowest_pair-requires-clause-lowest c =
 
 pub lowest_pair-requires-else-a-lt0-clause-lowest : goal.lowest_pair-requires-else-a-lt0-clause-lowest
 lowest_pair-requires-else-a-lt0-clause-lowest c =
-    let low : IsLowest (value_of c.args.a) = record { positive = c.args.a.positive; coprime = c.args.a.lowest } in
+    let low = value_of-IsLowest c.args.a in
     let num_fits : InRange c.args.a.num = c.args.a.num_fits in
     let den_fits : InRange c.args.a.den = c.args.a.den_fits in
     let sign = simp back_in_range at c.if-a-lt0.false in

@@ -1,11 +1,12 @@
 -- At denominators 1 one number alone is formed that may not fit.
 use Rattle.std.proofs.Common.{sym, ap, ◌∙◌}
 use Rattle.exact_num.specs.Range.{InRange}
-use Rattle.exact_num.specs.Rational.{IsLowest, whole}
+use Rattle.exact_num.specs.Rational.{whole}
 use Rattle.exact_num.specs.Value.{value_of}
 use Rattle.exact_num.proofs.OperationLaws.{whole_product_fits, whole_product_value}
 use Rattle.exact_num.proofs.RangeLaws.{back_in_range, is_ok-false}
 use Rattle.exact_num.proofs.RationalLaws.{whole-IsLowest}
+use Rattle.exact_num.proofs.ValueLaws.{value_of-IsLowest}
 use Rattle.exact_num.proofs.arithmetic.whole_product.Goals as goal
 
 pub returns-in_err-product-clause-refused : goal.returns-in_err-product-clause-refused
@@ -38,7 +39,7 @@ returns-clause-value c =
     let x = value_of c.args.a in
     let y = value_of c.args.b in
     let n_fits : InRange c.in_ok-product.field-0 = c.in_ok-product.ensures.range in
-    let low_x : IsLowest x = record { positive = c.args.a.positive; coprime = c.args.a.lowest } in
-    let low_y : IsLowest y = record { positive = c.args.b.positive; coprime = c.args.b.lowest } in
+    let low_x = value_of-IsLowest c.args.a in
+    let low_y = value_of-IsLowest c.args.b in
     let n = simp back_in_range at c.in_ok-product.ensures.value in
     (simp back_in_range at c.lowest_pair.ensures) ∙ ap whole n ∙ whole_product_value x y low_x low_y c.requires.left c.requires.right

@@ -6,6 +6,7 @@ use Rattle.exact_num.specs.Rational.{IsLowest, pair}
 use Rattle.exact_num.specs.Value.{value_of}
 use Rattle.exact_num.proofs.OperationLaws.{product_stops_top, product_stops_bottom, product_fits, product_value, product-IsLowest, part_by}
 use Rattle.exact_num.proofs.RangeLaws.{back_in_range, is_ok-false}
+use Rattle.exact_num.proofs.ValueLaws.{value_of-IsLowest}
 use Rattle.exact_num.proofs.arithmetic.wide_product.Goals as goal
 
 pub returns-in_err-num-clause-refused : goal.returns-in_err-num-clause-refused
@@ -84,8 +85,8 @@ lowest_pair-requires-clause-lowest c =
     let m_fits : InRange c.in_ok-den.den = c.in_ok-den.ensures.range in
     let b = (simp back_in_range at c.in_ok-den.ensures.refused) ∙ ap in_range bottom_is in
     let bottom = (simp back_in_range at c.in_ok-den.ensures.value) ∙ bottom_is in
-    let low_x : IsLowest x = record { positive = c.args.a.positive; coprime = c.args.a.lowest } in
-    let low_y : IsLowest y = record { positive = c.args.b.positive; coprime = c.args.b.lowest } in
+    let low_x = value_of-IsLowest c.args.a in
+    let low_y = value_of-IsLowest c.args.b in
     simp back_in_range (subst IsLowest (sym (ap₂ pair top bottom)) (product-IsLowest x y low_x low_y))
 
 pub returns-clause-refused : goal.returns-clause-refused
@@ -146,6 +147,6 @@ returns-clause-value c =
     let m_fits : InRange c.in_ok-den.den = c.in_ok-den.ensures.range in
     let b = (simp back_in_range at c.in_ok-den.ensures.refused) ∙ ap in_range bottom_is in
     let bottom = (simp back_in_range at c.in_ok-den.ensures.value) ∙ bottom_is in
-    let low_x : IsLowest x = record { positive = c.args.a.positive; coprime = c.args.a.lowest } in
-    let low_y : IsLowest y = record { positive = c.args.b.positive; coprime = c.args.b.lowest } in
+    let low_x = value_of-IsLowest c.args.a in
+    let low_y = value_of-IsLowest c.args.b in
     (simp back_in_range at c.lowest_pair.ensures) ∙ ap₂ pair top bottom ∙ product_value x y low_x low_y

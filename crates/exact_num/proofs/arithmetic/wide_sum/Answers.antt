@@ -3,10 +3,11 @@ use Rattle.std.proofs.Common.{◌≡◌, sym, ap, ap₂, ◌∙◌, subst, ℤ, 
 use Rattle.std.specs.Prelude.{◌<ℤ◌}
 use Rattle.exact_num.specs.Formed.{common}
 use Rattle.exact_num.specs.Range.{InRange, in_range}
-use Rattle.exact_num.specs.Rational.{IsLowest, lowest}
+use Rattle.exact_num.specs.Rational.{lowest}
 use Rattle.exact_num.specs.Value.{value_of}
 use Rattle.exact_num.proofs.OperationLaws.{sum_left, sum_right, sum_left_is, sum_right_is, sum_bottom_is, sum_stops_left, sum_stops_right, sum_stops_top, sum_stops_bottom, sum_fits, sum_value, sum_divisor, sum_bottom_pos}
 use Rattle.exact_num.proofs.RangeLaws.{back_in_range, is_ok-false}
+use Rattle.exact_num.proofs.ValueLaws.{value_of-IsLowest}
 use Rattle.exact_num.proofs.arithmetic.wide_sum.Goals as goal
 
 pub returns-in_err-left-clause-refused : goal.returns-in_err-left-clause-refused
@@ -133,8 +134,8 @@ reduced-requires-clause-positive c =
     let m_fits : InRange c.in_ok-den.den = c.in_ok-den.ensures.range in
     let b = (simp back_in_range at c.in_ok-den.ensures.refused) ∙ ap in_range bottom_is in
     let bottom = (simp back_in_range at c.in_ok-den.ensures.value) ∙ bottom_is in
-    let low_x : IsLowest x = record { positive = c.args.a.positive; coprime = c.args.a.lowest } in
-    let low_y : IsLowest y = record { positive = c.args.b.positive; coprime = c.args.b.lowest } in
+    let low_x = value_of-IsLowest c.args.a in
+    let low_y = value_of-IsLowest c.args.b in
     let P = λ (z : ℤ). pos 0 <ℤ z in
     simp back_in_range (subst P (sym bottom) (sum_bottom_pos x y low_x low_y))
 
@@ -168,8 +169,8 @@ reduced-requires-clause-greatest c =
     let m_fits : InRange c.in_ok-den.den = c.in_ok-den.ensures.range in
     let b = (simp back_in_range at c.in_ok-den.ensures.refused) ∙ ap in_range bottom_is in
     let bottom = (simp back_in_range at c.in_ok-den.ensures.value) ∙ bottom_is in
-    let low_x : IsLowest x = record { positive = c.args.a.positive; coprime = c.args.a.lowest } in
-    let low_y : IsLowest y = record { positive = c.args.b.positive; coprime = c.args.b.lowest } in
+    let low_x = value_of-IsLowest c.args.a in
+    let low_y = value_of-IsLowest c.args.b in
     let s_fits : InRange c.shared.result = c.shared.ensures.range in
     let s = simp back_in_range at c.shared.ensures.value in
     simp back_in_range (s ∙ ap₂ common top g ∙ sum_divisor x y low_x low_y ∙ sym (ap₂ common top bottom))
@@ -236,6 +237,6 @@ returns-clause-value c =
     let m_fits : InRange c.in_ok-den.den = c.in_ok-den.ensures.range in
     let b = (simp back_in_range at c.in_ok-den.ensures.refused) ∙ ap in_range bottom_is in
     let bottom = (simp back_in_range at c.in_ok-den.ensures.value) ∙ bottom_is in
-    let low_x : IsLowest x = record { positive = c.args.a.positive; coprime = c.args.a.lowest } in
-    let low_y : IsLowest y = record { positive = c.args.b.positive; coprime = c.args.b.lowest } in
+    let low_x = value_of-IsLowest c.args.a in
+    let low_y = value_of-IsLowest c.args.b in
     (simp back_in_range at c.reduced.ensures) ∙ ap₂ lowest top bottom ∙ sum_value x y low_x low_y

@@ -4,18 +4,18 @@ use Rattle.std.specs.Prelude.{◌<ℤ◌, ◌≤ℤ◌}
 use Rattle.std.specs.Ordering.{nat_cmp}
 use Rattle.std.proofs.lemmas.Int.{ints}
 use Rattle.exact_num.specs.Range.{InRange}
-use Rattle.exact_num.specs.Rational.{IsLowest}
 use Rattle.exact_num.specs.Value.{value_of}
 use Rattle.exact_num.proofs.OrderLaws.{order_of-nonnegative, order_of-negative, order_of-less, order_of-greater}
 use Rattle.exact_num.proofs.RangeLaws.{back_in_range}
+use Rattle.exact_num.proofs.ValueLaws.{value_of-IsLowest}
 use Rattle.exact_num.proofs.order.cmp_frac.Goals as goal
 
 pub returns-then-b-lt0 : goal.returns-then-b-lt0
 returns-then-b-lt0 c =
     let x = value_of c.args.a in
     let y = value_of c.args.b in
-    let low_x : IsLowest x = record { positive = c.args.a.positive; coprime = c.args.a.lowest } in
-    let low_y : IsLowest y = record { positive = c.args.b.positive; coprime = c.args.b.lowest } in
+    let low_x = value_of-IsLowest c.args.a in
+    let low_y = value_of-IsLowest c.args.b in
     let a_fits : InRange c.args.a.num = c.args.a.num_fits in
     let b_fits : InRange c.args.a.den = c.args.a.den_fits in
     let c_fits : InRange c.args.b.num = c.args.b.num_fits in
@@ -32,8 +32,8 @@ pub returns-else-b-lt0 : goal.returns-else-b-lt0
 returns-else-b-lt0 c =
     let x = value_of c.args.a in
     let y = value_of c.args.b in
-    let low_x : IsLowest x = record { positive = c.args.a.positive; coprime = c.args.a.lowest } in
-    let low_y : IsLowest y = record { positive = c.args.b.positive; coprime = c.args.b.lowest } in
+    let low_x = value_of-IsLowest c.args.a in
+    let low_y = value_of-IsLowest c.args.b in
     let a_fits : InRange c.args.a.num = c.args.a.num_fits in
     let b_fits : InRange c.args.a.den = c.args.a.den_fits in
     let c_fits : InRange c.args.b.num = c.args.b.num_fits in
@@ -46,8 +46,8 @@ pub returns-then-b-lt0-2 : goal.returns-then-b-lt0-2
 returns-then-b-lt0-2 c =
     let x = value_of c.args.a in
     let y = value_of c.args.b in
-    let low_x : IsLowest x = record { positive = c.args.a.positive; coprime = c.args.a.lowest } in
-    let low_y : IsLowest y = record { positive = c.args.b.positive; coprime = c.args.b.lowest } in
+    let low_x = value_of-IsLowest c.args.a in
+    let low_y = value_of-IsLowest c.args.b in
     let a_fits : InRange c.args.a.num = c.args.a.num_fits in
     let b_fits : InRange c.args.a.den = c.args.a.den_fits in
     let c_fits : InRange c.args.b.num = c.args.b.num_fits in
@@ -60,8 +60,8 @@ pub returns-else-b-lt0-2 : goal.returns-else-b-lt0-2
 returns-else-b-lt0-2 c =
     let x = value_of c.args.a in
     let y = value_of c.args.b in
-    let low_x : IsLowest x = record { positive = c.args.a.positive; coprime = c.args.a.lowest } in
-    let low_y : IsLowest y = record { positive = c.args.b.positive; coprime = c.args.b.lowest } in
+    let low_x = value_of-IsLowest c.args.a in
+    let low_y = value_of-IsLowest c.args.b in
     let a_fits : InRange c.args.a.num = c.args.a.num_fits in
     let b_fits : InRange c.args.a.den = c.args.a.den_fits in
     let c_fits : InRange c.args.b.num = c.args.b.num_fits in
