@@ -1,0 +1,2 @@
+pub mod PrintedRounding
+pub mod PrintedTexts
