@@ -1,6 +1,6 @@
 -- What the printed forms read as.
-use Rattle.std.proofs.Common.{◌≡◌, ◌≢◌, ℕ, ◌+◌, ◌-◌, ◌*◌, ◌/◌, ◌%◌, ◌<◌, ◌≤◌, ◌^◌, ℤ, pos, negsuc, neg_ℤ, ◌*ℤ◌, ◌-ℤ◌, ◌<ℤ◌, List, [], ◌∷◌, ◌++◌, length, refl, sym, ap, ◌∙◌, arith, append_assoc, zero, suc, lit<}
-use Rattle.std.proofs.Math.Nat.{mod-lt, div-div-eq-div-mul, mul-le-mul_left}
+use Rattle.std.proofs.Common.{◌≡◌, ◌≢◌, ℕ, ◌+◌, ◌*◌, ◌/◌, ◌%◌, ◌<◌, ◌≤◌, ◌^◌, ℤ, pos, negsuc, neg_ℤ, ◌*ℤ◌, ◌-ℤ◌, ◌<ℤ◌, List, [], ◌∷◌, ◌++◌, length, refl, sym, ap, ◌∙◌, arith, append_assoc, suc, lit<}
+use Rattle.std.proofs.Math.Nat.{mod-lt, div-div-eq-div-mul}
 use Rattle.std.proofs.lemmas.Int.{ints}
 use Rattle.std.proofs.lemmas.Nat.{div-add-mod', div_below}
 use Rattle.std.proofs.lemmas.Bool.Decides.{nat_tests}
@@ -9,14 +9,14 @@ use Rattle.std.proofs.lemmas.Str.{digit_value_digit}
 use Rattle.std.proofs.lemmas.Str.Parse.{digit_from_value}
 use Rattle.std.specs.Char.{digit_value}
 use Rattle.std.specs.Int.{IsInRange}
-use Rattle.std.specs.Prelude.{unsigned_abs, codes, decimal, if◌then◌else◌, ◌==◌, false, true}
+use Rattle.std.specs.Prelude.{unsigned_abs, codes, decimal, if◌then◌else◌, ◌==◌, false}
 use Rattle.std.specs.Fmt.{signed_decimal, digits}
 use Rattle.std.specs.Str.Parse.{IsNumeral, AllDigits, digits_value, digits_value_after}
-use Rattle.exact_num.specs.Rational.{Rational, pair, signed_by}
+use Rattle.exact_num.specs.Rational.{pair, signed_by}
 use Rattle.exact_num.specs.Range.{InRange}
 use Rattle.exact_num.proofs.Ring.{neg_ℤ-*ℤ}
-use Rattle.scaled_decimals.specs.PrintedFraction.{fraction_text, denominator_text}
-use Rattle.scaled_decimals.specs.PrintedPlaces.{nearest, millionths, millionths_text, places_text, sign_of, last_digit, six_digits, before_point, after_point, unsigned_millionths, read_millionths}
+use Rattle.scaled_decimals.specs.PrintedFraction.{fraction_text}
+use Rattle.scaled_decimals.specs.PrintedPlaces.{nearest, millionths, millionths_text, sign_of, last_digit, six_digits, before_point, after_point, unsigned_millionths, read_millionths}
 use Rattle.scaled_decimals.proofs.PrintedTexts.{fraction_text-whole, fraction_text-quotient, unsigned_abs-signed_by}
 
 -- ---- fractions
@@ -199,7 +199,7 @@ unfolding millionths
 near n d h =
     let m : ℕ = nearest (1000000 * unsigned_abs n) (unsigned_abs d) in
     let x : (2 * (m * unsigned_abs d) ≤ 2 * (1000000 * unsigned_abs n) + unsigned_abs d) × (2 * (1000000 * unsigned_abs n) + unsigned_abs d < 2 * (m * unsigned_abs d) + 2 * unsigned_abs d) =
-        nearest-cross (1000000 * unsigned_abs n) (unsigned_abs d) (unsigned_abs-positive d h) in
+    nearest-cross (1000000 * unsigned_abs n) (unsigned_abs d) (unsigned_abs-positive d h) in
     let e : unsigned_abs (signed_by n (pos m) *ℤ d -ℤ pos 1000000 *ℤ n) ≡ unsigned_abs (pos (m * unsigned_abs d) -ℤ pos (1000000 * unsigned_abs n)) = distance n d m h in
     rw e (within (m * unsigned_abs d) (1000000 * unsigned_abs n) (unsigned_abs d) x.0 x.1)
 
@@ -209,7 +209,7 @@ unfolding millionths
 tie n d h t =
     let m : ℕ = nearest (1000000 * unsigned_abs n) (unsigned_abs d) in
     let x : (2 * (m * unsigned_abs d) ≤ 2 * (1000000 * unsigned_abs n) + unsigned_abs d) × (2 * (1000000 * unsigned_abs n) + unsigned_abs d < 2 * (m * unsigned_abs d) + 2 * unsigned_abs d) =
-        nearest-cross (1000000 * unsigned_abs n) (unsigned_abs d) (unsigned_abs-positive d h) in
+    nearest-cross (1000000 * unsigned_abs n) (unsigned_abs d) (unsigned_abs-positive d h) in
     let e : unsigned_abs (signed_by n (pos m) *ℤ d -ℤ pos 1000000 *ℤ n) ≡ unsigned_abs (pos (m * unsigned_abs d) -ℤ pos (1000000 * unsigned_abs n)) = distance n d m h in
     rw (unsigned_abs-signed_by n m) (away (m * unsigned_abs d) (1000000 * unsigned_abs n) (unsigned_abs d) x.1 (ap (λ k. 2 * k) (sym e) ∙ t))
 

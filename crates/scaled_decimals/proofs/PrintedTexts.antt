@@ -3,7 +3,7 @@ use Rattle.std.proofs.Common.{◌≡◌, ◌≢◌, ℕ, ◌+◌, ◌*◌, ◌/�
 use Rattle.std.proofs.lemmas.Nat.{div-mul-add, mod-mul-add}
 use Rattle.std.proofs.lemmas.Bool.Decides.{nat_tests}
 use Rattle.std.specs.Int.{w128}
-use Rattle.std.specs.Prelude.{Result, Ok, Err, OnOk, is_ok, unsigned_abs, codes, decimal, if◌then◌else◌, ◌==◌, false, true}
+use Rattle.std.specs.Prelude.{Result, Ok, Err, OnOk, is_ok, unsigned_abs, codes, decimal, if◌then◌else◌, ◌==◌, false}
 use Rattle.std.specs.Fmt.{signed_decimal}
 use Rattle.exact_num.specs.Range.{InRange}
 use Rattle.exact_num.specs.Rational.{pair, signed_by}

@@ -1,5 +1,5 @@
 // The printed forms of fractions: as a fraction, and rounded to six decimal places.
-ghost use Rattle.std.specs.Prelude.{◌≡◌, ◌+◌, ◌*◌, ◌%◌, ◌/◌, ◌<◌, ◌≤◌, ◌++◌, ◌∷◌, length, codes, pos, OnOk, OnErr};
+ghost use Rattle.std.specs.Prelude.{◌≡◌, ◌+◌, ◌*◌, ◌%◌, ◌<◌, ◌≤◌, ◌++◌, length, codes, pos, OnOk, OnErr};
 ghost use Rattle.exact_num.specs.Rational.{signed_by};
 ghost use Rattle.exact_num.specs.Value.{value_of};
 ghost use Rattle.scaled_decimals.specs.PrintedFraction.{fraction_text};
@@ -34,7 +34,12 @@ pub fn push_frac(out: &mut Vec<u8>, v: Frac) -> Result<(), AllocError>
     if v.den == 1 {
         out.extend_from_slice(num.format(v.num).as_bytes())
     } else {
-        push_pieces(out, num.format(v.num).as_bytes(), b"/", den.format(v.den).as_bytes())
+        push_pieces(
+            out,
+            num.format(v.num).as_bytes(),
+            b"/",
+            den.format(v.den).as_bytes(),
+        )
     }
 }
 
@@ -46,11 +51,21 @@ pub fn push_places(out: &mut Vec<u8>, v: Frac) -> Result<(), AllocError>
 {
     let rounded = round(v.num.unsigned_abs(), v.den.unsigned_abs());
     let mut whole = Buffer::new();
-    push_pieces(out, sign(v.num, rounded), whole.format(rounded.whole).as_bytes(), &point_and_digits(rounded.millionths))
+    push_pieces(
+        out,
+        sign(v.num, rounded),
+        whole.format(rounded.whole).as_bytes(),
+        &point_and_digits(rounded.millionths),
+    )
 }
 
 // Appends the three pieces, or leaves `out` as it was.
-fn push_pieces(out: &mut Vec<u8>, first: &[u8], second: &[u8], third: &[u8]) -> Result<(), AllocError>
+fn push_pieces(
+    out: &mut Vec<u8>,
+    first: &[u8],
+    second: &[u8],
+    third: &[u8],
+) -> Result<(), AllocError>
     requires first_short { length first.now ≤ 40 }
     requires second_short { length second.now ≤ 40 }
     requires third_short { length third.now ≤ 40 }
@@ -72,7 +87,10 @@ fn round(num: u128, den: u128) -> Rounded
     let whole = num / den;
     let millionths = round_part(num % den, den);
     if millionths == 1_000_000 {
-        Rounded { whole: whole + 1, millionths: 0 }
+        Rounded {
+            whole: whole + 1,
+            millionths: 0,
+        }
     } else {
         Rounded { whole, millionths }
     }
@@ -102,11 +120,14 @@ fn next_digit(rest: u128, den: u128) -> (u32, u128)
     ensures below { result.1 < den }
     ensures digit { result.0 < 10 }
 {
-    let (halves, two) = sum(rest, rest, den);
-    let (quarters, four) = sum(two, two, den);
-    let (fifths, five) = sum(four, rest, den);
-    let (tenths, ten) = sum(five, five, den);
-    (2 * (2 * halves + quarters + fifths) + tenths, ten)
+    let (carry_two, two) = sum(rest, rest, den);
+    let (carry_four, four) = sum(two, two, den);
+    let (carry_five, five) = sum(four, rest, den);
+    let (carry_ten, ten) = sum(five, five, den);
+    (
+        2 * (2 * carry_two + carry_four + carry_five) + carry_ten,
+        ten,
+    )
 }
 
 // How often `den` goes into `a + b`, and what is left.
@@ -126,7 +147,11 @@ fn sign(num: i128, rounded: Rounded) -> &'static [u8]
     ensures value { result.now ≡ sign_of (signed_by num (pos (1000000 * rounded.whole + rounded.millionths))) }
     ensures short { length result.now ≤ 1 }
 {
-    if num < 0 && (rounded.whole != 0 || rounded.millionths != 0) { b"-" } else { b"" }
+    if num < 0 && (rounded.whole != 0 || rounded.millionths != 0) {
+        b"-"
+    } else {
+        b""
+    }
 }
 
 // A point and six digits.

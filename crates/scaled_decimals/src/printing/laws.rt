@@ -1,6 +1,5 @@
 // Laws of the printed forms. Each is proved as the contract of a function that does nothing.
 ghost use Rattle.std.specs.Prelude.{◌≡◌, ◌≢◌, ℕ, ◌*◌, ◌<◌, ◌≤◌, ◌^◌, pos, ◌*ℤ◌, ◌-ℤ◌, unsigned_abs, ◌++◌, length, codes, decimal};
-ghost use Rattle.std.specs.Fmt.{signed_decimal};
 ghost use Rattle.std.specs.Str.Parse.{IsNumeral, digits_value};
 ghost use Rattle.exact_num.specs.Value.{value_of};
 ghost use Rattle.exact_num.specs.declared.fraction.Frac.{Frac};
@@ -14,7 +13,7 @@ pub fn fraction_laws()
         → fraction_text (value_of v) ≡ sign_of v.num ++ decimal (unsigned_abs v.num) }
     ensures quotient { (v : Frac) → v.den ≢ pos 1
         → fraction_text (value_of v)
-            ≡ sign_of v.num ++ decimal (unsigned_abs v.num) ++ codes "/" ++ decimal (unsigned_abs v.den) }
+        ≡ sign_of v.num ++ decimal (unsigned_abs v.num) ++ codes "/" ++ decimal (unsigned_abs v.den) }
     ensures digits { (n : ℕ) → n < 2 ^ 127 → IsNumeral 10 (decimal n) }
     ensures value { (n : ℕ) → n < 2 ^ 127 → digits_value 10 (decimal n) ≡ n }
 {}

@@ -1,4 +1,4 @@
-use Rattle.std.proofs.Common.{◌≡◌, ◌++◌, ap, sym, ◌∙◌, List, ℕ}
+use Rattle.std.proofs.Common.{◌≡◌, ◌++◌, ap, sym, ◌∙◌}
 use Rattle.std.specs.Prelude.{codes}
 use Rattle.std.specs.Fmt.{signed_decimal}
 use Rattle.exact_num.proofs.RangeLaws.{back_in_range}
@@ -15,9 +15,9 @@ returns-then-v-eq1-clause-text c =
 pub returns-else-v-eq1-clause-text : goal.returns-else-v-eq1-clause-text
 returns-else-v-eq1-clause-text c =
     let num : c.as_bytes-else-v-eq1.result.now ≡ signed_decimal c.args.v.num =
-        c.as_bytes-else-v-eq1.ensures.value ∙ c.format-else-v-eq1.ensures.text ∙ ap signed_decimal (back_in_range c.args.v.num c.args.v.num_fits) in
+    c.as_bytes-else-v-eq1.ensures.value ∙ c.format-else-v-eq1.ensures.text ∙ ap signed_decimal (back_in_range c.args.v.num c.args.v.num_fits) in
     let den : c.as_bytes-else-v-eq1-2.result.now ≡ signed_decimal c.args.v.den =
-        c.as_bytes-else-v-eq1-2.ensures.value ∙ c.format-else-v-eq1-2.ensures.text ∙ ap signed_decimal (back_in_range c.args.v.den c.args.v.den_fits) in
+    c.as_bytes-else-v-eq1-2.ensures.value ∙ c.format-else-v-eq1-2.ensures.text ∙ ap signed_decimal (back_in_range c.args.v.den c.args.v.den_fits) in
     OnOk-same c.push_pieces.result _ _ _ _ c.push_pieces.ensures.text
     (ap (λ t. t ++ codes "/" ++ c.as_bytes-else-v-eq1-2.result.now) num
     ∙ ap (λ t. signed_decimal c.args.v.num ++ codes "/" ++ t) den

@@ -1,5 +1,4 @@
-use Rattle.std.proofs.Common.{◌≡◌, ◌+◌, ◌*◌, ◌/◌, ◌%◌, arith}
-use Rattle.scaled_decimals.specs.PrintedPlaces.{nearest}
+use Rattle.std.proofs.Common.{arith}
 use Rattle.scaled_decimals.proofs.PrintedRounding.{nearest-whole}
 use Rattle.scaled_decimals.proofs.printing.round.Goals as goal
 

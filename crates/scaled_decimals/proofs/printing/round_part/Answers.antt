@@ -1,4 +1,4 @@
-use Rattle.std.proofs.Common.{◌≡◌, ◌+◌, ◌*◌, ◌<◌, ◌≤◌, ◌^◌, sym, arith}
+use Rattle.std.proofs.Common.{sym, arith}
 use Rattle.scaled_decimals.proofs.PrintedRounding.{nearest-up, nearest-down, place-more, place-short, place-bound, six-places, six-places-short}
 use Rattle.scaled_decimals.proofs.printing.round_part.Goals as goal
 
