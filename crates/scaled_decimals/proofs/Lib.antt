@@ -1,0 +1,4 @@
+mod PrintedExamples
+pub mod PrintedLaws
+pub mod PrintedRounding
+pub mod PrintedTexts

@@ -1,0 +1,2 @@
+pub mod PrintedFraction
+pub mod PrintedPlaces
