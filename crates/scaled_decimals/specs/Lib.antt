@@ -1,0 +1,6 @@
+pub mod DecimalReading
+pub mod Digits
+pub mod FractionReading
+pub mod FractionText
+pub mod NumberText
+pub mod PartsReading

@@ -1,0 +1,9 @@
+// Numbers read from texts in whole billionths and as exact fractions.
+#![tactic(auto)]
+
+mod reading;
+
+pub use reading::{DecFault, exact_value, read_decimal};
+
+#[cfg(test)]
+mod reading_tests;

@@ -1,0 +1,30 @@
+// The form of an exact value's text.
+ghost use Rattle.std.specs.Prelude.{◌≡◌, MatchOption};
+ghost use Rattle.scaled_decimals.specs.FractionText.{Form, IsFormed, form_bytes};
+ghost use Rattle.scaled_decimals.specs.PartsReading.{form_of};
+
+use crate::reading::digits::{is_numeral, split_digits};
+
+// Digits, digits over digits, or digits with digits behind a point.
+#[derive(Clone, Copy, Drop)]
+pub enum Shape<'a> {
+    Whole(&'a [u8]),
+    Quotient(&'a [u8], &'a [u8]),
+    Decimal(&'a [u8], &'a [u8]),
+}
+
+// The form of a text without a sign; none where it has none of the three.
+pub fn shape_of(text: &[u8]) -> Option<Shape<'_>>
+    ensures { MatchOption result ((f : Form) → IsFormed f → text.now ≡ form_bytes f → ⊥) (λ s. IsFormed (form_of s) × (text.now ≡ form_bytes (form_of s))) }
+{
+    let (front, rest) = split_digits(text);
+    if front.is_empty() {
+        return None;
+    }
+    match rest.first() {
+        None => Some(Shape::Whole(front)),
+        Some(b'/') if is_numeral(&rest[1..]) => Some(Shape::Quotient(front, &rest[1..])),
+        Some(b'.') if is_numeral(&rest[1..]) => Some(Shape::Decimal(front, &rest[1..])),
+        Some(_) => None,
+    }
+}
