@@ -1,5 +1,5 @@
 -- What the functions that read a text make of it on the way.
-use Rattle.std.specs.Prelude.{◌≡◌, ℕ, ◌+◌, ◌*◌, ◌^◌, ◌<◌, ◌≤◌, Bool, not, ◌==◌, List, take, drop, if◌then◌else◌}
+use Rattle.std.specs.Prelude.{◌≡◌, ℕ, ◌+◌, ◌*◌, ◌^◌, ◌<◌, ◌≤◌, Bool, not, ◌==◌, List, take, drop, Option}
 use Rattle.std.specs.Char.{is_ascii_digit}
 use Rattle.std.specs.List.{prefix_len}
 use Rattle.scaled_decimals.specs.declared.reading.parts.Parts.{Parts}
@@ -47,7 +47,7 @@ pub record IsHead (h : Head) (m : ℕ) : Type 0 where
   pub rest : h.rest ≡ not (tail == 0)
   pub full : 0 < h.dropped → 10 ^ 36 ≤ h.value
 
--- `kept` is x, or both are past every power of ten that matters
-pub record IsKept (x kept : ℕ) : Type 0 where
-  pub same : kept < 2 ^ 99 → x ≡ kept
-  pub large : 2 ^ 99 ≤ kept → 2 ^ 99 ≤ x
+-- `kept` is x, or both are at least the limit
+pub record IsKept (limit x kept : ℕ) : Type 0 where
+  pub same : kept < limit → x ≡ kept
+  pub large : limit ≤ kept → limit ≤ x

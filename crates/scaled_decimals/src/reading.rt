@@ -1,6 +1,7 @@
 // Numbers in whole billionths and exact fractions, read from their texts.
-ghost use Rattle.std.specs.Prelude.{◌≡◌, ◌≤◌, ◌^◌, ℕ, min};
+ghost use Rattle.std.specs.Prelude.{◌≡◌, ◌<◌, ◌^◌, ℕ, min};
 ghost use Rattle.scaled_decimals.specs.DecimalReading.{Reads, decimal_of};
+ghost use Rattle.scaled_decimals.specs.Digits.{AreDigits};
 ghost use Rattle.scaled_decimals.specs.FractionReading.{ReadsValue, AgreesWith};
 ghost use Rattle.scaled_decimals.specs.FractionText.{FractionText, Form, SpellsValue, IsFormed, above_of, below_of};
 ghost use Rattle.scaled_decimals.specs.NumberText.{NumberText, Spells};
@@ -71,6 +72,8 @@ pub fn exact_value(text: &[u8]) -> Result<Frac, DecFault>
 // The number that the parts write, in billionths. An exponent is read as 2^127 at most: from 2^99 on it outweighs the length of any
 // text, so that what it gives no longer depends on it.
 fn decimal(parts: Parts) -> Result<(i128, bool), DecFault>
+    requires whole { AreDigits parts.whole.now }
+    requires places { AreDigits parts.places.now }
     ensures { (p : NumberText) → AreParts parts.entry p → result ≡ decimal_of p }
 {
     let head = extended(extended(EMPTY, parts.whole), parts.places);

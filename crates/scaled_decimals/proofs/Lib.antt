@@ -1,0 +1,6 @@
+pub mod DigitLemmas
+pub mod FractionLemmas
+pub mod HeadLemmas
+pub mod RatioLemmas
+pub mod ScaleLemmas
+pub mod TextLemmas
