@@ -1,6 +1,6 @@
 -- The texts of numbers, as the data section of GNU MathProg writes them: an optional sign; digits, of which some may stand behind a
 -- point; and an optional power of ten.
-use Rattle.std.specs.Prelude.{◌≡◌, ℕ, ◌+◌, ◌<◌, Bool, true, false, List, [], ◌∷◌, ◌++◌, length, Option, Some, None, if◌then◌else◌}
+use Rattle.std.specs.Prelude.{◌≡◌, ℕ, ◌+◌, ◌<◌, Bool, true, false, List, [], ◌∷◌, ◌++◌, length, Option, Some, None}
 use Rattle.scaled_decimals.specs.Digits.{AreDigits, IsNumeral}
 
 -- a sign, or none
@@ -33,10 +33,15 @@ abbrev pub fraction_bytes : Option (List ℕ) → List ℕ
 fraction_bytes None = []
 fraction_bytes (Some ds) = 46 ∷ ds
 
+-- `E` or `e`
+abbrev pub mark : Bool → ℕ
+mark true = 69
+mark false = 101
+
 -- the bytes of a power of ten
 abbrev pub exponent_bytes : Option Exponent → List ℕ
 exponent_bytes None = []
-exponent_bytes (Some e) = (if e.capital then 69 else 101) ∷ (sign_bytes e.sign ++ e.digits)
+exponent_bytes (Some e) = mark e.capital ∷ (sign_bytes e.sign ++ e.digits)
 
 -- the bytes of a number
 abbrev pub spelling : NumberText → List ℕ

@@ -1,5 +1,5 @@
 // Runs of decimal digits, and the numbers that they write.
-ghost use Rattle.std.specs.Prelude.{◌≡◌, ◌+◌, ◌-◌, ◌*◌, ◌^◌, ◌≤◌, ◌↔◌, IsTrue, min, length};
+ghost use Rattle.std.specs.Prelude.{◌≡◌, ℕ, List, ◌∷◌, MatchOption, ◌+◌, ◌-◌, ◌*◌, ◌^◌, ◌≤◌, ◌↔◌, IsTrue, min, length};
 ghost use Rattle.std.specs.Char.{is_ascii_digit};
 ghost use Rattle.std.specs.List.{prefix_len};
 ghost use Rattle.scaled_decimals.specs.Digits.{IsNumeral, continued};
@@ -28,6 +28,24 @@ pub fn split_digits(text: &[u8]) -> (&[u8], &[u8])
     text.split_at(digit_count(text))
 }
 
+// What follows this byte; none where another stands in front.
+pub fn behind(text: &[u8], byte: u8) -> Option<&[u8]>
+    ensures { MatchOption result ((rest : List ℕ) → text.now ≡ byte ∷ rest → ⊥) (λ rest. text.now ≡ byte ∷ rest.now) }
+{
+    if text.is_empty() {
+        return None;
+    }
+    if text[0] == byte { Some(&text[1..]) } else { None }
+}
+
+// The digits that follow this byte; none where anything else stands there.
+pub fn numeral_behind(text: &[u8], byte: u8) -> Option<&[u8]>
+    ensures { MatchOption result ((ds : List ℕ) → IsNumeral ds → text.now ≡ byte ∷ ds → ⊥) (λ ds. IsNumeral ds.now × (text.now ≡ byte ∷ ds.now)) }
+{
+    let digits = behind(text, byte)?;
+    if is_numeral(digits) { Some(digits) } else { None }
+}
+
 // Whether the text is one digit or more, and nothing else.
 pub fn is_numeral(text: &[u8]) -> bool
     ensures { IsTrue result ↔ IsNumeral text.now }
@@ -42,13 +60,13 @@ pub fn capped_number(so_far: u128, digits: &[u8]) -> u128
 {
     let mut number = so_far;
     for digit in digits {
-        number = behind(number, *digit);
+        number = with_digit(number, *digit);
     }
     number
 }
 
 // The number that the digit writes behind those of `number`, or 2^127 where it is larger.
-fn behind(number: u128, digit: u8) -> u128
+fn with_digit(number: u128, digit: u8) -> u128
     requires { number ≤ 2 ^ 127 }
     ensures { result ≡ min (number * 10 + (digit - 48)) (2 ^ 127) }
 {

@@ -1,10 +1,10 @@
 // The parts of a number's text.
-ghost use Rattle.std.specs.Prelude.{◌≡◌, ℕ, List, MatchOption, Option, if◌then◌else◌, ◌==◌, ◌||◌, drop, slice_index, IsTrue, ◌↔◌, length, ◌<◌};
+ghost use Rattle.std.specs.Prelude.{◌≡◌, ℕ, Bool, List, ◌∷◌, MatchOption, Option, if◌then◌else◌, ◌==◌, ◌||◌, drop, slice_index, length};
 ghost use Rattle.scaled_decimals.specs.Digits.{IsNumeral};
-ghost use Rattle.scaled_decimals.specs.NumberText.{NumberText, Exponent, IsExponent, Spells, exponent_bytes};
+ghost use Rattle.scaled_decimals.specs.NumberText.{NumberText, Exponent, IsExponent, Spells, exponent_bytes, mark};
 ghost use Rattle.scaled_decimals.specs.PartsReading.{AreParts, IsPower, digits_in_front, after_digits};
 
-use crate::reading::digits::{is_numeral, split_digits};
+use crate::reading::digits::{behind, is_numeral, split_digits};
 
 // The parts of a number: whether it has a minus, the digits before and behind the point, and its power of ten, which is without
 // digits where there is none.
@@ -75,16 +75,19 @@ fn split_places(text: &[u8]) -> (&[u8], &[u8])
 fn power_of(text: &[u8]) -> Option<(bool, &[u8])>
     ensures { MatchOption result ((e : Option Exponent) → IsExponent e → text.now ≡ exponent_bytes e → ⊥) (λ s. (e : Option Exponent) × IsPower text.now s.0 s.1.now e) }
 {
-    match text.first() {
-        None => Some((false, text)),
-        Some(b'e' | b'E') => {
-            let (lowering, digits) = split_sign(&text[1..]);
-            if is_numeral(digits) {
-                Some((lowering, digits))
-            } else {
-                None
-            }
-        }
-        Some(_) => None,
+    if text.is_empty() {
+        return Some((false, text));
+    }
+    let (lowering, digits) = split_sign(behind_mark(text)?);
+    if is_numeral(digits) { Some((lowering, digits)) } else { None }
+}
+
+// What follows `e` or `E`.
+fn behind_mark(text: &[u8]) -> Option<&[u8]>
+    ensures { MatchOption result ((capital : Bool) (rest : List ℕ) → text.now ≡ mark capital ∷ rest → ⊥) (λ rest. (capital : Bool) × (text.now ≡ mark capital ∷ rest.now)) }
+{
+    match behind(text, b'e') {
+        Some(rest) => Some(rest),
+        None => behind(text, b'E'),
     }
 }

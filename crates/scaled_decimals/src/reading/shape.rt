@@ -3,7 +3,7 @@ ghost use Rattle.std.specs.Prelude.{◌≡◌, MatchOption};
 ghost use Rattle.scaled_decimals.specs.FractionText.{Form, IsFormed, form_bytes};
 ghost use Rattle.scaled_decimals.specs.PartsReading.{form_of};
 
-use crate::reading::digits::{is_numeral, split_digits};
+use crate::reading::digits::{numeral_behind, split_digits};
 
 // Digits, digits over digits, or digits with digits behind a point.
 #[derive(Clone, Copy, Drop)]
@@ -21,10 +21,13 @@ pub fn shape_of(text: &[u8]) -> Option<Shape<'_>>
     if front.is_empty() {
         return None;
     }
-    match rest.first() {
-        None => Some(Shape::Whole(front)),
-        Some(b'/') if is_numeral(&rest[1..]) => Some(Shape::Quotient(front, &rest[1..])),
-        Some(b'.') if is_numeral(&rest[1..]) => Some(Shape::Decimal(front, &rest[1..])),
-        Some(_) => None,
+    if rest.is_empty() {
+        Some(Shape::Whole(front))
+    } else if let Some(below) = numeral_behind(rest, b'/') {
+        Some(Shape::Quotient(front, below))
+    } else if let Some(places) = numeral_behind(rest, b'.') {
+        Some(Shape::Decimal(front, places))
+    } else {
+        None
     }
 }
