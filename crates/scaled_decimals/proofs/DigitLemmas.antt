@@ -30,6 +30,10 @@ continued-append n [] ys = ap (λ m. continued m ys) (sym (continued-none n))
 continued-append n (x ∷ xs) ys =
     continued-cons n x (xs ++ ys) ∙ continued-append (n * 10 + (x - 48)) xs ys ∙ ap (λ m. continued m ys) (sym (continued-cons n x xs))
 
+pub number-append : (xs ys : List ℕ) → number_of (xs ++ ys) ≡ number_of xs * 10 ^ length ys + number_of ys
+unfolding continued
+number-append xs ys = sym (continued-zero (xs ++ ys)) ∙ continued-append 0 xs ys ∙ ap (λ m. continued m ys) (continued-zero xs)
+
 pub continued-ge : (n : ℕ) (ds : List ℕ) → n ≤ continued n ds
 continued-ge n [] = rw (continued-none n) (omega arith)
 continued-ge n (c ∷ cs) = let more = continued-ge (n * 10 + (c - 48)) cs in rw (continued-cons n c cs) (omega arith)

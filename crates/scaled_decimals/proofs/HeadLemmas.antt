@@ -9,6 +9,10 @@ use Rattle.scaled_decimals.specs.PartsReading.{IsHead}
 use Rattle.scaled_decimals.specs.declared.reading.head.Head.{Head}
 use Rattle.scaled_decimals.proofs.DigitLemmas.{ten_pos}
 
+-- no digits write 0
+pub IsHead-none : IsHead (record { value = 0; dropped = 0; rest = false }) 0
+IsHead-none = record { tail = 0; digits = refl; short = omega arith; rest = refl; full = λ some. absurd (omega arith) }
+
 -- without left out digits the head is the number
 pub IsHead-whole : (h : Head) (m : ℕ) → h.dropped ≡ 0 → IsHead h m → m ≡ h.value
 IsHead-whole h m e is =

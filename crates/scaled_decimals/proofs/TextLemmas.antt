@@ -58,6 +58,11 @@ minus-of Bare text is = is.minus
 minus-of Plus text is = refl
 minus-of Minus text is = refl
 
+pub sign_of-bytes : (s : Sign) (text : List ℕ) → IsUnsigned text → sign_of (sign_bytes s ++ text) ≡ s
+sign_of-bytes Bare text is = ap₂ sign_by is.minus is.plus
+sign_of-bytes Plus text is = refl
+sign_of-bytes Minus text is = refl
+
 not-a-sign : (c : ℕ) (cs : List ℕ) → 45 < c → IsUnsigned (c ∷ cs)
 not-a-sign c cs h = record { minus = grind (arith, nat_tests); plus = grind (arith, nat_tests) }
 
@@ -140,6 +145,10 @@ pub after_places-of : (f : Option (List ℕ)) (e : Option Exponent) → AreDigit
 after_places-of None e h = ap (λ b. cond b (after_digits (drop 1 (exponent_bytes e))) (exponent_bytes e)) (no-point-exponent e)
 after_places-of (Some ds) e h = after_digits-append ds (exponent_bytes e) h (no-digit-exponent e)
 
+fraction_of-bytes : (f : Option (List ℕ)) (e : Option Exponent) → AreDigits (fraction_digits f) → fraction_of (fraction_bytes f ++ exponent_bytes e) ≡ f
+fraction_of-bytes None e h = ap (λ b. fraction_by b (exponent_bytes e)) (no-point-exponent e)
+fraction_of-bytes (Some ds) e h = ap Some (digits_in_front-append ds (exponent_bytes e) h (no-digit-exponent e))
+
 unsigned-body : (whole : List ℕ) (f : Option (List ℕ)) (e : Option Exponent) → AreDigits whole → 0 < length whole + length (fraction_digits f) → IsUnsigned (whole ++ (fraction_bytes f ++ exponent_bytes e))
 unsigned-body [] None e h some = absurd (omega arith)
 unsigned-body [] (Some ds) e h some = record { minus = refl; plus = refl }
@@ -147,9 +156,10 @@ unsigned-body (c ∷ cs) f e h some = IsUnsigned-digits (c ∷ cs) (fraction_byt
 
 -- the parts that the readers of a text find are those of the number that it spells
 pub record IsCut (q : NumberText) (text : List ℕ) : Type 0 where
-  pub negative : eqb (slice_index text 0) 45 ≡ is_minus q.sign
+  pub sign : sign_of text ≡ q.sign
   pub whole : digits_in_front (after_sign text) ≡ q.whole
   pub places : places_in_front (after_digits (after_sign text)) ≡ fraction_digits q.fraction
+  pub fraction : fraction_of (after_digits (after_sign text)) ≡ q.fraction
   pub end : after_places (after_digits (after_sign text)) ≡ exponent_bytes q.exponent
 
 pub IsCut-of : (q : NumberText) (text : List ℕ) → Spells q text → IsCut q text
@@ -161,14 +171,15 @@ IsCut-of q text is =
     let none : prefix_len is_ascii_digit tail ≡ 0 = no-digit-fraction q.fraction q.exponent in
     let behind : after_digits (after_sign text) ≡ tail = ap after_digits rest ∙ after_digits-append q.whole tail is.formed.before none in
     record {
-      negative = ap (λ t. eqb (slice_index t 0) 45) is.bytes ∙ minus-of q.sign body unsigned;
+      sign = ap sign_of is.bytes ∙ sign_of-bytes q.sign body unsigned;
       whole = ap digits_in_front rest ∙ digits_in_front-append q.whole tail is.formed.before none;
       places = ap places_in_front behind ∙ places-of q.fraction q.exponent is.formed.behind;
+      fraction = ap fraction_of behind ∙ fraction_of-bytes q.fraction q.exponent is.formed.behind;
       end = ap after_places behind ∙ after_places-of q.fraction q.exponent is.formed.behind;
     }
 
 -- the number that a text spells, where its end is a power of ten
-pub number_at : List ℕ → Option Exponent → NumberText
+abbrev pub number_at : List ℕ → Option Exponent → NumberText
 number_at text e = record {
   sign = sign_of text;
   whole = digits_in_front (after_sign text);
@@ -177,7 +188,6 @@ number_at text e = record {
 }
 
 pub Spells-at : (text : List ℕ) (e : Option Exponent) → 0 < length (digits_in_front (after_sign text)) + length (places_in_front (after_digits (after_sign text))) → IsExponent e → after_places (after_digits (after_sign text)) ≡ exponent_bytes e → Spells (number_at text e) text
-unfolding number_at
 Spells-at text e some power end =
     let body = after_sign text in
     let tail = after_digits body in
@@ -190,3 +200,73 @@ Spells-at text e some power end =
       };
       bytes = sign-bytes text ∙ ap (λ t. sign_bytes (sign_of text) ++ t) (sym (digits-bytes body) ∙ ap (λ t. digits_in_front body ++ t) (fraction-bytes tail ∙ ap (λ t. fraction_bytes (fraction_of tail) ++ t) end));
     }
+
+-- ---- a text is spelled in one way only
+capital-of : (x y : Bool) → mark x ≡ mark y → x ≡ y
+capital-of true true h = refl
+capital-of true false h = absurd (omega (arith, h))
+capital-of false true h = absurd (omega (arith, h))
+capital-of false false h = refl
+
+mark-parts : (x y : Bool) (xs ys : List ℕ) → mark x ∷ xs ≡ mark y ∷ ys → (mark x ≡ mark y) × (xs ≡ ys)
+mark-parts x y xs ys h = (cc, cc)
+
+abbrev exponent_with : Bool → Sign → List ℕ → Exponent
+exponent_with capital sign digits = record { capital = capital; sign = sign; digits = digits }
+
+abbrev number_with : Sign → List ℕ → Option (List ℕ) → Option Exponent → NumberText
+number_with sign whole fraction exponent = record { sign = sign; whole = whole; fraction = fraction; exponent = exponent }
+
+same_exponent : (x y : Exponent) → IsNumeral x.digits → IsNumeral y.digits → exponent_bytes (Some x) ≡ exponent_bytes (Some y) → x ≡ y
+same_exponent x y p q h =
+    let parts = mark-parts x.capital y.capital (sign_bytes x.sign ++ x.digits) (sign_bytes y.sign ++ y.digits) h in
+    let ux = IsUnsigned-numeral x.digits p in
+    let uy = IsUnsigned-numeral y.digits q in
+    let sign : x.sign ≡ y.sign = sym (sign_of-bytes x.sign x.digits ux) ∙ ap sign_of parts.1 ∙ sign_of-bytes y.sign y.digits uy in
+    let digits : x.digits ≡ y.digits = sym (after_sign-of x.sign x.digits ux) ∙ ap after_sign parts.1 ∙ after_sign-of y.sign y.digits uy in
+    let capital : x.capital ≡ y.capital = capital-of x.capital y.capital parts.0 in
+    ap₂ (λ k s. exponent_with k s x.digits) capital sign ∙ ap (λ ds. exponent_with y.capital y.sign ds) digits
+
+one_exponent : (x y : Option Exponent) → IsExponent x → IsExponent y → exponent_bytes x ≡ exponent_bytes y → x ≡ y
+one_exponent None None p q h = refl
+one_exponent None (Some y) p q h = cc
+one_exponent (Some x) None p q h = cc
+one_exponent (Some x) (Some y) p q h = ap Some (same_exponent x y p q h)
+
+number_at-is : (q : NumberText) (text : List ℕ) → Spells q text → number_at text q.exponent ≡ q
+number_at-is q text is =
+    let cut = IsCut-of q text is in
+    ap₂ (λ s w. number_with s w (fraction_of (after_digits (after_sign text))) q.exponent) cut.sign cut.whole
+    ∙ ap (λ f. number_with q.sign q.whole f q.exponent) cut.fraction
+
+pub one_way : (text : List ℕ) (p q : NumberText) → Spells p text → Spells q text → p ≡ q
+one_way text p q is are =
+    let left = IsCut-of p text is in
+    let right = IsCut-of q text are in
+    let same : p.exponent ≡ q.exponent = one_exponent p.exponent q.exponent is.formed.power are.formed.power (sym left.end ∙ right.end) in
+    sym (number_at-is p text is) ∙ ap (λ e. number_at text e) same ∙ number_at-is q text are
+
+-- ---- a power of ten
+pub IsPower-none : (text : List ℕ) → length text ≡ 0 → (e : Option Exponent) × IsPower text false text e
+IsPower-none [] h = (None, record { formed = tt; bytes = refl; sign = refl; all = refl })
+IsPower-none (c ∷ cs) h = absurd (omega arith)
+
+pub IsPower-some : (text behind : List ℕ) (capital : Bool) (lowering : Bool) (digits : List ℕ) → text ≡ mark capital ∷ behind → lowering ≡ eqb (slice_index behind 0) 45 → digits ≡ after_sign behind → IsNumeral digits → (e : Option Exponent) × IsPower text lowering digits e
+IsPower-some text behind capital lowering digits is minus rest numeral =
+    (Some (record { capital = capital; sign = sign_of behind; digits = digits }),
+    record {
+      formed = numeral;
+      bytes = is ∙ ap (λ t. mark capital ∷ t) (sign-bytes behind ∙ ap (λ t. sign_bytes (sign_of behind) ++ t) (sym rest));
+      sign = minus ∙ sym (is_minus-of behind);
+      all = refl;
+    })
+
+pub not-IsPower : (text : List ℕ) → (0 < length text) → ((capital : Bool) (rest : List ℕ) → text ≡ mark capital ∷ rest → ⊥) → (e : Option Exponent) → IsExponent e → text ≡ exponent_bytes e → ⊥
+not-IsPower text some none None is bytes = let e : length text ≡ 0 = ap length bytes in absurd (omega arith)
+not-IsPower text some none (Some e) is bytes = none e.capital (sign_bytes e.sign ++ e.digits) bytes
+
+pub not-numeral : (text behind : List ℕ) (capital : Bool) → text ≡ mark capital ∷ behind → (IsNumeral (after_sign behind) → ⊥) → (e : Option Exponent) → IsExponent e → text ≡ exponent_bytes e → ⊥
+not-numeral text behind capital is none None formed bytes = let no : mark capital ∷ behind ≡ [] = sym is ∙ bytes in cc
+not-numeral text behind capital is none (Some e) formed bytes =
+    let parts = mark-parts capital e.capital behind (sign_bytes e.sign ++ e.digits) (sym is ∙ bytes) in
+    none (subst IsNumeral (sym (ap after_sign parts.1 ∙ after_sign-of e.sign e.digits (IsUnsigned-numeral e.digits formed))) formed)

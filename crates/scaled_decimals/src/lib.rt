@@ -3,7 +3,7 @@
 
 mod reading;
 
-pub use reading::{DecFault, exact_value, read_decimal};
+pub use reading::{DecFault, exact_value, read_decimal, rounding_laws, spelling_laws};
 
 #[cfg(test)]
 mod reading_tests;

@@ -9,6 +9,7 @@ ghost use Rattle.scaled_decimals.specs.PartsReading.{AreParts, form_of};
 
 mod digits;
 mod head;
+mod laws;
 mod parts;
 mod scale;
 mod shape;
@@ -16,6 +17,7 @@ mod shape;
 use digits::{capped_number, capped_power};
 use exact_num::{Frac, ratio};
 use head::{EMPTY, extended};
+pub use laws::{rounding_laws, spelling_laws};
 use parts::{Parts, parts_of, split_minus};
 use scale::{scaled, signed};
 use shape::{Shape, shape_of};
