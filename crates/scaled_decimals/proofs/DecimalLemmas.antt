@@ -20,7 +20,7 @@ decimal_ratio p =
     let left : 10 ^ 24 * 10 ^ lowered p ≡ 10 ^ 15 * 10 ^ lowered p * 10 ^ 9 = omega arith in
     let right : 10 ^ 9 * (mantissa p * 10 ^ raised p) ≡ mantissa p * 10 ^ raised p * 10 ^ 9 = mul_comm (10 ^ 9) (mantissa p * 10 ^ raised p) in
     let above : ltb (10 ^ 24 * 10 ^ lowered p) (10 ^ 9 * (mantissa p * 10 ^ raised p)) ≡ ltb (10 ^ 15 * 10 ^ lowered p) (mantissa p * 10 ^ raised p) =
-        ap₂ ltb left right ∙ ltb-scale (10 ^ 15 * 10 ^ lowered p) (mantissa p * 10 ^ raised p) (10 ^ 9) (lit< tt) in
+    ap₂ ltb left right ∙ ltb-scale (10 ^ 15 * 10 ^ lowered p) (mantissa p * 10 ^ raised p) (10 ^ 9) (lit< tt) in
     ap (λ n. read_ratio (is_minus p.sign) n (10 ^ lowered p)) top
     ∙ ap (λ a. answer (is_minus p.sign) a (nearest (10 ^ 9 * (mantissa p * 10 ^ raised p)) (10 ^ lowered p)) (not (eqb (nearest (10 ^ 9 * (mantissa p * 10 ^ raised p)) (10 ^ lowered p) * 10 ^ lowered p) (10 ^ 9 * (mantissa p * 10 ^ raised p))))) above
 

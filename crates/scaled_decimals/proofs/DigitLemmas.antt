@@ -44,10 +44,10 @@ capped-continued n limit ds =
     elim (cases_lt n limit) [
       | inl small ↦ let same : min n limit ≡ n = omega arith in ap (λ k. min (continued k ds) limit) same
       | inr large ↦
-        let same : min n limit ≡ limit = omega arith in
-        let left = continued-ge (min n limit) ds in
-        let right = continued-ge n ds in
-        omega arith
+          let same : min n limit ≡ limit = omega arith in
+          let left = continued-ge (min n limit) ds in
+          let right = continued-ge n ds in
+          omega arith
     ]
 
 -- one more digit of a number that is capped

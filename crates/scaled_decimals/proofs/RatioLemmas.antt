@@ -67,7 +67,7 @@ read_ratio-scale negative n d c pos =
     let above : ltb (10 ^ 24 * (d * c)) (n * c) ≡ ltb (10 ^ 24 * d) n = ap (λ z. ltb z (n * c)) (sym (mul_assoc (10 ^ 24) d c)) ∙ ltb-scale (10 ^ 24 * d) n c pos in
     let near : nearest (n * c) (d * c) ≡ nearest n d = nearest-scale n d c pos in
     let same : eqb (nearest (n * c) (d * c) * (d * c)) (n * c) ≡ eqb (nearest n d * d) n =
-        ap (λ z. eqb (z * (d * c)) (n * c)) near ∙ ap (λ z. eqb z (n * c)) (sym (mul_assoc (nearest n d) d c)) ∙ eqb-scale (nearest n d * d) n c pos in
+    ap (λ z. eqb (z * (d * c)) (n * c)) near ∙ ap (λ z. eqb z (n * c)) (sym (mul_assoc (nearest n d) d c)) ∙ eqb-scale (nearest n d * d) n c pos in
     answer_is negative (n * c) (d * c)
     ∙ ap₂ (λ a q. answer negative a q (eqb (nearest (n * c) (d * c) * (d * c)) (n * c))) above near
     ∙ ap (λ e. answer negative (ltb (10 ^ 24 * d) n) (nearest n d) e) same

@@ -195,7 +195,7 @@ module _ (negative : Bool) (h : Head) (m p half : ℕ) (is : IsHead h m) (positi
 pub scaled_up : (negative : Bool) (m a b d s : ℕ) → a + d ≡ b + s → read_ratio negative (m * 10 ^ a) (10 ^ b) ≡ read_ratio negative (m * 10 ^ s) (10 ^ d)
 scaled_up negative m a b d s e =
     let top : m * 10 ^ a * 10 ^ d ≡ m * 10 ^ s * 10 ^ b =
-        mul_assoc m (10 ^ a) (10 ^ d) ∙ ap (λ k. m * k) (sym (pow-add 10 a d) ∙ ap (λ k. 10 ^ k) (e ∙ add_comm b s) ∙ pow-add 10 s b) ∙ sym (mul_assoc m (10 ^ s) (10 ^ b)) in
+    mul_assoc m (10 ^ a) (10 ^ d) ∙ ap (λ k. m * k) (sym (pow-add 10 a d) ∙ ap (λ k. 10 ^ k) (e ∙ add_comm b s) ∙ pow-add 10 s b) ∙ sym (mul_assoc m (10 ^ s) (10 ^ b)) in
     sym (read_ratio-scale negative (m * 10 ^ a) (10 ^ b) (10 ^ d) (ten_pos d))
     ∙ ap₂ (λ x y. read_ratio negative x y) top (mul_comm (10 ^ b) (10 ^ d))
     ∙ read_ratio-scale negative (m * 10 ^ s) (10 ^ d) (10 ^ b) (ten_pos b)

@@ -252,14 +252,15 @@ IsPower-none [] h = (None, record { formed = tt; bytes = refl; sign = refl; all 
 IsPower-none (c ∷ cs) h = absurd (omega arith)
 
 pub IsPower-some : (text behind : List ℕ) (capital : Bool) (lowering : Bool) (digits : List ℕ) → text ≡ mark capital ∷ behind → lowering ≡ eqb (slice_index behind 0) 45 → digits ≡ after_sign behind → IsNumeral digits → (e : Option Exponent) × IsPower text lowering digits e
-IsPower-some text behind capital lowering digits is minus rest numeral =
-    (Some (record { capital = capital; sign = sign_of behind; digits = digits }),
-    record {
-      formed = numeral;
-      bytes = is ∙ ap (λ t. mark capital ∷ t) (sign-bytes behind ∙ ap (λ t. sign_bytes (sign_of behind) ++ t) (sym rest));
-      sign = minus ∙ sym (is_minus-of behind);
-      all = refl;
-    })
+IsPower-some text behind capital lowering digits is minus rest numeral = (
+  Some (record { capital = capital; sign = sign_of behind; digits = digits }),
+  record {
+    formed = numeral;
+    bytes = is ∙ ap (λ t. mark capital ∷ t) (sign-bytes behind ∙ ap (λ t. sign_bytes (sign_of behind) ++ t) (sym rest));
+    sign = minus ∙ sym (is_minus-of behind);
+    all = refl;
+  },
+)
 
 pub not-IsPower : (text : List ℕ) → (0 < length text) → ((capital : Bool) (rest : List ℕ) → text ≡ mark capital ∷ rest → ⊥) → (e : Option Exponent) → IsExponent e → text ≡ exponent_bytes e → ⊥
 not-IsPower text some none None is bytes = let e : length text ≡ 0 = ap length bytes in absurd (omega arith)

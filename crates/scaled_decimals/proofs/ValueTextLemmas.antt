@@ -129,7 +129,7 @@ value_with negative form = record { negative = negative; form = form }
 pub one_value_way : (text : List ℕ) (f g : FractionText) → SpellsValue f text → SpellsValue g text → f ≡ g
 one_value_way text f g is are =
     ap₂ value_with (sym (negative-is f text is) ∙ negative-is g text are)
-      (one_form f.form g.form (after_minus text) is.formed are.formed (body-is f text is) (body-is g text are))
+    (one_form f.form g.form (after_minus text) is.formed are.formed (body-is f text is) (body-is g text are))
 
 -- the value that a text spells
 pub SpellsValue-at : (text : List ℕ) (form : Form) → IsFormed form → after_minus text ≡ form_bytes form → (below_of form ≡ 0 → ⊥) → SpellsValue (record { negative = eqb (slice_index text 0) 45; form = form }) text

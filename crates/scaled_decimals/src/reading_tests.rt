@@ -2,7 +2,7 @@
 use super::*;
 use DecFault::{NotNumber, TooLarge};
 use exact_num::Frac;
-use std::process::Abort;
+use std::test::Fail;
 
 const NUMBERS: [(&[u8], Result<(i128, bool), DecFault>); 113] = [
     (b"", Err(NotNumber)),
@@ -310,4 +310,47 @@ fn values_are_read_in_lowest_terms(rt: HostRuntime) {
     for (text, answer) in VALUES {
         assert_eq!(rt; exact_value(text).map(|v: Frac| (v.num, v.den)), answer);
     }
+}
+
+#[test]
+fn long_texts_are_read_in_one_pass(rt: HostRuntime) -> Result<(), Fail> {
+    let zeros = vec![in rt.alloc(); b'0'; 1_000_000]?;
+
+    let mut text = Vec::new(rt.alloc());
+    text.extend_from_slice(zeros.as_slice())?;
+    text.push(b'1')?;
+    assert_eq!(rt; read_decimal(text.as_slice()), Ok((1_000_000_000, false)));
+    assert_eq!(rt;
+        exact_value(text.as_slice()).map(|v: Frac| (v.num, v.den)),
+        Ok((1, 1))
+    );
+
+    // A digit, a million zeros behind it, and the power of ten that takes them away.
+    let mut text = b"3".to_vec(rt.alloc())?;
+    text.extend_from_slice(zeros.as_slice())?;
+    assert_eq!(rt; read_decimal(text.as_slice()), Err(TooLarge));
+    assert_eq!(rt;
+        exact_value(text.as_slice()).map(|v: Frac| (v.num, v.den)),
+        Err(TooLarge)
+    );
+    text.extend_from_slice(b"e-1000000")?;
+    assert_eq!(rt; read_decimal(text.as_slice()), Ok((3_000_000_000, false)));
+
+    // A million zeros behind the point, and the power of ten that brings the last digit back.
+    let mut text = b"0.".to_vec(rt.alloc())?;
+    text.extend_from_slice(zeros.as_slice())?;
+    text.push(b'1')?;
+    assert_eq!(rt; read_decimal(text.as_slice()), Ok((0, true)));
+    assert_eq!(rt;
+        exact_value(text.as_slice()).map(|v: Frac| (v.num, v.den)),
+        Err(TooLarge)
+    );
+    text.extend_from_slice(b"e1000001")?;
+    assert_eq!(rt; read_decimal(text.as_slice()), Ok((1_000_000_000, false)));
+
+    // An exponent of a million digits.
+    let mut text = b"-7e-1".to_vec(rt.alloc())?;
+    text.extend_from_slice(zeros.as_slice())?;
+    assert_eq!(rt; read_decimal(text.as_slice()), Ok((0, true)));
+    Ok(())
 }

@@ -35,7 +35,11 @@ pub fn behind(text: &[u8], byte: u8) -> Option<&[u8]>
     if text.is_empty() {
         return None;
     }
-    if text[0] == byte { Some(&text[1..]) } else { None }
+    if text[0] == byte {
+        Some(&text[1..])
+    } else {
+        None
+    }
 }
 
 // The digits that follow this byte; none where anything else stands there.
@@ -43,7 +47,11 @@ pub fn numeral_behind(text: &[u8], byte: u8) -> Option<&[u8]>
     ensures { MatchOption result ((ds : List ℕ) → IsNumeral ds → text.now ≡ byte ∷ ds → ⊥) (λ ds. IsNumeral ds.now × (text.now ≡ byte ∷ ds.now)) }
 {
     let digits = behind(text, byte)?;
-    if is_numeral(digits) { Some(digits) } else { None }
+    if is_numeral(digits) {
+        Some(digits)
+    } else {
+        None
+    }
 }
 
 // Whether the text is one digit or more, and nothing else.

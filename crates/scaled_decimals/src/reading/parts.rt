@@ -79,7 +79,11 @@ fn power_of(text: &[u8]) -> Option<(bool, &[u8])>
         return Some((false, text));
     }
     let (lowering, digits) = split_sign(behind_mark(text)?);
-    if is_numeral(digits) { Some((lowering, digits)) } else { None }
+    if is_numeral(digits) {
+        Some((lowering, digits))
+    } else {
+        None
+    }
 }
 
 // What follows `e` or `E`.

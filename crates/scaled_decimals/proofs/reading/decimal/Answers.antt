@@ -34,32 +34,32 @@ capped-is power capped e = ap (λ n. min n (2 ^ 127)) (sym (continued-zero power
 pub returns-then-parts : goal.returns-then-parts
 returns-then-parts c =
     λ p is.
-      let places = c.args.parts.places.now in
-      let power = c.args.parts.power.now in
-      let head : IsHead c.extended-head.result (mantissa p) =
-          subst (λ (m : ℕ). IsHead c.extended-head.result m) (all p c.args.parts.whole.now places is.whole is.places)
-            (c.extended-head.ensures.head (continued 0 c.args.parts.whole.now) (c.extended.ensures.head 0 IsHead-none)) in
-      let few : length places < 2 ^ 66 = omega (arith, c.ranges.parts) in
-      let down : IsKept (2 ^ 99) (length places + number_of power) (length places + c.capped_number-power.result) =
-          subst (λ (k : ℕ). IsKept (2 ^ 99) (length places + number_of power) (length places + k)) (capped-is power c.capped_number-power.result c.capped_number-power.ensures) (kept-capped (length places) (number_of power) few) in
-      let minus = sym c.if-parts.true ∙ is.lowering in
-      c.scaled.ensures (mantissa p) 9 (length places + number_of power) head (kept-exact 9) down
-      ∙ decimal_from p c.args.parts.negative 9 (length places + number_of power) is.negative
-        (ap (λ k. 9 + k) (sym (raised-is p true power minus is.power))) (sym (lowered-is p true places power minus is.places is.power))
+    let places = c.args.parts.places.now in
+    let power = c.args.parts.power.now in
+    let head : IsHead c.extended-head.result (mantissa p) =
+    subst (λ (m : ℕ). IsHead c.extended-head.result m) (all p c.args.parts.whole.now places is.whole is.places)
+    (c.extended-head.ensures.head (continued 0 c.args.parts.whole.now) (c.extended.ensures.head 0 IsHead-none)) in
+    let few : length places < 2 ^ 66 = omega (arith, c.ranges.parts) in
+    let down : IsKept (2 ^ 99) (length places + number_of power) (length places + c.capped_number-power.result) =
+    subst (λ (k : ℕ). IsKept (2 ^ 99) (length places + number_of power) (length places + k)) (capped-is power c.capped_number-power.result c.capped_number-power.ensures) (kept-capped (length places) (number_of power) few) in
+    let minus = sym c.if-parts.true ∙ is.lowering in
+    c.scaled.ensures (mantissa p) 9 (length places + number_of power) head (kept-exact 9) down
+    ∙ decimal_from p c.args.parts.negative 9 (length places + number_of power) is.negative
+    (ap (λ k. 9 + k) (sym (raised-is p true power minus is.power))) (sym (lowered-is p true places power minus is.places is.power))
 
 pub returns-else-parts : goal.returns-else-parts
 returns-else-parts c =
     λ p is.
-      let places = c.args.parts.places.now in
-      let power = c.args.parts.power.now in
-      let head : IsHead c.extended-head.result (mantissa p) =
-          subst (λ (m : ℕ). IsHead c.extended-head.result m) (all p c.args.parts.whole.now places is.whole is.places)
-            (c.extended-head.ensures.head (continued 0 c.args.parts.whole.now) (c.extended.ensures.head 0 IsHead-none)) in
-      let nine : 9 < 2 ^ 66 = omega arith in
-      let up : IsKept (2 ^ 99) (9 + number_of power) (9 + c.capped_number-power.result) =
-          subst (λ (k : ℕ). IsKept (2 ^ 99) (9 + number_of power) (9 + k)) (capped-is power c.capped_number-power.result c.capped_number-power.ensures) (kept-capped 9 (number_of power) nine) in
-      let plus = sym c.if-parts.false ∙ is.lowering in
-      let bottom : length places ≡ lowered p = omega (arith, lowered-is p false places power plus is.places is.power) in
-      c.scaled-else-parts.ensures (mantissa p) (9 + number_of power) (length places) head up (kept-exact (length places))
-      ∙ decimal_from p c.args.parts.negative (9 + number_of power) (length places) is.negative
-        (ap (λ k. 9 + k) (sym (raised-is p false power plus is.power))) bottom
+    let places = c.args.parts.places.now in
+    let power = c.args.parts.power.now in
+    let head : IsHead c.extended-head.result (mantissa p) =
+    subst (λ (m : ℕ). IsHead c.extended-head.result m) (all p c.args.parts.whole.now places is.whole is.places)
+    (c.extended-head.ensures.head (continued 0 c.args.parts.whole.now) (c.extended.ensures.head 0 IsHead-none)) in
+    let nine : 9 < 2 ^ 66 = omega arith in
+    let up : IsKept (2 ^ 99) (9 + number_of power) (9 + c.capped_number-power.result) =
+    subst (λ (k : ℕ). IsKept (2 ^ 99) (9 + number_of power) (9 + k)) (capped-is power c.capped_number-power.result c.capped_number-power.ensures) (kept-capped 9 (number_of power) nine) in
+    let plus = sym c.if-parts.false ∙ is.lowering in
+    let bottom : length places ≡ lowered p = omega (arith, lowered-is p false places power plus is.places is.power) in
+    c.scaled-else-parts.ensures (mantissa p) (9 + number_of power) (length places) head up (kept-exact (length places))
+    ∙ decimal_from p c.args.parts.negative (9 + number_of power) (length places) is.negative
+    (ap (λ k. 9 + k) (sym (raised-is p false power plus is.power))) bottom

@@ -34,7 +34,7 @@ found c = record { negative = eqb (slice_index c.args.text.now 0) 45; form = for
 spells : (c : goal.After-fraction) → SpellsValue (found c) c.args.text.now
 spells c =
     SpellsValue-at c.args.text.now (form_of c.in-Some.shape) c.in-Some.ensures.0 (sym c.split_minus-negative.ensures.rest ∙ c.in-Some.ensures.1)
-      (λ none. c.if-below-eq0.false (omega (arith, c.below-below.ensures)))
+    (λ none. c.if-below-eq0.false (omega (arith, c.below-below.ensures)))
 
 agrees : (c : goal.After-fraction) → AgreesWith (found c) c.fraction.result
 agrees c = c.fraction.ensures (found c) (sym c.split_minus-negative.ensures.negative) c.above.ensures c.below-below.ensures

@@ -24,5 +24,5 @@ returns-in-Some-clause-answer c =
 pub returns-in-Some-clause-number : goal.returns-in-Some-clause-number
 returns-in-Some-clause-number c =
     λ p is.
-      let found = c.in-Some.ensures in
-      c.decimal.ensures found.0 found.2 ∙ ap decimal_of (one_way c.args.text.now found.0 p found.1 is)
+    let found = c.in-Some.ensures in
+    c.decimal.ensures found.0 found.2 ∙ ap decimal_of (one_way c.args.text.now found.0 p found.1 is)

@@ -23,20 +23,20 @@ returns-then-head-eq0 c = λ m a is kept. sym (raised_zero c.args.negative c.arg
 pub returns-then-up-gt24 : goal.returns-then-up-gt24
 returns-then-up-gt24 c =
     λ m a is kept.
-      sym (raised_above c.args.negative c.args.head m a (far-above c.args.head.value a (omega arith) (raised-far a c.args.up kept c.if-up-gt24.true)) is)
+    sym (raised_above c.args.negative c.args.head m a (far-above c.args.head.value a (omega arith) (raised-far a c.args.up kept c.if-up-gt24.true)) is)
 
 pub returns-then-head-power_of_ten : goal.returns-then-head-power_of_ten
 returns-then-head-power_of_ten c =
     λ m a is kept.
-      let same : a ≡ c.args.up = kept.same (omega arith) in
-      let big : 10 ^ (24 - a) < c.args.head.value = omega (arith, c.power_of_ten.ensures, ap (λ k. 10 ^ (24 - k)) same) in
-      sym (raised_above c.args.negative c.args.head m a (near-above c.args.head.value a (omega arith) big) is)
+    let same : a ≡ c.args.up = kept.same (omega arith) in
+    let big : 10 ^ (24 - a) < c.args.head.value = omega (arith, c.power_of_ten.ensures, ap (λ k. 10 ^ (24 - k)) same) in
+    sym (raised_above c.args.negative c.args.head m a (near-above c.args.head.value a (omega arith) big) is)
 
 pub returns-else-head-power_of_ten : goal.returns-else-head-power_of_ten
 returns-else-head-power_of_ten c =
     λ m a is kept.
-      let same : a ≡ c.args.up = kept.same (omega arith) in
-      let power : c.args.head.value * c.power_of_ten-else-head-power_of_ten.result ≡ c.args.head.value * 10 ^ a = ap (λ k. c.args.head.value * k) (c.power_of_ten-else-head-power_of_ten.ensures ∙ ap (λ k. 10 ^ k) (sym same)) in
-      let low : c.args.head.value ≤ 10 ^ (24 - a) = omega (arith, c.power_of_ten.ensures, ap (λ k. 10 ^ (24 - k)) same) in
-      ap (λ z. Ok (z, false)) (back_in_range c.signed.result c.signed.ensures.range ∙ c.signed.ensures.value ∙ ap (λ k. with_sign c.args.negative k) power)
-      ∙ sym (raised_exact c.args.negative c.args.head m a (near-within c.args.head.value a (omega arith) low) is)
+    let same : a ≡ c.args.up = kept.same (omega arith) in
+    let power : c.args.head.value * c.power_of_ten-else-head-power_of_ten.result ≡ c.args.head.value * 10 ^ a = ap (λ k. c.args.head.value * k) (c.power_of_ten-else-head-power_of_ten.ensures ∙ ap (λ k. 10 ^ k) (sym same)) in
+    let low : c.args.head.value ≤ 10 ^ (24 - a) = omega (arith, c.power_of_ten.ensures, ap (λ k. 10 ^ (24 - k)) same) in
+    ap (λ z. Ok (z, false)) (back_in_range c.signed.result c.signed.ensures.range ∙ c.signed.ensures.value ∙ ap (λ k. with_sign c.args.negative k) power)
+    ∙ sym (raised_exact c.args.negative c.args.head m a (near-within c.args.head.value a (omega arith) low) is)
