@@ -1,8 +1,7 @@
 -- The number that the parts of a text write.
-use Rattle.std.proofs.Common.{◌≡◌, ℕ, ◌+◌, ◌*◌, ◌<◌, ◌≤◌, ◌^◌, List, true, false, Bool, not, cond, eqb, ltb, ℤ, pow-add, sym, refl, ap, ap₂, ◌∙◌, arith, inl, inr, subst, Result, Ok, Err, lit<}
+use Rattle.std.proofs.Common.{◌≡◌, ℕ, ◌+◌, ◌*◌, ◌<◌, ◌^◌, List, true, false, Bool, not, cond, eqb, ltb, ℤ, pow-add, sym, refl, ap, ap₂, ◌∙◌, arith, Result, Ok, Err, lit<}
 use Rattle.std.specs.Prelude.{min}
-use Rattle.std.proofs.Math.Nat.{mul_assoc, mul_comm}
-use Rattle.std.proofs.lemmas.Bool.{cases_lt}
+use Rattle.std.proofs.Math.Nat.{mul_comm}
 use Rattle.scaled_decimals.specs.declared.reading.DecFault.{DecFault}
 use Rattle.scaled_decimals.specs.declared.reading.DecFault.TheVariants.{NotNumber, TooLarge}
 use Rattle.scaled_decimals.specs.DecimalReading.{mantissa, raised, lowered, numerator, denominator, nearest, billionths, is_above, is_rounded, with_sign, read_ratio, decimal_of, Reads}

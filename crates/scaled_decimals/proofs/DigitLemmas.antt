@@ -1,5 +1,5 @@
 -- Numbers that digits write, powers of ten, and runs of digits.
-use Rattle.std.proofs.Common.{◌≡◌, ℕ, zero, suc, ◌+◌, ◌-◌, ◌*◌, ◌^◌, ◌<◌, ◌≤◌, List, [], ◌∷◌, ◌++◌, length, true, false, Bool, cond, pow-add, sym, refl, ap, ◌∙◌, inl, inr, arith, get_or, take, drop, subst, lit≤}
+use Rattle.std.proofs.Common.{◌≡◌, ℕ, ◌+◌, ◌-◌, ◌*◌, ◌^◌, ◌<◌, ◌≤◌, List, [], ◌∷◌, ◌++◌, length, true, false, Bool, cond, sym, refl, ap, ◌∙◌, inl, inr, arith, get_or, take, drop, subst, lit≤}
 use Rattle.std.proofs.lemmas.Bool.{cases_lt, false≢true}
 use Rattle.std.specs.Prelude.{min, ◌&&◌}
 use Rattle.std.specs.Char.{is_ascii_digit}

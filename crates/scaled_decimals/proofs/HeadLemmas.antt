@@ -1,5 +1,5 @@
 -- The first digits of a number, with one more digit behind them.
-use Rattle.std.proofs.Common.{◌≡◌, ℕ, zero, suc, ◌+◌, ◌-◌, ◌*◌, ◌^◌, ◌<◌, ◌≤◌, true, false, Bool, not, eqb, sym, refl, ap, ap₂, ◌∙◌, inl, inr, arith}
+use Rattle.std.proofs.Common.{◌≡◌, ℕ, ◌+◌, ◌*◌, ◌^◌, ◌<◌, ◌≤◌, false, Bool, not, eqb, refl, ap, ap₂, ◌∙◌, inl, inr, arith}
 use Rattle.std.specs.Prelude.{◌||◌}
 use Rattle.std.proofs.lemmas.Bool.{cases_lt}
 use Rattle.std.proofs.lemmas.Bool.Decides.{nat_tests}
@@ -7,7 +7,6 @@ use Rattle.std.proofs.Math.Nat.{pow-suc}
 use Rattle.std.proofs.Math.Numerals.{add-one}
 use Rattle.scaled_decimals.specs.PartsReading.{IsHead}
 use Rattle.scaled_decimals.specs.declared.reading.head.Head.{Head}
-use Rattle.scaled_decimals.proofs.DigitLemmas.{ten_pos}
 
 -- no digits write 0
 pub IsHead-none : IsHead (record { value = 0; dropped = 0; rest = false }) 0

@@ -1,12 +1,12 @@
 -- The nearest whole number to a fraction, and what a fraction reads as.
-use Rattle.std.proofs.Common.{◌≡◌, ℕ, zero, suc, ◌+◌, ◌-◌, ◌*◌, ◌/◌, ◌%◌, ◌^◌, ◌<◌, ◌≤◌, true, false, Bool, not, cond, eqb, ltb, pow-add, sym, refl, ap, ap₂, ◌∙◌, inl, inr, arith, ℤ, Result, Ok, Err}
+use Rattle.std.proofs.Common.{◌≡◌, ℕ, ◌+◌, ◌*◌, ◌/◌, ◌^◌, ◌<◌, ◌≤◌, true, false, Bool, not, eqb, ltb, sym, refl, ap, ap₂, ◌∙◌, inl, inr, arith, ℤ, Result, Ok, Err}
 use Rattle.std.proofs.lemmas.Bool.{lt-ltb, le-ltb}
 use Rattle.std.specs.Prelude.{if◌then◌else◌}
 use Rattle.scaled_decimals.specs.declared.reading.DecFault.{DecFault}
 use Rattle.scaled_decimals.specs.declared.reading.DecFault.TheVariants.{TooLarge}
 use Rattle.std.proofs.lemmas.Bool.{cases_lt}
 use Rattle.std.proofs.lemmas.Bool.Decides.{nat_tests}
-use Rattle.std.proofs.Math.Nat.{pow-suc, div-eq_of_lt-le, mul-div-mul_right, mul_assoc, mul_comm, mul-le-mul_right, mul-lt-mul_of_pos_right, mul-div-le, lt-mul-div-succ}
+use Rattle.std.proofs.Math.Nat.{div-eq_of_lt-le, mul-div-mul_right, mul_assoc, mul-le-mul_right, mul-lt-mul_of_pos_right, mul-div-le, lt-mul-div-succ}
 use Rattle.scaled_decimals.specs.DecimalReading.{nearest, read_ratio, with_sign}
 
 -- the nearest whole number is the one from one half below to one half above

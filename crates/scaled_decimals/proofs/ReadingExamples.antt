@@ -6,10 +6,10 @@ use Rattle.exact_num.specs.Rational.{pair, lowest}
 use Rattle.exact_num.specs.Gcd.{gcd_of, gcd_within}
 use Rattle.scaled_decimals.specs.declared.reading.DecFault.TheVariants.{TooLarge}
 use Rattle.scaled_decimals.specs.DecimalReading.{numerator, denominator, nearest, decimal_of, is_above}
-use Rattle.scaled_decimals.specs.Digits.{number_of, IsNumeral}
+use Rattle.scaled_decimals.specs.Digits.{number_of}
 use Rattle.scaled_decimals.specs.FractionText.{FractionText, Whole, Quotient, Decimal, SpellsValue, top_of, bottom_of}
 use Rattle.scaled_decimals.specs.FractionText as value
-use Rattle.scaled_decimals.specs.NumberText.{Sign, Bare, Plus, Minus, NumberText, Exponent, IsFormed, spelling}
+use Rattle.scaled_decimals.specs.NumberText.{Sign, Bare, Plus, Minus, NumberText, IsFormed, spelling}
 
 -- a number without a power of ten
 abbrev plain : Sign → List ℕ → List ℕ → NumberText

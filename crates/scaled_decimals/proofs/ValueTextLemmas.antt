@@ -1,6 +1,6 @@
 -- Texts of exact values and their forms.
-use Rattle.std.proofs.Common.{◌≡◌, ℕ, ◌+◌, ◌<◌, ◌^◌, List, [], ◌∷◌, ◌++◌, length, drop, true, false, Bool, cond, eqb, sym, refl, ap, ap₂, ◌∙◌, inl, inr, arith, subst, Result, Ok, Err, append-nil}
-use Rattle.std.specs.Prelude.{slice_index, min}
+use Rattle.std.proofs.Common.{◌≡◌, ℕ, ◌<◌, List, [], ◌∷◌, ◌++◌, length, drop, true, false, Bool, cond, eqb, sym, refl, ap, ap₂, ◌∙◌, arith, subst, Result, Ok, Err, append-nil}
+use Rattle.std.specs.Prelude.{slice_index}
 use Rattle.std.specs.Char.{is_ascii_digit}
 use Rattle.std.specs.List.{prefix_len}
 use Rattle.std.proofs.lemmas.Bool.{eqb-true}
@@ -9,11 +9,11 @@ use Rattle.exact_num.specs.declared.fraction.Frac.{Frac}
 use Rattle.scaled_decimals.specs.declared.reading.DecFault.{DecFault}
 use Rattle.scaled_decimals.specs.declared.reading.DecFault.TheVariants.{NotNumber, TooLarge}
 use Rattle.scaled_decimals.specs.Digits.{AreDigits, IsNumeral}
-use Rattle.scaled_decimals.specs.FractionText.{Form, Whole, Quotient, Decimal, FractionText, form_bytes, IsFormed, SpellsValue, below_of, spelling}
+use Rattle.scaled_decimals.specs.FractionText.{Form, Whole, Quotient, Decimal, FractionText, form_bytes, IsFormed, SpellsValue, below_of}
 use Rattle.scaled_decimals.specs.FractionReading.{ReadsValue, AgreesWith}
 use Rattle.scaled_decimals.specs.PartsReading.{digits_in_front, after_digits}
 use Rattle.scaled_decimals.proofs.DigitLemmas.{digits_in_front-append, after_digits-append, AreDigits-front}
-use Rattle.scaled_decimals.proofs.TextLemmas.{digits-bytes, IsUnsigned, IsUnsigned-numeral, IsUnsigned-digits}
+use Rattle.scaled_decimals.proofs.TextLemmas.{digits-bytes, IsUnsigned, IsUnsigned-digits}
 
 -- ---- a run of digits and what follows
 nonzero : (n : ℕ) → eqb n 0 ≡ false → 0 < n

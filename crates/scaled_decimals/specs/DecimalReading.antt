@@ -1,9 +1,9 @@
 -- The value of a number's text, as an exact fraction and as the nearest whole number of billionths.
-use Rattle.std.specs.Prelude.{◌≡◌, ℕ, ◌+◌, ◌*◌, ◌/◌, ◌^◌, ℤ, pos, neg_ℤ, Bool, true, false, not, nat_lt, ◌==◌, List, ◌++◌, length, Result, Ok, Err, if◌then◌else◌}
+use Rattle.std.specs.Prelude.{◌≡◌, ℕ, ◌+◌, ◌*◌, ◌/◌, ◌^◌, ℤ, pos, neg_ℤ, Bool, true, not, nat_lt, ◌==◌, List, ◌++◌, length, Result, Ok, Err, if◌then◌else◌}
 use Rattle.scaled_decimals.specs.declared.reading.DecFault.{DecFault}
 use Rattle.scaled_decimals.specs.declared.reading.DecFault.TheVariants.{NotNumber, TooLarge}
 use Rattle.scaled_decimals.specs.Digits.{number_of}
-use Rattle.scaled_decimals.specs.NumberText.{NumberText, Spells, IsNumber, is_minus, is_lowering, fraction_digits, exponent_digits}
+use Rattle.scaled_decimals.specs.NumberText.{NumberText, Spells, is_minus, is_lowering, fraction_digits, exponent_digits}
 
 -- the number that all digits write, without the point
 abbrev pub mantissa : NumberText → ℕ

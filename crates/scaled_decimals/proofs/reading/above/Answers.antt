@@ -1,5 +1,5 @@
 -- A decimal's digits are read in two runs.
-use Rattle.std.proofs.Common.{◌≡◌, ◌^◌, ap, sym, ◌∙◌, ◌++◌}
+use Rattle.std.proofs.Common.{◌^◌, ap, sym, ◌∙◌, ◌++◌}
 use Rattle.std.specs.Prelude.{min}
 use Rattle.scaled_decimals.specs.Digits.{continued}
 use Rattle.scaled_decimals.specs.FractionText.{above_of}

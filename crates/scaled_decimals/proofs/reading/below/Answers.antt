@@ -1,4 +1,4 @@
-use Rattle.std.proofs.Common.{◌≡◌, ◌^◌, ap, sym, ◌∙◌}
+use Rattle.std.proofs.Common.{◌^◌, ap, sym, ◌∙◌}
 use Rattle.std.specs.Prelude.{min}
 use Rattle.scaled_decimals.specs.FractionText.{below_of}
 use Rattle.scaled_decimals.specs.PartsReading.{form_of}

@@ -1,7 +1,7 @@
 -- What stands behind the minus has one form only.
-use Rattle.std.proofs.Common.{◌≡◌, ◌^◌, ℕ, arith, eqb, sym, ap, ◌∙◌, subst, refl}
-use Rattle.std.specs.Prelude.{min, slice_index}
-use Rattle.scaled_decimals.specs.FractionText.{FractionText, SpellsValue, below_of, form_bytes}
+use Rattle.std.proofs.Common.{◌≡◌, arith, eqb, sym, ap, ◌∙◌, subst}
+use Rattle.std.specs.Prelude.{slice_index}
+use Rattle.scaled_decimals.specs.FractionText.{FractionText, SpellsValue, below_of}
 use Rattle.scaled_decimals.specs.FractionReading.{AgreesWith}
 use Rattle.scaled_decimals.specs.PartsReading.{form_of}
 use Rattle.scaled_decimals.proofs.ValueTextLemmas.{one_form, one_value_way, body-is, SpellsValue-at, ReadsValue-from}

@@ -1,8 +1,7 @@
 -- Both numbers fit, or one of them doesn't.
-use Rattle.std.proofs.Common.{◌≡◌, ◌≤◌, ◌<◌, ◌^◌, ℤ, pos, List, [], ◌∷◌, false, true, arith, sym, ap, ap₂, ◌∙◌, inl, inr}
+use Rattle.std.proofs.Common.{◌≡◌, pos, arith, sym, ap, ap₂, ◌∙◌, inl, inr}
 use Rattle.std.specs.Int.{w128}
 use Rattle.std.proofs.lemmas.Int.{to_z_pos}
-use Rattle.exact_num.specs.Range.{all_fit}
 use Rattle.exact_num.proofs.RangeLaws.{back_in_range}
 use Rattle.exact_num.specs.Rational.{lowest}
 use Rattle.scaled_decimals.specs.DecimalReading.{with_sign}

@@ -1,5 +1,5 @@
 -- A text has one value only, so that what is found is what every reading of it says.
-use Rattle.std.proofs.Common.{◌≡◌, sym, ap, ◌∙◌, subst}
+use Rattle.std.proofs.Common.{sym, ap, ◌∙◌, subst}
 use Rattle.scaled_decimals.specs.DecimalReading.{decimal_of}
 use Rattle.scaled_decimals.specs.Digits.{AreDigits}
 use Rattle.scaled_decimals.proofs.DecimalLemmas.{Reads-from}

@@ -1,6 +1,4 @@
-use Rattle.std.proofs.Common.{◌≡◌, ◌<◌, length, false, arith, sym, ap, ◌∙◌}
-use Rattle.std.proofs.lemmas.Bool.Decides.{nat_tests}
-use Rattle.scaled_decimals.proofs.TextLemmas.{IsPower-none, IsPower-some, not-IsPower, not-numeral, after_sign}
+use Rattle.scaled_decimals.proofs.TextLemmas.{IsPower-some}
 use Rattle.scaled_decimals.proofs.reading.parts.power_of.Goals as goal
 
 pub returns-then-is_numeral : goal.returns-then-is_numeral

@@ -1,7 +1,6 @@
 -- Near enough to divide, or below one half.
-use Rattle.std.proofs.Common.{◌≡◌, ◌≤◌, ◌<◌, ◌*◌, ◌-◌, ◌^◌, suc, ℕ, Ok, eqb, not, true, false, pos, arith, sym, ap, ◌∙◌, refl, subst}
+use Rattle.std.proofs.Common.{◌≡◌, ◌≤◌, ◌<◌, ◌*◌, ◌-◌, ◌^◌, Ok, eqb, true, pos, arith, sym, ap, ◌∙◌}
 use Rattle.std.proofs.lemmas.Bool.{eq-eqb}
-use Rattle.std.proofs.Math.Nat.{pow-suc}
 use Rattle.scaled_decimals.specs.DecimalReading.{read_ratio}
 use Rattle.scaled_decimals.proofs.DigitLemmas.{ten_pos, ten_mono}
 use Rattle.scaled_decimals.proofs.ScaleLemmas.{lowered_far, nonzero-head, zero-head, far-of, ten-even}

@@ -1,5 +1,5 @@
 -- The digits left out count as a power of ten.
-use Rattle.std.proofs.Common.{◌≡◌, ◌+◌, ◌-◌, arith, sym, ◌∙◌}
+use Rattle.std.proofs.Common.{◌+◌, ◌-◌, arith, sym, ◌∙◌}
 use Rattle.scaled_decimals.proofs.ScaleLemmas.{scaled_up, scaled_down, raise_kept, lower_kept}
 use Rattle.scaled_decimals.proofs.reading.scale.scaled.Goals as goal
 

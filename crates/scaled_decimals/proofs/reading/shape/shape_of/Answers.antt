@@ -1,5 +1,5 @@
 -- A run of digits, and what follows it.
-use Rattle.std.proofs.Common.{◌≡◌, ◌++◌, ◌∷◌, length, arith, sym, ap, ◌∙◌}
+use Rattle.std.proofs.Common.{◌≡◌, ◌++◌, length, arith, sym, ap, ◌∙◌}
 use Rattle.scaled_decimals.proofs.ValueTextLemmas.{made_of, front-found, append-empty, is-zero, not-zero, front-numeral, front_of, front-is, no_form}
 use Rattle.scaled_decimals.proofs.reading.shape.shape_of.Goals as goal
 
