@@ -1,6 +1,11 @@
-// Numbers as decimal text.
+//! Numbers as decimal text: read in whole billionths and as exact fractions, and printed as fractions
+//! and with six decimal places.
 #![tactic(auto)]
 
 mod printing;
+mod reading;
+#[cfg(test)]
+mod reading_tests;
 
 pub use printing::{fraction_laws, places_laws, push_frac, push_places};
+pub use reading::{DecFault, exact_value, read_decimal, rounding_laws, spelling_laws};

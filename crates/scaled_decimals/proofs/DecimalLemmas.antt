@@ -1,0 +1,45 @@
+-- The number that the parts of a text write.
+use Rattle.std.proofs.Common.{◌≡◌, ℕ, ◌+◌, ◌*◌, ◌<◌, ◌^◌, List, true, false, Bool, not, cond, eqb, ltb, ℤ, pow-add, sym, refl, ap, ap₂, ◌∙◌, arith, Result, Ok, Err, lit<}
+use Rattle.std.specs.Prelude.{min}
+use Rattle.std.proofs.Math.Nat.{mul_comm}
+use Rattle.scaled_decimals.specs.declared.reading.DecFault.{DecFault}
+use Rattle.scaled_decimals.specs.declared.reading.DecFault.TheVariants.{NotNumber, TooLarge}
+use Rattle.scaled_decimals.specs.DecimalReading.{mantissa, raised, lowered, numerator, denominator, nearest, billionths, is_above, is_rounded, with_sign, read_ratio, decimal_of, Reads}
+use Rattle.scaled_decimals.specs.NumberText.{NumberText, Spells, is_minus}
+use Rattle.scaled_decimals.specs.PartsReading.{IsKept}
+use Rattle.scaled_decimals.proofs.RatioLemmas.{ltb-scale}
+
+answer : Bool → Bool → ℕ → Bool → Result (ℤ × Bool) DecFault
+answer negative above q rounded = cond above (Err TooLarge) (Ok (with_sign negative q, rounded))
+
+pub decimal_ratio : (p : NumberText) → read_ratio (is_minus p.sign) (mantissa p * 10 ^ (9 + raised p)) (10 ^ lowered p) ≡ decimal_of p
+unfolding numerator denominator answer
+decimal_ratio p =
+    let top : mantissa p * 10 ^ (9 + raised p) ≡ 10 ^ 9 * (mantissa p * 10 ^ raised p) = ap (λ k. mantissa p * k) (pow-add 10 9 (raised p)) ∙ omega arith in
+    let left : 10 ^ 24 * 10 ^ lowered p ≡ 10 ^ 15 * 10 ^ lowered p * 10 ^ 9 = omega arith in
+    let right : 10 ^ 9 * (mantissa p * 10 ^ raised p) ≡ mantissa p * 10 ^ raised p * 10 ^ 9 = mul_comm (10 ^ 9) (mantissa p * 10 ^ raised p) in
+    let above : ltb (10 ^ 24 * 10 ^ lowered p) (10 ^ 9 * (mantissa p * 10 ^ raised p)) ≡ ltb (10 ^ 15 * 10 ^ lowered p) (mantissa p * 10 ^ raised p) =
+    ap₂ ltb left right ∙ ltb-scale (10 ^ 15 * 10 ^ lowered p) (mantissa p * 10 ^ raised p) (10 ^ 9) (lit< tt) in
+    ap (λ n. read_ratio (is_minus p.sign) n (10 ^ lowered p)) top
+    ∙ ap (λ a. answer (is_minus p.sign) a (nearest (10 ^ 9 * (mantissa p * 10 ^ raised p)) (10 ^ lowered p)) (not (eqb (nearest (10 ^ 9 * (mantissa p * 10 ^ raised p)) (10 ^ lowered p) * 10 ^ lowered p) (10 ^ 9 * (mantissa p * 10 ^ raised p))))) above
+
+pub decimal_from : (p : NumberText) (negative : Bool) (a b : ℕ) → negative ≡ is_minus p.sign → a ≡ 9 + raised p → b ≡ lowered p → read_ratio negative (mantissa p * 10 ^ a) (10 ^ b) ≡ decimal_of p
+decimal_from p negative a b sign up down =
+    ap₂ (λ s k. read_ratio s (mantissa p * 10 ^ k) (10 ^ b)) sign up ∙ ap (λ k. read_ratio (is_minus p.sign) (mantissa p * 10 ^ (9 + raised p)) (10 ^ k)) down ∙ decimal_ratio p
+
+pub kept-exact : (n : ℕ) → IsKept (2 ^ 99) n n
+kept-exact n = record { same = λ small. refl; large = λ big. big }
+
+pub kept-capped : (n e : ℕ) → n < 2 ^ 66 → IsKept (2 ^ 99) (n + e) (n + min e (2 ^ 127))
+kept-capped n e few = record { same = λ small. omega arith; large = λ big. omega arith }
+
+answered : (p : NumberText) (text : List ℕ) (b : Bool) (v : ℤ × Bool) (r : Result (ℤ × Bool) DecFault) → is_above p ≡ b → Spells p text → r ≡ cond b (Err TooLarge) (Ok v) → decimal_of p ≡ cond b (Err TooLarge) (Ok v) → Reads text r
+answered p text true v (Ok x) above is e d = let no : Ok x ≡ Err TooLarge = e in cc
+answered p text true v (Err TooLarge) above is e d = (p, is, above)
+answered p text true v (Err NotNumber) above is e d = let no : NotNumber ≡ TooLarge = cc in absurd cc
+answered p text false v (Ok x) above is e d = (p, is, d ∙ sym e)
+answered p text false v (Err x) above is e d = let no : Err x ≡ Ok v = e in cc
+
+-- the answer that a number reads as is right
+pub Reads-from : (p : NumberText) (text : List ℕ) (r : Result (ℤ × Bool) DecFault) → Spells p text → r ≡ decimal_of p → Reads text r
+Reads-from p text r is e = answered p text (is_above p) (with_sign (is_minus p.sign) (billionths p), is_rounded p) r refl is e refl

@@ -1,0 +1,46 @@
+-- The first digits of a number, with one more digit behind them.
+use Rattle.std.proofs.Common.{◌≡◌, ℕ, ◌+◌, ◌*◌, ◌^◌, ◌<◌, ◌≤◌, false, Bool, not, eqb, refl, ap, ap₂, ◌∙◌, inl, inr, arith}
+use Rattle.std.specs.Prelude.{◌||◌}
+use Rattle.std.proofs.lemmas.Bool.{cases_lt}
+use Rattle.std.proofs.lemmas.Bool.Decides.{nat_tests}
+use Rattle.std.proofs.Math.Nat.{pow-suc}
+use Rattle.std.proofs.Math.Numerals.{add-one}
+use Rattle.scaled_decimals.specs.PartsReading.{IsHead}
+use Rattle.scaled_decimals.specs.declared.reading.head.Head.{Head}
+
+-- no digits write 0
+pub IsHead-none : IsHead (record { value = 0; dropped = 0; rest = false }) 0
+IsHead-none = record { tail = 0; digits = refl; short = omega arith; rest = refl; full = λ some. absurd (omega arith) }
+
+-- without left out digits the head is the number
+pub IsHead-whole : (h : Head) (m : ℕ) → h.dropped ≡ 0 → IsHead h m → m ≡ h.value
+IsHead-whole h m e is =
+    let one : 10 ^ h.dropped ≡ 1 = ap (λ k. 10 ^ k) e in
+    let more : h.value * 10 ^ h.dropped ≡ h.value * 1 = ap (λ k. h.value * k) one in
+    let short = is.short in
+    let digits = is.digits in
+    omega arith
+
+pub IsHead-kept : (h g : Head) (m d : ℕ) → h.dropped ≡ 0 → g.value ≡ h.value * 10 + d → g.dropped ≡ 0 → g.rest ≡ false → IsHead h m → IsHead g (m * 10 + d)
+IsHead-kept h g m d none value dropped rest is =
+    let whole = IsHead-whole h m none is in
+    let one : 10 ^ g.dropped ≡ 1 = ap (λ k. 10 ^ k) dropped in
+    let more : g.value * 10 ^ g.dropped ≡ g.value * 1 = ap (λ k. g.value * k) one in
+    record { tail = 0; digits = omega arith; short = omega arith; rest = rest; full = λ some. absurd (omega arith) }
+
+not-zero-more : (r : Bool) (t d : ℕ) → r ≡ not (eqb t 0) → (r || not (eqb d 0)) ≡ not (eqb (t * 10 + d) 0)
+not-zero-more r t d e = grind (arith, nat_tests)
+
+pub IsHead-dropped : (h g : Head) (m d : ℕ) → d < 10 → (h.dropped ≡ 0 → 10 ^ 36 ≤ h.value) → g.value ≡ h.value → g.dropped ≡ h.dropped + 1 → g.rest ≡ (h.rest || not (eqb d 0)) → IsHead h m → IsHead g (m * 10 + d)
+IsHead-dropped h g m d digit enough value dropped rest is =
+    let ten : 10 ^ g.dropped ≡ 10 ^ h.dropped * 10 = ap (λ k. 10 ^ k) (dropped ∙ add-one h.dropped) ∙ pow-suc 10 h.dropped in
+    let more : g.value * 10 ^ g.dropped ≡ h.value * (10 ^ h.dropped * 10) = ap₂ (λ x y. x * y) value ten in
+    let short = is.short in
+    let digits = is.digits in
+    record {
+      tail = is.tail * 10 + d;
+      digits = omega arith;
+      short = omega arith;
+      rest = rest ∙ not-zero-more h.rest is.tail d is.rest;
+      full = λ some. elim (cases_lt 0 h.dropped) [ inl more ↦ let big = is.full more in omega arith | inr none ↦ let big = enough (omega arith) in omega arith ];
+    }

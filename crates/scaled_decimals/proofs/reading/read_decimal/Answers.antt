@@ -1,0 +1,28 @@
+-- A text has one value only, so that what is found is what every reading of it says.
+use Rattle.std.proofs.Common.{sym, ap, ◌∙◌, subst}
+use Rattle.scaled_decimals.specs.DecimalReading.{decimal_of}
+use Rattle.scaled_decimals.specs.Digits.{AreDigits}
+use Rattle.scaled_decimals.proofs.DecimalLemmas.{Reads-from}
+use Rattle.scaled_decimals.proofs.TextLemmas.{one_way}
+use Rattle.scaled_decimals.proofs.reading.read_decimal.Goals as goal
+
+pub decimal-requires-clause-whole : goal.decimal-requires-clause-whole
+decimal-requires-clause-whole c =
+    let parts = c.in-Some.ensures.2 in
+    subst AreDigits (sym parts.whole) parts.formed.before
+
+pub decimal-requires-clause-places : goal.decimal-requires-clause-places
+decimal-requires-clause-places c =
+    let parts = c.in-Some.ensures.2 in
+    subst AreDigits (sym parts.places) parts.formed.behind
+
+pub returns-in-Some-clause-answer : goal.returns-in-Some-clause-answer
+returns-in-Some-clause-answer c =
+    let found = c.in-Some.ensures in
+    Reads-from found.0 c.args.text.now c.decimal.result found.1 (c.decimal.ensures found.0 found.2)
+
+pub returns-in-Some-clause-number : goal.returns-in-Some-clause-number
+returns-in-Some-clause-number c =
+    λ p is.
+    let found = c.in-Some.ensures in
+    c.decimal.ensures found.0 found.2 ∙ ap decimal_of (one_way c.args.text.now found.0 p found.1 is)
