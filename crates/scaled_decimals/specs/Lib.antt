@@ -5,4 +5,5 @@ pub mod FractionText
 pub mod NumberText
 pub mod PartsReading
 pub mod PrintedFraction
+pub mod PrintedParts
 pub mod PrintedPlaces

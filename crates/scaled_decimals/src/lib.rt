@@ -2,10 +2,12 @@
 //! and with six decimal places.
 #![tactic(auto)]
 
+mod inverse;
 mod printing;
 mod reading;
 #[cfg(test)]
 mod reading_tests;
 
+pub use inverse::inverse_laws;
 pub use printing::{fraction_laws, places_laws, push_frac, push_places};
 pub use reading::{DecFault, exact_value, read_decimal, rounding_laws, spelling_laws};
