@@ -4,7 +4,8 @@ use Rattle.std.specs.Prelude.{min}
 use Rattle.std.proofs.Math.Nat.{mul_comm}
 use Rattle.scaled_decimals.specs.declared.reading.DecFault.{DecFault}
 use Rattle.scaled_decimals.specs.declared.reading.DecFault.TheVariants.{NotNumber, TooLarge}
-use Rattle.scaled_decimals.specs.DecimalReading.{mantissa, raised, lowered, numerator, denominator, nearest, billionths, is_above, is_rounded, with_sign, read_ratio, decimal_of, Reads}
+use Rattle.scaled_decimals.specs.DecimalReading.{mantissa, raised, lowered, numerator, denominator, billionths, is_above, is_rounded, with_sign, read_ratio, decimal_of, Reads}
+use Rattle.scaled_decimals.specs.Rounding.{nearest}
 use Rattle.scaled_decimals.specs.NumberText.{NumberText, Spells, is_minus}
 use Rattle.scaled_decimals.specs.PartsReading.{IsKept}
 use Rattle.scaled_decimals.proofs.RatioLemmas.{ltb-scale}

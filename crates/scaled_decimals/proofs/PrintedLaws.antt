@@ -16,7 +16,8 @@ use Rattle.exact_num.specs.Rational.{pair, signed_by}
 use Rattle.exact_num.specs.Range.{InRange}
 use Rattle.exact_num.proofs.Ring.{neg_ℤ-*ℤ}
 use Rattle.scaled_decimals.specs.PrintedFraction.{fraction_text}
-use Rattle.scaled_decimals.specs.PrintedPlaces.{nearest, millionths, millionths_text, sign_of, last_digit, six_digits, before_point, after_point, unsigned_millionths, read_millionths}
+use Rattle.scaled_decimals.specs.PrintedPlaces.{millionths, millionths_text, sign_of, last_digit, six_digits, before_point, after_point, unsigned_millionths, read_millionths}
+use Rattle.scaled_decimals.specs.Rounding.{nearest}
 use Rattle.scaled_decimals.proofs.PrintedTexts.{fraction_text-whole, fraction_text-quotient, unsigned_abs-signed_by}
 
 -- ---- fractions

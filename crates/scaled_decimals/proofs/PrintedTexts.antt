@@ -9,7 +9,8 @@ use Rattle.exact_num.specs.Range.{InRange}
 use Rattle.exact_num.specs.Rational.{pair, signed_by}
 use Rattle.exact_num.proofs.RangeLaws.{back_in_range}
 use Rattle.scaled_decimals.specs.PrintedFraction.{fraction_text, denominator_text}
-use Rattle.scaled_decimals.specs.PrintedPlaces.{nearest, millionths, millionths_text, places_text, sign_of, six_digits}
+use Rattle.scaled_decimals.specs.PrintedPlaces.{millionths, millionths_text, places_text, sign_of, six_digits}
+use Rattle.scaled_decimals.specs.Rounding.{nearest}
 
 -- what was appended is the text that is due
 pub OnOk-appended : {T E : Type 0} (r : Result T E) (new old written due : List ℕ) → new ≡ (if is_ok r then old ++ written else old) → written ≡ due → OnOk r (new ≡ old ++ due)

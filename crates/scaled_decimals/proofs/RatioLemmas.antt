@@ -7,20 +7,18 @@ use Rattle.scaled_decimals.specs.declared.reading.DecFault.TheVariants.{TooLarge
 use Rattle.std.proofs.lemmas.Bool.{cases_lt}
 use Rattle.std.proofs.lemmas.Bool.Decides.{nat_tests}
 use Rattle.std.proofs.Math.Nat.{div-eq_of_lt-le, mul-div-mul_right, mul_assoc, mul-le-mul_right, mul-lt-mul_of_pos_right, mul-div-le, lt-mul-div-succ}
-use Rattle.scaled_decimals.specs.DecimalReading.{nearest, read_ratio, with_sign}
+use Rattle.scaled_decimals.specs.DecimalReading.{read_ratio, with_sign}
+use Rattle.scaled_decimals.specs.Rounding.{nearest}
 
 -- the nearest whole number is the one from one half below to one half above
 pub nearest_is : (q n d : ℕ) → 0 < d → 2 * (q * d) ≤ 2 * n + d → 2 * n + d < 2 * (q * d) + 2 * d → nearest n d ≡ q
-unfolding nearest
 nearest_is q n d pos low high =
     div-eq_of_lt-le {k = q} (2 * d) {m = 2 * n + d} (omega arith) (omega arith)
 
 pub nearest_above : (n d : ℕ) → 0 < d → 2 * (nearest n d * d) ≤ 2 * n + d
-unfolding nearest
 nearest_above n d some = let most : 2 * d * ((2 * n + d) / (2 * d)) ≤ 2 * n + d = mul-div-le (2 * n + d) (2 * d) in omega arith
 
 pub nearest_below : (n d : ℕ) → 0 < d → 2 * n < 2 * (nearest n d * d) + d
-unfolding nearest
 nearest_below n d some =
     let double : 0 < 2 * d = omega arith in
     let least : 2 * n + d < 2 * d * ((2 * n + d) / (2 * d) + 1) = lt-mul-div-succ (2 * n + d) double in
@@ -30,7 +28,6 @@ pub nearest-whole : (n d : ℕ) → 0 < d → nearest (n * d) d ≡ n
 nearest-whole n d some = nearest_is n (n * d) d some (omega arith) (omega arith)
 
 pub nearest-scale : (n d c : ℕ) → 0 < c → nearest (n * c) (d * c) ≡ nearest n d
-unfolding nearest
 nearest-scale n d c pos =
     let top : 2 * (n * c) + d * c ≡ (2 * n + d) * c = omega arith in
     let bottom : 2 * (d * c) ≡ (2 * d) * c = omega arith in

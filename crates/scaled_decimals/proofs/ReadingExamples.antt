@@ -5,7 +5,8 @@ use Rattle.exact_num.specs.Range.{all_fit, in_range}
 use Rattle.exact_num.specs.Rational.{pair, lowest}
 use Rattle.exact_num.specs.Gcd.{gcd_of, gcd_within}
 use Rattle.scaled_decimals.specs.declared.reading.DecFault.TheVariants.{TooLarge}
-use Rattle.scaled_decimals.specs.DecimalReading.{numerator, denominator, nearest, decimal_of, is_above}
+use Rattle.scaled_decimals.specs.DecimalReading.{numerator, denominator, decimal_of, is_above}
+use Rattle.scaled_decimals.specs.Rounding.{nearest}
 use Rattle.scaled_decimals.specs.Digits.{number_of}
 use Rattle.scaled_decimals.specs.FractionText.{FractionText, Whole, Quotient, Decimal, SpellsValue, top_of, bottom_of}
 use Rattle.scaled_decimals.specs.FractionText as value
@@ -48,46 +49,46 @@ no_power is = elim is.power.0 [ ]
 
 -- ---- values: 0.1666666667 is rounded, .5 and 5. aren't
 sixth : decimal_of (plain Bare (codes "0") (codes "1666666667")) ≡ Ok (pos 166666667, true)
-unfolding numerator denominator nearest number_of
+unfolding numerator denominator number_of
 sixth = refl
 
 half : decimal_of (plain Bare [] (codes "5")) ≡ Ok (pos 500000000, false)
-unfolding numerator denominator nearest number_of
+unfolding numerator denominator number_of
 half = refl
 
 five : decimal_of (plain Bare (codes "5") []) ≡ Ok (pos 5000000000, false)
-unfolding numerator denominator nearest number_of
+unfolding numerator denominator number_of
 five = refl
 
 -- a tenth of a billionth goes to 0, and one half of one away from 0
 tenth : decimal_of (power Bare (codes "1") Minus (codes "10")) ≡ Ok (pos 0, true)
-unfolding numerator denominator nearest number_of
+unfolding numerator denominator number_of
 tenth = refl
 
 tie : decimal_of (power Bare (codes "5") Minus (codes "10")) ≡ Ok (pos 1, true)
-unfolding numerator denominator nearest number_of
+unfolding numerator denominator number_of
 tie = refl
 
 negative_tie : decimal_of (power Minus (codes "5") Minus (codes "10")) ≡ Ok (negsuc 0, true)
-unfolding numerator denominator nearest number_of
+unfolding numerator denominator number_of
 negative_tie = refl
 
 -- 2.5 billionths go to 3, and 2.4 to 2
 odd_tie : decimal_of (power Bare (codes "25") Minus (codes "10")) ≡ Ok (pos 3, true)
-unfolding numerator denominator nearest number_of
+unfolding numerator denominator number_of
 odd_tie = refl
 
 below_tie : decimal_of (power Bare (codes "24") Minus (codes "10")) ≡ Ok (pos 2, true)
-unfolding numerator denominator nearest number_of
+unfolding numerator denominator number_of
 below_tie = refl
 
 -- 10^15 is the greatest, and the least above it is refused
 greatest : decimal_of (power Bare (codes "1") Bare (codes "15")) ≡ Ok (pos (10 ^ 24), false)
-unfolding numerator denominator nearest number_of
+unfolding numerator denominator number_of
 greatest = refl
 
 ten_times : decimal_of (power Minus (codes "1") Plus (codes "16")) ≡ Err TooLarge
-unfolding numerator denominator nearest number_of
+unfolding numerator denominator number_of
 ten_times = refl
 
 just_above : is_above (plain Bare (codes "1000000000000000") (codes "0000000001")) ≡ true
@@ -96,11 +97,9 @@ just_above = refl
 
 -- ---- the nearest whole number
 nearest_five_halves : nearest 5 2 ≡ 3
-unfolding nearest
 nearest_five_halves = refl
 
 nearest_seven_thirds : nearest 7 3 ≡ 2
-unfolding nearest
 nearest_seven_thirds = refl
 
 -- ---- exact values: -12.50 is written 1250 / 100

@@ -1,8 +1,9 @@
 -- The value of a number's text, as an exact fraction and as the nearest whole number of billionths.
-use Rattle.std.specs.Prelude.{◌≡◌, ℕ, ◌+◌, ◌*◌, ◌/◌, ◌^◌, ℤ, pos, neg_ℤ, Bool, true, not, nat_lt, ◌==◌, List, ◌++◌, length, Result, Ok, Err, if◌then◌else◌}
+use Rattle.std.specs.Prelude.{◌≡◌, ℕ, ◌+◌, ◌*◌, ◌^◌, ℤ, pos, neg_ℤ, Bool, true, not, nat_lt, ◌==◌, List, ◌++◌, length, Result, Ok, Err, if◌then◌else◌}
 use Rattle.scaled_decimals.specs.declared.reading.DecFault.{DecFault}
 use Rattle.scaled_decimals.specs.declared.reading.DecFault.TheVariants.{NotNumber, TooLarge}
 use Rattle.scaled_decimals.specs.Digits.{number_of}
+use Rattle.scaled_decimals.specs.Rounding.{nearest}
 use Rattle.scaled_decimals.specs.NumberText.{NumberText, Spells, is_minus, is_lowering, fraction_digits, exponent_digits}
 
 -- the number that all digits write, without the point
@@ -23,10 +24,6 @@ numerator p = mantissa p * 10 ^ raised p
 
 unfoldable pub denominator : NumberText → ℕ
 denominator p = 10 ^ lowered p
-
--- the whole number nearest to n / d, for d above 0; where two are equally near, the one farther from 0
-unfoldable pub nearest : ℕ → ℕ → ℕ
-nearest n d = (2 * n + d) / (2 * d)
 
 -- the absolute value in billionths, to the nearest whole number
 abbrev pub billionths : NumberText → ℕ

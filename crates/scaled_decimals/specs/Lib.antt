@@ -7,3 +7,4 @@ pub mod PartsReading
 pub mod PrintedFraction
 pub mod PrintedParts
 pub mod PrintedPlaces
+pub mod Rounding

@@ -3,10 +3,7 @@
 use Rattle.std.specs.Prelude.{ℕ, ◌+◌, ◌*◌, ◌/◌, ◌%◌, ℤ, pos, negsuc, neg_ℤ, unsigned_abs, List, [], ◌∷◌, ◌++◌, ◌==◌, if◌then◌else◌, codes, decimal}
 use Rattle.std.specs.Str.Parse.{digits_value}
 use Rattle.exact_num.specs.Rational.{Rational, signed_by}
-
--- the whole number nearest to n / d, and of two that are as near the greater one
-abbrev pub nearest : ℕ → ℕ → ℕ
-nearest n d = (2 * n + d) / (2 * d)
+use Rattle.scaled_decimals.specs.Rounding.{nearest}
 
 -- the whole number of millionths nearest to x, and of two that are as near the one further from 0
 unfoldable pub millionths : Rational → ℤ

@@ -3,7 +3,8 @@ ghost use Rattle.std.specs.Prelude.{◌≡◌, ◌+◌, ◌*◌, ◌%◌, ◌<�
 ghost use Rattle.exact_num.specs.Rational.{signed_by};
 ghost use Rattle.exact_num.specs.Value.{value_of};
 ghost use Rattle.scaled_decimals.specs.PrintedFraction.{fraction_text};
-ghost use Rattle.scaled_decimals.specs.PrintedPlaces.{places_text, nearest, sign_of, six_digits};
+ghost use Rattle.scaled_decimals.specs.PrintedPlaces.{places_text, sign_of, six_digits};
+ghost use Rattle.scaled_decimals.specs.Rounding.{nearest};
 
 use exact_num::Frac;
 use itoa::Buffer;

@@ -1,6 +1,6 @@
 // Laws of the definitions that the contracts of reading cite. Each is proved as the contract of a function that does nothing.
 ghost use Rattle.std.specs.Prelude.{◌≡◌, ◌+◌, ◌*◌, ◌^◌, ◌<◌, ◌≤◌, ℕ, List, ◌++◌, length};
-ghost use Rattle.scaled_decimals.specs.DecimalReading.{nearest};
+ghost use Rattle.scaled_decimals.specs.Rounding.{nearest};
 ghost use Rattle.scaled_decimals.specs.Digits.{number_of};
 ghost use Rattle.scaled_decimals.specs.FractionText.{FractionText, SpellsValue};
 ghost use Rattle.scaled_decimals.specs.NumberText.{NumberText, Spells};
