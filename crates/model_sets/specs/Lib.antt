@@ -1,0 +1,5 @@
+pub mod Data
+pub mod Members
+pub mod Names
+pub mod Params
+pub mod Years
