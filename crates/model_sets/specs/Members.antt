@@ -1,8 +1,8 @@
 -- The members of the sets, and when a member is refused.
-use Rattle.std.specs.Prelude.{◌≡◌, ℕ, ◌-◌, ◌≤◌, Bool, true, ◌&&◌, not, List, [], ◌∷◌, ◌++◌, length, map, set, position, nat_eq, nat_le, Option, None, Some, if◌then◌else◌, slice_index_or, All}
+use Rattle.std.specs.Prelude.{◌≡◌, ℕ, ◌-◌, ◌≤◌, Bool, true, ◌&&◌, not, List, [], ◌∷◌, ◌++◌, length, map, set, replicate, position, nat_eq, nat_le, Option, None, Some, if◌then◌else◌, slice_index_or, All}
 use Rattle.std.specs.List.{list_any, find, IsDistinct}
 use Rattle.std.specs.Str.{bytes_eq}
-use Rattle.model_sets.specs.Names.{year, limit_of, required_sets}
+use Rattle.model_sets.specs.Names.{IsSet, set_count, year, limit_of, required_sets}
 use Rattle.model_sets.specs.Years.{is_year, number_of, least, greatest}
 
 -- the names of the members of every set, from set number 1, each set's in the order of the file
@@ -11,7 +11,7 @@ SetLists = List (List (List ℕ))
 
 -- the sets without members
 abbrev pub no_members : SetLists
-no_members = [] ∷ [] ∷ [] ∷ [] ∷ [] ∷ [] ∷ [] ∷ [] ∷ [] ∷ [] ∷ [] ∷ []
+no_members = replicate set_count []
 
 -- the names of the members of set k
 abbrev pub members : SetLists → ℕ → List (List ℕ)
@@ -70,8 +70,13 @@ first_year sets = least (years sets)
 abbrev pub last_year : SetLists → ℕ
 last_year sets = greatest (years sets)
 
--- what the members of set k keep: no name stands twice, there are no more than the limit, and each member of YEAR is a year
-pub record KeepsRules (sets : SetLists) (k : ℕ) : Type 0 where
-  pub distinct : IsDistinct bytes_eq (members sets k)
-  pub within : length (members sets k) ≤ limit_of k
-  pub years : k ≡ year → All (λ name. is_year name ≡ true) (members sets k)
+-- what the names of the members of set k keep: none stands twice, there are no more than the limit, and each member of YEAR is a year
+pub record KeepsRules (k : ℕ) (names : List (List ℕ)) : Type 0 where
+  pub distinct : IsDistinct bytes_eq names
+  pub within : length names ≤ limit_of k
+  pub years : k ≡ year → All (λ name. is_year name ≡ true) names
+
+-- the sets as they are kept: eleven, each by its rules
+pub record AreSets (sets : SetLists) : Type 0 where
+  pub eleven : length sets ≡ set_count
+  pub rules : (k : ℕ) → IsSet k → KeepsRules k (members sets k)

@@ -49,9 +49,13 @@ set_words =
 abbrev pub limits : List ℕ
 limits = 20 ∷ 500 ∷ 200 ∷ 50 ∷ 20 ∷ 300 ∷ 120 ∷ 1000 ∷ 1000 ∷ 1000 ∷ 1000 ∷ []
 
+-- how many sets there are
+abbrev pub set_count : ℕ
+set_count = 11
+
 -- k is the number of a set
 abbrev pub IsSet : ℕ → Type 0
-IsSet k = (1 ≤ k) × (k ≤ 11)
+IsSet k = (1 ≤ k) × (k ≤ set_count)
 
 -- the word of set k
 abbrev pub set_word : ℕ → List ℕ

@@ -1,5 +1,5 @@
 -- Years: names that are whole numbers from 1 to 9999, written without sign and without leading zeros.
-use Rattle.std.specs.Prelude.{◌≡◌, ℕ, ◌+◌, ◌-◌, ◌*◌, ◌≤◌, Bool, ◌&&◌, List, [], ◌∷◌, nat_le, fold, min, max, All, Contains}
+use Rattle.std.specs.Prelude.{◌≡◌, ℕ, ◌+◌, ◌-◌, ◌*◌, ◌≤◌, Bool, true, ◌&&◌, List, [], ◌∷◌, ◌↔◌, nat_le, fold, min, max, All, Contains}
 use Rattle.std.specs.Fmt.{decimal}
 use Rattle.std.specs.Str.{bytes_eq}
 
@@ -14,6 +14,10 @@ number_of name = fold (λ n byte. n * 10 + (byte - 48)) 0 name
 -- whether the name is the decimal text of the number that it writes, and that number is from 1 to 9999
 abbrev pub is_year : List ℕ → Bool
 is_year name = bytes_eq name (decimal (number_of name)) && nat_le 1 (number_of name) && nat_le (number_of name) 9999
+
+-- a name is the text of the year n exactly where it passes the test and writes n
+abbrev pub YearsAreTold : Type 0
+YearsAreTold = (name : List ℕ) (n : ℕ) → IsYear name n ↔ ((is_year name ≡ true) × (number_of name ≡ n))
 
 -- n is one of the numbers, and none is less
 abbrev pub IsLeast : List ℕ → ℕ → Type 0
