@@ -3,7 +3,10 @@ use Rattle.std.proofs.Common.{arith, ◌≡◌, ℕ, pos, List, [], ◌∷◌, t
 use Rattle.std.specs.Prelude.{codes, ◌++◌}
 use Rattle.std.specs.Fmt.{digits}
 use Rattle.model_sets.specs.Data.{Data, value_at, indices_of, indices_over}
-use Rattle.model_sets.specs.Members.{SetLists, no_members, members, with_member, index_of, first_refusal, first_empty, years, first_year, last_year}
+use Rattle.model_sets.specs.Members.{SetLists, no_members, members, with_member, index_of, first_refusal, first_empty, years, first_year, last_year, KeepsRules}
+use Rattle.std.specs.List.{IsDistinct}
+use Rattle.model_sets.specs.Refusals.{IsDueTo}
+use Rattle.model_sets.specs.declared.fault.SetFail.TheVariants.{Fault, Memory}
 use Rattle.model_sets.specs.Names.{set_word, limit_of, set_words, limits}
 use Rattle.model_sets.specs.Params.{param_word, param_number, subscript_sets, subscript_count, param_words, used_params, unused_params}
 use Rattle.model_sets.specs.Years.{IsYear, is_year, least, greatest}
@@ -23,7 +26,7 @@ not_years : map is_year (codes "02020" ∷ codes "" ∷ codes "0" ∷ codes "100
 unfolding digits
 not_years = refl
 
-ends : (least (2025 ∷ 2020 ∷ 2030 ∷ [])) ∷ (greatest (2025 ∷ 2020 ∷ 2030 ∷ [])) ∷ [] ≡ 2020 ∷ 2030 ∷ []
+ends : least (2025 ∷ 2020 ∷ 2030 ∷ []) ∷ greatest (2025 ∷ 2020 ∷ 2030 ∷ []) ∷ [] ≡ 2020 ∷ 2030 ∷ []
 ends = refl
 
 -- ---- the sets
@@ -89,6 +92,34 @@ one = codes "X" ∷ []
 none_empty : (first_empty (one ∷ one ∷ one ∷ [] ∷ one ∷ one ∷ one ∷ [])) ∷ (first_empty (one ∷ one ∷ one ∷ one ∷ one ∷ one ∷ [] ∷ [])) ∷ (first_empty (one ∷ one ∷ one ∷ [] ∷ [] ∷ [] ∷ [] ∷ [])) ∷ [] ≡ None ∷ Some 7 ∷ Some 5 ∷ []
 unfolding one
 none_empty = refl
+
+-- a rule that refuses is the answer's cause, with the number of the set; no memory only where none refuses
+due : IsDueTo (Some 3) 7 (Fault (record { no = 3; set = 7 }))
+due = (refl, refl)
+
+no_memory : IsDueTo None 7 Memory
+no_memory = refl
+
+other_set : IsDueTo (Some 3) 7 (Fault (record { no = 3; set = 1 })) → ⊥
+other_set cause = let e : ◌≡◌ {A = ℕ} 1 7 = cause.1 in omega arith
+
+not_due : IsDueTo None 7 (Fault (record { no = 3; set = 7 })) → ⊥
+not_due cause = absurd cc
+
+no_excuse : IsDueTo (Some 3) 7 Memory → ⊥
+no_excuse cause = absurd cc
+
+rules_kept : KeepsRules 1 (codes "A" ∷ codes "B" ∷ [])
+unfolding IsDistinct
+rules_kept = record { distinct = ((refl, tt), (tt, tt)); within = omega arith; years = λ same. absurd (let e : 1 ≡ 7 = same in omega arith) }
+
+doubled : KeepsRules 1 (codes "A" ∷ codes "A" ∷ []) → ⊥
+unfolding IsDistinct
+doubled keeps = let e : true ≡ false = keeps.distinct.0.0 in absurd cc
+
+no_year_there : KeepsRules 7 (codes "02020" ∷ []) → ⊥
+unfolding digits
+no_year_there keeps = let e : false ≡ true = keeps.years refl 0 [] (omega arith) in absurd cc
 
 -- ---- parameters
 

@@ -1,6 +1,6 @@
 -- Lists of names, and lists of the vectors that hold them.
-use Rattle.std.proofs.Common.{◌≡◌, ℕ, ◌+◌, Bool, true, false, not, ◌||◌, cond, List, [], ◌∷◌, ◌++◌, map, length, position, Option, Some, None, suc, if◌then◌else◌, refl, sym, ap, subst, ◌∙◌, arith, rules}
-use Rattle.std.specs.List.{list_any, IsDistinct, AllByRecursion, position_or_len, prefix_len}
+use Rattle.std.proofs.Common.{◌≡◌, Bool, false, ◌||◌, List, [], ◌∷◌, ◌++◌, map, length, position, suc, if◌then◌else◌, refl, sym, ap, ◌∙◌, arith}
+use Rattle.std.specs.List.{list_any, IsDistinct, AllByRecursion, position_or_len}
 use Rattle.std.proofs.lemmas.List.{map-append}
 use Rattle.indexmap.specs.IndexSet.{insert_key}
 

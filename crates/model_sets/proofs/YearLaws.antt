@@ -1,5 +1,5 @@
 -- Reading the digits of a year from the left.
-use Rattle.std.proofs.Common.{◌≡◌, ℕ, ◌+◌, ◌-◌, ◌*◌, ◌^◌, ◌<◌, ◌≤◌, Bool, true, false, ◌&&◌, ltb, leb, nat_le, fold, cond, List, [], ◌∷◌, length, get_or, drop, Some, None, Option, IfSome, IsSome, refl, sym, ap, subst, ◌∙◌, ◌⊎◌, if◌then◌else◌, arith, rules, inl, inr}
+use Rattle.std.proofs.Common.{◌≡◌, ℕ, ◌+◌, ◌-◌, ◌*◌, ◌^◌, ◌<◌, ◌≤◌, true, false, ◌&&◌, nat_le, fold, List, [], ◌∷◌, length, get_or, Some, None, Option, IfSome, IsSome, refl, sym, ap, subst, ◌∙◌, ◌⊎◌, if◌then◌else◌, arith, rules, inl, inr}
 use Rattle.std.specs.Char.{is_ascii_digit}
 use Rattle.std.specs.Fmt.{decimal}
 use Rattle.std.specs.List.{list_all}

@@ -1,4 +1,4 @@
-use Rattle.std.proofs.Common.{[], ◌<◌, length, sym, ap, subst, ◌∙◌, refl, ◌≡◌, true, get_or, arith}
+use Rattle.std.proofs.Common.{[], ap, ◌∙◌, refl, ◌≡◌, true, get_or, arith}
 use Rattle.model_sets.specs.Members.{members}
 use Rattle.model_sets.specs.Years.{is_year}
 use Rattle.model_sets.proofs.YearLaws.{year_found}
