@@ -29,16 +29,19 @@ is_among names name = list_any (bytes_eq name) names
 abbrev pub index_of : List (List ℕ) → List ℕ → Option ℕ
 index_of names name = position (bytes_eq name) names
 
--- the numbers of the faults: a name that is there already, a set without members, a name that is no year, too many members
+-- the number of the fault of a name that is there already
 abbrev pub twice_in_set : ℕ
 twice_in_set = 1
 
+-- the number of the fault of a set without members
 abbrev pub empty_set : ℕ
 empty_set = 2
 
+-- the number of the fault of a name that is no year
 abbrev pub bad_year : ℕ
 bad_year = 3
 
+-- the number of the fault of a member past the limit
 abbrev pub too_many : ℕ
 too_many = 4
 

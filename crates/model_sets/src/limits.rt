@@ -1,7 +1,7 @@
-//! How many members a set may have, and which sets must have one.
+//! How many members a set may have.
 
 ghost use Rattle.std.specs.Prelude.{◌≡◌, ◌≤◌};
-ghost use Rattle.model_sets.specs.Names.{IsSet, limit_of, required_sets};
+ghost use Rattle.model_sets.specs.Names.{IsSet, limit_of};
 
 /// How many sets there are.
 pub(crate) const SET_COUNT: usize = 11;
