@@ -1,0 +1,5 @@
+pub mod EndLaws
+mod Examples
+pub mod NameLists
+pub mod SetLaws
+pub mod YearLaws

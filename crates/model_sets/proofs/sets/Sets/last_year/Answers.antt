@@ -1,0 +1,14 @@
+use Rattle.std.proofs.Common.{◌≡◌, ◌<◌, ◌≤◌, length, sym, ap, subst, ◌∙◌, arith}
+use Rattle.std.proofs.lemmas.List.{length-map, take_all}
+use Rattle.model_sets.specs.Members.{members, years}
+use Rattle.model_sets.specs.Years.{IsGreatest, greatest, number_of}
+use Rattle.model_sets.proofs.EndLaws.{greatest_is}
+use Rattle.model_sets.proofs.sets.Sets.last_year.Goals as goal
+
+pub returns-clause-greatest : goal.returns-clause-greatest
+returns-clause-greatest c =
+    let all = years c.args.self.now in
+    let long : length all ≡ length (members c.args.self.now 7) = length-map (members c.args.self.now 7) number_of in
+    let ended : length all ≤ c.loop-i.i = omega (arith, c.loop-i-test.false, c.count-i-end.ensures.count) in
+    let some : 0 < length all = omega (arith, c.requires) in
+    subst (IsGreatest all) (sym (c.loop-i.invariant ∙ ap greatest (take_all c.loop-i.i all ended))) (greatest_is all some)

@@ -1,0 +1,70 @@
+-- The sets of the OSeMOSYS long code: numbers from 1, words and limits.
+use Rattle.std.specs.Prelude.{ℕ, ◌-◌, ◌≤◌, List, [], ◌∷◌, codes, slice_index_or}
+
+-- the number of REGION
+abbrev pub region : ℕ
+region = 1
+
+-- the number of TECHNOLOGY
+abbrev pub technology : ℕ
+technology = 2
+
+-- the number of FUEL
+abbrev pub fuel : ℕ
+fuel = 3
+
+-- the number of EMISSION
+abbrev pub emission : ℕ
+emission = 4
+
+-- the number of MODE_OF_OPERATION
+abbrev pub mode : ℕ
+mode = 5
+
+-- the number of TIMESLICE
+abbrev pub timeslice : ℕ
+timeslice = 6
+
+-- the number of YEAR
+abbrev pub year : ℕ
+year = 7
+
+-- the words of the sets, from number 1
+abbrev pub set_words : List (List ℕ)
+set_words =
+    codes "REGION"
+    ∷ codes "TECHNOLOGY"
+    ∷ codes "FUEL"
+    ∷ codes "EMISSION"
+    ∷ codes "MODE_OF_OPERATION"
+    ∷ codes "TIMESLICE"
+    ∷ codes "YEAR"
+    ∷ codes "STORAGE"
+    ∷ codes "SEASON"
+    ∷ codes "DAYTYPE"
+    ∷ codes "DAILYTIMEBRACKET"
+    ∷ []
+
+-- how many members each set may have, from number 1
+abbrev pub limits : List ℕ
+limits = 20 ∷ 500 ∷ 200 ∷ 50 ∷ 20 ∷ 300 ∷ 120 ∷ 1000 ∷ 1000 ∷ 1000 ∷ 1000 ∷ []
+
+-- how many sets there are
+abbrev pub set_count : ℕ
+set_count = 11
+
+-- k is the number of a set
+abbrev pub IsSet : ℕ → Type 0
+IsSet k = (1 ≤ k) × (k ≤ set_count)
+
+-- the word of set k
+abbrev pub set_word : ℕ → List ℕ
+set_word k = slice_index_or set_words (k - 1) []
+
+-- how many members set k may have
+abbrev pub limit_of : ℕ → ℕ
+limit_of k = slice_index_or limits (k - 1) 0
+
+-- the sets that must have a member, in the order in which they are asked
+abbrev pub required_sets : List ℕ
+required_sets = region ∷ technology ∷ fuel ∷ mode ∷ timeslice ∷ year ∷ []
