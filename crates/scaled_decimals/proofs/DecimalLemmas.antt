@@ -1,14 +1,17 @@
 -- The number that the parts of a text write.
-use Rattle.std.proofs.Common.{◌≡◌, ℕ, ◌+◌, ◌*◌, ◌<◌, ◌^◌, List, true, false, Bool, not, cond, eqb, ltb, ℤ, pow-add, sym, refl, ap, ap₂, ◌∙◌, arith, Result, Ok, Err, lit<}
-use Rattle.std.specs.Prelude.{min}
+use Rattle.std.proofs.Common.{◌≡◌, ℕ, ◌+◌, ◌*◌, ◌<◌, ◌≤◌, ◌^◌, List, true, false, Bool, not, cond, eqb, ltb, ℤ, pow-add, sym, refl, ap, ap₂, ◌∙◌, arith, Result, Ok, Err, lit<}
+use Rattle.std.specs.Prelude.{min, unsigned_abs, IfOk}
 use Rattle.std.proofs.Math.Nat.{mul_comm}
+use Rattle.std.proofs.lemmas.Bool.{ltb-false}
 use Rattle.scaled_decimals.specs.declared.reading.DecFault.{DecFault}
 use Rattle.scaled_decimals.specs.declared.reading.DecFault.TheVariants.{NotNumber, TooLarge}
 use Rattle.scaled_decimals.specs.DecimalReading.{mantissa, raised, lowered, numerator, denominator, billionths, is_above, is_rounded, with_sign, read_ratio, decimal_of, Reads}
 use Rattle.scaled_decimals.specs.Rounding.{nearest}
 use Rattle.scaled_decimals.specs.NumberText.{NumberText, Spells, is_minus}
 use Rattle.scaled_decimals.specs.PartsReading.{IsKept}
-use Rattle.scaled_decimals.proofs.RatioLemmas.{ltb-scale}
+use Rattle.scaled_decimals.proofs.RatioLemmas.{ltb-scale, nearest_within}
+use Rattle.scaled_decimals.proofs.DigitLemmas.{ten_pos}
+use Rattle.scaled_decimals.proofs.FractionLemmas.{unsigned_abs-with_sign}
 
 answer : Bool → Bool → ℕ → Bool → Result (ℤ × Bool) DecFault
 answer negative above q rounded = cond above (Err TooLarge) (Ok (with_sign negative q, rounded))
@@ -44,3 +47,22 @@ answered p text false v (Err x) above is e d = let no : Err x ≡ Ok v = e in cc
 -- the answer that a number reads as is right
 pub Reads-from : (p : NumberText) (text : List ℕ) (r : Result (ℤ × Bool) DecFault) → Spells p text → r ≡ decimal_of p → Reads text r
 Reads-from p text r is e = answered p text (is_above p) (with_sign (is_minus p.sign) (billionths p), is_rounded p) r refl is e refl
+
+-- a number that isn't above the limit has 10^24 billionths at most
+pub billionths_within : (p : NumberText) → is_above p ≡ false → billionths p ≤ 10 ^ 24
+unfolding denominator
+billionths_within p e =
+    let within = ltb-false (10 ^ 15 * denominator p) (numerator p) e in
+    nearest_within (10 ^ 9 * numerator p) (denominator p) (10 ^ 24) (ten_pos (lowered p)) (omega arith)
+
+bounded : (p : NumberText) (b : Bool) (r : Result (ℤ × Bool) DecFault) → is_above p ≡ b → r ≡ cond b (Err TooLarge) (Ok (with_sign (is_minus p.sign) (billionths p), is_rounded p)) → IfOk r (λ v. unsigned_abs v.0 ≤ 10 ^ 24)
+bounded p b (Err x) above e = tt
+bounded p true (Ok v) above e = let no : Ok v ≡ Err TooLarge = e in cc
+bounded p false (Ok v) above e =
+    let same : v ≡ (with_sign (is_minus p.sign) (billionths p), is_rounded p) = cc in
+    let size : unsigned_abs v.0 ≡ billionths p = ap (λ (w : ℤ × Bool). unsigned_abs w.0) same ∙ unsigned_abs-with_sign (is_minus p.sign) (billionths p) in
+    let within = billionths_within p above in
+    omega arith
+
+pub IfOk-bound : (p : NumberText) (r : Result (ℤ × Bool) DecFault) → r ≡ decimal_of p → IfOk r (λ v. unsigned_abs v.0 ≤ 10 ^ 24)
+IfOk-bound p r e = bounded p (is_above p) r refl e

@@ -24,6 +24,17 @@ nearest_below n d some =
     let least : 2 * n + d < 2 * d * ((2 * n + d) / (2 * d) + 1) = lt-mul-div-succ (2 * n + d) double in
     omega arith
 
+-- what is at most a whole number is nearest to one that is
+pub nearest_within : (n d limit : ℕ) → 0 < d → n ≤ limit * d → nearest n d ≤ limit
+nearest_within n d limit some small =
+    elim (cases_lt limit (nearest n d)) [
+      | inl above ↦
+          let most = nearest_above n d some in
+          let more = mul-le-mul_right d above in
+          absurd (omega arith)
+      | inr within ↦ within
+    ]
+
 pub nearest-whole : (n d : ℕ) → 0 < d → nearest (n * d) d ≡ n
 nearest-whole n d some = nearest_is n (n * d) d some (omega arith) (omega arith)
 

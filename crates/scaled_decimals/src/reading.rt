@@ -1,5 +1,5 @@
 // Numbers in whole billionths and exact fractions, read from their texts.
-ghost use Rattle.std.specs.Prelude.{◌≡◌, ◌<◌, ◌^◌, ℕ, min};
+ghost use Rattle.std.specs.Prelude.{◌≡◌, ◌<◌, ◌≤◌, ◌^◌, ℕ, IfOk, min, unsigned_abs};
 ghost use Rattle.scaled_decimals.specs.DecimalReading.{Reads, decimal_of};
 ghost use Rattle.scaled_decimals.specs.Digits.{AreDigits};
 ghost use Rattle.scaled_decimals.specs.FractionReading.{ReadsValue, AgreesWith};
@@ -41,6 +41,7 @@ pub enum DecFault {
 pub fn read_decimal(text: &[u8]) -> Result<(i128, bool), DecFault>
     ensures answer { Reads text.now result }
     ensures number { (p : NumberText) → Spells p text.now → result ≡ decimal_of p }
+    ensures bound { IfOk result (λ read. unsigned_abs read.0 ≤ 10 ^ 24) }
 {
     match parts_of(text) {
         None => Err(DecFault::NotNumber),

@@ -2,7 +2,7 @@
 use Rattle.std.proofs.Common.{sym, ap, ◌∙◌, subst}
 use Rattle.scaled_decimals.specs.DecimalReading.{decimal_of}
 use Rattle.scaled_decimals.specs.Digits.{AreDigits}
-use Rattle.scaled_decimals.proofs.DecimalLemmas.{Reads-from}
+use Rattle.scaled_decimals.proofs.DecimalLemmas.{IfOk-bound, Reads-from}
 use Rattle.scaled_decimals.proofs.TextLemmas.{one_way}
 use Rattle.scaled_decimals.proofs.reading.read_decimal.Goals as goal
 
@@ -26,3 +26,8 @@ returns-in-Some-clause-number c =
     λ p is.
     let found = c.in-Some.ensures in
     c.decimal.ensures found.0 found.2 ∙ ap decimal_of (one_way c.args.text.now found.0 p found.1 is)
+
+pub returns-in-Some-clause-bound : goal.returns-in-Some-clause-bound
+returns-in-Some-clause-bound c =
+    let found = c.in-Some.ensures in
+    IfOk-bound found.0 c.decimal.result (c.decimal.ensures found.0 found.2)
