@@ -1,5 +1,5 @@
 -- A fraction's printed text reads as that fraction.
-use Rattle.std.proofs.Common.{◌≡◌, ℕ, ◌+◌, ◌-◌, ◌*◌, ◌^◌, ◌<◌, ℤ, pos, negsuc, List, [], ◌∷◌, ◌++◌, true, false, Bool, cond, suc, sym, refl, ap, ap₂, ◌∙◌, arith, subst, Result, Ok, Err, append-nil}
+use Rattle.std.proofs.Common.{◌≡◌, ℕ, ◌+◌, ◌-◌, ◌*◌, ◌^◌, ◌<◌, ℤ, pos, negsuc, List, [], ◌∷◌, ◌++◌, true, false, Bool, suc, sym, refl, ap, ap₂, ◌∙◌, arith, subst, Result, Ok, Err, append-nil}
 use Rattle.std.specs.Prelude.{unsigned_abs, ◌==◌, if◌then◌else◌, codes, decimal, ◌<ℤ◌}
 use Rattle.std.specs.Char.{digit_value, is_ascii_digit}
 use Rattle.std.specs.Fmt.{signed_decimal}
@@ -11,7 +11,7 @@ use Rattle.std.proofs.lemmas.Fmt.{decimal_is_IsNumeral_wide}
 use Rattle.std.proofs.lemmas.Int.{ints}
 use Rattle.std.proofs.lemmas.Str.{digit_value_digit}
 use Rattle.std.proofs.lemmas.Str.Parse.{digit_from_value}
-use Rattle.exact_num.specs.Range.{InRange, all_fit}
+use Rattle.exact_num.specs.Range.{all_fit}
 use Rattle.exact_num.specs.Rational.{Rational, lowest}
 use Rattle.exact_num.specs.Value.{value_of}
 use Rattle.exact_num.specs.declared.fraction.Frac.{Frac}
