@@ -1,6 +1,7 @@
 pub mod AscendingLaws
 mod Examples
 pub mod Integers
+pub mod NameLaws
 pub mod Orders
 pub mod PlanLaws
 pub mod RowLaws

@@ -1,5 +1,6 @@
 pub mod Equations
 pub mod Kinds
+pub mod NameTexts
 pub mod Names
 pub mod Numbers
 pub mod Order

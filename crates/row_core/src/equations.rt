@@ -310,3 +310,11 @@ pub fn row_has(eq: u8, place: u8) -> bool
 {
     entry(eq).subscripts.contains(&place)
 }
+
+/// The places of this equation's subscripts among the fields of `Index`, in order.
+pub(crate) fn row_subscripts(eq: u8) -> &'static [u8]
+    requires { IsEquation eq }
+    ensures { result.now ≡ (equation_at eq).subscripts }
+{
+    entry(eq).subscripts
+}

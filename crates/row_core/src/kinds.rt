@@ -304,3 +304,11 @@ pub fn var_has(kind: u8, place: u8) -> bool
 {
     entry(kind).subscripts.contains(&place)
 }
+
+/// The places of the subscripts of this kind's variables among the fields of `Index`, in order.
+pub(crate) fn var_subscripts(kind: u8) -> &'static [u8]
+    requires { IsKind kind }
+    ensures { result.now ≡ (kind_at kind).subscripts }
+{
+    entry(kind).subscripts
+}

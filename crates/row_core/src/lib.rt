@@ -10,10 +10,12 @@ ghost use Rattle.row_core.specs.Order.{var_cmp};
 
 mod equations;
 mod kinds;
+mod names;
 mod subscripts;
 
 pub use equations::{row_has, row_word};
 pub use kinds::{is_free, var_has, var_word};
+pub use names::{push_row_name, push_var};
 
 /// The subscripts of a variable or an equation, each a position in its set, counted from 0.
 /// A subscript that the kind or equation doesn't have is 0. Ordered by the fields as they stand here.
@@ -81,5 +83,7 @@ pub struct Row {
     pub ghost lowest: { IsLowest (rhs ∷ numbers_of entries.items) },
 }
 
+#[cfg(test)]
+mod name_tests;
 #[cfg(test)]
 mod tests;
