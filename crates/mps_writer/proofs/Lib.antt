@@ -1,0 +1,4 @@
+mod ColumnText
+mod ColumnTurns
+mod SameVariables
+mod SortedEntries

@@ -1,0 +1,15 @@
+use Rattle.std.proofs.Common.{◌≡◌, ◌≤◌, ◌+◌, ◌++◌, drop, length, IsTrue}
+use Rattle.std.specs.List.{flat_map, enumerate_from}
+use Rattle.mps_writer.specs.Entries.{Rises, column_text}
+use Rattle.mps_writer.specs.MpsText.{numbered}
+use Rattle.mps_writer.proofs.columns.push_columns.Given as goal
+
+-- with the columns that are left, over the entries that are left, the lines so far are those of all columns
+abbrev pub invariant-loop-place : goal.invariant-loop-place
+invariant-loop-place l = record {
+  text :
+      l.out.items ++ flat_map (column_text l.sets (drop l.next l.entries)) (enumerate_from (l.place + 1) (drop l.place l.vars))
+      ≡ l.fn.out.items ++ flat_map (column_text l.sets l.entries) (numbered l.vars);
+  rises : Rises (drop l.next l.entries);
+  within : l.next ≤ length l.entries;
+}
