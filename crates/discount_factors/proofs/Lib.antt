@@ -1,1 +1,5 @@
 mod Examples
+pub mod ClosenessLaws
+pub mod FactorLaws
+pub mod RootLaws
+pub mod ValueLaws
