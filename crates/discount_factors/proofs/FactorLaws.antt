@@ -70,7 +70,7 @@ salvage_fraction-le method rate life age =
     cond_both (eqb method 1 && ltb 0 rate) (sinking_fund rate life age) (straight_line life age) (λ n. n ≤ 10 ^ 6) (λ _. sinking_fund-le rate life age) (λ _. straight_line-le life age)
 
 -- ---- the divisor of the sinking fund is positive
-pub discounted-below_first : (rate n : ℕ) → 0 < rate → discounted rate (suc n) < 10 ^ 18
+discounted-below_first : (rate n : ℕ) → 0 < rate → discounted rate (suc n) < 10 ^ 18
 discounted-below_first rate zero some =
     elim (cases_lt (discounted rate 1) (10 ^ 18)) [
       | inl less ↦ less
@@ -80,6 +80,10 @@ discounted-below_first rate zero some =
           absurd (omega arith)
     ]
 discounted-below_first rate (suc n) some = let before = discounted-below_first rate n some in let falls = discounted-falls rate (suc n) in omega arith
+
+pub discounted-below_whole : (rate n : ℕ) → 0 < rate → 0 < n → discounted rate n < 10 ^ 18
+discounted-below_whole rate zero some later = absurd (omega arith)
+discounted-below_whole rate (suc n) some later = discounted-below_first rate n some
 
 -- ---- rate 0
 pub discounted-level : (n : ℕ) → discounted 0 n ≡ 10 ^ 18
