@@ -1,7 +1,7 @@
 -- The factors: what their quotients say, and that each lies between 0 and 10^6.
 use Rattle.std.proofs.Common.{◌≡◌, ◌≢◌, ℕ, zero, suc, ◌+◌, ◌-◌, ◌*◌, ◌/◌, ◌^◌, ◌<◌, ◌≤◌, true, false, Bool, cond, eqb, ltb, sym, refl, ap, subst, ◌∙◌, inl, inr, arith}
 use Rattle.std.proofs.Math.Nat.{pow-zero, div-mul-le_self, lt-div-mul-add, div-le_of_le-mul, div-eq_of_lt-le, mul-le-mul, mul-le-mul_right, mul-le-mul_left}
-use Rattle.std.proofs.lemmas.Bool.{cases_lt, cond_both, lt-ltb, ne_eqb}
+use Rattle.std.proofs.lemmas.Bool.{cases_lt, cond_both, cond-true, cond-false, and_right}
 use Rattle.std.specs.Prelude.{◌&&◌}
 use Rattle.discount_factors.specs.Factors.{discounted, capital_factor, half_year_root, root_from, operating_factor, sinking_fund, straight_line, salvage_fraction}
 use Rattle.discount_factors.proofs.ValueLaws.{discounted-first, discounted-le, discounted-monotone, discounted-falls, discounted-more, year_below}
@@ -48,21 +48,19 @@ pub straight_line-le : (life age : ℕ) → straight_line life age ≤ 10 ^ 6
 straight_line-le life age = part_le (life - age) life (omega arith)
 
 -- ---- which of the two it is
-pub salvage-sinking : (rate life age : ℕ) → 0 < rate → salvage_fraction 1 rate life age ≡ sinking_fund rate life age
+pub salvage-sinking : (method rate life age : ℕ) → (eqb method 1 && ltb 0 rate) ≡ true → salvage_fraction method rate life age ≡ sinking_fund rate life age
 unfolding salvage_fraction
-salvage-sinking rate life age some = ap (λ above. cond above (sinking_fund rate life age) (straight_line life age)) (lt-ltb 0 rate some)
+salvage-sinking method rate life age tested = cond-true (eqb method 1 && ltb 0 rate) (sinking_fund rate life age) (straight_line life age) tested
 
-neither : (b : Bool) (m n : ℕ) → cond (b && false) m n ≡ n
-neither true m n = refl
-neither false m n = refl
+pub salvage-straight : (method rate life age : ℕ) → (eqb method 1 && ltb 0 rate) ≡ false → salvage_fraction method rate life age ≡ straight_line life age
+unfolding salvage_fraction
+salvage-straight method rate life age tested = cond-false (eqb method 1 && ltb 0 rate) (sinking_fund rate life age) (straight_line life age) tested
 
 pub salvage-level : (method life age : ℕ) → salvage_fraction method 0 life age ≡ straight_line life age
-unfolding salvage_fraction
-salvage-level method life age = neither (eqb method 1) (sinking_fund 0 life age) (straight_line life age)
+salvage-level method life age = salvage-straight method 0 life age (and_right (eqb method 1) false refl)
 
-pub salvage-straight : (method rate life age : ℕ) → method ≢ 1 → salvage_fraction method rate life age ≡ straight_line life age
-unfolding salvage_fraction
-salvage-straight method rate life age other = ap (λ first. cond (first && ltb 0 rate) (sinking_fund rate life age) (straight_line life age)) (ne_eqb method 1 other)
+pub salvage-second : (rate life age : ℕ) → salvage_fraction 2 rate life age ≡ straight_line life age
+salvage-second rate life age = salvage-straight 2 rate life age refl
 
 pub salvage_fraction-le : (method rate life age : ℕ) → salvage_fraction method rate life age ≤ 10 ^ 6
 unfolding salvage_fraction

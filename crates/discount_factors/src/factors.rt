@@ -1,5 +1,6 @@
 // The factors of one rate.
-ghost use Rattle.std.specs.Prelude.{◌≡◌, ◌<◌, ◌≤◌, ◌^◌, max, pos, ◌≤ℤ◌, unsigned_abs, IfOk};
+ghost use Rattle.std.specs.Prelude.{◌≡◌, ◌==◌, ◌&&◌, ◌<◌, ◌≤◌, ◌^◌, nat_lt, max, pos, ◌≤ℤ◌, unsigned_abs, IfOk};
+ghost use Rattle.exact_num.specs.Range.{InRange};
 ghost use Rattle.discount_factors.specs.Factors.{discounted, capital_factor, operating_factor, salvage_fraction};
 
 use crate::values::{WHOLE, discounted_values, half_year_root, millionths};
@@ -14,9 +15,9 @@ const HALF_YEAR_MILLIONTH: u128 = 1_000_000_000_000_000_000_000_000;
 // The number of the depreciation method by the sinking fund.
 const SINKING_FUND: u8 = 1;
 
-/// The factors of one discount rate, in millionths: each lies between 0 and 10^6. Years count from the first.
+/// The factors of one discount rate, in millionths: each lies between 0 and 10^6.
 ///
-/// They are made for `span` years and for lives of `lives` years at most.
+/// They are made for `span` years from the first on, and for lives of `lives` years at most.
 #[derive(Drop)]
 pub struct Factors {
     rate: u64,
@@ -37,7 +38,8 @@ impl Model for Factors {
 }
 
 impl Factors {
-    /// The factors at a rate of 0 to 10^9 billionths. Refuses for want of memory alone.
+    /// The factors at a rate of 0 to 10^9 billionths, for up to `span` years and lives of up to `lives` years. Refuses for want of
+    /// memory alone.
     pub fn new(alloc: Global, rate: i128, span: u16, lives: u16) -> Result<Factors, AllocError>
         requires least { pos 0 ≤ℤ rate }
         requires most { rate ≤ℤ pos 1000000000 }
@@ -69,6 +71,7 @@ impl Factors {
         ensures exact { result ≡ pos (capital_factor self.now.rate n) }
         ensures least { pos 0 ≤ℤ result }
         ensures most { result ≤ℤ pos 1000000 }
+        ensures fits { InRange result }
     {
         i128::from(self.value(n) / MILLIONTH)
     }
@@ -80,6 +83,7 @@ impl Factors {
         ensures exact { result ≡ pos (operating_factor self.now.rate n) }
         ensures least { pos 0 ≤ℤ result }
         ensures most { result ≤ℤ pos 1000000 }
+        ensures fits { InRange result }
     {
         i128::from(self.half_year_later(n))
     }
@@ -104,6 +108,7 @@ impl Factors {
         ensures exact { result ≡ pos (salvage_fraction method self.now.rate life age) }
         ensures least { pos 0 ≤ℤ result }
         ensures most { result ≤ℤ pos 1000000 }
+        ensures fits { InRange result }
     {
         i128::from(self.part_left(method, life, age))
     }
@@ -115,12 +120,19 @@ impl Factors {
         ensures exact { result ≡ salvage_fraction method self.now.rate life age }
         ensures most { result ≤ 10 ^ 6 }
     {
-        if method == SINKING_FUND && self.rate > 0 {
+        if self.goes_by_sinking_fund(method) {
             let left = WHOLE - self.value(life - age);
             let all = WHOLE - self.value(life);
             millionths(left, all)
         } else {
             millionths(u64::from(life - age), u64::from(life))
         }
+    }
+
+    // Whether the part that is left goes by the sinking fund, and not by the straight line.
+    fn goes_by_sinking_fund(&self, method: u8) -> bool
+        ensures { result ≡ (method == 1 && nat_lt 0 self.now.rate) }
+    {
+        method == SINKING_FUND && self.rate > 0
     }
 }

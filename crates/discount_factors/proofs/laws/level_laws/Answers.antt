@@ -1,4 +1,4 @@
-use Rattle.discount_factors.proofs.FactorLaws.{capital_factor-level, operating_factor-level, salvage-level, salvage-straight}
+use Rattle.discount_factors.proofs.FactorLaws.{capital_factor-level, operating_factor-level, salvage-level, salvage-second}
 use Rattle.discount_factors.proofs.laws.level_laws.Goals as goal
 
 pub returns : goal.returns
@@ -6,5 +6,5 @@ returns c = record {
   capital = capital_factor-level;
   operating = operating_factor-level;
   level = salvage-level;
-  straight = λ rate life age. salvage-straight 2 rate life age (λ same. cc);
+  straight = salvage-second;
 }
