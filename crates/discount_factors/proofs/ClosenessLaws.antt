@@ -1,5 +1,5 @@
 -- How near the written factors lie to the real powers of 1 / (1 + d).
-use Rattle.std.proofs.Common.{◌≡◌, ℕ, zero, suc, ◌+◌, ◌-◌, ◌*◌, ◌^◌, ◌<◌, ◌≤◌, pow-add, sym, refl, ap, subst, ◌∙◌, arith}
+use Rattle.std.proofs.Common.{◌≡◌, ℕ, zero, suc, ◌+◌, ◌*◌, ◌^◌, ◌<◌, ◌≤◌, pow-add, ap, ◌∙◌, arith}
 use Rattle.std.proofs.Math.Nat.{pow-suc, pow-zero, one-mul, mul-le-mul, mul-lt-mul_of_pos_right, mul-le-mul_right, mul-le-mul_left}
 use Rattle.discount_factors.specs.Factors.{discounted, capital_factor, half_year_root, operating_factor}
 use Rattle.discount_factors.proofs.ValueLaws.{discounted-le, discounted-below, discounted-above}

@@ -1,11 +1,11 @@
 -- The factors: what their quotients say, and that each lies between 0 and 10^6.
-use Rattle.std.proofs.Common.{◌≡◌, ◌≢◌, ℕ, zero, suc, ◌+◌, ◌-◌, ◌*◌, ◌/◌, ◌^◌, ◌<◌, ◌≤◌, true, false, Bool, cond, eqb, ltb, sym, refl, ap, subst, ◌∙◌, inl, inr, arith}
-use Rattle.std.proofs.Math.Nat.{pow-zero, div-mul-le_self, lt-div-mul-add, div-le_of_le-mul, div-eq_of_lt-le, mul-le-mul, mul-le-mul_right, mul-le-mul_left}
+use Rattle.std.proofs.Common.{◌≡◌, ℕ, zero, suc, ◌+◌, ◌-◌, ◌*◌, ◌/◌, ◌^◌, ◌<◌, ◌≤◌, true, false, eqb, ltb, refl, inl, inr, arith}
+use Rattle.std.proofs.Math.Nat.{div-mul-le_self, lt-div-mul-add, div-le_of_le-mul, mul-le-mul, mul-le-mul_right}
 use Rattle.std.proofs.lemmas.Bool.{cases_lt, cond_both, cond-true, cond-false, and_right}
 use Rattle.std.specs.Prelude.{◌&&◌}
 use Rattle.discount_factors.specs.Factors.{discounted, capital_factor, half_year_root, root_from, operating_factor, sinking_fund, straight_line, salvage_fraction}
 use Rattle.discount_factors.proofs.ValueLaws.{discounted-first, discounted-le, discounted-monotone, discounted-falls, discounted-more, year_below}
-use Rattle.discount_factors.proofs.RootLaws.{half_year_root-le, half_year_root_is, root_unique}
+use Rattle.discount_factors.proofs.RootLaws.{half_year_root-le}
 
 -- ---- what the quotients say
 pub capital_below : (rate n : ℕ) → capital_factor rate n * 10 ^ 12 ≤ discounted rate n

@@ -1,5 +1,5 @@
 -- The discounted values: each is a rounded quotient of the one before, so they fall, and each year's rounding loses less than 1.
-use Rattle.std.proofs.Common.{◌≡◌, ℕ, zero, suc, ◌+◌, ◌-◌, ◌*◌, ◌/◌, ◌^◌, ◌<◌, ◌≤◌, sym, refl, ap, subst, ◌∙◌, arith}
+use Rattle.std.proofs.Common.{◌≡◌, ℕ, zero, suc, ◌+◌, ◌-◌, ◌*◌, ◌/◌, ◌^◌, ◌<◌, ◌≤◌, refl, subst, arith}
 use Rattle.std.proofs.Math.Nat.{pow-suc, pow-zero, div-mul-le_self, lt-div-mul-add, mul-le-mul_right, mul-le-mul_left, le_of_mul-le-mul_right}
 use Rattle.discount_factors.specs.Factors.{discounted}
 

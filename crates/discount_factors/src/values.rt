@@ -1,4 +1,5 @@
-// The numbers from which the factors are made: the discounted values, and the half-year root. No product has more than 110 bits.
+// The numbers from which the factors are made: the discounted values, and the half-year root. The rate d goes by its billionths, and
+// no number that is formed has more than 110 bits.
 ghost use Rattle.std.specs.Prelude.{◌≡◌, ◌+◌, ◌*◌, ◌/◌, ◌^◌, ◌<◌, ◌≤◌, length, IfOk};
 ghost use Rattle.discount_factors.specs.Factors.{half_year_root};
 ghost use Rattle.discount_factors.specs.Known.{AreDiscounted};
