@@ -3,6 +3,7 @@ pub mod CapacityRows
 pub mod Codes
 pub mod Columns
 pub mod Commands
+pub mod DistinctVariables
 pub mod Due
 pub mod Equations
 pub mod FixedForm
@@ -11,6 +12,7 @@ pub mod FixedFormView
 pub mod MpsText
 pub mod ReadEnds
 pub mod Reading
+pub mod RowVariables
 pub mod RowsAdded
 pub mod Sending
 pub mod SortedCells

@@ -3,6 +3,7 @@
 
 mod answer;
 mod capacity_rows;
+mod columns;
 mod fixed_form;
 mod lines;
 mod mps;
