@@ -5,7 +5,8 @@ use Rattle.std.specs.Fmt.{digits}
 use Rattle.osemosys_run.specs.declared.status.WordFault.TheVariants.{NoCommand, BadCommand, BadForm}
 use Rattle.osemosys_run.specs.declared.status.Refusal.TheVariants as refusals
 use Rattle.osemosys_run.specs.declared.status.ReadStop.TheVariants as stops
-use Rattle.osemosys_run.specs.Words.{Mps, is_option, asked}
+use Rattle.osemosys_run.specs.Words.{Mps, asked}
+use Rattle.osemosys_run.specs.WordParts.{is_option}
 use Rattle.osemosys_run.specs.Due.{words_line, stop_line, refusal_line}
 
 -- ---- words

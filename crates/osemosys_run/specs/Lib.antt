@@ -2,6 +2,7 @@ pub mod CapacityEntries
 pub mod CapacityRows
 pub mod Codes
 pub mod Columns
+pub mod CommandLine
 pub mod Commands
 pub mod Due
 pub mod Equations
@@ -14,4 +15,6 @@ pub mod Reading
 pub mod RowsAdded
 pub mod Sending
 pub mod SortedCells
+pub mod WordParts
 pub mod Words
+pub mod WordValues

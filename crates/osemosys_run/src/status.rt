@@ -35,8 +35,14 @@ pub enum WordFault {
     NoCommand,
     /// The first word is no command.
     BadCommand,
-    /// The words after the command aren't one file.
+    /// A file is missing or too many, an option is unknown or repeated, or it has no value.
     BadForm,
+    /// A number isn't one of the digits and the range that its place allows.
+    BadNumber,
+    /// The value of `--show` is none of the command's.
+    BadShow,
+    /// `check` has a gap and no multipliers.
+    GapAlone,
 }
 
 /// Why a file couldn't be read. Files count from 1, in the order of the words.

@@ -1,8 +1,11 @@
 // The words of the command line.
+mod any_command;
+
 ghost use Rattle.std.specs.Prelude.{◌≡◌, map};
 ghost use Rattle.std.specs.String.{string_bytes};
 ghost use Rattle.osemosys_run.specs.Commands.{request_of_result};
-ghost use Rattle.osemosys_run.specs.Words.{asked, is_option};
+ghost use Rattle.osemosys_run.specs.Words.{asked};
+ghost use Rattle.osemosys_run.specs.WordParts.{is_option};
 
 use crate::status::WordFault;
 
