@@ -56,7 +56,7 @@ named_like_an_option = refl
 two_dashes : asked (codes "mps" ∷ codes "--" ∷ []) ≡ Err BadForm
 two_dashes = refl
 
-file_after_two_dashes : asked (codes "mps" ∷ codes "--" ∷ codes "FILE" ∷ []) ≡ Err BadForm
+file_after_two_dashes : asked (codes "mps" ∷ codes "--" ∷ codes "FILE" ∷ []) ≡ Ok (Mps (codes "FILE"))
 file_after_two_dashes = refl
 
 option_after_file : asked (codes "mps" ∷ codes "FILE" ∷ codes "--gap" ∷ codes "5" ∷ []) ≡ Err BadForm

@@ -1,5 +1,6 @@
 pub mod CapacityEntries
 pub mod CapacityRows
+pub mod ClapWords
 pub mod Codes
 pub mod Columns
 pub mod CommandLine
@@ -16,5 +17,6 @@ pub mod RowsAdded
 pub mod Sending
 pub mod SortedCells
 pub mod WordParts
+pub mod WordReading
 pub mod Words
 pub mod WordValues

@@ -1,5 +1,6 @@
 // The words of the command line.
 mod any_command;
+mod parsing;
 
 ghost use Rattle.std.specs.Prelude.{◌≡◌, map};
 ghost use Rattle.std.specs.String.{string_bytes};
