@@ -4,13 +4,13 @@ use Rattle.std.specs.Prelude.{codes, fold, option_and_then, ⊤}
 use Rattle.std.specs.List.{AllByRecursion}
 use Rattle.std.specs.Str.{bytes_eq, IsUtf8}
 use Rattle.std.proofs.lemmas.Slice.Eq.{bytes_eq-Decides}
-use Rattle.clap.specs.Walk.{Held, Row, Text, Waiting, Walk, idle, positional, settled}
+use Rattle.clap.specs.Walk.{Held, Row, Text, Waiting, Walk, idle, option, positional, settled}
 use Rattle.clap.specs.Kinds.{Kinds, or_else}
 use Rattle.clap.specs.Faults.{walk_fault}
 use Rattle.osemosys_run.specs.ClapWords.{is_fault}
-use Rattle.osemosys_run.specs.WordParts.{OptionName, Part, File, Chosen, followed, is_option, options_end, parts_from}
+use Rattle.osemosys_run.specs.WordParts.{OptionName, Part, File, Chosen, followed, is_option, joined_value, option_in, option_parts, options_end, parts_from}
 use Rattle.osemosys_run.specs.WordReading.{Given}
-use Rattle.osemosys_run.proofs.ClapTurns.{IsReady, at, due, end_next, end_turn, file_next, file_turn, next, past_end, past_next, past_turn, rules, settling, shape, turn, value_next, value_turn, with_due, with_file, with_joined, with_value}
+use Rattle.osemosys_run.proofs.ClapTurns.{IsReady, at, due, id_of, end_next, end_turn, file_next, file_turn, next, past_end, past_next, past_turn, rules, settling, shape, turn, value_next, value_turn, with_due, with_file, with_joined, with_value}
 use Rattle.osemosys_run.proofs.ClapOptions.{Fails, IsApart, IsJoined, IsUnknown, Kind, apart, fails_first, fails_then, joined, kind_of_option, option_fails, unknown, using}
 use Rattle.osemosys_run.proofs.ClapStates.{IsFine, Says, due_fails, file_added, fine_file, fine_joined, fine_value, second_value, settle_value, first_value, value_added, value_of}
 
@@ -112,3 +112,97 @@ stays_failed (word ∷ words) utf8 h waiting ready skip fails = by_end (bytes_eq
     by_end : (b : Bool) → bytes_eq options_end word ≡ b → Fails (faults (at h waiting) (word ∷ words))
     by_end true e = subst (λ (x : Text). Fails (faults (at h waiting) (x ∷ words))) (is_end word e) ends
     by_end false e = by_option (is_option word) refl e
+
+-- ---- every word
+
+-- where clap stands: between parts, or where the value of an option is due
+abbrev pub stands : Option OptionName → Held → Waiting → Walk
+stands None h waiting = at h waiting
+stands (Some o) h waiting = due o h
+
+-- from where clap stands, with this given, it agrees with the parts of the words to come
+abbrev pub AgreesOn : List Text → Type 0
+AgreesOn words = (o : Option OptionName) (h : Held) (g : Given) (waiting : Waiting) → IsFine h g → IsReady waiting
+    → Agrees (stands o h waiting) words (gathers g (parts_from o words))
+
+module _ (word : Text) (words : List Text) (here : IsUtf8 word) (later : AllByRecursion IsUtf8 words) (rest : AgreesOn words) where
+  -- the value that is due, or none
+  value_step : (o : OptionName) (h : Held) (g : Given) → IsFine h g → Agrees (due o h) (word ∷ words) (gathers g (parts_from (Some o) (word ∷ words)))
+  value_step o h g fine = by_option (is_option word) refl
+    where
+      to : Held
+      to = with_value o word h
+
+      waits : Waiting
+      waits = option (id_of o)
+
+      no_value : Agrees (due o h) (word ∷ words) None → is_option word ≡ true → Agrees (due o h) (word ∷ words) (gathers g (parts_from (Some o) (word ∷ words)))
+      no_value fails e = rw e fails
+
+      ends : Fails (faults (due o h) (options_end ∷ words))
+      ends = goes_on (due o h) options_end words (past_end (with_due o h) waits) None (end_turn (with_due o h) waits) (end_next (with_due o h) waits) (past_fails words (with_due o h) waits (due_fails h o))
+
+      by_end : (b : Bool) → bytes_eq options_end word ≡ b → is_option word ≡ true → Fails (faults (due o h) (word ∷ words))
+      by_end true end e = subst (λ (x : Text). Fails (faults (due o h) (x ∷ words))) (is_end word end) ends
+      by_end false end e = fails_now (due o h) word words (option_fails word (with_due o h) waits here end e fine.skip (due_fails h o))
+
+      value : is_option word ≡ false → (v : Option Text) → value_of o g ≡ v → Agrees (due o h) (word ∷ words) (gathers g (followed (Chosen o word) (parts_from None words)))
+      value e (Some first) given =
+          let fails : Fails (settling to) = rw (settle_value h o word) (second_value (settled rules h).rows g o word first fine.says given) in
+          rw (after_repeat g o word first (parts_from None words) given)
+          (goes_on (due o h) word words (at to idle) None (value_turn o word h e) (value_next o word h e) (stays_failed words later to idle tt fine.skip fails))
+      value e None none =
+          rw (after_value g o word (parts_from None words) none)
+          (goes_on (due o h) word words (at to idle) _ (value_turn o word h e) (value_next o word h e)
+          (rest None to (value_added o word g) idle (fine_value h g o word fine none) tt))
+
+      by_option : (b : Bool) → is_option word ≡ b → Agrees (due o h) (word ∷ words) (gathers g (parts_from (Some o) (word ∷ words)))
+      by_option true e = no_value (by_end (bytes_eq options_end word) refl e) e
+      by_option false e = rw e (value e (value_of o g) refl)
+
+  -- a part, or the first word of one
+  part_step : (h : Held) (g : Given) (waiting : Waiting) → IsFine h g → IsReady waiting → Agrees (at h waiting) (word ∷ words) (gathers g (parts_from None (word ∷ words)))
+  part_step h g waiting fine ready = by_end (bytes_eq options_end word) refl
+    where
+      from : Walk
+      from = at h waiting
+
+      ends : Agrees from (options_end ∷ words) (gathered g (map File words))
+      ends = goes_on from options_end words (past_end h waiting) _ (end_turn h waiting) (end_next h waiting) (past_agrees words h g waiting fine)
+
+      file : is_option word ≡ false → Agrees from (word ∷ words) (gathers g (followed (File word) (parts_from None words)))
+      file e =
+          rw (after_file g word (parts_from None words))
+          (goes_on from word words (at (with_file word h) positional) _ (file_turn word h waiting ready e ∙ fine.settles) (file_next word h waiting ready e)
+          (rest None (with_file word h) (file_added word g) positional (fine_file h g word fine) tt))
+
+      chosen_now : (o : OptionName) (value : Text) → IsJoined o value word → (v : Option Text) → value_of o g ≡ v
+          → Agrees from (word ∷ words) (gathers g (followed (Chosen o value) (parts_from None words)))
+      chosen_now o value k (Some first) given =
+          rw (after_repeat g o value first (parts_from None words) given)
+          (fails_now from word words (rw (k.turns h waiting) (fails_then (settling h) _ (second_value (settled rules h).rows g o value first fine.says given))))
+      chosen_now o value k None none =
+          let turns : turn from word ≡ [] = k.turns h waiting ∙ ap (λ kinds. or_else kinds (using o value (settled rules h).rows)) fine.settles
+          ∙ first_value (settled rules h).rows g o value fine.says none in
+          rw (after_value g o value (parts_from None words) none)
+          (goes_on from word words (at (with_joined o value h) idle) _ turns (k.goes h waiting)
+          (rest None (with_joined o value h) (value_added o value g) idle (fine_joined h g o value fine none) tt))
+
+      any_option : Kind word → Agrees from (word ∷ words) (gathers g (option_parts (option_in word) (joined_value word) (parts_from None words) (λ o. parts_from (Some o) words)))
+      any_option (unknown k) = rw k.name (fails_now from word words (k.fails h waiting fine.skip))
+      any_option (joined o value k) = rw (k.name, k.gives) (chosen_now o value k (value_of o g) refl)
+      any_option (apart o k) = rw (k.name, k.gives) (goes_on from word words (due o h) _ (k.turns h waiting ∙ fine.settles) (k.goes h waiting) (rest (Some o) h g waiting fine ready))
+
+      by_option : (b : Bool) → is_option word ≡ b → bytes_eq options_end word ≡ false → Agrees from (word ∷ words) (gathers g (parts_from None (word ∷ words)))
+      by_option true e end = rw (end, e) (any_option (kind_of_option word here end e))
+      by_option false e end = rw (end, e) (file e)
+
+      by_end : (b : Bool) → bytes_eq options_end word ≡ b → Agrees from (word ∷ words) (gathers g (parts_from None (word ∷ words)))
+      by_end true end = rw end (subst (λ (x : Text). Agrees from (x ∷ words) (gathered g (map File words))) (is_end word end) ends)
+      by_end false end = by_option (is_option word) refl end
+
+pub agrees : (words : List Text) → AllByRecursion IsUtf8 words → AgreesOn words
+agrees [] utf8 None h g waiting fine ready = (last (at h waiting) ∙ fine.settles, fine.says)
+agrees [] utf8 (Some o) h g waiting fine ready = rw (last (due o h)) (due_fails h o)
+agrees (word ∷ words) utf8 None h g waiting fine ready = part_step word words utf8.0 utf8.1 (agrees words utf8.1) h g waiting fine ready
+agrees (word ∷ words) utf8 (Some o) h g waiting fine ready = value_step word words utf8.0 utf8.1 (agrees words utf8.1) o h g fine

@@ -1,7 +1,7 @@
 // The words after a command, read by `clap` as one simple command with all options of all commands.
-ghost use Rattle.std.specs.Prelude.{◌≡◌, IfOk, map, option_map};
+ghost use Rattle.std.specs.Prelude.{◌≡◌, IfOk, [], codes, map, option_map, unwrap_or};
 ghost use Rattle.std.specs.String.{string_bytes};
-ghost use Rattle.clap.specs.Words.{app_of, found_of, rows_of};
+ghost use Rattle.clap.specs.Words.{all_of, app_of, found_of, rows_of};
 ghost use Rattle.osemosys_run.specs.ClapWords.{app, clap_rows};
 ghost use Rattle.osemosys_run.specs.WordParts.{parts_of};
 ghost use Rattle.osemosys_run.specs.WordReading.{given_by, given_of};
@@ -27,17 +27,24 @@ pub fn read_given<'a>(alloc: Global, words: &'a [String]) -> Result<Option<Given
     let Some(matches) = parse(alloc, words)? else {
         return Ok(None);
     };
-    let files = match matches.get_strs("file") {
-        Some(files) => Vec::from_slice(alloc, files)?,
-        None => Vec::new(alloc),
-    };
     let given = Given {
-        files,
+        files: files_of(alloc, &matches)?,
         gap: matches.get_str("gap"),
         pivots: matches.get_str("pivots"),
         show: matches.get_str("show"),
     };
     Ok(Some(given))
+}
+
+// The files that clap matched, in their order.
+fn files_of<'a>(alloc: Global, matches: &ArgMatches<'a>) -> Result<Vec<&'a str>, AllocError>
+    ensures { IfOk result (λ files. map (λ file. file.now) files.items
+        ≡ unwrap_or (all_of (codes "file") (rows_of (found_of matches.now))) []) }
+{
+    match matches.get_strs("file") {
+        Some(files) => Vec::from_slice(alloc, files),
+        None => Ok(Vec::new(alloc)),
+    }
 }
 
 // What clap matches of the words, or `None` where it refuses them. Its texts are never shown.
