@@ -1,11 +1,13 @@
 -- What a command of the code stands for.
-use Rattle.std.specs.Prelude.{List, Result, Ok, Err, Option, option_map}
+use Rattle.std.specs.Prelude.{Result, Ok, Err, option_map}
 use Rattle.osemosys_run.specs.declared.words.Command.{Command}
 use Rattle.osemosys_run.specs.declared.words.Command.TheVariants as commands
 use Rattle.osemosys_run.specs.declared.words.any_command.AnyCommand.{AnyCommand as SlicedCommand}
 use Rattle.osemosys_run.specs.declared.words.any_command.AnyCommand.TheVariants as sliced
+use Rattle.osemosys_run.specs.declared.words.any_command.CommandName.{CommandName as CodeName}
+use Rattle.osemosys_run.specs.declared.words.any_command.CommandName.TheVariants as names
 use Rattle.osemosys_run.specs.declared.status.WordFault.{WordFault}
-use Rattle.osemosys_run.specs.CommandLine.{AnyCommand}
+use Rattle.osemosys_run.specs.CommandLine.{AnyCommand, CommandName, MpsName, CheckName, SolveName, MakeName}
 use Rattle.osemosys_run.specs.CommandLine as all
 use Rattle.osemosys_run.specs.Words.{Request, Mps}
 
@@ -29,3 +31,10 @@ any_command_of (sliced.Make size show) = all.Make size show
 abbrev pub any_command_of_result : Result SlicedCommand WordFault → Result AnyCommand WordFault
 any_command_of_result (Ok command) = Ok (any_command_of command)
 any_command_of_result (Err fault) = Err fault
+
+-- a command's name
+abbrev pub name_of : CodeName → CommandName
+name_of names.Mps = MpsName
+name_of names.Check = CheckName
+name_of names.Solve = SolveName
+name_of names.Make = MakeName

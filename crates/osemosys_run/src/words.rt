@@ -1,6 +1,7 @@
 // The words of the command line.
 mod any_command;
 mod parsing;
+mod values;
 
 ghost use Rattle.std.specs.Prelude.{◌≡◌, map};
 ghost use Rattle.std.specs.String.{string_bytes};
