@@ -81,7 +81,7 @@ fn perform<S: Shelf>(alloc: Global, words: &[String], shelf: &mut S) -> Result<A
     ensures files { S.files shelf.new ≡ S.files shelf.old }
     ensures faults { S.faults shelf.old ≤ S.faults shelf.new }
 {
-    match read_command(words) {
+    match read_command(alloc, words)? {
         Ok(Command::Mps { file }) => perform_mps(alloc, file, shelf),
         Err(fault) => refuse_words(alloc, fault),
     }
