@@ -1,5 +1,5 @@
 -- The form of the words after a command: files, and options with their values (long options as in the GNU coding standards).
-use Rattle.std.specs.Prelude.{◌≡◌, ℕ, Bool, true, false, not, ◌==◌, List, [], ◌∷◌, ◌++◌, map, codes, Option, Some, None, option_map, if◌then◌else◌}
+use Rattle.std.specs.Prelude.{◌≡◌, ◌↔◌, ℕ, Bool, true, false, not, ◌==◌, List, [], ◌∷◌, ◌++◌, map, codes, Option, Some, None, option_map, if◌then◌else◌}
 use Rattle.std.specs.List.{list_all, list_any, flat_map, before_first, after_first}
 use Rattle.std.specs.Str.{bytes_eq}
 
@@ -121,3 +121,7 @@ pub record Spells (words : List (List ℕ)) (parts : List Part) : Type 0 where
   pub right : list_all is_spelling spellings ≡ true
   pub spelled : words ≡ flat_map words_of spellings ++ end_words files
   pub said : parts ≡ map part_of spellings ++ end_files files
+
+-- The parts of the words are those that are spelled so: there are some exactly where some spelling has these words, and they are what it says.
+abbrev pub HasSpelledParts : List (List ℕ) → List Part → Type 0
+HasSpelledParts words parts = (parts_of words ≡ Some parts) ↔ Spells words parts

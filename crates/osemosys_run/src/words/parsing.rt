@@ -1,9 +1,9 @@
 // The words after a command, read by `clap` as one simple command with all options of all commands.
-ghost use Rattle.std.specs.Prelude.{◌≡◌, IfOk, [], codes, map, option_map, unwrap_or};
+ghost use Rattle.std.specs.Prelude.{◌≡◌, ℕ, List, IfOk, [], codes, map, option_map, unwrap_or};
 ghost use Rattle.std.specs.String.{string_bytes};
 ghost use Rattle.clap.specs.Words.{all_of, app_of, found_of, rows_of};
 ghost use Rattle.osemosys_run.specs.ClapWords.{app, clap_rows};
-ghost use Rattle.osemosys_run.specs.WordParts.{parts_of};
+ghost use Rattle.osemosys_run.specs.WordParts.{HasSpelledParts, Part, parts_of};
 ghost use Rattle.osemosys_run.specs.WordReading.{given_by, given_of};
 
 use clap::error::ErrorKind;
@@ -79,4 +79,10 @@ fn any_options<'a>(alloc: Global) -> Result<Command<'a>, AllocError>
         .arg(gap)?
         .arg(pivots)?
         .arg(show)
+}
+
+/// The parts of words are those that are spelled so.
+pub fn spelled_parts()
+    ensures { (words : List (List ℕ)) (parts : List Part) → HasSpelledParts words parts }
+{
 }
