@@ -1,6 +1,8 @@
 // The words of the command line.
 mod any_command;
 mod parsing;
+#[cfg(test)]
+mod tests;
 mod values;
 
 ghost use Rattle.std.specs.Prelude.{◌≡◌, IfOk, map};
@@ -11,6 +13,8 @@ ghost use Rattle.osemosys_run.specs.Words.{asked};
 use crate::status::WordFault;
 use crate::words::any_command::{AnyCommand, read_any_command};
 use std::alloc::{AllocError, Global};
+
+pub use crate::words::parsing::spelled_parts;
 
 /// A command that is built, with its files.
 #[derive(Clone, Copy, Debug, PartialEq, Eq)]
