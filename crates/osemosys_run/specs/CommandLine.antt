@@ -83,19 +83,19 @@ or_fault fault (Some value) make = make value
 abbrev pub check_of : List ℕ → List ℕ → Option (List ℕ) → Option (List ℕ) → Result AnyCommand WordFault
 check_of file plan multipliers gap =
     or_fault BadNumber (gap_of gap) (λ ppm.
-        if is_some gap && not (is_some multipliers) then Err GapAlone
-        else Ok (Check file plan multipliers ppm))
+    if is_some gap && not (is_some multipliers) then Err GapAlone
+    else Ok (Check file plan multipliers ppm))
 
 abbrev pub solve_of : List ℕ → Option (List ℕ) → Option (List ℕ) → Option (List ℕ) → Result AnyCommand WordFault
 solve_of file gap pivots show =
     or_fault BadNumber (gap_of gap) (λ ppm.
-        or_fault BadNumber (pivots_of pivots) (λ most.
-            or_fault BadShow (solve_show_of show) (λ shown. Ok (Solve file ppm most shown))))
+    or_fault BadNumber (pivots_of pivots) (λ most.
+    or_fault BadShow (solve_show_of show) (λ shown. Ok (Solve file ppm most shown))))
 
 abbrev pub make_of : List ℕ → Option (List ℕ) → Result AnyCommand WordFault
 make_of size show =
     or_fault BadNumber (size_of size) (λ n.
-        or_fault BadShow (make_show_of show) (λ shown. Ok (Make n shown)))
+    or_fault BadShow (make_show_of show) (λ shown. Ok (Make n shown)))
 
 -- the command with these files and these values of `--gap`, `--pivots` and `--show`: a file that is missing or too many is a fault of form
 abbrev pub command_of : CommandName → List (List ℕ) → Option (List ℕ) → Option (List ℕ) → Option (List ℕ) → Result AnyCommand WordFault

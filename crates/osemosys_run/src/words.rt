@@ -12,9 +12,8 @@ ghost use Rattle.osemosys_run.specs.Words.{asked};
 
 use crate::status::WordFault;
 use crate::words::any_command::{AnyCommand, read_any_command};
-use std::alloc::{AllocError, Global};
-
 pub use crate::words::parsing::spelled_parts;
+use std::alloc::{AllocError, Global};
 
 /// A command that is built, with its files.
 #[derive(Clone, Copy, Debug, PartialEq, Eq)]

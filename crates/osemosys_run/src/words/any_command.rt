@@ -15,7 +15,9 @@ use std::alloc::{AllocError, Global};
 #[derive(Clone, Copy, Debug, PartialEq, Eq)]
 pub enum AnyCommand<'a> {
     /// `mps FILE`: writes the named equations of a data file.
-    Mps { file: &'a str },
+    Mps {
+        file: &'a str,
+    },
     /// `check FILE PLAN [MULTIPLIERS] [--gap PPM]`: checks a plan, and a bound where multipliers are
     /// given. `gap` is in millionths of the bound.
     Check {
@@ -34,7 +36,10 @@ pub enum AnyCommand<'a> {
     },
     /// `make N [--show file|summary]`: writes a made data file of this size, or solves it and writes
     /// a summary.
-    Make { size: u32, show: MakeShow },
+    Make {
+        size: u32,
+        show: MakeShow,
+    },
 }
 
 /// What `solve` writes.

@@ -84,5 +84,4 @@ fn any_options<'a>(alloc: Global) -> Result<Command<'a>, AllocError>
 /// The parts of words are those that are spelled so.
 pub fn spelled_parts()
     ensures { (words : List (List ℕ)) (parts : List Part) → HasSpelledParts words parts }
-{
-}
+{}

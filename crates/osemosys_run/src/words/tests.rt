@@ -76,9 +76,18 @@ fn words_of_any_command(rt: HostRuntime) -> Result<(), Fail> {
         ("check f  m", check("f", "", Some("m"), 0)),
         // options in both spellings, anywhere
         ("solve f", solve("f", 0, 20000, SolveShow::Report)),
-        ("solve f --gap 5 --pivots 6 --show plan", solve("f", 5, 6, SolveShow::Plan)),
-        ("solve --show=multipliers --pivots=6 --gap=5 f", solve("f", 5, 6, SolveShow::Multipliers)),
-        ("solve --gap 5 f --show=report", solve("f", 5, 20000, SolveShow::Report)),
+        (
+            "solve f --gap 5 --pivots 6 --show plan",
+            solve("f", 5, 6, SolveShow::Plan),
+        ),
+        (
+            "solve --show=multipliers --pivots=6 --gap=5 f",
+            solve("f", 5, 6, SolveShow::Multipliers),
+        ),
+        (
+            "solve --gap 5 f --show=report",
+            solve("f", 5, 20000, SolveShow::Report),
+        ),
         ("check --gap 5 f p m", check("f", "p", Some("m"), 5)),
         ("check f p --gap=5 m", check("f", "p", Some("m"), 5)),
         ("make 7", make(7, MakeShow::File)),
@@ -133,8 +142,14 @@ fn words_of_any_command(rt: HostRuntime) -> Result<(), Fail> {
         ("solve f --gap 1000001", Err(WordFault::BadNumber)),
         ("solve f --gap 00000000", Err(WordFault::BadNumber)),
         ("solve f --pivots 1000001", Err(WordFault::BadNumber)),
-        ("solve f --gap 1000000 --pivots 1000000", solve("f", 1000000, 1000000, SolveShow::Report)),
-        ("solve f --gap 0000007 --pivots 0", solve("f", 7, 0, SolveShow::Report)),
+        (
+            "solve f --gap 1000000 --pivots 1000000",
+            solve("f", 1000000, 1000000, SolveShow::Report),
+        ),
+        (
+            "solve f --gap 0000007 --pivots 0",
+            solve("f", 7, 0, SolveShow::Report),
+        ),
         ("check f p m --gap x", Err(WordFault::BadNumber)),
         ("make 2", Err(WordFault::BadNumber)),
         ("make 123", Err(WordFault::BadNumber)),
@@ -170,8 +185,14 @@ fn words_of_any_command(rt: HostRuntime) -> Result<(), Fail> {
 #[test]
 fn no_words(rt: HostRuntime) -> Result<(), Fail> {
     let words = Vec::new(rt.alloc());
-    assert_eq!(rt; read_any_command(rt.alloc(), &words)?, Err(WordFault::NoCommand));
-    assert_eq!(rt; read_command(rt.alloc(), &words)?, Err(WordFault::NoCommand));
+    assert_eq!(rt;
+        read_any_command(rt.alloc(), &words)?,
+        Err(WordFault::NoCommand)
+    );
+    assert_eq!(rt;
+        read_command(rt.alloc(), &words)?,
+        Err(WordFault::NoCommand)
+    );
     Ok(())
 }
 
