@@ -33,7 +33,7 @@ pub enum Refusal {
 pub enum WordFault {
     /// There is no word.
     NoCommand,
-    /// The first word is no command.
+    /// The first word is no command that is built.
     BadCommand,
     /// A file is missing or too many, an option is unknown or repeated, or it has no value.
     BadForm,
