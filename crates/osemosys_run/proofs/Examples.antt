@@ -5,7 +5,8 @@ use Rattle.std.specs.Fmt.{digits}
 use Rattle.osemosys_run.specs.declared.status.WordFault.TheVariants.{NoCommand, BadCommand, BadForm}
 use Rattle.osemosys_run.specs.declared.status.Refusal.TheVariants as refusals
 use Rattle.osemosys_run.specs.declared.status.ReadStop.TheVariants as stops
-use Rattle.osemosys_run.specs.Words.{Mps, is_option, asked}
+use Rattle.osemosys_run.specs.Words.{Mps, asked}
+use Rattle.osemosys_run.specs.WordParts.{is_option}
 use Rattle.osemosys_run.specs.Due.{words_line, stop_line, refusal_line}
 
 -- ---- words
@@ -55,7 +56,7 @@ named_like_an_option = refl
 two_dashes : asked (codes "mps" ∷ codes "--" ∷ []) ≡ Err BadForm
 two_dashes = refl
 
-file_after_two_dashes : asked (codes "mps" ∷ codes "--" ∷ codes "FILE" ∷ []) ≡ Err BadForm
+file_after_two_dashes : asked (codes "mps" ∷ codes "--" ∷ codes "FILE" ∷ []) ≡ Ok (Mps (codes "FILE"))
 file_after_two_dashes = refl
 
 option_after_file : asked (codes "mps" ∷ codes "FILE" ∷ codes "--gap" ∷ codes "5" ∷ []) ≡ Err BadForm

@@ -1,8 +1,14 @@
 -- What a command of the code stands for.
-use Rattle.std.specs.Prelude.{List, Result, Ok, Err}
+use Rattle.std.specs.Prelude.{Result, Ok, Err, option_map}
 use Rattle.osemosys_run.specs.declared.words.Command.{Command}
 use Rattle.osemosys_run.specs.declared.words.Command.TheVariants as commands
+use Rattle.osemosys_run.specs.declared.words.any_command.AnyCommand.{AnyCommand as SlicedCommand}
+use Rattle.osemosys_run.specs.declared.words.any_command.AnyCommand.TheVariants as sliced
+use Rattle.osemosys_run.specs.declared.words.any_command.CommandName.{CommandName as CodeName}
+use Rattle.osemosys_run.specs.declared.words.any_command.CommandName.TheVariants as names
 use Rattle.osemosys_run.specs.declared.status.WordFault.{WordFault}
+use Rattle.osemosys_run.specs.CommandLine.{AnyCommand, CommandName, MpsName, CheckName, SolveName, MakeName}
+use Rattle.osemosys_run.specs.CommandLine as all
 use Rattle.osemosys_run.specs.Words.{Request, Mps}
 
 -- the request of a command
@@ -13,3 +19,22 @@ request_of (commands.Mps file) = Mps file.now
 abbrev pub request_of_result : Result Command WordFault → Result Request WordFault
 request_of_result (Ok command) = Ok (request_of command)
 request_of_result (Err fault) = Err fault
+
+-- any command without where its files' names lie in memory
+abbrev pub any_command_of : SlicedCommand → AnyCommand
+any_command_of (sliced.Mps file) = all.Mps file.now
+any_command_of (sliced.Check file plan multipliers gap) = all.Check file.now plan.now (option_map (λ name. name.now) multipliers) gap
+any_command_of (sliced.Solve file gap pivots show) = all.Solve file.now gap pivots show
+any_command_of (sliced.Make size show) = all.Make size show
+
+-- the same where the words may be at fault
+abbrev pub any_command_of_result : Result SlicedCommand WordFault → Result AnyCommand WordFault
+any_command_of_result (Ok command) = Ok (any_command_of command)
+any_command_of_result (Err fault) = Err fault
+
+-- a command's name
+abbrev pub name_of : CodeName → CommandName
+name_of names.Mps = MpsName
+name_of names.Check = CheckName
+name_of names.Solve = SolveName
+name_of names.Make = MakeName

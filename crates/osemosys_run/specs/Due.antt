@@ -28,6 +28,9 @@ abbrev pub fault_word : WordFault → List ℕ
 fault_word faults.NoCommand = codes "NoCommand"
 fault_word faults.BadCommand = codes "BadCommand"
 fault_word faults.BadForm = codes "BadForm"
+fault_word faults.BadNumber = codes "BadNumber"
+fault_word faults.BadShow = codes "BadShow"
+fault_word faults.GapAlone = codes "GapAlone"
 
 -- the line for words that ask for nothing
 abbrev pub words_line : WordFault → List ℕ

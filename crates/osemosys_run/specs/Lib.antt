@@ -1,7 +1,9 @@
 pub mod CapacityEntries
 pub mod CapacityRows
+pub mod ClapWords
 pub mod Codes
 pub mod Columns
+pub mod CommandLine
 pub mod Commands
 pub mod DistinctVariables
 pub mod Due
@@ -16,4 +18,7 @@ pub mod RowVariables
 pub mod RowsAdded
 pub mod Sending
 pub mod SortedCells
+pub mod WordParts
+pub mod WordReading
 pub mod Words
+pub mod WordValues

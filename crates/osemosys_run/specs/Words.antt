@@ -1,26 +1,26 @@
--- What the words of the command line ask for.
-use Rattle.std.specs.Prelude.{ℕ, Bool, true, false, ◌==◌, List, [], ◌∷◌, Result, Ok, Err, codes, if◌then◌else◌}
-use Rattle.std.specs.Str.{bytes_eq}
+-- What the words of the command line ask for, of the commands that are built: `mps` with its file. A command that isn't built is none.
+use Rattle.std.specs.Prelude.{ℕ, List, [], ◌∷◌, Option, Some, None, Result, Ok, Err}
 use Rattle.osemosys_run.specs.declared.status.WordFault.{WordFault}
-use Rattle.osemosys_run.specs.declared.status.WordFault.TheVariants.{NoCommand, BadCommand, BadForm}
+use Rattle.osemosys_run.specs.declared.status.WordFault.TheVariants.{NoCommand, BadCommand}
+use Rattle.osemosys_run.specs.CommandLine.{AnyCommand, CommandName, MpsName, command_named, command_after}
+use Rattle.osemosys_run.specs.CommandLine as all
 
--- a command with its files: `mps` with the name of a data file
+-- a command that is built, with its files: `mps` with the name of a data file
 pub data Request : Type 0 where
   Mps : List ℕ → Request
 
--- a word that begins with '-' and goes on; '-' alone is the name of a file
-abbrev pub is_option : List ℕ → Bool
-is_option [] = false
-is_option (b ∷ []) = false
-is_option (b ∷ c ∷ bytes) = b == 45
+-- the command where it is built
+abbrev pub built : Option CommandName → Option CommandName
+built (Some MpsName) = Some MpsName
+built command = None
 
--- the words after `mps`: one file
-abbrev pub mps_of : List (List ℕ) → Result Request WordFault
-mps_of [] = Err BadForm
-mps_of (file ∷ []) = if is_option file then Err BadForm else Ok (Mps file)
-mps_of (file ∷ other ∷ words) = Err BadForm
+-- a built command of all commands
+abbrev pub request_of_any : Result AnyCommand WordFault → Result Request WordFault
+request_of_any (Ok (all.Mps file)) = Ok (Mps file)
+request_of_any (Ok command) = Err BadCommand
+request_of_any (Err fault) = Err fault
 
 -- the request of the words, or what is wrong with them
 abbrev pub asked : List (List ℕ) → Result Request WordFault
 asked [] = Err NoCommand
-asked (command ∷ words) = if bytes_eq command (codes "mps") then mps_of words else Err BadCommand
+asked (first ∷ words) = request_of_any (command_after (built (command_named first)) words)

@@ -15,6 +15,9 @@ pub fn words_line(alloc: Global, fault: WordFault) -> Result<Vec<u8>, AllocError
         WordFault::NoCommand => b"words refused NoCommand\n",
         WordFault::BadCommand => b"words refused BadCommand\n",
         WordFault::BadForm => b"words refused BadForm\n",
+        WordFault::BadNumber => b"words refused BadNumber\n",
+        WordFault::BadShow => b"words refused BadShow\n",
+        WordFault::GapAlone => b"words refused GapAlone\n",
     };
     Vec::from_slice(alloc, text)
 }

@@ -5,13 +5,14 @@ ghost use Rattle.io_edges.specs.Count.{Rose, counted};
 ghost use Rattle.io_edges.specs.Told.{WhereTold};
 ghost use Rattle.osemosys_run.specs.Due.{Caused, CausedByFile, Delivers, Due, ReadsWhole, sight};
 ghost use Rattle.osemosys_run.specs.FixedForm.{HasOneReading};
+ghost use Rattle.osemosys_run.specs.WordParts.{HasSpelledParts, Part};
 
 use crate::answer::{Answer, answer_mps, refuse_input, refuse_words, stop_reading};
 use crate::fixed_form::one_reading;
 use crate::reading::{ReadEnd, read_file};
 use crate::sending::send;
 use crate::status::{ReadStop, Refusal, Status};
-use crate::words::{Command, read_command};
+use crate::words::{Command, read_command, spelled_parts};
 use io_edges::{Shelf, Sink};
 use std::alloc::{AllocError, Global};
 
@@ -54,13 +55,17 @@ pub fn osemosys<S: Shelf, K: Sink>(
     // What a text says is one thing.
     ensures one_reading { (text : List ℕ) → HasOneReading text }
 
+    // The parts that the words after a command say are those that are spelled so.
+    ensures spelled_parts { (words : List (List ℕ)) (parts : List Part) → HasSpelledParts words parts }
+
     // What stays, and what doesn't fall.
     ensures files { S.files shelf.new ≡ S.files shelf.old }
     ensures read_faults { S.faults shelf.old ≤ S.faults shelf.new }
     ensures write_faults { K.faults out.old ≤ K.faults out.new }
 {
-    // The law that the clause of its name states.
+    // The laws that the clauses of their names state.
     one_reading();
+    spelled_parts();
     match perform(alloc, words, shelf) {
         Ok(answer) => match send(&answer.text, out) {
             Ok(()) => answer.status,
@@ -81,7 +86,7 @@ fn perform<S: Shelf>(alloc: Global, words: &[String], shelf: &mut S) -> Result<A
     ensures files { S.files shelf.new ≡ S.files shelf.old }
     ensures faults { S.faults shelf.old ≤ S.faults shelf.new }
 {
-    match read_command(words) {
+    match read_command(alloc, words)? {
         Ok(Command::Mps { file }) => perform_mps(alloc, file, shelf),
         Err(fault) => refuse_words(alloc, fault),
     }

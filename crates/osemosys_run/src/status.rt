@@ -33,10 +33,16 @@ pub enum Refusal {
 pub enum WordFault {
     /// There is no word.
     NoCommand,
-    /// The first word is no command.
+    /// The first word is no command that is built.
     BadCommand,
-    /// The words after the command aren't one file.
+    /// A file is missing or too many, an option is unknown or repeated, or it has no value.
     BadForm,
+    /// A number isn't one of the digits and the range that its place allows.
+    BadNumber,
+    /// The value of `--show` is none of the command's.
+    BadShow,
+    /// `check` has a gap and no multipliers.
+    GapAlone,
 }
 
 /// Why a file couldn't be read. Files count from 1, in the order of the words.

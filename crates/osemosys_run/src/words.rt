@@ -1,12 +1,21 @@
 // The words of the command line.
-ghost use Rattle.std.specs.Prelude.{◌≡◌, map};
+mod any_command;
+mod parsing;
+#[cfg(test)]
+mod tests;
+mod values;
+
+ghost use Rattle.std.specs.Prelude.{◌≡◌, IfOk, map};
 ghost use Rattle.std.specs.String.{string_bytes};
 ghost use Rattle.osemosys_run.specs.Commands.{request_of_result};
-ghost use Rattle.osemosys_run.specs.Words.{asked, is_option};
+ghost use Rattle.osemosys_run.specs.Words.{asked};
 
 use crate::status::WordFault;
+use crate::words::any_command::{AnyCommand, read_any_command};
+pub use crate::words::parsing::spelled_parts;
+use std::alloc::{AllocError, Global};
 
-/// A command with its files.
+/// A command that is built, with its files.
 #[derive(Clone, Copy, Debug, PartialEq, Eq)]
 pub enum Command<'a> {
     /// Writes the named equations of a data file.
@@ -14,28 +23,24 @@ pub enum Command<'a> {
 }
 
 /// Reads the words. The first fault is answered: no word is `NoCommand`, another first word than `mps`
-/// is `BadCommand`, and anything but one file after it is `BadForm`. A word that begins with `-` and is
-/// longer is no file.
-pub fn read_command(words: &[String]) -> Result<Command<'_>, WordFault>
-    ensures { request_of_result result ≡ asked (map string_bytes words.now) }
+/// is `BadCommand`, also one of a command that isn't built, and anything but one file after it is
+/// `BadForm`. A word that begins with `-` and is longer is no file, unless `--` stands before it.
+pub fn read_command<'a>(
+    alloc: Global,
+    words: &'a [String],
+) -> Result<Result<Command<'a>, WordFault>, AllocError>
+    ensures { IfOk result (λ answer.
+        request_of_result answer ≡ asked (map string_bytes words.now)) }
 {
-    let Some((first, others)) = words.split_first() else {
-        return Err(WordFault::NoCommand);
+    if let [first, ..] = words {
+        if first.as_str() != "mps" {
+            return Ok(Err(WordFault::BadCommand));
+        }
+    }
+    let answer = match read_any_command(alloc, words)? {
+        Ok(AnyCommand::Mps { file }) => Ok(Command::Mps { file }),
+        Ok(_) => Err(WordFault::BadCommand),
+        Err(fault) => Err(fault),
     };
-    if first.as_str() != "mps" {
-        return Err(WordFault::BadCommand);
-    }
-    match others {
-        [file] if !is_option(file.as_str()) => Ok(Command::Mps {
-            file: file.as_str(),
-        }),
-        _ => Err(WordFault::BadForm),
-    }
-}
-
-// A word that begins with `-` and goes on; `-` alone is the name of a file.
-fn is_option(word: &str) -> bool
-    ensures { result ≡ is_option word.now }
-{
-    matches!(word.as_bytes(), [b'-', _, ..])
+    Ok(answer)
 }

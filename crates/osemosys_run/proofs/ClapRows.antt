@@ -1,0 +1,63 @@
+-- What clap's rows hold after one more value.
+use Rattle.std.proofs.Common.{◌≡◌, ◌∙◌, ◌||◌, ℕ, List, [], ◌∷◌, ◌++◌, Option, Some, None, is_some, Bool, true, false, cond, refl, ap, sym, true≢false, option_map}
+use Rattle.std.specs.Prelude.{find, unwrap_or}
+use Rattle.std.specs.Str.{bytes_eq}
+use Rattle.std.proofs.lemmas.Slice.Eq.{bytes_eq-Decides}
+use Rattle.clap.specs.Walk.{Row, Text, all_of, at_row, has_row, more_values, with_values, without}
+use Rattle.clap.specs.declared.parser.matches.ValueSource.TheVariants.{CommandLine}
+use Rattle.clap.specs.declared.builder.value_parser.Reading.{Reading}
+
+-- the values of the row that is found
+abbrev values : Option Row → Option (List Text)
+values = option_map (λ r. r.values)
+
+-- a row is there exactly where its values are
+pub has_row_is : (id : Text) (rows : List Row) → has_row id rows ≡ is_some (all_of id rows)
+has_row_is id [] = refl
+has_row_is id (r ∷ rows) = go (bytes_eq r.id id) (has_row_is id rows)
+  where
+    go : (b : Bool) → has_row id rows ≡ is_some (all_of id rows) → (b || has_row id rows) ≡ is_some (values (cond b (Some r) (find (λ r. bytes_eq r.id id) rows)))
+    go true rest = refl
+    go false rest = rest
+
+-- nothing is taken out where no row has the id
+pub without_none : (id : Text) (rows : List Row) → has_row id rows ≡ false → without id rows ≡ rows
+without_none id [] none = refl
+without_none id (r ∷ rows) none = go (bytes_eq r.id id) none (without_none id rows)
+  where
+    go : (b : Bool) → (b || has_row id rows) ≡ false → (has_row id rows ≡ false → without id rows ≡ rows) → cond b rows (r ∷ without id rows) ≡ r ∷ rows
+    go true e rest = absurd (true≢false e)
+    go false e rest = ap (λ more. r ∷ more) (rest e)
+
+module _ (id : Text) (how : Reading) (value : Text) where
+  abbrev added : List Row → List Row
+  added = with_values id how CommandLine (value ∷ [])
+
+  -- the value goes behind those of its id
+  pub added_here : (rows : List Row) → bytes_eq id id ≡ true → all_of id (added rows) ≡ Some (unwrap_or (all_of id rows) [] ++ value ∷ [])
+  added_here [] same = rw same refl
+  added_here (r ∷ rows) same = go (bytes_eq r.id id) refl (added_here rows same)
+    where
+      go : (b : Bool) → bytes_eq r.id id ≡ b → all_of id (added rows) ≡ Some (unwrap_or (all_of id rows) [] ++ value ∷ [])
+          → all_of id (cond b (more_values CommandLine (value ∷ []) r ++ rows) (r ∷ added rows))
+          ≡ Some (unwrap_or (values (cond b (Some r) (find (λ r. bytes_eq r.id id) rows))) [] ++ value ∷ [])
+      go true e rest = rw e refl
+      go false e rest = rw e rest
+
+  -- and the values of another id stay
+  pub added_elsewhere : (other : Text) (rows : List Row) → bytes_eq id other ≡ false → all_of other (added rows) ≡ all_of other rows
+  added_elsewhere other [] apart = rw apart refl
+  added_elsewhere other (r ∷ rows) apart = go (bytes_eq r.id id) refl (skip (bytes_eq r.id other) (added_elsewhere other rows apart))
+    where
+      skip : (b : Bool) → all_of other (added rows) ≡ all_of other rows
+          → values (cond b (Some r) (find (λ r. bytes_eq r.id other) (added rows))) ≡ values (cond b (Some r) (find (λ r. bytes_eq r.id other) rows))
+      skip true rest = refl
+      skip false rest = rest
+
+      go : (b : Bool) → bytes_eq r.id id ≡ b → all_of other (r ∷ added rows) ≡ all_of other (r ∷ rows)
+          → all_of other (cond b (more_values CommandLine (value ∷ []) r ++ rows) (r ∷ added rows)) ≡ all_of other (r ∷ rows)
+      go true e rest =
+          let is : r.id ≡ id = (bytes_eq-Decides r.id id).0 e in
+          let other_row : bytes_eq r.id other ≡ false = ap (λ t. bytes_eq t other) is ∙ apart in
+          rw other_row refl
+      go false e rest = rest
