@@ -1,0 +1,10 @@
+pub mod BlockData
+pub mod Built
+pub mod Positions
+pub mod RangeTable
+pub mod Ranges
+pub mod Refusals
+pub mod SetRefusals
+pub mod Statements
+pub mod Told
+pub mod WellFormed

@@ -1,0 +1,8 @@
+//! The data of an OSeMOSYS model, checked: the members of its sets, and a value in its range for each
+//! used parameter at each index.
+#![tactic(auto)]
+
+mod fault;
+mod ranges;
+
+pub use fault::{BuildFail, BuildFault, Cell};
