@@ -1,1 +1,3 @@
 mod Examples
+pub mod SetLaws
+pub mod TurnLaws

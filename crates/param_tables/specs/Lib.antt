@@ -1,5 +1,6 @@
 pub mod BlockData
 pub mod Built
+pub mod InTurn
 pub mod Positions
 pub mod RangeTable
 pub mod Ranges

@@ -1,7 +1,7 @@
 -- Why the parameters that statements give are refused: every refusal, in the order in which they are looked for.
-use Rattle.std.specs.Prelude.{ℕ, ℤ, Bool, not, List, [], ◌∷◌, ◌++◌, length, take, filter, nat_le, nat_lt, Option, None, Some, if◌then◌else◌}
+use Rattle.std.specs.Prelude.{ℕ, ℤ, Bool, not, List, [], ◌∷◌, ◌++◌, length, filter, nat_le, nat_lt, Option, None, Some, if◌then◌else◌}
 use Rattle.std.specs.Cmp.Lexicographic.{pointwise}
-use Rattle.std.specs.List.{enumerate_from, filter_map, flat_map, list_all, list_any, range_with_len, zip}
+use Rattle.std.specs.List.{filter_map, flat_map, list_all, list_any, range_with_len, zip}
 use Rattle.std.specs.Option.{option_map}
 use Rattle.std.specs.Str.{bytes_eq}
 use Rattle.mathprog_data.specs.declared.blocks.Mark.{Mark}
@@ -11,7 +11,7 @@ use Rattle.model_sets.specs.Params.{subscript_sets, used_count}
 use Rattle.param_tables.specs.BlockData.{data_told}
 use Rattle.param_tables.specs.RangeTable.{range_of}
 use Rattle.param_tables.specs.Ranges.{range_fault}
-use Rattle.param_tables.specs.SetRefusals.{first_of}
+use Rattle.param_tables.specs.InTurn.{first_of, in_turn}
 use Rattle.param_tables.specs.Statements.{PlacedValue, ParamStatement, Statements}
 use Rattle.param_tables.specs.declared.fault.CellFault.{CellFault}
 use Rattle.param_tables.specs.declared.fault.CellFault.TheVariants.{NoValue}
@@ -53,8 +53,7 @@ value_refusal sets param before value =
 
 -- the refusals of the values of a statement, value by value in the order of the text
 abbrev pub value_refusals : SetLists → ParamStatement → List Refusal
-value_refusals sets statement =
-    filter_map (λ (i, value). value_refusal sets statement.param (take i statement.values) value) (enumerate_from 0 statement.values)
+value_refusals sets statement = in_turn (value_refusal sets statement.param) statement.values
 
 -- whether the statement is on a used parameter
 abbrev pub is_on_used : ParamStatement → Bool

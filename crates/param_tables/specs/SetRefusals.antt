@@ -1,6 +1,6 @@
 -- Why the sets that statements give are refused.
-use Rattle.std.specs.Prelude.{◌≡◌, ℕ, ◌-◌, List, [], ◌∷◌, ◌++◌, map, set, take, filter, Option, None, Some}
-use Rattle.std.specs.List.{enumerate_from, filter_map, flat_map, range_with_len}
+use Rattle.std.specs.Prelude.{◌≡◌, ℕ, ◌-◌, List, [], ◌∷◌, ◌++◌, map, set, filter, Option, None, Some}
+use Rattle.std.specs.List.{flat_map, range_with_len}
 use Rattle.std.specs.Option.{option_map}
 use Rattle.model_sets.specs.declared.fault.SetFail.{SetFail}
 use Rattle.model_sets.specs.declared.fault.SetFail.TheVariants.{Fault, Memory}
@@ -8,12 +8,8 @@ use Rattle.model_sets.specs.declared.fault.SetFault.{SetFault}
 use Rattle.model_sets.specs.Members.{SetLists, no_members, members, first_refusal, empty_set, is_without_members}
 use Rattle.model_sets.specs.Names.{set_count, required_sets}
 use Rattle.param_tables.specs.BlockData.{sets_told}
+use Rattle.param_tables.specs.InTurn.{first_of, in_turn}
 use Rattle.param_tables.specs.Statements.{Statements}
-
--- the first of the list
-abbrev pub first_of : {X : Type 0} → List X → Option X
-first_of [] = None
-first_of (x ∷ xs) = Some x
 
 -- the fault of this number in set k
 abbrev pub fault_in : ℕ → ℕ → SetFault
@@ -29,7 +25,7 @@ refusal_after k before name = option_map (fault_in k) (first_refusal (only k bef
 
 -- the refusals of the members of set k, member by member, each as the one that follows on those before it
 abbrev pub member_refusals : ℕ → List (List ℕ) → List SetFault
-member_refusals k names = filter_map (λ (i, name). refusal_after k (take i names) name) (enumerate_from 0 names)
+member_refusals k names = in_turn (refusal_after k) names
 
 -- the refusals of all sets: of their members, set by set, and then of the sets that must have a member and have none
 abbrev pub set_refusals : SetLists → List SetFault

@@ -41,10 +41,18 @@ set_told block = record { set = block.set; members = block.members.items }
 abbrev pub param_told : ParamBlock → ParamStatement
 param_told block = record { param = block.param; default = block.default; values = map value_told block.values.items }
 
+-- what the blocks say of sets
+abbrev pub set_statements_of : List SetBlock → List SetStatement
+set_statements_of blocks = map set_told blocks
+
+-- what the blocks say of parameters
+abbrev pub param_statements_of : List ParamBlock → List ParamStatement
+param_statements_of blocks = map param_told blocks
+
 -- what the blocks say
 abbrev pub statements_of : Blocks → Statements
 statements_of blocks = record {
-  sets = map set_told blocks.sets.items;
-  params = map param_told blocks.params.items;
+  sets = set_statements_of blocks.sets.items;
+  params = param_statements_of blocks.params.items;
   rounded = blocks.rounded;
 }

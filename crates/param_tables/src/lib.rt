@@ -4,5 +4,7 @@
 
 mod fault;
 mod ranges;
+mod set_members;
 
 pub use fault::{BuildFail, BuildFault, Cell};
+pub use set_members::sets_of;
