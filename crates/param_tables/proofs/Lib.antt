@@ -1,3 +1,5 @@
 mod Examples
+pub mod IndexLaws
 pub mod SetLaws
+pub mod TableLaws
 pub mod TurnLaws

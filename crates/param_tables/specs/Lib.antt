@@ -7,5 +7,6 @@ pub mod Ranges
 pub mod Refusals
 pub mod SetRefusals
 pub mod Statements
+pub mod Subscripts
 pub mod Told
 pub mod WellFormed

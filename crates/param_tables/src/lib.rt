@@ -5,6 +5,7 @@
 mod fault;
 mod ranges;
 mod set_members;
+mod subscripts;
 
 pub use fault::{BuildFail, BuildFault, Cell};
 pub use set_members::sets_of;

@@ -39,11 +39,11 @@ loop-name-preserved c =
     ap (refusal_after k (take i names)) (sym name) ∙ free_after c.loop-name.sets k (take i names) c.bytes.result.now c.requires.listed so_far c.in_ok-add.ensures.taken in
     record {
       sets =
-        c.in_ok-add.ensures.appended
-        ∙ ap (λ ms. with_at c.loop-name.sets (k - 1) (ms ++ c.bytes.result.now ∷ [])) so_far
-        ∙ ap (λ n. with_at c.loop-name.sets (k - 1) (take i names ++ n ∷ [])) name
-        ∙ ap (with_at c.loop-name.sets (k - 1)) (sym (take_more names i x below))
-        ∙ ap (λ sets. with_at sets (k - 1) (take (i + 1) names)) c.loop-name.invariant.sets
-        ∙ set-set old (k - 1) (take i names) (take (i + 1) names);
+          c.in_ok-add.ensures.appended
+          ∙ ap (λ ms. with_at c.loop-name.sets (k - 1) (ms ++ c.bytes.result.now ∷ [])) so_far
+          ∙ ap (λ n. with_at c.loop-name.sets (k - 1) (take i names ++ n ∷ [])) name
+          ∙ ap (with_at c.loop-name.sets (k - 1)) (sym (take_more names i x below))
+          ∙ ap (λ sets. with_at sets (k - 1) (take (i + 1) names)) c.loop-name.invariant.sets
+          ∙ set-set old (k - 1) (take i names) (take (i + 1) names);
       refusals = in_turn_free (refusal_after k) names i x (member_refusals k names) below free c.loop-name.invariant.refusals;
     }

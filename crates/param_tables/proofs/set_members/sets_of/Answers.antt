@@ -48,8 +48,8 @@ loop-set-preserved c =
     record {
       all = ap length now ∙ length-set c.loop-set.sets (k - 1) names ∙ c.loop-set.invariant.all;
       done = λ j below.
-        ap (λ sets. get_or sets j []) now
-        ∙ (elim (cases_eq (j + 1) k) [
+          ap (λ sets. get_or sets j []) now
+          ∙ (elim (cases_eq (j + 1) k) [
             | inl same ↦
                 let at : k - 1 ≡ j = omega arith in
                 let short : j < length c.loop-set.sets = omega (arith, c.loop-set.invariant.all, is.1) in
@@ -60,9 +60,9 @@ loop-set-preserved c =
                 get_or-set_other c.loop-set.sets (k - 1) j names [] apart ∙ c.loop-set.invariant.done j (omega arith)
           ]);
       others = λ j above.
-        let low = is.0 in
-        let apart : j ≢ (k - 1) = λ e. omega arith in
-        ap (λ sets. get_or sets j []) now ∙ get_or-set_other c.loop-set.sets (k - 1) j names [] apart ∙ c.loop-set.invariant.others j (omega arith);
+          let low = is.0 in
+          let apart : j ≢ (k - 1) = λ e. omega arith in
+          ap (λ sets. get_or sets j []) now ∙ get_or-set_other c.loop-set.sets (k - 1) j names [] apart ∙ c.loop-set.invariant.others j (omega arith);
       refusals = let next : k ≡ k + 1 - 1 = omega arith in refusals_more s k is free c.loop-set.invariant.refusals ∙ ap (refusals_from s) next;
     }
 
