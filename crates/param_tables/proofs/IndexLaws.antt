@@ -54,10 +54,10 @@ module _ (sets : SetLists) where
       (λ name. map (λ rest. name ∷ rest) (indices_over sets (ks ++ k ∷ [])))
       (λ name. flat_map (then_members k) (map (λ rest. name ∷ rest) (indices_over sets ks)))
       (λ name.
-        ap (map (λ rest. name ∷ rest)) (indices_over-push ks k)
-        ∙ map-flat_map (λ rest. name ∷ rest) (then_members k) (indices_over sets ks)
-        ∙ flat_map-congr (λ index. map (λ rest. name ∷ rest) (then_members k index)) (λ index. then_members k (name ∷ index)) (λ index. map-map (λ rest. name ∷ rest) (λ last. index ++ last ∷ []) (members sets k)) (indices_over sets ks)
-        ∙ sym (flat_map-map (then_members k) (λ rest. name ∷ rest) (indices_over sets ks)))
+      ap (map (λ rest. name ∷ rest)) (indices_over-push ks k)
+      ∙ map-flat_map (λ rest. name ∷ rest) (then_members k) (indices_over sets ks)
+      ∙ flat_map-congr (λ index. map (λ rest. name ∷ rest) (then_members k index)) (λ index. then_members k (name ∷ index)) (λ index. map-map (λ rest. name ∷ rest) (λ last. index ++ last ∷ []) (members sets k)) (indices_over sets ks)
+      ∙ sym (flat_map-map (then_members k) (λ rest. name ∷ rest) (indices_over sets ks)))
       (members sets j)
       ∙ sym (flat_map-flat_map (then_members k) (λ name. map (λ rest. name ∷ rest) (indices_over sets ks)) (members sets j))
 
@@ -85,12 +85,12 @@ module _ (sets : SetLists) where
 -- ---- no index stands twice
 
 -- a place among m blocks of n, as a block and a place in it
-record IsPart (m n j : ℕ) : Type 0 where
-  block : j / n < m
-  place : j % n < n
-  whole : j ≡ j / n * n + j % n
+pub record IsPart (m n j : ℕ) : Type 0 where
+  pub block : j / n < m
+  pub place : j % n < n
+  pub whole : j ≡ j / n * n + j % n
 
-parts : (m n j : ℕ) → j < m * n → IsPart m n j
+pub parts : (m n j : ℕ) → j < m * n → IsPart m n j
 parts m zero j below = absurd (omega arith)
 parts m (suc n) j below = record { block = div-lt_of_lt-mul j m n below; place = omega arith; whole = omega arith }
   where
@@ -110,7 +110,7 @@ module _ (sets : SetLists) (apart : (k i j : ℕ) → i < length (members sets k
       let p : IsPart (length names) n i = parts (length names) n i (omega (arith, all)) in
       let q : IsPart (length names) n j = parts (length names) n j (omega (arith, all)) in
       let at : (h : ℕ) → IsPart (length names) n h → get_or (indices_over sets (k ∷ ks)) h [] ≡ get_or names (h / n) [] ∷ get_or rests (h % n) [] =
-        λ h part. ap (λ g. get_or (indices_over sets (k ∷ ks)) g []) part.whole ∙ get_or-blocks f n long names (h / n) (h % n) [] [] part.block part.place ∙ get_or-map (λ rest. get_or names (h / n) [] ∷ rest) rests (h % n) [] [] part.place in
+      λ h part. ap (λ g. get_or (indices_over sets (k ∷ ks)) g []) part.whole ∙ get_or-blocks f n long names (h / n) (h % n) [] [] part.block part.place ∙ get_or-map (λ rest. get_or names (h / n) [] ∷ rest) rests (h % n) [] [] part.place in
       let both : get_or names (i / n) [] ∷ get_or rests (i % n) [] ≡ get_or names (j / n) [] ∷ get_or rests (j % n) [] = sym (at i p) ∙ same ∙ at j q in
       let blocks : i / n ≡ j / n = apart k (i / n) (j / n) p.block q.block (ap (head []) both) in
       let places : i % n ≡ j % n = indices_apart ks (i % n) (j % n) p.place q.place (ap tail both) in

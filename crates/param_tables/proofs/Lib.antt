@@ -1,5 +1,6 @@
 mod Examples
 pub mod IndexLaws
+pub mod PlaceLaws
 pub mod SetLaws
 pub mod TableLaws
 pub mod TurnLaws

@@ -1,6 +1,7 @@
 pub mod BlockData
 pub mod Built
 pub mod InTurn
+pub mod Places
 pub mod Positions
 pub mod RangeTable
 pub mod Ranges

@@ -1,14 +1,15 @@
 -- Why the parameters that statements give are refused: every refusal, in the order in which they are looked for.
 use Rattle.std.specs.Prelude.{ℕ, ℤ, Bool, not, List, [], ◌∷◌, ◌++◌, length, filter, nat_le, nat_lt, Option, None, Some, if◌then◌else◌}
 use Rattle.std.specs.Cmp.Lexicographic.{pointwise}
-use Rattle.std.specs.List.{filter_map, flat_map, list_all, list_any, range_with_len, zip}
+use Rattle.std.specs.List.{filter_map, flat_map, list_any, range_with_len}
 use Rattle.std.specs.Option.{option_map}
 use Rattle.std.specs.Str.{bytes_eq}
 use Rattle.mathprog_data.specs.declared.blocks.Mark.{Mark}
 use Rattle.model_sets.specs.Data.{Data, indices_of, value_at}
-use Rattle.model_sets.specs.Members.{SetLists, members, is_among}
+use Rattle.model_sets.specs.Members.{SetLists, members}
 use Rattle.model_sets.specs.Params.{subscript_sets, used_count}
 use Rattle.param_tables.specs.BlockData.{data_told}
+use Rattle.param_tables.specs.Places.{are_members}
 use Rattle.param_tables.specs.RangeTable.{range_of}
 use Rattle.param_tables.specs.Ranges.{range_fault}
 use Rattle.param_tables.specs.InTurn.{first_of, in_turn}
@@ -38,7 +39,7 @@ storage_refusals sets = if nat_lt 0 (length (members sets storage)) then Storage
 
 -- whether each name of the index is a member of the set of its subscript
 abbrev pub names_members : SetLists → ℕ → List (List ℕ) → Bool
-names_members sets param index = list_all (λ (k, name). is_among (members sets k) name) (zip (subscript_sets param) index)
+names_members sets param index = are_members sets (subscript_sets param) index
 
 -- whether the index is that of one of the values
 abbrev pub is_given_among : List PlacedValue → List (List ℕ) → Bool

@@ -3,6 +3,7 @@
 #![tactic(auto)]
 
 mod fault;
+mod indices;
 mod ranges;
 mod set_members;
 mod subscripts;
