@@ -1,3 +1,4 @@
+pub mod EntryLaws
 mod Examples
 pub mod IndexLaws
 pub mod PlaceLaws

@@ -27,10 +27,10 @@ default_of statement = option_map (λ value. record { param = statement.param; v
 abbrev pub givens_of : ParamStatement → List Given
 givens_of statement = map (given_of statement.param) statement.values
 
+-- the data of these sets and these statements on parameters
+abbrev pub data_of : SetLists → List ParamStatement → Data
+data_of sets params = record { sets = sets; given = flat_map givens_of params; defaults = filter_map default_of params }
+
 -- the data that the statements give
 abbrev pub data_told : Statements → Data
-data_told statements = record {
-  sets = sets_told statements;
-  given = flat_map givens_of statements.params;
-  defaults = filter_map default_of statements.params;
-}
+data_told statements = data_of (sets_told statements) statements.params

@@ -9,5 +9,6 @@ pub mod Refusals
 pub mod SetRefusals
 pub mod Statements
 pub mod Subscripts
+pub mod Tables
 pub mod Told
 pub mod WellFormed

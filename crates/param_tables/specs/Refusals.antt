@@ -1,5 +1,5 @@
 -- Why the parameters that statements give are refused: every refusal, in the order in which they are looked for.
-use Rattle.std.specs.Prelude.{ℕ, ℤ, Bool, not, List, [], ◌∷◌, ◌++◌, length, filter, nat_le, nat_lt, Option, None, Some, if◌then◌else◌}
+use Rattle.std.specs.Prelude.{ℕ, ℤ, Bool, not, List, [], ◌∷◌, ◌++◌, length, nat_le, nat_lt, Option, None, Some, if◌then◌else◌}
 use Rattle.std.specs.Cmp.Lexicographic.{pointwise}
 use Rattle.std.specs.List.{filter_map, flat_map, list_any, range_with_len}
 use Rattle.std.specs.Option.{option_map}
@@ -16,6 +16,7 @@ use Rattle.param_tables.specs.InTurn.{first_of, in_turn}
 use Rattle.param_tables.specs.Statements.{PlacedValue, ParamStatement, Statements}
 use Rattle.param_tables.specs.declared.fault.CellFault.{CellFault}
 use Rattle.param_tables.specs.declared.fault.CellFault.TheVariants.{NoValue}
+use Rattle.param_tables.specs.declared.ranges.Range.{Range}
 
 -- a refusal: STORAGE has a member; a value's index has a name that is no member of its set, or was given before, at this place of the text; a parameter has too many indices; a parameter has this fault at this index
 pub data Refusal : Type 0 where
@@ -52,21 +53,22 @@ value_refusal sets param before value =
     else if is_given_among before value.index then Some (GivenBefore value.at)
     else None
 
--- the refusals of the values of a statement, value by value in the order of the text
-abbrev pub value_refusals : SetLists → ParamStatement → List Refusal
-value_refusals sets statement = in_turn (value_refusal sets statement.param) statement.values
-
 -- whether the statement is on a used parameter
 abbrev pub is_on_used : ParamStatement → Bool
 is_on_used statement = nat_le statement.param used_count
 
+-- the refusals of the values of a statement on a used parameter, value by value in the order of the text; nobody looks at the values of the others
+abbrev pub value_refusals : SetLists → ParamStatement → List Refusal
+value_refusals sets statement = if is_on_used statement then in_turn (value_refusal sets statement.param) statement.values else []
+
+-- the fault of a value, or of the want of one
+abbrev pub value_fault : Range → Option ℤ → Option CellFault
+value_fault range None = Some NoValue
+value_fault range (Some v) = range_fault range v
+
 -- the fault of the parameter at the index: no value, or a value out of its range
 abbrev pub fault_at : Data → ℕ → List (List ℕ) → Option CellFault
-fault_at d param index = fault_of (value_at d param index)
-  where
-    fault_of : Option ℤ → Option CellFault
-    fault_of None = Some NoValue
-    fault_of (Some v) = range_fault (range_of param) v
+fault_at d param index = value_fault (range_of param) (value_at d param index)
 
 -- the refusals of the parameter at its indices, index by index in the order of the members, the last subscript running fastest
 abbrev pub index_refusals : Data → ℕ → List Refusal
@@ -81,7 +83,7 @@ abbrev pub refusals : Statements → List Refusal
 refusals statements =
     let d = data_told statements in
     storage_refusals d.sets
-    ++ flat_map (value_refusals d.sets) (filter is_on_used statements.params)
+    ++ flat_map (value_refusals d.sets) statements.params
     ++ flat_map (param_refusals d) (range_with_len 1 used_count)
 
 -- the first refusal

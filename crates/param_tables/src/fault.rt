@@ -1,7 +1,10 @@
 //! Why data are refused.
 
 ghost use Rattle.std.specs.Prelude.{◌≡◌};
+ghost use Rattle.model_sets.specs.Members.{SetLists};
+ghost use Rattle.param_tables.specs.Told.{refusal_told, at, IsCell, NamesCell};
 ghost use Rattle.param_tables.specs.declared.fault.BuildFail.TheVariants.{Memory};
+ghost use Rattle.param_tables.specs.declared.fault.Stop.TheVariants as Stop;
 
 use mathprog_data::Mark;
 use model_sets::Sets;
@@ -58,6 +61,23 @@ impl From<AllocError> for BuildFail {
     }
 }
 
+/// Why the tables of the parameters weren't made.
+#[derive(Drop)]
+pub(crate) enum Stop {
+    /// A refusal.
+    Fault(BuildFault),
+    /// There is no memory for them.
+    Memory,
+}
+
+impl From<AllocError> for Stop {
+    ghost from_gives = { λ _ stop. stop ≡ Stop.Memory };
+
+    fn from(_: AllocError) -> Stop {
+        Stop::Memory
+    }
+}
+
 /// What may be wrong with a parameter at an index.
 #[derive(Clone, Copy, PartialEq, Eq, Debug)]
 pub(crate) enum CellFault {
@@ -67,4 +87,19 @@ pub(crate) enum CellFault {
     NotWhole,
     OutOfRange,
     WholeUnits,
+}
+
+/// The refusal of the fault at the cell.
+pub(crate) fn refusal_at(fault: CellFault, cell: Cell) -> BuildFault
+    ensures told { (sets : SetLists) → refusal_told sets result ≡ at sets fault cell }
+    ensures cell { (sets : SetLists) → IsCell sets cell → NamesCell sets result }
+{
+    match fault {
+        CellFault::NoValue => BuildFault::NoValue(cell),
+        CellFault::Negative => BuildFault::Negative(cell),
+        CellFault::NotPositive => BuildFault::NotPositive(cell),
+        CellFault::NotWhole => BuildFault::NotWhole(cell),
+        CellFault::OutOfRange => BuildFault::OutOfRange(cell),
+        CellFault::WholeUnits => BuildFault::WholeUnits(cell),
+    }
 }

@@ -3,7 +3,9 @@
 #![tactic(auto)]
 
 mod fault;
+mod first_fault;
 mod indices;
+mod param_table;
 mod ranges;
 mod set_members;
 mod subscripts;

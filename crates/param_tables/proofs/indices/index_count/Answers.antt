@@ -33,10 +33,10 @@ loop-set-preserved c =
     let more : c.from-count.result ≡ length (members c.args.sets.now k) = c.from-count.ensures ∙ c.count.ensures.count in
     record {
       count =
-        ap (λ m. c.loop-set.count * m) more
-        ∙ ap (λ m. m * length (members c.args.sets.now k)) c.loop-set.invariant.count
-        ∙ sym (length-push c.args.sets.now (take i ks) k)
-        ∙ ap (λ js. length (indices_over c.args.sets.now js)) (sym (take_more ks i 0 c.loop-set-test.true));
+          ap (λ m. c.loop-set.count * m) more
+          ∙ ap (λ m. m * length (members c.args.sets.now k)) c.loop-set.invariant.count
+          ∙ sym (length-push c.args.sets.now (take i ks) k)
+          ∙ ap (λ js. length (indices_over c.args.sets.now js)) (sym (take_more ks i 0 c.loop-set-test.true));
       small = count_more c.loop-set.count c.from-count.result i c.loop-set.invariant.small (omega arith);
     }
 

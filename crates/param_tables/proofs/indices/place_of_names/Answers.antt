@@ -20,9 +20,9 @@ returns-in_err-member-clause-found c =
     let unknown : is_among (members sets k) c.bytes.result.now ≡ false = sym (is_some-index_of (members sets k) c.bytes.result.now) ∙ ap (λ o. is_some o) (sym c.in_err-member.ensures.index) in
     ap (λ o. is_some o) c.from_residual.ensures
     ∙ sym
-      (c.loop-i.invariant.found
-      ∙ are_members-more sets ks names i name c.loop-i-test.true (omega (arith, c.loop-i-test.true, c.requires.paired)) (sym c.index-names-i.is)
-      ∙ ap (λ b. b && are_members sets (drop (i + 1) ks) (drop (i + 1) names)) (ap (is_among (members sets k)) (sym c.bytes.ensures) ∙ unknown))
+    (c.loop-i.invariant.found
+    ∙ are_members-more sets ks names i name c.loop-i-test.true (omega (arith, c.loop-i-test.true, c.requires.paired)) (sym c.index-names-i.is)
+    ∙ ap (λ b. b && are_members sets (drop (i + 1) ks) (drop (i + 1) names)) (ap (is_among (members sets k)) (sym c.bytes.ensures) ∙ unknown))
 
 pub next_place-place-requires-clause-place : goal.next_place-place-requires-clause-place
 next_place-place-requires-clause-place c =
