@@ -46,7 +46,7 @@ given_at_place (p ∷ ps) (v ∷ vs) (suc k) rising long below =
     let other : get_or ps k 0 ≢ p = λ e. omega arith in
     ap (λ b. cond b (Some v) (given_in (zip ps vs) (get_or ps k 0))) (ne_eqb (get_or ps k 0) p other) ∙ given_at_place ps vs k (later p ps rising) (omega arith) (omega arith)
 
-rising_all : (places : List ℕ) → IsStrictlyIncreasing places → (i j : ℕ) → i ≤ j → j < length places → get_or places i 0 ≤ get_or places j 0
+pub rising_all : (places : List ℕ) → IsStrictlyIncreasing places → (i j : ℕ) → i ≤ j → j < length places → get_or places i 0 ≤ get_or places j 0
 rising_all places rising i j low below = elim (cases_eq i j) [
   | inl same ↦ let e : get_or places i 0 ≡ get_or places j 0 = ap (λ n. get_or places n 0) same in omega arith
   | inr other ↦ let less : get_or places i 0 < get_or places j 0 = below_from_sorted places i j 0 (sorted_from_strictly_increasing places rising) (omega arith) below in omega arith

@@ -1,5 +1,6 @@
 pub mod EntryLaws
 mod Examples
+pub mod GapLaws
 pub mod IndexLaws
 pub mod PlaceLaws
 pub mod SetLaws

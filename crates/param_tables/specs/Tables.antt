@@ -7,10 +7,12 @@ use Rattle.std.specs.Option.{option_map, option_or}
 use Rattle.std.specs.Cmp.Lexicographic.{pointwise}
 use Rattle.std.specs.Str.{bytes_eq}
 use Rattle.model_sets.specs.Data.{Data, indices_of, value_at, value_of_none}
+use Rattle.param_tables.specs.Ranges.{range_fault}
 use Rattle.param_tables.specs.Statements.{PlacedValue}
 use Rattle.param_tables.specs.declared.fault.CellFault.{CellFault}
 use Rattle.param_tables.specs.declared.first_fault.PlaceFault.{PlaceFault}
 use Rattle.param_tables.specs.declared.param_table.ParamTable.{ParamTable}
+use Rattle.param_tables.specs.declared.ranges.Range.{Range}
 
 -- the value that is given at the index
 abbrev pub given_among : List PlacedValue → List (List ℕ) → Option ℤ
@@ -42,6 +44,11 @@ pub record IsTable (size : ℕ) (table : ParamTable) : Type 0 where
 pub record IsTableFor (d : Data) (param : ℕ) (table : ParamTable) : Type 0 where
   pub shape : IsTable (length (indices_of d.sets param)) table
   pub values : (place : ℕ) → place < length (indices_of d.sets param) → value_at d param (slice_index_or (indices_of d.sets param) place []) ≡ table_value param table place
+
+-- the fault of a value that is given, or else that of a missing one
+abbrev pub place_fault : Range → Option CellFault → Option ℤ → Option CellFault
+place_fault range missing None = missing
+place_fault range missing (Some v) = range_fault range v
 
 -- the fault at a place that lies before `end`
 abbrev pub fault_before : Option CellFault → ℕ → ℕ → Option PlaceFault
