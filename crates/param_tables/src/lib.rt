@@ -2,6 +2,7 @@
 //! used parameter at each index.
 #![tactic(auto)]
 
+mod checks;
 mod fault;
 mod first_fault;
 mod indices;
@@ -12,3 +13,4 @@ mod subscripts;
 
 pub use fault::{BuildFail, BuildFault, Cell};
 pub use set_members::sets_of;
+pub use subscripts::subscript_sets;

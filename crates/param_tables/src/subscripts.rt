@@ -70,8 +70,9 @@ fn look_up<'a>(table: &'a [&'static [u8]], param: u8) -> &'static [u8]
     table[usize::from(param - 1)]
 }
 
-/// The numbers of the sets over which the subscripts of the used parameter run.
-pub(crate) fn subscripts_of(param: u8) -> &'static [u8]
+/// The numbers of the sets over which the subscripts of the used parameter run, from 1 to 38, in the order of
+/// its subscripts (the OSeMOSYS long code, Howells et al., Energy Policy 2011).
+pub fn subscript_sets(param: u8) -> &'static [u8]
     requires { IsUsedParam param }
     ensures sets { result.now ≡ subscript_sets param }
     ensures listed { All IsSet result.now }
