@@ -1,5 +1,5 @@
 -- What the table of a parameter says. Private functions alone cite these definitions.
-use Rattle.std.specs.Prelude.{◌≡◌, ℕ, ◌+◌, ◌<◌, ℤ, List, [], length, nat_eq, nat_lt, Option, None, Some, MatchOption, All, slice_index_or, if◌then◌else◌}
+use Rattle.std.specs.Prelude.{◌≡◌, ℕ, ◌<◌, ◌≤◌, ℤ, List, [], length, nat_eq, nat_lt, Option, None, Some, MatchOption, All, slice_index_or, if◌then◌else◌}
 use Rattle.std.specs.List.{zip, find}
 use Rattle.std.specs.List.Sorted.{IsStrictlyIncreasing}
 use Rattle.std.specs.Map.{lookup}
@@ -7,6 +7,7 @@ use Rattle.std.specs.Option.{option_map, option_or}
 use Rattle.std.specs.Cmp.Lexicographic.{pointwise}
 use Rattle.std.specs.Str.{bytes_eq}
 use Rattle.model_sets.specs.Data.{Data, indices_of, value_at, value_of_none}
+use Rattle.model_sets.specs.Members.{SetLists}
 use Rattle.param_tables.specs.Ranges.{range_fault}
 use Rattle.param_tables.specs.Statements.{PlacedValue}
 use Rattle.param_tables.specs.declared.fault.CellFault.{CellFault}
@@ -17,6 +18,11 @@ use Rattle.param_tables.specs.declared.ranges.Range.{Range}
 -- the value that is given at the index
 abbrev pub given_among : List PlacedValue → List (List ℕ) → Option ℤ
 given_among values index = option_map (λ v. v.value) (find (λ v. pointwise bytes_eq v.index index) values)
+
+-- the look-up by places finds what the values give at each index, and nothing at other places
+pub record AreGiven (sets : SetLists) (param : ℕ) (values : List PlacedValue) (found : ℕ → Option ℤ) : Type 0 where
+  pub inside : (place : ℕ) → place < length (indices_of sets param) → found place ≡ given_among values (slice_index_or (indices_of sets param) place [])
+  pub outside : (place : ℕ) → length (indices_of sets param) ≤ place → found place ≡ None
 
 -- the places of the table, each with its value
 abbrev pub entries_of : ParamTable → List (ℕ × ℤ)

@@ -5,6 +5,7 @@
 mod checks;
 mod fault;
 mod first_fault;
+mod given;
 mod indices;
 mod param_table;
 mod ranges;
