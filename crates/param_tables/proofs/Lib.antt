@@ -1,6 +1,7 @@
 pub mod EntryLaws
 mod Examples
 pub mod GapLaws
+pub mod GivenLaws
 pub mod IndexLaws
 pub mod PlaceLaws
 pub mod RefusalLaws

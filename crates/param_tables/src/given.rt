@@ -3,6 +3,7 @@
 ghost use Rattle.std.specs.Prelude.{◌≡◌, ℕ, [], None, Some, nat_eq, IfErr, IfOk, OnErr, OnOk, All, if◌then◌else◌};
 ghost use Rattle.std.specs.BTreeMap.{get};
 ghost use Rattle.std.specs.Ordering.{nat_cmp};
+ghost use Rattle.model_sets.specs.Members.{AreSets};
 ghost use Rattle.model_sets.specs.Params.{IsUsedParam};
 ghost use Rattle.param_tables.specs.InTurn.{first_of, in_turn};
 ghost use Rattle.param_tables.specs.Refusals.{value_refusal};
@@ -36,6 +37,7 @@ pub(crate) fn placed_values(
     param: u8,
     given: &[Given],
 ) -> Result<BTreeMap<u64, i128>, Stop>
+    requires sets { AreSets sets.now }
     requires used { IsUsedParam param }
     requires indices { All (IsValueOf param) (values_told given.now) }
     ensures values { IfOk result (λ values. AreGiven sets.now param (values_told given.now) (get nat_cmp values)) }
