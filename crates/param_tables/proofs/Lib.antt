@@ -1,3 +1,4 @@
+pub mod DataLaws
 pub mod EntryLaws
 mod Examples
 pub mod GapLaws
