@@ -8,4 +8,5 @@ pub mod PlaceLaws
 pub mod RefusalLaws
 pub mod SetLaws
 pub mod TableLaws
+pub mod TableOfLaws
 pub mod TurnLaws

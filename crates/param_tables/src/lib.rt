@@ -11,6 +11,7 @@ mod param_table;
 mod ranges;
 mod set_members;
 mod subscripts;
+mod tables;
 
 pub use fault::{BuildFail, BuildFault, Cell};
 pub use set_members::sets_of;
