@@ -7,14 +7,17 @@ use Rattle.std.specs.Option.{option_or}
 use Rattle.std.proofs.lemmas.Bool.{cases_eq, cases_lt, le-leb, lt-leb}
 use Rattle.std.proofs.lemmas.List.{get_or_default, get_or-set_same, get_or-set_other, length-set, take_more}
 use Rattle.std.proofs.lemmas.Option.{slice_get-get_or}
-use Rattle.model_sets.specs.Data.{default_of, given_at, indices_of, value_at}
+use Rattle.model_sets.specs.Data.{default_of, given_at, indices_of, value_at, value_of_none}
 use Rattle.model_sets.specs.Members.{SetLists}
 use Rattle.model_sets.specs.Params.{IsUsedParam, used_count}
 use Rattle.param_tables.specs.BlockData.{data_of}
 use Rattle.param_tables.specs.InTurn.{in_turn}
-use Rattle.param_tables.specs.Refusals.{is_on_used, value_refusal, value_refusals}
+use Rattle.param_tables.specs.Refusals.{Refusal, is_on_used, value_refusal, value_refusals}
 use Rattle.param_tables.specs.Statements.{ParamStatement, PlacedValue}
 use Rattle.param_tables.specs.Tables.{AreGiven, AreTablesFor, IsTable, IsTableFor, IsTableOf, entries_of, given_among, given_in, table_value, value_else}
+use Rattle.param_tables.specs.Told.{IsStopDue, refusal_told}
+use Rattle.param_tables.specs.declared.fault.Stop.{Stop}
+use Rattle.param_tables.specs.declared.fault.Stop.TheVariants as stop
 use Rattle.param_tables.specs.declared.param_table.ParamTable.{ParamTable}
 use Rattle.param_tables.proofs.DataLaws.{none_before, value_at-here, value_at-other}
 use Rattle.param_tables.proofs.EntryLaws.{given_at_place}
@@ -112,3 +115,34 @@ module _ (sets : SetLists) where
               let apart : (p - 1) ≢ (s.param - 1) = λ h. other (omega arith) in
               subst (IsTableFor (data_of sets (take i all ++ s ∷ [])) p) (sym (get_or-set_other tables (s.param - 1) (p - 1) table e apart)) (table_stays (take i all) s p (get_or tables (p - 1) e) other (so_far.each p is e))
         ]
+
+-- ---- nothing is given
+
+-- the table of a parameter of which nothing is given
+pub record IsEmptyTable (table : ParamTable) : Type 0 where
+  pub default : table.default ≡ None
+  pub places : table.places.items ≡ []
+  pub values : table.values.items ≡ []
+
+table_of_nothing : (sets : SetLists) (p : ℕ) (table : ParamTable) → IsEmptyTable table → IsTableFor (data_of sets []) p table
+table_of_nothing sets p table empty = record {
+  shape = record {
+    ascending = λ k below. absurd (omega (arith, ap length empty.places));
+    long = ap length empty.values ∙ sym (ap length empty.places);
+    below = λ k d inside. absurd (omega (arith, ap length empty.places));
+  };
+  values = λ place below.
+    ap (λ o. option_or o (value_of_none p)) (sym empty.default)
+    ∙ ap (λ o. option_or o (value_else p table.default)) (sym (ap (λ ps. given_in (zip ps table.values.items) place) empty.places));
+}
+
+pub tables_of_nothing : (sets : SetLists) (tables : List ParamTable) → length tables ≡ used_count → ((j : ℕ) → j < used_count → (e : ParamTable) → IsEmptyTable (get_or tables j e)) → AreTablesFor (data_of sets []) tables
+tables_of_nothing sets tables all empty = record {
+  all = all;
+  each = λ p used e. let low = used.0 in let high = used.1 in table_of_nothing sets p (get_or tables (p - 1) e) (empty (p - 1) (omega arith) e);
+}
+
+-- a stop that the values of one statement are the cause of
+pub stop_first : (o p : Option Refusal) (sets : SetLists) (why : Stop) → ((r : Refusal) → o ≡ Some r → p ≡ Some r) → IsStopDue o sets why → IsStopDue p sets why
+stop_first o p sets (stop.Fault fault) first due = (first (refusal_told sets fault) due.0, due.1)
+stop_first o p sets stop.Memory first due = tt
