@@ -10,3 +10,4 @@ pub mod SetLaws
 pub mod TableLaws
 pub mod TableOfLaws
 pub mod TurnLaws
+pub mod ViewLaws

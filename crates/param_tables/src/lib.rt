@@ -7,6 +7,7 @@ mod fault;
 mod first_fault;
 mod given;
 mod indices;
+mod model_data;
 mod param_table;
 mod ranges;
 mod set_members;
@@ -14,5 +15,6 @@ mod subscripts;
 mod tables;
 
 pub use fault::{BuildFail, BuildFault, Cell};
+pub use model_data::ModelData;
 pub use set_members::sets_of;
 pub use subscripts::subscript_sets;
