@@ -5,6 +5,7 @@ pub mod GapLaws
 pub mod GivenLaws
 pub mod IndexLaws
 pub mod PlaceLaws
+pub mod RangeRules
 pub mod RefusalLaws
 pub mod SetLaws
 pub mod TableLaws
