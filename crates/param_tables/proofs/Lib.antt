@@ -4,6 +4,7 @@ mod Examples
 pub mod GapLaws
 pub mod GivenLaws
 pub mod IndexLaws
+pub mod ParamLaws
 pub mod PlaceLaws
 pub mod RangeRules
 pub mod RefusalLaws

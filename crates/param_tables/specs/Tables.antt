@@ -63,6 +63,11 @@ pub record AreTablesFor (d : Data) (tables : List ParamTable) : Type 0 where
   pub all : length tables ≡ used_count
   pub each : (param : ℕ) → IsUsedParam param → (e : ParamTable) → IsTableFor d param (slice_index_or tables (param - 1) e)
 
+-- there is a table for each used parameter, from number 1, with places and values of its indices
+pub record HaveShapes (sets : SetLists) (tables : List ParamTable) : Type 0 where
+  pub all : length tables ≡ used_count
+  pub each : (param : ℕ) → IsUsedParam param → (e : ParamTable) → IsTable (length (indices_of sets param)) (slice_index_or tables (param - 1) e)
+
 -- the fault of a value that is given, or else that of a missing one
 abbrev pub place_fault : Range → Option CellFault → Option ℤ → Option CellFault
 place_fault range missing None = missing

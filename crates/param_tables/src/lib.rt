@@ -2,6 +2,7 @@
 //! used parameter at each index.
 #![tactic(auto)]
 
+mod building;
 mod checks;
 mod fault;
 mod first_fault;
@@ -14,6 +15,7 @@ mod set_members;
 mod subscripts;
 mod tables;
 
+pub use building::build;
 pub use fault::{BuildFail, BuildFault, Cell};
 pub use model_data::ModelData;
 pub use set_members::sets_of;
