@@ -1,12 +1,12 @@
 -- The data of statements, statement by statement.
-use Rattle.std.proofs.Common.{◌≡◌, ◌≢◌, ℕ, suc, ◌+◌, ◌-◌, ◌<◌, ◌≤◌, Bool, true, false, cond, ◌&&◌, List, [], ◌∷◌, ◌++◌, Option, None, Some, length, map, nat_eq, get_or, take, set, refl, sym, ap, ◌∙◌, subst, inl, inr, arith, All}
+use Rattle.std.proofs.Common.{◌≡◌, ◌≢◌, ℕ, zero, suc, ◌+◌, ◌-◌, ◌<◌, ◌≤◌, Bool, true, false, cond, ◌&&◌, List, [], ◌∷◌, ◌++◌, Option, None, Some, length, map, nat_eq, get_or, take, set, refl, sym, ap, ◌∙◌, subst, inl, inr, arith, All}
 use Rattle.std.specs.Prelude.{ℤ, if◌then◌else◌}
 use Rattle.std.specs.Cmp.Lexicographic.{pointwise}
 use Rattle.std.specs.List.{IsDistinct, cons_option, filter_map, find, flat_map}
 use Rattle.std.specs.Option.{option_map, option_or}
 use Rattle.std.specs.Str.{bytes_eq}
 use Rattle.std.proofs.lemmas.Bool.{cases_eq, eq-eqb, ne_eqb, eqb-false}
-use Rattle.std.proofs.lemmas.List.{append-nil, get_or-map, get_or-take, length-map, length-take, take_more}
+use Rattle.std.proofs.lemmas.List.{append-nil, get_or-map, get_or-take, length-map, length-take, take_all, take_more}
 use Rattle.std.proofs.lemmas.List.Concat.{flat_map-append}
 use Rattle.std.proofs.lemmas.List.Elements.{filter_map-append}
 use Rattle.std.proofs.lemmas.List.Folds.{find-append}
@@ -118,3 +118,31 @@ none_before sets all i s distinct below at = none_of sets (take i all) s.param o
         let first : get_or (map (λ t. t.param) all) j 0 ≡ (get_or (take i all) j d).param = get_or-map (λ t. t.param) all j d 0 in_all ∙ ap (λ t. t.param) (sym (get_or-take i all j d before)) in
         let second : get_or (map (λ t. t.param) all) i 0 ≡ s.param = get_or-map (λ t. t.param) all i s 0 below ∙ ap (λ t. t.param) at in
         eqb-false (get_or (map (λ t. t.param) all) j 0) (get_or (map (λ t. t.param) all) i 0) (apart_from_distinct nat_eq (map (λ t. t.param) all) j i 0 distinct before inside) (first ∙ same ∙ sym second)
+
+-- ---- all statements
+
+-- the value that the statement at a place gives, whatever stands after it
+module _ (sets : SetLists) (all : List ParamStatement) (distinct : IsDistinct nat_eq (map (λ t. t.param) all)) (i : ℕ) (s : ParamStatement) (inside : i < length all) (at : get_or all i s ≡ s) (index : List (List ℕ)) where
+  later_apart : (m : ℕ) → i < m → m < length all → ((get_or all m s).param ≢ s.param)
+  later_apart m after below same =
+      let long : length (map (λ t. t.param) all) ≡ length all = length-map all (λ t. t.param) in
+      let here : get_or (map (λ t. t.param) all) i 0 ≡ s.param = get_or-map (λ t. t.param) all i s 0 inside ∙ ap (λ t. t.param) at in
+      let there : get_or (map (λ t. t.param) all) m 0 ≡ (get_or all m s).param = get_or-map (λ t. t.param) all m s 0 below in
+      eqb-false (get_or (map (λ t. t.param) all) i 0) (get_or (map (λ t. t.param) all) m 0) (apart_from_distinct nat_eq (map (λ t. t.param) all) i m 0 distinct after (omega arith)) (here ∙ sym same ∙ sym there)
+
+  value_taken : (n : ℕ) → i < n → n ≤ length all → value_at (data_of sets (take n all)) s.param index ≡ option_or (given_among s.values index) (value_else s.param s.default)
+  value_taken zero before within = absurd (omega arith)
+  value_taken (suc m) before within = elim (cases_eq i m) [
+    | inl last ↦
+        let none = none_before sets all i s distinct inside at in
+        let taken : take (suc m) all ≡ take i all ++ s ∷ [] = (let n : suc m ≡ i + 1 = omega arith in ap (λ k. take k all) n) ∙ take_more all i s inside ∙ ap (λ t. take i all ++ t ∷ []) at in
+        ap (λ xs. value_at (data_of sets xs) s.param index) taken ∙ value_at-here sets (take i all) s s.param refl none.0 none.1 index
+    | inr more ↦
+        let after : i < m = omega arith in
+        let below : m < length all = omega arith in
+        let taken : take (suc m) all ≡ take m all ++ get_or all m s ∷ [] = (let n : suc m ≡ m + 1 = omega arith in ap (λ k. take k all) n) ∙ take_more all m s below in
+        ap (λ xs. value_at (data_of sets xs) s.param index) taken ∙ value_at-other sets (take m all) (get_or all m s) s.param (later_apart m after below) index ∙ value_taken m after (omega arith)
+  ]
+
+  pub value_of_statement : value_at (data_of sets all) s.param index ≡ option_or (given_among s.values index) (value_else s.param s.default)
+  value_of_statement = ap (λ xs. value_at (data_of sets xs) s.param index) (sym (take_all (length all) all (omega arith))) ∙ value_taken (length all) inside (omega arith)

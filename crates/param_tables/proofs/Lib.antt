@@ -1,9 +1,11 @@
 pub mod DataLaws
 pub mod EntryLaws
 mod Examples
+pub mod FactLaws
 pub mod GapLaws
 pub mod GivenLaws
 pub mod IndexLaws
+pub mod KeptLaws
 pub mod ParamLaws
 pub mod PlaceLaws
 pub mod RangeRules
