@@ -31,8 +31,9 @@ shapes_of d tables for = record { all = for.all; each = λ p used e. (for.each p
 -- ---- the same values
 
 -- two data with the same tables are the same
-pub same_tables : (d e : Data) (tables : List ParamTable) → (table : ParamTable) → d.sets ≡ e.sets → AreTablesFor d tables → AreTablesFor e tables → AreSameData d e
-same_tables d e tables table same ford fore = record {
+pub same_tables : (d e : Data) (tables : List ParamTable) → d.sets ≡ e.sets → AreTablesFor d tables → AreTablesFor e tables → AreSameData d e
+same_tables d e [] same ford fore = absurd (omega (arith, ford.all))
+same_tables d e (table ∷ tables) same ford fore = record {
   sets = same;
   values = λ p used index has.
     let place = has.0 in
@@ -146,13 +147,13 @@ complete_of d are free numbers = record { sets = are; values = values }
         value_in (range_of p) (value_at d p index) free_here (numbers p used index has)
 
 -- tables that no check refuses are kept, and are those of the statements
-pub same_facts_told : (sets : SetLists) (params : List ParamStatement) (tables : List ParamTable) → ParamTable → AreSets sets → AreTablesFor (data_of sets params) tables → AreSameData (facts_of sets tables) (data_of sets params)
-same_facts_told sets params tables table are for = same_tables (facts_of sets tables) (data_of sets params) tables table refl (tables_for_facts sets tables are (shapes_of (data_of sets params) tables for)) for
+pub same_facts_told : (sets : SetLists) (params : List ParamStatement) (tables : List ParamTable) → AreSets sets → AreTablesFor (data_of sets params) tables → AreSameData (facts_of sets tables) (data_of sets params)
+same_facts_told sets params tables are for = same_tables (facts_of sets tables) (data_of sets params) tables refl (tables_for_facts sets tables are (shapes_of (data_of sets params) tables for)) for
 
-pub kept_of : (sets : SetLists) (params : List ParamStatement) (tables : List ParamTable) → ParamTable → AreSets sets → AreTablesFor (data_of sets params) tables → All IsParamStatement params → flat_map (param_refusals (facts_of sets tables)) (range_with_len 1 used_count) ≡ [] → AreKept sets tables
-kept_of sets params tables table are for every free =
+pub kept_of : (sets : SetLists) (params : List ParamStatement) (tables : List ParamTable) → AreSets sets → AreTablesFor (data_of sets params) tables → All IsParamStatement params → flat_map (param_refusals (facts_of sets tables)) (range_with_len 1 used_count) ≡ [] → AreKept sets tables
+kept_of sets params tables are for every free =
     let tabled = tables_for_facts sets tables are (shapes_of (data_of sets params) tables for) in
-    let same = same_facts_told sets params tables table are for in
+    let same = same_facts_told sets params tables are for in
     record {
       tabled = tabled;
       complete = complete_of (facts_of sets tables) are free (λ p used index has. subst (λ o. IfSome o IsNumber) (sym (same.values p used index has)) (values_are_numbers sets params p index every));

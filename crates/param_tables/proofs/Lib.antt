@@ -1,3 +1,4 @@
+pub mod BuildLaws
 pub mod DataLaws
 pub mod EntryLaws
 mod Examples
