@@ -1,4 +1,10 @@
 pub mod Faults
 pub mod Lexemes
+pub mod Meaning
 pub mod ParamTables
 pub mod Params
+pub mod Slices
+pub mod StatementFaults
+pub mod Statements
+pub mod Symbols
+pub mod Tables
