@@ -1,6 +1,10 @@
 pub mod Faults
 pub mod Lexemes
+pub mod MachineRuns
+pub mod MachineStates
+pub mod MachineSteps
 pub mod Meaning
+pub mod NumberReading
 pub mod ParamTables
 pub mod Params
 pub mod Slices
@@ -8,3 +12,4 @@ pub mod StatementFaults
 pub mod Statements
 pub mod Symbols
 pub mod Tables
+pub mod Words

@@ -43,12 +43,12 @@ default_value (Some number) = Some number.0
 -- the block of a set
 abbrev pub set_blocks : Statement → List SetBlock
 set_blocks (Set number members) = record { set = number; members = members } ∷ []
-set_blocks (Param number default values) = []
+set_blocks (Param form number default values) = []
 
 -- the block of a parameter
 abbrev pub param_blocks : Statement → List ParamBlock
 param_blocks (Set number members) = []
-param_blocks (Param number default values) = record { param = number; default = default_value default; values = map value_of values } ∷ []
+param_blocks (Param form number default values) = record { param = number; default = default_value default; values = map value_of values } ∷ []
 
 -- 1 for a rounded number, 0 for another
 abbrev pub count_of : Number → ℕ
@@ -66,7 +66,7 @@ rounded_default (Some number) = count_of number
 -- how many of a statement's default and values are rounded
 abbrev pub rounded_of : Statement → ℕ
 rounded_of (Set number members) = 0
-rounded_of (Param number default values) = rounded_default default + rounded_values values
+rounded_of (Param form number default values) = rounded_default default + rounded_values values
 
 -- the blocks of these statements, in their order
 abbrev pub blocks_of : List Statement → Blocks
@@ -80,7 +80,7 @@ pub data Item : Type 0 where
 -- what a statement names
 abbrev pub item_of : Statement → Item
 item_of (Set number members) = SetItem number
-item_of (Param number default values) = ParamItem number
+item_of (Param form number default values) = ParamItem number
 
 -- what the beginning of a statement names
 abbrev pub item_begun : Begun → Item

@@ -59,13 +59,13 @@ pub data Beginning : List Placed → List Placed → Begun → Type 0 where
   param_begins : {t u : Placed} {rest : List Placed} {number : ℕ} → (name : Name) → IsKeyword (codes "param") t → IsSymbol u name → param_number name ≡ Some number → Beginning (t ∷ u ∷ rest) rest (ParamBegun number)
   tabbing_begins : {t u v : Placed} {ts rest : List Placed} {number : ℕ} {default : Option Number} → (name : Name) → IsKeyword (codes "param") t → Default ts (u ∷ v ∷ rest) default → IsSign signs.Colon u → IsSymbol v name → param_number name ≡ Some number → Beginning (t ∷ ts) rest (TabbingBegun number default)
 
--- what a statement says: the members of a set, or the default and the values of a parameter
+-- what a statement says: the members of a set, or the default and the values of a parameter, with the form that gives them
 pub data Statement : Type 0 where
   Set : ℕ → List Name → Statement
-  Param : ℕ → Option Number → List Given → Statement
+  Param : Form → ℕ → Option Number → List Given → Statement
 
 -- a whole statement, and what it says
 pub data IsStatement : List Placed → List Placed → Statement → Type 0 where
   set_is : {ts us vs rest : List Placed} {number : ℕ} {members : List Name} → Beginning ts us (SetBegun number) → Comma us vs → Members vs rest members → IsStatement ts rest (Set number members)
-  param_is : {ts us vs ws rest : List Placed} {number : ℕ} {default : Option Number} {values : List Given} → Beginning ts us (ParamBegun number) → Comma us vs → Default vs ws default → Records number Listed (all_free (subscript_count number)) ws rest values → IsStatement ts rest (Param number default values)
-  tabbing_is : {t : Placed} {ts us vs rest : List Placed} {number : ℕ} {default : Option Number} {values : List Given} → Beginning ts us (TabbingBegun number default) → Comma us (t ∷ vs) → IsSign signs.Gives t → Records number Tabbing (all_free (subscript_count number)) vs rest values → IsStatement ts rest (Param number default values)
+  param_is : {ts us vs ws rest : List Placed} {number : ℕ} {default : Option Number} {values : List Given} → Beginning ts us (ParamBegun number) → Comma us vs → Default vs ws default → Records number Listed (all_free (subscript_count number)) ws rest values → IsStatement ts rest (Param Listed number default values)
+  tabbing_is : {t : Placed} {ts us vs rest : List Placed} {number : ℕ} {default : Option Number} {values : List Given} → Beginning ts us (TabbingBegun number default) → Comma us (t ∷ vs) → IsSign signs.Gives t → Records number Tabbing (all_free (subscript_count number)) vs rest values → IsStatement ts rest (Param Tabbing number default values)

@@ -11,6 +11,7 @@ mod lexeme;
 mod params;
 mod sets;
 mod token;
+mod words;
 
 pub use blocks::{Blocks, Given, Mark, Name, ParamBlock, SetBlock};
 pub use fault::{DataFault, ReadFail};
