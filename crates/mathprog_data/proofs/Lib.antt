@@ -1,2 +1,5 @@
+pub mod CellSteps
 mod LexemeExamples
+pub mod NumberReadingLaws
+pub mod SymbolLemmas
 mod Tables
