@@ -3,3 +3,4 @@ mod LexemeExamples
 pub mod NumberReadingLaws
 pub mod SymbolLemmas
 mod Tables
+pub mod Walks
