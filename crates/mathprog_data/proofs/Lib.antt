@@ -1,6 +1,7 @@
-pub mod CellSteps
 mod LexemeExamples
+mod Tables
+mod WellFormedLaws
+pub mod CellSteps
 pub mod NumberReadingLaws
 pub mod SymbolLemmas
-mod Tables
 pub mod Walks

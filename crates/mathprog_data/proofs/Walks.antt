@@ -1,10 +1,9 @@
 -- Ways of the machine that reads statements over tokens, names aside.
-use Rattle.std.proofs.Common.{◌≡◌, ℕ, Bool, true, false, List, [], ◌∷◌, ◌++◌, map, refl, sym, ap, ◌∙◌, subst}
-use Rattle.mathprog_data.specs.declared.blocks.Mark.{Mark}
-use Rattle.mathprog_data.specs.Lexemes.{Lexeme, Placed}
-use Rattle.mathprog_data.specs.MachineStates.{Open, Event, Begins, MemberNamed, DefaultGiven, ValueGiven, SetClosed, ParamClosed, Turn, Stop, Go, Emit, Draft, noted, seen_of}
+use Rattle.std.proofs.Common.{◌≡◌, ℕ, List, [], ◌∷◌}
+use Rattle.mathprog_data.specs.Lexemes.{Placed}
+use Rattle.mathprog_data.specs.MachineStates.{Open, Event, Begins, MemberNamed, DefaultGiven, ValueGiven, SetClosed, ParamClosed, Turn, Go, Emit, Draft, noted, seen_of}
 use Rattle.mathprog_data.specs.MachineSteps.{turn}
-use Rattle.mathprog_data.specs.Statements.{Statement, Set, Param, Form, Listed, Tabbing, SetBegun, ParamBegun, TabbingBegun}
+use Rattle.mathprog_data.specs.Statements.{Statement, Set, Param, Listed, Tabbing, SetBegun, ParamBegun, TabbingBegun}
 use Rattle.mathprog_data.specs.Symbols.{Number}
 use Rattle.mathprog_data.specs.Tables.{Given}
 use Rattle.std.specs.Prelude.{Option, Some, None}
