@@ -6,21 +6,21 @@ use Rattle.std.proofs.lemmas.Bool.{lt-ltb, le-ltb}
 use Rattle.model_sets.specs.Data.{Data}
 use Rattle.model_sets.specs.Members.{SetLists, members}
 use Rattle.model_sets.specs.Params.{used_count}
-use Rattle.param_tables.specs.BlockData.{data_of, data_told, sets_told}
+use Rattle.param_tables.specs.BlockData.{data_of, data_told, set_lists}
 use Rattle.param_tables.specs.InTurn.{first_of}
 use Rattle.param_tables.specs.Refusals.{Refusal, StorageMember, first_refusal, param_refusals, storage, storage_refusals, value_refusals}
-use Rattle.param_tables.specs.Statements.{ParamStatement, Statements}
+use Rattle.mathprog_data.specs.Meaning.{ParamBlock, Blocks}
 use Rattle.param_tables.specs.Tables.{AreTablesFor}
 use Rattle.param_tables.specs.declared.param_table.ParamTable.{ParamTable}
 use Rattle.param_tables.proofs.TurnLaws.{first_of-found}
 
-in_order : SetLists → Data → List ParamStatement → List Refusal
+in_order : SetLists → Data → List ParamBlock → List Refusal
 in_order sets d params = storage_refusals sets ++ flat_map (value_refusals sets) params ++ flat_map (param_refusals d) (range_with_len 1 used_count)
 
 no_storage : (sets : SetLists) → length (members sets storage) ≤ 0 → storage_refusals sets ≡ []
 no_storage sets none = ap (λ b. if b then StorageMember ∷ [] else []) (le-ltb 0 (length (members sets storage)) none)
 
-module _ (s : Statements) (sets : SetLists) (same : sets ≡ sets_told s) where
+module _ (s : Blocks) (sets : SetLists) (same : sets ≡ set_lists s) where
   by_parts : first_refusal s ≡ first_of (in_order sets (data_told s) s.params)
   unfolding in_order
   by_parts = ap (λ all. first_of (in_order all (data_told s) s.params)) (sym same)

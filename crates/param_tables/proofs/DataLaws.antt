@@ -14,7 +14,7 @@ use Rattle.std.proofs.lemmas.Map.Keys.{apart_from_distinct}
 use Rattle.model_sets.specs.Data.{Data, Default, Given, default_of, given_at, is_given_at, value_at, value_of_none}
 use Rattle.model_sets.specs.Members.{SetLists}
 use Rattle.param_tables.specs.BlockData.{data_of, given_of, givens_of, stated_default}
-use Rattle.param_tables.specs.Statements.{ParamStatement, PlacedValue}
+use Rattle.mathprog_data.specs.Meaning.{ParamBlock, GivenValue}
 use Rattle.param_tables.specs.Tables.{given_among, value_else}
 
 option_or-none : {X : Type 0} (o : Option X) → option_or o None ≡ o
@@ -34,12 +34,12 @@ none_either_way : (b : Bool) → nothing ≡ (if b then nothing else nothing)
 none_either_way true = refl
 none_either_way false = refl
 
-given_step : (q : ℕ) (v : PlacedValue) (b t : Bool) (f : Option Given) (h : Option PlacedValue) → option_map (λ g. g.value) f ≡ (if b then option_map (λ w. w.value) h else None) → option_map (λ g. g.value) (cond (b && t) (Some (given_of q v)) f) ≡ (if b then option_map (λ w. w.value) (cond t (Some v) h) else None)
+given_step : (q : ℕ) (v : GivenValue) (b t : Bool) (f : Option Given) (h : Option GivenValue) → option_map (λ g. g.value) f ≡ (if b then option_map (λ w. w.value) h else None) → option_map (λ g. g.value) (cond (b && t) (Some (given_of q v)) f) ≡ (if b then option_map (λ w. w.value) (cond t (Some v) h) else None)
 given_step q v true true f h e = refl
 given_step q v true false f h e = e
 given_step q v false t f h e = e
 
-find-given : (q p : ℕ) (index : List (List ℕ)) (values : List PlacedValue) → option_map (λ g. g.value) (find (is_given_at p index) (map (given_of q) values)) ≡ (if nat_eq q p then given_among values index else None)
+find-given : (q p : ℕ) (index : List (List ℕ)) (values : List GivenValue) → option_map (λ g. g.value) (find (is_given_at p index) (map (given_of q) values)) ≡ (if nat_eq q p then given_among values index else None)
 unfolding nothing
 find-given q p index [] = none_either_way (nat_eq q p)
 find-given q p index (v ∷ vs) = given_step q v (nat_eq q p) (pointwise bytes_eq v.index index) (find (is_given_at p index) (map (given_of q) vs)) (find (λ w. pointwise bytes_eq w.index index) vs) (find-given q p index vs)
@@ -55,7 +55,7 @@ default_step n p (Some v) = by (nat_eq n p)
 
 -- ---- one more statement
 
-module _ (sets : SetLists) (xs : List ParamStatement) (s : ParamStatement) (p : ℕ) where
+module _ (sets : SetLists) (xs : List ParamBlock) (s : ParamBlock) (p : ℕ) where
   given_at-push : (index : List (List ℕ)) → given_at (data_of sets (xs ++ s ∷ [])) p index ≡ option_or (given_at (data_of sets xs) p index) (if nat_eq s.param p then given_among s.values index else None)
   given_at-push index =
       ap (λ gs. option_map (λ g. g.value) (find (is_given_at p index) gs)) (flat_map-append givens_of xs (s ∷ []) ∙ ap (λ gs. flat_map givens_of xs ++ gs) (append-nil (givens_of s)))
@@ -88,7 +88,7 @@ module _ (sets : SetLists) (xs : List ParamStatement) (s : ParamStatement) (p : 
 
 -- ---- no statement on the parameter
 
-none_of : (sets : SetLists) (xs : List ParamStatement) (p : ℕ) → All (λ s. s.param ≡ p → ⊥) xs → ((index : List (List ℕ)) → given_at (data_of sets xs) p index ≡ None) × (default_of (data_of sets xs) p ≡ None)
+none_of : (sets : SetLists) (xs : List ParamBlock) (p : ℕ) → All (λ s. s.param ≡ p → ⊥) xs → ((index : List (List ℕ)) → given_at (data_of sets xs) p index ≡ None) × (default_of (data_of sets xs) p ≡ None)
 none_of sets [] p others = (λ index. refl, refl)
 none_of sets (x ∷ xs) p others =
     let rest = none_of sets xs p (λ j d below. others (suc j) d (omega arith)) in
@@ -107,7 +107,7 @@ none_of sets (x ∷ xs) p others =
     default_skipped n p (Some v) ds apart = ap (λ b. option_map (λ (d : Default). d.value) (cond b (Some (record { param = n; value = v })) (find (λ (d : Default). nat_eq d.param p) ds))) apart
 
 -- of statements on different parameters, those before one are on others
-pub none_before : (sets : SetLists) (all : List ParamStatement) (i : ℕ) (s : ParamStatement) → IsDistinct nat_eq (map (λ t. t.param) all) → i < length all → get_or all i s ≡ s → ((index : List (List ℕ)) → given_at (data_of sets (take i all)) s.param index ≡ None) × (default_of (data_of sets (take i all)) s.param ≡ None)
+pub none_before : (sets : SetLists) (all : List ParamBlock) (i : ℕ) (s : ParamBlock) → IsDistinct nat_eq (map (λ t. t.param) all) → i < length all → get_or all i s ≡ s → ((index : List (List ℕ)) → given_at (data_of sets (take i all)) s.param index ≡ None) × (default_of (data_of sets (take i all)) s.param ≡ None)
 none_before sets all i s distinct below at = none_of sets (take i all) s.param others
   where
     others : All (λ t. t.param ≡ s.param → ⊥) (take i all)
@@ -122,7 +122,7 @@ none_before sets all i s distinct below at = none_of sets (take i all) s.param o
 -- ---- all statements
 
 -- the value that the statement at a place gives, whatever stands after it
-module _ (sets : SetLists) (all : List ParamStatement) (distinct : IsDistinct nat_eq (map (λ t. t.param) all)) (i : ℕ) (s : ParamStatement) (inside : i < length all) (at : get_or all i s ≡ s) (index : List (List ℕ)) where
+module _ (sets : SetLists) (all : List ParamBlock) (distinct : IsDistinct nat_eq (map (λ t. t.param) all)) (i : ℕ) (s : ParamBlock) (inside : i < length all) (at : get_or all i s ≡ s) (index : List (List ℕ)) where
   later_apart : (m : ℕ) → i < m → m < length all → ((get_or all m s).param ≢ s.param)
   later_apart m after below same =
       let long : length (map (λ t. t.param) all) ≡ length all = length-map all (λ t. t.param) in

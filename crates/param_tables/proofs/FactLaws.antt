@@ -15,7 +15,7 @@ use Rattle.model_sets.specs.Data.{Data, indices_of, value_at}
 use Rattle.model_sets.specs.Members.{SetLists, AreSets}
 use Rattle.model_sets.specs.Params.{IsUsedParam, subscript_sets, used_count}
 use Rattle.param_tables.specs.BlockData.{data_of, given_of, givens_of, stated_default}
-use Rattle.param_tables.specs.Statements.{ParamStatement, PlacedValue}
+use Rattle.mathprog_data.specs.Meaning.{ParamBlock, GivenValue}
 use Rattle.param_tables.specs.Tables.{AreTablesFor, HaveShapes, IsTable, IsTableFor, entries_of, given_among, given_in, table_value, value_else}
 use Rattle.param_tables.specs.View.{default_by, facts_of, given_by}
 use Rattle.param_tables.specs.declared.param_table.ParamTable.{ParamTable}
@@ -28,13 +28,13 @@ nowhere : Mark
 nowhere = record { line = 0; column = 0 }
 
 -- an entry as a value of a statement, and a table as a statement
-value_by : SetLists → ℕ → (ℕ × ℤ) → PlacedValue
+value_by : SetLists → ℕ → (ℕ × ℤ) → GivenValue
 value_by sets param entry = record { index = get_or (indices_of sets param) entry.0 []; value = entry.1; at = nowhere }
 
-statement_by : SetLists → ℕ → ParamTable → ParamStatement
+statement_by : SetLists → ℕ → ParamTable → ParamBlock
 statement_by sets param table = record { param = param; default = table.default; values = map (value_by sets param) (entries_of table) }
 
-statements_by : SetLists → ℕ → List ParamTable → List ParamStatement
+statements_by : SetLists → ℕ → List ParamTable → List ParamBlock
 statements_by sets n tables = map (λ (param, table). statement_by sets param table) (enumerate_from n tables)
 
 -- ---- the same data
@@ -88,10 +88,10 @@ module _ (sets : SetLists) (apart : HaveApart sets) (p : ℕ) (used : IsUsedPara
   given_by_place [] values j within below = refl
   given_by_place (q ∷ qs) [] j within below = refl
   given_by_place (q ∷ qs) (v ∷ vs) j within below =
-      ap (λ b. option_map (λ (w : PlacedValue). w.value) (cond b (Some (value_by sets p (q, v))) (find (λ w. pointwise bytes_eq w.index (get_or (indices_of sets p) j [])) (map (value_by sets p) (zip qs vs))))) (place_test q j (within 0 q (omega arith)) below)
+      ap (λ b. option_map (λ (w : GivenValue). w.value) (cond b (Some (value_by sets p (q, v))) (find (λ w. pointwise bytes_eq w.index (get_or (indices_of sets p) j [])) (map (value_by sets p) (zip qs vs))))) (place_test q j (within 0 q (omega arith)) below)
       ∙ of_cond (nat_eq j q) (given_by_place qs vs j (λ k d short. within (suc k) d (omega arith)) below)
     where
-      of_cond : (b : Bool) → given_among (map (value_by sets p) (zip qs vs)) (get_or (indices_of sets p) j []) ≡ given_in (zip qs vs) j → option_map (λ (w : PlacedValue). w.value) (cond b (Some (value_by sets p (q, v))) (find (λ w. pointwise bytes_eq w.index (get_or (indices_of sets p) j [])) (map (value_by sets p) (zip qs vs)))) ≡ cond b (Some v) (given_in (zip qs vs) j)
+      of_cond : (b : Bool) → given_among (map (value_by sets p) (zip qs vs)) (get_or (indices_of sets p) j []) ≡ given_in (zip qs vs) j → option_map (λ (w : GivenValue). w.value) (cond b (Some (value_by sets p (q, v))) (find (λ w. pointwise bytes_eq w.index (get_or (indices_of sets p) j [])) (map (value_by sets p) (zip qs vs)))) ≡ cond b (Some v) (given_in (zip qs vs) j)
       of_cond true e = refl
       of_cond false e = e
 
@@ -100,7 +100,7 @@ pub tables_for_facts : (sets : SetLists) (tables : List ParamTable) → AreSets 
 unfolding statements_by statement_by
 tables_for_facts sets tables are shapes = record { all = shapes.all; each = each }
   where
-    all : List ParamStatement
+    all : List ParamBlock
     all = statements_by sets 1 tables
 
     distinct : IsDistinct nat_eq (map (λ s. s.param) all)
@@ -121,7 +121,7 @@ tables_for_facts sets tables are shapes = record { all = shapes.all; each = each
         shape : IsTable (length (indices_of sets p)) (get_or tables (p - 1) e)
         shape = shapes.each p used e
 
-        s : ParamStatement
+        s : ParamBlock
         s = statement_by sets p table
 
         short : p - 1 < length tables

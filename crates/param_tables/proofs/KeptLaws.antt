@@ -14,10 +14,10 @@ use Rattle.param_tables.specs.Built.{AreComplete, AreSameData, IsValueIn}
 use Rattle.param_tables.specs.RangeTable.{range_of}
 use Rattle.param_tables.specs.Ranges.{IsInRange, range_fault}
 use Rattle.param_tables.specs.Refusals.{AtIndex, Refusal, TooManyIndices, fault_at, index_refusals, most_indices, param_refusals, value_fault}
-use Rattle.param_tables.specs.Statements.{ParamStatement, PlacedValue}
+use Rattle.mathprog_data.specs.Meaning.{ParamBlock, GivenValue}
 use Rattle.param_tables.specs.Tables.{AreTablesFor, HaveShapes}
 use Rattle.param_tables.specs.View.{AreKept, facts_of}
-use Rattle.param_tables.specs.WellFormed.{AreParamStatements, IsNumber, IsParamStatement}
+use Rattle.mathprog_data.specs.WellFormed.{AreParamBlocks, IsNumber, IsParamBlock}
 use Rattle.param_tables.specs.declared.fault.CellFault.{CellFault}
 use Rattle.param_tables.specs.declared.param_table.ParamTable.{ParamTable}
 use Rattle.param_tables.specs.declared.ranges.Range.{Range}
@@ -54,7 +54,7 @@ either_some : {X : Type 0} (P : X → Type 0) (o p : Option X) → IfSome o P �
 either_some P None p first second = second
 either_some P (Some x) p first second = first
 
-given_numbers_of : (q p : ℕ) (index : List (List ℕ)) (values : List PlacedValue) → All (λ v. IsNumber v.value) values → IfSome (option_map (λ g. g.value) (find (is_given_at p index) (map (given_of q) values))) IsNumber
+given_numbers_of : (q p : ℕ) (index : List (List ℕ)) (values : List GivenValue) → All (λ v. IsNumber v.value) values → IfSome (option_map (λ g. g.value) (find (is_given_at p index) (map (given_of q) values))) IsNumber
 given_numbers_of q p index [] every = tt
 given_numbers_of q p index (v ∷ vs) every = by (is_given_at p index (given_of q v)) (given_numbers_of q p index vs (λ k d below. every (suc k) d (omega arith)))
   where
@@ -62,7 +62,7 @@ given_numbers_of q p index (v ∷ vs) every = by (is_given_at p index (given_of 
     by true others = every 0 v (omega arith)
     by false others = others
 
-given_numbers : (sets : SetLists) (xs : List ParamStatement) (p : ℕ) (index : List (List ℕ)) → All IsParamStatement xs → IfSome (given_at (data_of sets xs) p index) IsNumber
+given_numbers : (sets : SetLists) (xs : List ParamBlock) (p : ℕ) (index : List (List ℕ)) → All IsParamBlock xs → IfSome (given_at (data_of sets xs) p index) IsNumber
 given_numbers sets [] p index every = tt
 given_numbers sets (x ∷ xs) p index every =
     let first = given_numbers_of x.param p index x.values (λ k d below. ((every 0 x (omega arith)).values k d below).number) in
@@ -70,7 +70,7 @@ given_numbers sets (x ∷ xs) p index every =
     subst (λ o. IfSome (option_map (λ g. g.value) o) IsNumber) (sym (find-append (is_given_at p index) (givens_of x) (flat_map givens_of xs)))
     (some_of IsNumber (λ (g : Given). g.value) (find (is_given_at p index) (givens_of x)) (find (is_given_at p index) (flat_map givens_of xs)) first others)
 
-default_number : (x : ParamStatement) (p : ℕ) (ds : List Default) (default : Option ℤ) → IfSome default IsNumber → IfSome (option_map (λ d. d.value) (find (λ (d : Default). nat_eq d.param p) ds)) IsNumber → IfSome (option_map (λ d. d.value) (find (λ (d : Default). nat_eq d.param p) (cons_option (option_map (λ value. record { param = x.param; value = value }) default) ds))) IsNumber
+default_number : (x : ParamBlock) (p : ℕ) (ds : List Default) (default : Option ℤ) → IfSome default IsNumber → IfSome (option_map (λ d. d.value) (find (λ (d : Default). nat_eq d.param p) ds)) IsNumber → IfSome (option_map (λ d. d.value) (find (λ (d : Default). nat_eq d.param p) (cons_option (option_map (λ value. record { param = x.param; value = value }) default) ds))) IsNumber
 default_number x p ds None number others = others
 default_number x p ds (Some v) number others = by (nat_eq x.param p)
   where
@@ -78,7 +78,7 @@ default_number x p ds (Some v) number others = by (nat_eq x.param p)
     by true = number
     by false = others
 
-default_numbers : (sets : SetLists) (xs : List ParamStatement) (p : ℕ) → All IsParamStatement xs → IfSome (default_of (data_of sets xs) p) IsNumber
+default_numbers : (sets : SetLists) (xs : List ParamBlock) (p : ℕ) → All IsParamBlock xs → IfSome (default_of (data_of sets xs) p) IsNumber
 default_numbers sets [] p every = tt
 default_numbers sets (x ∷ xs) p every = default_number x p (filter_map stated_default xs) x.default (every 0 x (omega arith)).default (default_numbers sets xs p (λ k d below. every (suc k) d (omega arith)))
 
@@ -90,7 +90,7 @@ none_number p = by (nat_eq p unit_capacity)
     by false = tt
 
 -- every value of statements that a text can give is a number
-pub values_are_numbers : (sets : SetLists) (xs : List ParamStatement) (p : ℕ) (index : List (List ℕ)) → All IsParamStatement xs → IfSome (value_at (data_of sets xs) p index) IsNumber
+pub values_are_numbers : (sets : SetLists) (xs : List ParamBlock) (p : ℕ) (index : List (List ℕ)) → All IsParamBlock xs → IfSome (value_at (data_of sets xs) p index) IsNumber
 values_are_numbers sets xs p index every = either_some IsNumber (given_at (data_of sets xs) p index) (option_or (default_of (data_of sets xs) p) (value_of_none p)) (given_numbers sets xs p index every) (either_some IsNumber (default_of (data_of sets xs) p) (value_of_none p) (default_numbers sets xs p every) (none_number p))
 
 -- ---- no refusal, so a value in its range
@@ -147,10 +147,10 @@ complete_of d are free numbers = record { sets = are; values = values }
         value_in (range_of p) (value_at d p index) free_here (numbers p used index has)
 
 -- tables that no check refuses are kept, and are those of the statements
-pub same_facts_told : (sets : SetLists) (params : List ParamStatement) (tables : List ParamTable) → AreSets sets → AreTablesFor (data_of sets params) tables → AreSameData (facts_of sets tables) (data_of sets params)
+pub same_facts_told : (sets : SetLists) (params : List ParamBlock) (tables : List ParamTable) → AreSets sets → AreTablesFor (data_of sets params) tables → AreSameData (facts_of sets tables) (data_of sets params)
 same_facts_told sets params tables are for = same_tables (facts_of sets tables) (data_of sets params) tables refl (tables_for_facts sets tables are (shapes_of (data_of sets params) tables for)) for
 
-pub kept_of : (sets : SetLists) (params : List ParamStatement) (tables : List ParamTable) → AreSets sets → AreTablesFor (data_of sets params) tables → All IsParamStatement params → flat_map (param_refusals (facts_of sets tables)) (range_with_len 1 used_count) ≡ [] → AreKept sets tables
+pub kept_of : (sets : SetLists) (params : List ParamBlock) (tables : List ParamTable) → AreSets sets → AreTablesFor (data_of sets params) tables → All IsParamBlock params → flat_map (param_refusals (facts_of sets tables)) (range_with_len 1 used_count) ≡ [] → AreKept sets tables
 kept_of sets params tables are for every free =
     let tabled = tables_for_facts sets tables are (shapes_of (data_of sets params) tables for) in
     let same = same_facts_told sets params tables are for in

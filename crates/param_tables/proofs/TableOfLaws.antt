@@ -13,7 +13,7 @@ use Rattle.model_sets.specs.Params.{IsUsedParam, used_count}
 use Rattle.param_tables.specs.BlockData.{data_of}
 use Rattle.param_tables.specs.InTurn.{in_turn}
 use Rattle.param_tables.specs.Refusals.{Refusal, is_on_used, value_refusal, value_refusals}
-use Rattle.param_tables.specs.Statements.{ParamStatement, PlacedValue}
+use Rattle.mathprog_data.specs.Meaning.{ParamBlock, GivenValue}
 use Rattle.param_tables.specs.Tables.{AreGiven, AreTablesFor, IsTable, IsTableFor, IsTableOf, entries_of, given_among, given_in, table_value, value_else}
 use Rattle.param_tables.specs.Told.{IsStopDue, refusal_told}
 use Rattle.param_tables.specs.declared.fault.Stop.{Stop}
@@ -27,13 +27,13 @@ some_none v e = cc
 
 -- ---- one statement
 
-pub used_refusals : (sets : SetLists) (s : ParamStatement) → s.param ≤ used_count → value_refusals sets s ≡ in_turn (value_refusal sets s.param) s.values
+pub used_refusals : (sets : SetLists) (s : ParamBlock) → s.param ≤ used_count → value_refusals sets s ≡ in_turn (value_refusal sets s.param) s.values
 used_refusals sets s used = ap (λ b. if b then in_turn (value_refusal sets s.param) s.values else []) (le-leb s.param used_count used)
 
-pub unused_refusals : (sets : SetLists) (s : ParamStatement) → used_count < s.param → value_refusals sets s ≡ []
+pub unused_refusals : (sets : SetLists) (s : ParamBlock) → used_count < s.param → value_refusals sets s ≡ []
 unused_refusals sets s beyond = ap (λ b. if b then in_turn (value_refusal sets s.param) s.values else []) (lt-leb s.param used_count beyond)
 
-pub table_of_given : (sets : SetLists) (s : ParamStatement) (table : ParamTable) (found : ℕ → Option ℤ) → table.default ≡ s.default → IsStrictlyIncreasing table.places.items × (length table.values.items ≡ length table.places.items) → ((place : ℕ) → given_in (entries_of table) place ≡ found place) → AreGiven sets s.param s.values found → IsTableOf sets s table
+pub table_of_given : (sets : SetLists) (s : ParamBlock) (table : ParamTable) (found : ℕ → Option ℤ) → table.default ≡ s.default → IsStrictlyIncreasing table.places.items × (length table.values.items ≡ length table.places.items) → ((place : ℕ) → given_in (entries_of table) place ≡ found place) → AreGiven sets s.param s.values found → IsTableOf sets s table
 table_of_given sets s table found same parts finds given = record {
   shape = record {
     ascending = parts.0;
@@ -59,14 +59,14 @@ table_of_given sets s table found same parts finds given = record {
 
 module _ (sets : SetLists) where
   -- a statement on another parameter
-  table_stays : (xs : List ParamStatement) (s : ParamStatement) (p : ℕ) (table : ParamTable) → (s.param ≢ p) → IsTableFor (data_of sets xs) p table → IsTableFor (data_of sets (xs ++ s ∷ [])) p table
+  table_stays : (xs : List ParamBlock) (s : ParamBlock) (p : ℕ) (table : ParamTable) → (s.param ≢ p) → IsTableFor (data_of sets xs) p table → IsTableFor (data_of sets (xs ++ s ∷ [])) p table
   table_stays xs s p table other for = record {
     shape = for.shape;
     values = λ place below. value_at-other sets xs s p other (get_or (indices_of sets p) place []) ∙ for.values place below;
   }
 
   -- the first statement on the parameter
-  table_comes : (xs : List ParamStatement) (s : ParamStatement) (table : ParamTable) → ((index : List (List ℕ)) → given_at (data_of sets xs) s.param index ≡ None) × (default_of (data_of sets xs) s.param ≡ None) → IsTableOf sets s table → IsTableFor (data_of sets (xs ++ s ∷ [])) s.param table
+  table_comes : (xs : List ParamBlock) (s : ParamBlock) (table : ParamTable) → ((index : List (List ℕ)) → given_at (data_of sets xs) s.param index ≡ None) × (default_of (data_of sets xs) s.param ≡ None) → IsTableOf sets s table → IsTableFor (data_of sets (xs ++ s ∷ [])) s.param table
   table_comes xs s table none of = record {
     shape = of.shape;
     values = λ place below.
@@ -75,7 +75,7 @@ module _ (sets : SetLists) where
       ∙ ap (λ o. option_or (given_in (entries_of table) place) (value_else s.param o)) (sym of.default);
   }
 
-  module _ (all : List ParamStatement) (i : ℕ) (s : ParamStatement) (below : i < length all) (at : get_or all i s ≡ s) (tables : List ParamTable) (so_far : AreTablesFor (data_of sets (take i all)) tables) where
+  module _ (all : List ParamBlock) (i : ℕ) (s : ParamBlock) (below : i < length all) (at : get_or all i s ≡ s) (tables : List ParamTable) (so_far : AreTablesFor (data_of sets (take i all)) tables) where
     next : take (i + 1) all ≡ take i all ++ s ∷ []
     next = take_more all i s below ∙ ap (λ t. take i all ++ t ∷ []) at
 

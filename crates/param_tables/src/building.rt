@@ -5,15 +5,15 @@ ghost use Rattle.std.specs.List.{flat_map, range_with_len};
 ghost use Rattle.model_sets.specs.Data.{Data};
 ghost use Rattle.model_sets.specs.Members.{AreSets};
 ghost use Rattle.model_sets.specs.Params.{used_count};
-ghost use Rattle.param_tables.specs.BlockData.{data_told, sets_told};
+ghost use Rattle.param_tables.specs.BlockData.{data_told, set_lists};
 ghost use Rattle.param_tables.specs.Built.{AreComplete, AreSameData, IsBuiltFrom};
 ghost use Rattle.param_tables.specs.InTurn.{first_of};
 ghost use Rattle.param_tables.specs.Refusals.{first_refusal, param_refusals};
-ghost use Rattle.param_tables.specs.Statements.{statements_of};
+ghost use Rattle.mathprog_data.specs.BlocksView.{blocks_told};
 ghost use Rattle.param_tables.specs.Tables.{AreTablesFor, HaveShapes};
 ghost use Rattle.param_tables.specs.Told.{IsBuildFailDue, IsStopDue};
 ghost use Rattle.param_tables.specs.View.{AreKept, facts_of};
-ghost use Rattle.param_tables.specs.WellFormed.{AreWellFormed};
+ghost use Rattle.mathprog_data.specs.WellFormed.{AreWellFormed};
 
 use crate::checks::check_param;
 use crate::fault::{BuildFail, BuildFault, Stop};
@@ -45,12 +45,12 @@ fn check_params(alloc: Global, sets: &Sets, tables: &[ParamTable]) -> Result<(),
 
 /// The tables of the used parameters, checked. Refuses as `build` does.
 fn checked_tables(alloc: Global, blocks: &Blocks, sets: &Sets) -> Result<Vec<ParamTable>, Stop>
-    requires blocks { AreWellFormed (statements_of blocks.now) }
-    requires sets { sets.now ≡ sets_told (statements_of blocks.now) }
+    requires blocks { AreWellFormed (blocks_told blocks.now) }
+    requires sets { sets.now ≡ set_lists (blocks_told blocks.now) }
     ensures kept { IfOk result (λ tables. AreKept sets.now tables.items) }
-    ensures same { IfOk result (λ tables. AreSameData (facts_of sets.now tables.items) (data_told (statements_of blocks.now))) }
-    ensures accepted { OnOk result (first_refusal (statements_of blocks.now) ≡ None) }
-    ensures refused { IfErr result (IsStopDue (first_refusal (statements_of blocks.now)) sets.now) }
+    ensures same { IfOk result (λ tables. AreSameData (facts_of sets.now tables.items) (data_told (blocks_told blocks.now))) }
+    ensures accepted { OnOk result (first_refusal (blocks_told blocks.now) ≡ None) }
+    ensures refused { IfErr result (IsStopDue (first_refusal (blocks_told blocks.now)) sets.now) }
 {
     if sets.count(STORAGE) > 0 {
         return Err(Stop::Fault(BuildFault::Storage));
@@ -72,12 +72,12 @@ fn checked_tables(alloc: Global, blocks: &Blocks, sets: &Sets) -> Result<Vec<Par
 /// range (the other faults), with the parameter and the index. Nobody looks at the members and values of
 /// the parameters that are read and not used. Memory may be wanting at any time.
 pub fn build(alloc: Global, blocks: &Blocks, sets: Sets) -> Result<ModelData, BuildFail>
-    requires blocks { AreWellFormed (statements_of blocks.now) }
-    requires sets { sets ≡ sets_told (statements_of blocks.now) }
-    ensures built { IfOk result (IsBuiltFrom (statements_of blocks.now)) }
+    requires blocks { AreWellFormed (blocks_told blocks.now) }
+    requires sets { sets ≡ set_lists (blocks_told blocks.now) }
+    ensures built { IfOk result (IsBuiltFrom (blocks_told blocks.now)) }
     ensures complete { IfOk result (λ model. AreComplete model.facts) }
-    ensures accepted { OnOk result (first_refusal (statements_of blocks.now) ≡ None) }
-    ensures refused { IfErr result (IsBuildFailDue (first_refusal (statements_of blocks.now)) (sets_told (statements_of blocks.now))) }
+    ensures accepted { OnOk result (first_refusal (blocks_told blocks.now) ≡ None) }
+    ensures refused { IfErr result (IsBuildFailDue (first_refusal (blocks_told blocks.now)) (set_lists (blocks_told blocks.now))) }
 {
     match checked_tables(alloc, blocks, &sets) {
         Ok(tables) => Ok(ModelData::new(sets, tables, blocks.rounded)),
