@@ -1,7 +1,7 @@
 -- When a member is refused depends on the members of its own set alone.
-use Rattle.std.proofs.Common.{◌≡◌, ℕ, ◌+◌, ◌-◌, ◌<◌, ◌≤◌, Bool, true, false, cond, not, ◌&&◌, List, [], ◌∷◌, length, get_or, map, nat_eq, Option, None, Some, if◌then◌else◌, set, refl, sym, ap, ◌∙◌, arith}
+use Rattle.std.proofs.Common.{◌≡◌, ℕ, ◌+◌, ◌-◌, ◌<◌, ◌≤◌, Bool, true, false, cond, not, ◌&&◌, List, [], ◌∷◌, length, get_or, map, nat_eq, Option, None, Some, if◌then◌else◌, set, refl, sym, ap, subst, ◌∙◌, arith}
 use Rattle.std.specs.Prelude.{nat_le, filter}
-use Rattle.std.specs.List.{find, range_with_len}
+use Rattle.std.specs.List.{AllByRecursion, find, range_with_len}
 use Rattle.std.proofs.lemmas.List.FromFn.{fill_by_all, get_or-map-range_with_len, get_or-range_with_len, length-range_with_len}
 use Rattle.std.proofs.lemmas.List.{get_or-set_same}
 use Rattle.std.specs.Option.{option_map}
@@ -37,12 +37,12 @@ pub free_after : (sets : SetLists) (k : ℕ) (names : List (List ℕ)) (name : L
 free_after sets k names name is same free = ap (option_map (fault_in k)) (sym (same_refusal sets k names name is same) ∙ free)
 
 pub refused_after : (sets : SetLists) (k : ℕ) (names : List (List ℕ)) (name : List ℕ) (fail : SetFail) → IsSet k → members sets k ≡ names → IsDueTo (first_refusal sets k name) k fail → IsSetFailDue (refusal_after k names name) fail
-refused_after sets k names name (Fault fault) is same due = ap (option_map (fault_in k)) (sym (same_refusal sets k names name is same) ∙ due.0) ∙ ap (λ n. Some (fault_in n fault.no)) (sym due.1)
+refused_after sets k names name (Fault fault) is same due = (ap (option_map (fault_in k)) (sym (same_refusal sets k names name is same) ∙ due.0) ∙ ap (λ n. Some (fault_in n fault.no)) (sym due.1), subst IsSet (sym due.1) is)
 refused_after sets k names name Memory is same due = tt
 
 -- a failure that one list of refusals is the cause of, where another list begins as that one does
 pub due_first : (o p : Option SetFault) (fail : SetFail) → ((fault : SetFault) → o ≡ Some fault → p ≡ Some fault) → IsSetFailDue o fail → IsSetFailDue p fail
-due_first o p (Fault fault) first due = first fault due
+due_first o p (Fault fault) first due = (first fault due.0, due.1)
 due_first o p Memory first due = tt
 
 -- ---- all sets
@@ -97,3 +97,18 @@ refused_at_end s sets told so_far =
     ap first_of (so_far ∙ rest_all (λ k. member_refusals k (members (set_lists s) k)) (empties s) (range_with_len 1 set_count) set_count (omega (arith, length-range_with_len 1 set_count)))
     ∙ first_of-map-filter (λ k. fault_in k empty_set) (is_without_members (set_lists s)) required_sets
     ∙ ap (λ all. option_map (λ k. fault_in k empty_set) (first_empty all)) (sym told)
+
+found_listed : (p : ℕ → Bool) (xs : List ℕ) (k : ℕ) → AllByRecursion IsSet xs → find p xs ≡ Some k → IsSet k
+found_listed p [] k every found = absurd cc
+found_listed p (x ∷ xs) k every found = by (p x) (λ e. found_listed p xs k every.1 e) found
+  where
+    same : Some x ≡ Some k → x ≡ k
+    same e = cc
+
+    by : (b : Bool) → (find p xs ≡ Some k → IsSet k) → cond b (Some x) (find p xs) ≡ Some k → IsSet k
+    by true others e = subst IsSet (same e) every.0
+    by false others e = others e
+
+-- a set that must have a member is a set
+pub empty_is_set : (sets : SetLists) (k : ℕ) → first_empty sets ≡ Some k → IsSet k
+empty_is_set sets k found = found_listed (is_without_members sets) required_sets k ((omega arith, omega arith), ((omega arith, omega arith), ((omega arith, omega arith), ((omega arith, omega arith), ((omega arith, omega arith), ((omega arith, omega arith), tt)))))) found

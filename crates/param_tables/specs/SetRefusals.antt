@@ -6,7 +6,7 @@ use Rattle.model_sets.specs.declared.fault.SetFail.{SetFail}
 use Rattle.model_sets.specs.declared.fault.SetFail.TheVariants.{Fault, Memory}
 use Rattle.model_sets.specs.declared.fault.SetFault.{SetFault}
 use Rattle.model_sets.specs.Members.{SetLists, no_members, members, first_refusal, empty_set, is_without_members}
-use Rattle.model_sets.specs.Names.{set_count, required_sets}
+use Rattle.model_sets.specs.Names.{IsSet, set_count, required_sets}
 use Rattle.param_tables.specs.BlockData.{set_lists}
 use Rattle.param_tables.specs.InTurn.{first_of, in_turn}
 use Rattle.mathprog_data.specs.Meaning.{Blocks}
@@ -37,7 +37,7 @@ set_refusals sets =
 abbrev pub first_set_refusal : Blocks → Option SetFault
 first_set_refusal statements = first_of (set_refusals (set_lists statements))
 
--- the failure is due, where this refusal is the first; want of memory may come at any time
+-- the failure is due, where this refusal, in one of the sets, is the first; want of memory may come at any time
 abbrev pub IsSetFailDue : Option SetFault → SetFail → Type 0
-IsSetFailDue refusal (Fault fault) = refusal ≡ Some fault
+IsSetFailDue refusal (Fault fault) = (refusal ≡ Some fault) × IsSet fault.set
 IsSetFailDue refusal Memory = Unit {0}
