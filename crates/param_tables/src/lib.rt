@@ -8,6 +8,7 @@ mod fault;
 mod first_fault;
 mod given;
 mod indices;
+mod laws;
 mod model_data;
 mod param_table;
 mod ranges;
@@ -17,6 +18,7 @@ mod tables;
 
 pub use building::build;
 pub use fault::{BuildFail, BuildFault, Cell};
+pub use laws::{range_laws, table_laws};
 pub use model_data::ModelData;
 pub use set_members::sets_of;
 pub use subscripts::subscript_sets;
