@@ -1,5 +1,5 @@
 -- The data of statements, statement by statement.
-use Rattle.std.proofs.Common.{◌≡◌, ◌≢◌, ℕ, zero, suc, ◌+◌, ◌-◌, ◌<◌, ◌≤◌, Bool, true, false, cond, ◌&&◌, List, [], ◌∷◌, ◌++◌, Option, None, Some, length, map, nat_eq, get_or, take, set, refl, sym, ap, ◌∙◌, subst, inl, inr, arith, All}
+use Rattle.std.proofs.Common.{◌≡◌, ◌≢◌, ℕ, zero, suc, ◌+◌, ◌<◌, ◌≤◌, Bool, true, false, cond, ◌&&◌, List, [], ◌∷◌, ◌++◌, Option, None, Some, length, map, nat_eq, get_or, take, refl, sym, ap, ◌∙◌, inl, inr, arith, All}
 use Rattle.std.specs.Prelude.{ℤ, if◌then◌else◌}
 use Rattle.std.specs.Cmp.Lexicographic.{pointwise}
 use Rattle.std.specs.List.{IsDistinct, cons_option, filter_map, find, flat_map}
@@ -11,7 +11,7 @@ use Rattle.std.proofs.lemmas.List.Concat.{flat_map-append}
 use Rattle.std.proofs.lemmas.List.Elements.{filter_map-append}
 use Rattle.std.proofs.lemmas.List.Folds.{find-append}
 use Rattle.std.proofs.lemmas.Map.Keys.{apart_from_distinct}
-use Rattle.model_sets.specs.Data.{Data, Default, Given, default_of, given_at, is_given_at, value_at, value_of_none}
+use Rattle.model_sets.specs.Data.{Default, Given, default_of, given_at, is_given_at, value_at, value_of_none}
 use Rattle.model_sets.specs.Members.{SetLists}
 use Rattle.param_tables.specs.BlockData.{data_of, given_of, givens_of, stated_default}
 use Rattle.mathprog_data.specs.Meaning.{ParamBlock, GivenValue}
@@ -92,13 +92,12 @@ none_of : (sets : SetLists) (xs : List ParamBlock) (p : ℕ) → All (λ s. s.pa
 none_of sets [] p others = (λ index. refl, refl)
 none_of sets (x ∷ xs) p others =
     let rest = none_of sets xs p (λ j d below. others (suc j) d (omega arith)) in
-    let no : nat_eq x.param p ≡ false = ne_eqb x.param p (others 0 x (omega arith)) in
-    (
+    let no : nat_eq x.param p ≡ false = ne_eqb x.param p (others 0 x (omega arith)) in (
       λ index.
-        ap (option_map (λ g. g.value)) (find-append (is_given_at p index) (givens_of x) (flat_map givens_of xs))
-        ∙ option_or-map (λ g. g.value) (find (is_given_at p index) (givens_of x)) (find (is_given_at p index) (flat_map givens_of xs))
-        ∙ ap (λ o. option_or o (given_at (data_of sets xs) p index)) (find-given x.param p index x.values ∙ ap (λ b. if b then given_among x.values index else None) no)
-        ∙ rest.0 index,
+          ap (option_map (λ g. g.value)) (find-append (is_given_at p index) (givens_of x) (flat_map givens_of xs))
+          ∙ option_or-map (λ g. g.value) (find (is_given_at p index) (givens_of x)) (find (is_given_at p index) (flat_map givens_of xs))
+          ∙ ap (λ o. option_or o (given_at (data_of sets xs) p index)) (find-given x.param p index x.values ∙ ap (λ b. if b then given_among x.values index else None) no)
+          ∙ rest.0 index,
       default_skipped x.param p x.default (filter_map stated_default xs) no ∙ rest.1,
     )
   where

@@ -1,5 +1,5 @@
 -- The data that tables mean are those of statements that say the same.
-use Rattle.std.proofs.Common.{◌≡◌, ◌≢◌, ℕ, zero, suc, ◌+◌, ◌-◌, ◌<◌, ◌≤◌, Bool, true, false, cond, List, [], ◌∷◌, ◌++◌, Option, None, Some, length, map, nat_eq, get_or, refl, sym, ap, ◌∙◌, subst, inl, inr, arith, All}
+use Rattle.std.proofs.Common.{◌≡◌, ℕ, suc, ◌+◌, ◌-◌, ◌<◌, ◌≤◌, Bool, true, false, cond, List, [], ◌∷◌, ◌++◌, Some, length, map, nat_eq, get_or, refl, sym, ap, ◌∙◌, subst, inl, inr, arith, All}
 use Rattle.std.specs.Prelude.{ℤ}
 use Rattle.std.specs.Cmp.Lexicographic.{pointwise}
 use Rattle.std.specs.List.{IsDistinct, cons_option, enumerate_from, filter_map, find, flat_map, range_with_len, zip}
@@ -7,11 +7,10 @@ use Rattle.std.specs.Option.{option_map, option_or}
 use Rattle.std.specs.Str.{bytes_eq}
 use Rattle.std.proofs.lemmas.Bool.{cases_eq, eq-eqb, ne_eqb}
 use Rattle.std.proofs.lemmas.List.{get_or-map, length-map}
-use Rattle.std.proofs.lemmas.List.Folds.{flat_map-map}
 use Rattle.std.proofs.lemmas.List.FromFn.{get_or-enumerate_from, get_or-range_with_len, length-enumerate_from, length-range_with_len}
 use Rattle.std.proofs.lemmas.Map.Keys.{IsDistinct-from_apart}
 use Rattle.mathprog_data.specs.declared.blocks.Mark.{Mark}
-use Rattle.model_sets.specs.Data.{Data, indices_of, value_at}
+use Rattle.model_sets.specs.Data.{indices_of, value_at}
 use Rattle.model_sets.specs.Members.{SetLists, AreSets}
 use Rattle.model_sets.specs.Params.{IsUsedParam, subscript_sets, used_count}
 use Rattle.param_tables.specs.BlockData.{data_of, given_of, givens_of, stated_default}
@@ -65,10 +64,10 @@ params_by sets n (t ∷ ts) = ap (λ ns. n ∷ ns) (params_by sets (n + 1) ts)
 
 numbers_apart : (a n : ℕ) → IsDistinct nat_eq (range_with_len a n)
 numbers_apart a n = IsDistinct-from_apart nat_eq (range_with_len a n) (λ i j d before below.
-  let long = length-range_with_len a n in
-  let first : get_or (range_with_len a n) i d ≡ a + i = get_or-range_with_len a n i d (omega arith) in
-  let second : get_or (range_with_len a n) j d ≡ a + j = get_or-range_with_len a n j d (omega arith) in
-  ne_eqb (get_or (range_with_len a n) i d) (get_or (range_with_len a n) j d) (λ e. omega arith))
+    let long = length-range_with_len a n in
+    let first : get_or (range_with_len a n) i d ≡ a + i = get_or-range_with_len a n i d (omega arith) in
+    let second : get_or (range_with_len a n) j d ≡ a + j = get_or-range_with_len a n j d (omega arith) in
+    ne_eqb (get_or (range_with_len a n) i d) (get_or (range_with_len a n) j d) (λ e. omega arith))
 
 -- ---- the look-up by names is that by places
 

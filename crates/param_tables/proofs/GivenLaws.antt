@@ -1,5 +1,5 @@
 -- The values that were given, value by value.
-use Rattle.std.proofs.Common.{◌≡◌, ◌≢◌, ℕ, ◌+◌, ◌<◌, ◌≤◌, Bool, true, false, cond, not, ◌||◌, List, [], ◌∷◌, ◌++◌, Option, None, Some, length, nat_eq, get_or, take, refl, sym, ap, ◌∙◌, subst, inl, inr, arith, All}
+use Rattle.std.proofs.Common.{◌≡◌, ◌≢◌, ℕ, ◌+◌, ◌<◌, ◌≤◌, Bool, true, false, cond, not, ◌||◌, List, [], ◌∷◌, ◌++◌, Option, None, Some, length, nat_eq, get_or, take, refl, sym, ap, ◌∙◌, inl, inr, arith}
 use Rattle.std.specs.Prelude.{ℤ, is_some, if◌then◌else◌}
 use Rattle.std.specs.Bool.{Decides}
 use Rattle.std.specs.Cmp.Lexicographic.{pointwise, pointwise_decides}
@@ -13,7 +13,7 @@ use Rattle.std.proofs.lemmas.Slice.Eq.{bytes_eq-Decides}
 use Rattle.model_sets.specs.Data.{indices_of}
 use Rattle.model_sets.specs.Members.{SetLists}
 use Rattle.model_sets.specs.Params.{IsUsedParam, subscript_sets}
-use Rattle.param_tables.specs.Places.{IsPlaceOf, are_members}
+use Rattle.param_tables.specs.Places.{IsPlaceOf}
 use Rattle.param_tables.specs.Refusals.{Refusal, UnknownName, GivenBefore, is_given_among, names_members, value_refusal}
 use Rattle.mathprog_data.specs.Meaning.{GivenValue}
 use Rattle.param_tables.specs.Tables.{AreGiven, given_among}
@@ -95,10 +95,10 @@ module _ (sets : SetLists) (apart : HaveApart sets) (param : ℕ) (used : IsUsed
           let name : get_or (indices_of sets param) q [] ≡ v.index = ap (λ n. get_or (indices_of sets param) n []) same ∙ at.at in
           step q ∙ ap (λ b. if b then Some v.value else found q) (eq-eqb q place same)
           ∙ sym
-            (ap (given_among (take (i + 1) values)) name
-            ∙ longer v.index
-            ∙ ap (λ o. option_or o (if pointwise bytes_eq v.index v.index then Some v.value else None)) (sym found_here ∙ none)
-            ∙ ap (λ b. if b then Some v.value else None) ((names_same v.index v.index).1 refl))
+          (ap (given_among (take (i + 1) values)) name
+          ∙ longer v.index
+          ∙ ap (λ o. option_or o (if pointwise bytes_eq v.index v.index then Some v.value else None)) (sym found_here ∙ none)
+          ∙ ap (λ b. if b then Some v.value else None) ((names_same v.index v.index).1 refl))
 
       there : (q : ℕ) → q < length (indices_of sets param) → (q ≢ place) → next q ≡ given_among (take (i + 1) values) (get_or (indices_of sets param) q [])
       there q inside other =
@@ -106,9 +106,9 @@ module _ (sets : SetLists) (apart : HaveApart sets) (param : ℕ) (used : IsUsed
           step q ∙ ap (λ b. if b then Some v.value else found q) (ne_eqb q place other)
           ∙ so_far.inside q inside
           ∙ sym
-            (longer (get_or (indices_of sets param) q [])
-            ∙ ap (λ b. option_or (given_among (take i values) (get_or (indices_of sets param) q [])) (if b then Some v.value else None)) apart_here
-            ∙ option_or-none (given_among (take i values) (get_or (indices_of sets param) q [])))
+          (longer (get_or (indices_of sets param) q [])
+          ∙ ap (λ b. option_or (given_among (take i values) (get_or (indices_of sets param) q [])) (if b then Some v.value else None)) apart_here
+          ∙ option_or-none (given_among (take i values) (get_or (indices_of sets param) q [])))
         where
           false_from : (b : Bool) → ((b ≡ true) → ⊥) → b ≡ false
           false_from true no_way = absurd (no_way refl)

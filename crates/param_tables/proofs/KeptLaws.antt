@@ -1,5 +1,5 @@
 -- Tables that no check refuses are complete data, the same that the statements give.
-use Rattle.std.proofs.Common.{◌≡◌, ℕ, zero, suc, ◌+◌, ◌-◌, ◌<◌, ◌≤◌, Bool, true, false, cond, List, [], ◌∷◌, ◌++◌, Option, None, Some, pos, length, map, nat_eq, get_or, refl, sym, ap, ◌∙◌, subst, arith, All}
+use Rattle.std.proofs.Common.{◌≡◌, ℕ, zero, suc, ◌-◌, ◌<◌, Bool, true, false, cond, List, [], ◌∷◌, ◌++◌, Option, None, Some, pos, length, map, nat_eq, get_or, refl, sym, ap, ◌∙◌, subst, arith, All}
 use Rattle.std.specs.Prelude.{ℤ, nat_lt, Contains, IfSome, IsSomeAnd, if◌then◌else◌}
 use Rattle.std.specs.List.{cons_option, filter_map, find, flat_map, range_with_len}
 use Rattle.std.specs.Option.{option_map, option_or}
@@ -12,13 +12,11 @@ use Rattle.model_sets.specs.Params.{IsUsedParam, used_count}
 use Rattle.param_tables.specs.BlockData.{data_of, given_of, givens_of, stated_default}
 use Rattle.param_tables.specs.Built.{AreComplete, AreSameData, IsValueIn}
 use Rattle.param_tables.specs.RangeTable.{range_of}
-use Rattle.param_tables.specs.Ranges.{IsInRange, range_fault}
-use Rattle.param_tables.specs.Refusals.{AtIndex, Refusal, TooManyIndices, fault_at, index_refusals, most_indices, param_refusals, value_fault}
+use Rattle.param_tables.specs.Refusals.{AtIndex, TooManyIndices, fault_at, index_refusals, most_indices, param_refusals, value_fault}
 use Rattle.mathprog_data.specs.Meaning.{ParamBlock, GivenValue}
 use Rattle.param_tables.specs.Tables.{AreTablesFor, HaveShapes}
 use Rattle.param_tables.specs.View.{AreKept, facts_of}
-use Rattle.mathprog_data.specs.WellFormed.{AreParamBlocks, IsNumber, IsParamBlock}
-use Rattle.param_tables.specs.declared.fault.CellFault.{CellFault}
+use Rattle.mathprog_data.specs.WellFormed.{IsNumber, IsParamBlock}
 use Rattle.param_tables.specs.declared.param_table.ParamTable.{ParamTable}
 use Rattle.param_tables.specs.declared.ranges.Range.{Range}
 use Rattle.param_tables.proofs.FactLaws.{tables_for_facts}
@@ -36,12 +34,12 @@ same_tables d e [] same ford fore = absurd (omega (arith, ford.all))
 same_tables d e (table ∷ tables) same ford fore = record {
   sets = same;
   values = λ p used index has.
-    let place = has.0 in
-    let below : place < length (indices_of d.sets p) = has.1 in
-    let name : get_or (indices_of d.sets p) place [] ≡ index = get_or_default (indices_of d.sets p) place [] index below ∙ has.2 in
-    let there : place < length (indices_of e.sets p) = let P : SetLists → Type 0 = λ sets. place < length (indices_of sets p) in subst P same below in
-    let name_there : get_or (indices_of e.sets p) place [] ≡ index = ap (λ sets. get_or (indices_of sets p) place []) (sym same) ∙ name in
-    ap (value_at d p) (sym name) ∙ (ford.each p used table).values place below ∙ sym ((fore.each p used table).values place there) ∙ ap (value_at e p) name_there;
+      let place = has.0 in
+      let below : place < length (indices_of d.sets p) = has.1 in
+      let name : get_or (indices_of d.sets p) place [] ≡ index = get_or_default (indices_of d.sets p) place [] index below ∙ has.2 in
+      let there : place < length (indices_of e.sets p) = let P : SetLists → Type 0 = λ sets. place < length (indices_of sets p) in subst P same below in
+      let name_there : get_or (indices_of e.sets p) place [] ≡ index = ap (λ sets. get_or (indices_of sets p) place []) (sym same) ∙ name in
+      ap (value_at d p) (sym name) ∙ (ford.each p used table).values place below ∙ sym ((fore.each p used table).values place there) ∙ ap (value_at e p) name_there;
 }
 
 -- ---- numbers

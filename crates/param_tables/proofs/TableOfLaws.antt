@@ -1,20 +1,20 @@
 -- The table of a statement, and the tables of all parameters, statement by statement.
-use Rattle.std.proofs.Common.{◌≡◌, ◌≢◌, ℕ, ◌+◌, ◌-◌, ◌<◌, ◌≤◌, Bool, true, false, List, [], ◌∷◌, ◌++◌, Option, None, Some, length, map, nat_eq, get_or, set, take, refl, sym, ap, ◌∙◌, subst, inl, inr, ◌⊎◌, arith, All}
-use Rattle.std.specs.Prelude.{ℤ, pos, nat_le, if◌then◌else◌}
-use Rattle.std.specs.List.{IsDistinct, slice_get, zip}
+use Rattle.std.proofs.Common.{◌≡◌, ◌≢◌, ℕ, ◌+◌, ◌-◌, ◌<◌, ◌≤◌, List, [], ◌∷◌, ◌++◌, Option, None, Some, length, map, nat_eq, get_or, set, take, refl, sym, ap, ◌∙◌, subst, inl, inr, arith, All}
+use Rattle.std.specs.Prelude.{ℤ, pos, if◌then◌else◌}
+use Rattle.std.specs.List.{IsDistinct, zip}
 use Rattle.std.specs.List.Sorted.{IsStrictlyIncreasing}
 use Rattle.std.specs.Option.{option_or}
 use Rattle.std.proofs.lemmas.Bool.{cases_eq, cases_lt, le-leb, lt-leb}
 use Rattle.std.proofs.lemmas.List.{get_or_default, get_or-set_same, get_or-set_other, length-set, take_more}
 use Rattle.std.proofs.lemmas.Option.{slice_get-get_or}
-use Rattle.model_sets.specs.Data.{default_of, given_at, indices_of, value_at, value_of_none}
+use Rattle.model_sets.specs.Data.{default_of, given_at, indices_of, value_of_none}
 use Rattle.model_sets.specs.Members.{SetLists}
 use Rattle.model_sets.specs.Params.{IsUsedParam, used_count}
 use Rattle.param_tables.specs.BlockData.{data_of}
 use Rattle.param_tables.specs.InTurn.{in_turn}
-use Rattle.param_tables.specs.Refusals.{Refusal, is_on_used, value_refusal, value_refusals}
-use Rattle.mathprog_data.specs.Meaning.{ParamBlock, GivenValue}
-use Rattle.param_tables.specs.Tables.{AreGiven, AreTablesFor, IsTable, IsTableFor, IsTableOf, entries_of, given_among, given_in, table_value, value_else}
+use Rattle.param_tables.specs.Refusals.{Refusal, value_refusal, value_refusals}
+use Rattle.mathprog_data.specs.Meaning.{ParamBlock}
+use Rattle.param_tables.specs.Tables.{AreGiven, AreTablesFor, IsTableFor, IsTableOf, entries_of, given_in, value_else}
 use Rattle.param_tables.specs.Told.{IsStopDue, refusal_told}
 use Rattle.param_tables.specs.declared.fault.Stop.{Stop}
 use Rattle.param_tables.specs.declared.fault.Stop.TheVariants as stop
@@ -70,9 +70,9 @@ module _ (sets : SetLists) where
   table_comes xs s table none of = record {
     shape = of.shape;
     values = λ place below.
-      value_at-here sets xs s s.param refl none.0 none.1 (get_or (indices_of sets s.param) place [])
-      ∙ ap (λ o. option_or o (value_else s.param s.default)) (sym (of.given place below))
-      ∙ ap (λ o. option_or (given_in (entries_of table) place) (value_else s.param o)) (sym of.default);
+        value_at-here sets xs s s.param refl none.0 none.1 (get_or (indices_of sets s.param) place [])
+        ∙ ap (λ o. option_or o (value_else s.param s.default)) (sym (of.given place below))
+        ∙ ap (λ o. option_or (given_in (entries_of table) place) (value_else s.param o)) (sym of.default);
   }
 
   module _ (all : List ParamBlock) (i : ℕ) (s : ParamBlock) (below : i < length all) (at : get_or all i s ≡ s) (tables : List ParamTable) (so_far : AreTablesFor (data_of sets (take i all)) tables) where
@@ -132,8 +132,8 @@ table_of_nothing sets p table empty = record {
     below = λ k d inside. absurd (omega (arith, ap length empty.places));
   };
   values = λ place below.
-    ap (λ o. option_or o (value_of_none p)) (sym empty.default)
-    ∙ ap (λ o. option_or o (value_else p table.default)) (sym (ap (λ ps. given_in (zip ps table.values.items) place) empty.places));
+      ap (λ o. option_or o (value_of_none p)) (sym empty.default)
+      ∙ ap (λ o. option_or o (value_else p table.default)) (sym (ap (λ ps. given_in (zip ps table.values.items) place) empty.places));
 }
 
 pub tables_of_nothing : (sets : SetLists) (tables : List ParamTable) → length tables ≡ used_count → ((j : ℕ) → j < used_count → (e : ParamTable) → IsEmptyTable (get_or tables j e)) → AreTablesFor (data_of sets []) tables

@@ -22,3 +22,6 @@ pub use laws::{range_laws, table_laws};
 pub use model_data::ModelData;
 pub use set_members::sets_of;
 pub use subscripts::subscript_sets;
+
+#[cfg(test)]
+mod tests;

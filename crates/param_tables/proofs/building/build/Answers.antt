@@ -1,12 +1,9 @@
-use Rattle.std.proofs.Common.{◌≡◌, List, Some, refl, sym, ap, ◌∙◌, subst}
-use Rattle.model_sets.specs.Data.{Data}
-use Rattle.model_sets.specs.Members.{SetLists}
-use Rattle.param_tables.specs.BlockData.{data_told, set_lists}
-use Rattle.param_tables.specs.Built.{AreComplete, AreSameData, Built}
+use Rattle.std.proofs.Common.{◌≡◌, Some, refl, sym, subst}
+use Rattle.param_tables.specs.BlockData.{data_told}
+use Rattle.param_tables.specs.Built.{AreComplete, AreSameData}
 use Rattle.param_tables.specs.Refusals.{first_refusal}
 use Rattle.mathprog_data.specs.BlocksView.{blocks_told}
 use Rattle.param_tables.specs.Told.{IsStopDue, NamesCell, refusal_told}
-use Rattle.param_tables.specs.View.{facts_of}
 use Rattle.param_tables.proofs.building.build.Goals as goal
 
 pub returns-in-Ok-clause-built : goal.returns-in-Ok-clause-built

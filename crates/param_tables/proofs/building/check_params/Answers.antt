@@ -1,4 +1,4 @@
-use Rattle.std.proofs.Common.{◌≡◌, ℕ, ◌+◌, ◌-◌, ◌<◌, ◌≤◌, List, [], Some, get_or, sym, ap, ◌∙◌, subst, arith}
+use Rattle.std.proofs.Common.{◌≡◌, ℕ, ◌+◌, ◌-◌, List, get_or, sym, ap, ◌∙◌, subst, arith}
 use Rattle.std.specs.List.{flat_map, range_with_len}
 use Rattle.std.proofs.lemmas.Result.{err_from_is_err_and}
 use Rattle.model_sets.specs.Data.{Data}
@@ -25,9 +25,9 @@ returns-in_err-check_param-clause-refused c =
     let why = c.in_err-check_param.field-0.0 in
     let q = err_from_is_err_and c.from_residual.result c.from_residual.ensures.1 in
     rw (q.1, q.2) (λ d same for.
-      stop_first (first_of (param_refusals d p)) (first_of (flat_map (param_refusals d) (range_with_len 1 used_count))) c.args.sets.now why
-      (λ r found. refused_first d p used r found (c.loop-param.invariant d same for))
-      (c.in_err-check_param.ensures.refused d same (table_at d c.args.tables.now p c.from.result c.index-tables-from.result for used c.from.ensures c.index-tables-from.is)))
+    stop_first (first_of (param_refusals d p)) (first_of (flat_map (param_refusals d) (range_with_len 1 used_count))) c.args.sets.now why
+    (λ r found. refused_first d p used r found (c.loop-param.invariant d same for))
+    (c.in_err-check_param.ensures.refused d same (table_at d c.args.tables.now p c.from.result c.index-tables-from.result for used c.from.ensures c.index-tables-from.is)))
 
 pub loop-param-preserved : goal.loop-param-preserved
 loop-param-preserved c d same for =

@@ -1,20 +1,18 @@
-use Rattle.std.proofs.Common.{◌≡◌, ℕ, ◌<◌, ◌≤◌, List, [], None, Some, length, refl, sym, ap, ◌∙◌, subst, arith}
-use Rattle.std.specs.List.{flat_map, range_with_len}
+use Rattle.std.proofs.Common.{◌≡◌, ◌≤◌, List, [], None, length, refl, sym, ap, ◌∙◌, subst, arith}
+use Rattle.std.specs.List.{flat_map}
 use Rattle.std.proofs.lemmas.Result.{IfOk-from_err, err_from_is_err_and}
 use Rattle.model_sets.specs.Data.{Data}
-use Rattle.model_sets.specs.Members.{SetLists, members}
-use Rattle.model_sets.specs.Params.{used_count}
-use Rattle.param_tables.specs.BlockData.{data_of, data_told, set_lists}
+use Rattle.model_sets.specs.Members.{members}
+use Rattle.param_tables.specs.BlockData.{data_of, data_told}
 use Rattle.param_tables.specs.Built.{AreSameData}
 use Rattle.param_tables.specs.InTurn.{first_of}
-use Rattle.param_tables.specs.Refusals.{Refusal, first_refusal, param_refusals, storage, value_refusals}
+use Rattle.param_tables.specs.Refusals.{first_refusal, storage, value_refusals}
 use Rattle.mathprog_data.specs.BlocksView.{blocks_told, params_told}
-use Rattle.mathprog_data.specs.Meaning.{Blocks}
 use Rattle.param_tables.specs.Tables.{AreTablesFor}
 use Rattle.param_tables.specs.Told.{IsStopDue}
 use Rattle.param_tables.specs.View.{facts_of}
 use Rattle.param_tables.specs.declared.param_table.ParamTable.{ParamTable}
-use Rattle.param_tables.proofs.BuildLaws.{storage_first, value_first, params_left, tables_told}
+use Rattle.param_tables.proofs.BuildLaws.{value_first, params_left, tables_told}
 use Rattle.param_tables.proofs.FactLaws.{tables_for_facts}
 use Rattle.param_tables.proofs.KeptLaws.{kept_of, same_facts_told, shapes_of}
 use Rattle.param_tables.proofs.TableOfLaws.{stop_first}

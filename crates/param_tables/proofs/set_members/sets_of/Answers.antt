@@ -1,13 +1,13 @@
-use Rattle.std.proofs.Common.{◌≡◌, ◌≢◌, ℕ, ◌+◌, ◌-◌, ◌<◌, ◌≤◌, List, [], None, Some, length, get_or, replicate, set as with_at, refl, sym, ap, subst, ◌∙◌, inl, inr, arith}
+use Rattle.std.proofs.Common.{◌≡◌, ◌≢◌, ℕ, ◌+◌, ◌-◌, ◌<◌, ◌≤◌, [], Some, length, get_or, set as with_at, sym, ap, subst, ◌∙◌, inl, inr, arith}
 use Rattle.std.proofs.lemmas.Bool.{cases_eq, cases_lt}
 use Rattle.std.proofs.lemmas.List.{get_or-replicate, get_or_past, get_or-set_same, get_or-set_other, length-set}
 use Rattle.std.proofs.lemmas.Result.{err_from_is_err_and}
 use Rattle.std.specs.Option.{option_map}
-use Rattle.model_sets.specs.Members.{SetLists, members, no_members, first_empty, empty_set}
+use Rattle.model_sets.specs.Members.{no_members, empty_set}
 use Rattle.model_sets.specs.Names.{IsSet, set_count}
 use Rattle.param_tables.specs.BlockData.{members_told, set_lists}
 use Rattle.param_tables.specs.InTurn.{first_of}
-use Rattle.param_tables.specs.SetRefusals.{fault_in, member_refusals, first_set_refusal, IsSetFailDue, set_refusals}
+use Rattle.param_tables.specs.SetRefusals.{fault_in, member_refusals, first_set_refusal, IsSetFailDue}
 use Rattle.mathprog_data.specs.BlocksView.{blocks_told, sets_told}
 use Rattle.param_tables.proofs.SetLaws.{due_first, sets_told_of, refusals_from, refusals_none, refusals_more, refused_here, refused_at_end, empty_is_set}
 use Rattle.param_tables.proofs.set_members.sets_of.Goals as goal
@@ -87,10 +87,9 @@ returns-in-Err-clause-refused c =
     let s = blocks_told c.args.blocks.now in
     let end : c.loop-set.set ≡ set_count + 1 = ended c.loop-set.set (omega (arith, c.loop-set.auto.set-end)) (omega (arith, c.loop-set-test.false)) in
     let told : c.loop-set.sets ≡ set_lists s = sets_told_of s c.loop-set.sets c.loop-set.invariant.all (λ j below. c.loop-set.invariant.done j (omega arith)) in
-    let last : c.loop-set.set - 1 ≡ set_count = omega arith in
-    (
+    let last : c.loop-set.set - 1 ≡ set_count = omega arith in (
       refused_at_end s c.loop-set.sets told (c.loop-set.invariant.refusals ∙ ap (refusals_from s) last)
-      ∙ ap (option_map (λ k. fault_in k empty_set)) c.in-Err.ensures.empty.1
-      ∙ ap (λ number. Some (fault_in c.in-Err.fault.set number)) (sym c.in-Err.ensures.empty.0),
-      empty_is_set c.loop-set.sets c.in-Err.fault.set c.in-Err.ensures.empty.1
+          ∙ ap (option_map (λ k. fault_in k empty_set)) c.in-Err.ensures.empty.1
+          ∙ ap (λ number. Some (fault_in c.in-Err.fault.set number)) (sym c.in-Err.ensures.empty.0),
+      empty_is_set c.loop-set.sets c.in-Err.fault.set c.in-Err.ensures.empty.1,
     )

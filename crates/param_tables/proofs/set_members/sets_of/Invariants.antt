@@ -1,8 +1,7 @@
-use Rattle.std.proofs.Common.{◌≡◌, ℕ, ◌+◌, ◌-◌, ◌<◌, ◌≤◌, List, [], length, get_or}
+use Rattle.std.proofs.Common.{◌≡◌, ℕ, ◌+◌, ◌-◌, ◌<◌, ◌≤◌, [], length, get_or}
 use Rattle.model_sets.specs.Names.{set_count}
 use Rattle.param_tables.specs.BlockData.{members_told}
 use Rattle.mathprog_data.specs.BlocksView.{blocks_told}
-use Rattle.mathprog_data.specs.Meaning.{Blocks}
 use Rattle.param_tables.proofs.SetLaws.{refusals_from}
 use Rattle.param_tables.specs.SetRefusals.{set_refusals}
 use Rattle.param_tables.specs.BlockData.{set_lists}

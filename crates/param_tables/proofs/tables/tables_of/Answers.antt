@@ -1,20 +1,16 @@
-use Rattle.std.proofs.Common.{◌≡◌, ℕ, ◌+◌, ◌-◌, ◌<◌, ◌≤◌, List, [], ◌++◌, None, Some, length, get_or, map, set, take, refl, sym, ap, ◌∙◌, subst, arith}
+use Rattle.std.proofs.Common.{◌≡◌, ℕ, ◌+◌, ◌-◌, ◌<◌, List, [], ◌++◌, length, get_or, set, take, sym, ap, ◌∙◌, subst, arith}
 use Rattle.std.specs.List.{flat_map}
 use Rattle.std.proofs.lemmas.List.{append-nil, get_or-map, length-map}
 use Rattle.std.proofs.lemmas.Result.{err_from_is_err_and}
-use Rattle.model_sets.specs.Members.{SetLists}
-use Rattle.model_sets.specs.Params.{IsUsedParam, used_count}
 use Rattle.mathprog_data.specs.declared.blocks.ParamBlock.{ParamBlock as KeptParam}
 use Rattle.param_tables.specs.BlockData.{data_of}
 use Rattle.param_tables.specs.InTurn.{first_of}
 use Rattle.param_tables.specs.Refusals.{value_refusals}
 use Rattle.mathprog_data.specs.BlocksView.{param_told, params_told}
-use Rattle.mathprog_data.specs.Meaning.{ParamBlock}
 use Rattle.param_tables.specs.Tables.{AreTablesFor}
-use Rattle.param_tables.specs.Told.{IsStopDue}
 use Rattle.mathprog_data.specs.WellFormed.{AreParamBlocks, IsParamBlock}
 use Rattle.param_tables.proofs.TableOfLaws.{stop_first, tables_more, tables_unused, unused_refusals}
-use Rattle.param_tables.proofs.TurnLaws.{rest_free, rest_from, rest_refused}
+use Rattle.param_tables.proofs.TurnLaws.{rest_free, rest_refused}
 use Rattle.param_tables.proofs.tables.tables_of.Goals as goal
 use Rattle.param_tables.proofs.tables.tables_of.Goals.{then-block-le-USED_COUNT+in_ok-tables-2, else-block-le-USED_COUNT}
 
@@ -55,8 +51,8 @@ returns-in_err-tables-2-clause-refused c =
     let is = at_place c.args.blocks.now i c.block-item.result c.loop-block-test.true c.block-item.is in
     let p = err_from_is_err_and c.from_residual-in_err-tables-2.result c.from_residual-in_err-tables-2.ensures.1 in
     rw (p.1, p.2) (stop_first (first_of (f s)) (first_of (flat_map f told)) sets why
-      (λ r found. ap first_of (sym (append-nil (flat_map f told))) ∙ rest_refused f [] told i s (flat_map f told ++ []) r is.below (ap (λ t. first_of (f t)) is.at ∙ found) c.loop-block.invariant.refusals)
-      c.in_err-tables-2.ensures.refused)
+    (λ r found. ap first_of (sym (append-nil (flat_map f told))) ∙ rest_refused f [] told i s (flat_map f told ++ []) r is.below (ap (λ t. first_of (f t)) is.at ∙ found) c.loop-block.invariant.refusals)
+    c.in_err-tables-2.ensures.refused)
 
 pub loop-block-preserved : goal.loop-block-preserved
 loop-block-preserved c =
