@@ -15,7 +15,8 @@ use Rattle.param_tables.specs.InTurn.{in_turn}
 use Rattle.param_tables.specs.Refusals.{Refusal, value_refusal, value_refusals}
 use Rattle.mathprog_data.specs.Meaning.{ParamBlock}
 use Rattle.param_tables.specs.Tables.{AreGiven, AreTablesFor, IsTableFor, IsTableOf, entries_of, given_in, value_else}
-use Rattle.param_tables.specs.Told.{IsStopDue, refusal_told}
+use Rattle.param_tables.specs.Stops.{IsStopDue}
+use Rattle.param_tables.specs.Told.{refusal_told}
 use Rattle.param_tables.specs.declared.fault.Stop.{Stop}
 use Rattle.param_tables.specs.declared.fault.Stop.TheVariants as stop
 use Rattle.param_tables.specs.declared.param_table.ParamTable.{ParamTable}

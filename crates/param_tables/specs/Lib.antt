@@ -7,6 +7,7 @@ pub mod RangeTable
 pub mod Ranges
 pub mod Refusals
 pub mod SetRefusals
+pub mod Stops
 pub mod Subscripts
 pub mod Tables
 pub mod Told

@@ -11,7 +11,8 @@ ghost use Rattle.param_tables.specs.InTurn.{first_of};
 ghost use Rattle.param_tables.specs.Refusals.{first_refusal, param_refusals};
 ghost use Rattle.mathprog_data.specs.BlocksView.{blocks_told};
 ghost use Rattle.param_tables.specs.Tables.{AreTablesFor, HaveShapes};
-ghost use Rattle.param_tables.specs.Told.{IsBuildFailDue, IsStopDue};
+ghost use Rattle.param_tables.specs.Stops.{IsStopDue};
+ghost use Rattle.param_tables.specs.Told.{IsBuildFailDue};
 ghost use Rattle.param_tables.specs.View.{AreKept, facts_of};
 ghost use Rattle.mathprog_data.specs.WellFormed.{AreWellFormed};
 

@@ -17,9 +17,10 @@ mod subscripts;
 mod tables;
 
 pub use building::build;
-pub use fault::{BuildFail, BuildFault, Cell};
+pub use fault::{BuildFail, BuildFault, Cell, CellFault};
 pub use laws::{range_laws, table_laws};
 pub use model_data::ModelData;
+pub use ranges::Range;
 pub use set_members::sets_of;
 pub use subscripts::subscript_sets;
 

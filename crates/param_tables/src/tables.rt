@@ -9,7 +9,7 @@ ghost use Rattle.param_tables.specs.InTurn.{first_of};
 ghost use Rattle.param_tables.specs.Refusals.{value_refusals};
 ghost use Rattle.mathprog_data.specs.BlocksView.{param_told, params_told};
 ghost use Rattle.param_tables.specs.Tables.{AreTablesFor, IsTableOf};
-ghost use Rattle.param_tables.specs.Told.{IsStopDue};
+ghost use Rattle.param_tables.specs.Stops.{IsStopDue};
 ghost use Rattle.mathprog_data.specs.WellFormed.{AreParamBlocks, IsParamBlock};
 
 use crate::fault::Stop;

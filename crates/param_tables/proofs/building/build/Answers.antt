@@ -3,7 +3,8 @@ use Rattle.param_tables.specs.BlockData.{data_told}
 use Rattle.param_tables.specs.Built.{AreComplete, AreSameData}
 use Rattle.param_tables.specs.Refusals.{first_refusal}
 use Rattle.mathprog_data.specs.BlocksView.{blocks_told}
-use Rattle.param_tables.specs.Told.{IsStopDue, NamesCell, refusal_told}
+use Rattle.param_tables.specs.Stops.{IsStopDue}
+use Rattle.param_tables.specs.Told.{NamesCell, refusal_told}
 use Rattle.param_tables.proofs.building.build.Goals as goal
 
 pub returns-in-Ok-clause-built : goal.returns-in-Ok-clause-built

@@ -9,7 +9,7 @@ use Rattle.param_tables.specs.InTurn.{first_of}
 use Rattle.param_tables.specs.Refusals.{first_refusal, storage, value_refusals}
 use Rattle.mathprog_data.specs.BlocksView.{blocks_told, params_told}
 use Rattle.param_tables.specs.Tables.{AreTablesFor}
-use Rattle.param_tables.specs.Told.{IsStopDue}
+use Rattle.param_tables.specs.Stops.{IsStopDue}
 use Rattle.param_tables.specs.View.{facts_of}
 use Rattle.param_tables.specs.declared.param_table.ParamTable.{ParamTable}
 use Rattle.param_tables.proofs.BuildLaws.{value_first, params_left, tables_told}

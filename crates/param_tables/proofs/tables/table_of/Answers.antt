@@ -7,7 +7,7 @@ use Rattle.param_tables.specs.Refusals.{value_refusal}
 use Rattle.mathprog_data.specs.BlocksView.{param_told}
 use Rattle.param_tables.specs.BlockData.{values_told}
 use Rattle.param_tables.specs.Tables.{AreGiven}
-use Rattle.param_tables.specs.Told.{IsStopDue}
+use Rattle.param_tables.specs.Stops.{IsStopDue}
 use Rattle.param_tables.proofs.TableOfLaws.{table_of_given, used_refusals}
 use Rattle.param_tables.proofs.tables.table_of.Goals as goal
 
