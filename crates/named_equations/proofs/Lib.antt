@@ -1,0 +1,3 @@
+mod BaseFile
+mod BaseInstances
+mod BasePlan
