@@ -1,15 +1,12 @@
 -- The best plan of the base example meets its equations and costs 80; with any value raised by a billionth it breaks one.
-use Rattle.std.proofs.Common.{◌≡◌, ℕ, ◌+◌, ◌-◌, ◌*◌, ◌^◌, ℤ, pos, true, List, [], ◌∷◌, map, refl, not}
-use Rattle.std.specs.Prelude.{Option, Some, find, nat_eq, if◌then◌else◌, slice_index_or}
-use Rattle.std.specs.List.{list_all}
-use Rattle.std.specs.Option.{option_map}
-use Rattle.model_sets.specs.Data.{Data}
+use Rattle.std.proofs.Common.{◌≡◌, ℕ, ◌+◌, ◌-◌, ◌*◌, ◌^◌, ℤ, pos, true, List, [], ◌∷◌, map, refl}
+use Rattle.std.specs.Prelude.{Some, nat_eq, if◌then◌else◌, slice_index_or}
 use Rattle.row_core.specs.declared.Var.{Var}
 use Rattle.discount_factors.specs.Factors.{discounted, capital_factor, root_from, half_year_root, operating_factor, salvage_fraction}
 use Rattle.named_equations.specs.Existence.{all_variables}
-use Rattle.named_equations.specs.Instances.{instances}
-use Rattle.named_equations.specs.Plans.{meets, cost}
+use Rattle.named_equations.specs.Plans.{cost}
 use Rattle.named_equations.proofs.BaseFile.{base}
+use Rattle.named_equations.proofs.Tables.{meets_all, first_broken}
 
 -- the values of the plan by kind, in whole units: activity and capacity 10, at an investment of 5 and running costs of 3 for each
 abbrev pub best_values : List ℕ
@@ -45,21 +42,17 @@ best_values =
 abbrev pub best : ℕ → Var → ℤ
 best q v = pos (slice_index_or best_values (v.kind - 1) 0 * q)
 
-meets_all : list_all (meets base 1 (best 1)) (instances base) ≡ true
+best_meets_all : meets_all base 1 (best 1) ≡ true
 unfolding discounted capital_factor root_from half_year_root operating_factor salvage_fraction
-meets_all = refl
+best_meets_all = refl
 
 -- the same plan in billionths
-meets_all_in_billionths : list_all (meets base (10 ^ 9) (best (10 ^ 9))) (instances base) ≡ true
+best_meets_all_in_billionths : meets_all base (10 ^ 9) (best (10 ^ 9)) ≡ true
 unfolding discounted capital_factor root_from half_year_root operating_factor salvage_fraction
-meets_all_in_billionths = refl
+best_meets_all_in_billionths = refl
 
 costs_eighty : cost base (best 1) ≡ pos 80
 costs_eighty = refl
-
--- the number of the first equation that the plan doesn't meet
-abbrev pub first_broken : Data → ℕ → (Var → ℤ) → Option ℕ
-first_broken d q x = option_map (λ name. name.eq) (find (λ name. not (meets d q x name)) (instances d))
 
 -- the plan in billionths, with the variables of this kind raised by one billionth
 abbrev pub raised : ℕ → Var → ℤ

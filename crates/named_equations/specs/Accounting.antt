@@ -8,13 +8,13 @@ use Rattle.named_equations.specs.Parameters.{year_split}
 use Rattle.named_equations.specs.Positions.{timeslices, all_years}
 use Rattle.named_equations.specs.Variables.{rate_of_activity, rate_of_production_by_technology, rate_of_use_by_technology, production_by_technology, use_by_technology, total_annual_technology_activity_by_mode, total_discounted_cost, model_period_cost_by_region}
 
--- Acc1_FuelProductionByTechnology[r,l,t,f,y]: a technology's production is its rate times the timeslice's part of the year; times 10^9
+-- Acc1_FuelProductionByTechnology[r,l,t,f,y], where the technology produces the fuel: a technology's production is its rate times the timeslice's part of the year; times 10^9
 abbrev pub acc1 : Data → ℕ → (Var → ℤ) → ℕ → ℕ → ℕ → ℕ → ℕ → Statement
 acc1 d q x r l t f y =
     values 1 *ℤ x (production_by_technology r l t f y)
     equals x (rate_of_production_by_technology r l t f y) *ℤ year_split d l y
 
--- Acc2_FuelUseByTechnology[r,l,t,f,y]: a technology's use is its rate times the timeslice's part of the year; times 10^9
+-- Acc2_FuelUseByTechnology[r,l,t,f,y], where the technology uses the fuel: a technology's use is its rate times the timeslice's part of the year; times 10^9
 abbrev pub acc2 : Data → ℕ → (Var → ℤ) → ℕ → ℕ → ℕ → ℕ → ℕ → Statement
 acc2 d q x r l t f y =
     values 1 *ℤ x (use_by_technology r l t f y)

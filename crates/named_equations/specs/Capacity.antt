@@ -25,7 +25,7 @@ caa1 d q x r t y =
     x (accumulated_new_capacity r t y)
     equals sum_over (years_counting d r t y) (λ yy. x (new_capacity r t yy))
 
--- CAa2_TotalAnnualCapacity[r,t,y]: the total capacity is the accumulated new capacity and the residual capacity; times 10^9
+-- CAa2_TotalAnnualCapacity[r,t,y]: the total capacity is the accumulated new capacity plus the residual capacity; times 10^9
 abbrev pub caa2 : Data → ℕ → (Var → ℤ) → ℕ → ℕ → ℕ → Statement
 caa2 d q x r t y =
     values 1 *ℤ x (total_capacity_annual r t y)
@@ -43,7 +43,7 @@ caa4 d q x r l t y =
     values 2 *ℤ x (rate_of_total_activity r l t y)
     at_most x (total_capacity_annual r t y) *ℤ (capacity_factor d r t l y *ℤ capacity_to_activity_unit d r t)
 
--- CAb1_PlannedMaintenance[r,t,y]: the activity of the year is at most what the capacity can do in the year, maintenance left out; times 10^36
+-- CAb1_PlannedMaintenance[r,t,y]: the activity of the year is at most what the capacity can do in the part of the year for which it is available; times 10^36
 abbrev pub cab1 : Data → ℕ → (Var → ℤ) → ℕ → ℕ → ℕ → Statement
 cab1 d q x r t y =
     values 3 *ℤ sum_over (timeslices d) (λ l. x (rate_of_total_activity r l t y) *ℤ year_split d l y)

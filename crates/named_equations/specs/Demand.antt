@@ -7,7 +7,7 @@ use Rattle.named_equations.specs.Notation.{◌equals◌, values}
 use Rattle.named_equations.specs.Parameters.{year_split, specified_annual_demand, specified_demand_profile}
 use Rattle.named_equations.specs.Variables.{rate_of_demand}
 
--- EQ_SpecifiedDemand[r,l,f,y]: the year's part times the rate of demand is the annual demand times the timeslice's part of it; times 10^18
+-- EQ_SpecifiedDemand[r,l,f,y]: the timeslice's part of the year times the rate of demand is the annual demand times the timeslice's part of that; times 10^18
 abbrev pub eq_specified_demand : Data → ℕ → (Var → ℤ) → ℕ → ℕ → ℕ → ℕ → Statement
 eq_specified_demand d q x r l f y =
     values 1 *ℤ year_split d l y *ℤ x (rate_of_demand r l f y)

@@ -11,13 +11,13 @@ use Rattle.named_equations.specs.Where.{producing_modes, producing_technologies,
 
 -- ---- production
 
--- EBa1_RateOfFuelProduction1[r,l,t,f,m,y]: a mode's rate of production is its rate of activity times its output ratio; times 10^9
+-- EBa1_RateOfFuelProduction1[r,l,t,f,m,y], where the output ratio isn't 0: a mode's rate of production is its rate of activity times its output ratio; times 10^9
 abbrev pub eba1 : Data → ℕ → (Var → ℤ) → ℕ → ℕ → ℕ → ℕ → ℕ → ℕ → Statement
 eba1 d q x r l t f m y =
     values 1 *ℤ x (rate_of_production_by_technology_by_mode r l t f m y)
     equals x (rate_of_activity r l t m y) *ℤ output_activity_ratio d r t f m y
 
--- EBa2_RateOfFuelProduction2[r,l,t,f,y]: a technology's rate of production is the sum over the modes that produce
+-- EBa2_RateOfFuelProduction2[r,l,t,f,y], where some mode produces: a technology's rate of production is the sum over the modes that produce
 abbrev pub eba2 : Data → ℕ → (Var → ℤ) → ℕ → ℕ → ℕ → ℕ → ℕ → Statement
 eba2 d q x r l t f y =
     x (rate_of_production_by_technology r l t f y)
@@ -31,13 +31,13 @@ eba3 d q x r l f y =
 
 -- ---- use
 
--- EBa4_RateOfFuelUse1[r,l,t,f,m,y]: a mode's rate of use is its rate of activity times its input ratio; times 10^9
+-- EBa4_RateOfFuelUse1[r,l,t,f,m,y], where the input ratio isn't 0: a mode's rate of use is its rate of activity times its input ratio; times 10^9
 abbrev pub eba4 : Data → ℕ → (Var → ℤ) → ℕ → ℕ → ℕ → ℕ → ℕ → ℕ → Statement
 eba4 d q x r l t f m y =
     values 1 *ℤ x (rate_of_use_by_technology_by_mode r l t f m y)
     equals x (rate_of_activity r l t m y) *ℤ input_activity_ratio d r t f m y
 
--- EBa5_RateOfFuelUse2[r,l,t,f,y]: a technology's rate of use is the sum over the modes that use
+-- EBa5_RateOfFuelUse2[r,l,t,f,y], where some mode uses: a technology's rate of use is the sum over the modes that use
 abbrev pub eba5 : Data → ℕ → (Var → ℤ) → ℕ → ℕ → ℕ → ℕ → ℕ → Statement
 eba5 d q x r l t f y =
     x (rate_of_use_by_technology r l t f y)

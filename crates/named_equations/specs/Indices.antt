@@ -1,6 +1,6 @@
--- Subscripts, each a position in its set: the eight of an index, and for each choice of some of them the index that has 0 for the others,
--- and what takes them one by one, taken at an index. Letters as in the long code: r region, rr other region, l timeslice, t technology,
--- f fuel, e emission, m mode of operation, y year.
+-- The eight subscripts of an index, each a position in its set, by the letters of the long code: r region, rr other region, l timeslice,
+-- t technology, f fuel, e emission, m mode of operation, y year. For each choice of some of them: the index that has 0 for the others (at_..),
+-- and a function of just these, taken at an index (by_..).
 use Rattle.std.specs.Prelude.{ℕ}
 use Rattle.row_core.specs.declared.Index.{Index}
 
@@ -8,7 +8,7 @@ use Rattle.row_core.specs.declared.Index.{Index}
 abbrev pub index : ℕ → ℕ → ℕ → ℕ → ℕ → ℕ → ℕ → ℕ → Index
 index r rr l t f e m y = record { region = r; other = rr; slice = l; tech = t; fuel = f; emission = e; mode = m; year = y }
 
--- the subscripts r
+-- the subscript r alone
 abbrev pub at_r : ℕ → Index
 at_r r = index r 0 0 0 0 0 0 0
 
@@ -84,7 +84,7 @@ at_rey r e y = index r 0 0 0 0 e 0 y
 abbrev pub at_ry : ℕ → ℕ → Index
 at_ry r y = index r 0 0 0 0 0 0 y
 
--- taken at the subscripts r of an index
+-- taken at the subscript r of an index
 abbrev pub by_r : {A : Type 0} → (ℕ → A) → Index → A
 by_r g i = g i.region
 
@@ -103,10 +103,6 @@ by_rltfmy g i = g i.region i.slice i.tech i.fuel i.mode i.year
 -- taken at the subscripts r, l, t, f, y of an index
 abbrev pub by_rltfy : {A : Type 0} → (ℕ → ℕ → ℕ → ℕ → ℕ → A) → Index → A
 by_rltfy g i = g i.region i.slice i.tech i.fuel i.year
-
--- taken at the subscripts r, l, t, m, y of an index
-abbrev pub by_rltmy : {A : Type 0} → (ℕ → ℕ → ℕ → ℕ → ℕ → A) → Index → A
-by_rltmy g i = g i.region i.slice i.tech i.mode i.year
 
 -- taken at the subscripts r, l, t, y of an index
 abbrev pub by_rlty : {A : Type 0} → (ℕ → ℕ → ℕ → ℕ → A) → Index → A

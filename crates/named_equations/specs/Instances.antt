@@ -1,5 +1,5 @@
 -- The instances of the named equations: all pairs of an equation and an index at which the data have it, by equation and then by subscripts.
-use Rattle.std.specs.Prelude.{ℕ, ◌-◌, pos, Bool, false, ◌&&◌, List, [], ◌∷◌, map, filter, nat_eq, nat_lt, Option, slice_index_or, if◌then◌else◌}
+use Rattle.std.specs.Prelude.{ℕ, pos, Bool, false, ◌&&◌, List, [], ◌∷◌, map, filter, nat_eq, nat_lt, Option, slice_index_or, if◌then◌else◌}
 use Rattle.std.specs.List.{list_any, flat_map, range_with_len}
 use Rattle.model_sets.specs.Data.{Data}
 use Rattle.model_sets.specs.Names.{region, technology, fuel, emission, mode, timeslice, year}
@@ -27,13 +27,22 @@ is_one_of subscripts place = list_any (nat_eq place) subscripts
 abbrev pub values_at : Data → List ℕ → ℕ → List ℕ
 values_at d subscripts place = if is_one_of subscripts place then positions d (set_at place) else 0 ∷ []
 
+-- for each of these numbers in turn, what f lists
+abbrev pub each : List ℕ → (ℕ → List Index) → List Index
+each values f = flat_map f values
+
 -- all indices with these subscripts, in the order of the fields of an index
 abbrev pub indices : Data → List ℕ → List Index
 indices d subscripts =
-    flat_map (λ r. flat_map (λ rr. flat_map (λ l. flat_map (λ t. flat_map (λ f. flat_map (λ e. flat_map (λ m. map (λ y.
-    index r rr l t f e m y)
-    (values_at d subscripts place.y)) (values_at d subscripts place.m)) (values_at d subscripts place.e)) (values_at d subscripts place.f))
-    (values_at d subscripts place.t)) (values_at d subscripts place.l)) (values_at d subscripts place.rr)) (values_at d subscripts place.r)
+    each (values_at d subscripts place.r) (λ r.
+    each (values_at d subscripts place.rr) (λ rr.
+    each (values_at d subscripts place.l) (λ l.
+    each (values_at d subscripts place.t) (λ t.
+    each (values_at d subscripts place.f) (λ f.
+    each (values_at d subscripts place.e) (λ e.
+    each (values_at d subscripts place.m) (λ m.
+    each (values_at d subscripts place.y) (λ y.
+    index r rr l t f e m y ∷ []))))))))
 
 -- i is a value of the subscript at this place
 abbrev pub is_value_at : Data → List ℕ → ℕ → ℕ → Bool
@@ -52,9 +61,9 @@ is_index d subscripts i =
 abbrev pub no_equation : NamedEquation
 no_equation = inequality (λ d i. false) (λ d q x i. pos 0 equals pos 1)
 
--- the equation of a number from 1 to 64
+-- the equation of this number, from 1 to 64
 abbrev pub equation_of : ℕ → NamedEquation
-equation_of eq = slice_index_or named_equations (eq - 1) no_equation
+equation_of eq = slice_index_or (no_equation ∷ named_equations) eq no_equation
 
 -- the subscripts of the equation of a number
 abbrev pub subscripts_of : ℕ → List ℕ

@@ -21,7 +21,7 @@ oc2 d q x r t y =
     values 1 *ℤ x (annual_fixed_operating_cost r t y)
     equals x (total_capacity_annual r t y) *ℤ fixed_cost d r t y
 
--- OC3_OperatingCostsTotalAnnual[r,t,y]: the operating cost is the variable and the fixed cost
+-- OC3_OperatingCostsTotalAnnual[r,t,y]: the operating cost is the variable plus the fixed cost
 abbrev pub oc3 : Data → ℕ → (Var → ℤ) → ℕ → ℕ → ℕ → Statement
 oc3 d q x r t y =
     x (operating_cost r t y)

@@ -8,13 +8,13 @@ use Rattle.named_equations.specs.Parameters.{capacity_to_activity_unit, reserve_
 use Rattle.named_equations.specs.Positions.{technologies, fuels}
 use Rattle.named_equations.specs.Variables.{total_capacity_annual, rate_of_production, total_capacity_in_reserve_margin, demand_needing_reserve_margin}
 
--- RM1_ReserveMargin_TechnologiesIncluded_In_Activity_Units[r,y]: the capacity in the margin is the sum over the technologies of capacity, tag and unit; times 10^18
+-- RM1_ReserveMargin_TechnologiesIncluded_In_Activity_Units[r,y]: the capacity in the margin is the sum over the technologies of capacity times tag times unit; times 10^18
 abbrev pub rm1 : Data → ℕ → (Var → ℤ) → ℕ → ℕ → Statement
 rm1 d q x r y =
     values 2 *ℤ x (total_capacity_in_reserve_margin r y)
     equals sum_over (technologies d) (λ t. x (total_capacity_annual r t y) *ℤ (reserve_margin_tag_technology d r t y *ℤ capacity_to_activity_unit d r t))
 
--- RM2_ReserveMargin_FuelsIncluded[r,l,y]: the demand that needs the margin is the sum over the fuels of the rate of production and its tag; times 10^9
+-- RM2_ReserveMargin_FuelsIncluded[r,l,y]: the demand that needs the margin is the sum over the fuels of the rate of production times the fuel's tag; times 10^9
 abbrev pub rm2 : Data → ℕ → (Var → ℤ) → ℕ → ℕ → ℕ → Statement
 rm2 d q x r l y =
     values 1 *ℤ x (demand_needing_reserve_margin r l y)

@@ -5,22 +5,21 @@ use Rattle.row_core.specs.declared.Index.{Index}
 use Rattle.row_core.specs.declared.Var.{Var}
 use Rattle.row_core.specs.Statements.{Statement}
 use Rattle.named_equations.specs.Accounting.{acc1, acc2, acc3, acc4}
-use Rattle.named_equations.specs.ActivityLimits.{aac1, aac2, aac3, tac1, tac2, tac3}
+use Rattle.named_equations.specs.ActivityLimits.{has_tac3, has_tac2, has_aac3, has_aac2, aac1, aac2, aac3, tac1, tac2, tac3}
 use Rattle.named_equations.specs.Capacity.{caa1, caa2, caa3, caa4, cab1}
-use Rattle.named_equations.specs.CapacityLimits.{tcc1, tcc2, ncc1, ncc2}
+use Rattle.named_equations.specs.CapacityLimits.{has_ncc2, has_ncc1, has_tcc2, has_tcc1, tcc1, tcc2, ncc1, ncc2}
 use Rattle.named_equations.specs.CapitalCosts.{cc1, cc2}
 use Rattle.named_equations.specs.Demand.{eq_specified_demand}
 use Rattle.named_equations.specs.DiscountedCosts.{tdc1, tdc2}
-use Rattle.named_equations.specs.Emissions.{e1, e2, e3, e4, e5, e6, e7, e8, e9}
+use Rattle.named_equations.specs.Emissions.{has_e9, has_e8, e1, e2, e3, e4, e5, e6, e7, e8, e9}
 use Rattle.named_equations.specs.EnergyBalance.{eba1, eba2, eba3, eba4, eba5, eba6, eba7, eba8, eba9, eba10, eba11, ebb1, ebb2, ebb3, ebb4}
 use Rattle.named_equations.specs.OperatingCosts.{oc1, oc2, oc3, oc4}
 use Rattle.named_equations.specs.RenewableTarget.{re1, re2, re3, re4, re5}
 use Rattle.named_equations.specs.ReserveMargin.{rm1, rm2, rm3}
 use Rattle.named_equations.specs.Salvage.{has_sv1, has_sv2, has_sv3, sv1, sv2, sv3, sv4}
 use Rattle.named_equations.specs.Indices.{by_r, by_re, by_rey, by_rfy, by_rlfy, by_rltfmy, by_rltfy, by_rlty, by_rly, by_rrrfy, by_rrrlfy, by_rt, by_rtemy, by_rtey, by_rtfmy, by_rtfy, by_rtmy, by_rty, by_ry}
-use Rattle.named_equations.specs.Parameters.{total_annual_max_capacity, total_annual_min_capacity, total_annual_max_capacity_investment, total_annual_min_capacity_investment, total_technology_annual_activity_upper_limit, total_technology_annual_activity_lower_limit, total_technology_model_period_activity_upper_limit, total_technology_model_period_activity_lower_limit, annual_emission_limit, model_period_emission_limit}
 use Rattle.named_equations.specs.Variables.{trade, rate_of_demand, accumulated_new_capacity, total_capacity_annual, rate_of_total_activity, rate_of_production_by_technology_by_mode, rate_of_production_by_technology, rate_of_production, rate_of_use_by_technology_by_mode, rate_of_use_by_technology, rate_of_use, production, use_of_fuel, demand, production_annual, use_annual, trade_annual, production_by_technology, use_by_technology, total_annual_technology_activity_by_mode, capital_investment, discounted_capital_investment, salvage_value, discounted_salvage_value, annual_variable_operating_cost, annual_fixed_operating_cost, operating_cost, discounted_operating_cost, annual_technology_emission_by_mode, annual_technology_emission, annual_technology_emission_penalty_by_emission, annual_technology_emissions_penalty, discounted_technology_emissions_penalty, total_discounted_cost_by_technology, total_discounted_cost, model_period_cost_by_region, total_technology_annual_activity, total_technology_model_period_activity, total_capacity_in_reserve_margin, demand_needing_reserve_margin, production_by_technology_annual, total_re_production_annual, re_total_production_of_target_fuel_annual, use_by_technology_annual, annual_emissions, model_period_emissions}
-use Rattle.named_equations.specs.Where.{emits_in_mode, is_limit, is_positive, produces, produces_in_mode, uses, uses_in_mode}
+use Rattle.named_equations.specs.Where.{emits_in_mode, produces, produces_in_mode, uses, uses_in_mode}
 
 -- a named equation: whether the data have an instance of it at an index, what it says there of the plan whose variables have the values x v over q,
 -- and the variable that it defines there
@@ -94,16 +93,16 @@ named_equations =
     ∷ definition everywhere (λ d q x. by_rty (tdc1 d q x)) (by_rty total_discounted_cost_by_technology)
     ∷ definition everywhere (λ d q x. by_ry (tdc2 d q x)) (by_ry total_discounted_cost)
     ∷ definition everywhere (λ d q x. by_r (acc4 d q x)) (by_r model_period_cost_by_region)
-    ∷ inequality (λ d. by_rty (λ r t y. is_limit (total_annual_max_capacity d r t y))) (λ d q x. by_rty (tcc1 d q x))
-    ∷ inequality (λ d. by_rty (λ r t y. is_positive (total_annual_min_capacity d r t y))) (λ d q x. by_rty (tcc2 d q x))
-    ∷ inequality (λ d. by_rty (λ r t y. is_limit (total_annual_max_capacity_investment d r t y))) (λ d q x. by_rty (ncc1 d q x))
-    ∷ inequality (λ d. by_rty (λ r t y. is_positive (total_annual_min_capacity_investment d r t y))) (λ d q x. by_rty (ncc2 d q x))
+    ∷ inequality (λ d. by_rty (has_tcc1 d)) (λ d q x. by_rty (tcc1 d q x))
+    ∷ inequality (λ d. by_rty (has_tcc2 d)) (λ d q x. by_rty (tcc2 d q x))
+    ∷ inequality (λ d. by_rty (has_ncc1 d)) (λ d q x. by_rty (ncc1 d q x))
+    ∷ inequality (λ d. by_rty (has_ncc2 d)) (λ d q x. by_rty (ncc2 d q x))
     ∷ definition everywhere (λ d q x. by_rty (aac1 d q x)) (by_rty total_technology_annual_activity)
-    ∷ inequality (λ d. by_rty (λ r t y. is_limit (total_technology_annual_activity_upper_limit d r t y))) (λ d q x. by_rty (aac2 d q x))
-    ∷ inequality (λ d. by_rty (λ r t y. is_positive (total_technology_annual_activity_lower_limit d r t y))) (λ d q x. by_rty (aac3 d q x))
+    ∷ inequality (λ d. by_rty (has_aac2 d)) (λ d q x. by_rty (aac2 d q x))
+    ∷ inequality (λ d. by_rty (has_aac3 d)) (λ d q x. by_rty (aac3 d q x))
     ∷ definition everywhere (λ d q x. by_rt (tac1 d q x)) (by_rt total_technology_model_period_activity)
-    ∷ inequality (λ d. by_rt (λ r t. is_positive (total_technology_model_period_activity_upper_limit d r t))) (λ d q x. by_rt (tac2 d q x))
-    ∷ inequality (λ d. by_rt (λ r t. is_positive (total_technology_model_period_activity_lower_limit d r t))) (λ d q x. by_rt (tac3 d q x))
+    ∷ inequality (λ d. by_rt (has_tac2 d)) (λ d q x. by_rt (tac2 d q x))
+    ∷ inequality (λ d. by_rt (has_tac3 d)) (λ d q x. by_rt (tac3 d q x))
     ∷ definition everywhere (λ d q x. by_ry (rm1 d q x)) (by_ry total_capacity_in_reserve_margin)
     ∷ definition everywhere (λ d q x. by_rly (rm2 d q x)) (by_rly demand_needing_reserve_margin)
     ∷ inequality everywhere (λ d q x. by_rly (rm3 d q x))
@@ -114,6 +113,6 @@ named_equations =
     ∷ definition (λ d. by_rtfy (uses d)) (λ d q x. by_rtfy (re5 d q x)) (by_rtfy use_by_technology_annual)
     ∷ definition everywhere (λ d q x. by_rey (e6 d q x)) (by_rey annual_emissions)
     ∷ definition everywhere (λ d q x. by_re (e7 d q x)) (by_re model_period_emissions)
-    ∷ inequality (λ d. by_rey (λ r e y. is_limit (annual_emission_limit d r e y))) (λ d q x. by_rey (e8 d q x))
-    ∷ inequality (λ d. by_re (λ r e. is_limit (model_period_emission_limit d r e))) (λ d q x. by_re (e9 d q x))
+    ∷ inequality (λ d. by_rey (has_e8 d)) (λ d q x. by_rey (e8 d q x))
+    ∷ inequality (λ d. by_re (has_e9 d)) (λ d q x. by_re (e9 d q x))
     ∷ []

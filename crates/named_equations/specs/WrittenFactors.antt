@@ -17,11 +17,11 @@ method_of d r = unsigned_abs (depreciation_method d r) / 10 ^ 9
 abbrev pub life_of : Data → ℕ → ℕ → ℕ
 life_of d r t = unsigned_abs (operational_life d r t) / 10 ^ 9
 
--- DiscountFactor: what 1 is worth n years before it is due at the beginning of a year
+-- 1 over DiscountFactor: what 1 is worth n years before it is due, at the beginning of a year
 abbrev pub capital_factor_of : Data → ℕ → ℕ → ℤ
 capital_factor_of d r n = pos (capital_factor (rate_of d r) n)
 
--- DiscountFactorMid: what 1 is worth n years and a half before it is due in the middle of a year
+-- 1 over DiscountFactorMid: what 1 is worth n years and a half before it is due, in the middle of a year
 abbrev pub operating_factor_of : Data → ℕ → ℕ → ℤ
 operating_factor_of d r n = pos (operating_factor (rate_of d r) n)
 
