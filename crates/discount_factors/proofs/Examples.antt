@@ -1,6 +1,6 @@
 -- The written factors computed on worked examples, and on near misses.
 use Rattle.std.proofs.Common.{◌≡◌, ◌+◌, ◌*◌, ◌^◌, refl}
-use Rattle.std.specs.Prelude.{nat_le, true, false}
+use Rattle.std.specs.Prelude.{nat_le, nat_lt, true, false}
 use Rattle.discount_factors.specs.Factors.{discounted, capital_factor, half_year_root, root_from, operating_factor, salvage_fraction}
 
 -- ---- rate 0.05
@@ -116,3 +116,29 @@ root_is_within = refl
 
 next_is_above : nat_le (975900072949 * 975900072949 * (10 ^ 9 + 50000000)) (10 ^ 24 * 10 ^ 9) ≡ false
 next_is_above = refl
+
+-- ---- closeness: the factor of 5 years is at most the real one and less than 2 below it; the next number is above it, and 2 less is too far below
+five_at_most : nat_le (783526 * (10 ^ 9 + 50000000) ^ 5) (10 ^ 6 * (10 ^ 9) ^ 5) ≡ true
+five_at_most = refl
+
+five_near : nat_lt (10 ^ 6 * (10 ^ 9) ^ 5) ((783526 + 2) * (10 ^ 9 + 50000000) ^ 5) ≡ true
+five_near = refl
+
+next_above : nat_le (783527 * (10 ^ 9 + 50000000) ^ 5) (10 ^ 6 * (10 ^ 9) ^ 5) ≡ false
+next_above = refl
+
+two_less_far : nat_lt (10 ^ 6 * (10 ^ 9) ^ 5) ((783524 + 2) * (10 ^ 9 + 50000000) ^ 5) ≡ false
+two_less_far = refl
+
+-- the same for the operating factor of no year, by the squares
+half_at_most : nat_le (975900 ^ 2 * (10 ^ 9 + 50000000) ^ 1) (10 ^ 12 * (10 ^ 9) ^ 1) ≡ true
+half_at_most = refl
+
+half_near : nat_lt (10 ^ 12 * (10 ^ 9) ^ 1) ((975900 + 2) ^ 2 * (10 ^ 9 + 50000000) ^ 1) ≡ true
+half_near = refl
+
+half_above : nat_le (975901 ^ 2 * (10 ^ 9 + 50000000) ^ 1) (10 ^ 12 * (10 ^ 9) ^ 1) ≡ false
+half_above = refl
+
+half_far : nat_lt (10 ^ 12 * (10 ^ 9) ^ 1) ((975898 + 2) ^ 2 * (10 ^ 9 + 50000000) ^ 1) ≡ false
+half_far = refl
