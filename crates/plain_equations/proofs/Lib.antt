@@ -1,1 +1,4 @@
+mod Finding
 mod Lookups
+mod Ranges
+mod Sums

@@ -1,3 +1,6 @@
+pub mod Checked
+pub mod Lists
 pub mod Meaning
 pub mod Named
 pub mod Points
+pub mod Refused

@@ -3,8 +3,18 @@
 //! Policy 39, 2011).
 #![tactic(auto)]
 
+mod conditions;
+mod data;
 mod equations;
+mod evaluation;
 mod expressions;
+mod factors;
+mod fail;
 mod names;
+mod plan;
 mod points;
 mod tables;
+
+pub use data::{PlainData, PlainDefault, PlainValue};
+pub use fail::PlainFail;
+pub use plan::PlainPlan;
