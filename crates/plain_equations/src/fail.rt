@@ -43,7 +43,10 @@ pub(crate) fn product_of(a: i128, b: i128) -> Result<i128, PlainFail>
 }
 
 /// The sum of two values, or the first refusal.
-pub(crate) fn added(a: Result<i128, PlainFail>, b: Result<i128, PlainFail>) -> Result<i128, PlainFail>
+pub(crate) fn added(
+    a: Result<i128, PlainFail>,
+    b: Result<i128, PlainFail>,
+) -> Result<i128, PlainFail>
     ensures { result ≡ with_both sum_of a b }
 {
     sum_of(a?, b?)
