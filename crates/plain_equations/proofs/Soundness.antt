@@ -113,22 +113,22 @@ answers-meaning d q x OperatingFactor p =
     answers-value_or (is_made (rate_of d p.index.region) (years_since_first d p.index.year)) (operating_factor_of d p.index.region (years_since_first d p.index.year)) NoFactor
 answers-meaning d q x (SalvageFraction method) p =
     answers-value_or (is_made (rate_of d p.index.region) (life_of d p.index.region p.index.tech))
-        (salvage_fraction_of d method p.index.region p.index.tech p.index.year) NoFactor
+    (salvage_fraction_of d method p.index.region p.index.tech p.index.year) NoFactor
 answers-meaning d q x (Sum' _ a _ b) p =
     answers-both (λ c e. c +ℤ e) (λ c e. c +ℤ e) (λ c e. refl) (checked d q x a p) (checked d q x b p) (meaning d q x a p) (meaning d q x b p)
-        (answers-meaning d q x a p) (answers-meaning d q x b p)
+    (answers-meaning d q x a p) (answers-meaning d q x b p)
 answers-meaning d q x (Difference' _ a _ b) p =
     answers-both (λ c e. c -ℤ e) (λ c e. c -ℤ e) (λ c e. refl) (checked d q x a p) (checked d q x b p) (meaning d q x a p) (meaning d q x b p)
-        (answers-meaning d q x a p) (answers-meaning d q x b p)
+    (answers-meaning d q x a p) (answers-meaning d q x b p)
 answers-meaning d q x (Product' _ a _ b) p =
     answers-both (λ c e. c *ℤ e) (λ c e. c *ℤ e) (λ c e. refl) (checked d q x a p) (checked d q x b p) (meaning d q x a p) (meaning d q x b p)
-        (answers-meaning d q x a p) (answers-meaning d q x b p)
+    (answers-meaning d q x a p) (answers-meaning d q x b p)
 answers-meaning d q x (Over' letter condition _ a) p =
     let counts : ℕ → Bool = λ i. is_true_at d condition (moved p letter i) in
     let f : ℕ → Result ℤ PlainFail = λ i. checked d q x a (moved p letter i) in
     let g : ℕ → ℤ = λ i. meaning d q x a (moved p letter i) in
     let same : pos 0 +ℤ sum_over (filter counts (positions d (set_of letter))) g ≡ sum_over (chosen d p letter condition) g =
-        zero-+ℤ (sum_over (filter counts (positions d (set_of letter))) g) ∙ ap (λ is. sum_over is g) (chosen-is d p letter condition) in
+    zero-+ℤ (sum_over (filter counts (positions d (set_of letter))) g) ∙ ap (λ is. sum_over is g) (chosen-is d p letter condition) in
     subst (λ w. Answers (sum_from counts f (positions d (set_of letter)) (pos 0)) w) same
     (answers-sum counts f g (λ i. answers-meaning d q x a (moved p letter i)) (positions d (set_of letter)) (pos 0))
 
@@ -144,7 +144,7 @@ pub answers-total : (f : ℕ → Result ℤ PlainFail) (g : ℕ → ℤ) → ((i
     → Answers (sum_from (λ i. true) f is (pos 0)) (sum_over is g)
 answers-total f g each is =
     let same : pos 0 +ℤ sum_over (filter (λ i. true) is) g ≡ sum_over is g =
-        zero-+ℤ (sum_over (filter (λ i. true) is) g) ∙ ap (λ js. sum_over js g) (filter-all is) in
+    zero-+ℤ (sum_over (filter (λ i. true) is) g) ∙ ap (λ js. sum_over js g) (filter-all is) in
     subst (λ w. Answers (sum_from (λ i. true) f is (pos 0)) w) same (answers-sum (λ i. true) f g each is (pos 0))
 
 -- what is answered on the cost is the cost
@@ -161,5 +161,5 @@ pub answers-named : (d : Data) (q : ℕ) (x : Var → ℤ) (equation : Equation)
 answers-named d q x equation eq i same =
     subst (λ (s : Said). IfOk (meets_answer d q x equation i) (λ met. met ≡ holds (s.says d q x i))) same
     (answers-compared equation.sense (checked d q x equation.left (point_at i)) (checked d q x equation.right (point_at i))
-        (meaning d q x equation.left (point_at i)) (meaning d q x equation.right (point_at i))
-        (answers-meaning d q x equation.left (point_at i)) (answers-meaning d q x equation.right (point_at i)))
+    (meaning d q x equation.left (point_at i)) (meaning d q x equation.right (point_at i))
+    (answers-meaning d q x equation.left (point_at i)) (answers-meaning d q x equation.right (point_at i)))

@@ -51,7 +51,12 @@ fn stands(sense: Sense, left: i128, right: i128) -> bool
 
 impl PlainData {
     /// How the two sides of the equation stand to each other at the index.
-    fn compared(&self, plan: &PlainPlan, equation: &Equation, index: Index) -> Result<bool, PlainFail>
+    fn compared(
+        &self,
+        plan: &PlainPlan,
+        equation: &Equation,
+        index: Index,
+    ) -> Result<bool, PlainFail>
         ensures { result ≡ meets_answer self.now plan.now.whole (number_at plan.now.values.items) equation.now index }
     {
         let point = Point { index, built: 0 };
@@ -62,7 +67,12 @@ impl PlainData {
 
     /// Whether the plan meets the equation at the index. Refuses where a number that is formed on the way, from
     /// left to right, doesn't fit, and where a written factor is asked that isn't made, whichever is first.
-    pub fn meets(&self, plan: &PlainPlan, equation: &Equation, index: Index) -> Result<bool, PlainFail>
+    pub fn meets(
+        &self,
+        plan: &PlainPlan,
+        equation: &Equation,
+        index: Index,
+    ) -> Result<bool, PlainFail>
         ensures exact { result ≡ meets_answer self.now plan.now.whole (number_at plan.now.values.items) equation.now index }
         ensures met { (eq : ℕ) → said equation.now ≡ named eq → IfOk result (λ met. met ≡ meets self.now plan.now.whole (number_at plan.now.values.items) (name_at eq index)) }
     {

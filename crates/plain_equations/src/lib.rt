@@ -22,3 +22,6 @@ pub use equations::equation;
 pub use expressions::{Condition, Count, Equation, Expr, Letter, Places, Years};
 pub use fail::PlainFail;
 pub use plan::PlainPlan;
+
+#[cfg(test)]
+mod tests;

@@ -20,5 +20,5 @@ loop-position-preserved t c =
     let end = c.number_of_values-position-end.result in
     let rest : List RowName = names eq stands (flat_map f (range_with_len (i + 1) (end - (i + 1)))) in
     let more : c.loop-position.out.items ++ names eq stands (f i) ≡ c.push_from.new.out.items =
-        ap (λ p. c.loop-position.out.items ++ names eq stands (walked p)) (sym c.moved.ensures) ∙ sym c.in_ok-push_from-in-Some.ensures in
+    ap (λ p. c.loop-position.out.items ++ names eq stands (walked p)) (sym c.moved.ensures) ∙ sym c.in_ok-push_from-in-Some.ensures in
     c.loop-position.invariant ∙ names-more eq stands f i end c.loop-position.out.items c.loop-position-test.true ∙ ap (λ out. out ++ rest) more

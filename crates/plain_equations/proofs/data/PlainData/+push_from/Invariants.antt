@@ -13,6 +13,6 @@ decreases-push_from l = length l.letters.now
 abbrev pub invariant-loop-position : goal.invariant-loop-position
 invariant-loop-position l =
     l.initial.out.items ++ names l.eq (stands_at l.self l.eq)
-        (flat_map (λ i. walk l.self (subscripts_of l.eq) l.more (moved l.point l.letter i)) (range_with_len 0 l.position-end))
+    (flat_map (λ i. walk l.self (subscripts_of l.eq) l.more (moved l.point l.letter i)) (range_with_len 0 l.position-end))
     ≡ l.out.items ++ names l.eq (stands_at l.self l.eq)
-        (flat_map (λ i. walk l.self (subscripts_of l.eq) l.more (moved l.point l.letter i)) (range_with_len l.position (l.position-end - l.position)))
+    (flat_map (λ i. walk l.self (subscripts_of l.eq) l.more (moved l.point l.letter i)) (range_with_len l.position (l.position-end - l.position)))
