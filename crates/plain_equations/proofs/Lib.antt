@@ -1,6 +1,7 @@
 mod Finding
 mod Lookups
 mod Ranges
+mod Scaling
 mod Soundness
 mod Sums
 mod Walks

@@ -1,5 +1,6 @@
 pub mod Answers
 pub mod Checked
+pub mod Degrees
 pub mod Lists
 pub mod Meaning
 pub mod Named

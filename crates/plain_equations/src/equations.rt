@@ -16,8 +16,9 @@ mod renewable_target;
 mod reserve_margin;
 mod salvage;
 
-ghost use Rattle.std.specs.Prelude.{◌≡◌};
+ghost use Rattle.std.specs.Prelude.{true, ◌≡◌};
 ghost use Rattle.row_core.specs.Equations.{IsEquation};
+ghost use Rattle.plain_equations.specs.Degrees.{has_linear_sides};
 ghost use Rattle.plain_equations.specs.Meaning.{said};
 ghost use Rattle.plain_equations.specs.Named.{named};
 
@@ -26,7 +27,8 @@ use crate::expressions::Equation;
 /// The equation of this number, from 1 to 64.
 pub fn equation(eq: u8) -> &'static Equation
     requires { IsEquation eq }
-    ensures { said result.now ≡ named eq }
+    ensures said { said result.now ≡ named eq }
+    ensures linear { has_linear_sides result.now ≡ true }
 {
     match eq {
         1 => demand::demand(eq),

@@ -12,6 +12,7 @@ mod expressions;
 mod factors;
 mod fail;
 mod instances;
+mod laws;
 mod names;
 mod plan;
 mod points;
@@ -21,6 +22,7 @@ pub use data::{PlainData, PlainDefault, PlainValue};
 pub use equations::equation;
 pub use expressions::{Condition, Count, Equation, Expr, Letter, Places, Years};
 pub use fail::PlainFail;
+pub use laws::scaling_law;
 pub use plan::PlainPlan;
 
 #[cfg(test)]

@@ -1,6 +1,7 @@
 //! Accounting: equations 22 to 24.
 
-ghost use Rattle.std.specs.Prelude.{◌≡◌, ◌≤◌};
+ghost use Rattle.std.specs.Prelude.{true, ◌≡◌, ◌≤◌};
+ghost use Rattle.plain_equations.specs.Degrees.{has_linear_sides};
 ghost use Rattle.plain_equations.specs.Meaning.{said};
 ghost use Rattle.plain_equations.specs.Named.{named};
 
@@ -45,7 +46,8 @@ static EQUATIONS: [Equation; 3] = [
 pub(crate) fn accounting(eq: u8) -> &'static Equation
     requires from { 22 ≤ eq }
     requires to { eq ≤ 24 }
-    ensures { said result.now ≡ named eq }
+    ensures said { said result.now ≡ named eq }
+    ensures linear { has_linear_sides result.now ≡ true }
 {
     look_up(&EQUATIONS, 22, eq)
 }

@@ -1,6 +1,7 @@
 //! Limits on activity: equations 47 to 52.
 
-ghost use Rattle.std.specs.Prelude.{◌≡◌, ◌≤◌};
+ghost use Rattle.std.specs.Prelude.{true, ◌≡◌, ◌≤◌};
+ghost use Rattle.plain_equations.specs.Degrees.{has_linear_sides};
 ghost use Rattle.plain_equations.specs.Meaning.{said};
 ghost use Rattle.plain_equations.specs.Named.{named};
 
@@ -67,7 +68,8 @@ static EQUATIONS: [Equation; 6] = [
 pub(crate) fn activity_limits(eq: u8) -> &'static Equation
     requires from { 47 ≤ eq }
     requires to { eq ≤ 52 }
-    ensures { said result.now ≡ named eq }
+    ensures said { said result.now ≡ named eq }
+    ensures linear { has_linear_sides result.now ≡ true }
 {
     look_up(&EQUATIONS, 47, eq)
 }

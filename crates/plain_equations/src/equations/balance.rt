@@ -1,6 +1,7 @@
 //! Energy balance of each timeslice and of each year: equations 13 to 21.
 
-ghost use Rattle.std.specs.Prelude.{◌≡◌, ◌≤◌};
+ghost use Rattle.std.specs.Prelude.{true, ◌≡◌, ◌≤◌};
+ghost use Rattle.plain_equations.specs.Degrees.{has_linear_sides};
 ghost use Rattle.plain_equations.specs.Meaning.{said};
 ghost use Rattle.plain_equations.specs.Named.{named};
 
@@ -96,7 +97,8 @@ static EQUATIONS: [Equation; 9] = [
 pub(crate) fn balance(eq: u8) -> &'static Equation
     requires from { 13 ≤ eq }
     requires to { eq ≤ 21 }
-    ensures { said result.now ≡ named eq }
+    ensures said { said result.now ≡ named eq }
+    ensures linear { has_linear_sides result.now ≡ true }
 {
     look_up(&EQUATIONS, 13, eq)
 }

@@ -1,6 +1,7 @@
 //! Capacity: equations 2 to 6.
 
-ghost use Rattle.std.specs.Prelude.{◌≡◌, ◌≤◌};
+ghost use Rattle.std.specs.Prelude.{true, ◌≡◌, ◌≤◌};
+ghost use Rattle.plain_equations.specs.Degrees.{has_linear_sides};
 ghost use Rattle.plain_equations.specs.Meaning.{said};
 ghost use Rattle.plain_equations.specs.Named.{named};
 
@@ -77,7 +78,8 @@ static EQUATIONS: [Equation; 5] = [
 pub(crate) fn capacity(eq: u8) -> &'static Equation
     requires from { 2 ≤ eq }
     requires to { eq ≤ 6 }
-    ensures { said result.now ≡ named eq }
+    ensures said { said result.now ≡ named eq }
+    ensures linear { has_linear_sides result.now ≡ true }
 {
     look_up(&EQUATIONS, 2, eq)
 }

@@ -1,6 +1,7 @@
 //! Limits on capacity: equations 43 to 46.
 
-ghost use Rattle.std.specs.Prelude.{◌≡◌, ◌≤◌};
+ghost use Rattle.std.specs.Prelude.{true, ◌≡◌, ◌≤◌};
+ghost use Rattle.plain_equations.specs.Degrees.{has_linear_sides};
 ghost use Rattle.plain_equations.specs.Meaning.{said};
 ghost use Rattle.plain_equations.specs.Named.{named};
 
@@ -51,7 +52,8 @@ static EQUATIONS: [Equation; 4] = [
 pub(crate) fn capacity_limits(eq: u8) -> &'static Equation
     requires from { 43 ≤ eq }
     requires to { eq ≤ 46 }
-    ensures { said result.now ≡ named eq }
+    ensures said { said result.now ≡ named eq }
+    ensures linear { has_linear_sides result.now ≡ true }
 {
     look_up(&EQUATIONS, 43, eq)
 }

@@ -1,6 +1,7 @@
 //! Capital costs: equations 25 to 26.
 
-ghost use Rattle.std.specs.Prelude.{◌≡◌, ◌≤◌};
+ghost use Rattle.std.specs.Prelude.{true, ◌≡◌, ◌≤◌};
+ghost use Rattle.plain_equations.specs.Degrees.{has_linear_sides};
 ghost use Rattle.plain_equations.specs.Meaning.{said};
 ghost use Rattle.plain_equations.specs.Named.{named};
 
@@ -34,7 +35,8 @@ static EQUATIONS: [Equation; 2] = [
 pub(crate) fn capital_costs(eq: u8) -> &'static Equation
     requires from { 25 ≤ eq }
     requires to { eq ≤ 26 }
-    ensures { said result.now ≡ named eq }
+    ensures said { said result.now ≡ named eq }
+    ensures linear { has_linear_sides result.now ≡ true }
 {
     look_up(&EQUATIONS, 25, eq)
 }

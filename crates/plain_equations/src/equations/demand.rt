@@ -1,6 +1,7 @@
 //! Demand: equation 1.
 
-ghost use Rattle.std.specs.Prelude.{◌≡◌, ◌≤◌};
+ghost use Rattle.std.specs.Prelude.{true, ◌≡◌, ◌≤◌};
+ghost use Rattle.plain_equations.specs.Degrees.{has_linear_sides};
 ghost use Rattle.plain_equations.specs.Meaning.{said};
 ghost use Rattle.plain_equations.specs.Named.{named};
 
@@ -29,7 +30,8 @@ static EQUATIONS: [Equation; 1] = [
 pub(crate) fn demand(eq: u8) -> &'static Equation
     requires from { 1 ≤ eq }
     requires to { eq ≤ 1 }
-    ensures { said result.now ≡ named eq }
+    ensures said { said result.now ≡ named eq }
+    ensures linear { has_linear_sides result.now ≡ true }
 {
     look_up(&EQUATIONS, 1, eq)
 }

@@ -1,6 +1,7 @@
 //! Total discounted costs: equations 40 to 42.
 
-ghost use Rattle.std.specs.Prelude.{◌≡◌, ◌≤◌};
+ghost use Rattle.std.specs.Prelude.{true, ◌≡◌, ◌≤◌};
+ghost use Rattle.plain_equations.specs.Degrees.{has_linear_sides};
 ghost use Rattle.plain_equations.specs.Meaning.{said};
 ghost use Rattle.plain_equations.specs.Named.{named};
 
@@ -50,7 +51,8 @@ static EQUATIONS: [Equation; 3] = [
 pub(crate) fn discounted_costs(eq: u8) -> &'static Equation
     requires from { 40 ≤ eq }
     requires to { eq ≤ 42 }
-    ensures { said result.now ≡ named eq }
+    ensures said { said result.now ≡ named eq }
+    ensures linear { has_linear_sides result.now ≡ true }
 {
     look_up(&EQUATIONS, 40, eq)
 }

@@ -1,6 +1,7 @@
 //! Emissions of regions: equations 61 to 64.
 
-ghost use Rattle.std.specs.Prelude.{◌≡◌, ◌≤◌};
+ghost use Rattle.std.specs.Prelude.{true, ◌≡◌, ◌≤◌};
+ghost use Rattle.plain_equations.specs.Degrees.{has_linear_sides};
 ghost use Rattle.plain_equations.specs.Meaning.{said};
 ghost use Rattle.plain_equations.specs.Named.{named};
 
@@ -57,7 +58,8 @@ static EQUATIONS: [Equation; 4] = [
 pub(crate) fn emission_limits(eq: u8) -> &'static Equation
     requires from { 61 ≤ eq }
     requires to { eq ≤ 64 }
-    ensures { said result.now ≡ named eq }
+    ensures said { said result.now ≡ named eq }
+    ensures linear { has_linear_sides result.now ≡ true }
 {
     look_up(&EQUATIONS, 61, eq)
 }

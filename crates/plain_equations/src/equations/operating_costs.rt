@@ -1,6 +1,7 @@
 //! Operating costs: equations 31 to 34.
 
-ghost use Rattle.std.specs.Prelude.{◌≡◌, ◌≤◌};
+ghost use Rattle.std.specs.Prelude.{true, ◌≡◌, ◌≤◌};
+ghost use Rattle.plain_equations.specs.Degrees.{has_linear_sides};
 ghost use Rattle.plain_equations.specs.Meaning.{said};
 ghost use Rattle.plain_equations.specs.Named.{named};
 
@@ -59,7 +60,8 @@ static EQUATIONS: [Equation; 4] = [
 pub(crate) fn operating_costs(eq: u8) -> &'static Equation
     requires from { 31 ≤ eq }
     requires to { eq ≤ 34 }
-    ensures { said result.now ≡ named eq }
+    ensures said { said result.now ≡ named eq }
+    ensures linear { has_linear_sides result.now ≡ true }
 {
     look_up(&EQUATIONS, 31, eq)
 }

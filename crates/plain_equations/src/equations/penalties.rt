@@ -1,6 +1,7 @@
 //! Emissions and penalties of technologies: equations 35 to 39.
 
-ghost use Rattle.std.specs.Prelude.{◌≡◌, ◌≤◌};
+ghost use Rattle.std.specs.Prelude.{true, ◌≡◌, ◌≤◌};
+ghost use Rattle.plain_equations.specs.Degrees.{has_linear_sides};
 ghost use Rattle.plain_equations.specs.Meaning.{said};
 ghost use Rattle.plain_equations.specs.Named.{named};
 
@@ -66,7 +67,8 @@ static EQUATIONS: [Equation; 5] = [
 pub(crate) fn penalties(eq: u8) -> &'static Equation
     requires from { 35 ≤ eq }
     requires to { eq ≤ 39 }
-    ensures { said result.now ≡ named eq }
+    ensures said { said result.now ≡ named eq }
+    ensures linear { has_linear_sides result.now ≡ true }
 {
     look_up(&EQUATIONS, 35, eq)
 }

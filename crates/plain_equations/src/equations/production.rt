@@ -1,6 +1,7 @@
 //! Energy balance: production and use: equations 7 to 12.
 
-ghost use Rattle.std.specs.Prelude.{◌≡◌, ◌≤◌};
+ghost use Rattle.std.specs.Prelude.{true, ◌≡◌, ◌≤◌};
+ghost use Rattle.plain_equations.specs.Degrees.{has_linear_sides};
 ghost use Rattle.plain_equations.specs.Meaning.{said};
 ghost use Rattle.plain_equations.specs.Named.{named};
 
@@ -70,7 +71,8 @@ static EQUATIONS: [Equation; 6] = [
 pub(crate) fn production(eq: u8) -> &'static Equation
     requires from { 7 ≤ eq }
     requires to { eq ≤ 12 }
-    ensures { said result.now ≡ named eq }
+    ensures said { said result.now ≡ named eq }
+    ensures linear { has_linear_sides result.now ≡ true }
 {
     look_up(&EQUATIONS, 7, eq)
 }

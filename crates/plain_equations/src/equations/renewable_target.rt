@@ -1,6 +1,7 @@
 //! Renewable target: equations 56 to 60.
 
-ghost use Rattle.std.specs.Prelude.{◌≡◌, ◌≤◌};
+ghost use Rattle.std.specs.Prelude.{true, ◌≡◌, ◌≤◌};
+ghost use Rattle.plain_equations.specs.Degrees.{has_linear_sides};
 ghost use Rattle.plain_equations.specs.Meaning.{said};
 ghost use Rattle.plain_equations.specs.Named.{named};
 
@@ -79,7 +80,8 @@ static EQUATIONS: [Equation; 5] = [
 pub(crate) fn renewable_target(eq: u8) -> &'static Equation
     requires from { 56 ≤ eq }
     requires to { eq ≤ 60 }
-    ensures { said result.now ≡ named eq }
+    ensures said { said result.now ≡ named eq }
+    ensures linear { has_linear_sides result.now ≡ true }
 {
     look_up(&EQUATIONS, 56, eq)
 }

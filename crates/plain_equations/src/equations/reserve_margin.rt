@@ -1,6 +1,7 @@
 //! Reserve margin: equations 53 to 55.
 
-ghost use Rattle.std.specs.Prelude.{◌≡◌, ◌≤◌};
+ghost use Rattle.std.specs.Prelude.{true, ◌≡◌, ◌≤◌};
+ghost use Rattle.plain_equations.specs.Degrees.{has_linear_sides};
 ghost use Rattle.plain_equations.specs.Meaning.{said};
 ghost use Rattle.plain_equations.specs.Named.{named};
 
@@ -56,7 +57,8 @@ static EQUATIONS: [Equation; 3] = [
 pub(crate) fn reserve_margin(eq: u8) -> &'static Equation
     requires from { 53 ≤ eq }
     requires to { eq ≤ 55 }
-    ensures { said result.now ≡ named eq }
+    ensures said { said result.now ≡ named eq }
+    ensures linear { has_linear_sides result.now ≡ true }
 {
     look_up(&EQUATIONS, 53, eq)
 }

@@ -1,6 +1,7 @@
 //! Salvage value: equations 27 to 30.
 
-ghost use Rattle.std.specs.Prelude.{◌≡◌, ◌≤◌};
+ghost use Rattle.std.specs.Prelude.{true, ◌≡◌, ◌≤◌};
+ghost use Rattle.plain_equations.specs.Degrees.{has_linear_sides};
 ghost use Rattle.plain_equations.specs.Meaning.{said};
 ghost use Rattle.plain_equations.specs.Named.{named};
 
@@ -48,7 +49,8 @@ static EQUATIONS: [Equation; 4] = [
 pub(crate) fn salvage(eq: u8) -> &'static Equation
     requires from { 27 ≤ eq }
     requires to { eq ≤ 30 }
-    ensures { said result.now ≡ named eq }
+    ensures said { said result.now ≡ named eq }
+    ensures linear { has_linear_sides result.now ≡ true }
 {
     look_up(&EQUATIONS, 27, eq)
 }
