@@ -1,6 +1,6 @@
 -- Expressions of a plan that is multiplied by a number.
-use Rattle.std.proofs.Common.{◌≡◌, ℕ, ◌*◌, ◌<◌, Bool, true, false, ℤ, pos, ◌+ℤ◌, ◌*ℤ◌, List, [], ◌∷◌, ap, ap₂, sym, ◌∙◌, refl, subst, true≢false, inl, inr}
-use Rattle.std.specs.Prelude.{◌-ℤ◌, neg_ℤ, ◌&&◌, ◌||◌, ◌↔◌}
+use Rattle.std.proofs.Common.{◌≡◌, ℕ, ◌*◌, ◌<◌, true, ℤ, pos, ◌+ℤ◌, ◌*ℤ◌, List, [], ◌∷◌, ap, ap₂, sym, ◌∙◌, refl, subst, true≢false, inl, inr}
+use Rattle.std.specs.Prelude.{◌-ℤ◌, neg_ℤ, ◌&&◌, ◌↔◌}
 use Rattle.std.proofs.lemmas.Bool.{and_parts, or_cases}
 use Rattle.exact_num.proofs.Ring.{*ℤ_assoc, *ℤ_left_comm, *ℤ-+ℤ, *ℤ-zero, *ℤ-neg_ℤ}
 use Rattle.model_sets.specs.Data.{Data}

@@ -1,5 +1,5 @@
 -- The named equations, as to where they stand and what they say.
-use Rattle.std.specs.Prelude.{ℕ, List, map}
+use Rattle.std.specs.Prelude.{ℕ}
 use Rattle.named_equations.specs.Instances.{equation_of}
 use Rattle.plain_equations.specs.Meaning.{Said}
 
