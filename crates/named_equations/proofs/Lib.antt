@@ -8,5 +8,6 @@ mod ParameterNames
 mod Tables
 mod Targets
 mod Trades
+mod TwoOfEach
 mod VariableNames
 mod YearsWithGap
