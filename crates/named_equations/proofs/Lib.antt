@@ -1,10 +1,12 @@
 mod BaseFile
 mod BaseInstances
 mod BasePlan
+pub mod InstanceOrder
 mod LimitEdges
 mod MadeFile
 mod MadeInstances
 mod ParameterNames
+pub mod SortedLists
 mod Tables
 mod Targets
 mod Trades
