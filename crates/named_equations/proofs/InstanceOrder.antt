@@ -71,28 +71,28 @@ AtR r i = (rr : ℕ) × AtRR r rr i
 
 -- ---- the lists of these indices
 
-abbrev from_y : Data → List ℕ → ℕ → ℕ → ℕ → ℕ → ℕ → ℕ → ℕ → List Index
+abbrev pub from_y : Data → List ℕ → ℕ → ℕ → ℕ → ℕ → ℕ → ℕ → ℕ → List Index
 from_y d s r rr l t f e m = each (values_at d s place.y) (λ y. index r rr l t f e m y ∷ [])
 
-abbrev from_m : Data → List ℕ → ℕ → ℕ → ℕ → ℕ → ℕ → ℕ → List Index
+abbrev pub from_m : Data → List ℕ → ℕ → ℕ → ℕ → ℕ → ℕ → ℕ → List Index
 from_m d s r rr l t f e = each (values_at d s place.m) (λ m. from_y d s r rr l t f e m)
 
-abbrev from_e : Data → List ℕ → ℕ → ℕ → ℕ → ℕ → ℕ → List Index
+abbrev pub from_e : Data → List ℕ → ℕ → ℕ → ℕ → ℕ → ℕ → List Index
 from_e d s r rr l t f = each (values_at d s place.e) (λ e. from_m d s r rr l t f e)
 
-abbrev from_f : Data → List ℕ → ℕ → ℕ → ℕ → ℕ → List Index
+abbrev pub from_f : Data → List ℕ → ℕ → ℕ → ℕ → ℕ → List Index
 from_f d s r rr l t = each (values_at d s place.f) (λ f. from_e d s r rr l t f)
 
-abbrev from_t : Data → List ℕ → ℕ → ℕ → ℕ → List Index
+abbrev pub from_t : Data → List ℕ → ℕ → ℕ → ℕ → List Index
 from_t d s r rr l = each (values_at d s place.t) (λ t. from_f d s r rr l t)
 
-abbrev from_l : Data → List ℕ → ℕ → ℕ → List Index
+abbrev pub from_l : Data → List ℕ → ℕ → ℕ → List Index
 from_l d s r rr = each (values_at d s place.l) (λ l. from_t d s r rr l)
 
-abbrev from_rr : Data → List ℕ → ℕ → List Index
+abbrev pub from_rr : Data → List ℕ → ℕ → List Index
 from_rr d s r = each (values_at d s place.rr) (λ rr. from_l d s r rr)
 
-abbrev from_r : Data → List ℕ → List Index
+abbrev pub from_r : Data → List ℕ → List Index
 from_r d s = each (values_at d s place.r) (λ r. from_rr d s r)
 
 from_all : (d : Data) (s : List ℕ) → from_r d s ≡ indices d s

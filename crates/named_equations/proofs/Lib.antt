@@ -2,6 +2,7 @@ mod BaseFile
 mod BaseInstances
 mod BasePlan
 pub mod InstanceOrder
+pub mod InstanceTests
 mod LimitEdges
 mod MadeFile
 mod MadeInstances
