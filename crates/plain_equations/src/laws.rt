@@ -1,11 +1,15 @@
 //! Laws of the named equations. Each is proved as the contract of a function that changes nothing.
 
-ghost use Rattle.std.specs.Prelude.{◌≡◌, ◌<◌, ◌*◌, ◌*ℤ◌, ◌↔◌, ℕ, ℤ, pos};
+ghost use Rattle.std.specs.Prelude.{◌≡◌, ◌<◌, ◌*◌, ◌*ℤ◌, ◌↔◌, ℕ, ℤ, pos, true, Contains};
 ghost use Rattle.model_sets.specs.Data.{Data};
 ghost use Rattle.row_core.specs.Equations.{IsEquation};
 ghost use Rattle.row_core.specs.declared.Index.{Index};
+ghost use Rattle.row_core.specs.declared.RowName.{RowName};
 ghost use Rattle.row_core.specs.declared.Var.{Var};
-ghost use Rattle.named_equations.specs.Instances.{name_at};
+ghost use Rattle.row_core.specs.Numbers.{ascends};
+ghost use Rattle.row_core.specs.Order.{row_name_cmp, var_cmp};
+ghost use Rattle.named_equations.specs.Existence.{all_variables, exists};
+ghost use Rattle.named_equations.specs.Instances.{name_at, instances, is_instance};
 ghost use Rattle.named_equations.specs.Plans.{Meets};
 
 use crate::equations::equation;
@@ -18,3 +22,17 @@ pub fn scaling_law(eq: u8)
 {
     equation(eq);
 }
+
+/// A row name is in the list of instances exactly where its equation and subscripts pass the test, and the list ascends
+/// strictly, by the number of the equation and then by subscripts.
+pub fn instance_laws()
+    ensures listed { (d : Data) (name : RowName) → Contains (instances d) name ↔ (is_instance d name ≡ true) }
+    ensures ascending { (d : Data) → ascends row_name_cmp (instances d) ≡ true }
+{}
+
+/// A variable is in the list of those that exist exactly where its kind and subscripts pass the test, and the list ascends
+/// strictly, by kind and then by subscripts.
+pub fn variable_laws()
+    ensures listed { (d : Data) (v : Var) → Contains (all_variables d) v ↔ (exists d v ≡ true) }
+    ensures ascending { (d : Data) → ascends var_cmp (all_variables d) ≡ true }
+{}

@@ -22,7 +22,7 @@ pub use data::{PlainData, PlainDefault, PlainValue};
 pub use equations::equation;
 pub use expressions::{Condition, Count, Equation, Expr, Letter, Places, Years};
 pub use fail::PlainFail;
-pub use laws::scaling_law;
+pub use laws::{instance_laws, scaling_law, variable_laws};
 pub use plan::PlainPlan;
 
 #[cfg(test)]
