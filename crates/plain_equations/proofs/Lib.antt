@@ -1,3 +1,4 @@
+mod Determination
 mod Finding
 mod Lookups
 mod Ranges

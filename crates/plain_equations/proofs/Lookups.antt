@@ -1,9 +1,7 @@
 -- Reading a table that stands for some of the named equations.
-use Rattle.std.proofs.Common.{◌≡◌, ℕ, ◌+◌, ◌<◌, Bool, true, List, length, map, get_or, sym, ap, ◌∙◌, true≢false}
-use Rattle.std.specs.List.{list_all, range_with_len}
-use Rattle.std.proofs.lemmas.Bool.{true_from_ne_false}
+use Rattle.std.proofs.Common.{◌≡◌, ℕ, ◌+◌, ◌<◌, List, length, map, get_or, sym, ap, ◌∙◌}
+use Rattle.std.specs.List.{range_with_len}
 use Rattle.std.proofs.lemmas.List.{get_or-map}
-use Rattle.std.proofs.lemmas.List.Folds.{list_all_at}
 use Rattle.std.proofs.lemmas.List.FromFn.{get_or-map-range_with_len}
 
 -- the entry at a place of a table that stands for the things from a number on
@@ -13,8 +11,3 @@ tabled_entry f g table first i eq d tabled inside there =
     sym (get_or-map f table i d (f d) inside)
     ∙ ap (λ entries. get_or entries i (f d)) tabled
     ∙ get_or-map-range_with_len g first (length table) i eq (f d) inside there
-
--- the entry at a place of a list of which every entry passes
-pub passing_entry : {A : Type 0} (test : A → Bool) (table : List A) (i : ℕ) (d : A) → list_all test table ≡ true → i < length table → test (get_or table i d) ≡ true
-passing_entry test table i d all inside =
-    true_from_ne_false (test (get_or table i d)) (λ fails. true≢false (sym all ∙ list_all_at test table i d inside fails))

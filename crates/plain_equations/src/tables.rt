@@ -1,10 +1,8 @@
 //! Reading a table that stands for some of the named equations.
 
-ghost use Rattle.std.specs.Prelude.{◌≡◌, ◌+◌, ◌<◌, ◌≤◌, true, length, map};
-ghost use Rattle.std.specs.List.{list_all, range_with_len};
-ghost use Rattle.plain_equations.specs.Degrees.{has_linear_sides};
-ghost use Rattle.plain_equations.specs.Meaning.{said};
-ghost use Rattle.plain_equations.specs.Named.{named};
+ghost use Rattle.std.specs.Prelude.{◌≡◌, ◌+◌, ◌<◌, ◌≤◌, length, map};
+ghost use Rattle.std.specs.List.{range_with_len};
+ghost use Rattle.plain_equations.specs.Described.{described, expected};
 
 use crate::expressions::Equation;
 
@@ -12,10 +10,8 @@ use crate::expressions::Equation;
 pub(crate) fn look_up(table: &[Equation], first: u8, eq: u8) -> &Equation
     requires from { first ≤ eq }
     requires to { eq < first + length table.now }
-    requires tabled { map said table.now ≡ map named (range_with_len first (length table.now)) }
-    requires linear { list_all has_linear_sides table.now ≡ true }
-    ensures said { said result.now ≡ named eq }
-    ensures linear { has_linear_sides result.now ≡ true }
+    requires tabled { map described table.now ≡ map expected (range_with_len first (length table.now)) }
+    ensures { described result.now ≡ expected eq }
 {
     &table[usize::from(eq - first)]
 }

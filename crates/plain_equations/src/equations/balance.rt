@@ -1,12 +1,11 @@
 //! Energy balance of each timeslice and of each year: equations 13 to 21.
 
-ghost use Rattle.std.specs.Prelude.{true, ◌≡◌, ◌≤◌};
-ghost use Rattle.plain_equations.specs.Degrees.{has_linear_sides};
-ghost use Rattle.plain_equations.specs.Meaning.{said};
-ghost use Rattle.plain_equations.specs.Named.{named};
+ghost use Rattle.std.specs.Prelude.{◌≡◌, ◌≤◌};
+ghost use Rattle.plain_equations.specs.Described.{described, expected};
 
 use crate::expressions::Condition::Always;
 use crate::expressions::Count::One;
+use crate::expressions::Defines::{LeftVariable, Nothing, OtherTrade};
 use crate::expressions::Equation;
 use crate::expressions::Expr::{Over, Product, Sum, Values, Whole, Zero};
 use crate::expressions::Letter::{L, RR};
@@ -22,6 +21,7 @@ static EQUATIONS: [Equation; 9] = [
     // EBa7
     Equation {
         stands: Always,
+        defines: LeftVariable,
         left: Product(&Values(One), &PRODUCTION),
         sense: Equal,
         right: Product(&RATE_OF_PRODUCTION, &YEAR_SPLIT),
@@ -29,6 +29,7 @@ static EQUATIONS: [Equation; 9] = [
     // EBa8
     Equation {
         stands: Always,
+        defines: LeftVariable,
         left: Product(&Values(One), &USE),
         sense: Equal,
         right: Product(&RATE_OF_USE, &YEAR_SPLIT),
@@ -36,6 +37,7 @@ static EQUATIONS: [Equation; 9] = [
     // EBa9
     Equation {
         stands: Always,
+        defines: LeftVariable,
         left: Product(&Values(One), &DEMAND),
         sense: Equal,
         right: Product(&RATE_OF_DEMAND, &YEAR_SPLIT),
@@ -43,6 +45,7 @@ static EQUATIONS: [Equation; 9] = [
     // EBa10
     Equation {
         stands: Always,
+        defines: OtherTrade,
         left: Sum(&TRADE, &TRADE_BACK),
         sense: Equal,
         right: Zero,
@@ -50,6 +53,7 @@ static EQUATIONS: [Equation; 9] = [
     // EBa11
     Equation {
         stands: Always,
+        defines: Nothing,
         left: Product(&Values(One), &PRODUCTION),
         sense: Least,
         right: Sum(
@@ -60,6 +64,7 @@ static EQUATIONS: [Equation; 9] = [
     // EBb1
     Equation {
         stands: Always,
+        defines: LeftVariable,
         left: PRODUCTION_ANNUAL,
         sense: Equal,
         right: Over(L, Always, &PRODUCTION),
@@ -67,6 +72,7 @@ static EQUATIONS: [Equation; 9] = [
     // EBb2
     Equation {
         stands: Always,
+        defines: LeftVariable,
         left: USE_ANNUAL,
         sense: Equal,
         right: Over(L, Always, &USE),
@@ -74,6 +80,7 @@ static EQUATIONS: [Equation; 9] = [
     // EBb3
     Equation {
         stands: Always,
+        defines: LeftVariable,
         left: TRADE_ANNUAL,
         sense: Equal,
         right: Over(L, Always, &TRADE),
@@ -81,6 +88,7 @@ static EQUATIONS: [Equation; 9] = [
     // EBb4
     Equation {
         stands: Always,
+        defines: Nothing,
         left: Product(&Values(One), &PRODUCTION_ANNUAL),
         sense: Least,
         right: Sum(
@@ -97,8 +105,7 @@ static EQUATIONS: [Equation; 9] = [
 pub(crate) fn balance(eq: u8) -> &'static Equation
     requires from { 13 ≤ eq }
     requires to { eq ≤ 21 }
-    ensures said { said result.now ≡ named eq }
-    ensures linear { has_linear_sides result.now ≡ true }
+    ensures { described result.now ≡ expected eq }
 {
     look_up(&EQUATIONS, 13, eq)
 }
