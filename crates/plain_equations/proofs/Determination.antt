@@ -1,6 +1,6 @@
 -- A definition determines its variable from the others.
 use Rattle.std.proofs.Common.{◌≡◌, ◌≢◌, ℕ, ◌+◌, Bool, true, false, ℤ, pos, ◌+ℤ◌, ◌*ℤ◌, List, [], ◌∷◌, ap, ap₂, sym, ◌∙◌, refl, subst, true≢false, eqb-true, eq-eqb, cond, eq-or-lt_of_le, arith, ◌⊎◌, inl, inr}
-use Rattle.std.specs.Prelude.{◌-ℤ◌, ◌&&◌, not, nat_eq, nat_le, unsigned_abs, Option, Some, None, unwrap_or, is_some}
+use Rattle.std.specs.Prelude.{◌-ℤ◌, not, nat_eq, nat_le, unsigned_abs, Some, None, unwrap_or, is_some}
 use Rattle.std.proofs.lemmas.Bool.{and_parts, cases_lt}
 use Rattle.std.proofs.lemmas.Int.{ints}
 use Rattle.exact_num.proofs.Integers.{*ℤ_cancel, *ℤ_nonzero}
@@ -12,7 +12,7 @@ use Rattle.row_core.specs.declared.Sense.TheVariants.{Least, Equal, Most}
 use Rattle.row_core.specs.declared.Var.{Var}
 use Rattle.row_core.specs.Statements.{Stands, Holds}
 use Rattle.named_equations.specs.Instances.{name_at, variable_of}
-use Rattle.named_equations.specs.Notation.{values, million, sum_over}
+use Rattle.named_equations.specs.Notation.{values}
 use Rattle.named_equations.specs.Parameters.{year_split}
 use Rattle.named_equations.specs.Plans.{Meets}
 use Rattle.named_equations.specs.Table.{other_trade}

@@ -4,11 +4,10 @@ use Rattle.row_core.specs.declared.Sense.{Sense}
 use Rattle.row_core.specs.declared.Sense.TheVariants.{Least, Equal, Most}
 use Rattle.plain_equations.specs.declared.expressions.Defines.{Defines}
 use Rattle.plain_equations.specs.declared.expressions.Defines.TheVariants.{Nothing, LeftVariable, OtherTrade}
-use Rattle.plain_equations.specs.declared.expressions.Equation.{Equation}
 use Rattle.plain_equations.specs.declared.expressions.Expr.{Expr}
 use Rattle.plain_equations.specs.declared.expressions.Expr.TheVariants.{Zero, Whole, Values, Million, Plan, Given, CapitalFactor, OperatingFactor, SalvageFraction, Sum', Difference', Product', Over'}
 use Rattle.plain_equations.specs.declared.expressions.Letter.{Letter}
-use Rattle.plain_equations.specs.declared.expressions.Letter.TheVariants.{R, RR, L, T, F, E, M, Y, YY}
+use Rattle.plain_equations.specs.declared.expressions.Letter.TheVariants.{L, Y}
 
 -- the expression has no variable of this kind
 abbrev pub lacks : ℕ → Expr → Bool
