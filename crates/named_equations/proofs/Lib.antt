@@ -1,6 +1,7 @@
 mod BaseFile
 mod BaseInstances
 mod BasePlan
+mod FractionPlans
 pub mod InstanceOrder
 pub mod InstanceTests
 mod LimitEdges
