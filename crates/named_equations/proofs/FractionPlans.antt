@@ -1,5 +1,5 @@
 -- Lists of fractions as plans.
-use Rattle.std.proofs.Common.{◌≡◌, ℕ, ◌*◌, ℤ, pos, ◌*ℤ◌, List, [], ◌∷◌, map, refl}
+use Rattle.std.proofs.Common.{◌≡◌, ℕ, ℤ, pos, List, [], ◌∷◌, map, refl}
 use Rattle.std.specs.Prelude.{negsuc}
 use Rattle.row_core.specs.declared.Var.{Var}
 use Rattle.named_equations.specs.Plans.{Value, common_denominator, whole_at}

@@ -1,5 +1,5 @@
 -- An index, a row name or a variable is in its list exactly where its test passes.
-use Rattle.std.proofs.Common.{◌≡◌, ℕ, zero, suc, ◌+◌, ◌-◌, ◌<◌, ◌≤◌, Bool, true, false, cond, List, [], ◌∷◌, ◌++◌, map, filter, length, ap, sym, ◌∙◌, refl, subst, arith, ◌⊎◌, inl, inr, ltb, eqb, lt-ltb, ltb-true, eq-eqb, eqb-true, true≢false, eq-or-lt_of_le}
+use Rattle.std.proofs.Common.{◌≡◌, ℕ, zero, suc, ◌+◌, ◌<◌, ◌≤◌, Bool, true, false, cond, List, [], ◌∷◌, ◌++◌, map, filter, length, ap, sym, ◌∙◌, refl, subst, arith, ◌⊎◌, inl, inr, lt-ltb, ltb-true, eq-eqb, eqb-true, true≢false, eq-or-lt_of_le}
 use Rattle.std.specs.Prelude.{◌&&◌, ◌||◌, ◌↔◌, nat_lt, nat_eq, slice_index_or, Contains}
 use Rattle.std.specs.List.{flat_map, list_any, range_with_len}
 use Rattle.std.proofs.lemmas.Bool.{and_parts, or_cases}
@@ -62,8 +62,8 @@ pub flat_map_parts : {B : Type 0} (f : ℕ → List B) (vs : List ℕ) (x : B) �
 flat_map_parts f [] x h = absurd h
 flat_map_parts f (w ∷ vs) x h =
     elim (append_parts (f w) (flat_map f vs) x h) [
-        inl l ↦ (w, inl refl, l)
-        | inr r ↦ let rest = flat_map_parts f vs x r in (rest.0, inr rest.1, rest.2)
+      | inl l ↦ (w, inl refl, l)
+      | inr r ↦ let rest = flat_map_parts f vs x r in (rest.0, inr rest.1, rest.2)
     ]
 
 -- of those that pass a test
@@ -88,8 +88,8 @@ filter_parts : {A : Type 0} (test : A → Bool) (xs : List A) (x : A) → Has (f
 filter_parts test [] x h = absurd h
 filter_parts test (z ∷ xs) x h =
     elim (kept_parts (test z) z x (filter test xs) h) [
-        inl first ↦ (inl first.1, ap test (sym first.1) ∙ first.0)
-        | inr r ↦ let rest = filter_parts test xs x r in (inr rest.0, rest.1)
+      | inl first ↦ (inl first.1, ap test (sym first.1) ∙ first.0)
+      | inr r ↦ let rest = filter_parts test xs x r in (inr rest.0, rest.1)
     ]
 
 Has-map : {A B : Type 0} (g : A → B) (xs : List A) (x : A) → Has xs x → Has (map g xs) (g x)
@@ -169,14 +169,14 @@ Has-indices d s i passes =
     let p2 = and_parts (b0 && b1) b2 p3.0 in
     let p1 = and_parts (b0) b1 p2.0 in
     Has-flat_map (λ r. from_rr d s r) (values_at d s place.r) i.region i (Has-values d s place.r i.region p1.0)
-        (Has-flat_map (λ rr. from_l d s i.region rr) (values_at d s place.rr) i.other i (Has-values d s place.rr i.other p1.1)
-        (Has-flat_map (λ l. from_t d s i.region i.other l) (values_at d s place.l) i.slice i (Has-values d s place.l i.slice p2.1)
-        (Has-flat_map (λ t. from_f d s i.region i.other i.slice t) (values_at d s place.t) i.tech i (Has-values d s place.t i.tech p3.1)
-        (Has-flat_map (λ f. from_e d s i.region i.other i.slice i.tech f) (values_at d s place.f) i.fuel i (Has-values d s place.f i.fuel p4.1)
-        (Has-flat_map (λ e. from_m d s i.region i.other i.slice i.tech i.fuel e) (values_at d s place.e) i.emission i (Has-values d s place.e i.emission p5.1)
-        (Has-flat_map (λ m. from_y d s i.region i.other i.slice i.tech i.fuel i.emission m) (values_at d s place.m) i.mode i (Has-values d s place.m i.mode p6.1)
-        (Has-flat_map (λ y. index i.region i.other i.slice i.tech i.fuel i.emission i.mode y ∷ []) (values_at d s place.y) i.year i (Has-values d s place.y i.year p7.1)
-        (inl refl))))))))
+    (Has-flat_map (λ rr. from_l d s i.region rr) (values_at d s place.rr) i.other i (Has-values d s place.rr i.other p1.1)
+    (Has-flat_map (λ l. from_t d s i.region i.other l) (values_at d s place.l) i.slice i (Has-values d s place.l i.slice p2.1)
+    (Has-flat_map (λ t. from_f d s i.region i.other i.slice t) (values_at d s place.t) i.tech i (Has-values d s place.t i.tech p3.1)
+    (Has-flat_map (λ f. from_e d s i.region i.other i.slice i.tech f) (values_at d s place.f) i.fuel i (Has-values d s place.f i.fuel p4.1)
+    (Has-flat_map (λ e. from_m d s i.region i.other i.slice i.tech i.fuel e) (values_at d s place.e) i.emission i (Has-values d s place.e i.emission p5.1)
+    (Has-flat_map (λ m. from_y d s i.region i.other i.slice i.tech i.fuel i.emission m) (values_at d s place.m) i.mode i (Has-values d s place.m i.mode p6.1)
+    (Has-flat_map (λ y. index i.region i.other i.slice i.tech i.fuel i.emission i.mode y ∷ []) (values_at d s place.y) i.year i (Has-values d s place.y i.year p7.1)
+    (inl refl))))))))
 
 -- an index in the list passes
 only_one : {A : Type 0} (z x : A) → Has (z ∷ []) x → z ≡ x
@@ -200,41 +200,43 @@ indices-pass d s i h =
 
 -- a name that passes is in the list of instances, and a name in the list passes
 pub Has-instances : (d : Data) (name : RowName) → Has (instances d) name ↔ (is_instance d name ≡ true)
-Has-instances d name =
-    (λ h.
-        let found = flat_map_parts (instances_of d) equation_numbers name h in
-        let mapped = map_parts (name_at found.0) (filter (stands_at d found.0) (indices d (subscripts_of found.0))) name found.2 in
-        let passed = filter_parts (stands_at d found.0) (indices d (subscripts_of found.0)) mapped.0 mapped.1 in
-        subst (λ n. is_instance d n ≡ true) mapped.2
-        (both_pass (list_any (nat_eq found.0) equation_numbers && is_index d (subscripts_of found.0) mapped.0) (stands_at d found.0 mapped.0)
-            (both_pass (list_any (nat_eq found.0) equation_numbers) (is_index d (subscripts_of found.0) mapped.0)
-                (has_any equation_numbers found.0 found.1) (indices-pass d (subscripts_of found.0) mapped.0 passed.0))
-            passed.1),
-    λ passes.
-        let tests = and_parts (list_any (nat_eq name.eq) equation_numbers && is_index d (subscripts_of name.eq) name.index) (stands_at d name.eq name.index) passes in
-        let within = and_parts (list_any (nat_eq name.eq) equation_numbers) (is_index d (subscripts_of name.eq) name.index) tests.0 in
-        Has-flat_map (instances_of d) equation_numbers name.eq name (any_has equation_numbers name.eq within.0)
-        (Has-map (name_at name.eq) (filter (stands_at d name.eq) (indices d (subscripts_of name.eq))) name.index
-            (Has-filter (stands_at d name.eq) (indices d (subscripts_of name.eq)) name.index (Has-indices d (subscripts_of name.eq) name.index within.1) tests.1)))
+Has-instances d name = (
+  λ h.
+      let found = flat_map_parts (instances_of d) equation_numbers name h in
+      let mapped = map_parts (name_at found.0) (filter (stands_at d found.0) (indices d (subscripts_of found.0))) name found.2 in
+      let passed = filter_parts (stands_at d found.0) (indices d (subscripts_of found.0)) mapped.0 mapped.1 in
+      subst (λ n. is_instance d n ≡ true) mapped.2
+      (both_pass (list_any (nat_eq found.0) equation_numbers && is_index d (subscripts_of found.0) mapped.0) (stands_at d found.0 mapped.0)
+      (both_pass (list_any (nat_eq found.0) equation_numbers) (is_index d (subscripts_of found.0) mapped.0)
+      (has_any equation_numbers found.0 found.1) (indices-pass d (subscripts_of found.0) mapped.0 passed.0))
+      passed.1),
+  λ passes.
+      let tests = and_parts (list_any (nat_eq name.eq) equation_numbers && is_index d (subscripts_of name.eq) name.index) (stands_at d name.eq name.index) passes in
+      let within = and_parts (list_any (nat_eq name.eq) equation_numbers) (is_index d (subscripts_of name.eq) name.index) tests.0 in
+      Has-flat_map (instances_of d) equation_numbers name.eq name (any_has equation_numbers name.eq within.0)
+      (Has-map (name_at name.eq) (filter (stands_at d name.eq) (indices d (subscripts_of name.eq))) name.index
+      (Has-filter (stands_at d name.eq) (indices d (subscripts_of name.eq)) name.index (Has-indices d (subscripts_of name.eq) name.index within.1) tests.1)),
+)
 
 -- the same of variables
 pub Has-variables : (d : Data) (v : Var) → Has (all_variables d) v ↔ (exists d v ≡ true)
-Has-variables d v =
-    (λ h.
-        let found = flat_map_parts (variables_of_kind d) kind_numbers v h in
-        let mapped = map_parts (variable found.0) (filter (exists_at d found.0) (indices d (subscripts_of_kind found.0))) v found.2 in
-        let passed = filter_parts (exists_at d found.0) (indices d (subscripts_of_kind found.0)) mapped.0 mapped.1 in
-        subst (λ n. exists d n ≡ true) mapped.2
-        (both_pass (list_any (nat_eq found.0) kind_numbers && is_index d (subscripts_of_kind found.0) mapped.0) (exists_at d found.0 mapped.0)
-            (both_pass (list_any (nat_eq found.0) kind_numbers) (is_index d (subscripts_of_kind found.0) mapped.0)
-                (has_any kind_numbers found.0 found.1) (indices-pass d (subscripts_of_kind found.0) mapped.0 passed.0))
-            passed.1),
-    λ passes.
-        let tests = and_parts (list_any (nat_eq v.kind) kind_numbers && is_index d (subscripts_of_kind v.kind) v.index) (exists_at d v.kind v.index) passes in
-        let within = and_parts (list_any (nat_eq v.kind) kind_numbers) (is_index d (subscripts_of_kind v.kind) v.index) tests.0 in
-        Has-flat_map (variables_of_kind d) kind_numbers v.kind v (any_has kind_numbers v.kind within.0)
-        (Has-map (variable v.kind) (filter (exists_at d v.kind) (indices d (subscripts_of_kind v.kind))) v.index
-            (Has-filter (exists_at d v.kind) (indices d (subscripts_of_kind v.kind)) v.index (Has-indices d (subscripts_of_kind v.kind) v.index within.1) tests.1)))
+Has-variables d v = (
+  λ h.
+      let found = flat_map_parts (variables_of_kind d) kind_numbers v h in
+      let mapped = map_parts (variable found.0) (filter (exists_at d found.0) (indices d (subscripts_of_kind found.0))) v found.2 in
+      let passed = filter_parts (exists_at d found.0) (indices d (subscripts_of_kind found.0)) mapped.0 mapped.1 in
+      subst (λ n. exists d n ≡ true) mapped.2
+      (both_pass (list_any (nat_eq found.0) kind_numbers && is_index d (subscripts_of_kind found.0) mapped.0) (exists_at d found.0 mapped.0)
+      (both_pass (list_any (nat_eq found.0) kind_numbers) (is_index d (subscripts_of_kind found.0) mapped.0)
+      (has_any kind_numbers found.0 found.1) (indices-pass d (subscripts_of_kind found.0) mapped.0 passed.0))
+      passed.1),
+  λ passes.
+      let tests = and_parts (list_any (nat_eq v.kind) kind_numbers && is_index d (subscripts_of_kind v.kind) v.index) (exists_at d v.kind v.index) passes in
+      let within = and_parts (list_any (nat_eq v.kind) kind_numbers) (is_index d (subscripts_of_kind v.kind) v.index) tests.0 in
+      Has-flat_map (variables_of_kind d) kind_numbers v.kind v (any_has kind_numbers v.kind within.0)
+      (Has-map (variable v.kind) (filter (exists_at d v.kind) (indices d (subscripts_of_kind v.kind))) v.index
+      (Has-filter (exists_at d v.kind) (indices d (subscripts_of_kind v.kind)) v.index (Has-indices d (subscripts_of_kind v.kind) v.index within.1) tests.1)),
+)
 
 -- ---- as std says it
 
