@@ -1,6 +1,7 @@
 mod BaseFile
 mod BaseInstances
 mod BasePlan
+mod ExistingVariables
 mod FractionPlans
 pub mod InstanceOrder
 pub mod InstanceTests

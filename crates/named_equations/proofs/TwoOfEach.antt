@@ -105,7 +105,7 @@ tenths =
 abbrev values_of : ℕ × List ℤ → List Given
 values_of numbered = map (λ at. given numbered.0 at.0 (at.1 *ℤ pos (10 ^ 8))) (zip (indices_of wide_sets numbered.0) numbered.1)
 
-abbrev wide : Data
+abbrev pub wide : Data
 wide = record { sets = wide_sets; given = flat_map values_of (enumerate_from 1 tenths); defaults = [] }
 
 -- ---- plan
