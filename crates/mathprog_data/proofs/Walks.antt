@@ -13,11 +13,15 @@ use Rattle.std.specs.Prelude.{Option, Some, None}
 abbrev pub turned : Open → Placed → Turn
 turned s t = turn s (seen_of t.lexeme) t.at
 
+-- the token has this turn
+pub record Turns (s : Open) (t : Placed) (y : Turn) : Type 0 where
+  pub is : turned s t ≡ y
+
 -- the machine goes from a state, with these tokens and events to come, to another one, with those to come
 pub data Walk : Open → List Placed → List Event → Open → List Placed → List Event → Type 0 where
   stay : {s : Open} {ts : List Placed} {es : List Event} → Walk s ts es s ts es
-  go : {s next z : Open} {t : Placed} {ts us : List Placed} {es fs : List Event} → turned s t ≡ Go next → Walk next ts es z us fs → Walk s (t ∷ ts) es z us fs
-  emit : {s next z : Open} {t : Placed} {ts us : List Placed} {e : Event} {es fs : List Event} → turned s t ≡ Emit e next → Walk next ts es z us fs → Walk s (t ∷ ts) (e ∷ es) z us fs
+  go : {s next z : Open} {t : Placed} {ts us : List Placed} {es fs : List Event} → Turns s t (Go next) → Walk next ts es z us fs → Walk s (t ∷ ts) es z us fs
+  emit : {s next z : Open} {t : Placed} {ts us : List Placed} {e : Event} {es fs : List Event} → Turns s t (Emit e next) → Walk next ts es z us fs → Walk s (t ∷ ts) (e ∷ es) z us fs
 
 -- the machine goes over all these tokens with these events
 abbrev pub Path : Open → List Placed → List Event → Open → Type 0
