@@ -1,2 +1,4 @@
 mod LexemeExamples
+pub mod NumberReadingLaws
+pub mod SymbolLemmas
 mod Tables

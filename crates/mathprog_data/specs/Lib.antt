@@ -1,8 +1,10 @@
+pub mod DraftViews
 pub mod Faults
 pub mod Lexemes
 pub mod MachineRuns
 pub mod MachineStates
 pub mod MachineSteps
+pub mod MachineViews
 pub mod Meaning
 pub mod NumberReading
 pub mod ParamTables
@@ -10,6 +12,7 @@ pub mod Params
 pub mod Slices
 pub mod StatementFaults
 pub mod Statements
+pub mod SymbolViews
 pub mod Symbols
 pub mod Tables
 pub mod Words

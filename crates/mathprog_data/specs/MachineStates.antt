@@ -51,7 +51,7 @@ pub data Open : Type 0 where
   -- `param default`
   LeadingDefault : Open
   -- a number behind that
-  LeadingNumber : Number → Bool → Open
+  LeadingNumber : Option Number → Bool → Open
   -- the colon of tabbing data
   TabbingColon : Option Number → Open
   -- the parameter's name behind it

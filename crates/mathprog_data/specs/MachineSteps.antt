@@ -118,11 +118,11 @@ default_read param (SymbolSeen w name n) = number n (λ v. Emit (DefaultGiven v)
 default_read param x = Stop unexpected
 
 abbrev pub leading_default : Seen → Turn
-leading_default (SymbolSeen w name n) = number n (λ v. Go (LeadingNumber v true))
+leading_default (SymbolSeen w name n) = number n (λ v. Go (LeadingNumber (Some v) true))
 leading_default x = Stop unexpected
 
-abbrev pub leading_number : Number → Bool → Seen → Turn
-leading_number v c (SignSeen signs.Colon) = Go (TabbingColon (Some v))
+abbrev pub leading_number : Option Number → Bool → Seen → Turn
+leading_number v c (SignSeen signs.Colon) = Go (TabbingColon v)
 leading_number v c (SignSeen signs.Comma) = comma c (LeadingNumber v false)
 leading_number v c x = Stop unexpected
 

@@ -10,6 +10,7 @@ mod fault;
 mod lexeme;
 mod params;
 mod sets;
+mod statements;
 mod token;
 mod words;
 
