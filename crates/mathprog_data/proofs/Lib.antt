@@ -1,5 +1,14 @@
 pub mod CellSteps
 mod LexemeExamples
 pub mod NumberReadingLaws
+pub mod SectionsSound
+pub mod SectionsTaken
+pub mod StatementsGo
+pub mod StatementsSound
+pub mod StatementsTaken
 pub mod SymbolLemmas
 mod Tables
+pub mod TablesSound
+pub mod TablesTaken
+pub mod TokensSeen
+pub mod Walks
