@@ -1,4 +1,5 @@
 pub mod CellSteps
+pub mod FaultTests
 mod LexemeExamples
 pub mod NumberReadingLaws
 pub mod SectionsSound
