@@ -1,4 +1,5 @@
 pub mod CellSteps
+pub mod FaultRecords
 pub mod FaultTests
 mod LexemeExamples
 pub mod NumberReadingLaws
