@@ -60,7 +60,7 @@ table-by : (b : Bool) (next : Open) (w s g : Bool) → w ≡ true → s ≡ fals
 table-by true next w s g e f h = tt
 table-by false next w s g e f h = ap₂ (λ x y. false ∷ x ∷ y ∷ false ∷ g ∷ []) e f ∙ ap (λ z. false ∷ true ∷ false ∷ false ∷ z ∷ []) h
 
-table-agreed : (k : ℕ) (next : Open) (w s g : Bool) → w ≡ true → s ≡ false → g ≡ false → Agrees (table k next) (false ∷ w ∷ s ∷ false ∷ g ∷ [])
+pub table-agreed : (k : ℕ) (next : Open) (w s g : Bool) → w ≡ true → s ≡ false → g ≡ false → Agrees (table k next) (false ∷ w ∷ s ∷ false ∷ g ∷ [])
 table-agreed k next w s g e f h = table-by (nat_eq k 2) next w s g e f h
 
 stop-agreed : (s : Bool) → s ≡ false → Agrees (Stop 4) (false ∷ false ∷ s ∷ false ∷ false ∷ [])

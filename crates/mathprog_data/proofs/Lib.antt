@@ -1,10 +1,12 @@
 pub mod CellSteps
 pub mod FaultRecords
+pub mod FaultTables
 pub mod FaultTests
 mod LexemeExamples
 pub mod NumberReadingLaws
 pub mod SectionsSound
 pub mod SectionsTaken
+pub mod SoundStates
 pub mod StatementsGo
 pub mod StatementsSound
 pub mod StatementsTaken
