@@ -21,7 +21,7 @@ use Rattle.mathprog_data.specs.Statements as trees
 use Rattle.mathprog_data.specs.Symbols.{Name, Number, IsSign, IsKeyword, IsSymbol, IsNumber, OptionalComma, none, one}
 
 -- a sign or another word is not the keyword `default`
-not_default : (t : Placed) (x : Seen) → seen t ≡ x → ((name : Name) (n : Option Number) → x ≡ SymbolSeen words.Default name n → ⊥) → IsKeyword (codes "default") t → ⊥
+pub not_default : (t : Placed) (x : Seen) → seen t ≡ x → ((name : Name) (n : Option Number) → x ≡ SymbolSeen words.Default name n → ⊥) → IsKeyword (codes "default") t → ⊥
 not_default t x e other is = other (codes "default") _ (sym e ∙ ap (λ l. seen (record t { lexeme = l })) is)
 
 -- ---- the names of sets
