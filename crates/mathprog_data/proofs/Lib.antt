@@ -1,12 +1,18 @@
 pub mod CellSteps
+pub mod Drafts
 pub mod FaultRecords
 pub mod FaultTables
 pub mod FaultTests
 mod LexemeExamples
+pub mod NamesGo
+pub mod NamesOnce
 pub mod NumberReadingLaws
+pub mod RunLaws
+pub mod SectionMeans
 pub mod SectionsSound
 pub mod SectionsTaken
 pub mod SoundStates
+pub mod SoundTurns
 pub mod StatementsGo
 pub mod StatementsSound
 pub mod StatementsTaken
@@ -15,4 +21,6 @@ mod Tables
 pub mod TablesSound
 pub mod TablesTaken
 pub mod TokensSeen
+pub mod TurnLaws
+pub mod WalkLaws
 pub mod Walks
