@@ -1,8 +1,11 @@
 pub mod CellSteps
 pub mod Drafts
+pub mod Endings
 pub mod FaultRecords
 pub mod FaultTables
 pub mod FaultTests
+pub mod GoodLists
+pub mod LastStatement
 mod LexemeExamples
 pub mod NamesGo
 pub mod NamesOnce
@@ -11,8 +14,6 @@ pub mod RunLaws
 pub mod SectionMeans
 pub mod SectionsSound
 pub mod SectionsTaken
-pub mod SoundStates
-pub mod SoundTurns
 pub mod StatementsGo
 pub mod StatementsSound
 pub mod StatementsTaken
