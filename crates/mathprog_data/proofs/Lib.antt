@@ -10,6 +10,7 @@ mod LexemeExamples
 pub mod NamesGo
 pub mod NamesOnce
 pub mod NumberReadingLaws
+pub mod RoundedCounts
 pub mod RunLaws
 pub mod SectionMeans
 pub mod SectionsSound
