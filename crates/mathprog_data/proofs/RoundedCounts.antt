@@ -1,11 +1,10 @@
 -- A token adds one rounded number at most.
-use Rattle.std.proofs.Common.{◌≡◌, ℕ, ◌+◌, ◌≤◌, ◌<◌, Bool, true, false, cond, List, [], ◌∷◌, length, Option, Some, None, Result, Ok, Err, refl, sym, ap, ◌∙◌, subst, arith}
+use Rattle.std.proofs.Common.{◌≡◌, ℕ, ◌+◌, ◌≤◌, Bool, true, false, cond, List, [], ◌∷◌, length, Option, Some, None, Result, Ok, Err, refl, subst, arith}
 use Rattle.mathprog_data.specs.declared.blocks.Mark.{Mark}
 use Rattle.mathprog_data.specs.Lexemes.{Lexeme, Placed}
-use Rattle.mathprog_data.specs.MachineRuns.{Stopped, after, run}
+use Rattle.mathprog_data.specs.MachineRuns.{after, run}
 use Rattle.mathprog_data.specs.MachineStates.{Open, Event, Begins, MemberNamed, DefaultGiven, ValueGiven, SetClosed, ParamClosed, Turn, Stop, Go, Emit, Draft, with_default, noted, Reader, seen_of}
-use Rattle.mathprog_data.specs.MachineSteps.{turn, is_second, reader, taken, step, beginning}
-use Rattle.mathprog_data.specs.Meaning.{count_of}
+use Rattle.mathprog_data.specs.MachineSteps.{turn, is_second, reader, taken, step}
 use Rattle.mathprog_data.specs.Statements.{SetBegun, ParamBegun, TabbingBegun}
 use Rattle.mathprog_data.specs.Symbols.{Number}
 
