@@ -1,11 +1,9 @@
 -- What symbols say and name, byte by byte.
-use Rattle.std.proofs.Common.{◌≡◌, ◌≢◌, ℕ, ◌+◌, ◌<◌, Bool, true, false, cond, eqb, List, [], ◌∷◌, ◌++◌, length, drop, get_or, Option, Some, None, sym, refl, ap, ap₂, ◌∙◌, subst, arith}
-use Rattle.std.specs.Prelude.{◌&&◌, nat_lt, not}
-use Rattle.std.proofs.lemmas.Bool.{eqb-true}
-use Rattle.std.proofs.lemmas.Bool.Decides.{nat_tests}
+use Rattle.std.proofs.Common.{◌≡◌, ℕ, ◌<◌, Bool, true, false, cond, eqb, List, [], ◌∷◌, length, get_or, None, refl, arith}
+use Rattle.std.specs.Prelude.{◌&&◌}
 use Rattle.mathprog_data.specs.declared.words.Word.TheVariants.{Other}
-use Rattle.mathprog_data.specs.Lexemes.{Quoted, undoubled, without_leading_zeros}
-use Rattle.mathprog_data.specs.MachineStates.{Seen, SymbolSeen, seen_of}
+use Rattle.mathprog_data.specs.Lexemes.{Quoted, undoubled}
+use Rattle.mathprog_data.specs.MachineStates.{SymbolSeen, seen_of}
 
 -- some bytes
 abbrev pub IsSome : List ℕ → Type 0

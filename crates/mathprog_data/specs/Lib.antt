@@ -1,3 +1,4 @@
+pub mod BlocksView
 pub mod DraftViews
 pub mod Faults
 pub mod Lexemes

@@ -4,7 +4,7 @@ use Rattle.mathprog_data.specs.declared.statements.State.{State}
 use Rattle.mathprog_data.specs.declared.statements.State.TheVariants as states
 use Rattle.mathprog_data.specs.declared.statements.StatementReader.{StatementReader}
 use Rattle.mathprog_data.specs.DraftViews.{draft_view}
-use Rattle.mathprog_data.specs.MachineStates.{Open, Fresh, DataRead, Between, EndRead, Ended, SetRead, InSet, ParamRead, ParamNamed, DefaultRead, LeadingDefault, LeadingNumber, TabbingColon, TabbingNamed, InRecords, InPlain, PlaceDue, PlaceRead, ParenRead, TrRead, TrClosed, InColumns, InRows, InRow, Draft, Reader, Turn}
+use Rattle.mathprog_data.specs.MachineStates.{Open, Fresh, DataRead, Between, EndRead, Ended, SetRead, InSet, ParamRead, ParamNamed, DefaultRead, LeadingDefault, LeadingNumber, TabbingColon, TabbingNamed, InRecords, InPlain, PlaceDue, PlaceRead, ParenRead, TrRead, TrClosed, InColumns, InRows, InRow, Reader, Turn}
 use Rattle.mathprog_data.specs.MachineSteps.{taken, reader}
 use Rattle.mathprog_data.specs.Statements.{Form, Listed, Tabbing}
 

@@ -1,6 +1,5 @@
 -- What the code's symbols say, without where their bytes lie in memory.
 use Rattle.std.specs.Prelude.{ℕ, false, List, Option, Some, None}
-use Rattle.std.specs.Borrow.{Bor}
 use Rattle.mathprog_data.specs.declared.statements.seen.Seen.{Seen as SlicedSeen}
 use Rattle.mathprog_data.specs.declared.statements.seen.Seen.TheVariants as sliced
 use Rattle.mathprog_data.specs.declared.statements.seen.Symbol.{Symbol}

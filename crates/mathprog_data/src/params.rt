@@ -269,7 +269,7 @@ fn place_of(table: &[Parameter], word: &[u8]) -> Option<u8>
     ensures { result ≡ param_number word.now }
 {
     for (i, entry) in table.iter().enumerate() {
-        if entry.word.as_bytes() == word {
+        if word == entry.word.as_bytes() {
             return Some(i as u8 + 1);
         }
     }
@@ -281,4 +281,25 @@ pub(crate) fn param_number(word: &[u8]) -> Option<u8>
     ensures { result ≡ param_number word.now }
 {
     place_of(&PARAMS, word)
+}
+
+/// How many subscripts the parameter has. Where there is none of this number: as many as number 1 has below
+/// it, and none above.
+pub(crate) fn subscripts_of(param: u8) -> u8
+    ensures { result ≡ subscript_count param }
+{
+    at_place(&PARAMS, param)
+}
+
+/// How many subscripts the parameter at this place of the table has.
+fn at_place(table: &[Parameter], param: u8) -> u8
+    requires { map described_param table.now ≡ params }
+    ensures { result ≡ subscript_count param }
+{
+    let place = param.saturating_sub(1) as usize;
+    if place < table.len() {
+        table[place].subscripts
+    } else {
+        0
+    }
 }

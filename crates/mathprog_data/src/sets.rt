@@ -44,7 +44,7 @@ fn place_of(table: &'static [&'static str], word: &[u8]) -> Option<u8>
     ensures { result ≡ set_number word.now }
 {
     for (i, entry) in table.iter().enumerate() {
-        if entry.as_bytes() == word {
+        if word == entry.as_bytes() {
             return Some(i as u8 + 1);
         }
     }

@@ -1,7 +1,8 @@
 //! The reader of statements: a machine that takes token by token.
 
 ghost use Rattle.std.specs.Prelude.{◌≡◌, ◌+◌, ◌<◌, ◌^◌, IfOk, OnOk, Option, Some, None};
-ghost use Rattle.mathprog_data.specs.DraftViews.{draft_view, blocks_view};
+ghost use Rattle.mathprog_data.specs.BlocksView.{blocks_told};
+ghost use Rattle.mathprog_data.specs.DraftViews.{draft_view};
 ghost use Rattle.mathprog_data.specs.Lexemes.{lexeme_of};
 ghost use Rattle.mathprog_data.specs.MachineSteps.{step, beginning, may_end};
 ghost use Rattle.mathprog_data.specs.MachineViews.{reader_view, open_view, outcome};
@@ -9,14 +10,19 @@ ghost use Rattle.mathprog_data.specs.MachineStates.{drafted};
 
 mod draft;
 mod opening;
+mod params;
+mod plain;
 mod seen;
 mod sets;
+mod slices;
+mod tables;
 mod turns;
 
 use crate::blocks::{Blocks, Mark, Name};
-
+use crate::fault::UNEXPECTED;
+use crate::lexeme::Lexeme;
 use draft::Draft;
-
+use seen::seen_in;
 use std::alloc::{AllocError, Global};
 
 /// What is open: what the tokens read so far end with.
@@ -128,6 +134,40 @@ impl StatementReader {
         }
     }
 
+    /// Takes the next token. Answers the number of its fault, where it can't stand here.
+    pub(crate) fn take(&mut self, lexeme: Lexeme, at: Mark) -> Result<Option<u8>, AllocError>
+        requires { self.old.draft.rounded + 1 < 2 ^ 64 }
+        ensures { IfOk result (λ fault. step (reader_view self.old) (lexeme_of lexeme.entry) at ≡ outcome fault (reader_view self.new)) }
+    {
+        let seen = seen_in(lexeme);
+        match self.state {
+            State::Fresh => Ok(self.fresh(seen)),
+            State::DataRead => Ok(self.data_read(seen)),
+            State::Between => Ok(self.between(seen)),
+            State::EndRead => Ok(self.end_read(seen)),
+            State::Ended => Ok(Some(UNEXPECTED)),
+            State::SetRead => self.set_read(seen),
+            State::InSet => self.in_set(seen),
+            State::ParamRead => self.param_read(seen),
+            State::ParamNamed => self.param_named(seen, at),
+            State::DefaultRead => self.default_read(seen),
+            State::LeadingDefault => Ok(self.leading_default(seen)),
+            State::LeadingNumber => Ok(self.leading_number(seen)),
+            State::TabbingColon => self.tabbing_colon(seen),
+            State::TabbingNamed => self.tabbing_named(seen),
+            State::InRecords => self.in_records(seen, at),
+            State::InPlain => self.in_plain(seen),
+            State::PlaceDue => self.place_due(seen),
+            State::PlaceRead => Ok(self.place_read(seen)),
+            State::ParenRead => Ok(self.paren_read(seen)),
+            State::TrRead => Ok(self.tr_read(seen)),
+            State::TrClosed => Ok(self.tr_closed(seen)),
+            State::InColumns => self.in_columns(seen),
+            State::InRows => self.in_rows(seen, at),
+            State::InRow => self.in_row(seen),
+        }
+    }
+
     /// Whether the section may end here.
     pub(crate) fn may_end(&self) -> bool
         ensures { result ≡ may_end (open_view self.now) }
@@ -137,7 +177,7 @@ impl StatementReader {
 
     /// The blocks that were read.
     pub(crate) fn into_blocks(self) -> Blocks
-        ensures { blocks_view result ≡ drafted (draft_view self.draft) }
+        ensures { blocks_told result ≡ drafted (draft_view self.draft) }
     {
         let StatementReader {
             alloc: _,
