@@ -16,4 +16,5 @@ pub mod Statements
 pub mod SymbolViews
 pub mod Symbols
 pub mod Tables
+pub mod WellFormed
 pub mod Words
