@@ -1,2 +1,3 @@
 mod LexemeExamples
+mod LexingExamples
 mod Tables
