@@ -2,6 +2,7 @@ pub mod Faults
 pub mod Lexemes
 pub mod Lexing
 pub mod LexingBytes
+pub mod LexingMachine
 pub mod LexingPieces
 pub mod ParamTables
 pub mod Params

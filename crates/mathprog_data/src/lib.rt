@@ -8,6 +8,7 @@
 mod blocks;
 mod fault;
 mod lexeme;
+mod lexer;
 mod params;
 mod sets;
 mod token;
