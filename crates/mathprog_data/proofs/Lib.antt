@@ -1,3 +1,5 @@
 mod LexemeExamples
 mod LexingExamples
+pub mod LexingPlaces
+pub mod LexingSteps
 mod Tables

@@ -4,6 +4,7 @@ pub mod Lexing
 pub mod LexingBytes
 pub mod LexingMachine
 pub mod LexingPieces
+pub mod LexingRuns
 pub mod ParamTables
 pub mod Params
 pub mod Places

@@ -6,6 +6,7 @@
 #![tactic(auto)]
 
 mod blocks;
+mod closing;
 mod fault;
 mod lexeme;
 mod lexer;
