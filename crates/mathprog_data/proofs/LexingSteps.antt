@@ -74,3 +74,11 @@ run_gap front (byte ∷ rest) from start bad =
                 (by_cond rest (is_quote byte) _ _ _ _ refl
                     (by_cond rest (byte == 35) _ _ _ _ refl
                         (by_cond rest (byte == 47) _ _ _ _ refl (by_sign front rest byte from start bad (sign_of byte)))))))
+
+-- what isn't gone on with ends, and the rest goes on where nothing is pending and nothing is kept
+pub run_ended : (pending : Pending) (front : List ℕ) (from : ℕ) (start : Mark) (bad : Option Mark) (rest : List ℕ)
+    → stops (continues pending) rest ≡ true
+    → run (at pending front from start bad) rest ≡ and_then (ended (at pending front from start bad) pending) (run (gap front) rest)
+run_ended pending front from start bad rest stopped =
+    run_settled (at pending front from start bad) rest stopped
+    ∙ ap (and_then (ended (at pending front from start bad) pending)) (run_gap front rest from start bad)

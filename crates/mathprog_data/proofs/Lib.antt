@@ -1,5 +1,9 @@
 mod LexemeExamples
+pub mod LexingByteLemmas
 mod LexingExamples
 pub mod LexingPlaces
+pub mod LexingRunGaps
+pub mod LexingRunQuotes
+pub mod LexingRunTokens
 pub mod LexingSteps
 mod Tables
