@@ -2,7 +2,8 @@
 use Rattle.std.proofs.Common.{◌≡◌, ℕ, ◌+◌, Bool, true, false, not, cond, ◌&&◌, ◌||◌, ◌==◌, List, [], ◌∷◌, ◌++◌, length, Option, None, Some, refl, sym, ap, subst, ◌∙◌, arith, append-nil}
 use Rattle.std.specs.Prelude.{is_some}
 use Rattle.std.specs.List.{list_all}
-use Rattle.std.proofs.lemmas.Bool.{and_parts, and_from, not-false, not-true, not_from_false, eq-eqb, eqb-true, cond-true, cond-false}
+use Rattle.std.proofs.lemmas.Bool.{and_parts, and_from, not-false, not-true, not_from_false, eq-eqb, eqb-true, cond-true, cond-false, false_from_ne_true, both_ways}
+use Rattle.std.proofs.lemmas.List.Folds.{list_all-append}
 use Rattle.std.proofs.lemmas.List.{append_assoc}
 use Rattle.mathprog_data.specs.declared.blocks.Mark.{Mark}
 use Rattle.mathprog_data.specs.declared.lexer.Kind.TheVariants.{Quoted}
@@ -135,3 +136,77 @@ first_bad quote front (other ∷ before) byte behind all no_quote bad =
     ap (λ bad. bad_in quote (front ++ written) bad (before ++ byte ∷ behind)) (none_behind (other == quote) (is_printable other) (place_after front) parts.0)
     ∙ first_bad quote (front ++ written) before byte behind parts.1 no_quote bad
     ∙ ap (λ f. Some (place_after f)) (append_assoc front written (doubled quote before))
+
+quote_begins : (front : List ℕ) (quote : ℕ) → is_quote quote ≡ true → opened (gap front) quote ≡ silent (begun (gap front) quote (pendings.Quoted quote))
+quote_begins front quote = at_quote (λ q. opened (gap front) q ≡ silent (begun (gap front) q (pendings.Quoted q))) quote refl refl
+
+quote_ends_no_line : (quote : ℕ) → is_quote quote ≡ true → is_line_feed quote ≡ false
+quote_ends_no_line quote = at_quote (λ q. is_line_feed q ≡ false) quote refl refl
+
+quote_is_printable : (quote : ℕ) → is_quote quote ≡ true → is_printable quote ≡ true
+quote_is_printable quote = at_quote (λ q. is_printable q ≡ true) quote refl refl
+
+-- from the quote up to the end of a line's bytes behind it
+run_from_quote : (quote : ℕ) (front bytes rest : List ℕ) → is_quote quote ≡ true → is_one_line bytes ≡ true
+    → run (gap front) (quote ∷ (doubled quote bytes ++ rest))
+        ≡ run (since (pendings.Quoted quote) (front ++ quote ∷ doubled quote bytes) front (bad_in quote (front ++ quote ∷ []) None bytes)) rest
+run_from_quote quote front bytes rest quotes one_line =
+    begins (pendings.Quoted quote) front (doubled quote bytes ++ rest) quote (quote_begins front quote quotes)
+    ∙ run_inside quote bytes (front ++ quote ∷ []) rest (length front) (place_after front) None one_line
+    ∙ ap (λ f. run (since (pendings.Quoted quote) f front (bad_in quote (front ++ quote ∷ []) None bytes)) rest) (append_assoc front (quote ∷ []) (doubled quote bytes))
+
+-- up to the closing quote
+run_to_quote : (quote : ℕ) (front bytes rest : List ℕ) → is_quote quote ≡ true → is_one_line bytes ≡ true
+    → run (gap front) (quote ∷ (doubled quote bytes ++ quote ∷ rest))
+        ≡ run (since (pendings.Quote quote) (front ++ quote ∷ (doubled quote bytes ++ quote ∷ [])) front (bad_in quote (front ++ quote ∷ []) None bytes)) rest
+run_to_quote quote front bytes rest quotes one_line =
+    let bad = bad_in quote (front ++ quote ∷ []) None bytes in
+    run_from_quote quote front bytes (quote ∷ rest) quotes one_line
+    ∙ run_quote quote (front ++ quote ∷ doubled quote bytes) rest quote (length front) (place_after front) bad (quote_ends_no_line quote quotes) (eq-eqb quote quote refl)
+    ∙ ap (λ f. run (since (pendings.Quote quote) f front bad) rest) (append_assoc front (quote ∷ doubled quote bytes) (quote ∷ []))
+
+pub run_quoted : (quote : ℕ) (front bytes rest : List ℕ) → IsWhole (QuotedToken quote bytes) rest
+    → SeesToken (Quoted quote) front (spelling (QuotedToken quote bytes)) rest
+run_quoted quote front bytes rest whole =
+    let spelled = quote ∷ (doubled quote bytes ++ quote ∷ []) in
+    ap (λ t. run (gap front) (quote ∷ t)) (append_assoc (doubled quote bytes) (quote ∷ []) rest)
+    ∙ run_to_quote quote front bytes rest whole.0 (one_line_printable bytes whole.1)
+    ∙ ap (λ bad. run (since (pendings.Quote quote) (front ++ spelled) front bad) rest) (none_in quote (front ++ quote ∷ []) bytes whole.1)
+    ∙ run_ended (pendings.Quote quote) (front ++ spelled) (length front) (place_after front) None rest whole.2
+
+-- a fault of this number and place is all that is seen
+abbrev pub faulty : ℕ → Mark → Run
+faulty number at = record { spans = []; fault = Some (record { no = number; at = at }) }
+
+one_line_with : (before bytes : List ℕ) → is_one_line before ≡ true → is_one_line bytes ≡ true → is_one_line (before ++ bytes) ≡ true
+one_line_with before bytes h k = list_all-append (λ byte. not (is_line_feed byte)) before bytes ∙ and_from (is_one_line before) (is_one_line bytes) h k
+
+-- a byte that isn't printable is no quote
+not_the_quote : (quote byte : ℕ) → is_quote quote ≡ true → is_printable byte ≡ false → (byte == quote) ≡ false
+not_the_quote quote byte quotes bad =
+    false_from_ne_true (byte == quote) (λ e. both_ways (is_printable byte) bad (subst (λ b. is_printable b ≡ true) (sym (eqb-true byte quote e)) (quote_is_printable quote quotes)))
+
+pub run_bad_in_quotes : (quote : ℕ) (front before : List ℕ) (byte : ℕ) (behind rest : List ℕ) → IsFlaw (BadInQuotes quote before byte behind rest)
+    → run (gap front) (flawed (BadInQuotes quote before byte behind rest)) ≡ faulty bad_byte (place_after (front ++ quote ∷ doubled quote before))
+run_bad_in_quotes quote front before byte behind rest flaw =
+    let bytes = before ++ byte ∷ behind in
+    let inside = front ++ quote ∷ (doubled quote bytes ++ quote ∷ []) in
+    let place = place_after ((front ++ quote ∷ []) ++ doubled quote before) in
+    run_to_quote quote front bytes rest flaw.0 (one_line_with before (byte ∷ behind) (one_line_printable before flaw.1) flaw.3)
+    ∙ ap (λ bad. run (since (pendings.Quote quote) inside front bad) rest)
+        (first_bad quote (front ++ quote ∷ []) before byte behind flaw.1 (not_the_quote quote byte flaw.0 flaw.2) flaw.2)
+    ∙ run_ended (pendings.Quote quote) inside (length front) (place_after front) (Some place) rest flaw.4
+    ∙ ap (λ f. faulty bad_byte (place_after f)) (append_assoc front (quote ∷ []) (doubled quote before))
+
+open_ends : (quote : ℕ) (front rest : List ℕ) (from : ℕ) (start : Mark) (bad : Option Mark) → stops (λ byte. not (is_line_feed byte)) rest ≡ true
+    → run (at (pendings.Quoted quote) front from start bad) rest ≡ faulty open_string start
+unfolding run
+open_ends quote front [] from start bad stopped = refl
+open_ends quote front (byte ∷ rest) from start bad stopped =
+    ap (follow rest) (cond-true (is_line_feed byte) _ _ (not-false _ (not-true _ stopped)))
+
+pub run_open_quotes : (quote : ℕ) (front bytes rest : List ℕ) → IsFlaw (OpenQuotes quote bytes rest)
+    → run (gap front) (flawed (OpenQuotes quote bytes rest)) ≡ faulty open_string (place_after front)
+run_open_quotes quote front bytes rest flaw =
+    run_from_quote quote front bytes rest flaw.0 flaw.1
+    ∙ open_ends quote (front ++ quote ∷ doubled quote bytes) rest (length front) (place_after front) (bad_in quote (front ++ quote ∷ []) None bytes) flaw.2
