@@ -1,6 +1,8 @@
 mod LexemeExamples
 pub mod LexingByteLemmas
+pub mod LexingClosing
 mod LexingExamples
+pub mod LexingPlaced
 pub mod LexingPlaces
 pub mod LexingRunGaps
 pub mod LexingRunQuotes
