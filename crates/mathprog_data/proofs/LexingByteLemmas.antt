@@ -5,7 +5,7 @@ use Rattle.mathprog_data.specs.Places.{is_line_feed}
 use Rattle.mathprog_data.specs.LexingBytes.{is_separator, is_symbol_byte, is_quote, is_printable}
 
 -- what holds of a byte holds of one that is equal to it
-at_byte : (P : ℕ → Type 0) (byte n : ℕ) → P n → (byte == n) ≡ true → P byte
+pub at_byte : (P : ℕ → Type 0) (byte n : ℕ) → P n → (byte == n) ≡ true → P byte
 at_byte P byte n h e = subst P (sym (eqb-true byte n e)) h
 
 -- what holds of the four separators holds of each
