@@ -2,6 +2,7 @@ mod LexemeExamples
 pub mod LexingByteLemmas
 pub mod LexingClosing
 mod LexingExamples
+pub mod LexingLaws
 pub mod LexingParse
 pub mod LexingPlaced
 pub mod LexingPlaces
