@@ -12,3 +12,4 @@ pub mod LexingRunTexts
 pub mod LexingRunTokens
 pub mod LexingSteps
 mod Tables
+pub mod TokenRunLemmas

@@ -1,6 +1,6 @@
 -- The lexer as a function of its state, a byte at a time. Private functions alone cite it: that it computes the lexing of a
 -- text as `Lexes` says it is proved (proofs/LexingLaws.antt).
-use Rattle.std.specs.Prelude.{ℕ, ◌+◌, Bool, true, false, not, ◌||◌, ◌==◌, Option, None, Some, is_some, if◌then◌else◌}
+use Rattle.std.specs.Prelude.{ℕ, ◌+◌, Bool, true, false, not, ◌||◌, ◌==◌, Option, None, Some, is_some, if◌then◌else◌, ◌≤◌, ⊤}
 use Rattle.mathprog_data.specs.declared.blocks.Mark.{Mark}
 use Rattle.mathprog_data.specs.declared.fault.DataFault.{DataFault}
 use Rattle.mathprog_data.specs.declared.lexeme.Sign.{Sign as TheSign}
@@ -112,7 +112,7 @@ before s byte = if continues s.pending byte then silent s else record { state = 
 
 -- a sign of one byte is taken, or a byte with which nothing begins
 abbrev pub sign_taken : State → ℕ → Option TheSign → Step
-sign_taken s byte None = record { state = s; seen = Fault (record { no = bad_byte; at = s.mark }) }
+sign_taken s byte None = record { state = passed s byte pendings.Gap; seen = Fault (record { no = bad_byte; at = s.mark }) }
 sign_taken s byte (Some sign) =
     let next = begun s byte pendings.Gap in record { state = next; seen = token_of next (Sign sign) }
 
@@ -130,7 +130,7 @@ opened s byte =
 -- a byte is taken inside quotes of this byte
 abbrev pub quoted_taken : State → ℕ → ℕ → Step
 quoted_taken s quote byte =
-    if is_line_feed byte then record { state = s; seen = fault_of s open_string } else
+    if is_line_feed byte then record { state = passed s byte pendings.Gap; seen = fault_of s open_string } else
     if byte == quote then silent (passed s byte (pendings.Quote quote)) else
     silent (quoted s byte (pendings.Quoted quote))
 
@@ -175,3 +175,13 @@ abbrev pub least_length : Pending → ℕ
 least_length (pendings.Quoted quote) = 1
 least_length (pendings.Quote quote) = 2
 least_length _ = 0
+
+-- how many bytes a token of this kind has at least
+abbrev pub least_span : Kind → ℕ
+least_span (Quoted quote) = 2
+least_span _ = 0
+
+-- a token that is seen stands within so many bytes
+abbrev pub IsWithin : ℕ → Seen → Type 0
+IsWithin size (Token span) = (span.from + least_span span.kind ≤ span.to) × (span.to ≤ size)
+IsWithin size _ = ⊤

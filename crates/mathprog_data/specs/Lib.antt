@@ -8,3 +8,5 @@ pub mod LexingRuns
 pub mod ParamTables
 pub mod Params
 pub mod Places
+pub mod TokenRuns
+pub mod TokenSlices

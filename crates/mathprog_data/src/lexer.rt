@@ -4,7 +4,7 @@ mod bytes;
 mod pending;
 
 ghost use Rattle.std.specs.Prelude.{◌≡◌, ◌+◌, ◌<◌, ◌≤◌};
-ghost use Rattle.mathprog_data.specs.LexingMachine.{least_length, next_mark, in_comment, behind_star};
+ghost use Rattle.mathprog_data.specs.LexingMachine.{least_length, least_span, IsWithin, next_mark, in_comment, behind_star};
 
 use crate::blocks::Mark;
 use crate::fault::{BAD_BYTE, DataFault, OPEN_COMMENT, OPEN_STRING};
@@ -87,7 +87,8 @@ impl Lexer {
 
     /// What the end of the text ends.
     pub(crate) fn end(&self) -> Seen
-        ensures { result ≡ ended self.now self.now.pending }
+        ensures seen { result ≡ ended self.now self.now.pending }
+        ensures within { IsWithin self.now.place result }
     {
         match self.pending {
             Pending::Gap | Pending::LineComment => Seen::Nothing,
@@ -104,7 +105,9 @@ impl Lexer {
     #[inline]
     pub(crate) fn before(&mut self, byte: u8) -> Seen
         ensures state { self.new ≡ (before self.old byte).state }
+        ensures place { self.new.place ≡ self.old.place }
         ensures seen { result ≡ (before self.old byte).seen }
+        ensures within { IsWithin self.old.place result }
     {
         if self.pending.continues(byte) {
             return Seen::Nothing;
@@ -119,7 +122,9 @@ impl Lexer {
     pub(crate) fn take(&mut self, byte: u8) -> Seen
         requires { self.old.place < 67108864 }
         ensures state { self.new ≡ (taken self.old byte).state }
+        ensures place { self.new.place ≡ self.old.place + 1 }
         ensures seen { result ≡ (taken self.old byte).seen }
+        ensures within { IsWithin (self.old.place + 1) result }
     {
         match self.pending {
             Pending::Gap => return self.open(byte),
@@ -143,7 +148,9 @@ impl Lexer {
         requires order { self.old.from ≤ self.old.place }
         requires room { self.old.place < 67108864 }
         ensures state { self.new ≡ (opened self.old byte).state }
+        ensures place { self.new.place ≡ self.old.place + 1 }
         ensures seen { result ≡ (opened self.old byte).seen }
+        ensures within { IsWithin (self.old.place + 1) result }
     {
         if is_symbol_byte(byte) {
             self.begin(byte, Pending::Bare);
@@ -165,19 +172,23 @@ impl Lexer {
 
     /// Takes a sign of one byte, or tells that nothing begins with this byte.
     fn take_sign(&mut self, byte: u8) -> Seen
-        requires { self.old.place < 67108864 }
+        requires order { self.old.from ≤ self.old.place }
+        requires room { self.old.place < 67108864 }
         ensures state { self.new ≡ (sign_taken self.old byte (sign_of byte)).state }
+        ensures place { self.new.place ≡ self.old.place + 1 }
         ensures seen { result ≡ (sign_taken self.old byte (sign_of byte)).seen }
+        ensures within { IsWithin (self.old.place + 1) result }
     {
         match sign_of(byte) {
             Some(sign) => {
                 self.begin(byte, Pending::Gap);
                 self.token(Kind::Sign(sign))
             }
-            None => Seen::Fault(DataFault {
-                no: BAD_BYTE,
-                at: self.mark,
-            }),
+            None => {
+                let at = self.mark;
+                self.pass(byte, Pending::Gap);
+                Seen::Fault(DataFault { no: BAD_BYTE, at })
+            }
         }
     }
 
@@ -186,9 +197,11 @@ impl Lexer {
         requires length { self.old.from + 1 ≤ self.old.place }
         requires room { self.old.place < 67108864 }
         ensures state { self.new ≡ (quoted_taken self.old quote byte).state }
+        ensures place { self.new.place ≡ self.old.place + 1 }
         ensures seen { result ≡ (quoted_taken self.old quote byte).seen }
     {
         if is_line_feed(byte) {
+            self.pass(byte, Pending::Gap);
             return self.fault(OPEN_STRING);
         }
         if byte == quote {
@@ -230,7 +243,9 @@ impl Lexer {
 
     /// The token that ends here.
     fn token(&self, kind: Kind) -> Seen
-        ensures { result ≡ token_of self.now kind }
+        requires { self.now.from + least_span kind ≤ self.now.place }
+        ensures seen { result ≡ token_of self.now kind }
+        ensures within { IsWithin self.now.place result }
     {
         Seen::Token(Span {
             kind,
@@ -242,7 +257,9 @@ impl Lexer {
 
     /// The quoted symbol that is closed here, or the first byte that may not stand in it.
     fn closed(&self, quote: u8) -> Seen
-        ensures { result ≡ closed self.now quote self.now.bad }
+        requires { self.now.from + 2 ≤ self.now.place }
+        ensures seen { result ≡ closed self.now quote self.now.bad }
+        ensures within { IsWithin self.now.place result }
     {
         match self.bad {
             None => self.token(Kind::Quoted(quote)),

@@ -12,7 +12,9 @@ mod lexeme;
 mod lexer;
 mod params;
 mod sets;
+mod spans;
 mod token;
+mod token_list;
 
 pub use blocks::{Blocks, Given, Mark, Name, ParamBlock, SetBlock};
 pub use fault::{DataFault, ReadFail};
