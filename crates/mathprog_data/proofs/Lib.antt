@@ -12,4 +12,5 @@ pub mod LexingRunTexts
 pub mod LexingRunTokens
 pub mod LexingSteps
 mod Tables
+pub mod TokenListLaws
 pub mod TokenRunLemmas

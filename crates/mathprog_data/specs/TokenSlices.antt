@@ -37,10 +37,10 @@ slice_at text token = record {
 abbrev pub AreSlices : List ℕ → List Token → List Placed → Type 0
 AreSlices text tokens placed = map slice_of tokens ≡ map (slice_at text) placed
 
--- each token has bytes, begins where the one before it ends or behind that, and ends within the text
-abbrev pub AreApart : (from size : ℕ) → List Token → Type 0
+-- each slice has bytes, begins where the one before it ends or behind that, and ends within the text
+abbrev pub AreApart : (from size : ℕ) → List Slice → Type 0
 AreApart from size [] = from ≤ size
-AreApart from size (token ∷ tokens) = (from ≤ token.from) × (token.from < token.to) × AreApart token.to size tokens
+AreApart from size (slice ∷ slices) = (from ≤ slice.from) × (slice.from < slice.to) × AreApart slice.to size slices
 
 -- it is the lexical fault of the text; want of memory says nothing of the text
 abbrev pub IsLexicalFault : List ℕ → ReadFail → Type 0

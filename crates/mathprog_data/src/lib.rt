@@ -21,3 +21,4 @@ pub use fault::{DataFault, ReadFail};
 pub use params::{param_word, subscript_count};
 pub use sets::set_word;
 pub use token::Token;
+pub use token_list::{lexing_laws, tokens};

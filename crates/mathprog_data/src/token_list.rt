@@ -1,14 +1,14 @@
 //! The tokens of a text.
 
-ghost use Rattle.std.specs.Prelude.{◌≡◌, ◌+◌, ◌<◌, ◌≤◌, ◌∷◌, ℕ, List, length, true, false, Ok, Err, IfOk, IfErr};
+ghost use Rattle.std.specs.Prelude.{◌≡◌, ◌+◌, ◌<◌, ◌≤◌, ◌∷◌, ℕ, List, length, map, true, false, Ok, Err, IfOk, IfErr, MatchResult};
 ghost use Rattle.mathprog_data.specs.declared.blocks.Mark.{Mark};
 ghost use Rattle.mathprog_data.specs.declared.fault.DataFault.{DataFault};
 ghost use Rattle.mathprog_data.specs.declared.fault.ReadFail.TheVariants.{Fault};
 ghost use Rattle.mathprog_data.specs.Lexemes.{Placed};
-ghost use Rattle.mathprog_data.specs.Lexing.{Tokens, Lexes, Fails};
+ghost use Rattle.mathprog_data.specs.Lexing.{LexingEnd, Tokens, Lexes, Fails};
 ghost use Rattle.mathprog_data.specs.LexingMachine.{IsWithin};
 ghost use Rattle.mathprog_data.specs.LexingRuns.{Run, run, lexed, lexed_run, and_then};
-ghost use Rattle.mathprog_data.specs.TokenSlices.{AreSlices, AreApart, IsLexicalFault, IsMemory, IsFaultOrMemory};
+ghost use Rattle.mathprog_data.specs.TokenSlices.{slice_of, AreSlices, AreApart, IsLexicalFault, IsMemory, IsFaultOrMemory};
 ghost use Rattle.mathprog_data.specs.TokenRuns.{Slices, slices_of, slices, behind, closed_with, failed_with, ListsAll};
 
 use crate::closing::Closing;
@@ -98,4 +98,38 @@ fn all_tokens(alloc: Global, text: &[u8]) -> Result<Vec<Token<'_>>, ReadFail>
         Ok(_) => Ok(found),
         Err(fail) => Err(fail),
     }
+}
+
+/// The tokens of a text, in order, each with its kind, its bytes as a slice of the text, and where they stand. A text that
+/// has a closing `end ;` is read up to that `;`. The text has 64 MiB at most.
+///
+/// # Errors
+///
+/// - `Fault`: the first lexical fault of the text. Its number is 1 where a byte begins no token or may not stand in a quoted
+///   symbol, 2 where a quoted symbol isn't closed on its line, and 3 where a comment that `/*` began isn't closed. It stands at
+///   the byte, at the quote, and at the `/`.
+/// - `Memory`: there is no memory for the list.
+///
+/// The tokens are those of a data section of GNU MathProg, in the profile of docs/DATA.md.
+pub fn tokens(alloc: Global, text: &[u8]) -> Result<Vec<Token<'_>>, ReadFail>
+    requires { length text.now ≤ 67108864 }
+
+    ensures listed { IfOk result (λ found. (placed : List Placed) × Tokens text.now placed × AreSlices text.now found.items placed) }
+    ensures apart { IfOk result (λ found. AreApart 0 (length text.now) (map slice_of found.items)) }
+    ensures first_fault { IfErr result (IsLexicalFault text.now) }
+
+    // A text that has tokens is never refused, and one that has a fault always with that fault.
+    ensures refuses_no_tokens { (placed : List Placed) → Tokens text.now placed → IfErr result IsMemory }
+    ensures refuses_each_fault { (placed : List Placed) (number : ℕ) (at : Mark) → Lexes text.now placed (Fails number at) →
+        MatchResult result (λ _. ⊥) (IsFaultOrMemory number at) }
+{
+    all_tokens(alloc, text)
+}
+
+/// Every text has a lexing, and no second one. It ends with the text, with the closing `end ;`, or at a lexical fault.
+pub fn lexing_laws()
+    ensures some { (text : List ℕ) → (placed : List Placed) × (end : LexingEnd) × Lexes text placed end }
+    ensures one { (text : List ℕ) (placed others : List Placed) (end other : LexingEnd) →
+        Lexes text placed end → Lexes text others other → (placed ≡ others) × (end ≡ other) }
+{
 }
