@@ -12,11 +12,11 @@ at_byte P byte n h e = subst P (sym (eqb-true byte n e)) h
 pub at_separator : (P : ℕ → Type 0) (byte : ℕ) → P 32 → P 9 → P 13 → P 10 → is_separator byte ≡ true → P byte
 at_separator P byte blank tab return feed e =
     elim (or_cases (byte == 32 || byte == 9 || byte == 13) (byte == 10) e) [
-      inl d ↦ elim (or_cases (byte == 32 || byte == 9) (byte == 13) d) [
-        inl c ↦ elim (or_cases (byte == 32) (byte == 9) c) [ inl b ↦ at_byte P byte 32 blank b | inr b ↦ at_byte P byte 9 tab b ]
-      | inr c ↦ at_byte P byte 13 return c
+      | inl d ↦ elim (or_cases (byte == 32 || byte == 9) (byte == 13) d) [
+        | inl c ↦ elim (or_cases (byte == 32) (byte == 9) c) [ inl b ↦ at_byte P byte 32 blank b | inr b ↦ at_byte P byte 9 tab b ]
+        | inr c ↦ at_byte P byte 13 return c
       ]
-    | inr d ↦ at_byte P byte 10 feed d
+      | inr d ↦ at_byte P byte 10 feed d
     ]
 
 -- what holds of the two quotes holds of each

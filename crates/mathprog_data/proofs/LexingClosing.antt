@@ -88,6 +88,6 @@ lexed_closed text closing (span ∷ before) last more fault never closed =
     let behind = closing_behind closing lexeme in
     let parts = or_parts (closes closing lexeme) (closed_in behind (lexemes_at text before)) never in
     let closed_later : closed_in behind (lexemes_at text (before ++ last ∷ [])) ≡ true =
-        sym (ap (λ b. b || closed_in behind (lexemes_at text (before ++ last ∷ []))) parts.0) ∙ closed in
+    sym (ap (λ b. b || closed_in behind (lexemes_at text (before ++ last ∷ []))) parts.0) ∙ closed in
     cond-false (closes closing lexeme) _ _ parts.0
     ∙ ap (with_token (placed_of text span)) (lexed_closed text behind before last more fault parts.1 closed_later)

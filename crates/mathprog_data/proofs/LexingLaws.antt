@@ -62,8 +62,8 @@ spans_after-append : (front : List ℕ) (before more : List Piece) → spans_aft
 spans_after-append front [] more = ap (λ f. spans_after f more) (sym (append-nil front))
 spans_after-append front (piece ∷ before) more =
     ap (λ t. spans_of front piece ++ t)
-        (spans_after-append (front ++ spelling piece) before more
-            ∙ ap (λ f. spans_after (front ++ spelling piece) before ++ spans_after f more) (append_assoc front (spelling piece) (spellings before)))
+    (spans_after-append (front ++ spelling piece) before more
+    ∙ ap (λ f. spans_after (front ++ spelling piece) before ++ spans_after f more) (append_assoc front (spelling piece) (spellings before)))
     ∙ sym (append_assoc (spans_of front piece) (spans_after (front ++ spelling piece) before) (spans_after (front ++ (spelling piece ++ spellings before)) more))
 
 spellings-append : (before more : List Piece) → spellings (before ++ more) ≡ spellings before ++ spellings more
@@ -84,7 +84,7 @@ lexed_closed_text text rest before parts whole never closes =
     let parts_before : text ≡ spellings before ++ (59 ∷ rest) = parts ∙ ap (λ t. t ++ rest) (spellings-append before semicolon) ∙ append_assoc (spellings before) (59 ∷ []) rest in
     let told_before : closed_in Free (said (map (placed_of text) first)) ≡ false = lexemes_told text (59 ∷ rest) before parts_before ∙ never in
     let told : closed_in Free (said (map (placed_of text) (first ++ last ∷ []))) ≡ true =
-        ap (λ t. closed_in Free (said (map (placed_of text) t))) (sym spans) ∙ lexemes_told text rest pieces parts ∙ closes in
+    ap (λ t. closed_in Free (said (map (placed_of text) t))) (sym spans) ∙ lexemes_told text rest pieces parts ∙ closes in
     ap (lexed_run text Free) (run_text text rest pieces parts whole)
     ∙ ap (λ t. lexed_from text Free (t ++ seen.spans) seen.fault) spans
     ∙ ap (λ t. lexed_from text Free t seen.fault) (append_assoc first (last ∷ []) seen.spans)
@@ -106,17 +106,17 @@ end_law text rest pieces Closes parts whole ends =
     let before = ends.0 in
     ◌∙◌ {b = as_lexed (placed_after [] (before ++ semicolon)) Closes}
     (lexed_closed_text text rest before
-        (subst (λ t. text ≡ spellings t ++ rest) ends.1 parts)
-        (subst (λ t. AreWhole t rest) ends.1 whole)
-        ends.2
-        (subst (λ t. has_closing (lexemes_in t) ≡ true) ends.1 ends.3))
+    (subst (λ t. text ≡ spellings t ++ rest) ends.1 parts)
+    (subst (λ t. AreWhole t rest) ends.1 whole)
+    ends.2
+    (subst (λ t. has_closing (lexemes_in t) ≡ true) ends.1 ends.3))
     (ap (λ t. as_lexed (placed_after [] t) Closes) (sym ends.1))
 end_law text rest pieces (Fails number at) parts whole ends =
     let flaw = ends.0 in
     let seen : run (gap (spellings pieces)) rest ≡ faulty number at =
-        ap (run (gap (spellings pieces))) ends.3 ∙ run_flaw (spellings pieces) flaw ends.1
-        ∙ ap (λ n. faulty n (place_after (spellings pieces ++ bytes_passed flaw))) (sym ends.4)
-        ∙ ap (faulty number) (sym ends.5) in
+    ap (run (gap (spellings pieces))) ends.3 ∙ run_flaw (spellings pieces) flaw ends.1
+    ∙ ap (λ n. faulty n (place_after (spellings pieces ++ bytes_passed flaw))) (sym ends.4)
+    ∙ ap (faulty number) (sym ends.5) in
     lexed_open_text text rest pieces (Some (record { no = number; at = at })) parts whole ends.2 seen
 
 pub lexes_only : (text : List ℕ) (placed : List Placed) (end : LexingEnd) → Lexes text placed end → lexed text ≡ as_lexed placed end
@@ -129,7 +129,7 @@ AreWhole-front : (before more : List Piece) (rest : List ℕ) → AreWhole (befo
 AreWhole-front [] more rest whole = tt
 AreWhole-front (piece ∷ before) more rest whole =
     let regrouped : spellings (before ++ more) ++ rest ≡ spellings before ++ (spellings more ++ rest) =
-        ap (λ t. t ++ rest) (spellings-append before more) ∙ append_assoc (spellings before) (spellings more) rest in
+    ap (λ t. t ++ rest) (spellings-append before more) ∙ append_assoc (spellings before) (spellings more) rest in
     (subst (IsWhole piece) regrouped whole.0, AreWhole-front before more rest whole.1)
 
 -- pieces up to the first `;` that closes them, and those behind it
@@ -229,7 +229,7 @@ lexing_closed text rest pieces parts whole closed =
     let front = before ++ semicolon in
     let regrouped : pieces ≡ front ++ closed.more = closed.parts ∙ sym (append_assoc before semicolon closed.more) in
     let spelled : text ≡ spellings front ++ (spellings closed.more ++ rest) =
-        parts ∙ ap (λ t. spellings t ++ rest) regrouped ∙ ap (λ t. t ++ rest) (spellings-append front closed.more) ∙ append_assoc (spellings front) (spellings closed.more) rest in
+    parts ∙ ap (λ t. spellings t ++ rest) regrouped ∙ ap (λ t. t ++ rest) (spellings-append front closed.more) ∙ append_assoc (spellings front) (spellings closed.more) rest in
     record {
       placed = placed_after [] front;
       end = Closes;
@@ -246,12 +246,12 @@ lexing_closed text rest pieces parts whole closed =
 lexing_open : (text : List ℕ) (p : Parse text) → has_closing (lexemes_in p.pieces) ≡ false → SomeLexing text
 lexing_open text p never =
     elim p.end [
-      inl ended ↦ record {
+      | inl ended ↦ record {
         placed = placed_after [] p.pieces;
         end = TextEnds;
         lexes = record { pieces = p.pieces; rest = p.rest; parts = p.parts; whole = p.whole; tokens = refl; ends = (never, ended) };
       }
-    | inr flawed ↦ record {
+      | inr flawed ↦ record {
         placed = placed_after [] p.pieces;
         end = Fails (fault_of flawed.0) (place_after (spellings p.pieces ++ bytes_passed flawed.0));
         lexes = record {
@@ -269,8 +269,8 @@ some_lexing : (text : List ℕ) → SomeLexing text
 some_lexing text =
     let p = parse text in
     elim (cases_Bool (has_closing (lexemes_in p.pieces))) [
-      inl e ↦ lexing_closed text p.rest p.pieces p.parts p.whole (closed_from p.pieces Free (sym (closing_told (lexemes_in p.pieces)) ∙ e))
-    | inr e ↦ lexing_open text p e
+      | inl e ↦ lexing_closed text p.rest p.pieces p.parts p.whole (closed_from p.pieces Free (sym (closing_told (lexemes_in p.pieces)) ∙ e))
+      | inr e ↦ lexing_open text p e
     ]
 
 -- the lexer computes the lexing of each text

@@ -56,7 +56,7 @@ comment_end_here byte (next ∷ rest) e =
 comment_end_later : (byte : ℕ) (bytes : List ℕ) → ends_here byte bytes ≡ false → CommentEnd bytes → CommentEnd (byte ∷ bytes)
 comment_end_later byte bytes e (at_end inside rest parts none) =
     let not_here : ends_here byte (inside ++ 42 ∷ []) ≡ false =
-        ap (λ b. byte == 42 && not b) (sym (same_start inside (47 ∷ rest)) ∙ ap (stops (λ next. next == 47)) (sym parts)) ∙ e in
+    ap (λ b. byte == 42 && not b) (sym (same_start inside (47 ∷ rest)) ∙ ap (stops (λ next. next == 47)) (sym parts)) ∙ e in
     at_end (byte ∷ inside) rest (ap (λ t. byte ∷ t) parts) (or_from (ends_here byte (inside ++ 42 ∷ [])) (has_comment_end (inside ++ 42 ∷ [])) not_here none)
 comment_end_later byte bytes e (never none) = never (or_from (ends_here byte bytes) (has_comment_end bytes) e none)
 
@@ -75,12 +75,12 @@ more_written : (quote byte : ℕ) (written bytes : List ℕ) → written ≡ con
     → QuoteEnd quote bytes → QuoteEnd quote (written ++ bytes)
 more_written quote byte written bytes e line (closed named rest parts one_line stopped) =
     closed (byte ∷ named) rest
-        (ap (λ t. written ++ t) parts ∙ ap (λ w. w ++ (doubled quote named ++ quote ∷ rest)) e ∙ sym (append_assoc (cond (byte == quote) (byte ∷ byte ∷ []) (byte ∷ [])) (doubled quote named) (quote ∷ rest)))
-        (and_from (not (is_line_feed byte)) (is_one_line named) (not_from_false _ line) one_line) stopped
+    (ap (λ t. written ++ t) parts ∙ ap (λ w. w ++ (doubled quote named ++ quote ∷ rest)) e ∙ sym (append_assoc (cond (byte == quote) (byte ∷ byte ∷ []) (byte ∷ [])) (doubled quote named) (quote ∷ rest)))
+    (and_from (not (is_line_feed byte)) (is_one_line named) (not_from_false _ line) one_line) stopped
 more_written quote byte written bytes e line (stays_open named rest parts one_line stopped) =
     stays_open (byte ∷ named) rest
-        (ap (λ t. written ++ t) parts ∙ ap (λ w. w ++ (doubled quote named ++ rest)) e ∙ sym (append_assoc (cond (byte == quote) (byte ∷ byte ∷ []) (byte ∷ [])) (doubled quote named) rest))
-        (and_from (not (is_line_feed byte)) (is_one_line named) (not_from_false _ line) one_line) stopped
+    (ap (λ t. written ++ t) parts ∙ ap (λ w. w ++ (doubled quote named ++ rest)) e ∙ sym (append_assoc (cond (byte == quote) (byte ∷ byte ∷ []) (byte ∷ [])) (doubled quote named) rest))
+    (and_from (not (is_line_feed byte)) (is_one_line named) (not_from_false _ line) one_line) stopped
 
 -- a byte that isn't the quote
 other_written : (quote byte : ℕ) (bytes : List ℕ) → (byte == quote) ≡ false → is_line_feed byte ≡ false → QuoteEnd quote bytes → QuoteEnd quote (byte ∷ bytes)
@@ -104,20 +104,20 @@ quote_end quote [] = stays_open [] [] refl refl refl
 quote_end quote (byte ∷ []) =
     let more = quote_end quote [] in
     elim (cases_Bool (is_line_feed byte)) [
-      inl line ↦ line_ends quote byte [] line
-    | inr line ↦ elim (cases_Bool (byte == quote)) [ inl e ↦ quote_closes quote byte [] e refl | inr e ↦ other_written quote byte [] e line more ]
+      | inl line ↦ line_ends quote byte [] line
+      | inr line ↦ elim (cases_Bool (byte == quote)) [ inl e ↦ quote_closes quote byte [] e refl | inr e ↦ other_written quote byte [] e line more ]
     ]
 quote_end quote (byte ∷ next ∷ rest) =
     let more = quote_end quote (next ∷ rest) in
     let later = quote_end quote rest in
     elim (cases_Bool (is_line_feed byte)) [
-      inl line ↦ line_ends quote byte (next ∷ rest) line
-    | inr line ↦ elim (cases_Bool (byte == quote)) [
-        inl e ↦ elim (cases_Bool (next == quote)) [
-          inl f ↦ quote_written quote byte next rest e f line later
-        | inr f ↦ quote_closes quote byte (next ∷ rest) e (not_from_false _ f)
+      | inl line ↦ line_ends quote byte (next ∷ rest) line
+      | inr line ↦ elim (cases_Bool (byte == quote)) [
+        | inl e ↦ elim (cases_Bool (next == quote)) [
+          | inl f ↦ quote_written quote byte next rest e f line later
+          | inr f ↦ quote_closes quote byte (next ∷ rest) e (not_from_false _ f)
         ]
-      | inr e ↦ other_written quote byte (next ∷ rest) e line more
+        | inr e ↦ other_written quote byte (next ∷ rest) e line more
       ]
     ]
 
@@ -149,25 +149,25 @@ first_bare : (byte : ℕ) (rest : List ℕ) → is_symbol_byte byte ≡ true →
 first_bare byte rest e =
     let run = longest is_symbol_byte rest in
     piece (BareToken (byte ∷ run.front)) run.rest (ap (λ t. byte ∷ t) run.parts) ((λ h. cc), and_from (is_symbol_byte byte) (list_all is_symbol_byte run.front) e run.pass, run.stopped)
-        (omega (arith, ap length run.parts, length-append run.front run.rest))
+    (omega (arith, ap length run.parts, length-append run.front run.rest))
 
 first_line_comment : (rest : List ℕ) → First (35 ∷ rest)
 first_line_comment rest =
     let line = longest (λ byte. not (is_line_feed byte)) rest in
     piece (LineComment line.front) line.rest (ap (λ t. 35 ∷ t) line.parts) (line.pass, line.stopped)
-        (omega (arith, ap length line.parts, length-append line.front line.rest))
+    (omega (arith, ap length line.parts, length-append line.front line.rest))
 
 first_block_at : (rest : List ℕ) → CommentEnd rest → First (47 ∷ 42 ∷ rest)
 first_block_at rest (at_end inside behind parts none) =
     piece (BlockComment inside) behind (ap (λ t. 47 ∷ 42 ∷ t) (parts ∙ sym (append_assoc inside (42 ∷ 47 ∷ []) behind))) none
-        (omega (arith, ap length parts, length-append inside (42 ∷ 47 ∷ behind)))
+    (omega (arith, ap length parts, length-append inside (42 ∷ 47 ∷ behind)))
 first_block_at rest (never none) = flaw (OpenBlock rest) refl none
 
 first_quoted_named : (quote : ℕ) (rest named behind : List ℕ) → is_quote quote ≡ true → rest ≡ doubled quote named ++ quote ∷ behind → is_one_line named ≡ true
     → stops (λ next. next == quote) behind ≡ true → Printable named → First (quote ∷ rest)
 first_quoted_named quote rest named behind quotes parts line stopped (all pass) =
     piece (QuotedToken quote named) behind (ap (λ t. quote ∷ t) (parts ∙ sym (append_assoc (doubled quote named) (quote ∷ []) behind))) (quotes, pass, stopped)
-        (omega (arith, ap length parts, length-append (doubled quote named) (quote ∷ behind)))
+    (omega (arith, ap length parts, length-append (doubled quote named) (quote ∷ behind)))
 first_quoted_named quote rest named behind quotes parts line stopped (not_at before byte after e pass bad) =
     let split = ap is_one_line (sym e) ∙ line in
     let lines = and_parts (is_one_line before) (is_one_line (byte ∷ after)) (sym (list_all-append (λ b. not (is_line_feed b)) before (byte ∷ after)) ∙ split) in
@@ -181,47 +181,47 @@ first_colon : (rest : List ℕ) → First (58 ∷ rest)
 first_colon [] = piece (SignToken signs.Colon) [] refl refl (omega arith)
 first_colon (next ∷ rest) =
     elim (cases_Bool (next == 61)) [
-      inl e ↦ piece (SignToken signs.Gives) rest (ap (λ b. 58 ∷ b ∷ rest) (eqb-true next 61 e)) tt (omega arith)
-    | inr e ↦ piece (SignToken signs.Colon) (next ∷ rest) refl (not_from_false _ e) (omega arith)
+      | inl e ↦ piece (SignToken signs.Gives) rest (ap (λ b. 58 ∷ b ∷ rest) (eqb-true next 61 e)) tt (omega arith)
+      | inr e ↦ piece (SignToken signs.Colon) (next ∷ rest) refl (not_from_false _ e) (omega arith)
     ]
 
 -- what holds of the signs of one byte holds of each
 at_sign_byte : (P : ℕ → Type 0) (byte : ℕ) → P 59 → P 44 → P 58 → P 91 → P 93 → P 40 → P 41 → P 42 → is_sign_byte byte ≡ true → P byte
 at_sign_byte P byte semicolon comma colon open_bracket close_bracket open_paren close_paren star e =
     elim (or_cases (byte == 59 || byte == 44 || byte == 58 || byte == 91 || byte == 93 || byte == 40 || byte == 41) (byte == 42) e) [
-      inl e ↦ elim (or_cases (byte == 59 || byte == 44 || byte == 58 || byte == 91 || byte == 93 || byte == 40) (byte == 41) e) [
-        inl e ↦ elim (or_cases (byte == 59 || byte == 44 || byte == 58 || byte == 91 || byte == 93) (byte == 40) e) [
-          inl e ↦ elim (or_cases (byte == 59 || byte == 44 || byte == 58 || byte == 91) (byte == 93) e) [
-            inl e ↦ elim (or_cases (byte == 59 || byte == 44 || byte == 58) (byte == 91) e) [
-              inl e ↦ elim (or_cases (byte == 59 || byte == 44) (byte == 58) e) [
-                inl e ↦ elim (or_cases (byte == 59) (byte == 44) e) [
-                  inl e ↦ at_byte P byte 59 semicolon e
-                | inr e ↦ at_byte P byte 44 comma e
+      | inl e ↦ elim (or_cases (byte == 59 || byte == 44 || byte == 58 || byte == 91 || byte == 93 || byte == 40) (byte == 41) e) [
+        | inl e ↦ elim (or_cases (byte == 59 || byte == 44 || byte == 58 || byte == 91 || byte == 93) (byte == 40) e) [
+          | inl e ↦ elim (or_cases (byte == 59 || byte == 44 || byte == 58 || byte == 91) (byte == 93) e) [
+            | inl e ↦ elim (or_cases (byte == 59 || byte == 44 || byte == 58) (byte == 91) e) [
+              | inl e ↦ elim (or_cases (byte == 59 || byte == 44) (byte == 58) e) [
+                | inl e ↦ elim (or_cases (byte == 59) (byte == 44) e) [
+                  | inl e ↦ at_byte P byte 59 semicolon e
+                  | inr e ↦ at_byte P byte 44 comma e
                 ]
-              | inr e ↦ at_byte P byte 58 colon e
+                | inr e ↦ at_byte P byte 58 colon e
               ]
-            | inr e ↦ at_byte P byte 91 open_bracket e
+              | inr e ↦ at_byte P byte 91 open_bracket e
             ]
-          | inr e ↦ at_byte P byte 93 close_bracket e
+            | inr e ↦ at_byte P byte 93 close_bracket e
           ]
-        | inr e ↦ at_byte P byte 40 open_paren e
+          | inr e ↦ at_byte P byte 40 open_paren e
         ]
-      | inr e ↦ at_byte P byte 41 close_paren e
+        | inr e ↦ at_byte P byte 41 close_paren e
       ]
-    | inr e ↦ at_byte P byte 42 star e
+      | inr e ↦ at_byte P byte 42 star e
     ]
 
 first_sign : (byte : ℕ) (rest : List ℕ) → is_sign_byte byte ≡ true → First (byte ∷ rest)
 first_sign byte rest =
     at_sign_byte (λ b. First (b ∷ rest)) byte
-        (piece (SignToken signs.Semicolon) rest refl tt (omega arith))
-        (piece (SignToken signs.Comma) rest refl tt (omega arith))
-        (first_colon rest)
-        (piece (SignToken signs.OpenBracket) rest refl tt (omega arith))
-        (piece (SignToken signs.CloseBracket) rest refl tt (omega arith))
-        (piece (SignToken signs.OpenParen) rest refl tt (omega arith))
-        (piece (SignToken signs.CloseParen) rest refl tt (omega arith))
-        (piece (SignToken signs.Star) rest refl tt (omega arith))
+    (piece (SignToken signs.Semicolon) rest refl tt (omega arith))
+    (piece (SignToken signs.Comma) rest refl tt (omega arith))
+    (first_colon rest)
+    (piece (SignToken signs.OpenBracket) rest refl tt (omega arith))
+    (piece (SignToken signs.CloseBracket) rest refl tt (omega arith))
+    (piece (SignToken signs.OpenParen) rest refl tt (omega arith))
+    (piece (SignToken signs.CloseParen) rest refl tt (omega arith))
+    (piece (SignToken signs.Star) rest refl tt (omega arith))
 
 first_slash : (byte : ℕ) (rest : List ℕ) → (byte == 47 && not (stops (λ next. next == 42) rest)) ≡ true → First (byte ∷ rest)
 first_slash byte [] e = let stays : false ≡ true = (and_parts (byte == 47) false e).1 in cc
@@ -229,28 +229,28 @@ first_slash byte (next ∷ rest) e =
     let parts = and_parts (byte == 47) (not (not (next == 42))) e in
     let star : next ≡ 42 = eqb-true next 42 (not-false (next == 42) (not-true (not (next == 42)) parts.1)) in
     subst (λ n. First (byte ∷ n ∷ rest)) (sym star)
-        (subst (λ n. First (n ∷ 42 ∷ rest)) (sym (eqb-true byte 47 parts.0)) (first_block_at rest (comment_end rest)))
+    (subst (λ n. First (n ∷ 42 ∷ rest)) (sym (eqb-true byte 47 parts.0)) (first_block_at rest (comment_end rest)))
 
 first : (byte : ℕ) (rest : List ℕ) → First (byte ∷ rest)
 first byte rest =
     elim (cases_Bool (begins_piece byte rest)) [
-      inl e ↦ elim (or_cases (is_separator byte || is_sign_byte byte || is_symbol_byte byte || is_quote byte || byte == 35) (byte == 47 && not (stops (λ next. next == 42) rest)) e) [
-        inl e ↦ elim (or_cases (is_separator byte || is_sign_byte byte || is_symbol_byte byte || is_quote byte) (byte == 35) e) [
-          inl e ↦ elim (or_cases (is_separator byte || is_sign_byte byte || is_symbol_byte byte) (is_quote byte) e) [
-            inl e ↦ elim (or_cases (is_separator byte || is_sign_byte byte) (is_symbol_byte byte) e) [
-              inl e ↦ elim (or_cases (is_separator byte) (is_sign_byte byte) e) [
-                inl e ↦ first_separator byte rest e
-              | inr e ↦ first_sign byte rest e
+      | inl e ↦ elim (or_cases (is_separator byte || is_sign_byte byte || is_symbol_byte byte || is_quote byte || byte == 35) (byte == 47 && not (stops (λ next. next == 42) rest)) e) [
+        | inl e ↦ elim (or_cases (is_separator byte || is_sign_byte byte || is_symbol_byte byte || is_quote byte) (byte == 35) e) [
+          | inl e ↦ elim (or_cases (is_separator byte || is_sign_byte byte || is_symbol_byte byte) (is_quote byte) e) [
+            | inl e ↦ elim (or_cases (is_separator byte || is_sign_byte byte) (is_symbol_byte byte) e) [
+              | inl e ↦ elim (or_cases (is_separator byte) (is_sign_byte byte) e) [
+                | inl e ↦ first_separator byte rest e
+                | inr e ↦ first_sign byte rest e
               ]
-            | inr e ↦ first_bare byte rest e
+              | inr e ↦ first_bare byte rest e
             ]
-          | inr e ↦ first_quoted_at byte rest e (quote_end byte rest)
+            | inr e ↦ first_quoted_at byte rest e (quote_end byte rest)
           ]
-        | inr e ↦ at_byte (λ b. First (b ∷ rest)) byte 35 (first_line_comment rest) e
+          | inr e ↦ at_byte (λ b. First (b ∷ rest)) byte 35 (first_line_comment rest) e
         ]
-      | inr e ↦ first_slash byte rest e
+        | inr e ↦ first_slash byte rest e
       ]
-    | inr e ↦ flaw (StrayByte byte rest) refl e
+      | inr e ↦ flaw (StrayByte byte rest) refl e
     ]
 
 -- the text is pieces in turn, up to its end or a flaw

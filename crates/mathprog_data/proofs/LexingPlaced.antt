@@ -45,7 +45,7 @@ placed_span front bytes lexeme = ap (λ n. record { lexeme = lexeme; from = leng
 bare_at : (text front bytes rest : List ℕ) → text ≡ front ++ (bytes ++ rest) → placed_of text (span kinds.Bare front bytes) ≡ token (Bare bytes) front bytes
 bare_at text front bytes rest parts =
     ap (λ t. record { lexeme = Bare t; from = length front; to = length (front ++ bytes); at = place_after front })
-        (ap (λ t. slice_range t (length front) (length (front ++ bytes))) parts ∙ slice_middle front bytes rest (length front) (length (front ++ bytes)) refl refl)
+    (ap (λ t. slice_range t (length front) (length (front ++ bytes))) parts ∙ slice_middle front bytes rest (length front) (length (front ++ bytes)) refl refl)
     ∙ placed_span front bytes (Bare bytes)
 
 quoted_at : (text front rest : List ℕ) (quote : ℕ) (bytes : List ℕ) → text ≡ front ++ ((quote ∷ (doubled quote bytes ++ quote ∷ [])) ++ rest)
@@ -59,7 +59,7 @@ quoted_at text front rest quote bytes parts =
     let starts : from + 1 ≡ length (front ++ quote ∷ []) = simp length-append in
     let ends : to - 1 ≡ length ((front ++ quote ∷ []) ++ inner) = simp length-append (omega arith) in
     let sliced : slice_range text (from + 1) (to - 1) ≡ inner =
-        ap (λ t. slice_range t (from + 1) (to - 1)) (parts ∙ regrouped) ∙ slice_middle (front ++ quote ∷ []) inner (quote ∷ rest) (from + 1) (to - 1) starts ends in
+    ap (λ t. slice_range t (from + 1) (to - 1)) (parts ∙ regrouped) ∙ slice_middle (front ++ quote ∷ []) inner (quote ∷ rest) (from + 1) (to - 1) starts ends in
     ap (λ t. record { lexeme = Quoted (undoubled quote false t); from = from; to = to; at = place_after front }) sliced
     ∙ ap (λ t. record { lexeme = Quoted t; from = from; to = to; at = place_after front }) (undoubled-doubled quote bytes)
     ∙ placed_span front spelled (Quoted bytes)

@@ -88,17 +88,18 @@ no_end_behind true byte bytes none =
 pub through_block : (star : Bool) (bytes front rest : List ℕ) (from : ℕ) (start : Mark) (bad : Option Mark)
     → (behind : List ℕ) → has_comment_end (star_before star (bytes ++ behind)) ≡ false
     → (last : Bool) × (run (at (in_block star) front from start bad) (bytes ++ rest) ≡ run (at (in_block last) (front ++ bytes) from start bad) rest)
-        × (has_comment_end (star_before last behind) ≡ false)
+    × (has_comment_end (star_before last behind) ≡ false)
 through_block star [] front rest from start bad behind none =
     (star, ap (λ f. run (at (in_block star) f from start bad) rest) (sym (append-nil front)), none)
 through_block star (byte ∷ bytes) front rest from start bad behind none =
     let parts = no_end_behind star byte (bytes ++ behind) none in
-    let more = through_block (is_star byte) bytes (front ++ byte ∷ []) rest from start bad behind parts.1 in
-    (more.0,
-     block_goes_on star front byte (bytes ++ rest) from start bad parts.0
-         ∙ more.1
-         ∙ ap (λ f. run (at (in_block more.0) f from start bad) rest) (append_assoc front (byte ∷ []) bytes),
-     more.2)
+    let more = through_block (is_star byte) bytes (front ++ byte ∷ []) rest from start bad behind parts.1 in (
+      more.0,
+      block_goes_on star front byte (bytes ++ rest) from start bad parts.0
+          ∙ more.1
+          ∙ ap (λ f. run (at (in_block more.0) f from start bad) rest) (append_assoc front (byte ∷ []) bytes),
+      more.2,
+    )
 
 -- the two bytes that close it
 no_slash : (star : Bool) → (star && (42 == 47)) ≡ false

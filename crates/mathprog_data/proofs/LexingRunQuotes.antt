@@ -47,12 +47,12 @@ with_bad bad s = record s { bad = bad }
 -- any other byte of the line
 run_other : (quote : ℕ) (front rest : List ℕ) (byte from : ℕ) (start : Mark) (bad : Option Mark) → is_line_feed byte ≡ false → (byte == quote) ≡ false
     → run (at (pendings.Quoted quote) front from start bad) (byte ∷ rest)
-        ≡ run (at (pendings.Quoted quote) (front ++ byte ∷ []) from start (cond (is_some bad || is_printable byte) bad (Some (place_after front)))) rest
+    ≡ run (at (pendings.Quoted quote) (front ++ byte ∷ []) from start (cond (is_some bad || is_printable byte) bad (Some (place_after front)))) rest
 unfolding run
 run_other quote front rest byte from start bad no_line_feed no_quote =
     ap (follow rest) (third (is_line_feed byte) (byte == quote) _ _ _ no_line_feed no_quote)
     ∙ ap (λ s. run (with_bad (cond (is_some bad || is_printable byte) bad (Some (place_after front))) s) rest)
-        (at_passed (pendings.Quoted quote) (pendings.Quoted quote) front byte from start bad)
+    (at_passed (pendings.Quoted quote) (pendings.Quoted quote) front byte from start bad)
 
 -- a byte as it stands between quotes
 abbrev as_written : ℕ → ℕ → List ℕ
@@ -64,8 +64,8 @@ bad_behind quote front bad byte = cond (byte == quote) bad (cond (is_some bad ||
 
 run_written : (quote : ℕ) (front rest : List ℕ) (byte from : ℕ) (start : Mark) (bad : Option Mark) → (b : Bool) → (byte == quote) ≡ b → is_line_feed byte ≡ false
     → run (at (pendings.Quoted quote) front from start bad) (cond b (byte ∷ byte ∷ []) (byte ∷ []) ++ rest)
-        ≡ run (at (pendings.Quoted quote) (front ++ cond b (byte ∷ byte ∷ []) (byte ∷ [])) from start
-            (cond b bad (cond (is_some bad || is_printable byte) bad (Some (place_after front))))) rest
+    ≡ run (at (pendings.Quoted quote) (front ++ cond b (byte ∷ byte ∷ []) (byte ∷ [])) from start
+    (cond b bad (cond (is_some bad || is_printable byte) bad (Some (place_after front))))) rest
 run_written quote front rest byte from start bad true e no_line_feed =
     run_quote quote front (byte ∷ rest) byte from start bad no_line_feed e
     ∙ run_second_quote quote (front ++ byte ∷ []) rest byte from start bad e
@@ -80,7 +80,7 @@ bad_in quote front bad (byte ∷ bytes) = bad_in quote (front ++ as_written quot
 -- the bytes of a line between quotes
 run_inside : (quote : ℕ) (bytes front rest : List ℕ) (from : ℕ) (start : Mark) (bad : Option Mark) → is_one_line bytes ≡ true
     → run (at (pendings.Quoted quote) front from start bad) (doubled quote bytes ++ rest)
-        ≡ run (at (pendings.Quoted quote) (front ++ doubled quote bytes) from start (bad_in quote front bad bytes)) rest
+    ≡ run (at (pendings.Quoted quote) (front ++ doubled quote bytes) from start (bad_in quote front bad bytes)) rest
 run_inside quote [] front rest from start bad one_line = ap (λ f. run (at (pendings.Quoted quote) f from start bad) rest) (sym (append-nil front))
 run_inside quote (byte ∷ bytes) front rest from start bad one_line =
     let parts = and_parts (not (is_line_feed byte)) (is_one_line bytes) one_line in
@@ -149,7 +149,7 @@ quote_is_printable quote = at_quote (λ q. is_printable q ≡ true) quote refl r
 -- from the quote up to the end of a line's bytes behind it
 run_from_quote : (quote : ℕ) (front bytes rest : List ℕ) → is_quote quote ≡ true → is_one_line bytes ≡ true
     → run (gap front) (quote ∷ (doubled quote bytes ++ rest))
-        ≡ run (since (pendings.Quoted quote) (front ++ quote ∷ doubled quote bytes) front (bad_in quote (front ++ quote ∷ []) None bytes)) rest
+    ≡ run (since (pendings.Quoted quote) (front ++ quote ∷ doubled quote bytes) front (bad_in quote (front ++ quote ∷ []) None bytes)) rest
 run_from_quote quote front bytes rest quotes one_line =
     begins (pendings.Quoted quote) front (doubled quote bytes ++ rest) quote (quote_begins front quote quotes)
     ∙ run_inside quote bytes (front ++ quote ∷ []) rest (length front) (place_after front) None one_line
@@ -158,7 +158,7 @@ run_from_quote quote front bytes rest quotes one_line =
 -- up to the closing quote
 run_to_quote : (quote : ℕ) (front bytes rest : List ℕ) → is_quote quote ≡ true → is_one_line bytes ≡ true
     → run (gap front) (quote ∷ (doubled quote bytes ++ quote ∷ rest))
-        ≡ run (since (pendings.Quote quote) (front ++ quote ∷ (doubled quote bytes ++ quote ∷ [])) front (bad_in quote (front ++ quote ∷ []) None bytes)) rest
+    ≡ run (since (pendings.Quote quote) (front ++ quote ∷ (doubled quote bytes ++ quote ∷ [])) front (bad_in quote (front ++ quote ∷ []) None bytes)) rest
 run_to_quote quote front bytes rest quotes one_line =
     let bad = bad_in quote (front ++ quote ∷ []) None bytes in
     run_from_quote quote front bytes (quote ∷ rest) quotes one_line
@@ -194,7 +194,7 @@ run_bad_in_quotes quote front before byte behind rest flaw =
     let place = place_after ((front ++ quote ∷ []) ++ doubled quote before) in
     run_to_quote quote front bytes rest flaw.0 (one_line_with before (byte ∷ behind) (one_line_printable before flaw.1) flaw.3)
     ∙ ap (λ bad. run (since (pendings.Quote quote) inside front bad) rest)
-        (first_bad quote (front ++ quote ∷ []) before byte behind flaw.1 (not_the_quote quote byte flaw.0 flaw.2) flaw.2)
+    (first_bad quote (front ++ quote ∷ []) before byte behind flaw.1 (not_the_quote quote byte flaw.0 flaw.2) flaw.2)
     ∙ run_ended (pendings.Quote quote) inside (length front) (place_after front) (Some place) rest flaw.4
     ∙ ap (λ f. faulty bad_byte (place_after f)) (append_assoc front (quote ∷ []) (doubled quote before))
 

@@ -65,15 +65,15 @@ unfolding run
 run_gap front [] from start bad = refl
 run_gap front (byte ∷ rest) from start bad =
     let same : run (passed (at pendings.Gap front from start bad) byte pendings.Gap) rest ≡ run (passed (gap front) byte pendings.Gap) rest =
-        ap (λ s. run s rest) (at_passed pendings.Gap pendings.Gap front byte from start bad)
-        ∙ run_gap (front ++ byte ∷ []) rest from start bad
-        ∙ ap (λ s. run s rest) (sym (at_passed pendings.Gap pendings.Gap front byte 0 (record { line = 1; column = 1 }) None)) in
+    ap (λ s. run s rest) (at_passed pendings.Gap pendings.Gap front byte from start bad)
+    ∙ run_gap (front ++ byte ∷ []) rest from start bad
+    ∙ ap (λ s. run s rest) (sym (at_passed pendings.Gap pendings.Gap front byte 0 (record { line = 1; column = 1 }) None)) in
     by_cond rest (is_symbol_byte byte) _ _ _ _ refl
-        (by_cond rest (is_separator byte) _ _ _ _ same
-            (by_cond rest (byte == 58) _ _ _ _ refl
-                (by_cond rest (is_quote byte) _ _ _ _ refl
-                    (by_cond rest (byte == 35) _ _ _ _ refl
-                        (by_cond rest (byte == 47) _ _ _ _ refl (by_sign front rest byte from start bad (sign_of byte)))))))
+    (by_cond rest (is_separator byte) _ _ _ _ same
+    (by_cond rest (byte == 58) _ _ _ _ refl
+    (by_cond rest (is_quote byte) _ _ _ _ refl
+    (by_cond rest (byte == 35) _ _ _ _ refl
+    (by_cond rest (byte == 47) _ _ _ _ refl (by_sign front rest byte from start bad (sign_of byte)))))))
 
 -- what isn't gone on with ends, and the rest goes on where nothing is pending and nothing is kept
 pub run_ended : (pending : Pending) (front : List ℕ) (from : ℕ) (start : Mark) (bad : Option Mark) (rest : List ℕ)

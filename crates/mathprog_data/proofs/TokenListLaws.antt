@@ -72,12 +72,12 @@ apart_pieces text (piece ∷ pieces) front rest size whole within =
     let regrouped = ap length (append_assoc front (spelling piece) (spellings pieces)) in
     let still_within : length ((front ++ spelling piece) ++ spellings pieces) ≤ size = omega arith in
     apart_piece text piece front (spellings pieces ++ rest) size (placed_after (front ++ spelling piece) pieces) whole.0
-        (apart_pieces text pieces (front ++ spelling piece) rest size whole.1 still_within)
+    (apart_pieces text pieces (front ++ spelling piece) rest size whole.1 still_within)
 
 apart_lexes : (text : List ℕ) (placed : List Placed) (end : LexingEnd) → Lexes text placed end → apart_from text 0 (length text) placed
 apart_lexes text placed end lexes =
     subst (apart_from text 0 (length text)) (sym lexes.tokens)
-        (apart_pieces text lexes.pieces [] lexes.rest (length text) lexes.whole (omega (arith, ap length lexes.parts, length-append (spellings lexes.pieces) lexes.rest)))
+    (apart_pieces text lexes.pieces [] lexes.rest (length text) lexes.whole (omega (arith, ap length lexes.parts, length-append (spellings lexes.pieces) lexes.rest)))
 
 pub apart : (text : List ℕ) (tokens : List Token) → ListsAll text tokens → AreApart 0 (length text) (map slice_of tokens)
 apart text tokens all = subst (AreApart 0 (length text)) (sym all.0) (apart_lexes text (lexed text).placed (lexed text).end (lexes_lexed text))

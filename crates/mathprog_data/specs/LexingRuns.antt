@@ -32,7 +32,7 @@ unfoldable pub run : State → List ℕ → Run
 run s [] = and_then (ended s s.pending) nothing_more
 run s (byte ∷ bytes) =
     and_then (before s byte).seen
-        (and_then (taken (before s byte).state byte).seen (run (taken (before s byte).state byte).state bytes))
+    (and_then (taken (before s byte).state byte).seen (run (taken (before s byte).state byte).state bytes))
 
 -- the lexeme that stands at a span of the text
 abbrev pub lexeme_at : List ℕ → Kind → ℕ → ℕ → Lexeme

@@ -15,6 +15,8 @@ mod sets;
 mod spans;
 mod token;
 mod token_list;
+#[cfg(test)]
+mod token_tests;
 
 pub use blocks::{Blocks, Given, Mark, Name, ParamBlock, SetBlock};
 pub use fault::{DataFault, ReadFail};

@@ -28,7 +28,7 @@ fn add_seen<'a>(
     requires { IsWithin (length text.now) seen }
     ensures open { result ≡ Ok false → (run : Run) →
         behind found.old.items (slices_of text.now (lexed_run text.now closing.old (and_then seen run)))
-            ≡ behind found.new.items (slices_of text.now (lexed_run text.now closing.new run)) }
+        ≡ behind found.new.items (slices_of text.now (lexed_run text.now closing.new run)) }
     ensures closed { result ≡ Ok true → (run : Run) →
         behind found.old.items (slices_of text.now (lexed_run text.now closing.old (and_then seen run))) ≡ closed_with found.new.items }
     ensures fault { (fault : DataFault) → result ≡ Err (Fault fault) → (run : Run) →
@@ -60,7 +60,7 @@ fn take_byte<'a>(
     ensures place { result ≡ Ok false → lexer.new.place ≡ lexer.old.place + 1 }
     ensures open { result ≡ Ok false → (bytes : List ℕ) →
         behind found.old.items (slices_of text.now (lexed_run text.now closing.old (run lexer.old (byte ∷ bytes))))
-            ≡ behind found.new.items (slices_of text.now (lexed_run text.now closing.new (run lexer.new bytes))) }
+        ≡ behind found.new.items (slices_of text.now (lexed_run text.now closing.new (run lexer.new bytes))) }
     ensures closed { result ≡ Ok true → (bytes : List ℕ) →
         behind found.old.items (slices_of text.now (lexed_run text.now closing.old (run lexer.old (byte ∷ bytes)))) ≡ closed_with found.new.items }
     ensures fault { (fault : DataFault) → result ≡ Err (Fault fault) → (bytes : List ℕ) →
@@ -131,5 +131,4 @@ pub fn lexing_laws()
     ensures some { (text : List ℕ) → (placed : List Placed) × (end : LexingEnd) × Lexes text placed end }
     ensures one { (text : List ℕ) (placed others : List Placed) (end other : LexingEnd) →
         Lexes text placed end → Lexes text others other → (placed ≡ others) × (end ≡ other) }
-{
-}
+{}

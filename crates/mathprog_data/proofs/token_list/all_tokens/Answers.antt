@@ -18,8 +18,8 @@ returns-in-Err-clause-fault c fault r =
 at_end : (c : In-Ok) → behind c.loop-byte.found.items (slices_of c.args.text.now (lexed_run c.args.text.now c.loop-byte.closing (and_then c.end-last.result nothing_more))) ≡ slices c.args.text.now
 at_end c =
     ap (λ r. behind c.loop-byte.found.items (slices_of c.args.text.now (lexed_run c.args.text.now c.loop-byte.closing r)))
-        (sym (run_end c.loop-byte.lexer c.end-last.result c.end-last.ensures.seen)
-            ∙ ap (run c.loop-byte.lexer) (sym (drop_end c.args.text.now c.loop-byte.byte-index c.loop-byte-test.false)))
+    (sym (run_end c.loop-byte.lexer c.end-last.result c.end-last.ensures.seen)
+    ∙ ap (run c.loop-byte.lexer) (sym (drop_end c.args.text.now c.loop-byte.byte-index c.loop-byte-test.false)))
     ∙ c.loop-byte.invariant.1
 
 by_last : (c : In-Ok) (b : Bool) → c.add_seen.result ≡ Ok b → ListsAll c.args.text.now c.add_seen.new.found.items
