@@ -1,3 +1,4 @@
+pub mod CellSteps
 mod LexemeExamples
 pub mod LexingByteLemmas
 pub mod LexingClosing
@@ -11,6 +12,8 @@ pub mod LexingRunQuotes
 pub mod LexingRunTexts
 pub mod LexingRunTokens
 pub mod LexingSteps
+pub mod NumberReadingLaws
+pub mod SymbolLemmas
 mod Tables
 pub mod TokenListLaws
 pub mod TokenRunLemmas

@@ -1,3 +1,4 @@
+pub mod DraftViews
 pub mod Faults
 pub mod Lexemes
 pub mod Lexing
@@ -5,8 +6,21 @@ pub mod LexingBytes
 pub mod LexingMachine
 pub mod LexingPieces
 pub mod LexingRuns
+pub mod MachineRuns
+pub mod MachineStates
+pub mod MachineSteps
+pub mod MachineViews
+pub mod Meaning
+pub mod NumberReading
 pub mod ParamTables
 pub mod Params
 pub mod Places
+pub mod Slices
+pub mod StatementFaults
+pub mod Statements
+pub mod SymbolViews
+pub mod Symbols
+pub mod Tables
 pub mod TokenRuns
 pub mod TokenSlices
+pub mod Words

@@ -13,10 +13,12 @@ mod lexer;
 mod params;
 mod sets;
 mod spans;
+mod statements;
 mod token;
 mod token_list;
 #[cfg(test)]
 mod token_tests;
+mod words;
 
 pub use blocks::{Blocks, Given, Mark, Name, ParamBlock, SetBlock};
 pub use fault::{DataFault, ReadFail};
