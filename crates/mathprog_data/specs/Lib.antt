@@ -15,6 +15,7 @@ pub mod NumberReading
 pub mod ParamTables
 pub mod Params
 pub mod Places
+pub mod ReadingRuns
 pub mod Slices
 pub mod StatementFaults
 pub mod Statements

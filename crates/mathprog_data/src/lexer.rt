@@ -85,6 +85,13 @@ impl Lexer {
         }
     }
 
+    /// The place of the next byte.
+    pub(crate) fn mark(&self) -> Mark
+        ensures { result ≡ self.now.mark }
+    {
+        self.mark
+    }
+
     /// What the end of the text ends.
     pub(crate) fn end(&self) -> Seen
         ensures seen { result ≡ ended self.now self.now.pending }
@@ -106,6 +113,7 @@ impl Lexer {
     pub(crate) fn before(&mut self, byte: u8) -> Seen
         ensures state { self.new ≡ (before self.old byte).state }
         ensures place { self.new.place ≡ self.old.place }
+        ensures mark { self.new.mark ≡ self.old.mark }
         ensures seen { result ≡ (before self.old byte).seen }
         ensures within { IsWithin self.old.place result }
     {
@@ -123,6 +131,7 @@ impl Lexer {
         requires { self.old.place < 67108864 }
         ensures state { self.new ≡ (taken self.old byte).state }
         ensures place { self.new.place ≡ self.old.place + 1 }
+        ensures mark { self.new.mark ≡ next_mark self.old.mark byte }
         ensures seen { result ≡ (taken self.old byte).seen }
         ensures within { IsWithin (self.old.place + 1) result }
     {
@@ -149,6 +158,7 @@ impl Lexer {
         requires room { self.old.place < 67108864 }
         ensures state { self.new ≡ (opened self.old byte).state }
         ensures place { self.new.place ≡ self.old.place + 1 }
+        ensures mark { self.new.mark ≡ next_mark self.old.mark byte }
         ensures seen { result ≡ (opened self.old byte).seen }
         ensures within { IsWithin (self.old.place + 1) result }
     {
@@ -176,6 +186,7 @@ impl Lexer {
         requires room { self.old.place < 67108864 }
         ensures state { self.new ≡ (sign_taken self.old byte (sign_of byte)).state }
         ensures place { self.new.place ≡ self.old.place + 1 }
+        ensures mark { self.new.mark ≡ next_mark self.old.mark byte }
         ensures seen { result ≡ (sign_taken self.old byte (sign_of byte)).seen }
         ensures within { IsWithin (self.old.place + 1) result }
     {
@@ -198,6 +209,7 @@ impl Lexer {
         requires room { self.old.place < 67108864 }
         ensures state { self.new ≡ (quoted_taken self.old quote byte).state }
         ensures place { self.new.place ≡ self.old.place + 1 }
+        ensures mark { self.new.mark ≡ next_mark self.old.mark byte }
         ensures seen { result ≡ (quoted_taken self.old quote byte).seen }
     {
         if is_line_feed(byte) {

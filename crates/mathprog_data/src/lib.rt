@@ -11,6 +11,7 @@ mod fault;
 mod lexeme;
 mod lexer;
 mod params;
+mod reading;
 mod sets;
 mod spans;
 mod statements;
