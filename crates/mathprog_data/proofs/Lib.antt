@@ -13,6 +13,7 @@ pub mod LexingRunTexts
 pub mod LexingRunTokens
 pub mod LexingSteps
 pub mod NumberReadingLaws
+pub mod ReadingLemmas
 pub mod SymbolLemmas
 mod Tables
 pub mod TokenListLaws
