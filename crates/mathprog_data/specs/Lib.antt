@@ -24,4 +24,5 @@ pub mod Symbols
 pub mod Tables
 pub mod TokenRuns
 pub mod TokenSlices
+pub mod Verdicts
 pub mod Words

@@ -1,13 +1,11 @@
 -- What the lexer and the reader of statements make of a text. Private functions alone cite it.
-use Rattle.std.specs.Prelude.{ℕ, Bool, true, false, List, Result, Ok, Err, if◌then◌else◌}
+use Rattle.std.specs.Prelude.{ℕ, List, Result, Ok, Err, if◌then◌else◌}
 use Rattle.mathprog_data.specs.declared.blocks.Mark.{Mark}
-use Rattle.mathprog_data.specs.declared.closing.Closing.{Closing}
-use Rattle.mathprog_data.specs.declared.closing.Closing.TheVariants.{Free, End, Inside}
 use Rattle.mathprog_data.specs.Faults.{end_too_soon}
 use Rattle.mathprog_data.specs.Lexing.{LexingEnd, TextEnds, Closes, Fails}
 use Rattle.mathprog_data.specs.LexingRuns.{Lexed, lexed}
 use Rattle.mathprog_data.specs.MachineRuns.{Stopped, run}
-use Rattle.mathprog_data.specs.MachineStates.{Open, EndRead, Reader, drafted}
+use Rattle.mathprog_data.specs.MachineStates.{Reader, drafted}
 use Rattle.mathprog_data.specs.MachineSteps.{may_end, beginning}
 use Rattle.mathprog_data.specs.Meaning.{Blocks}
 use Rattle.mathprog_data.specs.Places.{place_after}
@@ -35,10 +33,3 @@ outcome_from text r lexed = outcome_at text lexed.end (run r lexed.placed)
 -- what is made of the text
 abbrev pub outcome_of : List ℕ → Outcome
 outcome_of text = outcome_from text beginning (lexed text)
-
--- what is known of the closing `end ;` fits what is open: where a closing `end` may come, the section may end
-abbrev pub agrees : Closing → Open → Bool
-agrees Free part = may_end part
-agrees End EndRead = true
-agrees End _ = false
-agrees Inside part = true

@@ -12,7 +12,7 @@ ghost use Rattle.mathprog_data.specs.LexingMachine.{IsWithin, least_span, next_m
 ghost use Rattle.mathprog_data.specs.LexingRuns.{Run, run, lexed_run, and_then};
 ghost use Rattle.mathprog_data.specs.declared.lexer.Seen.TheVariants.{Token};
 ghost use Rattle.mathprog_data.specs.MachineViews.{reader_view, open_view};
-ghost use Rattle.mathprog_data.specs.ReadingRuns.{Reads, Refuses, outcome_from, outcome_of, outcome_at, agrees};
+ghost use Rattle.mathprog_data.specs.ReadingRuns.{Reads, Refuses, outcome_from, outcome_of, outcome_at};
 
 use crate::blocks::Blocks;
 use crate::closing::Closing;
@@ -32,8 +32,6 @@ fn take_token(
     requires order { span.now.from + least_span span.now.kind ≤ span.now.to }
     requires within { span.now.to ≤ length text.now }
     requires room { reader.old.draft.rounded + 1 < 2 ^ 64 }
-    requires agreed { agrees closing.old (open_view reader.old) ≡ true }
-    ensures agrees { OnOk result (agrees closing.new (open_view reader.new) ≡ true) }
     ensures rounded { OnOk result (reader.new.draft.rounded ≤ reader.old.draft.rounded + 1) }
     ensures open { result ≡ Ok false → (rest : Run) →
         outcome_from text.now (reader_view reader.old) (lexed_run text.now closing.old (and_then (Token span.now) rest))
@@ -63,8 +61,6 @@ fn take_seen(
 ) -> Result<bool, ReadFail>
     requires within { IsWithin (length text.now) seen }
     requires room { reader.old.draft.rounded + 1 < 2 ^ 64 }
-    requires agreed { agrees closing.old (open_view reader.old) ≡ true }
-    ensures agrees { OnOk result (agrees closing.new (open_view reader.new) ≡ true) }
     ensures rounded { OnOk result (reader.new.draft.rounded ≤ reader.old.draft.rounded + 1) }
     ensures open { result ≡ Ok false → (rest : Run) →
         outcome_from text.now (reader_view reader.old) (lexed_run text.now closing.old (and_then seen rest))
@@ -93,10 +89,8 @@ fn take_byte(
     requires within { lexer.old.place < length text.now }
     requires short { length text.now ≤ 67108864 }
     requires room { reader.old.draft.rounded + 2 < 2 ^ 64 }
-    requires agreed { agrees closing.old (open_view reader.old) ≡ true }
     ensures place { result ≡ Ok false → lexer.new.place ≡ lexer.old.place + 1 }
     ensures mark { result ≡ Ok false → lexer.new.mark ≡ next_mark lexer.old.mark byte }
-    ensures agrees { OnOk result (agrees closing.new (open_view reader.new) ≡ true) }
     ensures rounded { OnOk result (reader.new.draft.rounded ≤ reader.old.draft.rounded + 2) }
     ensures open { result ≡ Ok false → (bytes : List ℕ) →
         outcome_from text.now (reader_view reader.old) (lexed_run text.now closing.old (run lexer.old (byte ∷ bytes)))

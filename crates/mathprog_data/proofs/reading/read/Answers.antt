@@ -21,7 +21,7 @@ pub returns-in-Err-clause-fault : goal.returns-in-Err-clause-fault
 returns-in-Err-clause-fault c fault r =
     let e : c.in-Err.fail ≡ Fault fault = cc in
     let i = c.loop-byte.byte-index in
-    sym c.loop-byte.invariant.4
+    sym c.loop-byte.invariant.3
     ∙ ap (λ t. outcome_from c.args.text.now (reader_view c.loop-byte.reader) (lexed_run c.args.text.now c.loop-byte.closing (run c.loop-byte.lexer t)))
         (drop_byte c.args.text.now i c.loop-byte-test.true)
     ∙ c.in-Err.ensures.fault fault (ap Err e) (drop (i + 1) c.args.text.now)
@@ -36,15 +36,14 @@ loop-byte-preserved c =
      c.take_byte.ensures.mark went_on ∙ ap (λ m. next_mark m (get_or text i 0)) before.1
          ∙ sym (place_behind (take i text) (get_or text i 0)) ∙ ap place_after (sym (take_more text i 0 c.loop-byte-test.true)),
      omega (arith, c.in-Ok-false.ensures.rounded, before.2),
-     c.in-Ok-false.ensures.agrees,
      sym (c.take_byte.ensures.open went_on (drop (i + 1) text))
          ∙ ap (λ t. outcome_from text (reader_view c.loop-byte.reader) (lexed_run text c.loop-byte.closing (run c.loop-byte.lexer t))) (sym (drop_byte text i c.loop-byte-test.true))
-         ∙ before.4)
+         ∙ before.3)
 
 -- what comes of the end of the text, by what it ends
 at_last : (c : After-take_seen) → outcome_of c.args.text.now ≡ outcome_from c.args.text.now (reader_view c.loop-byte.reader) (lexed_run c.args.text.now c.loop-byte.closing (and_then c.end-last.result nothing_more))
 at_last c =
-    sym c.loop-byte.invariant.4
+    sym c.loop-byte.invariant.3
     ∙ ap (λ r. outcome_from c.args.text.now (reader_view c.loop-byte.reader) (lexed_run c.args.text.now c.loop-byte.closing r))
         (ap (run c.loop-byte.lexer) (drop_end c.args.text.now c.loop-byte.byte-index c.loop-byte-test.false) ∙ run_end c.loop-byte.lexer c.end-last.result c.end-last.ensures.seen)
 
