@@ -18,3 +18,4 @@ pub mod SymbolLemmas
 mod Tables
 pub mod TokenListLaws
 pub mod TokenRunLemmas
+pub mod VerdictLaws
