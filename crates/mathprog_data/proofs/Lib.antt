@@ -19,3 +19,5 @@ mod Tables
 pub mod TokenListLaws
 pub mod TokenRunLemmas
 pub mod VerdictLaws
+pub mod Walks
+mod WellFormedLaws

@@ -1,3 +1,4 @@
+pub mod BlocksView
 pub mod DraftViews
 pub mod Faults
 pub mod Lexemes
@@ -25,4 +26,5 @@ pub mod Tables
 pub mod TokenRuns
 pub mod TokenSlices
 pub mod Verdicts
+pub mod WellFormed
 pub mod Words

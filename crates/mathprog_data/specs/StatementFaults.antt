@@ -90,7 +90,7 @@ IsRefused front t = BeginsLoose (front ++ t ∷ []) → ⊥
 -- the number of the fault that a token carries behind a good list
 pub data Carries (front : List Placed) (t : Placed) : ℕ → Type 0 where
   -- but for the names it could stand there: it is the name of a second statement
-  a_second_statement : BeginsLoose (front ++ t ∷ []) → Carries front t given_twice
+  a_second_statement : BeginsLoose (front ++ t ∷ []) → (NoNameTwice (front ++ t ∷ []) → ⊥) → Carries front t given_twice
   an_unknown_name : IsRefused front t → IsUnknownName front t → Carries front t unknown_name
   a_wrong_slice : IsRefused front t → IsWrongSlice front t → Carries front t wrong_slice
   a_short_row : IsRefused front t → IsRowTooShort front t → Carries front t row_too_short

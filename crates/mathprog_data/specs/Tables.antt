@@ -36,7 +36,7 @@ pub data Cells (slice : Slice) (transposed : Bool) (row : Name) (at : Mark) : Li
   filled : {t : Placed} {ts us rest : List Placed} {column : Name} {columns : List Name} {number : Number} {values : List Given} → IsNumber t number → Comma ts us → Cells slice transposed row at columns us rest values → Cells slice transposed row at (column ∷ columns) (t ∷ ts) rest (given (cell_index slice transposed row column) number at ∷ values)
   point : {t : Placed} {ts us rest : List Placed} {column : Name} {columns : List Name} {values : List Given} → IsKeyword (codes ".") t → Comma ts us → Cells slice transposed row at columns us rest values → Cells slice transposed row at (column ∷ columns) (t ∷ ts) rest values
 
--- rows: each a symbol, and a value for each column
+-- rows, or none: each a symbol, and a value for each column
 pub data Rows (slice : Slice) (transposed : Bool) (columns : List Name) : List Placed → List Placed → List Given → Type 0 where
   none : {ts : List Placed} → Rows slice transposed columns ts ts []
   more : {t : Placed} {ts us vs rest : List Placed} {row : Name} {values others : List Given} → IsSymbol t row → Comma ts us → Cells slice transposed row t.at columns us vs values → Rows slice transposed columns vs rest others → Rows slice transposed columns (t ∷ ts) rest (values ++ others)

@@ -1,7 +1,8 @@
 //! The reader of statements: a machine that takes token by token.
 
 ghost use Rattle.std.specs.Prelude.{◌≡◌, ◌+◌, ◌<◌, ◌^◌, IfOk, OnOk, Option, Some, None};
-ghost use Rattle.mathprog_data.specs.DraftViews.{draft_view, blocks_view};
+ghost use Rattle.mathprog_data.specs.BlocksView.{blocks_told};
+ghost use Rattle.mathprog_data.specs.DraftViews.{draft_view};
 ghost use Rattle.mathprog_data.specs.Lexemes.{lexeme_of};
 ghost use Rattle.mathprog_data.specs.MachineSteps.{step, beginning, may_end};
 ghost use Rattle.mathprog_data.specs.MachineViews.{reader_view, open_view, outcome};
@@ -176,7 +177,7 @@ impl StatementReader {
 
     /// The blocks that were read.
     pub(crate) fn into_blocks(self) -> Blocks
-        ensures { blocks_view result ≡ drafted (draft_view self.draft) }
+        ensures { blocks_told result ≡ drafted (draft_view self.draft) }
     {
         let StatementReader {
             alloc: _,

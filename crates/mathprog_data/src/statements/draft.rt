@@ -2,7 +2,8 @@
 
 ghost use Rattle.std.specs.Prelude.{◌≡◌, ◌+◌, ◌<◌, ◌^◌, None, Some, OnOk, nat_eq, if◌then◌else◌};
 ghost use Rattle.std.specs.List.{list_any};
-ghost use Rattle.mathprog_data.specs.DraftViews.{draft_view, blocks_view};
+ghost use Rattle.mathprog_data.specs.BlocksView.{blocks_told};
+ghost use Rattle.mathprog_data.specs.DraftViews.{draft_view};
 ghost use Rattle.mathprog_data.specs.MachineStates.{noted, empty_draft, drafted, with_default, Draft, MemberNamed, ValueGiven, SetClosed, ParamClosed};
 ghost use Rattle.mathprog_data.specs.Tables.{given};
 
@@ -133,7 +134,7 @@ impl Draft {
 
     /// The blocks.
     pub(crate) fn into_blocks(self) -> Blocks
-        ensures { blocks_view result ≡ drafted (draft_view self) }
+        ensures { blocks_told result ≡ drafted (draft_view self) }
     {
         let Draft {
             alloc: _,
