@@ -3,7 +3,8 @@
 ghost use Rattle.std.specs.Prelude.{◌≡◌, ◌+◌, ◌<◌, ◌≤◌, ◌^◌, ◌∷◌, ℕ, List, length, true, false, Ok, Err, IfOk, OnOk};
 ghost use Rattle.mathprog_data.specs.declared.fault.DataFault.{DataFault};
 ghost use Rattle.mathprog_data.specs.declared.fault.ReadFail.TheVariants.{Fault};
-ghost use Rattle.mathprog_data.specs.DraftViews.{blocks_view, draft_view};
+ghost use Rattle.mathprog_data.specs.BlocksView.{blocks_told};
+ghost use Rattle.mathprog_data.specs.DraftViews.{draft_view};
 ghost use Rattle.mathprog_data.specs.Faults.{end_too_soon};
 ghost use Rattle.mathprog_data.specs.MachineStates.{drafted};
 ghost use Rattle.mathprog_data.specs.MachineSteps.{may_end};
@@ -114,7 +115,7 @@ fn take_byte(
 
 /// The blocks of the text behind its end, or `EndTooSoon` there.
 fn finish(lexer: &Lexer, reader: StatementReader) -> Result<Blocks, ReadFail>
-    ensures blocks { IfOk result (λ blocks. (may_end (open_view reader) ≡ true) × (blocks_view blocks ≡ drafted (draft_view reader.draft))) }
+    ensures blocks { IfOk result (λ blocks. (may_end (open_view reader) ≡ true) × (blocks_told blocks ≡ drafted (draft_view reader.draft))) }
     ensures fault { (fault : DataFault) → result ≡ Err (Fault fault) →
         (may_end (open_view reader) ≡ false) × (fault ≡ record { no = end_too_soon; at = lexer.now.mark }) }
 {
@@ -131,7 +132,7 @@ fn finish(lexer: &Lexer, reader: StatementReader) -> Result<Blocks, ReadFail>
 /// The blocks of the text, or its first fault.
 fn read(alloc: Global, text: &[u8]) -> Result<Blocks, ReadFail>
     requires { length text.now ≤ 67108864 }
-    ensures blocks { IfOk result (λ blocks. outcome_of text.now ≡ Reads (blocks_view blocks)) }
+    ensures blocks { IfOk result (λ blocks. outcome_of text.now ≡ Reads (blocks_told blocks)) }
     ensures fault { (fault : DataFault) → result ≡ Err (Fault fault) → outcome_of text.now ≡ Refuses fault.no fault.at }
 {
     let mut lexer = Lexer::new();
@@ -150,4 +151,11 @@ fn read(alloc: Global, text: &[u8]) -> Result<Blocks, ReadFail>
         Ok(true) => Ok(reader.into_blocks()),
         Err(fail) => Err(fail),
     }
+}
+
+/// The blocks that the text says.
+pub fn read_blocks(alloc: Global, text: &[u8]) -> Result<Blocks, ReadFail>
+    requires { length text.now ≤ 67108864 }
+{
+    read(alloc, text)
 }

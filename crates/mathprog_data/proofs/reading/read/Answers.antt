@@ -3,7 +3,8 @@ use Rattle.std.proofs.lemmas.Bool.{cond-true, cond-false}
 use Rattle.std.proofs.lemmas.List.{take_more, take_all}
 use Rattle.std.proofs.lemmas.Result.{IfOk-weaker}
 use Rattle.mathprog_data.specs.declared.fault.ReadFail.TheVariants.{Fault}
-use Rattle.mathprog_data.specs.DraftViews.{blocks_view, draft_view}
+use Rattle.mathprog_data.specs.BlocksView.{blocks_told}
+use Rattle.mathprog_data.specs.DraftViews.{draft_view}
 use Rattle.mathprog_data.specs.Faults.{end_too_soon}
 use Rattle.mathprog_data.specs.LexingMachine.{next_mark}
 use Rattle.mathprog_data.specs.LexingRuns.{run, and_then, lexed_run, nothing_more}
@@ -59,7 +60,7 @@ returns-in-Ok-false-take_seen-clause-blocks c =
     let reader = c.take_seen.new.reader in
     let ended = at_last (goal.at.returns-in-Ok-false-take_seen-clause-blocks c).After-take_seen
         ∙ c.take_seen.ensures.open (c.in-Ok-false-take_seen.is ∙ ap Ok c.in-Ok-false-take_seen.field-0-test) nothing_more in
-    IfOk-weaker c.finish.result (λ blocks. (may_end (open_view reader) ≡ true) × (blocks_view blocks ≡ drafted (draft_view reader.draft))) (λ blocks. outcome_of text ≡ Reads (blocks_view blocks))
+    IfOk-weaker c.finish.result (λ blocks. (may_end (open_view reader) ≡ true) × (blocks_told blocks ≡ drafted (draft_view reader.draft))) (λ blocks. outcome_of text ≡ Reads (blocks_told blocks))
         (λ blocks h. ended ∙ cond-true (may_end (open_view reader)) _ _ h.0 ∙ ap Reads (sym h.1))
         c.finish.ensures.blocks
 
