@@ -9,15 +9,29 @@ pub mod FaultsCarried
 pub mod GoodLists
 pub mod LastStatement
 mod LexemeExamples
+pub mod LexingByteLemmas
+pub mod LexingClosing
+mod LexingExamples
+pub mod LexingLaws
+pub mod LexingParse
+pub mod LexingPlaced
+pub mod LexingPlaces
+pub mod LexingRunGaps
+pub mod LexingRunQuotes
+pub mod LexingRunTexts
+pub mod LexingRunTokens
+pub mod LexingSteps
 pub mod NamesGo
 pub mod NamesOnce
 pub mod NumberReadingLaws
+pub mod ReadingLemmas
 pub mod RunLaws
 pub mod SaneSound
 pub mod SectionMeans
 pub mod SectionsSound
 pub mod SectionsTaken
 pub mod StatementFaultLaws
+mod StatementLawsHold
 pub mod StatementsGo
 pub mod StatementsSound
 pub mod StatementsTaken
@@ -25,9 +39,12 @@ pub mod SymbolLemmas
 pub mod Tables
 pub mod TablesSound
 pub mod TablesTaken
+pub mod TokenListLaws
+pub mod TokenRunLemmas
 pub mod TokensSeen
 pub mod TurnLaws
-mod Verdicts
+pub mod VerdictLaws
+pub mod Verdicts
 pub mod WalkLaws
 pub mod Walks
 mod WellFormedLaws
