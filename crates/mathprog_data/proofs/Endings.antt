@@ -132,7 +132,7 @@ ending (InRow param slice transposed names row mark left c) s = end-row param sl
 
 -- ---- every state on a way is sound
 sane-go : {o next : Open} {turned : Turn} {x : Seen} → Holds o x turned → turned ≡ Go next → IsSane o → IsSane next
-sane-go stop e s = cc
+sane-go (stop f) e s = cc
 sane-go (goes {next = after} m) e s = let same = go-is e in subst IsSane same (m.sane s)
   where
     go-is : {a b : Open} → Go a ≡ Go b → a ≡ b
@@ -140,7 +140,7 @@ sane-go (goes {next = after} m) e s = let same = go-is e in subst IsSane same (m
 sane-go (emits m) e s = cc
 
 sane-emit : {o next : Open} {event : Event} {turned : Turn} {x : Seen} → Holds o x turned → turned ≡ Emit event next → IsSane o → IsSane next
-sane-emit stop e s = cc
+sane-emit (stop f) e s = cc
 sane-emit (goes m) e s = cc
 sane-emit (emits {next = after} m) e s = let same = emit-is e in subst IsSane same (m.sane s)
   where
