@@ -104,7 +104,7 @@ only-unexpected k a b c d e ua wb sc bd te na nb nc nd ne f =
 
 -- no name is given twice where the token is refused
 pub carries-stop : {front : List Placed} {o : Open} → Behind front o → (t : Placed) → Lacking front o t.at → (k m : ℕ) → turn o (seen t) t.at ≡ Stop k → Carries front t m → m ≡ k
-carries-stop b t lacking k m e (faults.Carries.a_second_statement c) = absurd (stopped-refused b t k e c)
+carries-stop b t lacking k m e (faults.Carries.a_second_statement c twice) = absurd (stopped-refused b t k e c)
 carries-stop b t lacking k m e (faults.Carries.an_unknown_name r f) = let x = tested b t k e in sym (eqb-true k unknown_name (sym x.unknown ∙ unknown-test b t f))
 carries-stop b t lacking k m e (faults.Carries.a_wrong_slice r f) = let x = tested b t k e in sym (eqb-true k wrong_slice (sym x.wrong ∙ wrong-test b t lacking f))
 carries-stop b t lacking k m e (faults.Carries.a_short_row r f) = let x = tested b t k e in sym (eqb-true k row_too_short (sym x.short ∙ short-test b t f))

@@ -71,13 +71,13 @@ stops-bad {front = front} t k w new h good =
     let bad : Ok g.behind ≡ Err (stopped k t.at) = sym g.is ∙ stop in
     cc
 
-halts-carried : {front : List Placed} {o : Open} {events : List Event} {d : Draft} (t : Placed) (k : ℕ) → Walks Fresh front o events → Halts o d t k → Carries front t k
-halts-carried {events = events} t k w (stops e) =
+halts-carried : {front : List Placed} {o : Open} {events : List Event} {d : Draft} (t : Placed) (k : ℕ) → Walks Fresh front o events → Halts o d t k → (IsGood (front ++ t ∷ []) → ⊥) → Carries front t k
+halts-carried {events = events} t k w (stops e) bad =
     let b : Behind _ _ = record { events = events; walk = w } in
     carried b t (lacking-of t.at b) k e
-halts-carried t k w (twice e second) =
+halts-carried t k w (twice e second) bad =
     let v = one_more t w (by_emit e) in
-    faults.Carries.a_second_statement (way-loose v.walk)
+    faults.Carries.a_second_statement (way-loose v.walk) (λ names. bad (record { begins = way-loose v.walk; names = names }))
 
 pub stopped-fault : (ts : List Placed) (k : ℕ) (at : Mark) → run beginning ts ≡ Err (stopped k at) → FaultIn ts k at
 stopped-fault ts k at e =
@@ -89,7 +89,7 @@ stopped-fault ts k at e =
       parts = h.parts;
       good = record { begins = way-loose h.walk; names = new-names h.walk h.new };
       stops = stops-bad h.token k h.walk h.new h.halts;
-      carries = halts-carried h.token k h.walk h.halts;
+      carries = halts-carried h.token k h.walk h.halts (stops-bad h.token k h.walk h.new h.halts);
       at_is = h.at_is;
     }
 
@@ -108,7 +108,7 @@ emits-still {next = next} {events = events} {event = event} t w new e first =
 
 -- the token that could stand carries the number of a second statement alone
 stands-twice : {front : List Placed} {t : Placed} {m : ℕ} → BeginsLoose (front ++ t ∷ []) → Carries front t m → m ≡ given_twice
-stands-twice c (faults.Carries.a_second_statement d) = refl
+stands-twice c (faults.Carries.a_second_statement d names) = refl
 stands-twice c (faults.Carries.an_unknown_name r f) = absurd (r c)
 stands-twice c (faults.Carries.a_wrong_slice r f) = absurd (r c)
 stands-twice c (faults.Carries.a_short_row r f) = absurd (r c)
