@@ -24,6 +24,7 @@ pub mod LexingSteps
 pub mod NamesGo
 pub mod NamesOnce
 pub mod NumberReadingLaws
+pub mod ReadingLaws
 pub mod ReadingLemmas
 pub mod RoundedCounts
 pub mod RunLaws

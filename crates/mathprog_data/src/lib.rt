@@ -26,7 +26,7 @@ mod words;
 pub use blocks::{Blocks, Given, Mark, Name, ParamBlock, SetBlock};
 pub use fault::{DataFault, ReadFail};
 pub use params::{param_word, subscript_count};
-pub use reading::read_blocks;
+pub use reading::{read_blocks, verdict_laws};
 pub use sets::set_word;
 pub use token::Token;
 pub use token_list::{lexing_laws, tokens};
