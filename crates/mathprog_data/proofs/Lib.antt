@@ -32,6 +32,7 @@ pub mod SaneSound
 pub mod SectionMeans
 pub mod SectionsSound
 pub mod SectionsTaken
+mod StatementExamples
 pub mod StatementFaultLaws
 mod StatementLawsHold
 pub mod StatementsGo
