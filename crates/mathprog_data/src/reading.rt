@@ -188,5 +188,4 @@ pub fn verdict_laws()
     ensures one_meaning { (text : List ℕ) (blocks others : SaidBlocks) → Says text blocks → Says text others → blocks ≡ others }
     ensures one_fault { (text : List ℕ) (number other : ℕ) (at place : Mark) → FaultAt text number at → FaultAt text other place →
         (number ≡ other) × (at ≡ place) }
-{
-}
+{}
