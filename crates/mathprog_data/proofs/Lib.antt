@@ -1,7 +1,53 @@
-mod LexemeExamples
-mod Tables
-mod WellFormedLaws
 pub mod CellSteps
+pub mod CouldStand
+pub mod Drafts
+pub mod Endings
+pub mod FaultRecords
+pub mod FaultTables
+pub mod FaultTests
+pub mod FaultsCarried
+pub mod GoodLists
+pub mod LastStatement
+mod LexemeExamples
+pub mod LexingByteLemmas
+pub mod LexingClosing
+mod LexingExamples
+pub mod LexingLaws
+pub mod LexingParse
+pub mod LexingPlaced
+pub mod LexingPlaces
+pub mod LexingRunGaps
+pub mod LexingRunQuotes
+pub mod LexingRunTexts
+pub mod LexingRunTokens
+pub mod LexingSteps
+pub mod NamesGo
+pub mod NamesOnce
 pub mod NumberReadingLaws
+pub mod ReadingLaws
+pub mod ReadingLemmas
+pub mod RoundedCounts
+pub mod RunLaws
+pub mod SaneSound
+pub mod SectionMeans
+pub mod SectionsSound
+pub mod SectionsTaken
+mod StatementExamples
+pub mod StatementFaultLaws
+mod StatementLawsHold
+pub mod StatementsGo
+pub mod StatementsSound
+pub mod StatementsTaken
 pub mod SymbolLemmas
+pub mod Tables
+pub mod TablesSound
+pub mod TablesTaken
+pub mod TokenListLaws
+pub mod TokenRunLemmas
+pub mod TokensSeen
+pub mod TurnLaws
+pub mod VerdictLaws
+pub mod Verdicts
+pub mod WalkLaws
 pub mod Walks
+mod WellFormedLaws

@@ -6,16 +6,27 @@
 #![tactic(auto)]
 
 mod blocks;
+mod closing;
 mod fault;
 mod lexeme;
+mod lexer;
 mod params;
+mod reading;
 mod sets;
+mod spans;
+#[cfg(test)]
+mod statement_tests;
 mod statements;
 mod token;
+mod token_list;
+#[cfg(test)]
+mod token_tests;
 mod words;
 
 pub use blocks::{Blocks, Given, Mark, Name, ParamBlock, SetBlock};
 pub use fault::{DataFault, ReadFail};
 pub use params::{param_word, subscript_count};
+pub use reading::{read_blocks, verdict_laws};
 pub use sets::set_word;
 pub use token::Token;
+pub use token_list::{lexing_laws, tokens};

@@ -1,0 +1,65 @@
+//! The bytes of a data section by kind.
+
+ghost use Rattle.std.specs.Prelude.{◌≡◌};
+ghost use Rattle.mathprog_data.specs.Places.{is_line_feed};
+ghost use Rattle.mathprog_data.specs.LexingBytes.{is_separator, is_symbol_byte, is_quote, is_printable};
+ghost use Rattle.mathprog_data.specs.LexingMachine.{sign_of};
+
+use crate::lexeme::Sign;
+
+/// Whether it ends a line.
+#[inline]
+pub(crate) fn is_line_feed(byte: u8) -> bool
+    ensures { result ≡ is_line_feed byte }
+{
+    byte == b'\n'
+}
+
+/// Whether it separates tokens: a blank, a tab, a carriage return or a line feed.
+#[inline]
+pub(crate) fn is_separator(byte: u8) -> bool
+    ensures { result ≡ is_separator byte }
+{
+    byte == b' ' || byte == b'\t' || byte == b'\r' || byte == b'\n'
+}
+
+/// Whether it may stand in a bare symbol: an ASCII letter or digit, `+`, `-`, `.` or `_`.
+#[inline]
+pub(crate) fn is_symbol_byte(byte: u8) -> bool
+    ensures { result ≡ is_symbol_byte byte }
+{
+    byte.is_ascii_alphanumeric() || byte == b'+' || byte == b'-' || byte == b'.' || byte == b'_'
+}
+
+/// Whether it begins and ends a quoted symbol.
+#[inline]
+pub(crate) fn is_quote(byte: u8) -> bool
+    ensures { result ≡ is_quote byte }
+{
+    byte == b'\'' || byte == b'"'
+}
+
+/// Whether it may stand in a quoted symbol: 32 to 126.
+#[inline]
+pub(crate) fn is_printable(byte: u8) -> bool
+    ensures { result ≡ is_printable byte }
+{
+    byte >= 32 && byte <= 126
+}
+
+/// The sign of this one byte. `:` is left out, since it may begin `:=`.
+#[inline]
+pub(crate) fn sign_of(byte: u8) -> Option<Sign>
+    ensures { result ≡ sign_of byte }
+{
+    match byte {
+        b';' => Some(Sign::Semicolon),
+        b',' => Some(Sign::Comma),
+        b'[' => Some(Sign::OpenBracket),
+        b']' => Some(Sign::CloseBracket),
+        b'(' => Some(Sign::OpenParen),
+        b')' => Some(Sign::CloseParen),
+        b'*' => Some(Sign::Star),
+        _ => None,
+    }
+}
