@@ -29,6 +29,7 @@ use crate::statements::StatementReader;
 use std::alloc::Global;
 
 /// Takes the token at the span, and says whether it closes the text.
+#[inline(never)]
 fn take_token(
     text: &[u8],
     span: &Span,
@@ -59,6 +60,7 @@ fn take_token(
 }
 
 /// Takes what was seen of the text, and says whether it closes the text.
+#[inline]
 fn take_seen(
     text: &[u8],
     seen: Seen,

@@ -19,6 +19,7 @@ use crate::token::Token;
 use std::alloc::{AllocError, Global};
 
 /// Adds the token that was seen, if one was, and says whether it closes the text.
+#[inline]
 fn add_seen<'a>(
     text: &'a [u8],
     seen: Seen,
