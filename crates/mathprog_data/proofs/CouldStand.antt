@@ -40,12 +40,16 @@ reads-param = refl
 
 pub zero-seen : seen_of (Bare (codes "0")) ≡ zero_seen
 zero-seen = ap (λ n. SymbolSeen words.Other (codes "0") n) reads-zero
+
 pub x-seen : seen_of (Bare (codes "x")) ≡ x_seen
 x-seen = ap (λ n. SymbolSeen words.Other (codes "x") n) reads-x
+
 pub point-seen : seen_of (Bare (codes ".")) ≡ point_seen
 point-seen = ap (λ n. SymbolSeen words.Point (codes ".") n) reads-point
+
 pub set-seen : seen_of (Bare (codes "REGION")) ≡ set_seen
 set-seen = ap (λ n. SymbolSeen words.Other (codes "REGION") n) reads-set
+
 pub param-seen : seen_of (Bare (codes "YearSplit")) ≡ param_seen
 param-seen = ap (λ n. SymbolSeen words.Other (codes "YearSplit") n) reads-param
 

@@ -1,18 +1,16 @@
 -- The number of the fault with which the machine stops inside the records of a parameter.
-use Rattle.std.proofs.Common.{◌≡◌, ◌≢◌, ℕ, zero, suc, pos, Bool, true, false, cond, not, List, [], ◌∷◌, codes, Option, Some, None, refl, sym, ap, ap₂, ◌∙◌, subst, nat_eq}
+use Rattle.std.proofs.Common.{◌≡◌, ℕ, zero, suc, pos, Bool, true, false, cond, not, List, [], ◌∷◌, codes, Option, Some, None, refl, ap, ap₂, ◌∙◌, nat_eq}
 use Rattle.std.specs.Prelude.{◌&&◌, ◌||◌}
-use Rattle.std.specs.Option.{is_none}
 use Rattle.mathprog_data.specs.declared.blocks.Mark.{Mark}
 use Rattle.mathprog_data.specs.declared.lexeme.Sign.TheVariants as signs
-use Rattle.mathprog_data.specs.declared.words.Word.{Word}
 use Rattle.mathprog_data.specs.declared.words.Word.TheVariants as words
-use Rattle.mathprog_data.specs.MachineStates.{Seen, SignSeen, EmptySeen, SymbolSeen, Open, ParamNamed, InRecords, InPlain, InColumns, InRows, Turn, Stop, Go, Emit, Event}
-use Rattle.mathprog_data.specs.MachineSteps.{turn, number, plain, bracket, table, columns_end}
-use Rattle.mathprog_data.specs.Params.{set_number, param_number, subscript_count, results_path}
+use Rattle.mathprog_data.specs.MachineStates.{Seen, SignSeen, SymbolSeen, Open, ParamNamed, InRecords, InPlain, Stop, Go, Emit, Event}
+use Rattle.mathprog_data.specs.MachineSteps.{number, plain, bracket, table}
+use Rattle.mathprog_data.specs.Params.{subscript_count, results_path}
 use Rattle.mathprog_data.specs.Slices.{Slice, free_count, all_free}
 use Rattle.mathprog_data.specs.Statements.{Form, Listed, Tabbing}
 use Rattle.mathprog_data.specs.Symbols.{Name, Number}
-use Rattle.mathprog_data.proofs.FaultTests.{goes_on, on, zero_seen, x_seen, point_seen, cell_due, gives_due, Agrees, Agreed}
+use Rattle.mathprog_data.proofs.FaultTests.{goes_on, cell_due, gives_due, Agrees, Agreed}
 
 -- ---- symbols of plain data
 -- whether a symbol may stand doesn't hang on its name

@@ -1,18 +1,16 @@
 -- The number of the fault with which the machine stops, by what else could stand there.
-use Rattle.std.proofs.Common.{◌≡◌, ◌≢◌, ℕ, zero, suc, pos, Bool, true, false, cond, not, List, [], ◌∷◌, codes, Option, Some, None, refl, sym, ap, ◌∙◌, subst, nat_eq}
+use Rattle.std.proofs.Common.{◌≡◌, ℕ, pos, Bool, true, false, not, List, [], ◌∷◌, codes, Option, Some, None, refl, nat_eq}
 use Rattle.std.specs.Prelude.{◌&&◌, ◌||◌}
 use Rattle.std.specs.Option.{is_none}
 use Rattle.mathprog_data.specs.declared.blocks.Mark.{Mark}
 use Rattle.mathprog_data.specs.declared.lexeme.Sign.TheVariants as signs
-use Rattle.mathprog_data.specs.declared.words.Word.{Word}
 use Rattle.mathprog_data.specs.declared.words.Word.TheVariants as words
 use Rattle.mathprog_data.specs.Faults.{unknown_name, wrong_slice, row_too_short, bad_number, tabbing}
-use Rattle.mathprog_data.specs.MachineStates.{Seen, SignSeen, EmptySeen, SymbolSeen, Open, Fresh, DataRead, Between, EndRead, Ended, SetRead, InSet, ParamRead, ParamNamed, DefaultRead, LeadingDefault, LeadingNumber, TabbingColon, TabbingNamed, InRecords, InPlain, PlaceDue, PlaceRead, ParenRead, TrRead, TrClosed, InColumns, InRows, InRow, Turn, Stop, Go, Emit}
+use Rattle.mathprog_data.specs.MachineStates.{Seen, SignSeen, SymbolSeen, Open, Fresh, DataRead, Between, EndRead, Ended, SetRead, InSet, ParamRead, ParamNamed, DefaultRead, LeadingDefault, LeadingNumber, TabbingColon, TabbingNamed, InRecords, InPlain, PlaceDue, PlaceRead, ParenRead, TrRead, TrClosed, InColumns, InRows, InRow, Turn, Stop, Go, Emit}
 use Rattle.mathprog_data.specs.MachineSteps.{turn, set_name, param_name, tabbing_name}
 use Rattle.mathprog_data.specs.Params.{set_number, param_number, subscript_count}
-use Rattle.mathprog_data.specs.Statements.{Form, Listed, Tabbing}
-use Rattle.mathprog_data.specs.Symbols.{Name, Number}
-use Rattle.mathprog_data.specs.Slices.{Slice}
+use Rattle.mathprog_data.specs.Statements.{Listed}
+use Rattle.mathprog_data.specs.Symbols.{Number}
 
 -- ---- what else could stand there
 -- the turn isn't a stop

@@ -1,24 +1,23 @@
 -- The last statement of a list that the machine goes over: whether it is an ordinary one of a parameter without subscripts.
-use Rattle.std.proofs.Common.{◌≡◌, ◌≢◌, ◌⊎◌, inl, inr, ℕ, zero, suc, Bool, true, false, not, List, [], ◌∷◌, ◌++◌, codes, Option, Some, None, refl, sym, ap, ◌∙◌, subst, nat_eq}
+use Rattle.std.proofs.Common.{◌≡◌, ◌≢◌, ℕ, Bool, true, false, List, [], ◌∷◌, ◌++◌, codes, Option, Some, None, refl, sym, ap, ◌∙◌, subst, nat_eq}
 use Rattle.std.specs.Prelude.{◌&&◌}
 use Rattle.std.proofs.lemmas.Bool.{eqb-true}
-use Rattle.std.proofs.lemmas.List.{append_assoc}
 use Rattle.mathprog_data.specs.declared.blocks.Mark.{Mark}
 use Rattle.mathprog_data.specs.declared.lexeme.Sign.TheVariants as signs
 use Rattle.mathprog_data.specs.declared.words.Word.{Word}
 use Rattle.mathprog_data.specs.declared.words.Word.TheVariants as words
 use Rattle.mathprog_data.specs.Lexemes.{Placed}
-use Rattle.mathprog_data.specs.MachineStates.{Seen, SignSeen, EmptySeen, SymbolSeen, Open, Fresh, DataRead, Between, EndRead, Ended, SetRead, InSet, ParamRead, ParamNamed, DefaultRead, LeadingDefault, LeadingNumber, TabbingColon, TabbingNamed, InRecords, InPlain, PlaceDue, PlaceRead, ParenRead, TrRead, TrClosed, InColumns, InRows, InRow, Turn, Stop, Go, Emit, Event, Begins, seen_of}
+use Rattle.mathprog_data.specs.MachineStates.{Seen, SignSeen, SymbolSeen, Open, Fresh, Between, Ended, ParamRead, ParamNamed, DefaultRead, InRecords, InPlain, PlaceDue, PlaceRead, ParenRead, TrRead, TrClosed, InColumns, InRows, InRow, Turn, Stop, Go, Emit, Event, Begins, seen_of}
 use Rattle.mathprog_data.specs.MachineSteps.{turn, param_name}
 use Rattle.mathprog_data.specs.Params.{set_number, param_number, subscript_count}
 use Rattle.mathprog_data.specs.StatementFaults.{LacksSubscripts, IsClosed, nothing, semicolon, HasNoSemicolon}
-use Rattle.mathprog_data.specs.Statements.{Listed, Tabbing, ParamBegun}
+use Rattle.mathprog_data.specs.Statements.{Listed, ParamBegun}
 use Rattle.mathprog_data.specs.Symbols.{Name, Number, IsSign, IsKeyword, IsSymbol}
 use Rattle.mathprog_data.proofs.FaultTests.{lacks}
 use Rattle.mathprog_data.proofs.TokensSeen.{seen, sign-seen, seen-sign, symbol-seen, seen-symbol, seen-keyword, default-no_param}
-use Rattle.mathprog_data.proofs.TurnLaws.{Moved, Holds, stop, goes, emits, holds, is_semicolon, is_param_word, is_closed, is_start, is_fresh, is_param_read, listed_in}
+use Rattle.mathprog_data.proofs.TurnLaws.{Moved, Holds, goes, emits, holds, is_semicolon, is_param_word, is_closed, is_start, is_fresh, is_param_read, listed_in}
 use Rattle.mathprog_data.proofs.WalkLaws.{Walks, Reached, reached, cut}
-use Rattle.mathprog_data.proofs.Walks.{Takes, done, go, emit}
+use Rattle.mathprog_data.proofs.Walks.{done, go, emit}
 
 -- ---- states
 lacks-listed : (s : Open) (p : ℕ) → listed_in s ≡ Some p → lacks s ≡ nat_eq (subscript_count p) 0
@@ -182,12 +181,34 @@ lacking : {front : List Placed} (p : ℕ) → nat_eq (subscript_count p) 0 ≡ t
 lacking p none (stayed h no_end) = cc
 lacking p none (named r body) = cc
 lacking p none (begun {word = word} {symbol = symbol} {after = after} s keyword body) = record {
-  before = []; word = word; symbol = symbol; after = after; name = body.name; param = p; parts = refl; closed = nothing;
-  open_still = body.open_still; begins = keyword; names = body.names; numbered = body.numbered; none = eqb-true (subscript_count p) 0 none;
+  before = [];
+  word = word;
+  symbol = symbol;
+  after = after;
+  name = body.name;
+  param = p;
+  parts = refl;
+  closed = nothing;
+  open_still = body.open_still;
+  begins = keyword;
+  names = body.names;
+  numbered = body.numbered;
+  none = eqb-true (subscript_count p) 0 none;
 }
 lacking p none (later before end word symbol after is keyword body parts) = record {
-  before = before ++ end ∷ []; word = word; symbol = symbol; after = after; name = body.name; param = p; parts = parts; closed = semicolon end before is;
-  open_still = body.open_still; begins = keyword; names = body.names; numbered = body.numbered; none = eqb-true (subscript_count p) 0 none;
+  before = before ++ end ∷ [];
+  word = word;
+  symbol = symbol;
+  after = after;
+  name = body.name;
+  param = p;
+  parts = parts;
+  closed = semicolon end before is;
+  open_still = body.open_still;
+  begins = keyword;
+  names = body.names;
+  numbered = body.numbered;
+  none = eqb-true (subscript_count p) 0 none;
 }
 
 -- where the machine is inside the records of a parameter without subscripts, the last statement is of one

@@ -27,6 +27,7 @@ pub mod NamesOnce
 pub mod NumberReadingLaws
 pub mod ReadingLaws
 pub mod ReadingLemmas
+pub mod RoundedCounts
 pub mod RunLaws
 pub mod SaneSound
 pub mod SectionMeans

@@ -70,7 +70,7 @@ semicolon_seen (Quoted bytes) e = cc
 may_end_behind_semicolon : (r next : Reader) (lexeme : Lexeme) (at : Mark) → step r lexeme at ≡ Ok next → is_semicolon lexeme ≡ true → may_end next.open_part ≡ true
 may_end_behind_semicolon r next lexeme at e f =
     landed may_end r.draft (turn r.open_part (seen_of lexeme) at) next e
-        (subst (λ seen. lands may_end (turn r.open_part seen at) ≡ true) (sym (semicolon_seen lexeme f)) (behind_semicolon r.open_part at))
+    (subst (λ seen. lands may_end (turn r.open_part seen at) ≡ true) (sym (semicolon_seen lexeme f)) (behind_semicolon r.open_part at))
 
 -- behind tokens of which the last is a `;` the section may end
 taken_semicolon : (r next : Reader) (t : Placed) (result : Result Reader ℕ) → step r t.lexeme t.at ≡ result → after (λ behind. Ok behind) t.at result ≡ Ok next → is_semicolon t.lexeme ≡ true → may_end next.open_part ≡ true

@@ -35,8 +35,8 @@ placed_after-append : (front : List ℕ) (before more : List Piece) → placed_a
 placed_after-append front [] more = ap (λ f. placed_after f more) (sym (append-nil front))
 placed_after-append front (piece ∷ before) more =
     ap (λ t. placed_at front piece ++ t)
-        (placed_after-append (front ++ spelling piece) before more
-            ∙ ap (λ f. placed_after (front ++ spelling piece) before ++ placed_after f more) (append_assoc front (spelling piece) (spellings before)))
+    (placed_after-append (front ++ spelling piece) before more
+    ∙ ap (λ f. placed_after (front ++ spelling piece) before ++ placed_after f more) (append_assoc front (spelling piece) (spellings before)))
     ∙ sym (append_assoc (placed_at front piece) (placed_after (front ++ spelling piece) before) (placed_after (front ++ (spelling piece ++ spellings before)) more))
 
 last_semicolon : (text : List ℕ) (placed : List Placed) → Lexes text placed Closes → (front : List Placed) × (t : Placed) × (placed ≡ front ++ t ∷ []) × (is_semicolon t.lexeme ≡ true)
@@ -58,11 +58,11 @@ module _ (laws : StatementLaws) where
   read_at_end : (text : List ℕ) (placed : List Placed) (r : Reader) (blocks : Blocks) → run beginning placed ≡ Ok r → at_text_end text r ≡ Reads blocks → Means placed blocks
   read_at_end text placed r blocks e f =
       elim (cases_Bool (may_end r.open_part)) [
-        inl ends ↦
-          let same : Reads (drafted r.draft) ≡ Reads blocks = sym (cond-true (may_end r.open_part) _ _ ends) ∙ f in
-          let drafts : drafted r.draft ≡ blocks = cc in
-          subst (Means placed) drafts (laws.means placed r e ends)
-      | inr open_still ↦ let other : Refuses end_too_soon (place_after text) ≡ Reads blocks = sym (cond-false (may_end r.open_part) _ _ open_still) ∙ f in absurd (cc)
+        | inl ends ↦
+            let same : Reads (drafted r.draft) ≡ Reads blocks = sym (cond-true (may_end r.open_part) _ _ ends) ∙ f in
+            let drafts : drafted r.draft ≡ blocks = cc in
+            subst (Means placed) drafts (laws.means placed r e ends)
+        | inr open_still ↦ let other : Refuses end_too_soon (place_after text) ≡ Reads blocks = sym (cond-false (may_end r.open_part) _ _ open_still) ∙ f in absurd (cc)
       ]
 
   read_in : (text : List ℕ) (placed : List Placed) (end : LexingEnd) (blocks : Blocks) → Lexes text placed end
@@ -95,10 +95,10 @@ module _ (laws : StatementLaws) where
       → at_text_end text r ≡ Refuses number at → FaultAt text number at
   refused_at_end text placed r number at tokens e f =
       elim (cases_Bool (may_end r.open_part)) [
-        inl ends ↦ let other : Reads (drafted r.draft) ≡ Refuses number at = sym (cond-true (may_end r.open_part) _ _ ends) ∙ f in absurd (cc)
-      | inr open_still ↦
-          fault_as text end_too_soon number (place_after text) at (sym (cond-false (may_end r.open_part) _ _ open_still) ∙ f)
-              (too_soon placed tokens (record { good = laws.good placed r e; means_nothing = nothing_meant placed r e open_still }))
+        | inl ends ↦ let other : Reads (drafted r.draft) ≡ Refuses number at = sym (cond-true (may_end r.open_part) _ _ ends) ∙ f in absurd (cc)
+        | inr open_still ↦
+            fault_as text end_too_soon number (place_after text) at (sym (cond-false (may_end r.open_part) _ _ open_still) ∙ f)
+            (too_soon placed tokens (record { good = laws.good placed r e; means_nothing = nothing_meant placed r e open_still }))
       ]
 
   refused_in : (text : List ℕ) (placed : List Placed) (end : LexingEnd) (number : ℕ) (at : Mark) → Lexes text placed end

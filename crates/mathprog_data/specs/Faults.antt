@@ -1,7 +1,7 @@
 -- The faults of a data section, by number.
 use Rattle.std.specs.Prelude.{ℕ}
 
--- a byte begins no token, or a byte outside 32 to 126 stands in a quoted symbol
+-- a byte begins no token, or a byte outside 32 to 126 other than a line feed stands in a quoted symbol
 abbrev pub bad_byte : ℕ
 bad_byte = 1
 
@@ -13,7 +13,7 @@ open_string = 2
 abbrev pub open_comment : ℕ
 open_comment = 3
 
--- a token stands where none of its kind may stand
+-- a token stands where no rule allows it, and no other fault names it
 abbrev pub unexpected : ℕ
 unexpected = 4
 
@@ -41,6 +41,6 @@ row_too_short = 9
 abbrev pub bad_number : ℕ
 bad_number = 10
 
--- in tabbing data, a second name where `:=` is due
+-- in tabbing data, a symbol or `:` where `:=` is due
 abbrev pub tabbing : ℕ
 tabbing = 11

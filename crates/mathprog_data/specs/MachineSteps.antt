@@ -28,20 +28,24 @@ number (Some n) next = next n
 abbrev pub records : Form → ℕ → Bool → Open
 records form param c = InRecords form param (all_free (subscript_count param)) c
 
+-- what follows whole statements
 abbrev pub between : Seen → Turn
 between (SymbolSeen words.Set name n) = Go SetRead
 between (SymbolSeen words.Param name n) = Go ParamRead
 between (SymbolSeen words.End name n) = Go EndRead
 between x = Stop unexpected
 
+-- the first token
 abbrev pub fresh : Seen → Turn
 fresh (SymbolSeen words.Data name n) = Go DataRead
 fresh x = between x
 
+-- what follows `data`
 abbrev pub data_read : Seen → Turn
 data_read (SignSeen signs.Semicolon) = Go Between
 data_read x = Stop unexpected
 
+-- what follows `end`
 abbrev pub end_read : Seen → Turn
 end_read (SignSeen signs.Semicolon) = Go Ended
 end_read x = Stop unexpected
@@ -56,10 +60,12 @@ abbrev pub set_name : Option ℕ → Option ℕ → Turn
 set_name (Some set) param = Emit (Begins (SetBegun set)) (InSet set true)
 set_name None param = wrong_name param
 
+-- what follows `set`
 abbrev pub set_read : Seen → Turn
 set_read (SymbolSeen w name n) = set_name (set_number name) (param_number name)
 set_read x = Stop unexpected
 
+-- a token among the members of a set
 abbrev pub in_set : ℕ → Bool → Seen → Turn
 in_set set c (SignSeen signs.Semicolon) = Emit (SetClosed set) Between
 in_set set c (SignSeen signs.Gives) = Go (InSet set false)
@@ -72,6 +78,7 @@ abbrev pub param_name : Option ℕ → Option ℕ → Turn
 param_name (Some param) set = Emit (Begins (ParamBegun param)) (ParamNamed param true)
 param_name None set = wrong_name set
 
+-- what follows `param`
 abbrev pub param_read : Seen → Turn
 param_read (SignSeen signs.Colon) = Go (TabbingColon None)
 param_read (SymbolSeen words.Default name n) = Go LeadingDefault
@@ -98,6 +105,7 @@ bracket param (suc left) = Go (PlaceDue param [] left)
 abbrev pub table : ℕ → Open → Turn
 table free next = if nat_eq free 2 then Go next else Stop wrong_slice
 
+-- a token where a record may begin
 abbrev pub in_records : Form → ℕ → Slice → Bool → Seen → Mark → Turn
 in_records form param slice c (SignSeen signs.Semicolon) at = Emit (ParamClosed param) Between
 in_records form param slice c (SignSeen signs.Comma) at = comma c (InRecords form param slice false)
@@ -108,19 +116,23 @@ in_records Listed param slice c (SignSeen signs.OpenParen) at = table (free_coun
 in_records form param slice c (SymbolSeen w name n) at = plain form param slice [] at (free_count slice) name n
 in_records form param slice c x at = Stop unexpected
 
+-- what follows a parameter's name
 abbrev pub param_named : ℕ → Bool → Seen → Mark → Turn
 param_named param c (SignSeen signs.Comma) at = comma c (ParamNamed param false)
 param_named param c (SymbolSeen words.Default name n) at = Go (DefaultRead param)
 param_named param c x at = in_records Listed param (all_free (subscript_count param)) false x at
 
+-- what follows `default`
 abbrev pub default_read : ℕ → Seen → Turn
 default_read param (SymbolSeen w name n) = number n (λ v. Emit (DefaultGiven v) (records Listed param true))
 default_read param x = Stop unexpected
 
+-- what follows `param default`
 abbrev pub leading_default : Seen → Turn
 leading_default (SymbolSeen w name n) = number n (λ v. Go (LeadingNumber (Some v) true))
 leading_default x = Stop unexpected
 
+-- what follows the default before the colon of tabbing data
 abbrev pub leading_number : Option Number → Bool → Seen → Turn
 leading_number v c (SignSeen signs.Colon) = Go (TabbingColon v)
 leading_number v c (SignSeen signs.Comma) = comma c (LeadingNumber v false)
@@ -131,10 +143,12 @@ abbrev pub tabbing_name : Option Number → Option ℕ → Option ℕ → Turn
 tabbing_name default (Some param) set = Emit (Begins (TabbingBegun param default)) (TabbingNamed param true)
 tabbing_name default None set = wrong_name set
 
+-- what follows the colon of tabbing data
 abbrev pub tabbing_colon : Option Number → Seen → Turn
 tabbing_colon default (SymbolSeen w name n) = tabbing_name default (param_number name) (set_number name)
 tabbing_colon default x = Stop unexpected
 
+-- what follows the name in tabbing data
 abbrev pub tabbing_named : ℕ → Bool → Seen → Turn
 tabbing_named param c (SignSeen signs.Gives) = Go (records Tabbing param false)
 tabbing_named param c (SignSeen signs.Comma) = comma c (TabbingNamed param false)
@@ -142,17 +156,20 @@ tabbing_named param c (SignSeen signs.Colon) = Stop tabbing
 tabbing_named param c (SymbolSeen w name n) = Stop tabbing
 tabbing_named param c x = Stop unexpected
 
+-- what follows a subscript of plain data
 abbrev pub in_plain : Form → ℕ → Slice → List Name → Mark → ℕ → Bool → Seen → Turn
 in_plain form param slice names mark left c (SignSeen signs.Comma) = comma c (InPlain form param slice names mark left false)
 in_plain form param slice names mark left c (SymbolSeen w name n) = plain form param slice names mark left name n
 in_plain form param slice names mark left c x = Stop unexpected
 
+-- a place of a slice
 abbrev pub place_due : ℕ → Slice → ℕ → Seen → Turn
 place_due param places left (SignSeen signs.Star) = Go (PlaceRead param (places ++ None ∷ []) left)
 place_due param places left (SignSeen signs.CloseBracket) = Stop wrong_slice
 place_due param places left (SymbolSeen w name n) = Go (PlaceRead param (places ++ Some name ∷ []) left)
 place_due param places left x = Stop unexpected
 
+-- what follows a place of a slice
 abbrev pub place_read : ℕ → Slice → ℕ → Seen → Turn
 place_read param places zero (SignSeen signs.CloseBracket) = Go (InRecords Listed param places true)
 place_read param places (suc left) (SignSeen signs.CloseBracket) = Stop wrong_slice
@@ -160,14 +177,17 @@ place_read param places zero (SignSeen signs.Comma) = Stop wrong_slice
 place_read param places (suc left) (SignSeen signs.Comma) = Go (PlaceDue param places left)
 place_read param places left x = Stop unexpected
 
+-- what follows `(`
 abbrev pub paren_read : ℕ → Slice → Seen → Turn
 paren_read param slice (SymbolSeen words.Tr name n) = Go (TrRead param slice)
 paren_read param slice x = Stop unexpected
 
+-- what follows `(tr`
 abbrev pub tr_read : ℕ → Slice → Seen → Turn
 tr_read param slice (SignSeen signs.CloseParen) = Go (TrClosed param slice)
 tr_read param slice x = Stop unexpected
 
+-- what follows `(tr)`
 abbrev pub tr_closed : ℕ → Slice → Seen → Turn
 tr_closed param slice (SignSeen signs.Colon) = Go (InColumns param slice true [] false)
 tr_closed param slice x = Stop unexpected
@@ -177,12 +197,14 @@ abbrev pub columns_end : ℕ → Slice → Bool → List Name → Turn
 columns_end param slice transposed [] = Stop unexpected
 columns_end param slice transposed (column ∷ columns) = Go (InRows param slice transposed (column ∷ columns) false)
 
+-- a token among the columns of a table
 abbrev pub in_columns : ℕ → Slice → Bool → List Name → Bool → Seen → Turn
 in_columns param slice transposed columns c (SignSeen signs.Gives) = columns_end param slice transposed columns
 in_columns param slice transposed columns c (SignSeen signs.Comma) = comma c (InColumns param slice transposed columns false)
 in_columns param slice transposed columns c (SymbolSeen w name n) = Go (InColumns param slice transposed (columns ++ name ∷ []) true)
 in_columns param slice transposed columns c x = Stop unexpected
 
+-- a token between the rows of a table
 abbrev pub in_rows : ℕ → Slice → Bool → List Name → Bool → Seen → Mark → Turn
 in_rows param slice transposed columns c (SignSeen signs.Gives) at = Stop unexpected
 in_rows param slice transposed columns c (SignSeen signs.Comma) at = comma c (InRows param slice transposed columns false)
@@ -201,6 +223,7 @@ cell param slice transposed columns row mark (column ∷ left) words.Point n = G
 cell param slice transposed columns row mark (column ∷ left) w n =
     number n (λ v. Emit (ValueGiven (given (cell_index slice transposed row column) v mark)) (row_left param slice transposed columns row mark left))
 
+-- a token of a row
 abbrev pub in_row : ℕ → Slice → Bool → List Name → Name → Mark → List Name → Bool → Seen → Turn
 in_row param slice transposed columns row mark left c (SignSeen signs.Comma) = comma c (InRow param slice transposed columns row mark left false)
 in_row param slice transposed columns row mark left c (SignSeen signs.Semicolon) = Stop row_too_short

@@ -1,12 +1,47 @@
 -- What a text reads as by going through it once: the number that it spells, or none.
-use Rattle.std.specs.Prelude.{ℕ, ◌+◌, ◌==◌, Bool, ◌&&◌, ◌||◌, nat_lt, List, [], ◌∷◌, length, Option, Some, None, Result, Ok, Err, if◌then◌else◌}
+use Rattle.std.specs.Prelude.{ℕ, ◌+◌, ◌==◌, Bool, true, false, ◌&&◌, ◌||◌, nat_lt, List, [], ◌∷◌, length, drop, slice_index, Option, Some, None, Result, Ok, Err, if◌then◌else◌}
 use Rattle.std.specs.Str.{all_ascii_digits}
 use Rattle.scaled_decimals.specs.DecimalReading.{decimal_of}
-use Rattle.scaled_decimals.specs.NumberText.{NumberText, Exponent}
+use Rattle.scaled_decimals.specs.NumberText.{NumberText, Exponent, Sign, Bare, Plus, Minus}
 use Rattle.scaled_decimals.specs.PartsReading.{digits_in_front, after_digits}
 use Rattle.scaled_decimals.specs.declared.reading.DecFault.{DecFault}
-use Rattle.scaled_decimals.proofs.TextLemmas.{after_sign, sign_of, places_in_front, after_places, number_at}
 use Rattle.mathprog_data.specs.Symbols.{Number}
+
+-- what follows a sign in front, or the text where none stands there
+abbrev pub after_sign : List ℕ → List ℕ
+after_sign text = if (slice_index text 0 == 45) || (slice_index text 0 == 43) then drop 1 text else text
+
+-- the sign, by whether it is a minus and whether it is a plus
+abbrev pub sign_by : Bool → Bool → Sign
+sign_by true plus = Minus
+sign_by false true = Plus
+sign_by false false = Bare
+
+-- the sign in front
+abbrev pub sign_of : List ℕ → Sign
+sign_of text = sign_by (slice_index text 0 == 45) (slice_index text 0 == 43)
+
+-- the digits behind a point in front
+abbrev pub places_in_front : List ℕ → List ℕ
+places_in_front text = if slice_index text 0 == 46 then digits_in_front (drop 1 text) else drop (length text) text
+
+-- what follows a point in front and its digits
+abbrev pub after_places : List ℕ → List ℕ
+after_places text = if slice_index text 0 == 46 then after_digits (drop 1 text) else text
+
+-- the digits behind a point, where there is one
+abbrev pub fraction_by : Bool → List ℕ → Option (List ℕ)
+fraction_by true text = Some (digits_in_front (drop 1 text))
+fraction_by false text = None
+
+-- the parts of the number in front, with this power of ten
+abbrev pub number_at : List ℕ → Option Exponent → NumberText
+number_at text e = record {
+  sign = sign_of text;
+  whole = digits_in_front (after_sign text);
+  fraction = fraction_by (slice_index (after_digits (after_sign text)) 0 == 46) (after_digits (after_sign text));
+  exponent = e;
+}
 
 -- the power of ten that the whole text is: none for no text
 abbrev pub power_at : List ℕ → Option (Option Exponent)

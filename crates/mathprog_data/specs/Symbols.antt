@@ -42,7 +42,7 @@ pub data IsValue : ℕ → Placed → Number → Type 0 where
   numeric : {param : ℕ} {t : Placed} {n : Number} → nat_eq param results_path ≡ false → IsNumber t n → IsValue param t n
   any_symbol : {param : ℕ} {t : Placed} → (name : Name) → nat_eq param results_path ≡ true → IsSymbol t name → IsValue param t (pos 0, false)
 
--- at most one comma, and none where commas aren't allowed; the second list follows it
+-- at most one comma, and none where commas aren't allowed; the second list follows it. The rules speak of places where one is allowed alone
 pub data OptionalComma : Bool → List Placed → List Placed → Type 0 where
   none : {allowed : Bool} {ts : List Placed} → OptionalComma allowed ts ts
   one : {t : Placed} {ts : List Placed} → IsSign signs.Comma t → OptionalComma true (t ∷ ts) ts

@@ -1,4 +1,4 @@
--- The words of the data section that are no names, as the code tells them apart.
+-- The bare symbols that are keywords where one may stand, as the code tells them apart.
 use Rattle.std.specs.Prelude.{ℕ, List, codes, if◌then◌else◌}
 use Rattle.std.specs.Str.{bytes_eq}
 use Rattle.mathprog_data.specs.declared.words.Word.{Word}

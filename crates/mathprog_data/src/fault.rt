@@ -6,7 +6,7 @@ ghost use Rattle.mathprog_data.specs.declared.fault.ReadFail.TheVariants.{Memory
 use crate::blocks::Mark;
 use std::alloc::AllocError;
 
-/// A byte begins no token, or a byte outside 32 to 126 stands in a quoted symbol.
+/// A byte begins no token, or a byte outside 32 to 126 other than a line feed stands in a quoted symbol.
 pub(crate) const BAD_BYTE: u8 = 1;
 
 /// A line feed or the end comes before the closing quote.
@@ -15,7 +15,7 @@ pub(crate) const OPEN_STRING: u8 = 2;
 /// A comment that began with `/*` has no `*/`.
 pub(crate) const OPEN_COMMENT: u8 = 3;
 
-/// A token stands where none of its kind may stand.
+/// A token stands where no rule allows it, and no other fault names it.
 pub(crate) const UNEXPECTED: u8 = 4;
 
 /// The text ends inside a statement.
@@ -37,15 +37,16 @@ pub(crate) const ROW_TOO_SHORT: u8 = 9;
 /// A symbol where a number is due is none, or is above 10^15.
 pub(crate) const BAD_NUMBER: u8 = 10;
 
-/// In tabbing data, a second name where `:=` is due.
+/// In tabbing data, a symbol or `:` where `:=` is due.
 pub(crate) const TABBING: u8 = 11;
 
 /// The first fault of a text, and its place. The numbers:
 ///
-/// 1. a byte begins no token, or a byte outside 32 to 126 stands in a quoted symbol
+/// 1. a byte begins no token, or a byte outside 32 to 126 other than a line feed stands in a quoted symbol
 /// 2. a line feed or the end comes before the closing quote
 /// 3. `/*` has no `*/`
-/// 4. a token stands where none of its kind may stand, or a quoted symbol is empty
+/// 4. a token stands where no rule allows it and no other of these faults names it; so does every quoted
+///    symbol without characters
 /// 5. the text ends inside a statement
 /// 6. the name is that of no set and of no parameter
 /// 7. a second statement for one set or one parameter
@@ -53,7 +54,7 @@ pub(crate) const TABBING: u8 = 11;
 ///    than two subscripts are free
 /// 9. a row of a table ends before it has a value for each column
 /// 10. a symbol where a number is due is none, or is above 10^15
-/// 11. in tabbing data, a second name where `:=` is due
+/// 11. in tabbing data, a symbol or `:` where `:=` is due
 #[derive(Clone, Copy, Debug, PartialEq, Eq)]
 pub struct DataFault {
     pub no: u8,

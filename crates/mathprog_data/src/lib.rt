@@ -14,6 +14,8 @@ mod params;
 mod reading;
 mod sets;
 mod spans;
+#[cfg(test)]
+mod statement_tests;
 mod statements;
 mod token;
 mod token_list;

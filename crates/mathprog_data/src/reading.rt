@@ -42,10 +42,10 @@ fn take_token(
     ensures rounded { OnOk result (reader.new.draft.rounded ≤ reader.old.draft.rounded + 1) }
     ensures open { result ≡ Ok false → (rest : Run) →
         outcome_from text.now (reader_view reader.old) (lexed_run text.now closing.old (and_then (Token span.now) rest))
-            ≡ outcome_from text.now (reader_view reader.new) (lexed_run text.now closing.new rest) }
+        ≡ outcome_from text.now (reader_view reader.new) (lexed_run text.now closing.new rest) }
     ensures closed { result ≡ Ok true → (rest : Run) →
         outcome_from text.now (reader_view reader.old) (lexed_run text.now closing.old (and_then (Token span.now) rest))
-            ≡ outcome_at text.now Closes (Ok (reader_view reader.new)) }
+        ≡ outcome_at text.now Closes (Ok (reader_view reader.new)) }
     ensures fault { (fault : DataFault) → result ≡ Err (Fault fault) → (rest : Run) →
         outcome_from text.now (reader_view reader.old) (lexed_run text.now closing.old (and_then (Token span.now) rest)) ≡ Refuses fault.no fault.at }
 {
@@ -72,10 +72,10 @@ fn take_seen(
     ensures rounded { OnOk result (reader.new.draft.rounded ≤ reader.old.draft.rounded + 1) }
     ensures open { result ≡ Ok false → (rest : Run) →
         outcome_from text.now (reader_view reader.old) (lexed_run text.now closing.old (and_then seen rest))
-            ≡ outcome_from text.now (reader_view reader.new) (lexed_run text.now closing.new rest) }
+        ≡ outcome_from text.now (reader_view reader.new) (lexed_run text.now closing.new rest) }
     ensures closed { result ≡ Ok true → (rest : Run) →
         outcome_from text.now (reader_view reader.old) (lexed_run text.now closing.old (and_then seen rest))
-            ≡ outcome_at text.now Closes (Ok (reader_view reader.new)) }
+        ≡ outcome_at text.now Closes (Ok (reader_view reader.new)) }
     ensures fault { (fault : DataFault) → result ≡ Err (Fault fault) → (rest : Run) →
         outcome_from text.now (reader_view reader.old) (lexed_run text.now closing.old (and_then seen rest)) ≡ Refuses fault.no fault.at }
 {
@@ -102,10 +102,10 @@ fn take_any_byte(
     ensures rounded { OnOk result (reader.new.draft.rounded ≤ reader.old.draft.rounded + 2) }
     ensures open { result ≡ Ok false → (bytes : List ℕ) →
         outcome_from text.now (reader_view reader.old) (lexed_run text.now closing.old (run lexer.old (byte ∷ bytes)))
-            ≡ outcome_from text.now (reader_view reader.new) (lexed_run text.now closing.new (run lexer.new bytes)) }
+        ≡ outcome_from text.now (reader_view reader.new) (lexed_run text.now closing.new (run lexer.new bytes)) }
     ensures closed { result ≡ Ok true → (bytes : List ℕ) →
         outcome_from text.now (reader_view reader.old) (lexed_run text.now closing.old (run lexer.old (byte ∷ bytes)))
-            ≡ outcome_at text.now Closes (Ok (reader_view reader.new)) }
+        ≡ outcome_at text.now Closes (Ok (reader_view reader.new)) }
     ensures fault { (fault : DataFault) → result ≡ Err (Fault fault) → (bytes : List ℕ) →
         outcome_from text.now (reader_view reader.old) (lexed_run text.now closing.old (run lexer.old (byte ∷ bytes))) ≡ Refuses fault.no fault.at }
 {

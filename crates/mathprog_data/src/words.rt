@@ -1,4 +1,4 @@
-//! The words of the data section that are no names.
+//! The bare symbols that are keywords where one may stand.
 
 ghost use Rattle.std.specs.Prelude.{◌≡◌};
 ghost use Rattle.mathprog_data.specs.Words.{word_of};
