@@ -1,11 +1,11 @@
 -- The events of statements give their blocks.
-use Rattle.std.proofs.Common.{◌≡◌, ℕ, ℤ, ◌+◌, Bool, true, false, cond, ◌||◌, List, [], ◌∷◌, ◌++◌, map, sum, fold, flat_map, nat_eq, Option, Some, None, sym, refl, ap, ap₂, ◌∙◌, subst, append_assoc, append-nil, add_assoc, arith}
+use Rattle.std.proofs.Common.{◌≡◌, ℕ, ℤ, ◌+◌, ◌||◌, List, [], ◌∷◌, ◌++◌, map, sum, fold, flat_map, nat_eq, Option, Some, None, sym, refl, ap, ap₂, ◌∙◌, append_assoc, append-nil, add_assoc, arith}
 use Rattle.std.specs.List.{list_any}
 use Rattle.mathprog_data.proofs.RunLaws.{noted_all}
 use Rattle.mathprog_data.proofs.Walks.{member_events, given_events, default_events, param_events, statement_events, statements_events}
-use Rattle.mathprog_data.specs.MachineStates.{Event, Begins, MemberNamed, DefaultGiven, ValueGiven, SetClosed, ParamClosed, Draft, empty_draft, with_default, noted, drafted}
+use Rattle.mathprog_data.specs.MachineStates.{Event, Begins, SetClosed, ParamClosed, Draft, empty_draft, drafted}
 use Rattle.mathprog_data.specs.MachineSteps.{is_second}
-use Rattle.mathprog_data.specs.Meaning.{GivenValue, SetBlock, ParamBlock, Blocks, value_of, default_value, set_blocks, param_blocks, count_of, rounded_values, rounded_default, rounded_of, blocks_of, Item, SetItem, ParamItem, item_of, item_begun, same_item, is_named}
+use Rattle.mathprog_data.specs.Meaning.{GivenValue, SetBlock, ParamBlock, value_of, default_value, set_blocks, param_blocks, count_of, rounded_values, rounded_default, rounded_of, blocks_of, SetItem, ParamItem, item_begun, is_named}
 use Rattle.mathprog_data.specs.Statements.{Form, Listed, Tabbing, Begun, SetBegun, ParamBegun, TabbingBegun, Statement, Set, Param}
 use Rattle.mathprog_data.specs.Symbols.{Name, Number}
 use Rattle.mathprog_data.specs.Tables.{Given}

@@ -1,15 +1,14 @@
 -- From each state that is reached the machine can come to an end.
-use Rattle.std.proofs.Common.{◌≡◌, ℕ, zero, suc, nat_eq, Bool, true, false, cond, List, [], ◌∷◌, ◌++◌, codes, Option, Some, None, sym, refl, ap, ◌∙◌, subst}
+use Rattle.std.proofs.Common.{◌≡◌, ℕ, zero, suc, nat_eq, Bool, true, false, cond, List, [], ◌∷◌, ◌++◌, codes, Option, Some, None, refl, ap, subst}
 use Rattle.std.specs.Prelude.{pos}
 use Rattle.scaled_decimals.specs.DecimalReading.{numerator, denominator}
 use Rattle.scaled_decimals.specs.Digits.{number_of}
 use Rattle.mathprog_data.proofs.SectionsTaken.{Finished, finished}
 use Rattle.mathprog_data.proofs.TokensSeen.{seen}
 use Rattle.mathprog_data.proofs.TurnLaws.{IsSane, has_some, Holds, stop, goes, emits, holds}
-use Rattle.mathprog_data.proofs.WalkLaws.{Reached, reached, Walks}
+use Rattle.mathprog_data.proofs.WalkLaws.{reached, Walks}
 use Rattle.mathprog_data.proofs.Walks.{Takes, done, go, emit}
 use Rattle.mathprog_data.specs.declared.blocks.Mark.{Mark}
-use Rattle.mathprog_data.specs.declared.lexeme.Sign.{Sign as TheSign}
 use Rattle.mathprog_data.specs.declared.lexeme.Sign.TheVariants as signs
 use Rattle.mathprog_data.specs.Lexemes.{Lexeme, Sign, Bare, Placed}
 use Rattle.mathprog_data.specs.MachineStates.{Seen, Open, Fresh, DataRead, Between, EndRead, Ended, SetRead, InSet, ParamRead, ParamNamed, DefaultRead, LeadingDefault, LeadingNumber, TabbingColon, TabbingNamed, InRecords, InPlain, PlaceDue, PlaceRead, ParenRead, TrRead, TrClosed, InColumns, InRows, InRow, Event, ValueGiven, DefaultGiven, Turn, Go, Emit}

@@ -1,5 +1,5 @@
 -- The number with which the machine stops at a token is the one that the token carries, and no other.
-use Rattle.std.proofs.Common.{◌≡◌, ℕ, ◌⊎◌, inl, inr, nat_eq, Bool, true, false, ◌||◌, List, [], ◌∷◌, ◌++◌, Option, Some, None, sym, refl, ap, ap₂, ◌∙◌, subst}
+use Rattle.std.proofs.Common.{◌≡◌, ℕ, ◌⊎◌, inl, inr, nat_eq, Bool, true, false, ◌||◌, List, sym, refl, ap, ap₂, ◌∙◌, subst}
 use Rattle.std.proofs.lemmas.Bool.{eqb-true}
 use Rattle.mathprog_data.proofs.CouldStand.{could-on}
 use Rattle.mathprog_data.proofs.Endings.{sane-walk}
@@ -9,9 +9,9 @@ use Rattle.mathprog_data.proofs.SaneSound.{sane-sound}
 use Rattle.mathprog_data.proofs.StatementFaultLaws.{Behind, Lacking, or-either, test-unknown, unknown-test, test-wrong, wrong-test, test-short, short-test, test-bad, bad-test, test-tabbing, tabbing-test}
 use Rattle.mathprog_data.proofs.TokensSeen.{seen}
 use Rattle.mathprog_data.proofs.TurnLaws.{Holds, stop, goes, emits, holds, is_fault}
-use Rattle.mathprog_data.specs.Faults.{unexpected, unknown_name, given_twice, wrong_slice, row_too_short, bad_number, tabbing}
+use Rattle.mathprog_data.specs.Faults.{unexpected, unknown_name, wrong_slice, row_too_short, bad_number, tabbing}
 use Rattle.mathprog_data.specs.Lexemes.{Placed}
-use Rattle.mathprog_data.specs.MachineStates.{Seen, Open, Turn, Stop, Go, Emit}
+use Rattle.mathprog_data.specs.MachineStates.{Seen, Open, Turn, Stop}
 use Rattle.mathprog_data.specs.MachineSteps.{turn}
 use Rattle.mathprog_data.specs.StatementFaults.{BeginsLoose, IsRefused, Carries, IsUnknownName, IsWrongSlice, IsRowTooShort, IsBadNumber, IsTabbing}
 use Rattle.mathprog_data.specs.StatementFaults as faults
@@ -55,11 +55,11 @@ carried-other : {front : List Placed} {o : Open} → Behind front o → (t : Pla
 carried-other {front = front} {o = o} b t lacking k x refused e =
     let is : k ≡ unexpected = eqb-true k unexpected e in
     subst (λ z. Carries front t z) (sym is) (faults.Carries.no_other refused
-      (λ f. none (unknown-test b t f) x.unknown (ap (λ z. nat_eq z unknown_name) is))
-      (λ f. none (wrong-test b t lacking f) x.wrong (ap (λ z. nat_eq z wrong_slice) is))
-      (λ f. none (short-test b t f) x.short (ap (λ z. nat_eq z row_too_short) is))
-      (λ f. none (bad-test b t f) x.bad (ap (λ z. nat_eq z bad_number) is))
-      (λ f. none (tabbing-test b t f) x.second (ap (λ z. nat_eq z tabbing) is)))
+    (λ f. none (unknown-test b t f) x.unknown (ap (λ z. nat_eq z unknown_name) is))
+    (λ f. none (wrong-test b t lacking f) x.wrong (ap (λ z. nat_eq z wrong_slice) is))
+    (λ f. none (short-test b t f) x.short (ap (λ z. nat_eq z row_too_short) is))
+    (λ f. none (bad-test b t f) x.bad (ap (λ z. nat_eq z bad_number) is))
+    (λ f. none (tabbing-test b t f) x.second (ap (λ z. nat_eq z tabbing) is)))
   where
     none : {p q : Bool} → p ≡ true → p ≡ q → q ≡ false → ⊥
     none a c d = cc
@@ -69,20 +69,26 @@ carried {front = front} {o = o} b t lacking k e = by_first (or-either (nat_eq k 
   where
     x : Tested o t k
     x = tested b t k e
+
     refused : IsRefused front t
     refused = stopped-refused b t k e
+
     by_fifth : (nat_eq k bad_number ≡ true) ⊎ (nat_eq k tabbing ≡ true) → Carries front t k
     by_fifth (inl h) = subst (λ z. Carries front t z) (sym (eqb-true k bad_number h)) (faults.Carries.a_bad_number refused (test-bad b t (seen t) refl (x.bad ∙ h)))
     by_fifth (inr h) = subst (λ z. Carries front t z) (sym (eqb-true k tabbing h)) (faults.Carries.a_second_name refused (test-tabbing b t (seen t) refl (x.second ∙ h)))
+
     by_fourth : (nat_eq k row_too_short ≡ true) ⊎ ((nat_eq k bad_number || nat_eq k tabbing) ≡ true) → Carries front t k
     by_fourth (inl h) = subst (λ z. Carries front t z) (sym (eqb-true k row_too_short h)) (faults.Carries.a_short_row refused (test-short b t (seen t) refl (x.short ∙ h)))
     by_fourth (inr h) = by_fifth (or-either (nat_eq k bad_number) (nat_eq k tabbing) h)
+
     by_third : (nat_eq k wrong_slice ≡ true) ⊎ ((nat_eq k row_too_short || (nat_eq k bad_number || nat_eq k tabbing)) ≡ true) → Carries front t k
     by_third (inl h) = subst (λ z. Carries front t z) (sym (eqb-true k wrong_slice h)) (faults.Carries.a_wrong_slice refused (test-wrong b t lacking (seen t) refl (x.wrong ∙ h)))
     by_third (inr h) = by_fourth (or-either (nat_eq k row_too_short) (nat_eq k bad_number || nat_eq k tabbing) h)
+
     by_second : (nat_eq k unknown_name ≡ true) ⊎ ((nat_eq k wrong_slice || (nat_eq k row_too_short || (nat_eq k bad_number || nat_eq k tabbing))) ≡ true) → Carries front t k
     by_second (inl h) = subst (λ z. Carries front t z) (sym (eqb-true k unknown_name h)) (faults.Carries.an_unknown_name refused (test-unknown b t (seen t) refl (x.unknown ∙ h)))
     by_second (inr h) = by_third (or-either (nat_eq k wrong_slice) (nat_eq k row_too_short || (nat_eq k bad_number || nat_eq k tabbing)) h)
+
     by_first : (nat_eq k unexpected ≡ true) ⊎ ((nat_eq k unknown_name || (nat_eq k wrong_slice || (nat_eq k row_too_short || (nat_eq k bad_number || nat_eq k tabbing)))) ≡ true) → Carries front t k
     by_first (inl h) = carried-other b t lacking k x refused h
     by_first (inr h) = by_second (or-either (nat_eq k unknown_name) (nat_eq k wrong_slice || (nat_eq k row_too_short || (nat_eq k bad_number || nat_eq k tabbing))) h)
@@ -95,7 +101,7 @@ false-of false h = refl
 only-unexpected : (k : ℕ) (a b c d e : Bool) → nat_eq k unknown_name ≡ a → nat_eq k wrong_slice ≡ b → nat_eq k row_too_short ≡ c → nat_eq k bad_number ≡ d → nat_eq k tabbing ≡ e → a ≡ false → b ≡ false → c ≡ false → d ≡ false → e ≡ false → is_fault k ≡ true → k ≡ unexpected
 only-unexpected k a b c d e ua wb sc bd te na nb nc nd ne f =
     let rest : (nat_eq k unknown_name || (nat_eq k wrong_slice || (nat_eq k row_too_short || (nat_eq k bad_number || nat_eq k tabbing)))) ≡ false =
-      ap₂ (λ x y. x || y) (ua ∙ na) (ap₂ (λ x y. x || y) (wb ∙ nb) (ap₂ (λ x y. x || y) (sc ∙ nc) (ap₂ (λ x y. x || y) (bd ∙ nd) (te ∙ ne)))) in
+    ap₂ (λ x y. x || y) (ua ∙ na) (ap₂ (λ x y. x || y) (wb ∙ nb) (ap₂ (λ x y. x || y) (sc ∙ nc) (ap₂ (λ x y. x || y) (bd ∙ nd) (te ∙ ne)))) in
     eqb-true k unexpected (by (or-either (nat_eq k unexpected) (nat_eq k unknown_name || (nat_eq k wrong_slice || (nat_eq k row_too_short || (nat_eq k bad_number || nat_eq k tabbing)))) f) rest)
   where
     by : {p q : Bool} → (p ≡ true) ⊎ (q ≡ true) → q ≡ false → p ≡ true
@@ -113,10 +119,10 @@ carries-stop b t lacking k m e (faults.Carries.a_second_name r f) = let x = test
 carries-stop {o = o} b t lacking k m e (faults.Carries.no_other r u w s n g) =
     let x = tested b t k e in
     sym (only-unexpected k (unknown_test o (seen t) t.at) (wrong_test o (seen t) t.at) (short_test o (seen t) t.at) (bad_test o (seen t) t.at) (tabbing_test o (seen t) t.at)
-      (sym x.unknown) (sym x.wrong) (sym x.short) (sym x.bad) (sym x.second)
-      (false-of (unknown_test o (seen t) t.at) (λ h. u (test-unknown b t (seen t) refl h)))
-      (false-of (wrong_test o (seen t) t.at) (λ h. w (test-wrong b t lacking (seen t) refl h)))
-      (false-of (short_test o (seen t) t.at) (λ h. s (test-short b t (seen t) refl h)))
-      (false-of (bad_test o (seen t) t.at) (λ h. n (test-bad b t (seen t) refl h)))
-      (false-of (tabbing_test o (seen t) t.at) (λ h. g (test-tabbing b t (seen t) refl h)))
-      x.fault)
+    (sym x.unknown) (sym x.wrong) (sym x.short) (sym x.bad) (sym x.second)
+    (false-of (unknown_test o (seen t) t.at) (λ h. u (test-unknown b t (seen t) refl h)))
+    (false-of (wrong_test o (seen t) t.at) (λ h. w (test-wrong b t lacking (seen t) refl h)))
+    (false-of (short_test o (seen t) t.at) (λ h. s (test-short b t (seen t) refl h)))
+    (false-of (bad_test o (seen t) t.at) (λ h. n (test-bad b t (seen t) refl h)))
+    (false-of (tabbing_test o (seen t) t.at) (λ h. g (test-tabbing b t (seen t) refl h)))
+    x.fault)

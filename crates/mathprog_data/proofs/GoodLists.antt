@@ -1,20 +1,19 @@
 -- A list is good exactly where the machine goes through it, and means blocks exactly where it then may end.
-use Rattle.std.proofs.Common.{◌≡◌, ℕ, Bool, true, false, List, [], ◌∷◌, ◌++◌, Option, Some, None, Result, Ok, Err, sym, refl, ap, ap₂, ◌∙◌, subst}
+use Rattle.std.proofs.Common.{◌≡◌, true, List, [], Ok, sym, ap, ◌∙◌}
 use Rattle.mathprog_data.proofs.Drafts.{drafted-all}
-use Rattle.mathprog_data.proofs.Endings.{Ending, ending, sane-walk}
+use Rattle.mathprog_data.proofs.Endings.{ending, sane-walk}
 use Rattle.mathprog_data.proofs.NamesOnce.{names-new, new-names}
-use Rattle.mathprog_data.proofs.RunLaws.{noted_all, are_new, run-walk, Went, went}
-use Rattle.mathprog_data.proofs.SectionMeans.{LooseBy, taken-loose}
+use Rattle.mathprog_data.proofs.RunLaws.{noted_all, run-walk, went}
+use Rattle.mathprog_data.proofs.SectionMeans.{taken-loose}
 use Rattle.mathprog_data.proofs.SectionsTaken.{Finished, finished, take_loose}
-use Rattle.mathprog_data.proofs.WalkLaws.{Reached, reached, Walks, AtEnds, Cut, cut, joined, SameEnd, same_end}
+use Rattle.mathprog_data.proofs.WalkLaws.{reached, Walks, AtEnds, cut, joined}
 use Rattle.mathprog_data.proofs.Walks.{Takes, done, go, emit, statements_events}
 use Rattle.mathprog_data.specs.Lexemes.{Placed}
-use Rattle.mathprog_data.specs.MachineRuns.{Stopped, run}
-use Rattle.mathprog_data.specs.MachineStates.{Open, Fresh, Event, Draft, empty_draft, drafted, Reader}
+use Rattle.mathprog_data.specs.MachineRuns.{run}
+use Rattle.mathprog_data.specs.MachineStates.{Open, Fresh, Event, empty_draft, drafted, Reader}
 use Rattle.mathprog_data.specs.MachineSteps.{beginning, reader, may_end}
-use Rattle.mathprog_data.specs.Meaning.{Blocks, blocks_of, IsLoose, NoNameTwice, Means}
+use Rattle.mathprog_data.specs.Meaning.{Blocks, Means}
 use Rattle.mathprog_data.specs.StatementFaults.{BeginsLoose, IsGood}
-use Rattle.mathprog_data.specs.Statements.{Statement}
 
 Finished-ends : AtEnds Finished
 Finished-ends o t ts f = elim f [ ]

@@ -1,8 +1,8 @@
 -- The machine over a list: it goes through on a way whose names are new, and else stops at a token of it.
-use Rattle.std.proofs.Common.{◌≡◌, ℕ, Bool, true, false, cond, not, ◌&&◌, List, [], ◌∷◌, ◌++◌, Option, Some, None, Result, Ok, Err, sym, refl, ap, ap₂, ◌∙◌, subst}
+use Rattle.std.proofs.Common.{◌≡◌, ℕ, Bool, true, false, cond, not, ◌&&◌, List, [], ◌∷◌, ◌++◌, Result, Ok, Err, refl, ap, ap₂, ◌∙◌, subst}
 use Rattle.mathprog_data.proofs.TokensSeen.{seen}
-use Rattle.mathprog_data.proofs.WalkLaws.{Reached, reached, Walks}
-use Rattle.mathprog_data.proofs.Walks.{Takes, done, go, emit}
+use Rattle.mathprog_data.proofs.WalkLaws.{reached, Walks}
+use Rattle.mathprog_data.proofs.Walks.{done, go, emit}
 use Rattle.mathprog_data.specs.declared.blocks.Mark.{Mark}
 use Rattle.mathprog_data.specs.Faults.{given_twice}
 use Rattle.mathprog_data.specs.Lexemes.{Placed}
@@ -67,6 +67,7 @@ went-emit o next d t ts r event true e second more h = cc
 went-emit o next d t ts r event false e second more h =
     let w = more next (noted d event) h in
     record { events = event ∷ w.events; walk = emit e w.walk; new = ap₂ (λ x y. not x && y) second w.new; draft = w.draft }
+
 went-turn : (o : Open) (d : Draft) (t : Placed) (ts : List Placed) (r : Reader) (turned : Turn) → turn o (seen t) t.at ≡ turned → ((next : Open) (e : Draft) → run (reader next e) ts ≡ Ok r → Went next e ts r) → after (λ next. run next ts) t.at (taken d turned) ≡ Ok r → Went o d (t ∷ ts) r
 went-turn o d t ts r (Stop k) e more h = cc
 went-turn o d t ts r (Go next) e more h =

@@ -1,15 +1,15 @@
 -- The machine takes what a data section is spelt of, and does with it what its tree says.
-use Rattle.std.proofs.Common.{◌≡◌, ℕ, zero, suc, ◌⊎◌, inl, inr, Bool, true, false, List, [], ◌∷◌, ◌++◌, codes, Option, Some, None, sym, refl, ap, ap₂, ◌∙◌, subst}
-use Rattle.mathprog_data.proofs.StatementsTaken.{take_members, take_plain, take_slice, loosened_records}
+use Rattle.std.proofs.Common.{◌≡◌, ℕ, inl, inr, true, false, List, [], ◌∷◌, codes, Option, Some, refl, ap, ◌∙◌}
+use Rattle.mathprog_data.proofs.StatementsTaken.{take_members, take_plain, take_slice}
 use Rattle.mathprog_data.proofs.TablesTaken.{take_table}
-use Rattle.mathprog_data.proofs.TokensSeen.{seen, sign-seen, symbol-seen, number-seen, SeesNumber, default-no_param, seen-keyword}
-use Rattle.mathprog_data.proofs.Walks.{Takes, done, go, emit, member_events, given_events, default_events, param_events, statement_events, statements_events, given_events-append, Loosened, set, named, leading, tabbing, listed, rests, Rests, SameFirst, SameTurn, switch, relax, sign_go, sign_emit, symbol_go, symbol_emit, take_comma}
+use Rattle.mathprog_data.proofs.TokensSeen.{seen, symbol-seen, number-seen, default-no_param, seen-keyword}
+use Rattle.mathprog_data.proofs.Walks.{Takes, done, go, emit, given_events, default_events, statement_events, statements_events, given_events-append, set, named, leading, tabbing, listed, rests, Rests, SameFirst, SameTurn, switch, sign_go, sign_emit, symbol_emit, take_comma}
 use Rattle.mathprog_data.specs.declared.blocks.Mark.{Mark}
 use Rattle.mathprog_data.specs.declared.lexeme.Sign.TheVariants as signs
 use Rattle.mathprog_data.specs.declared.words.Word.{Word}
 use Rattle.mathprog_data.specs.declared.words.Word.TheVariants as words
 use Rattle.mathprog_data.specs.Lexemes.{Placed, Lexeme}
-use Rattle.mathprog_data.specs.MachineStates.{Seen, SignSeen, EmptySeen, SymbolSeen, Open, Fresh, DataRead, Between, EndRead, Ended, SetRead, InSet, ParamRead, ParamNamed, DefaultRead, LeadingDefault, LeadingNumber, TabbingColon, TabbingNamed, InRecords, Event, Begins, DefaultGiven, ParamClosed, Turn, Stop, Go, Emit}
+use Rattle.mathprog_data.specs.MachineStates.{Seen, SignSeen, SymbolSeen, Open, Fresh, DataRead, Between, EndRead, Ended, SetRead, InSet, ParamRead, ParamNamed, DefaultRead, LeadingDefault, LeadingNumber, TabbingColon, TabbingNamed, InRecords, Event, Begins, ParamClosed, Go, Emit}
 use Rattle.mathprog_data.specs.MachineSteps.{turn, may_end, set_name, param_name, tabbing_name}
 use Rattle.mathprog_data.specs.Meaning.{Opening, Statements, Closing, IsLoose}
 use Rattle.mathprog_data.specs.Meaning as sections
@@ -17,7 +17,7 @@ use Rattle.mathprog_data.specs.Params.{subscript_count, set_number, param_number
 use Rattle.mathprog_data.specs.Slices.{Slice, all_free}
 use Rattle.mathprog_data.specs.Statements.{Form, Listed, Tabbing, Records, NoDefault, Default, Begun, SetBegun, ParamBegun, TabbingBegun, Beginning, Statement, Set, Param, IsStatement}
 use Rattle.mathprog_data.specs.Statements as trees
-use Rattle.mathprog_data.specs.Symbols.{Name, Number, IsSign, IsKeyword, IsSymbol, IsNumber, Comma}
+use Rattle.mathprog_data.specs.Symbols.{Name, Number, IsSign, IsKeyword}
 use Rattle.mathprog_data.specs.Tables.{Given}
 
 pub take_records : (F : Open → List Placed → Type 0) → Rests F → {param : ℕ} {form : Form} {slice : Slice} {ts rest : List Placed} {values : List Given} {events : List Event} → Records param form slice ts rest values → Takes F Between rest events

@@ -1,15 +1,13 @@
 -- What may follow in each state of the machine, so that the whole is spelt as trees say: the rest of the open statement, and statements.
-use Rattle.std.proofs.Common.{◌≡◌, ℕ, zero, suc, Bool, true, false, List, [], ◌∷◌, ◌++◌, codes, Option, Some, None, sym, refl, ap, ◌∙◌, subst}
-use Rattle.mathprog_data.proofs.TokensSeen.{seen}
+use Rattle.std.proofs.Common.{◌≡◌, ℕ, zero, suc, Bool, true, false, List, [], ◌∷◌, ◌++◌, codes, Option, Some, None}
 use Rattle.mathprog_data.proofs.Walks.{member_events, given_events, default_events, statements_events}
 use Rattle.mathprog_data.specs.declared.blocks.Mark.{Mark}
 use Rattle.mathprog_data.specs.declared.lexeme.Sign.TheVariants as signs
 use Rattle.mathprog_data.specs.Lexemes.{Placed}
-use Rattle.mathprog_data.specs.MachineStates.{Open, Fresh, DataRead, Between, EndRead, Ended, SetRead, InSet, ParamRead, ParamNamed, DefaultRead, LeadingDefault, LeadingNumber, TabbingColon, TabbingNamed, InRecords, InPlain, PlaceDue, PlaceRead, ParenRead, TrRead, TrClosed, InColumns, InRows, InRow, Event, Begins, MemberNamed, DefaultGiven, ValueGiven, SetClosed, ParamClosed, Turn, Stop, Go, Emit}
-use Rattle.mathprog_data.specs.MachineSteps.{turn}
+use Rattle.mathprog_data.specs.MachineStates.{Open, Fresh, DataRead, Between, EndRead, Ended, SetRead, InSet, ParamRead, ParamNamed, DefaultRead, LeadingDefault, LeadingNumber, TabbingColon, TabbingNamed, InRecords, InPlain, PlaceDue, PlaceRead, ParenRead, TrRead, TrClosed, InColumns, InRows, InRow, Event, Begins, DefaultGiven, ValueGiven, SetClosed, ParamClosed, Turn, Stop, Go, Emit}
 use Rattle.mathprog_data.specs.Meaning.{Opening, Statements}
 use Rattle.mathprog_data.specs.Params.{subscript_count, set_number, param_number}
-use Rattle.mathprog_data.specs.Slices.{Slice, all_free, free_count, index_at, Places}
+use Rattle.mathprog_data.specs.Slices.{Slice, all_free, index_at, Places}
 use Rattle.mathprog_data.specs.Statements.{Form, Listed, Tabbing, Members, Subscripts, Records, Default, SetBegun, ParamBegun, TabbingBegun, Statement}
 use Rattle.mathprog_data.specs.Symbols.{Name, Number, IsSign, IsKeyword, IsSymbol, IsNumber, IsValue, OptionalComma, Comma}
 use Rattle.mathprog_data.specs.Tables.{Given, given, Columns, Cells, Rows, EndsTable}

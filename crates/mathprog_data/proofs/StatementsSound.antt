@@ -1,16 +1,14 @@
 -- A step backwards of the machine keeps what may follow: sets, records, plain data and slices.
-use Rattle.std.proofs.Common.{◌≡◌, ℕ, zero, suc, Bool, true, false, cond, List, [], ◌∷◌, ◌++◌, codes, Option, Some, None, nat_eq, sym, refl, ap, ◌∙◌, subst, append_assoc, append-nil}
+use Rattle.std.proofs.Common.{◌≡◌, ℕ, zero, suc, Bool, true, false, cond, List, [], ◌∷◌, ◌++◌, Option, Some, None, nat_eq, sym, refl, ap, ◌∙◌, subst, append_assoc, append-nil}
 use Rattle.std.specs.Prelude.{pos}
-use Rattle.mathprog_data.proofs.StatementsGo.{StepsBack, After, after, SetRest, set_rest, RecordsRest, records_rest, Goes, between, in_set, in_records, in_plain, place_due, place_last, place_more, Back, back}
+use Rattle.mathprog_data.proofs.StatementsGo.{set_rest, RecordsRest, records_rest, Goes, between, in_set, in_records, in_plain, place_due, place_last, place_more, Back, back}
 use Rattle.mathprog_data.proofs.TokensSeen.{seen, seen-sign, seen-symbol, seen-number}
-use Rattle.mathprog_data.proofs.Walks.{given_events, given_events-append}
 use Rattle.mathprog_data.specs.declared.blocks.Mark.{Mark}
 use Rattle.mathprog_data.specs.declared.lexeme.Sign.TheVariants as signs
 use Rattle.mathprog_data.specs.declared.words.Word.{Word}
-use Rattle.mathprog_data.specs.declared.words.Word.TheVariants as words
 use Rattle.mathprog_data.specs.Lexemes.{Placed}
-use Rattle.mathprog_data.specs.MachineStates.{Seen, SignSeen, EmptySeen, SymbolSeen, Open, Between, InSet, InRecords, InPlain, PlaceDue, PlaceRead, Event, MemberNamed, ValueGiven, SetClosed, ParamClosed, Turn, Stop, Go, Emit}
-use Rattle.mathprog_data.specs.MachineSteps.{turn, comma, bracket, plain_value, number}
+use Rattle.mathprog_data.specs.MachineStates.{Seen, SignSeen, SymbolSeen, Open, Between, InSet, InRecords, InPlain, PlaceDue, PlaceRead, Event, MemberNamed, ValueGiven, SetClosed, ParamClosed, Emit}
+use Rattle.mathprog_data.specs.MachineSteps.{turn, comma, bracket, number}
 use Rattle.mathprog_data.specs.MachineSteps.{plain as plain_turn}
 use Rattle.mathprog_data.specs.Params.{subscript_count, results_path}
 use Rattle.mathprog_data.specs.Slices.{Slice, free_count, index_at, Places, IsPlace}
@@ -19,7 +17,7 @@ use Rattle.mathprog_data.specs.Statements.{Form, Listed, Tabbing, Subscripts}
 use Rattle.mathprog_data.specs.Statements as trees
 use Rattle.mathprog_data.specs.Symbols.{Name, Number, IsSign, IsSymbol, IsValue, OptionalComma, none, one}
 use Rattle.mathprog_data.specs.Symbols as symbols
-use Rattle.mathprog_data.specs.Tables.{Given, given}
+use Rattle.mathprog_data.specs.Tables.{given}
 
 -- ---- sets
 set_semicolon : {K : Open → List Placed → Type 0} {n : ℕ} {c : Bool} {t : Placed} {ts : List Placed} → IsSign signs.Semicolon t → (events : List Event) → Goes K Between ts events → Goes K (InSet n c) (t ∷ ts) (SetClosed n ∷ events)
@@ -103,8 +101,8 @@ pub records_symbol : {K : Open → List Placed → Type 0} {form : Form} {param 
 records_symbol {form = form} {param = param} {slice = slice} {c = c} t {ts = ts} w name n zero e s =
     value_step (InRecords form param slice c) [] t.at (cond (nat_eq param results_path) (Some (pos 0, false)) n)
     (λ v vs events is d r.
-        let P : ℕ → Type 0 = λ k. Subscripts k (t ∷ ts) (t ∷ ts) [] in
-        plain_rest (subst P (sym e) trees.Subscripts.none) (value_of param t w name n (nat_eq param results_path) v s refl is) d r)
+    let P : ℕ → Type 0 = λ k. Subscripts k (t ∷ ts) (t ∷ ts) [] in
+    plain_rest (subst P (sym e) trees.Subscripts.none) (value_of param t w name n (nat_eq param results_path) v s refl is) d r)
 records_symbol t w name n (suc left) e s = back (first_step name left e (seen-symbol t w name n s))
 
 plain_more : {K : Open → List Placed → Type 0} {form : Form} {param : ℕ} {slice : Slice} {names : List Name} {mark : Mark} {c : Bool} {t : Placed} {ts : List Placed} (name : Name) (left : ℕ) → IsSymbol t name → (events : List Event) → Goes K (InPlain form param slice (names ++ name ∷ []) mark left true) ts events → Goes K (InPlain form param slice names mark (suc left) c) (t ∷ ts) events

@@ -1,16 +1,14 @@
 -- The machine takes what a statement is spelt of, and does with it what its tree says.
-use Rattle.std.proofs.Common.{◌≡◌, ℕ, zero, suc, ◌⊎◌, inl, inr, Bool, true, false, cond, not, List, [], ◌∷◌, ◌++◌, codes, Option, Some, None, nat_eq, sym, refl, ap, ap₂, ◌∙◌, subst, append_assoc, append-nil, arith}
+use Rattle.std.proofs.Common.{◌≡◌, ℕ, zero, suc, Bool, true, false, cond, List, [], ◌∷◌, ◌++◌, Option, Some, nat_eq, sym, refl, ap, ◌∙◌, append_assoc, append-nil, arith}
 use Rattle.std.specs.Prelude.{pos}
-use Rattle.mathprog_data.proofs.TokensSeen.{seen, sign-seen, symbol-seen, number-seen, SeesSymbol, SeesNumber}
-use Rattle.mathprog_data.proofs.Walks.{Takes, done, go, emit, member_events, given_events, default_events, statement_events, given_events-append, Loosened, set, named, leading, tabbing, listed, tabbed, plain, columns, rows, row, rests, Rests, SameFirst, SameTurn, switch, relax, sign_go, sign_emit, symbol_go, symbol_emit, take_comma}
+use Rattle.mathprog_data.proofs.TokensSeen.{seen, symbol-seen, number-seen}
+use Rattle.mathprog_data.proofs.Walks.{Takes, emit, member_events, Loosened, set, listed, tabbed, plain, Rests, sign_go, sign_emit, symbol_go, symbol_emit, take_comma}
 use Rattle.mathprog_data.specs.declared.blocks.Mark.{Mark}
-use Rattle.mathprog_data.specs.declared.lexeme.Sign.{Sign as TheSign}
 use Rattle.mathprog_data.specs.declared.lexeme.Sign.TheVariants as signs
 use Rattle.mathprog_data.specs.declared.words.Word.{Word}
-use Rattle.mathprog_data.specs.declared.words.Word.TheVariants as words
 use Rattle.mathprog_data.specs.Lexemes.{Placed}
-use Rattle.mathprog_data.specs.MachineStates.{Seen, SignSeen, EmptySeen, SymbolSeen, Open, Fresh, DataRead, Between, EndRead, Ended, SetRead, InSet, ParamRead, ParamNamed, DefaultRead, LeadingDefault, LeadingNumber, TabbingColon, TabbingNamed, InRecords, InPlain, PlaceDue, PlaceRead, ParenRead, TrRead, TrClosed, InColumns, InRows, InRow, Event, Begins, MemberNamed, DefaultGiven, ValueGiven, SetClosed, ParamClosed, Turn, Stop, Go, Emit}
-use Rattle.mathprog_data.specs.MachineSteps.{turn, records, bracket, table, columns_end, cell, row_left, plain_value, number}
+use Rattle.mathprog_data.specs.MachineStates.{SignSeen, SymbolSeen, Open, Between, InSet, InRecords, InPlain, PlaceDue, PlaceRead, Event, ValueGiven, SetClosed, Turn, Emit}
+use Rattle.mathprog_data.specs.MachineSteps.{turn, bracket, plain_value, number}
 use Rattle.mathprog_data.specs.MachineSteps.{plain as plain_turn}
 use Rattle.mathprog_data.specs.Params.{subscript_count, results_path}
 use Rattle.mathprog_data.specs.Slices.{Slice, free_count, index_at, Places, IsPlace}
@@ -19,8 +17,7 @@ use Rattle.mathprog_data.specs.Statements.{Form, Listed, Tabbing, Members, Subsc
 use Rattle.mathprog_data.specs.Statements as trees
 use Rattle.mathprog_data.specs.Symbols.{Name, Number, IsSign, IsSymbol, IsNumber, IsValue, Comma}
 use Rattle.mathprog_data.specs.Symbols as symbols
-use Rattle.mathprog_data.specs.Tables.{Given, given, Heading, Columns, Cells, Rows, Table, EndsTable, cell_index}
-use Rattle.mathprog_data.specs.Tables as tables
+use Rattle.mathprog_data.specs.Tables.{Given, given}
 
 -- ---- sets
 pub take_members : (F : Open → List Placed → Type 0) → Rests F → (n : ℕ) {ts rest : List Placed} {names : List Name} {events : List Event} → Members ts rest names → Takes F Between rest events → Takes F (InSet n false) ts (member_events names (SetClosed n ∷ events))
@@ -96,7 +93,7 @@ take_places F resting param (slices.Places.more {count = count} {u = u} {place =
     let some = places-some others in
     let left_is : left ≡ suc some.0 = omega (arith, e, some.1) in
     place-turn F param places left p (sign_go (PlaceRead param (places ++ place ∷ []) left) signs.Comma is (ap (λ k. turn (PlaceRead param (places ++ place ∷ []) k) (SignSeen signs.Comma) u.at) left_is)
-        (take_places F resting param others (places ++ place ∷ []) some.0 (sym some.1) (rw (append_assoc places (place ∷ []) next) w)))
+    (take_places F resting param others (places ++ place ∷ []) some.0 (sym some.1) (rw (append_assoc places (place ∷ []) next) w)))
 
 pub take_slice : (F : Open → List Placed → Type 0) → Rests F → (param : ℕ) (slice next : Slice) {t : Placed} {ts us : List Placed} {events : List Event} → IsSign signs.OpenBracket t → Places (subscript_count param) ts us next → Takes F (InRecords Listed param next true) us events
     → Takes F (InRecords Listed param slice false) (t ∷ ts) events

@@ -1,7 +1,7 @@
 -- A step backwards of the machine keeps what may follow: tables, and records as a whole.
-use Rattle.std.proofs.Common.{◌≡◌, ℕ, zero, suc, Bool, true, false, cond, List, [], ◌∷◌, ◌++◌, codes, Option, Some, None, nat_eq, eqb, sym, refl, ap, ◌∙◌, subst, append_assoc, append-nil}
+use Rattle.std.proofs.Common.{◌≡◌, ℕ, Bool, true, false, cond, List, [], ◌∷◌, ◌++◌, Option, Some, None, nat_eq, refl, subst, append_assoc}
 use Rattle.std.proofs.lemmas.Bool.{eqb-true}
-use Rattle.mathprog_data.proofs.StatementsGo.{StepsBack, After, after, RecordsRest, records_rest, RowsRest, rows_rest, ColumnsRest, columns_end, columns_more, Goes, between, in_records, paren_read, tr_read, tr_closed, in_columns, in_rows, in_row, Back, BackStep, back}
+use Rattle.mathprog_data.proofs.StatementsGo.{records_rest, RowsRest, rows_rest, ColumnsRest, columns_end, columns_more, Goes, in_records, paren_read, tr_read, tr_closed, in_columns, in_rows, in_row, Back, back}
 use Rattle.mathprog_data.proofs.StatementsSound.{records_semicolon, records_comma, records_gives, records_bracket, records_symbol}
 use Rattle.mathprog_data.proofs.TokensSeen.{seen, seen-sign, seen-symbol, seen-number, seen-keyword}
 use Rattle.mathprog_data.proofs.Walks.{given_events, given_events-append}
@@ -10,9 +10,9 @@ use Rattle.mathprog_data.specs.declared.lexeme.Sign.TheVariants as signs
 use Rattle.mathprog_data.specs.declared.words.Word.{Word}
 use Rattle.mathprog_data.specs.declared.words.Word.TheVariants as words
 use Rattle.mathprog_data.specs.Lexemes.{Placed}
-use Rattle.mathprog_data.specs.MachineStates.{Seen, SignSeen, EmptySeen, SymbolSeen, Open, Between, InRecords, PlaceDue, ParenRead, TrRead, TrClosed, InColumns, InRows, InRow, Event, ValueGiven, ParamClosed, Turn, Stop, Go, Emit}
+use Rattle.mathprog_data.specs.MachineStates.{Seen, SignSeen, SymbolSeen, Open, InRecords, ParenRead, TrRead, TrClosed, InColumns, InRows, InRow, Event, ValueGiven, ParamClosed, Turn, Stop, Go, Emit}
 use Rattle.mathprog_data.specs.MachineSteps.{turn, comma, row_left, cell, number, in_records as records_turn}
-use Rattle.mathprog_data.specs.MachineSteps.{table as table_turn, columns_end as end_turn}
+use Rattle.mathprog_data.specs.MachineSteps.{columns_end as end_turn}
 use Rattle.mathprog_data.specs.Params.{subscript_count}
 use Rattle.mathprog_data.specs.Slices.{Slice, free_count}
 use Rattle.mathprog_data.specs.Statements.{Form, Listed, Tabbing}

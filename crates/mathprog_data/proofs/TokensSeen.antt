@@ -7,7 +7,7 @@ use Rattle.mathprog_data.specs.declared.lexeme.Sign.{Sign as TheSign}
 use Rattle.mathprog_data.specs.declared.words.Word.{Word}
 use Rattle.mathprog_data.specs.declared.words.Word.TheVariants.{Data, Set, Param, End, Default, Tr, Point, Other}
 use Rattle.mathprog_data.specs.Lexemes.{Lexeme, Sign, Bare, Quoted, Placed, bare_name}
-use Rattle.mathprog_data.specs.MachineStates.{Seen, SignSeen, EmptySeen, SymbolSeen, seen_of}
+use Rattle.mathprog_data.specs.MachineStates.{Seen, SignSeen, SymbolSeen, seen_of}
 use Rattle.mathprog_data.specs.NumberReading.{reading}
 use Rattle.mathprog_data.specs.Params.{param_number}
 use Rattle.mathprog_data.specs.Symbols.{Name, Number, IsSign, IsKeyword, IsSymbol, IsNumber, symbol_name}

@@ -1,9 +1,9 @@
 -- Ways of the machine, cut and joined, and that there is one at most.
-use Rattle.std.proofs.Common.{◌≡◌, ℕ, Bool, true, false, List, [], ◌∷◌, ◌++◌, Option, Some, None, sym, refl, ap, ◌∙◌, subst}
+use Rattle.std.proofs.Common.{◌≡◌, List, [], ◌∷◌, ◌++◌, refl, ap, ◌∙◌, subst}
 use Rattle.mathprog_data.proofs.TokensSeen.{seen}
 use Rattle.mathprog_data.proofs.Walks.{Takes, done, go, emit}
 use Rattle.mathprog_data.specs.Lexemes.{Placed}
-use Rattle.mathprog_data.specs.MachineStates.{Open, Event, Turn, Stop, Go, Emit}
+use Rattle.mathprog_data.specs.MachineStates.{Open, Event, Go, Emit}
 use Rattle.mathprog_data.specs.MachineSteps.{turn}
 
 -- all tokens are taken, and this is open
