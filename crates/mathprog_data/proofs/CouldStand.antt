@@ -1,21 +1,19 @@
 -- What could stand behind tokens is what the machine would take there.
-use Rattle.std.proofs.Common.{◌≡◌, ℕ, Bool, true, false, List, [], ◌∷◌, ◌++◌, codes, Option, Some, None, sym, refl, ap, ap₂, ◌∙◌, subst, append_assoc}
+use Rattle.std.proofs.Common.{◌≡◌, true, false, List, [], ◌∷◌, ◌++◌, codes, Some, None, refl, ap, subst}
 use Rattle.std.specs.Prelude.{pos}
 use Rattle.scaled_decimals.specs.DecimalReading.{numerator, denominator}
 use Rattle.scaled_decimals.specs.Digits.{number_of}
-use Rattle.mathprog_data.proofs.FaultTests.{goes_on, on, star_behind, zero_seen, x_seen, point_seen, set_seen, param_seen}
+use Rattle.mathprog_data.proofs.FaultTests.{goes_on, on, zero_seen, x_seen, point_seen, set_seen, param_seen}
 use Rattle.mathprog_data.proofs.GoodLists.{Way, loose-way, way-loose}
 use Rattle.mathprog_data.proofs.TokensSeen.{seen}
-use Rattle.mathprog_data.proofs.WalkLaws.{Reached, reached, Walks, AtEnds, Cut, cut, joined, SameEnd, same_end}
-use Rattle.mathprog_data.proofs.Walks.{Takes, done, go, emit}
-use Rattle.mathprog_data.specs.declared.blocks.Mark.{Mark}
-use Rattle.mathprog_data.specs.declared.lexeme.Sign.TheVariants as signs
+use Rattle.mathprog_data.proofs.WalkLaws.{Reached, reached, Walks, AtEnds, cut, joined, same_end}
+use Rattle.mathprog_data.proofs.Walks.{done, go, emit}
 use Rattle.mathprog_data.specs.declared.words.Word.TheVariants as words
-use Rattle.mathprog_data.specs.Lexemes.{Lexeme, Sign, Bare, Placed}
-use Rattle.mathprog_data.specs.MachineStates.{Seen, SignSeen, SymbolSeen, Open, Fresh, Event, Turn, Stop, Go, Emit, seen_of}
+use Rattle.mathprog_data.specs.Lexemes.{Bare, Placed}
+use Rattle.mathprog_data.specs.MachineStates.{SymbolSeen, Open, Fresh, Event, Turn, Stop, Go, Emit, seen_of}
 use Rattle.mathprog_data.specs.MachineSteps.{turn}
 use Rattle.mathprog_data.specs.NumberReading.{reading}
-use Rattle.mathprog_data.specs.StatementFaults.{BeginsLoose, CouldStand, IsRefused}
+use Rattle.mathprog_data.specs.StatementFaults.{BeginsLoose}
 
 -- ---- what is seen of the symbols that are tried
 reads-zero : reading (codes "0") ≡ Some (pos 0, false)

@@ -16,6 +16,7 @@ pub mod LexingLaws
 pub mod LexingParse
 pub mod LexingPlaced
 pub mod LexingPlaces
+pub mod LexingQuiet
 pub mod LexingRunGaps
 pub mod LexingRunQuotes
 pub mod LexingRunTexts

@@ -1,12 +1,11 @@
 -- A state whose parts fit one another is sound for the tests of faults.
-use Rattle.std.proofs.Common.{◌≡◌, ℕ, zero, suc, ◌+◌, ◌<◌, ◌≤◌, nat_eq, eqb, Bool, true, false, List, [], ◌∷◌, length, Option, Some, None, sym, refl, ap, ◌∙◌, subst, arith}
+use Rattle.std.proofs.Common.{◌≡◌, ℕ, ◌≤◌, nat_eq, Bool, true, false, [], ◌∷◌, length, Some, None, refl, arith}
 use Rattle.std.proofs.lemmas.Bool.{eqb-true}
 use Rattle.mathprog_data.proofs.FaultTables.{Sound}
-use Rattle.mathprog_data.proofs.TurnLaws.{IsSane, Tabled, has_some}
+use Rattle.mathprog_data.proofs.TurnLaws.{IsSane, Tabled}
 use Rattle.mathprog_data.specs.MachineStates.{Open, InRecords, InPlain, PlaceDue, PlaceRead, ParenRead, TrRead, TrClosed, InColumns, InRows, InRow}
 use Rattle.mathprog_data.specs.Params.{subscript_count}
 use Rattle.mathprog_data.specs.Slices.{Slice, free_count}
-use Rattle.mathprog_data.specs.Symbols.{Name}
 
 free-within : (slice : Slice) → free_count slice ≤ length slice
 free-within [] = omega arith

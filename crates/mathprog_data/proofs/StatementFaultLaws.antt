@@ -1,21 +1,19 @@
 -- The kinds of faults of a token, by the tests of the state behind the tokens before it.
-use Rattle.std.proofs.Common.{◌≡◌, ℕ, ◌⊎◌, inl, inr, Bool, true, false, not, ◌&&◌, ◌||◌, List, [], ◌∷◌, ◌++◌, codes, Option, Some, None, sym, refl, ap, ap₂, ◌∙◌, subst}
+use Rattle.std.proofs.Common.{◌≡◌, ℕ, ◌⊎◌, inl, inr, Bool, true, false, not, ◌&&◌, ◌||◌, List, [], ◌∷◌, ◌++◌, codes, Option, Some, None, sym, refl, ap, ap₂, ◌∙◌}
 use Rattle.std.specs.Option.{is_none}
 use Rattle.mathprog_data.proofs.CouldStand.{zero-seen, x-seen, point-seen, set-seen, param-seen, GoesOn, by_go, by_emit, could-on, on-could, two-on, on-two}
-use Rattle.mathprog_data.proofs.FaultTests.{goes_on, on, star_behind, zero_seen, x_seen, point_seen, set_seen, param_seen, lacks, unknown_test, bare_record, wrong_test, cell_due, short_test, bad_test, gives_due, tabbing_test}
+use Rattle.mathprog_data.proofs.FaultTests.{on, star_behind, zero_seen, x_seen, point_seen, set_seen, param_seen, lacks, unknown_test, bare_record, wrong_test, cell_due, short_test, bad_test, gives_due, tabbing_test}
 use Rattle.mathprog_data.proofs.TokensSeen.{seen, sign-seen, seen-sign, symbol-seen, seen-symbol}
 use Rattle.mathprog_data.proofs.WalkLaws.{Walks}
 use Rattle.mathprog_data.specs.declared.blocks.Mark.{Mark}
-use Rattle.mathprog_data.specs.declared.lexeme.Sign.{Sign as TheSign}
 use Rattle.mathprog_data.specs.declared.lexeme.Sign.TheVariants as signs
-use Rattle.mathprog_data.specs.declared.words.Word.{Word}
 use Rattle.mathprog_data.specs.Lexemes.{Lexeme, Sign, Bare, Placed}
 use Rattle.mathprog_data.specs.MachineStates.{Seen, SignSeen, EmptySeen, SymbolSeen, Open, Fresh, Event, Turn, Stop, Go, Emit, seen_of}
 use Rattle.mathprog_data.specs.MachineSteps.{turn}
 use Rattle.mathprog_data.specs.Params.{set_number, param_number}
 use Rattle.mathprog_data.specs.StatementFaults.{BeginsLoose, CouldStand, LacksSubscripts, IsUnknownName, IsWrongSlice, IsRowTooShort, IsBadNumber, IsTabbing}
 use Rattle.mathprog_data.specs.StatementFaults as faults
-use Rattle.mathprog_data.specs.Symbols.{Name, Number, IsSign, IsSymbol}
+use Rattle.mathprog_data.specs.Symbols.{IsSign}
 use Rattle.mathprog_data.specs.Tables.{EndsTable}
 use Rattle.mathprog_data.specs.Tables as tables
 

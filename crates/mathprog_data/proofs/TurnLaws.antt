@@ -1,5 +1,5 @@
 -- What holds of every turn of the machine: which states it keeps sound, which it leads to by a semicolon, and in which statement it stays.
-use Rattle.std.proofs.Common.{◌≡◌, ℕ, zero, suc, ◌+◌, ◌<◌, ◌≤◌, nat_eq, eqb, Bool, true, false, cond, ◌&&◌, ◌||◌, List, [], ◌∷◌, ◌++◌, length, replicate, Option, Some, None, sym, refl, ap, ◌∙◌, subst, arith, length-append}
+use Rattle.std.proofs.Common.{◌≡◌, ℕ, zero, suc, ◌+◌, nat_eq, Bool, true, false, cond, ◌&&◌, ◌||◌, List, [], ◌∷◌, ◌++◌, length, Option, Some, None, refl, arith}
 use Rattle.std.specs.Prelude.{pos, if◌then◌else◌}
 use Rattle.std.proofs.lemmas.Bool.{eqb-true}
 use Rattle.mathprog_data.specs.declared.blocks.Mark.{Mark}
@@ -7,8 +7,8 @@ use Rattle.mathprog_data.specs.declared.lexeme.Sign.TheVariants as signs
 use Rattle.mathprog_data.specs.declared.words.Word.{Word}
 use Rattle.mathprog_data.specs.declared.words.Word.TheVariants as words
 use Rattle.mathprog_data.specs.Faults.{unexpected, unknown_name, wrong_slice, row_too_short, bad_number, tabbing}
-use Rattle.mathprog_data.specs.MachineStates.{Seen, SignSeen, EmptySeen, SymbolSeen, Open, Fresh, DataRead, Between, EndRead, Ended, SetRead, InSet, ParamRead, ParamNamed, DefaultRead, LeadingDefault, LeadingNumber, TabbingColon, TabbingNamed, InRecords, InPlain, PlaceDue, PlaceRead, ParenRead, TrRead, TrClosed, InColumns, InRows, InRow, Event, Begins, MemberNamed, DefaultGiven, ValueGiven, SetClosed, ParamClosed, Turn, Stop, Go, Emit}
-use Rattle.mathprog_data.specs.MachineSteps.{turn, set_name, param_name, tabbing_name, comma, records, number, plain, plain_value, bracket, table, columns_end, cell, row_left}
+use Rattle.mathprog_data.specs.MachineStates.{Seen, SignSeen, SymbolSeen, Open, Fresh, DataRead, Between, EndRead, Ended, SetRead, InSet, ParamRead, ParamNamed, DefaultRead, LeadingDefault, LeadingNumber, TabbingColon, TabbingNamed, InRecords, InPlain, PlaceDue, PlaceRead, ParenRead, TrRead, TrClosed, InColumns, InRows, InRow, Event, DefaultGiven, ValueGiven, Turn, Stop, Go, Emit}
+use Rattle.mathprog_data.specs.MachineSteps.{turn, set_name, param_name, tabbing_name, comma, number, plain, bracket, columns_end, cell, row_left}
 use Rattle.mathprog_data.specs.Params.{set_number, param_number, subscript_count, results_path}
 use Rattle.mathprog_data.specs.Slices.{Slice, free_count, all_free, index_at}
 use Rattle.mathprog_data.specs.Statements.{Form, Listed, Tabbing}

@@ -1,22 +1,21 @@
 -- What the machine over a list says is what the list is: its blocks, that more is to come, or its fault; one of them, and one alone.
-use Rattle.std.proofs.Common.{◌≡◌, ℕ, ◌⊎◌, ◌↔◌, inl, inr, Bool, true, false, ◌&&◌, not, List, [], ◌∷◌, ◌++◌, Option, Some, None, Result, Ok, Err, sym, refl, ap, ap₂, ◌∙◌, subst}
-use Rattle.mathprog_data.proofs.CouldStand.{GoesOn, by_go, by_emit, one_more, could-on}
+use Rattle.std.proofs.Common.{◌≡◌, ℕ, ◌↔◌, Bool, true, false, ◌&&◌, not, List, [], ◌∷◌, ◌++◌, Result, Ok, Err, sym, refl, ap, ap₂, ◌∙◌, subst}
+use Rattle.mathprog_data.proofs.CouldStand.{by_emit, one_more}
 use Rattle.mathprog_data.proofs.FaultsCarried.{carried, carries-stop}
-use Rattle.mathprog_data.proofs.FaultTests.{goes_on, on}
-use Rattle.mathprog_data.proofs.GoodLists.{Way, way-loose, loose-way, GoesThrough, good-goes, goes-good, EndsWith, means-ends, ends-means}
+use Rattle.mathprog_data.proofs.GoodLists.{way-loose, good-goes, goes-good, EndsWith, means-ends, ends-means}
 use Rattle.mathprog_data.proofs.LastStatement.{lacks-is, is-lacks}
-use Rattle.mathprog_data.proofs.NamesOnce.{names-new, new-names}
-use Rattle.mathprog_data.proofs.RunLaws.{noted_all, are_new, are_new-append, run-walk, Went, went, Halts, stops, twice, Halted, halted, run-halts, second_true}
+use Rattle.mathprog_data.proofs.NamesOnce.{new-names}
+use Rattle.mathprog_data.proofs.RunLaws.{noted_all, are_new, are_new-append, went, Halts, stops, twice, halted, run-halts}
 use Rattle.mathprog_data.proofs.StatementFaultLaws.{Behind, Lacking}
 use Rattle.mathprog_data.proofs.TokensSeen.{seen}
-use Rattle.mathprog_data.proofs.WalkLaws.{Reached, reached, Walks, joined, SameEnd, same_end}
-use Rattle.mathprog_data.proofs.Walks.{Takes, done, go, emit}
+use Rattle.mathprog_data.proofs.WalkLaws.{Reached, reached, Walks, joined}
+use Rattle.mathprog_data.proofs.Walks.{done, go, emit}
 use Rattle.mathprog_data.specs.declared.blocks.Mark.{Mark}
 use Rattle.mathprog_data.specs.Faults.{given_twice}
 use Rattle.mathprog_data.specs.Lexemes.{Placed}
 use Rattle.mathprog_data.specs.MachineRuns.{Stopped, run}
-use Rattle.mathprog_data.specs.MachineStates.{Open, Fresh, Event, Turn, Stop, Go, Emit, Draft, empty_draft, noted, drafted, Reader}
-use Rattle.mathprog_data.specs.MachineSteps.{turn, is_second, beginning, reader, may_end}
+use Rattle.mathprog_data.specs.MachineStates.{Open, Fresh, Event, Turn, Stop, Go, Emit, Draft, empty_draft, drafted, Reader}
+use Rattle.mathprog_data.specs.MachineSteps.{turn, is_second, beginning, may_end}
 use Rattle.mathprog_data.specs.Meaning.{Blocks, Means}
 use Rattle.mathprog_data.specs.StatementFaults.{BeginsLoose, IsGood, IsRefused, Carries, FaultIn, EndsTooSoon}
 use Rattle.mathprog_data.specs.StatementFaults as faults

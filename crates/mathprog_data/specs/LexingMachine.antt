@@ -49,6 +49,18 @@ continues pendings.Bare byte = is_symbol_byte byte
 continues (pendings.Quoted quote) byte = true
 continues (pendings.Quote quote) byte = byte == quote
 
+-- what is pending behind a byte of a comment
+abbrev pub in_comment : ℕ → Pending
+in_comment byte = if byte == 42 then pendings.Star else pendings.BlockComment
+
+-- what is pending behind a byte that ends nothing, begins nothing and makes nothing whole
+abbrev pub quiet : Pending → ℕ → Option Pending
+quiet pendings.Gap byte = if is_separator byte then Some pendings.Gap else None
+quiet pendings.Bare byte = if is_symbol_byte byte then Some pendings.Bare else None
+quiet pendings.LineComment byte = if is_line_feed byte then None else Some pendings.LineComment
+quiet pendings.BlockComment byte = Some (in_comment byte)
+quiet _ byte = None
+
 -- the place behind a byte at this place
 abbrev pub next_mark : Mark → ℕ → Mark
 next_mark mark byte =
@@ -133,10 +145,6 @@ quoted_taken s quote byte =
     if is_line_feed byte then record { state = passed s byte pendings.Gap; seen = fault_of s open_string } else
     if byte == quote then silent (passed s byte (pendings.Quote quote)) else
     silent (quoted s byte (pendings.Quoted quote))
-
--- what is pending behind a byte of a comment
-abbrev pub in_comment : ℕ → Pending
-in_comment byte = if byte == 42 then pendings.Star else pendings.BlockComment
 
 -- what is pending behind a byte that stands behind '*' in a comment
 abbrev pub behind_star : ℕ → Pending

@@ -3,14 +3,15 @@
 mod bytes;
 mod pending;
 
-ghost use Rattle.std.specs.Prelude.{◌≡◌, ◌+◌, ◌<◌, ◌≤◌};
-ghost use Rattle.mathprog_data.specs.LexingMachine.{least_length, least_span, IsWithin, next_mark, in_comment, behind_star};
+ghost use Rattle.std.specs.Prelude.{◌≡◌, ◌+◌, ◌<◌, ◌≤◌, ◌∷◌, ℕ, List, true, false};
+ghost use Rattle.mathprog_data.specs.LexingRuns.{run};
+ghost use Rattle.mathprog_data.specs.LexingMachine.{least_length, least_span, IsWithin, next_mark};
 
 use crate::blocks::Mark;
 use crate::fault::{BAD_BYTE, DataFault, OPEN_COMMENT, OPEN_STRING};
 use crate::lexeme::Sign;
 use bytes::{is_line_feed, is_printable, is_quote, is_separator, is_symbol_byte, sign_of};
-use pending::Pending;
+use pending::{Pending, behind_star, in_comment};
 use std::marker::Model;
 
 /// What kind of token it is.
@@ -105,6 +106,24 @@ impl Lexer {
             Pending::Bare => self.token(Kind::Bare),
             Pending::Quoted(_) => self.fault(OPEN_STRING),
             Pending::Quote(quote) => self.closed(quote),
+        }
+    }
+
+    /// Goes past the byte, where it ends nothing, begins nothing and makes nothing whole, and says whether it did.
+    #[inline]
+    pub(crate) fn pass_over(&mut self, byte: u8) -> bool
+        requires { self.old.place < 67108864 }
+        ensures passes { result ≡ true → (bytes : List ℕ) → run self.old (byte ∷ bytes) ≡ run self.new bytes }
+        ensures place { result ≡ true → self.new.place ≡ self.old.place + 1 }
+        ensures mark { result ≡ true → self.new.mark ≡ next_mark self.old.mark byte }
+        ensures kept { result ≡ false → self.new ≡ self.old }
+    {
+        match self.pending.quiet(byte) {
+            Some(pending) => {
+                self.pass(byte, pending);
+                true
+            }
+            None => false,
         }
     }
 
@@ -307,31 +326,5 @@ fn next_mark(mark: Mark, byte: u8) -> Mark
             line: mark.line,
             column: mark.column + 1,
         }
-    }
-}
-
-/// What is pending behind a byte of a comment.
-#[inline]
-fn in_comment(byte: u8) -> Pending
-    ensures value { result ≡ in_comment byte }
-    ensures least { least_length result ≡ 0 }
-{
-    if byte == b'*' {
-        Pending::Star
-    } else {
-        Pending::BlockComment
-    }
-}
-
-/// What is pending behind a byte that stands behind `*` in a comment.
-#[inline]
-fn behind_star(byte: u8) -> Pending
-    ensures value { result ≡ behind_star byte }
-    ensures least { least_length result ≡ 0 }
-{
-    if byte == b'/' {
-        Pending::Gap
-    } else {
-        in_comment(byte)
     }
 }

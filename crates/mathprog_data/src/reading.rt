@@ -29,6 +29,7 @@ use crate::statements::StatementReader;
 use std::alloc::Global;
 
 /// Takes the token at the span, and says whether it closes the text.
+#[inline(never)]
 fn take_token(
     text: &[u8],
     span: &Span,
@@ -59,6 +60,7 @@ fn take_token(
 }
 
 /// Takes what was seen of the text, and says whether it closes the text.
+#[inline]
 fn take_seen(
     text: &[u8],
     seen: Seen,
@@ -85,7 +87,7 @@ fn take_seen(
 }
 
 /// Takes the next byte of the text, and says whether it closes the text.
-fn take_byte(
+fn take_any_byte(
     text: &[u8],
     byte: u8,
     lexer: &mut Lexer,
@@ -116,6 +118,36 @@ fn take_byte(
         Ok(true) => Ok(true),
         Err(fail) => Err(fail),
     }
+}
+
+/// The same, sooner for the many bytes that make nothing whole.
+#[inline]
+fn take_byte(
+    text: &[u8],
+    byte: u8,
+    lexer: &mut Lexer,
+    closing: &mut Closing,
+    reader: &mut StatementReader,
+) -> Result<bool, ReadFail>
+    requires within { lexer.old.place < length text.now }
+    requires short { length text.now ≤ 67108864 }
+    requires room { reader.old.draft.rounded + 2 < 2 ^ 64 }
+    ensures place { result ≡ Ok false → lexer.new.place ≡ lexer.old.place + 1 }
+    ensures mark { result ≡ Ok false → lexer.new.mark ≡ next_mark lexer.old.mark byte }
+    ensures rounded { OnOk result (reader.new.draft.rounded ≤ reader.old.draft.rounded + 2) }
+    ensures open { result ≡ Ok false → (bytes : List ℕ) →
+        outcome_from text.now (reader_view reader.old) (lexed_run text.now closing.old (run lexer.old (byte ∷ bytes)))
+            ≡ outcome_from text.now (reader_view reader.new) (lexed_run text.now closing.new (run lexer.new bytes)) }
+    ensures closed { result ≡ Ok true → (bytes : List ℕ) →
+        outcome_from text.now (reader_view reader.old) (lexed_run text.now closing.old (run lexer.old (byte ∷ bytes)))
+            ≡ outcome_at text.now Closes (Ok (reader_view reader.new)) }
+    ensures fault { (fault : DataFault) → result ≡ Err (Fault fault) → (bytes : List ℕ) →
+        outcome_from text.now (reader_view reader.old) (lexed_run text.now closing.old (run lexer.old (byte ∷ bytes))) ≡ Refuses fault.no fault.at }
+{
+    if lexer.pass_over(byte) {
+        return Ok(false);
+    }
+    take_any_byte(text, byte, lexer, closing, reader)
 }
 
 /// The blocks of the text behind its end, or `EndTooSoon` there.

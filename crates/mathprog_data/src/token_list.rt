@@ -19,6 +19,7 @@ use crate::token::Token;
 use std::alloc::{AllocError, Global};
 
 /// Adds the token that was seen, if one was, and says whether it closes the text.
+#[inline]
 fn add_seen<'a>(
     text: &'a [u8],
     seen: Seen,
@@ -48,7 +49,7 @@ fn add_seen<'a>(
 }
 
 /// Takes the next byte of the text, adds the tokens that it makes whole, and says whether one closes the text.
-fn take_byte<'a>(
+fn take_any_byte<'a>(
     text: &'a [u8],
     byte: u8,
     lexer: &mut Lexer,
@@ -75,6 +76,32 @@ fn take_byte<'a>(
         Ok(true) => Ok(true),
         Err(fail) => Err(fail),
     }
+}
+
+/// The same, sooner for the many bytes that make nothing whole.
+#[inline]
+fn take_byte<'a>(
+    text: &'a [u8],
+    byte: u8,
+    lexer: &mut Lexer,
+    closing: &mut Closing,
+    found: &mut Vec<Token<'a>>,
+) -> Result<bool, ReadFail>
+    requires within { lexer.old.place < length text.now }
+    requires short { length text.now ≤ 67108864 }
+    ensures place { result ≡ Ok false → lexer.new.place ≡ lexer.old.place + 1 }
+    ensures open { result ≡ Ok false → (bytes : List ℕ) →
+        behind found.old.items (slices_of text.now (lexed_run text.now closing.old (run lexer.old (byte ∷ bytes))))
+        ≡ behind found.new.items (slices_of text.now (lexed_run text.now closing.new (run lexer.new bytes))) }
+    ensures closed { result ≡ Ok true → (bytes : List ℕ) →
+        behind found.old.items (slices_of text.now (lexed_run text.now closing.old (run lexer.old (byte ∷ bytes)))) ≡ closed_with found.new.items }
+    ensures fault { (fault : DataFault) → result ≡ Err (Fault fault) → (bytes : List ℕ) →
+        (lexed_run text.now closing.old (run lexer.old (byte ∷ bytes))).end ≡ Fails fault.no fault.at }
+{
+    if lexer.pass_over(byte) {
+        return Ok(false);
+    }
+    take_any_byte(text, byte, lexer, closing, found)
 }
 
 /// The tokens of the text, or its first lexical fault.

@@ -1,9 +1,9 @@
 //! What is pending between two bytes.
 
-ghost use Rattle.std.specs.Prelude.{◌≡◌};
-ghost use Rattle.mathprog_data.specs.LexingMachine.{continues};
+ghost use Rattle.std.specs.Prelude.{◌≡◌, IfSome};
+ghost use Rattle.mathprog_data.specs.LexingMachine.{continues, quiet, in_comment, behind_star, least_length};
 
-use crate::lexer::bytes::{is_line_feed, is_symbol_byte};
+use crate::lexer::bytes::{is_line_feed, is_separator, is_symbol_byte};
 
 /// What was begun and isn't ended yet.
 #[derive(Clone, Copy, Debug, PartialEq, Eq)]
@@ -42,5 +42,46 @@ impl Pending {
             Pending::Quote(quote) => byte == quote,
             Pending::Gap | Pending::BlockComment | Pending::Star | Pending::Quoted(_) => true,
         }
+    }
+
+    /// What is pending behind this byte, where it ends nothing, begins nothing and makes nothing whole.
+    #[inline]
+    pub(crate) fn quiet(self, byte: u8) -> Option<Pending>
+        ensures value { result ≡ quiet self byte }
+        ensures least { IfSome result (λ pending. least_length pending ≡ 0) }
+    {
+        match self {
+            Pending::Gap if is_separator(byte) => Some(Pending::Gap),
+            Pending::Bare if is_symbol_byte(byte) => Some(Pending::Bare),
+            Pending::LineComment if !is_line_feed(byte) => Some(Pending::LineComment),
+            Pending::BlockComment => Some(in_comment(byte)),
+            _ => None,
+        }
+    }
+}
+
+/// What is pending behind a byte of a comment.
+#[inline]
+pub(crate) fn in_comment(byte: u8) -> Pending
+    ensures value { result ≡ in_comment byte }
+    ensures least { least_length result ≡ 0 }
+{
+    if byte == b'*' {
+        Pending::Star
+    } else {
+        Pending::BlockComment
+    }
+}
+
+/// What is pending behind a byte that stands behind `*` in a comment.
+#[inline]
+pub(crate) fn behind_star(byte: u8) -> Pending
+    ensures value { result ≡ behind_star byte }
+    ensures least { least_length result ≡ 0 }
+{
+    if byte == b'/' {
+        Pending::Gap
+    } else {
+        in_comment(byte)
     }
 }

@@ -5,8 +5,8 @@ use Rattle.mathprog_data.specs.MachineViews.{reader_view}
 use Rattle.mathprog_data.specs.ReadingRuns.{Outcome, outcome_from}
 use Rattle.mathprog_data.proofs.LexingSteps.{follow}
 use Rattle.mathprog_data.proofs.TokenRunLemmas.{run_first, run_both}
-use Rattle.mathprog_data.proofs.reading.take_byte.Goals as goal
-use Rattle.mathprog_data.proofs.reading.take_byte.Goals.{After-take_seen, After-take_seen-in-Ok-false}
+use Rattle.mathprog_data.proofs.reading.take_any_byte.Goals as goal
+use Rattle.mathprog_data.proofs.reading.take_any_byte.Goals.{After-take_seen, After-take_seen-in-Ok-false}
 
 -- what comes of the text, by what was seen of the byte
 ended_first : (c : After-take_seen) (bytes : List ℕ)

@@ -6,7 +6,7 @@ use Rattle.mathprog_data.specs.LexingRuns.{Run, run, lexed_run, and_then}
 use Rattle.mathprog_data.specs.TokenRuns.{slices_of, behind, closed_with}
 use Rattle.mathprog_data.proofs.LexingSteps.{follow}
 use Rattle.mathprog_data.proofs.TokenRunLemmas.{run_first, run_both}
-use Rattle.mathprog_data.proofs.token_list.take_byte.Goals as goal
+use Rattle.mathprog_data.proofs.token_list.take_any_byte.Goals as goal
 
 pub returns-in-Ok-false-clause-open : goal.returns-in-Ok-false-clause-open
 returns-in-Ok-false-clause-open c r bytes =

@@ -1,0 +1,41 @@
+-- Past a byte that is quiet the lexer only goes on.
+use Rattle.std.proofs.Common.{◌≡◌, ℕ, ◌+◌, Bool, true, false, not, cond, List, ◌∷◌, Option, None, Some, refl, sym, ap, subst, ◌∙◌}
+use Rattle.std.proofs.lemmas.Bool.{not_from_false}
+use Rattle.mathprog_data.specs.declared.lexer.pending.Pending.{Pending}
+use Rattle.mathprog_data.specs.declared.lexer.pending.Pending.TheVariants as pendings
+use Rattle.mathprog_data.specs.Places.{is_line_feed}
+use Rattle.mathprog_data.specs.LexingBytes.{is_separator, is_symbol_byte}
+use Rattle.mathprog_data.specs.LexingMachine.{State, quiet, passed, in_comment}
+use Rattle.mathprog_data.specs.LexingRuns.{run}
+use Rattle.mathprog_data.proofs.LexingByteLemmas.{separator_is_no_symbol}
+
+where_true : (b : Bool) (x p : Pending) → cond b (Some x) None ≡ Some p → (b ≡ true) × (x ≡ p)
+where_true true x p e = (refl, cc)
+where_true false x p e = cc
+
+where_false : (b : Bool) (x p : Pending) → cond b None (Some x) ≡ Some p → (b ≡ false) × (x ≡ p)
+where_false true x p e = cc
+where_false false x p e = (refl, cc)
+
+quiet_in : (pending : Pending) (s : State) (byte : ℕ) (bytes : List ℕ) (p : Pending) → quiet pending byte ≡ Some p → run (record s { pending = pending }) (byte ∷ bytes) ≡ run (passed s byte p) bytes
+unfolding run
+quiet_in pendings.Gap s byte bytes p e =
+    let found = where_true (is_separator byte) pendings.Gap p e in
+    rw (separator_is_no_symbol byte found.0, found.0) (ap (λ q. run (passed s byte q) bytes) found.1)
+quiet_in pendings.Bare s byte bytes p e =
+    let found = where_true (is_symbol_byte byte) pendings.Bare p e in
+    rw found.0 (ap (λ q. run (passed s byte q) bytes) found.1)
+quiet_in pendings.LineComment s byte bytes p e =
+    let found = where_false (is_line_feed byte) pendings.LineComment p e in
+    let goes_on : not (is_line_feed byte) ≡ true = not_from_false (is_line_feed byte) found.0 in
+    rw goes_on (ap (λ q. run (passed s byte q) bytes) found.1)
+quiet_in pendings.BlockComment s byte bytes p e = let same : in_comment byte ≡ p = cc in ap (λ q. run (passed s byte q) bytes) same
+quiet_in pendings.Slash s byte bytes p e = cc
+quiet_in pendings.Star s byte bytes p e = cc
+quiet_in pendings.Colon s byte bytes p e = cc
+quiet_in (pendings.Quoted quote) s byte bytes p e = cc
+quiet_in (pendings.Quote quote) s byte bytes p e = cc
+
+-- past a quiet byte what is seen is what is seen of the rest
+pub run_quiet : (s : State) (byte : ℕ) (bytes : List ℕ) (p : Pending) → quiet s.pending byte ≡ Some p → run s (byte ∷ bytes) ≡ run (passed s byte p) bytes
+run_quiet s byte bytes p e = quiet_in s.pending s byte bytes p e
