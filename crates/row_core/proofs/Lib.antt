@@ -4,6 +4,7 @@ pub mod Integers
 pub mod NameLaws
 pub mod Orders
 pub mod PlanLaws
+mod RowExamples
 pub mod RowLaws
 pub mod StatementLaws
 mod Tables

@@ -6,6 +6,11 @@ pub mod Numbers
 pub mod Order
 pub mod Rows
 pub mod Statements
+pub mod Stops
 pub mod Subscripts
 pub mod Tables
+pub mod Terms
+pub mod TermViews
+pub mod Values
 pub mod Words
+pub mod Written
