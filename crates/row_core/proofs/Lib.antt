@@ -7,5 +7,6 @@ pub mod PlanLaws
 mod RowExamples
 pub mod RowLaws
 pub mod StatementLaws
+pub mod SumLaws
 mod Tables
 pub mod Words

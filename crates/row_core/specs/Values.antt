@@ -1,11 +1,12 @@
 -- What terms and a right side are worth, over whatever denominator an equation is stated.
-use Rattle.std.specs.Prelude.{◌≡◌, ℕ, ℤ, pos, ◌+ℤ◌, ◌*ℤ◌, ◌<ℤ◌, ◌↔◌, List, [], ◌∷◌}
+use Rattle.std.specs.Prelude.{◌≡◌, ℕ, ℤ, pos, ◌+ℤ◌, ◌*ℤ◌, ◌<ℤ◌, ◌↔◌, Bool, if◌then◌else◌, List, [], ◌∷◌}
+use Rattle.std.specs.Ordering.{is_eq}
 use Rattle.exact_num.specs.Rational.{Rational}
 use Rattle.row_core.specs.declared.Row.{Row}
 use Rattle.row_core.specs.declared.Var.{Var}
-use Rattle.row_core.specs.Rows.{number_at, RowHolds}
+use Rattle.row_core.specs.Order.{var_cmp}
+use Rattle.row_core.specs.Rows.{row_sum, RowHolds}
 use Rattle.row_core.specs.Statements.{Stands}
-use Rattle.row_core.specs.Terms.{coefficient_at}
 
 -- z over s is the number
 pub record IsOver (s : ℤ) (number : Rational) (z : ℤ) : Type 0 where
@@ -24,11 +25,15 @@ SaysTheSame terms right row =
     (q : ℕ) (x : Var → ℤ) (s n r : ℤ) → pos 0 <ℤ s → IsSumOver s x terms n → IsOver s right r
     → RowHolds row q x ↔ Stands row.sense n (r *ℤ pos q)
 
--- the row is the terms and the right side, all multiplied by one positive number: up over down
+-- the row is the terms and the right side, all multiplied by one positive number, up over down
 pub record IsMultiple (terms : List (Var × Rational)) (right : Rational) (row : Row) : Type 0 where
   pub up : ℤ
   pub down : ℤ
   pub up_positive : pos 0 <ℤ up
   pub down_positive : pos 0 <ℤ down
-  pub entries : (v : Var) → IsOver up (coefficient_at terms v) (number_at row.entries.items v *ℤ down)
+  pub sums : (x : Var → ℤ) → IsSumOver up x terms (row_sum x row.entries.items *ℤ down)
   pub right_side : IsOver up right (row.rhs *ℤ down)
+
+-- the plan of 1 at the variable and 0 at all others
+abbrev pub alone : Var → Var → ℤ
+alone v w = if is_eq (var_cmp v w) then pos 1 else pos 0
