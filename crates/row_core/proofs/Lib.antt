@@ -1,6 +1,8 @@
 pub mod AscendingLaws
+pub mod DivisionLaws
 mod Examples
 pub mod Integers
+pub mod MeaningLaws
 pub mod NameLaws
 pub mod Orders
 pub mod PlanLaws
@@ -10,3 +12,4 @@ pub mod StatementLaws
 pub mod SumLaws
 mod Tables
 pub mod Words
+pub mod WrittenLaws

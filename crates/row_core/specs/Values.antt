@@ -36,4 +36,4 @@ pub record IsMultiple (terms : List (Var × Rational)) (right : Rational) (row :
 
 -- the plan of 1 at the variable and 0 at all others
 abbrev pub alone : Var → Var → ℤ
-alone v w = if is_eq (var_cmp v w) then pos 1 else pos 0
+alone v w = if is_eq (var_cmp w v) then pos 1 else pos 0
