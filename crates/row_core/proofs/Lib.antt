@@ -11,5 +11,6 @@ pub mod RowLaws
 pub mod StatementLaws
 pub mod SumLaws
 mod Tables
+pub mod TermLaws
 pub mod Words
 pub mod WrittenLaws

@@ -10,6 +10,7 @@ pub mod Stops
 pub mod Subscripts
 pub mod Tables
 pub mod Terms
+pub mod TermPlaces
 pub mod TermViews
 pub mod Values
 pub mod Words

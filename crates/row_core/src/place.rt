@@ -1,6 +1,7 @@
 //! Where a computation with exact numbers stops, and why.
 
 ghost use Rattle.std.specs.Prelude.{◌≡◌};
+ghost use Rattle.row_core.specs.declared.place.Stopped.TheVariants.{Memory};
 
 use crate::RowName;
 use std::alloc::{AllocError, AllocFailed};
@@ -19,4 +20,20 @@ pub enum Stopped {
     Width(Place),
     /// Memory ran out.
     Memory,
+}
+
+impl From<AllocError> for Stopped {
+    ghost from_gives = { λ _ stopped. stopped ≡ Memory };
+
+    fn from(_: AllocError) -> Stopped {
+        Stopped::Memory
+    }
+}
+
+impl<T: Drop> From<AllocFailed<T>> for Stopped {
+    ghost from_gives = { λ _ stopped. stopped ≡ Memory };
+
+    fn from(_: AllocFailed<T>) -> Stopped {
+        Stopped::Memory
+    }
 }
