@@ -9,13 +9,16 @@ use Rattle.std.proofs.Math.Nat.{dvd-mul_left, dvd-mul_right, mul-dvd-mul_left, o
 use Rattle.exact_num.specs.Formed.{common}
 use Rattle.exact_num.specs.Gcd.{gcd_of}
 use Rattle.exact_num.specs.Rational.{Rational}
-use Rattle.exact_num.proofs.GcdLaws.{gcd_of-dvd_left, gcd_of-dvd_right, dvd-gcd_of, gcd_of_unique}
-use Rattle.exact_num.proofs.Integers.{int_div-mul, pos-unsigned_abs, <ℤ_cancel, *ℤ_pos, unsigned_abs-zero}
+use Rattle.exact_num.proofs.GcdLaws.{gcd_of-dvd_left, gcd_of-dvd_right, dvd-gcd_of, gcd_of-one}
+use Rattle.exact_num.proofs.Integers.{int_div-mul, pos-unsigned_abs, <ℤ_cancel, *ℤ_pos, *ℤ_cancel, nonzero_of_pos, unsigned_abs-zero}
 use Rattle.exact_num.proofs.RationalLaws.{common_pos}
-use Rattle.exact_num.proofs.Ring.{*ℤ_assoc, zero-*ℤ, zero-+ℤ}
+use Rattle.exact_num.proofs.Ring.{*ℤ_assoc, *ℤ-one, one-*ℤ, zero-*ℤ, zero-+ℤ}
+use Rattle.exact_num.specs.Range.{all_fit, in_range as fits}
+use Rattle.exact_num.proofs.StepLaws.{all_fit-cons}
 use Rattle.row_core.specs.declared.Var.{Var}
 use Rattle.row_core.specs.Numbers.{is_zero, all_zero, numbers_of, DividesAll, IsLowest}
-use Rattle.row_core.specs.Written.{kept, widened, widened_by_all, denominators, common_divisor, row_divisor, numerator_over, entries_over}
+use Rattle.row_core.specs.Written.{kept, widened, widened_by_all, widened_by_each, denominators, common_divisor, row_divisor, numerator_over, entries_over}
+use Rattle.row_core.specs.TermSteps.{widened_by_term}
 use Rattle.row_core.specs.Values.{IsOver, IsSumOver}
 use Rattle.row_core.specs.Rows.{row_sum}
 
@@ -103,6 +106,11 @@ entries_over-IsSumOver d x (term ∷ terms) h =
 pub is_zero-fact : (z : ℤ) → is_zero z ≡ true → z ≡ pos 0
 is_zero-fact z h = unsigned_abs-zero z (eqb-true (unsigned_abs z) 0 h)
 
+pub nonzero-test : (z : ℤ) → z ≢ pos 0 → is_zero z ≡ false
+nonzero-test z h =
+    let cases : (b : Bool) → is_zero z ≡ b → b ≡ false = λ b. elim b as (λ p. is_zero z ≡ p → p ≡ false) [ true ↦ λ e. absurd (h (is_zero-fact z e)) | false ↦ λ e. refl ] in
+    cases (is_zero z) refl
+
 pub kept-ArePositive : (terms : List (Var × Rational)) → ArePositive terms → ArePositive (kept terms)
 kept-ArePositive [] h = tt
 kept-ArePositive (term ∷ terms) h =
@@ -137,3 +145,41 @@ common_divisor-DividesAll zs = common_divisor-DividesAll_of (common_divisor zs) 
 pub common_divisor-greatest : (d : ℕ) (zs : List ℤ) → DividesAll d zs → d ∣ common_divisor zs
 common_divisor-greatest d [] h = dvd-zero d
 common_divisor-greatest d (z ∷ zs) h = dvd-gcd_of d (unsigned_abs z) (common_divisor zs) h.0 (common_divisor-greatest d zs h.1)
+
+-- ---- shorter ways
+
+-- a denominator of 1 widens nothing
+pub widened-one : (d b : ℤ) → b ≡ pos 1 → widened d b ≡ d
+widened-one d b h =
+    let one : common d b ≡ pos 1 = ap (λ z. common d z) h ∙ ap pos (gcd_of-one (unsigned_abs d)) in
+    ap₂ (λ g z. int_div d g *ℤ z) one h ∙ int_div-mul d 1 (one-dvd (unsigned_abs d))
+
+-- over its own denominator a number has its own numerator
+pub numerator_over-own : (d : ℤ) (number : Rational) → pos 0 <ℤ d → number.bottom ≡ d → numerator_over d number ≡ number.top
+numerator_over-own d number h own =
+    let one : int_div d d *ℤ d ≡ pos 1 *ℤ d = exact_quotient d d h (dvd_refl (unsigned_abs d)) ∙ sym (one-*ℤ d) in
+    ap (λ z. number.top *ℤ int_div d z) own ∙ ap (λ z. number.top *ℤ z) (*ℤ_cancel (int_div d d) (pos 1) d (nonzero_of_pos d h) one) ∙ *ℤ-one number.top
+
+-- ---- one term after another
+
+abbrev widened_unless : Bool → ℤ → ℤ → ℤ
+widened_unless none d b = if none then d else widened d b
+
+abbrev kept_unless : Bool → Var × Rational → List (Var × Rational) → List (Var × Rational)
+kept_unless none term terms = if none then kept terms else (term ∷ kept terms)
+
+pub widened_by_all-term : (d : ℤ) (term : Var × Rational) (terms : List (Var × Rational)) (right : Rational)
+    → widened_by_all d (denominators (kept (term ∷ terms)) right) ≡ widened_by_all (widened_by_term d term) (denominators (kept terms) right)
+widened_by_all-term d term terms right =
+    let cases : (b : Bool) → widened_by_all d (denominators (kept_unless b term terms) right) ≡ widened_by_all (widened_unless b d term.1.bottom) (denominators (kept terms) right)
+    = λ b. elim b as (λ p. widened_by_all d (denominators (kept_unless p term terms) right) ≡ widened_by_all (widened_unless p d term.1.bottom) (denominators (kept terms) right)) [ true ↦ refl | false ↦ refl ] in
+    cases (is_zero term.1.top)
+
+pub widened_by_each-term : (d : ℤ) (term : Var × Rational) (terms : List (Var × Rational)) (right : Rational) → fits d ≡ true
+    → all_fit (widened_by_each d (denominators (kept (term ∷ terms)) right)) ≡ (fits (widened_by_term d term) && all_fit (widened_by_each (widened_by_term d term) (denominators (kept terms) right)))
+widened_by_each-term d term terms right h =
+    let Split : Bool → Type 0 = λ b. all_fit (widened_by_each d (denominators (kept_unless b term terms) right)) ≡ (fits (widened_unless b d term.1.bottom) && all_fit (widened_by_each (widened_unless b d term.1.bottom) (denominators (kept terms) right))) in
+    let stays : Split true = sym (ap (λ b. b && all_fit (widened_by_each d (denominators (kept terms) right))) h) in
+    let widens : Split false = all_fit-cons (widened d term.1.bottom) (widened_by_each (widened d term.1.bottom) (denominators (kept terms) right)) in
+    let cases : (b : Bool) → Split b = λ b. elim b as (λ p. Split p) [ true ↦ stays | false ↦ widens ] in
+    cases (is_zero term.1.top)

@@ -13,4 +13,5 @@ pub mod SumLaws
 mod Tables
 pub mod TermLaws
 pub mod Words
+pub mod WritingSteps
 pub mod WrittenLaws

@@ -23,7 +23,7 @@ use Rattle.row_core.specs.Rows.{row_sum}
 use Rattle.row_core.specs.Values.{IsOver, IsSumOver}
 use Rattle.row_core.specs.Written.{kept, common_divisor, row_divisor, numerator_over, entries_over, entries_divided}
 use Rattle.row_core.proofs.AscendingLaws.{both_passed, ascends-skip}
-use Rattle.row_core.proofs.DivisionLaws.{DividesInt, IsPartOf, ArePartsOf, exact_quotient, factor_pos, is_zero-fact, common_divisor-DividesAll, common_divisor-greatest}
+use Rattle.row_core.proofs.DivisionLaws.{DividesInt, IsPartOf, ArePartsOf, exact_quotient, factor_pos, nonzero-test, common_divisor-DividesAll, common_divisor-greatest}
 use Rattle.row_core.proofs.Orders.{var_cmp_total}
 use Rattle.row_core.proofs.RowLaws.{times_all, IsLowest-divided}
 
@@ -118,9 +118,7 @@ ascends-kept (term ∷ terms) h =
 -- ---- no number is 0
 
 not_zero : (z : ℤ) → z ≢ pos 0 → not (is_zero z) ≡ true
-not_zero z h =
-    let cases : (b : Bool) → is_zero z ≡ b → not b ≡ true = λ b. elim b as (λ p. is_zero z ≡ p → not p ≡ true) [ true ↦ λ e. absurd (h (is_zero-fact z e)) | false ↦ λ e. refl ] in
-    cases (is_zero z) refl
+not_zero z h = ap not (nonzero-test z h)
 
 -- no coefficient is 0
 abbrev NoneZero : List (Var × Rational) → Type 0

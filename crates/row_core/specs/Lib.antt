@@ -11,6 +11,7 @@ pub mod Subscripts
 pub mod Tables
 pub mod Terms
 pub mod TermPlaces
+pub mod TermSteps
 pub mod TermViews
 pub mod Values
 pub mod Words

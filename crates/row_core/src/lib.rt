@@ -14,6 +14,7 @@ mod names;
 mod place;
 mod subscripts;
 mod terms;
+mod writing;
 
 pub use equations::{row_has, row_word};
 pub use kinds::{is_free, var_has, var_word};
