@@ -1,0 +1,3 @@
+pub mod Closeness
+pub mod Factors
+pub mod Known

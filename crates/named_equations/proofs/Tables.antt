@@ -1,0 +1,22 @@
+-- Plans as tables, and which equation a plan breaks first.
+use Rattle.std.proofs.Common.{ℕ, ◌-◌, ℤ, pos, Bool, List, [], not}
+use Rattle.std.specs.Prelude.{Option, find, slice_index_or}
+use Rattle.std.specs.List.{list_all}
+use Rattle.std.specs.Option.{option_map}
+use Rattle.model_sets.specs.Data.{Data}
+use Rattle.row_core.specs.declared.Index.{Index}
+use Rattle.row_core.specs.declared.Var.{Var}
+use Rattle.named_equations.specs.Instances.{instances}
+use Rattle.named_equations.specs.Plans.{meets}
+
+-- the plan of a table: a list of values for each kind, in which a number made from the subscripts tells the place; 0 where it has none
+abbrev pub tabled : (Index → ℕ) → List (List ℤ) → Var → ℤ
+tabled place table v = slice_index_or (slice_index_or table (v.kind - 1) []) (place v.index) (pos 0)
+
+-- the plan meets every equation
+abbrev pub meets_all : Data → ℕ → (Var → ℤ) → Bool
+meets_all d q x = list_all (meets d q x) (instances d)
+
+-- the number of the first equation that the plan doesn't meet
+abbrev pub first_broken : Data → ℕ → (Var → ℤ) → Option ℕ
+first_broken d q x = option_map (λ name. name.eq) (find (λ name. not (meets d q x name)) (instances d))

@@ -1,0 +1,48 @@
+//! The named equations as data.
+
+mod accounting;
+mod activity_limits;
+mod balance;
+mod capacity;
+mod capacity_limits;
+mod capital_costs;
+mod demand;
+mod discounted_costs;
+mod emission_limits;
+mod operating_costs;
+mod penalties;
+mod production;
+mod renewable_target;
+mod reserve_margin;
+mod salvage;
+
+ghost use Rattle.std.specs.Prelude.{◌≡◌};
+ghost use Rattle.row_core.specs.Equations.{IsEquation};
+ghost use Rattle.plain_equations.specs.Meaning.{said};
+ghost use Rattle.plain_equations.specs.Named.{named};
+
+use crate::expressions::Equation;
+
+/// The equation of this number.
+pub(crate) fn equation(eq: u8) -> &'static Equation
+    requires { IsEquation eq }
+    ensures { said result.now ≡ named eq }
+{
+    match eq {
+        1 => demand::demand(eq),
+        2..=6 => capacity::capacity(eq),
+        7..=12 => production::production(eq),
+        13..=21 => balance::balance(eq),
+        22..=24 => accounting::accounting(eq),
+        25..=26 => capital_costs::capital_costs(eq),
+        27..=30 => salvage::salvage(eq),
+        31..=34 => operating_costs::operating_costs(eq),
+        35..=39 => penalties::penalties(eq),
+        40..=42 => discounted_costs::discounted_costs(eq),
+        43..=46 => capacity_limits::capacity_limits(eq),
+        47..=52 => activity_limits::activity_limits(eq),
+        53..=55 => reserve_margin::reserve_margin(eq),
+        56..=60 => renewable_target::renewable_target(eq),
+        _ => emission_limits::emission_limits(eq),
+    }
+}

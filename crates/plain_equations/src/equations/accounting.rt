@@ -1,0 +1,51 @@
+//! Accounting: equations 22 to 24.
+
+ghost use Rattle.std.specs.Prelude.{◌≡◌, ◌≤◌};
+ghost use Rattle.plain_equations.specs.Meaning.{said};
+ghost use Rattle.plain_equations.specs.Named.{named};
+
+use crate::expressions::Condition::Always;
+use crate::expressions::Count::One;
+use crate::expressions::Equation;
+use crate::expressions::Expr::{Over, Product, Values};
+use crate::expressions::Letter::L;
+use crate::names::{
+    PRODUCES, PRODUCTION_BY_TECHNOLOGY, RATE_OF_ACTIVITY, RATE_OF_PRODUCTION_BY_TECHNOLOGY,
+    RATE_OF_USE_BY_TECHNOLOGY, TOTAL_ANNUAL_TECHNOLOGY_ACTIVITY_BY_MODE, USE_BY_TECHNOLOGY, USES,
+    YEAR_SPLIT,
+};
+use crate::tables::look_up;
+use row_core::Sense::Equal;
+
+static EQUATIONS: [Equation; 3] = [
+    // Acc1
+    Equation {
+        stands: PRODUCES,
+        left: Product(&Values(One), &PRODUCTION_BY_TECHNOLOGY),
+        sense: Equal,
+        right: Product(&RATE_OF_PRODUCTION_BY_TECHNOLOGY, &YEAR_SPLIT),
+    },
+    // Acc2
+    Equation {
+        stands: USES,
+        left: Product(&Values(One), &USE_BY_TECHNOLOGY),
+        sense: Equal,
+        right: Product(&RATE_OF_USE_BY_TECHNOLOGY, &YEAR_SPLIT),
+    },
+    // Acc3
+    Equation {
+        stands: Always,
+        left: Product(&Values(One), &TOTAL_ANNUAL_TECHNOLOGY_ACTIVITY_BY_MODE),
+        sense: Equal,
+        right: Over(L, Always, &Product(&RATE_OF_ACTIVITY, &YEAR_SPLIT)),
+    },
+];
+
+/// The equation of this number.
+pub(crate) fn accounting(eq: u8) -> &'static Equation
+    requires from { 22 ≤ eq }
+    requires to { eq ≤ 24 }
+    ensures { said result.now ≡ named eq }
+{
+    look_up(&EQUATIONS, 22, eq)
+}

@@ -1,0 +1,73 @@
+//! Limits on activity: equations 47 to 52.
+
+ghost use Rattle.std.specs.Prelude.{◌≡◌, ◌≤◌};
+ghost use Rattle.plain_equations.specs.Meaning.{said};
+ghost use Rattle.plain_equations.specs.Named.{named};
+
+use crate::expressions::Condition::{Always, Limit, Positive};
+use crate::expressions::Count::One;
+use crate::expressions::Equation;
+use crate::expressions::Expr::{Over, Product, Values, Whole};
+use crate::expressions::Letter::{L, R, T, Y};
+use crate::names::{
+    RATE_OF_TOTAL_ACTIVITY, TOTAL_TECHNOLOGY_ANNUAL_ACTIVITY,
+    TOTAL_TECHNOLOGY_ANNUAL_ACTIVITY_LOWER_LIMIT, TOTAL_TECHNOLOGY_ANNUAL_ACTIVITY_UPPER_LIMIT,
+    TOTAL_TECHNOLOGY_MODEL_PERIOD_ACTIVITY, TOTAL_TECHNOLOGY_MODEL_PERIOD_ACTIVITY_LOWER_LIMIT,
+    TOTAL_TECHNOLOGY_MODEL_PERIOD_ACTIVITY_UPPER_LIMIT, YEAR_SPLIT,
+};
+use crate::tables::look_up;
+use row_core::Sense::{Equal, Least, Most};
+
+static EQUATIONS: [Equation; 6] = [
+    // AAC1
+    Equation {
+        stands: Always,
+        left: Product(&Values(One), &TOTAL_TECHNOLOGY_ANNUAL_ACTIVITY),
+        sense: Equal,
+        right: Over(L, Always, &Product(&RATE_OF_TOTAL_ACTIVITY, &YEAR_SPLIT)),
+    },
+    // AAC2
+    Equation {
+        stands: Limit(23, &[R, T, Y]),
+        left: Product(&Values(One), &TOTAL_TECHNOLOGY_ANNUAL_ACTIVITY),
+        sense: Most,
+        right: Product(&TOTAL_TECHNOLOGY_ANNUAL_ACTIVITY_UPPER_LIMIT, &Whole),
+    },
+    // AAC3
+    Equation {
+        stands: Positive(24, &[R, T, Y]),
+        left: Product(&Values(One), &TOTAL_TECHNOLOGY_ANNUAL_ACTIVITY),
+        sense: Least,
+        right: Product(&TOTAL_TECHNOLOGY_ANNUAL_ACTIVITY_LOWER_LIMIT, &Whole),
+    },
+    // TAC1
+    Equation {
+        stands: Always,
+        left: TOTAL_TECHNOLOGY_MODEL_PERIOD_ACTIVITY,
+        sense: Equal,
+        right: Over(Y, Always, &TOTAL_TECHNOLOGY_ANNUAL_ACTIVITY),
+    },
+    // TAC2
+    Equation {
+        stands: Positive(25, &[R, T]),
+        left: Product(&Values(One), &TOTAL_TECHNOLOGY_MODEL_PERIOD_ACTIVITY),
+        sense: Most,
+        right: Product(&TOTAL_TECHNOLOGY_MODEL_PERIOD_ACTIVITY_UPPER_LIMIT, &Whole),
+    },
+    // TAC3
+    Equation {
+        stands: Positive(26, &[R, T]),
+        left: Product(&Values(One), &TOTAL_TECHNOLOGY_MODEL_PERIOD_ACTIVITY),
+        sense: Least,
+        right: Product(&TOTAL_TECHNOLOGY_MODEL_PERIOD_ACTIVITY_LOWER_LIMIT, &Whole),
+    },
+];
+
+/// The equation of this number.
+pub(crate) fn activity_limits(eq: u8) -> &'static Equation
+    requires from { 47 ≤ eq }
+    requires to { eq ≤ 52 }
+    ensures { said result.now ≡ named eq }
+{
+    look_up(&EQUATIONS, 47, eq)
+}

@@ -1,0 +1,83 @@
+//! Capacity: equations 2 to 6.
+
+ghost use Rattle.std.specs.Prelude.{◌≡◌, ◌≤◌};
+ghost use Rattle.plain_equations.specs.Meaning.{said};
+ghost use Rattle.plain_equations.specs.Named.{named};
+
+use crate::expressions::Condition::{Always, StillCounts};
+use crate::expressions::Count::{One, Three, Two};
+use crate::expressions::Equation;
+use crate::expressions::Expr::{Over, Product, Sum, Values, Whole};
+use crate::expressions::Letter::{L, M, YY};
+use crate::names::{
+    ACCUMULATED_NEW_CAPACITY, AVAILABILITY_FACTOR, CAPACITY_FACTOR, CAPACITY_TO_ACTIVITY_UNIT,
+    NEW_CAPACITY_OF_YY, RATE_OF_ACTIVITY, RATE_OF_TOTAL_ACTIVITY, RESIDUAL_CAPACITY,
+    TOTAL_CAPACITY_ANNUAL, YEAR_SPLIT,
+};
+use crate::tables::look_up;
+use row_core::Sense::{Equal, Most};
+
+static EQUATIONS: [Equation; 5] = [
+    // CAa1
+    Equation {
+        stands: Always,
+        left: ACCUMULATED_NEW_CAPACITY,
+        sense: Equal,
+        right: Over(YY, StillCounts, &NEW_CAPACITY_OF_YY),
+    },
+    // CAa2
+    Equation {
+        stands: Always,
+        left: Product(&Values(One), &TOTAL_CAPACITY_ANNUAL),
+        sense: Equal,
+        right: Sum(
+            &Product(&Values(One), &ACCUMULATED_NEW_CAPACITY),
+            &Product(&RESIDUAL_CAPACITY, &Whole),
+        ),
+    },
+    // CAa3
+    Equation {
+        stands: Always,
+        left: RATE_OF_TOTAL_ACTIVITY,
+        sense: Equal,
+        right: Over(M, Always, &RATE_OF_ACTIVITY),
+    },
+    // CAa4
+    Equation {
+        stands: Always,
+        left: Product(&Values(Two), &RATE_OF_TOTAL_ACTIVITY),
+        sense: Most,
+        right: Product(
+            &TOTAL_CAPACITY_ANNUAL,
+            &Product(&CAPACITY_FACTOR, &CAPACITY_TO_ACTIVITY_UNIT),
+        ),
+    },
+    // CAb1
+    Equation {
+        stands: Always,
+        left: Product(
+            &Values(Three),
+            &Over(L, Always, &Product(&RATE_OF_TOTAL_ACTIVITY, &YEAR_SPLIT)),
+        ),
+        sense: Most,
+        right: Product(
+            &TOTAL_CAPACITY_ANNUAL,
+            &Product(
+                &Product(
+                    &Over(L, Always, &Product(&CAPACITY_FACTOR, &YEAR_SPLIT)),
+                    &AVAILABILITY_FACTOR,
+                ),
+                &CAPACITY_TO_ACTIVITY_UNIT,
+            ),
+        ),
+    },
+];
+
+/// The equation of this number.
+pub(crate) fn capacity(eq: u8) -> &'static Equation
+    requires from { 2 ≤ eq }
+    requires to { eq ≤ 6 }
+    ensures { said result.now ≡ named eq }
+{
+    look_up(&EQUATIONS, 2, eq)
+}

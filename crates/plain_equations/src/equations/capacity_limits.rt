@@ -1,0 +1,57 @@
+//! Limits on capacity: equations 43 to 46.
+
+ghost use Rattle.std.specs.Prelude.{◌≡◌, ◌≤◌};
+ghost use Rattle.plain_equations.specs.Meaning.{said};
+ghost use Rattle.plain_equations.specs.Named.{named};
+
+use crate::expressions::Condition::{Limit, Positive};
+use crate::expressions::Count::One;
+use crate::expressions::Equation;
+use crate::expressions::Expr::{Product, Values, Whole};
+use crate::expressions::Letter::{R, T, Y};
+use crate::names::{
+    NEW_CAPACITY, TOTAL_ANNUAL_MAX_CAPACITY, TOTAL_ANNUAL_MAX_CAPACITY_INVESTMENT,
+    TOTAL_ANNUAL_MIN_CAPACITY, TOTAL_ANNUAL_MIN_CAPACITY_INVESTMENT, TOTAL_CAPACITY_ANNUAL,
+};
+use crate::tables::look_up;
+use row_core::Sense::{Least, Most};
+
+static EQUATIONS: [Equation; 4] = [
+    // TCC1
+    Equation {
+        stands: Limit(19, &[R, T, Y]),
+        left: Product(&Values(One), &TOTAL_CAPACITY_ANNUAL),
+        sense: Most,
+        right: Product(&TOTAL_ANNUAL_MAX_CAPACITY, &Whole),
+    },
+    // TCC2
+    Equation {
+        stands: Positive(20, &[R, T, Y]),
+        left: Product(&Values(One), &TOTAL_CAPACITY_ANNUAL),
+        sense: Least,
+        right: Product(&TOTAL_ANNUAL_MIN_CAPACITY, &Whole),
+    },
+    // NCC1
+    Equation {
+        stands: Limit(21, &[R, T, Y]),
+        left: Product(&Values(One), &NEW_CAPACITY),
+        sense: Most,
+        right: Product(&TOTAL_ANNUAL_MAX_CAPACITY_INVESTMENT, &Whole),
+    },
+    // NCC2
+    Equation {
+        stands: Positive(22, &[R, T, Y]),
+        left: Product(&Values(One), &NEW_CAPACITY),
+        sense: Least,
+        right: Product(&TOTAL_ANNUAL_MIN_CAPACITY_INVESTMENT, &Whole),
+    },
+];
+
+/// The equation of this number.
+pub(crate) fn capacity_limits(eq: u8) -> &'static Equation
+    requires from { 43 ≤ eq }
+    requires to { eq ≤ 46 }
+    ensures { said result.now ≡ named eq }
+{
+    look_up(&EQUATIONS, 43, eq)
+}

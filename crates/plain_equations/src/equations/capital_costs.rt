@@ -1,0 +1,40 @@
+//! Capital costs: equations 25 to 26.
+
+ghost use Rattle.std.specs.Prelude.{◌≡◌, ◌≤◌};
+ghost use Rattle.plain_equations.specs.Meaning.{said};
+ghost use Rattle.plain_equations.specs.Named.{named};
+
+use crate::expressions::Condition::Always;
+use crate::expressions::Count::One;
+use crate::expressions::Equation;
+use crate::expressions::Expr::{CapitalFactor, Million, Product, Values};
+use crate::expressions::Years::SinceFirst;
+use crate::names::{CAPITAL_COST, CAPITAL_INVESTMENT, DISCOUNTED_CAPITAL_INVESTMENT, NEW_CAPACITY};
+use crate::tables::look_up;
+use row_core::Sense::Equal;
+
+static EQUATIONS: [Equation; 2] = [
+    // CC1
+    Equation {
+        stands: Always,
+        left: Product(&Values(One), &CAPITAL_INVESTMENT),
+        sense: Equal,
+        right: Product(&CAPITAL_COST, &NEW_CAPACITY),
+    },
+    // CC2
+    Equation {
+        stands: Always,
+        left: Product(&Million, &DISCOUNTED_CAPITAL_INVESTMENT),
+        sense: Equal,
+        right: Product(&CAPITAL_INVESTMENT, &CapitalFactor(SinceFirst)),
+    },
+];
+
+/// The equation of this number.
+pub(crate) fn capital_costs(eq: u8) -> &'static Equation
+    requires from { 25 ≤ eq }
+    requires to { eq ≤ 26 }
+    ensures { said result.now ≡ named eq }
+{
+    look_up(&EQUATIONS, 25, eq)
+}

@@ -1,0 +1,35 @@
+//! Demand: equation 1.
+
+ghost use Rattle.std.specs.Prelude.{◌≡◌, ◌≤◌};
+ghost use Rattle.plain_equations.specs.Meaning.{said};
+ghost use Rattle.plain_equations.specs.Named.{named};
+
+use crate::expressions::Condition::Always;
+use crate::expressions::Count::One;
+use crate::expressions::Equation;
+use crate::expressions::Expr::{Product, Values, Whole};
+use crate::names::{RATE_OF_DEMAND, SPECIFIED_ANNUAL_DEMAND, SPECIFIED_DEMAND_PROFILE, YEAR_SPLIT};
+use crate::tables::look_up;
+use row_core::Sense::Equal;
+
+static EQUATIONS: [Equation; 1] = [
+    // EQ_SpecifiedDemand
+    Equation {
+        stands: Always,
+        left: Product(&Product(&Values(One), &YEAR_SPLIT), &RATE_OF_DEMAND),
+        sense: Equal,
+        right: Product(
+            &Product(&SPECIFIED_ANNUAL_DEMAND, &SPECIFIED_DEMAND_PROFILE),
+            &Whole,
+        ),
+    },
+];
+
+/// The equation of this number.
+pub(crate) fn demand(eq: u8) -> &'static Equation
+    requires from { 1 ≤ eq }
+    requires to { eq ≤ 1 }
+    ensures { said result.now ≡ named eq }
+{
+    look_up(&EQUATIONS, 1, eq)
+}

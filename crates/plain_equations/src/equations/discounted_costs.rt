@@ -1,0 +1,56 @@
+//! Total discounted costs: equations 40 to 42.
+
+ghost use Rattle.std.specs.Prelude.{◌≡◌, ◌≤◌};
+ghost use Rattle.plain_equations.specs.Meaning.{said};
+ghost use Rattle.plain_equations.specs.Named.{named};
+
+use crate::expressions::Condition::Always;
+use crate::expressions::Equation;
+use crate::expressions::Expr::{Difference, Over, Sum};
+use crate::expressions::Letter::{T, Y};
+use crate::names::{
+    DISCOUNTED_CAPITAL_INVESTMENT, DISCOUNTED_OPERATING_COST, DISCOUNTED_SALVAGE_VALUE,
+    DISCOUNTED_TECHNOLOGY_EMISSIONS_PENALTY, MODEL_PERIOD_COST_BY_REGION, TOTAL_DISCOUNTED_COST,
+    TOTAL_DISCOUNTED_COST_BY_TECHNOLOGY,
+};
+use crate::tables::look_up;
+use row_core::Sense::Equal;
+
+static EQUATIONS: [Equation; 3] = [
+    // TDC1
+    Equation {
+        stands: Always,
+        left: TOTAL_DISCOUNTED_COST_BY_TECHNOLOGY,
+        sense: Equal,
+        right: Difference(
+            &Sum(
+                &Sum(&DISCOUNTED_OPERATING_COST, &DISCOUNTED_CAPITAL_INVESTMENT),
+                &DISCOUNTED_TECHNOLOGY_EMISSIONS_PENALTY,
+            ),
+            &DISCOUNTED_SALVAGE_VALUE,
+        ),
+    },
+    // TDC2
+    Equation {
+        stands: Always,
+        left: TOTAL_DISCOUNTED_COST,
+        sense: Equal,
+        right: Over(T, Always, &TOTAL_DISCOUNTED_COST_BY_TECHNOLOGY),
+    },
+    // Acc4
+    Equation {
+        stands: Always,
+        left: MODEL_PERIOD_COST_BY_REGION,
+        sense: Equal,
+        right: Over(Y, Always, &TOTAL_DISCOUNTED_COST),
+    },
+];
+
+/// The equation of this number.
+pub(crate) fn discounted_costs(eq: u8) -> &'static Equation
+    requires from { 40 ≤ eq }
+    requires to { eq ≤ 42 }
+    ensures { said result.now ≡ named eq }
+{
+    look_up(&EQUATIONS, 40, eq)
+}

@@ -1,0 +1,63 @@
+//! Emissions of regions: equations 61 to 64.
+
+ghost use Rattle.std.specs.Prelude.{◌≡◌, ◌≤◌};
+ghost use Rattle.plain_equations.specs.Meaning.{said};
+ghost use Rattle.plain_equations.specs.Named.{named};
+
+use crate::expressions::Condition::{Always, Limit};
+use crate::expressions::Count::One;
+use crate::expressions::Equation;
+use crate::expressions::Expr::{Difference, Over, Product, Sum, Values, Whole};
+use crate::expressions::Letter::{E, R, T, Y};
+use crate::names::{
+    ANNUAL_EMISSION_LIMIT, ANNUAL_EMISSIONS, ANNUAL_EXOGENOUS_EMISSION, ANNUAL_TECHNOLOGY_EMISSION,
+    MODEL_PERIOD_EMISSION_LIMIT, MODEL_PERIOD_EMISSIONS, MODEL_PERIOD_EXOGENOUS_EMISSION,
+};
+use crate::tables::look_up;
+use row_core::Sense::{Equal, Most};
+
+static EQUATIONS: [Equation; 4] = [
+    // E6
+    Equation {
+        stands: Always,
+        left: ANNUAL_EMISSIONS,
+        sense: Equal,
+        right: Over(T, Always, &ANNUAL_TECHNOLOGY_EMISSION),
+    },
+    // E7
+    Equation {
+        stands: Always,
+        left: Product(&Values(One), &MODEL_PERIOD_EMISSIONS),
+        sense: Equal,
+        right: Sum(
+            &Product(&Values(One), &Over(Y, Always, &ANNUAL_EMISSIONS)),
+            &Product(&MODEL_PERIOD_EXOGENOUS_EMISSION, &Whole),
+        ),
+    },
+    // E8
+    Equation {
+        stands: Limit(36, &[R, E, Y]),
+        left: Product(&Values(One), &ANNUAL_EMISSIONS),
+        sense: Most,
+        right: Product(
+            &Difference(&ANNUAL_EMISSION_LIMIT, &ANNUAL_EXOGENOUS_EMISSION),
+            &Whole,
+        ),
+    },
+    // E9
+    Equation {
+        stands: Limit(38, &[R, E]),
+        left: Product(&Values(One), &MODEL_PERIOD_EMISSIONS),
+        sense: Most,
+        right: Product(&MODEL_PERIOD_EMISSION_LIMIT, &Whole),
+    },
+];
+
+/// The equation of this number.
+pub(crate) fn emission_limits(eq: u8) -> &'static Equation
+    requires from { 61 ≤ eq }
+    requires to { eq ≤ 64 }
+    ensures { said result.now ≡ named eq }
+{
+    look_up(&EQUATIONS, 61, eq)
+}

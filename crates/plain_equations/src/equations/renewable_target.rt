@@ -1,0 +1,85 @@
+//! Renewable target: equations 56 to 60.
+
+ghost use Rattle.std.specs.Prelude.{◌≡◌, ◌≤◌};
+ghost use Rattle.plain_equations.specs.Meaning.{said};
+ghost use Rattle.plain_equations.specs.Named.{named};
+
+use crate::expressions::Condition::Always;
+use crate::expressions::Count::{One, Two};
+use crate::expressions::Equation;
+use crate::expressions::Expr::{Over, Product, Values};
+use crate::expressions::Letter::{F, L, T};
+use crate::names::{
+    PRODUCES, PRODUCTION_BY_TECHNOLOGY, PRODUCTION_BY_TECHNOLOGY_ANNUAL, RATE_OF_PRODUCTION,
+    RE_MIN_PRODUCTION_TARGET, RE_TAG_FUEL, RE_TAG_TECHNOLOGY,
+    RE_TOTAL_PRODUCTION_OF_TARGET_FUEL_ANNUAL, TOTAL_RE_PRODUCTION_ANNUAL, USE_BY_TECHNOLOGY,
+    USE_BY_TECHNOLOGY_ANNUAL, USES, YEAR_SPLIT,
+};
+use crate::tables::look_up;
+use row_core::Sense::{Equal, Most};
+
+static EQUATIONS: [Equation; 5] = [
+    // RE1
+    Equation {
+        stands: PRODUCES,
+        left: PRODUCTION_BY_TECHNOLOGY_ANNUAL,
+        sense: Equal,
+        right: Over(L, Always, &PRODUCTION_BY_TECHNOLOGY),
+    },
+    // RE2
+    Equation {
+        stands: Always,
+        left: Product(&Values(One), &TOTAL_RE_PRODUCTION_ANNUAL),
+        sense: Equal,
+        right: Over(
+            T,
+            Always,
+            &Over(
+                F,
+                PRODUCES,
+                &Product(&PRODUCTION_BY_TECHNOLOGY_ANNUAL, &RE_TAG_TECHNOLOGY),
+            ),
+        ),
+    },
+    // RE3
+    Equation {
+        stands: Always,
+        left: Product(&Values(Two), &RE_TOTAL_PRODUCTION_OF_TARGET_FUEL_ANNUAL),
+        sense: Equal,
+        right: Over(
+            L,
+            Always,
+            &Over(
+                F,
+                Always,
+                &Product(&RATE_OF_PRODUCTION, &Product(&YEAR_SPLIT, &RE_TAG_FUEL)),
+            ),
+        ),
+    },
+    // RE4
+    Equation {
+        stands: Always,
+        left: Product(
+            &RE_MIN_PRODUCTION_TARGET,
+            &RE_TOTAL_PRODUCTION_OF_TARGET_FUEL_ANNUAL,
+        ),
+        sense: Most,
+        right: Product(&Values(One), &TOTAL_RE_PRODUCTION_ANNUAL),
+    },
+    // RE5
+    Equation {
+        stands: USES,
+        left: USE_BY_TECHNOLOGY_ANNUAL,
+        sense: Equal,
+        right: Over(L, Always, &USE_BY_TECHNOLOGY),
+    },
+];
+
+/// The equation of this number.
+pub(crate) fn renewable_target(eq: u8) -> &'static Equation
+    requires from { 56 ≤ eq }
+    requires to { eq ≤ 60 }
+    ensures { said result.now ≡ named eq }
+{
+    look_up(&EQUATIONS, 56, eq)
+}

@@ -1,0 +1,104 @@
+//! The language in which the named equations are written down as data.
+
+use row_core::Sense;
+
+/// A subscript of the long code: `r`, `rr`, `l`, `t`, `f`, `e`, `m`, `y`, and `yy`, the year in which a
+/// capacity was built.
+#[derive(Clone, Copy)]
+pub(crate) enum Letter {
+    R,
+    RR,
+    L,
+    T,
+    F,
+    E,
+    M,
+    Y,
+    YY,
+}
+
+/// The subscripts of a variable, each at its field of `Index`, and `None` where it has none there.
+#[derive(Clone, Copy)]
+pub(crate) struct Places {
+    pub(crate) region: Option<Letter>,
+    pub(crate) other: Option<Letter>,
+    pub(crate) slice: Option<Letter>,
+    pub(crate) tech: Option<Letter>,
+    pub(crate) fuel: Option<Letter>,
+    pub(crate) emission: Option<Letter>,
+    pub(crate) mode: Option<Letter>,
+    pub(crate) year: Option<Letter>,
+}
+
+/// How many data values a term has.
+#[derive(Clone, Copy)]
+pub(crate) enum Count {
+    One,
+    Two,
+    Three,
+}
+
+/// A number of years.
+#[derive(Clone, Copy)]
+pub(crate) enum Years {
+    /// From the first year to `y`.
+    SinceFirst,
+    /// Of the whole model period.
+    InAll,
+}
+
+/// Where an equation stands, or which members a sum runs over.
+#[derive(Clone, Copy)]
+pub(crate) enum Condition {
+    Always,
+    /// The value of the parameter of this number, at these subscripts, isn't 0.
+    NotZero(u8, &'static [Letter]),
+    /// The same in some mode `m`.
+    SomeMode(u8, &'static [Letter]),
+    /// The value isn't -1.
+    Limit(u8, &'static [Letter]),
+    /// The value is above 0.
+    Positive(u8, &'static [Letter]),
+    /// What was built in `yy` still counts in `y`.
+    StillCounts,
+    /// The salvage value is by the sinking fund.
+    SinkingFund,
+    /// The salvage value is by the straight line.
+    StraightLine,
+    /// There is no salvage value.
+    NoSalvage,
+}
+
+/// A whole number that a plan and the data give at subscripts.
+pub(crate) enum Expr {
+    Zero,
+    /// The common denominator of the plan's values.
+    Whole,
+    /// The scale of so many data values.
+    Values(Count),
+    /// The scale of a written factor.
+    Million,
+    /// The value of the variable of this kind.
+    Plan(u8, Places),
+    /// The value of the parameter of this number, in billionths.
+    Given(u8, &'static [Letter]),
+    /// What 1 is worth so many years earlier, at the beginning of a year, in millionths.
+    CapitalFactor(Years),
+    /// The same from the middle of year `y` to the first year.
+    OperatingFactor,
+    /// The part of an investment of year `y` that is left, by this method, in millionths.
+    SalvageFraction(u8),
+    Sum(&'static Expr, &'static Expr),
+    Difference(&'static Expr, &'static Expr),
+    Product(&'static Expr, &'static Expr),
+    /// The sum over the members of the subscript's set for which the condition is true.
+    Over(Letter, Condition, &'static Expr),
+}
+
+/// A named equation.
+pub(crate) struct Equation {
+    pub(crate) stands: Condition,
+    pub(crate) left: Expr,
+    pub(crate) sense: Sense,
+    pub(crate) right: Expr,
+}
