@@ -1,0 +1,2 @@
+mod LexemeExamples
+mod Tables

@@ -1,0 +1,4 @@
+pub mod Faults
+pub mod Lexemes
+pub mod ParamTables
+pub mod Params

@@ -1,0 +1,19 @@
+//! The data section of GNU MathProg, read into blocks of sets and parameters.
+//!
+//! The grammar is that of the GNU MathProg manual, in the profile of docs/DATA.md. The names of sets and
+//! parameters are those of the OSeMOSYS long code (Howells et al., "OSeMOSYS: The Open Source Energy
+//! Modeling System", Energy Policy 39, 2011).
+#![tactic(auto)]
+
+mod blocks;
+mod fault;
+mod lexeme;
+mod params;
+mod sets;
+mod token;
+
+pub use blocks::{Blocks, Given, Mark, Name, ParamBlock, SetBlock};
+pub use fault::{DataFault, ReadFail};
+pub use params::{param_word, subscript_count};
+pub use sets::set_word;
+pub use token::Token;

@@ -1,0 +1,38 @@
+//! The sets of the OSeMOSYS long code.
+
+ghost use Rattle.std.specs.Prelude.{◌≡◌};
+ghost use Rattle.mathprog_data.specs.Params.{IsSet, set_words, set_word};
+ghost use Rattle.mathprog_data.specs.ParamTables.{texts_of};
+
+/// The words of the sets, from number 1 on.
+static SETS: [&str; 11] = [
+    "REGION",
+    "TECHNOLOGY",
+    "FUEL",
+    "EMISSION",
+    "MODE_OF_OPERATION",
+    "TIMESLICE",
+    "YEAR",
+    "STORAGE",
+    "SEASON",
+    "DAYTYPE",
+    "DAILYTIMEBRACKET",
+];
+
+/// The word at this number in the table.
+fn look_up(table: &'static [&'static str], set: u8) -> &'static str
+    requires listed { IsSet set }
+    requires tabled { texts_of table.now ≡ set_words }
+    ensures { result.now ≡ set_word set }
+{
+    table[set as usize - 1]
+}
+
+/// The name of the set with this number: 1 REGION, 2 TECHNOLOGY, 3 FUEL, 4 EMISSION, 5 MODE_OF_OPERATION,
+/// 6 TIMESLICE, 7 YEAR, 8 STORAGE, 9 SEASON, 10 DAYTYPE, 11 DAILYTIMEBRACKET.
+pub fn set_word(set: u8) -> &'static str
+    requires { IsSet set }
+    ensures { result.now ≡ set_word set }
+{
+    look_up(&SETS, set)
+}

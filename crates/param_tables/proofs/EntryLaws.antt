@@ -1,0 +1,65 @@
+-- Look-ups in a list of places that ascend, each with its value.
+use Rattle.std.proofs.Common.{◌≡◌, ◌≢◌, ℕ, zero, suc, ◌+◌, ◌<◌, ◌≤◌, Bool, true, false, cond, nat_eq, List, [], ◌∷◌, Option, None, Some, length, map, get_or, refl, sym, ap, ◌∙◌, subst, inl, inr, arith}
+use Rattle.std.specs.Prelude.{ℤ, Result, Ok, Err}
+use Rattle.std.specs.Option.{option_and_then}
+use Rattle.std.specs.Ordering.{nat_cmp}
+use Rattle.std.specs.Result.{result_ok}
+use Rattle.std.proofs.lemmas.List.Sorted.{searched}
+use Rattle.std.proofs.lemmas.Map.Keys.{below_from_sorted, sorted_from_strictly_increasing}
+use Rattle.std.specs.List.{zip, slice_get}
+use Rattle.std.specs.List.Sorted.{IsBinarySearchResult, IsStrictlyIncreasing}
+use Rattle.std.specs.Map.{lookup}
+use Rattle.std.proofs.lemmas.Bool.{cases_eq, cases_lt, eq-eqb, ne_eqb}
+use Rattle.param_tables.specs.Tables.{given_in}
+
+-- no place is this one
+pub given_none : (places : List ℕ) (values : List ℤ) (place : ℕ) → ((k : ℕ) → k < length places → get_or places k 0 ≢ place) → given_in (zip places values) place ≡ None
+given_none [] values place apart = refl
+given_none (p ∷ ps) [] place apart = refl
+given_none (p ∷ ps) (v ∷ vs) place apart =
+    let other : place ≢ p = λ e. apart 0 (omega arith) (sym e) in
+    ap (λ b. cond b (Some v) (given_in (zip ps vs) place)) (ne_eqb place p other) ∙ given_none ps vs place (λ k below. apart (suc k) (omega arith))
+
+later : (p : ℕ) (ps : List ℕ) → IsStrictlyIncreasing (p ∷ ps) → IsStrictlyIncreasing ps
+later p ps rising k below =
+    let at : suc k + 1 ≡ suc (k + 1) = omega arith in
+    let P : ℕ → Type 0 = λ n. get_or ps k 0 < get_or (p ∷ ps) n 0 in
+    subst P at (rising (suc k) (omega arith))
+
+-- the first is below the others
+first_below : (p : ℕ) (ps : List ℕ) → IsStrictlyIncreasing (p ∷ ps) → (k : ℕ) → k < length ps → p < get_or ps k 0
+first_below p ps rising zero below = rising 0 (omega arith)
+first_below p ps rising (suc k) below =
+    let before : p < get_or ps k 0 = first_below p ps rising k (omega arith) in
+    let at : k + 1 ≡ suc k = omega arith in
+    let P : ℕ → Type 0 = λ n. get_or ps k 0 < get_or ps n 0 in
+    let step : get_or ps k 0 < get_or ps (suc k) 0 = subst P at (later p ps rising k (omega arith)) in
+    omega arith
+
+-- the value beside the k-th place
+pub given_at_place : (places : List ℕ) (values : List ℤ) (k : ℕ) → IsStrictlyIncreasing places → length values ≡ length places → k < length places → given_in (zip places values) (get_or places k 0) ≡ slice_get values k
+given_at_place [] values k rising long below = absurd (omega arith)
+given_at_place (p ∷ ps) [] k rising long below = absurd (omega arith)
+given_at_place (p ∷ ps) (v ∷ vs) zero rising long below = ap (λ b. cond b (Some v) (given_in (zip ps vs) p)) (eq-eqb p p refl)
+given_at_place (p ∷ ps) (v ∷ vs) (suc k) rising long below =
+    let above : p < get_or ps k 0 = first_below p ps rising k (omega arith) in
+    let other : get_or ps k 0 ≢ p = λ e. omega arith in
+    ap (λ b. cond b (Some v) (given_in (zip ps vs) (get_or ps k 0))) (ne_eqb (get_or ps k 0) p other) ∙ given_at_place ps vs k (later p ps rising) (omega arith) (omega arith)
+
+pub rising_all : (places : List ℕ) → IsStrictlyIncreasing places → (i j : ℕ) → i ≤ j → j < length places → get_or places i 0 ≤ get_or places j 0
+rising_all places rising i j low below = elim (cases_eq i j) [
+  | inl same ↦ let e : get_or places i 0 ≡ get_or places j 0 = ap (λ n. get_or places n 0) same in omega arith
+  | inr other ↦ let less : get_or places i 0 < get_or places j 0 = below_from_sorted places i j 0 (sorted_from_strictly_increasing places rising) (omega arith) below in omega arith
+]
+
+-- what a search among the places finds
+pub given_in-searched : (places : List ℕ) (values : List ℤ) (place : ℕ) (r : Result ℕ ℕ) → IsStrictlyIncreasing places → length values ≡ length places → IsBinarySearchResult (λ y. nat_cmp y place) places r → given_in (zip places values) place ≡ option_and_then (slice_get values) (result_ok r)
+given_in-searched places values place (Ok i) rising long found =
+    let at = searched places place (Ok i) found (rising_all places rising) in
+    ap (given_in (zip places values)) (sym at.1) ∙ given_at_place places values i rising long at.0
+given_in-searched places values place (Err i) rising long found =
+    let at = searched places place (Err i) found (rising_all places rising) in
+    given_none places values place (λ k below. elim (cases_lt k i) [
+      | inl before ↦ λ e. let less = at.1 k before in omega arith
+      | inr past ↦ λ e. let more = at.2 k past below in omega arith
+    ])

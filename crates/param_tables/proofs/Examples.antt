@@ -1,0 +1,289 @@
+-- The definitions computed on worked examples, and on near misses.
+use Rattle.std.proofs.Common.{◌≡◌, ℕ, ◌∷◌, [], List, Some, None, Option, refl, map, pos, negsuc, set}
+use Rattle.std.specs.Prelude.{codes, ℤ, ◌-◌}
+use Rattle.std.specs.Fmt.{digits}
+use Rattle.mathprog_data.specs.declared.blocks.Mark.{Mark}
+use Rattle.model_sets.specs.declared.fault.SetFault.{SetFault}
+use Rattle.model_sets.specs.Data.{value_at}
+use Rattle.param_tables.specs.BlockData.{data_told, sets_told}
+use Rattle.param_tables.specs.Positions.{names_at}
+use Rattle.param_tables.specs.RangeTable.{range_of}
+use Rattle.param_tables.specs.Ranges.{range_fault, whole}
+use Rattle.param_tables.specs.Refusals.{Refusal, StorageMember, UnknownName, GivenBefore, AtIndex, first_refusal}
+use Rattle.param_tables.specs.SetRefusals.{first_set_refusal}
+use Rattle.param_tables.specs.Statements.{Statements, SetStatement, ParamStatement, PlacedValue}
+use Rattle.param_tables.specs.declared.fault.CellFault.TheVariants.{NoValue, Negative, NotPositive, NotWhole, OutOfRange, WholeUnits}
+
+-- ---- ranges
+
+half : ℤ
+half = pos 500000000
+
+-- -0.5, -1, -1.5
+minus_half : ℤ
+minus_half = negsuc 499999999
+
+minus_whole : ℤ
+minus_whole = negsuc 999999999
+
+at_least_zero : map (range_fault (range_of 4)) (pos 0 ∷ pos 1 ∷ negsuc 0 ∷ []) ≡ None ∷ None ∷ Some Negative ∷ []
+at_least_zero = refl
+
+above_zero : map (range_fault (range_of 1)) (pos 1 ∷ pos 0 ∷ negsuc 0 ∷ []) ≡ None ∷ Some NotPositive ∷ Some NotPositive ∷ []
+above_zero = refl
+
+zero_to_one : map (range_fault (range_of 2)) (pos 0 ∷ whole 1 ∷ negsuc 0 ∷ pos 1000000001 ∷ []) ≡ None ∷ None ∷ Some OutOfRange ∷ Some OutOfRange ∷ []
+zero_to_one = refl
+
+one_or_two : map (range_fault (range_of 3)) (whole 1 ∷ whole 2 ∷ pos 1500000000 ∷ whole 0 ∷ whole 3 ∷ []) ≡ None ∷ None ∷ Some OutOfRange ∷ Some OutOfRange ∷ Some OutOfRange ∷ []
+one_or_two = refl
+
+-- 1 and 200; 0, 201 and -1; 1.5, -0.5 and 200.000000001
+lives : map (range_fault (range_of 11)) (whole 1 ∷ whole 200 ∷ whole 0 ∷ whole 201 ∷ minus_whole ∷ pos 1500000000 ∷ minus_half ∷ pos 200000000001 ∷ []) ≡ None ∷ None ∷ Some OutOfRange ∷ Some OutOfRange ∷ Some OutOfRange ∷ Some NotWhole ∷ Some NotWhole ∷ Some NotWhole ∷ []
+unfolding minus_half minus_whole
+lives = refl
+
+whole_units : map (range_fault (range_of 18)) (pos 0 ∷ pos 1 ∷ negsuc 0 ∷ []) ≡ None ∷ Some WholeUnits ∷ Some WholeUnits ∷ []
+whole_units = refl
+
+-- -1, 0 and 0.5 are limits; -0.5, -2 and -0.999999999 are none
+limits : map (range_fault (range_of 19)) (minus_whole ∷ pos 0 ∷ half ∷ minus_half ∷ negsuc 1999999999 ∷ negsuc 999999998 ∷ []) ≡ None ∷ None ∷ None ∷ Some OutOfRange ∷ Some OutOfRange ∷ Some OutOfRange ∷ []
+unfolding half minus_half minus_whole
+limits = refl
+
+-- the costs and the emission limits may be below 0
+any : map (λ n. range_fault (range_of n) (negsuc 499999999)) (15 ∷ 16 ∷ 17 ∷ 33 ∷ 34 ∷ 35 ∷ 36 ∷ 37 ∷ 38 ∷ []) ≡ None ∷ None ∷ None ∷ None ∷ None ∷ None ∷ None ∷ None ∷ None ∷ []
+any = refl
+
+-- ---- a model of one region, technology, fuel, mode, timeslice and year, with defaults alone
+
+on_set : ℕ → List (List ℕ) → SetStatement
+on_set k names = record { set = k; members = names }
+
+by_default : ℕ → ℤ → ParamStatement
+by_default n v = record { param = n; default = Some v; values = [] }
+
+by_values : ℕ → List PlacedValue → ParamStatement
+by_values n values = record { param = n; default = None; values = values }
+
+place : ℕ → ℕ → Mark
+place line column = record { line = line; column = column }
+
+value : List (List ℕ) → ℤ → Mark → PlacedValue
+value index v at = record { index = index; value = v; at = at }
+
+some_sets : List SetStatement
+some_sets =
+    on_set 1 (codes "R" ∷ [])
+    ∷ on_set 2 (codes "T" ∷ [])
+    ∷ on_set 3 (codes "F" ∷ [])
+    ∷ on_set 5 (codes "1" ∷ [])
+    ∷ on_set 6 (codes "D" ∷ [])
+    ∷ on_set 7 (codes "2020" ∷ [])
+    ∷ []
+
+defaults : List ParamStatement
+defaults =
+    by_default 1 (pos 1000000000)
+    ∷ by_default 2 (pos 0)
+    ∷ by_default 3 (pos 1000000000)
+    ∷ by_default 4 (pos 0)
+    ∷ by_default 5 (pos 10000000000)
+    ∷ by_default 6 (pos 1000000000)
+    ∷ by_default 7 (pos 0)
+    ∷ by_default 8 (pos 1000000000)
+    ∷ by_default 9 (pos 1000000000)
+    ∷ by_default 10 (pos 1000000000)
+    ∷ by_default 11 (pos 1000000000)
+    ∷ by_default 12 (pos 0)
+    ∷ by_default 13 (pos 0)
+    ∷ by_default 14 (pos 1000000000)
+    ∷ by_default 15 (pos 5000000000)
+    ∷ by_default 16 (pos 2000000000)
+    ∷ by_default 17 (pos 1000000000)
+    ∷ by_default 18 (pos 0)
+    ∷ by_default 19 (negsuc 999999999)
+    ∷ by_default 20 (pos 0)
+    ∷ by_default 21 (negsuc 999999999)
+    ∷ by_default 22 (pos 0)
+    ∷ by_default 23 (negsuc 999999999)
+    ∷ by_default 24 (pos 0)
+    ∷ by_default 25 (pos 0)
+    ∷ by_default 26 (pos 0)
+    ∷ by_default 27 (pos 0)
+    ∷ by_default 28 (pos 0)
+    ∷ by_default 29 (pos 0)
+    ∷ by_default 30 (pos 0)
+    ∷ by_default 31 (pos 0)
+    ∷ by_default 32 (pos 0)
+    ∷ by_default 33 (pos 0)
+    ∷ by_default 34 (pos 0)
+    ∷ by_default 35 (pos 0)
+    ∷ by_default 36 (negsuc 999999999)
+    ∷ by_default 37 (pos 0)
+    ∷ by_default 38 (negsuc 999999999)
+    ∷ []
+
+of : List SetStatement → List ParamStatement → Statements
+of sets params = record { sets = sets; params = params; rounded = 0 }
+
+-- the same with another statement on a parameter
+but : ParamStatement → List ParamStatement
+but statement = set defaults (statement.param - 1) statement
+
+base : Statements
+base = of some_sets defaults
+
+base_sets : first_set_refusal base ≡ None
+unfolding base of some_sets on_set digits
+base_sets = refl
+
+accepted : first_refusal base ≡ None
+unfolding base of some_sets defaults on_set by_default
+accepted = refl
+
+-- a value at the only index, and a default of the unit of capacity that nobody gives
+kept : value_at (data_told base) 5 (codes "R" ∷ codes "F" ∷ codes "2020" ∷ []) ≡ Some (whole 10)
+unfolding base of some_sets defaults on_set by_default
+kept = refl
+
+unit : Statements
+unit = of some_sets (but (by_values 18 []))
+
+units : first_refusal unit ≡ None
+unfolding unit but of some_sets defaults on_set by_default by_values
+units = refl
+
+unit_value : value_at (data_told unit) 18 (codes "R" ∷ codes "T" ∷ codes "2020" ∷ []) ≡ Some (pos 0)
+unfolding unit but of some_sets defaults on_set by_default by_values
+unit_value = refl
+
+positions : names_at (sets_told base) 5 (0 ∷ 0 ∷ 0 ∷ []) ≡ codes "R" ∷ codes "F" ∷ codes "2020" ∷ []
+unfolding base of some_sets defaults on_set by_default
+positions = refl
+
+-- ---- refused sets
+
+nothing : Option SetFault
+nothing = first_set_refusal (of [] [])
+
+-- no statement at all: REGION is empty
+empty_text : nothing ≡ Some (record { no = 2; set = 1 })
+unfolding nothing of digits
+empty_text = refl
+
+-- the same sets, with another statement in place of the one at this place
+with_set : ℕ → SetStatement → Statements
+with_set i statement = of (set some_sets i statement) []
+
+letters : List (List ℕ)
+letters = map (λ c. c ∷ []) (codes "ABCDEFGHIJKLMNOPQRSTU")
+
+-- 21 regions
+crowd : first_set_refusal (with_set 0 (on_set 1 letters)) ≡ Some (record { no = 4; set = 1 })
+unfolding with_set of on_set some_sets letters digits
+crowd = refl
+
+-- a year twice; a year with a leading zero; a refused year goes before an empty region
+year_twice : first_set_refusal (with_set 5 (on_set 7 (codes "2020" ∷ codes "2020" ∷ []))) ≡ Some (record { no = 1; set = 7 })
+unfolding with_set of on_set some_sets digits
+year_twice = refl
+
+year_zero : first_set_refusal (of (on_set 7 (codes "02020" ∷ []) ∷ []) []) ≡ Some (record { no = 3; set = 7 })
+unfolding of on_set digits
+year_zero = refl
+
+no_mode : first_set_refusal (of (on_set 1 (codes "R" ∷ []) ∷ on_set 2 (codes "T" ∷ []) ∷ on_set 3 (codes "F" ∷ []) ∷ on_set 7 (codes "2020" ∷ []) ∷ []) []) ≡ Some (record { no = 2; set = 5 })
+unfolding of on_set digits
+no_mode = refl
+
+-- ---- refused parameters
+
+with_param : ParamStatement → Option Refusal
+with_param statement = first_refusal (of some_sets (but statement))
+
+-- STORAGE goes before everything else
+dam : first_refusal (of (on_set 8 (codes "DAM" ∷ []) ∷ some_sets) (by_values 15 (value (codes "X" ∷ []) (pos 0) (place 3 4) ∷ []) ∷ [])) ≡ Some StorageMember
+unfolding of on_set some_sets by_values value place
+dam = refl
+
+one_unit : with_param (by_default 18 (whole 1)) ≡ Some (AtIndex WholeUnits 18 (codes "R" ∷ codes "T" ∷ codes "2020" ∷ []))
+unfolding with_param but of some_sets defaults on_set by_default
+one_unit = refl
+
+negative_ratio : with_param (by_default 13 minus_whole) ≡ Some (AtIndex Negative 13 (codes "R" ∷ codes "T" ∷ codes "F" ∷ codes "1" ∷ codes "2020" ∷ []))
+unfolding with_param but of some_sets defaults on_set by_default minus_whole
+negative_ratio = refl
+
+broken_life : with_param (by_default 11 (pos 1500000000)) ≡ Some (AtIndex NotWhole 11 (codes "R" ∷ codes "T" ∷ []))
+unfolding with_param but of some_sets defaults on_set by_default
+broken_life = refl
+
+-- -1 stands for no limit; -0.5 doesn't
+no_limit : with_param (by_default 19 minus_whole) ≡ None
+unfolding with_param but of some_sets defaults on_set by_default minus_whole
+no_limit = refl
+
+half_limit : with_param (by_default 19 minus_half) ≡ Some (AtIndex OutOfRange 19 (codes "R" ∷ codes "T" ∷ codes "2020" ∷ []))
+unfolding with_param but of some_sets defaults on_set by_default minus_half
+half_limit = refl
+
+-- a default out of its range at no index is no fault: there is no emission
+no_index : with_param (by_default 34 minus_half) ≡ None
+unfolding with_param but of some_sets defaults on_set by_default minus_half
+no_index = refl
+
+-- ---- two years
+
+two_years : List SetStatement
+two_years = set some_sets 5 (on_set 7 (codes "2020" ∷ codes "2021" ∷ []))
+
+cost : List ℕ → ℤ → ℕ → PlacedValue
+cost year v line = value (codes "R" ∷ codes "T" ∷ year ∷ []) v (place line 1)
+
+costs : ParamStatement → Option Refusal
+costs statement = first_refusal (of two_years (but statement))
+
+-- a value for 2020 alone and no default
+missing : costs (by_values 15 (cost (codes "2020") (whole 5) 1 ∷ [])) ≡ Some (AtIndex NoValue 15 (codes "R" ∷ codes "T" ∷ codes "2021" ∷ []))
+unfolding costs cost value place but of two_years some_sets defaults on_set by_default by_values
+missing = refl
+
+-- one for each year
+both : costs (by_values 15 (cost (codes "2021") (whole 5) 1 ∷ cost (codes "2020") (whole 5) 1 ∷ [])) ≡ None
+unfolding costs cost value place but of two_years some_sets defaults on_set by_default by_values
+both = refl
+
+-- the missing value of 2020 goes before the value of 2021 that is out of range, although the latter stands in the text
+missing_first : costs (by_values 5 (value (codes "R" ∷ codes "F" ∷ codes "2021" ∷ []) minus_whole (place 1 1) ∷ [])) ≡ Some (AtIndex NoValue 5 (codes "R" ∷ codes "F" ∷ codes "2020" ∷ []))
+unfolding costs value place but of two_years some_sets defaults on_set by_default by_values minus_whole
+missing_first = refl
+
+-- of two values out of range the one that is first in the order of the members is refused, not the one that is first in the text
+member_order : costs (by_values 20 (cost (codes "2021") minus_whole 1 ∷ cost (codes "2020") minus_half 2 ∷ [])) ≡ Some (AtIndex Negative 20 (codes "R" ∷ codes "T" ∷ codes "2020" ∷ []))
+unfolding costs cost value place but of two_years some_sets defaults on_set by_default by_values minus_whole minus_half
+member_order = refl
+
+-- the first place that is refused: an unknown name at line 2 goes before a value given twice at line 3, and the other way round
+unknown_first : costs (by_values 15 (cost (codes "2020") (whole 5) 1 ∷ cost (codes "2022") (whole 5) 2 ∷ cost (codes "2020") (whole 5) 3 ∷ [])) ≡ Some (UnknownName (place 2 1))
+unfolding costs cost value place but of two_years some_sets defaults on_set by_default by_values
+unknown_first = refl
+
+twice_first : costs (by_values 15 (cost (codes "2020") (whole 5) 1 ∷ cost (codes "2020") (whole 5) 2 ∷ cost (codes "2022") (whole 5) 3 ∷ [])) ≡ Some (GivenBefore (place 2 1))
+unfolding costs cost value place but of two_years some_sets defaults on_set by_default by_values
+twice_first = refl
+
+-- an index of unknown names that is given twice is refused as unknown, the first time
+unknown_twice : costs (by_values 15 (cost (codes "2022") (whole 5) 1 ∷ cost (codes "2022") (whole 5) 2 ∷ [])) ≡ Some (UnknownName (place 1 1))
+unfolding costs cost value place but of two_years some_sets defaults on_set by_default by_values
+unknown_twice = refl
+
+-- a value goes before a parameter: the unknown name of the last parameter is refused before the missing value of the first
+value_first : first_refusal (of some_sets (by_values 38 (value (codes "X" ∷ codes "Y" ∷ []) (pos 0) (place 9 9) ∷ []) ∷ [])) ≡ Some (UnknownName (place 9 9))
+unfolding value place of some_sets on_set by_values
+value_first = refl
+
+-- nobody looks at the members and values of a parameter that isn't used
+unused : first_refusal (of some_sets (by_values 39 (value (codes "X" ∷ codes "Y" ∷ []) (pos 0) (place 9 9) ∷ []) ∷ defaults)) ≡ None
+unfolding value place of some_sets defaults on_set by_values by_default
+unused = refl

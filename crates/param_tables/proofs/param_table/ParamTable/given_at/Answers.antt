@@ -1,0 +1,36 @@
+use Rattle.std.proofs.Common.{◌≡◌, ℕ, List, None, Some, length, sym, ap, subst, ◌∙◌}
+use Rattle.std.specs.Option.{option_and_then, option_copied}
+use Rattle.std.specs.Slice.{IsItemAt}
+use Rattle.std.specs.Borrow.{Bor}
+use Rattle.std.proofs.lemmas.Option.{slice_get_past, slice_get-get_or}
+use Rattle.std.specs.Prelude.{slice_get, Option, Result, ℤ}
+use Rattle.std.specs.List.Sorted.{IsBinarySearchResult}
+use Rattle.std.specs.Ordering.{nat_cmp}
+use Rattle.std.specs.Result.{result_ok}
+use Rattle.param_tables.specs.Tables.{given_in, entries_of}
+use Rattle.param_tables.proofs.EntryLaws.{given_in-searched}
+use Rattle.param_tables.proofs.param_table.ParamTable.given_at.Goals as goal
+
+pub returns-in_err-i : goal.returns-in_err-i
+returns-in_err-i c =
+    let table = c.args.self.now in
+    let P : List ℕ → Type 0 = λ places. IsBinarySearchResult (λ y. nat_cmp y c.args.place) places c.binary_search.result in
+    let found : P table.places.items = subst P c.deref.ensures.value c.binary_search.ensures.position in
+    c.from_residual.ensures
+    ∙ ap (option_and_then (slice_get table.values.items)) c.in_err-i.ensures.value
+    ∙ sym (given_in-searched table.places.items table.values.items c.args.place c.binary_search.result c.requires.ascending c.requires.long found)
+
+copied_at : (xs : List ℤ) (i : ℕ) (r : Option (Bor ℤ)) → IsItemAt xs i r → option_copied r ≡ slice_get xs i
+copied_at xs i None item = sym (slice_get_past xs i item.3)
+copied_at xs i (Some x) item = sym (slice_get-get_or xs i x.now item.3.0 ∙ ap (λ y. Some y) (sym item.1))
+
+pub returns : goal.returns
+returns c =
+    let table = c.args.self.now in
+    let P : List ℕ → Type 0 = λ places. IsBinarySearchResult (λ y. nat_cmp y c.args.place) places c.binary_search.result in
+    let found : P table.places.items = subst P c.deref.ensures.value c.binary_search.ensures.position in
+    c.copied.ensures
+    ∙ copied_at c.deref-2.result.now c.in_ok-i.i c.get.result c.get.ensures.lookup
+    ∙ ap (λ values. slice_get values c.in_ok-i.i) c.deref-2.ensures.value
+    ∙ ap (option_and_then (slice_get table.values.items)) c.in_ok-i.ensures.value
+    ∙ sym (given_in-searched table.places.items table.values.items c.args.place c.binary_search.result c.requires.ascending c.requires.long found)

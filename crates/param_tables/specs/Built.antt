@@ -1,0 +1,35 @@
+-- What built data mean: the sets, and a value in its range for each used parameter and index.
+use Rattle.std.specs.Prelude.{◌≡◌, ℕ, pos, List, unwrap_or, Contains, IsSomeAnd}
+use Rattle.exact_num.specs.Rational.{Rational, lowest}
+use Rattle.model_sets.specs.Data.{Data, indices_of, value_at}
+use Rattle.model_sets.specs.Members.{AreSets}
+use Rattle.model_sets.specs.Params.{IsUsedParam}
+use Rattle.param_tables.specs.BlockData.{data_told}
+use Rattle.param_tables.specs.Positions.{names_at}
+use Rattle.param_tables.specs.RangeTable.{range_of}
+use Rattle.param_tables.specs.Ranges.{IsInRange, billion}
+use Rattle.param_tables.specs.Statements.{Statements}
+
+-- the data, and how many numbers of the text were rounded
+pub record Built : Type 0 where
+  pub facts : Data
+  pub rounded : ℕ
+
+-- the same sets, and the same value of each used parameter at each of its indices
+pub record AreSameData (d e : Data) : Type 0 where
+  pub sets : d.sets ≡ e.sets
+  pub values : (param : ℕ) → IsUsedParam param → (index : List (List ℕ)) → Contains (indices_of d.sets param) index → value_at d param index ≡ value_at e param index
+
+-- what is built is what the statements give
+pub record IsBuiltFrom (statements : Statements) (built : Built) : Type 0 where
+  pub facts : AreSameData built.facts (data_told statements)
+  pub rounded : built.rounded ≡ statements.rounded
+
+-- what the data keep: the sets by their rules, and a value in its range for each used parameter at each of its indices
+pub record AreComplete (d : Data) : Type 0 where
+  pub sets : AreSets d.sets
+  pub values : (param : ℕ) → IsUsedParam param → (index : List (List ℕ)) → Contains (indices_of d.sets param) index → IsSomeAnd (value_at d param index) (IsInRange (range_of param))
+
+-- the value of the parameter at the index, by the positions of its members, as a fraction in lowest terms
+abbrev pub amount_at : Data → ℕ → List ℕ → Rational
+amount_at d param positions = lowest (unwrap_or (value_at d param (names_at d.sets param positions)) (pos 0)) (pos billion)

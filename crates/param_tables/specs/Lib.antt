@@ -1,0 +1,14 @@
+pub mod BlockData
+pub mod Built
+pub mod InTurn
+pub mod Places
+pub mod Positions
+pub mod RangeTable
+pub mod Ranges
+pub mod Refusals
+pub mod SetRefusals
+pub mod Statements
+pub mod Subscripts
+pub mod Tables
+pub mod Told
+pub mod WellFormed

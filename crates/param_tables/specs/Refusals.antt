@@ -1,0 +1,91 @@
+-- Why the parameters that statements give are refused: every refusal, in the order in which they are looked for.
+use Rattle.std.specs.Prelude.{ℕ, ℤ, Bool, not, List, [], ◌∷◌, ◌++◌, length, nat_le, nat_lt, Option, None, Some, if◌then◌else◌}
+use Rattle.std.specs.Cmp.Lexicographic.{pointwise}
+use Rattle.std.specs.List.{filter_map, flat_map, list_any, range_with_len}
+use Rattle.std.specs.Option.{option_map}
+use Rattle.std.specs.Str.{bytes_eq}
+use Rattle.mathprog_data.specs.declared.blocks.Mark.{Mark}
+use Rattle.model_sets.specs.Data.{Data, indices_of, value_at}
+use Rattle.model_sets.specs.Members.{SetLists, members}
+use Rattle.model_sets.specs.Params.{subscript_sets, used_count}
+use Rattle.param_tables.specs.BlockData.{data_told}
+use Rattle.param_tables.specs.Places.{are_members}
+use Rattle.param_tables.specs.RangeTable.{range_of}
+use Rattle.param_tables.specs.Ranges.{range_fault}
+use Rattle.param_tables.specs.InTurn.{first_of, in_turn}
+use Rattle.param_tables.specs.Statements.{PlacedValue, ParamStatement, Statements}
+use Rattle.param_tables.specs.declared.fault.CellFault.{CellFault}
+use Rattle.param_tables.specs.declared.fault.CellFault.TheVariants.{NoValue}
+use Rattle.param_tables.specs.declared.ranges.Range.{Range}
+
+-- a refusal: STORAGE has a member; a value's index has a name that is no member of its set, or was given before, at this place of the text; a parameter has too many indices; a parameter has this fault at this index
+pub data Refusal : Type 0 where
+  StorageMember : Refusal
+  UnknownName : Mark → Refusal
+  GivenBefore : Mark → Refusal
+  TooManyIndices : ℕ → Refusal
+  AtIndex : CellFault → ℕ → List (List ℕ) → Refusal
+
+-- the number of STORAGE
+abbrev pub storage : ℕ
+storage = 8
+
+-- how many indices a parameter may have
+abbrev pub most_indices : ℕ
+most_indices = 4000000
+
+-- the storage equations aren't part of the model, so STORAGE may have no member
+abbrev pub storage_refusals : SetLists → List Refusal
+storage_refusals sets = if nat_lt 0 (length (members sets storage)) then StorageMember ∷ [] else []
+
+-- whether each name of the index is a member of the set of its subscript
+abbrev pub names_members : SetLists → ℕ → List (List ℕ) → Bool
+names_members sets param index = are_members sets (subscript_sets param) index
+
+-- whether the index is that of one of the values
+abbrev pub is_given_among : List PlacedValue → List (List ℕ) → Bool
+is_given_among values index = list_any (λ value. pointwise bytes_eq value.index index) values
+
+-- why the value of the parameter is refused that follows on these
+abbrev pub value_refusal : SetLists → ℕ → List PlacedValue → PlacedValue → Option Refusal
+value_refusal sets param before value =
+    if not (names_members sets param value.index) then Some (UnknownName value.at)
+    else if is_given_among before value.index then Some (GivenBefore value.at)
+    else None
+
+-- whether the statement is on a used parameter
+abbrev pub is_on_used : ParamStatement → Bool
+is_on_used statement = nat_le statement.param used_count
+
+-- the refusals of the values of a statement on a used parameter, value by value in the order of the text; nobody looks at the values of the others
+abbrev pub value_refusals : SetLists → ParamStatement → List Refusal
+value_refusals sets statement = if is_on_used statement then in_turn (value_refusal sets statement.param) statement.values else []
+
+-- the fault of a value, or of the want of one
+abbrev pub value_fault : Range → Option ℤ → Option CellFault
+value_fault range None = Some NoValue
+value_fault range (Some v) = range_fault range v
+
+-- the fault of the parameter at the index: no value, or a value out of its range
+abbrev pub fault_at : Data → ℕ → List (List ℕ) → Option CellFault
+fault_at d param index = value_fault (range_of param) (value_at d param index)
+
+-- the refusals of the parameter at its indices, index by index in the order of the members, the last subscript running fastest
+abbrev pub index_refusals : Data → ℕ → List Refusal
+index_refusals d param = filter_map (λ index. option_map (λ fault. AtIndex fault param index) (fault_at d param index)) (indices_of d.sets param)
+
+-- the refusals of the parameter: too many indices, and then those at its indices
+abbrev pub param_refusals : Data → ℕ → List Refusal
+param_refusals d param = (if nat_lt most_indices (length (indices_of d.sets param)) then TooManyIndices param ∷ [] else []) ++ index_refusals d param
+
+-- every refusal of what the statements give: a member of STORAGE; the values of the used parameters, in the order of the text; the used parameters, in the order of their numbers
+abbrev pub refusals : Statements → List Refusal
+refusals statements =
+    let d = data_told statements in
+    storage_refusals d.sets
+    ++ flat_map (value_refusals d.sets) statements.params
+    ++ flat_map (param_refusals d) (range_with_len 1 used_count)
+
+-- the first refusal
+abbrev pub first_refusal : Statements → Option Refusal
+first_refusal statements = first_of (refusals statements)

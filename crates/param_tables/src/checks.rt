@@ -1,0 +1,60 @@
+//! Whether a parameter has a value in its range at each of its indices.
+
+ghost use Rattle.std.specs.Prelude.{◌≡◌, [], length, IfErr, OnOk};
+ghost use Rattle.model_sets.specs.Data.{Data, indices_of};
+ghost use Rattle.model_sets.specs.Params.{IsUsedParam};
+ghost use Rattle.param_tables.specs.InTurn.{first_of};
+ghost use Rattle.param_tables.specs.RangeTable.{range_of};
+ghost use Rattle.param_tables.specs.Refusals.{param_refusals, value_fault};
+ghost use Rattle.param_tables.specs.Tables.{IsTable, IsTableFor, value_else};
+ghost use Rattle.param_tables.specs.Told.{IsStopDue};
+
+use crate::fault::{BuildFault, Cell, CellFault, Stop, refusal_at};
+use crate::first_fault::first_fault;
+use crate::indices::{index_at, index_count};
+use crate::param_table::{ParamTable, value_else};
+use crate::ranges::{range_fault, range_of};
+use crate::subscripts::subscript_sets;
+use model_sets::Sets;
+use std::alloc::Global;
+
+/// How many indices a parameter may have.
+const MOST_INDICES: u64 = 4_000_000;
+
+/// The fault of the parameter at an index at which no value is given.
+fn missing_fault(param: u8, default: Option<i128>) -> Option<CellFault>
+    requires { IsUsedParam param }
+    ensures { result ≡ value_fault (range_of param) (value_else param default) }
+{
+    match value_else(param, default) {
+        Some(value) => range_fault(range_of(param), value),
+        None => Some(CellFault::NoValue),
+    }
+}
+
+/// Whether the parameter has at most 4,000,000 indices, and at each of them a value in its range. Refuses
+/// too many indices, and else the first index, in the order of the members, that has no value or one out
+/// of its range. Memory may be wanting.
+pub(crate) fn check_param(
+    alloc: Global,
+    sets: &Sets,
+    param: u8,
+    table: &ParamTable,
+) -> Result<(), Stop>
+    requires used { IsUsedParam param }
+    requires shape { IsTable (length (indices_of sets.now param)) table.now }
+    ensures accepted { OnOk result ((d : Data) → d.sets ≡ sets.now → IsTableFor d param table.now → param_refusals d param ≡ []) }
+    ensures refused { IfErr result (λ stop. (d : Data) → d.sets ≡ sets.now → IsTableFor d param table.now → IsStopDue (first_of (param_refusals d param)) sets.now stop) }
+{
+    let subscripts = subscript_sets(param);
+    let size = index_count(sets, subscripts);
+    if size > MOST_INDICES {
+        return Err(Stop::Fault(BuildFault::TooManyCells(param)));
+    }
+    let missing = missing_fault(param, table.default);
+    let Some(found) = first_fault(table, range_of(param), missing, size) else {
+        return Ok(());
+    };
+    let index = index_at(alloc, sets, subscripts, found.place)?;
+    Err(Stop::Fault(refusal_at(found.fault, Cell { param, index })))
+}

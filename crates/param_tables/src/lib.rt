@@ -1,0 +1,16 @@
+//! The data of an OSeMOSYS model, checked: the members of its sets, and a value in its range for each
+//! used parameter at each index.
+#![tactic(auto)]
+
+mod checks;
+mod fault;
+mod first_fault;
+mod indices;
+mod param_table;
+mod ranges;
+mod set_members;
+mod subscripts;
+
+pub use fault::{BuildFail, BuildFault, Cell};
+pub use set_members::sets_of;
+pub use subscripts::subscript_sets;

@@ -1,0 +1,88 @@
+//! The values of one parameter, by the places of their indices.
+
+ghost use Rattle.std.specs.Prelude.{◌≡◌, [], None, length, IfOk};
+ghost use Rattle.std.specs.BTreeMap.{keys, values};
+ghost use Rattle.std.specs.List.Sorted.{IsStrictlyIncreasing};
+ghost use Rattle.param_tables.specs.Tables.{entries_of, given_in, table_value, value_else};
+
+use std::alloc::{AllocError, Global};
+use std::collections::BTreeMap;
+
+/// The number of CapacityOfOneTechnologyUnit, which is 0 where it has neither a value nor a default.
+const UNIT_CAPACITY: u8 = 18;
+
+/// What is given of a parameter: its default, and the values given, in billionths, in the order of the
+/// places of their indices.
+#[derive(Drop)]
+pub(crate) struct ParamTable {
+    pub(crate) default: Option<i128>,
+    pub(crate) places: Vec<u64>,
+    pub(crate) values: Vec<i128>,
+}
+
+/// The value of the parameter where none is given.
+pub(crate) fn value_else(param: u8, default: Option<i128>) -> Option<i128>
+    ensures { result ≡ value_else param default }
+{
+    match default {
+        Some(value) => Some(value),
+        None if param == UNIT_CAPACITY => Some(0),
+        None => None,
+    }
+}
+
+impl ParamTable {
+    /// The table of a parameter of which nothing is given.
+    pub(crate) fn empty(alloc: Global) -> ParamTable
+        ensures default { result.default ≡ None }
+        ensures places { result.places.items ≡ [] }
+        ensures values { result.values.items ≡ [] }
+    {
+        ParamTable {
+            default: None,
+            places: Vec::new(alloc),
+            values: Vec::new(alloc),
+        }
+    }
+
+    /// The table of these values by the places of their indices.
+    pub(crate) fn new(
+        alloc: Global,
+        default: Option<i128>,
+        given: BTreeMap<u64, i128>,
+    ) -> Result<ParamTable, AllocError>
+        ensures default { IfOk result (λ table. table.default ≡ default) }
+        ensures places { IfOk result (λ table. table.places.items ≡ keys given) }
+        ensures values { IfOk result (λ table. table.values.items ≡ values given) }
+    {
+        let places = given.keys().copied().collect(alloc)?;
+        let values = given.into_values().collect(alloc)?;
+        Ok(ParamTable {
+            default,
+            places,
+            values,
+        })
+    }
+
+    /// The value given at the place.
+    fn given_at(&self, place: u64) -> Option<i128>
+        requires ascending { IsStrictlyIncreasing self.now.places.items }
+        requires long { length self.now.values.items ≡ length self.now.places.items }
+        ensures { result ≡ given_in (entries_of self.now) place }
+    {
+        let i = self.places.binary_search(&place).ok()?;
+        self.values.get(i).copied()
+    }
+
+    /// The value of the parameter at the place: the one given, else that of an index without one.
+    pub(crate) fn value_at(&self, param: u8, place: u64) -> Option<i128>
+        requires ascending { IsStrictlyIncreasing self.now.places.items }
+        requires long { length self.now.values.items ≡ length self.now.places.items }
+        ensures { result ≡ table_value param self.now place }
+    {
+        match self.given_at(place) {
+            Some(value) => Some(value),
+            None => value_else(param, self.default),
+        }
+    }
+}
