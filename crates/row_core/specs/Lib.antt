@@ -16,3 +16,6 @@ pub mod TermViews
 pub mod Values
 pub mod Words
 pub mod Written
+pub mod Amounts
+pub mod Calculated
+pub mod EquationTerms

@@ -8,16 +8,20 @@ ghost use Rattle.std.specs.Prelude.{IsTrue, ◌∷◌};
 ghost use Rattle.row_core.specs.Numbers.{variables_of, numbers_of, ascends, none_zero, all_in_range, IsLowest};
 ghost use Rattle.row_core.specs.Order.{var_cmp};
 
+mod amounts;
 mod equations;
 mod kinds;
+mod left_side;
 mod names;
 mod place;
 mod subscripts;
 mod terms;
 mod writing;
 
+pub use amounts::{negative, plus, times};
 pub use equations::{row_has, row_word};
 pub use kinds::{is_free, var_has, var_word};
+pub use left_side::LeftSide;
 pub use names::{push_row_name, push_var};
 pub use place::{Place, Stopped};
 pub use terms::{Term, Terms};
