@@ -15,3 +15,4 @@ pub mod TermLaws
 pub mod Words
 pub mod WritingSteps
 pub mod WrittenLaws
+pub mod AmountLaws

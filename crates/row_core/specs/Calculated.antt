@@ -6,6 +6,7 @@ use Rattle.exact_num.specs.Range.{all_fit}
 use Rattle.exact_num.specs.Rational.{Rational, lowest, plus, times, negated, whole}
 use Rattle.exact_num.specs.Value.{value_of}
 use Rattle.exact_num.specs.declared.fraction.Frac.{Frac}
+use Rattle.row_core.specs.declared.RowName.{RowName}
 use Rattle.row_core.specs.declared.Var.{Var}
 use Rattle.row_core.specs.Amounts.{Amount}
 use Rattle.row_core.specs.Amounts.{Whole, Billionths, Millionths, Product, Total, Negative}
@@ -45,14 +46,27 @@ number_of (Product a b) = product_of (number_of a) (number_of b)
 number_of (Total a b) = total_of (number_of a) (number_of b)
 number_of (Negative a) = negative_of (number_of a)
 
--- a left side with one more term
-abbrev pub with_number : Var → Option Rational → Option (List (Var × Rational)) → Option (List (Var × Rational))
-with_number v (Some c) (Some terms) = only_if (all_fit (term_formed (v, c) terms)) (with_term (v, c) terms)
-with_number v (Some c) None = None
-with_number v None terms = None
+-- terms with one more
+abbrev pub terms_with : Var → Option Rational → Option (List (Var × Rational)) → Option (List (Var × Rational))
+terms_with v (Some c) (Some terms) = only_if (all_fit (term_formed (v, c) terms)) (with_term (v, c) terms)
+terms_with v (Some c) None = None
+terms_with v None terms = None
 
--- a left side with the terms of an equation
-abbrev pub with_amounts : List (Var × Amount) → Option (List (Var × Rational)) → Option (List (Var × Rational))
+-- a left side while it is made: the name of its equation, and its terms so far
+pub record Side : Type 0 where
+  pub name : RowName
+  pub terms : Option (List (Var × Rational))
+
+-- the left side of the equation of this name, without terms
+abbrev pub no_terms : RowName → Side
+no_terms name = record { name = name; terms = Some [] }
+
+-- a left side with one more term
+abbrev pub with_number : Var → Option Rational → Side → Side
+with_number v c side = record { name = side.name; terms = terms_with v c side.terms }
+
+-- a left side with more terms, one after another
+abbrev pub with_amounts : List (Var × Amount) → Side → Side
 with_amounts [] side = side
 with_amounts (term ∷ terms) side = with_amounts terms (with_number term.0 (number_of term.1) side)
 

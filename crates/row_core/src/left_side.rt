@@ -1,11 +1,14 @@
 //! The left side of an equation, made term by term, and the row that is written from it.
 
-ghost use Rattle.std.specs.Prelude.{◌≡◌, [], Some, OnOk};
-ghost use Rattle.row_core.specs.Calculated.{known, with_number};
+ghost use Rattle.std.specs.Prelude.{◌≡◌, OnOk};
+ghost use Rattle.row_core.specs.declared.RowName.{RowName};
+ghost use Rattle.row_core.specs.EquationTerms.{EquationTerms, IsWritten};
+ghost use Rattle.row_core.specs.Calculated.{known, no_terms, with_number, with_amounts, number_of};
 
 use crate::place::{Place, Stopped};
 use crate::terms::{Term, Terms};
-use crate::{RowName, Var};
+use crate::writing::write_row;
+use crate::{Row, RowName, Sense, Var};
 use exact_num::Frac;
 use std::alloc::{AllocError, Global};
 use std::marker::Model;
@@ -20,20 +23,17 @@ pub struct LeftSide {
 }
 
 impl Model for LeftSide {
-    ghost use Rattle.std.specs.Prelude.{List, Option};
-    ghost use Rattle.exact_num.specs.Rational.{Rational};
-    ghost use Rattle.row_core.specs.declared.Var.{Var};
-    ghost use Rattle.row_core.specs.Calculated.{only_if};
+    ghost use Rattle.row_core.specs.Calculated.{Side, only_if};
 
-    ghost Value = { Option (List (Var × Rational)) };
+    ghost Value = { Side };
 
-    ghost view = { λ side. only_if side.fits side.terms };
+    ghost view = { λ side. record { name = side.name; terms = only_if side.fits side.terms } };
 }
 
 impl LeftSide {
     /// No terms yet, for the equation of this name.
     pub fn new(alloc: Global, name: RowName) -> LeftSide
-        ensures { result ≡ Some [] }
+        ensures { result ≡ no_terms name }
     {
         LeftSide {
             name,
@@ -62,5 +62,20 @@ impl LeftSide {
             }
             Err(Stopped::Memory) => Err(AllocError),
         }
+    }
+
+    /// Writes the row of the equation: the terms in this sense to the right side. `Width` at the equation's name
+    /// comes exactly where a number that was formed for the terms or the right side, or that is formed when the
+    /// row is written, doesn't fit.
+    pub fn write(self, alloc: Global, sense: Sense, right: Option<Frac>) -> Result<Row, Stopped>
+        ensures { (name : RowName) (e : EquationTerms) → self ≡ with_amounts e.terms (no_terms name) → sense ≡ e.sense → known right ≡ number_of e.right → IsWritten name e result }
+    {
+        let Some(right) = right else {
+            return Err(Stopped::Width(Place::Row(self.name)));
+        };
+        if !self.fits {
+            return Err(Stopped::Width(Place::Row(self.name)));
+        }
+        write_row(alloc, self.name, sense, &self.terms, right)
     }
 }
