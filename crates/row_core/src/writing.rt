@@ -117,18 +117,19 @@ fn push_entry(entries: &mut Vec<(Var, i128)>, place: Place, term: Term, denomina
 
 /// The greatest common divisor of a right side and the numbers of entries; 1 where all of them are 0.
 fn divisor_of(right: i128, entries: &[(Var, i128)]) -> i128
-    requires { all_fit (right ∷ numbers_of entries.now) ≡ true }
+    requires right_fits { InRange right }
+    requires entries_fit { all_fit (numbers_of entries.now) ≡ true }
     ensures value { result ≡ pos (row_divisor (right ∷ numbers_of entries.now)) }
     ensures range { InRange result }
 {
     let mut divisor = gcd(right, 0);
-    for (_, number) in entries {
+    for entry in entries {
         if divisor == 1 {
             return 1;
         }
-        divisor = gcd(divisor, *number);
+        divisor = gcd(divisor, entry.1);
     }
-    if divisor == 0 { 1 } else { divisor }
+    if divisor > 0 { divisor } else { 1 }
 }
 
 /// Divides each entry.
