@@ -1,11 +1,11 @@
 -- What terms and a right side are worth, over whatever denominator an equation is stated.
 use Rattle.std.specs.Prelude.{◌≡◌, ℕ, ℤ, pos, ◌+ℤ◌, ◌*ℤ◌, ◌<ℤ◌, ◌↔◌, Bool, if◌then◌else◌, List, [], ◌∷◌}
-use Rattle.std.specs.Ordering.{is_eq}
+use Rattle.std.specs.Ordering.{is_eq, int_cmp}
 use Rattle.exact_num.specs.Rational.{Rational}
 use Rattle.row_core.specs.declared.Row.{Row}
 use Rattle.row_core.specs.declared.Var.{Var}
 use Rattle.row_core.specs.Order.{var_cmp}
-use Rattle.row_core.specs.Rows.{row_sum, RowHolds}
+use Rattle.row_core.specs.Rows.{number_at, row_sum, RowHolds}
 use Rattle.row_core.specs.Statements.{Stands}
 
 -- z over s is the number
@@ -37,3 +37,8 @@ pub record IsMultiple (terms : List (Var × Rational)) (right : Rational) (row :
 -- the plan of 1 at the variable and 0 at all others
 abbrev pub alone : Var → Var → ℤ
 alone v w = if is_eq (var_cmp w v) then pos 1 else pos 0
+
+-- the entry at each variable has the sign of the variable's coefficient: n over s is the sum of the terms where this variable alone is 1
+abbrev pub HasSigns : List (Var × Rational) → Row → Type 0
+HasSigns terms row =
+    (v : Var) (s n : ℤ) → pos 0 <ℤ s → IsSumOver s (alone v) terms n → int_cmp (number_at row.entries.items v) (pos 0) ≡ int_cmp n (pos 0)

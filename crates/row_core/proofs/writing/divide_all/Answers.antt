@@ -8,6 +8,7 @@ use Rattle.exact_num.proofs.Integers.{pos-unsigned_abs}
 use Rattle.exact_num.proofs.RangeLaws.{back_in_range}
 use Rattle.row_core.specs.declared.Var.{Var}
 use Rattle.row_core.specs.Written.{entries_divided}
+use Rattle.row_core.proofs.WrittenLaws.{entries_divided-one}
 use Rattle.row_core.proofs.WritingSteps.{entries_fit, entries_fit-at, no_entry, undivided_at, divided_step}
 use Rattle.row_core.proofs.writing.divide_all.Goals as goal
 
@@ -43,3 +44,8 @@ loop-entry-preserved c =
     ap (λ ys. set ys i ((get_or c.loop-entry.entry-items i no_entry).0, to_z w128 (of_z w128 c.quotient-entry.result))) c.loop-entry.invariant
     ∙ ap₂ (λ v z. set (entries_divided g (take i old) ++ drop i old) i (v, z)) (ap (λ (y : Var × ℤ). y.0) here) quotient
     ∙ divided_step g old i no_entry (omega arith)
+
+pub returns-then-divisor-eq1 : goal.returns-then-divisor-eq1
+returns-then-divisor-eq1 c =
+    let one : c.args.divisor ≡ pos 1 = sym (back_in_range c.args.divisor c.requires.range) ∙ ap (λ n. to_z w128 n) c.if-divisor-eq1.true in
+    sym (ap (λ z. entries_divided (unsigned_abs z) c.args.entries.now.items) one ∙ entries_divided-one c.args.entries.now.items)
