@@ -8,6 +8,7 @@ pub mod Orders
 pub mod PlanLaws
 mod RowExamples
 pub mod RowLaws
+pub mod RowWriting
 pub mod StatementLaws
 pub mod SumLaws
 mod Tables

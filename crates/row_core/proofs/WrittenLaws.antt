@@ -15,7 +15,7 @@ use Rattle.exact_num.specs.Rational.{Rational}
 use Rattle.exact_num.proofs.Integers.{int_div-mul, unsigned_abs-int_div, *ℤ_nonzero, nonzero_of_pos, unsigned_abs-zero, *ℤ_cancel}
 use Rattle.exact_num.proofs.RangeLaws.{InRange-le, InRange-from_test}
 use Rattle.exact_num.proofs.StepLaws.{all_fit-cons}
-use Rattle.exact_num.proofs.Ring.{ring, products, zero-*ℤ, +ℤ-*ℤ}
+use Rattle.exact_num.proofs.Ring.{products, zero-*ℤ, +ℤ-*ℤ, *ℤ-one}
 use Rattle.row_core.specs.declared.Var.{Var}
 use Rattle.row_core.specs.Numbers.{is_zero, all_zero, none_zero, in_range, all_in_range, numbers_of, variables_of, before_first, ascends, DividesAll, IsLowest}
 use Rattle.row_core.specs.Order.{var_cmp}
@@ -30,6 +30,10 @@ use Rattle.row_core.proofs.RowLaws.{times_all, IsLowest-divided}
 -- a test isn't passed and not passed
 no_test : (b : Bool) → b ≡ false → b ≡ true → ⊥
 no_test b e h = cc
+
+from_not : (b : Bool) → not b ≡ true → b ≡ false
+from_not true h = absurd (cc h)
+from_not false h = refl
 
 -- ---- division by the common divisor
 
@@ -143,15 +147,22 @@ numerator_nonzero d number h part top =
 divided_nonzero : (g : ℕ) (z : ℤ) → g ∣ unsigned_abs z → z ≢ pos 0 → int_div z (pos g) ≢ pos 0
 divided_nonzero g z divides h e = h (sym (int_div-mul z g divides) ∙ ap (λ y. y *ℤ pos g) e ∙ zero-*ℤ (pos g))
 
-none_zero-divided : (g : ℕ) (d : ℤ) (terms : List (Var × Rational)) → pos 0 <ℤ d → NoneZero terms → ArePartsOf d terms → DividesAll g (numbers_of (entries_over d terms)) → none_zero (numbers_of (entries_divided g (entries_over d terms))) ≡ true
-none_zero-divided g d [] h nonzero parts divides = refl
-none_zero-divided g d (term ∷ terms) h nonzero parts divides =
-    let number = numerator_over d term.1 in
-    both_true (not_zero (int_div number (pos g)) (divided_nonzero g number divides.0 (numerator_nonzero d term.1 h parts.0 nonzero.0)))
-    (none_zero-divided g d terms h nonzero.1 parts.1 divides.1)
+none_zero-numerators : (d : ℤ) (terms : List (Var × Rational)) → pos 0 <ℤ d → NoneZero terms → ArePartsOf d terms → none_zero (numbers_of (entries_over d terms)) ≡ true
+none_zero-numerators d [] h nonzero parts = refl
+none_zero-numerators d (term ∷ terms) h nonzero parts =
+    both_true (not_zero (numerator_over d term.1) (numerator_nonzero d term.1 h parts.0 nonzero.0)) (none_zero-numerators d terms h nonzero.1 parts.1)
 
-pub none_zero-written : (g : ℕ) (d : ℤ) (terms : List (Var × Rational)) → pos 0 <ℤ d → ArePartsOf d (kept terms) → DividesAll g (numbers_of (entries_over d (kept terms))) → none_zero (numbers_of (entries_divided g (entries_over d (kept terms)))) ≡ true
-none_zero-written g d terms h parts divides = none_zero-divided g d (kept terms) h (kept-NoneZero terms) parts divides
+-- the entries of terms without coefficients of 0
+pub none_zero-over : (d : ℤ) (terms : List (Var × Rational)) → pos 0 <ℤ d → ArePartsOf d (kept terms) → none_zero (numbers_of (entries_over d (kept terms))) ≡ true
+none_zero-over d terms h parts = none_zero-numerators d (kept terms) h (kept-NoneZero terms) parts
+
+-- and what is left of them after a division
+pub none_zero-divided : (g : ℕ) (zs : List ℤ) → none_zero zs ≡ true → DividesAll g zs → none_zero (numbers_divided g zs) ≡ true
+none_zero-divided g [] h divides = refl
+none_zero-divided g (z ∷ zs) h divides =
+    let parts = both_passed (not (is_zero z)) (none_zero zs) h in
+    let nonzero : z ≢ pos 0 = λ e. no_test (is_zero z) (from_not (is_zero z) parts.0) (ap is_zero e) in
+    both_true (not_zero (int_div z (pos g)) (divided_nonzero g z divides.0 nonzero)) (none_zero-divided g zs parts.1 divides.1)
 
 -- ---- numbers in range
 
@@ -166,3 +177,15 @@ all_in_range-divided g [] h = refl
 all_in_range-divided g (z ∷ zs) h =
     let parts = both_passed (fits z) (all_fit zs) (sym (all_fit-cons z zs) ∙ h) in
     both_true (divided_in_range g z (InRange-from_test z parts.0)) (all_in_range-divided g zs parts.1)
+
+-- ---- the numbers of the divided row
+
+pub numbers_of-reduced : (right : ℤ) (es : List (Var × ℤ)) (g : ℕ) → int_div right (pos g) ∷ numbers_of (entries_divided g es) ≡ numbers_divided g (right ∷ numbers_of es)
+numbers_of-reduced right es g = ap {B = List ℤ} (λ zs. int_div right (pos g) ∷ zs) (numbers_of-divided g es)
+
+-- a division by 1 changes nothing
+pub entries_divided-one : (es : List (Var × ℤ)) → entries_divided 1 es ≡ es
+entries_divided-one [] = refl
+entries_divided-one (e ∷ es) =
+    let same : int_div e.1 (pos 1) ≡ e.1 = sym (*ℤ-one (int_div e.1 (pos 1))) ∙ int_div-mul e.1 1 (one-dvd (unsigned_abs e.1)) in
+    ap₂ {C = List (Var × ℤ)} (λ z ys. (e.0, z) ∷ ys) same (entries_divided-one es)

@@ -25,6 +25,7 @@ pub use left_side::LeftSide;
 pub use names::{push_row_name, push_var};
 pub use place::{Place, Stopped};
 pub use terms::{Term, Terms};
+pub use writing::write_row;
 
 /// The subscripts of a variable or an equation, each a position in its set, counted from 0.
 /// A subscript that the kind or equation doesn't have is 0. Ordered by the fields as they stand here.

@@ -78,6 +78,14 @@ impl Terms {
             }
         }
     }
+
+    /// The terms, strictly ascending by variable.
+    pub fn as_slice(&self) -> &[Term]
+        ensures list { map seen result.now ≡ self.now }
+        ensures ascending { IsTrue (ascends var_cmp (variables_of self.now)) }
+    {
+        &self.list
+    }
 }
 
 /// The position of the term of this variable, or the one at which it belongs.
