@@ -1,16 +1,23 @@
 -- What is made term by term is what an equation's terms are worth, exactly where all numbers fit that this forms.
-use Rattle.std.proofs.Common.{◌≡◌, ℕ, ℤ, pos, neg_ℤ, Bool, true, false, List, [], ◌∷◌, ◌++◌, ◌&&◌, refl, sym, ap, ap₂, ◌∙◌, Option, Some, None}
+use Rattle.std.proofs.Common.{◌≡◌, ℕ, ℤ, pos, neg_ℤ, Bool, true, false, List, [], ◌∷◌, ◌++◌, ◌&&◌, refl, sym, ap, ap₂, ◌∙◌, subst, Option, Some, None}
+use Rattle.std.specs.Prelude.{IfOk, IfErr, OnOk, Result, Ok, Err}
 use Rattle.exact_num.specs.Formed.{product_formed, sum_formed}
 use Rattle.exact_num.specs.Range.{all_fit}
 use Rattle.exact_num.specs.Rational.{Rational, plus, times}
 use Rattle.exact_num.proofs.StepLaws.{all_fit-append, all_fit-nil}
+use Rattle.row_core.specs.declared.Row.{Row}
 use Rattle.row_core.specs.declared.RowName.{RowName}
+use Rattle.row_core.specs.declared.place.Place.TheVariants.{Row as AtRow}
+use Rattle.row_core.specs.declared.place.Stopped.{Stopped}
+use Rattle.row_core.specs.Stops.{IsStop}
+use Rattle.row_core.specs.declared.Sense.{Sense}
 use Rattle.row_core.specs.declared.Var.{Var}
 use Rattle.row_core.specs.Amounts.{Amount, Whole, Billionths, Millionths, Product, Total, Negative, value_of_amount, amount_formed}
 use Rattle.row_core.specs.Calculated.{only_if, product_of, total_of, negative_of, number_of, terms_with, Side, no_terms, with_number, with_amounts, can_be_written}
-use Rattle.row_core.specs.EquationTerms.{EquationTerms, coefficients_of, coefficients_formed, terms_of, right_of, equation_formed}
+use Rattle.row_core.specs.EquationTerms.{EquationTerms, coefficients_of, coefficients_formed, terms_of, right_of, equation_formed, IsRowOf, SaysWhat, IsWritten}
 use Rattle.row_core.specs.Terms.{with_term, term_formed, gathered_onto, gathered_formed_onto, gathered_formed}
-use Rattle.row_core.specs.Written.{written_formed}
+use Rattle.row_core.specs.Values.{SaysTheSame, HasSigns}
+use Rattle.row_core.specs.Written.{written_entries, written_right, written_formed}
 
 -- ---- tests
 
@@ -80,7 +87,7 @@ terms_with-made true v c side = refl
 terms_with-made false v c side = refl
 
 -- the test of the numbers that terms form on a left side: those of the coefficients, and those of their sums
-fits_onto : List (Var × Amount) → List (Var × Rational) → Bool
+abbrev pub fits_onto : List (Var × Amount) → List (Var × Rational) → Bool
 fits_onto terms side = all_fit (coefficients_formed terms) && all_fit (gathered_formed_onto side (coefficients_of terms))
 
 four : (p q r s : Bool) → ((p && q) && (r && s)) ≡ ((p && r) && (q && s))
@@ -91,7 +98,7 @@ four false q r s = refl
 
 -- terms are added exactly where the numbers fit that this forms
 terms_with_all-made : (terms : List (Var × Amount)) (side : List (Var × Rational)) → terms_with_all terms (Some side) ≡ only_if (fits_onto terms side) (gathered_onto side (coefficients_of terms))
-unfolding (fits_onto, terms_with_all)
+unfolding terms_with_all
 terms_with_all-made [] side = ap (λ b. only_if (b && b) side) (sym all_fit-nil)
 terms_with_all-made (term ∷ terms) side =
     let c : Rational = value_of_amount term.1 in
@@ -122,7 +129,6 @@ regrouped false q r = refl
 
 -- a row can be written exactly where all numbers fit that the equation forms
 equation-made : (e : EquationTerms) → can_be_written (terms_with_all e.terms (Some [])) (number_of e.right) ≡ all_fit (equation_formed e)
-unfolding fits_onto
 equation-made e =
     let own : List ℤ = coefficients_formed e.terms in
     let sums : List ℤ = gathered_formed (coefficients_of e.terms) in
@@ -154,3 +160,61 @@ made-is name e side right h k =
 pub only_if-is : {A : Type 0} (p : Bool) (x y : A) → Some y ≡ only_if p x → y ≡ x
 only_if-is true x y h = cc h
 only_if-is false x y h = absurd (cc h)
+
+no-right : (terms : Option (List (Var × Rational))) → can_be_written terms None ≡ false
+no-right None = refl
+no-right (Some terms) = refl
+
+-- where the left side or the right side isn't made, not all numbers of the equation fit
+pub stops-without_right : (name : RowName) (e : EquationTerms) (side : Side) → side ≡ with_amounts e.terms (no_terms name) → None ≡ number_of e.right → (side.name ≡ name) × (all_fit (equation_formed e) ≡ false)
+stops-without_right name e side h k =
+    let m = made-is name e side None h k in
+    (m.named, sym m.fits ∙ no-right side.terms)
+
+pub stops-without_left : (name : RowName) (e : EquationTerms) (at : RowName) (right : Option Rational) → record { name = at; terms = None } ≡ with_amounts e.terms (no_terms name) → right ≡ number_of e.right → (at ≡ name) × (all_fit (equation_formed e) ≡ false)
+stops-without_left name e at right h k =
+    let m = made-is name e (record { name = at; terms = None }) right h k in
+    (m.named, sym m.fits)
+
+-- what was made is the terms and the right side of the equation, and the numbers that are left to form decide
+pub record IsWhole (name : RowName) (e : EquationTerms) (at : RowName) (terms : List (Var × Rational)) (right : Rational) : Type 0 where
+  pub named : at ≡ name
+  pub left : terms ≡ terms_of e
+  pub right_side : right ≡ right_of e
+  pub fits : all_fit (written_formed terms right) ≡ all_fit (equation_formed e)
+
+pub whole-is : (name : RowName) (e : EquationTerms) (at : RowName) (terms : List (Var × Rational)) (right : Rational) → record { name = at; terms = Some terms } ≡ with_amounts e.terms (no_terms name) → Some right ≡ number_of e.right → IsWhole name e at terms right
+whole-is name e at terms right h k =
+    let m = made-is name e (record { name = at; terms = Some terms }) (Some right) h k in
+    record {
+      named = m.named;
+      left = only_if-is (fits_onto e.terms []) (terms_of e) terms m.left;
+      right_side = only_if-is (all_fit (amount_formed e.right)) (right_of e) right m.right_side;
+      fits = m.fits;
+    }
+
+-- a row that is written of what was made is that of the equation
+pub IsWritten-made : (name : RowName) (e : EquationTerms) (at : RowName) (terms : List (Var × Rational)) (right : Rational) (sense : Sense) (result : Result Row Stopped)
+    → IsWhole name e at terms right → sense ≡ e.sense
+    → IfOk result (λ row. row.name ≡ at) → IfOk result (λ row. row.sense ≡ sense)
+    → IfOk result (λ row. row.entries.items ≡ written_entries terms right) → IfOk result (λ row. row.rhs ≡ written_right terms right)
+    → IfOk result (SaysTheSame terms right) → IfOk result (HasSigns terms)
+    → OnOk result (all_fit (written_formed terms right) ≡ true) → IfErr result (IsStop (AtRow at) (all_fit (written_formed terms right)))
+    → IsWritten name e result
+IsWritten-made name e at terms right sense (Ok row) m s named has entries rhs says signs fits stopped =
+    let At : (List (Var × Rational) → Rational → Type 0) → Type 0 = λ P. P terms right → P (terms_of e) (right_of e) in
+    let moved : (P : List (Var × Rational) → Rational → Type 0) → At P =
+      λ P p. subst (λ r. P (terms_of e) r) m.right_side (subst (λ ts. P ts right) m.left p) in
+    (record {
+       named = named ∙ m.named;
+       sense = has ∙ s;
+       entries = entries ∙ ap₂ written_entries m.left m.right_side;
+       right_side = rhs ∙ ap₂ written_right m.left m.right_side;
+     },
+     record {
+       says = moved (λ ts r. SaysTheSame ts r row) says;
+       signs = moved (λ ts r. HasSigns ts row) signs;
+     },
+     sym m.fits ∙ fits)
+IsWritten-made name e at terms right sense (Err stopped) m s named has entries rhs says signs fits stop =
+    subst (λ b. IsStop (AtRow name) b stopped) m.fits (subst (λ n. IsStop (AtRow n) (all_fit (written_formed terms right)) stopped) m.named stop)
