@@ -17,3 +17,4 @@ pub mod Words
 pub mod WritingSteps
 pub mod WrittenLaws
 pub mod AmountLaws
+pub mod RepeatedLaws

@@ -19,3 +19,4 @@ pub mod Written
 pub mod Amounts
 pub mod Calculated
 pub mod EquationTerms
+pub mod Repeated

@@ -1,8 +1,12 @@
 //! The left side of an equation, made term by term, and the row that is written from it.
 
-ghost use Rattle.std.specs.Prelude.{◌≡◌, OnOk};
+ghost use Rattle.std.specs.Prelude.{◌≡◌, ℕ, ◌<◌, Bool, filter, OnOk};
+ghost use Rattle.std.specs.List.{range_with_len};
+ghost use Rattle.row_core.specs.declared.Var.{Var};
+ghost use Rattle.row_core.specs.Amounts.{Amount};
+ghost use Rattle.row_core.specs.Repeated.{GivesTerms, GivesTermsWhere};
 ghost use Rattle.row_core.specs.declared.RowName.{RowName};
-ghost use Rattle.row_core.specs.EquationTerms.{EquationTerms, IsWritten};
+ghost use Rattle.row_core.specs.EquationTerms.{EquationTerms, IsWritten, each};
 ghost use Rattle.row_core.specs.Calculated.{known, no_terms, with_number, with_amounts, number_of};
 
 use crate::place::{Place, Stopped};
@@ -62,6 +66,32 @@ impl LeftSide {
             }
             Err(Stopped::Memory) => Err(AllocError),
         }
+    }
+
+    /// Adds a term for each position below `count`, in order.
+    pub fn add_each<F: Fn(u16) -> (Var, Option<Frac>)>(&mut self, count: u16, term: F) -> Result<(), AllocError>
+        requires { (i : ℕ) → i < count → F.pre term i }
+        ensures { (g : ℕ → Var × Amount) → GivesTerms count (F.post term) g → OnOk result (self.new ≡ with_amounts (each (range_with_len 0 count) g) self.old) }
+    {
+        for i in 0..count {
+            let (variable, coefficient) = term(i);
+            self.add(variable, coefficient)?;
+        }
+        Ok(())
+    }
+
+    /// Adds a term for each position below `count` for which there is one, in order.
+    pub fn add_where<F: Fn(u16) -> Option<(Var, Option<Frac>)>>(&mut self, count: u16, term: F) -> Result<(), AllocError>
+        requires { (i : ℕ) → i < count → F.pre term i }
+        ensures { (chosen : ℕ → Bool) (g : ℕ → Var × Amount) → GivesTermsWhere count (F.post term) chosen g
+            → OnOk result (self.new ≡ with_amounts (each (filter chosen (range_with_len 0 count)) g) self.old) }
+    {
+        for i in 0..count {
+            if let Some((variable, coefficient)) = term(i) {
+                self.add(variable, coefficient)?;
+            }
+        }
+        Ok(())
     }
 
     /// Writes the row of the equation: the terms in this sense to the right side. `Width` at the equation's name
