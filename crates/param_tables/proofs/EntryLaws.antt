@@ -2,14 +2,16 @@
 use Rattle.std.proofs.Common.{◌≡◌, ◌≢◌, ℕ, zero, suc, ◌+◌, ◌<◌, ◌≤◌, Bool, true, false, cond, nat_eq, List, [], ◌∷◌, Option, None, Some, length, map, get_or, refl, sym, ap, ◌∙◌, subst, inl, inr, arith}
 use Rattle.std.specs.Prelude.{ℤ, Result, Ok, Err}
 use Rattle.std.specs.Option.{option_and_then}
-use Rattle.std.specs.Ordering.{nat_cmp}
+use Rattle.std.specs.BTreeMap.{BTreeMap, get, keys, values}
+use Rattle.std.specs.Ordering.{nat_cmp, is_eq}
+use Rattle.std.specs.declared.cmp.Ordering.TheVariants.{Less, Equal, Greater}
 use Rattle.std.specs.Result.{result_ok}
 use Rattle.std.proofs.lemmas.List.Sorted.{searched}
 use Rattle.std.proofs.lemmas.Map.Keys.{below_from_sorted, sorted_from_strictly_increasing}
 use Rattle.std.specs.List.{zip, slice_get}
 use Rattle.std.specs.List.Sorted.{IsBinarySearchResult, IsStrictlyIncreasing}
 use Rattle.std.specs.Map.{lookup}
-use Rattle.std.proofs.lemmas.Bool.{cases_eq, cases_lt, eq-eqb, ne_eqb}
+use Rattle.std.proofs.lemmas.Bool.{cases_eq, cases_lt, eq-eqb, lt-ltb, le-ltb, ne_eqb}
 use Rattle.param_tables.specs.Tables.{given_in}
 
 -- no place is this one
@@ -63,3 +65,30 @@ given_in-searched places values place (Err i) rising long found =
       | inl before ↦ λ e. let less = at.1 k before in omega arith
       | inr past ↦ λ e. let more = at.2 k past below in omega arith
     ])
+
+-- ---- the entries of a map as two lists
+
+is_eq-nat_cmp : (a b : ℕ) → is_eq (nat_cmp a b) ≡ nat_eq a b
+is_eq-nat_cmp a b = elim (cases_lt a b) [
+  | inl less ↦ ap (λ t. is_eq (cond t Less (cond (nat_eq a b) Equal Greater))) (lt-ltb a b less) ∙ sym (ne_eqb a b (λ e. omega arith))
+  | inr more ↦ ap (λ t. is_eq (cond t Less (cond (nat_eq a b) Equal Greater))) (le-ltb a b more) ∙ of_cond (nat_eq a b)
+]
+  where
+    of_cond : (t : Bool) → is_eq (cond t Equal Greater) ≡ t
+    of_cond true = refl
+    of_cond false = refl
+
+lookup-same : {K X : Type 0} (f g : K → Bool) → ((k : K) → f k ≡ g k) → (es : List (K × X)) → lookup f es ≡ lookup g es
+lookup-same f g same [] = refl
+lookup-same f g same (e ∷ es) = ap (λ b. cond b (Some e.1) (lookup f es)) (same e.0) ∙ ap (λ o. cond (g e.0) (Some e.1) o) (lookup-same f g same es)
+
+zip-columns : {K X : Type 0} (es : List (K × X)) → zip (map (λ e. e.0) es) (map (λ e. e.1) es) ≡ es
+zip-columns [] = refl
+zip-columns (e ∷ es) = ap (λ rest. e ∷ rest) (zip-columns es)
+
+pub given_in-columns : (m : BTreeMap ℕ ℤ) (places : List ℕ) (vs : List ℤ) (place : ℕ) → places ≡ keys m → vs ≡ values m → given_in (zip places vs) place ≡ get nat_cmp m place
+given_in-columns m places vs place ep ev =
+    ap (λ ps. given_in (zip ps vs) place) ep
+    ∙ ap (λ ws. given_in (zip (keys m) ws) place) ev
+    ∙ ap (λ es. lookup (nat_eq place) es) (zip-columns m.entries)
+    ∙ lookup-same (nat_eq place) (λ k. is_eq (nat_cmp place k)) (λ k. sym (is_eq-nat_cmp place k)) m.entries

@@ -1,12 +1,17 @@
 -- The list of all indices over some sets: the index at each place, one more subscript at the end, and that no index stands twice.
-use Rattle.std.proofs.Common.{◌≡◌, ◌≢◌, ℕ, zero, suc, ◌+◌, ◌-◌, ◌*◌, ◌/◌, ◌%◌, ◌<◌, ◌≤◌, Bool, true, false, List, [], ◌∷◌, ◌++◌, length, map, take, get_or, refl, sym, ap, ◌∙◌, subst, arith, inl, inr}
+use Rattle.std.proofs.Common.{◌≡◌, ◌≢◌, ℕ, zero, suc, ◌+◌, ◌-◌, ◌*◌, ◌/◌, ◌%◌, ◌<◌, ◌≤◌, Bool, true, false, List, [], ◌∷◌, ◌++◌, length, map, take, get_or, refl, sym, ap, ◌∙◌, subst, arith, inl, inr, All}
 use Rattle.std.specs.List.{flat_map, AllZip, zip, IsDistinct}
 use Rattle.std.specs.Prelude.{slice_index_or}
 use Rattle.std.proofs.lemmas.List.{append-nil, get_or_append_left, get_or-append_right, length-append, map-append, length-map, get_or-map}
 use Rattle.std.proofs.lemmas.List.Concat.{flat_map-append, flat_map_single}
 use Rattle.std.proofs.lemmas.List.Folds.{flat_map-map}
 use Rattle.model_sets.specs.Data.{indices_over}
-use Rattle.model_sets.specs.Members.{SetLists, members}
+use Rattle.model_sets.specs.Names.{IsSet}
+use Rattle.model_sets.specs.Members.{SetLists, members, AreSets}
+use Rattle.std.specs.Str.{bytes_eq}
+use Rattle.std.proofs.lemmas.Bool.{cases_eq, cases_lt, false≢true}
+use Rattle.std.proofs.lemmas.Map.Keys.{apart_from_distinct}
+use Rattle.std.proofs.lemmas.Slice.Eq.{bytes_eq-Decides}
 
 -- ---- lists in a row
 
@@ -97,10 +102,14 @@ parts m (suc n) j below = record { block = div-lt_of_lt-mul j m n below; place =
     div-lt_of_lt-mul : (j m n : ℕ) → j < m * suc n → j / suc n < m
     div-lt_of_lt-mul j m n below = grind arith
 
-module _ (sets : SetLists) (apart : (k i j : ℕ) → i < length (members sets k) → j < length (members sets k) → slice_index_or (members sets k) i [] ≡ slice_index_or (members sets k) j [] → i ≡ j) where
-  pub indices_apart : (ks : List ℕ) (i j : ℕ) → i < length (indices_over sets ks) → j < length (indices_over sets ks) → get_or (indices_over sets ks) i [] ≡ get_or (indices_over sets ks) j [] → i ≡ j
-  indices_apart [] i j bi bj same = omega arith
-  indices_apart (k ∷ ks) i j bi bj same =
+-- the sets have no name twice
+pub record HaveApart (sets : SetLists) : Type 0 where
+  pub apart : (k i j : ℕ) → IsSet k → i < length (members sets k) → j < length (members sets k) → slice_index_or (members sets k) i [] ≡ slice_index_or (members sets k) j [] → i ≡ j
+
+module _ (sets : SetLists) (names_apart : HaveApart sets) where
+  pub indices_apart : (ks : List ℕ) (i j : ℕ) → All IsSet ks → i < length (indices_over sets ks) → j < length (indices_over sets ks) → get_or (indices_over sets ks) i [] ≡ get_or (indices_over sets ks) j [] → i ≡ j
+  indices_apart [] i j listed bi bj same = omega arith
+  indices_apart (k ∷ ks) i j listed bi bj same =
       let names = members sets k in
       let rests = indices_over sets ks in
       let n = length rests in
@@ -112,8 +121,8 @@ module _ (sets : SetLists) (apart : (k i j : ℕ) → i < length (members sets k
       let at : (h : ℕ) → IsPart (length names) n h → get_or (indices_over sets (k ∷ ks)) h [] ≡ get_or names (h / n) [] ∷ get_or rests (h % n) [] =
       λ h part. ap (λ g. get_or (indices_over sets (k ∷ ks)) g []) part.whole ∙ get_or-blocks f n long names (h / n) (h % n) [] [] part.block part.place ∙ get_or-map (λ rest. get_or names (h / n) [] ∷ rest) rests (h % n) [] [] part.place in
       let both : get_or names (i / n) [] ∷ get_or rests (i % n) [] ≡ get_or names (j / n) [] ∷ get_or rests (j % n) [] = sym (at i p) ∙ same ∙ at j q in
-      let blocks : i / n ≡ j / n = apart k (i / n) (j / n) p.block q.block (ap (head []) both) in
-      let places : i % n ≡ j % n = indices_apart ks (i % n) (j % n) p.place q.place (ap tail both) in
+      let blocks : i / n ≡ j / n = names_apart.apart k (i / n) (j / n) (listed 0 0 (omega arith)) p.block q.block (ap (head []) both) in
+      let places : i % n ≡ j % n = indices_apart ks (i % n) (j % n) (λ h d below. listed (suc h) d (omega arith)) p.place q.place (ap tail both) in
       p.whole ∙ ap (λ a. a * n + i % n) blocks ∙ ap (λ b. j / n * n + b) places ∙ sym q.whole
     where
       head : List ℕ → List (List ℕ) → List ℕ
@@ -123,3 +132,16 @@ module _ (sets : SetLists) (apart : (k i j : ℕ) → i < length (members sets k
       tail : List (List ℕ) → List (List ℕ)
       tail [] = []
       tail (x ∷ xs) = xs
+
+-- names that keep the rules stand once each
+pub names_apart_from : (sets : SetLists) → AreSets sets → HaveApart sets
+names_apart_from sets are = record { apart = λ k i j is bi bj same. by (members sets k) (are.rules k is).distinct i j bi bj same }
+  where
+    by : (names : List (List ℕ)) → IsDistinct bytes_eq names → (i j : ℕ) → i < length names → j < length names → get_or names i [] ≡ get_or names j [] → i ≡ j
+    by names distinct i j bi bj same = elim (cases_lt i j) [
+      | inl less ↦ absurd (false≢true (sym (apart_from_distinct bytes_eq names i j [] distinct less bj) ∙ (bytes_eq-Decides (get_or names i []) (get_or names j [])).1 same))
+      | inr more ↦ elim (cases_eq i j) [
+        | inl e ↦ e
+        | inr other ↦ absurd (false≢true (sym (apart_from_distinct bytes_eq names j i [] distinct (omega arith) bi) ∙ (bytes_eq-Decides (get_or names j []) (get_or names i [])).1 (sym same)))
+      ]
+    ]

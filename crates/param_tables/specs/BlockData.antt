@@ -20,8 +20,8 @@ abbrev pub given_of : ℕ → PlacedValue → Given
 given_of param value = record { param = param; index = value.index; value = value.value }
 
 -- the default as one of the data, where the statement has one
-abbrev pub default_of : ParamStatement → Option Default
-default_of statement = option_map (λ value. record { param = statement.param; value = value }) statement.default
+abbrev pub stated_default : ParamStatement → Option Default
+stated_default statement = option_map (λ value. record { param = statement.param; value = value }) statement.default
 
 -- the values that a statement gives
 abbrev pub givens_of : ParamStatement → List Given
@@ -29,7 +29,7 @@ givens_of statement = map (given_of statement.param) statement.values
 
 -- the data of these sets and these statements on parameters
 abbrev pub data_of : SetLists → List ParamStatement → Data
-data_of sets params = record { sets = sets; given = flat_map givens_of params; defaults = filter_map default_of params }
+data_of sets params = record { sets = sets; given = flat_map givens_of params; defaults = filter_map stated_default params }
 
 -- the data that the statements give
 abbrev pub data_told : Statements → Data

@@ -1,5 +1,5 @@
 -- What built data mean: the sets, and a value in its range for each used parameter and index.
-use Rattle.std.specs.Prelude.{◌≡◌, ℕ, pos, List, unwrap_or, Contains, IsSomeAnd}
+use Rattle.std.specs.Prelude.{◌≡◌, ℕ, ℤ, pos, List, unwrap_or, Contains, IsSomeAnd}
 use Rattle.exact_num.specs.Rational.{Rational, lowest}
 use Rattle.model_sets.specs.Data.{Data, indices_of, value_at}
 use Rattle.model_sets.specs.Members.{AreSets}
@@ -9,6 +9,8 @@ use Rattle.param_tables.specs.Positions.{names_at}
 use Rattle.param_tables.specs.RangeTable.{range_of}
 use Rattle.param_tables.specs.Ranges.{IsInRange, billion}
 use Rattle.param_tables.specs.Statements.{Statements}
+use Rattle.param_tables.specs.WellFormed.{IsNumber}
+use Rattle.param_tables.specs.declared.ranges.Range.{Range}
 
 -- the data, and how many numbers of the text were rounded
 pub record Built : Type 0 where
@@ -25,10 +27,15 @@ pub record IsBuiltFrom (statements : Statements) (built : Built) : Type 0 where
   pub facts : AreSameData built.facts (data_told statements)
   pub rounded : built.rounded ≡ statements.rounded
 
+-- the value lies in the range, and is a number of a data section
+pub record IsValueIn (range : Range) (v : ℤ) : Type 0 where
+  pub within : IsInRange range v
+  pub number : IsNumber v
+
 -- what the data keep: the sets by their rules, and a value in its range for each used parameter at each of its indices
 pub record AreComplete (d : Data) : Type 0 where
   pub sets : AreSets d.sets
-  pub values : (param : ℕ) → IsUsedParam param → (index : List (List ℕ)) → Contains (indices_of d.sets param) index → IsSomeAnd (value_at d param index) (IsInRange (range_of param))
+  pub values : (param : ℕ) → IsUsedParam param → (index : List (List ℕ)) → Contains (indices_of d.sets param) index → IsSomeAnd (value_at d param index) (IsValueIn (range_of param))
 
 -- the value of the parameter at the index, by the positions of its members, as a fraction in lowest terms
 abbrev pub amount_at : Data → ℕ → List ℕ → Rational

@@ -11,4 +11,5 @@ pub mod Statements
 pub mod Subscripts
 pub mod Tables
 pub mod Told
+pub mod View
 pub mod WellFormed

@@ -33,13 +33,17 @@ pub record Statements : Type 0 where
 abbrev pub value_told : Given → PlacedValue
 value_told given = record { index = given.index.items; value = given.value; at = given.at }
 
+-- the values that are given
+abbrev pub values_told : List Given → List PlacedValue
+values_told values = map value_told values
+
 -- what the block says of its set
 abbrev pub set_told : SetBlock → SetStatement
 set_told block = record { set = block.set; members = block.members.items }
 
 -- what the block says of its parameter
 abbrev pub param_told : ParamBlock → ParamStatement
-param_told block = record { param = block.param; default = block.default; values = map value_told block.values.items }
+param_told block = record { param = block.param; default = block.default; values = values_told block.values.items }
 
 -- what the blocks say of sets
 abbrev pub set_statements_of : List SetBlock → List SetStatement

@@ -1,5 +1,5 @@
 -- What the table of a parameter says. Private functions alone cite these definitions.
-use Rattle.std.specs.Prelude.{◌≡◌, ℕ, ◌+◌, ◌<◌, ℤ, List, [], length, nat_eq, nat_lt, Option, None, Some, MatchOption, All, slice_index_or, if◌then◌else◌}
+use Rattle.std.specs.Prelude.{◌≡◌, ℕ, ◌-◌, ◌<◌, ◌≤◌, ℤ, List, [], length, nat_eq, nat_lt, Option, None, Some, MatchOption, All, slice_index_or, if◌then◌else◌}
 use Rattle.std.specs.List.{zip, find}
 use Rattle.std.specs.List.Sorted.{IsStrictlyIncreasing}
 use Rattle.std.specs.Map.{lookup}
@@ -7,8 +7,10 @@ use Rattle.std.specs.Option.{option_map, option_or}
 use Rattle.std.specs.Cmp.Lexicographic.{pointwise}
 use Rattle.std.specs.Str.{bytes_eq}
 use Rattle.model_sets.specs.Data.{Data, indices_of, value_at, value_of_none}
+use Rattle.model_sets.specs.Members.{SetLists}
+use Rattle.model_sets.specs.Params.{IsUsedParam, used_count}
 use Rattle.param_tables.specs.Ranges.{range_fault}
-use Rattle.param_tables.specs.Statements.{PlacedValue}
+use Rattle.param_tables.specs.Statements.{ParamStatement, PlacedValue}
 use Rattle.param_tables.specs.declared.fault.CellFault.{CellFault}
 use Rattle.param_tables.specs.declared.first_fault.PlaceFault.{PlaceFault}
 use Rattle.param_tables.specs.declared.param_table.ParamTable.{ParamTable}
@@ -17,6 +19,11 @@ use Rattle.param_tables.specs.declared.ranges.Range.{Range}
 -- the value that is given at the index
 abbrev pub given_among : List PlacedValue → List (List ℕ) → Option ℤ
 given_among values index = option_map (λ v. v.value) (find (λ v. pointwise bytes_eq v.index index) values)
+
+-- the look-up by places finds what the values give at each index, and nothing at other places
+pub record AreGiven (sets : SetLists) (param : ℕ) (values : List PlacedValue) (found : ℕ → Option ℤ) : Type 0 where
+  pub inside : (place : ℕ) → place < length (indices_of sets param) → found place ≡ given_among values (slice_index_or (indices_of sets param) place [])
+  pub outside : (place : ℕ) → length (indices_of sets param) ≤ place → found place ≡ None
 
 -- the places of the table, each with its value
 abbrev pub entries_of : ParamTable → List (ℕ × ℤ)
@@ -44,6 +51,17 @@ pub record IsTable (size : ℕ) (table : ParamTable) : Type 0 where
 pub record IsTableFor (d : Data) (param : ℕ) (table : ParamTable) : Type 0 where
   pub shape : IsTable (length (indices_of d.sets param)) table
   pub values : (place : ℕ) → place < length (indices_of d.sets param) → value_at d param (slice_index_or (indices_of d.sets param) place []) ≡ table_value param table place
+
+-- the table says what the statement says
+pub record IsTableOf (sets : SetLists) (statement : ParamStatement) (table : ParamTable) : Type 0 where
+  pub shape : IsTable (length (indices_of sets statement.param)) table
+  pub default : table.default ≡ statement.default
+  pub given : (place : ℕ) → place < length (indices_of sets statement.param) → given_in (entries_of table) place ≡ given_among statement.values (slice_index_or (indices_of sets statement.param) place [])
+
+-- there is a table for each used parameter, from number 1, and it says the parameter's values
+pub record AreTablesFor (d : Data) (tables : List ParamTable) : Type 0 where
+  pub all : length tables ≡ used_count
+  pub each : (param : ℕ) → IsUsedParam param → (e : ParamTable) → IsTableFor d param (slice_index_or tables (param - 1) e)
 
 -- the fault of a value that is given, or else that of a missing one
 abbrev pub place_fault : Range → Option CellFault → Option ℤ → Option CellFault

@@ -1,5 +1,5 @@
 -- Statements that a text can give.
-use Rattle.std.specs.Prelude.{◌≡◌, ℕ, ◌^◌, ◌≤◌, ℤ, length, map, nat_eq, IfSome, All, unsigned_abs}
+use Rattle.std.specs.Prelude.{◌≡◌, ℕ, ◌^◌, ◌≤◌, ℤ, List, length, map, nat_eq, IfSome, All, unsigned_abs}
 use Rattle.std.specs.List.{IsDistinct}
 use Rattle.mathprog_data.specs.Params.{IsParam}
 use Rattle.model_sets.specs.Names.{IsSet}
@@ -21,9 +21,13 @@ pub record IsParamStatement (statement : ParamStatement) : Type 0 where
   pub default : IfSome statement.default IsNumber
   pub values : All (IsValueOf statement.param) statement.values
 
+-- the statements on parameters are such as a text can give: none is on a parameter of which an earlier one speaks
+pub record AreParamStatements (statements : List ParamStatement) : Type 0 where
+  pub each : All IsParamStatement statements
+  pub once : IsDistinct nat_eq (map (λ p. p.param) statements)
+
 -- the statements are such as a text can give: each on a set or parameter of the lists, and none on one of which an earlier one speaks
 pub record AreWellFormed (statements : Statements) : Type 0 where
   pub sets : All (λ s. IsSet s.set) statements.sets
   pub sets_once : IsDistinct nat_eq (map (λ s. s.set) statements.sets)
-  pub params : All IsParamStatement statements.params
-  pub params_once : IsDistinct nat_eq (map (λ p. p.param) statements.params)
+  pub params : AreParamStatements statements.params

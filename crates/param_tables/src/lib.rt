@@ -5,12 +5,16 @@
 mod checks;
 mod fault;
 mod first_fault;
+mod given;
 mod indices;
+mod model_data;
 mod param_table;
 mod ranges;
 mod set_members;
 mod subscripts;
+mod tables;
 
 pub use fault::{BuildFail, BuildFault, Cell};
+pub use model_data::ModelData;
 pub use set_members::sets_of;
 pub use subscripts::subscript_sets;

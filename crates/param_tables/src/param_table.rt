@@ -1,8 +1,9 @@
 //! The values of one parameter, by the places of their indices.
 
-ghost use Rattle.std.specs.Prelude.{◌≡◌, [], None, length, IfOk};
-ghost use Rattle.std.specs.BTreeMap.{keys, values};
+ghost use Rattle.std.specs.Prelude.{◌≡◌, ℕ, [], None, length, IfOk};
+ghost use Rattle.std.specs.BTreeMap.{get};
 ghost use Rattle.std.specs.List.Sorted.{IsStrictlyIncreasing};
+ghost use Rattle.std.specs.Ordering.{nat_cmp};
 ghost use Rattle.param_tables.specs.Tables.{entries_of, given_in, table_value, value_else};
 
 use std::alloc::{AllocError, Global};
@@ -52,8 +53,9 @@ impl ParamTable {
         given: BTreeMap<u64, i128>,
     ) -> Result<ParamTable, AllocError>
         ensures default { IfOk result (λ table. table.default ≡ default) }
-        ensures places { IfOk result (λ table. table.places.items ≡ keys given) }
-        ensures values { IfOk result (λ table. table.values.items ≡ values given) }
+        ensures ascending { IfOk result (λ table. IsStrictlyIncreasing table.places.items) }
+        ensures long { IfOk result (λ table. length table.values.items ≡ length table.places.items) }
+        ensures values { IfOk result (λ table. (place : ℕ) → given_in (entries_of table) place ≡ get nat_cmp given place) }
     {
         let places = given.keys().copied().collect(alloc)?;
         let values = given.into_values().collect(alloc)?;

@@ -1,0 +1,120 @@
+-- The data of statements, statement by statement.
+use Rattle.std.proofs.Common.{◌≡◌, ◌≢◌, ℕ, suc, ◌+◌, ◌-◌, ◌<◌, ◌≤◌, Bool, true, false, cond, ◌&&◌, List, [], ◌∷◌, ◌++◌, Option, None, Some, length, map, nat_eq, get_or, take, set, refl, sym, ap, ◌∙◌, subst, inl, inr, arith, All}
+use Rattle.std.specs.Prelude.{ℤ, if◌then◌else◌}
+use Rattle.std.specs.Cmp.Lexicographic.{pointwise}
+use Rattle.std.specs.List.{IsDistinct, cons_option, filter_map, find, flat_map}
+use Rattle.std.specs.Option.{option_map, option_or}
+use Rattle.std.specs.Str.{bytes_eq}
+use Rattle.std.proofs.lemmas.Bool.{cases_eq, eq-eqb, ne_eqb, eqb-false}
+use Rattle.std.proofs.lemmas.List.{append-nil, get_or-map, get_or-take, length-map, length-take, take_more}
+use Rattle.std.proofs.lemmas.List.Concat.{flat_map-append}
+use Rattle.std.proofs.lemmas.List.Elements.{filter_map-append}
+use Rattle.std.proofs.lemmas.List.Folds.{find-append}
+use Rattle.std.proofs.lemmas.Map.Keys.{apart_from_distinct}
+use Rattle.model_sets.specs.Data.{Data, Default, Given, default_of, given_at, is_given_at, value_at, value_of_none}
+use Rattle.model_sets.specs.Members.{SetLists}
+use Rattle.param_tables.specs.BlockData.{data_of, given_of, givens_of, stated_default}
+use Rattle.param_tables.specs.Statements.{ParamStatement, PlacedValue}
+use Rattle.param_tables.specs.Tables.{given_among, value_else}
+
+option_or-none : {X : Type 0} (o : Option X) → option_or o None ≡ o
+option_or-none None = refl
+option_or-none (Some x) = refl
+
+option_or-map : {X Y : Type 0} (f : X → Y) (o p : Option X) → option_map f (option_or o p) ≡ option_or (option_map f o) (option_map f p)
+option_or-map f None p = refl
+option_or-map f (Some x) p = refl
+
+-- ---- one statement
+
+nothing : Option ℤ
+nothing = None
+
+none_either_way : (b : Bool) → nothing ≡ (if b then nothing else nothing)
+none_either_way true = refl
+none_either_way false = refl
+
+given_step : (q : ℕ) (v : PlacedValue) (b t : Bool) (f : Option Given) (h : Option PlacedValue) → option_map (λ g. g.value) f ≡ (if b then option_map (λ w. w.value) h else None) → option_map (λ g. g.value) (cond (b && t) (Some (given_of q v)) f) ≡ (if b then option_map (λ w. w.value) (cond t (Some v) h) else None)
+given_step q v true true f h e = refl
+given_step q v true false f h e = e
+given_step q v false t f h e = e
+
+find-given : (q p : ℕ) (index : List (List ℕ)) (values : List PlacedValue) → option_map (λ g. g.value) (find (is_given_at p index) (map (given_of q) values)) ≡ (if nat_eq q p then given_among values index else None)
+unfolding nothing
+find-given q p index [] = none_either_way (nat_eq q p)
+find-given q p index (v ∷ vs) = given_step q v (nat_eq q p) (pointwise bytes_eq v.index index) (find (is_given_at p index) (map (given_of q) vs)) (find (λ w. pointwise bytes_eq w.index index) vs) (find-given q p index vs)
+
+default_step : (n p : ℕ) (default : Option ℤ) → option_map (λ d. d.value) (find (λ (d : Default). nat_eq d.param p) (cons_option (option_map (λ value. record { param = n; value = value }) default) [])) ≡ (if nat_eq n p then default else None)
+unfolding nothing
+default_step n p None = none_either_way (nat_eq n p)
+default_step n p (Some v) = by (nat_eq n p)
+  where
+    by : (b : Bool) → option_map (λ (d : Default). d.value) (cond b (Some (record { param = n; value = v })) None) ≡ (if b then Some v else None)
+    by true = refl
+    by false = refl
+
+-- ---- one more statement
+
+module _ (sets : SetLists) (xs : List ParamStatement) (s : ParamStatement) (p : ℕ) where
+  given_at-push : (index : List (List ℕ)) → given_at (data_of sets (xs ++ s ∷ [])) p index ≡ option_or (given_at (data_of sets xs) p index) (if nat_eq s.param p then given_among s.values index else None)
+  given_at-push index =
+      ap (λ gs. option_map (λ g. g.value) (find (is_given_at p index) gs)) (flat_map-append givens_of xs (s ∷ []) ∙ ap (λ gs. flat_map givens_of xs ++ gs) (append-nil (givens_of s)))
+      ∙ ap (option_map (λ g. g.value)) (find-append (is_given_at p index) (flat_map givens_of xs) (givens_of s))
+      ∙ option_or-map (λ g. g.value) (find (is_given_at p index) (flat_map givens_of xs)) (find (is_given_at p index) (givens_of s))
+      ∙ ap (option_or (given_at (data_of sets xs) p index)) (find-given s.param p index s.values)
+
+  default_of-push : default_of (data_of sets (xs ++ s ∷ [])) p ≡ option_or (default_of (data_of sets xs) p) (if nat_eq s.param p then s.default else None)
+  default_of-push =
+      ap (λ ds. option_map (λ d. d.value) (find (λ d. nat_eq d.param p) ds)) (filter_map-append stated_default xs (s ∷ []))
+      ∙ ap (option_map (λ d. d.value)) (find-append (λ d. nat_eq d.param p) (filter_map stated_default xs) (filter_map stated_default (s ∷ [])))
+      ∙ option_or-map (λ d. d.value) (find (λ d. nat_eq d.param p) (filter_map stated_default xs)) (find (λ d. nat_eq d.param p) (filter_map stated_default (s ∷ [])))
+      ∙ ap (option_or (default_of (data_of sets xs) p)) (default_step s.param p s.default)
+
+  -- the statement is on another parameter
+  pub value_at-other : (s.param ≢ p) → (index : List (List ℕ)) → value_at (data_of sets (xs ++ s ∷ [])) p index ≡ value_at (data_of sets xs) p index
+  value_at-other other index =
+      let no : nat_eq s.param p ≡ false = ne_eqb s.param p other in
+      let given : given_at (data_of sets (xs ++ s ∷ [])) p index ≡ given_at (data_of sets xs) p index = given_at-push index ∙ ap (λ b. option_or (given_at (data_of sets xs) p index) (if b then given_among s.values index else None)) no ∙ option_or-none (given_at (data_of sets xs) p index) in
+      let default : default_of (data_of sets (xs ++ s ∷ [])) p ≡ default_of (data_of sets xs) p = default_of-push ∙ ap (λ b. option_or (default_of (data_of sets xs) p) (if b then s.default else None)) no ∙ option_or-none (default_of (data_of sets xs) p) in
+      ap (λ o. option_or o (option_or (default_of (data_of sets (xs ++ s ∷ [])) p) (value_of_none p))) given ∙ ap (λ o. option_or (given_at (data_of sets xs) p index) (option_or o (value_of_none p))) default
+
+  -- the statement is on the parameter, and none before it is
+  pub value_at-here : s.param ≡ p → ((index : List (List ℕ)) → given_at (data_of sets xs) p index ≡ None) → default_of (data_of sets xs) p ≡ None → (index : List (List ℕ)) → value_at (data_of sets (xs ++ s ∷ [])) p index ≡ option_or (given_among s.values index) (value_else p s.default)
+  value_at-here same no_value no_default index =
+      let yes : nat_eq s.param p ≡ true = eq-eqb s.param p same in
+      let given : given_at (data_of sets (xs ++ s ∷ [])) p index ≡ given_among s.values index = given_at-push index ∙ ap (λ o. option_or o (if nat_eq s.param p then given_among s.values index else None)) (no_value index) ∙ ap (λ b. if b then given_among s.values index else None) yes in
+      let default : default_of (data_of sets (xs ++ s ∷ [])) p ≡ s.default = default_of-push ∙ ap (λ o. option_or o (if nat_eq s.param p then s.default else None)) no_default ∙ ap (λ b. if b then s.default else None) yes in
+      ap (λ o. option_or o (option_or (default_of (data_of sets (xs ++ s ∷ [])) p) (value_of_none p))) given ∙ ap (λ o. option_or (given_among s.values index) (option_or o (value_of_none p))) default
+
+-- ---- no statement on the parameter
+
+none_of : (sets : SetLists) (xs : List ParamStatement) (p : ℕ) → All (λ s. s.param ≡ p → ⊥) xs → ((index : List (List ℕ)) → given_at (data_of sets xs) p index ≡ None) × (default_of (data_of sets xs) p ≡ None)
+none_of sets [] p others = (λ index. refl, refl)
+none_of sets (x ∷ xs) p others =
+    let rest = none_of sets xs p (λ j d below. others (suc j) d (omega arith)) in
+    let no : nat_eq x.param p ≡ false = ne_eqb x.param p (others 0 x (omega arith)) in
+    (
+      λ index.
+        ap (option_map (λ g. g.value)) (find-append (is_given_at p index) (givens_of x) (flat_map givens_of xs))
+        ∙ option_or-map (λ g. g.value) (find (is_given_at p index) (givens_of x)) (find (is_given_at p index) (flat_map givens_of xs))
+        ∙ ap (λ o. option_or o (given_at (data_of sets xs) p index)) (find-given x.param p index x.values ∙ ap (λ b. if b then given_among x.values index else None) no)
+        ∙ rest.0 index,
+      default_skipped x.param p x.default (filter_map stated_default xs) no ∙ rest.1,
+    )
+  where
+    default_skipped : (n p : ℕ) (default : Option ℤ) (ds : List Default) → nat_eq n p ≡ false → option_map (λ (d : Default). d.value) (find (λ (d : Default). nat_eq d.param p) (cons_option (option_map (λ value. record { param = n; value = value }) default) ds)) ≡ option_map (λ (d : Default). d.value) (find (λ (d : Default). nat_eq d.param p) ds)
+    default_skipped n p None ds apart = refl
+    default_skipped n p (Some v) ds apart = ap (λ b. option_map (λ (d : Default). d.value) (cond b (Some (record { param = n; value = v })) (find (λ (d : Default). nat_eq d.param p) ds))) apart
+
+-- of statements on different parameters, those before one are on others
+pub none_before : (sets : SetLists) (all : List ParamStatement) (i : ℕ) (s : ParamStatement) → IsDistinct nat_eq (map (λ t. t.param) all) → i < length all → get_or all i s ≡ s → ((index : List (List ℕ)) → given_at (data_of sets (take i all)) s.param index ≡ None) × (default_of (data_of sets (take i all)) s.param ≡ None)
+none_before sets all i s distinct below at = none_of sets (take i all) s.param others
+  where
+    others : All (λ t. t.param ≡ s.param → ⊥) (take i all)
+    others j d short same =
+        let before : j < i = let long = length-take i all in omega arith in
+        let inside : i < length (map (λ t. t.param) all) = let long : length (map (λ t. t.param) all) ≡ length all = length-map all (λ t. t.param) in omega arith in
+        let in_all : j < length all = omega arith in
+        let first : get_or (map (λ t. t.param) all) j 0 ≡ (get_or (take i all) j d).param = get_or-map (λ t. t.param) all j d 0 in_all ∙ ap (λ t. t.param) (sym (get_or-take i all j d before)) in
+        let second : get_or (map (λ t. t.param) all) i 0 ≡ s.param = get_or-map (λ t. t.param) all i s 0 below ∙ ap (λ t. t.param) at in
+        eqb-false (get_or (map (λ t. t.param) all) j 0) (get_or (map (λ t. t.param) all) i 0) (apart_from_distinct nat_eq (map (λ t. t.param) all) j i 0 distinct before inside) (first ∙ same ∙ sym second)

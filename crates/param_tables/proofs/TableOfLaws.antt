@@ -1,0 +1,148 @@
+-- The table of a statement, and the tables of all parameters, statement by statement.
+use Rattle.std.proofs.Common.{◌≡◌, ◌≢◌, ℕ, ◌+◌, ◌-◌, ◌<◌, ◌≤◌, Bool, true, false, List, [], ◌∷◌, ◌++◌, Option, None, Some, length, map, nat_eq, get_or, set, take, refl, sym, ap, ◌∙◌, subst, inl, inr, ◌⊎◌, arith, All}
+use Rattle.std.specs.Prelude.{ℤ, pos, nat_le, if◌then◌else◌}
+use Rattle.std.specs.List.{IsDistinct, slice_get, zip}
+use Rattle.std.specs.List.Sorted.{IsStrictlyIncreasing}
+use Rattle.std.specs.Option.{option_or}
+use Rattle.std.proofs.lemmas.Bool.{cases_eq, cases_lt, le-leb, lt-leb}
+use Rattle.std.proofs.lemmas.List.{get_or_default, get_or-set_same, get_or-set_other, length-set, take_more}
+use Rattle.std.proofs.lemmas.Option.{slice_get-get_or}
+use Rattle.model_sets.specs.Data.{default_of, given_at, indices_of, value_at, value_of_none}
+use Rattle.model_sets.specs.Members.{SetLists}
+use Rattle.model_sets.specs.Params.{IsUsedParam, used_count}
+use Rattle.param_tables.specs.BlockData.{data_of}
+use Rattle.param_tables.specs.InTurn.{in_turn}
+use Rattle.param_tables.specs.Refusals.{Refusal, is_on_used, value_refusal, value_refusals}
+use Rattle.param_tables.specs.Statements.{ParamStatement, PlacedValue}
+use Rattle.param_tables.specs.Tables.{AreGiven, AreTablesFor, IsTable, IsTableFor, IsTableOf, entries_of, given_among, given_in, table_value, value_else}
+use Rattle.param_tables.specs.Told.{IsStopDue, refusal_told}
+use Rattle.param_tables.specs.declared.fault.Stop.{Stop}
+use Rattle.param_tables.specs.declared.fault.Stop.TheVariants as stop
+use Rattle.param_tables.specs.declared.param_table.ParamTable.{ParamTable}
+use Rattle.param_tables.proofs.DataLaws.{none_before, value_at-here, value_at-other}
+use Rattle.param_tables.proofs.EntryLaws.{given_at_place}
+
+some_none : (v : ℤ) → Some v ≡ None → ⊥
+some_none v e = cc
+
+-- ---- one statement
+
+pub used_refusals : (sets : SetLists) (s : ParamStatement) → s.param ≤ used_count → value_refusals sets s ≡ in_turn (value_refusal sets s.param) s.values
+used_refusals sets s used = ap (λ b. if b then in_turn (value_refusal sets s.param) s.values else []) (le-leb s.param used_count used)
+
+pub unused_refusals : (sets : SetLists) (s : ParamStatement) → used_count < s.param → value_refusals sets s ≡ []
+unused_refusals sets s beyond = ap (λ b. if b then in_turn (value_refusal sets s.param) s.values else []) (lt-leb s.param used_count beyond)
+
+pub table_of_given : (sets : SetLists) (s : ParamStatement) (table : ParamTable) (found : ℕ → Option ℤ) → table.default ≡ s.default → IsStrictlyIncreasing table.places.items × (length table.values.items ≡ length table.places.items) → ((place : ℕ) → given_in (entries_of table) place ≡ found place) → AreGiven sets s.param s.values found → IsTableOf sets s table
+table_of_given sets s table found same parts finds given = record {
+  shape = record {
+    ascending = parts.0;
+    long = parts.1;
+    below = λ k d inside. below k d inside;
+  };
+  default = same;
+  given = λ place inside. finds place ∙ given.inside place inside;
+}
+  where
+    below : All (λ place. place < length (indices_of sets s.param)) table.places.items
+    below k d inside = elim (cases_lt (get_or table.places.items k d) (length (indices_of sets s.param))) [
+      | inl less ↦ less
+      | inr past ↦
+          let at : get_or table.places.items k d ≡ get_or table.places.items k 0 = get_or_default table.places.items k d 0 inside in
+          let short : k < length table.values.items = omega (arith, parts.1) in
+          let some : given_in (entries_of table) (get_or table.places.items k 0) ≡ Some (get_or table.values.items k (pos 0)) = given_at_place table.places.items table.values.items k parts.0 parts.1 inside ∙ slice_get-get_or table.values.items k (pos 0) short in
+          let none : given_in (entries_of table) (get_or table.places.items k 0) ≡ None = finds (get_or table.places.items k 0) ∙ given.outside (get_or table.places.items k 0) (omega arith) in
+          absurd (some_none (get_or table.values.items k (pos 0)) (sym some ∙ none))
+    ]
+
+-- ---- all parameters
+
+module _ (sets : SetLists) where
+  -- a statement on another parameter
+  table_stays : (xs : List ParamStatement) (s : ParamStatement) (p : ℕ) (table : ParamTable) → (s.param ≢ p) → IsTableFor (data_of sets xs) p table → IsTableFor (data_of sets (xs ++ s ∷ [])) p table
+  table_stays xs s p table other for = record {
+    shape = for.shape;
+    values = λ place below. value_at-other sets xs s p other (get_or (indices_of sets p) place []) ∙ for.values place below;
+  }
+
+  -- the first statement on the parameter
+  table_comes : (xs : List ParamStatement) (s : ParamStatement) (table : ParamTable) → ((index : List (List ℕ)) → given_at (data_of sets xs) s.param index ≡ None) × (default_of (data_of sets xs) s.param ≡ None) → IsTableOf sets s table → IsTableFor (data_of sets (xs ++ s ∷ [])) s.param table
+  table_comes xs s table none of = record {
+    shape = of.shape;
+    values = λ place below.
+      value_at-here sets xs s s.param refl none.0 none.1 (get_or (indices_of sets s.param) place [])
+      ∙ ap (λ o. option_or o (value_else s.param s.default)) (sym (of.given place below))
+      ∙ ap (λ o. option_or (given_in (entries_of table) place) (value_else s.param o)) (sym of.default);
+  }
+
+  module _ (all : List ParamStatement) (i : ℕ) (s : ParamStatement) (below : i < length all) (at : get_or all i s ≡ s) (tables : List ParamTable) (so_far : AreTablesFor (data_of sets (take i all)) tables) where
+    next : take (i + 1) all ≡ take i all ++ s ∷ []
+    next = take_more all i s below ∙ ap (λ t. take i all ++ t ∷ []) at
+
+    pub tables_unused : used_count < s.param → AreTablesFor (data_of sets (take (i + 1) all)) tables
+    tables_unused beyond = subst (λ xs. AreTablesFor (data_of sets xs) tables) (sym next) (record {
+      all = so_far.all;
+      each = λ p used e. let most = used.1 in table_stays (take i all) s p (get_or tables (p - 1) e) (λ same. omega arith) (so_far.each p used e);
+    })
+
+    pub tables_more : IsDistinct nat_eq (map (λ t. t.param) all) → IsUsedParam s.param → (table : ParamTable) → IsTableOf sets s table → AreTablesFor (data_of sets (take (i + 1) all)) (set tables (s.param - 1) table)
+    tables_more distinct used table of = subst (λ xs. AreTablesFor (data_of sets xs) (set tables (s.param - 1) table)) (sym next) (record {
+      all = length-set tables (s.param - 1) table ∙ so_far.all;
+      each = each;
+    })
+      where
+        low : 1 ≤ s.param
+        low = used.0
+
+        high : s.param ≤ used_count
+        high = used.1
+
+        long : length tables ≡ used_count
+        long = so_far.all
+
+        inside : s.param - 1 < length tables
+        inside = let a = low in let b = high in let c = long in omega arith
+
+        each : (p : ℕ) → IsUsedParam p → (e : ParamTable) → IsTableFor (data_of sets (take i all ++ s ∷ [])) p (get_or (set tables (s.param - 1) table) (p - 1) e)
+        each p is e = elim (cases_eq s.param p) [
+          | inl same ↦
+              let now : get_or (set tables (s.param - 1) table) (s.param - 1) e ≡ table = get_or-set_same tables (s.param - 1) table e inside in
+              let here = table_comes (take i all) s table (none_before sets all i s distinct below at) of in
+              subst (λ q. IsTableFor (data_of sets (take i all ++ s ∷ [])) q (get_or (set tables (s.param - 1) table) (q - 1) e)) same (subst (IsTableFor (data_of sets (take i all ++ s ∷ [])) s.param) (sym now) here)
+          | inr other ↦
+              let a = low in
+              let first = is.0 in
+              let apart : (p - 1) ≢ (s.param - 1) = λ h. other (omega arith) in
+              subst (IsTableFor (data_of sets (take i all ++ s ∷ [])) p) (sym (get_or-set_other tables (s.param - 1) (p - 1) table e apart)) (table_stays (take i all) s p (get_or tables (p - 1) e) other (so_far.each p is e))
+        ]
+
+-- ---- nothing is given
+
+-- the table of a parameter of which nothing is given
+pub record IsEmptyTable (table : ParamTable) : Type 0 where
+  pub default : table.default ≡ None
+  pub places : table.places.items ≡ []
+  pub values : table.values.items ≡ []
+
+table_of_nothing : (sets : SetLists) (p : ℕ) (table : ParamTable) → IsEmptyTable table → IsTableFor (data_of sets []) p table
+table_of_nothing sets p table empty = record {
+  shape = record {
+    ascending = λ k below. absurd (omega (arith, ap length empty.places));
+    long = ap length empty.values ∙ sym (ap length empty.places);
+    below = λ k d inside. absurd (omega (arith, ap length empty.places));
+  };
+  values = λ place below.
+    ap (λ o. option_or o (value_of_none p)) (sym empty.default)
+    ∙ ap (λ o. option_or o (value_else p table.default)) (sym (ap (λ ps. given_in (zip ps table.values.items) place) empty.places));
+}
+
+pub tables_of_nothing : (sets : SetLists) (tables : List ParamTable) → length tables ≡ used_count → ((j : ℕ) → j < used_count → (e : ParamTable) → IsEmptyTable (get_or tables j e)) → AreTablesFor (data_of sets []) tables
+tables_of_nothing sets tables all empty = record {
+  all = all;
+  each = λ p used e. let low = used.0 in let high = used.1 in table_of_nothing sets p (get_or tables (p - 1) e) (empty (p - 1) (omega arith) e);
+}
+
+-- a stop that the values of one statement are the cause of
+pub stop_first : (o p : Option Refusal) (sets : SetLists) (why : Stop) → ((r : Refusal) → o ≡ Some r → p ≡ Some r) → IsStopDue o sets why → IsStopDue p sets why
+stop_first o p sets (stop.Fault fault) first due = (first (refusal_told sets fault) due.0, due.1)
+stop_first o p sets stop.Memory first due = tt

@@ -1,0 +1,15 @@
+use Rattle.std.proofs.Common.{◌≡◌, take}
+use Rattle.std.specs.BTreeMap.{get}
+use Rattle.std.specs.Ordering.{nat_cmp}
+use Rattle.param_tables.specs.InTurn.{in_turn}
+use Rattle.param_tables.specs.Refusals.{value_refusal}
+use Rattle.param_tables.specs.Statements.{values_told}
+use Rattle.param_tables.specs.Tables.{AreGiven}
+use Rattle.param_tables.proofs.TurnLaws.{in_turn_from}
+use Rattle.param_tables.proofs.given.placed_values.Given as goal
+
+abbrev pub invariant-loop-value : goal.invariant-loop-value
+invariant-loop-value l = record {
+  values : AreGiven l.sets l.param (take l.value-index (values_told l.given)) (get nat_cmp l.values);
+  refusals : in_turn (value_refusal l.sets l.param) (values_told l.given) ≡ in_turn_from (value_refusal l.sets l.param) (values_told l.given) l.value-index;
+}

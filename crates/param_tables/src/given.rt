@@ -1,0 +1,59 @@
+//! The values of one statement, by the places of their indices.
+
+ghost use Rattle.std.specs.Prelude.{◌≡◌, ℕ, [], None, Some, nat_eq, IfErr, IfOk, OnErr, OnOk, All, if◌then◌else◌};
+ghost use Rattle.std.specs.BTreeMap.{get};
+ghost use Rattle.std.specs.Ordering.{nat_cmp};
+ghost use Rattle.model_sets.specs.Members.{AreSets};
+ghost use Rattle.model_sets.specs.Params.{IsUsedParam};
+ghost use Rattle.param_tables.specs.InTurn.{first_of, in_turn};
+ghost use Rattle.param_tables.specs.Refusals.{value_refusal};
+ghost use Rattle.param_tables.specs.Statements.{values_told};
+ghost use Rattle.param_tables.specs.Tables.{AreGiven};
+ghost use Rattle.param_tables.specs.Told.{IsStopDue};
+ghost use Rattle.param_tables.specs.WellFormed.{IsValueOf};
+
+use crate::fault::{BuildFault, Stop};
+use crate::indices::place_of_names;
+use crate::subscripts::subscript_sets;
+use mathprog_data::Given;
+use model_sets::Sets;
+use std::alloc::{AllocError, Global};
+use std::collections::BTreeMap;
+
+/// Keeps the value at the place.
+fn keep(values: &mut BTreeMap<u64, i128>, place: u64, value: &i128) -> Result<(), AllocError>
+    ensures { OnOk result ((q : ℕ) → get nat_cmp values.new q ≡ (if nat_eq q place then Some value.now else get nat_cmp values.old q)) }
+{
+    values.insert(place, *value)?;
+    Ok(())
+}
+
+/// The values, in billionths, by the places of their indices among those of the used parameter. Refuses the
+/// first value, in the order of the text, whose index has a name that is no member, or whose index was
+/// given before. Memory may be wanting.
+pub(crate) fn placed_values(
+    alloc: Global,
+    sets: &Sets,
+    param: u8,
+    given: &[Given],
+) -> Result<BTreeMap<u64, i128>, Stop>
+    requires sets { AreSets sets.now }
+    requires used { IsUsedParam param }
+    requires indices { All (IsValueOf param) (values_told given.now) }
+    ensures values { IfOk result (λ values. AreGiven sets.now param (values_told given.now) (get nat_cmp values)) }
+    ensures accepted { OnOk result (in_turn (value_refusal sets.now param) (values_told given.now) ≡ []) }
+    ensures refused { IfErr result (IsStopDue (first_of (in_turn (value_refusal sets.now param) (values_told given.now))) sets.now) }
+{
+    let subscripts = subscript_sets(param);
+    let mut values = BTreeMap::new(alloc);
+    for value in given {
+        let Some(place) = place_of_names(sets, subscripts, value.index.as_slice()) else {
+            return Err(Stop::Fault(BuildFault::UnknownMember(value.at)));
+        };
+        if values.contains_key(&place) {
+            return Err(Stop::Fault(BuildFault::ValueTwice(value.at)));
+        }
+        keep(&mut values, place, &value.value)?;
+    }
+    Ok(values)
+}

@@ -1,0 +1,69 @@
+//! The tables of all used parameters.
+
+ghost use Rattle.std.specs.Prelude.{◌≡◌, [], length, IfErr, IfOk, OnOk};
+ghost use Rattle.std.specs.List.{flat_map};
+ghost use Rattle.model_sets.specs.Members.{AreSets};
+ghost use Rattle.model_sets.specs.Params.{IsUsedParam};
+ghost use Rattle.param_tables.specs.BlockData.{data_of};
+ghost use Rattle.param_tables.specs.InTurn.{first_of};
+ghost use Rattle.param_tables.specs.Refusals.{value_refusals};
+ghost use Rattle.param_tables.specs.Statements.{param_told, param_statements_of};
+ghost use Rattle.param_tables.specs.Tables.{AreTablesFor, IsTableOf};
+ghost use Rattle.param_tables.specs.Told.{IsStopDue};
+ghost use Rattle.param_tables.specs.WellFormed.{AreParamStatements, IsParamStatement};
+
+use crate::fault::Stop;
+use crate::given::placed_values;
+use crate::param_table::ParamTable;
+use mathprog_data::ParamBlock;
+use model_sets::Sets;
+use std::alloc::{AllocError, Global};
+
+/// How many parameters are used. Those with greater numbers are read and not looked at.
+const USED_COUNT: u8 = 38;
+
+/// The table of a statement on a used parameter. Refuses its first refused value.
+fn table_of(alloc: Global, sets: &Sets, block: &ParamBlock) -> Result<ParamTable, Stop>
+    requires sets { AreSets sets.now }
+    requires used { IsUsedParam block.now.param }
+    requires statement { IsParamStatement (param_told block.now) }
+    ensures table { IfOk result (IsTableOf sets.now (param_told block.now)) }
+    ensures accepted { OnOk result (value_refusals sets.now (param_told block.now) ≡ []) }
+    ensures refused { IfErr result (IsStopDue (first_of (value_refusals sets.now (param_told block.now))) sets.now) }
+{
+    let values = placed_values(alloc, sets, block.param, block.values.as_slice())?;
+    Ok(ParamTable::new(alloc, block.default, values)?)
+}
+
+/// The tables of parameters of which nothing is given.
+fn empty_tables(alloc: Global, sets: &Sets) -> Result<Vec<ParamTable>, AllocError>
+    ensures { IfOk result (λ tables. AreTablesFor (data_of sets.now []) tables.items) }
+{
+    let mut tables = Vec::with_capacity(alloc, usize::from(USED_COUNT))?;
+    for _ in 0..USED_COUNT {
+        tables.push(ParamTable::empty(alloc))?;
+    }
+    Ok(tables)
+}
+
+/// The tables of the used parameters, from number 1. Refuses the first refused value, in the order of the
+/// text. Memory may be wanting.
+pub(crate) fn tables_of(
+    alloc: Global,
+    sets: &Sets,
+    blocks: &[ParamBlock],
+) -> Result<Vec<ParamTable>, Stop>
+    requires sets { AreSets sets.now }
+    requires statements { AreParamStatements (param_statements_of blocks.now) }
+    ensures tables { IfOk result (λ tables. AreTablesFor (data_of sets.now (param_statements_of blocks.now)) tables.items) }
+    ensures accepted { OnOk result (flat_map (value_refusals sets.now) (param_statements_of blocks.now) ≡ []) }
+    ensures refused { IfErr result (IsStopDue (first_of (flat_map (value_refusals sets.now) (param_statements_of blocks.now))) sets.now) }
+{
+    let mut tables = empty_tables(alloc, sets)?;
+    for block in blocks {
+        if block.param <= USED_COUNT {
+            tables[usize::from(block.param - 1)] = table_of(alloc, sets, block)?;
+        }
+    }
+    Ok(tables)
+}
