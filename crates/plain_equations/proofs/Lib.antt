@@ -1,1 +1,6 @@
+mod Finding
 mod Lookups
+mod Ranges
+mod Soundness
+mod Sums
+mod Walks

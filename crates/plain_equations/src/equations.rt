@@ -23,8 +23,8 @@ ghost use Rattle.plain_equations.specs.Named.{named};
 
 use crate::expressions::Equation;
 
-/// The equation of this number.
-pub(crate) fn equation(eq: u8) -> &'static Equation
+/// The equation of this number, from 1 to 64.
+pub fn equation(eq: u8) -> &'static Equation
     requires { IsEquation eq }
     ensures { said result.now ≡ named eq }
 {

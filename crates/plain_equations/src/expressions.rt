@@ -5,7 +5,7 @@ use row_core::Sense;
 /// A subscript of the long code: `r`, `rr`, `l`, `t`, `f`, `e`, `m`, `y`, and `yy`, the year in which a
 /// capacity was built.
 #[derive(Clone, Copy)]
-pub(crate) enum Letter {
+pub enum Letter {
     R,
     RR,
     L,
@@ -19,20 +19,20 @@ pub(crate) enum Letter {
 
 /// The subscripts of a variable, each at its field of `Index`, and `None` where it has none there.
 #[derive(Clone, Copy)]
-pub(crate) struct Places {
-    pub(crate) region: Option<Letter>,
-    pub(crate) other: Option<Letter>,
-    pub(crate) slice: Option<Letter>,
-    pub(crate) tech: Option<Letter>,
-    pub(crate) fuel: Option<Letter>,
-    pub(crate) emission: Option<Letter>,
-    pub(crate) mode: Option<Letter>,
-    pub(crate) year: Option<Letter>,
+pub struct Places {
+    pub region: Option<Letter>,
+    pub other: Option<Letter>,
+    pub slice: Option<Letter>,
+    pub tech: Option<Letter>,
+    pub fuel: Option<Letter>,
+    pub emission: Option<Letter>,
+    pub mode: Option<Letter>,
+    pub year: Option<Letter>,
 }
 
 /// How many data values a term has.
 #[derive(Clone, Copy)]
-pub(crate) enum Count {
+pub enum Count {
     One,
     Two,
     Three,
@@ -40,7 +40,7 @@ pub(crate) enum Count {
 
 /// A number of years.
 #[derive(Clone, Copy)]
-pub(crate) enum Years {
+pub enum Years {
     /// From the first year to `y`.
     SinceFirst,
     /// Of the whole model period.
@@ -49,7 +49,7 @@ pub(crate) enum Years {
 
 /// Where an equation stands, or which members a sum runs over.
 #[derive(Clone, Copy)]
-pub(crate) enum Condition {
+pub enum Condition {
     Always,
     /// The value of the parameter of this number, at these subscripts, isn't 0.
     NotZero(u8, &'static [Letter]),
@@ -70,7 +70,7 @@ pub(crate) enum Condition {
 }
 
 /// A whole number that a plan and the data give at subscripts.
-pub(crate) enum Expr {
+pub enum Expr {
     Zero,
     /// The common denominator of the plan's values.
     Whole,
@@ -96,9 +96,9 @@ pub(crate) enum Expr {
 }
 
 /// A named equation.
-pub(crate) struct Equation {
-    pub(crate) stands: Condition,
-    pub(crate) left: Expr,
-    pub(crate) sense: Sense,
-    pub(crate) right: Expr,
+pub struct Equation {
+    pub stands: Condition,
+    pub left: Expr,
+    pub sense: Sense,
+    pub right: Expr,
 }

@@ -3,8 +3,25 @@
 //! Policy 39, 2011).
 #![tactic(auto)]
 
+mod answers;
+mod conditions;
+mod data;
 mod equations;
+mod evaluation;
 mod expressions;
+mod factors;
+mod fail;
+mod instances;
 mod names;
+mod plan;
 mod points;
 mod tables;
+
+pub use data::{PlainData, PlainDefault, PlainValue};
+pub use equations::equation;
+pub use expressions::{Condition, Count, Equation, Expr, Letter, Places, Years};
+pub use fail::PlainFail;
+pub use plan::PlainPlan;
+
+#[cfg(test)]
+mod tests;
