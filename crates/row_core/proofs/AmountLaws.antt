@@ -26,16 +26,19 @@ both_made : (p q r : Bool) (xs ys zs : List ℤ) → all_fit xs ≡ p → all_fi
 both_made p q r xs ys zs h k l = all_fit-append xs (ys ++ zs) ∙ ap₂ (λ b c. b && c) h (all_fit-append ys zs ∙ ap₂ (λ b c. b && c) k l)
 
 product-made : (p q : Bool) (x y : Rational) → product_of (only_if p x) (only_if q y) ≡ only_if (p && (q && all_fit (product_formed x y))) (times x y)
+unfolding product_of
 product-made true true x y = refl
 product-made true false x y = refl
 product-made false q x y = refl
 
 total-made : (p q : Bool) (x y : Rational) → total_of (only_if p x) (only_if q y) ≡ only_if (p && (q && all_fit (sum_formed x y))) (plus x y)
+unfolding total_of
 total-made true true x y = refl
 total-made true false x y = refl
 total-made false q x y = refl
 
 negative-made : (p : Bool) (x : Rational) → negative_of (only_if p x) ≡ only_if p (record { top = neg_ℤ x.top; bottom = x.bottom })
+unfolding negative_of
 negative-made true x = refl
 negative-made false x = refl
 
@@ -69,7 +72,7 @@ terms_with_all (term ∷ terms) side = terms_with_all terms (terms_with term.0 (
 
 -- the name stays
 with_amounts-parts : (terms : List (Var × Amount)) (side : Side) → with_amounts terms side ≡ record { name = side.name; terms = terms_with_all terms side.terms }
-unfolding terms_with_all
+unfolding terms_with_all with_number
 with_amounts-parts [] side = refl
 with_amounts-parts (term ∷ terms) side = with_amounts-parts terms (with_number term.0 (number_of term.1) side)
 
@@ -218,3 +221,7 @@ IsWritten-made name e at terms right sense (Ok row) m s named has entries rhs sa
      sym m.fits ∙ fits)
 IsWritten-made name e at terms right sense (Err stopped) m s named has entries rhs says signs fits stop =
     subst (λ b. IsStop (AtRow name) b stopped) m.fits (subst (λ n. IsStop (AtRow n) (all_fit (written_formed terms right)) stopped) m.named stop)
+
+-- a term more on a left side, with its variable and its number rewritten
+pub added : {side more start : Side} {v w : Var} {c k : Option Rational} → more ≡ with_number v c side → v ≡ w → c ≡ k → side ≡ start → more ≡ with_number w k start
+added {side} {more} {start} {v} {w} {c} {k} h i j l = h ∙ ap (λ x. with_number x c side) i ∙ ap (λ x. with_number w x side) j ∙ ap (with_number w k) l

@@ -22,19 +22,19 @@ abbrev pub only_if : {A : Type 0} → Bool → A → Option A
 only_if fits made = if fits then Some made else None
 
 -- a product
-abbrev pub product_of : Option Rational → Option Rational → Option Rational
+unfoldable pub product_of : Option Rational → Option Rational → Option Rational
 product_of (Some x) (Some y) = only_if (all_fit (product_formed x y)) (times x y)
 product_of (Some x) None = None
 product_of None y = None
 
 -- a sum
-abbrev pub total_of : Option Rational → Option Rational → Option Rational
+unfoldable pub total_of : Option Rational → Option Rational → Option Rational
 total_of (Some x) (Some y) = only_if (all_fit (sum_formed x y)) (plus x y)
 total_of (Some x) None = None
 total_of None y = None
 
 -- a negative
-abbrev pub negative_of : Option Rational → Option Rational
+unfoldable pub negative_of : Option Rational → Option Rational
 negative_of x = option_map negated x
 
 -- an amount
@@ -62,7 +62,7 @@ abbrev pub no_terms : RowName → Side
 no_terms name = record { name = name; terms = Some [] }
 
 -- a left side with one more term
-abbrev pub with_number : Var → Option Rational → Side → Side
+unfoldable pub with_number : Var → Option Rational → Side → Side
 with_number v c side = record { name = side.name; terms = terms_with v c side.terms }
 
 -- a left side with more terms, one after another

@@ -18,7 +18,7 @@ mod subscripts;
 mod terms;
 mod writing;
 
-pub use amounts::{negative, plus, times};
+pub use amounts::{minus_one, negative, one, plus, times, zero};
 pub use equations::{row_has, row_word};
 pub use kinds::{is_free, var_has, var_word};
 pub use left_side::LeftSide;
