@@ -1,5 +1,5 @@
 -- Capacity adequacy A and B of the OSeMOSYS long code as terms: the rows of CAa1 to CAb1.
-use Rattle.std.specs.Prelude.{ℕ, [], ◌∷◌, ◌++◌}
+use Rattle.std.specs.Prelude.{ℕ, [], ◌∷◌}
 use Rattle.model_sets.specs.Data.{Data}
 use Rattle.row_core.specs.declared.Sense.TheVariants.{Equal, Most}
 use Rattle.row_core.specs.Amounts.{Amount, Billionths, Product, Negative, total_over}
@@ -44,21 +44,21 @@ caa4 d r l t y = record {
   right = nothing;
 }
 
--- the part of the year in which a unit of capacity works: the sum over l of CapacityFactor * YearSplit, times AvailabilityFactor, times CapacityToActivityUnit
+-- the sum over l of CapacityFactor * YearSplit
+abbrev pub slices_capacity : Data → ℕ → ℕ → ℕ → Amount
+slices_capacity d r t y = total_over (timeslices d) (λ l. Product (Billionths (capacity_factor d r t l y)) (Billionths (year_split d l y)))
+
+-- what a unit of capacity can do in a year: that sum, times AvailabilityFactor, times CapacityToActivityUnit
 abbrev pub year_capacity : Data → ℕ → ℕ → ℕ → Amount
 year_capacity d r t y =
-    Product
-    (Product
-     (total_over (timeslices d) (λ l. Product (Billionths (capacity_factor d r t l y)) (Billionths (year_split d l y))))
-     (Billionths (availability_factor d r t y)))
-    (Billionths (capacity_to_activity_unit d r t))
+    Product (Product (slices_capacity d r t y) (Billionths (availability_factor d r t y))) (Billionths (capacity_to_activity_unit d r t))
 
--- CAb1[r,t,y]: the sum over l of RateOfTotalActivity * YearSplit - TotalCapacityAnnual * year_capacity <= 0
+-- CAb1[r,t,y]: the sum over l of RateOfTotalActivity * YearSplit - TotalCapacityAnnual * year_capacity <= 0; by variable
 abbrev pub cab1 : Data → ℕ → ℕ → ℕ → EquationTerms
 cab1 d r t y = record {
   terms =
-    each (timeslices d) (λ l. (rate_of_total_activity r l t y, Billionths (year_split d l y)))
-    ++ (total_capacity_annual r t y, Negative (year_capacity d r t y)) ∷ [];
+    (total_capacity_annual r t y, Negative (year_capacity d r t y))
+    ∷ each (timeslices d) (λ l. (rate_of_total_activity r l t y, Billionths (year_split d l y)));
   sense = Most;
   right = nothing;
 }
