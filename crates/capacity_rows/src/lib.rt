@@ -4,4 +4,7 @@
 
 mod capacity;
 mod parameters;
+mod rows;
 mod variables;
+
+pub use rows::rows_of;

@@ -10,3 +10,4 @@ mod Targets
 mod Trades
 mod VariableNames
 mod YearsWithGap
+pub mod TermMeaning
