@@ -1,9 +1,10 @@
 -- The terms of each equation of capacity adequacy mean it.
-use Rattle.std.proofs.Common.{◌≡◌, true, ℕ, ◌-◌, ◌≤◌, ℤ, pos, neg_ℤ, ◌+ℤ◌, ◌*ℤ◌, ◌∷◌, [], Some, refl, sym, ap, ap₂, ◌∙◌, subst, arith}
+use Rattle.std.proofs.Common.{◌≡◌, ◌≢◌, true, ℕ, ◌-◌, ◌<◌, ◌≤◌, ℤ, pos, neg_ℤ, ◌+ℤ◌, ◌*ℤ◌, ◌∷◌, [], Some, refl, sym, ap, ap₂, ◌∙◌, subst, arith}
 use Rattle.std.specs.Prelude.{◌<ℤ◌, slice_index_or}
 use Rattle.std.proofs.lemmas.Int.{ints}
 use Rattle.exact_num.proofs.Ring.{products, *ℤ_comm, zero-*ℤ, neg_ℤ-*ℤ}
 use Rattle.model_sets.specs.Data.{Data}
+use Rattle.model_sets.specs.Names.{region, technology, year}
 use Rattle.row_core.specs.declared.Index.{Index}
 use Rattle.row_core.specs.declared.RowName.{RowName}
 use Rattle.row_core.specs.declared.Var.{Var}
@@ -12,10 +13,10 @@ use Rattle.row_core.specs.EquationTerms.{EquationTerms, less, each}
 use Rattle.row_core.specs.Values.{IsOver, alone}
 use Rattle.row_core.proofs.SumLaws.{IsOver-times, IsOver-negated, IsOver-multiplied}
 use Rattle.named_equations.specs.Capacity.{years_counting}
-use Rattle.named_equations.specs.Instances.{name_at, stands_at, variable_of}
+use Rattle.named_equations.specs.Instances.{is_index, subscripts_of, name_at, stands_at, variable_of}
 use Rattle.named_equations.specs.Notation.{sum_over, values}
 use Rattle.named_equations.specs.Parameters.{year_split, capacity_to_activity_unit, capacity_factor, availability_factor, residual_capacity}
-use Rattle.named_equations.specs.Positions.{modes, timeslices}
+use Rattle.named_equations.specs.Positions.{count_of, modes, timeslices}
 use Rattle.named_equations.specs.Plans.{says}
 use Rattle.named_equations.specs.Variables.{accumulated_new_capacity, new_capacity, total_capacity_annual, rate_of_total_activity, rate_of_activity}
 use Rattle.named_equations.proofs.TermMeaning.{MeansStatement, IsNamedEquation, sum_of_others, sum_of_others-defines, EachFrom, at_number, alone-self, first_positive, defined, sum_over-same, sum_over-times, over-one, over-minus_one, over-zero, over-data, total_over-IsOver, sum-none, sum-term, sum-each}
@@ -149,3 +150,14 @@ always d n i h = at_number (λ n. true ≡ stands_at d n i) 2 5 n (refl, (refl, 
 
 pub terms-at : (d : Data) (name : RowName) (n : ℕ) → name.eq ≡ n → terms_at d name ≡ terms_at d (name_at n name.index)
 terms-at d name n h = ap (λ m. terms_at d (name_at m name.index)) h
+
+-- the subscripts r, t, y of an index lie in their sets
+pub record IsInSets (d : Data) (i : Index) : Type 0 where
+  pub region : i.region < count_of d region
+  pub technology : i.tech < count_of d technology
+  pub year : i.year < count_of d year
+
+pub in_sets : (d : Data) (n m : ℕ) (i : Index) → n ≡ m → subscripts_of m ≡ 0 ∷ 3 ∷ 7 ∷ [] → is_index d (subscripts_of n) i ≡ true → IsInSets d i
+in_sets d n m i e k h =
+    let at : is_index d (0 ∷ 3 ∷ 7 ∷ []) i ≡ true = subst (λ l. is_index d l i ≡ true) (ap subscripts_of e ∙ k) h in
+    record { region = grind (arith, at); technology = grind (arith, at); year = grind (arith, at) }
