@@ -16,3 +16,4 @@ mod Trades
 mod TwoOfEach
 mod VariableNames
 mod YearsWithGap
+pub mod TermMeaning

@@ -22,3 +22,4 @@ pub mod Table
 pub mod Variables
 pub mod Where
 pub mod WrittenFactors
+pub mod RowMeaning

@@ -19,12 +19,20 @@ Less-from_test Less h = refl
 Less-from_test Equal h = absurd (cc h)
 Less-from_test Greater h = absurd (cc h)
 
-test-from_Less : (o : Ordering) → o ≡ Less → is_lt o ≡ true
+pub test-from_Less : (o : Ordering) → o ≡ Less → is_lt o ≡ true
 test-from_Less o h = rw h
 
 -- the rest of an ascending list ascends
 pub ascends-tail : {K : Type 0} (cmp : K → K → Ordering) (x : K) (xs : List K) → ascends cmp (x ∷ xs) ≡ true → ascends cmp xs ≡ true
 ascends-tail cmp x xs h = (both_passed (before_first cmp x xs) (ascends cmp xs) h).1
+
+-- an ascending list without its second
+pub ascends-skip : {K : Type 0} (cmp : K → K → Ordering) → IsTotalOrder cmp → (v w : K) (ws : List K) → ascends cmp (v ∷ w ∷ ws) ≡ true → ascends cmp (v ∷ ws) ≡ true
+ascends-skip cmp total v w [] h = refl
+ascends-skip cmp total v w (u ∷ us) h =
+    let first = both_passed (is_lt (cmp v w)) (ascends cmp (w ∷ u ∷ us)) h in
+    let second = both_passed (is_lt (cmp w u)) (ascends cmp (u ∷ us)) first.1 in
+    both_true (test-from_Less (cmp v u) (total.trans v w u (Less-from_test (cmp v w) first.0) (Less-from_test (cmp w u) second.0))) second.1
 
 -- the first of an ascending list is before each later one
 pub ascends-first : {K : Type 0} (cmp : K → K → Ordering) → IsTotalOrder cmp → (x : K) (xs : List K) → ascends cmp (x ∷ xs) ≡ true → (i : ℕ) (d : K) → i < length xs → cmp x (get_or xs i d) ≡ Less

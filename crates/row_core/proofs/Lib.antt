@@ -1,10 +1,20 @@
 pub mod AscendingLaws
+pub mod DivisionLaws
 mod Examples
 pub mod Integers
+pub mod MeaningLaws
 pub mod NameLaws
 pub mod Orders
 pub mod PlanLaws
+mod RowExamples
 pub mod RowLaws
+pub mod RowWriting
 pub mod StatementLaws
+pub mod SumLaws
 mod Tables
+pub mod TermLaws
 pub mod Words
+pub mod WritingSteps
+pub mod WrittenLaws
+pub mod AmountLaws
+pub mod RepeatedLaws

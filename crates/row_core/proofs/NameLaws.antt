@@ -1,6 +1,6 @@
 -- Texts that grow at their end, and members with commas between them.
-use Rattle.std.proofs.Common.{◌≡◌, ℕ, suc, ◌+◌, ◌<◌, List, [], ◌∷◌, ◌++◌, Bool, true, false, cond, length, take, get_or, ltb, refl, ap, sym, ◌∙◌, map, append_assoc, arith}
-use Rattle.std.specs.List.{join_with_byte, AllByRecursion}
+use Rattle.std.proofs.Common.{◌≡◌, ℕ, ◌+◌, ◌<◌, List, [], ◌∷◌, ◌++◌, Bool, true, cond, length, take, get_or, ltb, refl, ap, sym, ◌∙◌, map, append_assoc, arith}
+use Rattle.std.specs.List.{join_with_byte}
 use Rattle.std.proofs.lemmas.List.{append-nil, length-map, length-take-le, map-append, take_more}
 use Rattle.std.proofs.lemmas.Bool.{lt-ltb}
 use Rattle.std.proofs.Math.Nat.{zero-lt-suc}

@@ -6,6 +6,17 @@ pub mod Numbers
 pub mod Order
 pub mod Rows
 pub mod Statements
+pub mod Stops
 pub mod Subscripts
 pub mod Tables
+pub mod Terms
+pub mod TermPlaces
+pub mod TermSteps
+pub mod TermViews
+pub mod Values
 pub mod Words
+pub mod Written
+pub mod Amounts
+pub mod Calculated
+pub mod EquationTerms
+pub mod Repeated

@@ -5,8 +5,8 @@ use Rattle.std.specs.declared.cmp.Ordering.{Ordering}
 use Rattle.std.specs.Int.{◌∣◌}
 use Rattle.row_core.specs.declared.Var.{Var}
 
--- the variables of the entries, in their order
-abbrev pub variables_of : List (Var × ℤ) → List Var
+-- the variables of entries or terms, in their order
+abbrev pub variables_of : {A : Type 0} → List (Var × A) → List Var
 variables_of [] = []
 variables_of (entry ∷ entries) = entry.0 ∷ variables_of entries
 

@@ -8,14 +8,24 @@ ghost use Rattle.std.specs.Prelude.{IsTrue, ◌∷◌};
 ghost use Rattle.row_core.specs.Numbers.{variables_of, numbers_of, ascends, none_zero, all_in_range, IsLowest};
 ghost use Rattle.row_core.specs.Order.{var_cmp};
 
+mod amounts;
 mod equations;
 mod kinds;
+mod left_side;
 mod names;
+mod place;
 mod subscripts;
+mod terms;
+mod writing;
 
+pub use amounts::{minus_one, negative, one, plus, times, zero};
 pub use equations::{row_has, row_word};
 pub use kinds::{is_free, var_has, var_word};
+pub use left_side::LeftSide;
 pub use names::{push_row_name, push_var};
+pub use place::{Place, Stopped};
+pub use terms::{Term, Terms};
+pub use writing::write_row;
 
 /// The subscripts of a variable or an equation, each a position in its set, counted from 0.
 /// A subscript that the kind or equation doesn't have is 0. Ordered by the fields as they stand here.

@@ -1,0 +1,8 @@
+-- Three factors, multiplied from left to right.
+use Rattle.std.proofs.Common.{ap₂, ◌∙◌}
+use Rattle.row_core.specs.Calculated.{product_of}
+use Rattle.capacity_rows.proofs.capacity.year_capacity.Goals as goal
+
+pub returns : goal.returns
+returns c =
+    c.times-2.ensures ∙ ap₂ product_of (c.times.ensures ∙ ap₂ product_of c.slices_capacity-slices.ensures c.availability_factor.ensures) c.capacity_to_activity_unit.ensures

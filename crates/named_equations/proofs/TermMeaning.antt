@@ -1,0 +1,208 @@
+-- How the terms of an equation mean its statement: once for each shape that equations share.
+use Rattle.std.proofs.Common.{◌≡◌, ℕ, zero, suc, ◌+◌, ◌<◌, ◌≤◌, ◌⊎◌, ◌^◌, ℤ, pos, negsuc, neg_ℤ, ◌+ℤ◌, ◌*ℤ◌, List, [], ◌∷◌, Some, inl, inr, refl, sym, ap, ap₂, ◌∙◌, subst, arith}
+use Rattle.std.specs.Prelude.{◌<ℤ◌, ◌≤ℤ◌, ◌↔◌, if◌then◌else◌}
+use Rattle.std.specs.Ordering.{int_cmp, is_eq}
+use Rattle.std.specs.declared.cmp.Ordering.TheVariants.{Greater}
+use Rattle.std.proofs.lemmas.Int.{ints}
+use Rattle.std.proofs.Math.Nat.{eq-or-lt_of_le}
+use Rattle.exact_num.specs.Rational.{Rational, lowest, whole}
+use Rattle.exact_num.proofs.Integers.{*ℤ_pos, ≤ℤ_or_<ℤ}
+use Rattle.exact_num.proofs.OrderLaws.{int_cmp-less, int_cmp-equal, int_cmp-greater}
+use Rattle.exact_num.proofs.Ring.{ring, products, *ℤ-+ℤ, *ℤ-zero, *ℤ-one, +ℤ-zero, one-*ℤ, zero-*ℤ, neg_ℤ-*ℤ, *ℤ-neg_ℤ}
+use Rattle.model_sets.specs.Data.{Data}
+use Rattle.row_core.specs.declared.Row.{Row}
+use Rattle.row_core.specs.declared.RowName.{RowName}
+use Rattle.row_core.specs.declared.Sense.{Sense}
+use Rattle.row_core.specs.declared.Sense.TheVariants.{Least, Equal, Most}
+use Rattle.row_core.specs.declared.Var.{Var}
+use Rattle.row_core.specs.Amounts.{Amount, Whole, Billionths, Product, Total, Negative, value_of_amount, total_from, total_over}
+use Rattle.row_core.specs.EquationTerms.{EquationTerms, once, less, each, nothing, coefficients_of, terms_of, right_of, IsRowOf, SaysWhat}
+use Rattle.row_core.specs.Rows.{RowHolds, number_at}
+use Rattle.row_core.specs.Statements.{Statement, Stands, Holds}
+use Rattle.row_core.specs.Values.{IsOver, IsSumOver, SaysTheSame, HasSigns, alone}
+use Rattle.row_core.proofs.TermLaws.{same_alike}
+use Rattle.row_core.proofs.SumLaws.{IsOver-plus, IsOver-times, IsOver-negated, IsOver-ratio, IsOver-whole, IsOver-multiplied, IsSumOver-gathered}
+use Rattle.named_equations.specs.Instances.{variable_of}
+use Rattle.named_equations.specs.Notation.{◌equals◌, sum_over, values}
+use Rattle.named_equations.specs.Plans.{Meets, says}
+use Rattle.named_equations.specs.RowMeaning.{SaysNamed, DefinesNamed, IsNamedRow}
+
+-- ---- sums
+
+pub sum_over-same : (is : List ℕ) (f g : ℕ → ℤ) → ((i : ℕ) → f i ≡ g i) → sum_over is f ≡ sum_over is g
+sum_over-same [] f g h = refl
+sum_over-same (i ∷ is) f g h = ap₂ (λ y z. y +ℤ z) (h i) (sum_over-same is f g h)
+
+pub sum_over-times : (is : List ℕ) (k : ℤ) (f : ℕ → ℤ) → k *ℤ sum_over is f ≡ sum_over is (λ i. k *ℤ f i)
+sum_over-times [] k f = *ℤ-zero k
+sum_over-times (i ∷ is) k f = *ℤ-+ℤ k (f i) (sum_over is f) ∙ ap (λ z. (k *ℤ f i) +ℤ z) (sum_over-times is k f)
+
+-- ---- coefficients over a scale
+
+pub over-one : (s : ℤ) → IsOver s (whole (pos 1)) s
+over-one s = record { positive = omega (arith, ints); cross = *ℤ-one s ∙ sym (one-*ℤ s) }
+
+minus_one-*ℤ : (s : ℤ) → negsuc 0 *ℤ s ≡ neg_ℤ s
+minus_one-*ℤ s = neg_ℤ-*ℤ (pos 1) s ∙ ap neg_ℤ (one-*ℤ s)
+
+pub over-minus_one : (s : ℤ) → IsOver s (whole (negsuc 0)) (neg_ℤ s)
+over-minus_one s = record { positive = omega (arith, ints); cross = *ℤ-one (neg_ℤ s) ∙ sym (minus_one-*ℤ s) }
+
+pub over-zero : (s : ℤ) → IsOver s (whole (pos 0)) (pos 0)
+over-zero s = record { positive = omega (arith, ints); cross = sym (zero-*ℤ s) }
+
+pub over-data : (z : ℤ) → IsOver (values 1) (lowest z (pos (10 ^ 9))) z
+over-data z = IsOver-ratio z (pos (10 ^ 9)) (omega (arith, ints))
+
+-- sums of amounts over one scale
+total_from-IsOver : (s : ℤ) (sum : Amount) (z : ℤ) (is : List ℕ) (f : ℕ → Amount) (g : ℕ → ℤ) → IsOver s (value_of_amount sum) z → ((i : ℕ) → IsOver s (value_of_amount (f i)) (g i))
+    → IsOver s (value_of_amount (total_from sum is f)) (z +ℤ sum_over is g)
+total_from-IsOver s sum z [] f g h k = subst (IsOver s (value_of_amount sum)) (omega (arith, ints)) h
+total_from-IsOver s sum z (i ∷ is) f g h k =
+    subst (IsOver s (value_of_amount (total_from (Total sum (f i)) is f))) (omega (arith, ints))
+    (total_from-IsOver s (Total sum (f i)) (z +ℤ g i) is f g (IsOver-plus s (value_of_amount sum) (value_of_amount (f i)) z (g i) h (k i)) k)
+
+pub total_over-IsOver : (s : ℤ) (is : List ℕ) (f : ℕ → Amount) (g : ℕ → ℤ) → ((i : ℕ) → IsOver s (value_of_amount (f i)) (g i)) → IsOver s (value_of_amount (total_over is f)) (sum_over is g)
+total_over-IsOver s is f g k =
+    subst (IsOver s (value_of_amount (total_over is f))) (omega (arith, ints)) (total_from-IsOver s (Whole (pos 0)) (pos 0) is f g (over-zero s) k)
+
+-- ---- sums of terms over a scale
+
+pub sum-none : (s : ℤ) (x : Var → ℤ) → IsSumOver s x (coefficients_of []) (pos 0)
+sum-none s x = refl
+
+pub sum-term : (s : ℤ) (x : Var → ℤ) (v : Var) (a : Amount) (terms : List (Var × Amount)) (z n : ℤ) → IsOver s (value_of_amount a) z → IsSumOver s x (coefficients_of terms) n
+    → IsSumOver s x (coefficients_of ((v, a) ∷ terms)) ((z *ℤ x v) +ℤ n)
+sum-term s x v a terms z n over sum = (z, n, over, sum, refl)
+
+pub sum-each : (s : ℤ) (x : Var → ℤ) (is : List ℕ) (term : ℕ → Var × Amount) (z : ℕ → ℤ) → ((i : ℕ) → IsOver s (value_of_amount (term i).1) (z i))
+    → IsSumOver s x (coefficients_of (each is term)) (sum_over is (λ i. z i *ℤ x (term i).0))
+sum-each s x [] term z h = refl
+sum-each s x (i ∷ is) term z h = (z i, sum_over is (λ i. z i *ℤ x (term i).0), h i, sum-each s x is term z h, refl)
+
+-- ---- equations
+
+-- the terms mean the statement: over one scale, the sum of the terms less the right side is the left side of the statement less its right side
+pub record MeansStatement (e : EquationTerms) (statement : ℕ → (Var → ℤ) → Statement) : Type 0 where
+  pub scale : ℤ
+  pub positive : pos 0 <ℤ scale
+  pub sum : (Var → ℤ) → ℤ
+  pub right : ℤ
+  pub is_sum : (x : Var → ℤ) → IsSumOver scale x (coefficients_of e.terms) (sum x)
+  pub is_right : IsOver scale (right_of e) right
+  pub same_sense : (q : ℕ) (x : Var → ℤ) → (statement q x).sign ≡ e.sense
+  pub balance : (q : ℕ) (x : Var → ℤ) → sum x +ℤ (statement q x).right ≡ (statement q x).left +ℤ (right *ℤ pos q)
+
+balanced : (sense : Sense) (a b c d : ℤ) → a +ℤ d ≡ c +ℤ b → Stands sense a b ↔ Stands sense c d
+balanced Least a b c d h = (λ k. omega (arith, ints, h, k), λ k. omega (arith, ints, h, k))
+balanced Equal a b c d h = (λ k. omega (arith, ints, h, k), λ k. omega (arith, ints, h, k))
+balanced Most a b c d h = (λ k. omega (arith, ints, h, k), λ k. omega (arith, ints, h, k))
+
+-- then its row says what the statement says
+pub means-says : (e : EquationTerms) (statement : ℕ → (Var → ℤ) → Statement) (row : Row) → MeansStatement e statement → SaysWhat e row → row.sense ≡ e.sense
+    → (q : ℕ) (x : Var → ℤ) → RowHolds row q x ↔ Holds (statement q x)
+means-says e statement row m w sense q x =
+    let first = w.says q x m.scale (m.sum x) m.right m.positive (IsSumOver-gathered m.scale x (coefficients_of e.terms) (m.sum x) (m.is_sum x)) m.is_right in
+    let second = balanced e.sense (m.sum x) (m.right *ℤ pos q) (statement q x).left (statement q x).right (m.balance q x) in
+    let There : Sense → Type 0 = λ s. Stands s (m.sum x) (m.right *ℤ pos q) in
+    let Said : Sense → Type 0 = λ s. Stands s (statement q x).left (statement q x).right in
+    (λ h. subst Said (sym (m.same_sense q x)) (second.0 (subst There sense (first.0 h))),
+     λ h. first.1 (subst There (sym sense) (second.1 (subst Said (m.same_sense q x) h))))
+
+not_greater : (n : ℤ) → int_cmp n (pos 0) ≡ Greater → n ≤ℤ pos 0 → ⊥
+not_greater n h k =
+    elim (≤ℤ_or_<ℤ (pos 0) n) [
+      | inl from ↦
+        let zero : n ≡ pos 0 = omega (arith, ints, from, k) in cc (h, int_cmp-equal n (pos 0) zero)
+      | inr below ↦ cc (h, int_cmp-less n (pos 0) below)
+    ]
+
+positive_from : (n m : ℤ) → int_cmp n (pos 0) ≡ int_cmp m (pos 0) → pos 0 <ℤ m → pos 0 <ℤ n
+positive_from n m h k =
+    elim (≤ℤ_or_<ℤ n (pos 0)) [
+      | inl to ↦ absurd (not_greater n (h ∙ int_cmp-greater m (pos 0) k) to)
+      | inr above ↦ above
+    ]
+
+-- ---- shapes
+
+cancelled : (s a b n : ℤ) → s ≡ pos 1 → ((s *ℤ a) +ℤ (neg_ℤ s *ℤ n)) +ℤ n ≡ a +ℤ (pos 0 *ℤ b)
+cancelled s a b n one =
+    let first : (s *ℤ a) ≡ a = ap (λ z. z *ℤ a) one ∙ one-*ℤ a in
+    let second : (neg_ℤ s *ℤ n) ≡ neg_ℤ n = neg_ℤ-*ℤ s n ∙ ap neg_ℤ (ap (λ z. z *ℤ n) one ∙ one-*ℤ n) in
+    ap₂ (λ y z. (y +ℤ z) +ℤ n) first second ∙ omega (arith, ints) ∙ ap (λ z. a +ℤ z) (sym (zero-*ℤ b))
+
+-- a variable is the sum of others: CAa1, CAa3, EBa2, EBa3, EBa5, EBa6, EBb1 to EBb3 and their like
+pub sum_of_others : (v : Var) (is : List ℕ) (w : ℕ → Var) → MeansStatement (record { terms = once v ∷ each is (λ i. less (w i)); sense = Equal; right = nothing }) (λ q x. x v equals sum_over is (λ i. x (w i)))
+sum_of_others v is w = record {
+  scale = pos 1;
+  positive = omega (arith, ints);
+  sum = λ x. (pos 1 *ℤ x v) +ℤ sum_over is (λ i. negsuc 0 *ℤ x (w i));
+  right = pos 0;
+  is_sum = λ x.
+    sum-term (pos 1) x v (Whole (pos 1)) (each is (λ i. less (w i))) (pos 1) (sum_over is (λ i. negsuc 0 *ℤ x (w i))) (over-one (pos 1))
+    (sum-each (pos 1) x is (λ i. less (w i)) (λ i. negsuc 0) (λ i. over-minus_one (pos 1)));
+  is_right = over-zero (pos 1);
+  same_sense = λ q x. refl;
+  balance = λ q x.
+    ap (λ n. ((pos 1 *ℤ x v) +ℤ n) +ℤ sum_over is (λ i. x (w i))) (sym (sum_over-times is (negsuc 0) (λ i. x (w i))))
+    ∙ cancelled (pos 1) (x v) (pos q) (sum_over is (λ i. x (w i))) refl;
+}
+
+-- and has a positive entry where the sum of the terms is positive at the plan of 1 at this variable alone
+pub means-positive : (e : EquationTerms) (statement : ℕ → (Var → ℤ) → Statement) (row : Row) (m : MeansStatement e statement) → SaysWhat e row → (v : Var) → pos 0 <ℤ m.sum (alone v)
+    → pos 0 <ℤ number_at row.entries.items v
+means-positive e statement row m w v h =
+    positive_from (number_at row.entries.items v) (m.sum (alone v))
+    (w.signs v m.scale (m.sum (alone v)) m.positive (IsSumOver-gathered m.scale (alone v) (coefficients_of e.terms) (m.sum (alone v)) (m.is_sum (alone v)))) h
+
+-- the terms of a named equation mean it, and its variable stands there with a positive coefficient
+pub record IsNamedEquation (d : Data) (name : RowName) (e : EquationTerms) : Type 0 where
+  pub means : MeansStatement e (λ q x. says d q x name)
+  pub defines : (v : Var) → variable_of name ≡ Some v → pos 0 <ℤ means.sum (alone v)
+
+pub named_row : (d : Data) (name : RowName) (e : EquationTerms) (row : Row) → IsNamedEquation d name e → IsRowOf name e row → SaysWhat e row → IsNamedRow d name e row
+named_row d name e row n written w = record {
+  written = written;
+  says = means-says e (λ q x. says d q x name) row n.means w written.sense;
+  defines = λ v h. means-positive e (λ q x. says d q x name) row n.means w v (n.defines v h);
+}
+
+-- ---- equations by number
+
+-- P of each number from a on, k of them
+abbrev pub EachFrom : (ℕ → Type 0) → ℕ → ℕ → Type 0
+EachFrom P a zero = Unit {0}
+EachFrom P a (suc k) = P a × EachFrom P (a + 1) k
+
+-- so P of a number among them
+pub at_number : (P : ℕ → Type 0) (a k n : ℕ) → EachFrom P a k → a ≤ n → n < a + k → P n
+at_number P a zero n h from to = absurd (omega (arith, from, to))
+at_number P a (suc k) n h from to =
+    elim (eq-or-lt_of_le from) [
+      | inl same ↦ subst P same h.0
+      | inr above ↦ at_number P (a + 1) k n h.1 (omega (arith, above)) (omega (arith, to))
+    ]
+
+-- ---- the plan of 1 at a variable alone
+
+pub alone-self : (v : Var) → alone v v ≡ pos 1
+alone-self v = ap (λ o. if is_eq o then pos 1 else pos 0) (same_alike v v refl)
+
+pub sum_over-zero : (is : List ℕ) (f : ℕ → ℤ) → ((i : ℕ) → f i ≡ pos 0) → sum_over is f ≡ pos 0
+sum_over-zero [] f h = refl
+sum_over-zero (i ∷ is) f h = ap₂ (λ y z. y +ℤ z) (h i) (sum_over-zero is f h)
+
+-- a positive coefficient at this variable, and nothing at the others
+pub first_positive : (s y n : ℤ) → pos 0 <ℤ s → y ≡ pos 1 → n ≡ pos 0 → pos 0 <ℤ ((s *ℤ y) +ℤ n)
+first_positive s y n h one none = subst (λ z. pos 0 <ℤ z) (sym (ap₂ (λ a b. a +ℤ b) (ap (λ z. s *ℤ z) one ∙ *ℤ-one s) none ∙ +ℤ-zero s)) h
+
+pub sum_of_others-defines : (v : Var) (is : List ℕ) (w : ℕ → Var) → ((i : ℕ) → alone v (w i) ≡ pos 0) → pos 0 <ℤ (sum_of_others v is w).sum (alone v)
+unfolding sum_of_others
+sum_of_others-defines v is w h =
+    first_positive (pos 1) (alone v v) (sum_over is (λ i. negsuc 0 *ℤ alone v (w i))) (omega (arith, ints)) (alone-self v)
+    (sum_over-zero is (λ i. negsuc 0 *ℤ alone v (w i)) (λ i. ap (λ z. negsuc 0 *ℤ z) (h i) ∙ *ℤ-zero (negsuc 0)))
+
+-- the variable of a definition is the one that is meant
+pub defined : (S : Var → Type 0) (v w : Var) → Some v ≡ Some w → S v → S w
+defined S v w h s = let same : v ≡ w = cc h in subst S same s

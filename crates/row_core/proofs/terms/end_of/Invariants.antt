@@ -1,0 +1,15 @@
+-- The loop goes back from the end past terms that are behind the variable.
+use Rattle.std.proofs.Common.{◌≡◌, ℕ, ◌<◌, ◌≤◌, length, get_or}
+use Rattle.std.specs.declared.cmp.Ordering.TheVariants.{Greater}
+use Rattle.row_core.specs.declared.terms.Term.{Term}
+use Rattle.row_core.specs.Order.{var_cmp}
+use Rattle.row_core.proofs.terms.end_of.Given as goal
+
+abbrev pub invariant-loop-end : goal.invariant-loop-end
+invariant-loop-end l = record {
+  within : l.end ≤ length l.list;
+  behind : (d : Term) → l.end < length l.list → var_cmp (get_or l.list l.end d).variable l.variable ≡ Greater;
+}
+
+abbrev pub decreases-loop-end : goal.decreases-loop-end
+decreases-loop-end l = l.end
