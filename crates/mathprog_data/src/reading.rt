@@ -137,10 +137,10 @@ fn take_byte(
     ensures rounded { OnOk result (reader.new.draft.rounded ≤ reader.old.draft.rounded + 2) }
     ensures open { result ≡ Ok false → (bytes : List ℕ) →
         outcome_from text.now (reader_view reader.old) (lexed_run text.now closing.old (run lexer.old (byte ∷ bytes)))
-            ≡ outcome_from text.now (reader_view reader.new) (lexed_run text.now closing.new (run lexer.new bytes)) }
+        ≡ outcome_from text.now (reader_view reader.new) (lexed_run text.now closing.new (run lexer.new bytes)) }
     ensures closed { result ≡ Ok true → (bytes : List ℕ) →
         outcome_from text.now (reader_view reader.old) (lexed_run text.now closing.old (run lexer.old (byte ∷ bytes)))
-            ≡ outcome_at text.now Closes (Ok (reader_view reader.new)) }
+        ≡ outcome_at text.now Closes (Ok (reader_view reader.new)) }
     ensures fault { (fault : DataFault) → result ≡ Err (Fault fault) → (bytes : List ℕ) →
         outcome_from text.now (reader_view reader.old) (lexed_run text.now closing.old (run lexer.old (byte ∷ bytes))) ≡ Refuses fault.no fault.at }
 {
@@ -220,5 +220,4 @@ pub fn verdict_laws()
     ensures one_meaning { (text : List ℕ) (blocks others : SaidBlocks) → Says text blocks → Says text others → blocks ≡ others }
     ensures one_fault { (text : List ℕ) (number other : ℕ) (at place : Mark) → FaultAt text number at → FaultAt text other place →
         (number ≡ other) × (at ≡ place) }
-{
-}
+{}

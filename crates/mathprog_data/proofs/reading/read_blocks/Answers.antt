@@ -13,7 +13,7 @@ pub returns-clause-says : goal.returns-clause-says
 returns-clause-says c =
     let text = c.args.text.now in
     IfOk-weaker c.read.result (λ blocks. outcome_of text ≡ Reads (blocks_told blocks)) (λ blocks. Says text (blocks_told blocks))
-        (λ blocks. reads_says statement_laws text (blocks_told blocks)) c.read.ensures.blocks
+    (λ blocks. reads_says statement_laws text (blocks_told blocks)) c.read.ensures.blocks
 
 pub returns-clause-fault : goal.returns-clause-fault
 returns-clause-fault c fault r = refuses_fault statement_laws c.args.text.now fault.no fault.at (c.read.ensures.fault fault r)
@@ -28,4 +28,4 @@ pub returns-clause-well_formed : goal.returns-clause-well_formed
 returns-clause-well_formed c =
     let text = c.args.text.now in
     IfOk-weaker c.read.result (λ blocks. outcome_of text ≡ Reads (blocks_told blocks)) (λ blocks. AreWellFormed (blocks_told blocks))
-        (λ blocks e. says_well text (blocks_told blocks) (reads_says statement_laws text (blocks_told blocks) e)) c.read.ensures.blocks
+    (λ blocks e. says_well text (blocks_told blocks) (reads_says statement_laws text (blocks_told blocks) e)) c.read.ensures.blocks
