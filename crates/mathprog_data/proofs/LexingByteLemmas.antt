@@ -1,5 +1,5 @@
 -- The kinds of bytes exclude one another.
-use Rattle.std.proofs.Common.{◌≡◌, ℕ, Bool, true, false, not, ◌&&◌, ◌||◌, ◌==◌, ◌⊎◌, inl, inr, refl, sym, subst}
+use Rattle.std.proofs.Common.{◌≡◌, ℕ, Bool, true, false, ◌||◌, ◌==◌, inl, inr, refl, sym, subst}
 use Rattle.std.proofs.lemmas.Bool.{or_cases, eqb-true}
 use Rattle.mathprog_data.specs.Places.{is_line_feed}
 use Rattle.mathprog_data.specs.LexingBytes.{is_separator, is_symbol_byte, is_quote, is_printable}

@@ -1,5 +1,5 @@
 -- The closing `end ;`, told token by token, is the one of the whole list.
-use Rattle.std.proofs.Common.{◌≡◌, ℕ, Bool, true, false, not, cond, ◌&&◌, ◌||◌, List, [], ◌∷◌, ◌++◌, map, Option, None, Some, refl, sym, ap, ◌∙◌}
+use Rattle.std.proofs.Common.{◌≡◌, ℕ, Bool, true, false, cond, ◌||◌, List, [], ◌∷◌, ◌++◌, map, Option, None, Some, refl, sym, ap, ◌∙◌}
 use Rattle.std.proofs.lemmas.Bool.{or_parts, cond-true, cond-false}
 use Rattle.std.proofs.Math.Bool.{or-false}
 use Rattle.mathprog_data.specs.declared.fault.DataFault.{DataFault}
@@ -7,9 +7,9 @@ use Rattle.mathprog_data.specs.declared.lexeme.Sign.TheVariants.{Semicolon}
 use Rattle.mathprog_data.specs.declared.lexer.Span.{Span}
 use Rattle.mathprog_data.specs.declared.closing.Closing.{Closing}
 use Rattle.mathprog_data.specs.declared.closing.Closing.TheVariants.{Free, End, Inside}
-use Rattle.mathprog_data.specs.Lexemes.{Lexeme, Sign, Bare, Quoted, Placed}
+use Rattle.mathprog_data.specs.Lexemes.{Lexeme, Sign, Bare, Quoted}
 use Rattle.mathprog_data.specs.Lexing.{is_semicolon, is_end, closes_behind, has_closing, LexingEnd, TextEnds, Closes, Fails}
-use Rattle.mathprog_data.specs.LexingRuns.{closes, closing_behind, placed_of, Lexed, lexed_from, with_token}
+use Rattle.mathprog_data.specs.LexingRuns.{closes, closing_behind, placed_of, lexed_from, with_token}
 use Rattle.mathprog_data.proofs.LexingPlaced.{said}
 
 -- some token closes the text, told token by token

@@ -1,5 +1,5 @@
 -- Gaps, tokens and lexical faults computed on examples, with near misses.
-use Rattle.std.proofs.Common.{◌≡◌, ℕ, true, false, List, [], ◌∷◌, ◌++◌, refl, inl, inr}
+use Rattle.std.proofs.Common.{◌≡◌, ℕ, true, false, [], ◌∷◌, ◌++◌, refl, inl}
 use Rattle.std.specs.Prelude.{codes}
 use Rattle.std.specs.List.{list_all}
 use Rattle.mathprog_data.specs.declared.blocks.Mark.{Mark}
@@ -8,7 +8,7 @@ use Rattle.mathprog_data.specs.Faults.{bad_byte, open_string, open_comment}
 use Rattle.mathprog_data.specs.Places.{place_after}
 use Rattle.mathprog_data.specs.LexingBytes.{is_symbol_byte, is_printable, is_separator}
 use Rattle.mathprog_data.specs.Lexemes.{Lexeme, Sign, Bare, Quoted, Placed}
-use Rattle.mathprog_data.specs.LexingPieces.{Separator, LineComment, BlockComment, SignToken, BareToken, QuotedToken, IsWhole, spelling, has_comment_end, begins_piece, StrayByte, BadInQuotes, OpenQuotes, OpenBlock, IsFlaw}
+use Rattle.mathprog_data.specs.LexingPieces.{Separator, LineComment, BlockComment, SignToken, BareToken, QuotedToken, IsWhole, spelling, begins_piece, StrayByte, BadInQuotes, OpenQuotes, OpenBlock, IsFlaw}
 use Rattle.mathprog_data.specs.Lexing.{Lexes, TextEnds, Closes, Fails, Tokens, has_closing}
 
 abbrev mark : ℕ → ℕ → Mark

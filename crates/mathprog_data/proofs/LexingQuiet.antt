@@ -1,5 +1,5 @@
 -- Past a byte that is quiet the lexer only goes on.
-use Rattle.std.proofs.Common.{◌≡◌, ℕ, ◌+◌, Bool, true, false, not, cond, List, ◌∷◌, Option, None, Some, refl, sym, ap, subst, ◌∙◌}
+use Rattle.std.proofs.Common.{◌≡◌, ℕ, Bool, true, false, not, cond, List, ◌∷◌, None, Some, refl, ap}
 use Rattle.std.proofs.lemmas.Bool.{not_from_false}
 use Rattle.mathprog_data.specs.declared.lexer.pending.Pending.{Pending}
 use Rattle.mathprog_data.specs.declared.lexer.pending.Pending.TheVariants as pendings

@@ -1,5 +1,5 @@
 -- What the lexer sees of quoted symbols, whole or not.
-use Rattle.std.proofs.Common.{◌≡◌, ℕ, ◌+◌, Bool, true, false, not, cond, ◌&&◌, ◌||◌, ◌==◌, List, [], ◌∷◌, ◌++◌, length, Option, None, Some, refl, sym, ap, subst, ◌∙◌, arith, append-nil}
+use Rattle.std.proofs.Common.{◌≡◌, ℕ, Bool, true, false, not, cond, ◌||◌, ◌==◌, List, [], ◌∷◌, ◌++◌, length, Option, None, Some, refl, sym, ap, subst, ◌∙◌, append-nil}
 use Rattle.std.specs.Prelude.{is_some}
 use Rattle.std.specs.List.{list_all}
 use Rattle.std.proofs.lemmas.Bool.{and_parts, and_from, not-false, not-true, not_from_false, eq-eqb, eqb-true, cond-true, cond-false, false_from_ne_true, both_ways}
@@ -7,18 +7,16 @@ use Rattle.std.proofs.lemmas.List.Folds.{list_all-append}
 use Rattle.std.proofs.lemmas.List.{append_assoc}
 use Rattle.mathprog_data.specs.declared.blocks.Mark.{Mark}
 use Rattle.mathprog_data.specs.declared.lexer.Kind.TheVariants.{Quoted}
-use Rattle.mathprog_data.specs.declared.lexer.Seen.TheVariants.{Token}
-use Rattle.mathprog_data.specs.declared.lexer.pending.Pending.{Pending}
 use Rattle.mathprog_data.specs.declared.lexer.pending.Pending.TheVariants as pendings
 use Rattle.mathprog_data.specs.Faults.{bad_byte, open_string}
 use Rattle.mathprog_data.specs.Places.{place_after, is_line_feed}
 use Rattle.mathprog_data.specs.LexingBytes.{is_quote, is_printable, stops}
 use Rattle.mathprog_data.specs.LexingPieces.{QuotedToken, IsWhole, doubled, is_one_line, BadInQuotes, OpenQuotes, IsFlaw, flawed, spelling}
-use Rattle.mathprog_data.specs.LexingMachine.{State, continues, passed, begun, quoted, opened, silent}
-use Rattle.mathprog_data.specs.LexingRuns.{Run, run, and_then}
+use Rattle.mathprog_data.specs.LexingMachine.{State, begun, opened, silent}
+use Rattle.mathprog_data.specs.LexingRuns.{Run, run}
 use Rattle.mathprog_data.proofs.LexingByteLemmas.{at_quote, printable_is_no_line_feed}
 use Rattle.mathprog_data.proofs.LexingSteps.{at, since, gap, follow, at_passed, run_ended}
-use Rattle.mathprog_data.proofs.LexingRunTokens.{span, SeesToken, begins}
+use Rattle.mathprog_data.proofs.LexingRunTokens.{SeesToken, begins}
 
 third : {A : Type 0} (a b : Bool) (x y z : A) → a ≡ false → b ≡ false → cond a x (cond b y z) ≡ z
 third a b x y z p q = cond-false a x (cond b y z) p ∙ cond-false b y z q

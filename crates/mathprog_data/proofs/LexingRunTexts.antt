@@ -1,6 +1,6 @@
 -- What the lexer sees of pieces in turn, and of a flaw.
-use Rattle.std.proofs.Common.{◌≡◌, ℕ, ◌+◌, Bool, true, false, not, cond, ◌&&◌, ◌||◌, ◌==◌, List, [], ◌∷◌, ◌++◌, length, Option, None, Some, refl, sym, ap, subst, ◌∙◌, append-nil}
-use Rattle.std.proofs.lemmas.Bool.{or_parts, and_cases, not-false}
+use Rattle.std.proofs.Common.{◌≡◌, ℕ, Bool, true, false, not, cond, ◌&&◌, ◌||◌, ◌==◌, List, [], ◌∷◌, ◌++◌, length, None, refl, sym, ap, ◌∙◌, append-nil}
+use Rattle.std.proofs.lemmas.Bool.{or_parts, not-false}
 use Rattle.std.proofs.lemmas.List.{append_assoc}
 use Rattle.mathprog_data.specs.declared.lexer.Kind.TheVariants.{Sign, Bare, Quoted}
 use Rattle.mathprog_data.specs.declared.lexer.Span.{Span}
@@ -11,8 +11,8 @@ use Rattle.mathprog_data.specs.LexingBytes.{is_separator, is_sign_byte, is_symbo
 use Rattle.mathprog_data.specs.LexingPieces.{Piece, Separator, LineComment, BlockComment, SignToken, BareToken, QuotedToken, IsWhole, spelling, sign_bytes, Flaw, StrayByte, BadInQuotes, OpenQuotes, OpenBlock, IsFlaw, flawed, begins_piece}
 use Rattle.mathprog_data.specs.Lexing.{spellings, AreWhole, fault_of, bytes_passed}
 use Rattle.mathprog_data.specs.LexingMachine.{opened, sign_of, sign_taken, silent, begun}
-use Rattle.mathprog_data.specs.LexingRuns.{Run, run, and_then}
-use Rattle.mathprog_data.proofs.LexingSteps.{gap, since, follow, run_ended}
+use Rattle.mathprog_data.specs.LexingRuns.{Run, run}
+use Rattle.mathprog_data.proofs.LexingSteps.{gap, follow, run_ended}
 use Rattle.mathprog_data.proofs.LexingRunGaps.{run_separator, run_line_comment, run_block_comment, run_open_block}
 use Rattle.mathprog_data.proofs.LexingRunTokens.{span, run_sign, run_bare, begins}
 use Rattle.mathprog_data.proofs.LexingRunQuotes.{run_quoted, run_bad_in_quotes, run_open_quotes, faulty}

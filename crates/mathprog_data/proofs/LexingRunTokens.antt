@@ -1,25 +1,22 @@
 -- What the lexer sees of signs, symbols and what is begun and not whole.
-use Rattle.std.proofs.Common.{◌≡◌, ◌≢◌, ℕ, ◌+◌, Bool, true, false, not, cond, ◌&&◌, ◌||◌, ◌==◌, List, [], ◌∷◌, ◌++◌, length, Option, None, Some, is_some, refl, sym, ap, subst, ◌∙◌, arith, append-nil}
+use Rattle.std.proofs.Common.{◌≡◌, ℕ, List, [], ◌∷◌, ◌++◌, length, None, Some, refl, ap, ◌∙◌}
 use Rattle.std.specs.List.{list_all}
-use Rattle.std.proofs.lemmas.Bool.{and_parts, or_parts, not-false, not-true, eqb-true}
+use Rattle.std.proofs.lemmas.Bool.{and_parts}
 use Rattle.std.proofs.lemmas.List.{append_assoc}
-use Rattle.mathprog_data.specs.declared.blocks.Mark.{Mark}
 use Rattle.mathprog_data.specs.declared.lexeme.Sign.{Sign as TheSign}
 use Rattle.mathprog_data.specs.declared.lexeme.Sign.TheVariants as signs
 use Rattle.mathprog_data.specs.declared.lexer.Kind.{Kind}
-use Rattle.mathprog_data.specs.declared.lexer.Kind.TheVariants.{Sign, Bare, Quoted}
+use Rattle.mathprog_data.specs.declared.lexer.Kind.TheVariants.{Sign, Bare}
 use Rattle.mathprog_data.specs.declared.lexer.Span.{Span}
 use Rattle.mathprog_data.specs.declared.lexer.Seen.TheVariants.{Token}
 use Rattle.mathprog_data.specs.declared.lexer.pending.Pending.{Pending}
 use Rattle.mathprog_data.specs.declared.lexer.pending.Pending.TheVariants as pendings
-use Rattle.mathprog_data.specs.Faults.{bad_byte, open_string}
-use Rattle.mathprog_data.specs.Places.{place_after, is_line_feed}
-use Rattle.mathprog_data.specs.LexingBytes.{is_separator, is_symbol_byte, is_quote, is_printable, stops}
-use Rattle.mathprog_data.specs.LexingPieces.{SignToken, BareToken, QuotedToken, IsWhole, sign_bytes, doubled, is_one_line, begins_piece}
-use Rattle.mathprog_data.specs.LexingMachine.{State, continues, passed, begun, quoted, opened, sign_taken, token_of, sign_of, silent}
-use Rattle.mathprog_data.specs.LexingRuns.{Run, run, and_then, nothing_more}
-use Rattle.mathprog_data.proofs.LexingByteLemmas.{at_quote, printable_is_no_line_feed}
-use Rattle.mathprog_data.proofs.LexingSteps.{at, since, gap, follow, at_passed, at_begun, run_ended, run_gap}
+use Rattle.mathprog_data.specs.Places.{place_after}
+use Rattle.mathprog_data.specs.LexingBytes.{is_symbol_byte}
+use Rattle.mathprog_data.specs.LexingPieces.{SignToken, BareToken, IsWhole, sign_bytes}
+use Rattle.mathprog_data.specs.LexingMachine.{begun, opened, sign_taken, token_of, silent}
+use Rattle.mathprog_data.specs.LexingRuns.{run, and_then}
+use Rattle.mathprog_data.proofs.LexingSteps.{since, gap, follow, at_passed, at_begun, run_ended, run_gap}
 use Rattle.mathprog_data.proofs.LexingRunGaps.{GoesOn, through}
 
 -- a token of this kind that is spelled so behind these bytes

@@ -1,15 +1,14 @@
 -- What the lexer sees of a text from a state on, a byte or a run of bytes at a time.
-use Rattle.std.proofs.Common.{◌≡◌, ℕ, ◌+◌, Bool, true, false, not, cond, ◌&&◌, ◌||◌, ◌==◌, List, [], ◌∷◌, ◌++◌, length, Option, None, Some, refl, sym, ap, ◌∙◌, arith}
-use Rattle.std.specs.List.{list_all}
+use Rattle.std.proofs.Common.{◌≡◌, ℕ, Bool, true, false, cond, ◌==◌, List, [], ◌∷◌, ◌++◌, length, Option, None, Some, refl, sym, ap, ◌∙◌}
 use Rattle.std.proofs.lemmas.Bool.{not-true}
-use Rattle.std.proofs.lemmas.List.{append_assoc, length-append}
+use Rattle.std.proofs.lemmas.List.{length-append}
 use Rattle.mathprog_data.specs.declared.blocks.Mark.{Mark}
 use Rattle.mathprog_data.specs.declared.lexer.pending.Pending.{Pending}
 use Rattle.mathprog_data.specs.declared.lexer.pending.Pending.TheVariants as pendings
-use Rattle.mathprog_data.specs.Places.{place_after, is_line_feed}
+use Rattle.mathprog_data.specs.Places.{place_after}
 use Rattle.mathprog_data.specs.LexingBytes.{is_separator, is_symbol_byte, is_quote, stops}
 use Rattle.mathprog_data.specs.declared.lexeme.Sign.{Sign as TheSign}
-use Rattle.mathprog_data.specs.LexingMachine.{State, Step, continues, passed, begun, opened, ended, settled, sign_of, sign_taken, silent}
+use Rattle.mathprog_data.specs.LexingMachine.{State, Step, continues, passed, begun, ended, settled, sign_of, sign_taken}
 use Rattle.mathprog_data.specs.LexingRuns.{Run, run, and_then}
 use Rattle.mathprog_data.proofs.LexingPlaces.{place_behind}
 

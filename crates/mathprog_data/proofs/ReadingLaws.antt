@@ -1,5 +1,5 @@
 -- The answers of `read_blocks` by what is made of the text.
-use Rattle.std.proofs.Common.{◌≡◌, ℕ, List, Ok, Err, Result, sym, refl, ap, subst, ◌∙◌}
+use Rattle.std.proofs.Common.{◌≡◌, ℕ, List, Ok, Err, Result, sym, refl, ap, ◌∙◌}
 use Rattle.std.specs.Prelude.{IfOk, IfErr, MatchResult}
 use Rattle.mathprog_data.specs.declared.blocks.Blocks.{Blocks as KeptBlocks}
 use Rattle.mathprog_data.specs.declared.blocks.Mark.{Mark}
@@ -13,7 +13,7 @@ use Rattle.mathprog_data.specs.TokenSlices.{IsMemory, IsFaultOrMemory}
 use Rattle.mathprog_data.specs.Verdicts.{Says, FaultAt}
 use Rattle.mathprog_data.specs.WellFormed.{AreWellFormed}
 use Rattle.mathprog_data.proofs.StatementLawsHold.{statement_laws}
-use Rattle.mathprog_data.proofs.VerdictLaws.{reads_says, says_reads, fault_refuses}
+use Rattle.mathprog_data.proofs.VerdictLaws.{says_reads, fault_refuses}
 use Rattle.mathprog_data.proofs.WellFormedLaws.{Means-well_formed}
 
 abbrev Answer : Type 0

@@ -1,7 +1,7 @@
 -- What the tokens that the lexer sees say of the text.
-use Rattle.std.proofs.Common.{◌≡◌, ◌≢◌, ℕ, ◌+◌, ◌<◌, ◌≤◌, ◌⊎◌, inl, inr, List, [], ◌∷◌, ◌++◌, length, map, Ok, Err, Result, refl, sym, ap, subst, ◌∙◌, arith}
+use Rattle.std.proofs.Common.{◌≡◌, ◌≢◌, ℕ, ◌+◌, ◌<◌, ◌≤◌, inl, inr, List, [], ◌∷◌, ◌++◌, length, map, Ok, Err, Result, refl, sym, ap, subst, ◌∙◌, arith}
 use Rattle.std.specs.Prelude.{IfOk, IfErr, MatchResult}
-use Rattle.std.proofs.lemmas.List.{append_assoc, length-append, map-append}
+use Rattle.std.proofs.lemmas.List.{append_assoc, length-append}
 use Rattle.mathprog_data.specs.declared.blocks.Mark.{Mark}
 use Rattle.mathprog_data.specs.declared.fault.DataFault.{DataFault}
 use Rattle.mathprog_data.specs.declared.fault.ReadFail.{ReadFail}
@@ -14,7 +14,7 @@ use Rattle.mathprog_data.specs.Lexemes.{Lexeme, Sign, Bare, Quoted, Placed}
 use Rattle.mathprog_data.specs.LexingPieces.{Piece, Separator, LineComment, BlockComment, SignToken, BareToken, QuotedToken, IsWhole, spelling, sign_bytes}
 use Rattle.mathprog_data.specs.Lexing.{Lexes, LexingEnd, TextEnds, Closes, Fails, Tokens, spellings, AreWhole, placed_at, placed_after}
 use Rattle.mathprog_data.specs.LexingRuns.{lexed}
-use Rattle.mathprog_data.specs.TokenSlices.{Slice, slice_of, slice_at, AreSlices, AreApart, IsLexicalFault, IsMemory, IsFaultOrMemory}
+use Rattle.mathprog_data.specs.TokenSlices.{slice_of, slice_at, AreSlices, AreApart, IsLexicalFault, IsMemory, IsFaultOrMemory}
 use Rattle.mathprog_data.specs.TokenRuns.{ListsAll, IsDone}
 use Rattle.mathprog_data.proofs.LexingLaws.{lexes_lexed, lexes_only}
 

@@ -1,11 +1,11 @@
 -- What is made of a text is what it says, or the fault that it has; and what a text says, or has, is made of it.
-use Rattle.std.proofs.Common.{◌≡◌, ℕ, Bool, true, false, cond, ◌⊎◌, inl, inr, List, [], ◌∷◌, ◌++◌, Result, Ok, Err, refl, sym, ap, subst, ◌∙◌, append-nil}
+use Rattle.std.proofs.Common.{◌≡◌, ℕ, true, false, ◌⊎◌, inl, inr, List, [], ◌∷◌, ◌++◌, Result, Ok, Err, refl, sym, ap, subst, ◌∙◌, append-nil}
 use Rattle.std.proofs.lemmas.Bool.{cond-true, cond-false, cases_Bool, both_ways, false_from_ne_true}
 use Rattle.std.proofs.lemmas.List.{append_assoc}
 use Rattle.mathprog_data.specs.declared.blocks.Mark.{Mark}
 use Rattle.mathprog_data.specs.declared.lexeme.Sign.TheVariants as signs
 use Rattle.mathprog_data.specs.Faults.{end_too_soon}
-use Rattle.mathprog_data.specs.Lexemes.{Placed, Sign}
+use Rattle.mathprog_data.specs.Lexemes.{Placed}
 use Rattle.mathprog_data.specs.Lexing.{Lexes, LexingEnd, TextEnds, Closes, Fails, Tokens, placed_at, placed_after, spellings, is_semicolon}
 use Rattle.mathprog_data.specs.LexingPieces.{Piece, SignToken, spelling}
 use Rattle.mathprog_data.specs.LexingRuns.{lexed}

@@ -7,7 +7,7 @@ use Rattle.mathprog_data.specs.declared.lexeme.Sign.TheVariants.{Semicolon}
 use Rattle.mathprog_data.specs.Faults.{bad_byte, open_string, open_comment}
 use Rattle.mathprog_data.specs.Places.{place_after}
 use Rattle.mathprog_data.specs.Lexemes.{Lexeme, Sign, Bare, Quoted, Placed}
-use Rattle.mathprog_data.specs.LexingPieces.{Piece, Separator, LineComment, BlockComment, SignToken, BareToken, QuotedToken, spelling, doubled, IsWhole, Flaw, StrayByte, BadInQuotes, OpenQuotes, OpenBlock, flawed, IsFlaw}
+use Rattle.mathprog_data.specs.LexingPieces.{Piece, SignToken, BareToken, QuotedToken, spelling, doubled, IsWhole, Flaw, StrayByte, BadInQuotes, OpenQuotes, OpenBlock, flawed, IsFlaw}
 
 -- how a lexing ends: with the text, behind the closing `end ;`, or at a lexical fault, with its number and place
 pub data LexingEnd : Type 0 where

@@ -1,13 +1,11 @@
 -- The lexer as a function of its state, a byte at a time. Private functions alone cite it: that it computes the lexing of a
 -- text as `Lexes` says it is proved (proofs/LexingLaws.antt).
-use Rattle.std.specs.Prelude.{ℕ, ◌+◌, Bool, true, false, not, ◌||◌, ◌==◌, Option, None, Some, is_some, if◌then◌else◌, ◌≤◌, ⊤}
+use Rattle.std.specs.Prelude.{ℕ, ◌+◌, Bool, true, not, ◌||◌, ◌==◌, Option, None, Some, is_some, if◌then◌else◌, ◌≤◌, ⊤}
 use Rattle.mathprog_data.specs.declared.blocks.Mark.{Mark}
-use Rattle.mathprog_data.specs.declared.fault.DataFault.{DataFault}
 use Rattle.mathprog_data.specs.declared.lexeme.Sign.{Sign as TheSign}
 use Rattle.mathprog_data.specs.declared.lexeme.Sign.TheVariants as signs
 use Rattle.mathprog_data.specs.declared.lexer.Kind.{Kind}
 use Rattle.mathprog_data.specs.declared.lexer.Kind.TheVariants.{Sign, Bare, Quoted}
-use Rattle.mathprog_data.specs.declared.lexer.Span.{Span}
 use Rattle.mathprog_data.specs.declared.lexer.Seen.{Seen}
 use Rattle.mathprog_data.specs.declared.lexer.Seen.TheVariants.{Nothing, Token, Fault}
 use Rattle.mathprog_data.specs.declared.lexer.pending.Pending.{Pending}

@@ -1,5 +1,5 @@
 -- What the lexer sees of a whole text, and where that ends. Private functions alone cite it, as the machine itself.
-use Rattle.std.specs.Prelude.{ℕ, ◌+◌, ◌-◌, Bool, true, false, List, [], ◌∷◌, Option, None, Some, if◌then◌else◌, slice_range}
+use Rattle.std.specs.Prelude.{ℕ, ◌+◌, ◌-◌, Bool, false, List, [], ◌∷◌, Option, None, Some, if◌then◌else◌, slice_range}
 use Rattle.mathprog_data.specs.declared.fault.DataFault.{DataFault}
 use Rattle.mathprog_data.specs.declared.lexer.Kind.{Kind}
 use Rattle.mathprog_data.specs.declared.lexer.Kind.TheVariants as kinds

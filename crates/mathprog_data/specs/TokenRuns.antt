@@ -1,8 +1,6 @@
 -- What the lexer sees of a text as slices. Private functions alone cite it.
-use Rattle.std.specs.Prelude.{◌≡◌, ℕ, List, [], ◌∷◌, ◌++◌, map, Result, Ok, Err, ⊤}
+use Rattle.std.specs.Prelude.{◌≡◌, ℕ, List, [], ◌++◌, map, ⊤}
 use Rattle.mathprog_data.specs.declared.fault.DataFault.{DataFault}
-use Rattle.mathprog_data.specs.declared.fault.ReadFail.{ReadFail}
-use Rattle.mathprog_data.specs.declared.fault.ReadFail.TheVariants as fails
 use Rattle.mathprog_data.specs.declared.token.Token.{Token}
 use Rattle.mathprog_data.specs.Lexing.{LexingEnd, TextEnds, Closes, Fails}
 use Rattle.mathprog_data.specs.LexingRuns.{Lexed, lexed}

@@ -1,12 +1,11 @@
 -- The tokens of a text as slices of it.
-use Rattle.std.specs.Prelude.{◌≡◌, ℕ, ◌+◌, ◌<◌, ◌≤◌, List, [], ◌∷◌, ◌++◌, map, Result, Ok, Err, slice_range, ⊤}
+use Rattle.std.specs.Prelude.{◌≡◌, ℕ, ◌<◌, ◌≤◌, List, [], ◌∷◌, map, slice_range, ⊤}
 use Rattle.mathprog_data.specs.declared.blocks.Mark.{Mark}
-use Rattle.mathprog_data.specs.declared.fault.DataFault.{DataFault}
 use Rattle.mathprog_data.specs.declared.fault.ReadFail.{ReadFail}
 use Rattle.mathprog_data.specs.declared.fault.ReadFail.TheVariants as fails
 use Rattle.mathprog_data.specs.declared.token.Token.{Token}
 use Rattle.mathprog_data.specs.Lexemes.{Lexeme, Sign, Bare, Quoted, Placed}
-use Rattle.mathprog_data.specs.Lexing.{LexingEnd, TextEnds, Closes, Fails, Lexes}
+use Rattle.mathprog_data.specs.Lexing.{Fails, Lexes}
 
 -- a token without where its bytes lie in memory
 pub record Slice : Type 0 where

@@ -1,5 +1,5 @@
 -- What a text says, or which fault it has (the data section of GNU MathProg).
-use Rattle.std.specs.Prelude.{◌≡◌, ℕ, List}
+use Rattle.std.specs.Prelude.{ℕ, List}
 use Rattle.mathprog_data.specs.declared.blocks.Mark.{Mark}
 use Rattle.mathprog_data.specs.Faults.{end_too_soon}
 use Rattle.mathprog_data.specs.Lexemes.{Placed}

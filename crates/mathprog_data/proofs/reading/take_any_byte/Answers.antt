@@ -1,8 +1,8 @@
-use Rattle.std.proofs.Common.{◌≡◌, ◌∷◌, ℕ, List, true, false, Ok, Err, ap, ◌∙◌}
+use Rattle.std.proofs.Common.{◌≡◌, ◌∷◌, ℕ, List, Ok, ap, ◌∙◌}
 use Rattle.mathprog_data.specs.LexingMachine.{taken}
-use Rattle.mathprog_data.specs.LexingRuns.{Run, run, lexed_run, and_then}
+use Rattle.mathprog_data.specs.LexingRuns.{run, lexed_run, and_then}
 use Rattle.mathprog_data.specs.MachineViews.{reader_view}
-use Rattle.mathprog_data.specs.ReadingRuns.{Outcome, outcome_from}
+use Rattle.mathprog_data.specs.ReadingRuns.{outcome_from}
 use Rattle.mathprog_data.proofs.LexingSteps.{follow}
 use Rattle.mathprog_data.proofs.TokenRunLemmas.{run_first, run_both}
 use Rattle.mathprog_data.proofs.reading.take_any_byte.Goals as goal

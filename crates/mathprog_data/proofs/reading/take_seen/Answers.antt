@@ -1,4 +1,4 @@
-use Rattle.std.proofs.Common.{◌≡◌, ap, ◌∙◌}
+use Rattle.std.proofs.Common.{ap, ◌∙◌}
 use Rattle.mathprog_data.specs.LexingRuns.{lexed_run, and_then}
 use Rattle.mathprog_data.specs.MachineViews.{reader_view}
 use Rattle.mathprog_data.specs.ReadingRuns.{outcome_from}

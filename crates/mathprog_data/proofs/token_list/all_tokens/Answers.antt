@@ -1,7 +1,7 @@
-use Rattle.std.proofs.Common.{◌≡◌, ℕ, ◌+◌, List, [], ◌∷◌, drop, get_or, length, true, false, Ok, Err, Bool, ap, sym, ◌∙◌, arith}
+use Rattle.std.proofs.Common.{◌≡◌, ◌+◌, drop, true, false, Ok, Err, Bool, ap, sym, ◌∙◌}
 use Rattle.mathprog_data.specs.declared.fault.ReadFail.TheVariants.{Fault}
 use Rattle.mathprog_data.specs.LexingRuns.{run, and_then, lexed_run, nothing_more}
-use Rattle.mathprog_data.specs.TokenRuns.{slices_of, slices, behind, closed_with, ListsAll}
+use Rattle.mathprog_data.specs.TokenRuns.{slices_of, slices, behind, ListsAll}
 use Rattle.mathprog_data.proofs.TokenRunLemmas.{run_end, all_open, all_closed, drop_byte, drop_end}
 use Rattle.mathprog_data.proofs.token_list.all_tokens.Goals as goal
 use Rattle.mathprog_data.proofs.token_list.all_tokens.Goals.{In-Ok}

@@ -1,9 +1,7 @@
-use Rattle.std.proofs.Common.{◌≡◌, ◌∷◌, ℕ, List, true, false, Ok, Err, ap, ◌∙◌, Bool}
-use Rattle.mathprog_data.specs.declared.fault.ReadFail.{ReadFail}
-use Rattle.mathprog_data.specs.declared.fault.ReadFail.TheVariants.{Fault}
+use Rattle.std.proofs.Common.{Ok, ap, ◌∙◌}
 use Rattle.mathprog_data.specs.LexingMachine.{taken}
-use Rattle.mathprog_data.specs.LexingRuns.{Run, run, lexed_run, and_then}
-use Rattle.mathprog_data.specs.TokenRuns.{slices_of, behind, closed_with}
+use Rattle.mathprog_data.specs.LexingRuns.{lexed_run}
+use Rattle.mathprog_data.specs.TokenRuns.{slices_of, behind}
 use Rattle.mathprog_data.proofs.LexingSteps.{follow}
 use Rattle.mathprog_data.proofs.TokenRunLemmas.{run_first, run_both}
 use Rattle.mathprog_data.proofs.token_list.take_any_byte.Goals as goal
