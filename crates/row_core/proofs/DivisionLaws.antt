@@ -78,9 +78,12 @@ widened_by_all-is d [] right h k r =
 widened_by_all-is d (term ∷ terms) right h k r =
     let wider = widened d term.1.bottom in
     let last = widened_by_all wider (denominators terms right) in
-    let rest = widened_by_all-is wider terms right (widened_pos d term.1.bottom h k.0) k.1 r in
-    (rest.0, DividesInt_trans d wider last (widened-left d term.1.bottom) rest.1,
-     (record { positive = k.0; divides = DividesInt_trans term.1.bottom wider last (widened-right d term.1.bottom) rest.1 }, rest.2), rest.3)
+    let rest = widened_by_all-is wider terms right (widened_pos d term.1.bottom h k.0) k.1 r in (
+      rest.0,
+      DividesInt_trans d wider last (widened-left d term.1.bottom) rest.1,
+      (record { positive = k.0; divides = DividesInt_trans term.1.bottom wider last (widened-right d term.1.bottom) rest.1 }, rest.2),
+      rest.3,
+    )
 
 -- ---- numerators
 
@@ -134,9 +137,10 @@ kept-IsSumOver s x (term ∷ terms) n h =
 
 pub common_divisor-DividesAll_of : (d : ℕ) (zs : List ℤ) → d ∣ common_divisor zs → DividesAll d zs
 common_divisor-DividesAll_of d [] h = tt
-common_divisor-DividesAll_of d (z ∷ zs) h =
-    (dvd_trans d h (gcd_of-dvd_left (unsigned_abs z) (common_divisor zs)),
-     common_divisor-DividesAll_of d zs (dvd_trans d h (gcd_of-dvd_right (unsigned_abs z) (common_divisor zs))))
+common_divisor-DividesAll_of d (z ∷ zs) h = (
+  dvd_trans d h (gcd_of-dvd_left (unsigned_abs z) (common_divisor zs)),
+  common_divisor-DividesAll_of d zs (dvd_trans d h (gcd_of-dvd_right (unsigned_abs z) (common_divisor zs))),
+)
 
 -- it divides all of them, and whatever divides all of them divides it
 pub common_divisor-DividesAll : (zs : List ℤ) → DividesAll (common_divisor zs) zs

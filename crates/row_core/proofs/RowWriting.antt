@@ -23,11 +23,11 @@ pub written_formed-parts : (terms : List (Var × Rational)) (right : Rational)
     → all_fit (written_formed terms right) ≡ (denominators_fit_all terms right && (all_fit (numbers_of (cleared_entries terms right)) && in_range (cleared_right terms right)))
 written_formed-parts terms right =
     let last : all_fit (cleared_right terms right ∷ []) ≡ in_range (cleared_right terms right) =
-      all_fit-cons (cleared_right terms right) [] ∙ ap (λ b. in_range (cleared_right terms right) && b) all_fit-nil ∙ and_true (in_range (cleared_right terms right)) in
+    all_fit-cons (cleared_right terms right) [] ∙ ap (λ b. in_range (cleared_right terms right) && b) all_fit-nil ∙ and_true (in_range (cleared_right terms right)) in
     all_fit-append (widened_by_each (pos 1) (denominators (kept terms) right)) (numbers_of (cleared_entries terms right) ++ cleared_right terms right ∷ [])
     ∙ ap (λ b. denominators_fit_all terms right && b)
-      (all_fit-append (numbers_of (cleared_entries terms right)) (cleared_right terms right ∷ [])
-       ∙ ap (λ b. all_fit (numbers_of (cleared_entries terms right)) && b) last)
+    (all_fit-append (numbers_of (cleared_entries terms right)) (cleared_right terms right ∷ [])
+    ∙ ap (λ b. all_fit (numbers_of (cleared_entries terms right)) && b) last)
 
 and_false : (b : Bool) → (b && false) ≡ false
 and_false true = refl

@@ -91,11 +91,14 @@ row_divisor-is zs =
     let all : DividesAll g zs = common_divisor-DividesAll zs in
     let Fits : Bool → Type 0 = λ b. (0 < divisor_from g b) × DividesAll (divisor_from g b) zs × IsLowest (numbers_divided (divisor_from g b) zs) in
     let at_zero : (g == 0) ≡ true → Fits true =
-      λ e. (omega arith, one_divides zs, λ d above divides. zeros_divided zs (subst (λ n. DividesAll n zs) (eqb-true g 0 e) all)) in
+    λ e. (omega arith, one_divides zs, λ d above divides. zeros_divided zs (subst (λ n. DividesAll n zs) (eqb-true g 0 e) all)) in
     let above_zero : (g == 0) ≡ false → Fits false =
-      λ e. let positive : 0 < g = omega (arith, eqb-false g 0 e) in
-           (positive, all, IsLowest-divided g (numbers_divided g zs) positive
-             (λ d divides. common_divisor-greatest d zs (subst (λ ys. DividesAll d ys) (times_all-divided g zs all) divides))) in
+    λ e. let positive : 0 < g = omega (arith, eqb-false g 0 e) in (
+      positive,
+      all,
+      IsLowest-divided g (numbers_divided g zs) positive
+          (λ d divides. common_divisor-greatest d zs (subst (λ ys. DividesAll d ys) (times_all-divided g zs all) divides)),
+    ) in
     let cases : (b : Bool) → (g == 0) ≡ b → Fits b = λ b. elim b as (λ p. (g == 0) ≡ p → Fits p) [ true ↦ at_zero | false ↦ above_zero ] in
     cases (g == 0) refl
 

@@ -27,7 +27,13 @@ use std::alloc::Global;
 /// fit, before the last division.
 ///
 /// The row says what the equation says, of every plan.
-pub fn write_row(alloc: Global, name: RowName, sense: Sense, terms: &Terms, right: Frac) -> Result<Row, Stopped>
+pub fn write_row(
+    alloc: Global,
+    name: RowName,
+    sense: Sense,
+    terms: &Terms,
+    right: Frac,
+) -> Result<Row, Stopped>
     ensures name { IfOk result (λ row. row.name ≡ name) }
     ensures sense { IfOk result (λ row. row.sense ≡ sense) }
     ensures entries { IfOk result (λ row. row.entries.items ≡ written_entries terms.now (value_of right)) }
@@ -140,7 +146,12 @@ fn numerator(denominator: i128, number: Frac) -> Result<i128, TooWide>
 }
 
 /// Each variable with the numerator of its coefficient over a common denominator, without those that are 0.
-fn entries_of(alloc: Global, place: Place, terms: &[Term], denominator: i128) -> Result<Vec<(Var, i128)>, Stopped>
+fn entries_of(
+    alloc: Global,
+    place: Place,
+    terms: &[Term],
+    denominator: i128,
+) -> Result<Vec<(Var, i128)>, Stopped>
     requires fits { InRange denominator }
     requires positive { pos 0 <ℤ denominator }
     ensures entries { IfOk result (λ entries. entries.items ≡ entries_over denominator (kept (map seen terms.now))) }
@@ -155,7 +166,12 @@ fn entries_of(alloc: Global, place: Place, terms: &[Term], denominator: i128) ->
 }
 
 /// Appends the entry of a term, unless it is 0.
-fn push_entry(entries: &mut Vec<(Var, i128)>, place: Place, term: Term, denominator: i128) -> Result<(), Stopped>
+fn push_entry(
+    entries: &mut Vec<(Var, i128)>,
+    place: Place,
+    term: Term,
+    denominator: i128,
+) -> Result<(), Stopped>
     requires fits { InRange denominator }
     requires positive { pos 0 <ℤ denominator }
     ensures pushed { OnOk result (entries.new.items ≡ entries.old.items ++ entry_over denominator (seen term)) }

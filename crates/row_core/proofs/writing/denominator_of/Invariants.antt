@@ -12,7 +12,7 @@ invariant-loop-term l = record {
   range : InRange l.denominator;
   positive : pos 0 <ℤ l.denominator;
   fits : all_fit (widened_by_each (pos 1) (denominators (kept (map seen l.terms)) (value_of l.right)))
-    ≡ all_fit (widened_by_each l.denominator (denominators (kept (map seen (drop l.term-index l.terms))) (value_of l.right)));
+      ≡ all_fit (widened_by_each l.denominator (denominators (kept (map seen (drop l.term-index l.terms))) (value_of l.right)));
   value : widened_by_all (pos 1) (denominators (kept (map seen l.terms)) (value_of l.right))
-    ≡ widened_by_all l.denominator (denominators (kept (map seen (drop l.term-index l.terms))) (value_of l.right));
+      ≡ widened_by_all l.denominator (denominators (kept (map seen (drop l.term-index l.terms))) (value_of l.right));
 }
