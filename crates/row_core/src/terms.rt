@@ -39,9 +39,7 @@ impl Model for Terms {
     ghost use Rattle.exact_num.specs.Rational.{Rational};
     ghost use Rattle.row_core.specs.declared.Var.{Var};
     ghost use Rattle.row_core.specs.Numbers.{ascends, variables_of};
-    ghost use Rattle.row_core.specs.Numbers.{ascends, variables_of};
     ghost use Rattle.row_core.specs.Order.{var_cmp};
-    ghost use Rattle.row_core.specs.TermPlaces.{IsThere, BelongsAt};
     ghost use Rattle.row_core.specs.TermViews.{seen};
 
     ghost Value = { List (Var × Rational) };

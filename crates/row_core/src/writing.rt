@@ -23,10 +23,10 @@ use std::alloc::Global;
 /// Coefficients of 0 are left out. The common denominator `D` starts at 1; for the denominator `b` of each
 /// coefficient, in the order of variables, and for that of the right side last, it becomes `D / gcd(D, b) * b`.
 /// Each entry is the coefficient's numerator times `D / b`, and so is the right side. All of them are divided by
-/// their greatest common divisor. `Width` with the row's name comes exactly where one of these numbers doesn't
-/// fit, before the last division.
+/// their greatest common divisor.
 ///
-/// The row says what the equation says, of every plan.
+/// The row says of every plan what the equation says. `Width` with the row's name comes exactly where one of these
+/// numbers doesn't fit, before the last division; any other refusal is for want of memory.
 pub fn write_row(
     alloc: Global,
     name: RowName,
