@@ -1,5 +1,5 @@
 -- How an equation's row is seen to say the equation: by the values of its terms at the scale of its statement. Two equations of capacity.
-use Rattle.std.proofs.Common.{◌≡◌, ℕ, ◌^◌, ℤ, pos, negsuc, neg_ℤ, ◌+ℤ◌, ◌*ℤ◌, List, [], ◌∷◌, map, refl, sym, ap, ◌∙◌, subst, arith}
+use Rattle.std.proofs.Common.{◌≡◌, ℕ, ◌^◌, ℤ, pos, negsuc, neg_ℤ, ◌+ℤ◌, ◌*ℤ◌, List, [], ◌∷◌, map, refl, arith}
 use Rattle.std.specs.Prelude.{◌↔◌, ◌<ℤ◌}
 use Rattle.std.proofs.lemmas.Int.{ints}
 use Rattle.exact_num.specs.Rational.{Rational, whole, lowest}

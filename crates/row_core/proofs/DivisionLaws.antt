@@ -1,11 +1,11 @@
 -- Common denominators, and the greatest common divisor of a list.
-use Rattle.std.proofs.Common.{◌≡◌, ◌≢◌, ℕ, zero, suc, ◌*◌, ◌/◌, ◌<◌, ◌≤◌, ℤ, pos, negsuc, neg_ℤ, ◌+ℤ◌, ◌*ℤ◌, Bool, true, false, List, [], ◌∷◌, ◌++◌, ◌&&◌, refl, sym, ap, ap₂, ◌∙◌, subst, arith, if◌then◌else◌}
+use Rattle.std.proofs.Common.{◌≡◌, ◌≢◌, ℕ, ◌*◌, ℤ, pos, ◌+ℤ◌, ◌*ℤ◌, Bool, true, false, List, [], ◌∷◌, ◌&&◌, refl, sym, ap, ap₂, ◌∙◌, subst, arith, if◌then◌else◌}
 use borrow.Author.Tests.{eqb-true}
-use Rattle.std.specs.Prelude.{unsigned_abs, int_div, ◌<ℤ◌, ◌==◌, ⊤, IsTrue}
-use Rattle.std.specs.Int.{◌∣◌, IsGcd}
+use Rattle.std.specs.Prelude.{unsigned_abs, int_div, ◌<ℤ◌, ⊤}
+use Rattle.std.specs.Int.{◌∣◌}
 use Rattle.std.proofs.lemmas.Int.{ints, unsigned_abs-mul}
 use Rattle.std.proofs.lemmas.Nat.Gcd.{dvd_trans, dvd_refl, dvd-zero}
-use Rattle.std.proofs.Math.Nat.{dvd-mul_left, dvd-mul_right, mul-dvd-mul_left, one-dvd}
+use Rattle.std.proofs.Math.Nat.{dvd-mul_left, mul-dvd-mul_left, one-dvd}
 use Rattle.exact_num.specs.Formed.{common}
 use Rattle.exact_num.specs.Gcd.{gcd_of}
 use Rattle.exact_num.specs.Rational.{Rational}
@@ -16,8 +16,8 @@ use Rattle.exact_num.proofs.Ring.{*ℤ_assoc, *ℤ-one, one-*ℤ, zero-*ℤ, zer
 use Rattle.exact_num.specs.Range.{all_fit, in_range as fits}
 use Rattle.exact_num.proofs.StepLaws.{all_fit-cons}
 use Rattle.row_core.specs.declared.Var.{Var}
-use Rattle.row_core.specs.Numbers.{is_zero, all_zero, numbers_of, DividesAll, IsLowest}
-use Rattle.row_core.specs.Written.{kept, widened, widened_by_all, widened_by_each, denominators, common_divisor, row_divisor, numerator_over, entries_over}
+use Rattle.row_core.specs.Numbers.{is_zero, DividesAll}
+use Rattle.row_core.specs.Written.{kept, widened, widened_by_all, widened_by_each, denominators, common_divisor, numerator_over, entries_over}
 use Rattle.row_core.specs.TermSteps.{widened_by_term}
 use Rattle.row_core.specs.Values.{IsOver, IsSumOver}
 use Rattle.row_core.specs.Rows.{row_sum}

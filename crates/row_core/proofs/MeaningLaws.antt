@@ -1,15 +1,14 @@
 -- What a written row means: it is its terms and right side times a positive number, so it says the same of every plan, and each entry has the sign of its coefficient.
-use Rattle.std.proofs.Common.{◌≡◌, ◌≢◌, ℕ, ◌<◌, ℤ, pos, ◌+ℤ◌, ◌*ℤ◌, Bool, true, false, List, [], ◌∷◌, ◌&&◌, refl, sym, ap, ap₂, ◌∙◌, subst, arith, if◌then◌else◌}
-use Rattle.std.specs.Prelude.{◌<ℤ◌, ◌≤ℤ◌, ◌↔◌, IsTrue}
+use Rattle.std.proofs.Common.{◌≡◌, ℕ, ◌<◌, ℤ, pos, ◌+ℤ◌, ◌*ℤ◌, Bool, true, false, List, [], ◌∷◌, refl, sym, ap, ap₂, ◌∙◌, subst, arith, if◌then◌else◌}
+use Rattle.std.specs.Prelude.{◌<ℤ◌, ◌↔◌}
 use Rattle.std.specs.Ordering.{is_eq, is_lt, int_cmp, ordering_reverse}
 use Rattle.std.specs.declared.cmp.Ordering.{Ordering}
 use Rattle.std.specs.declared.cmp.Ordering.TheVariants.{Less, Equal as Alike, Greater}
 use Rattle.std.proofs.lemmas.Int.{ints}
-use Rattle.exact_num.specs.Range.{all_fit}
 use Rattle.exact_num.specs.Rational.{Rational}
 use Rattle.exact_num.proofs.Integers.{*ℤ-≤ℤ, ≤ℤ_cancel, *ℤ_cancel, *ℤ_pos, nonzero_of_pos, int_div-mul}
 use Rattle.exact_num.proofs.OrderLaws.{int_cmp-mul}
-use Rattle.exact_num.proofs.Ring.{products, ring, *ℤ-one, *ℤ-zero, zero-*ℤ, +ℤ-zero, zero-+ℤ}
+use Rattle.exact_num.proofs.Ring.{products, *ℤ-one, *ℤ-zero, zero-*ℤ, +ℤ-zero, zero-+ℤ}
 use Rattle.row_core.specs.declared.Row.{Row}
 use Rattle.row_core.specs.declared.Sense.{Sense}
 use Rattle.row_core.specs.declared.Sense.TheVariants.{Least, Equal, Most}

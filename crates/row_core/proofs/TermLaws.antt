@@ -1,8 +1,8 @@
 -- What one more term does to a list of terms: the list goes on ascending, and where the term goes.
-use Rattle.std.proofs.Common.{◌≡◌, ◌≢◌, ℕ, zero, suc, ◌+◌, ◌-◌, ◌<◌, ◌≤◌, ℤ, Bool, true, false, List, [], ◌∷◌, ◌++◌, ◌&&◌, length, map, get_or, set, take, drop, refl, sym, ap, ap₂, ◌∙◌, subst, arith, append_assoc, inl, inr, ◌⊎◌}
+use Rattle.std.proofs.Common.{◌≡◌, ◌≢◌, ℕ, zero, suc, ◌<◌, ◌≤◌, ℤ, true, List, [], ◌∷◌, ◌++◌, length, map, get_or, set, refl, sym, ap, ◌∙◌, subst, arith, append_assoc, inl, inr}
 use Rattle.std.specs.List.{insert}
 use Rattle.std.specs.Cmp.Derive.{both_true}
-use Rattle.std.specs.Ordering.{is_lt, is_eq, ordering_reverse}
+use Rattle.std.specs.Ordering.{ordering_reverse}
 use Rattle.std.specs.declared.cmp.Ordering.{Ordering}
 use Rattle.std.specs.declared.cmp.Ordering.TheVariants.{Less, Equal, Greater}
 use Rattle.std.proofs.Math.Nat.{eq-or-lt_of_le}
@@ -16,7 +16,7 @@ use Rattle.row_core.specs.Order.{var_cmp}
 use Rattle.row_core.specs.TermPlaces.{AreBefore, IsThere, BelongsAt}
 use Rattle.row_core.specs.Terms.{with_term, term_formed, gathered_onto, gathered, gathered_formed_onto}
 use Rattle.row_core.specs.TermViews.{seen}
-use Rattle.row_core.proofs.AscendingLaws.{both_passed, Less-from_test, test-from_Less, ascends-AllPairs}
+use Rattle.row_core.proofs.AscendingLaws.{both_passed, test-from_Less, ascends-AllPairs}
 use Rattle.row_core.proofs.Orders.{var_cmp_total, var_cmp_exact}
 
 -- ---- one more term by the order of the variables

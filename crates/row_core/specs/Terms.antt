@@ -1,5 +1,5 @@
 -- The terms of an equation, all on its left side: variables, each with the exact value of its coefficient, in strictly ascending order of variables.
-use Rattle.std.specs.Prelude.{ℤ, pos, List, [], ◌∷◌, ◌++◌, if◌then◌else◌}
+use Rattle.std.specs.Prelude.{ℤ, List, [], ◌∷◌, ◌++◌}
 use Rattle.std.specs.declared.cmp.Ordering.TheVariants.{Less, Equal, Greater}
 use Rattle.exact_num.specs.Formed.{sum_formed}
 use Rattle.exact_num.specs.Rational.{Rational, plus}

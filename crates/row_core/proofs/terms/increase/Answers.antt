@@ -1,4 +1,4 @@
-use Rattle.std.proofs.Common.{◌≡◌, ℕ, ◌<◌, length, map, get_or, set, sym, ap, ap₂, ◌∙◌, arith}
+use Rattle.std.proofs.Common.{◌≡◌, map, get_or, set, ap, ap₂, ◌∙◌}
 use Rattle.std.proofs.lemmas.List.{get_or_default, map-set}
 use Rattle.exact_num.specs.Rational.{Rational, plus}
 use Rattle.exact_num.specs.Value.{value_of}

@@ -1,5 +1,5 @@
 -- The terms so far have this common denominator, and what is formed from here on is what is left.
-use Rattle.std.proofs.Common.{◌≡◌, ℕ, ℤ, pos, map, drop}
+use Rattle.std.proofs.Common.{◌≡◌, pos, map, drop}
 use Rattle.std.specs.Prelude.{◌<ℤ◌}
 use Rattle.exact_num.specs.Range.{InRange, all_fit}
 use Rattle.exact_num.specs.Value.{value_of}

@@ -1,5 +1,5 @@
 -- The greatest common divisor, number by number.
-use Rattle.std.proofs.Common.{◌≡◌, ℕ, ◌+◌, ◌<◌, ◌≤◌, ℤ, pos, Bool, true, false, List, ◌∷◌, length, get_or, drop, sym, ap, ap₂, ◌∙◌, subst, arith, to_z, of_z, if◌then◌else◌}
+use Rattle.std.proofs.Common.{◌≡◌, ℕ, ◌+◌, ◌<◌, ℤ, pos, ◌∷◌, get_or, drop, sym, ap, ◌∙◌, subst, arith, to_z, of_z}
 use Rattle.std.specs.Int.{w128}
 use Rattle.std.specs.Prelude.{unsigned_abs, ◌≤ℤ◌, ◌<ℤ◌}
 use Rattle.std.proofs.lemmas.Int.{ints}
@@ -10,7 +10,7 @@ use Rattle.exact_num.proofs.Integers.{pos-unsigned_abs, unsigned_abs_pos, nonzer
 use Rattle.exact_num.proofs.RangeLaws.{back_in_range}
 use Rattle.row_core.specs.declared.Var.{Var}
 use Rattle.row_core.specs.Numbers.{numbers_of}
-use Rattle.row_core.specs.Written.{common_divisor, row_divisor}
+use Rattle.row_core.specs.Written.{common_divisor}
 use Rattle.row_core.proofs.WritingSteps.{entries_fit-at, no_entry, nonnegative_is, shared-step, shared-end, row_divisor-by, above_zero}
 use Rattle.row_core.proofs.writing.divisor_of.Goals as goal
 

@@ -1,5 +1,5 @@
 -- One term after another.
-use Rattle.std.proofs.Common.{◌≡◌, ℕ, ◌+◌, ◌<◌, ◌≤◌, ℤ, pos, Bool, true, false, List, [], ◌∷◌, ◌++◌, ◌&&◌, length, map, get_or, drop, sym, ap, ap₂, ◌∙◌, subst, arith, refl, to_z, of_z, append_assoc, append-nil}
+use Rattle.std.proofs.Common.{◌≡◌, ◌+◌, ℤ, false, ◌++◌, ◌&&◌, drop, sym, ap, ◌∙◌, arith, to_z, of_z, append_assoc, append-nil}
 use Rattle.std.specs.Int.{w128}
 use Rattle.std.proofs.lemmas.List.{at_drop_all}
 use Rattle.std.proofs.lemmas.Result.{err_from_is_err_and}

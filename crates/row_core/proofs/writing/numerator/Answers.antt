@@ -1,10 +1,9 @@
 -- Over its own denominator a number keeps its numerator.
-use Rattle.std.proofs.Common.{◌≡◌, ℤ, pos, true, sym, ap, ◌∙◌, to_z, of_z}
+use Rattle.std.proofs.Common.{◌≡◌, sym, ap, ◌∙◌, to_z}
 use Rattle.std.specs.Int.{w128}
-use Rattle.exact_num.specs.Range.{InRange, in_range}
+use Rattle.exact_num.specs.Range.{in_range}
 use Rattle.exact_num.specs.Value.{value_of}
 use Rattle.exact_num.proofs.RangeLaws.{back_in_range, true-in_range}
-use Rattle.row_core.specs.Written.{numerator_over}
 use Rattle.row_core.proofs.DivisionLaws.{numerator_over-own}
 use Rattle.row_core.proofs.writing.numerator.Goals as goal
 

@@ -1,8 +1,7 @@
 -- A coefficient of 0 has no entry, and any other one's numerator is the one number formed.
-use Rattle.std.proofs.Common.{◌≡◌, ◌≢◌, ℕ, ℤ, pos, true, false, sym, ap, ◌∙◌, refl, to_z, of_z}
+use Rattle.std.proofs.Common.{◌≡◌, ◌≢◌, pos, sym, ap, ◌∙◌, refl, to_z, of_z}
 use Rattle.std.specs.Int.{w128}
-use Rattle.exact_num.specs.Range.{InRange, in_range, all_fit}
-use Rattle.exact_num.specs.Value.{value_of}
+use Rattle.exact_num.specs.Range.{in_range}
 use Rattle.exact_num.proofs.RangeLaws.{back_in_range}
 use Rattle.exact_num.proofs.StepLaws.{all_fit-nil}
 use Rattle.row_core.specs.TermViews.{seen}
