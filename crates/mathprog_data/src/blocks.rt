@@ -1,7 +1,8 @@
 //! What a data section says: the members of its sets, and the defaults and values of its parameters.
 
-ghost use Rattle.std.specs.Prelude.{◌≡◌};
+ghost use Rattle.std.specs.Prelude.{◌≡◌, IfOk};
 
+use std::alloc::{AllocError, Global};
 use std::marker::Model;
 
 /// A place in the text: line and column, both counted from 1. Columns count bytes, a tab as one.
@@ -30,6 +31,14 @@ impl Name {
         ensures { result ≡ bytes.items }
     {
         Name(bytes)
+    }
+
+    /// A second name of the same bytes.
+    pub(crate) fn copy(&self, alloc: Global) -> Result<Name, AllocError>
+        ensures { IfOk result (λ name. name ≡ self.now) }
+    {
+        let bytes = Vec::from_slice(alloc, self.0.as_slice())?;
+        Ok(Name(bytes))
     }
 
     /// The bytes of the name.

@@ -10,7 +10,9 @@ mod fault;
 mod lexeme;
 mod params;
 mod sets;
+mod statements;
 mod token;
+mod words;
 
 pub use blocks::{Blocks, Given, Mark, Name, ParamBlock, SetBlock};
 pub use fault::{DataFault, ReadFail};

@@ -1,7 +1,7 @@
 //! The parameters of the OSeMOSYS long code: their words and how many subscripts they have.
 
 ghost use Rattle.std.specs.Prelude.{◌≡◌, map};
-ghost use Rattle.mathprog_data.specs.Params.{IsParam, params, param_at, param_word, subscript_count};
+ghost use Rattle.mathprog_data.specs.Params.{IsParam, params, param_at, param_word, subscript_count, param_number};
 ghost use Rattle.mathprog_data.specs.ParamTables.{described_param};
 
 /// A parameter: its word, and how many subscripts it has.
@@ -261,4 +261,45 @@ pub fn subscript_count(param: u8) -> u8
     ensures { result ≡ subscript_count param }
 {
     entry(param).subscripts
+}
+
+/// The place of the word in the table, counted from 1.
+fn place_of(table: &[Parameter], word: &[u8]) -> Option<u8>
+    requires { map described_param table.now ≡ params }
+    ensures { result ≡ param_number word.now }
+{
+    for (i, entry) in table.iter().enumerate() {
+        if word == entry.word.as_bytes() {
+            return Some(i as u8 + 1);
+        }
+    }
+    None
+}
+
+/// The number of the parameter with this name.
+pub(crate) fn param_number(word: &[u8]) -> Option<u8>
+    ensures { result ≡ param_number word.now }
+{
+    place_of(&PARAMS, word)
+}
+
+/// How many subscripts the parameter has. Where there is none of this number: as many as number 1 has below
+/// it, and none above.
+pub(crate) fn subscripts_of(param: u8) -> u8
+    ensures { result ≡ subscript_count param }
+{
+    at_place(&PARAMS, param)
+}
+
+/// How many subscripts the parameter at this place of the table has.
+fn at_place(table: &[Parameter], param: u8) -> u8
+    requires { map described_param table.now ≡ params }
+    ensures { result ≡ subscript_count param }
+{
+    let place = param.saturating_sub(1) as usize;
+    if place < table.len() {
+        table[place].subscripts
+    } else {
+        0
+    }
 }

@@ -1,7 +1,8 @@
 //! The sets of the OSeMOSYS long code.
 
-ghost use Rattle.std.specs.Prelude.{◌≡◌};
-ghost use Rattle.mathprog_data.specs.Params.{IsSet, set_words, set_word};
+ghost use Rattle.std.specs.Prelude.{◌≡◌, position, Option};
+ghost use Rattle.std.specs.Str.{bytes_eq};
+ghost use Rattle.mathprog_data.specs.Params.{IsSet, set_words, set_word, set_number};
 ghost use Rattle.mathprog_data.specs.ParamTables.{texts_of};
 
 /// The words of the sets, from number 1 on.
@@ -35,4 +36,24 @@ pub fn set_word(set: u8) -> &'static str
     ensures { result.now ≡ set_word set }
 {
     look_up(&SETS, set)
+}
+
+/// The place of the word in the table, counted from 1.
+fn place_of(table: &'static [&'static str], word: &[u8]) -> Option<u8>
+    requires { texts_of table.now ≡ set_words }
+    ensures { result ≡ set_number word.now }
+{
+    for (i, entry) in table.iter().enumerate() {
+        if word == entry.as_bytes() {
+            return Some(i as u8 + 1);
+        }
+    }
+    None
+}
+
+/// The number of the set with this name.
+pub(crate) fn set_number(word: &[u8]) -> Option<u8>
+    ensures { result ≡ set_number word.now }
+{
+    place_of(&SETS, word)
 }

@@ -1,20 +1,20 @@
 -- The data of statements, statement by statement.
-use Rattle.std.proofs.Common.{◌≡◌, ◌≢◌, ℕ, suc, ◌+◌, ◌-◌, ◌<◌, ◌≤◌, Bool, true, false, cond, ◌&&◌, List, [], ◌∷◌, ◌++◌, Option, None, Some, length, map, nat_eq, get_or, take, set, refl, sym, ap, ◌∙◌, subst, inl, inr, arith, All}
+use Rattle.std.proofs.Common.{◌≡◌, ◌≢◌, ℕ, zero, suc, ◌+◌, ◌<◌, ◌≤◌, Bool, true, false, cond, ◌&&◌, List, [], ◌∷◌, ◌++◌, Option, None, Some, length, map, nat_eq, get_or, take, refl, sym, ap, ◌∙◌, inl, inr, arith, All}
 use Rattle.std.specs.Prelude.{ℤ, if◌then◌else◌}
 use Rattle.std.specs.Cmp.Lexicographic.{pointwise}
 use Rattle.std.specs.List.{IsDistinct, cons_option, filter_map, find, flat_map}
 use Rattle.std.specs.Option.{option_map, option_or}
 use Rattle.std.specs.Str.{bytes_eq}
 use Rattle.std.proofs.lemmas.Bool.{cases_eq, eq-eqb, ne_eqb, eqb-false}
-use Rattle.std.proofs.lemmas.List.{append-nil, get_or-map, get_or-take, length-map, length-take, take_more}
+use Rattle.std.proofs.lemmas.List.{append-nil, get_or-map, get_or-take, length-map, length-take, take_all, take_more}
 use Rattle.std.proofs.lemmas.List.Concat.{flat_map-append}
 use Rattle.std.proofs.lemmas.List.Elements.{filter_map-append}
 use Rattle.std.proofs.lemmas.List.Folds.{find-append}
 use Rattle.std.proofs.lemmas.Map.Keys.{apart_from_distinct}
-use Rattle.model_sets.specs.Data.{Data, Default, Given, default_of, given_at, is_given_at, value_at, value_of_none}
+use Rattle.model_sets.specs.Data.{Default, Given, default_of, given_at, is_given_at, value_at, value_of_none}
 use Rattle.model_sets.specs.Members.{SetLists}
 use Rattle.param_tables.specs.BlockData.{data_of, given_of, givens_of, stated_default}
-use Rattle.param_tables.specs.Statements.{ParamStatement, PlacedValue}
+use Rattle.mathprog_data.specs.Meaning.{ParamBlock, GivenValue}
 use Rattle.param_tables.specs.Tables.{given_among, value_else}
 
 option_or-none : {X : Type 0} (o : Option X) → option_or o None ≡ o
@@ -34,12 +34,12 @@ none_either_way : (b : Bool) → nothing ≡ (if b then nothing else nothing)
 none_either_way true = refl
 none_either_way false = refl
 
-given_step : (q : ℕ) (v : PlacedValue) (b t : Bool) (f : Option Given) (h : Option PlacedValue) → option_map (λ g. g.value) f ≡ (if b then option_map (λ w. w.value) h else None) → option_map (λ g. g.value) (cond (b && t) (Some (given_of q v)) f) ≡ (if b then option_map (λ w. w.value) (cond t (Some v) h) else None)
+given_step : (q : ℕ) (v : GivenValue) (b t : Bool) (f : Option Given) (h : Option GivenValue) → option_map (λ g. g.value) f ≡ (if b then option_map (λ w. w.value) h else None) → option_map (λ g. g.value) (cond (b && t) (Some (given_of q v)) f) ≡ (if b then option_map (λ w. w.value) (cond t (Some v) h) else None)
 given_step q v true true f h e = refl
 given_step q v true false f h e = e
 given_step q v false t f h e = e
 
-find-given : (q p : ℕ) (index : List (List ℕ)) (values : List PlacedValue) → option_map (λ g. g.value) (find (is_given_at p index) (map (given_of q) values)) ≡ (if nat_eq q p then given_among values index else None)
+find-given : (q p : ℕ) (index : List (List ℕ)) (values : List GivenValue) → option_map (λ g. g.value) (find (is_given_at p index) (map (given_of q) values)) ≡ (if nat_eq q p then given_among values index else None)
 unfolding nothing
 find-given q p index [] = none_either_way (nat_eq q p)
 find-given q p index (v ∷ vs) = given_step q v (nat_eq q p) (pointwise bytes_eq v.index index) (find (is_given_at p index) (map (given_of q) vs)) (find (λ w. pointwise bytes_eq w.index index) vs) (find-given q p index vs)
@@ -55,7 +55,7 @@ default_step n p (Some v) = by (nat_eq n p)
 
 -- ---- one more statement
 
-module _ (sets : SetLists) (xs : List ParamStatement) (s : ParamStatement) (p : ℕ) where
+module _ (sets : SetLists) (xs : List ParamBlock) (s : ParamBlock) (p : ℕ) where
   given_at-push : (index : List (List ℕ)) → given_at (data_of sets (xs ++ s ∷ [])) p index ≡ option_or (given_at (data_of sets xs) p index) (if nat_eq s.param p then given_among s.values index else None)
   given_at-push index =
       ap (λ gs. option_map (λ g. g.value) (find (is_given_at p index) gs)) (flat_map-append givens_of xs (s ∷ []) ∙ ap (λ gs. flat_map givens_of xs ++ gs) (append-nil (givens_of s)))
@@ -88,17 +88,16 @@ module _ (sets : SetLists) (xs : List ParamStatement) (s : ParamStatement) (p : 
 
 -- ---- no statement on the parameter
 
-none_of : (sets : SetLists) (xs : List ParamStatement) (p : ℕ) → All (λ s. s.param ≡ p → ⊥) xs → ((index : List (List ℕ)) → given_at (data_of sets xs) p index ≡ None) × (default_of (data_of sets xs) p ≡ None)
+none_of : (sets : SetLists) (xs : List ParamBlock) (p : ℕ) → All (λ s. s.param ≡ p → ⊥) xs → ((index : List (List ℕ)) → given_at (data_of sets xs) p index ≡ None) × (default_of (data_of sets xs) p ≡ None)
 none_of sets [] p others = (λ index. refl, refl)
 none_of sets (x ∷ xs) p others =
     let rest = none_of sets xs p (λ j d below. others (suc j) d (omega arith)) in
-    let no : nat_eq x.param p ≡ false = ne_eqb x.param p (others 0 x (omega arith)) in
-    (
+    let no : nat_eq x.param p ≡ false = ne_eqb x.param p (others 0 x (omega arith)) in (
       λ index.
-        ap (option_map (λ g. g.value)) (find-append (is_given_at p index) (givens_of x) (flat_map givens_of xs))
-        ∙ option_or-map (λ g. g.value) (find (is_given_at p index) (givens_of x)) (find (is_given_at p index) (flat_map givens_of xs))
-        ∙ ap (λ o. option_or o (given_at (data_of sets xs) p index)) (find-given x.param p index x.values ∙ ap (λ b. if b then given_among x.values index else None) no)
-        ∙ rest.0 index,
+          ap (option_map (λ g. g.value)) (find-append (is_given_at p index) (givens_of x) (flat_map givens_of xs))
+          ∙ option_or-map (λ g. g.value) (find (is_given_at p index) (givens_of x)) (find (is_given_at p index) (flat_map givens_of xs))
+          ∙ ap (λ o. option_or o (given_at (data_of sets xs) p index)) (find-given x.param p index x.values ∙ ap (λ b. if b then given_among x.values index else None) no)
+          ∙ rest.0 index,
       default_skipped x.param p x.default (filter_map stated_default xs) no ∙ rest.1,
     )
   where
@@ -107,7 +106,7 @@ none_of sets (x ∷ xs) p others =
     default_skipped n p (Some v) ds apart = ap (λ b. option_map (λ (d : Default). d.value) (cond b (Some (record { param = n; value = v })) (find (λ (d : Default). nat_eq d.param p) ds))) apart
 
 -- of statements on different parameters, those before one are on others
-pub none_before : (sets : SetLists) (all : List ParamStatement) (i : ℕ) (s : ParamStatement) → IsDistinct nat_eq (map (λ t. t.param) all) → i < length all → get_or all i s ≡ s → ((index : List (List ℕ)) → given_at (data_of sets (take i all)) s.param index ≡ None) × (default_of (data_of sets (take i all)) s.param ≡ None)
+pub none_before : (sets : SetLists) (all : List ParamBlock) (i : ℕ) (s : ParamBlock) → IsDistinct nat_eq (map (λ t. t.param) all) → i < length all → get_or all i s ≡ s → ((index : List (List ℕ)) → given_at (data_of sets (take i all)) s.param index ≡ None) × (default_of (data_of sets (take i all)) s.param ≡ None)
 none_before sets all i s distinct below at = none_of sets (take i all) s.param others
   where
     others : All (λ t. t.param ≡ s.param → ⊥) (take i all)
@@ -118,3 +117,31 @@ none_before sets all i s distinct below at = none_of sets (take i all) s.param o
         let first : get_or (map (λ t. t.param) all) j 0 ≡ (get_or (take i all) j d).param = get_or-map (λ t. t.param) all j d 0 in_all ∙ ap (λ t. t.param) (sym (get_or-take i all j d before)) in
         let second : get_or (map (λ t. t.param) all) i 0 ≡ s.param = get_or-map (λ t. t.param) all i s 0 below ∙ ap (λ t. t.param) at in
         eqb-false (get_or (map (λ t. t.param) all) j 0) (get_or (map (λ t. t.param) all) i 0) (apart_from_distinct nat_eq (map (λ t. t.param) all) j i 0 distinct before inside) (first ∙ same ∙ sym second)
+
+-- ---- all statements
+
+-- the value that the statement at a place gives, whatever stands after it
+module _ (sets : SetLists) (all : List ParamBlock) (distinct : IsDistinct nat_eq (map (λ t. t.param) all)) (i : ℕ) (s : ParamBlock) (inside : i < length all) (at : get_or all i s ≡ s) (index : List (List ℕ)) where
+  later_apart : (m : ℕ) → i < m → m < length all → ((get_or all m s).param ≢ s.param)
+  later_apart m after below same =
+      let long : length (map (λ t. t.param) all) ≡ length all = length-map all (λ t. t.param) in
+      let here : get_or (map (λ t. t.param) all) i 0 ≡ s.param = get_or-map (λ t. t.param) all i s 0 inside ∙ ap (λ t. t.param) at in
+      let there : get_or (map (λ t. t.param) all) m 0 ≡ (get_or all m s).param = get_or-map (λ t. t.param) all m s 0 below in
+      eqb-false (get_or (map (λ t. t.param) all) i 0) (get_or (map (λ t. t.param) all) m 0) (apart_from_distinct nat_eq (map (λ t. t.param) all) i m 0 distinct after (omega arith)) (here ∙ sym same ∙ sym there)
+
+  value_taken : (n : ℕ) → i < n → n ≤ length all → value_at (data_of sets (take n all)) s.param index ≡ option_or (given_among s.values index) (value_else s.param s.default)
+  value_taken zero before within = absurd (omega arith)
+  value_taken (suc m) before within = elim (cases_eq i m) [
+    | inl last ↦
+        let none = none_before sets all i s distinct inside at in
+        let taken : take (suc m) all ≡ take i all ++ s ∷ [] = (let n : suc m ≡ i + 1 = omega arith in ap (λ k. take k all) n) ∙ take_more all i s inside ∙ ap (λ t. take i all ++ t ∷ []) at in
+        ap (λ xs. value_at (data_of sets xs) s.param index) taken ∙ value_at-here sets (take i all) s s.param refl none.0 none.1 index
+    | inr more ↦
+        let after : i < m = omega arith in
+        let below : m < length all = omega arith in
+        let taken : take (suc m) all ≡ take m all ++ get_or all m s ∷ [] = (let n : suc m ≡ m + 1 = omega arith in ap (λ k. take k all) n) ∙ take_more all m s below in
+        ap (λ xs. value_at (data_of sets xs) s.param index) taken ∙ value_at-other sets (take m all) (get_or all m s) s.param (later_apart m after below) index ∙ value_taken m after (omega arith)
+  ]
+
+  pub value_of_statement : value_at (data_of sets all) s.param index ≡ option_or (given_among s.values index) (value_else s.param s.default)
+  value_of_statement = ap (λ xs. value_at (data_of sets xs) s.param index) (sym (take_all (length all) all (omega arith))) ∙ value_taken (length all) inside (omega arith)

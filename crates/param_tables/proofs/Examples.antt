@@ -5,13 +5,13 @@ use Rattle.std.specs.Fmt.{digits}
 use Rattle.mathprog_data.specs.declared.blocks.Mark.{Mark}
 use Rattle.model_sets.specs.declared.fault.SetFault.{SetFault}
 use Rattle.model_sets.specs.Data.{value_at}
-use Rattle.param_tables.specs.BlockData.{data_told, sets_told}
+use Rattle.param_tables.specs.BlockData.{data_told, set_lists}
 use Rattle.param_tables.specs.Positions.{names_at}
 use Rattle.param_tables.specs.RangeTable.{range_of}
 use Rattle.param_tables.specs.Ranges.{range_fault, whole}
 use Rattle.param_tables.specs.Refusals.{Refusal, StorageMember, UnknownName, GivenBefore, AtIndex, first_refusal}
 use Rattle.param_tables.specs.SetRefusals.{first_set_refusal}
-use Rattle.param_tables.specs.Statements.{Statements, SetStatement, ParamStatement, PlacedValue}
+use Rattle.mathprog_data.specs.Meaning.{Blocks, SetBlock, ParamBlock, GivenValue}
 use Rattle.param_tables.specs.declared.fault.CellFault.TheVariants.{NoValue, Negative, NotPositive, NotWhole, OutOfRange, WholeUnits}
 
 -- ---- ranges
@@ -57,22 +57,22 @@ any = refl
 
 -- ---- a model of one region, technology, fuel, mode, timeslice and year, with defaults alone
 
-on_set : ℕ → List (List ℕ) → SetStatement
+on_set : ℕ → List (List ℕ) → SetBlock
 on_set k names = record { set = k; members = names }
 
-by_default : ℕ → ℤ → ParamStatement
+by_default : ℕ → ℤ → ParamBlock
 by_default n v = record { param = n; default = Some v; values = [] }
 
-by_values : ℕ → List PlacedValue → ParamStatement
+by_values : ℕ → List GivenValue → ParamBlock
 by_values n values = record { param = n; default = None; values = values }
 
 place : ℕ → ℕ → Mark
 place line column = record { line = line; column = column }
 
-value : List (List ℕ) → ℤ → Mark → PlacedValue
+value : List (List ℕ) → ℤ → Mark → GivenValue
 value index v at = record { index = index; value = v; at = at }
 
-some_sets : List SetStatement
+some_sets : List SetBlock
 some_sets =
     on_set 1 (codes "R" ∷ [])
     ∷ on_set 2 (codes "T" ∷ [])
@@ -82,7 +82,7 @@ some_sets =
     ∷ on_set 7 (codes "2020" ∷ [])
     ∷ []
 
-defaults : List ParamStatement
+defaults : List ParamBlock
 defaults =
     by_default 1 (pos 1000000000)
     ∷ by_default 2 (pos 0)
@@ -124,14 +124,14 @@ defaults =
     ∷ by_default 38 (negsuc 999999999)
     ∷ []
 
-of : List SetStatement → List ParamStatement → Statements
+of : List SetBlock → List ParamBlock → Blocks
 of sets params = record { sets = sets; params = params; rounded = 0 }
 
 -- the same with another statement on a parameter
-but : ParamStatement → List ParamStatement
+but : ParamBlock → List ParamBlock
 but statement = set defaults (statement.param - 1) statement
 
-base : Statements
+base : Blocks
 base = of some_sets defaults
 
 base_sets : first_set_refusal base ≡ None
@@ -147,7 +147,7 @@ kept : value_at (data_told base) 5 (codes "R" ∷ codes "F" ∷ codes "2020" ∷
 unfolding base of some_sets defaults on_set by_default
 kept = refl
 
-unit : Statements
+unit : Blocks
 unit = of some_sets (but (by_values 18 []))
 
 units : first_refusal unit ≡ None
@@ -158,7 +158,7 @@ unit_value : value_at (data_told unit) 18 (codes "R" ∷ codes "T" ∷ codes "20
 unfolding unit but of some_sets defaults on_set by_default by_values
 unit_value = refl
 
-positions : names_at (sets_told base) 5 (0 ∷ 0 ∷ 0 ∷ []) ≡ codes "R" ∷ codes "F" ∷ codes "2020" ∷ []
+positions : names_at (set_lists base) 5 (0 ∷ 0 ∷ 0 ∷ []) ≡ codes "R" ∷ codes "F" ∷ codes "2020" ∷ []
 unfolding base of some_sets defaults on_set by_default
 positions = refl
 
@@ -173,7 +173,7 @@ unfolding nothing of digits
 empty_text = refl
 
 -- the same sets, with another statement in place of the one at this place
-with_set : ℕ → SetStatement → Statements
+with_set : ℕ → SetBlock → Blocks
 with_set i statement = of (set some_sets i statement) []
 
 letters : List (List ℕ)
@@ -199,7 +199,7 @@ no_mode = refl
 
 -- ---- refused parameters
 
-with_param : ParamStatement → Option Refusal
+with_param : ParamBlock → Option Refusal
 with_param statement = first_refusal (of some_sets (but statement))
 
 -- STORAGE goes before everything else
@@ -235,13 +235,13 @@ no_index = refl
 
 -- ---- two years
 
-two_years : List SetStatement
+two_years : List SetBlock
 two_years = set some_sets 5 (on_set 7 (codes "2020" ∷ codes "2021" ∷ []))
 
-cost : List ℕ → ℤ → ℕ → PlacedValue
+cost : List ℕ → ℤ → ℕ → GivenValue
 cost year v line = value (codes "R" ∷ codes "T" ∷ year ∷ []) v (place line 1)
 
-costs : ParamStatement → Option Refusal
+costs : ParamBlock → Option Refusal
 costs statement = first_refusal (of two_years (but statement))
 
 -- a value for 2020 alone and no default

@@ -1,5 +1,5 @@
 -- The values that were given, value by value.
-use Rattle.std.proofs.Common.{◌≡◌, ◌≢◌, ℕ, ◌+◌, ◌<◌, ◌≤◌, Bool, true, false, cond, not, ◌||◌, List, [], ◌∷◌, ◌++◌, Option, None, Some, length, nat_eq, get_or, take, refl, sym, ap, ◌∙◌, subst, inl, inr, arith, All}
+use Rattle.std.proofs.Common.{◌≡◌, ◌≢◌, ℕ, ◌+◌, ◌<◌, ◌≤◌, Bool, true, false, cond, not, ◌||◌, List, [], ◌∷◌, ◌++◌, Option, None, Some, length, nat_eq, get_or, take, refl, sym, ap, ◌∙◌, inl, inr, arith}
 use Rattle.std.specs.Prelude.{ℤ, is_some, if◌then◌else◌}
 use Rattle.std.specs.Bool.{Decides}
 use Rattle.std.specs.Cmp.Lexicographic.{pointwise, pointwise_decides}
@@ -13,9 +13,9 @@ use Rattle.std.proofs.lemmas.Slice.Eq.{bytes_eq-Decides}
 use Rattle.model_sets.specs.Data.{indices_of}
 use Rattle.model_sets.specs.Members.{SetLists}
 use Rattle.model_sets.specs.Params.{IsUsedParam, subscript_sets}
-use Rattle.param_tables.specs.Places.{IsPlaceOf, are_members}
+use Rattle.param_tables.specs.Places.{IsPlaceOf}
 use Rattle.param_tables.specs.Refusals.{Refusal, UnknownName, GivenBefore, is_given_among, names_members, value_refusal}
-use Rattle.param_tables.specs.Statements.{PlacedValue}
+use Rattle.mathprog_data.specs.Meaning.{GivenValue}
 use Rattle.param_tables.specs.Tables.{AreGiven, given_among}
 use Rattle.param_tables.proofs.IndexLaws.{HaveApart, indices_apart}
 use Rattle.param_tables.proofs.TableLaws.{subscripts_are_sets}
@@ -26,18 +26,18 @@ names_same = pointwise_decides bytes_eq-Decides
 
 -- ---- why a value is refused
 
-refusal_by : Bool → Bool → PlacedValue → Option Refusal
+refusal_by : Bool → Bool → GivenValue → Option Refusal
 refusal_by member before value = if not member then Some (UnknownName value.at) else if before then Some (GivenBefore value.at) else None
 
-pub unknown_refused : (sets : SetLists) (param : ℕ) (before : List PlacedValue) (value : PlacedValue) → names_members sets param value.index ≡ false → value_refusal sets param before value ≡ Some (UnknownName value.at)
+pub unknown_refused : (sets : SetLists) (param : ℕ) (before : List GivenValue) (value : GivenValue) → names_members sets param value.index ≡ false → value_refusal sets param before value ≡ Some (UnknownName value.at)
 unfolding refusal_by
 unknown_refused sets param before value e = ap (λ b. refusal_by b (is_given_among before value.index) value) e
 
-pub twice_refused : (sets : SetLists) (param : ℕ) (before : List PlacedValue) (value : PlacedValue) → names_members sets param value.index ≡ true → is_given_among before value.index ≡ true → value_refusal sets param before value ≡ Some (GivenBefore value.at)
+pub twice_refused : (sets : SetLists) (param : ℕ) (before : List GivenValue) (value : GivenValue) → names_members sets param value.index ≡ true → is_given_among before value.index ≡ true → value_refusal sets param before value ≡ Some (GivenBefore value.at)
 unfolding refusal_by
 twice_refused sets param before value e f = ap (λ b. refusal_by b (is_given_among before value.index) value) e ∙ ap (λ b. refusal_by true b value) f
 
-pub value_free : (sets : SetLists) (param : ℕ) (before : List PlacedValue) (value : PlacedValue) → names_members sets param value.index ≡ true → is_given_among before value.index ≡ false → value_refusal sets param before value ≡ None
+pub value_free : (sets : SetLists) (param : ℕ) (before : List GivenValue) (value : GivenValue) → names_members sets param value.index ≡ true → is_given_among before value.index ≡ false → value_refusal sets param before value ≡ None
 unfolding refusal_by
 value_free sets param before value e f = ap (λ b. refusal_by b (is_given_among before value.index) value) e ∙ ap (λ b. refusal_by true b value) f
 
@@ -52,7 +52,7 @@ is_some-find f p (x ∷ xs) = by (p x) (is_some-find f p xs)
     by false e = e
 
 -- a value was given at an index exactly where a look-up finds one
-pub is_some-given : (values : List PlacedValue) (index : List (List ℕ)) → is_some (given_among values index) ≡ is_given_among values index
+pub is_some-given : (values : List GivenValue) (index : List (List ℕ)) → is_some (given_among values index) ≡ is_given_among values index
 is_some-given values index = is_some-find (λ v. v.value) (λ v. pointwise bytes_eq v.index index) values
 
 pub none_from : {X : Type 0} (o : Option X) → is_some o ≡ false → o ≡ None
@@ -60,10 +60,10 @@ none_from None e = refl
 none_from (Some x) e = absurd (false≢true (sym e))
 
 -- one more value
-given_among-push : (values : List PlacedValue) (v : PlacedValue) (index : List (List ℕ)) → given_among (values ++ v ∷ []) index ≡ option_or (given_among values index) (if pointwise bytes_eq v.index index then Some v.value else None)
+given_among-push : (values : List GivenValue) (v : GivenValue) (index : List (List ℕ)) → given_among (values ++ v ∷ []) index ≡ option_or (given_among values index) (if pointwise bytes_eq v.index index then Some v.value else None)
 given_among-push values v index = ap (option_map (λ w. w.value)) (find-append (λ w. pointwise bytes_eq w.index index) values (v ∷ [])) ∙ of_or (find (λ w. pointwise bytes_eq w.index index) values) (pointwise bytes_eq v.index index)
   where
-    of_or : (o : Option PlacedValue) (b : Bool) → option_map (λ w. w.value) (option_or o (cond b (Some v) None)) ≡ option_or (option_map (λ w. w.value) o) (if b then Some v.value else None)
+    of_or : (o : Option GivenValue) (b : Bool) → option_map (λ w. w.value) (option_or o (cond b (Some v) None)) ≡ option_or (option_map (λ w. w.value) o) (if b then Some v.value else None)
     of_or None true = refl
     of_or None false = refl
     of_or (Some w) b = refl
@@ -76,7 +76,7 @@ option_or-none (Some x) = refl
 pub given_none_yet : (sets : SetLists) (param : ℕ) (found : ℕ → Option ℤ) → ((place : ℕ) → found place ≡ None) → AreGiven sets param [] found
 given_none_yet sets param found none = record { inside = λ place below. none place; outside = λ place above. none place }
 
-module _ (sets : SetLists) (apart : HaveApart sets) (param : ℕ) (used : IsUsedParam param) (values : List PlacedValue) (i : ℕ) (v : PlacedValue) (below : i < length values) (is : v ≡ get_or values i v) (place : ℕ) (at : IsPlaceOf sets (subscript_sets param) v.index place) (found : ℕ → Option ℤ) (so_far : AreGiven sets param (take i values) found) where
+module _ (sets : SetLists) (apart : HaveApart sets) (param : ℕ) (used : IsUsedParam param) (values : List GivenValue) (i : ℕ) (v : GivenValue) (below : i < length values) (is : v ≡ get_or values i v) (place : ℕ) (at : IsPlaceOf sets (subscript_sets param) v.index place) (found : ℕ → Option ℤ) (so_far : AreGiven sets param (take i values) found) where
   -- the look-up at the value's place finds what was given at its index
   pub found_here : found place ≡ given_among (take i values) v.index
   found_here = so_far.inside place at.below ∙ ap (given_among (take i values)) at.at
@@ -95,10 +95,10 @@ module _ (sets : SetLists) (apart : HaveApart sets) (param : ℕ) (used : IsUsed
           let name : get_or (indices_of sets param) q [] ≡ v.index = ap (λ n. get_or (indices_of sets param) n []) same ∙ at.at in
           step q ∙ ap (λ b. if b then Some v.value else found q) (eq-eqb q place same)
           ∙ sym
-            (ap (given_among (take (i + 1) values)) name
-            ∙ longer v.index
-            ∙ ap (λ o. option_or o (if pointwise bytes_eq v.index v.index then Some v.value else None)) (sym found_here ∙ none)
-            ∙ ap (λ b. if b then Some v.value else None) ((names_same v.index v.index).1 refl))
+          (ap (given_among (take (i + 1) values)) name
+          ∙ longer v.index
+          ∙ ap (λ o. option_or o (if pointwise bytes_eq v.index v.index then Some v.value else None)) (sym found_here ∙ none)
+          ∙ ap (λ b. if b then Some v.value else None) ((names_same v.index v.index).1 refl))
 
       there : (q : ℕ) → q < length (indices_of sets param) → (q ≢ place) → next q ≡ given_among (take (i + 1) values) (get_or (indices_of sets param) q [])
       there q inside other =
@@ -106,9 +106,9 @@ module _ (sets : SetLists) (apart : HaveApart sets) (param : ℕ) (used : IsUsed
           step q ∙ ap (λ b. if b then Some v.value else found q) (ne_eqb q place other)
           ∙ so_far.inside q inside
           ∙ sym
-            (longer (get_or (indices_of sets param) q [])
-            ∙ ap (λ b. option_or (given_among (take i values) (get_or (indices_of sets param) q [])) (if b then Some v.value else None)) apart_here
-            ∙ option_or-none (given_among (take i values) (get_or (indices_of sets param) q [])))
+          (longer (get_or (indices_of sets param) q [])
+          ∙ ap (λ b. option_or (given_among (take i values) (get_or (indices_of sets param) q [])) (if b then Some v.value else None)) apart_here
+          ∙ option_or-none (given_among (take i values) (get_or (indices_of sets param) q [])))
         where
           false_from : (b : Bool) → ((b ≡ true) → ⊥) → b ≡ false
           false_from true no_way = absurd (no_way refl)

@@ -1,10 +1,10 @@
 -- The refusals of a parameter, by its table.
-use Rattle.std.proofs.Common.{◌≡◌, ℕ, zero, suc, ◌+◌, ◌<◌, ◌≤◌, Bool, true, false, List, [], ◌∷◌, ◌++◌, Option, None, Some, length, get_or, refl, sym, ap, ◌∙◌, subst, arith}
-use Rattle.std.specs.Prelude.{ℤ, nat_lt, if◌then◌else◌}
+use Rattle.std.proofs.Common.{◌≡◌, ℕ, zero, suc, ◌<◌, ◌≤◌, List, [], ◌∷◌, ◌++◌, Option, None, Some, length, get_or, refl, ap, ◌∙◌, subst, arith}
+use Rattle.std.specs.Prelude.{ℤ, if◌then◌else◌}
 use Rattle.std.specs.List.{cons_option, filter_map}
 use Rattle.std.specs.Option.{option_map, option_or}
 use Rattle.std.proofs.lemmas.Bool.{lt-ltb, le-ltb}
-use Rattle.model_sets.specs.Data.{Data, indices_of, value_at}
+use Rattle.model_sets.specs.Data.{Data, indices_of}
 use Rattle.param_tables.specs.InTurn.{first_of}
 use Rattle.param_tables.specs.RangeTable.{range_of}
 use Rattle.param_tables.specs.Refusals.{Refusal, TooManyIndices, AtIndex, fault_at, index_refusals, param_refusals, most_indices, value_fault}

@@ -8,7 +8,8 @@ use Rattle.std.proofs.lemmas.List.FromFn.{get_or-range_with_len, length-range_wi
 use Rattle.std.proofs.lemmas.List.{get_or-map, length-map}
 use Rattle.std.proofs.lemmas.List.Sums.{AllPass-from_list_all}
 use Rattle.model_sets.specs.Names.{IsSet, set_count}
-use Rattle.model_sets.specs.Params.{IsUsedParam, subscript_count, subscript_sets, used_count, used_params}
+use Rattle.model_sets.specs.Params.{IsUsedParam, subscript_sets, used_count, used_params}
+use Rattle.mathprog_data.specs.Params.{subscript_count}
 
 -- the entry at a place of the one describes the entry there of the other
 pub described_entry : {A B : Type 0} (f : A → B) (xs : List A) (ys : List B) (i : ℕ) (d : A) (e : B) → map f xs ≡ ys → i < length ys → f (get_or xs i d) ≡ get_or ys i e

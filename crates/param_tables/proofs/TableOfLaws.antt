@@ -1,21 +1,22 @@
 -- The table of a statement, and the tables of all parameters, statement by statement.
-use Rattle.std.proofs.Common.{◌≡◌, ◌≢◌, ℕ, ◌+◌, ◌-◌, ◌<◌, ◌≤◌, Bool, true, false, List, [], ◌∷◌, ◌++◌, Option, None, Some, length, map, nat_eq, get_or, set, take, refl, sym, ap, ◌∙◌, subst, inl, inr, ◌⊎◌, arith, All}
-use Rattle.std.specs.Prelude.{ℤ, pos, nat_le, if◌then◌else◌}
-use Rattle.std.specs.List.{IsDistinct, slice_get, zip}
+use Rattle.std.proofs.Common.{◌≡◌, ◌≢◌, ℕ, ◌+◌, ◌-◌, ◌<◌, ◌≤◌, List, [], ◌∷◌, ◌++◌, Option, None, Some, length, map, nat_eq, get_or, set, take, refl, sym, ap, ◌∙◌, subst, inl, inr, arith, All}
+use Rattle.std.specs.Prelude.{ℤ, pos, if◌then◌else◌}
+use Rattle.std.specs.List.{IsDistinct, zip}
 use Rattle.std.specs.List.Sorted.{IsStrictlyIncreasing}
 use Rattle.std.specs.Option.{option_or}
 use Rattle.std.proofs.lemmas.Bool.{cases_eq, cases_lt, le-leb, lt-leb}
 use Rattle.std.proofs.lemmas.List.{get_or_default, get_or-set_same, get_or-set_other, length-set, take_more}
 use Rattle.std.proofs.lemmas.Option.{slice_get-get_or}
-use Rattle.model_sets.specs.Data.{default_of, given_at, indices_of, value_at, value_of_none}
+use Rattle.model_sets.specs.Data.{default_of, given_at, indices_of, value_of_none}
 use Rattle.model_sets.specs.Members.{SetLists}
 use Rattle.model_sets.specs.Params.{IsUsedParam, used_count}
 use Rattle.param_tables.specs.BlockData.{data_of}
 use Rattle.param_tables.specs.InTurn.{in_turn}
-use Rattle.param_tables.specs.Refusals.{Refusal, is_on_used, value_refusal, value_refusals}
-use Rattle.param_tables.specs.Statements.{ParamStatement, PlacedValue}
-use Rattle.param_tables.specs.Tables.{AreGiven, AreTablesFor, IsTable, IsTableFor, IsTableOf, entries_of, given_among, given_in, table_value, value_else}
-use Rattle.param_tables.specs.Told.{IsStopDue, refusal_told}
+use Rattle.param_tables.specs.Refusals.{Refusal, value_refusal, value_refusals}
+use Rattle.mathprog_data.specs.Meaning.{ParamBlock}
+use Rattle.param_tables.specs.Tables.{AreGiven, AreTablesFor, IsTableFor, IsTableOf, entries_of, given_in, value_else}
+use Rattle.param_tables.specs.Stops.{IsStopDue}
+use Rattle.param_tables.specs.Told.{refusal_told}
 use Rattle.param_tables.specs.declared.fault.Stop.{Stop}
 use Rattle.param_tables.specs.declared.fault.Stop.TheVariants as stop
 use Rattle.param_tables.specs.declared.param_table.ParamTable.{ParamTable}
@@ -27,13 +28,13 @@ some_none v e = cc
 
 -- ---- one statement
 
-pub used_refusals : (sets : SetLists) (s : ParamStatement) → s.param ≤ used_count → value_refusals sets s ≡ in_turn (value_refusal sets s.param) s.values
+pub used_refusals : (sets : SetLists) (s : ParamBlock) → s.param ≤ used_count → value_refusals sets s ≡ in_turn (value_refusal sets s.param) s.values
 used_refusals sets s used = ap (λ b. if b then in_turn (value_refusal sets s.param) s.values else []) (le-leb s.param used_count used)
 
-pub unused_refusals : (sets : SetLists) (s : ParamStatement) → used_count < s.param → value_refusals sets s ≡ []
+pub unused_refusals : (sets : SetLists) (s : ParamBlock) → used_count < s.param → value_refusals sets s ≡ []
 unused_refusals sets s beyond = ap (λ b. if b then in_turn (value_refusal sets s.param) s.values else []) (lt-leb s.param used_count beyond)
 
-pub table_of_given : (sets : SetLists) (s : ParamStatement) (table : ParamTable) (found : ℕ → Option ℤ) → table.default ≡ s.default → IsStrictlyIncreasing table.places.items × (length table.values.items ≡ length table.places.items) → ((place : ℕ) → given_in (entries_of table) place ≡ found place) → AreGiven sets s.param s.values found → IsTableOf sets s table
+pub table_of_given : (sets : SetLists) (s : ParamBlock) (table : ParamTable) (found : ℕ → Option ℤ) → table.default ≡ s.default → IsStrictlyIncreasing table.places.items × (length table.values.items ≡ length table.places.items) → ((place : ℕ) → given_in (entries_of table) place ≡ found place) → AreGiven sets s.param s.values found → IsTableOf sets s table
 table_of_given sets s table found same parts finds given = record {
   shape = record {
     ascending = parts.0;
@@ -59,23 +60,23 @@ table_of_given sets s table found same parts finds given = record {
 
 module _ (sets : SetLists) where
   -- a statement on another parameter
-  table_stays : (xs : List ParamStatement) (s : ParamStatement) (p : ℕ) (table : ParamTable) → (s.param ≢ p) → IsTableFor (data_of sets xs) p table → IsTableFor (data_of sets (xs ++ s ∷ [])) p table
+  table_stays : (xs : List ParamBlock) (s : ParamBlock) (p : ℕ) (table : ParamTable) → (s.param ≢ p) → IsTableFor (data_of sets xs) p table → IsTableFor (data_of sets (xs ++ s ∷ [])) p table
   table_stays xs s p table other for = record {
     shape = for.shape;
     values = λ place below. value_at-other sets xs s p other (get_or (indices_of sets p) place []) ∙ for.values place below;
   }
 
   -- the first statement on the parameter
-  table_comes : (xs : List ParamStatement) (s : ParamStatement) (table : ParamTable) → ((index : List (List ℕ)) → given_at (data_of sets xs) s.param index ≡ None) × (default_of (data_of sets xs) s.param ≡ None) → IsTableOf sets s table → IsTableFor (data_of sets (xs ++ s ∷ [])) s.param table
+  table_comes : (xs : List ParamBlock) (s : ParamBlock) (table : ParamTable) → ((index : List (List ℕ)) → given_at (data_of sets xs) s.param index ≡ None) × (default_of (data_of sets xs) s.param ≡ None) → IsTableOf sets s table → IsTableFor (data_of sets (xs ++ s ∷ [])) s.param table
   table_comes xs s table none of = record {
     shape = of.shape;
     values = λ place below.
-      value_at-here sets xs s s.param refl none.0 none.1 (get_or (indices_of sets s.param) place [])
-      ∙ ap (λ o. option_or o (value_else s.param s.default)) (sym (of.given place below))
-      ∙ ap (λ o. option_or (given_in (entries_of table) place) (value_else s.param o)) (sym of.default);
+        value_at-here sets xs s s.param refl none.0 none.1 (get_or (indices_of sets s.param) place [])
+        ∙ ap (λ o. option_or o (value_else s.param s.default)) (sym (of.given place below))
+        ∙ ap (λ o. option_or (given_in (entries_of table) place) (value_else s.param o)) (sym of.default);
   }
 
-  module _ (all : List ParamStatement) (i : ℕ) (s : ParamStatement) (below : i < length all) (at : get_or all i s ≡ s) (tables : List ParamTable) (so_far : AreTablesFor (data_of sets (take i all)) tables) where
+  module _ (all : List ParamBlock) (i : ℕ) (s : ParamBlock) (below : i < length all) (at : get_or all i s ≡ s) (tables : List ParamTable) (so_far : AreTablesFor (data_of sets (take i all)) tables) where
     next : take (i + 1) all ≡ take i all ++ s ∷ []
     next = take_more all i s below ∙ ap (λ t. take i all ++ t ∷ []) at
 
@@ -132,8 +133,8 @@ table_of_nothing sets p table empty = record {
     below = λ k d inside. absurd (omega (arith, ap length empty.places));
   };
   values = λ place below.
-    ap (λ o. option_or o (value_of_none p)) (sym empty.default)
-    ∙ ap (λ o. option_or o (value_else p table.default)) (sym (ap (λ ps. given_in (zip ps table.values.items) place) empty.places));
+      ap (λ o. option_or o (value_of_none p)) (sym empty.default)
+      ∙ ap (λ o. option_or o (value_else p table.default)) (sym (ap (λ ps. given_in (zip ps table.values.items) place) empty.places));
 }
 
 pub tables_of_nothing : (sets : SetLists) (tables : List ParamTable) → length tables ≡ used_count → ((j : ℕ) → j < used_count → (e : ParamTable) → IsEmptyTable (get_or tables j e)) → AreTablesFor (data_of sets []) tables

@@ -1,6 +1,6 @@
 -- What the sets and tables in memory mean, index by index.
-use Rattle.std.proofs.Common.{◌≡◌, ℕ, ◌-◌, ◌<◌, List, [], length, get_or, sym, ap, ◌∙◌, subst, arith}
-use Rattle.std.specs.Prelude.{ℤ, Contains, IsSomeAnd}
+use Rattle.std.proofs.Common.{◌≡◌, ℕ, ◌-◌, List, [], get_or, sym, ap, ◌∙◌}
+use Rattle.std.specs.Prelude.{Contains, IsSomeAnd}
 use Rattle.std.proofs.lemmas.List.{get_or_default}
 use Rattle.model_sets.specs.Data.{indices_of, value_at}
 use Rattle.model_sets.specs.Members.{SetLists}

@@ -5,32 +5,38 @@ use Rattle.std.specs.Option.{option_map, option_map_or}
 use Rattle.model_sets.specs.Data.{Given, Default, Data}
 use Rattle.model_sets.specs.Members.{SetLists}
 use Rattle.model_sets.specs.Names.{set_count}
-use Rattle.param_tables.specs.Statements.{PlacedValue, SetStatement, ParamStatement, Statements}
+use Rattle.mathprog_data.specs.declared.blocks.Given.{Given as KeptGiven}
+use Rattle.mathprog_data.specs.BlocksView.{value_told}
+use Rattle.mathprog_data.specs.Meaning.{GivenValue, SetBlock, ParamBlock, Blocks}
 
 -- the names of the members of set k, in the order of the text; a set without a statement has none
-abbrev pub members_told : List SetStatement → ℕ → List (List ℕ)
+abbrev pub members_told : List SetBlock → ℕ → List (List ℕ)
 members_told statements k = option_map_or (λ s. s.members) (find (λ s. nat_eq s.set k) statements) []
 
 -- the names of the members of every set, from set number 1
-abbrev pub sets_told : Statements → SetLists
-sets_told statements = map (members_told statements.sets) (range_with_len 1 set_count)
+abbrev pub set_lists : Blocks → SetLists
+set_lists statements = map (members_told statements.sets) (range_with_len 1 set_count)
+
+-- the values that are given
+abbrev pub values_told : List KeptGiven → List GivenValue
+values_told values = map value_told values
 
 -- the value as one of the data
-abbrev pub given_of : ℕ → PlacedValue → Given
+abbrev pub given_of : ℕ → GivenValue → Given
 given_of param value = record { param = param; index = value.index; value = value.value }
 
 -- the default as one of the data, where the statement has one
-abbrev pub stated_default : ParamStatement → Option Default
+abbrev pub stated_default : ParamBlock → Option Default
 stated_default statement = option_map (λ value. record { param = statement.param; value = value }) statement.default
 
 -- the values that a statement gives
-abbrev pub givens_of : ParamStatement → List Given
+abbrev pub givens_of : ParamBlock → List Given
 givens_of statement = map (given_of statement.param) statement.values
 
 -- the data of these sets and these statements on parameters
-abbrev pub data_of : SetLists → List ParamStatement → Data
+abbrev pub data_of : SetLists → List ParamBlock → Data
 data_of sets params = record { sets = sets; given = flat_map givens_of params; defaults = filter_map stated_default params }
 
 -- the data that the statements give
-abbrev pub data_told : Statements → Data
-data_told statements = data_of (sets_told statements) statements.params
+abbrev pub data_told : Blocks → Data
+data_told statements = data_of (set_lists statements) statements.params

@@ -8,8 +8,8 @@ use Rattle.param_tables.specs.BlockData.{data_told}
 use Rattle.param_tables.specs.Positions.{names_at}
 use Rattle.param_tables.specs.RangeTable.{range_of}
 use Rattle.param_tables.specs.Ranges.{IsInRange, billion}
-use Rattle.param_tables.specs.Statements.{Statements}
-use Rattle.param_tables.specs.WellFormed.{IsNumber}
+use Rattle.mathprog_data.specs.Meaning.{Blocks}
+use Rattle.mathprog_data.specs.WellFormed.{IsNumber}
 use Rattle.param_tables.specs.declared.ranges.Range.{Range}
 
 -- the data, and how many numbers of the text were rounded
@@ -23,7 +23,7 @@ pub record AreSameData (d e : Data) : Type 0 where
   pub values : (param : ℕ) → IsUsedParam param → (index : List (List ℕ)) → Contains (indices_of d.sets param) index → value_at d param index ≡ value_at e param index
 
 -- what is built is what the statements give
-pub record IsBuiltFrom (statements : Statements) (built : Built) : Type 0 where
+pub record IsBuiltFrom (statements : Blocks) (built : Built) : Type 0 where
   pub facts : AreSameData built.facts (data_told statements)
   pub rounded : built.rounded ≡ statements.rounded
 

@@ -7,9 +7,8 @@ pub mod RangeTable
 pub mod Ranges
 pub mod Refusals
 pub mod SetRefusals
-pub mod Statements
+pub mod Stops
 pub mod Subscripts
 pub mod Tables
 pub mod Told
 pub mod View
-pub mod WellFormed

@@ -1,5 +1,5 @@
 -- The ranges of the values that a parameter may have, and the fault of a value outside. All values are in billionths.
-use Rattle.std.specs.Prelude.{◌≡◌, ℕ, ◌*◌, ◌%◌, ◌≤◌, ℤ, pos, negsuc, ◌<ℤ◌, ◌≤ℤ◌, ◌⊎◌, Bool, ◌&&◌, ◌||◌, nat_eq, int_lt, int_le, unsigned_abs, Option, None, Some, if◌then◌else◌}
+use Rattle.std.specs.Prelude.{◌≡◌, ℕ, ◌*◌, ◌%◌, ◌≤◌, ℤ, pos, negsuc, ◌<ℤ◌, ◌≤ℤ◌, ◌⊎◌, ◌↔◌, Bool, ◌&&◌, ◌||◌, nat_eq, int_lt, int_le, unsigned_abs, Option, None, Some, if◌then◌else◌}
 use Rattle.std.specs.Ordering.{int_eq}
 use Rattle.param_tables.specs.declared.ranges.Range.{Range}
 use Rattle.param_tables.specs.declared.ranges.Range.TheVariants.{Any, AtLeastZero, AboveZero, ZeroToOne, OneOrTwo, Lifetime, ZeroOnly, MinusOneOrAtLeastZero}
@@ -51,3 +51,7 @@ range_fault OneOrTwo v = unless (int_eq v (whole 1) || int_eq v (whole 2)) OutOf
 range_fault Lifetime v = life_fault v
 range_fault ZeroOnly v = unless (int_eq v (pos 0)) WholeUnits
 range_fault MinusOneOrAtLeastZero v = unless (int_eq v minus_one || int_le (pos 0) v) OutOfRange
+
+-- a value has no fault exactly where it lies in the range
+abbrev pub RangesAreTold : Type 0
+RangesAreTold = (range : Range) (v : ℤ) → (range_fault range v ≡ None) ↔ IsInRange range v

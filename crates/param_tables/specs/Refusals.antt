@@ -13,7 +13,7 @@ use Rattle.param_tables.specs.Places.{are_members}
 use Rattle.param_tables.specs.RangeTable.{range_of}
 use Rattle.param_tables.specs.Ranges.{range_fault}
 use Rattle.param_tables.specs.InTurn.{first_of, in_turn}
-use Rattle.param_tables.specs.Statements.{PlacedValue, ParamStatement, Statements}
+use Rattle.mathprog_data.specs.Meaning.{GivenValue, ParamBlock, Blocks}
 use Rattle.param_tables.specs.declared.fault.CellFault.{CellFault}
 use Rattle.param_tables.specs.declared.fault.CellFault.TheVariants.{NoValue}
 use Rattle.param_tables.specs.declared.ranges.Range.{Range}
@@ -43,22 +43,22 @@ abbrev pub names_members : SetLists → ℕ → List (List ℕ) → Bool
 names_members sets param index = are_members sets (subscript_sets param) index
 
 -- whether the index is that of one of the values
-abbrev pub is_given_among : List PlacedValue → List (List ℕ) → Bool
+abbrev pub is_given_among : List GivenValue → List (List ℕ) → Bool
 is_given_among values index = list_any (λ value. pointwise bytes_eq value.index index) values
 
 -- why the value of the parameter is refused that follows on these
-abbrev pub value_refusal : SetLists → ℕ → List PlacedValue → PlacedValue → Option Refusal
+abbrev pub value_refusal : SetLists → ℕ → List GivenValue → GivenValue → Option Refusal
 value_refusal sets param before value =
     if not (names_members sets param value.index) then Some (UnknownName value.at)
     else if is_given_among before value.index then Some (GivenBefore value.at)
     else None
 
 -- whether the statement is on a used parameter
-abbrev pub is_on_used : ParamStatement → Bool
+abbrev pub is_on_used : ParamBlock → Bool
 is_on_used statement = nat_le statement.param used_count
 
 -- the refusals of the values of a statement on a used parameter, value by value in the order of the text; nobody looks at the values of the others
-abbrev pub value_refusals : SetLists → ParamStatement → List Refusal
+abbrev pub value_refusals : SetLists → ParamBlock → List Refusal
 value_refusals sets statement = if is_on_used statement then in_turn (value_refusal sets statement.param) statement.values else []
 
 -- the fault of a value, or of the want of one
@@ -79,7 +79,7 @@ abbrev pub param_refusals : Data → ℕ → List Refusal
 param_refusals d param = (if nat_lt most_indices (length (indices_of d.sets param)) then TooManyIndices param ∷ [] else []) ++ index_refusals d param
 
 -- every refusal of what the statements give: a member of STORAGE; the values of the used parameters, in the order of the text; the used parameters, in the order of their numbers
-abbrev pub refusals : Statements → List Refusal
+abbrev pub refusals : Blocks → List Refusal
 refusals statements =
     let d = data_told statements in
     storage_refusals d.sets
@@ -87,5 +87,5 @@ refusals statements =
     ++ flat_map (param_refusals d) (range_with_len 1 used_count)
 
 -- the first refusal
-abbrev pub first_refusal : Statements → Option Refusal
+abbrev pub first_refusal : Blocks → Option Refusal
 first_refusal statements = first_of (refusals statements)

@@ -1,15 +1,15 @@
 -- Why the sets that statements give are refused.
-use Rattle.std.specs.Prelude.{◌≡◌, ℕ, ◌-◌, List, [], ◌∷◌, ◌++◌, map, set, filter, Option, None, Some}
+use Rattle.std.specs.Prelude.{◌≡◌, ℕ, ◌-◌, List, ◌++◌, map, set, filter, Option, Some}
 use Rattle.std.specs.List.{flat_map, range_with_len}
 use Rattle.std.specs.Option.{option_map}
 use Rattle.model_sets.specs.declared.fault.SetFail.{SetFail}
 use Rattle.model_sets.specs.declared.fault.SetFail.TheVariants.{Fault, Memory}
 use Rattle.model_sets.specs.declared.fault.SetFault.{SetFault}
 use Rattle.model_sets.specs.Members.{SetLists, no_members, members, first_refusal, empty_set, is_without_members}
-use Rattle.model_sets.specs.Names.{set_count, required_sets}
-use Rattle.param_tables.specs.BlockData.{sets_told}
+use Rattle.model_sets.specs.Names.{IsSet, set_count, required_sets}
+use Rattle.param_tables.specs.BlockData.{set_lists}
 use Rattle.param_tables.specs.InTurn.{first_of, in_turn}
-use Rattle.param_tables.specs.Statements.{Statements}
+use Rattle.mathprog_data.specs.Meaning.{Blocks}
 
 -- the fault of this number in set k
 abbrev pub fault_in : ℕ → ℕ → SetFault
@@ -34,10 +34,10 @@ set_refusals sets =
     ++ map (λ k. fault_in k empty_set) (filter (is_without_members sets) required_sets)
 
 -- the first refusal of the sets that the statements give
-abbrev pub first_set_refusal : Statements → Option SetFault
-first_set_refusal statements = first_of (set_refusals (sets_told statements))
+abbrev pub first_set_refusal : Blocks → Option SetFault
+first_set_refusal statements = first_of (set_refusals (set_lists statements))
 
--- the failure is due, where this refusal is the first; want of memory may come at any time
+-- the failure is due, where this refusal, in one of the sets, is the first; want of memory may come at any time
 abbrev pub IsSetFailDue : Option SetFault → SetFail → Type 0
-IsSetFailDue refusal (Fault fault) = refusal ≡ Some fault
+IsSetFailDue refusal (Fault fault) = (refusal ≡ Some fault) × IsSet fault.set
 IsSetFailDue refusal Memory = Unit {0}

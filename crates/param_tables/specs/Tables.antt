@@ -10,18 +10,18 @@ use Rattle.model_sets.specs.Data.{Data, indices_of, value_at, value_of_none}
 use Rattle.model_sets.specs.Members.{SetLists}
 use Rattle.model_sets.specs.Params.{IsUsedParam, used_count}
 use Rattle.param_tables.specs.Ranges.{range_fault}
-use Rattle.param_tables.specs.Statements.{ParamStatement, PlacedValue}
+use Rattle.mathprog_data.specs.Meaning.{ParamBlock, GivenValue}
 use Rattle.param_tables.specs.declared.fault.CellFault.{CellFault}
 use Rattle.param_tables.specs.declared.first_fault.PlaceFault.{PlaceFault}
 use Rattle.param_tables.specs.declared.param_table.ParamTable.{ParamTable}
 use Rattle.param_tables.specs.declared.ranges.Range.{Range}
 
 -- the value that is given at the index
-abbrev pub given_among : List PlacedValue → List (List ℕ) → Option ℤ
+abbrev pub given_among : List GivenValue → List (List ℕ) → Option ℤ
 given_among values index = option_map (λ v. v.value) (find (λ v. pointwise bytes_eq v.index index) values)
 
 -- the look-up by places finds what the values give at each index, and nothing at other places
-pub record AreGiven (sets : SetLists) (param : ℕ) (values : List PlacedValue) (found : ℕ → Option ℤ) : Type 0 where
+pub record AreGiven (sets : SetLists) (param : ℕ) (values : List GivenValue) (found : ℕ → Option ℤ) : Type 0 where
   pub inside : (place : ℕ) → place < length (indices_of sets param) → found place ≡ given_among values (slice_index_or (indices_of sets param) place [])
   pub outside : (place : ℕ) → length (indices_of sets param) ≤ place → found place ≡ None
 
@@ -53,7 +53,7 @@ pub record IsTableFor (d : Data) (param : ℕ) (table : ParamTable) : Type 0 whe
   pub values : (place : ℕ) → place < length (indices_of d.sets param) → value_at d param (slice_index_or (indices_of d.sets param) place []) ≡ table_value param table place
 
 -- the table says what the statement says
-pub record IsTableOf (sets : SetLists) (statement : ParamStatement) (table : ParamTable) : Type 0 where
+pub record IsTableOf (sets : SetLists) (statement : ParamBlock) (table : ParamTable) : Type 0 where
   pub shape : IsTable (length (indices_of sets statement.param)) table
   pub default : table.default ≡ statement.default
   pub given : (place : ℕ) → place < length (indices_of sets statement.param) → given_in (entries_of table) place ≡ given_among statement.values (slice_index_or (indices_of sets statement.param) place [])
@@ -62,6 +62,11 @@ pub record IsTableOf (sets : SetLists) (statement : ParamStatement) (table : Par
 pub record AreTablesFor (d : Data) (tables : List ParamTable) : Type 0 where
   pub all : length tables ≡ used_count
   pub each : (param : ℕ) → IsUsedParam param → (e : ParamTable) → IsTableFor d param (slice_index_or tables (param - 1) e)
+
+-- there is a table for each used parameter, from number 1, with places and values of its indices
+pub record HaveShapes (sets : SetLists) (tables : List ParamTable) : Type 0 where
+  pub all : length tables ≡ used_count
+  pub each : (param : ℕ) → IsUsedParam param → (e : ParamTable) → IsTable (length (indices_of sets param)) (slice_index_or tables (param - 1) e)
 
 -- the fault of a value that is given, or else that of a missing one
 abbrev pub place_fault : Range → Option CellFault → Option ℤ → Option CellFault

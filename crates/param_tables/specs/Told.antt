@@ -11,8 +11,6 @@ use Rattle.param_tables.specs.declared.fault.BuildFault.TheVariants.{UnknownMemb
 use Rattle.param_tables.specs.declared.fault.Cell.{Cell}
 use Rattle.param_tables.specs.declared.fault.CellFault.{CellFault}
 use Rattle.param_tables.specs.declared.fault.CellFault.TheVariants as at_cell
-use Rattle.param_tables.specs.declared.fault.Stop.{Stop}
-use Rattle.param_tables.specs.declared.fault.Stop.TheVariants as stop
 
 -- the fault at the cell, by the names of its index
 abbrev pub at : SetLists → CellFault → Cell → Refusal
@@ -47,11 +45,6 @@ NamesCell sets (OutOfRange cell) = IsCell sets cell
 NamesCell sets Storage = Unit {0}
 NamesCell sets (WholeUnits cell) = IsCell sets cell
 NamesCell sets (TooManyCells param) = IsUsedParam param
-
--- the same of a stop, which has no sets to hand back
-abbrev pub IsStopDue : Option Refusal → SetLists → Stop → Type 0
-IsStopDue refusal sets (stop.Fault fault) = (refusal ≡ Some (refusal_told sets fault)) × NamesCell sets fault
-IsStopDue refusal sets stop.Memory = Unit {0}
 
 -- the failure is due, where this refusal is the first: it tells the refusal, and hands these sets back; want of memory may come at any time
 abbrev pub IsBuildFailDue : Option Refusal → SetLists → BuildFail → Type 0

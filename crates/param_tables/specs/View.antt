@@ -3,7 +3,7 @@ use Rattle.std.specs.Prelude.{ℕ, ℤ, List, [], map, Option, slice_index_or}
 use Rattle.std.specs.List.{enumerate_from, filter_map, flat_map}
 use Rattle.std.specs.Option.{option_map}
 use Rattle.model_sets.specs.Data.{Data, Default, Given, indices_of}
-use Rattle.model_sets.specs.Members.{SetLists, AreSets}
+use Rattle.model_sets.specs.Members.{SetLists}
 use Rattle.param_tables.specs.Built.{AreComplete}
 use Rattle.param_tables.specs.Tables.{AreTablesFor, entries_of}
 use Rattle.param_tables.specs.declared.param_table.ParamTable.{ParamTable}

@@ -7,7 +7,7 @@ ghost use Rattle.param_tables.specs.InTurn.{first_of};
 ghost use Rattle.param_tables.specs.RangeTable.{range_of};
 ghost use Rattle.param_tables.specs.Refusals.{param_refusals, value_fault};
 ghost use Rattle.param_tables.specs.Tables.{IsTable, IsTableFor, value_else};
-ghost use Rattle.param_tables.specs.Told.{IsStopDue};
+ghost use Rattle.param_tables.specs.Stops.{IsStopDue};
 
 use crate::fault::{BuildFault, Cell, CellFault, Stop, refusal_at};
 use crate::first_fault::first_fault;

@@ -80,12 +80,18 @@ impl From<AllocError> for Stop {
 
 /// What may be wrong with a parameter at an index.
 #[derive(Clone, Copy, PartialEq, Eq, Debug)]
-pub(crate) enum CellFault {
+pub enum CellFault {
+    /// There is neither a value nor a default.
     NoValue,
+    /// The value is below 0.
     Negative,
+    /// The value isn't above 0.
     NotPositive,
+    /// The value isn't a whole number.
     NotWhole,
+    /// The value lies outside a range of another kind.
     OutOfRange,
+    /// The value is a capacity in whole units other than 0.
     WholeUnits,
 }
 

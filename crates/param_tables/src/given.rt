@@ -7,10 +7,10 @@ ghost use Rattle.model_sets.specs.Members.{AreSets};
 ghost use Rattle.model_sets.specs.Params.{IsUsedParam};
 ghost use Rattle.param_tables.specs.InTurn.{first_of, in_turn};
 ghost use Rattle.param_tables.specs.Refusals.{value_refusal};
-ghost use Rattle.param_tables.specs.Statements.{values_told};
+ghost use Rattle.param_tables.specs.BlockData.{values_told};
 ghost use Rattle.param_tables.specs.Tables.{AreGiven};
-ghost use Rattle.param_tables.specs.Told.{IsStopDue};
-ghost use Rattle.param_tables.specs.WellFormed.{IsValueOf};
+ghost use Rattle.param_tables.specs.Stops.{IsStopDue};
+ghost use Rattle.mathprog_data.specs.WellFormed.{IsValueOf};
 
 use crate::fault::{BuildFault, Stop};
 use crate::indices::place_of_names;

@@ -2,11 +2,13 @@
 //! used parameter at each index.
 #![tactic(auto)]
 
+mod building;
 mod checks;
 mod fault;
 mod first_fault;
 mod given;
 mod indices;
+mod laws;
 mod model_data;
 mod param_table;
 mod ranges;
@@ -14,7 +16,13 @@ mod set_members;
 mod subscripts;
 mod tables;
 
-pub use fault::{BuildFail, BuildFault, Cell};
+pub use building::build;
+pub use fault::{BuildFail, BuildFault, Cell, CellFault};
+pub use laws::{range_laws, table_laws};
 pub use model_data::ModelData;
+pub use ranges::Range;
 pub use set_members::sets_of;
 pub use subscripts::subscript_sets;
+
+#[cfg(test)]
+mod tests;

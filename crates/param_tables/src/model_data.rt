@@ -10,7 +10,7 @@ ghost use Rattle.param_tables.specs.Positions.{IsIndexOf, names_at};
 ghost use Rattle.param_tables.specs.RangeTable.{range_of};
 ghost use Rattle.param_tables.specs.Ranges.{billion};
 ghost use Rattle.param_tables.specs.View.{AreKept, facts_of};
-ghost use Rattle.param_tables.specs.WellFormed.{IsNumber};
+ghost use Rattle.mathprog_data.specs.WellFormed.{IsNumber};
 
 use crate::indices::place_of;
 use crate::param_table::ParamTable;

@@ -12,7 +12,7 @@ const ONE: i128 = 1_000_000_000;
 
 /// The values that a parameter may have.
 #[derive(Clone, Copy, PartialEq, Eq, Debug)]
-pub(crate) enum Range {
+pub enum Range {
     /// Every number.
     Any,
     /// 0 and above.

@@ -3,11 +3,11 @@
 ghost use Rattle.std.specs.Prelude.{◌≡◌, ◌-◌, [], length, set as with_at, None, IfOk, IfErr, OnOk};
 ghost use Rattle.model_sets.specs.Members.{members};
 ghost use Rattle.model_sets.specs.Names.{IsSet, set_count};
-ghost use Rattle.param_tables.specs.BlockData.{members_told, sets_told};
+ghost use Rattle.param_tables.specs.BlockData.{members_told, set_lists};
 ghost use Rattle.param_tables.specs.InTurn.{first_of};
 ghost use Rattle.param_tables.specs.SetRefusals.{member_refusals, first_set_refusal, IsSetFailDue};
-ghost use Rattle.param_tables.specs.Statements.{statements_of, set_statements_of};
-ghost use Rattle.param_tables.specs.WellFormed.{AreWellFormed};
+ghost use Rattle.mathprog_data.specs.BlocksView.{blocks_told, sets_told};
+ghost use Rattle.mathprog_data.specs.WellFormed.{AreWellFormed};
 
 use mathprog_data::{Blocks, Name, SetBlock};
 use model_sets::{SetFail, Sets};
@@ -18,7 +18,7 @@ const SET_COUNT: u8 = 11;
 
 /// The members that the blocks give the set; none where no block speaks of it.
 fn members_of(blocks: &[SetBlock], set: u8) -> &[Name]
-    ensures { result.now ≡ members_told (set_statements_of blocks.now) set }
+    ensures { result.now ≡ members_told (sets_told blocks.now) set }
 {
     for block in blocks {
         if block.set == set {
@@ -52,10 +52,10 @@ fn add_members(sets: &mut Sets, set: u8, names: &[Name]) -> Result<(), SetFail>
 /// Then the first set without members of REGION, TECHNOLOGY, FUEL, MODE_OF_OPERATION, TIMESLICE and YEAR
 /// (2). Memory may be wanting at any time.
 pub fn sets_of(alloc: Global, blocks: &Blocks) -> Result<Sets, SetFail>
-    requires { AreWellFormed (statements_of blocks.now) }
-    ensures sets { IfOk result (λ sets. sets ≡ sets_told (statements_of blocks.now)) }
-    ensures accepted { OnOk result (first_set_refusal (statements_of blocks.now) ≡ None) }
-    ensures refused { IfErr result (IsSetFailDue (first_set_refusal (statements_of blocks.now))) }
+    requires { AreWellFormed (blocks_told blocks.now) }
+    ensures sets { IfOk result (λ sets. sets ≡ set_lists (blocks_told blocks.now)) }
+    ensures accepted { OnOk result (first_set_refusal (blocks_told blocks.now) ≡ None) }
+    ensures refused { IfErr result (IsSetFailDue (first_set_refusal (blocks_told blocks.now))) }
 {
     let mut sets = Sets::new(alloc)?;
     for set in 1..SET_COUNT + 1 {

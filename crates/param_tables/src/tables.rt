@@ -7,10 +7,10 @@ ghost use Rattle.model_sets.specs.Params.{IsUsedParam};
 ghost use Rattle.param_tables.specs.BlockData.{data_of};
 ghost use Rattle.param_tables.specs.InTurn.{first_of};
 ghost use Rattle.param_tables.specs.Refusals.{value_refusals};
-ghost use Rattle.param_tables.specs.Statements.{param_told, param_statements_of};
+ghost use Rattle.mathprog_data.specs.BlocksView.{param_told, params_told};
 ghost use Rattle.param_tables.specs.Tables.{AreTablesFor, IsTableOf};
-ghost use Rattle.param_tables.specs.Told.{IsStopDue};
-ghost use Rattle.param_tables.specs.WellFormed.{AreParamStatements, IsParamStatement};
+ghost use Rattle.param_tables.specs.Stops.{IsStopDue};
+ghost use Rattle.mathprog_data.specs.WellFormed.{AreParamBlocks, IsParamBlock};
 
 use crate::fault::Stop;
 use crate::given::placed_values;
@@ -26,7 +26,7 @@ const USED_COUNT: u8 = 38;
 fn table_of(alloc: Global, sets: &Sets, block: &ParamBlock) -> Result<ParamTable, Stop>
     requires sets { AreSets sets.now }
     requires used { IsUsedParam block.now.param }
-    requires statement { IsParamStatement (param_told block.now) }
+    requires statement { IsParamBlock (param_told block.now) }
     ensures table { IfOk result (IsTableOf sets.now (param_told block.now)) }
     ensures accepted { OnOk result (value_refusals sets.now (param_told block.now) ≡ []) }
     ensures refused { IfErr result (IsStopDue (first_of (value_refusals sets.now (param_told block.now))) sets.now) }
@@ -54,10 +54,10 @@ pub(crate) fn tables_of(
     blocks: &[ParamBlock],
 ) -> Result<Vec<ParamTable>, Stop>
     requires sets { AreSets sets.now }
-    requires statements { AreParamStatements (param_statements_of blocks.now) }
-    ensures tables { IfOk result (λ tables. AreTablesFor (data_of sets.now (param_statements_of blocks.now)) tables.items) }
-    ensures accepted { OnOk result (flat_map (value_refusals sets.now) (param_statements_of blocks.now) ≡ []) }
-    ensures refused { IfErr result (IsStopDue (first_of (flat_map (value_refusals sets.now) (param_statements_of blocks.now))) sets.now) }
+    requires statements { AreParamBlocks (params_told blocks.now) }
+    ensures tables { IfOk result (λ tables. AreTablesFor (data_of sets.now (params_told blocks.now)) tables.items) }
+    ensures accepted { OnOk result (flat_map (value_refusals sets.now) (params_told blocks.now) ≡ []) }
+    ensures refused { IfErr result (IsStopDue (first_of (flat_map (value_refusals sets.now) (params_told blocks.now))) sets.now) }
 {
     let mut tables = empty_tables(alloc, sets)?;
     for block in blocks {

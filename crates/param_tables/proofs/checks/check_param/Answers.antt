@@ -1,12 +1,12 @@
-use Rattle.std.proofs.Common.{◌≡◌, ℕ, ◌<◌, ◌≤◌, List, [], None, Some, length, get_or, refl, sym, ap, ◌∙◌, subst, arith}
-use Rattle.model_sets.specs.Data.{Data, indices_of, indices_over}
+use Rattle.std.proofs.Common.{◌≡◌, ◌≤◌, [], None, Some, length, get_or, sym, ap, ◌∙◌, subst, arith}
+use Rattle.model_sets.specs.Data.{indices_of, indices_over}
 use Rattle.param_tables.specs.InTurn.{first_of}
 use Rattle.param_tables.specs.Places.{IsPlaceOf}
 use Rattle.param_tables.specs.Positions.{ArePositions, IsIndexOf, names_at, names_over}
 use Rattle.param_tables.specs.RangeTable.{range_of}
-use Rattle.param_tables.specs.Refusals.{AtIndex, Refusal, param_refusals, index_refusals, most_indices, value_fault}
-use Rattle.param_tables.specs.Tables.{IsFirstFault, IsTableFor, entries_of, value_else}
-use Rattle.param_tables.proofs.RefusalLaws.{table_fault, index_refusals-none, index_refusals-first, few_indices, same_faults}
+use Rattle.param_tables.specs.Refusals.{AtIndex, most_indices, value_fault}
+use Rattle.param_tables.specs.Tables.{entries_of, value_else}
+use Rattle.param_tables.proofs.RefusalLaws.{index_refusals-none, index_refusals-first, few_indices, same_faults}
 use Rattle.param_tables.proofs.checks.check_param.Goals as goal
 
 pub returns-in_default-clause-accepted : goal.returns-in_default-clause-accepted
@@ -16,7 +16,7 @@ returns-in_default-clause-accepted c d same for =
     let few : length (indices_of d.sets p) ≤ most_indices = omega (arith, c.if-size-gt-MOST_INDICES.false) in
     few_indices d p few
     ∙ index_refusals-none d p c.args.table.now for
-      (same_faults c.range_of.result (range_of p) c.missing_fault-missing.result (value_fault (range_of p) (value_else p c.args.table.now.default)) c.index_count-size.result (length (indices_of d.sets p)) (entries_of c.args.table.now) None c.range_of.ensures c.missing_fault-missing.ensures size c.in_default.ensures)
+    (same_faults c.range_of.result (range_of p) c.missing_fault-missing.result (value_fault (range_of p) (value_else p c.args.table.now.default)) c.index_count-size.result (length (indices_of d.sets p)) (entries_of c.args.table.now) None c.range_of.ensures c.missing_fault-missing.ensures size c.in_default.ensures)
 
 pub returns-clause-refused : goal.returns-clause-refused
 returns-clause-refused c d same for =
@@ -29,12 +29,11 @@ returns-clause-refused c d same for =
     let few : length (indices_of d.sets p) ≤ most_indices = omega (arith, c.if-size-gt-MOST_INDICES.false) in
     let first = same_faults c.range_of.result (range_of p) c.missing_fault-missing.result (value_fault (range_of p) (value_else p c.args.table.now.default)) c.index_count-size.result (length (indices_of d.sets p)) (entries_of c.args.table.now) (Some found) c.range_of.ensures c.missing_fault-missing.ensures size c.in-Some.ensures in
     let within : IsIndexOf sets p index = subst (λ js. ArePositions sets js index) ks c.in_ok-index.ensures.within in
-    let at : IsPlaceOf sets _ (names_at sets p index) found.place = subst (λ js. IsPlaceOf sets js (names_over sets js index) found.place) ks c.in_ok-index.ensures.place in
-    (
+    let at : IsPlaceOf sets _ (names_at sets p index) found.place = subst (λ js. IsPlaceOf sets js (names_over sets js index) found.place) ks c.in_ok-index.ensures.place in (
       ap first_of (few_indices d p few)
-      ∙ index_refusals-first d p c.args.table.now for found first
-      ∙ ap (λ all. Some (AtIndex found.fault p (get_or (indices_of all p) found.place []))) same
-      ∙ ap (λ names. Some (AtIndex found.fault p names)) at.at
-      ∙ ap (λ r. Some r) (sym (c.refusal_at.ensures.told sets)),
-      c.refusal_at.ensures.cell sets (c.requires.used, within)
+          ∙ index_refusals-first d p c.args.table.now for found first
+          ∙ ap (λ all. Some (AtIndex found.fault p (get_or (indices_of all p) found.place []))) same
+          ∙ ap (λ names. Some (AtIndex found.fault p names)) at.at
+          ∙ ap (λ r. Some r) (sym (c.refusal_at.ensures.told sets)),
+      c.refusal_at.ensures.cell sets (c.requires.used, within),
     )

@@ -1,14 +1,16 @@
-use Rattle.std.proofs.Common.{◌≡◌, ℕ, ◌+◌, ◌<◌, ◌≤◌, true, false, List, None, Some, length, get_or, map, take, refl, sym, ap, ◌∙◌, subst, arith}
-use Rattle.std.specs.Prelude.{ℤ, is_some}
+use Rattle.std.proofs.Common.{◌≡◌, ◌<◌, true, false, None, Some, length, get_or, take, sym, ap, ◌∙◌, subst, arith}
+use Rattle.std.specs.Prelude.{is_some}
 use Rattle.std.specs.BTreeMap.{get}
 use Rattle.std.specs.Ordering.{nat_cmp}
 use Rattle.std.proofs.lemmas.List.{get_or-map, length-map}
-use Rattle.model_sets.specs.Params.{subscript_count, subscript_sets}
-use Rattle.param_tables.specs.InTurn.{first_of, in_turn}
+use Rattle.mathprog_data.specs.Params.{subscript_count}
+use Rattle.model_sets.specs.Params.{subscript_sets}
+use Rattle.param_tables.specs.InTurn.{in_turn}
 use Rattle.param_tables.specs.Places.{IsPlaceOf, are_members}
-use Rattle.param_tables.specs.Refusals.{Refusal, UnknownName, GivenBefore, is_given_among, value_refusal}
-use Rattle.param_tables.specs.Statements.{PlacedValue, value_told, values_told}
-use Rattle.param_tables.specs.Tables.{AreGiven, given_among}
+use Rattle.param_tables.specs.Refusals.{UnknownName, GivenBefore, is_given_among, value_refusal}
+use Rattle.mathprog_data.specs.BlocksView.{value_told}
+use Rattle.param_tables.specs.BlockData.{values_told}
+use Rattle.param_tables.specs.Tables.{given_among}
 use Rattle.param_tables.proofs.GivenLaws.{unknown_refused, twice_refused, value_free, is_some-given, given_more, found_here, none_from}
 use Rattle.param_tables.proofs.PlaceLaws.{same_members, same_place}
 use Rattle.param_tables.proofs.IndexLaws.{names_apart_from}

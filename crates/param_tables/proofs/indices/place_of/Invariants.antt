@@ -1,4 +1,4 @@
-use Rattle.std.proofs.Common.{◌≡◌, ◌<◌, length, take}
+use Rattle.std.proofs.Common.{◌<◌, take}
 use Rattle.param_tables.specs.Places.{IsPlaceOf}
 use Rattle.param_tables.specs.Positions.{names_over}
 use Rattle.param_tables.proofs.PlaceLaws.{most}

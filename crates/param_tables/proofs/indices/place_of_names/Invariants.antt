@@ -1,4 +1,4 @@
-use Rattle.std.proofs.Common.{◌≡◌, ◌<◌, length, take, drop}
+use Rattle.std.proofs.Common.{◌≡◌, ◌<◌, take, drop}
 use Rattle.param_tables.specs.Places.{IsPlaceOf, are_members}
 use Rattle.param_tables.proofs.PlaceLaws.{most}
 use Rattle.param_tables.proofs.indices.place_of_names.Given as goal

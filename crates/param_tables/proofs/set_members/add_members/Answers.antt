@@ -1,7 +1,7 @@
-use Rattle.std.proofs.Common.{◌≡◌, ℕ, ◌+◌, ◌-◌, ◌<◌, List, [], ◌∷◌, ◌++◌, None, length, get_or, take, set as with_at, refl, sym, ap, subst, ◌∙◌, arith}
+use Rattle.std.proofs.Common.{◌≡◌, ◌+◌, ◌-◌, ◌<◌, [], ◌∷◌, ◌++◌, None, length, get_or, take, set as with_at, sym, ap, subst, ◌∙◌}
 use Rattle.std.proofs.lemmas.List.{set-set, take_more}
 use Rattle.std.proofs.lemmas.Result.{err_from_is_err_and}
-use Rattle.model_sets.specs.Members.{members, first_refusal, with_member}
+use Rattle.model_sets.specs.Members.{members}
 use Rattle.param_tables.specs.InTurn.{first_of}
 use Rattle.param_tables.specs.SetRefusals.{member_refusals, refusal_after, IsSetFailDue}
 use Rattle.param_tables.proofs.SetLaws.{members-set, free_after, refused_after, due_first}

@@ -1,15 +1,15 @@
-use Rattle.std.proofs.Common.{◌≡◌, ◌≢◌, ℕ, ◌+◌, ◌-◌, ◌<◌, ◌≤◌, List, [], None, Some, length, get_or, replicate, set as with_at, refl, sym, ap, subst, ◌∙◌, inl, inr, arith}
+use Rattle.std.proofs.Common.{◌≡◌, ◌≢◌, ℕ, ◌+◌, ◌-◌, ◌<◌, ◌≤◌, [], Some, length, get_or, set as with_at, sym, ap, subst, ◌∙◌, inl, inr, arith}
 use Rattle.std.proofs.lemmas.Bool.{cases_eq, cases_lt}
 use Rattle.std.proofs.lemmas.List.{get_or-replicate, get_or_past, get_or-set_same, get_or-set_other, length-set}
 use Rattle.std.proofs.lemmas.Result.{err_from_is_err_and}
 use Rattle.std.specs.Option.{option_map}
-use Rattle.model_sets.specs.Members.{SetLists, members, no_members, first_empty, empty_set}
+use Rattle.model_sets.specs.Members.{no_members, empty_set}
 use Rattle.model_sets.specs.Names.{IsSet, set_count}
-use Rattle.param_tables.specs.BlockData.{members_told, sets_told}
+use Rattle.param_tables.specs.BlockData.{members_told, set_lists}
 use Rattle.param_tables.specs.InTurn.{first_of}
-use Rattle.param_tables.specs.SetRefusals.{fault_in, member_refusals, first_set_refusal, IsSetFailDue, set_refusals}
-use Rattle.param_tables.specs.Statements.{statements_of, set_statements_of}
-use Rattle.param_tables.proofs.SetLaws.{due_first, sets_told_of, refusals_from, refusals_none, refusals_more, refused_here, refused_at_end}
+use Rattle.param_tables.specs.SetRefusals.{fault_in, member_refusals, first_set_refusal, IsSetFailDue}
+use Rattle.mathprog_data.specs.BlocksView.{blocks_told, sets_told}
+use Rattle.param_tables.proofs.SetLaws.{due_first, sets_told_of, refusals_from, refusals_none, refusals_more, refused_here, refused_at_end, empty_is_set}
 use Rattle.param_tables.proofs.set_members.sets_of.Goals as goal
 
 pub loop-set-init : goal.loop-set-init
@@ -19,7 +19,7 @@ loop-set-init c =
       all = ap length none;
       done = λ j below. absurd (omega arith);
       others = λ j above. ap (λ sets. get_or sets j []) none ∙ none_at j;
-      refusals = refusals_none (statements_of c.args.blocks.now);
+      refusals = refusals_none (blocks_told c.args.blocks.now);
     }
   where
     none_at : (j : ℕ) → get_or no_members j [] ≡ []
@@ -27,22 +27,22 @@ loop-set-init c =
 
 pub returns-in_err-add_members-clause-refused : goal.returns-in_err-add_members-clause-refused
 returns-in_err-add_members-clause-refused c =
-    let s = statements_of c.args.blocks.now in
+    let s = blocks_told c.args.blocks.now in
     let k = c.loop-set.set in
     let is : IsSet k = (c.loop-set.auto.set, omega (arith, c.loop-set-test.true)) in
     let fail = c.in_err-add_members.field-0.0 in
-    let given : c.members_of.result.now ≡ members_told s.sets k = c.members_of.ensures ∙ ap (λ blocks. members_told (set_statements_of blocks) k) c.as_slice.ensures.value in
+    let given : c.members_of.result.now ≡ members_told s.sets k = c.members_of.ensures ∙ ap (λ blocks. members_told (sets_told blocks) k) c.as_slice.ensures.value in
     let p = err_from_is_err_and c.from_residual-in_err-add_members.result c.from_residual-in_err-add_members.ensures.1 in
     let due : IsSetFailDue (first_of (member_refusals k (members_told s.sets k))) fail = subst (λ names. IsSetFailDue (first_of (member_refusals k names)) fail) given c.in_err-add_members.ensures.refused in
     rw (p.1, p.2) (due_first (first_of (member_refusals k (members_told s.sets k))) (first_set_refusal s) fail (λ fault found. refused_here s k is fault found c.loop-set.invariant.refusals) due)
 
 pub loop-set-preserved : goal.loop-set-preserved
 loop-set-preserved c =
-    let s = statements_of c.args.blocks.now in
+    let s = blocks_told c.args.blocks.now in
     let k = c.loop-set.set in
     let is : IsSet k = (c.loop-set.auto.set, omega (arith, c.loop-set-test.true)) in
     let names = members_told s.sets k in
-    let given : c.members_of.result.now ≡ names = c.members_of.ensures ∙ ap (λ blocks. members_told (set_statements_of blocks) k) c.as_slice.ensures.value in
+    let given : c.members_of.result.now ≡ names = c.members_of.ensures ∙ ap (λ blocks. members_told (sets_told blocks) k) c.as_slice.ensures.value in
     let now : c.add_members.new.sets ≡ with_at c.loop-set.sets (k - 1) names = c.in_ok-add_members.ensures.added ∙ ap (with_at c.loop-set.sets (k - 1)) given in
     let free : member_refusals k names ≡ [] = ap (member_refusals k) (sym given) ∙ c.in_ok-add_members.ensures.accepted in
     record {
@@ -72,22 +72,24 @@ ended n high low = omega arith
 pub returns-in-Ok-clause-sets : goal.returns-in-Ok-clause-sets
 returns-in-Ok-clause-sets c =
     let end : c.loop-set.set ≡ set_count + 1 = ended c.loop-set.set (omega (arith, c.loop-set.auto.set-end)) (omega (arith, c.loop-set-test.false)) in
-    sets_told_of (statements_of c.args.blocks.now) c.loop-set.sets c.loop-set.invariant.all (λ j below. c.loop-set.invariant.done j (omega arith))
+    sets_told_of (blocks_told c.args.blocks.now) c.loop-set.sets c.loop-set.invariant.all (λ j below. c.loop-set.invariant.done j (omega arith))
 
 pub returns-in-Ok-clause-accepted : goal.returns-in-Ok-clause-accepted
 returns-in-Ok-clause-accepted c =
-    let s = statements_of c.args.blocks.now in
+    let s = blocks_told c.args.blocks.now in
     let end : c.loop-set.set ≡ set_count + 1 = ended c.loop-set.set (omega (arith, c.loop-set.auto.set-end)) (omega (arith, c.loop-set-test.false)) in
-    let told : c.loop-set.sets ≡ sets_told s = sets_told_of s c.loop-set.sets c.loop-set.invariant.all (λ j below. c.loop-set.invariant.done j (omega arith)) in
+    let told : c.loop-set.sets ≡ set_lists s = sets_told_of s c.loop-set.sets c.loop-set.invariant.all (λ j below. c.loop-set.invariant.done j (omega arith)) in
     let last : c.loop-set.set - 1 ≡ set_count = omega arith in
     refused_at_end s c.loop-set.sets told (c.loop-set.invariant.refusals ∙ ap (refusals_from s) last) ∙ ap (option_map (λ k. fault_in k empty_set)) c.in-Ok.ensures.whole
 
 pub returns-in-Err-clause-refused : goal.returns-in-Err-clause-refused
 returns-in-Err-clause-refused c =
-    let s = statements_of c.args.blocks.now in
+    let s = blocks_told c.args.blocks.now in
     let end : c.loop-set.set ≡ set_count + 1 = ended c.loop-set.set (omega (arith, c.loop-set.auto.set-end)) (omega (arith, c.loop-set-test.false)) in
-    let told : c.loop-set.sets ≡ sets_told s = sets_told_of s c.loop-set.sets c.loop-set.invariant.all (λ j below. c.loop-set.invariant.done j (omega arith)) in
-    let last : c.loop-set.set - 1 ≡ set_count = omega arith in
-    refused_at_end s c.loop-set.sets told (c.loop-set.invariant.refusals ∙ ap (refusals_from s) last)
-    ∙ ap (option_map (λ k. fault_in k empty_set)) c.in-Err.ensures.empty.1
-    ∙ ap (λ number. Some (fault_in c.in-Err.fault.set number)) (sym c.in-Err.ensures.empty.0)
+    let told : c.loop-set.sets ≡ set_lists s = sets_told_of s c.loop-set.sets c.loop-set.invariant.all (λ j below. c.loop-set.invariant.done j (omega arith)) in
+    let last : c.loop-set.set - 1 ≡ set_count = omega arith in (
+      refused_at_end s c.loop-set.sets told (c.loop-set.invariant.refusals ∙ ap (refusals_from s) last)
+          ∙ ap (option_map (λ k. fault_in k empty_set)) c.in-Err.ensures.empty.1
+          ∙ ap (λ number. Some (fault_in c.in-Err.fault.set number)) (sym c.in-Err.ensures.empty.0),
+      empty_is_set c.loop-set.sets c.in-Err.fault.set c.in-Err.ensures.empty.1,
+    )

@@ -1,16 +1,16 @@
-use Rattle.std.proofs.Common.{◌≡◌, ℕ, ◌+◌, ◌-◌, ◌<◌, ◌≤◌, List, [], length, get_or}
+use Rattle.std.proofs.Common.{◌≡◌, ℕ, ◌+◌, ◌-◌, ◌<◌, ◌≤◌, [], length, get_or}
 use Rattle.model_sets.specs.Names.{set_count}
 use Rattle.param_tables.specs.BlockData.{members_told}
-use Rattle.param_tables.specs.Statements.{statements_of, Statements}
+use Rattle.mathprog_data.specs.BlocksView.{blocks_told}
 use Rattle.param_tables.proofs.SetLaws.{refusals_from}
 use Rattle.param_tables.specs.SetRefusals.{set_refusals}
-use Rattle.param_tables.specs.BlockData.{sets_told}
+use Rattle.param_tables.specs.BlockData.{set_lists}
 use Rattle.param_tables.proofs.set_members.sets_of.Given as goal
 
 abbrev pub invariant-loop-set : goal.invariant-loop-set
 invariant-loop-set l = record {
   all : length l.sets ≡ set_count;
-  done : (j : ℕ) → j + 1 < l.set → get_or l.sets j [] ≡ members_told (statements_of l.blocks).sets (j + 1);
+  done : (j : ℕ) → j + 1 < l.set → get_or l.sets j [] ≡ members_told (blocks_told l.blocks).sets (j + 1);
   others : (j : ℕ) → l.set ≤ j + 1 → get_or l.sets j [] ≡ [];
-  refusals : set_refusals (sets_told (statements_of l.blocks)) ≡ refusals_from (statements_of l.blocks) (l.set - 1);
+  refusals : set_refusals (set_lists (blocks_told l.blocks)) ≡ refusals_from (blocks_told l.blocks) (l.set - 1);
 }

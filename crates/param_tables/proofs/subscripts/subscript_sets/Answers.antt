@@ -1,4 +1,4 @@
-use Rattle.std.proofs.Common.{◌≡◌, ℕ, ◌≤◌, List, length, sym, subst, All}
+use Rattle.std.proofs.Common.{ℕ, ◌≤◌, List, length, sym, subst, All}
 use Rattle.model_sets.specs.Names.{IsSet}
 use Rattle.param_tables.proofs.TableLaws.{subscripts_are_sets, subscripts-most}
 use Rattle.param_tables.proofs.subscripts.subscript_sets.Goals as goal

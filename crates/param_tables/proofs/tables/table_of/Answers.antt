@@ -1,12 +1,13 @@
-use Rattle.std.proofs.Common.{◌≡◌, ℕ, ◌≤◌, List, None, Some, sym, ap, ◌∙◌, subst}
+use Rattle.std.proofs.Common.{sym, subst}
 use Rattle.std.proofs.lemmas.Result.{err_from_is_err_and}
 use Rattle.std.specs.BTreeMap.{get}
 use Rattle.std.specs.Ordering.{nat_cmp}
 use Rattle.param_tables.specs.InTurn.{first_of, in_turn}
-use Rattle.param_tables.specs.Refusals.{value_refusal, value_refusals}
-use Rattle.param_tables.specs.Statements.{param_told, values_told}
+use Rattle.param_tables.specs.Refusals.{value_refusal}
+use Rattle.mathprog_data.specs.BlocksView.{param_told}
+use Rattle.param_tables.specs.BlockData.{values_told}
 use Rattle.param_tables.specs.Tables.{AreGiven}
-use Rattle.param_tables.specs.Told.{IsStopDue}
+use Rattle.param_tables.specs.Stops.{IsStopDue}
 use Rattle.param_tables.proofs.TableOfLaws.{table_of_given, used_refusals}
 use Rattle.param_tables.proofs.tables.table_of.Goals as goal
 

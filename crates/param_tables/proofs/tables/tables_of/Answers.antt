@@ -1,34 +1,31 @@
-use Rattle.std.proofs.Common.{◌≡◌, ℕ, ◌+◌, ◌-◌, ◌<◌, ◌≤◌, List, [], ◌++◌, None, Some, length, get_or, map, set, take, refl, sym, ap, ◌∙◌, subst, arith}
+use Rattle.std.proofs.Common.{◌≡◌, ℕ, ◌+◌, ◌-◌, ◌<◌, List, [], ◌++◌, length, get_or, set, take, sym, ap, ◌∙◌, subst, arith}
 use Rattle.std.specs.List.{flat_map}
 use Rattle.std.proofs.lemmas.List.{append-nil, get_or-map, length-map}
 use Rattle.std.proofs.lemmas.Result.{err_from_is_err_and}
-use Rattle.model_sets.specs.Members.{SetLists}
-use Rattle.model_sets.specs.Params.{IsUsedParam, used_count}
-use Rattle.mathprog_data.specs.declared.blocks.ParamBlock.{ParamBlock}
+use Rattle.mathprog_data.specs.declared.blocks.ParamBlock.{ParamBlock as KeptParam}
 use Rattle.param_tables.specs.BlockData.{data_of}
 use Rattle.param_tables.specs.InTurn.{first_of}
 use Rattle.param_tables.specs.Refusals.{value_refusals}
-use Rattle.param_tables.specs.Statements.{ParamStatement, param_told, param_statements_of}
+use Rattle.mathprog_data.specs.BlocksView.{param_told, params_told}
 use Rattle.param_tables.specs.Tables.{AreTablesFor}
-use Rattle.param_tables.specs.Told.{IsStopDue}
-use Rattle.param_tables.specs.WellFormed.{AreParamStatements, IsParamStatement}
+use Rattle.mathprog_data.specs.WellFormed.{AreParamBlocks, IsParamBlock}
 use Rattle.param_tables.proofs.TableOfLaws.{stop_first, tables_more, tables_unused, unused_refusals}
-use Rattle.param_tables.proofs.TurnLaws.{rest_free, rest_from, rest_refused}
+use Rattle.param_tables.proofs.TurnLaws.{rest_free, rest_refused}
 use Rattle.param_tables.proofs.tables.tables_of.Goals as goal
 use Rattle.param_tables.proofs.tables.tables_of.Goals.{then-block-le-USED_COUNT+in_ok-tables-2, else-block-le-USED_COUNT}
 
 -- the statement of the block at a place
-record IsAt (blocks : List ParamBlock) (i : ℕ) (block : ParamBlock) : Type 0 where
-  below : i < length (param_statements_of blocks)
-  at : get_or (param_statements_of blocks) i (param_told block) ≡ param_told block
+record IsAt (blocks : List KeptParam) (i : ℕ) (block : KeptParam) : Type 0 where
+  below : i < length (params_told blocks)
+  at : get_or (params_told blocks) i (param_told block) ≡ param_told block
 
-at_place : (blocks : List ParamBlock) (i : ℕ) (block : ParamBlock) → i < length blocks → block ≡ get_or blocks i block → IsAt blocks i block
+at_place : (blocks : List KeptParam) (i : ℕ) (block : KeptParam) → i < length blocks → block ≡ get_or blocks i block → IsAt blocks i block
 at_place blocks i block inside is =
-    let long : length (param_statements_of blocks) ≡ length blocks = length-map blocks param_told in
+    let long : length (params_told blocks) ≡ length blocks = length-map blocks param_told in
     record { below = omega arith; at = get_or-map param_told blocks i block (param_told block) inside ∙ ap param_told (sym is) }
 
-well_formed : (blocks : List ParamBlock) (i : ℕ) (block : ParamBlock) → AreParamStatements (param_statements_of blocks) → IsAt blocks i block → IsParamStatement (param_told block)
-well_formed blocks i block are is = subst IsParamStatement is.at (are.each i (param_told block) is.below)
+well_formed : (blocks : List KeptParam) (i : ℕ) (block : KeptParam) → AreParamBlocks (params_told blocks) → IsAt blocks i block → IsParamBlock (param_told block)
+well_formed blocks i block are is = subst IsParamBlock is.at (are.each i (param_told block) is.below)
 
 pub table_of-requires-clause-used : goal.table_of-requires-clause-used
 table_of-requires-clause-used c =
@@ -46,7 +43,7 @@ overflow_sub-block c =
 pub returns-in_err-tables-2-clause-refused : goal.returns-in_err-tables-2-clause-refused
 returns-in_err-tables-2-clause-refused c =
     let sets = c.args.sets.now in
-    let told = param_statements_of c.args.blocks.now in
+    let told = params_told c.args.blocks.now in
     let i = c.loop-block.block-index in
     let s = param_told c.block-item.result in
     let f = value_refusals sets in
@@ -54,13 +51,13 @@ returns-in_err-tables-2-clause-refused c =
     let is = at_place c.args.blocks.now i c.block-item.result c.loop-block-test.true c.block-item.is in
     let p = err_from_is_err_and c.from_residual-in_err-tables-2.result c.from_residual-in_err-tables-2.ensures.1 in
     rw (p.1, p.2) (stop_first (first_of (f s)) (first_of (flat_map f told)) sets why
-      (λ r found. ap first_of (sym (append-nil (flat_map f told))) ∙ rest_refused f [] told i s (flat_map f told ++ []) r is.below (ap (λ t. first_of (f t)) is.at ∙ found) c.loop-block.invariant.refusals)
-      c.in_err-tables-2.ensures.refused)
+    (λ r found. ap first_of (sym (append-nil (flat_map f told))) ∙ rest_refused f [] told i s (flat_map f told ++ []) r is.below (ap (λ t. first_of (f t)) is.at ∙ found) c.loop-block.invariant.refusals)
+    c.in_err-tables-2.ensures.refused)
 
 pub loop-block-preserved : goal.loop-block-preserved
 loop-block-preserved c =
     let sets = c.args.sets.now in
-    let told = param_statements_of c.args.blocks.now in
+    let told = params_told c.args.blocks.now in
     let i = c.loop-block.block-index in
     let s = param_told c.block-item.result in
     let f = value_refusals sets in

@@ -1,8 +1,7 @@
-use Rattle.std.proofs.Common.{◌≡◌, ℕ, ◌-◌, List, get_or, pos, sym, ap, ◌∙◌, subst, arith}
+use Rattle.std.proofs.Common.{◌≡◌, ◌-◌, get_or, pos, sym, ap, ◌∙◌, subst}
 use Rattle.std.specs.Prelude.{unwrap_or}
 use Rattle.exact_num.specs.Rational.{lowest}
 use Rattle.model_sets.specs.Data.{value_at}
-use Rattle.model_sets.specs.Members.{SetLists}
 use Rattle.model_sets.specs.Params.{subscript_sets}
 use Rattle.param_tables.specs.Built.{Built, IsValueIn}
 use Rattle.param_tables.specs.Places.{IsPlaceOf}

@@ -1,0 +1,6 @@
+use Rattle.std.proofs.Common.{◌≡◌, false, drop, ◌++◌}
+use Rattle.mathprog_data.specs.Lexemes.{undoubled}
+use Rattle.mathprog_data.proofs.statements.seen.undoubled.Given as goal
+
+abbrev pub invariant-loop-c : goal.invariant-loop-c
+invariant-loop-c l = l.bytes.items ++ undoubled l.quote l.second (drop l.c-index l.inner) ≡ undoubled l.quote false l.inner

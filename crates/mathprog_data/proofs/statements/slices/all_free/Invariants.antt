@@ -1,0 +1,6 @@
+use Rattle.std.proofs.Common.{◌≡◌}
+use Rattle.mathprog_data.specs.Slices.{all_free}
+use Rattle.mathprog_data.proofs.statements.slices.all_free.Given as goal
+
+abbrev pub invariant-loop : goal.invariant-loop
+invariant-loop l = l.slice.items ≡ all_free l.counter

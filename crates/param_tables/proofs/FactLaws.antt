@@ -1,0 +1,144 @@
+-- The data that tables mean are those of statements that say the same.
+use Rattle.std.proofs.Common.{◌≡◌, ℕ, suc, ◌+◌, ◌-◌, ◌<◌, ◌≤◌, Bool, true, false, cond, List, [], ◌∷◌, ◌++◌, Some, length, map, nat_eq, get_or, refl, sym, ap, ◌∙◌, subst, inl, inr, arith, All}
+use Rattle.std.specs.Prelude.{ℤ}
+use Rattle.std.specs.Cmp.Lexicographic.{pointwise}
+use Rattle.std.specs.List.{IsDistinct, cons_option, enumerate_from, filter_map, find, flat_map, range_with_len, zip}
+use Rattle.std.specs.Option.{option_map, option_or}
+use Rattle.std.specs.Str.{bytes_eq}
+use Rattle.std.proofs.lemmas.Bool.{cases_eq, eq-eqb, ne_eqb}
+use Rattle.std.proofs.lemmas.List.{get_or-map, length-map}
+use Rattle.std.proofs.lemmas.List.FromFn.{get_or-enumerate_from, get_or-range_with_len, length-enumerate_from, length-range_with_len}
+use Rattle.std.proofs.lemmas.Map.Keys.{IsDistinct-from_apart}
+use Rattle.mathprog_data.specs.declared.blocks.Mark.{Mark}
+use Rattle.model_sets.specs.Data.{indices_of, value_at}
+use Rattle.model_sets.specs.Members.{SetLists, AreSets}
+use Rattle.model_sets.specs.Params.{IsUsedParam, subscript_sets, used_count}
+use Rattle.param_tables.specs.BlockData.{data_of, given_of, givens_of, stated_default}
+use Rattle.mathprog_data.specs.Meaning.{ParamBlock, GivenValue}
+use Rattle.param_tables.specs.Tables.{AreTablesFor, HaveShapes, IsTable, IsTableFor, entries_of, given_among, given_in, table_value, value_else}
+use Rattle.param_tables.specs.View.{default_by, facts_of, given_by}
+use Rattle.param_tables.specs.declared.param_table.ParamTable.{ParamTable}
+use Rattle.param_tables.proofs.DataLaws.{value_of_statement}
+use Rattle.param_tables.proofs.GivenLaws.{names_same}
+use Rattle.param_tables.proofs.IndexLaws.{HaveApart, indices_apart, names_apart_from}
+use Rattle.param_tables.proofs.TableLaws.{subscripts_are_sets}
+
+nowhere : Mark
+nowhere = record { line = 0; column = 0 }
+
+-- an entry as a value of a statement, and a table as a statement
+value_by : SetLists → ℕ → (ℕ × ℤ) → GivenValue
+value_by sets param entry = record { index = get_or (indices_of sets param) entry.0 []; value = entry.1; at = nowhere }
+
+statement_by : SetLists → ℕ → ParamTable → ParamBlock
+statement_by sets param table = record { param = param; default = table.default; values = map (value_by sets param) (entries_of table) }
+
+statements_by : SetLists → ℕ → List ParamTable → List ParamBlock
+statements_by sets n tables = map (λ (param, table). statement_by sets param table) (enumerate_from n tables)
+
+-- ---- the same data
+
+map-map : {A B C : Type 0} (g : B → C) (f : A → B) (xs : List A) → map g (map f xs) ≡ map (λ x. g (f x)) xs
+map-map g f [] = refl
+map-map g f (x ∷ xs) = ap (λ ys. g (f x) ∷ ys) (map-map g f xs)
+
+same_given : (sets : SetLists) (n : ℕ) (tables : List ParamTable) → flat_map (λ (param, table). map (given_by sets param) (entries_of table)) (enumerate_from n tables) ≡ flat_map givens_of (statements_by sets n tables)
+unfolding statements_by statement_by value_by
+same_given sets n [] = refl
+same_given sets n (t ∷ ts) = ap (λ gs. gs ++ flat_map (λ (param, table). map (given_by sets param) (entries_of table)) (enumerate_from (n + 1) ts)) (sym (map-map (given_of n) (value_by sets n) (entries_of t))) ∙ ap (λ gs. map (given_of n) (map (value_by sets n) (entries_of t)) ++ gs) (same_given sets (n + 1) ts)
+
+same_defaults : (sets : SetLists) (n : ℕ) (tables : List ParamTable) → filter_map (λ (param, table). default_by param table) (enumerate_from n tables) ≡ filter_map stated_default (statements_by sets n tables)
+unfolding statements_by statement_by
+same_defaults sets n [] = refl
+same_defaults sets n (t ∷ ts) = ap (cons_option (default_by n t)) (same_defaults sets (n + 1) ts)
+
+same_facts : (sets : SetLists) (tables : List ParamTable) → facts_of sets tables ≡ data_of sets (statements_by sets 1 tables)
+same_facts sets tables = ap (λ given. record { sets = sets; given = given; defaults = filter_map (λ (param, table). default_by param table) (enumerate_from 1 tables) }) (same_given sets 1 tables) ∙ ap (λ defaults. record { sets = sets; given = flat_map givens_of (statements_by sets 1 tables); defaults = defaults }) (same_defaults sets 1 tables)
+
+-- ---- one statement for each parameter
+
+params_by : (sets : SetLists) (n : ℕ) (tables : List ParamTable) → map (λ s. s.param) (statements_by sets n tables) ≡ range_with_len n (length tables)
+unfolding statements_by statement_by
+params_by sets n [] = refl
+params_by sets n (t ∷ ts) = ap (λ ns. n ∷ ns) (params_by sets (n + 1) ts)
+
+numbers_apart : (a n : ℕ) → IsDistinct nat_eq (range_with_len a n)
+numbers_apart a n = IsDistinct-from_apart nat_eq (range_with_len a n) (λ i j d before below.
+    let long = length-range_with_len a n in
+    let first : get_or (range_with_len a n) i d ≡ a + i = get_or-range_with_len a n i d (omega arith) in
+    let second : get_or (range_with_len a n) j d ≡ a + j = get_or-range_with_len a n j d (omega arith) in
+    ne_eqb (get_or (range_with_len a n) i d) (get_or (range_with_len a n) j d) (λ e. omega arith))
+
+-- ---- the look-up by names is that by places
+
+module _ (sets : SetLists) (apart : HaveApart sets) (p : ℕ) (used : IsUsedParam p) where
+  place_test : (q j : ℕ) → q < length (indices_of sets p) → j < length (indices_of sets p) → pointwise bytes_eq (get_or (indices_of sets p) q []) (get_or (indices_of sets p) j []) ≡ nat_eq j q
+  place_test q j bq bj = elim (cases_eq j q) [
+    | inl same ↦ (names_same (get_or (indices_of sets p) q []) (get_or (indices_of sets p) j [])).1 (ap (λ n. get_or (indices_of sets p) n []) (sym same)) ∙ sym (eq-eqb j q same)
+    | inr other ↦ false_from (pointwise bytes_eq (get_or (indices_of sets p) q []) (get_or (indices_of sets p) j [])) (λ t. other (sym (indices_apart sets apart (subscript_sets p) q j (subscripts_are_sets p used) bq bj ((names_same (get_or (indices_of sets p) q []) (get_or (indices_of sets p) j [])).0 t)))) ∙ sym (ne_eqb j q other)
+  ]
+    where
+      false_from : (b : Bool) → ((b ≡ true) → ⊥) → b ≡ false
+      false_from true no_way = absurd (no_way refl)
+      false_from false no_way = refl
+
+  given_by_place : (places : List ℕ) (values : List ℤ) (j : ℕ) → All (λ q. q < length (indices_of sets p)) places → j < length (indices_of sets p) → given_among (map (value_by sets p) (zip places values)) (get_or (indices_of sets p) j []) ≡ given_in (zip places values) j
+  unfolding value_by
+  given_by_place [] values j within below = refl
+  given_by_place (q ∷ qs) [] j within below = refl
+  given_by_place (q ∷ qs) (v ∷ vs) j within below =
+      ap (λ b. option_map (λ (w : GivenValue). w.value) (cond b (Some (value_by sets p (q, v))) (find (λ w. pointwise bytes_eq w.index (get_or (indices_of sets p) j [])) (map (value_by sets p) (zip qs vs))))) (place_test q j (within 0 q (omega arith)) below)
+      ∙ of_cond (nat_eq j q) (given_by_place qs vs j (λ k d short. within (suc k) d (omega arith)) below)
+    where
+      of_cond : (b : Bool) → given_among (map (value_by sets p) (zip qs vs)) (get_or (indices_of sets p) j []) ≡ given_in (zip qs vs) j → option_map (λ (w : GivenValue). w.value) (cond b (Some (value_by sets p (q, v))) (find (λ w. pointwise bytes_eq w.index (get_or (indices_of sets p) j [])) (map (value_by sets p) (zip qs vs)))) ≡ cond b (Some v) (given_in (zip qs vs) j)
+      of_cond true e = refl
+      of_cond false e = e
+
+-- tables with the shapes of the parameters are those of the data that they mean
+pub tables_for_facts : (sets : SetLists) (tables : List ParamTable) → AreSets sets → HaveShapes sets tables → AreTablesFor (facts_of sets tables) tables
+unfolding statements_by statement_by
+tables_for_facts sets tables are shapes = record { all = shapes.all; each = each }
+  where
+    all : List ParamBlock
+    all = statements_by sets 1 tables
+
+    distinct : IsDistinct nat_eq (map (λ s. s.param) all)
+    distinct = subst (IsDistinct nat_eq) (sym (params_by sets 1 tables)) (numbers_apart 1 (length tables))
+
+    each : (p : ℕ) → IsUsedParam p → (e : ParamTable) → IsTableFor (facts_of sets tables) p (get_or tables (p - 1) e)
+    each p used e = record { shape = shape; values = values }
+      where
+        low : 1 ≤ p
+        low = used.0
+
+        high : p ≤ used_count
+        high = used.1
+
+        table : ParamTable
+        table = get_or tables (p - 1) e
+
+        shape : IsTable (length (indices_of sets p)) (get_or tables (p - 1) e)
+        shape = shapes.each p used e
+
+        s : ParamBlock
+        s = statement_by sets p table
+
+        short : p - 1 < length tables
+        short = let a = low in let b = high in omega (arith, shapes.all)
+
+        inside : p - 1 < length all
+        inside = let a = short in omega (arith, length-map (enumerate_from 1 tables) (λ (param, t). statement_by sets param t), length-enumerate_from 1 tables)
+
+        at : get_or all (p - 1) s ≡ s
+        at =
+            let number : 1 + (p - 1) ≡ p = let a = low in omega arith in
+            let in_list : p - 1 < length (enumerate_from 1 tables) = let a = short in omega (arith, length-enumerate_from 1 tables) in
+            get_or-map (λ (param, t). statement_by sets param t) (enumerate_from 1 tables) (p - 1) (p, e) s in_list
+            ∙ ap (λ x. statement_by sets x.0 x.1) (get_or-enumerate_from 1 tables (p - 1) (p, e) short)
+            ∙ ap (λ n. statement_by sets n table) number
+
+        values : (place : ℕ) → place < length (indices_of sets p) → value_at (facts_of sets tables) p (get_or (indices_of sets p) place []) ≡ table_value p (get_or tables (p - 1) e) place
+        values place below =
+            ap (λ d. value_at d p (get_or (indices_of sets p) place [])) (same_facts sets tables)
+            ∙ value_of_statement sets all distinct (p - 1) s inside at (get_or (indices_of sets p) place [])
+            ∙ ap (λ o. option_or o (value_else p table.default)) (given_by_place sets (names_apart_from sets are) p used table.places.items table.values.items place shape.below below)

@@ -1,0 +1,24 @@
+use Rattle.std.proofs.Common.{◌≡◌, Some, refl, sym, subst}
+use Rattle.param_tables.specs.BlockData.{data_told}
+use Rattle.param_tables.specs.Built.{AreComplete, AreSameData}
+use Rattle.param_tables.specs.Refusals.{first_refusal}
+use Rattle.mathprog_data.specs.BlocksView.{blocks_told}
+use Rattle.param_tables.specs.Stops.{IsStopDue}
+use Rattle.param_tables.specs.Told.{NamesCell, refusal_told}
+use Rattle.param_tables.proofs.building.build.Goals as goal
+
+pub returns-in-Ok-clause-built : goal.returns-in-Ok-clause-built
+returns-in-Ok-clause-built c = record {
+  facts = subst (λ facts. AreSameData facts (data_told (blocks_told c.args.blocks.now))) (sym c.new.ensures.facts) c.in-Ok.ensures.same;
+  rounded = c.new.ensures.rounded;
+}
+
+pub returns-in-Ok-clause-complete : goal.returns-in-Ok-clause-complete
+returns-in-Ok-clause-complete c = subst AreComplete (sym c.new.ensures.facts) c.in-Ok.ensures.kept.complete
+
+pub returns-in-Err-Fault-clause-refused : goal.returns-in-Err-Fault-clause-refused
+returns-in-Err-Fault-clause-refused c =
+    let s = blocks_told c.args.blocks.now in
+    let due = subst (IsStopDue (first_refusal s) c.args.sets) c.in-Err-Fault.field-0-is c.in-Err-Fault.ensures.refused in
+    let fault = c.in-Err-Fault.fault in
+    subst (λ all. (first_refusal s ≡ Some (refusal_told all fault)) × NamesCell all fault × (c.args.sets ≡ all)) c.requires.sets (due.0, due.1, refl)

@@ -1,0 +1,8 @@
+use Rattle.std.proofs.Common.{◌≡◌, ◌-◌}
+use Rattle.model_sets.specs.Data.{Data}
+use Rattle.param_tables.specs.Tables.{AreTablesFor}
+use Rattle.param_tables.proofs.ParamLaws.{AreFreeUpTo}
+use Rattle.param_tables.proofs.building.check_params.Given as goal
+
+abbrev pub invariant-loop-param : goal.invariant-loop-param
+invariant-loop-param l = (d : Data) → d.sets ≡ l.sets → AreTablesFor d l.tables → AreFreeUpTo d (l.param - 1)

@@ -1,0 +1,88 @@
+//! From what a data section says to checked data.
+
+ghost use Rattle.std.specs.Prelude.{◌≡◌, [], None, IfErr, IfOk, OnOk};
+ghost use Rattle.std.specs.List.{flat_map, range_with_len};
+ghost use Rattle.model_sets.specs.Data.{Data};
+ghost use Rattle.model_sets.specs.Members.{AreSets};
+ghost use Rattle.model_sets.specs.Params.{used_count};
+ghost use Rattle.param_tables.specs.BlockData.{data_told, set_lists};
+ghost use Rattle.param_tables.specs.Built.{AreComplete, AreSameData, IsBuiltFrom};
+ghost use Rattle.param_tables.specs.InTurn.{first_of};
+ghost use Rattle.param_tables.specs.Refusals.{first_refusal, param_refusals};
+ghost use Rattle.mathprog_data.specs.BlocksView.{blocks_told};
+ghost use Rattle.param_tables.specs.Tables.{AreTablesFor, HaveShapes};
+ghost use Rattle.param_tables.specs.Stops.{IsStopDue};
+ghost use Rattle.param_tables.specs.Told.{IsBuildFailDue};
+ghost use Rattle.param_tables.specs.View.{AreKept, facts_of};
+ghost use Rattle.mathprog_data.specs.WellFormed.{AreWellFormed};
+
+use crate::checks::check_param;
+use crate::fault::{BuildFail, BuildFault, Stop};
+use crate::model_data::ModelData;
+use crate::param_table::ParamTable;
+use crate::tables::tables_of;
+use mathprog_data::Blocks;
+use model_sets::Sets;
+use std::alloc::Global;
+
+/// The number of the set STORAGE.
+const STORAGE: u8 = 8;
+
+/// How many parameters are used.
+const USED_COUNT: u8 = 38;
+
+/// Whether each used parameter has a value in its range at each of its indices. Refuses the first fault,
+/// parameter by parameter in the order of their numbers. Memory may be wanting.
+fn check_params(alloc: Global, sets: &Sets, tables: &[ParamTable]) -> Result<(), Stop>
+    requires { HaveShapes sets.now tables.now }
+    ensures accepted { OnOk result ((d : Data) → d.sets ≡ sets.now → AreTablesFor d tables.now → flat_map (param_refusals d) (range_with_len 1 used_count) ≡ []) }
+    ensures refused { IfErr result (λ stop. (d : Data) → d.sets ≡ sets.now → AreTablesFor d tables.now → IsStopDue (first_of (flat_map (param_refusals d) (range_with_len 1 used_count))) sets.now stop) }
+{
+    for param in 1..USED_COUNT + 1 {
+        check_param(alloc, sets, param, &tables[usize::from(param - 1)])?;
+    }
+    Ok(())
+}
+
+/// The tables of the used parameters, checked. Refuses as `build` does.
+fn checked_tables(alloc: Global, blocks: &Blocks, sets: &Sets) -> Result<Vec<ParamTable>, Stop>
+    requires blocks { AreWellFormed (blocks_told blocks.now) }
+    requires sets { sets.now ≡ set_lists (blocks_told blocks.now) }
+    ensures kept { IfOk result (λ tables. AreKept sets.now tables.items) }
+    ensures same { IfOk result (λ tables. AreSameData (facts_of sets.now tables.items) (data_told (blocks_told blocks.now))) }
+    ensures accepted { OnOk result (first_refusal (blocks_told blocks.now) ≡ None) }
+    ensures refused { IfErr result (IsStopDue (first_refusal (blocks_told blocks.now)) sets.now) }
+{
+    if sets.count(STORAGE) > 0 {
+        return Err(Stop::Fault(BuildFault::Storage));
+    }
+    let tables = tables_of(alloc, sets, blocks.params.as_slice())?;
+    check_params(alloc, sets, tables.as_slice())?;
+    Ok(tables)
+}
+
+/// The checked data of the blocks, which are such as a text can give, over the sets that `sets_of` answered
+/// for the same blocks.
+///
+/// Refuses the first of these, and hands the sets back: a member of STORAGE (`Storage`); of the values of
+/// used parameters (number 1 to 38), in the order of the text, one whose index has a name that is no member
+/// of its set (`UnknownMember`) or was given before (`ValueTwice`), each with its place in the text; and
+/// then, parameter by parameter in the order of their numbers, more than 4,000,000 indices
+/// (`TooManyCells`), or else the first index, in the order of the members with the last subscript running
+/// fastest, that has neither a value nor a default (`NoValue`) or whose value lies outside the parameter's
+/// range (the other faults), with the parameter and the index. Nobody looks at the members and values of
+/// the parameters that are read and not used. Memory may be wanting at any time.
+pub fn build(alloc: Global, blocks: &Blocks, sets: Sets) -> Result<ModelData, BuildFail>
+    requires blocks { AreWellFormed (blocks_told blocks.now) }
+    requires sets { sets ≡ set_lists (blocks_told blocks.now) }
+    ensures built { IfOk result (IsBuiltFrom (blocks_told blocks.now)) }
+    ensures complete { IfOk result (λ model. AreComplete model.facts) }
+    ensures accepted { OnOk result (first_refusal (blocks_told blocks.now) ≡ None) }
+    ensures refused { IfErr result (IsBuildFailDue (first_refusal (blocks_told blocks.now)) (set_lists (blocks_told blocks.now))) }
+{
+    match checked_tables(alloc, blocks, &sets) {
+        Ok(tables) => Ok(ModelData::new(sets, tables, blocks.rounded)),
+        Err(Stop::Fault(fault)) => Err(BuildFail::Fault(fault, sets)),
+        Err(Stop::Memory) => Err(BuildFail::Memory),
+    }
+}

@@ -1,0 +1,321 @@
+//! The refusals and values of small data sections.
+
+use crate::{BuildFail, BuildFault, Cell, ModelData, build, sets_of, subscript_sets};
+use exact_num::Frac;
+use mathprog_data::{param_word, read_blocks};
+use model_sets::SetFail;
+use std::alloc::{AllocError, Global};
+use std::process::Abort;
+use std::test::Fail;
+
+/// One region, technology, fuel, timeslice, mode and year.
+const SETS: &str =
+    "set REGION := R; set TECHNOLOGY := T; set FUEL := F; set TIMESLICE := D; set MODE_OF_OPERATION := 1; set YEAR := 2020;\n";
+
+/// The same with the years 2020 and 2021.
+const TWO_YEARS: &str =
+    "set REGION := R; set TECHNOLOGY := T; set FUEL := F; set TIMESLICE := D; set MODE_OF_OPERATION := 1; set YEAR := 2020 2021;\n";
+
+/// The same with the technologies T and U as well.
+const TWO_EACH: &str =
+    "set REGION := R; set TECHNOLOGY := T U; set FUEL := F; set TIMESLICE := D; set MODE_OF_OPERATION := 1; set YEAR := 2020 2021;\n";
+
+/// A default for each parameter, from number 1.
+const DEFAULTS: [&str; 38] = [
+    "1", "0", "1", "0", "10", "1", "0", "1", "1", "1", "1", "0", "0", "1", "5", "2", "1", "0",
+    "-1", "0", "-1", "0", "-1", "0", "0", "0", "0", "0", "0", "0", "0", "0", "0", "0", "0", "-1",
+    "0", "-1",
+];
+
+/// The sets, the statement, and a default for every other parameter.
+fn text(alloc: Global, sets: &str, changed: u8, statement: &str) -> Result<String, AllocError> {
+    let mut text = String::from_str(alloc, sets)?;
+    text.push_str(statement)?;
+    for (i, default) in DEFAULTS.iter().enumerate() {
+        let param = i as u8 + 1;
+        if param != changed {
+            text.push_str("\nparam ")?;
+            text.push_str(param_word(param))?;
+            text.push_str(" default ")?;
+            text.push_str(default)?;
+            text.push_str(" := ;")?;
+        }
+    }
+    Ok(text)
+}
+
+/// What came of a text: its data, or a line on its refusal.
+#[derive(Drop)]
+enum Ending {
+    Built(ModelData),
+    Refused(String),
+}
+
+/// The parameter and the positions of the cell.
+fn cell_line(alloc: Global, word: &str, cell: &Cell) -> Result<String, AllocError> {
+    format!(in alloc; "{word} {} {:?}", param_word_of(cell.param), cell.index)
+}
+
+fn param_word_of(param: u8) -> &'static str {
+    if param >= 1 && param <= 54 {
+        param_word(param)
+    } else {
+        ""
+    }
+}
+
+/// The line on a refusal.
+fn line(alloc: Global, fault: &BuildFault) -> Result<String, AllocError> {
+    match fault {
+        BuildFault::UnknownMember(at) => format!(in alloc;
+            "UnknownMember {} {}",
+            at.line, at.column
+        ),
+        BuildFault::ValueTwice(at) => format!(in alloc; "ValueTwice {} {}", at.line, at.column),
+        BuildFault::NoValue(cell) => cell_line(alloc, "NoValue", cell),
+        BuildFault::Negative(cell) => cell_line(alloc, "Negative", cell),
+        BuildFault::NotPositive(cell) => cell_line(alloc, "NotPositive", cell),
+        BuildFault::NotWhole(cell) => cell_line(alloc, "NotWhole", cell),
+        BuildFault::OutOfRange(cell) => cell_line(alloc, "OutOfRange", cell),
+        BuildFault::Storage => String::from_str(alloc, "Storage"),
+        BuildFault::WholeUnits(cell) => cell_line(alloc, "WholeUnits", cell),
+        BuildFault::TooManyCells(param) => format!(in alloc;
+            "TooManyCells {}",
+            param_word_of(*param)
+        ),
+    }
+}
+
+/// What comes of the text.
+fn outcome(rt: &impl Abort, alloc: Global, text: &str) -> Result<Ending, Fail> {
+    assert!(rt; text.len() <= 1_000_000);
+    let blocks = read_blocks(alloc, text.as_bytes())?;
+    let sets = match sets_of(alloc, &blocks) {
+        Ok(sets) => sets,
+        Err(SetFail::Fault(fault)) => return Ok(Ending::Refused(format!(in alloc;
+            "set {} {}",
+            fault.set, fault.no
+        )?)),
+        Err(SetFail::Memory) => return Ok(Ending::Refused(String::from_str(alloc, "memory")?)),
+    };
+    match build(alloc, &blocks, sets) {
+        Ok(model) => Ok(Ending::Built(model)),
+        Err(BuildFail::Fault(fault, _)) => Ok(Ending::Refused(line(alloc, &fault)?)),
+        Err(BuildFail::Memory) => Ok(Ending::Refused(String::from_str(alloc, "memory")?)),
+    }
+}
+
+/// The line on the refusal of the text, or none.
+fn refusal(rt: &impl Abort, alloc: Global, text: &str) -> Result<String, Fail> {
+    match outcome(rt, alloc, text)? {
+        Ending::Built(_) => Ok(String::new(alloc)),
+        Ending::Refused(line) => Ok(line),
+    }
+}
+
+#[test]
+fn first_refusals(rt: HostRuntime) -> Result<(), Fail> {
+    let rows = [
+        (SETS, 0, "", ""),
+        (SETS, 0, "set STORAGE := DAM;", "Storage"),
+        (
+            SETS,
+            18,
+            "param CapacityOfOneTechnologyUnit default 1 := ;",
+            "WholeUnits CapacityOfOneTechnologyUnit [0, 0, 0]",
+        ),
+        (SETS, 18, "", ""),
+        (
+            SETS,
+            13,
+            "param InputActivityRatio default -1 := ;",
+            "Negative InputActivityRatio [0, 0, 0, 0, 0]",
+        ),
+        (
+            SETS,
+            11,
+            "param OperationalLife default 1.5 := ;",
+            "NotWhole OperationalLife [0, 0]",
+        ),
+        (
+            SETS,
+            11,
+            "param OperationalLife default 201 := ;",
+            "OutOfRange OperationalLife [0, 0]",
+        ),
+        (
+            SETS,
+            1,
+            "param YearSplit default 0 := ;",
+            "NotPositive YearSplit [0, 0]",
+        ),
+        (
+            SETS,
+            2,
+            "param DiscountRate default 1.000000001 := ;",
+            "OutOfRange DiscountRate [0]",
+        ),
+        (
+            SETS,
+            3,
+            "param DepreciationMethod default 3 := ;",
+            "OutOfRange DepreciationMethod [0]",
+        ),
+        (
+            SETS,
+            19,
+            "param TotalAnnualMaxCapacity default -0.5 := ;",
+            "OutOfRange TotalAnnualMaxCapacity [0, 0, 0]",
+        ),
+        (SETS, 15, "param CapitalCost default -1 := ;", ""),
+        (
+            TWO_YEARS,
+            15,
+            "param CapitalCost := [R,*,*] : 2020 2021 := T 5 . ;",
+            "NoValue CapitalCost [0, 0, 1]",
+        ),
+        (
+            TWO_YEARS,
+            20,
+            "param TotalAnnualMinCapacity := R T 2021 -1 ;",
+            "NoValue TotalAnnualMinCapacity [0, 0, 0]",
+        ),
+        (
+            TWO_YEARS,
+            20,
+            "param TotalAnnualMinCapacity := R T 2021 -1 R T 2020 -2 ;",
+            "Negative TotalAnnualMinCapacity [0, 0, 0]",
+        ),
+        (
+            TWO_YEARS,
+            15,
+            "param CapitalCost :=\nR T 2020 5\nR T 2022 5\nR T 2020 5 ;",
+            "UnknownMember 4 1",
+        ),
+        (
+            TWO_YEARS,
+            15,
+            "param CapitalCost :=\nR T 2020 5\nR T 2020 5\nR T 2022 5 ;",
+            "ValueTwice 4 1",
+        ),
+        (SETS, 0, "param DaySplit := X Y 0 X Y 0 ;", ""),
+        (
+            TWO_EACH,
+            16,
+            "param VariableCost default 9 := [R,*,1,*] : T U := 2020 2 . 2021 3 4 ;",
+            "UnknownMember 2 52",
+        ),
+    ];
+    for (sets, changed, statement, expected) in rows {
+        let text = text(rt.alloc(), sets, changed, statement)?;
+        assert_eq!(rt;
+            refusal(&rt, rt.alloc(), text.as_str())?.as_str(),
+            expected,
+            "{statement}"
+        );
+    }
+    Ok(())
+}
+
+#[test]
+fn refused_sets(rt: HostRuntime) -> Result<(), Fail> {
+    let rows = [
+        ("", "set 1 2"),
+        ("# a comment alone", "set 1 2"),
+        (
+            "set REGION := A1 A2 A3 A4 A5 A6 A7 A8 A9 A10 A11 A12 A13 A14 A15 A16 A17 A18 A19 A20 A21;",
+            "set 1 4",
+        ),
+        ("set REGION := R; set YEAR := 2020 02020;", "set 7 1"),
+        ("set REGION := R; set YEAR := '02020';", "set 7 3"),
+        (
+            "set REGION := R; set TECHNOLOGY := T; set FUEL := F; set YEAR := 2020;",
+            "set 5 2",
+        ),
+    ];
+    for (text, expected) in rows {
+        assert_eq!(rt;
+            refusal(&rt, rt.alloc(), text)?.as_str(),
+            expected,
+            "{text}"
+        );
+    }
+    Ok(())
+}
+
+#[test]
+fn too_many_indices(rt: HostRuntime) -> Result<(), Fail> {
+    let alloc = rt.alloc();
+    let mut sets = String::from_str(
+        alloc,
+        "set TECHNOLOGY := T; set TIMESLICE := D; set MODE_OF_OPERATION := 1;\nset REGION := ",
+    )?;
+    for i in 1..21u32 {
+        sets.push_str(format!(in alloc; " A{i}")?.as_str())?;
+    }
+    sets.push_str("; set FUEL := ")?;
+    for i in 1..201u32 {
+        sets.push_str(format!(in alloc; " F{i}")?.as_str())?;
+    }
+    sets.push_str("; set YEAR := ")?;
+    for i in 2020..2140u32 {
+        sets.push_str(format!(in alloc; " {i}")?.as_str())?;
+    }
+    sets.push_str(";\n")?;
+    let text = text(alloc, sets.as_str(), 0, "")?;
+    assert_eq!(rt;
+        refusal(&rt, rt.alloc(), text.as_str())?.as_str(),
+        "TooManyCells TradeRoute"
+    );
+    Ok(())
+}
+
+#[test]
+fn values_by_index(rt: HostRuntime) -> Result<(), Fail> {
+    let statements = [
+        "param VariableCost default 9 := [R,*,1,*] (tr) : T U := 2020 2 . 2021 3 4 ;",
+        "param VariableCost default 9 := [R,*,1,*] T 2020 2 T 2021 3 U 2021 4 ;",
+    ];
+    for statement in statements {
+        let text = text(rt.alloc(), TWO_EACH, 16, statement)?;
+        let Ending::Built(model) = outcome(&rt, rt.alloc(), text.as_str())? else {
+            assert!(rt; false, "refused: {statement}");
+            return Ok(());
+        };
+        let sets = model.sets();
+        assert!(rt; sets.count(1) == 1);
+        assert!(rt; sets.count(2) == 2);
+        assert!(rt; sets.count(5) == 1);
+        assert!(rt; sets.count(7) == 2);
+        assert_eq!(rt; model.at(16, &[0, 0, 0, 0]), Frac { num: 2, den: 1 });
+        assert_eq!(rt; model.at(16, &[0, 0, 0, 1]), Frac { num: 3, den: 1 });
+        assert_eq!(rt; model.at(16, &[0, 1, 0, 0]), Frac { num: 9, den: 1 });
+        assert_eq!(rt; model.at(16, &[0, 1, 0, 1]), Frac { num: 4, den: 1 });
+    }
+    Ok(())
+}
+
+#[test]
+fn defaults_and_lowest_terms(rt: HostRuntime) -> Result<(), Fail> {
+    let text = text(
+        rt.alloc(),
+        SETS,
+        2,
+        "param DiscountRate default 0.0500000001 := ;",
+    )?;
+    let Ending::Built(model) = outcome(&rt, rt.alloc(), text.as_str())? else {
+        assert!(rt; false, "refused");
+        return Ok(());
+    };
+    let sets = model.sets();
+    assert!(rt; sets.count(1) == 1);
+    assert!(rt; sets.count(2) == 1);
+    assert!(rt; sets.count(7) == 1);
+    assert_eq!(rt; model.at(2, &[0]), Frac { num: 1, den: 20 });
+    assert_eq!(rt; model.at(15, &[0, 0, 0]), Frac { num: 5, den: 1 });
+    assert_eq!(rt; model.at(18, &[0, 0, 0]), Frac { num: 0, den: 1 });
+    assert_eq!(rt; model.at(19, &[0, 0, 0]), Frac { num: -1, den: 1 });
+    assert_eq!(rt; model.rounded(), 1);
+    assert_eq!(rt; subscript_sets(19), [1u8, 2, 7].as_slice());
+    Ok(())
+}
