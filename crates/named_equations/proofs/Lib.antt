@@ -1,13 +1,19 @@
 mod BaseFile
 mod BaseInstances
 mod BasePlan
+mod ExistingVariables
+mod FractionPlans
+pub mod InstanceOrder
+pub mod InstanceTests
 mod LimitEdges
 mod MadeFile
 mod MadeInstances
 mod ParameterNames
+pub mod SortedLists
 mod Tables
 mod Targets
 mod Trades
+mod TwoOfEach
 mod VariableNames
 mod YearsWithGap
 pub mod TermMeaning

@@ -1,6 +1,8 @@
+mod Determination
 mod Finding
 mod Lookups
 mod Ranges
+mod Scaling
 mod Soundness
 mod Sums
 mod Walks

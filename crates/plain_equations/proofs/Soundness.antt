@@ -28,7 +28,7 @@ use Rattle.plain_equations.specs.Checked.{is_made, one_more, sum_from, checked}
 use Rattle.plain_equations.specs.Meaning.{is_true_at, chosen, years_at, meaning, Said, said}
 use Rattle.plain_equations.specs.Named.{named}
 use Rattle.plain_equations.specs.Points.{point_at, moved, set_of}
-use Rattle.plain_equations.specs.Refused.{value_or, fitting, sum_of, difference_of, product_of, with_value, with_both}
+use Rattle.plain_equations.specs.Refused.{value_or, fitting, with_value, with_both}
 
 -- the number, where one is answered, is this one
 abbrev pub Answers : Result ℤ PlainFail → ℤ → Type 0

@@ -1,12 +1,11 @@
 -- What the evaluation of an expression answers: its number, or the first refusal on the way from left to right.
-use Rattle.std.specs.Prelude.{ℕ, ◌^◌, ℤ, pos, Bool, ◌&&◌, true, false, List, [], ◌∷◌, nat_lt, Result, Ok, Err}
+use Rattle.std.specs.Prelude.{ℕ, ◌^◌, ℤ, pos, Bool, ◌&&◌, true, false, List, [], ◌∷◌, nat_lt, Result, Ok}
 use Rattle.model_sets.specs.Data.{Data}
 use Rattle.row_core.specs.declared.Var.{Var}
 use Rattle.named_equations.specs.Notation.{values, million}
-use Rattle.named_equations.specs.Positions.{positions, years_since_first, years_left}
+use Rattle.named_equations.specs.Positions.{positions, years_since_first}
 use Rattle.named_equations.specs.Variables.{variable}
 use Rattle.named_equations.specs.WrittenFactors.{rate_of, life_of, capital_factor_of, operating_factor_of, salvage_fraction_of}
-use Rattle.plain_equations.specs.declared.expressions.Condition.{Condition}
 use Rattle.plain_equations.specs.declared.expressions.Expr.{Expr}
 use Rattle.plain_equations.specs.declared.expressions.Expr.TheVariants.{Zero, Whole, Values, Million, Plan, Given, CapitalFactor, OperatingFactor, SalvageFraction, Sum', Difference', Product', Over'}
 use Rattle.plain_equations.specs.declared.fail.PlainFail.{PlainFail}

@@ -1,8 +1,11 @@
 pub mod Answers
 pub mod Checked
+pub mod Degrees
+pub mod Described
 pub mod Lists
 pub mod Meaning
 pub mod Named
 pub mod Points
 pub mod Refused
+pub mod Solved
 pub mod Walks

@@ -1,5 +1,5 @@
 -- What the language of expressions means, in the words of the named equations.
-use Rattle.std.specs.Prelude.{ℕ, ℤ, pos, ◌+ℤ◌, ◌-ℤ◌, ◌*ℤ◌, Bool, true, List, map, filter}
+use Rattle.std.specs.Prelude.{ℕ, ℤ, pos, ◌+ℤ◌, ◌-ℤ◌, ◌*ℤ◌, Bool, true, List, map, filter, Option, Some, None}
 use Rattle.std.specs.List.{list_any}
 use Rattle.model_sets.specs.Data.{Data}
 use Rattle.row_core.specs.declared.Index.{Index}
@@ -10,6 +10,7 @@ use Rattle.named_equations.specs.Notation.{sum_over, values, million}
 use Rattle.named_equations.specs.Parameters.{value_of}
 use Rattle.named_equations.specs.Positions.{positions, years_since_first, years_in_all}
 use Rattle.named_equations.specs.Salvage.{has_sv1, has_sv2, has_sv3}
+use Rattle.named_equations.specs.Table.{other_trade}
 use Rattle.named_equations.specs.Variables.{variable}
 use Rattle.named_equations.specs.Where.{is_not_zero, is_limit, is_positive}
 use Rattle.named_equations.specs.WrittenFactors.{capital_factor_of, operating_factor_of, salvage_fraction_of}
@@ -17,6 +18,8 @@ use Rattle.plain_equations.specs.declared.expressions.Condition.{Condition}
 use Rattle.plain_equations.specs.declared.expressions.Condition.TheVariants.{Always, NotZero, SomeMode, Limit, Positive, StillCounts, SinkingFund, StraightLine, NoSalvage}
 use Rattle.plain_equations.specs.declared.expressions.Count.{Count}
 use Rattle.plain_equations.specs.declared.expressions.Count.TheVariants.{One, Two, Three}
+use Rattle.plain_equations.specs.declared.expressions.Defines.{Defines}
+use Rattle.plain_equations.specs.declared.expressions.Defines.TheVariants.{Nothing, LeftVariable, OtherTrade}
 use Rattle.plain_equations.specs.declared.expressions.Equation.{Equation}
 use Rattle.plain_equations.specs.declared.expressions.Expr.{Expr}
 use Rattle.plain_equations.specs.declared.expressions.Expr.TheVariants.{Zero, Whole, Values, Million, Plan, Given, CapitalFactor, OperatingFactor, SalvageFraction, Sum', Difference', Product', Over'}
@@ -82,10 +85,28 @@ meaning d q x (Difference' _ a _ b) p = meaning d q x a p -ℤ meaning d q x b p
 meaning d q x (Product' _ a _ b) p = meaning d q x a p *ℤ meaning d q x b p
 meaning d q x (Over' letter condition _ a) p = sum_over (chosen d p letter condition) (λ i. meaning d q x a (moved p letter i))
 
--- what an equation is: where it stands, and what it says
+-- the variable that an expression is
+abbrev pub plan_variable : Expr → Point → Option Var
+plan_variable (Plan kind places) p = Some (variable kind (index_at p places))
+plan_variable _ p = None
+
+-- the variable of a left side: the side itself, or its last factor
+abbrev pub left_variable : Expr → Point → Option Var
+left_variable (Plan kind places) p = Some (variable kind (index_at p places))
+left_variable (Product' _ a _ b) p = plan_variable b p
+left_variable _ p = None
+
+-- the variable that is defined
+abbrev pub defined_at : Defines → Expr → Index → Option Var
+defined_at Nothing left i = None
+defined_at LeftVariable left i = left_variable left (point_at i)
+defined_at OtherTrade left i = other_trade i
+
+-- what an equation is: where it stands, what it says, and which variable it defines
 pub record Said : Type 0 where
   pub stands : Data → Index → Bool
   pub says : Data → ℕ → (Var → ℤ) → Index → Statement
+  pub defines : Index → Option Var
 
 -- the same of an equation as data
 abbrev pub said : Equation → Said
@@ -96,4 +117,5 @@ said equation = record {
     sign = equation.sense;
     right = meaning d q x equation.right (point_at i);
   };
+  defines = λ i. defined_at equation.defines equation.left i;
 }

@@ -2,7 +2,7 @@
 use Rattle.std.specs.Prelude.{ℤ, ◌+ℤ◌, ◌-ℤ◌, ◌*ℤ◌, Bool, true, false, Result, Ok, Err}
 use Rattle.exact_num.specs.Range.{in_range}
 use Rattle.plain_equations.specs.declared.fail.PlainFail.{PlainFail}
-use Rattle.plain_equations.specs.declared.fail.PlainFail.TheVariants.{TooWide, NoFactor}
+use Rattle.plain_equations.specs.declared.fail.PlainFail.TheVariants.{TooWide}
 
 -- the number where the test is true, and this refusal where it isn't
 abbrev pub value_or : Bool → ℤ → PlainFail → Result ℤ PlainFail

@@ -18,15 +18,16 @@ mod salvage;
 
 ghost use Rattle.std.specs.Prelude.{◌≡◌};
 ghost use Rattle.row_core.specs.Equations.{IsEquation};
+ghost use Rattle.plain_equations.specs.Described.{described, expected};
 ghost use Rattle.plain_equations.specs.Meaning.{said};
 ghost use Rattle.plain_equations.specs.Named.{named};
 
 use crate::expressions::Equation;
 
-/// The equation of this number, from 1 to 64.
-pub fn equation(eq: u8) -> &'static Equation
+/// The entry of this number.
+pub(crate) fn entry(eq: u8) -> &'static Equation
     requires { IsEquation eq }
-    ensures { said result.now ≡ named eq }
+    ensures { described result.now ≡ expected eq }
 {
     match eq {
         1 => demand::demand(eq),
@@ -45,4 +46,13 @@ pub fn equation(eq: u8) -> &'static Equation
         56..=60 => renewable_target::renewable_target(eq),
         _ => emission_limits::emission_limits(eq),
     }
+}
+
+/// The equation of this number, from 1 to 64: it stands where the named equation does, says the same of every plan, and
+/// defines the same variable.
+pub fn equation(eq: u8) -> &'static Equation
+    requires { IsEquation eq }
+    ensures { said result.now ≡ named eq }
+{
+    entry(eq)
 }

@@ -95,9 +95,20 @@ pub enum Expr {
     Over(Letter, Condition, &'static Expr),
 }
 
+/// Which variable an equation defines.
+#[derive(Clone, Copy)]
+pub enum Defines {
+    Nothing,
+    /// The variable on its left side.
+    LeftVariable,
+    /// The trade of the other direction, where the region is before the other one or is it.
+    OtherTrade,
+}
+
 /// A named equation.
 pub struct Equation {
     pub stands: Condition,
+    pub defines: Defines,
     pub left: Expr,
     pub sense: Sense,
     pub right: Expr,

@@ -12,6 +12,7 @@ mod expressions;
 mod factors;
 mod fail;
 mod instances;
+mod laws;
 mod names;
 mod plan;
 mod points;
@@ -19,8 +20,9 @@ mod tables;
 
 pub use data::{PlainData, PlainDefault, PlainValue};
 pub use equations::equation;
-pub use expressions::{Condition, Count, Equation, Expr, Letter, Places, Years};
+pub use expressions::{Condition, Count, Defines, Equation, Expr, Letter, Places, Years};
 pub use fail::PlainFail;
+pub use laws::{determination_law, instance_laws, scaling_law, variable_laws};
 pub use plan::PlainPlan;
 
 #[cfg(test)]

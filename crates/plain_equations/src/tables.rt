@@ -2,8 +2,7 @@
 
 ghost use Rattle.std.specs.Prelude.{◌≡◌, ◌+◌, ◌<◌, ◌≤◌, length, map};
 ghost use Rattle.std.specs.List.{range_with_len};
-ghost use Rattle.plain_equations.specs.Meaning.{said};
-ghost use Rattle.plain_equations.specs.Named.{named};
+ghost use Rattle.plain_equations.specs.Described.{described, expected};
 
 use crate::expressions::Equation;
 
@@ -11,8 +10,8 @@ use crate::expressions::Equation;
 pub(crate) fn look_up(table: &[Equation], first: u8, eq: u8) -> &Equation
     requires from { first ≤ eq }
     requires to { eq < first + length table.now }
-    requires tabled { map said table.now ≡ map named (range_with_len first (length table.now)) }
-    ensures { said result.now ≡ named eq }
+    requires tabled { map described table.now ≡ map expected (range_with_len first (length table.now)) }
+    ensures { described result.now ≡ expected eq }
 {
     &table[usize::from(eq - first)]
 }

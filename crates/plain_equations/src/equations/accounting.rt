@@ -1,11 +1,11 @@
 //! Accounting: equations 22 to 24.
 
 ghost use Rattle.std.specs.Prelude.{◌≡◌, ◌≤◌};
-ghost use Rattle.plain_equations.specs.Meaning.{said};
-ghost use Rattle.plain_equations.specs.Named.{named};
+ghost use Rattle.plain_equations.specs.Described.{described, expected};
 
 use crate::expressions::Condition::Always;
 use crate::expressions::Count::One;
+use crate::expressions::Defines::LeftVariable;
 use crate::expressions::Equation;
 use crate::expressions::Expr::{Over, Product, Values};
 use crate::expressions::Letter::L;
@@ -21,6 +21,7 @@ static EQUATIONS: [Equation; 3] = [
     // Acc1
     Equation {
         stands: PRODUCES,
+        defines: LeftVariable,
         left: Product(&Values(One), &PRODUCTION_BY_TECHNOLOGY),
         sense: Equal,
         right: Product(&RATE_OF_PRODUCTION_BY_TECHNOLOGY, &YEAR_SPLIT),
@@ -28,6 +29,7 @@ static EQUATIONS: [Equation; 3] = [
     // Acc2
     Equation {
         stands: USES,
+        defines: LeftVariable,
         left: Product(&Values(One), &USE_BY_TECHNOLOGY),
         sense: Equal,
         right: Product(&RATE_OF_USE_BY_TECHNOLOGY, &YEAR_SPLIT),
@@ -35,6 +37,7 @@ static EQUATIONS: [Equation; 3] = [
     // Acc3
     Equation {
         stands: Always,
+        defines: LeftVariable,
         left: Product(&Values(One), &TOTAL_ANNUAL_TECHNOLOGY_ACTIVITY_BY_MODE),
         sense: Equal,
         right: Over(L, Always, &Product(&RATE_OF_ACTIVITY, &YEAR_SPLIT)),
@@ -45,7 +48,7 @@ static EQUATIONS: [Equation; 3] = [
 pub(crate) fn accounting(eq: u8) -> &'static Equation
     requires from { 22 ≤ eq }
     requires to { eq ≤ 24 }
-    ensures { said result.now ≡ named eq }
+    ensures { described result.now ≡ expected eq }
 {
     look_up(&EQUATIONS, 22, eq)
 }

@@ -1,11 +1,11 @@
 //! Limits on activity: equations 47 to 52.
 
 ghost use Rattle.std.specs.Prelude.{◌≡◌, ◌≤◌};
-ghost use Rattle.plain_equations.specs.Meaning.{said};
-ghost use Rattle.plain_equations.specs.Named.{named};
+ghost use Rattle.plain_equations.specs.Described.{described, expected};
 
 use crate::expressions::Condition::{Always, Limit, Positive};
 use crate::expressions::Count::One;
+use crate::expressions::Defines::{LeftVariable, Nothing};
 use crate::expressions::Equation;
 use crate::expressions::Expr::{Over, Product, Values, Whole};
 use crate::expressions::Letter::{L, R, T, Y};
@@ -22,6 +22,7 @@ static EQUATIONS: [Equation; 6] = [
     // AAC1
     Equation {
         stands: Always,
+        defines: LeftVariable,
         left: Product(&Values(One), &TOTAL_TECHNOLOGY_ANNUAL_ACTIVITY),
         sense: Equal,
         right: Over(L, Always, &Product(&RATE_OF_TOTAL_ACTIVITY, &YEAR_SPLIT)),
@@ -29,6 +30,7 @@ static EQUATIONS: [Equation; 6] = [
     // AAC2
     Equation {
         stands: Limit(23, &[R, T, Y]),
+        defines: Nothing,
         left: Product(&Values(One), &TOTAL_TECHNOLOGY_ANNUAL_ACTIVITY),
         sense: Most,
         right: Product(&TOTAL_TECHNOLOGY_ANNUAL_ACTIVITY_UPPER_LIMIT, &Whole),
@@ -36,6 +38,7 @@ static EQUATIONS: [Equation; 6] = [
     // AAC3
     Equation {
         stands: Positive(24, &[R, T, Y]),
+        defines: Nothing,
         left: Product(&Values(One), &TOTAL_TECHNOLOGY_ANNUAL_ACTIVITY),
         sense: Least,
         right: Product(&TOTAL_TECHNOLOGY_ANNUAL_ACTIVITY_LOWER_LIMIT, &Whole),
@@ -43,6 +46,7 @@ static EQUATIONS: [Equation; 6] = [
     // TAC1
     Equation {
         stands: Always,
+        defines: LeftVariable,
         left: TOTAL_TECHNOLOGY_MODEL_PERIOD_ACTIVITY,
         sense: Equal,
         right: Over(Y, Always, &TOTAL_TECHNOLOGY_ANNUAL_ACTIVITY),
@@ -50,6 +54,7 @@ static EQUATIONS: [Equation; 6] = [
     // TAC2
     Equation {
         stands: Positive(25, &[R, T]),
+        defines: Nothing,
         left: Product(&Values(One), &TOTAL_TECHNOLOGY_MODEL_PERIOD_ACTIVITY),
         sense: Most,
         right: Product(&TOTAL_TECHNOLOGY_MODEL_PERIOD_ACTIVITY_UPPER_LIMIT, &Whole),
@@ -57,6 +62,7 @@ static EQUATIONS: [Equation; 6] = [
     // TAC3
     Equation {
         stands: Positive(26, &[R, T]),
+        defines: Nothing,
         left: Product(&Values(One), &TOTAL_TECHNOLOGY_MODEL_PERIOD_ACTIVITY),
         sense: Least,
         right: Product(&TOTAL_TECHNOLOGY_MODEL_PERIOD_ACTIVITY_LOWER_LIMIT, &Whole),
@@ -67,7 +73,7 @@ static EQUATIONS: [Equation; 6] = [
 pub(crate) fn activity_limits(eq: u8) -> &'static Equation
     requires from { 47 ≤ eq }
     requires to { eq ≤ 52 }
-    ensures { said result.now ≡ named eq }
+    ensures { described result.now ≡ expected eq }
 {
     look_up(&EQUATIONS, 47, eq)
 }

@@ -1,11 +1,11 @@
 //! Energy balance of each timeslice and of each year: equations 13 to 21.
 
 ghost use Rattle.std.specs.Prelude.{◌≡◌, ◌≤◌};
-ghost use Rattle.plain_equations.specs.Meaning.{said};
-ghost use Rattle.plain_equations.specs.Named.{named};
+ghost use Rattle.plain_equations.specs.Described.{described, expected};
 
 use crate::expressions::Condition::Always;
 use crate::expressions::Count::One;
+use crate::expressions::Defines::{LeftVariable, Nothing, OtherTrade};
 use crate::expressions::Equation;
 use crate::expressions::Expr::{Over, Product, Sum, Values, Whole, Zero};
 use crate::expressions::Letter::{L, RR};
@@ -21,6 +21,7 @@ static EQUATIONS: [Equation; 9] = [
     // EBa7
     Equation {
         stands: Always,
+        defines: LeftVariable,
         left: Product(&Values(One), &PRODUCTION),
         sense: Equal,
         right: Product(&RATE_OF_PRODUCTION, &YEAR_SPLIT),
@@ -28,6 +29,7 @@ static EQUATIONS: [Equation; 9] = [
     // EBa8
     Equation {
         stands: Always,
+        defines: LeftVariable,
         left: Product(&Values(One), &USE),
         sense: Equal,
         right: Product(&RATE_OF_USE, &YEAR_SPLIT),
@@ -35,6 +37,7 @@ static EQUATIONS: [Equation; 9] = [
     // EBa9
     Equation {
         stands: Always,
+        defines: LeftVariable,
         left: Product(&Values(One), &DEMAND),
         sense: Equal,
         right: Product(&RATE_OF_DEMAND, &YEAR_SPLIT),
@@ -42,6 +45,7 @@ static EQUATIONS: [Equation; 9] = [
     // EBa10
     Equation {
         stands: Always,
+        defines: OtherTrade,
         left: Sum(&TRADE, &TRADE_BACK),
         sense: Equal,
         right: Zero,
@@ -49,6 +53,7 @@ static EQUATIONS: [Equation; 9] = [
     // EBa11
     Equation {
         stands: Always,
+        defines: Nothing,
         left: Product(&Values(One), &PRODUCTION),
         sense: Least,
         right: Sum(
@@ -59,6 +64,7 @@ static EQUATIONS: [Equation; 9] = [
     // EBb1
     Equation {
         stands: Always,
+        defines: LeftVariable,
         left: PRODUCTION_ANNUAL,
         sense: Equal,
         right: Over(L, Always, &PRODUCTION),
@@ -66,6 +72,7 @@ static EQUATIONS: [Equation; 9] = [
     // EBb2
     Equation {
         stands: Always,
+        defines: LeftVariable,
         left: USE_ANNUAL,
         sense: Equal,
         right: Over(L, Always, &USE),
@@ -73,6 +80,7 @@ static EQUATIONS: [Equation; 9] = [
     // EBb3
     Equation {
         stands: Always,
+        defines: LeftVariable,
         left: TRADE_ANNUAL,
         sense: Equal,
         right: Over(L, Always, &TRADE),
@@ -80,6 +88,7 @@ static EQUATIONS: [Equation; 9] = [
     // EBb4
     Equation {
         stands: Always,
+        defines: Nothing,
         left: Product(&Values(One), &PRODUCTION_ANNUAL),
         sense: Least,
         right: Sum(
@@ -96,7 +105,7 @@ static EQUATIONS: [Equation; 9] = [
 pub(crate) fn balance(eq: u8) -> &'static Equation
     requires from { 13 ≤ eq }
     requires to { eq ≤ 21 }
-    ensures { said result.now ≡ named eq }
+    ensures { described result.now ≡ expected eq }
 {
     look_up(&EQUATIONS, 13, eq)
 }

@@ -1,11 +1,11 @@
 //! Capacity: equations 2 to 6.
 
 ghost use Rattle.std.specs.Prelude.{◌≡◌, ◌≤◌};
-ghost use Rattle.plain_equations.specs.Meaning.{said};
-ghost use Rattle.plain_equations.specs.Named.{named};
+ghost use Rattle.plain_equations.specs.Described.{described, expected};
 
 use crate::expressions::Condition::{Always, StillCounts};
 use crate::expressions::Count::{One, Three, Two};
+use crate::expressions::Defines::{LeftVariable, Nothing};
 use crate::expressions::Equation;
 use crate::expressions::Expr::{Over, Product, Sum, Values, Whole};
 use crate::expressions::Letter::{L, M, YY};
@@ -21,6 +21,7 @@ static EQUATIONS: [Equation; 5] = [
     // CAa1
     Equation {
         stands: Always,
+        defines: LeftVariable,
         left: ACCUMULATED_NEW_CAPACITY,
         sense: Equal,
         right: Over(YY, StillCounts, &NEW_CAPACITY_OF_YY),
@@ -28,6 +29,7 @@ static EQUATIONS: [Equation; 5] = [
     // CAa2
     Equation {
         stands: Always,
+        defines: LeftVariable,
         left: Product(&Values(One), &TOTAL_CAPACITY_ANNUAL),
         sense: Equal,
         right: Sum(
@@ -38,6 +40,7 @@ static EQUATIONS: [Equation; 5] = [
     // CAa3
     Equation {
         stands: Always,
+        defines: LeftVariable,
         left: RATE_OF_TOTAL_ACTIVITY,
         sense: Equal,
         right: Over(M, Always, &RATE_OF_ACTIVITY),
@@ -45,6 +48,7 @@ static EQUATIONS: [Equation; 5] = [
     // CAa4
     Equation {
         stands: Always,
+        defines: Nothing,
         left: Product(&Values(Two), &RATE_OF_TOTAL_ACTIVITY),
         sense: Most,
         right: Product(
@@ -55,6 +59,7 @@ static EQUATIONS: [Equation; 5] = [
     // CAb1
     Equation {
         stands: Always,
+        defines: Nothing,
         left: Product(
             &Values(Three),
             &Over(L, Always, &Product(&RATE_OF_TOTAL_ACTIVITY, &YEAR_SPLIT)),
@@ -77,7 +82,7 @@ static EQUATIONS: [Equation; 5] = [
 pub(crate) fn capacity(eq: u8) -> &'static Equation
     requires from { 2 ≤ eq }
     requires to { eq ≤ 6 }
-    ensures { said result.now ≡ named eq }
+    ensures { described result.now ≡ expected eq }
 {
     look_up(&EQUATIONS, 2, eq)
 }

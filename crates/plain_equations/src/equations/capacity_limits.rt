@@ -1,11 +1,11 @@
 //! Limits on capacity: equations 43 to 46.
 
 ghost use Rattle.std.specs.Prelude.{◌≡◌, ◌≤◌};
-ghost use Rattle.plain_equations.specs.Meaning.{said};
-ghost use Rattle.plain_equations.specs.Named.{named};
+ghost use Rattle.plain_equations.specs.Described.{described, expected};
 
 use crate::expressions::Condition::{Limit, Positive};
 use crate::expressions::Count::One;
+use crate::expressions::Defines::Nothing;
 use crate::expressions::Equation;
 use crate::expressions::Expr::{Product, Values, Whole};
 use crate::expressions::Letter::{R, T, Y};
@@ -20,6 +20,7 @@ static EQUATIONS: [Equation; 4] = [
     // TCC1
     Equation {
         stands: Limit(19, &[R, T, Y]),
+        defines: Nothing,
         left: Product(&Values(One), &TOTAL_CAPACITY_ANNUAL),
         sense: Most,
         right: Product(&TOTAL_ANNUAL_MAX_CAPACITY, &Whole),
@@ -27,6 +28,7 @@ static EQUATIONS: [Equation; 4] = [
     // TCC2
     Equation {
         stands: Positive(20, &[R, T, Y]),
+        defines: Nothing,
         left: Product(&Values(One), &TOTAL_CAPACITY_ANNUAL),
         sense: Least,
         right: Product(&TOTAL_ANNUAL_MIN_CAPACITY, &Whole),
@@ -34,6 +36,7 @@ static EQUATIONS: [Equation; 4] = [
     // NCC1
     Equation {
         stands: Limit(21, &[R, T, Y]),
+        defines: Nothing,
         left: Product(&Values(One), &NEW_CAPACITY),
         sense: Most,
         right: Product(&TOTAL_ANNUAL_MAX_CAPACITY_INVESTMENT, &Whole),
@@ -41,6 +44,7 @@ static EQUATIONS: [Equation; 4] = [
     // NCC2
     Equation {
         stands: Positive(22, &[R, T, Y]),
+        defines: Nothing,
         left: Product(&Values(One), &NEW_CAPACITY),
         sense: Least,
         right: Product(&TOTAL_ANNUAL_MIN_CAPACITY_INVESTMENT, &Whole),
@@ -51,7 +55,7 @@ static EQUATIONS: [Equation; 4] = [
 pub(crate) fn capacity_limits(eq: u8) -> &'static Equation
     requires from { 43 ≤ eq }
     requires to { eq ≤ 46 }
-    ensures { said result.now ≡ named eq }
+    ensures { described result.now ≡ expected eq }
 {
     look_up(&EQUATIONS, 43, eq)
 }

@@ -1,11 +1,11 @@
 //! Demand: equation 1.
 
 ghost use Rattle.std.specs.Prelude.{◌≡◌, ◌≤◌};
-ghost use Rattle.plain_equations.specs.Meaning.{said};
-ghost use Rattle.plain_equations.specs.Named.{named};
+ghost use Rattle.plain_equations.specs.Described.{described, expected};
 
 use crate::expressions::Condition::Always;
 use crate::expressions::Count::One;
+use crate::expressions::Defines::LeftVariable;
 use crate::expressions::Equation;
 use crate::expressions::Expr::{Product, Values, Whole};
 use crate::names::{RATE_OF_DEMAND, SPECIFIED_ANNUAL_DEMAND, SPECIFIED_DEMAND_PROFILE, YEAR_SPLIT};
@@ -16,6 +16,7 @@ static EQUATIONS: [Equation; 1] = [
     // EQ_SpecifiedDemand
     Equation {
         stands: Always,
+        defines: LeftVariable,
         left: Product(&Product(&Values(One), &YEAR_SPLIT), &RATE_OF_DEMAND),
         sense: Equal,
         right: Product(
@@ -29,7 +30,7 @@ static EQUATIONS: [Equation; 1] = [
 pub(crate) fn demand(eq: u8) -> &'static Equation
     requires from { 1 ≤ eq }
     requires to { eq ≤ 1 }
-    ensures { said result.now ≡ named eq }
+    ensures { described result.now ≡ expected eq }
 {
     look_up(&EQUATIONS, 1, eq)
 }

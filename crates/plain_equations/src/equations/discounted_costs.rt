@@ -1,10 +1,10 @@
 //! Total discounted costs: equations 40 to 42.
 
 ghost use Rattle.std.specs.Prelude.{◌≡◌, ◌≤◌};
-ghost use Rattle.plain_equations.specs.Meaning.{said};
-ghost use Rattle.plain_equations.specs.Named.{named};
+ghost use Rattle.plain_equations.specs.Described.{described, expected};
 
 use crate::expressions::Condition::Always;
+use crate::expressions::Defines::LeftVariable;
 use crate::expressions::Equation;
 use crate::expressions::Expr::{Difference, Over, Sum};
 use crate::expressions::Letter::{T, Y};
@@ -20,6 +20,7 @@ static EQUATIONS: [Equation; 3] = [
     // TDC1
     Equation {
         stands: Always,
+        defines: LeftVariable,
         left: TOTAL_DISCOUNTED_COST_BY_TECHNOLOGY,
         sense: Equal,
         right: Difference(
@@ -33,6 +34,7 @@ static EQUATIONS: [Equation; 3] = [
     // TDC2
     Equation {
         stands: Always,
+        defines: LeftVariable,
         left: TOTAL_DISCOUNTED_COST,
         sense: Equal,
         right: Over(T, Always, &TOTAL_DISCOUNTED_COST_BY_TECHNOLOGY),
@@ -40,6 +42,7 @@ static EQUATIONS: [Equation; 3] = [
     // Acc4
     Equation {
         stands: Always,
+        defines: LeftVariable,
         left: MODEL_PERIOD_COST_BY_REGION,
         sense: Equal,
         right: Over(Y, Always, &TOTAL_DISCOUNTED_COST),
@@ -50,7 +53,7 @@ static EQUATIONS: [Equation; 3] = [
 pub(crate) fn discounted_costs(eq: u8) -> &'static Equation
     requires from { 40 ≤ eq }
     requires to { eq ≤ 42 }
-    ensures { said result.now ≡ named eq }
+    ensures { described result.now ≡ expected eq }
 {
     look_up(&EQUATIONS, 40, eq)
 }

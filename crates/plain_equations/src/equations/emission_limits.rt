@@ -1,11 +1,11 @@
 //! Emissions of regions: equations 61 to 64.
 
 ghost use Rattle.std.specs.Prelude.{◌≡◌, ◌≤◌};
-ghost use Rattle.plain_equations.specs.Meaning.{said};
-ghost use Rattle.plain_equations.specs.Named.{named};
+ghost use Rattle.plain_equations.specs.Described.{described, expected};
 
 use crate::expressions::Condition::{Always, Limit};
 use crate::expressions::Count::One;
+use crate::expressions::Defines::{LeftVariable, Nothing};
 use crate::expressions::Equation;
 use crate::expressions::Expr::{Difference, Over, Product, Sum, Values, Whole};
 use crate::expressions::Letter::{E, R, T, Y};
@@ -20,6 +20,7 @@ static EQUATIONS: [Equation; 4] = [
     // E6
     Equation {
         stands: Always,
+        defines: LeftVariable,
         left: ANNUAL_EMISSIONS,
         sense: Equal,
         right: Over(T, Always, &ANNUAL_TECHNOLOGY_EMISSION),
@@ -27,6 +28,7 @@ static EQUATIONS: [Equation; 4] = [
     // E7
     Equation {
         stands: Always,
+        defines: LeftVariable,
         left: Product(&Values(One), &MODEL_PERIOD_EMISSIONS),
         sense: Equal,
         right: Sum(
@@ -37,6 +39,7 @@ static EQUATIONS: [Equation; 4] = [
     // E8
     Equation {
         stands: Limit(36, &[R, E, Y]),
+        defines: Nothing,
         left: Product(&Values(One), &ANNUAL_EMISSIONS),
         sense: Most,
         right: Product(
@@ -47,6 +50,7 @@ static EQUATIONS: [Equation; 4] = [
     // E9
     Equation {
         stands: Limit(38, &[R, E]),
+        defines: Nothing,
         left: Product(&Values(One), &MODEL_PERIOD_EMISSIONS),
         sense: Most,
         right: Product(&MODEL_PERIOD_EMISSION_LIMIT, &Whole),
@@ -57,7 +61,7 @@ static EQUATIONS: [Equation; 4] = [
 pub(crate) fn emission_limits(eq: u8) -> &'static Equation
     requires from { 61 ≤ eq }
     requires to { eq ≤ 64 }
-    ensures { said result.now ≡ named eq }
+    ensures { described result.now ≡ expected eq }
 {
     look_up(&EQUATIONS, 61, eq)
 }

@@ -1,11 +1,11 @@
 //! Operating costs: equations 31 to 34.
 
 ghost use Rattle.std.specs.Prelude.{◌≡◌, ◌≤◌};
-ghost use Rattle.plain_equations.specs.Meaning.{said};
-ghost use Rattle.plain_equations.specs.Named.{named};
+ghost use Rattle.plain_equations.specs.Described.{described, expected};
 
 use crate::expressions::Condition::Always;
 use crate::expressions::Count::One;
+use crate::expressions::Defines::LeftVariable;
 use crate::expressions::Equation;
 use crate::expressions::Expr::{Million, OperatingFactor, Over, Product, Sum, Values};
 use crate::expressions::Letter::M;
@@ -21,6 +21,7 @@ static EQUATIONS: [Equation; 4] = [
     // OC1
     Equation {
         stands: Always,
+        defines: LeftVariable,
         left: Product(&Values(One), &ANNUAL_VARIABLE_OPERATING_COST),
         sense: Equal,
         right: Over(
@@ -32,6 +33,7 @@ static EQUATIONS: [Equation; 4] = [
     // OC2
     Equation {
         stands: Always,
+        defines: LeftVariable,
         left: Product(&Values(One), &ANNUAL_FIXED_OPERATING_COST),
         sense: Equal,
         right: Product(&TOTAL_CAPACITY_ANNUAL, &FIXED_COST),
@@ -39,6 +41,7 @@ static EQUATIONS: [Equation; 4] = [
     // OC3
     Equation {
         stands: Always,
+        defines: LeftVariable,
         left: OPERATING_COST,
         sense: Equal,
         right: Sum(
@@ -49,6 +52,7 @@ static EQUATIONS: [Equation; 4] = [
     // OC4
     Equation {
         stands: Always,
+        defines: LeftVariable,
         left: Product(&Million, &DISCOUNTED_OPERATING_COST),
         sense: Equal,
         right: Product(&OPERATING_COST, &OperatingFactor),
@@ -59,7 +63,7 @@ static EQUATIONS: [Equation; 4] = [
 pub(crate) fn operating_costs(eq: u8) -> &'static Equation
     requires from { 31 ≤ eq }
     requires to { eq ≤ 34 }
-    ensures { said result.now ≡ named eq }
+    ensures { described result.now ≡ expected eq }
 {
     look_up(&EQUATIONS, 31, eq)
 }

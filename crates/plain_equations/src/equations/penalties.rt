@@ -1,11 +1,11 @@
 //! Emissions and penalties of technologies: equations 35 to 39.
 
 ghost use Rattle.std.specs.Prelude.{◌≡◌, ◌≤◌};
-ghost use Rattle.plain_equations.specs.Meaning.{said};
-ghost use Rattle.plain_equations.specs.Named.{named};
+ghost use Rattle.plain_equations.specs.Described.{described, expected};
 
 use crate::expressions::Condition::Always;
 use crate::expressions::Count::One;
+use crate::expressions::Defines::LeftVariable;
 use crate::expressions::Equation;
 use crate::expressions::Expr::{Million, OperatingFactor, Over, Product, Values};
 use crate::expressions::Letter::{E, M};
@@ -22,6 +22,7 @@ static EQUATIONS: [Equation; 5] = [
     // E1
     Equation {
         stands: EMITS_IN_MODE,
+        defines: LeftVariable,
         left: Product(&Values(One), &ANNUAL_TECHNOLOGY_EMISSION_BY_MODE),
         sense: Equal,
         right: Product(
@@ -32,6 +33,7 @@ static EQUATIONS: [Equation; 5] = [
     // E2
     Equation {
         stands: Always,
+        defines: LeftVariable,
         left: ANNUAL_TECHNOLOGY_EMISSION,
         sense: Equal,
         right: Over(M, EMITS_IN_MODE, &ANNUAL_TECHNOLOGY_EMISSION_BY_MODE),
@@ -39,6 +41,7 @@ static EQUATIONS: [Equation; 5] = [
     // E3
     Equation {
         stands: Always,
+        defines: LeftVariable,
         left: Product(
             &Values(One),
             &ANNUAL_TECHNOLOGY_EMISSION_PENALTY_BY_EMISSION,
@@ -49,6 +52,7 @@ static EQUATIONS: [Equation; 5] = [
     // E4
     Equation {
         stands: Always,
+        defines: LeftVariable,
         left: ANNUAL_TECHNOLOGY_EMISSIONS_PENALTY,
         sense: Equal,
         right: Over(E, Always, &ANNUAL_TECHNOLOGY_EMISSION_PENALTY_BY_EMISSION),
@@ -56,6 +60,7 @@ static EQUATIONS: [Equation; 5] = [
     // E5
     Equation {
         stands: Always,
+        defines: LeftVariable,
         left: Product(&Million, &DISCOUNTED_TECHNOLOGY_EMISSIONS_PENALTY),
         sense: Equal,
         right: Product(&ANNUAL_TECHNOLOGY_EMISSIONS_PENALTY, &OperatingFactor),
@@ -66,7 +71,7 @@ static EQUATIONS: [Equation; 5] = [
 pub(crate) fn penalties(eq: u8) -> &'static Equation
     requires from { 35 ≤ eq }
     requires to { eq ≤ 39 }
-    ensures { said result.now ≡ named eq }
+    ensures { described result.now ≡ expected eq }
 {
     look_up(&EQUATIONS, 35, eq)
 }

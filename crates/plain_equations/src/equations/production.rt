@@ -1,11 +1,11 @@
 //! Energy balance: production and use: equations 7 to 12.
 
 ghost use Rattle.std.specs.Prelude.{◌≡◌, ◌≤◌};
-ghost use Rattle.plain_equations.specs.Meaning.{said};
-ghost use Rattle.plain_equations.specs.Named.{named};
+ghost use Rattle.plain_equations.specs.Described.{described, expected};
 
 use crate::expressions::Condition::Always;
 use crate::expressions::Count::One;
+use crate::expressions::Defines::LeftVariable;
 use crate::expressions::Equation;
 use crate::expressions::Expr::{Over, Product, Values};
 use crate::expressions::Letter::{M, T};
@@ -21,6 +21,7 @@ static EQUATIONS: [Equation; 6] = [
     // EBa1
     Equation {
         stands: PRODUCES_IN_MODE,
+        defines: LeftVariable,
         left: Product(&Values(One), &RATE_OF_PRODUCTION_BY_TECHNOLOGY_BY_MODE),
         sense: Equal,
         right: Product(&RATE_OF_ACTIVITY, &OUTPUT_ACTIVITY_RATIO),
@@ -28,6 +29,7 @@ static EQUATIONS: [Equation; 6] = [
     // EBa2
     Equation {
         stands: PRODUCES,
+        defines: LeftVariable,
         left: RATE_OF_PRODUCTION_BY_TECHNOLOGY,
         sense: Equal,
         right: Over(
@@ -39,6 +41,7 @@ static EQUATIONS: [Equation; 6] = [
     // EBa3
     Equation {
         stands: Always,
+        defines: LeftVariable,
         left: RATE_OF_PRODUCTION,
         sense: Equal,
         right: Over(T, PRODUCES, &RATE_OF_PRODUCTION_BY_TECHNOLOGY),
@@ -46,6 +49,7 @@ static EQUATIONS: [Equation; 6] = [
     // EBa4
     Equation {
         stands: USES_IN_MODE,
+        defines: LeftVariable,
         left: Product(&Values(One), &RATE_OF_USE_BY_TECHNOLOGY_BY_MODE),
         sense: Equal,
         right: Product(&RATE_OF_ACTIVITY, &INPUT_ACTIVITY_RATIO),
@@ -53,6 +57,7 @@ static EQUATIONS: [Equation; 6] = [
     // EBa5
     Equation {
         stands: USES,
+        defines: LeftVariable,
         left: RATE_OF_USE_BY_TECHNOLOGY,
         sense: Equal,
         right: Over(M, USES_IN_MODE, &RATE_OF_USE_BY_TECHNOLOGY_BY_MODE),
@@ -60,6 +65,7 @@ static EQUATIONS: [Equation; 6] = [
     // EBa6
     Equation {
         stands: Always,
+        defines: LeftVariable,
         left: RATE_OF_USE,
         sense: Equal,
         right: Over(T, USES, &RATE_OF_USE_BY_TECHNOLOGY),
@@ -70,7 +76,7 @@ static EQUATIONS: [Equation; 6] = [
 pub(crate) fn production(eq: u8) -> &'static Equation
     requires from { 7 ≤ eq }
     requires to { eq ≤ 12 }
-    ensures { said result.now ≡ named eq }
+    ensures { described result.now ≡ expected eq }
 {
     look_up(&EQUATIONS, 7, eq)
 }

@@ -1,11 +1,11 @@
 //! Renewable target: equations 56 to 60.
 
 ghost use Rattle.std.specs.Prelude.{◌≡◌, ◌≤◌};
-ghost use Rattle.plain_equations.specs.Meaning.{said};
-ghost use Rattle.plain_equations.specs.Named.{named};
+ghost use Rattle.plain_equations.specs.Described.{described, expected};
 
 use crate::expressions::Condition::Always;
 use crate::expressions::Count::{One, Two};
+use crate::expressions::Defines::{LeftVariable, Nothing};
 use crate::expressions::Equation;
 use crate::expressions::Expr::{Over, Product, Values};
 use crate::expressions::Letter::{F, L, T};
@@ -22,6 +22,7 @@ static EQUATIONS: [Equation; 5] = [
     // RE1
     Equation {
         stands: PRODUCES,
+        defines: LeftVariable,
         left: PRODUCTION_BY_TECHNOLOGY_ANNUAL,
         sense: Equal,
         right: Over(L, Always, &PRODUCTION_BY_TECHNOLOGY),
@@ -29,6 +30,7 @@ static EQUATIONS: [Equation; 5] = [
     // RE2
     Equation {
         stands: Always,
+        defines: LeftVariable,
         left: Product(&Values(One), &TOTAL_RE_PRODUCTION_ANNUAL),
         sense: Equal,
         right: Over(
@@ -44,6 +46,7 @@ static EQUATIONS: [Equation; 5] = [
     // RE3
     Equation {
         stands: Always,
+        defines: LeftVariable,
         left: Product(&Values(Two), &RE_TOTAL_PRODUCTION_OF_TARGET_FUEL_ANNUAL),
         sense: Equal,
         right: Over(
@@ -59,6 +62,7 @@ static EQUATIONS: [Equation; 5] = [
     // RE4
     Equation {
         stands: Always,
+        defines: Nothing,
         left: Product(
             &RE_MIN_PRODUCTION_TARGET,
             &RE_TOTAL_PRODUCTION_OF_TARGET_FUEL_ANNUAL,
@@ -69,6 +73,7 @@ static EQUATIONS: [Equation; 5] = [
     // RE5
     Equation {
         stands: USES,
+        defines: LeftVariable,
         left: USE_BY_TECHNOLOGY_ANNUAL,
         sense: Equal,
         right: Over(L, Always, &USE_BY_TECHNOLOGY),
@@ -79,7 +84,7 @@ static EQUATIONS: [Equation; 5] = [
 pub(crate) fn renewable_target(eq: u8) -> &'static Equation
     requires from { 56 ≤ eq }
     requires to { eq ≤ 60 }
-    ensures { said result.now ≡ named eq }
+    ensures { described result.now ≡ expected eq }
 {
     look_up(&EQUATIONS, 56, eq)
 }

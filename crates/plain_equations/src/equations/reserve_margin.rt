@@ -1,11 +1,11 @@
 //! Reserve margin: equations 53 to 55.
 
 ghost use Rattle.std.specs.Prelude.{◌≡◌, ◌≤◌};
-ghost use Rattle.plain_equations.specs.Meaning.{said};
-ghost use Rattle.plain_equations.specs.Named.{named};
+ghost use Rattle.plain_equations.specs.Described.{described, expected};
 
 use crate::expressions::Condition::Always;
 use crate::expressions::Count::{One, Two};
+use crate::expressions::Defines::{LeftVariable, Nothing};
 use crate::expressions::Equation;
 use crate::expressions::Expr::{Over, Product, Values};
 use crate::expressions::Letter::{F, T};
@@ -21,6 +21,7 @@ static EQUATIONS: [Equation; 3] = [
     // RM1
     Equation {
         stands: Always,
+        defines: LeftVariable,
         left: Product(&Values(Two), &TOTAL_CAPACITY_IN_RESERVE_MARGIN),
         sense: Equal,
         right: Over(
@@ -35,6 +36,7 @@ static EQUATIONS: [Equation; 3] = [
     // RM2
     Equation {
         stands: Always,
+        defines: LeftVariable,
         left: Product(&Values(One), &DEMAND_NEEDING_RESERVE_MARGIN),
         sense: Equal,
         right: Over(
@@ -46,6 +48,7 @@ static EQUATIONS: [Equation; 3] = [
     // RM3
     Equation {
         stands: Always,
+        defines: Nothing,
         left: Product(&DEMAND_NEEDING_RESERVE_MARGIN, &RESERVE_MARGIN),
         sense: Most,
         right: Product(&Values(One), &TOTAL_CAPACITY_IN_RESERVE_MARGIN),
@@ -56,7 +59,7 @@ static EQUATIONS: [Equation; 3] = [
 pub(crate) fn reserve_margin(eq: u8) -> &'static Equation
     requires from { 53 ≤ eq }
     requires to { eq ≤ 55 }
-    ensures { said result.now ≡ named eq }
+    ensures { described result.now ≡ expected eq }
 {
     look_up(&EQUATIONS, 53, eq)
 }

@@ -1,11 +1,11 @@
 //! Salvage value: equations 27 to 30.
 
 ghost use Rattle.std.specs.Prelude.{◌≡◌, ◌≤◌};
-ghost use Rattle.plain_equations.specs.Meaning.{said};
-ghost use Rattle.plain_equations.specs.Named.{named};
+ghost use Rattle.plain_equations.specs.Described.{described, expected};
 
 use crate::expressions::Condition::{Always, NoSalvage, SinkingFund, StraightLine};
 use crate::expressions::Count::One;
+use crate::expressions::Defines::LeftVariable;
 use crate::expressions::Equation;
 use crate::expressions::Expr::{CapitalFactor, Million, Product, SalvageFraction, Values, Zero};
 use crate::expressions::Years::InAll;
@@ -17,6 +17,7 @@ static EQUATIONS: [Equation; 4] = [
     // SV1
     Equation {
         stands: SinkingFund,
+        defines: LeftVariable,
         left: Product(&Product(&Values(One), &Million), &SALVAGE_VALUE),
         sense: Equal,
         right: Product(&Product(&CAPITAL_COST, &NEW_CAPACITY), &SalvageFraction(1)),
@@ -24,6 +25,7 @@ static EQUATIONS: [Equation; 4] = [
     // SV2
     Equation {
         stands: StraightLine,
+        defines: LeftVariable,
         left: Product(&Product(&Values(One), &Million), &SALVAGE_VALUE),
         sense: Equal,
         right: Product(&Product(&CAPITAL_COST, &NEW_CAPACITY), &SalvageFraction(2)),
@@ -31,6 +33,7 @@ static EQUATIONS: [Equation; 4] = [
     // SV3
     Equation {
         stands: NoSalvage,
+        defines: LeftVariable,
         left: SALVAGE_VALUE,
         sense: Equal,
         right: Zero,
@@ -38,6 +41,7 @@ static EQUATIONS: [Equation; 4] = [
     // SV4
     Equation {
         stands: Always,
+        defines: LeftVariable,
         left: Product(&Million, &DISCOUNTED_SALVAGE_VALUE),
         sense: Equal,
         right: Product(&SALVAGE_VALUE, &CapitalFactor(InAll)),
@@ -48,7 +52,7 @@ static EQUATIONS: [Equation; 4] = [
 pub(crate) fn salvage(eq: u8) -> &'static Equation
     requires from { 27 ≤ eq }
     requires to { eq ≤ 30 }
-    ensures { said result.now ≡ named eq }
+    ensures { described result.now ≡ expected eq }
 {
     look_up(&EQUATIONS, 27, eq)
 }

@@ -1,5 +1,5 @@
 -- The discounted value times the half-year root, in millionths.
-use Rattle.std.proofs.Common.{◌≡◌, ◌*◌, ◌/◌, ◌^◌, ap₂, ◌∙◌}
+use Rattle.std.proofs.Common.{◌*◌, ◌/◌, ◌^◌, ap₂, ◌∙◌}
 use Rattle.discount_factors.specs.Factors.{operating_factor}
 use Rattle.plain_equations.proofs.factors.operating_factor.Goals as goal
 

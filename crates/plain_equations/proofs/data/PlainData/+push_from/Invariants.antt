@@ -1,8 +1,8 @@
 use Rattle.std.proofs.Common.{◌≡◌, ◌-◌, ◌++◌, length}
 use Rattle.std.specs.List.{flat_map, range_with_len}
-use Rattle.named_equations.specs.Instances.{stands_at, subscripts_of, values_at}
+use Rattle.named_equations.specs.Instances.{stands_at, subscripts_of}
 use Rattle.plain_equations.specs.Points.{moved}
-use Rattle.plain_equations.specs.Walks.{place_of, walk}
+use Rattle.plain_equations.specs.Walks.{walk}
 use Rattle.plain_equations.proofs.Walks.{names}
 use Rattle.plain_equations.proofs.data.PlainData.+push_from.Given as goal
 

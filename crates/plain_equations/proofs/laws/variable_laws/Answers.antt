@@ -1,0 +1,10 @@
+-- Proved with the definitions.
+use Rattle.named_equations.proofs.InstanceOrder.{variables-ascend}
+use Rattle.named_equations.proofs.InstanceTests.{Contains-variables}
+use Rattle.plain_equations.proofs.laws.variable_laws.Goals as goal
+
+pub returns-clause-listed : goal.returns-clause-listed
+returns-clause-listed c = Contains-variables
+
+pub returns-clause-ascending : goal.returns-clause-ascending
+returns-clause-ascending c = variables-ascend

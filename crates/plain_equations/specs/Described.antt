@@ -1,0 +1,27 @@
+-- What is known of each equation as data.
+use Rattle.std.specs.Prelude.{ℕ, Bool, true, nat_eq}
+use Rattle.plain_equations.specs.declared.expressions.Equation.{Equation}
+use Rattle.plain_equations.specs.Degrees.{has_linear_sides}
+use Rattle.plain_equations.specs.Meaning.{Said, said}
+use Rattle.plain_equations.specs.Named.{named}
+use Rattle.plain_equations.specs.Solved.{has_solved_form, is_exchange}
+
+-- what it means, and what form it has
+pub record Description : Type 0 where
+  pub meaning : Said
+  pub linear : Bool
+  pub solved : Bool
+  pub exchange : Bool
+
+-- of an equation as data
+abbrev pub described : Equation → Description
+described equation = record {
+  meaning = said equation;
+  linear = has_linear_sides equation;
+  solved = has_solved_form equation.defines equation.sense equation.left equation.right;
+  exchange = is_exchange equation.defines;
+}
+
+-- of the named equation of this number: it is linear and solved, and number 16 alone is the exchange
+abbrev pub expected : ℕ → Description
+expected eq = record { meaning = named eq; linear = true; solved = true; exchange = nat_eq eq 16 }
