@@ -1,3 +1,2 @@
 pub mod Capacity
 pub mod Rows
-pub mod Within

@@ -11,7 +11,7 @@ ghost use Rattle.named_equations.specs.Variables.{new_capacity, rate_of_total_ac
 ghost use Rattle.named_equations.specs.WrittenFactors.{life_of};
 ghost use Rattle.named_equations.specs.Indices.{by_rty, by_rlty};
 ghost use Rattle.capacity_rows.specs.Capacity.{caa1, caa2, caa3, caa4, cab1, slices_capacity, year_capacity};
-ghost use Rattle.capacity_rows.specs.Within.{IsRegion, IsSlice, IsTechnology, IsYear};
+ghost use Rattle.named_equations.specs.Within.{IsRegion, IsSlice, IsTechnology, IsYear};
 
 use crate::parameters::{
     availability_factor, capacity_factor, capacity_to_activity_unit, operational_life, residual_capacity, still_counts, year_split,

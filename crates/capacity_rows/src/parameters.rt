@@ -6,7 +6,7 @@ ghost use Rattle.row_core.specs.Calculated.{known, number_of};
 ghost use Rattle.named_equations.specs.Parameters.{year_split, capacity_to_activity_unit, capacity_factor, availability_factor, residual_capacity};
 ghost use Rattle.named_equations.specs.Capacity.{still_counts};
 ghost use Rattle.named_equations.specs.WrittenFactors.{life_of};
-ghost use Rattle.capacity_rows.specs.Within.{IsRegion, IsSlice, IsTechnology, IsYear};
+ghost use Rattle.named_equations.specs.Within.{IsRegion, IsSlice, IsTechnology, IsYear};
 
 use exact_num::Frac;
 use param_tables::ModelData;

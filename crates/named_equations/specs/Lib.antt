@@ -23,3 +23,4 @@ pub mod Variables
 pub mod Where
 pub mod WrittenFactors
 pub mod RowMeaning
+pub mod Within

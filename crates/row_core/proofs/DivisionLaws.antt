@@ -1,11 +1,11 @@
 -- Common denominators, and the greatest common divisor of a list.
-use Rattle.std.proofs.Common.{◌≡◌, ◌≢◌, ℕ, zero, suc, ◌*◌, ◌/◌, ◌<◌, ◌≤◌, ℤ, pos, negsuc, neg_ℤ, ◌+ℤ◌, ◌*ℤ◌, Bool, true, false, List, [], ◌∷◌, ◌++◌, ◌&&◌, refl, sym, ap, ap₂, ◌∙◌, subst, arith, if◌then◌else◌}
+use Rattle.std.proofs.Common.{◌≡◌, ◌≢◌, ℕ, ◌*◌, ℤ, pos, ◌+ℤ◌, ◌*ℤ◌, Bool, true, false, List, [], ◌∷◌, ◌&&◌, refl, sym, ap, ap₂, ◌∙◌, subst, arith, if◌then◌else◌}
 use borrow.Author.Tests.{eqb-true}
-use Rattle.std.specs.Prelude.{unsigned_abs, int_div, ◌<ℤ◌, ◌==◌, ⊤, IsTrue}
-use Rattle.std.specs.Int.{◌∣◌, IsGcd}
+use Rattle.std.specs.Prelude.{unsigned_abs, int_div, ◌<ℤ◌, ⊤}
+use Rattle.std.specs.Int.{◌∣◌}
 use Rattle.std.proofs.lemmas.Int.{ints, unsigned_abs-mul}
 use Rattle.std.proofs.lemmas.Nat.Gcd.{dvd_trans, dvd_refl, dvd-zero}
-use Rattle.std.proofs.Math.Nat.{dvd-mul_left, dvd-mul_right, mul-dvd-mul_left, one-dvd}
+use Rattle.std.proofs.Math.Nat.{dvd-mul_left, mul-dvd-mul_left, one-dvd}
 use Rattle.exact_num.specs.Formed.{common}
 use Rattle.exact_num.specs.Gcd.{gcd_of}
 use Rattle.exact_num.specs.Rational.{Rational}
@@ -16,8 +16,8 @@ use Rattle.exact_num.proofs.Ring.{*ℤ_assoc, *ℤ-one, one-*ℤ, zero-*ℤ, zer
 use Rattle.exact_num.specs.Range.{all_fit, in_range as fits}
 use Rattle.exact_num.proofs.StepLaws.{all_fit-cons}
 use Rattle.row_core.specs.declared.Var.{Var}
-use Rattle.row_core.specs.Numbers.{is_zero, all_zero, numbers_of, DividesAll, IsLowest}
-use Rattle.row_core.specs.Written.{kept, widened, widened_by_all, widened_by_each, denominators, common_divisor, row_divisor, numerator_over, entries_over}
+use Rattle.row_core.specs.Numbers.{is_zero, DividesAll}
+use Rattle.row_core.specs.Written.{kept, widened, widened_by_all, widened_by_each, denominators, common_divisor, numerator_over, entries_over}
 use Rattle.row_core.specs.TermSteps.{widened_by_term}
 use Rattle.row_core.specs.Values.{IsOver, IsSumOver}
 use Rattle.row_core.specs.Rows.{row_sum}
@@ -78,9 +78,12 @@ widened_by_all-is d [] right h k r =
 widened_by_all-is d (term ∷ terms) right h k r =
     let wider = widened d term.1.bottom in
     let last = widened_by_all wider (denominators terms right) in
-    let rest = widened_by_all-is wider terms right (widened_pos d term.1.bottom h k.0) k.1 r in
-    (rest.0, DividesInt_trans d wider last (widened-left d term.1.bottom) rest.1,
-     (record { positive = k.0; divides = DividesInt_trans term.1.bottom wider last (widened-right d term.1.bottom) rest.1 }, rest.2), rest.3)
+    let rest = widened_by_all-is wider terms right (widened_pos d term.1.bottom h k.0) k.1 r in (
+      rest.0,
+      DividesInt_trans d wider last (widened-left d term.1.bottom) rest.1,
+      (record { positive = k.0; divides = DividesInt_trans term.1.bottom wider last (widened-right d term.1.bottom) rest.1 }, rest.2),
+      rest.3,
+    )
 
 -- ---- numerators
 
@@ -134,9 +137,10 @@ kept-IsSumOver s x (term ∷ terms) n h =
 
 pub common_divisor-DividesAll_of : (d : ℕ) (zs : List ℤ) → d ∣ common_divisor zs → DividesAll d zs
 common_divisor-DividesAll_of d [] h = tt
-common_divisor-DividesAll_of d (z ∷ zs) h =
-    (dvd_trans d h (gcd_of-dvd_left (unsigned_abs z) (common_divisor zs)),
-     common_divisor-DividesAll_of d zs (dvd_trans d h (gcd_of-dvd_right (unsigned_abs z) (common_divisor zs))))
+common_divisor-DividesAll_of d (z ∷ zs) h = (
+  dvd_trans d h (gcd_of-dvd_left (unsigned_abs z) (common_divisor zs)),
+  common_divisor-DividesAll_of d zs (dvd_trans d h (gcd_of-dvd_right (unsigned_abs z) (common_divisor zs))),
+)
 
 -- it divides all of them, and whatever divides all of them divides it
 pub common_divisor-DividesAll : (zs : List ℤ) → DividesAll (common_divisor zs) zs

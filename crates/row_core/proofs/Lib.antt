@@ -1,4 +1,5 @@
 pub mod AscendingLaws
+mod CapacityUses
 pub mod DivisionLaws
 mod Examples
 pub mod Integers

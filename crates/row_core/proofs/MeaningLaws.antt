@@ -1,15 +1,14 @@
 -- What a written row means: it is its terms and right side times a positive number, so it says the same of every plan, and each entry has the sign of its coefficient.
-use Rattle.std.proofs.Common.{◌≡◌, ◌≢◌, ℕ, ◌<◌, ℤ, pos, ◌+ℤ◌, ◌*ℤ◌, Bool, true, false, List, [], ◌∷◌, ◌&&◌, refl, sym, ap, ap₂, ◌∙◌, subst, arith, if◌then◌else◌}
-use Rattle.std.specs.Prelude.{◌<ℤ◌, ◌≤ℤ◌, ◌↔◌, IsTrue}
+use Rattle.std.proofs.Common.{◌≡◌, ℕ, ◌<◌, ℤ, pos, ◌+ℤ◌, ◌*ℤ◌, Bool, true, false, List, [], ◌∷◌, refl, sym, ap, ap₂, ◌∙◌, subst, arith, if◌then◌else◌}
+use Rattle.std.specs.Prelude.{◌<ℤ◌, ◌↔◌}
 use Rattle.std.specs.Ordering.{is_eq, is_lt, int_cmp, ordering_reverse}
 use Rattle.std.specs.declared.cmp.Ordering.{Ordering}
 use Rattle.std.specs.declared.cmp.Ordering.TheVariants.{Less, Equal as Alike, Greater}
 use Rattle.std.proofs.lemmas.Int.{ints}
-use Rattle.exact_num.specs.Range.{all_fit}
 use Rattle.exact_num.specs.Rational.{Rational}
 use Rattle.exact_num.proofs.Integers.{*ℤ-≤ℤ, ≤ℤ_cancel, *ℤ_cancel, *ℤ_pos, nonzero_of_pos, int_div-mul}
 use Rattle.exact_num.proofs.OrderLaws.{int_cmp-mul}
-use Rattle.exact_num.proofs.Ring.{products, ring, *ℤ-one, *ℤ-zero, zero-*ℤ, +ℤ-zero, zero-+ℤ}
+use Rattle.exact_num.proofs.Ring.{products, *ℤ-one, *ℤ-zero, zero-*ℤ, +ℤ-zero, zero-+ℤ}
 use Rattle.row_core.specs.declared.Row.{Row}
 use Rattle.row_core.specs.declared.Sense.{Sense}
 use Rattle.row_core.specs.declared.Sense.TheVariants.{Least, Equal, Most}
@@ -18,12 +17,13 @@ use Rattle.row_core.specs.Numbers.{variables_of, numbers_of, ascends, before_fir
 use Rattle.row_core.specs.Order.{var_cmp}
 use Rattle.row_core.specs.Rows.{row_sum, number_at, RowHolds}
 use Rattle.row_core.specs.Statements.{Stands}
+use Rattle.row_core.specs.Terms.{gathered}
 use Rattle.row_core.specs.Values.{IsOver, IsSumOver, SaysTheSame, IsMultiple, alone}
 use Rattle.row_core.specs.Written.{kept, common_denominator, cleared_entries, cleared_right, written_divisor, written_entries, written_right}
 use Rattle.row_core.proofs.AscendingLaws.{both_passed, Less-from_test, ascends-skip}
 use Rattle.row_core.proofs.DivisionLaws.{ArePositive, widened_by_all-is, kept-ArePositive, kept-IsSumOver, entries_over-IsSumOver, numerator_over-IsOver}
 use Rattle.row_core.proofs.Orders.{var_cmp_total, var_cmp_exact}
-use Rattle.row_core.proofs.SumLaws.{IsOver-agree, IsSumOver-agree}
+use Rattle.row_core.proofs.SumLaws.{IsOver-agree, IsSumOver-agree, IsSumOver-gathered}
 use Rattle.row_core.proofs.WrittenLaws.{row_divisor-is, row_sum-divided}
 
 -- ---- the row is a multiple of its terms and right side
@@ -66,15 +66,21 @@ pub multiple-SaysTheSame : (terms : List (Var × Rational)) (right : Rational) (
 multiple-SaysTheSame terms right row m q x s n r positive sum over =
     let total : ℤ = row_sum x row.entries.items in
     let lefts : total *ℤ (m.down *ℤ s) ≡ n *ℤ m.up =
-      factors_joined total m.down s ∙ IsSumOver-agree m.up s x terms (total *ℤ m.down) n (m.sums x) sum in
+    factors_joined total m.down s ∙ IsSumOver-agree m.up s x terms (total *ℤ m.down) n (m.sums x) sum in
     let rights : (row.rhs *ℤ pos q) *ℤ (m.down *ℤ s) ≡ (r *ℤ pos q) *ℤ m.up =
-      right_factors row.rhs (pos q) m.down s ∙ ap (λ z. z *ℤ pos q) (IsOver-agree m.up s right (row.rhs *ℤ m.down) r m.right_side over) ∙ last_swapped r m.up (pos q) in
+    right_factors row.rhs (pos q) m.down s ∙ ap (λ z. z *ℤ pos q) (IsOver-agree m.up s right (row.rhs *ℤ m.down) r m.right_side over) ∙ last_swapped r m.up (pos q) in
     let first = Stands-times row.sense total (row.rhs *ℤ pos q) (m.down *ℤ s) (*ℤ_pos m.down s m.down_positive positive) in
     let second = Stands-times row.sense n (r *ℤ pos q) m.up m.up_positive in
     let Here : ℤ → ℤ → Type 0 = λ y z. Stands row.sense y z in
     let across = λ (h : Here (total *ℤ (m.down *ℤ s)) ((row.rhs *ℤ pos q) *ℤ (m.down *ℤ s))). subst (λ z. Here (n *ℤ m.up) z) rights (subst (λ y. Here y ((row.rhs *ℤ pos q) *ℤ (m.down *ℤ s))) lefts h) in
     let back = λ (h : Here (n *ℤ m.up) ((r *ℤ pos q) *ℤ m.up)). subst (λ y. Here y ((row.rhs *ℤ pos q) *ℤ (m.down *ℤ s))) (sym lefts) (subst (λ z. Here (n *ℤ m.up) z) (sym rights) h) in
     (λ h. second.1 (across (first.0 h)), λ h. first.1 (back (second.0 h)))
+
+-- what a row in this sense says, from the values over s of its terms as they are written, and of its right side
+pub row_says : (written : List (Var × Rational)) (right : Rational) (row : Row) (sense : Sense) (q : ℕ) (x : Var → ℤ) (s n r : ℤ) → SaysTheSame (gathered written) right row → row.sense ≡ sense
+    → pos 0 <ℤ s → IsSumOver s x written n → IsOver s right r → RowHolds row q x ↔ Stands sense n (r *ℤ pos q)
+row_says written right row sense q x s n r says in_sense positive sum over =
+    subst (λ o. RowHolds row q x ↔ Stands o n (r *ℤ pos q)) in_sense (says q x s n r positive (IsSumOver-gathered s x written n sum) over)
 
 -- ---- and each entry has the sign of its coefficient
 
@@ -99,9 +105,9 @@ row_sum-alone v (e ∷ es) h =
     let parts = both_passed (before_first var_cmp e.0 (variables_of es)) (ascends var_cmp (variables_of es)) h in
     let Found : Bool → Type 0 = λ b. (e.1 *ℤ (if b then pos 1 else pos 0)) +ℤ row_sum (alone v) es ≡ (if b then e.1 else number_at es v) in
     let here : is_eq (var_cmp e.0 v) ≡ true → Found true =
-      λ is. let same : e.0 ≡ v = var_cmp_exact e.0 v (alike (var_cmp e.0 v) is) in
-            let none : row_sum (alone v) es ≡ pos 0 = row_sum-behind v es (subst (λ w. ascends var_cmp (w ∷ variables_of es) ≡ true) same h) in
-            ap₂ (λ y u. y +ℤ u) (*ℤ-one e.1) none ∙ +ℤ-zero e.1 in
+    λ is. let same : e.0 ≡ v = var_cmp_exact e.0 v (alike (var_cmp e.0 v) is) in
+    let none : row_sum (alone v) es ≡ pos 0 = row_sum-behind v es (subst (λ w. ascends var_cmp (w ∷ variables_of es) ≡ true) same h) in
+    ap₂ (λ y u. y +ℤ u) (*ℤ-one e.1) none ∙ +ℤ-zero e.1 in
     let elsewhere : Found false = ap₂ (λ y u. y +ℤ u) (*ℤ-zero e.1) (row_sum-alone v es parts.1) ∙ zero-+ℤ (number_at es v) in
     let cases : (b : Bool) → is_eq (var_cmp e.0 v) ≡ b → Found b = λ b. elim b as (λ p. is_eq (var_cmp e.0 v) ≡ p → Found p) [ true ↦ here | false ↦ λ is. elsewhere ] in
     cases (is_eq (var_cmp e.0 v)) refl

@@ -6,7 +6,7 @@ use Rattle.exact_num.specs.Range.{all_fit, in_range}
 use Rattle.exact_num.specs.Rational.{Rational, pair, whole, plus, lowest}
 use Rattle.row_core.specs.declared.Var.{Var}
 use Rattle.row_core.specs.Names.{new_capacity, accumulated_new_capacity, total_capacity_annual}
-use Rattle.row_core.specs.Terms.{coefficient_at, gathered, gathered_formed}
+use Rattle.row_core.specs.Terms.{gathered, gathered_formed}
 use Rattle.row_core.specs.Written.{kept, common_denominator, written_entries, written_right, written_formed}
 
 -- ---- CAa2 at a residual capacity of a half: TotalCapacityAnnual - AccumulatedNewCapacity = 1/2
@@ -81,10 +81,6 @@ repeated_entries = refl
 repeated_right : written_right (gathered repeated_terms) (pair (pos 3) (pos 2)) ≡ pos 3
 unfolding plus lowest gcd_of gcd_within
 repeated_right = refl
-
-repeated_coefficient : coefficient_at (gathered repeated_terms) (new_capacity 0 0 0) ≡ pair (pos 1) (pos 2)
-unfolding plus lowest gcd_of gcd_within
-repeated_coefficient = refl
 
 -- ---- common divisors
 

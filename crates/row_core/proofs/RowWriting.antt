@@ -1,5 +1,5 @@
 -- Whether the numbers of a row fit, part by part, and what the row has that comes of them.
-use Rattle.std.proofs.Common.{◌≡◌, ℕ, ℤ, pos, Bool, true, false, List, [], ◌∷◌, ◌++◌, ◌&&◌, map, refl, sym, ap, ap₂, ◌∙◌, subst, arith}
+use Rattle.std.proofs.Common.{◌≡◌, pos, Bool, true, false, List, [], ◌∷◌, ◌++◌, ◌&&◌, map, refl, ap, ap₂, ◌∙◌, arith}
 use Rattle.std.specs.Prelude.{◌<ℤ◌}
 use Rattle.std.proofs.lemmas.Int.{ints}
 use Rattle.exact_num.specs.Range.{in_range, all_fit}
@@ -10,7 +10,7 @@ use Rattle.row_core.specs.declared.Var.{Var}
 use Rattle.row_core.specs.Numbers.{numbers_of, variables_of, ascends, none_zero}
 use Rattle.row_core.specs.Order.{var_cmp}
 use Rattle.row_core.specs.TermViews.{seen}
-use Rattle.row_core.specs.Written.{kept, denominators, widened_by_each, common_denominator, cleared_entries, cleared_right, entries_over, written_entries, written_divisor, written_formed}
+use Rattle.row_core.specs.Written.{kept, denominators, widened_by_each, common_denominator, cleared_entries, cleared_right, written_entries, written_divisor, written_formed}
 use Rattle.row_core.proofs.DivisionLaws.{ArePositive, kept-ArePositive, widened_by_all-is}
 use Rattle.row_core.proofs.WritingSteps.{and_true}
 use Rattle.row_core.proofs.WrittenLaws.{variables_of-over, variables_of-divided, ascends-kept, none_zero-over}
@@ -23,11 +23,11 @@ pub written_formed-parts : (terms : List (Var × Rational)) (right : Rational)
     → all_fit (written_formed terms right) ≡ (denominators_fit_all terms right && (all_fit (numbers_of (cleared_entries terms right)) && in_range (cleared_right terms right)))
 written_formed-parts terms right =
     let last : all_fit (cleared_right terms right ∷ []) ≡ in_range (cleared_right terms right) =
-      all_fit-cons (cleared_right terms right) [] ∙ ap (λ b. in_range (cleared_right terms right) && b) all_fit-nil ∙ and_true (in_range (cleared_right terms right)) in
+    all_fit-cons (cleared_right terms right) [] ∙ ap (λ b. in_range (cleared_right terms right) && b) all_fit-nil ∙ and_true (in_range (cleared_right terms right)) in
     all_fit-append (widened_by_each (pos 1) (denominators (kept terms) right)) (numbers_of (cleared_entries terms right) ++ cleared_right terms right ∷ [])
     ∙ ap (λ b. denominators_fit_all terms right && b)
-      (all_fit-append (numbers_of (cleared_entries terms right)) (cleared_right terms right ∷ [])
-       ∙ ap (λ b. all_fit (numbers_of (cleared_entries terms right)) && b) last)
+    (all_fit-append (numbers_of (cleared_entries terms right)) (cleared_right terms right ∷ [])
+    ∙ ap (λ b. all_fit (numbers_of (cleared_entries terms right)) && b) last)
 
 and_false : (b : Bool) → (b && false) ≡ false
 and_false true = refl

@@ -1,12 +1,12 @@
 -- Sums of terms over one denominator and over another, and how they go with gathering.
-use Rattle.std.proofs.Common.{◌≡◌, ◌≢◌, ℕ, zero, suc, ◌<◌, ℤ, pos, negsuc, neg_ℤ, ◌+ℤ◌, ◌*ℤ◌, List, [], ◌∷◌, ◌++◌, map, refl, sym, ap, ap₂, ◌∙◌, subst, arith}
-use Rattle.std.specs.Prelude.{◌<ℤ◌, ◌↔◌}
+use Rattle.std.proofs.Common.{◌≡◌, ℤ, pos, negsuc, neg_ℤ, ◌+ℤ◌, ◌*ℤ◌, List, [], ◌∷◌, ◌++◌, map, refl, sym, ap, ap₂, ◌∙◌, subst, arith}
+use Rattle.std.specs.Prelude.{◌<ℤ◌}
 use Rattle.std.specs.declared.cmp.Ordering.{Ordering}
 use Rattle.std.specs.declared.cmp.Ordering.TheVariants.{Less, Equal, Greater}
 use Rattle.std.proofs.lemmas.Int.{ints}
 use Rattle.exact_num.proofs.Integers.{*ℤ_cancel, nonzero_of_pos, *ℤ_pos}
 use Rattle.exact_num.proofs.RationalLaws.{lowest-cross, lowest-IsLowest}
-use Rattle.exact_num.proofs.Ring.{ring, products, zero-*ℤ, zero-+ℤ, +ℤ-zero, *ℤ-one, *ℤ_assoc, *ℤ_left_comm, +ℤ_left_comm, neg_ℤ-*ℤ}
+use Rattle.exact_num.proofs.Ring.{ring, products, zero-*ℤ, zero-+ℤ, +ℤ-zero, *ℤ-one, one-*ℤ, *ℤ_assoc, *ℤ_left_comm, +ℤ_assoc, +ℤ_left_comm, neg_ℤ-*ℤ}
 use Rattle.exact_num.specs.Rational.{Rational, plus, times, negated, whole, lowest}
 use Rattle.row_core.specs.declared.Var.{Var}
 use Rattle.row_core.specs.Order.{var_cmp}
@@ -55,9 +55,9 @@ IsOver-lowest s n d z positive cross =
     record {
       positive = (lowest-IsLowest n d nonzero).positive;
       cross =
-        *ℤ_cancel (z *ℤ (lowest n d).bottom) ((lowest n d).top *ℤ s) d nonzero
-        (swap_last z (lowest n d).bottom d ∙ ap (λ y. y *ℤ (lowest n d).bottom) cross ∙ swap_last n s (lowest n d).bottom
-        ∙ ap (λ y. y *ℤ s) (sym (lowest-cross n d nonzero)) ∙ swap_last (lowest n d).top d s);
+          *ℤ_cancel (z *ℤ (lowest n d).bottom) ((lowest n d).top *ℤ s) d nonzero
+          (swap_last z (lowest n d).bottom d ∙ ap (λ y. y *ℤ (lowest n d).bottom) cross ∙ swap_last n s (lowest n d).bottom
+          ∙ ap (λ y. y *ℤ s) (sym (lowest-cross n d nonzero)) ∙ swap_last (lowest n d).top d s);
     }
 
 -- numbers over one denominator are added
@@ -108,11 +108,20 @@ IsSumOver-with_term s x new (term ∷ terms) z n over (w, rest, over', sum', is)
     let Placed : Ordering → Type 0 = λ o. IsSumOver s x (elim o [ Less ↦ new ∷ term ∷ terms | Equal ↦ (term.0, plus term.1 new.1) ∷ terms | Greater ↦ term ∷ with_term new terms ]) ((z *ℤ x new.0) +ℤ n) in
     let before : Placed Less = (z, n, over, (w, rest, over', sum', is), refl) in
     let there : var_cmp new.0 term.0 ≡ Equal → Placed Equal =
-      λ h. (w +ℤ z, rest, IsOver-plus s term.1 new.1 w z over' over, sum',
-            ap₂ (λ y u. (z *ℤ y) +ℤ u) (ap x (var_cmp_exact new.0 term.0 h)) is ∙ added_same w z (x term.0) rest) in
-    let after : Placed Greater =
-      (w, (z *ℤ x new.0) +ℤ rest, over', IsSumOver-with_term s x new terms z rest over sum',
-       ap (λ u. (z *ℤ x new.0) +ℤ u) is ∙ +ℤ_left_comm (z *ℤ x new.0) (w *ℤ x term.0) rest) in
+    λ h. (
+      w +ℤ z,
+      rest,
+      IsOver-plus s term.1 new.1 w z over' over,
+      sum',
+      ap₂ (λ y u. (z *ℤ y) +ℤ u) (ap x (var_cmp_exact new.0 term.0 h)) is ∙ added_same w z (x term.0) rest,
+    ) in
+    let after : Placed Greater = (
+      w,
+      (z *ℤ x new.0) +ℤ rest,
+      over',
+      IsSumOver-with_term s x new terms z rest over sum',
+      ap (λ u. (z *ℤ x new.0) +ℤ u) is ∙ +ℤ_left_comm (z *ℤ x new.0) (w *ℤ x term.0) rest,
+    ) in
     let cases : (o : Ordering) → var_cmp new.0 term.0 ≡ o → Placed o = λ o. elim o as (λ p. var_cmp new.0 term.0 ≡ p → Placed p) [ Less ↦ λ h. before | Equal ↦ there | Greater ↦ λ h. after ] in
     cases (var_cmp new.0 term.0) refl
 
@@ -127,3 +136,33 @@ IsSumOver-gathered_onto s x terms (new ∷ more) n m p (z, rest, over, sum, is) 
 -- gathered terms have the sum of the terms as they are written
 pub IsSumOver-gathered : (s : ℤ) (x : Var → ℤ) (written : List (Var × Rational)) (n : ℤ) → IsSumOver s x written n → IsSumOver s x (gathered written) n
 IsSumOver-gathered s x written n p = subst (IsSumOver s x (gathered written)) (+ℤ-zero n) (IsSumOver-gathered_onto s x [] written (pos 0) n refl p)
+
+-- ---- terms as an equation writes them
+
+-- 1 and -1
+pub IsOver-one : (s : ℤ) → IsOver s (whole (pos 1)) s
+IsOver-one s = record { positive = one_positive; cross = *ℤ-one s ∙ sym (one-*ℤ s) }
+
+pub IsOver-minus_one : (s : ℤ) → IsOver s (whole (negsuc 0)) (neg_ℤ s)
+IsOver-minus_one s = IsOver-negated s (whole (pos 1)) s (IsOver-one s)
+
+-- nothing on the right side
+pub IsOver-zero : (s : ℤ) → IsOver s (whole (pos 0)) (pos 0)
+IsOver-zero s = record { positive = one_positive; cross = zero-*ℤ (pos 1) ∙ sym (zero-*ℤ s) }
+
+-- one term in front of others
+pub IsSumOver-cons : (s : ℤ) (x : Var → ℤ) (term : Var × Rational) (terms : List (Var × Rational)) (z n : ℤ) → IsOver s term.1 z → IsSumOver s x terms n → IsSumOver s x (term ∷ terms) ((z *ℤ x term.0) +ℤ n)
+IsSumOver-cons s x term terms z n over sum = (z, n, over, sum, refl)
+
+-- terms followed by others
+pub IsSumOver-append : (s : ℤ) (x : Var → ℤ) (terms more : List (Var × Rational)) (n m : ℤ) → IsSumOver s x terms n → IsSumOver s x more m → IsSumOver s x (terms ++ more) (n +ℤ m)
+IsSumOver-append s x [] more n m p q = subst (IsSumOver s x more) (sym (ap (λ y. y +ℤ m) p ∙ zero-+ℤ m)) q
+IsSumOver-append s x (term ∷ terms) more n m (z, rest, over, sum, is) q =
+    (z, rest +ℤ m, over, IsSumOver-append s x terms more rest m sum q, ap (λ y. y +ℤ m) is ∙ +ℤ_assoc (z *ℤ x term.0) rest m)
+
+-- a term for each of a list, whatever word for their sum an equation has
+pub IsSumOver-each : {A : Type 0} (s : ℤ) (x : Var → ℤ) (f : A → Var × Rational) (z : A → ℤ) (total : List A → ℤ)
+    → ((i : A) → IsOver s (f i).1 (z i)) → total [] ≡ pos 0 → ((i : A) (is : List A) → total (i ∷ is) ≡ (z i *ℤ x (f i).0) +ℤ total is)
+    → (is : List A) → IsSumOver s x (map f is) (total is)
+IsSumOver-each s x f z total over none more [] = none
+IsSumOver-each s x f z total over none more (i ∷ is) = (z i, total is, over i, IsSumOver-each s x f z total over none more is, more i is)

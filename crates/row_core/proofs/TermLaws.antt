@@ -1,8 +1,8 @@
 -- What one more term does to a list of terms: the list goes on ascending, and where the term goes.
-use Rattle.std.proofs.Common.{◌≡◌, ◌≢◌, ℕ, zero, suc, ◌+◌, ◌-◌, ◌<◌, ◌≤◌, ℤ, Bool, true, false, List, [], ◌∷◌, ◌++◌, ◌&&◌, length, map, get_or, set, take, drop, refl, sym, ap, ap₂, ◌∙◌, subst, arith, inl, inr, ◌⊎◌}
+use Rattle.std.proofs.Common.{◌≡◌, ◌≢◌, ℕ, zero, suc, ◌<◌, ◌≤◌, ℤ, true, List, [], ◌∷◌, ◌++◌, length, map, get_or, set, refl, sym, ap, ◌∙◌, subst, arith, append_assoc, inl, inr}
 use Rattle.std.specs.List.{insert}
 use Rattle.std.specs.Cmp.Derive.{both_true}
-use Rattle.std.specs.Ordering.{is_lt, is_eq, ordering_reverse}
+use Rattle.std.specs.Ordering.{ordering_reverse}
 use Rattle.std.specs.declared.cmp.Ordering.{Ordering}
 use Rattle.std.specs.declared.cmp.Ordering.TheVariants.{Less, Equal, Greater}
 use Rattle.std.proofs.Math.Nat.{eq-or-lt_of_le}
@@ -14,9 +14,9 @@ use Rattle.row_core.specs.declared.Var.{Var}
 use Rattle.row_core.specs.Numbers.{variables_of, before_first, ascends}
 use Rattle.row_core.specs.Order.{var_cmp}
 use Rattle.row_core.specs.TermPlaces.{AreBefore, IsThere, BelongsAt}
-use Rattle.row_core.specs.Terms.{with_term, term_formed}
+use Rattle.row_core.specs.Terms.{with_term, term_formed, gathered_onto, gathered, gathered_formed_onto}
 use Rattle.row_core.specs.TermViews.{seen}
-use Rattle.row_core.proofs.AscendingLaws.{both_passed, Less-from_test, test-from_Less, ascends-AllPairs}
+use Rattle.row_core.proofs.AscendingLaws.{both_passed, test-from_Less, ascends-AllPairs}
 use Rattle.row_core.proofs.Orders.{var_cmp_total, var_cmp_exact}
 
 -- ---- one more term by the order of the variables
@@ -101,9 +101,30 @@ ascends-with_term new (term ∷ terms) h =
     let parts = both_passed (before_first var_cmp term.0 (variables_of terms)) (ascends var_cmp (variables_of terms)) h in
     let first : var_cmp new.0 term.0 ≡ Less → Up Less = λ e. both_true (test-from_Less (var_cmp new.0 term.0) e) h in
     let later : var_cmp new.0 term.0 ≡ Greater → Up Greater =
-      λ e. both_true (before_first-with_term term.0 new terms (turned new.0 term.0 Greater e) parts.0) (ascends-with_term new terms parts.1) in
+    λ e. both_true (before_first-with_term term.0 new terms (turned new.0 term.0 Greater e) parts.0) (ascends-with_term new terms parts.1) in
     let cases : (o : Ordering) → var_cmp new.0 term.0 ≡ o → Up o = λ o. elim o as (λ p. var_cmp new.0 term.0 ≡ p → Up p) [ Less ↦ first | Equal ↦ λ e. h | Greater ↦ later ] in
     cases (var_cmp new.0 term.0) refl
+
+-- ---- terms taken one after another
+
+pub ascends-gathered_onto : (terms more : List (Var × Rational)) → ascends var_cmp (variables_of terms) ≡ true → ascends var_cmp (variables_of (gathered_onto terms more)) ≡ true
+ascends-gathered_onto terms [] h = h
+ascends-gathered_onto terms (new ∷ more) h = ascends-gathered_onto (with_term new terms) more (ascends-with_term new terms h)
+
+-- gathered terms ascend
+pub ascends-gathered : (written : List (Var × Rational)) → ascends var_cmp (variables_of (gathered written)) ≡ true
+ascends-gathered written = ascends-gathered_onto [] written refl
+
+-- two lists of terms after one another
+pub gathered_onto-append : (terms more rest : List (Var × Rational)) → gathered_onto terms (more ++ rest) ≡ gathered_onto (gathered_onto terms more) rest
+gathered_onto-append terms [] rest = refl
+gathered_onto-append terms (new ∷ more) rest = gathered_onto-append (with_term new terms) more rest
+
+pub gathered_formed_onto-append : (terms more rest : List (Var × Rational)) → gathered_formed_onto terms (more ++ rest) ≡ gathered_formed_onto terms more ++ gathered_formed_onto (gathered_onto terms more) rest
+gathered_formed_onto-append terms [] rest = refl
+gathered_formed_onto-append terms (new ∷ more) rest =
+    ap (λ zs. term_formed new terms ++ zs) (gathered_formed_onto-append (with_term new terms) more rest)
+    ∙ sym (append_assoc (term_formed new terms) (gathered_formed_onto (with_term new terms) more) (gathered_formed_onto (gathered_onto (with_term new terms) more) rest))
 
 -- ---- what comes before the end
 

@@ -1,18 +1,15 @@
 -- What a written row keeps: ascending variables, no 0, numbers in range and without a common divisor; and that it is the terms and the right side times a positive number.
-use Rattle.std.proofs.Common.{◌≡◌, ◌≢◌, ℕ, zero, suc, ◌*◌, ◌/◌, ◌^◌, ◌<◌, ◌≤◌, ℤ, pos, negsuc, neg_ℤ, ◌+ℤ◌, ◌*ℤ◌, Bool, true, false, List, [], ◌∷◌, ◌++◌, ◌&&◌, not, nat_eq, refl, sym, ap, ap₂, ◌∙◌, subst, arith, if◌then◌else◌}
-use Rattle.std.specs.Prelude.{unsigned_abs, int_div, ◌<ℤ◌, ◌==◌, ⊤, IsTrue, ◌↔◌}
-use Rattle.std.specs.Cmp.{IsTotalOrder}
+use Rattle.std.proofs.Common.{◌≡◌, ◌≢◌, ℕ, ◌^◌, ◌<◌, ◌≤◌, ℤ, pos, ◌+ℤ◌, ◌*ℤ◌, Bool, true, false, List, [], ◌∷◌, not, refl, sym, ap, ap₂, ◌∙◌, subst, arith, if◌then◌else◌}
+use Rattle.std.specs.Prelude.{unsigned_abs, int_div, ◌<ℤ◌, ◌==◌, ⊤}
 use Rattle.std.specs.Cmp.Derive.{both_true}
 use Rattle.std.specs.Int.{◌∣◌}
 use Rattle.std.specs.Ordering.{is_lt}
-use Rattle.std.specs.declared.cmp.Ordering.{Ordering}
-use Rattle.std.proofs.lemmas.Int.{ints}
 use Rattle.std.proofs.lemmas.Bool.{eqb-true, eqb-false}
 use borrow.Author.Tests.{lt-ltb}
 use Rattle.std.proofs.Math.Nat.{eq-zero_of_zero-dvd, one-dvd}
 use Rattle.exact_num.specs.Range.{InRange, all_fit, in_range as fits}
 use Rattle.exact_num.specs.Rational.{Rational}
-use Rattle.exact_num.proofs.Integers.{int_div-mul, unsigned_abs-int_div, *ℤ_nonzero, nonzero_of_pos, unsigned_abs-zero, *ℤ_cancel}
+use Rattle.exact_num.proofs.Integers.{int_div-mul, unsigned_abs-int_div, *ℤ_nonzero, nonzero_of_pos, unsigned_abs-zero}
 use Rattle.exact_num.proofs.RangeLaws.{InRange-le, InRange-from_test}
 use Rattle.exact_num.proofs.StepLaws.{all_fit-cons}
 use Rattle.exact_num.proofs.Ring.{products, zero-*ℤ, +ℤ-*ℤ, *ℤ-one}
@@ -20,10 +17,9 @@ use Rattle.row_core.specs.declared.Var.{Var}
 use Rattle.row_core.specs.Numbers.{is_zero, all_zero, none_zero, in_range, all_in_range, numbers_of, variables_of, before_first, ascends, DividesAll, IsLowest}
 use Rattle.row_core.specs.Order.{var_cmp}
 use Rattle.row_core.specs.Rows.{row_sum}
-use Rattle.row_core.specs.Values.{IsOver, IsSumOver}
 use Rattle.row_core.specs.Written.{kept, common_divisor, row_divisor, numerator_over, entries_over, entries_divided}
 use Rattle.row_core.proofs.AscendingLaws.{both_passed, ascends-skip}
-use Rattle.row_core.proofs.DivisionLaws.{DividesInt, IsPartOf, ArePartsOf, exact_quotient, factor_pos, nonzero-test, common_divisor-DividesAll, common_divisor-greatest}
+use Rattle.row_core.proofs.DivisionLaws.{IsPartOf, ArePartsOf, exact_quotient, factor_pos, nonzero-test, common_divisor-DividesAll, common_divisor-greatest}
 use Rattle.row_core.proofs.Orders.{var_cmp_total}
 use Rattle.row_core.proofs.RowLaws.{times_all, IsLowest-divided}
 
@@ -91,11 +87,14 @@ row_divisor-is zs =
     let all : DividesAll g zs = common_divisor-DividesAll zs in
     let Fits : Bool → Type 0 = λ b. (0 < divisor_from g b) × DividesAll (divisor_from g b) zs × IsLowest (numbers_divided (divisor_from g b) zs) in
     let at_zero : (g == 0) ≡ true → Fits true =
-      λ e. (omega arith, one_divides zs, λ d above divides. zeros_divided zs (subst (λ n. DividesAll n zs) (eqb-true g 0 e) all)) in
+    λ e. (omega arith, one_divides zs, λ d above divides. zeros_divided zs (subst (λ n. DividesAll n zs) (eqb-true g 0 e) all)) in
     let above_zero : (g == 0) ≡ false → Fits false =
-      λ e. let positive : 0 < g = omega (arith, eqb-false g 0 e) in
-           (positive, all, IsLowest-divided g (numbers_divided g zs) positive
-             (λ d divides. common_divisor-greatest d zs (subst (λ ys. DividesAll d ys) (times_all-divided g zs all) divides))) in
+    λ e. let positive : 0 < g = omega (arith, eqb-false g 0 e) in (
+      positive,
+      all,
+      IsLowest-divided g (numbers_divided g zs) positive
+          (λ d divides. common_divisor-greatest d zs (subst (λ ys. DividesAll d ys) (times_all-divided g zs all) divides)),
+    ) in
     let cases : (b : Bool) → (g == 0) ≡ b → Fits b = λ b. elim b as (λ p. (g == 0) ≡ p → Fits p) [ true ↦ at_zero | false ↦ above_zero ] in
     cases (g == 0) refl
 

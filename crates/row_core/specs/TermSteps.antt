@@ -1,5 +1,5 @@
 -- What one term adds to a common denominator and to the entries of a row.
-use Rattle.std.specs.Prelude.{ℤ, Bool, List, [], ◌∷◌, if◌then◌else◌}
+use Rattle.std.specs.Prelude.{ℤ, List, [], ◌∷◌, if◌then◌else◌}
 use Rattle.exact_num.specs.Rational.{Rational}
 use Rattle.row_core.specs.declared.Var.{Var}
 use Rattle.row_core.specs.Numbers.{is_zero}

@@ -1,16 +1,10 @@
 -- The terms of an equation, all on its left side: variables, each with the exact value of its coefficient, in strictly ascending order of variables.
-use Rattle.std.specs.Prelude.{ℤ, pos, List, [], ◌∷◌, ◌++◌, if◌then◌else◌}
-use Rattle.std.specs.Ordering.{is_eq}
+use Rattle.std.specs.Prelude.{ℤ, List, [], ◌∷◌, ◌++◌}
 use Rattle.std.specs.declared.cmp.Ordering.TheVariants.{Less, Equal, Greater}
 use Rattle.exact_num.specs.Formed.{sum_formed}
-use Rattle.exact_num.specs.Rational.{Rational, plus, whole}
+use Rattle.exact_num.specs.Rational.{Rational, plus}
 use Rattle.row_core.specs.declared.Var.{Var}
 use Rattle.row_core.specs.Order.{var_cmp}
-
--- the coefficient that a list of terms has at a variable, 0 where it has none
-abbrev pub coefficient_at : List (Var × Rational) → Var → Rational
-coefficient_at [] v = whole (pos 0)
-coefficient_at (term ∷ terms) v = if is_eq (var_cmp term.0 v) then term.1 else coefficient_at terms v
 
 -- the terms with one more: its coefficient is added to that of its variable; a variable that isn't there yet is put at its place
 abbrev pub with_term : Var × Rational → List (Var × Rational) → List (Var × Rational)

@@ -97,3 +97,5 @@ pub struct Row {
 mod name_tests;
 #[cfg(test)]
 mod tests;
+#[cfg(test)]
+mod writing_tests;

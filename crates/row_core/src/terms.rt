@@ -39,9 +39,7 @@ impl Model for Terms {
     ghost use Rattle.exact_num.specs.Rational.{Rational};
     ghost use Rattle.row_core.specs.declared.Var.{Var};
     ghost use Rattle.row_core.specs.Numbers.{ascends, variables_of};
-    ghost use Rattle.row_core.specs.Numbers.{ascends, variables_of};
-ghost use Rattle.row_core.specs.Order.{var_cmp};
-ghost use Rattle.row_core.specs.TermPlaces.{IsThere, BelongsAt};
+    ghost use Rattle.row_core.specs.Order.{var_cmp};
     ghost use Rattle.row_core.specs.TermViews.{seen};
 
     ghost Value = { List (Var × Rational) };
@@ -80,7 +78,7 @@ impl Terms {
     }
 
     /// The terms, strictly ascending by variable.
-    pub fn as_slice(&self) -> &[Term]
+    pub(crate) fn as_slice(&self) -> &[Term]
         ensures list { map seen result.now ≡ self.now }
         ensures ascending { IsTrue (ascends var_cmp (variables_of self.now)) }
     {

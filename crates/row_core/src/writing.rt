@@ -23,11 +23,17 @@ use std::alloc::Global;
 /// Coefficients of 0 are left out. The common denominator `D` starts at 1; for the denominator `b` of each
 /// coefficient, in the order of variables, and for that of the right side last, it becomes `D / gcd(D, b) * b`.
 /// Each entry is the coefficient's numerator times `D / b`, and so is the right side. All of them are divided by
-/// their greatest common divisor. `Width` with the row's name comes exactly where one of these numbers doesn't
-/// fit, before the last division.
+/// their greatest common divisor.
 ///
-/// The row says what the equation says, of every plan.
-pub fn write_row(alloc: Global, name: RowName, sense: Sense, terms: &Terms, right: Frac) -> Result<Row, Stopped>
+/// The row says of every plan what the equation says. `Width` with the row's name comes exactly where one of these
+/// numbers doesn't fit, before the last division; any other refusal is for want of memory.
+pub fn write_row(
+    alloc: Global,
+    name: RowName,
+    sense: Sense,
+    terms: &Terms,
+    right: Frac,
+) -> Result<Row, Stopped>
     ensures name { IfOk result (λ row. row.name ≡ name) }
     ensures sense { IfOk result (λ row. row.sense ≡ sense) }
     ensures entries { IfOk result (λ row. row.entries.items ≡ written_entries terms.now (value_of right)) }
@@ -140,7 +146,12 @@ fn numerator(denominator: i128, number: Frac) -> Result<i128, TooWide>
 }
 
 /// Each variable with the numerator of its coefficient over a common denominator, without those that are 0.
-fn entries_of(alloc: Global, place: Place, terms: &[Term], denominator: i128) -> Result<Vec<(Var, i128)>, Stopped>
+fn entries_of(
+    alloc: Global,
+    place: Place,
+    terms: &[Term],
+    denominator: i128,
+) -> Result<Vec<(Var, i128)>, Stopped>
     requires fits { InRange denominator }
     requires positive { pos 0 <ℤ denominator }
     ensures entries { IfOk result (λ entries. entries.items ≡ entries_over denominator (kept (map seen terms.now))) }
@@ -155,7 +166,12 @@ fn entries_of(alloc: Global, place: Place, terms: &[Term], denominator: i128) ->
 }
 
 /// Appends the entry of a term, unless it is 0.
-fn push_entry(entries: &mut Vec<(Var, i128)>, place: Place, term: Term, denominator: i128) -> Result<(), Stopped>
+fn push_entry(
+    entries: &mut Vec<(Var, i128)>,
+    place: Place,
+    term: Term,
+    denominator: i128,
+) -> Result<(), Stopped>
     requires fits { InRange denominator }
     requires positive { pos 0 <ℤ denominator }
     ensures pushed { OnOk result (entries.new.items ≡ entries.old.items ++ entry_over denominator (seen term)) }

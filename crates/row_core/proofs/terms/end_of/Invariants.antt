@@ -1,5 +1,5 @@
 -- The loop goes back from the end past terms that are behind the variable.
-use Rattle.std.proofs.Common.{◌≡◌, ℕ, ◌<◌, ◌≤◌, length, get_or}
+use Rattle.std.proofs.Common.{◌≡◌, ◌<◌, ◌≤◌, length, get_or}
 use Rattle.std.specs.declared.cmp.Ordering.TheVariants.{Greater}
 use Rattle.row_core.specs.declared.terms.Term.{Term}
 use Rattle.row_core.specs.Order.{var_cmp}

@@ -1,4 +1,4 @@
-use Rattle.std.proofs.Common.{◌≡◌, ℕ, ◌<◌, length, map, get_or, set, sym, ap, ap₂, ◌∙◌, arith}
+use Rattle.std.proofs.Common.{◌≡◌, map, get_or, set, ap, ap₂, ◌∙◌}
 use Rattle.std.proofs.lemmas.List.{get_or_default, map-set}
 use Rattle.exact_num.specs.Rational.{Rational, plus}
 use Rattle.exact_num.specs.Value.{value_of}
@@ -15,6 +15,6 @@ returns-clause-added c d =
     let written : c.index_mut.result.now ≡ get_or terms at d = c.index_mut.ensures.value ∙ get_or_default terms at c.index_mut.result.now d c.requires in
     let read : c.index.result.now ≡ get_or terms at d = c.index.ensures ∙ get_or_default terms at c.index.result.now d c.requires in
     let sum : value_of c.in-Ok.sum ≡ plus (value_of (get_or terms at d).coefficient) (value_of c.args.by) =
-      c.in-Ok.ensures.value ∙ ap (λ (t : Term). plus (value_of t.coefficient) (value_of c.args.by)) read in
+    c.in-Ok.ensures.value ∙ ap (λ (t : Term). plus (value_of t.coefficient) (value_of c.args.by)) read in
     map-set seen terms at increased
     ∙ ap₂ (λ (v : Var) (k : Rational). set (map seen terms) at (v, k)) (ap (λ (t : Term). t.variable) written) sum

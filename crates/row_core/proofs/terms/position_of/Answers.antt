@@ -1,8 +1,7 @@
-use Rattle.std.proofs.Common.{◌≡◌, ◌≢◌, ℕ, suc, ◌-◌, ◌<◌, ◌≤◌, true, length, map, get_or, sym, ap, ◌∙◌, subst, arith, rules}
-use Rattle.std.specs.declared.cmp.Ordering.TheVariants.{Less, Equal, Greater}
+use Rattle.std.proofs.Common.{◌≡◌, ◌≢◌, ℕ, suc, ◌-◌, ◌<◌, length, get_or, sym, ap, ◌∙◌, subst, arith}
+use Rattle.std.specs.declared.cmp.Ordering.TheVariants.{Less}
 use Rattle.std.proofs.lemmas.List.{get_or_default}
 use Rattle.row_core.specs.declared.terms.Term.{Term}
-use Rattle.row_core.specs.declared.Var.{Var}
 use Rattle.row_core.specs.Order.{var_cmp}
 use Rattle.row_core.specs.TermPlaces.{AreBefore}
 use Rattle.row_core.proofs.Orders.{var_cmp_exact}
@@ -16,7 +15,7 @@ returns-in-Equal c =
     let within : at < length terms = omega arith in
     let found : (get_or terms at c.index-list-end.result).variable ≡ c.args.variable = var_cmp_exact _ c.args.variable (sym c.compare.ensures ∙ c.in-Equal.is) in
     let same : (d : Term) → (get_or terms at d).variable ≡ c.args.variable =
-      λ d. ap (λ (t : Term). t.variable) (get_or_default terms at d c.index-list-end.result within) ∙ found in
+    λ d. ap (λ (t : Term). t.variable) (get_or_default terms at d c.index-list-end.result within) ∙ found in
     record { within = within; same = same; before = AreBefore-same terms c.args.variable at c.requires within same }
 
 pub returns-in_default : goal.returns-in_default
@@ -27,9 +26,9 @@ returns-in_default c =
     let end : suc at ≡ c.end_of-end.result = omega arith in
     let apart : (get_or terms at c.index-list-end.result).variable ≢ c.args.variable = λ e. c.in_default.not-Equal (c.compare.ensures ∙ same_alike _ c.args.variable e) in
     let found : var_cmp (get_or terms at c.index-list-end.result).variable c.args.variable ≡ Less =
-      before-from_others _ c.args.variable (c.end_of-end.ensures.not_behind c.index-list-end.result (omega arith)) apart in
+    before-from_others _ c.args.variable (c.end_of-end.ensures.not_behind c.index-list-end.result (omega arith)) apart in
     let before : (d : Term) → var_cmp (get_or terms at d).variable c.args.variable ≡ Less =
-      λ d. ap (λ (t : Term). var_cmp t.variable c.args.variable) (get_or_default terms at d c.index-list-end.result within) ∙ found in
+    λ d. ap (λ (t : Term). var_cmp t.variable c.args.variable) (get_or_default terms at d c.index-list-end.result within) ∙ found in
     record {
       within = c.end_of-end.ensures.within;
       before = subst (AreBefore terms c.args.variable) end (AreBefore-last terms c.args.variable at c.requires within before);

@@ -1,8 +1,8 @@
 -- One term after another, and the right side last.
-use Rattle.std.proofs.Common.{◌≡◌, ℕ, ◌+◌, ◌<◌, ◌≤◌, ℤ, pos, Bool, true, false, List, ◌∷◌, ◌&&◌, length, map, get_or, drop, sym, ap, ap₂, ◌∙◌, subst, arith, to_z, of_z}
+use Rattle.std.proofs.Common.{◌≡◌, ◌+◌, ℤ, pos, true, false, ◌&&◌, drop, sym, ap, ap₂, ◌∙◌, subst, arith, to_z, of_z}
 use Rattle.std.specs.Int.{w128}
-use Rattle.std.specs.Prelude.{is_ok, ◌<ℤ◌}
-use Rattle.exact_num.specs.Range.{InRange, in_range, all_fit}
+use Rattle.std.specs.Prelude.{◌<ℤ◌}
+use Rattle.exact_num.specs.Range.{InRange, in_range}
 use Rattle.exact_num.specs.Value.{value_of}
 use Rattle.exact_num.proofs.RangeLaws.{back_in_range, in_range-yes, is_ok-false}
 use Rattle.row_core.specs.TermSteps.{widened_by_term}

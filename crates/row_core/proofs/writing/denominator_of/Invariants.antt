@@ -1,5 +1,5 @@
 -- The terms so far have this common denominator, and what is formed from here on is what is left.
-use Rattle.std.proofs.Common.{◌≡◌, ℕ, ℤ, pos, map, drop}
+use Rattle.std.proofs.Common.{◌≡◌, pos, map, drop}
 use Rattle.std.specs.Prelude.{◌<ℤ◌}
 use Rattle.exact_num.specs.Range.{InRange, all_fit}
 use Rattle.exact_num.specs.Value.{value_of}
@@ -12,7 +12,7 @@ invariant-loop-term l = record {
   range : InRange l.denominator;
   positive : pos 0 <ℤ l.denominator;
   fits : all_fit (widened_by_each (pos 1) (denominators (kept (map seen l.terms)) (value_of l.right)))
-    ≡ all_fit (widened_by_each l.denominator (denominators (kept (map seen (drop l.term-index l.terms))) (value_of l.right)));
+      ≡ all_fit (widened_by_each l.denominator (denominators (kept (map seen (drop l.term-index l.terms))) (value_of l.right)));
   value : widened_by_all (pos 1) (denominators (kept (map seen l.terms)) (value_of l.right))
-    ≡ widened_by_all l.denominator (denominators (kept (map seen (drop l.term-index l.terms))) (value_of l.right));
+      ≡ widened_by_all l.denominator (denominators (kept (map seen (drop l.term-index l.terms))) (value_of l.right));
 }

@@ -1,5 +1,5 @@
 -- The divisor so far and that of what is left have the divisor of all.
-use Rattle.std.proofs.Common.{◌≡◌, ℤ, pos, ◌∷◌, drop}
+use Rattle.std.proofs.Common.{◌≡◌, pos, ◌∷◌, drop}
 use Rattle.std.specs.Prelude.{◌≤ℤ◌, unsigned_abs}
 use Rattle.exact_num.specs.Gcd.{gcd_of}
 use Rattle.exact_num.specs.Range.{InRange}

@@ -1,5 +1,5 @@
 -- One term after another.
-use Rattle.std.proofs.Common.{◌≡◌, ℕ, ◌+◌, ◌<◌, ◌≤◌, ℤ, pos, Bool, true, false, List, [], ◌∷◌, ◌++◌, ◌&&◌, length, map, get_or, drop, sym, ap, ap₂, ◌∙◌, subst, arith, refl, to_z, of_z, append_assoc, append-nil}
+use Rattle.std.proofs.Common.{◌≡◌, ◌+◌, ℤ, false, ◌++◌, ◌&&◌, drop, sym, ap, ◌∙◌, arith, to_z, of_z, append_assoc, append-nil}
 use Rattle.std.specs.Int.{w128}
 use Rattle.std.proofs.lemmas.List.{at_drop_all}
 use Rattle.std.proofs.lemmas.Result.{err_from_is_err_and}
@@ -17,11 +17,11 @@ returns-in_err-push_entry-clause-stopped c =
     let i = c.loop-term.term-index in
     let x = c.term-item.result in
     let wider : entries_fit (entry_over w (seen x)) ≡ false → entries_fit (entries_left c.args.denominator terms) ≡ false =
-      λ wide.
-      ap (λ z. entries_fit (entries_left z terms)) (sym (back_in_range c.args.denominator c.requires.fits))
-      ∙ c.loop-term.invariant.fits
-      ∙ entries_fit-step w terms i x (omega arith) c.term-item.is
-      ∙ ap (λ b. b && entries_fit (entries_left w (drop (i + 1) terms))) wide in
+    λ wide.
+    ap (λ z. entries_fit (entries_left z terms)) (sym (back_in_range c.args.denominator c.requires.fits))
+    ∙ c.loop-term.invariant.fits
+    ∙ entries_fit-step w terms i x (omega arith) c.term-item.is
+    ∙ ap (λ b. b && entries_fit (entries_left w (drop (i + 1) terms))) wide in
     let stop = IsStop-more c.args.place (entries_fit (entry_over w (seen x))) (entries_fit (entries_left c.args.denominator terms)) c.in_err-push_entry.field-0.0 wider c.in_err-push_entry.ensures.stopped in
     let p = err_from_is_err_and c.from_residual-in_err-push_entry.result c.from_residual-in_err-push_entry.ensures.1 in
     rw (p.1, p.2) stop
@@ -35,14 +35,14 @@ loop-term-preserved c =
     let left = entries_left w (drop (i + 1) terms) in
     record {
       entries =
-        c.loop-term.invariant.entries
-        ∙ ap (λ es. c.loop-term.entries.items ++ es) (entries_left-step w terms i x (omega arith) c.term-item.is)
-        ∙ sym (append_assoc c.loop-term.entries.items (entry_over w (seen x)) left)
-        ∙ ap (λ es. es ++ left) (sym c.in_ok-push_entry.ensures.pushed);
+          c.loop-term.invariant.entries
+          ∙ ap (λ es. c.loop-term.entries.items ++ es) (entries_left-step w terms i x (omega arith) c.term-item.is)
+          ∙ sym (append_assoc c.loop-term.entries.items (entry_over w (seen x)) left)
+          ∙ ap (λ es. es ++ left) (sym c.in_ok-push_entry.ensures.pushed);
       fits =
-        c.loop-term.invariant.fits
-        ∙ entries_fit-step w terms i x (omega arith) c.term-item.is
-        ∙ ap (λ b. b && entries_fit left) c.in_ok-push_entry.ensures.fits;
+          c.loop-term.invariant.fits
+          ∙ entries_fit-step w terms i x (omega arith) c.term-item.is
+          ∙ ap (λ b. b && entries_fit left) c.in_ok-push_entry.ensures.fits;
     }
 
 pub returns-clause-entries : goal.returns-clause-entries

@@ -1,23 +1,22 @@
 -- Over its own denominator a number keeps its numerator.
-use Rattle.std.proofs.Common.{◌≡◌, ℤ, pos, true, sym, ap, ◌∙◌, to_z, of_z}
+use Rattle.std.proofs.Common.{◌≡◌, sym, ap, ◌∙◌, to_z}
 use Rattle.std.specs.Int.{w128}
-use Rattle.exact_num.specs.Range.{InRange, in_range}
+use Rattle.exact_num.specs.Range.{in_range}
 use Rattle.exact_num.specs.Value.{value_of}
 use Rattle.exact_num.proofs.RangeLaws.{back_in_range, true-in_range}
-use Rattle.row_core.specs.Written.{numerator_over}
 use Rattle.row_core.proofs.DivisionLaws.{numerator_over-own}
 use Rattle.row_core.proofs.writing.numerator.Goals as goal
 
 pub returns-then-number-denominator-clause-refused : goal.returns-then-number-denominator-clause-refused
 returns-then-number-denominator-clause-refused c =
     let own : c.args.number.den ≡ c.args.denominator =
-      sym (back_in_range c.args.number.den c.args.number.den_fits) ∙ ap (λ n. to_z w128 n) c.if-number-denominator.true ∙ back_in_range c.args.denominator c.requires.fits in
+    sym (back_in_range c.args.number.den c.args.number.den_fits) ∙ ap (λ n. to_z w128 n) c.if-number-denominator.true ∙ back_in_range c.args.denominator c.requires.fits in
     true-in_range c.args.number.num c.args.number.num_fits
     ∙ ap in_range (sym (numerator_over-own c.args.denominator (value_of c.args.number) c.requires.positive own))
 
 pub returns-then-number-denominator-clause-value : goal.returns-then-number-denominator-clause-value
 returns-then-number-denominator-clause-value c =
     let own : c.args.number.den ≡ c.args.denominator =
-      sym (back_in_range c.args.number.den c.args.number.den_fits) ∙ ap (λ n. to_z w128 n) c.if-number-denominator.true ∙ back_in_range c.args.denominator c.requires.fits in
+    sym (back_in_range c.args.number.den c.args.number.den_fits) ∙ ap (λ n. to_z w128 n) c.if-number-denominator.true ∙ back_in_range c.args.denominator c.requires.fits in
     back_in_range c.args.number.num c.args.number.num_fits
     ∙ sym (numerator_over-own c.args.denominator (value_of c.args.number) c.requires.positive own)

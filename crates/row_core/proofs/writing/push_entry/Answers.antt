@@ -1,8 +1,7 @@
 -- A coefficient of 0 has no entry, and any other one's numerator is the one number formed.
-use Rattle.std.proofs.Common.{◌≡◌, ◌≢◌, ℕ, ℤ, pos, true, false, sym, ap, ◌∙◌, refl, to_z, of_z}
+use Rattle.std.proofs.Common.{◌≡◌, ◌≢◌, pos, sym, ap, ◌∙◌, refl, to_z, of_z}
 use Rattle.std.specs.Int.{w128}
-use Rattle.exact_num.specs.Range.{InRange, in_range, all_fit}
-use Rattle.exact_num.specs.Value.{value_of}
+use Rattle.exact_num.specs.Range.{in_range}
 use Rattle.exact_num.proofs.RangeLaws.{back_in_range}
 use Rattle.exact_num.proofs.StepLaws.{all_fit-nil}
 use Rattle.row_core.specs.TermViews.{seen}
@@ -13,15 +12,17 @@ use Rattle.row_core.proofs.writing.push_entry.Goals as goal
 pub returns-then-term-eq0-clause-fits : goal.returns-then-term-eq0-clause-fits
 returns-then-term-eq0-clause-fits c =
     let none : c.args.term.coefficient.num ≡ pos 0 =
-      sym (back_in_range c.args.term.coefficient.num c.args.term.coefficient.num_fits) ∙ ap (λ n. to_z w128 n) c.if-term-eq0.true in
+    sym (back_in_range c.args.term.coefficient.num c.args.term.coefficient.num_fits) ∙ ap (λ n. to_z w128 n) c.if-term-eq0.true in
     ap entries_fit (entry_over-zero c.args.denominator (seen c.args.term) none) ∙ all_fit-nil
 
 pub returns-in_default-clause-stopped : goal.returns-in_default-clause-stopped
 returns-in_default-clause-stopped c =
     let term = seen c.args.term in
-    let some : c.args.term.coefficient.num ≢ pos 0 = λ e. c.if-term-eq0.false (ap (λ z. of_z w128 z) e) in
-    (refl, ap entries_fit (entry_over-nonzero c.args.denominator term some) ∙ entries_fit-one term.0 (numerator_over c.args.denominator term.1)
-     ∙ ap (λ z. in_range (numerator_over z term.1)) (sym (back_in_range c.args.denominator c.requires.fits)) ∙ sym c.in_default.ensures.refused)
+    let some : c.args.term.coefficient.num ≢ pos 0 = λ e. c.if-term-eq0.false (ap (λ z. of_z w128 z) e) in (
+      refl,
+      ap entries_fit (entry_over-nonzero c.args.denominator term some) ∙ entries_fit-one term.0 (numerator_over c.args.denominator term.1)
+          ∙ ap (λ z. in_range (numerator_over z term.1)) (sym (back_in_range c.args.denominator c.requires.fits)) ∙ sym c.in_default.ensures.refused,
+    )
 
 pub returns-clause-fits : goal.returns-clause-fits
 returns-clause-fits c =

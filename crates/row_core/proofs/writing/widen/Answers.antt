@@ -1,10 +1,10 @@
 -- The quotient by the greatest common divisor, times the other denominator.
-use Rattle.std.proofs.Common.{◌≡◌, ℤ, pos, sym, ap, ap₂, ◌∙◌, subst, ◌*ℤ◌, to_z, of_z}
+use Rattle.std.proofs.Common.{◌≡◌, ℤ, pos, sym, ap, ◌∙◌, subst, ◌*ℤ◌, to_z}
 use Rattle.std.specs.Int.{w128}
 use Rattle.std.specs.Prelude.{◌<ℤ◌, IfOk, int_div}
 use Rattle.std.proofs.lemmas.Result.{IfOk-weaker}
 use Rattle.exact_num.specs.Formed.{common}
-use Rattle.exact_num.specs.Range.{InRange, in_range}
+use Rattle.exact_num.specs.Range.{InRange}
 use Rattle.exact_num.proofs.RangeLaws.{back_in_range}
 use Rattle.exact_num.proofs.RationalLaws.{common_pos}
 use Rattle.row_core.specs.Written.{widened}

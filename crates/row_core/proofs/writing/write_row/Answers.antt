@@ -1,19 +1,15 @@
 -- The numbers formed are those of the definition, part by part, and the row means what its terms mean.
-use Rattle.std.proofs.Common.{◌≡◌, ℕ, ℤ, pos, Bool, true, false, List, ◌∷◌, map, refl, sym, ap, ap₂, ◌∙◌, subst, to_z, of_z}
+use Rattle.std.proofs.Common.{◌≡◌, pos, Bool, false, ◌∷◌, map, refl, sym, ap, ap₂, ◌∙◌, subst, to_z, of_z}
 use Rattle.std.specs.Int.{w128}
 use Rattle.std.specs.Prelude.{int_div}
 use Rattle.std.proofs.lemmas.Result.{err_from_is_err_and}
 use Rattle.exact_num.specs.Range.{in_range, all_fit}
-use Rattle.exact_num.specs.Rational.{Rational}
 use Rattle.exact_num.specs.Value.{value_of}
 use Rattle.exact_num.proofs.RangeLaws.{back_in_range}
-use Rattle.row_core.specs.declared.Var.{Var}
-use Rattle.row_core.specs.declared.place.Place.{Place}
 use Rattle.row_core.specs.declared.place.Place.TheVariants.{Row as AtRow}
 use Rattle.row_core.specs.Numbers.{numbers_of, variables_of, ascends, none_zero}
 use Rattle.row_core.specs.Order.{var_cmp}
 use Rattle.row_core.specs.TermViews.{seen}
-use Rattle.row_core.specs.Values.{IsMultiple}
 use Rattle.row_core.specs.Written.{kept, row_divisor, entries_divided, written_right, common_denominator, cleared_entries, cleared_right, entries_over, numerator_over, written_entries, written_formed}
 use Rattle.row_core.proofs.DivisionLaws.{ArePositive}
 use Rattle.row_core.proofs.MeaningLaws.{written-IsMultiple, multiple-SaysTheSame, multiple-sign}
@@ -32,10 +28,10 @@ returns-in_err-entries-clause-stopped c =
     let terms = c.args.terms.now in
     let list = c.as_slice-list.ensures.list in
     let denominator : to_z w128 (of_z w128 c.in-Ok.denominator) ≡ common_denominator (kept terms) right =
-      back_in_range c.in-Ok.denominator c.in-Ok.ensures.range ∙ c.in-Ok.ensures.value ∙ ap (λ ts. common_denominator (kept ts) right) list in
+    back_in_range c.in-Ok.denominator c.in-Ok.ensures.range ∙ c.in-Ok.ensures.value ∙ ap (λ ts. common_denominator (kept ts) right) list in
     let some : Bool = all_fit (numbers_of (entries_over (to_z w128 (of_z w128 c.in-Ok.denominator)) (kept (map seen c.as_slice-list.result.now)))) in
     let wider : some ≡ false → all_fit (written_formed terms right) ≡ false =
-      λ wide. entries_stop terms right (sym (ap₂ (λ z ts. all_fit (numbers_of (entries_over z (kept ts)))) denominator list) ∙ wide) in
+    λ wide. entries_stop terms right (sym (ap₂ (λ z ts. all_fit (numbers_of (entries_over z (kept ts)))) denominator list) ∙ wide) in
     let stop = IsStop-more (AtRow c.args.name) some (all_fit (written_formed terms right)) c.in_err-entries.field-0.0 wider c.in_err-entries.ensures.stopped in
     let p = err_from_is_err_and c.from_residual.result c.from_residual.ensures.1 in
     rw (p.1, p.2) stop
@@ -46,7 +42,7 @@ returns-in_default-numerator-clause-stopped c =
     let terms = c.args.terms.now in
     let list = c.as_slice-list.ensures.list in
     let denominator : to_z w128 (of_z w128 c.in-Ok.denominator) ≡ common_denominator (kept terms) right =
-      back_in_range c.in-Ok.denominator c.in-Ok.ensures.range ∙ c.in-Ok.ensures.value ∙ ap (λ ts. common_denominator (kept ts) right) list in
+    back_in_range c.in-Ok.denominator c.in-Ok.ensures.range ∙ c.in-Ok.ensures.value ∙ ap (λ ts. common_denominator (kept ts) right) list in
     (refl, right_stops terms right (ap (λ z. in_range (numerator_over z right)) (sym denominator) ∙ sym c.in_default-numerator.ensures.refused))
 
 pub reduced-requires-clause-ascending : goal.reduced-requires-clause-ascending
@@ -55,9 +51,9 @@ reduced-requires-clause-ascending c =
     let terms = c.args.terms.now in
     let list = c.as_slice-list.ensures.list in
     let denominator : to_z w128 (of_z w128 c.in-Ok.denominator) ≡ common_denominator (kept terms) right =
-      back_in_range c.in-Ok.denominator c.in-Ok.ensures.range ∙ c.in-Ok.ensures.value ∙ ap (λ ts. common_denominator (kept ts) right) list in
+    back_in_range c.in-Ok.denominator c.in-Ok.ensures.range ∙ c.in-Ok.ensures.value ∙ ap (λ ts. common_denominator (kept ts) right) list in
     let entries : c.in_ok-entries.entries.items ≡ cleared_entries terms right =
-      c.in_ok-entries.ensures.entries ∙ ap₂ (λ z ts. entries_over z (kept ts)) denominator list in
+    c.in_ok-entries.ensures.entries ∙ ap₂ (λ z ts. entries_over z (kept ts)) denominator list in
     ap (λ es. ascends var_cmp (variables_of es)) entries ∙ cleared_entries-ascend terms right c.as_slice-list.ensures.ascending
 
 pub reduced-requires-clause-nonzero : goal.reduced-requires-clause-nonzero
@@ -66,9 +62,9 @@ reduced-requires-clause-nonzero c =
     let terms = c.args.terms.now in
     let list = c.as_slice-list.ensures.list in
     let denominator : to_z w128 (of_z w128 c.in-Ok.denominator) ≡ common_denominator (kept terms) right =
-      back_in_range c.in-Ok.denominator c.in-Ok.ensures.range ∙ c.in-Ok.ensures.value ∙ ap (λ ts. common_denominator (kept ts) right) list in
+    back_in_range c.in-Ok.denominator c.in-Ok.ensures.range ∙ c.in-Ok.ensures.value ∙ ap (λ ts. common_denominator (kept ts) right) list in
     let entries : c.in_ok-entries.entries.items ≡ cleared_entries terms right =
-      c.in_ok-entries.ensures.entries ∙ ap₂ (λ z ts. entries_over z (kept ts)) denominator list in
+    c.in_ok-entries.ensures.entries ∙ ap₂ (λ z ts. entries_over z (kept ts)) denominator list in
     let positive : ArePositive terms = subst ArePositive list (ArePositive-seen c.as_slice-list.result.now) in
     ap (λ es. none_zero (numbers_of es)) entries ∙ cleared_entries-nonzero terms right positive c.args.right.positive
 
@@ -78,7 +74,7 @@ returns-clause-fits c =
     let terms = c.args.terms.now in
     let list = c.as_slice-list.ensures.list in
     let denominator : to_z w128 (of_z w128 c.in-Ok.denominator) ≡ common_denominator (kept terms) right =
-      back_in_range c.in-Ok.denominator c.in-Ok.ensures.range ∙ c.in-Ok.ensures.value ∙ ap (λ ts. common_denominator (kept ts) right) list in
+    back_in_range c.in-Ok.denominator c.in-Ok.ensures.range ∙ c.in-Ok.ensures.value ∙ ap (λ ts. common_denominator (kept ts) right) list in
     all_parts_fit terms right
     (ap (λ ts. denominators_fit_all ts right) (sym list) ∙ sym c.in-Ok.ensures.refused)
     (sym (ap₂ (λ z ts. all_fit (numbers_of (entries_over z (kept ts)))) denominator list) ∙ c.in_ok-entries.ensures.fits)
@@ -90,11 +86,11 @@ returns-clause-multiple c =
     let terms = c.args.terms.now in
     let list = c.as_slice-list.ensures.list in
     let denominator : to_z w128 (of_z w128 c.in-Ok.denominator) ≡ common_denominator (kept terms) right =
-      back_in_range c.in-Ok.denominator c.in-Ok.ensures.range ∙ c.in-Ok.ensures.value ∙ ap (λ ts. common_denominator (kept ts) right) list in
+    back_in_range c.in-Ok.denominator c.in-Ok.ensures.range ∙ c.in-Ok.ensures.value ∙ ap (λ ts. common_denominator (kept ts) right) list in
     let entries : c.in_ok-entries.entries.items ≡ cleared_entries terms right =
-      c.in_ok-entries.ensures.entries ∙ ap₂ (λ z ts. entries_over z (kept ts)) denominator list in
+    c.in_ok-entries.ensures.entries ∙ ap₂ (λ z ts. entries_over z (kept ts)) denominator list in
     let rhs : to_z w128 (of_z w128 c.in-Ok-numerator.rhs) ≡ cleared_right terms right =
-      back_in_range c.in-Ok-numerator.rhs c.in-Ok-numerator.ensures.range ∙ c.in-Ok-numerator.ensures.value ∙ ap (λ z. numerator_over z right) denominator in
+    back_in_range c.in-Ok-numerator.rhs c.in-Ok-numerator.ensures.range ∙ c.in-Ok-numerator.ensures.value ∙ ap (λ z. numerator_over z right) denominator in
     let divisor = ap₂ (λ z ys. row_divisor (z ∷ numbers_of ys)) rhs entries in
     let items : c.reduced.result.entries.items ≡ written_entries terms right = c.reduced.ensures.entries ∙ ap₂ entries_divided divisor entries in
     let whole : c.reduced.result.rhs ≡ written_right terms right = c.reduced.ensures.right_side ∙ ap₂ (λ z g. int_div z (pos g)) rhs divisor in
@@ -113,10 +109,10 @@ returns-clause-variables c =
     let terms = c.args.terms.now in
     let list = c.as_slice-list.ensures.list in
     let denominator : to_z w128 (of_z w128 c.in-Ok.denominator) ≡ common_denominator (kept terms) right =
-      back_in_range c.in-Ok.denominator c.in-Ok.ensures.range ∙ c.in-Ok.ensures.value ∙ ap (λ ts. common_denominator (kept ts) right) list in
+    back_in_range c.in-Ok.denominator c.in-Ok.ensures.range ∙ c.in-Ok.ensures.value ∙ ap (λ ts. common_denominator (kept ts) right) list in
     let entries : c.in_ok-entries.entries.items ≡ cleared_entries terms right =
-      c.in_ok-entries.ensures.entries ∙ ap₂ (λ z ts. entries_over z (kept ts)) denominator list in
+    c.in_ok-entries.ensures.entries ∙ ap₂ (λ z ts. entries_over z (kept ts)) denominator list in
     let rhs : to_z w128 (of_z w128 c.in-Ok-numerator.rhs) ≡ cleared_right terms right =
-      back_in_range c.in-Ok-numerator.rhs c.in-Ok-numerator.ensures.range ∙ c.in-Ok-numerator.ensures.value ∙ ap (λ z. numerator_over z right) denominator in
+    back_in_range c.in-Ok-numerator.rhs c.in-Ok-numerator.ensures.range ∙ c.in-Ok-numerator.ensures.value ∙ ap (λ z. numerator_over z right) denominator in
     let divisor = ap₂ (λ z ys. row_divisor (z ∷ numbers_of ys)) rhs entries in
     ap variables_of (c.reduced.ensures.entries ∙ ap₂ entries_divided divisor entries) ∙ written_entries-variables terms right

@@ -1,16 +1,13 @@
-use Rattle.std.proofs.Common.{◌≡◌, ℕ, ◌<◌, true, List, [], length, map, get_or, set, sym, ap, ap₂, ◌∙◌, subst, arith}
-use Rattle.std.specs.Prelude.{Result, Ok, Err, IfErr, OnOk, OnErr, IsTrue}
-use Rattle.std.specs.List.{insert}
+use Rattle.std.proofs.Common.{◌≡◌, ℕ, true, List, map, get_or, set, sym, ap, ◌∙◌, subst}
+use Rattle.std.specs.Prelude.{Result, Ok, Err, OnOk, OnErr}
 use Rattle.std.proofs.lemmas.Result.{on_ok_weaker, MatchResult-weaker}
 use Rattle.exact_num.specs.Formed.{sum_formed}
 use Rattle.exact_num.specs.Range.{all_fit}
-use Rattle.exact_num.specs.Rational.{Rational, plus}
+use Rattle.exact_num.specs.Rational.{plus}
 use Rattle.exact_num.specs.Value.{value_of}
 use Rattle.exact_num.proofs.StepLaws.{all_fit-nil}
-use Rattle.row_core.specs.declared.place.Place.{Place}
 use Rattle.row_core.specs.declared.place.Stopped.{Stopped}
 use Rattle.row_core.specs.declared.terms.Term.{Term}
-use Rattle.row_core.specs.declared.Var.{Var}
 use Rattle.row_core.specs.Numbers.{ascends, variables_of}
 use Rattle.row_core.specs.Order.{var_cmp}
 use Rattle.row_core.specs.Stops.{IsStop}

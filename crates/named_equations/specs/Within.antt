@@ -1,7 +1,7 @@
--- The subscripts of an equation's index as positions in their sets.
+-- Positions of members in their sets.
 use Rattle.std.specs.Prelude.{ℕ, ◌<◌}
 use Rattle.model_sets.specs.Data.{Data}
-use Rattle.model_sets.specs.Names.{region, technology, mode, timeslice, year}
+use Rattle.model_sets.specs.Names.{region, technology, fuel, emission, mode, timeslice, year}
 use Rattle.named_equations.specs.Positions.{count_of}
 
 -- a region
@@ -23,3 +23,11 @@ IsMode d m = m < count_of d mode
 -- a year
 abbrev pub IsYear : Data → ℕ → Type 0
 IsYear d y = y < count_of d year
+
+-- a fuel
+abbrev pub IsFuel : Data → ℕ → Type 0
+IsFuel d f = f < count_of d fuel
+
+-- an emission
+abbrev pub IsEmission : Data → ℕ → Type 0
+IsEmission d e = e < count_of d emission
