@@ -62,15 +62,15 @@ caa4-means d i =
     let s : ℤ = values 2 in
     let all = Product (Billionths factor) (Billionths unit) in
     let over : IsOver s (value_of_amount all) (factor *ℤ unit) =
-      IsOver-times (values 1) (values 1) (value_of_amount (Billionths factor)) (value_of_amount (Billionths unit)) factor unit (over-data factor) (over-data unit) in
+    IsOver-times (values 1) (values 1) (value_of_amount (Billionths factor)) (value_of_amount (Billionths unit)) factor unit (over-data factor) (over-data unit) in
     record {
       scale = s;
       positive = omega (arith, ints);
       sum = λ x. (s *ℤ x rate) +ℤ ((neg_ℤ (factor *ℤ unit) *ℤ x total) +ℤ pos 0);
       right = pos 0;
       is_sum = λ x.
-        sum-term s x rate (Whole (pos 1)) ((total, Negative all) ∷ []) s ((neg_ℤ (factor *ℤ unit) *ℤ x total) +ℤ pos 0) (over-one s)
-        (sum-term s x total (Negative all) [] (neg_ℤ (factor *ℤ unit)) (pos 0) (IsOver-negated s (value_of_amount all) (factor *ℤ unit) over) (sum-none s x));
+          sum-term s x rate (Whole (pos 1)) ((total, Negative all) ∷ []) s ((neg_ℤ (factor *ℤ unit) *ℤ x total) +ℤ pos 0) (over-one s)
+          (sum-term s x total (Negative all) [] (neg_ℤ (factor *ℤ unit)) (pos 0) (IsOver-negated s (value_of_amount all) (factor *ℤ unit) over) (sum-none s x));
       is_right = over-zero s;
       same_sense = λ q x. refl;
       balance = λ q x. caa4-sides s (x rate) (factor *ℤ unit) (x total) (pos q);
@@ -99,28 +99,28 @@ cab1-means d i =
     let k : ℤ = values 3 in
     let term : ℕ → Var × Amount = λ l. (rate l, Billionths (split l)) in
     let slices : IsOver (values 2) (value_of_amount (slices_capacity d r t y)) part =
-      total_over-IsOver (values 2) (timeslices d) (λ l. Product (Billionths (factor l)) (Billionths (split l))) (λ l. factor l *ℤ split l)
-      (λ l. IsOver-times (values 1) (values 1) (value_of_amount (Billionths (factor l))) (value_of_amount (Billionths (split l))) (factor l) (split l) (over-data (factor l)) (over-data (split l))) in
+    total_over-IsOver (values 2) (timeslices d) (λ l. Product (Billionths (factor l)) (Billionths (split l))) (λ l. factor l *ℤ split l)
+    (λ l. IsOver-times (values 1) (values 1) (value_of_amount (Billionths (factor l))) (value_of_amount (Billionths (split l))) (factor l) (split l) (over-data (factor l)) (over-data (split l))) in
     let year : IsOver s (value_of_amount (year_capacity d r t y)) capacity =
-      IsOver-times (values 3) (values 1) (value_of_amount (Product (slices_capacity d r t y) (Billionths available))) (value_of_amount (Billionths unit)) (part *ℤ available) unit
-      (IsOver-times (values 2) (values 1) (value_of_amount (slices_capacity d r t y)) (value_of_amount (Billionths available)) part available slices (over-data available))
-      (over-data unit) in
+    IsOver-times (values 3) (values 1) (value_of_amount (Product (slices_capacity d r t y) (Billionths available))) (value_of_amount (Billionths unit)) (part *ℤ available) unit
+    (IsOver-times (values 2) (values 1) (value_of_amount (slices_capacity d r t y)) (value_of_amount (Billionths available)) part available slices (over-data available))
+    (over-data unit) in
     record {
       scale = s;
       positive = omega (arith, ints);
       sum = λ x. (neg_ℤ capacity *ℤ x total) +ℤ sum_over (timeslices d) (λ l. (k *ℤ split l) *ℤ x (rate l));
       right = pos 0;
       is_sum = λ x.
-        sum-term s x total (Negative (year_capacity d r t y)) (each (timeslices d) term) (neg_ℤ capacity) (sum_over (timeslices d) (λ l. (k *ℤ split l) *ℤ x (rate l)))
-        (IsOver-negated s (value_of_amount (year_capacity d r t y)) capacity year)
-        (sum-each s x (timeslices d) term (λ l. k *ℤ split l) (λ l. IsOver-multiplied k (values 1) (value_of_amount (Billionths (split l))) (split l) (over-data (split l))));
+          sum-term s x total (Negative (year_capacity d r t y)) (each (timeslices d) term) (neg_ℤ capacity) (sum_over (timeslices d) (λ l. (k *ℤ split l) *ℤ x (rate l)))
+          (IsOver-negated s (value_of_amount (year_capacity d r t y)) capacity year)
+          (sum-each s x (timeslices d) term (λ l. k *ℤ split l) (λ l. IsOver-multiplied k (values 1) (value_of_amount (Billionths (split l))) (split l) (over-data (split l))));
       is_right = over-zero s;
       same_sense = λ q x. refl;
       balance = λ q x.
-        ap (λ n. ((neg_ℤ capacity *ℤ x total) +ℤ n) +ℤ (x total *ℤ capacity))
-        (sum_over-same (timeslices d) (λ l. (k *ℤ split l) *ℤ x (rate l)) (λ l. k *ℤ (x (rate l) *ℤ split l)) (λ l. turned k (split l) (x (rate l)))
-         ∙ sym (sum_over-times (timeslices d) k (λ l. x (rate l) *ℤ split l)))
-        ∙ cab1-sides capacity (x total) (k *ℤ sum_over (timeslices d) (λ l. x (rate l) *ℤ split l)) (pos q);
+          ap (λ n. ((neg_ℤ capacity *ℤ x total) +ℤ n) +ℤ (x total *ℤ capacity))
+          (sum_over-same (timeslices d) (λ l. (k *ℤ split l) *ℤ x (rate l)) (λ l. k *ℤ (x (rate l) *ℤ split l)) (λ l. turned k (split l) (x (rate l)))
+          ∙ sym (sum_over-times (timeslices d) k (λ l. x (rate l) *ℤ split l)))
+          ∙ cab1-sides capacity (x total) (k *ℤ sum_over (timeslices d) (λ l. x (rate l) *ℤ split l)) (pos q);
     }
 
 -- ---- the variable of each definition stands in its row with a positive entry
@@ -135,12 +135,19 @@ caa2-defines d i =
 
 equations : (d : Data) (i : Index) → EachFrom (λ n. IsNamedEquation d (name_at n i) (terms_at d (name_at n i))) 2 5
 unfolding caa1-means caa3-means
-equations d i =
-    (record { means = caa1-means d i; defines = λ v h. defined (λ w. pos 0 <ℤ (caa1-means d i).sum (alone w)) (accumulated_new_capacity i.region i.tech i.year) v h (sum_of_others-defines (accumulated_new_capacity i.region i.tech i.year) (years_counting d i.region i.tech i.year) (λ yy. new_capacity i.region i.tech yy) (λ yy. refl)) },
-     (record { means = caa2-means d i; defines = λ v h. defined (λ w. pos 0 <ℤ (caa2-means d i).sum (alone w)) (total_capacity_annual i.region i.tech i.year) v h (caa2-defines d i) },
-     (record { means = caa3-means d i; defines = λ v h. defined (λ w. pos 0 <ℤ (caa3-means d i).sum (alone w)) (rate_of_total_activity i.region i.slice i.tech i.year) v h (sum_of_others-defines (rate_of_total_activity i.region i.slice i.tech i.year) (modes d) (λ m. rate_of_activity i.region i.slice i.tech m i.year) (λ m. refl)) },
-     (record { means = caa4-means d i; defines = λ v h. absurd (cc h) },
-     (record { means = cab1-means d i; defines = λ v h. absurd (cc h) }, tt)))))
+equations d i = (
+  record { means = caa1-means d i; defines = λ v h. defined (λ w. pos 0 <ℤ (caa1-means d i).sum (alone w)) (accumulated_new_capacity i.region i.tech i.year) v h (sum_of_others-defines (accumulated_new_capacity i.region i.tech i.year) (years_counting d i.region i.tech i.year) (λ yy. new_capacity i.region i.tech yy) (λ yy. refl)) },
+  (
+    record { means = caa2-means d i; defines = λ v h. defined (λ w. pos 0 <ℤ (caa2-means d i).sum (alone w)) (total_capacity_annual i.region i.tech i.year) v h (caa2-defines d i) },
+    (
+      record { means = caa3-means d i; defines = λ v h. defined (λ w. pos 0 <ℤ (caa3-means d i).sum (alone w)) (rate_of_total_activity i.region i.slice i.tech i.year) v h (sum_of_others-defines (rate_of_total_activity i.region i.slice i.tech i.year) (modes d) (λ m. rate_of_activity i.region i.slice i.tech m i.year) (λ m. refl)) },
+      (
+        record { means = caa4-means d i; defines = λ v h. absurd (cc h) },
+        (record { means = cab1-means d i; defines = λ v h. absurd (cc h) }, tt),
+      ),
+    ),
+  ),
+)
 
 pub named : (d : Data) (n : ℕ) (i : Index) → IsCapacityEquation n → IsNamedEquation d (name_at n i) (terms_at d (name_at n i))
 named d n i h = at_number (λ n. IsNamedEquation d (name_at n i) (terms_at d (name_at n i))) 2 5 n (equations d i) h.0 (omega (arith, h.1))

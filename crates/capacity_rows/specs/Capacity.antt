@@ -37,9 +37,9 @@ caa3 d r l t y = record {
 abbrev pub caa4 : Data → ℕ → ℕ → ℕ → ℕ → EquationTerms
 caa4 d r l t y = record {
   terms =
-    once (rate_of_total_activity r l t y)
-    ∷ (total_capacity_annual r t y, Negative (Product (Billionths (capacity_factor d r t l y)) (Billionths (capacity_to_activity_unit d r t))))
-    ∷ [];
+      once (rate_of_total_activity r l t y)
+      ∷ (total_capacity_annual r t y, Negative (Product (Billionths (capacity_factor d r t l y)) (Billionths (capacity_to_activity_unit d r t))))
+      ∷ [];
   sense = Most;
   right = nothing;
 }
@@ -57,8 +57,8 @@ year_capacity d r t y =
 abbrev pub cab1 : Data → ℕ → ℕ → ℕ → EquationTerms
 cab1 d r t y = record {
   terms =
-    (total_capacity_annual r t y, Negative (year_capacity d r t y))
-    ∷ each (timeslices d) (λ l. (rate_of_total_activity r l t y, Billionths (year_split d l y)));
+      (total_capacity_annual r t y, Negative (year_capacity d r t y))
+      ∷ each (timeslices d) (λ l. (rate_of_total_activity r l t y, Billionths (year_split d l y)));
   sense = Most;
   right = nothing;
 }

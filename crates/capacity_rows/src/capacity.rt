@@ -14,12 +14,18 @@ ghost use Rattle.capacity_rows.specs.Capacity.{caa1, caa2, caa3, caa4, cab1, sli
 ghost use Rattle.named_equations.specs.Within.{IsRegion, IsSlice, IsTechnology, IsYear};
 
 use crate::parameters::{
-    availability_factor, capacity_factor, capacity_to_activity_unit, operational_life, residual_capacity, still_counts, year_split,
+    availability_factor, capacity_factor, capacity_to_activity_unit, operational_life,
+    residual_capacity, still_counts, year_split,
 };
-use crate::variables::{accumulated_new_capacity, new_capacity, rate_of_activity, rate_of_total_activity, total_capacity_annual};
+use crate::variables::{
+    accumulated_new_capacity, new_capacity, rate_of_activity, rate_of_total_activity,
+    total_capacity_annual,
+};
 use exact_num::Frac;
 use param_tables::ModelData;
-use row_core::{Index, LeftSide, Row, RowName, Sense, Stopped, minus_one, negative, one, plus, times, zero};
+use row_core::{
+    Index, LeftSide, Row, RowName, Sense, Stopped, minus_one, negative, one, plus, times, zero,
+};
 use std::alloc::Global;
 
 /// The number of the set MODE_OF_OPERATION.
@@ -38,22 +44,30 @@ pub(crate) fn caa1(alloc: Global, facts: &ModelData, name: RowName) -> Result<Ro
     requires year { IsYear facts.now.facts name.index.year }
     ensures { IsWritten name (by_rty (caa1 facts.now.facts) name.index) result }
 {
-    let Index { region: r, tech: t, year: y, .. } = name.index;
+    let Index {
+        region: r,
+        tech: t,
+        year: y,
+        ..
+    } = name.index;
     let mut left = LeftSide::new(alloc, name);
     left.add(accumulated_new_capacity(r, t, y), one())?;
     let life = operational_life(facts, r, t);
-    left.add_where(facts.sets().count(YEAR), |yy|
-        requires life { life ≡ life_of facts.now.facts r t }
-        requires year { IsYear facts.now.facts y }
-        requires built { IsYear facts.now.facts yy }
-        ensures { IsTermWhere (still_counts facts.entry.now.facts r t y yy) (less (new_capacity r t yy)) result }
-    {
-        if still_counts(facts, life, y, yy) {
-            Some((new_capacity(r, t, yy), minus_one()))
-        } else {
-            None
-        }
-    })?;
+    left.add_where(
+        facts.sets().count(YEAR),
+        |yy|
+            requires life { life ≡ life_of facts.now.facts r t }
+            requires year { IsYear facts.now.facts y }
+            requires built { IsYear facts.now.facts yy }
+            ensures { IsTermWhere (still_counts facts.entry.now.facts r t y yy) (less (new_capacity r t yy)) result }
+        {
+            if still_counts(facts, life, y, yy) {
+                Some((new_capacity(r, t, yy), minus_one()))
+            } else {
+                None
+            }
+        },
+    )?;
     left.write(alloc, Sense::Equal, zero())
 }
 
@@ -64,7 +78,12 @@ pub(crate) fn caa2(alloc: Global, facts: &ModelData, name: RowName) -> Result<Ro
     requires year { IsYear facts.now.facts name.index.year }
     ensures { IsWritten name (by_rty (caa2 facts.now.facts) name.index) result }
 {
-    let Index { region: r, tech: t, year: y, .. } = name.index;
+    let Index {
+        region: r,
+        tech: t,
+        year: y,
+        ..
+    } = name.index;
     let mut left = LeftSide::new(alloc, name);
     left.add(total_capacity_annual(r, t, y), one())?;
     left.add(accumulated_new_capacity(r, t, y), minus_one())?;
@@ -75,10 +94,19 @@ pub(crate) fn caa2(alloc: Global, facts: &ModelData, name: RowName) -> Result<Ro
 pub(crate) fn caa3(alloc: Global, facts: &ModelData, name: RowName) -> Result<Row, Stopped>
     ensures { IsWritten name (by_rlty (caa3 facts.now.facts) name.index) result }
 {
-    let Index { region: r, slice: l, tech: t, year: y, .. } = name.index;
+    let Index {
+        region: r,
+        slice: l,
+        tech: t,
+        year: y,
+        ..
+    } = name.index;
     let mut left = LeftSide::new(alloc, name);
     left.add(rate_of_total_activity(r, l, t, y), one())?;
-    left.add_each(facts.sets().count(MODE), |m| (rate_of_activity(r, l, t, m, y), minus_one()))?;
+    left.add_each(
+        facts.sets().count(MODE),
+        |m| (rate_of_activity(r, l, t, m, y), minus_one()),
+    )?;
     left.write(alloc, Sense::Equal, zero())
 }
 
@@ -90,10 +118,19 @@ pub(crate) fn caa4(alloc: Global, facts: &ModelData, name: RowName) -> Result<Ro
     requires year { IsYear facts.now.facts name.index.year }
     ensures { IsWritten name (by_rlty (caa4 facts.now.facts) name.index) result }
 {
-    let Index { region: r, slice: l, tech: t, year: y, .. } = name.index;
+    let Index {
+        region: r,
+        slice: l,
+        tech: t,
+        year: y,
+        ..
+    } = name.index;
     let mut left = LeftSide::new(alloc, name);
     left.add(rate_of_total_activity(r, l, t, y), one())?;
-    let unit = times(capacity_factor(facts, r, t, l, y), capacity_to_activity_unit(facts, r, t));
+    let unit = times(
+        capacity_factor(facts, r, t, l, y),
+        capacity_to_activity_unit(facts, r, t),
+    );
     left.add(total_capacity_annual(r, t, y), negative(unit))?;
     left.write(alloc, Sense::Most, zero())
 }
@@ -106,16 +143,25 @@ pub(crate) fn cab1(alloc: Global, facts: &ModelData, name: RowName) -> Result<Ro
     requires year { IsYear facts.now.facts name.index.year }
     ensures { IsWritten name (by_rty (cab1 facts.now.facts) name.index) result }
 {
-    let Index { region: r, tech: t, year: y, .. } = name.index;
+    let Index {
+        region: r,
+        tech: t,
+        year: y,
+        ..
+    } = name.index;
     let mut left = LeftSide::new(alloc, name);
-    left.add(total_capacity_annual(r, t, y), negative(year_capacity(facts, r, t, y)))?;
-    left.add_each(facts.sets().count(TIMESLICE), |l|
-        requires slice { IsSlice facts.now.facts l }
-        requires year { IsYear facts.now.facts y }
-        ensures { IsTerm (rate_of_total_activity r l t y, Billionths (year_split facts.entry.now.facts l y)) result }
-    {
-        (rate_of_total_activity(r, l, t, y), year_split(facts, l, y))
-    })?;
+    left.add(
+        total_capacity_annual(r, t, y),
+        negative(year_capacity(facts, r, t, y)),
+    )?;
+    left.add_each(
+        facts.sets().count(TIMESLICE),
+        |l|
+            requires slice { IsSlice facts.now.facts l }
+            requires year { IsYear facts.now.facts y }
+            ensures { IsTerm (rate_of_total_activity r l t y, Billionths (year_split facts.entry.now.facts l y)) result }
+        { (rate_of_total_activity(r, l, t, y), year_split(facts, l, y)) },
+    )?;
     left.write(alloc, Sense::Most, zero())
 }
 
@@ -127,7 +173,10 @@ fn year_capacity(facts: &ModelData, r: u16, t: u16, y: u16) -> Option<Frac>
     ensures { known result ≡ number_of (year_capacity facts.now.facts r t y) }
 {
     let slices = slices_capacity(facts, r, t, y);
-    times(times(slices, availability_factor(facts, r, t, y)), capacity_to_activity_unit(facts, r, t))
+    times(
+        times(slices, availability_factor(facts, r, t, y)),
+        capacity_to_activity_unit(facts, r, t),
+    )
 }
 
 /// The sum over the timeslices of the capacity factor times the part of the year.
@@ -139,7 +188,10 @@ fn slices_capacity(facts: &ModelData, r: u16, t: u16, y: u16) -> Option<Frac>
 {
     let mut sum = zero();
     for l in 0..facts.sets().count(TIMESLICE) {
-        sum = plus(sum, times(capacity_factor(facts, r, t, l, y), year_split(facts, l, y)));
+        sum = plus(
+            sum,
+            times(capacity_factor(facts, r, t, l, y), year_split(facts, l, y)),
+        );
     }
     sum
 }

@@ -108,15 +108,16 @@ means-says e statement row m w sense q x =
     let first = w.says q x m.scale (m.sum x) m.right m.positive (IsSumOver-gathered m.scale x (coefficients_of e.terms) (m.sum x) (m.is_sum x)) m.is_right in
     let second = balanced e.sense (m.sum x) (m.right *ℤ pos q) (statement q x).left (statement q x).right (m.balance q x) in
     let There : Sense → Type 0 = λ s. Stands s (m.sum x) (m.right *ℤ pos q) in
-    let Said : Sense → Type 0 = λ s. Stands s (statement q x).left (statement q x).right in
-    (λ h. subst Said (sym (m.same_sense q x)) (second.0 (subst There sense (first.0 h))),
-     λ h. first.1 (subst There (sym sense) (second.1 (subst Said (m.same_sense q x) h))))
+    let Said : Sense → Type 0 = λ s. Stands s (statement q x).left (statement q x).right in (
+      λ h. subst Said (sym (m.same_sense q x)) (second.0 (subst There sense (first.0 h))),
+      λ h. first.1 (subst There (sym sense) (second.1 (subst Said (m.same_sense q x) h))),
+    )
 
 not_greater : (n : ℤ) → int_cmp n (pos 0) ≡ Greater → n ≤ℤ pos 0 → ⊥
 not_greater n h k =
     elim (≤ℤ_or_<ℤ (pos 0) n) [
       | inl from ↦
-        let zero : n ≡ pos 0 = omega (arith, ints, from, k) in cc (h, int_cmp-equal n (pos 0) zero)
+          let zero : n ≡ pos 0 = omega (arith, ints, from, k) in cc (h, int_cmp-equal n (pos 0) zero)
       | inr below ↦ cc (h, int_cmp-less n (pos 0) below)
     ]
 
@@ -143,13 +144,13 @@ sum_of_others v is w = record {
   sum = λ x. (pos 1 *ℤ x v) +ℤ sum_over is (λ i. negsuc 0 *ℤ x (w i));
   right = pos 0;
   is_sum = λ x.
-    sum-term (pos 1) x v (Whole (pos 1)) (each is (λ i. less (w i))) (pos 1) (sum_over is (λ i. negsuc 0 *ℤ x (w i))) (over-one (pos 1))
-    (sum-each (pos 1) x is (λ i. less (w i)) (λ i. negsuc 0) (λ i. over-minus_one (pos 1)));
+      sum-term (pos 1) x v (Whole (pos 1)) (each is (λ i. less (w i))) (pos 1) (sum_over is (λ i. negsuc 0 *ℤ x (w i))) (over-one (pos 1))
+      (sum-each (pos 1) x is (λ i. less (w i)) (λ i. negsuc 0) (λ i. over-minus_one (pos 1)));
   is_right = over-zero (pos 1);
   same_sense = λ q x. refl;
   balance = λ q x.
-    ap (λ n. ((pos 1 *ℤ x v) +ℤ n) +ℤ sum_over is (λ i. x (w i))) (sym (sum_over-times is (negsuc 0) (λ i. x (w i))))
-    ∙ cancelled (pos 1) (x v) (pos q) (sum_over is (λ i. x (w i))) refl;
+      ap (λ n. ((pos 1 *ℤ x v) +ℤ n) +ℤ sum_over is (λ i. x (w i))) (sym (sum_over-times is (negsuc 0) (λ i. x (w i))))
+      ∙ cancelled (pos 1) (x v) (pos q) (sum_over is (λ i. x (w i))) refl;
 }
 
 -- and has a positive entry where the sum of the terms is positive at the plan of 1 at this variable alone
@@ -183,8 +184,8 @@ scaled_other v w z = record {
   sum = λ x. (values 1 *ℤ x v) +ℤ ((neg_ℤ z *ℤ x w) +ℤ pos 0);
   right = pos 0;
   is_sum = λ x.
-    sum-term (values 1) x v (Whole (pos 1)) ((w, Negative (Billionths z)) ∷ []) (values 1) ((neg_ℤ z *ℤ x w) +ℤ pos 0) (over-one (values 1))
-    (sum-term (values 1) x w (Negative (Billionths z)) [] (neg_ℤ z) (pos 0) (over-negative_data z) (sum-none (values 1) x));
+      sum-term (values 1) x v (Whole (pos 1)) ((w, Negative (Billionths z)) ∷ []) (values 1) ((neg_ℤ z *ℤ x w) +ℤ pos 0) (over-one (values 1))
+      (sum-term (values 1) x w (Negative (Billionths z)) [] (neg_ℤ z) (pos 0) (over-negative_data z) (sum-none (values 1) x));
   is_right = over-zero (values 1);
   same_sense = λ q x. refl;
   balance = λ q x. one_other (values 1) (x v) z (x w) (pos q);
@@ -210,13 +211,13 @@ weighted_sum v is w z = record {
   sum = λ x. (values 1 *ℤ x v) +ℤ sum_over is (λ i. neg_ℤ (z i) *ℤ x (w i));
   right = pos 0;
   is_sum = λ x.
-    sum-term (values 1) x v (Whole (pos 1)) (each is (λ i. (w i, Negative (Billionths (z i))))) (values 1) (sum_over is (λ i. neg_ℤ (z i) *ℤ x (w i))) (over-one (values 1))
-    (sum-each (values 1) x is (λ i. (w i, Negative (Billionths (z i)))) (λ i. neg_ℤ (z i)) (λ i. over-negative_data (z i)));
+      sum-term (values 1) x v (Whole (pos 1)) (each is (λ i. (w i, Negative (Billionths (z i))))) (values 1) (sum_over is (λ i. neg_ℤ (z i) *ℤ x (w i))) (over-one (values 1))
+      (sum-each (values 1) x is (λ i. (w i, Negative (Billionths (z i)))) (λ i. neg_ℤ (z i)) (λ i. over-negative_data (z i)));
   is_right = over-zero (values 1);
   same_sense = λ q x. refl;
   balance = λ q x.
-    ap (λ n. ((values 1 *ℤ x v) +ℤ n) +ℤ sum_over is (λ i. x (w i) *ℤ z i)) (sum_over-negated is z (λ i. x (w i)))
-    ∙ some_others (values 1 *ℤ x v) (sum_over is (λ i. x (w i) *ℤ z i)) (pos q);
+      ap (λ n. ((values 1 *ℤ x v) +ℤ n) +ℤ sum_over is (λ i. x (w i) *ℤ z i)) (sum_over-negated is z (λ i. x (w i)))
+      ∙ some_others (values 1 *ℤ x v) (sum_over is (λ i. x (w i) *ℤ z i)) (pos q);
 }
 
 -- a variable stands to a data value: TCC1, TCC2, NCC1, NCC2 and their like

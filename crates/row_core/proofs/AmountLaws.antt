@@ -111,12 +111,12 @@ terms_with_all-made (term ∷ terms) side =
     let all : List (Var × Rational) = gathered_onto more (coefficients_of terms) in
     let rest : Bool = fits_onto terms more in
     let step : terms_with term.0 (number_of term.1) (Some side) ≡ only_if (own && sum) more =
-      ap (λ n. terms_with term.0 n (Some side)) (number_of-made term.1) ∙ terms_with-made own term.0 c side in
+    ap (λ n. terms_with term.0 n (Some side)) (number_of-made term.1) ∙ terms_with-made own term.0 c side in
     let After : Bool → Type 0 = λ b. terms_with_all terms (only_if b more) ≡ only_if (b && rest) all in
     let after : (b : Bool) → After b = λ b. elim b as After [ true ↦ terms_with_all-made terms more | false ↦ terms_with_all-none terms ] in
     let tests : ((own && sum) && rest) ≡ fits_onto (term ∷ terms) side =
-      four own sum (all_fit (coefficients_formed terms)) (all_fit (gathered_formed_onto more (coefficients_of terms)))
-      ∙ sym (ap₂ (λ b c. b && c) (all_fit-append (amount_formed term.1) (coefficients_formed terms)) (all_fit-append (term_formed (term.0, c) side) (gathered_formed_onto more (coefficients_of terms)))) in
+    four own sum (all_fit (coefficients_formed terms)) (all_fit (gathered_formed_onto more (coefficients_of terms)))
+    ∙ sym (ap₂ (λ b c. b && c) (all_fit-append (amount_formed term.1) (coefficients_formed terms)) (all_fit-append (term_formed (term.0, c) side) (gathered_formed_onto more (coefficients_of terms)))) in
     ap (terms_with_all terms) step ∙ after (own && sum) ∙ ap (λ b. only_if b all) tests
 
 -- ---- rows
@@ -140,7 +140,7 @@ equation-made e =
     ∙ can_be_written-made (fits_onto e.terms []) (all_fit (amount_formed e.right)) (terms_of e) (right_of e)
     ∙ regrouped (all_fit own) (all_fit sums) (all_fit (amount_formed e.right) && all_fit rest)
     ∙ sym (all_fit-append own (sums ++ (amount_formed e.right ++ rest))
-      ∙ ap (λ b. all_fit own && b) (both_made _ _ _ sums (amount_formed e.right) rest refl refl refl))
+    ∙ ap (λ b. all_fit own && b) (both_made _ _ _ sums (amount_formed e.right) rest refl refl refl))
 
 -- what a left side is that was made of all terms of an equation
 pub record IsMadeOf (name : RowName) (e : EquationTerms) (side : Side) (right : Option Rational) : Type 0 where
@@ -207,18 +207,19 @@ pub IsWritten-made : (name : RowName) (e : EquationTerms) (at : RowName) (terms 
 IsWritten-made name e at terms right sense (Ok row) m s named has entries rhs says signs fits stopped =
     let At : (List (Var × Rational) → Rational → Type 0) → Type 0 = λ P. P terms right → P (terms_of e) (right_of e) in
     let moved : (P : List (Var × Rational) → Rational → Type 0) → At P =
-      λ P p. subst (λ r. P (terms_of e) r) m.right_side (subst (λ ts. P ts right) m.left p) in
-    (record {
-       named = named ∙ m.named;
-       sense = has ∙ s;
-       entries = entries ∙ ap₂ written_entries m.left m.right_side;
-       right_side = rhs ∙ ap₂ written_right m.left m.right_side;
-     },
-     record {
-       says = moved (λ ts r. SaysTheSame ts r row) says;
-       signs = moved (λ ts r. HasSigns ts row) signs;
-     },
-     sym m.fits ∙ fits)
+    λ P p. subst (λ r. P (terms_of e) r) m.right_side (subst (λ ts. P ts right) m.left p) in (
+      record {
+        named = named ∙ m.named;
+        sense = has ∙ s;
+        entries = entries ∙ ap₂ written_entries m.left m.right_side;
+        right_side = rhs ∙ ap₂ written_right m.left m.right_side;
+      },
+      record {
+        says = moved (λ ts r. SaysTheSame ts r row) says;
+        signs = moved (λ ts r. HasSigns ts row) signs;
+      },
+      sym m.fits ∙ fits,
+    )
 IsWritten-made name e at terms right sense (Err stopped) m s named has entries rhs says signs fits stop =
     subst (λ b. IsStop (AtRow name) b stopped) m.fits (subst (λ n. IsStop (AtRow n) (all_fit (written_formed terms right)) stopped) m.named stop)
 

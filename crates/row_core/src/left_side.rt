@@ -59,7 +59,13 @@ impl LeftSide {
         if !self.fits {
             return Ok(());
         }
-        match self.terms.add(Place::Row(self.name), Term { variable, coefficient }) {
+        match self.terms.add(
+            Place::Row(self.name),
+            Term {
+                variable,
+                coefficient,
+            },
+        ) {
             Ok(()) => Ok(()),
             Err(Stopped::Width(_)) => {
                 self.fits = false;
@@ -70,7 +76,11 @@ impl LeftSide {
     }
 
     /// Adds a term for each position below `count`, in order.
-    pub fn add_each<F: Fn(u16) -> (Var, Option<Frac>)>(&mut self, count: u16, term: F) -> Result<(), AllocError>
+    pub fn add_each<F: Fn(u16) -> (Var, Option<Frac>)>(
+        &mut self,
+        count: u16,
+        term: F,
+    ) -> Result<(), AllocError>
         requires { (i : ℕ) → i < count → F.pre term i }
         ensures { (g : ℕ → Var × Amount) → GivesTerms count (F.post term) g → OnOk result (self.new ≡ with_amounts (each (range_with_len 0 count) g) self.old) }
     {
@@ -82,7 +92,11 @@ impl LeftSide {
     }
 
     /// Adds a term for each position below `count` for which there is one, in order.
-    pub fn add_where<F: Fn(u16) -> Option<(Var, Option<Frac>)>>(&mut self, count: u16, term: F) -> Result<(), AllocError>
+    pub fn add_where<F: Fn(u16) -> Option<(Var, Option<Frac>)>>(
+        &mut self,
+        count: u16,
+        term: F,
+    ) -> Result<(), AllocError>
         requires { (i : ℕ) → i < count → F.pre term i }
         ensures { (chosen : ℕ → Bool) (g : ℕ → Var × Amount) → GivesTermsWhere count (F.post term) chosen g
             → OnOk result (self.new ≡ with_amounts (each (filter chosen (range_with_len 0 count)) g) self.old) }

@@ -13,18 +13,20 @@ pub loop-l-init : goal.loop-l-init
 loop-l-init c =
     let d = c.args.facts.now.facts in
     let part : ℕ → Amount = λ i. Product (Billionths (capacity_factor d c.args.r c.args.t i c.args.y)) (Billionths (year_split d i c.args.y)) in
-    let n = count_of d timeslice in
-    (c.count-l-end.ensures.count ∙ ap (λ sets. count_of (record d { sets = sets }) timeslice) c.sets.ensures.sets,
-     total-begin part n ∙ ap (total_with_rest part n 0) (sym c.zero-sum.ensures))
+    let n = count_of d timeslice in (
+      c.count-l-end.ensures.count ∙ ap (λ sets. count_of (record d { sets = sets }) timeslice) c.sets.ensures.sets,
+      total-begin part n ∙ ap (total_with_rest part n 0) (sym c.zero-sum.ensures),
+    )
 
 pub loop-l-preserved : goal.loop-l-preserved
 loop-l-preserved c =
     let d = c.args.facts.now.facts in
     let part : ℕ → Amount = λ i. Product (Billionths (capacity_factor d c.args.r c.args.t i c.args.y)) (Billionths (year_split d i c.args.y)) in
     let n = count_of d timeslice in
-    let i = c.loop-l.l in
-    (c.loop-l.invariant.0,
-     c.loop-l.invariant.1
-     ∙ total-step part n i _ _ (subst (λ k. i < k) c.loop-l.invariant.0 c.loop-l-test.true)
-       (c.times.ensures ∙ ap₂ product_of c.capacity_factor.ensures c.year_split.ensures)
-     ∙ ap (total_with_rest part n (i + 1)) (sym c.plus-sum.ensures))
+    let i = c.loop-l.l in (
+      c.loop-l.invariant.0,
+      c.loop-l.invariant.1
+          ∙ total-step part n i _ _ (subst (λ k. i < k) c.loop-l.invariant.0 c.loop-l-test.true)
+          (c.times.ensures ∙ ap₂ product_of c.capacity_factor.ensures c.year_split.ensures)
+          ∙ ap (total_with_rest part n (i + 1)) (sym c.plus-sum.ensures),
+    )

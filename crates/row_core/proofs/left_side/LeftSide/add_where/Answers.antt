@@ -18,12 +18,12 @@ loop-i-preserved g c chosen term gives =
     c.loop-i.invariant chosen term gives
     ∙ elim c.match-term.branch [
       | in-Some+in_ok-add w ↦
-        chosen-step chosen term n i c.loop-i.self (w.in-Some.variable, w.in-Some.coefficient) c.loop-i-test.true
-        (subst (IsTermWhere (chosen i) (term i)) w.in-Some.is here)
-        ∙ ap rest (sym (w.self-is ∙ w.in_ok-add.ensures))
+          chosen-step chosen term n i c.loop-i.self (w.in-Some.variable, w.in-Some.coefficient) c.loop-i-test.true
+          (subst (IsTermWhere (chosen i) (term i)) w.in-Some.is here)
+          ∙ ap rest (sym (w.self-is ∙ w.in_ok-add.ensures))
       | in_default w ↦
-        chosen-skip chosen term n i c.loop-i.self c.loop-i-test.true (subst (IsTermWhere (chosen i) (term i)) w.in_default.is here)
-        ∙ ap rest (sym w.self-is)
+          chosen-skip chosen term n i c.loop-i.self c.loop-i-test.true (subst (IsTermWhere (chosen i) (term i)) w.in_default.is here)
+          ∙ ap rest (sym w.self-is)
     ]
 
 pub returns : goal.returns
