@@ -5,7 +5,6 @@ pub mod Codes
 pub mod Columns
 pub mod CommandLine
 pub mod Commands
-pub mod DistinctVariables
 pub mod Due
 pub mod Equations
 pub mod FixedForm
@@ -14,7 +13,6 @@ pub mod FixedFormView
 pub mod MpsText
 pub mod ReadEnds
 pub mod Reading
-pub mod RowVariables
 pub mod RowsAdded
 pub mod Sending
 pub mod SortedCells

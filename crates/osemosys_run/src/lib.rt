@@ -3,7 +3,6 @@
 
 mod answer;
 mod capacity_rows;
-mod columns;
 mod fixed_form;
 mod lines;
 mod mps;
