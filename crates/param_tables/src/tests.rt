@@ -1,6 +1,7 @@
 //! The refusals and values of small data sections.
 
-use crate::{BuildFail, BuildFault, Cell, ModelData, build, sets_of};
+use crate::{BuildFail, BuildFault, Cell, ModelData, build, sets_of, subscript_sets};
+use exact_num::Frac;
 use mathprog_data::{param_word, read_blocks};
 use model_sets::SetFail;
 use std::alloc::{AllocError, Global};
@@ -266,5 +267,60 @@ fn too_many_indices(rt: HostRuntime) -> Result<(), Fail> {
         refusal(&rt, rt.alloc(), text.as_str())?.as_str(),
         "TooManyCells TradeRoute"
     );
+    Ok(())
+}
+
+/// Whether the fraction is `num / den`.
+fn is(value: Frac, num: i128, den: i128) -> bool {
+    value.num == num && value.den == den
+}
+
+#[test]
+fn values_by_index(rt: HostRuntime) -> Result<(), Fail> {
+    let statements = [
+        "param VariableCost default 9 := [R,*,1,*] (tr) : T U := 2020 2 . 2021 3 4 ;",
+        "param VariableCost default 9 := [R,*,1,*] T 2020 2 T 2021 3 U 2021 4 ;",
+    ];
+    for statement in statements {
+        let text = text(rt.alloc(), TWO_EACH, 16, statement)?;
+        let Ending::Built(model) = outcome(&rt, rt.alloc(), text.as_str())? else {
+            assert!(rt; false, "refused: {statement}");
+            return Ok(());
+        };
+        let sets = model.sets();
+        assert!(rt; sets.count(1) == 1);
+        assert!(rt; sets.count(2) == 2);
+        assert!(rt; sets.count(5) == 1);
+        assert!(rt; sets.count(7) == 2);
+        assert!(rt; is(model.at(16, &[0, 0, 0, 0]), 2, 1));
+        assert!(rt; is(model.at(16, &[0, 0, 0, 1]), 3, 1));
+        assert!(rt; is(model.at(16, &[0, 1, 0, 0]), 9, 1));
+        assert!(rt; is(model.at(16, &[0, 1, 0, 1]), 4, 1));
+    }
+    Ok(())
+}
+
+#[test]
+fn defaults_and_lowest_terms(rt: HostRuntime) -> Result<(), Fail> {
+    let text = text(
+        rt.alloc(),
+        SETS,
+        2,
+        "param DiscountRate default 0.0500000001 := ;",
+    )?;
+    let Ending::Built(model) = outcome(&rt, rt.alloc(), text.as_str())? else {
+        assert!(rt; false, "refused");
+        return Ok(());
+    };
+    let sets = model.sets();
+    assert!(rt; sets.count(1) == 1);
+    assert!(rt; sets.count(2) == 1);
+    assert!(rt; sets.count(7) == 1);
+    assert!(rt; is(model.at(2, &[0]), 1, 20));
+    assert!(rt; is(model.at(15, &[0, 0, 0]), 5, 1));
+    assert!(rt; is(model.at(18, &[0, 0, 0]), 0, 1));
+    assert!(rt; is(model.at(19, &[0, 0, 0]), -1, 1));
+    assert_eq!(rt; model.rounded(), 1);
+    assert_eq!(rt; subscript_sets(19), [1u8, 2, 7].as_slice());
     Ok(())
 }

@@ -1,0 +1,4 @@
+pub mod RatioLaws
+pub mod Positions
+pub mod Splits
+pub mod Meaning

@@ -1,0 +1,308 @@
+-- The terms of each equation of demand, energy balance and accounting mean it.
+use Rattle.std.proofs.Common.{◌≡◌, ◌≢◌, true, false, Bool, ℕ, inl, inr, ℤ, pos, neg_ℤ, ◌+ℤ◌, ◌*ℤ◌, List, [], ◌∷◌, Some, None, refl, sym, ap, ap₂, ◌∙◌, subst, arith}
+use Rattle.std.specs.Prelude.{◌<ℤ◌, ◌≤ℤ◌, nat_le, if◌then◌else◌}
+use Rattle.std.specs.Ordering.{is_eq}
+use Rattle.std.proofs.lemmas.Int.{ints}
+use Rattle.exact_num.proofs.Integers.{*ℤ_pos}
+use Rattle.exact_num.proofs.Ring.{*ℤ-+ℤ, one-*ℤ, zero-*ℤ, neg_ℤ-*ℤ}
+use Rattle.model_sets.specs.Data.{Data}
+use Rattle.row_core.specs.declared.Index.{Index}
+use Rattle.row_core.specs.declared.RowName.{RowName}
+use Rattle.row_core.specs.declared.Var.{Var}
+use Rattle.row_core.specs.Amounts.{Amount, Whole, Billionths, Negative, value_of_amount}
+use Rattle.row_core.specs.EquationTerms.{once, less, each}
+use Rattle.row_core.specs.Order.{var_cmp}
+use Rattle.row_core.specs.Values.{alone}
+use Rattle.row_core.proofs.SumLaws.{IsOver-times, IsOver-multiplied}
+use Rattle.named_equations.specs.Instances.{name_at, stands_at, variable_of}
+use Rattle.named_equations.specs.Notation.{sum_over, values}
+use Rattle.named_equations.specs.Parameters.{year_split, specified_annual_demand, specified_demand_profile, trade_route, accumulated_annual_demand, input_activity_ratio, output_activity_ratio}
+use Rattle.named_equations.specs.Positions.{regions, timeslices}
+use Rattle.named_equations.specs.Plans.{says}
+use Rattle.named_equations.specs.Variables.{rate_of_activity, trade, rate_of_demand, rate_of_production_by_technology_by_mode, rate_of_production_by_technology, rate_of_production, rate_of_use_by_technology_by_mode, rate_of_use_by_technology, rate_of_use, production, use_of_fuel, demand, production_annual, use_annual, trade_annual, production_by_technology, use_by_technology, total_annual_technology_activity_by_mode}
+use Rattle.named_equations.specs.Where.{producing_modes, producing_technologies, using_modes, using_technologies}
+use Rattle.named_equations.proofs.TermMeaning.{MeansStatement, IsNamedEquation, sum_of_others, sum_of_others-defines, scaled_other, scaled_other-defines, weighted_sum, weighted_sum-defines, EachFrom, at_number, alone-self, first_positive, defined, sum_over-negated, over-one, over-minus_one, over-zero, over-data, over-negative_data, sum-none, sum-term, sum-each}
+use Rattle.balance_rows.specs.Balance.{eq_specified_demand, eba10, eba11, ebb4}
+use Rattle.balance_rows.specs.Rows.{IsBalanceEquation, terms_at}
+
+-- ---- demand
+
+added_nothing : (a r : ℤ) → (a +ℤ pos 0) +ℤ r ≡ a +ℤ r
+added_nothing a r = omega (arith, ints)
+
+pub demand-means : (d : Data) (i : Index) → MeansStatement (eq_specified_demand d i.region i.slice i.fuel i.year) (λ q x. says d q x (name_at 1 i))
+demand-means d i =
+    let rate = rate_of_demand i.region i.slice i.fuel i.year in
+    let split : ℤ = year_split d i.slice i.year in
+    let annual : ℤ = specified_annual_demand d i.region i.fuel i.year in
+    let profile : ℤ = specified_demand_profile d i.region i.fuel i.slice i.year in
+    record {
+      scale = values 2;
+      positive = omega (arith, ints);
+      sum = λ x. ((values 1 *ℤ split) *ℤ x rate) +ℤ pos 0;
+      right = annual *ℤ profile;
+      is_sum = λ x.
+          sum-term (values 2) x rate (Billionths split) [] (values 1 *ℤ split) (pos 0)
+          (IsOver-multiplied (values 1) (values 1) (value_of_amount (Billionths split)) split (over-data split)) (sum-none (values 2) x);
+      is_right =
+          IsOver-times (values 1) (values 1) (value_of_amount (Billionths annual)) (value_of_amount (Billionths profile)) annual profile (over-data annual) (over-data profile);
+      same_sense = λ q x. refl;
+      balance = λ q x. added_nothing ((values 1 *ℤ split) *ℤ x rate) ((annual *ℤ profile) *ℤ pos q);
+    }
+
+demand-defines : (d : Data) (i : Index) → pos 0 <ℤ year_split d i.slice i.year → pos 0 <ℤ (demand-means d i).sum (alone (rate_of_demand i.region i.slice i.fuel i.year))
+unfolding demand-means
+demand-defines d i h =
+    let rate = rate_of_demand i.region i.slice i.fuel i.year in
+    let split : ℤ = year_split d i.slice i.year in
+    first_positive (values 1 *ℤ split) (alone rate rate) (pos 0) (*ℤ_pos (values 1) split (omega (arith, ints)) h) (alone-self rate) refl
+
+-- ---- trade
+
+exchanged : (a b q : ℤ) → ((pos 1 *ℤ a) +ℤ ((pos 1 *ℤ b) +ℤ pos 0)) +ℤ pos 0 ≡ (a +ℤ b) +ℤ (pos 0 *ℤ q)
+exchanged a b q =
+    ap₂ (λ y z. (y +ℤ (z +ℤ pos 0)) +ℤ pos 0) (one-*ℤ a) (one-*ℤ b) ∙ omega (arith, ints) ∙ ap (λ z. (a +ℤ b) +ℤ z) (sym (zero-*ℤ q))
+
+pub exchange-means : (d : Data) (i : Index) → MeansStatement (eba10 d i.region i.other i.slice i.fuel i.year) (λ q x. says d q x (name_at 16 i))
+exchange-means d i =
+    let there = trade i.region i.other i.slice i.fuel i.year in
+    let back = trade i.other i.region i.slice i.fuel i.year in
+    record {
+      scale = pos 1;
+      positive = omega (arith, ints);
+      sum = λ x. (pos 1 *ℤ x there) +ℤ ((pos 1 *ℤ x back) +ℤ pos 0);
+      right = pos 0;
+      is_sum = λ x.
+          sum-term (pos 1) x there (Whole (pos 1)) (once back ∷ []) (pos 1) ((pos 1 *ℤ x back) +ℤ pos 0) (over-one (pos 1))
+          (sum-term (pos 1) x back (Whole (pos 1)) [] (pos 1) (pos 0) (over-one (pos 1)) (sum-none (pos 1) x));
+      is_right = over-zero (pos 1);
+      same_sense = λ q x. refl;
+      balance = λ q x. exchanged (x there) (x back) (pos q);
+    }
+
+alone_nonnegative : (v w : Var) → pos 0 ≤ℤ alone v w
+alone_nonnegative v w =
+    let At : Bool → Type 0 = λ b. pos 0 ≤ℤ (if b then pos 1 else pos 0) in
+    let cases : (b : Bool) → At b = λ b. elim b as At [ true ↦ omega (arith, ints) | false ↦ omega (arith, ints) ] in
+    cases (is_eq (var_cmp w v))
+
+both_positive : (a b : ℤ) → pos 0 ≤ℤ a → b ≡ pos 1 → pos 0 <ℤ ((pos 1 *ℤ a) +ℤ ((pos 1 *ℤ b) +ℤ pos 0))
+both_positive a b h one = subst (λ z. pos 0 <ℤ z) (sym (ap₂ (λ y z. y +ℤ (z +ℤ pos 0)) (one-*ℤ a) (one-*ℤ b ∙ one))) (omega (arith, ints, h))
+
+exchange-defines : (d : Data) (i : Index) (v : Var) → variable_of (name_at 16 i) ≡ Some v → pos 0 <ℤ (exchange-means d i).sum (alone v)
+unfolding exchange-means
+exchange-defines d i v h =
+    let there = trade i.region i.other i.slice i.fuel i.year in
+    let back = trade i.other i.region i.slice i.fuel i.year in
+    let Sum : Var → Type 0 = λ w. pos 0 <ℤ ((pos 1 *ℤ alone w there) +ℤ ((pos 1 *ℤ alone w back) +ℤ pos 0)) in
+    let own : Sum back = both_positive (alone back there) (alone back back) (alone_nonnegative back there) (alone-self back) in
+    let Chosen : Bool → Type 0 = λ b. (if b then Some back else None) ≡ Some v → Sum v in
+    let cases : (b : Bool) → Chosen b = λ b. elim b as Chosen [ true ↦ λ e. defined Sum back v e own | false ↦ λ e. absurd (cc e) ] in
+    cases (nat_le i.region i.other) h
+
+-- ---- what covers demand
+
+cover_slice : (s p b c n q : ℤ) → ((s *ℤ p) +ℤ ((neg_ℤ s *ℤ b) +ℤ ((neg_ℤ s *ℤ c) +ℤ neg_ℤ n))) +ℤ ((s *ℤ (b +ℤ c)) +ℤ n) ≡ (s *ℤ p) +ℤ (pos 0 *ℤ q)
+cover_slice s p b c n q =
+    ap₂ (λ y z. ((s *ℤ p) +ℤ (y +ℤ (z +ℤ neg_ℤ n))) +ℤ ((s *ℤ (b +ℤ c)) +ℤ n)) (neg_ℤ-*ℤ s b) (neg_ℤ-*ℤ s c)
+    ∙ ap (λ y. ((s *ℤ p) +ℤ (neg_ℤ (s *ℤ b) +ℤ (neg_ℤ (s *ℤ c) +ℤ neg_ℤ n))) +ℤ (y +ℤ n)) (*ℤ-+ℤ s b c)
+    ∙ omega (arith, ints)
+    ∙ ap (λ y. (s *ℤ p) +ℤ y) (sym (zero-*ℤ q))
+
+pub cover-means : (d : Data) (i : Index) → MeansStatement (eba11 d i.region i.slice i.fuel i.year) (λ q x. says d q x (name_at 17 i))
+cover-means d i =
+    let made = production i.region i.slice i.fuel i.year in
+    let due = demand i.region i.slice i.fuel i.year in
+    let used = use_of_fuel i.region i.slice i.fuel i.year in
+    let out : ℕ → Var = λ rr. trade i.region rr i.slice i.fuel i.year in
+    let route : ℕ → ℤ = λ rr. trade_route d i.region rr i.fuel i.year in
+    let s : ℤ = values 1 in
+    let routes : List (Var × Amount) = each (regions d) (λ rr. (out rr, Negative (Billionths (route rr)))) in
+    record {
+      scale = s;
+      positive = omega (arith, ints);
+      sum = λ x. (s *ℤ x made) +ℤ ((neg_ℤ s *ℤ x due) +ℤ ((neg_ℤ s *ℤ x used) +ℤ sum_over (regions d) (λ rr. neg_ℤ (route rr) *ℤ x (out rr))));
+      right = pos 0;
+      is_sum = λ x.
+          let n : ℤ = sum_over (regions d) (λ rr. neg_ℤ (route rr) *ℤ x (out rr)) in
+          sum-term s x made (Whole (pos 1)) (less due ∷ less used ∷ routes) s ((neg_ℤ s *ℤ x due) +ℤ ((neg_ℤ s *ℤ x used) +ℤ n)) (over-one s)
+          (sum-term s x due (less due).1 (less used ∷ routes) (neg_ℤ s) ((neg_ℤ s *ℤ x used) +ℤ n) (over-minus_one s)
+          (sum-term s x used (less used).1 routes (neg_ℤ s) n (over-minus_one s)
+          (sum-each s x (regions d) (λ rr. (out rr, Negative (Billionths (route rr)))) (λ rr. neg_ℤ (route rr)) (λ rr. over-negative_data (route rr)))));
+      is_right = over-zero s;
+      same_sense = λ q x. refl;
+      balance = λ q x.
+          ap (λ n. ((s *ℤ x made) +ℤ ((neg_ℤ s *ℤ x due) +ℤ ((neg_ℤ s *ℤ x used) +ℤ n))) +ℤ ((s *ℤ (x due +ℤ x used)) +ℤ sum_over (regions d) (λ rr. x (out rr) *ℤ route rr)))
+          (sum_over-negated (regions d) route (λ rr. x (out rr)))
+          ∙ cover_slice s (x made) (x due) (x used) (sum_over (regions d) (λ rr. x (out rr) *ℤ route rr)) (pos q);
+    }
+
+cover_year : (s p b n r : ℤ) → ((s *ℤ p) +ℤ ((neg_ℤ s *ℤ b) +ℤ neg_ℤ n)) +ℤ (((s *ℤ b) +ℤ n) +ℤ r) ≡ (s *ℤ p) +ℤ r
+cover_year s p b n r = ap (λ y. ((s *ℤ p) +ℤ (y +ℤ neg_ℤ n)) +ℤ (((s *ℤ b) +ℤ n) +ℤ r)) (neg_ℤ-*ℤ s b) ∙ omega (arith, ints)
+
+pub cover_year-means : (d : Data) (i : Index) → MeansStatement (ebb4 d i.region i.fuel i.year) (λ q x. says d q x (name_at 21 i))
+cover_year-means d i =
+    let made = production_annual i.region i.fuel i.year in
+    let used = use_annual i.region i.fuel i.year in
+    let out : ℕ → Var = λ rr. trade_annual i.region rr i.fuel i.year in
+    let route : ℕ → ℤ = λ rr. trade_route d i.region rr i.fuel i.year in
+    let due : ℤ = accumulated_annual_demand d i.region i.fuel i.year in
+    let s : ℤ = values 1 in
+    let routes : List (Var × Amount) = each (regions d) (λ rr. (out rr, Negative (Billionths (route rr)))) in
+    record {
+      scale = s;
+      positive = omega (arith, ints);
+      sum = λ x. (s *ℤ x made) +ℤ ((neg_ℤ s *ℤ x used) +ℤ sum_over (regions d) (λ rr. neg_ℤ (route rr) *ℤ x (out rr)));
+      right = due;
+      is_sum = λ x.
+          let n : ℤ = sum_over (regions d) (λ rr. neg_ℤ (route rr) *ℤ x (out rr)) in
+          sum-term s x made (Whole (pos 1)) (less used ∷ routes) s ((neg_ℤ s *ℤ x used) +ℤ n) (over-one s)
+          (sum-term s x used (less used).1 routes (neg_ℤ s) n (over-minus_one s)
+          (sum-each s x (regions d) (λ rr. (out rr, Negative (Billionths (route rr)))) (λ rr. neg_ℤ (route rr)) (λ rr. over-negative_data (route rr))));
+      is_right = over-data due;
+      same_sense = λ q x. refl;
+      balance = λ q x.
+          ap (λ n. ((s *ℤ x made) +ℤ ((neg_ℤ s *ℤ x used) +ℤ n)) +ℤ (((s *ℤ x used) +ℤ sum_over (regions d) (λ rr. x (out rr) *ℤ route rr)) +ℤ (due *ℤ pos q)))
+          (sum_over-negated (regions d) route (λ rr. x (out rr)))
+          ∙ cover_year s (x made) (x used) (sum_over (regions d) (λ rr. x (out rr) *ℤ route rr)) (due *ℤ pos q);
+    }
+
+-- ---- by number
+
+-- the equation of number n
+abbrev pub IsNamed : Data → Index → ℕ → Type 0
+IsNamed d i n = IsNamedEquation d (name_at n i) (terms_at d (name_at n i))
+
+eba1-named : (d : Data) (i : Index) → IsNamed d i 7
+eba1-named d i = record {
+  means = scaled_other (rate_of_production_by_technology_by_mode i.region i.slice i.tech i.fuel i.mode i.year) (rate_of_activity i.region i.slice i.tech i.mode i.year) (output_activity_ratio d i.region i.tech i.fuel i.mode i.year);
+  defines = λ v h. defined (λ w. pos 0 <ℤ (scaled_other (rate_of_production_by_technology_by_mode i.region i.slice i.tech i.fuel i.mode i.year) (rate_of_activity i.region i.slice i.tech i.mode i.year) (output_activity_ratio d i.region i.tech i.fuel i.mode i.year)).sum (alone w)) (rate_of_production_by_technology_by_mode i.region i.slice i.tech i.fuel i.mode i.year) v h (scaled_other-defines (rate_of_production_by_technology_by_mode i.region i.slice i.tech i.fuel i.mode i.year) (rate_of_activity i.region i.slice i.tech i.mode i.year) (output_activity_ratio d i.region i.tech i.fuel i.mode i.year) refl);
+}
+
+eba2-named : (d : Data) (i : Index) → IsNamed d i 8
+eba2-named d i = record {
+  means = sum_of_others (rate_of_production_by_technology i.region i.slice i.tech i.fuel i.year) (producing_modes d i.region i.tech i.fuel i.year) (λ m. rate_of_production_by_technology_by_mode i.region i.slice i.tech i.fuel m i.year);
+  defines = λ v h. defined (λ w. pos 0 <ℤ (sum_of_others (rate_of_production_by_technology i.region i.slice i.tech i.fuel i.year) (producing_modes d i.region i.tech i.fuel i.year) (λ m. rate_of_production_by_technology_by_mode i.region i.slice i.tech i.fuel m i.year)).sum (alone w)) (rate_of_production_by_technology i.region i.slice i.tech i.fuel i.year) v h (sum_of_others-defines (rate_of_production_by_technology i.region i.slice i.tech i.fuel i.year) (producing_modes d i.region i.tech i.fuel i.year) (λ m. rate_of_production_by_technology_by_mode i.region i.slice i.tech i.fuel m i.year) (λ m. refl));
+}
+
+eba3-named : (d : Data) (i : Index) → IsNamed d i 9
+eba3-named d i = record {
+  means = sum_of_others (rate_of_production i.region i.slice i.fuel i.year) (producing_technologies d i.region i.fuel i.year) (λ t. rate_of_production_by_technology i.region i.slice t i.fuel i.year);
+  defines = λ v h. defined (λ w. pos 0 <ℤ (sum_of_others (rate_of_production i.region i.slice i.fuel i.year) (producing_technologies d i.region i.fuel i.year) (λ t. rate_of_production_by_technology i.region i.slice t i.fuel i.year)).sum (alone w)) (rate_of_production i.region i.slice i.fuel i.year) v h (sum_of_others-defines (rate_of_production i.region i.slice i.fuel i.year) (producing_technologies d i.region i.fuel i.year) (λ t. rate_of_production_by_technology i.region i.slice t i.fuel i.year) (λ t. refl));
+}
+
+eba4-named : (d : Data) (i : Index) → IsNamed d i 10
+eba4-named d i = record {
+  means = scaled_other (rate_of_use_by_technology_by_mode i.region i.slice i.tech i.fuel i.mode i.year) (rate_of_activity i.region i.slice i.tech i.mode i.year) (input_activity_ratio d i.region i.tech i.fuel i.mode i.year);
+  defines = λ v h. defined (λ w. pos 0 <ℤ (scaled_other (rate_of_use_by_technology_by_mode i.region i.slice i.tech i.fuel i.mode i.year) (rate_of_activity i.region i.slice i.tech i.mode i.year) (input_activity_ratio d i.region i.tech i.fuel i.mode i.year)).sum (alone w)) (rate_of_use_by_technology_by_mode i.region i.slice i.tech i.fuel i.mode i.year) v h (scaled_other-defines (rate_of_use_by_technology_by_mode i.region i.slice i.tech i.fuel i.mode i.year) (rate_of_activity i.region i.slice i.tech i.mode i.year) (input_activity_ratio d i.region i.tech i.fuel i.mode i.year) refl);
+}
+
+eba5-named : (d : Data) (i : Index) → IsNamed d i 11
+eba5-named d i = record {
+  means = sum_of_others (rate_of_use_by_technology i.region i.slice i.tech i.fuel i.year) (using_modes d i.region i.tech i.fuel i.year) (λ m. rate_of_use_by_technology_by_mode i.region i.slice i.tech i.fuel m i.year);
+  defines = λ v h. defined (λ w. pos 0 <ℤ (sum_of_others (rate_of_use_by_technology i.region i.slice i.tech i.fuel i.year) (using_modes d i.region i.tech i.fuel i.year) (λ m. rate_of_use_by_technology_by_mode i.region i.slice i.tech i.fuel m i.year)).sum (alone w)) (rate_of_use_by_technology i.region i.slice i.tech i.fuel i.year) v h (sum_of_others-defines (rate_of_use_by_technology i.region i.slice i.tech i.fuel i.year) (using_modes d i.region i.tech i.fuel i.year) (λ m. rate_of_use_by_technology_by_mode i.region i.slice i.tech i.fuel m i.year) (λ m. refl));
+}
+
+eba6-named : (d : Data) (i : Index) → IsNamed d i 12
+eba6-named d i = record {
+  means = sum_of_others (rate_of_use i.region i.slice i.fuel i.year) (using_technologies d i.region i.fuel i.year) (λ t. rate_of_use_by_technology i.region i.slice t i.fuel i.year);
+  defines = λ v h. defined (λ w. pos 0 <ℤ (sum_of_others (rate_of_use i.region i.slice i.fuel i.year) (using_technologies d i.region i.fuel i.year) (λ t. rate_of_use_by_technology i.region i.slice t i.fuel i.year)).sum (alone w)) (rate_of_use i.region i.slice i.fuel i.year) v h (sum_of_others-defines (rate_of_use i.region i.slice i.fuel i.year) (using_technologies d i.region i.fuel i.year) (λ t. rate_of_use_by_technology i.region i.slice t i.fuel i.year) (λ t. refl));
+}
+
+eba7-named : (d : Data) (i : Index) → IsNamed d i 13
+eba7-named d i = record {
+  means = scaled_other (production i.region i.slice i.fuel i.year) (rate_of_production i.region i.slice i.fuel i.year) (year_split d i.slice i.year);
+  defines = λ v h. defined (λ w. pos 0 <ℤ (scaled_other (production i.region i.slice i.fuel i.year) (rate_of_production i.region i.slice i.fuel i.year) (year_split d i.slice i.year)).sum (alone w)) (production i.region i.slice i.fuel i.year) v h (scaled_other-defines (production i.region i.slice i.fuel i.year) (rate_of_production i.region i.slice i.fuel i.year) (year_split d i.slice i.year) refl);
+}
+
+eba8-named : (d : Data) (i : Index) → IsNamed d i 14
+eba8-named d i = record {
+  means = scaled_other (use_of_fuel i.region i.slice i.fuel i.year) (rate_of_use i.region i.slice i.fuel i.year) (year_split d i.slice i.year);
+  defines = λ v h. defined (λ w. pos 0 <ℤ (scaled_other (use_of_fuel i.region i.slice i.fuel i.year) (rate_of_use i.region i.slice i.fuel i.year) (year_split d i.slice i.year)).sum (alone w)) (use_of_fuel i.region i.slice i.fuel i.year) v h (scaled_other-defines (use_of_fuel i.region i.slice i.fuel i.year) (rate_of_use i.region i.slice i.fuel i.year) (year_split d i.slice i.year) refl);
+}
+
+eba9-named : (d : Data) (i : Index) → IsNamed d i 15
+eba9-named d i = record {
+  means = scaled_other (demand i.region i.slice i.fuel i.year) (rate_of_demand i.region i.slice i.fuel i.year) (year_split d i.slice i.year);
+  defines = λ v h. defined (λ w. pos 0 <ℤ (scaled_other (demand i.region i.slice i.fuel i.year) (rate_of_demand i.region i.slice i.fuel i.year) (year_split d i.slice i.year)).sum (alone w)) (demand i.region i.slice i.fuel i.year) v h (scaled_other-defines (demand i.region i.slice i.fuel i.year) (rate_of_demand i.region i.slice i.fuel i.year) (year_split d i.slice i.year) refl);
+}
+
+ebb1-named : (d : Data) (i : Index) → IsNamed d i 18
+ebb1-named d i = record {
+  means = sum_of_others (production_annual i.region i.fuel i.year) (timeslices d) (λ l. production i.region l i.fuel i.year);
+  defines = λ v h. defined (λ w. pos 0 <ℤ (sum_of_others (production_annual i.region i.fuel i.year) (timeslices d) (λ l. production i.region l i.fuel i.year)).sum (alone w)) (production_annual i.region i.fuel i.year) v h (sum_of_others-defines (production_annual i.region i.fuel i.year) (timeslices d) (λ l. production i.region l i.fuel i.year) (λ l. refl));
+}
+
+ebb2-named : (d : Data) (i : Index) → IsNamed d i 19
+ebb2-named d i = record {
+  means = sum_of_others (use_annual i.region i.fuel i.year) (timeslices d) (λ l. use_of_fuel i.region l i.fuel i.year);
+  defines = λ v h. defined (λ w. pos 0 <ℤ (sum_of_others (use_annual i.region i.fuel i.year) (timeslices d) (λ l. use_of_fuel i.region l i.fuel i.year)).sum (alone w)) (use_annual i.region i.fuel i.year) v h (sum_of_others-defines (use_annual i.region i.fuel i.year) (timeslices d) (λ l. use_of_fuel i.region l i.fuel i.year) (λ l. refl));
+}
+
+ebb3-named : (d : Data) (i : Index) → IsNamed d i 20
+ebb3-named d i = record {
+  means = sum_of_others (trade_annual i.region i.other i.fuel i.year) (timeslices d) (λ l. trade i.region i.other l i.fuel i.year);
+  defines = λ v h. defined (λ w. pos 0 <ℤ (sum_of_others (trade_annual i.region i.other i.fuel i.year) (timeslices d) (λ l. trade i.region i.other l i.fuel i.year)).sum (alone w)) (trade_annual i.region i.other i.fuel i.year) v h (sum_of_others-defines (trade_annual i.region i.other i.fuel i.year) (timeslices d) (λ l. trade i.region i.other l i.fuel i.year) (λ l. refl));
+}
+
+acc1-named : (d : Data) (i : Index) → IsNamed d i 22
+acc1-named d i = record {
+  means = scaled_other (production_by_technology i.region i.slice i.tech i.fuel i.year) (rate_of_production_by_technology i.region i.slice i.tech i.fuel i.year) (year_split d i.slice i.year);
+  defines = λ v h. defined (λ w. pos 0 <ℤ (scaled_other (production_by_technology i.region i.slice i.tech i.fuel i.year) (rate_of_production_by_technology i.region i.slice i.tech i.fuel i.year) (year_split d i.slice i.year)).sum (alone w)) (production_by_technology i.region i.slice i.tech i.fuel i.year) v h (scaled_other-defines (production_by_technology i.region i.slice i.tech i.fuel i.year) (rate_of_production_by_technology i.region i.slice i.tech i.fuel i.year) (year_split d i.slice i.year) refl);
+}
+
+acc2-named : (d : Data) (i : Index) → IsNamed d i 23
+acc2-named d i = record {
+  means = scaled_other (use_by_technology i.region i.slice i.tech i.fuel i.year) (rate_of_use_by_technology i.region i.slice i.tech i.fuel i.year) (year_split d i.slice i.year);
+  defines = λ v h. defined (λ w. pos 0 <ℤ (scaled_other (use_by_technology i.region i.slice i.tech i.fuel i.year) (rate_of_use_by_technology i.region i.slice i.tech i.fuel i.year) (year_split d i.slice i.year)).sum (alone w)) (use_by_technology i.region i.slice i.tech i.fuel i.year) v h (scaled_other-defines (use_by_technology i.region i.slice i.tech i.fuel i.year) (rate_of_use_by_technology i.region i.slice i.tech i.fuel i.year) (year_split d i.slice i.year) refl);
+}
+
+acc3-named : (d : Data) (i : Index) → IsNamed d i 24
+acc3-named d i = record {
+  means = weighted_sum (total_annual_technology_activity_by_mode i.region i.tech i.mode i.year) (timeslices d) (λ l. rate_of_activity i.region l i.tech i.mode i.year) (λ l. year_split d l i.year);
+  defines = λ v h. defined (λ w. pos 0 <ℤ (weighted_sum (total_annual_technology_activity_by_mode i.region i.tech i.mode i.year) (timeslices d) (λ l. rate_of_activity i.region l i.tech i.mode i.year) (λ l. year_split d l i.year)).sum (alone w)) (total_annual_technology_activity_by_mode i.region i.tech i.mode i.year) v h (weighted_sum-defines (total_annual_technology_activity_by_mode i.region i.tech i.mode i.year) (timeslices d) (λ l. rate_of_activity i.region l i.tech i.mode i.year) (λ l. year_split d l i.year) (λ l. refl));
+}
+
+demand-named : (d : Data) (i : Index) → pos 0 <ℤ year_split d i.slice i.year → IsNamed d i 1
+demand-named d i p = record {
+  means = demand-means d i;
+  defines = λ v h. defined (λ w. pos 0 <ℤ (demand-means d i).sum (alone w)) (rate_of_demand i.region i.slice i.fuel i.year) v h (demand-defines d i p);
+}
+
+exchange-named : (d : Data) (i : Index) → IsNamed d i 16
+exchange-named d i = record { means = exchange-means d i; defines = exchange-defines d i }
+
+cover-named : (d : Data) (i : Index) → IsNamed d i 17
+cover-named d i = record { means = cover-means d i; defines = λ v h. absurd (cc h) }
+
+cover_year-named : (d : Data) (i : Index) → IsNamed d i 21
+cover_year-named d i = record { means = cover_year-means d i; defines = λ v h. absurd (cc h) }
+
+from_seven : (d : Data) (i : Index) → EachFrom (IsNamed d i) 7 18
+from_seven d i =
+    (eba1-named d i, (eba2-named d i, (eba3-named d i, (eba4-named d i, (eba5-named d i, (eba6-named d i, (eba7-named d i, (eba8-named d i, (eba9-named d i, (exchange-named d i, (cover-named d i, (ebb1-named d i, (ebb2-named d i, (ebb3-named d i, (cover_year-named d i, (acc1-named d i, (acc2-named d i, (acc3-named d i, tt))))))))))))))))))
+
+pub named : (d : Data) (n : ℕ) (i : Index) → IsBalanceEquation n → (n ≡ 1 → pos 0 <ℤ year_split d i.slice i.year) → IsNamed d i n
+named d n i h p =
+    elim h [
+      | inl one ↦ subst (IsNamed d i) (sym one) (demand-named d i (p one))
+      | inr more ↦ at_number (IsNamed d i) 7 18 n (from_seven d i) more.0 (omega (arith, more.1))
+    ]
+
+pub terms-at : (d : Data) (name : RowName) (n : ℕ) → name.eq ≡ n → terms_at d name ≡ terms_at d (name_at n name.index)
+terms-at d name n h = ap (λ m. terms_at d (name_at m name.index)) h
+
+-- where no condition is asked, the equation stands everywhere
+abbrev pub Stands : Data → Index → ℕ → Type 0
+Stands d i n = n ≢ 7 → n ≢ 8 → n ≢ 10 → n ≢ 11 → n ≢ 22 → n ≢ 23 → true ≡ stands_at d n i
+
+conditions : (d : Data) (i : Index) → EachFrom (Stands d i) 7 18
+conditions d i =
+    ((λ a b c e f g. absurd (a refl)), ((λ a b c e f g. absurd (b refl)), ((λ a b c e f g. refl), ((λ a b c e f g. absurd (c refl)), ((λ a b c e f g. absurd (e refl)), ((λ a b c e f g. refl), ((λ a b c e f g. refl), ((λ a b c e f g. refl), ((λ a b c e f g. refl), ((λ a b c e f g. refl), ((λ a b c e f g. refl), ((λ a b c e f g. refl), ((λ a b c e f g. refl), ((λ a b c e f g. refl), ((λ a b c e f g. refl), ((λ a b c e f g. absurd (f refl)), ((λ a b c e f g. absurd (g refl)), ((λ a b c e f g. refl), tt))))))))))))))))))
+
+pub everywhere_else : (d : Data) (n : ℕ) (i : Index) → IsBalanceEquation n → Stands d i n
+everywhere_else d n i h =
+    elim h [
+      | inl one ↦ subst (Stands d i) (sym one) (λ a b c e f g. refl)
+      | inr more ↦ at_number (Stands d i) 7 18 n (conditions d i) more.0 (omega (arith, more.1))
+    ]

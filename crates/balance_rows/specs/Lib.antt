@@ -1,0 +1,3 @@
+pub mod Balance
+pub mod Rows
+pub mod Shapes

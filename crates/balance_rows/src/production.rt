@@ -1,0 +1,228 @@
+//! The equations of production and use.
+
+ghost use Rattle.row_core.specs.Repeated.{IsTermWhere};
+ghost use Rattle.named_equations.specs.Variables.{rate_of_production_by_technology_by_mode, rate_of_production_by_technology, rate_of_use_by_technology_by_mode, rate_of_use_by_technology};
+ghost use Rattle.named_equations.specs.Where.{produces, produces_in_mode, uses, uses_in_mode};
+ghost use Rattle.row_core.specs.EquationTerms.{IsWritten, less};
+ghost use Rattle.named_equations.specs.Indices.{by_rlfy, by_rltfmy, by_rltfy};
+ghost use Rattle.named_equations.specs.Within.{IsRegion, IsTechnology, IsFuel, IsMode, IsYear};
+ghost use Rattle.balance_rows.specs.Balance.{eba1, eba2, eba3, eba4, eba5, eba6};
+
+use crate::conditions::{produces, produces_in_mode, uses, uses_in_mode};
+use crate::parameters::{input_activity_ratio, output_activity_ratio};
+use crate::sets::{MODE, TECHNOLOGY};
+use crate::shapes::is_times;
+use crate::variables::{
+    rate_of_activity, rate_of_production, rate_of_production_by_technology,
+    rate_of_production_by_technology_by_mode, rate_of_use, rate_of_use_by_technology,
+    rate_of_use_by_technology_by_mode,
+};
+use param_tables::ModelData;
+use row_core::{Index, LeftSide, Row, RowName, Sense, Stopped, minus_one, one, zero};
+use std::alloc::Global;
+
+/// EBa1: the rate of production in a mode is the rate of activity times the ratio.
+pub(crate) fn eba1(alloc: Global, facts: &ModelData, name: RowName) -> Result<Row, Stopped>
+    requires region { IsRegion facts.now.facts name.index.region }
+    requires technology { IsTechnology facts.now.facts name.index.tech }
+    requires fuel { IsFuel facts.now.facts name.index.fuel }
+    requires mode { IsMode facts.now.facts name.index.mode }
+    requires year { IsYear facts.now.facts name.index.year }
+    ensures { IsWritten name (by_rltfmy (eba1 facts.now.facts) name.index) result }
+{
+    let Index {
+        region: r,
+        slice: l,
+        tech: t,
+        fuel: f,
+        mode: m,
+        year: y,
+        ..
+    } = name.index;
+    is_times(
+        alloc,
+        name,
+        rate_of_production_by_technology_by_mode(r, l, t, f, m, y),
+        rate_of_activity(r, l, t, m, y),
+        output_activity_ratio(facts, r, t, f, m, y),
+    )
+}
+
+/// EBa2: the rate of production of a technology is that of its modes.
+pub(crate) fn eba2(alloc: Global, facts: &ModelData, name: RowName) -> Result<Row, Stopped>
+    requires region { IsRegion facts.now.facts name.index.region }
+    requires technology { IsTechnology facts.now.facts name.index.tech }
+    requires fuel { IsFuel facts.now.facts name.index.fuel }
+    requires year { IsYear facts.now.facts name.index.year }
+    ensures { IsWritten name (by_rltfy (eba2 facts.now.facts) name.index) result }
+{
+    let Index {
+        region: r,
+        slice: l,
+        tech: t,
+        fuel: f,
+        year: y,
+        ..
+    } = name.index;
+    let mut left = LeftSide::new(alloc, name);
+    left.add(rate_of_production_by_technology(r, l, t, f, y), one())?;
+    left.add_where(
+        facts.sets().count(MODE),
+        |m|
+            requires region { IsRegion facts.now.facts r }
+            requires technology { IsTechnology facts.now.facts t }
+            requires fuel { IsFuel facts.now.facts f }
+            requires mode { IsMode facts.now.facts m }
+            requires year { IsYear facts.now.facts y }
+            ensures { IsTermWhere (produces_in_mode facts.entry.now.facts r t f m y) (less (rate_of_production_by_technology_by_mode r l t f m y)) result }
+        {
+            if produces_in_mode(facts, r, t, f, m, y) {
+                Some((
+                    rate_of_production_by_technology_by_mode(r, l, t, f, m, y),
+                    minus_one(),
+                ))
+            } else {
+                None
+            }
+        },
+    )?;
+    left.write(alloc, Sense::Equal, zero())
+}
+
+/// EBa3: the rate of production is that of all technologies.
+pub(crate) fn eba3(alloc: Global, facts: &ModelData, name: RowName) -> Result<Row, Stopped>
+    requires region { IsRegion facts.now.facts name.index.region }
+    requires fuel { IsFuel facts.now.facts name.index.fuel }
+    requires year { IsYear facts.now.facts name.index.year }
+    ensures { IsWritten name (by_rlfy (eba3 facts.now.facts) name.index) result }
+{
+    let Index {
+        region: r,
+        slice: l,
+        fuel: f,
+        year: y,
+        ..
+    } = name.index;
+    let mut left = LeftSide::new(alloc, name);
+    left.add(rate_of_production(r, l, f, y), one())?;
+    left.add_where(
+        facts.sets().count(TECHNOLOGY),
+        |t|
+            requires region { IsRegion facts.now.facts r }
+            requires technology { IsTechnology facts.now.facts t }
+            requires fuel { IsFuel facts.now.facts f }
+            requires year { IsYear facts.now.facts y }
+            ensures { IsTermWhere (produces facts.entry.now.facts r t f y) (less (rate_of_production_by_technology r l t f y)) result }
+        {
+            if produces(facts, r, t, f, y) {
+                Some((rate_of_production_by_technology(r, l, t, f, y), minus_one()))
+            } else {
+                None
+            }
+        },
+    )?;
+    left.write(alloc, Sense::Equal, zero())
+}
+
+/// EBa4: the rate of use in a mode is the rate of activity times the ratio.
+pub(crate) fn eba4(alloc: Global, facts: &ModelData, name: RowName) -> Result<Row, Stopped>
+    requires region { IsRegion facts.now.facts name.index.region }
+    requires technology { IsTechnology facts.now.facts name.index.tech }
+    requires fuel { IsFuel facts.now.facts name.index.fuel }
+    requires mode { IsMode facts.now.facts name.index.mode }
+    requires year { IsYear facts.now.facts name.index.year }
+    ensures { IsWritten name (by_rltfmy (eba4 facts.now.facts) name.index) result }
+{
+    let Index {
+        region: r,
+        slice: l,
+        tech: t,
+        fuel: f,
+        mode: m,
+        year: y,
+        ..
+    } = name.index;
+    is_times(
+        alloc,
+        name,
+        rate_of_use_by_technology_by_mode(r, l, t, f, m, y),
+        rate_of_activity(r, l, t, m, y),
+        input_activity_ratio(facts, r, t, f, m, y),
+    )
+}
+
+/// EBa5: the rate of use of a technology is that of its modes.
+pub(crate) fn eba5(alloc: Global, facts: &ModelData, name: RowName) -> Result<Row, Stopped>
+    requires region { IsRegion facts.now.facts name.index.region }
+    requires technology { IsTechnology facts.now.facts name.index.tech }
+    requires fuel { IsFuel facts.now.facts name.index.fuel }
+    requires year { IsYear facts.now.facts name.index.year }
+    ensures { IsWritten name (by_rltfy (eba5 facts.now.facts) name.index) result }
+{
+    let Index {
+        region: r,
+        slice: l,
+        tech: t,
+        fuel: f,
+        year: y,
+        ..
+    } = name.index;
+    let mut left = LeftSide::new(alloc, name);
+    left.add(rate_of_use_by_technology(r, l, t, f, y), one())?;
+    left.add_where(
+        facts.sets().count(MODE),
+        |m|
+            requires region { IsRegion facts.now.facts r }
+            requires technology { IsTechnology facts.now.facts t }
+            requires fuel { IsFuel facts.now.facts f }
+            requires mode { IsMode facts.now.facts m }
+            requires year { IsYear facts.now.facts y }
+            ensures { IsTermWhere (uses_in_mode facts.entry.now.facts r t f m y) (less (rate_of_use_by_technology_by_mode r l t f m y)) result }
+        {
+            if uses_in_mode(facts, r, t, f, m, y) {
+                Some((
+                    rate_of_use_by_technology_by_mode(r, l, t, f, m, y),
+                    minus_one(),
+                ))
+            } else {
+                None
+            }
+        },
+    )?;
+    left.write(alloc, Sense::Equal, zero())
+}
+
+/// EBa6: the rate of use is that of all technologies.
+pub(crate) fn eba6(alloc: Global, facts: &ModelData, name: RowName) -> Result<Row, Stopped>
+    requires region { IsRegion facts.now.facts name.index.region }
+    requires fuel { IsFuel facts.now.facts name.index.fuel }
+    requires year { IsYear facts.now.facts name.index.year }
+    ensures { IsWritten name (by_rlfy (eba6 facts.now.facts) name.index) result }
+{
+    let Index {
+        region: r,
+        slice: l,
+        fuel: f,
+        year: y,
+        ..
+    } = name.index;
+    let mut left = LeftSide::new(alloc, name);
+    left.add(rate_of_use(r, l, f, y), one())?;
+    left.add_where(
+        facts.sets().count(TECHNOLOGY),
+        |t|
+            requires region { IsRegion facts.now.facts r }
+            requires technology { IsTechnology facts.now.facts t }
+            requires fuel { IsFuel facts.now.facts f }
+            requires year { IsYear facts.now.facts y }
+            ensures { IsTermWhere (uses facts.entry.now.facts r t f y) (less (rate_of_use_by_technology r l t f y)) result }
+        {
+            if uses(facts, r, t, f, y) {
+                Some((rate_of_use_by_technology(r, l, t, f, y), minus_one()))
+            } else {
+                None
+            }
+        },
+    )?;
+    left.write(alloc, Sense::Equal, zero())
+}

@@ -1,0 +1,102 @@
+//! The row of an equation at an index.
+
+ghost use Rattle.std.specs.Prelude.{◌≡◌, true, is_some, IfOk, IfErr, IfSome, ◌<ℤ◌, pos, not, ◌||◌};
+ghost use Rattle.exact_num.specs.Range.{all_fit};
+ghost use Rattle.row_core.specs.declared.place.Place.{Place};
+ghost use Rattle.row_core.specs.EquationTerms.{IsWritten, equation_formed};
+ghost use Rattle.row_core.specs.Stops.{IsStop};
+ghost use Rattle.named_equations.specs.Instances.{is_index, name_at, stands_at, subscripts_of};
+ghost use Rattle.named_equations.specs.Parameters.{year_split};
+ghost use Rattle.named_equations.specs.RowMeaning.{IsNamedRow};
+ghost use Rattle.balance_rows.specs.Rows.{IsBalanceEquation, terms_at};
+
+use crate::accounting::{acc1, acc2, acc3};
+use crate::conditions::{produces, produces_in_mode, uses, uses_in_mode};
+use crate::demand::eq_specified_demand;
+use crate::production::{eba1, eba2, eba3, eba4, eba5, eba6};
+use crate::timeslices::{eba7, eba8, eba9, eba10, eba11};
+use crate::years::{ebb1, ebb2, ebb3, ebb4};
+use param_tables::ModelData;
+use row_core::{Index, Row, RowName, Stopped};
+use std::alloc::Global;
+
+/// The row of demand, energy balance or accounting with this number (1 EQ_SpecifiedDemand, 7 EBa1 to 21 EBb4, 22
+/// Acc1 to 24 Acc3) at the index: what its equation says, written with whole numbers and without common divisor. A
+/// definition has its variable with a positive entry, an inequality is its left side less its right side. `None`
+/// comes exactly where the equation has no instance: at EBa1, EBa2 and Acc1 where the technology doesn't make the
+/// fuel, at EBa4, EBa5 and Acc2 where it doesn't take it.
+///
+/// Coefficients are made by multiplying and adding from left to right, those of one variable are added, and
+/// denominators are cleared. `Width` with the row's name comes exactly where there is an instance and a number
+/// that this forms lies outside the range from `-(2^127 - 1)` to `2^127 - 1`.
+pub fn rows_of(alloc: Global, facts: &ModelData, eq: u8, at: Index) -> Result<Option<Row>, Stopped>
+    requires equation { IsBalanceEquation eq }
+    requires index { is_index facts.now.facts (subscripts_of eq) at ≡ true }
+    ensures instance { IfOk result (λ found. is_some found ≡ stands_at facts.now.facts eq at) }
+    ensures row { IfOk result (λ found. IfSome found (IsNamedRow facts.now.facts (name_at eq at) (terms_at facts.now.facts (name_at eq at)))) }
+    ensures fits { IfOk result (λ found. IfSome found (λ row. all_fit (equation_formed (terms_at facts.now.facts (name_at eq at))) ≡ true)) }
+    ensures stopped { IfErr result (IsStop (Place.Row (name_at eq at)) (not (stands_at facts.now.facts eq at) || all_fit (equation_formed (terms_at facts.now.facts (name_at eq at))))) }
+{
+    if !stands(facts, eq, at) {
+        return Ok(None);
+    }
+    match row_of(alloc, facts, RowName { eq, index: at }) {
+        Ok(row) => Ok(Some(row)),
+        Err(stopped) => Err(stopped),
+    }
+}
+
+/// Whether the equation has an instance at the index.
+fn stands(facts: &ModelData, eq: u8, at: Index) -> bool
+    requires equation { IsBalanceEquation eq }
+    requires index { is_index facts.now.facts (subscripts_of eq) at ≡ true }
+    ensures { result ≡ stands_at facts.now.facts eq at }
+{
+    let Index {
+        region: r,
+        tech: t,
+        fuel: f,
+        mode: m,
+        year: y,
+        ..
+    } = at;
+    match eq {
+        7 => produces_in_mode(facts, r, t, f, m, y),
+        8 => produces(facts, r, t, f, y),
+        10 => uses_in_mode(facts, r, t, f, m, y),
+        11 => uses(facts, r, t, f, y),
+        22 => produces(facts, r, t, f, y),
+        23 => uses(facts, r, t, f, y),
+        _ => true,
+    }
+}
+
+/// The row of the equation of this name.
+fn row_of(alloc: Global, facts: &ModelData, name: RowName) -> Result<Row, Stopped>
+    requires equation { IsBalanceEquation name.eq }
+    requires index { is_index facts.now.facts (subscripts_of name.eq) name.index ≡ true }
+    ensures written { IsWritten name (terms_at facts.now.facts name) result }
+    ensures positive { name.eq ≡ 1 → pos 0 <ℤ year_split facts.now.facts name.index.slice name.index.year }
+{
+    match name.eq {
+        1 => eq_specified_demand(alloc, facts, name),
+        7 => eba1(alloc, facts, name),
+        8 => eba2(alloc, facts, name),
+        9 => eba3(alloc, facts, name),
+        10 => eba4(alloc, facts, name),
+        11 => eba5(alloc, facts, name),
+        12 => eba6(alloc, facts, name),
+        13 => eba7(alloc, facts, name),
+        14 => eba8(alloc, facts, name),
+        15 => eba9(alloc, facts, name),
+        16 => eba10(alloc, facts, name),
+        17 => eba11(alloc, facts, name),
+        18 => ebb1(alloc, facts, name),
+        19 => ebb2(alloc, facts, name),
+        20 => ebb3(alloc, facts, name),
+        21 => ebb4(alloc, facts, name),
+        22 => acc1(alloc, facts, name),
+        23 => acc2(alloc, facts, name),
+        _ => acc3(alloc, facts, name),
+    }
+}

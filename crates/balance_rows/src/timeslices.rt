@@ -1,0 +1,140 @@
+//! The energy balance of each timeslice.
+
+ghost use Rattle.row_core.specs.Amounts.{Billionths, Negative};
+ghost use Rattle.row_core.specs.Repeated.{IsTerm};
+ghost use Rattle.named_equations.specs.Parameters.{trade_route};
+ghost use Rattle.named_equations.specs.Variables.{trade};
+ghost use Rattle.row_core.specs.EquationTerms.{IsWritten};
+ghost use Rattle.named_equations.specs.Indices.{by_rlfy, by_rrrlfy};
+ghost use Rattle.named_equations.specs.Within.{IsRegion, IsSlice, IsFuel, IsYear};
+ghost use Rattle.balance_rows.specs.Balance.{eba7, eba8, eba9, eba10, eba11};
+
+use crate::parameters::{trade_route, year_split};
+use crate::sets::REGION;
+use crate::shapes::is_times;
+use crate::variables::{
+    demand, production, rate_of_demand, rate_of_production, rate_of_use, trade, use_of_fuel,
+};
+use param_tables::ModelData;
+use row_core::{Index, LeftSide, Row, RowName, Sense, Stopped, minus_one, negative, one, zero};
+use std::alloc::Global;
+
+/// EBa7: production is its rate times the part of the year.
+pub(crate) fn eba7(alloc: Global, facts: &ModelData, name: RowName) -> Result<Row, Stopped>
+    requires slice { IsSlice facts.now.facts name.index.slice }
+    requires year { IsYear facts.now.facts name.index.year }
+    ensures { IsWritten name (by_rlfy (eba7 facts.now.facts) name.index) result }
+{
+    let Index {
+        region: r,
+        slice: l,
+        fuel: f,
+        year: y,
+        ..
+    } = name.index;
+    is_times(
+        alloc,
+        name,
+        production(r, l, f, y),
+        rate_of_production(r, l, f, y),
+        year_split(facts, l, y),
+    )
+}
+
+/// EBa8: use is its rate times the part of the year.
+pub(crate) fn eba8(alloc: Global, facts: &ModelData, name: RowName) -> Result<Row, Stopped>
+    requires slice { IsSlice facts.now.facts name.index.slice }
+    requires year { IsYear facts.now.facts name.index.year }
+    ensures { IsWritten name (by_rlfy (eba8 facts.now.facts) name.index) result }
+{
+    let Index {
+        region: r,
+        slice: l,
+        fuel: f,
+        year: y,
+        ..
+    } = name.index;
+    is_times(
+        alloc,
+        name,
+        use_of_fuel(r, l, f, y),
+        rate_of_use(r, l, f, y),
+        year_split(facts, l, y),
+    )
+}
+
+/// EBa9: demand is its rate times the part of the year.
+pub(crate) fn eba9(alloc: Global, facts: &ModelData, name: RowName) -> Result<Row, Stopped>
+    requires slice { IsSlice facts.now.facts name.index.slice }
+    requires year { IsYear facts.now.facts name.index.year }
+    ensures { IsWritten name (by_rlfy (eba9 facts.now.facts) name.index) result }
+{
+    let Index {
+        region: r,
+        slice: l,
+        fuel: f,
+        year: y,
+        ..
+    } = name.index;
+    is_times(
+        alloc,
+        name,
+        demand(r, l, f, y),
+        rate_of_demand(r, l, f, y),
+        year_split(facts, l, y),
+    )
+}
+
+/// EBa10: what one region gives another is the negative of what it gets from it.
+pub(crate) fn eba10(alloc: Global, _facts: &ModelData, name: RowName) -> Result<Row, Stopped>
+    ensures { IsWritten name (by_rrrlfy (eba10 _facts.now.facts) name.index) result }
+{
+    let Index {
+        region: r,
+        other: rr,
+        slice: l,
+        fuel: f,
+        year: y,
+        ..
+    } = name.index;
+    let mut left = LeftSide::new(alloc, name);
+    left.add(trade(r, rr, l, f, y), one())?;
+    left.add(trade(rr, r, l, f, y), one())?;
+    left.write(alloc, Sense::Equal, zero())
+}
+
+/// EBa11: production covers demand, use, and the trade along the routes out of the region.
+pub(crate) fn eba11(alloc: Global, facts: &ModelData, name: RowName) -> Result<Row, Stopped>
+    requires region { IsRegion facts.now.facts name.index.region }
+    requires fuel { IsFuel facts.now.facts name.index.fuel }
+    requires year { IsYear facts.now.facts name.index.year }
+    ensures { IsWritten name (by_rlfy (eba11 facts.now.facts) name.index) result }
+{
+    let Index {
+        region: r,
+        slice: l,
+        fuel: f,
+        year: y,
+        ..
+    } = name.index;
+    let mut left = LeftSide::new(alloc, name);
+    left.add(production(r, l, f, y), one())?;
+    left.add(demand(r, l, f, y), minus_one())?;
+    left.add(use_of_fuel(r, l, f, y), minus_one())?;
+    left.add_each(
+        facts.sets().count(REGION),
+        |rr|
+            requires region { IsRegion facts.now.facts r }
+            requires other { IsRegion facts.now.facts rr }
+            requires fuel { IsFuel facts.now.facts f }
+            requires year { IsYear facts.now.facts y }
+            ensures { IsTerm (trade r rr l f y, Negative (Billionths (trade_route facts.entry.now.facts r rr f y))) result }
+        {
+            (
+                trade(r, rr, l, f, y),
+                negative(trade_route(facts, r, rr, f, y)),
+            )
+        },
+    )?;
+    left.write(alloc, Sense::Least, zero())
+}
