@@ -1,6 +1,7 @@
 """Runs the program of reading.txt on texts that it makes, and prints time and memory."""
 
 import os
+import shutil
 import subprocess
 import sys
 
@@ -13,11 +14,11 @@ def filled(piece, size=LIMIT):
 
 
 def plain():
-    """About 50 MiB of plain data: 40 regions, 50 technologies and so on."""
+    """About 50 MiB of plain data: 20 regions, 500 technologies and so on."""
     out = ["set REGION := ", " ".join(f"R{r}" for r in range(20)), ";\nparam TotalAnnualMaxCapacity default -1 :=\n"]
     for r in range(20):
-        for t in range(400):
-            for y in range(2000, 2200):
+        for t in range(500):
+            for y in range(2000, 2230):
                 out.append(f"R{r} TECH{t:03d} {y} {(r * 7919 + t * 104729 + y * 31) % 100000 / 100:.2f}\n")
     out.append(";\nend;\n")
     return "".join(out).encode()[: 52 * MIB].rsplit(b"\n", 1)[0] + b"\n;\nend;\n"
@@ -72,6 +73,25 @@ def run(program, what, path):
     return took, usage.ru_maxrss * 1024, answer if status == 0 else f"status {status}"
 
 
+# For the texts that glpsol reads as well: the parameter, its number of subscripts, and the sets that the text has.
+PEER_MODELS = {"plain data": ("TotalAnnualMaxCapacity", 3, "set REGION;\n"), "tables": ("CapacityFactor", 4, "")}
+
+
+def peer(name, path, folder):
+    """The processor time and the memory of glpsol for reading the data, by a model that only declares what they give."""
+    param, subscripts, sets = PEER_MODELS[name]
+    model = folder + "/model"
+    with open(model, "w") as file:
+        file.write(f"{sets}set INDICES dimen {subscripts};\nparam {param}{{INDICES}};\nend;\n")
+    process = subprocess.Popen(["glpsol", "--check", "--math", model, "--data", path], stdout=subprocess.PIPE)
+    answer = process.stdout.read().decode()
+    _, status, usage = os.wait4(process.pid, 0)
+    os.remove(model)
+    if status != 0 or "Model has been successfully generated" not in answer:
+        return None
+    return usage.ru_utime + usage.ru_stime, usage.ru_maxrss * 1024
+
+
 def main():
     program, folder = sys.argv[1:3]
     chosen = sys.argv[3:] or list(TEXTS)
@@ -87,6 +107,12 @@ def main():
             took = max(took - base, 1e-3)
             speed = len(text) / took / 1e6
             print(f"{name:34} {len(text) / MIB:5.1f} {what:>7} {took:8.2f} {speed:6.0f} {most / MIB:5.0f} MiB  {answer}", flush=True)
+        if name in PEER_MODELS and shutil.which("glpsol"):
+            found = peer(name, path, folder)
+            if found is None:
+                print(f"{name:34} {len(text) / MIB:5.1f}  glpsol read it not")
+            else:
+                print(f"{name:34} {len(text) / MIB:5.1f}  glpsol {found[0]:8.2f} {len(text) / found[0] / 1e6:6.1f} {found[1] / MIB:5.0f} MiB", flush=True)
     os.remove(path)
 
 

@@ -101,7 +101,7 @@ COLUMNS
  C17 R17 -1
 * AccumulatedNewCapacity[NORTH,GAS,2032]
  C18 R6 1
- C18 R18 -1
+ C18 R18 -2
 * AccumulatedNewCapacity[SOUTH,WIND,2030]
  C19 R7 1
  C19 R19 -1
@@ -131,7 +131,7 @@ COLUMNS
 * TotalCapacityAnnual[NORTH,GAS,2031]
  C29 R17 1
 * TotalCapacityAnnual[NORTH,GAS,2032]
- C30 R18 1
+ C30 R18 2
 * TotalCapacityAnnual[SOUTH,WIND,2030]
  C31 R19 1
 * TotalCapacityAnnual[SOUTH,WIND,2031]
@@ -149,7 +149,7 @@ RHS
  RHS R14 4
  RHS R16 12
  RHS R17 11
- RHS R18 10
+ RHS R18 21
  RHS R22 7
  RHS R23 7
  RHS R24 7

@@ -1,4 +1,5 @@
 mod ColumnText
 mod ColumnTurns
+mod MpsTextExamples
 mod SameVariables
 mod SortedEntries

@@ -1,5 +1,5 @@
 -- What clap's contract says of the command that it is given here.
-use Rattle.std.proofs.Common.{◌≡◌, ◌∙◌, ap, sym, refl, subst, List, [], ◌∷◌, Some, None, true, false, cond}
+use Rattle.std.proofs.Common.{◌≡◌, ◌∙◌, ap, sym, refl, subst, List, [], ◌∷◌, Some, None, true, cond}
 use Rattle.clap.specs.Words.{App, Row, Text, is_simple, matches_of}
 use Rattle.clap.specs.Kinds.{Kinds, IsAmong}
 use Rattle.clap.specs.Faults.{fault_of, is_simple_and_free}

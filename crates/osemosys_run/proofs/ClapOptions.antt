@@ -1,18 +1,18 @@
 -- What clap makes of one word that is an option, at the command that it is given here.
-use Rattle.std.proofs.Common.{◌≡◌, ◌∙◌, ◌&&◌, ◌||◌, ◌==◌, ◌+◌, arith, take, drop, ℕ, zero, suc, List, [], ◌∷◌, Option, Some, None, Bool, true, false, cond, refl, ap, sym, true≢false, option_map, length, subst}
+use Rattle.std.proofs.Common.{◌≡◌, ◌∙◌, ◌||◌, ◌==◌, ◌+◌, arith, take, drop, ℕ, suc, List, [], ◌∷◌, Option, Some, None, Bool, true, false, cond, refl, ap, sym, true≢false, option_map, length, subst}
 use Rattle.std.specs.Prelude.{codes, slice_get}
 use Rattle.std.specs.List.{list_any, before_first, after_first, position_or_len}
 use Rattle.std.specs.Char.{encode_utf8}
 use Rattle.std.specs.Str.{bytes_eq, chars, encode_utf8_all, IsUtf8}
 use Rattle.std.proofs.lemmas.Str.{IsUtf8-past_char, encodes-chars}
 use Rattle.std.proofs.lemmas.Bool.Decides.{Decides-eqb}
-use Rattle.clap.specs.Lexer.{long_of, short_of, name_and_value}
-use Rattle.clap.specs.Walk.{Held, Row, Rule, Step, Text, Waiting, Walk, after_flag, after_step, arg_by_long, idle, long_met, option, positional, settled, walked}
+use Rattle.clap.specs.Lexer.{name_and_value}
+use Rattle.clap.specs.Walk.{Held, Row, Rule, Text, Waiting, Walk, after_flag, after_step, arg_by_long, idle, long_met, option, positional, settled, walked}
 use Rattle.clap.specs.Kinds.{Kinds, or_else}
 use Rattle.clap.specs.Faults.{flags_fault, long_fault, step_fault, use_fault}
 use Rattle.osemosys_run.specs.ClapWords.{is_fault}
 use Rattle.osemosys_run.specs.WordParts.{OptionName, Gap, Pivots, Show, is_option, is_equals, option_in, joined_value, option_named, options_end}
-use Rattle.osemosys_run.proofs.ClapTurns.{at, chosen, due, next, past_end, rules, settling, shape, turn, with_due, with_joined, id_of}
+use Rattle.osemosys_run.proofs.ClapTurns.{at, chosen, due, next, rules, settling, shape, turn, with_joined}
 
 pub or_else_nil : (kinds : Kinds) → or_else kinds [] ≡ kinds
 or_else_nil [] = refl

@@ -1,22 +1,22 @@
 -- What clap finds of the words after a command is what their parts give.
-use Rattle.std.proofs.Common.{Global, ◌≡◌, ◌∙◌, ◌&&◌, ◌||◌, arith, ℕ, List, [], ◌∷◌, ◌++◌, length, map, Option, Some, None, is_some, Bool, true, false, cond, refl, ap, ap₂, sym, subst, true≢false, option_map, append_assoc, append-nil, nat_le}
+use Rattle.std.proofs.Common.{Global, ◌≡◌, ◌∙◌, ◌&&◌, ◌||◌, arith, List, [], ◌∷◌, ◌++◌, length, map, Option, Some, None, Bool, true, false, cond, refl, ap, ap₂, option_map, append_assoc, append-nil, nat_le}
 use Rattle.std.specs.Prelude.{codes, fold, find, option_and_then, slice_get, unwrap_or}
 use Rattle.std.specs.List.{AllByRecursion}
 use Rattle.std.specs.Str.{bytes_eq, IsUtf8}
 use Rattle.std.specs.String.{string_bytes}
 use Rattle.std.specs.Prelude.{String}
 use Rattle.std.proofs.lemmas.Str.{IsUtf8-string_bytes}
-use Rattle.clap.specs.Walk.{Row, Rule, Text, all_of, first_of, has_row, nothing_held, settled, idle, with_default}
-use Rattle.clap.specs.Simple.{built, matches_of}
-use Rattle.clap.specs.Kinds.{Kinds, or_else}
-use Rattle.clap.specs.Faults.{default_fault, defaults_fault, fault_of, level_fault, walk_fault}
+use Rattle.clap.specs.Walk.{Row, Text, all_of, first_of, has_row, nothing_held, settled, idle, with_default}
+use Rattle.clap.specs.Simple.{matches_of}
+use Rattle.clap.specs.Kinds.{or_else}
+use Rattle.clap.specs.Faults.{default_fault, defaults_fault, fault_of, walk_fault}
 use Rattle.clap.proofs.FaultLemmas.{leaf_fault}
 use Rattle.osemosys_run.specs.ClapWords.{app, clap_rows, is_fault}
-use Rattle.osemosys_run.specs.CommandLine.{files_in, values_in, value_in}
+use Rattle.osemosys_run.specs.CommandLine.{files_in, values_in}
 use Rattle.osemosys_run.specs.WordParts.{OptionName, Gap, Pivots, Show, Part, File, Chosen, parts_from, parts_of}
 use Rattle.osemosys_run.specs.WordReading.{Given, given_by}
 use Rattle.osemosys_run.proofs.ClapTurns.{at, chosen, file, id_of, rules, settling, shape}
-use Rattle.osemosys_run.proofs.ClapOptions.{Fails, or_else_nil}
+use Rattle.osemosys_run.proofs.ClapOptions.{or_else_nil}
 use Rattle.osemosys_run.proofs.ClapStates.{Says, fine_start, listed, nothing_given, value_of}
 use Rattle.osemosys_run.proofs.ClapWalk.{Agrees, agrees, end_of, faults, gathered, gathers}
 

@@ -1,9 +1,9 @@
 -- What clap's rows hold after one more value.
-use Rattle.std.proofs.Common.{◌≡◌, ◌∙◌, ◌||◌, ℕ, List, [], ◌∷◌, ◌++◌, Option, Some, None, is_some, Bool, true, false, cond, refl, ap, sym, true≢false, option_map}
+use Rattle.std.proofs.Common.{◌≡◌, ◌∙◌, ◌||◌, List, [], ◌∷◌, ◌++◌, Option, Some, is_some, Bool, true, false, cond, refl, ap, true≢false, option_map}
 use Rattle.std.specs.Prelude.{find, unwrap_or}
 use Rattle.std.specs.Str.{bytes_eq}
 use Rattle.std.proofs.lemmas.Slice.Eq.{bytes_eq-Decides}
-use Rattle.clap.specs.Walk.{Row, Text, all_of, at_row, has_row, more_values, with_values, without}
+use Rattle.clap.specs.Walk.{Row, Text, all_of, has_row, more_values, with_values, without}
 use Rattle.clap.specs.declared.parser.matches.ValueSource.TheVariants.{CommandLine}
 use Rattle.clap.specs.declared.builder.value_parser.Reading.{Reading}
 

@@ -1,10 +1,8 @@
 -- What is held between two words, and what it says of the words so far.
-use Rattle.std.proofs.Common.{◌≡◌, ◌∙◌, ℕ, List, [], ◌∷◌, ◌++◌, Option, Some, None, is_some, Bool, true, false, cond, refl, ap, sym, true≢false, option_map}
-use Rattle.std.specs.Prelude.{codes, not, ◌&&◌, unwrap_or}
+use Rattle.std.proofs.Common.{◌≡◌, ◌∙◌, List, [], ◌∷◌, ◌++◌, Option, Some, None, is_some, true, false, refl, ap, option_map}
+use Rattle.std.specs.Prelude.{codes, unwrap_or}
 use Rattle.std.specs.Str.{bytes_eq}
-use Rattle.clap.specs.Walk.{Held, Row, Text, all_of, has_row, nothing_held, reading_by, settled, used, with_values, without}
-use Rattle.clap.specs.Kinds.{Kinds, or_else}
-use Rattle.clap.specs.declared.error.kind.ErrorKind.TheVariants as kind
+use Rattle.clap.specs.Walk.{Held, Row, Text, all_of, has_row, nothing_held, reading_by, settled, used, with_values}
 use Rattle.clap.specs.declared.parser.matches.ValueSource.TheVariants.{CommandLine}
 use Rattle.osemosys_run.specs.WordParts.{OptionName, Gap, Pivots, Show}
 use Rattle.osemosys_run.specs.WordReading.{Given}

@@ -1,19 +1,15 @@
 -- What clap makes of one word, at the command that it is given here: computed with what is held kept abstract.
-use Rattle.std.proofs.Common.{◌≡◌, ◌∙◌, ◌&&◌, ◌||◌, ◌==◌, ◌+◌, arith, take, drop, ℕ, zero, suc, List, [], ◌∷◌, ◌++◌, Option, Some, None, is_some, Bool, true, false, cond, refl, ap, sym, subst, true≢false, option_map}
+use Rattle.std.proofs.Common.{◌≡◌, ◌&&◌, ◌==◌, ℕ, List, [], ◌∷◌, Option, Some, None, Bool, true, false, cond, refl, ap}
 use Rattle.std.specs.Prelude.{codes, ⊤}
-use Rattle.std.specs.List.{list_any, before_first, after_first, position_or_len}
 use Rattle.std.specs.Str.{bytes_eq}
-use Rattle.clap.specs.Lexer.{long_of, short_of, name_and_value}
-use Rattle.clap.specs.Walk.{Held, Names, after_flag, after_step, long_met, Row, Rule, Step, Text, Waiting, Walk, idle, option, positional, pushed, arg_by_long, held_of, reacted, settled, used, walked, subcommand_met}
-use Rattle.clap.specs.Simple.{App, Shape, built}
-use Rattle.clap.specs.Kinds.{Kinds, or_else}
-use Rattle.clap.specs.Faults.{settle_fault, step_fault, turn_fault, use_fault, long_fault}
-use Rattle.clap.specs.declared.builder.action.ArgAction.TheVariants.{Set, Append}
-use Rattle.clap.specs.declared.builder.range.ValueRange.{ValueRange}
+use Rattle.clap.specs.Lexer.{long_of, short_of}
+use Rattle.clap.specs.Walk.{Held, Rule, Text, Waiting, Walk, idle, option, positional, pushed, reacted, settled, walked}
+use Rattle.clap.specs.Simple.{Shape, built}
+use Rattle.clap.specs.Kinds.{Kinds}
+use Rattle.clap.specs.Faults.{settle_fault, turn_fault}
 use Rattle.clap.specs.declared.builder.value_parser.ValueParser.TheVariants as vp
-use Rattle.clap.specs.declared.error.kind.ErrorKind.TheVariants as kind
-use Rattle.osemosys_run.specs.ClapWords.{app, file_rule, option_rule, is_fault}
-use Rattle.osemosys_run.specs.WordParts.{OptionName, Gap, Pivots, Show, Part, File, Chosen, is_option, is_equals, option_in, joined_value, option_named}
+use Rattle.osemosys_run.specs.ClapWords.{app, file_rule, option_rule}
+use Rattle.osemosys_run.specs.WordParts.{OptionName, Gap, Pivots, Show, is_option}
 
 -- what building makes of an argument: one value a use
 abbrev filled_with : Rule → Option ℕ → Rule

@@ -1,17 +1,16 @@
 -- What clap makes of all words is what their parts say.
-use Rattle.std.proofs.Common.{◌≡◌, ◌∙◌, ℕ, List, [], ◌∷◌, ◌++◌, map, Option, Some, None, is_some, Bool, true, false, cond, refl, ap, sym, subst, true≢false, option_map}
-use Rattle.std.specs.Prelude.{codes, fold, option_and_then, ⊤}
+use Rattle.std.proofs.Common.{◌≡◌, ◌∙◌, List, [], ◌∷◌, map, Option, Some, None, is_some, Bool, true, false, cond, refl, ap, sym, subst}
+use Rattle.std.specs.Prelude.{fold, option_and_then}
 use Rattle.std.specs.List.{AllByRecursion}
 use Rattle.std.specs.Str.{bytes_eq, IsUtf8}
 use Rattle.std.proofs.lemmas.Slice.Eq.{bytes_eq-Decides}
-use Rattle.clap.specs.Walk.{Held, Row, Text, Waiting, Walk, idle, option, positional, settled}
+use Rattle.clap.specs.Walk.{Held, Text, Waiting, Walk, idle, option, positional, settled}
 use Rattle.clap.specs.Kinds.{Kinds, or_else}
 use Rattle.clap.specs.Faults.{walk_fault}
-use Rattle.osemosys_run.specs.ClapWords.{is_fault}
 use Rattle.osemosys_run.specs.WordParts.{OptionName, Part, File, Chosen, followed, is_option, joined_value, option_in, option_parts, options_end, parts_from}
 use Rattle.osemosys_run.specs.WordReading.{Given}
 use Rattle.osemosys_run.proofs.ClapTurns.{IsReady, at, due, id_of, end_next, end_turn, file_next, file_turn, next, past_end, past_next, past_turn, rules, settling, shape, turn, value_next, value_turn, with_due, with_file, with_joined, with_value}
-use Rattle.osemosys_run.proofs.ClapOptions.{Fails, IsApart, IsJoined, IsUnknown, Kind, apart, fails_first, fails_then, joined, kind_of_option, option_fails, unknown, using}
+use Rattle.osemosys_run.proofs.ClapOptions.{Fails, IsJoined, Kind, apart, fails_first, fails_then, joined, kind_of_option, option_fails, unknown, using}
 use Rattle.osemosys_run.proofs.ClapStates.{IsFine, Says, due_fails, file_added, fine_file, fine_joined, fine_value, second_value, settle_value, first_value, value_added, value_of}
 
 -- ---- what the parts give, one after the other

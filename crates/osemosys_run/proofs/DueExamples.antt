@@ -1,82 +1,57 @@
--- What is due for worked examples: the words, the files, the status and the text.
-use Rattle.std.proofs.Common.{◌≡◌, ℕ, ◌<◌, ◌≤◌, ◌-◌, ◌^◌, ◌||◌, Bool, true, false, List, [], ◌∷◌, ◌++◌, length, refl, sym, ap, arith, Global}
-use Rattle.std.specs.Prelude.{pos, codes, Option, Some, None}
+-- What is due for worked examples: the words, the files, the status and the text; and what isn't.
+use Rattle.std.proofs.Common.{◌≡◌, ℕ, ◌<◌, ◌≤◌, ◌-◌, ◌^◌, List, [], ◌∷◌, ◌++◌, length, refl, sym, ap, subst, arith, inl, inr, Bool, true, MatchBool, nat_lt}
+use Rattle.std.specs.Prelude.{codes, Option, Some, None, ⊤}
 use Rattle.std.specs.Fmt.{digits}
-use Rattle.std.specs.List.{AllByRecursion}
-use Rattle.std.proofs.lemmas.Int.{ints}
-use Rattle.row_core.specs.Names.{new_capacity, accumulated_new_capacity, total_capacity_annual}
-use Rattle.osemosys_run.specs.Due.{WritesEquations, HasFixedForm, DueForMps, DueForFile, Due, Sight, CausedByFile, Caused, Delivers}
-use Rattle.osemosys_run.specs.Equations.{instances, IsRowOf, AreRowsOf}
-use Rattle.osemosys_run.specs.MpsText.{is_same_variable, AreColumns, HasWords}
-use Rattle.osemosys_run.proofs.EquationExamples.{first_path, at}
-use Rattle.osemosys_run.proofs.FirstPathExample.{first_file, first_file_form}
-use Rattle.osemosys_run.proofs.MpsTextExamples.{caa1_2020, caa1_2021, caa2_2020, caa2_2021, rows, columns, text, whole_text}
-use Rattle.osemosys_run.proofs.RowEntries.{accumulated-both, totals-both}
-use Rattle.osemosys_run.specs.declared.capacity_rows.Equation.TheVariants.{CAa1, CAa2}
+use Rattle.mathprog_data.specs.Meaning.{Blocks}
+use Rattle.model_sets.specs.declared.fault.SetFault.{SetFault}
+use Rattle.param_tables.specs.Refusals.{Refusal as DataRefusal, first_refusal}
+use Rattle.param_tables.specs.SetRefusals.{first_set_refusal}
+use Rattle.model_sets.specs.Data.{Data}
+use Rattle.row_core.specs.declared.RowName.{RowName}
+use Rattle.row_core.specs.declared.place.Place.{Place}
+use Rattle.osemosys_run.specs.Codes.{code_of}
+use Rattle.osemosys_run.specs.Due.{too_long_line, DueForEquations, DueForData, DueForBlocks, DueForMps, DueForFile, Due, Sight, CausedByFile, Caused, Delivers}
+use Rattle.osemosys_run.specs.Written.{first_wide}
 use Rattle.osemosys_run.specs.declared.status.Status.{Status}
-use Rattle.osemosys_run.specs.declared.status.Status.TheVariants.{Done, Refused, Words, ReadFault, WriteFault, Memory}
+use Rattle.osemosys_run.specs.declared.status.Status.TheVariants.{Done, Uncertified, Refused, Words, ReadFault, WriteFault, Memory}
 use Rattle.osemosys_run.specs.declared.status.Refusal.TheVariants as refusals
+use Rattle.osemosys_run.specs.declared.status.Stop.{Stop}
 use Rattle.osemosys_run.specs.declared.status.WordFault.TheVariants as faults
 use Rattle.osemosys_run.specs.declared.status.ReadStop.TheVariants as stops
 use Rattle.io_edges.specs.Count.{Rose}
 use Rattle.io_edges.specs.Edges.{Lacks}
-use Rattle.osemosys_run.specs.Reading.{IsTooLong}
-use mathlib.Core.Logic.{inl, inr}
+use Rattle.osemosys_run.specs.Reading.{most_bytes, IsTooLong}
 
--- ---- the rows of the first path's file
+-- ---- what may come of a file's bytes
 
--- one of six, and one of these nine, each of which is one of the six
-one_by_one : (a b c d e f : Bool) → (a || (b || (c || (d || (e || (f || false)))))) ≡ (a || (c || (a || (b || (d || (c || (e || (d || (f || false)))))))))
-one_by_one true b c d e f = refl
-one_by_one false true true d e f = refl
-one_by_one false true false d e f = refl
-one_by_one false false true d e f = refl
-one_by_one false false false true e f = refl
-one_by_one false false false false true f = refl
-one_by_one false false false false false true = refl
-one_by_one false false false false false false = refl
+-- the statuses that `mps` has over the bytes of its file
+abbrev Comes : Status → Type 0
+Comes Done = ⊤
+Comes (Uncertified stop) = ⊤
+Comes (Refused (refusals.Text fault)) = ⊤
+Comes (Refused (refusals.Sets fault)) = ⊤
+Comes (Refused (refusals.Build fault)) = ⊤
+Comes (Refused (refusals.TooLong file)) = ⊥
+Comes (Words fault) = ⊥
+Comes (ReadFault stop) = ⊥
+Comes WriteFault = ⊥
+Comes Memory = ⊥
 
-module _ (memory : Global) where
-  row_1 : IsRowOf first_path (at CAa1 0 0 0) (caa1_2020 memory)
-  row_1 = record { named = refl; defines = omega (arith, ints); same = λ q x positive. accumulated-both 0 0 0 (0 ∷ []) x (pos q) }
+comes_of_equations : (d : Data) (wide : Option RowName) (status : Status) (text : List ℕ) → DueForEquations d wide status text → Comes status
+comes_of_equations d None status text due = subst Comes (sym due.0) tt
+comes_of_equations d (Some name) status text due = subst Comes (sym due.0) tt
 
-  row_2 : IsRowOf first_path (at CAa1 0 0 1) (caa1_2021 memory)
-  row_2 = record { named = refl; defines = omega (arith, ints); same = λ q x positive. accumulated-both 0 0 1 (0 ∷ 1 ∷ []) x (pos q) }
+comes_of_data : (blocks : Blocks) (refusal : Option DataRefusal) (status : Status) (text : List ℕ) → DueForData blocks refusal status text → Comes status
+comes_of_data blocks None status text due = comes_of_equations due.0 (first_wide due.0) status text due.2
+comes_of_data blocks (Some refusal) status text due = subst Comes (sym due.status_is) tt
 
-  row_3 : IsRowOf first_path (at CAa2 0 0 0) (caa2_2020 memory)
-  row_3 = record { named = refl; defines = omega (arith, ints); same = λ q x positive. totals-both (x (accumulated_new_capacity 0 0 0)) (x (total_capacity_annual 0 0 0)) (pos q) 7 }
+comes_of_blocks : (blocks : Blocks) (fault : Option SetFault) (status : Status) (text : List ℕ) → DueForBlocks blocks fault status text → Comes status
+comes_of_blocks blocks None status text due = comes_of_data blocks (first_refusal blocks) status text due
+comes_of_blocks blocks (Some fault) status text due = subst Comes (sym due.0) tt
 
-  row_4 : IsRowOf first_path (at CAa2 0 0 1) (caa2_2021 memory)
-  row_4 = record { named = refl; defines = omega (arith, ints); same = λ q x positive. totals-both (x (accumulated_new_capacity 0 0 1)) (x (total_capacity_annual 0 0 1)) (pos q) 3 }
-
-  four_rows : AreRowsOf first_path (instances first_path) (rows memory)
-  four_rows = (row_1, (row_2, (row_3, (row_4, tt))))
-
-  -- the columns are the variables of the rows
-  six_columns : AreColumns (rows memory) columns
-  six_columns = record {
-    ascending = refl;
-    each = λ v.
-        one_by_one (is_same_variable (new_capacity 0 0 0) v) (is_same_variable (new_capacity 0 0 1) v) (is_same_variable (accumulated_new_capacity 0 0 0) v)
-        (is_same_variable (accumulated_new_capacity 0 0 1) v) (is_same_variable (total_capacity_annual 0 0 0) v) (is_same_variable (total_capacity_annual 0 0 1) v);
-  }
-
-  -- equations and kinds have words
-  row_words : AllByRecursion HasWords (rows memory)
-  row_words = (
-    record { equation = (omega arith, omega arith); kinds = ((omega arith, omega arith), ((omega arith, omega arith), tt)) },
-    (
-      record { equation = (omega arith, omega arith); kinds = ((omega arith, omega arith), ((omega arith, omega arith), ((omega arith, omega arith), tt))) },
-      (
-        record { equation = (omega arith, omega arith); kinds = ((omega arith, omega arith), ((omega arith, omega arith), tt)) },
-        (record { equation = (omega arith, omega arith); kinds = ((omega arith, omega arith), ((omega arith, omega arith), tt)) }, tt),
-      ),
-    ),
-  )
-
-  -- the text is that of the equations
-  writes : WritesEquations first_path text
-  writes = (rows memory, four_rows, record { words = row_words; columns = columns; are_columns = six_columns; is = sym (whole_text memory) })
+comes_of : (bytes : List ℕ) (status : Status) (text : List ℕ) → DueForMps bytes status text → Comes status
+comes_of bytes status text (inl refused) = subst Comes (sym refused.2) tt
+comes_of bytes status text (inr said) = comes_of_blocks said.0 (first_set_refusal said.0) status text said.2
 
 -- ---- what is due
 
@@ -87,52 +62,31 @@ mps_file = codes "mps" ∷ codes "FILE" ∷ []
 abbrev with_file : List ℕ → List (List ℕ × List ℕ)
 with_file bytes = (codes "FILE", bytes) ∷ []
 
--- the text of the first path's file, after other files and before a second one of its name
-first_path_due : Global → Due mps_file ((codes "FILES", []) ∷ (codes "FILE", first_file) ∷ (codes "FILE", []) ∷ []) Done text
-first_path_due memory = inl (first_path, first_file_form, refl, writes memory)
-
--- and no refusal
-first_path_not_refused : (line : List ℕ) → Due mps_file (with_file first_file) (Refused refusals.NotYet) line → ⊥
-first_path_not_refused line (inl h) = let same : Refused refusals.NotYet ≡ Done = h.2 in cc
-first_path_not_refused line (inr h) = h.0 (first_path, first_file_form)
-
--- a file of no bytes
-no_form : HasFixedForm [] → ⊥
-no_form (facts, form) = nothing_in form.spelled.1.gap (codes "et" ++ form.spelled.0) form.spelled.1.parts
-  where
-    nothing_in : (gap rest : List ℕ) → [] ≡ gap ++ (115 ∷ rest) → ⊥
-    nothing_in [] rest e = cc e
-    nothing_in (b ∷ gap) rest e = cc e
-
-no_bytes_due : Due mps_file (with_file []) (Refused refusals.NotYet) (codes "refused NotYet\n")
-no_bytes_due = inr (no_form, refl, refl)
-
-no_bytes_not_done : (line : List ℕ) → Due mps_file (with_file []) Done line → ⊥
-no_bytes_not_done line (inl h) = no_form (h.0, h.1)
-no_bytes_not_done line (inr h) = let same : Done ≡ Refused refusals.NotYet = h.1 in cc
-
 -- no file of that name
-missing_due : Due mps_file ((codes "FILES", first_file) ∷ (codes "FIL", first_file) ∷ []) (ReadFault (stops.NoFile 1)) (codes "no such file 1\n")
+missing_due : Due mps_file ((codes "FILES", []) ∷ (codes "FIL", []) ∷ []) (ReadFault (stops.NoFile 1)) (codes "no such file 1\n")
 unfolding digits
 missing_due = (refl, refl)
 
-missing_not_refused : (line : List ℕ) → Due mps_file [] (Refused refusals.NotYet) line → ⊥
+missing_not_refused : (line : List ℕ) → Due mps_file [] (Refused (refusals.TooLong 1)) line → ⊥
 missing_not_refused line h = cc h.0
 
 second_file_missing : (line : List ℕ) → Due mps_file [] (ReadFault (stops.NoFile 2)) line → ⊥
 second_file_missing line h = cc h.0
 
 -- words that ask for nothing, whatever the files are
-words_due : Due (codes "mps" ∷ []) (with_file first_file) (Words faults.BadForm) (codes "words refused BadForm\n")
+words_due : Due (codes "mps" ∷ []) (with_file []) (Words faults.BadForm) (codes "words refused BadForm\n")
 words_due = (refl, refl)
 
-other_fault : (line : List ℕ) → Due (codes "mps" ∷ []) (with_file first_file) (Words faults.BadCommand) line → ⊥
+other_fault : (line : List ℕ) → Due (codes "mps" ∷ []) (with_file []) (Words faults.BadCommand) line → ⊥
 other_fault line h = cc h.0
 
 -- a file of 64 MiB and a byte is too long, and one of 64 MiB isn't
 too_long_due : (bytes : List ℕ) → length bytes ≡ 67108865 → DueForFile (Some bytes) (Refused (refusals.TooLong 1)) (codes "refused too long file 1\n")
 unfolding digits
-too_long_due bytes e = rw e (refl, refl)
+too_long_due bytes e =
+    let longer : nat_lt most_bytes (length bytes) ≡ true = ap (nat_lt most_bytes) e in
+    subst (λ (b : Bool). MatchBool b ((Refused (refusals.TooLong 1) ≡ Refused (refusals.TooLong 1)) × (codes "refused too long file 1\n" ≡ too_long_line 1)) (DueForMps bytes (Refused (refusals.TooLong 1)) (codes "refused too long file 1\n")))
+    (sym longer) (refl, refl)
 
 not_too_long : (bytes line : List ℕ) → length bytes ≡ 67108864 → DueForFile (Some bytes) (Refused (refusals.TooLong 1)) line → DueForMps bytes (Refused (refusals.TooLong 1)) line
 not_too_long bytes line e h = rw e at h
@@ -208,8 +162,7 @@ failed_at_last = (refl, inr (inr (inr (refl, refl, omega arith))))
 
 -- no read fault where it didn't
 rose_at_failure : (name line : List ℕ) (before after : Sight) → CausedByFile name before after (ReadFault (stops.Failed 1)) line → Rose before.faults after.faults
-rose_at_failure name line before after (inl (bytes, whole, inl due)) = let same : ReadFault (stops.Failed 1) ≡ Done = due.2 in absurd (cc same)
-rose_at_failure name line before after (inl (bytes, whole, inr due)) = let same : ReadFault (stops.Failed 1) ≡ Refused refusals.NotYet = due.1 in absurd (cc same)
+rose_at_failure name line before after (inl (bytes, whole, due)) = absurd (comes_of bytes (ReadFault (stops.Failed 1)) line due)
 rose_at_failure name line before after (inr (inl h)) = let same : ReadFault (stops.Failed 1) ≡ Refused (refusals.TooLong 1) = h.0 in absurd (cc same)
 rose_at_failure name line before after (inr (inr (inl h))) = let same : ReadFault (stops.Failed 1) ≡ ReadFault (stops.NoFile 1) = h.0 in absurd (cc same)
 rose_at_failure name line before after (inr (inr (inr h))) = h.2
@@ -228,8 +181,7 @@ failed_begun_twice line h = let once : 2 ≡ 1 = h.0 in omega (arith, once)
 
 -- a shelf that doesn't tell its files has no missing file
 lacks_at_missing : (name line : List ℕ) (before after : Sight) → CausedByFile name before after (ReadFault (stops.NoFile 1)) line → Lacks before.files name
-lacks_at_missing name line before after (inl (bytes, whole, inl due)) = let same : ReadFault (stops.NoFile 1) ≡ Done = due.2 in absurd (cc same)
-lacks_at_missing name line before after (inl (bytes, whole, inr due)) = let same : ReadFault (stops.NoFile 1) ≡ Refused refusals.NotYet = due.1 in absurd (cc same)
+lacks_at_missing name line before after (inl (bytes, whole, due)) = absurd (comes_of bytes (ReadFault (stops.NoFile 1)) line due)
 lacks_at_missing name line before after (inr (inl h)) = let same : ReadFault (stops.NoFile 1) ≡ Refused (refusals.TooLong 1) = h.0 in absurd (cc same)
 lacks_at_missing name line before after (inr (inr (inl h))) = h.2
 lacks_at_missing name line before after (inr (inr (inr h))) = let same : ReadFault (stops.NoFile 1) ≡ ReadFault (stops.Failed 1) = h.0 in absurd (cc same)
@@ -244,8 +196,7 @@ too_long_caused taken more within = (refl, inr (inl (refl, refl, record { many_t
 
 -- and no fewer
 many_at_too_long : (name line : List ℕ) (before after : Sight) → CausedByFile name before after (Refused (refusals.TooLong 1)) line → IsTooLong before.files name after.taken
-many_at_too_long name line before after (inl (bytes, whole, inl due)) = let same : Refused (refusals.TooLong 1) ≡ Done = due.2 in absurd (cc same)
-many_at_too_long name line before after (inl (bytes, whole, inr due)) = let same : Refused (refusals.TooLong 1) ≡ Refused refusals.NotYet = due.1 in absurd (cc same)
+many_at_too_long name line before after (inl (bytes, whole, due)) = absurd (comes_of bytes (Refused (refusals.TooLong 1)) line due)
 many_at_too_long name line before after (inr (inl h)) = h.2
 many_at_too_long name line before after (inr (inr (inl h))) = let same : Refused (refusals.TooLong 1) ≡ ReadFault (stops.NoFile 1) = h.0 in absurd (cc same)
 many_at_too_long name line before after (inr (inr (inr h))) = let same : Refused (refusals.TooLong 1) ≡ ReadFault (stops.Failed 1) = h.0 in absurd (cc same)

@@ -3,11 +3,10 @@ use Rattle.std.proofs.Common.{◌≡◌, false, [], ◌∷◌, refl}
 use Rattle.std.specs.Prelude.{codes, Ok, Err}
 use Rattle.std.specs.Fmt.{digits}
 use Rattle.osemosys_run.specs.declared.status.WordFault.TheVariants.{NoCommand, BadCommand, BadForm}
-use Rattle.osemosys_run.specs.declared.status.Refusal.TheVariants as refusals
 use Rattle.osemosys_run.specs.declared.status.ReadStop.TheVariants as stops
 use Rattle.osemosys_run.specs.Words.{Mps, asked}
 use Rattle.osemosys_run.specs.WordParts.{is_option}
-use Rattle.osemosys_run.specs.Due.{words_line, stop_line, refusal_line}
+use Rattle.osemosys_run.specs.Due.{words_line, stop_line, too_long_line}
 
 -- ---- words
 
@@ -100,15 +99,12 @@ failed_line : stop_line (stops.Failed 1) ≡ codes "read fault file 1\n"
 unfolding digits
 failed_line = refl
 
-not_yet_line : refusal_line refusals.NotYet ≡ codes "refused NotYet\n"
-not_yet_line = refl
-
-too_long_line : refusal_line (refusals.TooLong 1) ≡ codes "refused too long file 1\n"
+first_file_line : too_long_line 1 ≡ codes "refused too long file 1\n"
 unfolding digits
-too_long_line = refl
+first_file_line = refl
 
 -- the number of a file is written whole
-third_file_line : refusal_line (refusals.TooLong 3) ≡ codes "refused too long file 3\n"
+third_file_line : too_long_line 3 ≡ codes "refused too long file 3\n"
 unfolding digits
 third_file_line = refl
 

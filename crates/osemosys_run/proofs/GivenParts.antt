@@ -1,9 +1,9 @@
 -- A command with its parts is the command with what the parts give.
-use Rattle.std.proofs.Common.{◌≡◌, ◌∙◌, ◌&&◌, ◌||◌, arith, ℕ, List, [], ◌∷◌, length, Option, Some, None, is_some, Bool, true, false, cond, refl, ap, ap₂, sym, true≢false, nat_le}
+use Rattle.std.proofs.Common.{◌≡◌, ◌∙◌, ◌&&◌, ◌||◌, arith, ℕ, List, [], ◌∷◌, length, Option, Some, None, is_some, Bool, true, false, cond, refl, sym, true≢false, nat_le}
 use Rattle.std.specs.Prelude.{not, slice_get}
-use Rattle.osemosys_run.specs.CommandLine.{AnyCommand, CommandName, allows, command_with, has_option, values_in, value_in}
-use Rattle.osemosys_run.specs.WordParts.{OptionName, Gap, Pivots, Show, Part}
-use Rattle.osemosys_run.specs.WordReading.{command_by, given_by, is_once, may_have}
+use Rattle.osemosys_run.specs.CommandLine.{CommandName, allows, command_with, has_option, values_in}
+use Rattle.osemosys_run.specs.WordParts.{Gap, Pivots, Show, Part}
+use Rattle.osemosys_run.specs.WordReading.{command_by, given_by, is_once}
 
 -- at most one value: the option is allowed where the command has it, or there is no value
 once_allows : (values : List (List ℕ)) (has : Bool) → nat_le (length values) 1 ≡ true → nat_le (length values) (cond has 1 0) ≡ (not (is_some (slice_get values 0)) || has)

@@ -6,7 +6,7 @@ use Rattle.std.specs.Ordering.{is_lt, is_eq, ordering_reverse}
 use Rattle.row_core.specs.declared.Var.{Var}
 use Rattle.row_core.specs.Order.{var_cmp}
 use Rattle.row_core.proofs.Orders.{var_cmp_total, var_cmp_exact}
-use Rattle.osemosys_run.specs.MpsText.{is_same_variable}
+use Rattle.mps_writer.specs.MpsText.{is_same_variable}
 
 -- v is before w where w isn't before v and isn't v
 later-by : (o p : Ordering) → p ≡ ordering_reverse o → is_lt o ≡ false → is_eq o ≡ false → p ≡ Less

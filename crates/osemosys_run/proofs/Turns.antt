@@ -1,6 +1,6 @@
 -- Loops over lists: what is left at one turn, and what each element keeps.
-use Rattle.std.proofs.Common.{◌≡◌, ℕ, zero, suc, ◌+◌, ◌<◌, List, [], ◌∷◌, ◌++◌, Bool, true, false, cond, length, get_or, drop, refl, ap, sym, ◌∙◌, map, arith, ◌||◌}
-use Rattle.std.specs.List.{AllByRecursion, flat_map, enumerate_from, list_any}
+use Rattle.std.proofs.Common.{◌≡◌, ℕ, zero, suc, ◌+◌, ◌<◌, List, [], ◌∷◌, ◌++◌, length, get_or, drop, ap, sym, ◌∙◌, arith}
+use Rattle.std.specs.List.{AllByRecursion, flat_map, enumerate_from}
 use Rattle.std.proofs.lemmas.List.{at_drop_more}
 
 -- what holds of each element holds of the one at a place

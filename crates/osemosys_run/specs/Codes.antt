@@ -1,11 +1,12 @@
--- The exit status of each end of a call. The numbers in between belong to ends that solving will add.
+-- The exit status of each end of a call. The numbers that are missing, 1, 2 and 9, belong to ends that solving and checking will add.
 use Rattle.std.specs.Prelude.{ℕ}
 use Rattle.osemosys_run.specs.declared.status.Status.{Status}
-use Rattle.osemosys_run.specs.declared.status.Status.TheVariants.{Done, Refused, Words, ReadFault, WriteFault, Memory}
+use Rattle.osemosys_run.specs.declared.status.Status.TheVariants.{Done, Uncertified, Refused, Words, ReadFault, WriteFault, Memory}
 
 -- the exit status
 abbrev pub code_of : Status → ℕ
 code_of Done = 0
+code_of (Uncertified stop) = 3
 code_of (Refused refusal) = 4
 code_of (Words fault) = 5
 code_of (ReadFault stop) = 6

@@ -1,25 +1,39 @@
 -- Which status and which text are due, in the order of work: the words, the file, what it says.
-use Rattle.std.specs.Prelude.{◌≡◌, ◌≢◌, ℕ, ◌≤◌, List, [], ◌∷◌, ◌++◌, length, map, codes, MatchBool, nat_lt, ◌⊎◌, ◌==◌, ◌||◌, if◌then◌else◌, Option, Some, None, Result, Ok, Err}
+use Rattle.std.specs.Prelude.{◌≡◌, ◌≢◌, ℕ, ◌≤◌, List, [], ◌++◌, length, codes, MatchBool, nat_lt, ◌⊎◌, Option, Some, None, Result, Ok, Err}
 use Rattle.std.specs.Fmt.{decimal}
-use Rattle.row_core.specs.declared.Row.{Row}
+use Rattle.row_core.specs.declared.RowName.{RowName}
+use Rattle.row_core.specs.declared.place.Place.{Place}
+use Rattle.mathprog_data.specs.declared.fault.DataFault.{DataFault}
+use Rattle.mathprog_data.specs.Meaning.{Blocks}
+use Rattle.mathprog_data.specs.Verdicts.{Says, FaultAt}
+use Rattle.model_sets.specs.declared.fault.SetFault.{SetFault}
+use Rattle.mps_writer.specs.MpsText.{line}
+use Rattle.model_sets.specs.Data.{Data}
+use Rattle.model_sets.specs.Members.{SetLists}
+use Rattle.param_tables.specs.BlockData.{data_told, set_lists}
+use Rattle.param_tables.specs.Built.{AreSameData}
+use Rattle.param_tables.specs.Refusals.{Refusal as DataRefusal, first_refusal}
+use Rattle.param_tables.specs.SetRefusals.{first_set_refusal}
+use Rattle.param_tables.specs.Told.{NamesCell, refusal_told}
+use Rattle.param_tables.specs.declared.fault.BuildFault.{BuildFault}
+use Rattle.row_core.specs.NameTexts.{row_name}
 use Rattle.io_edges.specs.Count.{counted, Rose}
 use Rattle.io_edges.specs.Edges.{Lacks}
 use Rattle.io_edges.specs.Files.{file_named}
 use Rattle.io_edges.specs.Told.{WhereTold}
 use Rattle.osemosys_run.specs.declared.status.Status.{Status}
-use Rattle.osemosys_run.specs.declared.status.Status.TheVariants.{Done, Refused, Words, ReadFault, WriteFault, Memory}
-use Rattle.osemosys_run.specs.declared.status.Refusal.{Refusal}
+use Rattle.osemosys_run.specs.declared.status.Status.TheVariants.{Done, Uncertified, Refused, Words, ReadFault, WriteFault, Memory}
 use Rattle.osemosys_run.specs.declared.status.Refusal.TheVariants as refusals
+use Rattle.osemosys_run.specs.declared.status.Stop.{Stop}
 use Rattle.osemosys_run.specs.declared.status.WordFault.{WordFault}
 use Rattle.osemosys_run.specs.declared.status.WordFault.TheVariants as faults
 use Rattle.osemosys_run.specs.declared.status.ReadStop.{ReadStop}
 use Rattle.osemosys_run.specs.declared.status.ReadStop.TheVariants as stops
-use Rattle.osemosys_run.specs.Equations.{instances, AreRowsOf}
-use Rattle.osemosys_run.specs.FixedForm.{Facts, IsFixedForm}
-use Rattle.osemosys_run.specs.MpsText.{Members, IsMpsText, line}
 use Rattle.osemosys_run.specs.Reading.{most_bytes, IsWholeFile, IsTooLong}
+use Rattle.osemosys_run.specs.RefusalLines.{text_line, set_line, data_line}
 use Rattle.osemosys_run.specs.Sending.{HoldsFrontOf}
 use Rattle.osemosys_run.specs.Words.{Request, Mps, asked}
+use Rattle.osemosys_run.specs.Written.{WritesEquations, first_wide}
 
 -- ---- one-line texts
 
@@ -41,43 +55,52 @@ abbrev pub stop_line : ReadStop → List ℕ
 stop_line (stops.NoFile file) = line (codes "no such file " ++ decimal file)
 stop_line (stops.Failed file) = line (codes "read fault file " ++ decimal file)
 
--- the line for a refused input
-abbrev pub refusal_line : Refusal → List ℕ
-refusal_line refusals.NotYet = line (codes "refused NotYet")
-refusal_line (refusals.TooLong file) = line (codes "refused too long file " ++ decimal file)
+-- the line for a file of more than the most bytes
+abbrev pub too_long_line : ℕ → List ℕ
+too_long_line file = line (codes "refused too long file " ++ decimal file)
 
--- ---- the equations of a file
-
--- the members by place: regions, regions again, technologies and years
-abbrev pub members_of : Facts → Members
-members_of facts place =
-    if place == 0 || place == 1 then facts.regions
-    else if place == 3 then facts.technologies
-    else if place == 7 then map decimal facts.years
-    else []
-
--- the text is that of one row for each instance, in order
-abbrev pub WritesEquations : Facts → List ℕ → Type 0
-WritesEquations facts text = (rows : List Row) × AreRowsOf facts (instances facts) rows × IsMpsText (members_of facts) rows text
-
--- the text says facts in the fixed form
-abbrev pub HasFixedForm : List ℕ → Type 0
-HasFixedForm bytes = (facts : Facts) × IsFixedForm bytes facts
+-- the line for a row in which a number doesn't fit
+abbrev pub width_line : SetLists → RowName → List ℕ
+width_line sets name = line (codes "uncertified width row " ++ row_name sets name)
 
 -- ---- what is due over files that are known
 
--- for `mps` over the bytes of its file: its equations where it is of the fixed form, else the refusal
+-- for `mps` over accepted data: its equations, or the first of their rows in which a number doesn't fit
+abbrev pub DueForEquations : Data → Option RowName → Status → List ℕ → Type 0
+DueForEquations d None status text = (status ≡ Done) × WritesEquations d text
+DueForEquations d (Some name) status text = (status ≡ Uncertified (Stop.Width (Place.Row name))) × (text ≡ width_line d.sets name)
+
+-- the status tells the refusal of the data, with an index of the parameter's own where it names one, and the text is its line
+pub record RefusesData (sets : SetLists) (refusal : DataRefusal) (status : Status) (text : List ℕ) : Type 0 where
+  pub fault : BuildFault
+  pub status_is : status ≡ Refused (refusals.Build fault)
+  pub told : refusal_told sets fault ≡ refusal
+  pub names : NamesCell sets fault
+  pub text_is : text ≡ data_line refusal
+
+-- for `mps` over the blocks of its file, whose sets aren't refused: the first refusal of the data, or what is due over data with the same
+-- sets and the same values as the blocks
+abbrev pub DueForData : Blocks → Option DataRefusal → Status → List ℕ → Type 0
+DueForData blocks None status text = (d : Data) × AreSameData d (data_told blocks) × DueForEquations d (first_wide d) status text
+DueForData blocks (Some refusal) status text = RefusesData (set_lists blocks) refusal status text
+
+-- for `mps` over the blocks of its file: the first refusal of the sets, or what is due over them
+abbrev pub DueForBlocks : Blocks → Option SetFault → Status → List ℕ → Type 0
+DueForBlocks blocks None status text = DueForData blocks (first_refusal blocks) status text
+DueForBlocks blocks (Some fault) status text = (status ≡ Refused (refusals.Sets fault)) × (text ≡ set_line fault)
+
+-- for `mps` over the bytes of its file: the first fault of the text, or what is due over the blocks that it says
 abbrev pub DueForMps : List ℕ → Status → List ℕ → Type 0
 DueForMps bytes status text =
-    ((facts : Facts) × IsFixedForm bytes facts × (status ≡ Done) × WritesEquations facts text)
-    ⊎ ((HasFixedForm bytes → ⊥) × (status ≡ Refused refusals.NotYet) × (text ≡ refusal_line refusals.NotYet))
+    ((fault : DataFault) × FaultAt bytes fault.no fault.at × (status ≡ Refused (refusals.Text fault)) × (text ≡ text_line fault.no fault.at))
+    ⊎ ((blocks : Blocks) × Says bytes blocks × DueForBlocks blocks (first_set_refusal blocks) status text)
 
 -- for `mps` over its file, which may be missing or too long
 abbrev pub DueForFile : Option (List ℕ) → Status → List ℕ → Type 0
 DueForFile None status text = (status ≡ ReadFault (stops.NoFile 1)) × (text ≡ stop_line (stops.NoFile 1))
 DueForFile (Some bytes) status text =
     MatchBool (nat_lt most_bytes (length bytes))
-    ((status ≡ Refused (refusals.TooLong 1)) × (text ≡ refusal_line (refusals.TooLong 1)))
+    ((status ≡ Refused (refusals.TooLong 1)) × (text ≡ too_long_line 1))
     (DueForMps bytes status text)
 
 -- for a request over its file, and for a fault of the words
@@ -108,7 +131,7 @@ sight files rest faults begins taken = record { files = files; rest = rest; faul
 abbrev pub CausedByFile : List ℕ → Sight → Sight → Status → List ℕ → Type 0
 CausedByFile name before after status text =
     ((bytes : List ℕ) × IsWholeFile before.files name bytes before.rest after.rest after.taken × DueForMps bytes status text)
-    ⊎ ((status ≡ Refused (refusals.TooLong 1)) × (text ≡ refusal_line (refusals.TooLong 1)) × IsTooLong before.files name after.taken)
+    ⊎ ((status ≡ Refused (refusals.TooLong 1)) × (text ≡ too_long_line 1) × IsTooLong before.files name after.taken)
     ⊎ ((status ≡ ReadFault (stops.NoFile 1)) × (text ≡ stop_line (stops.NoFile 1)) × Lacks before.files name)
     ⊎ ((status ≡ ReadFault (stops.Failed 1)) × (text ≡ stop_line (stops.Failed 1)) × Rose before.faults after.faults)
 

@@ -1,34 +1,99 @@
 // What a command answers over the bytes of its files, with no shelf and no sink in it.
-ghost use Rattle.std.specs.Prelude.{◌≡◌, IfOk};
-ghost use Rattle.osemosys_run.specs.Due.{DueForMps, refusal_line, stop_line, words_line};
+ghost use Rattle.std.specs.Prelude.{◌≡◌, ◌≤◌, Some, length, IfOk};
+ghost use Rattle.mathprog_data.specs.BlocksView.{blocks_told};
+ghost use Rattle.mathprog_data.specs.WellFormed.{AreWellFormed};
+ghost use Rattle.model_sets.specs.Names.{IsSet};
+ghost use Rattle.param_tables.specs.BlockData.{set_lists};
+ghost use Rattle.param_tables.specs.Refusals.{first_refusal};
+ghost use Rattle.param_tables.specs.SetRefusals.{first_set_refusal};
+ghost use Rattle.param_tables.specs.Told.{NamesCell, refusal_told};
+ghost use Rattle.row_core.specs.Equations.{IsEquation};
+ghost use Rattle.row_core.specs.NameTexts.{RowNameIsWithin};
+ghost use Rattle.osemosys_run.specs.Due.{DueForBlocks, DueForData, DueForEquations, DueForMps, RefusesData, stop_line, too_long_line, width_line, words_line};
+ghost use Rattle.osemosys_run.specs.Reading.{most_bytes};
+ghost use Rattle.osemosys_run.specs.RefusalLines.{set_line, text_line};
+ghost use Rattle.osemosys_run.specs.Written.{AreRowsOf, WritesEquations, built_instances, first_wide};
 
-use crate::fixed_form::read_fixed_form;
-use crate::lines::{refusal_line, stop_line, words_line};
-use crate::mps::mps_text;
-use crate::rows::all_rows;
-use crate::status::{ReadStop, Refusal, Status, WordFault};
+use crate::columns::columns_of;
+use crate::lines::{stop_line, too_long_line, width_line, words_line};
+use crate::refusal_lines::{data_line, set_line, text_line};
+use crate::rows::built_rows;
+use crate::status::{ReadStop, Refusal, Status, Stop, WordFault};
+use mathprog_data::{Blocks, DataFault, ReadFail, read_blocks};
+use model_sets::{SetFail, SetFault, Sets};
+use mps_writer::mps_text;
+use param_tables::{BuildFail, BuildFault, ModelData, build, sets_of};
+use row_core::{Place, Row, RowName, Stopped};
 use std::alloc::{AllocError, Global};
 
 /// A status and the text that is due with it.
-#[derive(Debug, Drop)]
+#[derive(Drop)]
 pub struct Answer {
     pub status: Status,
     pub text: Vec<u8>,
 }
 
-/// The MPS text of the equations of a data file, or the line of its refusal.
+/// The MPS text of the equations of a data file, or the line of its first refusal: of the text, of the
+/// sets, or of the data.
 pub fn answer_mps(alloc: Global, bytes: &[u8]) -> Result<Answer, AllocError>
+    requires { length bytes.now ≤ most_bytes }
     ensures { IfOk result (λ answer. DueForMps bytes.now answer.status answer.text.items) }
 {
-    let Some(facts) = read_fixed_form(alloc, bytes)? else {
-        return refuse_input(alloc, Refusal::NotYet);
-    };
-    let rows = all_rows(alloc, &facts)?;
-    let text = mps_text(alloc, &facts, &rows)?;
-    Ok(Answer {
-        status: Status::Done,
-        text,
-    })
+    match read_blocks(alloc, bytes) {
+        Ok(blocks) => answer_blocks(alloc, &blocks),
+        Err(ReadFail::Fault(fault)) => refuse_text(alloc, fault),
+        Err(ReadFail::Memory) => Err(AllocError),
+    }
+}
+
+// What is due over the blocks that a text says.
+fn answer_blocks(alloc: Global, blocks: &Blocks) -> Result<Answer, AllocError>
+    requires { AreWellFormed (blocks_told blocks.now) }
+    ensures { IfOk result (λ answer. DueForBlocks (blocks_told blocks.now)
+        (first_set_refusal (blocks_told blocks.now)) answer.status answer.text.items) }
+{
+    match sets_of(alloc, blocks) {
+        Ok(sets) => answer_data(alloc, blocks, sets),
+        Err(SetFail::Fault(fault)) => refuse_sets(alloc, fault),
+        Err(SetFail::Memory) => Err(AllocError),
+    }
+}
+
+// What is due over the data of the blocks, whose sets aren't refused.
+fn answer_data(alloc: Global, blocks: &Blocks, sets: Sets) -> Result<Answer, AllocError>
+    requires blocks { AreWellFormed (blocks_told blocks.now) }
+    requires sets { sets ≡ set_lists (blocks_told blocks.now) }
+    ensures { IfOk result (λ answer. DueForData (blocks_told blocks.now)
+        (first_refusal (blocks_told blocks.now)) answer.status answer.text.items) }
+{
+    match build(alloc, blocks, sets) {
+        Ok(facts) => answer_equations(alloc, &facts),
+        Err(BuildFail::Fault(fault, sets)) => refuse_data(alloc, fault, &sets),
+        Err(BuildFail::Memory) => Err(AllocError),
+    }
+}
+
+// The equations of the data, or the line for the first row that doesn't fit.
+fn answer_equations(alloc: Global, facts: &ModelData) -> Result<Answer, AllocError>
+    ensures { IfOk result (λ answer. DueForEquations facts.now.facts (first_wide facts.now.facts)
+        answer.status answer.text.items) }
+{
+    match built_rows(alloc, facts) {
+        Ok(rows) => write_rows(alloc, facts, &rows),
+        Err(Stopped::Width(Place::Row(name))) => stop_at_row(alloc, name, facts.sets()),
+        Err(Stopped::Memory) => Err(AllocError),
+    }
+}
+
+// The text of the rows.
+fn write_rows(alloc: Global, facts: &ModelData, rows: &[Row]) -> Result<Answer, AllocError>
+    requires { AreRowsOf facts.now.facts (built_instances facts.now.facts) rows.now }
+    ensures { IfOk result (λ answer. (answer.status ≡ Status.Done) × WritesEquations facts.now.facts answer.text.items) }
+{
+    let columns = columns_of(alloc, rows)?;
+    let text = mps_text(alloc, rows, &columns, facts.sets())?;
+    let status = Status::Done;
+    Ok(Answer { status, text })
 }
 
 /// The answer to words that ask for nothing.
@@ -51,12 +116,55 @@ pub fn stop_reading(alloc: Global, stop: ReadStop) -> Result<Answer, AllocError>
     Ok(Answer { status, text })
 }
 
-/// The answer where a rule for the input failed.
-pub fn refuse_input(alloc: Global, refusal: Refusal) -> Result<Answer, AllocError>
+/// The answer where a file has more than 64 MiB.
+pub fn refuse_long_file(alloc: Global, file: u8) -> Result<Answer, AllocError>
     ensures { IfOk result (λ answer.
-        (answer.status ≡ Status.Refused refusal) × (answer.text.items ≡ refusal_line refusal)) }
+        (answer.status ≡ Status.Refused (Refusal.TooLong file)) × (answer.text.items ≡ too_long_line file)) }
 {
-    let text = refusal_line(alloc, refusal)?;
-    let status = Status::Refused(refusal);
+    let text = too_long_line(alloc, file)?;
+    let status = Status::Refused(Refusal::TooLong(file));
+    Ok(Answer { status, text })
+}
+
+// The answer to a text with a fault.
+fn refuse_text(alloc: Global, fault: DataFault) -> Result<Answer, AllocError>
+    ensures { IfOk result (λ answer.
+        (answer.status ≡ Status.Refused (Refusal.Text fault)) × (answer.text.items ≡ text_line fault.no fault.at)) }
+{
+    let text = text_line(alloc, fault)?;
+    let status = Status::Refused(Refusal::Text(fault));
+    Ok(Answer { status, text })
+}
+
+// The answer to sets with a fault.
+fn refuse_sets(alloc: Global, fault: SetFault) -> Result<Answer, AllocError>
+    requires { IsSet fault.set }
+    ensures { IfOk result (λ answer.
+        (answer.status ≡ Status.Refused (Refusal.Sets fault)) × (answer.text.items ≡ set_line fault)) }
+{
+    let text = set_line(alloc, fault)?;
+    let status = Status::Refused(Refusal::Sets(fault));
+    Ok(Answer { status, text })
+}
+
+// The answer to data with a fault, which the sets name.
+fn refuse_data(alloc: Global, fault: BuildFault, sets: &Sets) -> Result<Answer, AllocError>
+    requires { NamesCell sets.now fault }
+    ensures { IfOk result (λ answer. RefusesData sets.now (refusal_told sets.now fault) answer.status answer.text.items) }
+{
+    let text = data_line(alloc, &fault, sets)?;
+    let status = Status::Refused(Refusal::Build(fault));
+    Ok(Answer { status, text })
+}
+
+// The answer where a number of this row doesn't fit.
+fn stop_at_row(alloc: Global, name: RowName, sets: &Sets) -> Result<Answer, AllocError>
+    requires listed { IsEquation name.eq }
+    requires within { RowNameIsWithin sets.now name }
+    ensures { IfOk result (λ answer. (answer.status ≡ Status.Uncertified (Stop.Width (Place.Row name)))
+        × (answer.text.items ≡ width_line sets.now name)) }
+{
+    let text = width_line(alloc, name, sets)?;
+    let status = Status::Uncertified(Stop::Width(Place::Row(name)));
     Ok(Answer { status, text })
 }

@@ -2,11 +2,10 @@
 #![tactic(auto)]
 
 mod answer;
-mod capacity_rows;
-mod fixed_form;
+mod columns;
 mod lines;
-mod mps;
 mod reading;
+mod refusal_lines;
 mod rows;
 mod run;
 mod sending;
@@ -16,4 +15,4 @@ mod tests;
 mod words;
 
 pub use run::osemosys;
-pub use status::{ReadStop, Refusal, Status, WordFault};
+pub use status::{ReadStop, Refusal, Status, Stop, WordFault};

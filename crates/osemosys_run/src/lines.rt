@@ -1,10 +1,14 @@
 // The one-line texts.
 ghost use Rattle.std.specs.Prelude.{◌≡◌, ◌++◌, IfOk, decimal};
-ghost use Rattle.osemosys_run.specs.Due.{words_line, stop_line, refusal_line};
-ghost use Rattle.osemosys_run.specs.MpsText.{line};
+ghost use Rattle.mps_writer.specs.MpsText.{line};
+ghost use Rattle.row_core.specs.Equations.{IsEquation};
+ghost use Rattle.row_core.specs.NameTexts.{RowNameIsWithin};
+ghost use Rattle.osemosys_run.specs.Due.{stop_line, too_long_line, width_line, words_line};
 
-use crate::status::{ReadStop, Refusal, WordFault};
+use crate::status::{ReadStop, WordFault};
 use itoa::Buffer;
+use model_sets::Sets;
+use row_core::{RowName, push_row_name};
 use std::alloc::{AllocError, Global};
 
 /// The line for words that ask for nothing: `words refused FAULT`.
@@ -32,14 +36,23 @@ pub fn stop_line(alloc: Global, stop: ReadStop) -> Result<Vec<u8>, AllocError>
     }
 }
 
-/// The line for a refused input: `refused NotYet` or `refused too long file K`.
-pub fn refusal_line(alloc: Global, refusal: Refusal) -> Result<Vec<u8>, AllocError>
-    ensures { IfOk result (λ text. text.items ≡ refusal_line refusal) }
+/// The line for a file of more than 64 MiB: `refused too long file K`.
+pub fn too_long_line(alloc: Global, file: u8) -> Result<Vec<u8>, AllocError>
+    ensures { IfOk result (λ text. text.items ≡ too_long_line file) }
 {
-    match refusal {
-        Refusal::NotYet => Vec::from_slice(alloc, b"refused NotYet\n"),
-        Refusal::TooLong(file) => numbered(alloc, b"refused too long file ", file),
-    }
+    numbered(alloc, b"refused too long file ", file)
+}
+
+/// The line for a row in which a number doesn't fit: `uncertified width row EQ`, with the row's full name.
+pub fn width_line(alloc: Global, name: RowName, sets: &Sets) -> Result<Vec<u8>, AllocError>
+    requires listed { IsEquation name.eq }
+    requires within { RowNameIsWithin sets.now name }
+    ensures { IfOk result (λ text. text.items ≡ width_line sets.now name) }
+{
+    let mut text = Vec::from_slice(alloc, b"uncertified width row ")?;
+    push_row_name(&mut text, name, sets)?;
+    text.extend_from_slice(b"\n")?;
+    Ok(text)
 }
 
 // A line that ends with a file's number.

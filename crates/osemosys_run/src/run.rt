@@ -1,19 +1,21 @@
 // The top call: words, file, answer, text.
-ghost use Rattle.std.specs.Prelude.{◌≡◌, ◌≤◌, List, ℕ, IfOk, map};
+ghost use Rattle.std.specs.Prelude.{◌≡◌, ◌≤◌, ◌⊎◌, List, ℕ, IfOk, map};
 ghost use Rattle.std.specs.String.{string_bytes};
 ghost use Rattle.io_edges.specs.Count.{Rose, counted};
 ghost use Rattle.io_edges.specs.Told.{WhereTold};
 ghost use Rattle.osemosys_run.specs.Due.{Caused, CausedByFile, Delivers, Due, ReadsWhole, sight};
-ghost use Rattle.osemosys_run.specs.FixedForm.{HasOneReading};
+ghost use Rattle.mathprog_data.specs.Meaning.{Blocks};
+ghost use Rattle.mathprog_data.specs.Verdicts.{FaultAt, Says};
+ghost use Rattle.mathprog_data.specs.declared.blocks.Mark.{Mark};
 ghost use Rattle.osemosys_run.specs.WordParts.{HasSpelledParts, Part};
 
-use crate::answer::{Answer, answer_mps, refuse_input, refuse_words, stop_reading};
-use crate::fixed_form::one_reading;
+use crate::answer::{Answer, answer_mps, refuse_long_file, refuse_words, stop_reading};
 use crate::reading::{ReadEnd, read_file};
 use crate::sending::send;
-use crate::status::{ReadStop, Refusal, Status};
+use crate::status::{ReadStop, Status};
 use crate::words::{Command, read_command, spelled_parts};
 use io_edges::{Shelf, Sink};
+use mathprog_data::verdict_laws;
 use std::alloc::{AllocError, Global};
 
 /// The number of the first file that the words name.
@@ -22,9 +24,9 @@ const FILE: u8 = 1;
 /// Runs the program on the words behind its name: reads the files that they name from the shelf, and
 /// writes the text that is due into the sink.
 ///
-/// `mps FILE` writes the equations CAa1 and CAa2 of a data file of the fixed form as free MPS. Where the
-/// words, the file or what it says is refused, one line says why. Want of memory may come anywhere; then
-/// nothing is written.
+/// `mps FILE` writes the equations CAa1 and CAa2 of a data file of GNU MathProg as free MPS. Where the
+/// words, the file or what it says is refused, or a number of a row leaves 128 bits, one line says why.
+/// Want of memory may come anywhere; then nothing is written.
 pub fn osemosys<S: Shelf, K: Sink>(
     alloc: Global,
     words: &[String],
@@ -47,13 +49,17 @@ pub fn osemosys<S: Shelf, K: Sink>(
         result
         (K.written out.old) (K.written out.new) (K.faults out.old) (K.faults out.new) }
 
-    // The file was read to its end.
+    // A file that is there, isn't too long and met no fault was read to its end, unless memory ran out.
     ensures read_whole { WhereTold (S.files shelf.old) (λ files.
         (Rose (S.faults shelf.old) (S.faults shelf.new) → ⊥)
         → ReadsWhole (map string_bytes words.now) files result (S.rest shelf.new)) }
 
-    // What a text says is one thing.
-    ensures one_reading { (text : List ℕ) → HasOneReading text }
+    // What a text says is one thing, or it has one fault, and never both.
+    ensures one_reading { (text : List ℕ) (blocks others : Blocks) → Says text blocks → Says text others → blocks ≡ others }
+    ensures one_fault { (text : List ℕ) (number other : ℕ) (at place : Mark) → FaultAt text number at → FaultAt text other place →
+        (number ≡ other) × (at ≡ place) }
+    ensures not_both { (text : List ℕ) (blocks : Blocks) (number : ℕ) (at : Mark) → Says text blocks → FaultAt text number at → ⊥ }
+    ensures some { (text : List ℕ) → ((blocks : Blocks) × Says text blocks) ⊎ ((number : ℕ) × (at : Mark) × FaultAt text number at) }
 
     // The parts that the words after a command say are those that are spelled so.
     ensures spelled_parts { (words : List (List ℕ)) (parts : List Part) → HasSpelledParts words parts }
@@ -64,11 +70,11 @@ pub fn osemosys<S: Shelf, K: Sink>(
     ensures write_faults { K.faults out.old ≤ K.faults out.new }
 {
     // The laws that the clauses of their names state.
-    one_reading();
+    verdict_laws();
     spelled_parts();
     match perform(alloc, words, shelf) {
-        Ok(answer) => match send(&answer.text, out) {
-            Ok(()) => answer.status,
+        Ok(Answer { status, text }) => match send(&text, out) {
+            Ok(()) => status,
             Err(_) => Status::WriteFault,
         },
         Err(_) => Status::Memory,
@@ -108,7 +114,7 @@ fn perform_mps<S: Shelf>(alloc: Global, file: &str, shelf: &mut S) -> Result<Ans
         Ok(bytes) => answer_mps(alloc, &bytes),
         Err(ReadEnd::NoFile) => stop_reading(alloc, ReadStop::NoFile(FILE)),
         Err(ReadEnd::Failed) => stop_reading(alloc, ReadStop::Failed(FILE)),
-        Err(ReadEnd::TooLong) => refuse_input(alloc, Refusal::TooLong(FILE)),
+        Err(ReadEnd::TooLong) => refuse_long_file(alloc, FILE),
         Err(ReadEnd::Memory) => Err(AllocError),
     }
 }

@@ -2,11 +2,18 @@
 ghost use Rattle.std.specs.Prelude.{◌≡◌};
 ghost use Rattle.osemosys_run.specs.Codes.{code_of};
 
+use mathprog_data::DataFault;
+use model_sets::SetFault;
+use param_tables::BuildFault;
+use row_core::Place;
+
 /// How a call ended. `code` gives the exit status.
-#[derive(Clone, Copy, Debug, PartialEq, Eq)]
+#[derive(Drop)]
 pub enum Status {
     /// The command did its work, and its text was written.
     Done,
+    /// A number left 128 bits, at this place.
+    Uncertified(Stop),
     /// A named rule for the input failed.
     Refused(Refusal),
     /// The words ask for nothing that the program does.
@@ -19,11 +26,22 @@ pub enum Status {
     Memory,
 }
 
-/// Which rule for the input failed.
+/// Why a command didn't come to its end.
 #[derive(Clone, Copy, Debug, PartialEq, Eq)]
+pub enum Stop {
+    /// A number that is formed at this place lies outside the range from `-(2^127 - 1)` to `2^127 - 1`.
+    Width(Place),
+}
+
+/// Which rule for the input failed.
+#[derive(Drop)]
 pub enum Refusal {
-    /// The file isn't of the fixed form that is read so far.
-    NotYet,
+    /// The text of the data file has this fault first.
+    Text(DataFault),
+    /// The sets of the data file have this fault first.
+    Sets(SetFault),
+    /// The data of the file have this fault first.
+    Build(BuildFault),
     /// The file of this number has more than 64 MiB.
     TooLong(u8),
 }
@@ -33,7 +51,7 @@ pub enum Refusal {
 pub enum WordFault {
     /// There is no word.
     NoCommand,
-    /// The first word is no command that is built.
+    /// The first word is no command, or one that isn't built.
     BadCommand,
     /// A file is missing or too many, an option is unknown or repeated, or it has no value.
     BadForm,
@@ -55,12 +73,13 @@ pub enum ReadStop {
 }
 
 impl Status {
-    /// The exit status: 0 for `Done`, 4 `Refused`, 5 `Words`, 6 `ReadFault`, 7 `WriteFault`, 8 `Memory`.
+    /// The exit status: 0 for `Done`, 3 `Uncertified`, 4 `Refused`, 5 `Words`, 6 `ReadFault`, 7 `WriteFault`, 8 `Memory`.
     pub fn code(&self) -> u8
         ensures { result ≡ code_of self.now }
     {
         match self {
             Status::Done => 0,
+            Status::Uncertified(_) => 3,
             Status::Refused(_) => 4,
             Status::Words(_) => 5,
             Status::ReadFault(_) => 6,

@@ -1,16 +1,102 @@
 // Calls of the program over files and text in memory.
-use crate::{ReadStop, Refusal, Status, WordFault, osemosys};
+use crate::{ReadStop, Status, WordFault, osemosys};
 use io_edges::{MemShelf, MemSink};
 use std::alloc::Global;
 use std::test::Fail;
 
-/// Two years, a life of two years, and a capacity of 7 and 3 from before.
-const FIRST: &[u8] =
-    b"set REGION := R; set TECHNOLOGY := T; set YEAR := 2020 2021; param OperationalLife := R T 2; param ResidualCapacity := R T 2020 7 R T 2021 3;";
+/// A complete model of one region, technology, fuel, timeslice, mode and year, statement by statement.
+const BASE: [&[u8]; 51] = [
+    b"data;",
+    b"set REGION := R ;",
+    b"set TECHNOLOGY := T ;",
+    b"set FUEL := F ;",
+    b"set EMISSION := ;",
+    b"set MODE_OF_OPERATION := 1 ;",
+    b"set TIMESLICE := D ;",
+    b"set YEAR := 2020 ;",
+    b"set STORAGE := ;",
+    b"set SEASON := ;",
+    b"set DAYTYPE := ;",
+    b"set DAILYTIMEBRACKET := ;",
+    b"param YearSplit default 1 :=\n;",
+    b"param DiscountRate default 0 :=\n;",
+    b"param DepreciationMethod default 1 :=\n;",
+    b"param TradeRoute default 0 :=\n;",
+    b"param SpecifiedAnnualDemand default 10 :=\n;",
+    b"param SpecifiedDemandProfile default 1 :=\n;",
+    b"param AccumulatedAnnualDemand default 0 :=\n;",
+    b"param CapacityToActivityUnit default 1 :=\n;",
+    b"param CapacityFactor default 1 :=\n;",
+    b"param AvailabilityFactor default 1 :=\n;",
+    b"param OperationalLife default 1 :=\n;",
+    b"param ResidualCapacity default 0 :=\n;",
+    b"param InputActivityRatio default 0 :=\n;",
+    b"param OutputActivityRatio default 1 :=\n;",
+    b"param CapitalCost default 5 :=\n;",
+    b"param VariableCost default 2 :=\n;",
+    b"param FixedCost default 1 :=\n;",
+    b"param CapacityOfOneTechnologyUnit default 0 :=\n;",
+    b"param TotalAnnualMaxCapacity default -1 :=\n;",
+    b"param TotalAnnualMinCapacity default 0 :=\n;",
+    b"param TotalAnnualMaxCapacityInvestment default -1 :=\n;",
+    b"param TotalAnnualMinCapacityInvestment default 0 :=\n;",
+    b"param TotalTechnologyAnnualActivityUpperLimit default -1 :=\n;",
+    b"param TotalTechnologyAnnualActivityLowerLimit default 0 :=\n;",
+    b"param TotalTechnologyModelPeriodActivityUpperLimit default 0 :=\n;",
+    b"param TotalTechnologyModelPeriodActivityLowerLimit default 0 :=\n;",
+    b"param ReserveMarginTagTechnology default 0 :=\n;",
+    b"param ReserveMarginTagFuel default 0 :=\n;",
+    b"param ReserveMargin default 0 :=\n;",
+    b"param RETagTechnology default 0 :=\n;",
+    b"param RETagFuel default 0 :=\n;",
+    b"param REMinProductionTarget default 0 :=\n;",
+    b"param EmissionActivityRatio default 0 :=\n;",
+    b"param EmissionsPenalty default 0 :=\n;",
+    b"param AnnualExogenousEmission default 0 :=\n;",
+    b"param AnnualEmissionLimit default -1 :=\n;",
+    b"param ModelPeriodExogenousEmission default 0 :=\n;",
+    b"param ModelPeriodEmissionLimit default -1 :=\n;",
+    b"end;",
+];
 
-/// The MPS text of that file, worked out by hand.
-const FIRST_TEXT: &[u8] =
-    b"NAME OSEMOSYS\nROWS\n N COST\n* CAa1[R,T,2020]\n E R1\n* CAa1[R,T,2021]\n E R2\n* CAa2[R,T,2020]\n E R3\n* CAa2[R,T,2021]\n E R4\nCOLUMNS\n* NewCapacity[R,T,2020]\n C1 R1 -1\n C1 R2 -1\n* NewCapacity[R,T,2021]\n C2 R2 -1\n* AccumulatedNewCapacity[R,T,2020]\n C3 R1 1\n C3 R3 -1\n* AccumulatedNewCapacity[R,T,2021]\n C4 R2 1\n C4 R4 -1\n* TotalCapacityAnnual[R,T,2020]\n C5 R3 1\n* TotalCapacityAnnual[R,T,2021]\n C6 R4 1\nRHS\n RHS R3 7\n RHS R4 3\nENDATA\n";
+/// The MPS text of its capacity equations, worked out by hand.
+const BASE_TEXT: &[u8] =
+    b"NAME OSEMOSYS\nROWS\n N COST\n* CAa1[R,T,2020]\n E R1\n* CAa2[R,T,2020]\n E R2\nCOLUMNS\n* NewCapacity[R,T,2020]\n C1 R1 -1\n* AccumulatedNewCapacity[R,T,2020]\n C2 R1 1\n C2 R2 -1\n* TotalCapacityAnnual[R,T,2020]\n C3 R2 1\nRHS\nENDATA\n";
+
+/// The same where half a unit of capacity stands already: 2 TotalCapacityAnnual - 2 AccumulatedNewCapacity = 1.
+const HALF_TEXT: &[u8] =
+    b"NAME OSEMOSYS\nROWS\n N COST\n* CAa1[R,T,2020]\n E R1\n* CAa2[R,T,2020]\n E R2\nCOLUMNS\n* NewCapacity[R,T,2020]\n C1 R1 -1\n* AccumulatedNewCapacity[R,T,2020]\n C2 R1 1\n C2 R2 -2\n* TotalCapacityAnnual[R,T,2020]\n C3 R2 2\nRHS\n RHS R2 1\nENDATA\n";
+
+/// The places of some statements among those of the model.
+const DATA: usize = 0;
+
+const REGION: usize = 1;
+
+const MODE_OF_OPERATION: usize = 5;
+
+const YEAR: usize = 7;
+
+const STORAGE: usize = 8;
+
+const YEAR_SPLIT: usize = 12;
+
+const DISCOUNT_RATE: usize = 13;
+
+const SPECIFIED_DEMAND_PROFILE: usize = 17;
+
+const OPERATIONAL_LIFE: usize = 22;
+
+const RESIDUAL_CAPACITY: usize = 23;
+
+const INPUT_ACTIVITY_RATIO: usize = 24;
+
+const CAPITAL_COST: usize = 26;
+
+const FIXED_COST: usize = 28;
+
+const CAPACITY_OF_ONE_TECHNOLOGY_UNIT: usize = 29;
+
+const TOTAL_ANNUAL_MAX_CAPACITY: usize = 30;
 
 /// 64 MiB.
 const MOST: usize = 67_108_864;
@@ -24,6 +110,21 @@ fn words_of(alloc: Global, words: &[&str]) -> Result<Vec<String>, Fail> {
     Ok(all)
 }
 
+// The statements of the model, one a line, with another one at this place.
+fn model_with(alloc: Global, place: usize, statement: &[u8]) -> Result<Vec<u8>, Fail> {
+    let mut text = Vec::new(alloc);
+    for (i, own) in BASE.iter().enumerate() {
+        text.extend_from_slice(if i == place { statement } else { *own })?;
+        text.push(b'\n')?;
+    }
+    Ok(text)
+}
+
+// The model.
+fn model(alloc: Global) -> Result<Vec<u8>, Fail> {
+    model_with(alloc, DATA, BASE[DATA])
+}
+
 // A call over one file and ample room, where these calls of the shelf fail.
 fn call(
     alloc: Global,
@@ -33,7 +134,7 @@ fn call(
 ) -> Result<(Status, MemSink), Fail> {
     let words = words_of(alloc, words)?;
     let mut shelf = MemShelf::new(alloc, failing)?;
-    shelf.put("first.dat", text)?;
+    shelf.put("model.dat", text)?;
     let mut out = MemSink::new(alloc, 1000, &[])?;
     let status = osemosys(alloc, &words, &mut shelf, &mut out);
     Ok((status, out))
@@ -46,18 +147,18 @@ fn words_that_ask_for_nothing_are_refused(rt: HostRuntime) -> Result<(), Fail> {
         (none, WordFault::NoCommand, b"words refused NoCommand\n"),
         (&[""], WordFault::BadCommand, b"words refused BadCommand\n"),
         (
-            &["solve", "first.dat"],
+            &["solve", "model.dat"],
             WordFault::BadCommand,
             b"words refused BadCommand\n",
         ),
         (
-            &["MPS", "first.dat"],
+            &["MPS", "model.dat"],
             WordFault::BadCommand,
             b"words refused BadCommand\n",
         ),
         (&["mps"], WordFault::BadForm, b"words refused BadForm\n"),
         (
-            &["mps", "first.dat", "b"],
+            &["mps", "model.dat", "b"],
             WordFault::BadForm,
             b"words refused BadForm\n",
         ),
@@ -77,9 +178,13 @@ fn words_that_ask_for_nothing_are_refused(rt: HostRuntime) -> Result<(), Fail> {
             b"words refused BadForm\n",
         ),
     ];
+    let text = model(rt.alloc())?;
     for (words, fault, line) in table {
-        let (status, out) = call(rt.alloc(), words, FIRST, &[])?;
-        assert_eq!(rt; status, Status::Words(fault), "{words:?}");
+        let (status, out) = call(rt.alloc(), words, &text, &[])?;
+        assert!(rt;
+            matches!(&status, Status::Words(given) if *given == fault),
+            "{words:?}"
+        );
         assert_eq!(rt; out.bytes(), line, "{words:?}");
         assert_eq!(rt; status.code(), 5);
     }
@@ -87,23 +192,135 @@ fn words_that_ask_for_nothing_are_refused(rt: HostRuntime) -> Result<(), Fail> {
 }
 
 #[test]
-fn the_first_file_gives_its_rows(rt: HostRuntime) -> Result<(), Fail> {
-    let (status, out) = call(rt.alloc(), &["mps", "first.dat"], FIRST, &[])?;
-    assert_eq!(rt; status, Status::Done);
-    assert_eq!(rt; status.code(), 0);
-    assert_eq!(rt; out.bytes(), FIRST_TEXT);
+fn the_model_gives_its_rows(rt: HostRuntime) -> Result<(), Fail> {
+    let text = model(rt.alloc())?;
+    for words in [
+        ["mps", "model.dat"].as_slice(),
+        ["mps", "--", "model.dat"].as_slice(),
+    ] {
+        let (status, out) = call(rt.alloc(), words, &text, &[])?;
+        assert_eq!(rt; status.code(), 0);
+        assert_eq!(rt; out.bytes(), BASE_TEXT);
+    }
     Ok(())
 }
 
 #[test]
-fn texts_of_another_form_and_missing_files_are_refused(rt: HostRuntime) -> Result<(), Fail> {
-    let (status, out) = call(rt.alloc(), &["mps", "first.dat"], b"", &[])?;
-    assert_eq!(rt; status, Status::Refused(Refusal::NotYet));
-    assert_eq!(rt; status.code(), 4);
-    assert_eq!(rt; out.bytes(), b"refused NotYet\n".as_slice());
+fn a_capacity_of_a_half_gives_whole_numbers_in_lowest_terms(rt: HostRuntime) -> Result<(), Fail> {
+    let statement = b"param ResidualCapacity default 0.5 := ;";
+    let text = model_with(rt.alloc(), RESIDUAL_CAPACITY, statement)?;
+    let (status, out) = call(rt.alloc(), &["mps", "model.dat"], &text, &[])?;
+    assert_eq!(rt; status.code(), 0);
+    assert_eq!(rt; out.bytes(), HALF_TEXT);
+    Ok(())
+}
+
+#[test]
+fn a_model_with_one_other_statement_is_refused(rt: HostRuntime) -> Result<(), Fail> {
+    let table: [(usize, &[u8], &[u8]); 19] = [
+        (
+            REGION,
+            b"set REGION := A1 A2 A3 A4 A5 A6 A7 A8 A9 A10 A11 A12 A13 A14 A15 A16 A17 A18 A19 A20 A21 ;",
+            b"refused set REGION TooMany\n",
+        ),
+        (REGION, b"set REGION := ;", b"refused set REGION EmptySet\n"),
+        (
+            MODE_OF_OPERATION,
+            b"",
+            b"refused set MODE_OF_OPERATION EmptySet\n",
+        ),
+        (
+            YEAR,
+            b"set YEAR := 2020 02020 ;",
+            b"refused set YEAR TwiceInSet\n",
+        ),
+        (
+            YEAR,
+            b"set YEAR := '02020' ;",
+            b"refused set YEAR BadYear\n",
+        ),
+        (STORAGE, b"set STORAGE := DAM ;", b"refused Storage\n"),
+        (
+            OPERATIONAL_LIFE,
+            b"param OperationalLife default 1.5 := ;",
+            b"refused NotWhole OperationalLife[R,T]\n",
+        ),
+        (
+            OPERATIONAL_LIFE,
+            b"param OperationalLife default 201 := ;",
+            b"refused OutOfRange OperationalLife[R,T]\n",
+        ),
+        (
+            CAPACITY_OF_ONE_TECHNOLOGY_UNIT,
+            b"param CapacityOfOneTechnologyUnit default 1 := ;",
+            b"refused WholeUnits CapacityOfOneTechnologyUnit[R,T,2020]\n",
+        ),
+        (
+            INPUT_ACTIVITY_RATIO,
+            b"param InputActivityRatio default -1 := ;",
+            b"refused Negative InputActivityRatio[R,T,F,1,2020]\n",
+        ),
+        (
+            TOTAL_ANNUAL_MAX_CAPACITY,
+            b"param TotalAnnualMaxCapacity default -0.5 := ;",
+            b"refused OutOfRange TotalAnnualMaxCapacity[R,T,2020]\n",
+        ),
+        (
+            YEAR_SPLIT,
+            b"param YearSplit default 0 := ;",
+            b"refused NotPositive YearSplit[D,2020]\n",
+        ),
+        (
+            SPECIFIED_DEMAND_PROFILE,
+            b"param SpecifiedDemandProfile default -1 := ;",
+            b"refused Negative SpecifiedDemandProfile[R,F,D,2020]\n",
+        ),
+        (
+            DISCOUNT_RATE,
+            b"param DiscountRate default 1.000000001 := ;",
+            b"refused OutOfRange DiscountRate[R]\n",
+        ),
+        (
+            CAPITAL_COST,
+            b"param CapitalCost := ;",
+            b"refused NoValue CapitalCost[R,T,2020]\n",
+        ),
+        (
+            DATA,
+            b"param : CapitalCost FixedCost := R T 2020 5 1;",
+            b"refused line 1 column 21 Tabbing\n",
+        ),
+        (
+            DATA,
+            b"set REGION := A; set REGION := B;",
+            b"refused line 1 column 22 GivenTwice\n",
+        ),
+        (
+            FIXED_COST,
+            b"param FixedCost default 1 := R U 2020 1;",
+            b"refused line 45 column 30 UnknownMember\n",
+        ),
+        (
+            DATA,
+            b"data; set TECHNOLOGY = T;",
+            b"refused line 1 column 22 BadByte\n",
+        ),
+    ];
+    for (place, statement, line) in table {
+        let text = model_with(rt.alloc(), place, statement)?;
+        let (status, out) = call(rt.alloc(), &["mps", "model.dat"], &text, &[])?;
+        assert_eq!(rt; out.bytes(), line);
+        assert_eq!(rt; status.code(), 4);
+    }
+    Ok(())
+}
+
+#[test]
+fn missing_files_are_refused(rt: HostRuntime) -> Result<(), Fail> {
+    let text = model(rt.alloc())?;
     for name in ["other.dat", "-", ""] {
-        let (status, out) = call(rt.alloc(), &["mps", name], FIRST, &[])?;
-        assert_eq!(rt; status, Status::ReadFault(ReadStop::NoFile(1)));
+        let (status, out) = call(rt.alloc(), &["mps", name], &text, &[])?;
+        assert!(rt; matches!(status, Status::ReadFault(ReadStop::NoFile(1))));
         assert_eq!(rt; status.code(), 6);
         assert_eq!(rt; out.bytes(), b"no such file 1\n".as_slice());
     }
@@ -113,17 +330,17 @@ fn texts_of_another_form_and_missing_files_are_refused(rt: HostRuntime) -> Resul
 // The calls of the shelf are: begin, a read that takes the file, a read that ends it.
 #[test]
 fn a_shelf_that_fails_at_any_call_is_reported(rt: HostRuntime) -> Result<(), Fail> {
+    let text = model(rt.alloc())?;
     for number in [1, 2, 3] {
-        let (status, out) = call(rt.alloc(), &["mps", "first.dat"], FIRST, &[number])?;
-        assert_eq!(rt;
-            status,
-            Status::ReadFault(ReadStop::Failed(1)),
+        let (status, out) = call(rt.alloc(), &["mps", "model.dat"], &text, &[number])?;
+        assert!(rt;
+            matches!(status, Status::ReadFault(ReadStop::Failed(1))),
             "call {number}"
         );
         assert_eq!(rt; out.bytes(), b"read fault file 1\n".as_slice());
     }
-    let (status, _) = call(rt.alloc(), &["mps", "first.dat"], FIRST, &[4])?;
-    assert_eq!(rt; status, Status::Done);
+    let (status, _) = call(rt.alloc(), &["mps", "model.dat"], &text, &[4])?;
+    assert_eq!(rt; status.code(), 0);
     Ok(())
 }
 
@@ -137,36 +354,30 @@ fn a_sink_that_fails_keeps_a_front_of_the_text(rt: HostRuntime) -> Result<(), Fa
         (13, &[], b"NAME OSEMOSYS"),
         (20, &[2], b"NAME OSEMOSYS\nROWS\n "),
     ];
+    let text = model(alloc)?;
     for (room, failing, front) in table {
-        let words = words_of(alloc, &["mps", "first.dat"])?;
+        let words = words_of(alloc, &["mps", "model.dat"])?;
         let mut shelf = MemShelf::new(alloc, &[])?;
-        shelf.put("first.dat", FIRST)?;
+        shelf.put("model.dat", &text)?;
         let mut out = MemSink::new(alloc, room, failing)?;
         let status = osemosys(alloc, &words, &mut shelf, &mut out);
-        assert_eq!(rt; status, Status::WriteFault, "room {room}");
         assert_eq!(rt; status.code(), 7);
         assert_eq!(rt; out.bytes(), front, "room {room}");
     }
     Ok(())
 }
 
-// The first file, and blanks behind it up to this length.
-fn padded(alloc: Global, length: usize) -> Result<Vec<u8>, Fail> {
-    let mut text = Vec::from_slice(alloc, FIRST)?;
-    text.resize(length, b' ')?;
-    Ok(text)
-}
-
 #[test]
 fn a_file_of_64_mib_is_read_and_one_byte_more_is_too_long(rt: HostRuntime) -> Result<(), Fail> {
     let alloc = rt.alloc();
-    let most = padded(alloc, MOST)?;
-    let (status, out) = call(alloc, &["mps", "first.dat"], &most, &[])?;
-    assert_eq!(rt; status, Status::Done);
-    assert_eq!(rt; out.bytes(), FIRST_TEXT);
-    let more = padded(alloc, MOST + 1)?;
-    let (status, out) = call(alloc, &["mps", "first.dat"], &more, &[])?;
-    assert_eq!(rt; status, Status::Refused(Refusal::TooLong(1)));
+    let mut text = model(alloc)?;
+    text.resize(MOST, b' ')?;
+    let (status, out) = call(alloc, &["mps", "model.dat"], &text, &[])?;
+    assert_eq!(rt; status.code(), 0);
+    assert_eq!(rt; out.bytes(), BASE_TEXT);
+    text.push(b' ')?;
+    let (status, out) = call(alloc, &["mps", "model.dat"], &text, &[])?;
+    assert_eq!(rt; status.code(), 4);
     assert_eq!(rt; out.bytes(), b"refused too long file 1\n".as_slice());
     Ok(())
 }

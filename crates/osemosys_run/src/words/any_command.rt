@@ -113,12 +113,12 @@ fn command_by<'a>(name: CommandName, given: Option<Given<'a>>) -> Result<AnyComm
         ≡ command_by (name_of name) (option_map given_of given.entry) }
 {
     match given {
-        Some(given) => allowed_command(name, &given),
+        Some(given) => command_given(name, &given),
         None => Err(WordFault::BadForm),
     }
 }
 
-fn allowed_command<'a>(name: CommandName, given: &Given<'a>) -> Result<AnyCommand<'a>, WordFault>
+fn command_given<'a>(name: CommandName, given: &Given<'a>) -> Result<AnyCommand<'a>, WordFault>
     ensures { any_command_of_result result
         ≡ command_by (name_of name) (Some (given_of given.now)) }
 {

@@ -1,7 +1,6 @@
-use Rattle.std.proofs.Common.{◌≡◌, ◌+◌, ◌<◌, ◌∙◌, ◌++◌, List, ℕ, drop, get_or, length, ap, sym, subst, refl, arith}
+use Rattle.std.proofs.Common.{◌<◌, List, drop, get_or, length, sym, subst, refl, arith}
 use Rattle.row_core.specs.declared.Var.{Var}
-use Rattle.mps_writer.specs.Entries.{Rises, behind, lines_of}
-use Rattle.mps_writer.specs.MpsText.{column_head}
+use Rattle.mps_writer.specs.Entries.{Rises}
 use Rattle.mps_writer.specs.declared.entries.Entry.{Entry}
 use Rattle.mps_writer.proofs.ColumnText.{behind-rises}
 use Rattle.mps_writer.proofs.ColumnTurns.{column-turn}

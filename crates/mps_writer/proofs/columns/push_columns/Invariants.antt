@@ -1,4 +1,4 @@
-use Rattle.std.proofs.Common.{◌≡◌, ◌≤◌, ◌+◌, ◌++◌, drop, length, IsTrue}
+use Rattle.std.proofs.Common.{◌≡◌, ◌≤◌, ◌+◌, ◌++◌, drop, length}
 use Rattle.std.specs.List.{flat_map, enumerate_from}
 use Rattle.mps_writer.specs.Entries.{Rises, column_text}
 use Rattle.mps_writer.specs.MpsText.{numbered}

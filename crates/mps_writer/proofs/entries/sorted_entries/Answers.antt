@@ -1,4 +1,4 @@
-use Rattle.std.proofs.Common.{◌≡◌, subst, sym, ap, ◌∙◌, List, rules, IsPermutation}
+use Rattle.std.proofs.Common.{subst, ap, ◌∙◌, List, rules, IsPermutation}
 use Rattle.std.specs.List.{filter}
 use Rattle.std.proofs.lemmas.Fn.{always_returns_same}
 use Rattle.mps_writer.specs.Entries.{is_of}

@@ -3,7 +3,7 @@ use Rattle.std.specs.String.{string_bytes}
 use Rattle.io_edges.specs.Told.{WhereTold}
 use Rattle.osemosys_run.specs.Due.{Sight, Caused, Due}
 use Rattle.osemosys_run.specs.Sending.{HoldsFrontOf}
-use Rattle.osemosys_run.proofs.Outcomes.{due_from_cause, delivers_weaker, is_answer, delivered, read_to_end}
+use Rattle.osemosys_run.proofs.Outcomes.{due_from_cause, is_answer, delivered}
 use Rattle.osemosys_run.proofs.run.osemosys.Goals as goal
 
 pub returns-in-Ok-send-clause-due : goal.returns-in-Ok-send-clause-due
@@ -14,8 +14,8 @@ returns-in-Ok-send-clause-due g c = λ files told calm.
     let new = c.perform.new.shelf in
     let before : Sight = record { files = shelf.files old; rest = shelf.rest old; faults = shelf.faults old; begins = shelf.begins old; taken = shelf.taken old } in
     let after : Sight = record { files = shelf.files new; rest = shelf.rest new; faults = shelf.faults new; begins = shelf.begins new; taken = shelf.taken new } in
-    let status = c.in-Ok.answer.status in
-    let text = c.in-Ok.answer.text.items in
+    let status = c.in-Ok.field-0.status in
+    let text = c.in-Ok.field-0.text.items in
     let caused : Caused words before after status text = c.in-Ok.ensures.caused in
     let sink = g.K.Sink in
     let written : WhereTold (sink.written c.args.out.now) (λ bytes. sink.written c.send.new.out ≡ Some (bytes ++ text)) =
@@ -23,16 +23,16 @@ returns-in-Ok-send-clause-due g c = λ files told calm.
     delivered (Due words files) status text (sink.written c.args.out.now) (sink.written c.send.new.out) (sink.faults c.args.out.now) (sink.faults c.send.new.out)
     (due_from_cause words before after files status text told calm caused) (is_answer words before after status text caused) written
 
-pub returns-in-Ok-clause-due : goal.returns-in-Ok-clause-due
-returns-in-Ok-clause-due g c = λ files told calm.
+pub returns-in-Err-send-clause-due : goal.returns-in-Err-send-clause-due
+returns-in-Err-send-clause-due g c = λ files told calm.
     let words = map string_bytes c.args.words.now in
     let shelf = g.S.Shelf in
     let old = c.args.shelf.now in
     let new = c.perform.new.shelf in
     let before : Sight = record { files = shelf.files old; rest = shelf.rest old; faults = shelf.faults old; begins = shelf.begins old; taken = shelf.taken old } in
     let after : Sight = record { files = shelf.files new; rest = shelf.rest new; faults = shelf.faults new; begins = shelf.begins new; taken = shelf.taken new } in
-    let status = c.in-Ok.answer.status in
-    let text = c.in-Ok.answer.text.items in
+    let status = c.in-Ok.field-0.status in
+    let text = c.in-Ok.field-0.text.items in
     let caused : Caused words before after status text = c.in-Ok.ensures.caused in
     let sink = g.K.Sink in (
       c.in-Err-send.ensures.failed,
@@ -40,6 +40,35 @@ returns-in-Ok-clause-due g c = λ files told calm.
         status,
         text,
         due_from_cause words before after files status text told calm caused,
+        λ bytes is. subst (λ (t : List ℕ). HoldsFrontOf t bytes (sink.written c.send.new.out)) c.deref.ensures.value (c.in-Err-send.ensures.cut bytes is),
+      ),
+    )
+
+pub returns-in-Ok-send-clause-caused : goal.returns-in-Ok-send-clause-caused
+returns-in-Ok-send-clause-caused g c =
+    let words = map string_bytes c.args.words.now in
+    let shelf = g.S.Shelf in
+    let old = c.args.shelf.now in
+    let new = c.perform.new.shelf in
+    let before : Sight = record { files = shelf.files old; rest = shelf.rest old; faults = shelf.faults old; begins = shelf.begins old; taken = shelf.taken old } in
+    let after : Sight = record { files = shelf.files new; rest = shelf.rest new; faults = shelf.faults new; begins = shelf.begins new; taken = shelf.taken new } in
+    let status = c.in-Ok.field-0.status in
+    let text = c.in-Ok.field-0.text.items in
+    let caused : Caused words before after status text = c.in-Ok.ensures.caused in
+    let sink = g.K.Sink in
+    let written : WhereTold (sink.written c.args.out.now) (λ bytes. sink.written c.send.new.out ≡ Some (bytes ++ text)) =
+    λ bytes is. subst (λ (t : List ℕ). sink.written c.send.new.out ≡ Some (bytes ++ t)) c.deref.ensures.value (c.in-Ok-send.ensures.sent bytes is) in
+    delivered (Caused words before after) status text (sink.written c.args.out.now) (sink.written c.send.new.out) (sink.faults c.args.out.now) (sink.faults c.send.new.out)
+    caused (is_answer words before after status text caused) written
+
+pub returns-in-Err-send-clause-caused : goal.returns-in-Err-send-clause-caused
+returns-in-Err-send-clause-caused g c =
+    let sink = g.K.Sink in (
+      c.in-Err-send.ensures.failed,
+      (
+        c.in-Ok.field-0.status,
+        c.in-Ok.field-0.text.items,
+        c.in-Ok.ensures.caused,
         λ bytes is. subst (λ (t : List ℕ). HoldsFrontOf t bytes (sink.written c.send.new.out)) c.deref.ensures.value (c.in-Err-send.ensures.cut bytes is),
       ),
     )

@@ -1,4 +1,4 @@
-use Rattle.std.proofs.Common.{◌≡◌, ◌∙◌, ap, List, ℕ, Some, rules, arith}
+use Rattle.std.proofs.Common.{◌∙◌, ap, List, ℕ, Some, arith}
 use Rattle.std.proofs.lemmas.Grind.{common_steps}
 use Rattle.osemosys_run.proofs.Parts.{sent_more}
 use Rattle.osemosys_run.proofs.sending.send.Goals as goal

@@ -1,9 +1,9 @@
-use Rattle.std.proofs.Common.{◌≡◌, ◌∙◌, ◌∷◌, Some, ap, sym, map, option_map}
+use Rattle.std.proofs.Common.{◌≡◌, ◌∙◌, Some, ap, sym, map, option_map}
 use Rattle.std.specs.String.{string_bytes}
 use Rattle.osemosys_run.specs.CommandLine.{command_after, command_named, meant}
 use Rattle.osemosys_run.specs.Commands.{name_of}
 use Rattle.osemosys_run.specs.WordParts.{parts_of}
-use Rattle.osemosys_run.specs.WordReading.{command_by, given_by}
+use Rattle.osemosys_run.specs.WordReading.{command_by}
 use Rattle.osemosys_run.proofs.GivenParts.{given_is}
 use Rattle.osemosys_run.proofs.words.any_command.read_any_command.Goals as goal
 

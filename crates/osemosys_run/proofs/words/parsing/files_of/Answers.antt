@@ -1,7 +1,7 @@
-use Rattle.std.proofs.Common.{◌≡◌, ◌∙◌, ap, sym, map, option_map, List, [], None, Some, codes}
+use Rattle.std.proofs.Common.{◌≡◌, ◌∙◌, ap, sym, map, option_map, [], None, Some, codes}
 use Rattle.std.specs.Prelude.{unwrap_or}
 use Rattle.std.proofs.lemmas.Result.{IfOk-weaker}
-use Rattle.clap.specs.Words.{Text, all_of, found_of, rows_of}
+use Rattle.clap.specs.Words.{all_of, found_of, rows_of}
 use Rattle.clap.proofs.WalkLemmas.{raw_values-rows}
 use Rattle.osemosys_run.proofs.words.parsing.files_of.Goals as goal
 

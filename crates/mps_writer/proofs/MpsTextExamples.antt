@@ -1,0 +1,180 @@
+-- The MPS text, computed on the rows of a worked example, and on near misses.
+use Rattle.std.proofs.Common.{◌≡◌, ℕ, ◌<◌, ◌^◌, true, false, Bool, List, [], ◌∷◌, length, refl, arith, Global}
+use Rattle.std.specs.Prelude.{ℤ, pos, negsuc, codes, ◌-◌}
+use Rattle.std.specs.Fmt.{digits}
+use Rattle.std.specs.Str.{bytes_eq}
+use denote.RawPtr.{null_ptr}
+use Rattle.row_core.specs.declared.Index.{Index}
+use Rattle.row_core.specs.declared.Var.{Var}
+use Rattle.row_core.specs.declared.Row.{Row}
+use Rattle.row_core.specs.declared.RowName.{RowName}
+use Rattle.row_core.specs.declared.Sense.{Sense}
+use Rattle.row_core.specs.declared.Sense.TheVariants.{Least, Equal, Most}
+use Rattle.row_core.specs.Names.{new_capacity, accumulated_new_capacity, total_capacity_annual, caa1, caa2}
+use Rattle.row_core.specs.Numbers.{variables_of, numbers_of, ascends, none_zero, all_in_range}
+use Rattle.row_core.specs.Order.{var_cmp}
+use Rattle.row_core.proofs.RowLaws.{has_unit, IsLowest-unit}
+use Rattle.row_core.specs.NameTexts.{variable_name, row_name}
+use Rattle.model_sets.specs.Members.{SetLists}
+use Rattle.mps_writer.specs.MpsText.{mps_text, row_lines, column_lines, rhs_line, numbered, bounds}
+
+-- a row in the memory that this allocator gives, with what a row keeps
+abbrev pub made : Global → RowName → Sense → (entries : List (Var × ℤ)) (rhs : ℤ) → length entries < 2 ^ 63 → ascends var_cmp (variables_of entries) ≡ true
+    → none_zero (numbers_of entries) ≡ true → all_in_range (rhs ∷ numbers_of entries) ≡ true → has_unit (rhs ∷ numbers_of entries) ≡ true → Row
+made memory name sense entries rhs small ascending nonzero fits unit = record {
+  name = name;
+  sense = sense;
+  entries = record { ptr = null_ptr; len = length entries; cap = length entries; alloc = memory; items = entries; ok = (refl, omega arith); small = small };
+  rhs = rhs;
+  ascending = ascending;
+  nonzero = nonzero;
+  fits = fits;
+  lowest = IsLowest-unit (rhs ∷ numbers_of entries) unit;
+}
+
+module _ (memory : Global) where
+  -- CAa1 and CAa2 of both years of two years, with residual capacities 7 and 3
+  abbrev pub caa1_2020 : Row
+  caa1_2020 = made memory (caa1 0 0 0) Equal ((new_capacity 0 0 0, negsuc 0) ∷ (accumulated_new_capacity 0 0 0, pos 1) ∷ []) (pos 0) (omega arith) refl refl refl refl
+
+  abbrev pub caa1_2021 : Row
+  caa1_2021 = made memory (caa1 0 0 1) Equal ((new_capacity 0 0 0, negsuc 0) ∷ (new_capacity 0 0 1, negsuc 0) ∷ (accumulated_new_capacity 0 0 1, pos 1) ∷ []) (pos 0) (omega arith) refl refl refl refl
+
+  abbrev pub caa2_2020 : Row
+  caa2_2020 = made memory (caa2 0 0 0) Equal ((accumulated_new_capacity 0 0 0, negsuc 0) ∷ (total_capacity_annual 0 0 0, pos 1) ∷ []) (pos 7) (omega arith) refl refl refl refl
+
+  abbrev pub caa2_2021 : Row
+  caa2_2021 = made memory (caa2 0 0 1) Equal ((accumulated_new_capacity 0 0 1, negsuc 0) ∷ (total_capacity_annual 0 0 1, pos 1) ∷ []) (pos 3) (omega arith) refl refl refl refl
+
+  abbrev pub rows : List Row
+  rows = caa1_2020 ∷ caa1_2021 ∷ caa2_2020 ∷ caa2_2021 ∷ []
+
+-- the variables of these rows
+abbrev pub columns : List Var
+columns =
+    new_capacity 0 0 0 ∷ new_capacity 0 0 1 ∷ accumulated_new_capacity 0 0 0 ∷ accumulated_new_capacity 0 0 1
+    ∷ total_capacity_annual 0 0 0 ∷ total_capacity_annual 0 0 1 ∷ []
+
+-- one region and one technology, and the years 2020 and 2021
+abbrev pub sets : SetLists
+sets = (codes "R" ∷ []) ∷ (codes "T" ∷ []) ∷ [] ∷ [] ∷ [] ∷ [] ∷ (codes "2020" ∷ codes "2021" ∷ []) ∷ [] ∷ [] ∷ [] ∷ [] ∷ []
+
+-- ---- names
+
+variable : variable_name sets (new_capacity 0 0 1) ≡ codes "NewCapacity[R,T,2021]"
+unfolding digits
+variable = refl
+
+row : row_name sets (caa2 0 0 0) ≡ codes "CAa2[R,T,2020]"
+unfolding digits
+row = refl
+
+-- ---- the whole text
+
+abbrev pub text : List ℕ
+text = codes "NAME OSEMOSYS\nROWS\n N COST\n* CAa1[R,T,2020]\n E R1\n* CAa1[R,T,2021]\n E R2\n* CAa2[R,T,2020]\n E R3\n* CAa2[R,T,2021]\n E R4\nCOLUMNS\n* NewCapacity[R,T,2020]\n C1 R1 -1\n C1 R2 -1\n* NewCapacity[R,T,2021]\n C2 R2 -1\n* AccumulatedNewCapacity[R,T,2020]\n C3 R1 1\n C3 R3 -1\n* AccumulatedNewCapacity[R,T,2021]\n C4 R2 1\n C4 R4 -1\n* TotalCapacityAnnual[R,T,2020]\n C5 R3 1\n* TotalCapacityAnnual[R,T,2021]\n C6 R4 1\nRHS\n RHS R3 7\n RHS R4 3\nENDATA\n"
+
+pub whole_text : (memory : Global) → mps_text sets (rows memory) columns ≡ text
+unfolding digits
+whole_text memory = refl
+
+-- ---- near misses: the text of other rows is another one
+
+abbrev is_text : List Row → List Var → Bool
+is_text rows columns = bytes_eq (mps_text sets rows columns) text
+
+itself : (memory : Global) → is_text (rows memory) columns ≡ true
+unfolding digits
+itself memory = refl
+
+-- without NewCapacity[R,T,2020] in CAa1[R,T,2021]
+entry_left_out : (memory : Global)
+    → is_text (caa1_2020 memory ∷ made memory (caa1 0 0 1) Equal ((new_capacity 0 0 1, negsuc 0) ∷ (accumulated_new_capacity 0 0 1, pos 1) ∷ []) (pos 0) (omega arith) refl refl refl refl
+    ∷ caa2_2020 memory ∷ caa2_2021 memory ∷ []) columns ≡ false
+unfolding digits
+entry_left_out memory = refl
+
+row_left_out : (memory : Global) → is_text (caa1_2020 memory ∷ caa1_2021 memory ∷ caa2_2020 memory ∷ []) columns ≡ false
+unfolding digits
+row_left_out memory = refl
+
+column_left_out : (memory : Global) → is_text (rows memory) (new_capacity 0 0 0 ∷ new_capacity 0 0 1 ∷ accumulated_new_capacity 0 0 0 ∷ accumulated_new_capacity 0 0 1 ∷ total_capacity_annual 0 0 0 ∷ []) ≡ false
+unfolding digits
+column_left_out memory = refl
+
+rows_exchanged : (memory : Global) → is_text (caa1_2021 memory ∷ caa1_2020 memory ∷ caa2_2020 memory ∷ caa2_2021 memory ∷ []) columns ≡ false
+unfolding digits
+rows_exchanged memory = refl
+
+right_side_negative : (memory : Global)
+    → is_text (caa1_2020 memory ∷ caa1_2021 memory ∷ caa2_2020 memory
+    ∷ made memory (caa2 0 0 1) Equal ((accumulated_new_capacity 0 0 1, negsuc 0) ∷ (total_capacity_annual 0 0 1, pos 1) ∷ []) (negsuc 2) (omega arith) refl refl refl refl ∷ []) columns ≡ false
+unfolding digits
+right_side_negative memory = refl
+
+-- ---- parts that these rows have none of
+
+-- no rows at all
+no_rows : mps_text sets [] [] ≡ codes "NAME OSEMOSYS\nROWS\n N COST\nCOLUMNS\nRHS\nENDATA\n"
+no_rows = refl
+
+-- two sets in each set that subscripts run over
+abbrev both : SetLists
+both =
+    (codes "A" ∷ codes "B" ∷ []) ∷ (codes "T" ∷ codes "U" ∷ []) ∷ (codes "F" ∷ codes "G" ∷ []) ∷ (codes "CO2" ∷ codes "NOX" ∷ [])
+    ∷ (codes "1" ∷ codes "2" ∷ []) ∷ (codes "D" ∷ codes "N" ∷ []) ∷ (codes "2020" ∷ codes "2021" ∷ []) ∷ [] ∷ [] ∷ [] ∷ [] ∷ []
+
+abbrev everywhere : Index
+everywhere = record { region = 0; other = 1; slice = 1; tech = 1; fuel = 1; emission = 1; mode = 1; year = 0 }
+
+-- a name has its own subscripts, in the order of the fields
+trade_name : variable_name both (record { kind = 3; index = everywhere }) ≡ codes "Trade[A,B,N,G,2020]"
+trade_name = refl
+
+mode_name : variable_name both (record { kind = 8; index = everywhere }) ≡ codes "RateOfProductionByTechnologyByMode[A,N,U,G,2,2020]"
+mode_name = refl
+
+emission_name : row_name both (record { eq = 35; index = everywhere }) ≡ codes "E1[A,U,NOX,2,2020]"
+emission_name = refl
+
+region_name : row_name both (record { eq = 42; index = everywhere }) ≡ codes "Acc4[A]"
+region_name = refl
+
+-- a technology and no emission, where their places could be mistaken
+capacity_name : variable_name both (record { kind = 2; index = everywhere }) ≡ codes "NewCapacity[A,U,2020]"
+capacity_name = refl
+
+-- each sense has its letter, also with a row number of two digits
+least_line : (memory : Global) → row_lines sets (1, made memory (caa1 0 0 0) Least ((new_capacity 0 0 0, pos 1) ∷ []) (pos 0) (omega arith) refl refl refl refl) ≡ codes "* CAa1[R,T,2020]\n G R1\n"
+unfolding digits
+least_line memory = refl
+
+most_line : (memory : Global) → row_lines sets (12, made memory (caa1 0 0 0) Most ((new_capacity 0 0 0, pos 1) ∷ []) (pos 0) (omega arith) refl refl refl refl) ≡ codes "* CAa1[R,T,2020]\n L R12\n"
+unfolding digits
+most_line memory = refl
+
+-- a right side below 0, the greatest one, and 0
+negative_right : (memory : Global) → rhs_line (3, made memory (caa1 0 0 0) Equal ((new_capacity 0 0 0, pos 1) ∷ []) (negsuc 9) (omega arith) refl refl refl refl) ≡ codes " RHS R3 -10\n"
+unfolding digits
+negative_right memory = refl
+
+greatest_right : (memory : Global) → rhs_line (4, made memory (caa1 0 0 0) Equal ((new_capacity 0 0 0, pos 1) ∷ []) (pos (2 ^ 127 - 1)) (omega arith) refl refl refl refl) ≡ codes " RHS R4 170141183460469231731687303715884105727\n"
+unfolding digits
+greatest_right memory = refl
+
+zero_right : (memory : Global) → rhs_line (3, caa1_2020 memory) ≡ []
+zero_right memory = refl
+
+-- TotalDiscountedCost is free, and the cost
+cost_column : column_lines both [] (11, record { kind = 37; index = everywhere }) ≡ codes "* TotalDiscountedCost[A,2020]\n C11 COST 1\n"
+unfolding digits
+cost_column = refl
+
+-- bounds for the free columns alone, under one head
+free_bounds : bounds ((1, new_capacity 0 0 0) ∷ (2, record { kind = 3; index = everywhere }) ∷ (3, total_capacity_annual 0 0 0) ∷ (4, record { kind = 37; index = everywhere }) ∷ []) ≡ codes "BOUNDS\n FR BND C2\n FR BND C4\n"
+unfolding digits
+free_bounds = refl
+
+-- and no head where none is free
+no_bounds : bounds (numbered columns) ≡ []
+no_bounds = refl

@@ -1,0 +1,58 @@
+-- The lines of refusals and of a row that doesn't fit, computed on examples.
+use Rattle.std.proofs.Common.{◌≡◌, ℕ, List, [], ◌∷◌, refl}
+use Rattle.std.specs.Prelude.{codes}
+use Rattle.std.specs.Fmt.{digits}
+use Rattle.model_sets.specs.Members.{SetLists}
+use Rattle.named_equations.specs.Indices.{index}
+use Rattle.named_equations.specs.Instances.{name_at}
+use Rattle.param_tables.specs.Refusals.{StorageMember, UnknownName, GivenBefore, TooManyIndices, AtIndex}
+use Rattle.param_tables.specs.declared.fault.CellFault.TheVariants.{NoValue, OutOfRange, WholeUnits}
+use Rattle.osemosys_run.specs.Due.{width_line}
+use Rattle.osemosys_run.specs.RefusalLines.{text_line, set_line, data_line}
+
+text_fault : text_line 9 (record { line = 12; column = 3 }) ≡ codes "refused line 12 column 3 RowTooShort\n"
+unfolding digits
+text_fault = refl
+
+last_text_fault : text_line 11 (record { line = 1; column = 21 }) ≡ codes "refused line 1 column 21 Tabbing\n"
+unfolding digits
+last_text_fault = refl
+
+set_fault : set_line (record { no = 2; set = 5 }) ≡ codes "refused set MODE_OF_OPERATION EmptySet\n"
+set_fault = refl
+
+year_fault : set_line (record { no = 3; set = 7 }) ≡ codes "refused set YEAR BadYear\n"
+year_fault = refl
+
+storage : data_line StorageMember ≡ codes "refused Storage\n"
+storage = refl
+
+unknown_member : data_line (UnknownName (record { line = 45; column = 30 })) ≡ codes "refused line 45 column 30 UnknownMember\n"
+unfolding digits
+unknown_member = refl
+
+value_twice : data_line (GivenBefore (record { line = 2; column = 10 })) ≡ codes "refused line 2 column 10 ValueTwice\n"
+unfolding digits
+value_twice = refl
+
+too_many : data_line (TooManyIndices 14) ≡ codes "refused TooManyCells OutputActivityRatio\n"
+too_many = refl
+
+-- the members stand in the parameter's own order of subscripts: region, fuel, timeslice, year
+no_value : data_line (AtIndex NoValue 6 (codes "R" ∷ codes "F" ∷ codes "D" ∷ codes "2020" ∷ [])) ≡ codes "refused NoValue SpecifiedDemandProfile[R,F,D,2020]\n"
+no_value = refl
+
+one_subscript : data_line (AtIndex OutOfRange 2 (codes "R" ∷ [])) ≡ codes "refused OutOfRange DiscountRate[R]\n"
+one_subscript = refl
+
+whole_units : data_line (AtIndex WholeUnits 18 (codes "R" ∷ codes "T" ∷ codes "2020" ∷ [])) ≡ codes "refused WholeUnits CapacityOfOneTechnologyUnit[R,T,2020]\n"
+whole_units = refl
+
+-- two regions, and one member of each other set that has to have one
+abbrev pub two_regions : SetLists
+two_regions =
+    (codes "A" ∷ codes "B" ∷ []) ∷ (codes "T" ∷ []) ∷ (codes "F" ∷ []) ∷ [] ∷ (codes "1" ∷ []) ∷ (codes "D" ∷ []) ∷ (codes "2020" ∷ [])
+    ∷ [] ∷ [] ∷ [] ∷ [] ∷ []
+
+wide_row : width_line two_regions (name_at 3 (index 1 0 0 0 0 0 0 0)) ≡ codes "uncertified width row CAa2[B,T,2020]\n"
+wide_row = refl

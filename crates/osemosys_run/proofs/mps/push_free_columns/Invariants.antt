@@ -1,9 +1,0 @@
-use Rattle.std.proofs.Common.{◌≡◌, ◌+◌, ◌++◌, drop}
-use Rattle.std.specs.List.{flat_map, enumerate_from}
-use Rattle.osemosys_run.specs.MpsText.{bound_line, numbered}
-use Rattle.osemosys_run.proofs.mps.push_free_columns.Given as goal
-
--- with the lines of the columns that are left, the lines so far are those of all columns
-abbrev pub invariant-loop-place : goal.invariant-loop-place
-invariant-loop-place l =
-    l.out.items ++ flat_map bound_line (enumerate_from (l.place + 1) (drop l.place l.columns)) ≡ l.fn.out.items ++ flat_map bound_line (numbered l.columns)
