@@ -1,6 +1,11 @@
 mod Determination
+mod Existing
+mod ExistingKinds
+mod ExistingLaws
 mod Finding
 mod Lookups
+mod Occurring
+mod OtherPoints
 mod Ranges
 mod Scaling
 mod Soundness

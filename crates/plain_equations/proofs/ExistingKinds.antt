@@ -1,0 +1,74 @@
+-- Where the variables of a kind exist: the equations that define them stand there.
+use Rattle.std.proofs.Common.{◌≡◌, ℕ, Bool, true, false, List, [], ◌∷◌, ap, sym, ◌∙◌, refl, subst, true≢false, eqb-true, inl, inr}
+use Rattle.std.specs.Prelude.{◌||◌, ◌&&◌, not, nat_eq}
+use Rattle.std.specs.List.{list_any}
+use Rattle.std.proofs.lemmas.Bool.{or_cases}
+use Rattle.model_sets.specs.Data.{Data}
+use Rattle.row_core.specs.declared.Index.{Index}
+use Rattle.named_equations.specs.Existence.{exists_at, kind_numbers}
+use Rattle.named_equations.specs.Instances.{stands_at}
+use Rattle.named_equations.specs.Salvage.{has_sv1, has_sv2}
+use Rattle.plain_equations.specs.ExistsWhere.{exists_where, is_met}
+use Rattle.plain_equations.specs.Points.{point_at}
+
+-- ---- a fact on each of some numbers
+
+abbrev EachOf : (ℕ → Type 0) → List ℕ → Type 0
+EachOf P [] = Unit {0}
+EachOf P (k ∷ ks) = P k × EachOf P ks
+
+each-of : (P : ℕ → Type 0) (ks : List ℕ) (k : ℕ) → EachOf P ks → list_any (nat_eq k) ks ≡ true → P k
+each-of P [] k all is = absurd (true≢false (sym is))
+each-of P (n ∷ ks) k all is =
+    elim (or_cases (nat_eq k n) (list_any (nat_eq k) ks) is) [
+      | inl here ↦ subst P (sym (eqb-true k n here)) all.0
+      | inr later ↦ each-of P ks k all.1 later
+    ]
+
+-- ---- the kinds
+
+-- the variables of the kind exist where its rule says
+abbrev HasRule : ℕ → Type 0
+HasRule kind = (d : Data) (i : Index) → exists_at d kind i ≡ is_met d (exists_where kind) (point_at i)
+
+-- defined by one equation
+alone : (b : Bool) → (b || false) ≡ b
+alone true = refl
+alone false = refl
+
+-- by one of three, of which the third stands where neither of the others does
+one_of_three : (a b : Bool) → (a || (b || ((not a && not b) || false))) ≡ true
+one_of_three true b = refl
+one_of_three false true = refl
+one_of_three false false = refl
+
+salvage : HasRule 25
+salvage d i = one_of_three (has_sv1 d i.region i.tech i.year) (has_sv2 d i.region i.tech i.year)
+
+from_44 : EachOf HasRule (44 ∷ 45 ∷ 46 ∷ 47 ∷ 48 ∷ [])
+from_44 = (λ d i. refl, (λ d i. refl, (λ d i. alone (stands_at d 60 i), (λ d i. refl, (λ d i. refl, tt)))))
+
+from_36 : EachOf HasRule (36 ∷ 37 ∷ 38 ∷ 39 ∷ 40 ∷ 41 ∷ 42 ∷ 43 ∷ 44 ∷ 45 ∷ 46 ∷ 47 ∷ 48 ∷ [])
+from_36 =
+    (λ d i. refl, (λ d i. refl, (λ d i. refl, (λ d i. refl, (λ d i. refl, (λ d i. refl, (λ d i. refl, (λ d i. alone (stands_at d 56 i), from_44))))))))
+
+from_28 : EachOf HasRule (28 ∷ 29 ∷ 30 ∷ 31 ∷ 32 ∷ 33 ∷ 34 ∷ 35 ∷ 36 ∷ 37 ∷ 38 ∷ 39 ∷ 40 ∷ 41 ∷ 42 ∷ 43 ∷ 44 ∷ 45 ∷ 46 ∷ 47 ∷ 48 ∷ [])
+from_28 =
+    (λ d i. refl, (λ d i. refl, (λ d i. refl, (λ d i. alone (stands_at d 35 i), (λ d i. refl, (λ d i. refl, (λ d i. refl, (λ d i. refl, from_36))))))))
+
+from_20 : EachOf HasRule (20 ∷ 21 ∷ 22 ∷ 23 ∷ 24 ∷ 25 ∷ 26 ∷ 27 ∷ 28 ∷ 29 ∷ 30 ∷ 31 ∷ 32 ∷ 33 ∷ 34 ∷ 35 ∷ 36 ∷ 37 ∷ 38 ∷ 39 ∷ 40 ∷ 41 ∷ 42 ∷ 43 ∷ 44 ∷ 45 ∷ 46 ∷ 47 ∷ 48 ∷ [])
+from_20 =
+    (λ d i. alone (stands_at d 22 i), (λ d i. alone (stands_at d 23 i), (λ d i. refl, (λ d i. refl, (λ d i. refl, (salvage, (λ d i. refl, (λ d i. refl, from_28))))))))
+
+from_12 : EachOf HasRule (12 ∷ 13 ∷ 14 ∷ 15 ∷ 16 ∷ 17 ∷ 18 ∷ 19 ∷ 20 ∷ 21 ∷ 22 ∷ 23 ∷ 24 ∷ 25 ∷ 26 ∷ 27 ∷ 28 ∷ 29 ∷ 30 ∷ 31 ∷ 32 ∷ 33 ∷ 34 ∷ 35 ∷ 36 ∷ 37 ∷ 38 ∷ 39 ∷ 40 ∷ 41 ∷ 42 ∷ 43 ∷ 44 ∷ 45 ∷ 46 ∷ 47 ∷ 48 ∷ [])
+from_12 =
+    (λ d i. alone (stands_at d 11 i), (λ d i. refl, (λ d i. refl, (λ d i. refl, (λ d i. refl, (λ d i. refl, (λ d i. refl, (λ d i. refl, from_20))))))))
+
+all_kinds : EachOf HasRule kind_numbers
+all_kinds =
+    (λ d i. refl, (λ d i. refl, (λ d i. refl, (λ d i. refl, (λ d i. refl, (λ d i. refl, (λ d i. refl, (λ d i. alone (stands_at d 7 i),
+    (λ d i. alone (stands_at d 8 i), (λ d i. refl, (λ d i. alone (stands_at d 10 i), from_12)))))))))))
+
+-- the variables of every kind exist exactly where the rule of the kind is met
+pub exists_at-rule : (d : Data) (kind : ℕ) (i : Index) → list_any (nat_eq kind) kind_numbers ≡ true → exists_at d kind i ≡ is_met d (exists_where kind) (point_at i)
+exists_at-rule d kind i is = each-of HasRule kind_numbers kind all_kinds is d i
