@@ -1,10 +1,11 @@
 -- Where the variables of a kind exist: the equations that define them stand there.
-use Rattle.std.proofs.Common.{◌≡◌, ℕ, Bool, true, false, List, [], ◌∷◌, ap, sym, ◌∙◌, refl, subst, true≢false, eqb-true, inl, inr}
+use Rattle.std.proofs.Common.{◌≡◌, ℕ, zero, suc, ◌+◌, ◌<◌, ◌≤◌, Bool, true, false, List, [], ◌∷◌, ap, sym, ◌∙◌, refl, subst, arith, true≢false, eq-eqb, eqb-true, eq-or-lt_of_le, inl, inr}
 use Rattle.std.specs.Prelude.{◌||◌, ◌&&◌, not, nat_eq}
-use Rattle.std.specs.List.{list_any}
-use Rattle.std.proofs.lemmas.Bool.{or_cases}
+use Rattle.std.specs.List.{list_any, range_with_len}
+use Rattle.std.proofs.lemmas.Bool.{or_cases, or_left, or_right}
 use Rattle.model_sets.specs.Data.{Data}
 use Rattle.row_core.specs.declared.Index.{Index}
+use Rattle.row_core.specs.Kinds.{IsKind}
 use Rattle.named_equations.specs.Existence.{exists_at, kind_numbers}
 use Rattle.named_equations.specs.Instances.{stands_at}
 use Rattle.named_equations.specs.Salvage.{has_sv1, has_sv2}
@@ -72,3 +73,19 @@ all_kinds =
 -- the variables of every kind exist exactly where the rule of the kind is met
 pub exists_at-rule : (d : Data) (kind : ℕ) (i : Index) → list_any (nat_eq kind) kind_numbers ≡ true → exists_at d kind i ≡ is_met d (exists_where kind) (point_at i)
 exists_at-rule d kind i is = each-of HasRule kind_numbers kind all_kinds is d i
+
+-- ---- by number
+
+number_among : (from len kind : ℕ) → from ≤ kind → kind < from + len → list_any (nat_eq kind) (range_with_len from len) ≡ true
+number_among from zero kind least most = absurd (omega (arith, least, most))
+number_among from (suc len) kind least most =
+    elim (eq-or-lt_of_le least) [
+      | inl here ↦ or_left (nat_eq kind from) (list_any (nat_eq kind) (range_with_len (from + 1) len)) (eq-eqb kind from (sym here))
+      | inr later ↦
+          or_right (nat_eq kind from) (list_any (nat_eq kind) (range_with_len (from + 1) len))
+          (number_among (from + 1) len kind (omega (arith, later)) (omega (arith, most)))
+    ]
+
+-- the variables of a kind exist where its rule is met
+pub kind-rule : (d : Data) (kind : ℕ) (i : Index) → IsKind kind → exists_at d kind i ≡ is_met d (exists_where kind) (point_at i)
+kind-rule d kind i is = exists_at-rule d kind i (number_among 1 48 kind is.0 (omega (arith, is.1)))

@@ -2,6 +2,7 @@ mod Determination
 mod Existing
 mod ExistingKinds
 mod ExistingLaws
+mod ExistingPlans
 mod Finding
 mod Lookups
 mod Occurring

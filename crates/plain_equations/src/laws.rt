@@ -6,13 +6,16 @@ ghost use Rattle.row_core.specs.Equations.{IsEquation};
 ghost use Rattle.row_core.specs.declared.Index.{Index};
 ghost use Rattle.row_core.specs.declared.RowName.{RowName};
 ghost use Rattle.row_core.specs.declared.Var.{Var};
+ghost use Rattle.row_core.specs.Kinds.{IsKind};
 ghost use Rattle.row_core.specs.Numbers.{ascends};
 ghost use Rattle.row_core.specs.Order.{row_name_cmp, var_cmp};
-ghost use Rattle.named_equations.specs.Existence.{all_variables, exists};
+ghost use Rattle.named_equations.specs.Existence.{all_variables, exists, exists_at};
 ghost use Rattle.named_equations.specs.Instances.{name_at, variable_of, instances, is_instance};
 ghost use Rattle.named_equations.specs.Parameters.{year_split};
 ghost use Rattle.named_equations.specs.Plans.{Feasible, Meets, cost, says};
+ghost use Rattle.plain_equations.specs.ExistsWhere.{exists_where, is_met};
 ghost use Rattle.plain_equations.specs.Occurrences.{AgreeOnExisting};
+ghost use Rattle.plain_equations.specs.Points.{point_at};
 
 use crate::equations::entry;
 
@@ -47,7 +50,7 @@ pub fn instance_laws()
 pub fn variable_laws()
     ensures listed { (d : Data) (v : Var) → Contains (all_variables d) v ↔ (exists d v ≡ true) }
     ensures ascending { (d : Data) → ascends var_cmp (all_variables d) ≡ true }
-    ensures by_kind { (d : Data) (kind : ℕ) (i : Index) → IsTrue (list_any (nat_eq kind) kind_numbers) → exists_at d kind i ≡ is_met d (exists_where kind) (point_at i) }
+    ensures by_kind { (d : Data) (kind : ℕ) (i : Index) → IsKind kind → exists_at d kind i ≡ is_met d (exists_where kind) (point_at i) }
 {}
 
 /// An equation names variables that exist and no others: at each of its instances it says the same of two plans that agree
