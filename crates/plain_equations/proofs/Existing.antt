@@ -2,7 +2,7 @@
 use Rattle.std.proofs.Common.{◌≡◌, ℕ, zero, suc, ◌+◌, ◌<◌, Bool, true, false, cond, List, [], ◌∷◌, ◌++◌, filter, ap, ap₂, sym, ◌∙◌, refl, subst, arith, true≢false, lt-ltb, eqb-true, inl, inr}
 use Rattle.std.specs.Prelude.{◌&&◌, ◌||◌, not, nat_eq, nat_lt, Option, Some, None}
 use Rattle.std.specs.List.{flat_map, list_any, list_all, range_with_len}
-use Rattle.std.proofs.lemmas.Bool.{and_parts, and_from, or_cases, not-true}
+use Rattle.std.proofs.lemmas.Bool.{and_parts, and_from, or_cases}
 use Rattle.std.proofs.lemmas.List.Folds.{list_all-append}
 use Rattle.model_sets.specs.Data.{Data}
 use Rattle.model_sets.specs.Names.{region, technology, fuel, emission, mode, timeslice, year}
@@ -11,7 +11,7 @@ use Rattle.row_core.specs.declared.Var.{Var}
 use Rattle.row_core.specs.Subscripts as place
 use Rattle.named_equations.specs.Existence.{exists, exists_at, kind_numbers, subscripts_of_kind}
 use Rattle.named_equations.specs.Instances.{is_one_of, is_value_at, is_index}
-use Rattle.named_equations.specs.Positions.{count_of, positions}
+use Rattle.named_equations.specs.Positions.{count_of}
 use Rattle.named_equations.specs.Variables.{variable}
 use Rattle.named_equations.specs.Where.{is_not_zero}
 use Rattle.plain_equations.specs.declared.expressions.Condition.{Condition}
@@ -23,7 +23,7 @@ use Rattle.plain_equations.specs.declared.expressions.Letter.TheVariants.{M}
 use Rattle.plain_equations.specs.declared.expressions.Places.{Places}
 use Rattle.plain_equations.specs.declared.points.Point.{Point}
 use Rattle.plain_equations.specs.ExistsWhere.{ExistsWhere, Everywhere, InMode, InSomeMode, is_met, exists_where}
-use Rattle.plain_equations.specs.Meaning.{chosen, is_true_at, value_at_point}
+use Rattle.plain_equations.specs.Meaning.{is_true_at, value_at_point}
 use Rattle.plain_equations.specs.NamesExisting.{is_same, are_same, is_own, also, depends_on, apart_from, says_in_mode, says_in_some_mode, fits_place, fits_places, follows, is_existing, names_existing}
 use Rattle.plain_equations.specs.Occurrences.{variables_in}
 use Rattle.plain_equations.specs.Points.{at, at_place, moved, set_of, index_at, point_at}
@@ -241,7 +241,7 @@ all-exist d (Over' letter condition _ a) p within facts known true_facts is =
     subst (λ members. list_all (exists d) (flat_map vars members) ≡ true) (chosen-is d p letter condition)
     (all_chosen (exists d) vars passes 0 n n (omega arith)
     (λ i inside chosen_one. all-exist d a (moved p letter i) (also letter within) (condition ∷ apart_from letter facts)
-        (within-moved d p within letter i known inside)
-        (and_from (is_true_at d condition (moved p letter i)) (list_all (λ c. is_true_at d c (moved p letter i)) (apart_from letter facts)) chosen_one
-        (facts-moved d p letter i facts true_facts))
-        is))
+    (within-moved d p within letter i known inside)
+    (and_from (is_true_at d condition (moved p letter i)) (list_all (λ c. is_true_at d c (moved p letter i)) (apart_from letter facts)) chosen_one
+    (facts-moved d p letter i facts true_facts))
+    is))

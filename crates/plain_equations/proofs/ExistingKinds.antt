@@ -1,5 +1,5 @@
 -- Where the variables of a kind exist: the equations that define them stand there.
-use Rattle.std.proofs.Common.{◌≡◌, ℕ, zero, suc, ◌+◌, ◌<◌, ◌≤◌, Bool, true, false, List, [], ◌∷◌, ap, sym, ◌∙◌, refl, subst, arith, true≢false, eq-eqb, eqb-true, eq-or-lt_of_le, inl, inr}
+use Rattle.std.proofs.Common.{◌≡◌, ℕ, zero, suc, ◌+◌, ◌<◌, ◌≤◌, Bool, true, false, List, [], ◌∷◌, sym, refl, subst, arith, true≢false, eq-eqb, eqb-true, eq-or-lt_of_le, inl, inr}
 use Rattle.std.specs.Prelude.{◌||◌, ◌&&◌, not, nat_eq}
 use Rattle.std.specs.List.{list_any, range_with_len}
 use Rattle.std.proofs.lemmas.Bool.{or_cases, or_left, or_right}
@@ -46,29 +46,32 @@ one_of_three false false = refl
 salvage : HasRule 25
 salvage d i = one_of_three (has_sv1 d i.region i.tech i.year) (has_sv2 d i.region i.tech i.year)
 
-from_44 : EachOf HasRule (44 ∷ 45 ∷ 46 ∷ 47 ∷ 48 ∷ [])
+from_44 : EachOf HasRule (range_with_len 44 5)
 from_44 = (λ d i. refl, (λ d i. refl, (λ d i. alone (stands_at d 60 i), (λ d i. refl, (λ d i. refl, tt)))))
 
-from_36 : EachOf HasRule (36 ∷ 37 ∷ 38 ∷ 39 ∷ 40 ∷ 41 ∷ 42 ∷ 43 ∷ 44 ∷ 45 ∷ 46 ∷ 47 ∷ 48 ∷ [])
-from_36 =
-    (λ d i. refl, (λ d i. refl, (λ d i. refl, (λ d i. refl, (λ d i. refl, (λ d i. refl, (λ d i. refl, (λ d i. alone (stands_at d 56 i), from_44))))))))
+from_38 : EachOf HasRule (range_with_len 38 11)
+from_38 = (λ d i. refl, (λ d i. refl, (λ d i. refl, (λ d i. refl, (λ d i. refl, (λ d i. alone (stands_at d 56 i), from_44))))))
 
-from_28 : EachOf HasRule (28 ∷ 29 ∷ 30 ∷ 31 ∷ 32 ∷ 33 ∷ 34 ∷ 35 ∷ 36 ∷ 37 ∷ 38 ∷ 39 ∷ 40 ∷ 41 ∷ 42 ∷ 43 ∷ 44 ∷ 45 ∷ 46 ∷ 47 ∷ 48 ∷ [])
-from_28 =
-    (λ d i. refl, (λ d i. refl, (λ d i. refl, (λ d i. alone (stands_at d 35 i), (λ d i. refl, (λ d i. refl, (λ d i. refl, (λ d i. refl, from_36))))))))
+from_32 : EachOf HasRule (range_with_len 32 17)
+from_32 = (λ d i. refl, (λ d i. refl, (λ d i. refl, (λ d i. refl, (λ d i. refl, (λ d i. refl, from_38))))))
 
-from_20 : EachOf HasRule (20 ∷ 21 ∷ 22 ∷ 23 ∷ 24 ∷ 25 ∷ 26 ∷ 27 ∷ 28 ∷ 29 ∷ 30 ∷ 31 ∷ 32 ∷ 33 ∷ 34 ∷ 35 ∷ 36 ∷ 37 ∷ 38 ∷ 39 ∷ 40 ∷ 41 ∷ 42 ∷ 43 ∷ 44 ∷ 45 ∷ 46 ∷ 47 ∷ 48 ∷ [])
-from_20 =
-    (λ d i. alone (stands_at d 22 i), (λ d i. alone (stands_at d 23 i), (λ d i. refl, (λ d i. refl, (λ d i. refl, (salvage, (λ d i. refl, (λ d i. refl, from_28))))))))
+from_26 : EachOf HasRule (range_with_len 26 23)
+from_26 = (λ d i. refl, (λ d i. refl, (λ d i. refl, (λ d i. refl, (λ d i. refl, (λ d i. alone (stands_at d 35 i), from_32))))))
 
-from_12 : EachOf HasRule (12 ∷ 13 ∷ 14 ∷ 15 ∷ 16 ∷ 17 ∷ 18 ∷ 19 ∷ 20 ∷ 21 ∷ 22 ∷ 23 ∷ 24 ∷ 25 ∷ 26 ∷ 27 ∷ 28 ∷ 29 ∷ 30 ∷ 31 ∷ 32 ∷ 33 ∷ 34 ∷ 35 ∷ 36 ∷ 37 ∷ 38 ∷ 39 ∷ 40 ∷ 41 ∷ 42 ∷ 43 ∷ 44 ∷ 45 ∷ 46 ∷ 47 ∷ 48 ∷ [])
-from_12 =
-    (λ d i. alone (stands_at d 11 i), (λ d i. refl, (λ d i. refl, (λ d i. refl, (λ d i. refl, (λ d i. refl, (λ d i. refl, (λ d i. refl, from_20))))))))
+from_20 : EachOf HasRule (range_with_len 20 29)
+from_20 = (λ d i. alone (stands_at d 22 i), (λ d i. alone (stands_at d 23 i), (λ d i. refl, (λ d i. refl, (λ d i. refl, (salvage, from_26))))))
+
+from_14 : EachOf HasRule (range_with_len 14 35)
+from_14 = (λ d i. refl, (λ d i. refl, (λ d i. refl, (λ d i. refl, (λ d i. refl, (λ d i. refl, from_20))))))
+
+from_11 : EachOf HasRule (range_with_len 11 38)
+from_11 = (λ d i. alone (stands_at d 10 i), (λ d i. alone (stands_at d 11 i), (λ d i. refl, from_14)))
+
+from_7 : EachOf HasRule (range_with_len 7 42)
+from_7 = (λ d i. refl, (λ d i. alone (stands_at d 7 i), (λ d i. alone (stands_at d 8 i), (λ d i. refl, from_11))))
 
 all_kinds : EachOf HasRule kind_numbers
-all_kinds =
-    (λ d i. refl, (λ d i. refl, (λ d i. refl, (λ d i. refl, (λ d i. refl, (λ d i. refl, (λ d i. refl, (λ d i. alone (stands_at d 7 i),
-    (λ d i. alone (stands_at d 8 i), (λ d i. refl, (λ d i. alone (stands_at d 10 i), from_12)))))))))))
+all_kinds = (λ d i. refl, (λ d i. refl, (λ d i. refl, (λ d i. refl, (λ d i. refl, (λ d i. refl, from_7))))))
 
 -- the variables of every kind exist exactly where the rule of the kind is met
 pub exists_at-rule : (d : Data) (kind : ℕ) (i : Index) → list_any (nat_eq kind) kind_numbers ≡ true → exists_at d kind i ≡ is_met d (exists_where kind) (point_at i)

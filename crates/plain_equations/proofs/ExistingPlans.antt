@@ -1,5 +1,5 @@
 -- Plans that agree on the variables that exist.
-use Rattle.std.proofs.Common.{◌≡◌, ℕ, zero, suc, ◌+◌, ◌<◌, ◌≤◌, Bool, true, false, ℤ, pos, ◌+ℤ◌, ◌≤ℤ◌, List, [], ◌∷◌, ap, ap₂, sym, ◌∙◌, refl, subst, arith, true≢false, lt-ltb, eqb-true, inl, inr}
+use Rattle.std.proofs.Common.{◌≡◌, ℕ, zero, suc, ◌+◌, ◌<◌, ◌≤◌, Bool, true, ℤ, pos, ◌+ℤ◌, ◌≤ℤ◌, List, [], ◌∷◌, ap, ap₂, sym, ◌∙◌, refl, subst, arith, true≢false, lt-ltb, eqb-true, inl, inr}
 use Rattle.std.specs.Prelude.{◌&&◌, ◌↔◌, nat_eq, nat_lt}
 use Rattle.std.specs.List.{list_any, range_with_len}
 use Rattle.std.proofs.lemmas.Bool.{and_parts, or_cases}
@@ -13,7 +13,7 @@ use Rattle.named_equations.specs.Existence.{exists}
 use Rattle.named_equations.specs.Instances.{equation_numbers, instances, is_index, is_instance, name_at, stands_at, subscripts_of}
 use Rattle.named_equations.specs.Notation.{sum_over}
 use Rattle.named_equations.specs.Plans.{Feasible, MeetsEach, cost, says}
-use Rattle.named_equations.specs.Positions.{all_years, count_of, regions}
+use Rattle.named_equations.specs.Positions.{all_years, count_of}
 use Rattle.named_equations.specs.Variables.{total_discounted_cost}
 use Rattle.named_equations.proofs.InstanceTests.{Has, Has-instances}
 use Rattle.plain_equations.specs.Occurrences.{AgreeOnExisting}
@@ -87,4 +87,4 @@ same-cost d x y agree =
     let m : ℕ = count_of d year in
     range-same (λ r. sum_over (all_years d) (λ t. x (total_discounted_cost r t))) (λ r. sum_over (all_years d) (λ t. y (total_discounted_cost r t))) 0 n n (omega arith)
     (λ r in_regions. range-same (λ t. x (total_discounted_cost r t)) (λ t. y (total_discounted_cost r t)) 0 m m (omega arith)
-        (λ t in_years. agree (total_discounted_cost r t) (cost_exists d r t in_regions in_years)))
+    (λ t in_years. agree (total_discounted_cost r t) (cost_exists d r t in_regions in_years)))

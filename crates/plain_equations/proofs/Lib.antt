@@ -1,5 +1,6 @@
 mod Determination
 mod Existing
+mod ExistingExamples
 mod ExistingKinds
 mod ExistingLaws
 mod ExistingPlans

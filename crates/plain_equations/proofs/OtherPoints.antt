@@ -1,5 +1,5 @@
 -- Subscripts and conditions at two points.
-use Rattle.std.proofs.Common.{◌≡◌, ℕ, Bool, true, false, cond, ℤ, List, [], ◌∷◌, map, ap, ap₂, sym, ◌∙◌, refl, true≢false, eqb-true, inl, inr}
+use Rattle.std.proofs.Common.{◌≡◌, ℕ, Bool, true, false, cond, List, [], ◌∷◌, map, ap, ap₂, sym, ◌∙◌, refl, true≢false, eqb-true}
 use Rattle.std.specs.Prelude.{◌&&◌, ◌||◌, slice_index_or, Option, Some, None}
 use Rattle.std.specs.List.{list_any, list_all}
 use Rattle.std.proofs.lemmas.Bool.{and_parts}

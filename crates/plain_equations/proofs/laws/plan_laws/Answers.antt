@@ -1,5 +1,5 @@
 -- Equation by equation.
-use Rattle.std.proofs.Common.{◌≡◌, ℕ, ◌<◌, ◌≤◌, arith, subst, sym, inl, inr, eq-or-lt_of_le}
+use Rattle.std.proofs.Common.{◌≤◌, arith, subst, sym, inl, inr, eq-or-lt_of_le}
 use Rattle.plain_equations.proofs.ExistingPlans.{NamesExisting, AllNameExisting, same-feasible, same-cost}
 use Rattle.plain_equations.proofs.laws.plan_laws.Goals as goal
 
