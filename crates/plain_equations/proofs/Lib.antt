@@ -1,6 +1,13 @@
 mod Determination
+mod Existing
+mod ExistingExamples
+mod ExistingKinds
+mod ExistingLaws
+mod ExistingPlans
 mod Finding
 mod Lookups
+mod Occurring
+mod OtherPoints
 mod Ranges
 mod Scaling
 mod Soundness

@@ -2,9 +2,12 @@ pub mod Answers
 pub mod Checked
 pub mod Degrees
 pub mod Described
+pub mod ExistsWhere
 pub mod Lists
 pub mod Meaning
 pub mod Named
+pub mod NamesExisting
+pub mod Occurrences
 pub mod Points
 pub mod Refused
 pub mod Solved

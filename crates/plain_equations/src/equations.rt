@@ -16,11 +16,17 @@ mod renewable_target;
 mod reserve_margin;
 mod salvage;
 
-ghost use Rattle.std.specs.Prelude.{◌≡◌};
+ghost use Rattle.std.specs.Prelude.{◌≡◌, true};
+ghost use Rattle.std.specs.List.{list_all};
+ghost use Rattle.model_sets.specs.Data.{Data};
+ghost use Rattle.row_core.specs.declared.Index.{Index};
 ghost use Rattle.row_core.specs.Equations.{IsEquation};
+ghost use Rattle.named_equations.specs.Existence.{exists};
+ghost use Rattle.named_equations.specs.Instances.{is_instance, name_at};
 ghost use Rattle.plain_equations.specs.Described.{described, expected};
 ghost use Rattle.plain_equations.specs.Meaning.{said};
 ghost use Rattle.plain_equations.specs.Named.{named};
+ghost use Rattle.plain_equations.specs.Occurrences.{variables_at};
 
 use crate::expressions::Equation;
 
@@ -49,10 +55,11 @@ pub(crate) fn entry(eq: u8) -> &'static Equation
 }
 
 /// The equation of this number, from 1 to 64: it stands where the named equation does, says the same of every plan, and
-/// defines the same variable.
+/// defines the same variable. At each of its instances, the variables that occur in it exist.
 pub fn equation(eq: u8) -> &'static Equation
     requires { IsEquation eq }
-    ensures { said result.now ≡ named eq }
+    ensures meaning { said result.now ≡ named eq }
+    ensures existing { (d : Data) (i : Index) → is_instance d (name_at eq i) ≡ true → list_all (exists d) (variables_at d result.now i) ≡ true }
 {
     entry(eq)
 }

@@ -6,12 +6,16 @@ ghost use Rattle.row_core.specs.Equations.{IsEquation};
 ghost use Rattle.row_core.specs.declared.Index.{Index};
 ghost use Rattle.row_core.specs.declared.RowName.{RowName};
 ghost use Rattle.row_core.specs.declared.Var.{Var};
+ghost use Rattle.row_core.specs.Kinds.{IsKind};
 ghost use Rattle.row_core.specs.Numbers.{ascends};
 ghost use Rattle.row_core.specs.Order.{row_name_cmp, var_cmp};
-ghost use Rattle.named_equations.specs.Existence.{all_variables, exists};
+ghost use Rattle.named_equations.specs.Existence.{all_variables, exists, exists_at};
 ghost use Rattle.named_equations.specs.Instances.{name_at, variable_of, instances, is_instance};
 ghost use Rattle.named_equations.specs.Parameters.{year_split};
-ghost use Rattle.named_equations.specs.Plans.{Meets};
+ghost use Rattle.named_equations.specs.Plans.{Feasible, Meets, cost, says};
+ghost use Rattle.plain_equations.specs.ExistsWhere.{exists_where, is_met};
+ghost use Rattle.plain_equations.specs.Occurrences.{AgreeOnExisting};
+ghost use Rattle.plain_equations.specs.Points.{point_at};
 
 use crate::equations::entry;
 
@@ -41,8 +45,31 @@ pub fn instance_laws()
 {}
 
 /// A variable is in the list of those that exist exactly where its kind and subscripts pass the test, and the list ascends
-/// strictly, by kind and then by subscripts.
+/// strictly, by kind and then by subscripts. The variables of a kind exist where its rule is met: production and use of a fuel
+/// by a technology, and emissions by mode, where the ratio isn't 0, and all others at every index.
 pub fn variable_laws()
     ensures listed { (d : Data) (v : Var) → Contains (all_variables d) v ↔ (exists d v ≡ true) }
     ensures ascending { (d : Data) → ascends var_cmp (all_variables d) ≡ true }
+    ensures by_kind { (d : Data) (kind : ℕ) (i : Index) → IsKind kind → exists_at d kind i ≡ is_met d (exists_where kind) (point_at i) }
 {}
+
+/// An equation names variables that exist and no others: at each of its instances it says the same of two plans that agree
+/// on all variables that exist, and the variable that it defines there exists.
+pub fn existence_law(eq: u8)
+    requires { IsEquation eq }
+    ensures named { (d : Data) (q : ℕ) (x y : Var → ℤ) (i : Index) → is_instance d (name_at eq i) ≡ true → AgreeOnExisting d x y → says d q x (name_at eq i) ≡ says d q y (name_at eq i) }
+    ensures defined { (d : Data) (i : Index) (v : Var) → is_instance d (name_at eq i) ≡ true → variable_of (name_at eq i) ≡ Some v → exists d v ≡ true }
+{
+    entry(eq);
+}
+
+/// A plan is its numbers at the variables that exist, and no others count: of two plans that agree on these, one is feasible
+/// exactly where the other is, and they cost the same.
+pub fn plan_laws()
+    ensures feasible { (d : Data) (q : ℕ) (x y : Var → ℤ) → AgreeOnExisting d x y → Feasible d q x ↔ Feasible d q y }
+    ensures cost { (d : Data) (x y : Var → ℤ) → AgreeOnExisting d x y → cost d x ≡ cost d y }
+{
+    for eq in 1..65 {
+        existence_law(eq);
+    }
+}

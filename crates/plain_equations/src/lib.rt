@@ -22,7 +22,9 @@ pub use data::{PlainData, PlainDefault, PlainValue};
 pub use equations::equation;
 pub use expressions::{Condition, Count, Defines, Equation, Expr, Letter, Places, Years};
 pub use fail::PlainFail;
-pub use laws::{determination_law, instance_laws, scaling_law, variable_laws};
+pub use laws::{
+    determination_law, existence_law, instance_laws, plan_laws, scaling_law, variable_laws,
+};
 pub use plan::PlainPlan;
 
 #[cfg(test)]
