@@ -1,0 +1,98 @@
+-- Rows that are made for one list of instances after another, and the first that can't be.
+use Rattle.std.proofs.Common.{◌≡◌, ℕ, ◌+◌, ◌<◌, ◌≤◌, true, List, [], ◌∷◌, ◌++◌, refl, ap, sym, ◌∙◌, subst, arith}
+use Rattle.std.specs.List.{flat_map, list_all}
+use Rattle.std.specs.Cmp.Derive.{both_true}
+use Rattle.std.proofs.lemmas.List.{append-nil, append_assoc}
+use Rattle.std.proofs.lemmas.List.Folds.{list_all-append}
+use Rattle.std.proofs.lemmas.List.Sums.{sum_by-append}
+use Rattle.model_sets.specs.Data.{Data}
+use Rattle.row_core.specs.declared.Row.{Row}
+use Rattle.row_core.specs.declared.RowName.{RowName}
+use Rattle.row_book.specs.Books.{AreRowsOf, CanBeMade, HasStopped, StopsAt, IsTooWide, HasTooMany, row_fits, entries_in, entry_count, entry_limit}
+use Rattle.row_book.specs.RowsAdded.{AddsRows}
+use Rattle.row_book.specs.declared.fail.BookFail.{BookFail}
+use Rattle.row_book.specs.declared.fail.BookFail.TheVariants.{Width, TooManyEntries, Memory}
+use Rattle.row_book.specs.declared.rows.Rows.{Rows}
+use Rattle.row_book.proofs.Lists.{flat_map-middle, flat_map-last}
+
+both_lists : (d : Data) (ns ms : List RowName) (rs ss : List Row) → AreRowsOf d ns rs → AreRowsOf d ms ss → AreRowsOf d (ns ++ ms) (rs ++ ss)
+both_lists d [] ms [] ss a b = b
+both_lists d [] ms (r ∷ rs) ss a b = absurd a
+both_lists d (n ∷ ns) ms [] ss a b = absurd a
+both_lists d (n ∷ ns) ms (r ∷ rs) ss a b = (a.0, both_lists d ns ms rs ss a.1 b)
+
+both_fit : (d : Data) (ns ms : List RowName) → list_all (row_fits d) ns ≡ true → list_all (row_fits d) ms ≡ true → list_all (row_fits d) (ns ++ ms) ≡ true
+both_fit d ns ms a b = list_all-append (row_fits d) ns ms ∙ both_true a b
+
+-- ---- one list after another
+
+pub adds-nothing : (d : Data) (rows : Rows) → AddsRows d [] rows rows
+adds-nothing d rows = record { added = []; behind = sym (append-nil rows.rows.items); rows = tt; fit = refl; counted = omega arith }
+
+pub adds-more : (d : Data) (ns ms : List RowName) (a b c : Rows) → AddsRows d ns a b → AddsRows d ms b c → AddsRows d (ns ++ ms) a c
+adds-more d ns ms a b c first second = record {
+  added = first.added ++ second.added;
+  behind = second.behind ∙ ap (λ (front : List Row). front ++ second.added) first.behind ∙ append_assoc a.rows.items first.added second.added;
+  rows = both_lists d ns ms first.added second.added first.rows second.rows;
+  fit = both_fit d ns ms first.fit second.fit;
+  counted = omega (arith, first.counted, second.counted, sum_by-append (entry_count d) ns ms);
+}
+
+-- what was added can be made
+pub adds-made : (d : Data) (ns : List RowName) (a b : Rows) → AddsRows d ns a b → CanBeMade d a.entries ns
+adds-made d ns a b adds = record { fit = adds.fit; few = omega (arith, adds.counted, b.few) }
+
+-- behind rows that can be made
+later-stop : (d : Data) (n m : ℕ) (ns ms : List RowName) (name : RowName) → CanBeMade d n ns → m ≡ n + entries_in d ns → StopsAt d m ms name → StopsAt d n (ns ++ ms) name
+later-stop d n m ns ms name made counted stops = record {
+  front = ns ++ stops.front;
+  behind = stops.behind;
+  split = ap (λ rest. ns ++ rest) stops.split ∙ sym (append_assoc ns stops.front (name ∷ stops.behind));
+  made = record {
+    fit = both_fit d ns stops.front made.fit stops.made.fit;
+    few = omega (arith, stops.made.few, counted, sum_by-append (entry_count d) ns stops.front);
+  };
+}
+
+pub stops-later : (d : Data) (n m : ℕ) (ns ms : List RowName) (fail : BookFail) → CanBeMade d n ns → m ≡ n + entries_in d ns → HasStopped d m ms fail → HasStopped d n (ns ++ ms) fail
+stops-later d n m ns ms (Width place) made counted (name, at, wide) =
+    (name, at, record { stops = later-stop d n m ns ms name made counted wide.stops; wide = wide.wide })
+stops-later d n m ns ms TooManyEntries made counted (name, many) = (
+  name,
+  record {
+    stops = later-stop d n m ns ms name made counted many.stops;
+    fits = many.fits;
+    many = omega (arith, many.many, counted, sum_by-append (entry_count d) ns many.stops.front);
+  },
+)
+stops-later d n m ns ms Memory made counted stops = tt
+
+-- before any others
+earlier-stop : (d : Data) (n : ℕ) (ns ms : List RowName) (name : RowName) → StopsAt d n ns name → StopsAt d n (ns ++ ms) name
+earlier-stop d n ns ms name stops = record {
+  front = stops.front;
+  behind = stops.behind ++ ms;
+  split = ap (λ front. front ++ ms) stops.split ∙ append_assoc stops.front (name ∷ stops.behind) ms;
+  made = stops.made;
+}
+
+pub stops-earlier : (d : Data) (n : ℕ) (ns ms : List RowName) (fail : BookFail) → HasStopped d n ns fail → HasStopped d n (ns ++ ms) fail
+stops-earlier d n ns ms (Width place) (name, at, wide) = (name, at, record { stops = earlier-stop d n ns ms name wide.stops; wide = wide.wide })
+stops-earlier d n ns ms TooManyEntries (name, many) = (name, record { stops = earlier-stop d n ns ms name many.stops; fits = many.fits; many = many.many })
+stops-earlier d n ns ms Memory stops = tt
+
+-- ---- turn by turn
+
+-- a turn adds its rows
+pub turn-adds : {A : Type 0} (d : Data) (f : A → List RowName) (front : List A) (x : A) (a b c : Rows) → AddsRows d (flat_map f front) a b → AddsRows d (f x) b c
+    → AddsRows d (flat_map f (front ++ x ∷ [])) a c
+turn-adds d f front x a b c so_far turn =
+    subst (λ names. AddsRows d names a c) (sym (flat_map-last f front x)) (adds-more d (flat_map f front) (f x) a b c so_far turn)
+
+-- what stops a turn stops all
+pub turn-stops : {A : Type 0} (d : Data) (f : A → List RowName) (front : List A) (x : A) (behind : List A) (a b : Rows) (fail : BookFail)
+    → AddsRows d (flat_map f front) a b → HasStopped d b.entries (f x) fail → HasStopped d a.entries (flat_map f (front ++ x ∷ behind)) fail
+turn-stops d f front x behind a b fail so_far stops =
+    subst (λ names. HasStopped d a.entries names fail) (sym (flat_map-middle f front x behind))
+    (stops-later d a.entries b.entries (flat_map f front) (f x ++ flat_map f behind) fail (adds-made d (flat_map f front) a b so_far) so_far.counted
+    (stops-earlier d b.entries (f x) (flat_map f behind) fail stops))
