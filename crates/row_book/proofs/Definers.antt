@@ -380,7 +380,7 @@ found d i = (
     inr (by_definer d 24 22 i (omega arith, omega arith) (and_parts (is_index d (subscripts_of_kind 22) i) (exists_at d 22 i) there).0 refl refl),
     tt))))))))))))))))))))))
 
-least_kind : (d : Data) (v : Var) → exists d v ≡ true → 1 ≤ v.kind
+pub least_kind : (d : Data) (v : Var) → exists d v ≡ true → 1 ≤ v.kind
 least_kind d v there = elim (cases_lt 0 v.kind) [ inl above ↦ omega (arith, above) | inr none ↦ absurd (no_kind (v.kind) (omega (arith, none)) there) ]
   where
     no_kind : (k : ℕ) → k ≡ 0 → exists d (variable k v.index) ≡ true → ⊥

@@ -1,7 +1,11 @@
 -- The instances of an equation are those of its regions one after another, and in a region those of one list of inner subscripts with each of the outer ones.
-use Rattle.std.proofs.Common.{◌≡◌, ℕ, ◌+◌, ◌<◌, ◌≤◌, Bool, true, List, [], ◌∷◌, ◌++◌, map, filter, refl, ap, sym, ◌∙◌, subst, arith, inl, inr}
+use Rattle.std.proofs.Common.{◌≡◌, ℕ, ◌+◌, ◌<◌, ◌≤◌, ◌-◌, length, Bool, true, List, [], ◌∷◌, ◌++◌, map, filter, refl, ap, sym, ◌∙◌, subst, arith, inl, inr}
 use Rattle.std.specs.List.{AllByRecursion, flat_map, range_with_len}
 use Rattle.std.proofs.lemmas.List.{append-nil}
+use Rattle.std.proofs.lemmas.List.FromFn.{length-range_with_len}
+use Rattle.model_sets.specs.Names as sets
+use Rattle.named_equations.specs.Positions.{count_of, positions}
+use Rattle.row_book.proofs.Ranges.{range-middle}
 use Rattle.model_sets.specs.Data.{Data}
 use Rattle.row_core.specs.declared.Index.{Index}
 use Rattle.row_core.specs.declared.RowName.{RowName}
@@ -13,7 +17,7 @@ use Rattle.named_equations.proofs.TermMeaning.{EachFrom, at_number}
 use Rattle.row_book.specs.Built.{IsBuilt, IsBuiltInstance, built_count}
 use Rattle.row_book.specs.Walks.{cells_of, inner_subscripts, joined, moved, names_in, names_with, outer_subscripts, outers_of, place_of, walk}
 use Rattle.row_book.specs.declared.walk.Subscript.{Subscript}
-use Rattle.row_book.proofs.Lists.{AllByRecursion-filter, AllByRecursion-flat_map, AllByRecursion-map, AllByRecursion-weaker, filter-flat_map, filter-map, flat_map-alike, flat_map-flat_map, flat_map-same, map-flat_map, map-map}
+use Rattle.row_book.proofs.Lists.{AllByRecursion-middle, AllByRecursion-filter, AllByRecursion-flat_map, AllByRecursion-map, AllByRecursion-weaker, filter-flat_map, filter-map, flat_map-alike, flat_map-flat_map, flat_map-same, map-flat_map, map-map}
 
 -- ---- walks
 
@@ -116,3 +120,28 @@ are-instances d eq built =
     (λ i parts. record { built = built; within = parts.0; stands = parts.1 })
     (filter (stands_at d eq) (indices d s))
     (AllByRecursion-filter Within (stands_at d eq) (indices d s) (all_from Within (indices d s) (indices-pass d s))))
+
+-- ---- the regions
+
+-- each equation runs over all regions
+pub regions-of : (d : Data) (eq : ℕ) → IsBuilt eq → values_at d (subscripts_of eq) place.r ≡ positions d sets.region
+regions-of d eq built =
+    let each : EachFrom (λ n. values_at d (subscripts_of n) place.r ≡ positions d sets.region) 1 24 =
+    (refl, (refl, (refl, (refl, (refl, (refl, (refl, (refl, (refl, (refl, (refl, (refl, (refl, (refl, (refl, (refl, (refl, (refl, (refl, (refl, (refl, (refl, (refl, (refl, tt)))))))))))))))))))))))) in
+    at_number (λ n. values_at d (subscripts_of n) place.r ≡ positions d sets.region) 1 24 eq each built.0 (omega (arith, built.1))
+
+-- as many as there are
+pub regions-count : (d : Data) (eq n : ℕ) → IsBuilt eq → range_with_len 0 n ≡ values_at d (subscripts_of eq) place.r → n ≡ count_of d sets.region
+regions-count d eq n built are =
+    sym (length-range_with_len 0 n) ∙ ap length (are ∙ regions-of d eq built) ∙ length-range_with_len 0 (count_of d sets.region)
+
+-- the instances, by the number of regions
+pub instances-by_count : (d : Data) (eq n : ℕ) → IsBuilt eq → range_with_len 0 n ≡ values_at d (subscripts_of eq) place.r → instances_of d eq ≡ flat_map (names_in d eq) (range_with_len 0 n)
+instances-by_count d eq n built are = instances-regions d eq built ∙ ap (flat_map (names_in d eq)) (sym are)
+
+-- those of a region are instances
+pub region-instances : (d : Data) (eq n r : ℕ) → IsBuilt eq → range_with_len 0 n ≡ values_at d (subscripts_of eq) place.r → r < n → AllByRecursion (IsBuiltInstance d) (names_in d eq r)
+region-instances d eq n r built are inside =
+    AllByRecursion-middle (IsBuiltInstance d) (names_in d eq) (range_with_len 0 (r - 0)) r (range_with_len (r + 1) ((0 + n) - (r + 1)))
+    (subst (λ names. AllByRecursion (IsBuiltInstance d) names)
+    (instances-by_count d eq n built are ∙ ap (flat_map (names_in d eq)) (range-middle 0 n r (omega arith) (omega (arith, inside)))) (are-instances d eq built))

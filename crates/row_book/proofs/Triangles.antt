@@ -64,7 +64,7 @@ row_of d (n ∷ names) (r ∷ rows) name are (inl e) = (r, (inl refl, subst (λ 
 row_of d (n ∷ names) (r ∷ rows) name are (inr has) =
     let rest = row_of d names rows name are.1 has in (rest.0, (inr rest.1.0, rest.1.1))
 
-all-has : {A : Type 0} (P : A → Type 0) (xs : List A) (x : A) → AllByRecursion P xs → Has xs x → P x
+pub all-has : {A : Type 0} (P : A → Type 0) (xs : List A) (x : A) → AllByRecursion P xs → Has xs x → P x
 all-has P [] x of_all has = absurd has
 all-has P (y ∷ xs) x of_all (inl e) = subst P e of_all.0
 all-has P (y ∷ xs) x of_all (inr has) = all-has P xs x of_all.1 has

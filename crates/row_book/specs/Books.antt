@@ -3,11 +3,15 @@ use Rattle.std.specs.Prelude.{◌≡◌, ℕ, ◌+◌, ◌<◌, ◌≤◌, Bool,
 use Rattle.std.specs.List.{flat_map, list_all}
 use Rattle.exact_num.specs.Range.{all_fit}
 use Rattle.model_sets.specs.Data.{Data}
+use Rattle.model_sets.specs.Members.{SetLists}
 use Rattle.row_core.specs.declared.Row.{Row}
 use Rattle.row_core.specs.declared.RowName.{RowName}
 use Rattle.row_core.specs.declared.Var.{Var}
 use Rattle.row_core.specs.declared.place.Place.{Place}
 use Rattle.row_core.specs.EquationTerms.{equation_formed, terms_of, right_of}
+use Rattle.row_core.specs.Equations.{IsEquation}
+use Rattle.row_core.specs.Kinds.{IsKind}
+use Rattle.row_core.specs.NameTexts.{RowNameIsWithin, VariableIsWithin}
 use Rattle.row_core.specs.Numbers.{ascends, variables_of}
 use Rattle.row_core.specs.Order.{var_cmp}
 use Rattle.row_core.specs.Written.{written_entries}
@@ -37,6 +41,18 @@ entry_variables rows = flat_map (λ row. variables_of row.entries.items) rows
 pub record AreVariablesOf (rows : List Row) (vars : List Var) : Type 0 where
   pub ascending : ascends var_cmp vars ≡ true
   pub each : (v : Var) → Contains vars v ↔ Contains (entry_variables rows) v
+
+-- ---- names
+
+-- the row's equation is in its list, and each of its subscripts is the position of a member
+abbrev pub HasNameWithin : SetLists → Row → Type 0
+HasNameWithin sets row = IsEquation row.name.eq × RowNameIsWithin sets row.name
+
+-- the variable's kind is in its list, and each of its subscripts is the position of a member
+abbrev pub IsWithinSets : SetLists → Var → Type 0
+IsWithinSets sets v = IsKind v.kind × VariableIsWithin sets v
+
+-- ---- the book
 
 -- rows, and their variables
 pub record Book : Type 0 where

@@ -1,10 +1,13 @@
 //! The book of rows.
 
 ghost use Rattle.std.specs.Prelude.{◌≡◌, ◌<◌, true, IfErr, IfOk, OnOk};
+ghost use Rattle.std.specs.List.{AllByRecursion};
 ghost use Rattle.row_core.specs.Numbers.{ascends};
 ghost use Rattle.row_core.specs.Order.{row_name_cmp};
-ghost use Rattle.row_book.specs.Books.{AreRowsOf, AreVariablesOf, CanBeMade, HasStopped, names_of};
+ghost use Rattle.named_equations.specs.Existence.{exists};
+ghost use Rattle.row_book.specs.Books.{AreRowsOf, AreVariablesOf, CanBeMade, HasNameWithin, HasStopped, IsWithinSets, names_of};
 ghost use Rattle.row_book.specs.Built.{built_instances};
+ghost use Rattle.row_book.specs.Definitions.{AreTriangular};
 
 use crate::fail::BookFail;
 use crate::rows::built_rows;
@@ -40,6 +43,12 @@ impl RowBook {
         ensures rows { IfOk result (λ book. AreRowsOf facts.now.facts (built_instances facts.now.facts) book.rows) }
         ensures ascending { IfOk result (λ book. ascends row_name_cmp (names_of book.rows) ≡ true) }
         ensures variables { IfOk result (λ book. AreVariablesOf book.rows book.vars) }
+        ensures definitions { IfOk result (λ book. AreTriangular book.rows) }
+
+        // Each name is of its list, with the positions of members as its subscripts, and each variable exists.
+        ensures named { IfOk result (λ book. AllByRecursion (HasNameWithin facts.now.facts.sets) book.rows) }
+        ensures within { IfOk result (λ book. AllByRecursion (IsWithinSets facts.now.facts.sets) book.vars) }
+        ensures exist { IfOk result (λ book. AllByRecursion (λ v. exists facts.now.facts v ≡ true) book.vars) }
 
         // When there is a book, and why there is none.
         ensures made { OnOk result (CanBeMade facts.now.facts 0 (built_instances facts.now.facts)) }

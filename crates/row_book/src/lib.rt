@@ -6,6 +6,8 @@
 mod book;
 mod cells;
 mod fail;
+mod instance_row;
+mod made_rows;
 mod ratios;
 mod rows;
 mod variables;

@@ -1,20 +1,19 @@
 //! The rows of all instances, in order.
 
-ghost use Rattle.std.specs.Prelude.{◌≡◌, ◌≤◌, ◌<◌, [], ◌∷◌, true, not, ◌||◌, is_some, IfErr, IfOk, IfSome, OnOk};
-ghost use Rattle.std.specs.List.{AllByRecursion, flat_map};
+ghost use Rattle.std.specs.Prelude.{◌<◌, [], ◌∷◌, IfErr, IfOk, OnOk};
+ghost use Rattle.std.specs.List.{AllByRecursion};
 ghost use Rattle.model_sets.specs.Names as sets;
-ghost use Rattle.row_core.specs.Stops.{IsStop};
-ghost use Rattle.row_core.specs.declared.place.Place.{Place};
-ghost use Rattle.named_equations.specs.Instances.{is_index, stands_at, subscripts_of, instances_of};
+ghost use Rattle.named_equations.specs.Instances.{instances_of};
 ghost use Rattle.named_equations.specs.Positions.{count_of};
-ghost use Rattle.named_equations.specs.RowMeaning.{IsNamedRow};
-ghost use Rattle.row_book.specs.Books.{AreRowsOf, CanBeMade, HasStopped, row_fits};
-ghost use Rattle.row_book.specs.Built.{IsBuilt, IsBuiltInstance, built_instances, terms_at};
+ghost use Rattle.row_book.specs.Books.{AreRowsOf, CanBeMade, HasStopped};
+ghost use Rattle.row_book.specs.Built.{IsBuilt, IsBuiltInstance, built_instances};
 ghost use Rattle.row_book.specs.RowsAdded.{AddsRows};
 ghost use Rattle.row_book.specs.Walks.{names_in, names_with};
 
 use crate::cells::{cells_of, outers_of};
 use crate::fail::BookFail;
+use crate::instance_row::row_of;
+use crate::made_rows::MadeRows;
 use crate::walk::{Subscript, number_of_values};
 use param_tables::ModelData;
 use row_core::{Index, Row, RowName, Stopped};
@@ -26,44 +25,7 @@ const BUILT_COUNT: u8 = 24;
 /// How many entries all rows may have together.
 const ENTRY_LIMIT: usize = 4_000_000;
 
-/// The row of an equation at an index, if there is an instance.
-fn found(alloc: Global, facts: &ModelData, name: RowName) -> Result<Option<Row>, Stopped>
-    requires built { IsBuilt name.eq }
-    requires index { is_index facts.now.facts (subscripts_of name.eq) name.index ≡ true }
-    ensures instance { IfOk result (λ found. is_some found ≡ stands_at facts.now.facts name.eq name.index) }
-    ensures row { IfOk result (λ found. IfSome found (IsNamedRow facts.now.facts name (terms_at facts.now.facts name))) }
-    ensures fits { IfOk result (λ found. IfSome found (λ row. row_fits facts.now.facts name ≡ true)) }
-    ensures stopped { IfErr result (IsStop (Place.Row name) (not (stands_at facts.now.facts name.eq name.index) || row_fits facts.now.facts name)) }
-{
-    match name.eq {
-        2..=6 => capacity_rows::rows_of(alloc, facts, name.eq, name.index),
-        _ => balance_rows::rows_of(alloc, facts, name.eq, name.index),
-    }
-}
-
-/// The row of an instance.
-fn row_of(alloc: Global, facts: &ModelData, name: RowName) -> Result<Row, Stopped>
-    requires { IsBuiltInstance facts.now.facts name }
-    ensures row { IfOk result (IsNamedRow facts.now.facts name (terms_at facts.now.facts name)) }
-    ensures fits { OnOk result (row_fits facts.now.facts name ≡ true) }
-    ensures stopped { IfErr result (IsStop (Place.Row name) (row_fits facts.now.facts name)) }
-{
-    match found(alloc, facts, name) {
-        Ok(Some(row)) => Ok(row),
-        Ok(None) => unreachable!(),
-        Err(stopped) => Err(stopped),
-    }
-}
-
-/// The rows that are made so far, and how many entries they have together.
-pub(crate) struct Rows {
-    alloc: Global,
-    rows: Vec<Row>,
-    entries: usize,
-    ghost few: { entries ≤ 4000000 },
-}
-
-impl Rows {
+impl MadeRows {
     /// Adds the row of an instance.
     fn add(&mut self, facts: &ModelData, name: RowName) -> Result<(), BookFail>
         requires { IsBuiltInstance facts.now.facts name }
@@ -165,7 +127,7 @@ pub(crate) fn built_rows(alloc: Global, facts: &ModelData) -> Result<Vec<Row>, B
     ensures made { OnOk result (CanBeMade facts.now.facts 0 (built_instances facts.now.facts)) }
     ensures stopped { IfErr result (HasStopped facts.now.facts 0 (built_instances facts.now.facts)) }
 {
-    let mut rows = Rows {
+    let mut rows = MadeRows {
         alloc,
         rows: Vec::new(alloc),
         entries: 0,
