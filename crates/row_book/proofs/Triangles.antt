@@ -1,0 +1,235 @@
+-- The rows of all instances are triangular.
+use Rattle.std.proofs.Common.{◌≡◌, ℕ, zero, suc, ◌+◌, ◌<◌, ◌≤◌, Bool, true, false, cond, ◌⊎◌, inl, inr, List, [], ◌∷◌, ◌++◌, nat_le, Option, Some, None, refl, ap, ap₂, sym, ◌∙◌, subst, arith, le-leb, leb-true}
+use Rattle.std.specs.List.{AllByRecursion, flat_map}
+use Rattle.std.specs.Prelude.{Contains, slice_get, ℤ, pos, ◌<ℤ◌}
+use Rattle.std.specs.declared.cmp.Ordering.{Ordering}
+use Rattle.std.specs.declared.cmp.Ordering.TheVariants.{Less, Equal, Greater}
+use Rattle.std.specs.Ordering.{nat_cmp, ordering_reverse, ordering_then}
+use Rattle.std.proofs.lemmas.Bool.{cases_lt}
+use Rattle.std.proofs.lemmas.Cmp.{nat_cmp_total}
+use Rattle.exact_num.proofs.OrderLaws.{nat_cmp-less}
+use Rattle.exact_num.specs.Rational.{Rational, plus}
+use Rattle.model_sets.specs.Data.{Data}
+use Rattle.row_core.specs.declared.Index.{Index}
+use Rattle.row_core.specs.declared.Row.{Row}
+use Rattle.row_core.specs.declared.RowName.{RowName}
+use Rattle.row_core.specs.declared.Sense.TheVariants as sense
+use Rattle.row_core.specs.declared.Var.{Var}
+use Rattle.row_core.specs.Amounts.{Amount}
+use Rattle.row_core.specs.EquationTerms.{right_of, terms_of}
+use Rattle.row_core.specs.Numbers.{variables_of}
+use Rattle.row_core.specs.Order.{index_cmp, row_name_cmp, var_cmp}
+use Rattle.row_core.specs.Rows.{number_at}
+use Rattle.row_core.specs.Terms.{gathered, with_term}
+use Rattle.row_core.specs.Written.{written_entries, written_right}
+use Rattle.row_core.proofs.Orders.{var_cmp_total}
+use Rattle.named_equations.specs.Existence.{exists}
+use Rattle.named_equations.specs.Instances.{is_index, name_at, subscripts_of, variable_of}
+use Rattle.named_equations.specs.RowMeaning.{IsNamedRow}
+use Rattle.named_equations.specs.Variables.{trade}
+use Rattle.named_equations.proofs.InstanceTests.{Contains-from_Has, Has, Has-from_Contains}
+use Rattle.row_book.specs.Books.{AreRowsOf, entry_variables}
+use Rattle.row_book.specs.Built.{IsBuiltInstance, built_instances, terms_at}
+use Rattle.row_book.specs.Definitions.{AreTriangular, Defines, HasEntry, IsAt, IsChosen, IsDefinedIn, IsRepeatedIn}
+use Rattle.row_book.proofs.BuiltInstances.{Has-built, Sorted-built, all-at, all-instances, less_then, sorted-at, sorted-once}
+use Rattle.row_book.proofs.Definers.{IsDefined, IsDefiner, definer, exchange-instance, is-definer, is-exchange, is-found, swapped}
+use Rattle.row_book.proofs.EntryVariables.{OfVariables, entries-from_terms}
+use Rattle.row_book.proofs.Lists.{AllByRecursion-append, AllByRecursion-weaker}
+use Rattle.row_book.proofs.TermVariables.{HasTerms, IsTermOf, has-terms, is_earlier}
+
+-- ---- rows by position and by name
+
+-- the row at this position is that of the name there
+record IsRowAt (d : Data) (names : List RowName) (i : ℕ) (row : Row) : Type 0 where
+  name : RowName
+  at : slice_get names i ≡ Some name
+  is : IsNamedRow d name (terms_at d name) row
+
+row_at : (d : Data) (names : List RowName) (rows : List Row) (i : ℕ) (row : Row) → AreRowsOf d names rows → IsAt rows i row → IsRowAt d names i row
+row_at d [] [] i row are at = absurd (cc at)
+row_at d [] (r ∷ rows) i row are at = absurd are
+row_at d (n ∷ names) [] i row are at = absurd are
+row_at d (n ∷ names) (r ∷ rows) zero row are at =
+    let same : r ≡ row = cc in
+    record { name = n; at = refl; is = subst (λ q. IsNamedRow d n (terms_at d n) q) same are.0 }
+row_at d (n ∷ names) (r ∷ rows) (suc i) row are at =
+    let rest = row_at d names rows i row are.1 at in
+    record { name = rest.name; at = rest.at; is = rest.is }
+
+row_of : (d : Data) (names : List RowName) (rows : List Row) (name : RowName) → AreRowsOf d names rows → Has names name
+    → (row : Row) × (Has rows row × IsNamedRow d name (terms_at d name) row)
+row_of d [] rows name are has = absurd has
+row_of d (n ∷ names) [] name are has = absurd are
+row_of d (n ∷ names) (r ∷ rows) name are (inl e) = (r, (inl refl, subst (λ m. IsNamedRow d m (terms_at d m) r) e are.0))
+row_of d (n ∷ names) (r ∷ rows) name are (inr has) =
+    let rest = row_of d names rows name are.1 has in (rest.0, (inr rest.1.0, rest.1.1))
+
+pub all-has : {A : Type 0} (P : A → Type 0) (xs : List A) (x : A) → AllByRecursion P xs → Has xs x → P x
+all-has P [] x of_all has = absurd has
+all-has P (y ∷ xs) x of_all (inl e) = subst P e of_all.0
+all-has P (y ∷ xs) x of_all (inr has) = all-has P xs x of_all.1 has
+
+-- ---- the variables of entries
+
+of_entries : (d : Data) (name : RowName) (row : Row) → IsBuiltInstance d name → IsNamedRow d name (terms_at d name) row → OfVariables (IsTermOf d name) row.entries.items
+of_entries d name row instance is = entries-from_terms (IsTermOf d name) name (terms_at d name) row is.written (has-terms d name instance)
+
+-- the variable exists, and is of one of the kinds that are built
+abbrev pub IsThere : Data → Var → Type 0
+IsThere d v = (exists d v ≡ true) × (nat_le v.kind 22 ≡ true)
+
+entries_there : (d : Data) (names : List RowName) (rows : List Row) → AllByRecursion (IsBuiltInstance d) names → AreRowsOf d names rows → AllByRecursion (IsThere d) (entry_variables rows)
+entries_there d [] [] instances are = tt
+entries_there d [] (r ∷ rows) instances are = absurd are
+entries_there d (n ∷ names) [] instances are = absurd are
+entries_there d (n ∷ names) (r ∷ rows) instances are =
+    AllByRecursion-append (IsThere d) (variables_of r.entries.items) (entry_variables rows)
+    (AllByRecursion-weaker (IsTermOf d n) (IsThere d) (λ v t. (t.there, t.listed)) (variables_of r.entries.items) (of_entries d n r instances.0 are.0))
+    (entries_there d names rows instances.1 are.1)
+
+pub all-there : (d : Data) (rows : List Row) → AreRowsOf d (built_instances d) rows → AllByRecursion (IsThere d) (entry_variables rows)
+all-there d rows are = entries_there d (built_instances d) rows (all-instances d) are
+
+-- ---- order
+
+never : (o : Ordering) → o ≡ Greater → o ≡ Less → ⊥
+never o greater less = cc
+
+greater_then : (a b : ℕ) (rest : Ordering) → b < a → ordering_then (nat_cmp a b) rest ≡ Greater
+greater_then a b rest less = ap (λ o. ordering_then o rest) (nat_cmp_total.antisymm a b ∙ ap ordering_reverse (nat_cmp-less b a less))
+
+-- a name before another has no later equation
+eq_le : (a b : RowName) → row_name_cmp a b ≡ Less → a.eq ≤ b.eq
+eq_le a b less =
+    elim (cases_lt b.eq a.eq) [
+      | inl after ↦ absurd (never (row_name_cmp a b) (greater_then a.eq b.eq (index_cmp a.index b.index) after) less)
+      | inr from ↦ from
+    ]
+
+-- ---- exchanges
+
+chosen_some : (b : Bool) (v w : Var) → cond b (Some v) None ≡ Some w → (b ≡ true) × (v ≡ w)
+chosen_some true v w e = let same : v ≡ w = cc in (refl, same)
+chosen_some false v w e = absurd (cc e)
+
+-- of an exchange that defines a variable, the other one isn't defined, unless it is the same
+other_trade : (i : Index) (v w : Var) (name : RowName) → variable_of (name_at 16 i) ≡ Some v → w ≡ trade i.region i.other i.slice i.fuel i.year
+    → name ≡ definer w → variable_of name ≡ Some w → v ≡ w
+other_trade i v w name defines is one other =
+    let this = chosen_some (nat_le i.region i.other) (trade i.other i.region i.slice i.fuel i.year) v defines in
+    let at_definer : variable_of (definer (trade i.region i.other i.slice i.fuel i.year)) ≡ Some w =
+    ap (λ u. variable_of (definer u)) (sym is) ∙ ap variable_of (sym one) ∙ other in
+    let that = chosen_some (nat_le i.other i.region) (trade i.region i.other i.slice i.fuel i.year) w at_definer in
+    let up : i.region ≤ i.other = leb-true i.region i.other this.0 in
+    let down : i.other ≤ i.region = leb-true i.other i.region that.0 in
+    let same : i.other ≡ i.region = omega (arith, up, down) in
+    sym this.1 ∙ ap₂ (λ a b. trade a b i.slice i.fuel i.year) same (sym same) ∙ that.1
+
+at_less : {A : Type 0} (x y z : A) (o : Ordering) → o ≡ Less → elim o as (λ p. A) [ Less ↦ x | Equal ↦ y | Greater ↦ z ] ≡ x
+at_less x y z Less e = refl
+at_less x y z Equal e = absurd (cc e)
+at_less x y z Greater e = absurd (cc e)
+
+at_greater : {A : Type 0} (x y z : A) (o : Ordering) → o ≡ Greater → elim o as (λ p. A) [ Less ↦ x | Equal ↦ y | Greater ↦ z ] ≡ z
+at_greater x y z Less e = absurd (cc e)
+at_greater x y z Equal e = absurd (cc e)
+at_greater x y z Greater e = refl
+
+-- two terms with one coefficient are gathered alike in either order
+gathered_either : (a b : Var) (c : Rational) → var_cmp b a ≡ Less → gathered ((a, c) ∷ (b, c) ∷ []) ≡ gathered ((b, c) ∷ (a, c) ∷ [])
+gathered_either a b c less =
+    let both : List (Var × Rational) = (b, c) ∷ (a, c) ∷ [] in
+    at_less both ((a, plus c c) ∷ []) ((a, c) ∷ (b, c) ∷ []) (var_cmp b a) less
+    ∙ sym (at_greater ((a, c) ∷ (b, c) ∷ []) ((b, plus c c) ∷ []) both (var_cmp a b) (var_cmp_total.antisymm a b ∙ ap ordering_reverse less))
+
+not_le : (a b : ℕ) → nat_le a b ≡ false → b < a
+not_le a b fails =
+    elim (cases_lt b a) [
+      | inl less ↦ less
+      | inr from ↦ absurd (let passes : nat_le a b ≡ true = le-leb a b from in cc)
+    ]
+
+exchanged_terms : (d : Data) (i : Index) → i.other < i.region → terms_of (terms_at d (name_at 16 i)) ≡ terms_of (terms_at d (name_at 16 (swapped i)))
+exchanged_terms d i less =
+    gathered_either (trade i.region i.other i.slice i.fuel i.year) (trade i.other i.region i.slice i.fuel i.year) _
+    (less_then i.other i.region _ less)
+
+-- ---- the whole
+
+pub triangular : (d : Data) (rows : List Row) → AreRowsOf d (built_instances d) rows → AreTriangular rows
+triangular d rows are =
+    let names = built_instances d in
+    let instance : (i : ℕ) (name : RowName) → slice_get names i ≡ Some name → IsBuiltInstance d name =
+    λ i name at. all-at (IsBuiltInstance d) names i name (all-instances d) at in
+    let once : (i j : ℕ) (row other : Row) (v : Var) → IsAt rows i row → IsAt rows j other → Defines row v → Defines other v → i ≡ j =
+    λ i j row other v at bt defines defines_too.
+        let a = row_at d names rows i row are at in
+        let b = row_at d names rows j other are bt in
+        let of_a = is-definer d a.name v (instance i a.name a.at) (ap variable_of (sym a.is.written.named) ∙ defines) in
+        let of_b = is-definer d b.name v (instance j b.name b.at) (ap variable_of (sym b.is.written.named) ∙ defines_too) in
+        sorted-once names i j a.name (Sorted-built d) a.at (b.at ∙ ap (λ n. Some n) (of_b.one ∙ sym of_a.one)) in
+    record {
+      solvable = λ i row v at defines.
+          let a = row_at d names rows i row are at in
+          let named : variable_of a.name ≡ Some v = ap variable_of (sym a.is.written.named) ∙ defines in
+          (a.is.written.sense ∙ (is-definer d a.name v (instance i a.name a.at) named).equation, a.is.defines v named);
+      backward = λ i j row later v w less at bt defines defines_later entry.
+          let a = row_at d names rows i row are at in
+          let b = row_at d names rows j later are bt in
+          let named : variable_of a.name ≡ Some v = ap variable_of (sym a.is.written.named) ∙ defines in
+          let named_later : variable_of b.name ≡ Some w = ap variable_of (sym b.is.written.named) ∙ defines_later in
+          let of_b = is-definer d b.name w (instance j b.name b.at) named_later in
+          let term = all-has (IsTermOf d a.name) (variables_of row.entries.items) w (of_entries d a.name row (instance i a.name a.at) a.is) (Has-from_Contains (variables_of row.entries.items) w entry) in
+          let once_more : v ≡ w → ⊥ =
+          λ same. let position : i ≡ j = once i j row later v at bt defines (defines_later ∙ ap (λ u. Some u) (sym same)) in omega (arith, position, less) in
+          elim (term.order v named) [
+            | inl same ↦ once_more same
+            | inr rest ↦
+                elim rest [
+                  | inl early ↦
+                      let before : b.name.eq < a.name.eq = of_b.before a.name.eq early in
+                      let from : a.name.eq ≤ b.name.eq = eq_le a.name b.name (sorted-at names i j a.name b.name (Sorted-built d) less a.at b.at) in
+                      omega (arith, before, from)
+                  | inr other ↦
+                      once_more
+                      (other_trade a.name.index v w b.name (ap (λ n. variable_of (name_at n a.name.index)) (sym other.0) ∙ named) other.1 of_b.one named_later)
+                ]
+          ];
+      once = once;
+      whole = λ v entry.
+          let there = all-has (IsThere d) (entry_variables rows) v (all-there d rows are) (Has-from_Contains (entry_variables rows) v entry) in
+          elim (is-found d v there.0 there.1) [
+            | inl chosen ↦ inl chosen
+            | inr defined ↦
+                let found = row_of d names rows defined.name are (Has-built d defined.name defined.instance) in
+                inr (record { row = found.0; among = Contains-from_Has rows found.0 found.1.0; defines = ap variable_of found.1.1.written.named ∙ defined.defines })
+          ];
+      repeated = λ i row at equal none.
+          let a = row_at d names rows i row are at in
+          let k = a.name.index in
+          let of_a = instance i a.name a.at in
+          let exchange = is-exchange d a.name of_a (ap variable_of (sym a.is.written.named) ∙ none) (sym a.is.written.sense ∙ equal) in
+          let within : is_index d (subscripts_of 16) k ≡ true = subst (λ n. is_index d (subscripts_of n) k ≡ true) exchange.0 of_a.within in
+          let less : k.other < k.region = not_le k.region k.other exchange.1 in
+          let other = name_at 16 (swapped k) in
+          let found = row_of d names rows other are (Has-built d other (exchange-instance d k within)) in
+          let number : terms_at d a.name ≡ terms_at d (name_at 16 k) = ap (λ n. terms_at d (name_at n k)) exchange.0 in
+          record {
+            other = found.0;
+            variable = trade k.region k.other k.slice k.fuel k.year;
+            among = Contains-from_Has rows found.0 found.1.0;
+            defines =
+                ap variable_of found.1.1.written.named
+                ∙ ap (λ b. cond b (Some (trade k.region k.other k.slice k.fuel k.year)) None) (le-leb k.other k.region (omega (arith, less)));
+            entries =
+                found.1.1.written.entries
+                ∙ ap (λ terms. written_entries terms (right_of (terms_at d other))) (sym (exchanged_terms d k less))
+                ∙ ap (λ e. written_entries (terms_of e) (right_of e)) (sym number)
+                ∙ sym a.is.written.entries;
+            right_side =
+                found.1.1.written.right_side
+                ∙ ap (λ terms. written_right terms (right_of (terms_at d other))) (sym (exchanged_terms d k less))
+                ∙ ap (λ e. written_right (terms_of e) (right_of e)) (sym number)
+                ∙ sym a.is.written.right_side;
+          };
+    }

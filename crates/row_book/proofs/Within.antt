@@ -1,0 +1,133 @@
+-- The names of instances, and the variables that exist, have the positions of members as their subscripts.
+use Rattle.std.proofs.Common.{◌≡◌, ℕ, ◌+◌, ◌<◌, ◌≤◌, Bool, true, false, ◌&&◌, List, [], ◌∷◌, nat_eq, nat_lt, refl, ap, sym, ◌∙◌, subst, arith, ltb-true, leb-true, nat_le, inl, inr}
+use Rattle.std.specs.List.{AllByRecursion, list_all, list_any}
+use Rattle.std.specs.Prelude.{Contains, if◌then◌else◌}
+use Rattle.std.proofs.lemmas.Bool.{and_parts}
+use Rattle.model_sets.specs.Data.{Data}
+use Rattle.row_core.specs.declared.Index.{Index}
+use Rattle.row_core.specs.declared.Row.{Row}
+use Rattle.row_core.specs.declared.RowName.{RowName}
+use Rattle.row_core.specs.declared.Var.{Var}
+use Rattle.row_core.specs.Equations.{IsEquation}
+use Rattle.row_core.specs.Kinds.{IsKind}
+use Rattle.row_core.specs.NameTexts.{IsWithin, RowNameIsWithin, VariableIsWithin, position_at, set_of}
+use Rattle.named_equations.specs.Existence.{exists, exists_at, kind_numbers, subscripts_of_kind}
+use Rattle.named_equations.specs.Instances.{is_index, is_one_of, is_value_at, subscripts_of}
+use Rattle.named_equations.specs.Positions.{count_of}
+use Rattle.named_equations.proofs.InstanceTests.{Contains-from_Has, Has, Has-from_Contains}
+use Rattle.named_equations.proofs.TermMeaning.{EachFrom, at_number}
+use Rattle.row_book.specs.Books.{AreRowsOf, AreVariablesOf, HasNameWithin, IsWithinSets, entry_variables, names_of}
+use Rattle.row_book.specs.Built.{IsBuiltInstance, built_instances}
+use Rattle.row_book.proofs.BuiltInstances.{all-instances}
+use Rattle.row_book.proofs.Definers.{least_kind}
+use Rattle.row_book.proofs.Subscripts.{AreValues, values-from_index}
+use Rattle.row_book.proofs.Triangles.{IsThere, all-has, all-there}
+
+-- ---- one subscript after another
+
+a_value : (b : Bool) (i n : ℕ) → (if b then nat_lt i n else nat_eq i 0) ≡ true → b ≡ true → i < n
+a_value b i n passes has = ltb-true i n (sym (ap (λ c. if c then nat_lt i n else nat_eq i 0) has) ∙ passes)
+
+abbrev IsWithinAt : Data → List ℕ → Index → ℕ → Type 0
+IsWithinAt d s i p = is_one_of s p ≡ true → IsWithin d.sets i p
+
+at_places : (d : Data) (s : List ℕ) (i : Index) → AreValues d s i → EachFrom (IsWithinAt d s i) 0 8
+at_places d s i are = (
+  λ has. a_value (is_one_of s 0) i.region _ are.region has,
+  (
+    λ has. a_value (is_one_of s 1) i.other _ are.other has,
+    (
+      λ has. a_value (is_one_of s 2) i.slice _ are.slice has,
+      (
+        λ has. a_value (is_one_of s 3) i.tech _ are.tech has,
+        (
+          λ has. a_value (is_one_of s 4) i.fuel _ are.fuel has,
+          (
+            λ has. a_value (is_one_of s 5) i.emission _ are.emission has,
+            (λ has. a_value (is_one_of s 6) i.mode _ are.mode has, (λ has. a_value (is_one_of s 7) i.year _ are.year has, tt)),
+          ),
+        ),
+      ),
+    ),
+  ),
+)
+
+-- a place that the list has
+abbrev is_place : List ℕ → ℕ → Bool
+is_place s p = is_one_of s p && nat_lt p 8
+
+all_within : (d : Data) (s : List ℕ) (i : Index) → AreValues d s i → (ps : List ℕ) → list_all (is_place s) ps ≡ true → AllByRecursion (IsWithin d.sets i) ps
+all_within d s i are [] passes = tt
+all_within d s i are (p ∷ ps) passes =
+    let parts = and_parts (is_place s p) (list_all (is_place s) ps) passes in
+    let first = and_parts (is_one_of s p) (nat_lt p 8) parts.0 in
+    let below : p < 8 = ltb-true p 8 first.1 in (
+      at_number (IsWithinAt d s i) 0 8 p (at_places d s i are) (omega arith) (omega (arith, below)) first.0,
+      all_within d s i are ps parts.1,
+    )
+
+-- ---- names of rows
+
+equation-places : EachFrom (λ n. list_all (is_place (subscripts_of n)) (subscripts_of n) ≡ true) 1 24
+equation-places =
+    (refl, (refl, (refl, (refl, (refl, (refl, (refl, (refl, (refl, (refl, (refl, (refl, (refl, (refl, (refl, (refl, (refl, (refl, (refl, (refl, (refl, (refl, (refl, (refl, tt))))))))))))))))))))))))
+
+name-within : (d : Data) (name : RowName) → IsBuiltInstance d name → IsEquation name.eq × RowNameIsWithin d.sets name
+name-within d name instance = (
+  (instance.built.0, omega (arith, instance.built.1)),
+  all_within d (subscripts_of name.eq) name.index (values-from_index d (subscripts_of name.eq) name.index instance.within) (subscripts_of name.eq)
+      (at_number (λ n. list_all (is_place (subscripts_of n)) (subscripts_of n) ≡ true) 1 24 name.eq equation-places instance.built.0 (omega (arith, instance.built.1))),
+)
+
+names_within : (d : Data) (names : List RowName) (rows : List Row) → AllByRecursion (IsBuiltInstance d) names → AreRowsOf d names rows → AllByRecursion (HasNameWithin d.sets) rows
+names_within d [] [] instances are = tt
+names_within d [] (r ∷ rows) instances are = absurd are
+names_within d (n ∷ names) [] instances are = absurd are
+names_within d (n ∷ names) (r ∷ rows) instances are = (
+  subst (λ m. IsEquation m.eq × RowNameIsWithin d.sets m) (sym are.0.written.named) (name-within d n instances.0),
+  names_within d names rows instances.1 are.1,
+)
+
+pub rows-within : (d : Data) (rows : List Row) → AreRowsOf d (built_instances d) rows → AllByRecursion (HasNameWithin d.sets) rows
+rows-within d rows are = names_within d (built_instances d) rows (all-instances d) are
+
+-- the names of the rows are those of the instances
+pub names-of_rows : (d : Data) (names : List RowName) (rows : List Row) → AreRowsOf d names rows → names_of rows ≡ names
+names-of_rows d [] [] are = refl
+names-of_rows d [] (r ∷ rows) are = absurd are
+names-of_rows d (n ∷ names) [] are = absurd are
+names-of_rows d (n ∷ names) (r ∷ rows) are =
+    ap (λ m. m ∷ names_of rows) are.0.written.named ∙ ap (λ rest. n ∷ rest) (names-of_rows d names rows are.1)
+
+-- ---- variables
+
+kind-places : EachFrom (λ k. list_all (is_place (subscripts_of_kind k)) (subscripts_of_kind k) ≡ true) 1 22
+kind-places =
+    (refl, (refl, (refl, (refl, (refl, (refl, (refl, (refl, (refl, (refl, (refl, (refl, (refl, (refl, (refl, (refl, (refl, (refl, (refl, (refl, (refl, (refl, tt))))))))))))))))))))))
+
+variable-within : (d : Data) (v : Var) → IsThere d v → IsWithinSets d.sets v
+variable-within d v there =
+    let s = subscripts_of_kind v.kind in
+    let least : 1 ≤ v.kind = least_kind d v there.0 in
+    let most : v.kind ≤ 22 = leb-true v.kind 22 there.1 in
+    let outer = and_parts (list_any (nat_eq v.kind) kind_numbers && is_index d s v.index) (exists_at d v.kind v.index) there.0 in
+    let within = and_parts (list_any (nat_eq v.kind) kind_numbers) (is_index d s v.index) outer.0 in (
+      (least, omega (arith, most)),
+      all_within d s v.index (values-from_index d s v.index within.1) s
+          (at_number (λ k. list_all (is_place (subscripts_of_kind k)) (subscripts_of_kind k) ≡ true) 1 22 v.kind kind-places least (omega (arith, most))),
+    )
+
+all_from : (P : Var → Type 0) (vs : List Var) → ((v : Var) → Has vs v → P v) → AllByRecursion P vs
+all_from P [] of_each = tt
+all_from P (v ∷ vs) of_each = (of_each v (inl refl), all_from P vs (λ w h. of_each w (inr h)))
+
+-- each of the listed variables is one of an entry, and so it exists
+listed_there : (d : Data) (rows : List Row) (vars : List Var) (v : Var) → AreRowsOf d (built_instances d) rows → AreVariablesOf rows vars → Has vars v → IsThere d v
+listed_there d rows vars v are listed has =
+    all-has (IsThere d) (entry_variables rows) v (all-there d rows are) (Has-from_Contains (entry_variables rows) v ((listed.each v).0 (Contains-from_Has vars v has)))
+
+pub variables-within : (d : Data) (rows : List Row) (vars : List Var) → AreRowsOf d (built_instances d) rows → AreVariablesOf rows vars → AllByRecursion (IsWithinSets d.sets) vars
+variables-within d rows vars are listed = all_from (IsWithinSets d.sets) vars (λ v has. variable-within d v (listed_there d rows vars v are listed has))
+
+pub variables-exist : (d : Data) (rows : List Row) (vars : List Var) → AreRowsOf d (built_instances d) rows → AreVariablesOf rows vars → AllByRecursion (λ v. exists d v ≡ true) vars
+variables-exist d rows vars are listed = all_from (λ v. exists d v ≡ true) vars (λ v has. (listed_there d rows vars v are listed has).0)

@@ -1,0 +1,19 @@
+-- Value by value.
+use Rattle.std.proofs.Common.{◌≡◌, ℕ, ◌+◌, ◌-◌, ◌++◌, List, ap, sym, ◌∙◌}
+use Rattle.std.specs.List.{flat_map, range_with_len}
+use Rattle.row_core.specs.declared.Index.{Index}
+use Rattle.named_equations.specs.Instances.{subscripts_of}
+use Rattle.row_book.specs.Walks.{moved, walk}
+use Rattle.row_book.proofs.Ranges.{parts-more}
+use Rattle.row_book.proofs.walk.+push_walk.Goals as goal
+
+pub loop-position-preserved : goal.loop-position-preserved
+loop-position-preserved t c =
+    let walked : Index → List Index = walk c.args.facts.now.facts (subscripts_of c.args.eq) c.in-Some.more.now in
+    let f : ℕ → List Index = λ v. walked (moved c.args.start c.in-Some.subscript.now v) in
+    let i = c.loop-position.position in
+    let end = c.number_of_values-position-end.result in
+    let rest : List Index = flat_map f (range_with_len (i + 1) (end - (i + 1))) in
+    let more : c.loop-position.out.items ++ f i ≡ c.push_walk.new.out.items =
+    ap (λ p. c.loop-position.out.items ++ walked p) (sym c.moved.ensures) ∙ sym c.in_ok-push_walk-in-Some.ensures in
+    c.loop-position.invariant ∙ parts-more f i end c.loop-position.out.items c.loop-position-test.true ∙ ap (λ out. out ++ rest) more

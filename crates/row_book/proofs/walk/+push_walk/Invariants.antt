@@ -1,0 +1,14 @@
+use Rattle.std.proofs.Common.{◌≡◌, ◌-◌, ◌++◌, length}
+use Rattle.std.specs.List.{flat_map, range_with_len}
+use Rattle.named_equations.specs.Instances.{subscripts_of}
+use Rattle.row_book.specs.Walks.{moved, walk}
+use Rattle.row_book.proofs.walk.+push_walk.Given as goal
+
+abbrev pub decreases-push_walk : goal.decreases-push_walk
+decreases-push_walk l = length l.subscripts.now
+
+-- the whole list is the list so far, and the walks from the values that are left
+abbrev pub invariant-loop-position : goal.invariant-loop-position
+invariant-loop-position l =
+    l.initial.out.items ++ flat_map (λ v. walk l.facts.facts (subscripts_of l.eq) l.more (moved l.start l.subscript v)) (range_with_len 0 l.position-end)
+    ≡ l.out.items ++ flat_map (λ v. walk l.facts.facts (subscripts_of l.eq) l.more (moved l.start l.subscript v)) (range_with_len l.position (l.position-end - l.position))

@@ -1,0 +1,107 @@
+-- What the book of rows of a model holds, and why there is none.
+use Rattle.std.specs.Prelude.{◌≡◌, ℕ, ◌+◌, ◌<◌, ◌≤◌, Bool, true, false, List, [], ◌∷◌, ◌++◌, map, length, sum_by, Contains, ◌↔◌, ⊤}
+use Rattle.std.specs.List.{flat_map, list_all}
+use Rattle.exact_num.specs.Range.{all_fit}
+use Rattle.model_sets.specs.Data.{Data}
+use Rattle.model_sets.specs.Members.{SetLists}
+use Rattle.row_core.specs.declared.Row.{Row}
+use Rattle.row_core.specs.declared.RowName.{RowName}
+use Rattle.row_core.specs.declared.Var.{Var}
+use Rattle.row_core.specs.declared.place.Place.{Place}
+use Rattle.row_core.specs.EquationTerms.{equation_formed, terms_of, right_of}
+use Rattle.row_core.specs.Equations.{IsEquation}
+use Rattle.row_core.specs.Kinds.{IsKind}
+use Rattle.row_core.specs.NameTexts.{RowNameIsWithin, VariableIsWithin}
+use Rattle.row_core.specs.Numbers.{ascends, variables_of}
+use Rattle.row_core.specs.Order.{var_cmp}
+use Rattle.row_core.specs.Written.{written_entries}
+use Rattle.named_equations.specs.RowMeaning.{IsNamedRow}
+use Rattle.row_book.specs.declared.fail.BookFail.{BookFail}
+use Rattle.row_book.specs.declared.fail.BookFail.TheVariants.{Width, TooManyEntries, Memory}
+use Rattle.row_book.specs.Built.{terms_at}
+
+-- ---- rows
+
+-- one row for each of these instances, in order, and each the row of its instance
+abbrev pub AreRowsOf : Data → List RowName → List Row → Type 0
+AreRowsOf d [] [] = ⊤
+AreRowsOf d [] (row ∷ rows) = ⊥
+AreRowsOf d (name ∷ names) [] = ⊥
+AreRowsOf d (name ∷ names) (row ∷ rows) = IsNamedRow d name (terms_at d name) row × AreRowsOf d names rows
+
+-- the names of the rows
+abbrev pub names_of : List Row → List RowName
+names_of rows = map (λ row. row.name) rows
+
+-- the variables of all entries, row by row
+abbrev pub entry_variables : List Row → List Var
+entry_variables rows = flat_map (λ row. variables_of row.entries.items) rows
+
+-- the list ascends strictly, and has a variable exactly where some row has an entry at it
+pub record AreVariablesOf (rows : List Row) (vars : List Var) : Type 0 where
+  pub ascending : ascends var_cmp vars ≡ true
+  pub each : (v : Var) → Contains vars v ↔ Contains (entry_variables rows) v
+
+-- ---- names
+
+-- the row's equation is in its list, and each of its subscripts is the position of a member
+abbrev pub HasNameWithin : SetLists → Row → Type 0
+HasNameWithin sets row = IsEquation row.name.eq × RowNameIsWithin sets row.name
+
+-- the variable's kind is in its list, and each of its subscripts is the position of a member
+abbrev pub IsWithinSets : SetLists → Var → Type 0
+IsWithinSets sets v = IsKind v.kind × VariableIsWithin sets v
+
+-- ---- the book
+
+-- rows, and their variables
+pub record Book : Type 0 where
+  pub rows : List Row
+  pub vars : List Var
+
+-- ---- which rows can be made
+
+-- every number that is formed for the row of the instance fits
+abbrev pub row_fits : Data → RowName → Bool
+row_fits d name = all_fit (equation_formed (terms_at d name))
+
+-- how many entries the row of the instance has
+abbrev pub entry_count : Data → RowName → ℕ
+entry_count d name = length (written_entries (terms_of (terms_at d name)) (right_of (terms_at d name)))
+
+-- how many entries the rows of these instances have together
+abbrev pub entries_in : Data → List RowName → ℕ
+entries_in d names = sum_by (entry_count d) names
+
+-- how many entries all rows may have together
+abbrev pub entry_limit : ℕ
+entry_limit = 4000000
+
+-- behind rows with so many entries, the rows of these instances can be made: every number that is formed fits, and the entries keep the limit
+pub record CanBeMade (d : Data) (before : ℕ) (names : List RowName) : Type 0 where
+  pub fit : list_all (row_fits d) names ≡ true
+  pub few : before + entries_in d names ≤ entry_limit
+
+-- the first of these instances whose row can't be made is this one: those in front of it can
+pub record StopsAt (d : Data) (before : ℕ) (names : List RowName) (name : RowName) : Type 0 where
+  pub front : List RowName
+  pub behind : List RowName
+  pub split : names ≡ front ++ name ∷ behind
+  pub made : CanBeMade d before front
+
+-- the first row that can't be made is one for which a number is formed that doesn't fit
+pub record IsTooWide (d : Data) (before : ℕ) (names : List RowName) (name : RowName) : Type 0 where
+  pub stops : StopsAt d before names name
+  pub wide : row_fits d name ≡ false
+
+-- it is one whose numbers fit, and with whose entries the limit is passed
+pub record HasTooMany (d : Data) (before : ℕ) (names : List RowName) (name : RowName) : Type 0 where
+  pub stops : StopsAt d before names name
+  pub fits : row_fits d name ≡ true
+  pub many : entry_limit < (before + entries_in d stops.front) + entry_count d name
+
+-- why the rows of these instances aren't made, behind rows with so many entries; want of memory has no cause
+abbrev pub HasStopped : Data → ℕ → List RowName → BookFail → Type 0
+HasStopped d before names (Width place) = (name : RowName) × (place ≡ Place.Row name) × IsTooWide d before names name
+HasStopped d before names TooManyEntries = (name : RowName) × HasTooMany d before names name
+HasStopped d before names Memory = ⊤

@@ -1,0 +1,6 @@
+pub mod Books
+pub mod Built
+pub mod Definitions
+pub mod Ratios
+pub mod RowsAdded
+pub mod Walks

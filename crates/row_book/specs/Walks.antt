@@ -1,0 +1,82 @@
+-- Walking through the subscripts of an equation, and its instances region by region. Only private functions cite these.
+use Rattle.std.specs.Prelude.{ℕ, List, [], ◌∷◌, map, filter}
+use Rattle.std.specs.List.{flat_map}
+use Rattle.model_sets.specs.Data.{Data}
+use Rattle.model_sets.specs.Names as sets
+use Rattle.row_core.specs.declared.Index.{Index}
+use Rattle.row_core.specs.declared.RowName.{RowName}
+use Rattle.row_core.specs.Subscripts as place
+use Rattle.named_equations.specs.Indices.{at_r}
+use Rattle.named_equations.specs.Instances.{values_at, subscripts_of, stands_at, name_at}
+use Rattle.row_book.specs.declared.walk.Subscript.{Subscript}
+use Rattle.row_book.specs.declared.walk.Subscript.TheVariants.{Region, Other, Slice, Tech, Fuel, Emission, Mode, Year}
+
+-- ---- walks
+
+-- the place of the subscript among the fields of an index
+abbrev pub place_of : Subscript → ℕ
+place_of Region = place.r
+place_of Other = place.rr
+place_of Slice = place.l
+place_of Tech = place.t
+place_of Fuel = place.f
+place_of Emission = place.e
+place_of Mode = place.m
+place_of Year = place.y
+
+-- the set over which it runs
+abbrev pub set_of : Subscript → ℕ
+set_of Region = sets.region
+set_of Other = sets.region
+set_of Slice = sets.timeslice
+set_of Tech = sets.technology
+set_of Fuel = sets.fuel
+set_of Emission = sets.emission
+set_of Mode = sets.mode
+set_of Year = sets.year
+
+-- the index with another position of the subscript
+abbrev pub moved : Index → Subscript → ℕ → Index
+moved i Region v = record i { region = v }
+moved i Other v = record i { other = v }
+moved i Slice v = record i { slice = v }
+moved i Tech v = record i { tech = v }
+moved i Fuel v = record i { fuel = v }
+moved i Emission v = record i { emission = v }
+moved i Mode v = record i { mode = v }
+moved i Year v = record i { year = v }
+
+-- the indices that come from this one when each of these subscripts in turn takes each of its values
+abbrev pub walk : Data → List ℕ → List Subscript → Index → List Index
+walk d subscripts [] i = i ∷ []
+walk d subscripts (s ∷ more) i = flat_map (λ v. walk d subscripts more (moved i s v)) (values_at d subscripts (place_of s))
+
+-- ---- instances, region by region
+
+-- the subscripts of which it doesn't depend whether an equation has an instance, the region aside
+abbrev pub outer_subscripts : List Subscript
+outer_subscripts = Other ∷ Slice ∷ []
+
+-- those of which it may depend
+abbrev pub inner_subscripts : List Subscript
+inner_subscripts = Tech ∷ Fuel ∷ Emission ∷ Mode ∷ Year ∷ []
+
+-- the outer subscripts in a region, in order, with 0 for the others
+abbrev pub outers_of : Data → ℕ → ℕ → List Index
+outers_of d eq r = walk d (subscripts_of eq) outer_subscripts (at_r r)
+
+-- the inner subscripts in a region with which the equation has instances, in order, with 0 for the others
+abbrev pub cells_of : Data → ℕ → ℕ → List Index
+cells_of d eq r = filter (stands_at d eq) (walk d (subscripts_of eq) inner_subscripts (at_r r))
+
+-- the inner subscripts of one index with the outer ones of another
+abbrev pub joined : Index → Index → Index
+joined outer cell = record cell { other = outer.other; slice = outer.slice }
+
+-- the instances with these outer subscripts and these inner ones
+abbrev pub names_with : ℕ → List Index → Index → List RowName
+names_with eq cells outer = map (λ cell. name_at eq (joined outer cell)) cells
+
+-- the instances of the equation in a region, in order
+abbrev pub names_in : Data → ℕ → ℕ → List RowName
+names_in d eq r = flat_map (names_with eq (cells_of d eq r)) (outers_of d eq r)

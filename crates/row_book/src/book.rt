@@ -1,0 +1,78 @@
+//! The book of rows.
+
+ghost use Rattle.std.specs.Prelude.{◌≡◌, ◌<◌, true, IfErr, IfOk, OnOk};
+ghost use Rattle.std.specs.List.{AllByRecursion};
+ghost use Rattle.row_core.specs.Numbers.{ascends};
+ghost use Rattle.row_core.specs.Order.{row_name_cmp};
+ghost use Rattle.named_equations.specs.Existence.{exists};
+ghost use Rattle.row_book.specs.Books.{AreRowsOf, AreVariablesOf, CanBeMade, HasNameWithin, HasStopped, IsWithinSets, names_of};
+ghost use Rattle.row_book.specs.Built.{built_instances};
+ghost use Rattle.row_book.specs.Definitions.{AreTriangular};
+
+use crate::fail::BookFail;
+use crate::rows::built_rows;
+use crate::variables::variables_of_rows;
+use param_tables::ModelData;
+use row_core::{Row, Var};
+use std::alloc::Global;
+use std::marker::Model;
+
+/// All rows of a model, in order, and their variables.
+#[derive(Drop)]
+pub struct RowBook {
+    rows: Vec<Row>,
+    vars: Vec<Var>,
+}
+
+impl Model for RowBook {
+    ghost use Rattle.row_book.specs.Books.{Book};
+
+    ghost Value = { Book };
+
+    ghost view = { λ book. record { rows = book.rows.items; vars = book.vars.items } };
+}
+
+impl RowBook {
+    /// The row of each instance of the equations that are built, by the equation's number and then by
+    /// subscripts, and the variables of all entries.
+    ///
+    /// The first row that can't be made is refused: with `Width` and its name where a number that is formed
+    /// for it doesn't fit, and else with `TooManyEntries`, where the entries of the rows up to and with it
+    /// are more than 4,000,000.
+    pub fn new(alloc: Global, facts: &ModelData) -> Result<RowBook, BookFail>
+        ensures rows { IfOk result (λ book. AreRowsOf facts.now.facts (built_instances facts.now.facts) book.rows) }
+        ensures ascending { IfOk result (λ book. ascends row_name_cmp (names_of book.rows) ≡ true) }
+        ensures variables { IfOk result (λ book. AreVariablesOf book.rows book.vars) }
+        ensures definitions { IfOk result (λ book. AreTriangular book.rows) }
+
+        // Each name is of its list, with the positions of members as its subscripts, and each variable exists.
+        ensures named { IfOk result (λ book. AllByRecursion (HasNameWithin facts.now.facts.sets) book.rows) }
+        ensures within { IfOk result (λ book. AllByRecursion (IsWithinSets facts.now.facts.sets) book.vars) }
+        ensures exist { IfOk result (λ book. AllByRecursion (λ v. exists facts.now.facts v ≡ true) book.vars) }
+
+        // When there is a book, and why there is none.
+        ensures made { OnOk result (CanBeMade facts.now.facts 0 (built_instances facts.now.facts)) }
+        ensures stopped { IfErr result (HasStopped facts.now.facts 0 (built_instances facts.now.facts)) }
+    {
+        let rows = match built_rows(alloc, facts) {
+            Ok(rows) => rows,
+            Err(fail) => return Err(fail),
+        };
+        let vars = variables_of_rows(alloc, &rows)?;
+        Ok(RowBook { rows, vars })
+    }
+
+    /// The rows, which ascend strictly by name.
+    pub fn rows(&self) -> &[Row]
+        ensures { result.now ≡ self.now.rows }
+    {
+        &self.rows
+    }
+
+    /// The variables at which the rows have entries, which ascend strictly.
+    pub fn vars(&self) -> &[Var]
+        ensures { result.now ≡ self.now.vars }
+    {
+        &self.vars
+    }
+}

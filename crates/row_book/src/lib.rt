@@ -1,0 +1,17 @@
+//! All rows of the linear program of an OSeMOSYS model (Howells et al., "OSeMOSYS: The Open Source Energy
+//! Modeling System", Energy Policy 39, 2011): one for each instance of the named equations that are built, in
+//! order, and their variables.
+#![tactic(auto)]
+
+mod book;
+mod cells;
+mod fail;
+mod instance_row;
+mod made_rows;
+mod ratios;
+mod rows;
+mod variables;
+mod walk;
+
+pub use book::RowBook;
+pub use fail::BookFail;
