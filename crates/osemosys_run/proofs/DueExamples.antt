@@ -7,15 +7,11 @@ use Rattle.model_sets.specs.declared.fault.SetFault.{SetFault}
 use Rattle.param_tables.specs.Refusals.{Refusal as DataRefusal, first_refusal}
 use Rattle.param_tables.specs.SetRefusals.{first_set_refusal}
 use Rattle.model_sets.specs.Data.{Data}
-use Rattle.row_core.specs.declared.RowName.{RowName}
-use Rattle.row_core.specs.declared.place.Place.{Place}
 use Rattle.osemosys_run.specs.Codes.{code_of}
 use Rattle.osemosys_run.specs.Due.{too_long_line, DueForEquations, DueForData, DueForBlocks, DueForMps, DueForFile, Due, Sight, CausedByFile, Caused, Delivers}
-use Rattle.osemosys_run.specs.Written.{first_wide}
 use Rattle.osemosys_run.specs.declared.status.Status.{Status}
 use Rattle.osemosys_run.specs.declared.status.Status.TheVariants.{Done, Uncertified, Refused, Words, ReadFault, WriteFault, Memory}
 use Rattle.osemosys_run.specs.declared.status.Refusal.TheVariants as refusals
-use Rattle.osemosys_run.specs.declared.status.Stop.{Stop}
 use Rattle.osemosys_run.specs.declared.status.WordFault.TheVariants as faults
 use Rattle.osemosys_run.specs.declared.status.ReadStop.TheVariants as stops
 use Rattle.io_edges.specs.Count.{Rose}
@@ -31,18 +27,20 @@ Comes (Uncertified stop) = ⊤
 Comes (Refused (refusals.Text fault)) = ⊤
 Comes (Refused (refusals.Sets fault)) = ⊤
 Comes (Refused (refusals.Build fault)) = ⊤
+Comes (Refused refusals.TooManyEntries) = ⊤
 Comes (Refused (refusals.TooLong file)) = ⊥
 Comes (Words fault) = ⊥
 Comes (ReadFault stop) = ⊥
 Comes WriteFault = ⊥
 Comes Memory = ⊥
 
-comes_of_equations : (d : Data) (wide : Option RowName) (status : Status) (text : List ℕ) → DueForEquations d wide status text → Comes status
-comes_of_equations d None status text due = subst Comes (sym due.0) tt
-comes_of_equations d (Some name) status text due = subst Comes (sym due.0) tt
+comes_of_equations : (d : Data) (status : Status) (text : List ℕ) → DueForEquations d status text → Comes status
+comes_of_equations d status text (inl written) = subst Comes (sym written.1) tt
+comes_of_equations d status text (inr (inl wide)) = subst Comes (sym wide.2) tt
+comes_of_equations d status text (inr (inr many)) = subst Comes (sym many.2) tt
 
 comes_of_data : (blocks : Blocks) (refusal : Option DataRefusal) (status : Status) (text : List ℕ) → DueForData blocks refusal status text → Comes status
-comes_of_data blocks None status text due = comes_of_equations due.0 (first_wide due.0) status text due.2
+comes_of_data blocks None status text due = comes_of_equations due.0 status text due.2
 comes_of_data blocks (Some refusal) status text due = subst Comes (sym due.status_is) tt
 
 comes_of_blocks : (blocks : Blocks) (fault : Option SetFault) (status : Status) (text : List ℕ) → DueForBlocks blocks fault status text → Comes status

@@ -5,9 +5,7 @@ use Rattle.model_sets.specs.Data.{Data}
 use Rattle.model_sets.specs.declared.fault.SetFault.{SetFault}
 use Rattle.param_tables.specs.Refusals.{Refusal as DataRefusal, first_refusal}
 use Rattle.param_tables.specs.SetRefusals.{first_set_refusal}
-use Rattle.row_core.specs.declared.RowName.{RowName}
 use Rattle.row_core.specs.declared.place.Place.{Place}
-use Rattle.osemosys_run.specs.Written.{first_wide}
 use Rattle.io_edges.specs.Count.{Rose}
 use Rattle.io_edges.specs.Edges.{Lacks}
 use Rattle.io_edges.specs.Files.{file_named}
@@ -84,12 +82,13 @@ is_other status s cut memory e = (λ h. cut (sym e ∙ h), λ h. memory (sym e �
 refused-is : (status : Status) (refusal : Refusal) → status ≡ Refused refusal → IsAnswer status
 refused-is status refusal e = is_other status (Refused refusal) (λ h. cc) (λ h. cc) e
 
-equations-are : (d : Data) (wide : Option RowName) (status : Status) (text : List ℕ) → DueForEquations d wide status text → IsAnswer status
-equations-are d None status text due = is_other status Done (λ h. cc) (λ h. cc) due.0
-equations-are d (Some name) status text due = is_other status (Uncertified (Stop.Width (Place.Row name))) (λ h. cc) (λ h. cc) due.0
+equations-are : (d : Data) (status : Status) (text : List ℕ) → DueForEquations d status text → IsAnswer status
+equations-are d status text (inl written) = is_other status Done (λ h. cc) (λ h. cc) written.1
+equations-are d status text (inr (inl wide)) = is_other status (Uncertified (Stop.Width (Place.Row wide.0))) (λ h. cc) (λ h. cc) wide.2
+equations-are d status text (inr (inr many)) = refused-is status refusals.TooManyEntries many.2
 
 data-is : (blocks : Blocks) (refusal : Option DataRefusal) (status : Status) (text : List ℕ) → DueForData blocks refusal status text → IsAnswer status
-data-is blocks None status text due = equations-are due.0 (first_wide due.0) status text due.2
+data-is blocks None status text due = equations-are due.0 status text due.2
 data-is blocks (Some refusal) status text due = refused-is status (refusals.Build due.fault) due.status_is
 
 blocks-are : (blocks : Blocks) (fault : Option SetFault) (status : Status) (text : List ℕ) → DueForBlocks blocks fault status text → IsAnswer status

@@ -16,6 +16,8 @@ use Rattle.param_tables.specs.Refusals.{Refusal as DataRefusal, first_refusal}
 use Rattle.param_tables.specs.SetRefusals.{first_set_refusal}
 use Rattle.param_tables.specs.Told.{NamesCell, refusal_told}
 use Rattle.param_tables.specs.declared.fault.BuildFault.{BuildFault}
+use Rattle.row_book.specs.Books.{CanBeMade, HasTooMany, IsTooWide}
+use Rattle.row_book.specs.Built.{built_instances}
 use Rattle.row_core.specs.NameTexts.{row_name}
 use Rattle.io_edges.specs.Count.{counted, Rose}
 use Rattle.io_edges.specs.Edges.{Lacks}
@@ -33,7 +35,7 @@ use Rattle.osemosys_run.specs.Reading.{most_bytes, IsWholeFile, IsTooLong}
 use Rattle.osemosys_run.specs.RefusalLines.{text_line, set_line, data_line}
 use Rattle.osemosys_run.specs.Sending.{HoldsFrontOf}
 use Rattle.osemosys_run.specs.Words.{Request, Mps, asked}
-use Rattle.osemosys_run.specs.Written.{WritesEquations, first_wide}
+use Rattle.osemosys_run.specs.Written.{WritesEquations}
 
 -- ---- one-line texts
 
@@ -59,16 +61,23 @@ stop_line (stops.Failed file) = line (codes "read fault file " ++ decimal file)
 abbrev pub too_long_line : ℕ → List ℕ
 too_long_line file = line (codes "refused too long file " ++ decimal file)
 
+-- the line for rows with too many entries
+abbrev pub entries_line : List ℕ
+entries_line = line (codes "refused too many entries")
+
 -- the line for a row in which a number doesn't fit
 abbrev pub width_line : SetLists → RowName → List ℕ
 width_line sets name = line (codes "uncertified width row " ++ row_name sets name)
 
 -- ---- what is due over files that are known
 
--- for `mps` over accepted data: its equations, or the first of their rows in which a number doesn't fit
-abbrev pub DueForEquations : Data → Option RowName → Status → List ℕ → Type 0
-DueForEquations d None status text = (status ≡ Done) × WritesEquations d text
-DueForEquations d (Some name) status text = (status ≡ Uncertified (Stop.Width (Place.Row name))) × (text ≡ width_line d.sets name)
+-- for `mps` over accepted data: its equations, where their rows can be made; else the line for the first row that can't, in which a number
+-- doesn't fit, or with which the entries are too many
+abbrev pub DueForEquations : Data → Status → List ℕ → Type 0
+DueForEquations d status text =
+    (CanBeMade d 0 (built_instances d) × (status ≡ Done) × WritesEquations d text)
+    ⊎ ((name : RowName) × IsTooWide d 0 (built_instances d) name × (status ≡ Uncertified (Stop.Width (Place.Row name))) × (text ≡ width_line d.sets name))
+    ⊎ ((name : RowName) × HasTooMany d 0 (built_instances d) name × (status ≡ Refused refusals.TooManyEntries) × (text ≡ entries_line))
 
 -- the status tells the refusal of the data, with an index of the parameter's own where it names one, and the text is its line
 pub record RefusesData (sets : SetLists) (refusal : DataRefusal) (status : Status) (text : List ℕ) : Type 0 where
@@ -81,7 +90,7 @@ pub record RefusesData (sets : SetLists) (refusal : DataRefusal) (status : Statu
 -- for `mps` over the blocks of its file, whose sets aren't refused: the first refusal of the data, or what is due over data with the same
 -- sets and the same values as the blocks
 abbrev pub DueForData : Blocks → Option DataRefusal → Status → List ℕ → Type 0
-DueForData blocks None status text = (d : Data) × AreSameData d (data_told blocks) × DueForEquations d (first_wide d) status text
+DueForData blocks None status text = (d : Data) × AreSameData d (data_told blocks) × DueForEquations d status text
 DueForData blocks (Some refusal) status text = RefusesData (set_lists blocks) refusal status text
 
 -- for `mps` over the blocks of its file: the first refusal of the sets, or what is due over them

@@ -2,13 +2,10 @@ pub mod ClapWords
 pub mod Codes
 pub mod CommandLine
 pub mod Commands
-pub mod DistinctVariables
 pub mod Due
 pub mod ReadEnds
 pub mod Reading
-pub mod RowsMade
 pub mod RefusalLines
-pub mod RowVariables
 pub mod Sending
 pub mod WordParts
 pub mod WordReading

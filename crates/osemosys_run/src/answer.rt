@@ -7,23 +7,25 @@ ghost use Rattle.param_tables.specs.BlockData.{set_lists};
 ghost use Rattle.param_tables.specs.Refusals.{first_refusal};
 ghost use Rattle.param_tables.specs.SetRefusals.{first_set_refusal};
 ghost use Rattle.param_tables.specs.Told.{NamesCell, refusal_told};
+ghost use Rattle.std.specs.List.{AllByRecursion};
+ghost use Rattle.row_book.specs.Books.{AreRowsOf, AreVariablesOf, HasNameWithin, IsWithinSets};
+ghost use Rattle.row_book.specs.Built.{built_instances};
 ghost use Rattle.row_core.specs.Equations.{IsEquation};
 ghost use Rattle.row_core.specs.NameTexts.{RowNameIsWithin};
-ghost use Rattle.osemosys_run.specs.Due.{DueForBlocks, DueForData, DueForEquations, DueForMps, RefusesData, stop_line, too_long_line, width_line, words_line};
+ghost use Rattle.osemosys_run.specs.Due.{DueForBlocks, DueForData, DueForEquations, DueForMps, RefusesData, entries_line, stop_line, too_long_line, width_line, words_line};
 ghost use Rattle.osemosys_run.specs.Reading.{most_bytes};
 ghost use Rattle.osemosys_run.specs.RefusalLines.{set_line, text_line};
-ghost use Rattle.osemosys_run.specs.Written.{AreRowsOf, WritesEquations, built_instances, first_wide};
+ghost use Rattle.osemosys_run.specs.Written.{WritesEquations};
 
-use crate::columns::columns_of;
-use crate::lines::{stop_line, too_long_line, width_line, words_line};
+use crate::lines::{entries_line, stop_line, too_long_line, width_line, words_line};
 use crate::refusal_lines::{data_line, set_line, text_line};
-use crate::rows::built_rows;
 use crate::status::{ReadStop, Refusal, Status, Stop, WordFault};
 use mathprog_data::{Blocks, DataFault, ReadFail, read_blocks};
 use model_sets::{SetFail, SetFault, Sets};
 use mps_writer::mps_text;
 use param_tables::{BuildFail, BuildFault, ModelData, build, sets_of};
-use row_core::{Place, Row, RowName, Stopped};
+use row_book::{BookFail, RowBook};
+use row_core::{Place, RowName};
 use std::alloc::{AllocError, Global};
 
 /// A status and the text that is due with it.
@@ -73,25 +75,27 @@ fn answer_data(alloc: Global, blocks: &Blocks, sets: Sets) -> Result<Answer, All
     }
 }
 
-// The equations of the data, or the line for the first row that doesn't fit.
+// The equations of the data, or the line for the first row that can't be made.
 fn answer_equations(alloc: Global, facts: &ModelData) -> Result<Answer, AllocError>
-    ensures { IfOk result (λ answer. DueForEquations facts.now.facts (first_wide facts.now.facts)
-        answer.status answer.text.items) }
+    ensures { IfOk result (λ answer. DueForEquations facts.now.facts answer.status answer.text.items) }
 {
-    match built_rows(alloc, facts) {
-        Ok(rows) => write_rows(alloc, facts, &rows),
-        Err(Stopped::Width(Place::Row(name))) => stop_at_row(alloc, name, facts.sets()),
-        Err(Stopped::Memory) => Err(AllocError),
+    match RowBook::new(alloc, facts) {
+        Ok(book) => write_book(alloc, facts, &book),
+        Err(BookFail::Width(Place::Row(name))) => stop_at_row(alloc, name, facts.sets()),
+        Err(BookFail::TooManyEntries) => refuse_entries(alloc),
+        Err(BookFail::Memory) => Err(AllocError),
     }
 }
 
-// The text of the rows.
-fn write_rows(alloc: Global, facts: &ModelData, rows: &[Row]) -> Result<Answer, AllocError>
-    requires { AreRowsOf facts.now.facts (built_instances facts.now.facts) rows.now }
+// The text of the rows of a book.
+fn write_book(alloc: Global, facts: &ModelData, book: &RowBook) -> Result<Answer, AllocError>
+    requires rows { AreRowsOf facts.now.facts (built_instances facts.now.facts) book.now.rows }
+    requires variables { AreVariablesOf book.now.rows book.now.vars }
+    requires named { AllByRecursion (HasNameWithin facts.now.facts.sets) book.now.rows }
+    requires within { AllByRecursion (IsWithinSets facts.now.facts.sets) book.now.vars }
     ensures { IfOk result (λ answer. (answer.status ≡ Status.Done) × WritesEquations facts.now.facts answer.text.items) }
 {
-    let columns = columns_of(alloc, rows)?;
-    let text = mps_text(alloc, rows, &columns, facts.sets())?;
+    let text = mps_text(alloc, book.rows(), book.vars(), facts.sets())?;
     let status = Status::Done;
     Ok(Answer { status, text })
 }
@@ -166,5 +170,15 @@ fn stop_at_row(alloc: Global, name: RowName, sets: &Sets) -> Result<Answer, Allo
 {
     let text = width_line(alloc, name, sets)?;
     let status = Status::Uncertified(Stop::Width(Place::Row(name)));
+    Ok(Answer { status, text })
+}
+
+// The answer where the rows have too many entries.
+fn refuse_entries(alloc: Global) -> Result<Answer, AllocError>
+    ensures { IfOk result (λ answer. (answer.status ≡ Status.Refused Refusal.TooManyEntries)
+        × (answer.text.items ≡ entries_line)) }
+{
+    let text = entries_line(alloc)?;
+    let status = Status::Refused(Refusal::TooManyEntries);
     Ok(Answer { status, text })
 }

@@ -2,11 +2,9 @@
 #![tactic(auto)]
 
 mod answer;
-mod columns;
 mod lines;
 mod reading;
 mod refusal_lines;
-mod rows;
 mod run;
 mod sending;
 mod status;

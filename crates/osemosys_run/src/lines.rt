@@ -3,7 +3,7 @@ ghost use Rattle.std.specs.Prelude.{◌≡◌, ◌++◌, IfOk, decimal};
 ghost use Rattle.mps_writer.specs.MpsText.{line};
 ghost use Rattle.row_core.specs.Equations.{IsEquation};
 ghost use Rattle.row_core.specs.NameTexts.{RowNameIsWithin};
-ghost use Rattle.osemosys_run.specs.Due.{stop_line, too_long_line, width_line, words_line};
+ghost use Rattle.osemosys_run.specs.Due.{entries_line, stop_line, too_long_line, width_line, words_line};
 
 use crate::status::{ReadStop, WordFault};
 use itoa::Buffer;
@@ -41,6 +41,13 @@ pub fn too_long_line(alloc: Global, file: u8) -> Result<Vec<u8>, AllocError>
     ensures { IfOk result (λ text. text.items ≡ too_long_line file) }
 {
     numbered(alloc, b"refused too long file ", file)
+}
+
+/// The line for rows with more than 4,000,000 entries: `refused too many entries`.
+pub fn entries_line(alloc: Global) -> Result<Vec<u8>, AllocError>
+    ensures { IfOk result (λ text. text.items ≡ entries_line) }
+{
+    Vec::from_slice(alloc, b"refused too many entries\n")
 }
 
 /// The line for a row in which a number doesn't fit: `uncertified width row EQ`, with the row's full name.

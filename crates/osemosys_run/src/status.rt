@@ -44,6 +44,8 @@ pub enum Refusal {
     Build(BuildFault),
     /// The file of this number has more than 64 MiB.
     TooLong(u8),
+    /// The rows of the equations have more than 4,000,000 entries.
+    TooManyEntries,
 }
 
 /// What is wrong with the words.

@@ -1,5 +1,5 @@
 -- The names of instances, and the variables that exist, have the positions of members as their subscripts.
-use Rattle.std.proofs.Common.{◌≡◌, ℕ, ◌+◌, ◌<◌, ◌≤◌, Bool, true, false, ◌&&◌, List, [], ◌∷◌, nat_eq, nat_lt, refl, ap, sym, ◌∙◌, subst, arith, ltb-true, leb-true, nat_le, inl, inr}
+use Rattle.std.proofs.Common.{◌≡◌, ℕ, ◌+◌, ◌<◌, ◌≤◌, Bool, true, false, ◌&&◌, List, [], ◌∷◌, ◌++◌, nat_eq, nat_lt, refl, ap, sym, ◌∙◌, subst, arith, ltb-true, leb-true, nat_le, inl, inr}
 use Rattle.std.specs.List.{AllByRecursion, list_all, list_any}
 use Rattle.std.specs.Prelude.{Contains, if◌then◌else◌}
 use Rattle.std.proofs.lemmas.Bool.{and_parts}
@@ -16,7 +16,10 @@ use Rattle.named_equations.specs.Instances.{is_index, is_one_of, is_value_at, su
 use Rattle.named_equations.specs.Positions.{count_of}
 use Rattle.named_equations.proofs.InstanceTests.{Contains-from_Has, Has, Has-from_Contains}
 use Rattle.named_equations.proofs.TermMeaning.{EachFrom, at_number}
-use Rattle.row_book.specs.Books.{AreRowsOf, AreVariablesOf, HasNameWithin, IsWithinSets, entry_variables, names_of}
+use Rattle.row_book.specs.declared.fail.BookFail.{BookFail}
+use Rattle.row_book.specs.declared.fail.BookFail.TheVariants.{Width, TooManyEntries, Memory}
+use Rattle.row_core.specs.declared.place.Place.{Place}
+use Rattle.row_book.specs.Books.{AreRowsOf, AreVariablesOf, HasNameWithin, HasStopped, IsWithinSets, NamesRowWithin, entry_variables, names_of}
 use Rattle.row_book.specs.Built.{IsBuiltInstance, built_instances}
 use Rattle.row_book.proofs.BuiltInstances.{all-instances}
 use Rattle.row_book.proofs.Definers.{least_kind}
@@ -131,3 +134,16 @@ variables-within d rows vars are listed = all_from (IsWithinSets d.sets) vars (�
 
 pub variables-exist : (d : Data) (rows : List Row) (vars : List Var) → AreRowsOf d (built_instances d) rows → AreVariablesOf rows vars → AllByRecursion (λ v. exists d v ≡ true) vars
 variables-exist d rows vars are listed = all_from (λ v. exists d v ≡ true) vars (λ v has. (listed_there d rows vars v are listed has).0)
+
+-- ---- the row that can't be made
+
+behind-front : (P : RowName → Type 0) (front behind : List RowName) (name : RowName) → AllByRecursion P (front ++ name ∷ behind) → P name
+behind-front P [] behind name all = all.0
+behind-front P (n ∷ front) behind name all = behind-front P front behind name all.1
+
+pub stopped-within : (d : Data) (fail : BookFail) → HasStopped d 0 (built_instances d) fail → NamesRowWithin d.sets fail
+stopped-within d (Width place) (name, is, wide) =
+    subst (λ (p : Place). NamesRowWithin d.sets (Width p)) (sym is)
+    (name-within d name (behind-front (IsBuiltInstance d) wide.stops.front wide.stops.behind name (subst (AllByRecursion (IsBuiltInstance d)) wide.stops.split (all-instances d))))
+stopped-within d TooManyEntries stopped = tt
+stopped-within d Memory stopped = tt

@@ -105,3 +105,9 @@ abbrev pub HasStopped : Data → ℕ → List RowName → BookFail → Type 0
 HasStopped d before names (Width place) = (name : RowName) × (place ≡ Place.Row name) × IsTooWide d before names name
 HasStopped d before names TooManyEntries = (name : RowName) × HasTooMany d before names name
 HasStopped d before names Memory = ⊤
+
+-- the row that is named is of its list, with the positions of members as its subscripts
+abbrev pub NamesRowWithin : SetLists → BookFail → Type 0
+NamesRowWithin sets (Width (Place.Row name)) = IsEquation name.eq × RowNameIsWithin sets name
+NamesRowWithin sets TooManyEntries = ⊤
+NamesRowWithin sets Memory = ⊤

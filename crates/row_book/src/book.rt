@@ -5,7 +5,7 @@ ghost use Rattle.std.specs.List.{AllByRecursion};
 ghost use Rattle.row_core.specs.Numbers.{ascends};
 ghost use Rattle.row_core.specs.Order.{row_name_cmp};
 ghost use Rattle.named_equations.specs.Existence.{exists};
-ghost use Rattle.row_book.specs.Books.{AreRowsOf, AreVariablesOf, CanBeMade, HasNameWithin, HasStopped, IsWithinSets, names_of};
+ghost use Rattle.row_book.specs.Books.{AreRowsOf, AreVariablesOf, CanBeMade, HasNameWithin, HasStopped, NamesRowWithin, IsWithinSets, names_of};
 ghost use Rattle.row_book.specs.Built.{built_instances};
 ghost use Rattle.row_book.specs.Definitions.{AreTriangular};
 
@@ -53,6 +53,7 @@ impl RowBook {
         // When there is a book, and why there is none.
         ensures made { OnOk result (CanBeMade facts.now.facts 0 (built_instances facts.now.facts)) }
         ensures stopped { IfErr result (HasStopped facts.now.facts 0 (built_instances facts.now.facts)) }
+        ensures place { IfErr result (NamesRowWithin facts.now.facts.sets) }
     {
         let rows = match built_rows(alloc, facts) {
             Ok(rows) => rows,

@@ -6,7 +6,7 @@ use Rattle.row_book.specs.Books.{AreVariablesOf}
 use Rattle.row_book.specs.Built.{built_instances}
 use Rattle.row_book.proofs.BuiltInstances.{built-ascend}
 use Rattle.row_book.proofs.Triangles.{triangular}
-use Rattle.row_book.proofs.Within.{names-of_rows, rows-within, variables-exist, variables-within}
+use Rattle.row_book.proofs.Within.{names-of_rows, rows-within, stopped-within, variables-exist, variables-within}
 use Rattle.row_book.proofs.book.RowBook.new.Goals as goal
 
 pub returns-clause-ascending : goal.returns-clause-ascending
@@ -29,3 +29,6 @@ pub returns-clause-exist : goal.returns-clause-exist
 returns-clause-exist c =
     variables-exist c.args.facts.now.facts c.in-Ok.rows.items c.in_ok-vars.vars.items c.in-Ok.ensures.rows
     (subst (λ rows. AreVariablesOf rows c.in_ok-vars.vars.items) c.deref.ensures.value c.in_ok-vars.ensures)
+
+pub returns-in-Err-clause-place : goal.returns-in-Err-clause-place
+returns-in-Err-clause-place c = stopped-within c.args.facts.now.facts c.in-Err.fail c.in-Err.ensures.stopped
