@@ -15,7 +15,8 @@ use Rattle.named_equations.specs.Variables.{trade, variable}
 use Rattle.named_equations.proofs.TermMeaning.{EachFrom, at_number}
 use Rattle.row_book.specs.Built.{IsBuilt, IsBuiltInstance, terms_at}
 use Rattle.row_book.specs.Definitions.{IsChosen}
-use Rattle.row_book.proofs.Subscripts.{AreValues, index-from_values, index-tidied, tidied, values-from_index}
+use Rattle.row_book.specs.Kinds.{tidied}
+use Rattle.row_book.proofs.Subscripts.{AreValues, index-from_values, index-tidied, values-from_index}
 use Rattle.row_book.proofs.TermVariables.{is_earlier}
 
 -- the index with its two regions exchanged

@@ -5,6 +5,7 @@
 
 mod book;
 mod cells;
+mod defined;
 mod fail;
 mod instance_row;
 mod made_rows;
