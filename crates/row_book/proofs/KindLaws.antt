@@ -1,5 +1,5 @@
 -- An equation defines the variable of its kind, with its own subscripts, or of the other direction of a trade.
-use Rattle.std.proofs.Common.{◌≡◌, ◌≢◌, ℕ, ◌+◌, ◌<◌, ◌≤◌, true, false, List, ◌∷◌, nat_eq, None, Some, refl, ap, sym, ◌∙◌, ◌⊎◌, subst, arith, inl, inr}
+use Rattle.std.proofs.Common.{◌≡◌, ◌≢◌, ℕ, ◌<◌, ◌≤◌, ◌∷◌, nat_eq, None, Some, refl, ap, sym, ◌∙◌, ◌⊎◌, arith, inl, inr}
 use Rattle.std.specs.Prelude.{slice_index_or, if◌then◌else◌}
 use Rattle.std.proofs.Math.ListN.{get_or-eq_default}
 use Rattle.std.proofs.lemmas.Bool.{ne_eqb}

@@ -3,6 +3,7 @@ pub mod CellLaws
 pub mod Definers
 pub mod Elements
 pub mod EntryVariables
+mod Examples
 pub mod InstanceRows
 pub mod KindLaws
 pub mod Lists

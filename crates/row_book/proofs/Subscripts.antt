@@ -1,9 +1,8 @@
 -- The subscripts of an index, one by one, and which variables exist at them.
-use Rattle.std.proofs.Common.{◌≡◌, ℕ, zero, suc, ◌+◌, ◌<◌, ◌≤◌, Bool, true, false, ◌&&◌, List, [], ◌∷◌, nat_eq, nat_lt, refl, ap, sym, ◌∙◌, arith, lt-ltb, eqb-true}
+use Rattle.std.proofs.Common.{◌≡◌, ℕ, zero, suc, ◌+◌, ◌≤◌, Bool, true, false, ◌&&◌, List, [], ◌∷◌, nat_eq, nat_lt, refl, arith, lt-ltb, eqb-true}
 use Rattle.std.specs.Cmp.Derive.{both_true}
 use Rattle.std.specs.List.{AllByRecursion, list_any, range_with_len}
 use Rattle.std.specs.Prelude.{if◌then◌else◌}
-use Rattle.std.proofs.lemmas.Bool.{and_parts}
 use Rattle.model_sets.specs.Data.{Data}
 use Rattle.model_sets.specs.Names as sets
 use Rattle.row_core.specs.declared.Index.{Index}

@@ -1,5 +1,5 @@
 -- The variable that an equation defines, by its kind. Only private functions cite these.
-use Rattle.std.specs.Prelude.{ℕ, List, [], ◌∷◌, ◌==◌, Option, None, Some, slice_index_or, if◌then◌else◌}
+use Rattle.std.specs.Prelude.{ℕ, List, [], ◌∷◌, ◌==◌, Option, None, Some, if◌then◌else◌}
 use Rattle.row_core.specs.declared.Index.{Index}
 use Rattle.row_core.specs.declared.Var.{Var}
 use Rattle.row_core.specs.Subscripts as place

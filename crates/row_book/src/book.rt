@@ -95,6 +95,10 @@ impl RowBook {
     pub fn cost_of(&self, var: Var) -> i128
         ensures { result ≡ cost_of var }
     {
-        if var.kind == TOTAL_DISCOUNTED_COST { 1 } else { 0 }
+        if var.kind == TOTAL_DISCOUNTED_COST {
+            1
+        } else {
+            0
+        }
     }
 }

@@ -16,3 +16,6 @@ mod walk;
 
 pub use book::RowBook;
 pub use fail::BookFail;
+
+#[cfg(test)]
+mod tests;
