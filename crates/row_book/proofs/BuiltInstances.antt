@@ -1,5 +1,5 @@
 -- The instances of the equations that are built: which names are among them, and that they ascend strictly.
-use Rattle.std.proofs.Common.{◌≡◌, ℕ, zero, suc, ◌+◌, ◌<◌, ◌≤◌, Bool, true, false, cond, List, [], ◌∷◌, ◌++◌, map, filter, ap, ◌∙◌, refl, sym, arith, inl, inr, eq-eqb, lt-ltb, le-ltb, subst, Some, None}
+use Rattle.std.proofs.Common.{◌≡◌, ℕ, zero, suc, ◌+◌, ◌<◌, ◌≤◌, true, cond, List, [], ◌∷◌, filter, ap, ◌∙◌, refl, arith, inl, inr, eq-eqb, lt-ltb, le-ltb, subst, Some}
 use Rattle.std.specs.List.{AllByRecursion, flat_map, range_with_len}
 use Rattle.std.proofs.Math.Nat.{eq-or-lt_of_le}
 use Rattle.std.proofs.lemmas.Bool.{cases_order}
@@ -13,11 +13,11 @@ use Rattle.row_core.specs.declared.RowName.{RowName}
 use Rattle.row_core.specs.Numbers.{ascends}
 use Rattle.row_core.specs.Order.{index_cmp, row_name_cmp}
 use Rattle.row_core.proofs.Orders.{row_name_cmp_total}
-use Rattle.named_equations.specs.Instances.{indices, instances_of, is_index, name_at, stands_at, subscripts_of}
+use Rattle.named_equations.specs.Instances.{indices, instances_of, name_at, stands_at, subscripts_of}
 use Rattle.named_equations.proofs.InstanceOrder.{Sorted-indices}
 use Rattle.named_equations.proofs.InstanceTests.{Has, Has-flat_map, Has-indices}
 use Rattle.named_equations.proofs.SortedLists.{Every, Every-all, Every-map, Grows-range, Sorted, Sorted-filter, Sorted-flat_map, Sorted-map, ascends-from_Sorted}
-use Rattle.row_book.specs.Built.{IsBuilt, IsBuiltInstance, built_count, built_equations, built_instances}
+use Rattle.row_book.specs.Built.{IsBuiltInstance, built_count, built_equations, built_instances}
 use Rattle.row_book.proofs.Elements.{Has-filter, Has-map}
 use Rattle.row_book.proofs.Lists.{AllByRecursion-append}
 use Rattle.row_book.proofs.Regions.{are-instances}

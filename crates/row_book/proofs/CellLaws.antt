@@ -1,5 +1,5 @@
 -- Where each equation has instances in a region: everywhere, or where a ratio isn't 0.
-use Rattle.std.proofs.Common.{◌≡◌, ◌≢◌, ℕ, ◌+◌, ◌<◌, ◌≤◌, ◌⊎◌, inl, inr, true, List, filter, refl, ap, sym, ◌∙◌, arith}
+use Rattle.std.proofs.Common.{◌≡◌, ◌≢◌, ℕ, ◌⊎◌, inl, inr, true, refl, ap, sym, ◌∙◌, arith}
 use Rattle.model_sets.specs.Data.{Data}
 use Rattle.row_core.specs.declared.Index.{Index}
 use Rattle.named_equations.specs.Indices.{at_r}
@@ -15,10 +15,61 @@ abbrev Everywhere : Data → Index → ℕ → Type 0
 Everywhere d i n = n ≢ 7 → n ≢ 8 → n ≢ 10 → n ≢ 11 → n ≢ 22 → n ≢ 23 → stands_at d n i ≡ true
 
 everywhere : (d : Data) (i : Index) → EachFrom (Everywhere d i) 1 24
-everywhere d i = (λ a b c e f g. refl, (λ a b c e f g. refl, (λ a b c e f g. refl, (λ a b c e f g. refl, (λ a b c e f g. refl, (λ a b c e f g. refl,
-    (λ a b c e f g. absurd (a refl), (λ a b c e f g. absurd (b refl), (λ a b c e f g. refl, (λ a b c e f g. absurd (c refl), (λ a b c e f g. absurd (e refl), (λ a b c e f g. refl,
-    (λ a b c e f g. refl, (λ a b c e f g. refl, (λ a b c e f g. refl, (λ a b c e f g. refl, (λ a b c e f g. refl, (λ a b c e f g. refl,
-    (λ a b c e f g. refl, (λ a b c e f g. refl, (λ a b c e f g. refl, (λ a b c e f g. absurd (f refl), (λ a b c e f g. absurd (g refl), (λ a b c e f g. refl, tt))))))))))))))))))))))))
+everywhere d i = (
+  λ a b c e f g. refl,
+  (
+    λ a b c e f g. refl,
+    (
+      λ a b c e f g. refl,
+      (
+        λ a b c e f g. refl,
+        (
+          λ a b c e f g. refl,
+          (
+            λ a b c e f g. refl,
+            (
+              λ a b c e f g. absurd (a refl),
+              (
+                λ a b c e f g. absurd (b refl),
+                (
+                  λ a b c e f g. refl,
+                  (
+                    λ a b c e f g. absurd (c refl),
+                    (
+                      λ a b c e f g. absurd (e refl),
+                      (
+                        λ a b c e f g. refl,
+                        (
+                          λ a b c e f g. refl,
+                          (
+                            λ a b c e f g. refl,
+                            (
+                              λ a b c e f g. refl,
+                              (
+                                λ a b c e f g. refl,
+                                (
+                                  λ a b c e f g. refl,
+                                  (
+                                    λ a b c e f g. refl,
+                                    (λ a b c e f g. refl, (λ a b c e f g. refl, (λ a b c e f g. refl, (λ a b c e f g. absurd (f refl), (λ a b c e f g. absurd (g refl), (λ a b c e f g. refl, tt)))))),
+                                  ),
+                                ),
+                              ),
+                            ),
+                          ),
+                        ),
+                      ),
+                    ),
+                  ),
+                ),
+              ),
+            ),
+          ),
+        ),
+      ),
+    ),
+  ),
+)
 
 pub cells-everywhere : (d : Data) (eq r : ℕ) → IsBuilt eq → eq ≢ 7 → eq ≢ 8 → eq ≢ 10 → eq ≢ 11 → eq ≢ 22 → eq ≢ 23
     → walk d (subscripts_of eq) inner_subscripts (at_r r) ≡ cells_of d eq r

@@ -1,21 +1,20 @@
 -- Which variable an instance defines: the row names and the variables that are defined go together one by one.
-use Rattle.std.proofs.Common.{◌≡◌, ℕ, zero, suc, ◌+◌, ◌<◌, ◌≤◌, Bool, true, false, cond, ◌&&◌, ◌||◌, ◌⊎◌, inl, inr, List, [], ◌∷◌, nat_eq, nat_le, nat_lt, Option, Some, None, refl, ap, sym, ◌∙◌, subst, arith, ltb-true, le-leb, leb-true}
+use Rattle.std.proofs.Common.{◌≡◌, ℕ, ◌<◌, ◌≤◌, Bool, true, false, cond, ◌&&◌, ◌||◌, ◌⊎◌, inl, inr, List, [], ◌∷◌, nat_le, nat_lt, Some, None, refl, ap, sym, ◌∙◌, subst, arith, ltb-true, le-leb, leb-true}
 use Rattle.std.specs.Prelude.{◌==◌, if◌then◌else◌}
 use Rattle.std.proofs.lemmas.Bool.{and_parts, cases_lt}
 use Rattle.model_sets.specs.Data.{Data}
 use Rattle.row_core.specs.declared.Index.{Index}
 use Rattle.row_core.specs.declared.RowName.{RowName}
 use Rattle.row_core.specs.declared.Sense.TheVariants.{Equal, Least, Most}
-use Rattle.row_core.specs.declared.Sense.{Sense}
 use Rattle.row_core.specs.declared.Var.{Var}
 use Rattle.named_equations.specs.Existence.{definers, exists, exists_at, subscripts_of_kind}
-use Rattle.named_equations.specs.Indices.{index}
 use Rattle.named_equations.specs.Instances.{is_index, name_at, stands_at, subscripts_of, variable_of}
 use Rattle.named_equations.specs.Variables.{trade, variable}
 use Rattle.named_equations.proofs.TermMeaning.{EachFrom, at_number}
 use Rattle.row_book.specs.Built.{IsBuilt, IsBuiltInstance, terms_at}
 use Rattle.row_book.specs.Definitions.{IsChosen}
-use Rattle.row_book.proofs.Subscripts.{AreValues, index-from_values, index-tidied, tidied, values-from_index}
+use Rattle.row_book.specs.Kinds.{tidied}
+use Rattle.row_book.proofs.Subscripts.{AreValues, index-from_values, index-tidied, values-from_index}
 use Rattle.row_book.proofs.TermVariables.{is_earlier}
 
 -- the index with its two regions exchanged
@@ -68,114 +67,138 @@ Defining d i n = (v : Var) → AreValues d (subscripts_of n) i → variable_of (
 
 defining : (d : Data) (i : Index) → EachFrom (Defining d i) 1 24
 defining d i = (
+  λ v at h.
+      for_variable d (name_at 1 i) (variable 4 (tidied (subscripts_of 1) i)) v
+      (record { one = ap (name_at 1) (index-tidied d (subscripts_of 1) i at); before = λ n e. single 1 n e; equation = refl })
+      (same_some (variable 4 (tidied (subscripts_of 1) i)) v h),
+  (
     λ v at h.
-    for_variable d (name_at 1 i) (variable 4 (tidied (subscripts_of 1) i)) v
-    (record { one = ap (name_at 1) (index-tidied d (subscripts_of 1) i at); before = λ n e. single 1 n e; equation = refl })
-    (same_some (variable 4 (tidied (subscripts_of 1) i)) v h),
+        for_variable d (name_at 2 i) (variable 5 (tidied (subscripts_of 2) i)) v
+        (record { one = ap (name_at 2) (index-tidied d (subscripts_of 2) i at); before = λ n e. single 2 n e; equation = refl })
+        (same_some (variable 5 (tidied (subscripts_of 2) i)) v h),
     (
-    λ v at h.
-    for_variable d (name_at 2 i) (variable 5 (tidied (subscripts_of 2) i)) v
-    (record { one = ap (name_at 2) (index-tidied d (subscripts_of 2) i at); before = λ n e. single 2 n e; equation = refl })
-    (same_some (variable 5 (tidied (subscripts_of 2) i)) v h),
-    (
-    λ v at h.
-    for_variable d (name_at 3 i) (variable 6 (tidied (subscripts_of 3) i)) v
-    (record { one = ap (name_at 3) (index-tidied d (subscripts_of 3) i at); before = λ n e. single 3 n e; equation = refl })
-    (same_some (variable 6 (tidied (subscripts_of 3) i)) v h),
-    (
-    λ v at h.
-    for_variable d (name_at 4 i) (variable 7 (tidied (subscripts_of 4) i)) v
-    (record { one = ap (name_at 4) (index-tidied d (subscripts_of 4) i at); before = λ n e. single 4 n e; equation = refl })
-    (same_some (variable 7 (tidied (subscripts_of 4) i)) v h),
-    (
-    λ v at h. absurd (never_none v h),
-    (
-    λ v at h. absurd (never_none v h),
-    (
-    λ v at h.
-    for_variable d (name_at 7 i) (variable 8 (tidied (subscripts_of 7) i)) v
-    (record { one = ap (name_at 7) (index-tidied d (subscripts_of 7) i at); before = λ n e. single 7 n e; equation = refl })
-    (same_some (variable 8 (tidied (subscripts_of 7) i)) v h),
-    (
-    λ v at h.
-    for_variable d (name_at 8 i) (variable 9 (tidied (subscripts_of 8) i)) v
-    (record { one = ap (name_at 8) (index-tidied d (subscripts_of 8) i at); before = λ n e. single 8 n e; equation = refl })
-    (same_some (variable 9 (tidied (subscripts_of 8) i)) v h),
-    (
-    λ v at h.
-    for_variable d (name_at 9 i) (variable 10 (tidied (subscripts_of 9) i)) v
-    (record { one = ap (name_at 9) (index-tidied d (subscripts_of 9) i at); before = λ n e. single 9 n e; equation = refl })
-    (same_some (variable 10 (tidied (subscripts_of 9) i)) v h),
-    (
-    λ v at h.
-    for_variable d (name_at 10 i) (variable 11 (tidied (subscripts_of 10) i)) v
-    (record { one = ap (name_at 10) (index-tidied d (subscripts_of 10) i at); before = λ n e. single 10 n e; equation = refl })
-    (same_some (variable 11 (tidied (subscripts_of 10) i)) v h),
-    (
-    λ v at h.
-    for_variable d (name_at 11 i) (variable 12 (tidied (subscripts_of 11) i)) v
-    (record { one = ap (name_at 11) (index-tidied d (subscripts_of 11) i at); before = λ n e. single 11 n e; equation = refl })
-    (same_some (variable 12 (tidied (subscripts_of 11) i)) v h),
-    (
-    λ v at h.
-    for_variable d (name_at 12 i) (variable 13 (tidied (subscripts_of 12) i)) v
-    (record { one = ap (name_at 12) (index-tidied d (subscripts_of 12) i at); before = λ n e. single 12 n e; equation = refl })
-    (same_some (variable 13 (tidied (subscripts_of 12) i)) v h),
-    (
-    λ v at h.
-    for_variable d (name_at 13 i) (variable 14 (tidied (subscripts_of 13) i)) v
-    (record { one = ap (name_at 13) (index-tidied d (subscripts_of 13) i at); before = λ n e. single 13 n e; equation = refl })
-    (same_some (variable 14 (tidied (subscripts_of 13) i)) v h),
-    (
-    λ v at h.
-    for_variable d (name_at 14 i) (variable 15 (tidied (subscripts_of 14) i)) v
-    (record { one = ap (name_at 14) (index-tidied d (subscripts_of 14) i at); before = λ n e. single 14 n e; equation = refl })
-    (same_some (variable 15 (tidied (subscripts_of 14) i)) v h),
-    (
-    λ v at h.
-    for_variable d (name_at 15 i) (variable 16 (tidied (subscripts_of 15) i)) v
-    (record { one = ap (name_at 15) (index-tidied d (subscripts_of 15) i at); before = λ n e. single 15 n e; equation = refl })
-    (same_some (variable 16 (tidied (subscripts_of 15) i)) v h),
-    (
-    λ v at h.
-    for_variable d (name_at 16 i) (trade i.other i.region i.slice i.fuel i.year) v
-    (record { one = ap (name_at 16) (index-tidied d (subscripts_of 16) i at); before = λ n e. single 16 n e; equation = refl })
-    (exchanged (nat_le i.region i.other) (trade i.other i.region i.slice i.fuel i.year) v h),
-    (
-    λ v at h. absurd (never_none v h),
-    (
-    λ v at h.
-    for_variable d (name_at 18 i) (variable 17 (tidied (subscripts_of 18) i)) v
-    (record { one = ap (name_at 18) (index-tidied d (subscripts_of 18) i at); before = λ n e. single 18 n e; equation = refl })
-    (same_some (variable 17 (tidied (subscripts_of 18) i)) v h),
-    (
-    λ v at h.
-    for_variable d (name_at 19 i) (variable 18 (tidied (subscripts_of 19) i)) v
-    (record { one = ap (name_at 19) (index-tidied d (subscripts_of 19) i at); before = λ n e. single 19 n e; equation = refl })
-    (same_some (variable 18 (tidied (subscripts_of 19) i)) v h),
-    (
-    λ v at h.
-    for_variable d (name_at 20 i) (variable 19 (tidied (subscripts_of 20) i)) v
-    (record { one = ap (name_at 20) (index-tidied d (subscripts_of 20) i at); before = λ n e. single 20 n e; equation = refl })
-    (same_some (variable 19 (tidied (subscripts_of 20) i)) v h),
-    (
-    λ v at h. absurd (never_none v h),
-    (
-    λ v at h.
-    for_variable d (name_at 22 i) (variable 20 (tidied (subscripts_of 22) i)) v
-    (record { one = ap (name_at 22) (index-tidied d (subscripts_of 22) i at); before = λ n e. single 22 n e; equation = refl })
-    (same_some (variable 20 (tidied (subscripts_of 22) i)) v h),
-    (
-    λ v at h.
-    for_variable d (name_at 23 i) (variable 21 (tidied (subscripts_of 23) i)) v
-    (record { one = ap (name_at 23) (index-tidied d (subscripts_of 23) i at); before = λ n e. single 23 n e; equation = refl })
-    (same_some (variable 21 (tidied (subscripts_of 23) i)) v h),
-    (
-    λ v at h.
-    for_variable d (name_at 24 i) (variable 22 (tidied (subscripts_of 24) i)) v
-    (record { one = ap (name_at 24) (index-tidied d (subscripts_of 24) i at); before = λ n e. single 24 n e; equation = refl })
-    (same_some (variable 22 (tidied (subscripts_of 24) i)) v h),
-    tt))))))))))))))))))))))))
+      λ v at h.
+          for_variable d (name_at 3 i) (variable 6 (tidied (subscripts_of 3) i)) v
+          (record { one = ap (name_at 3) (index-tidied d (subscripts_of 3) i at); before = λ n e. single 3 n e; equation = refl })
+          (same_some (variable 6 (tidied (subscripts_of 3) i)) v h),
+      (
+        λ v at h.
+            for_variable d (name_at 4 i) (variable 7 (tidied (subscripts_of 4) i)) v
+            (record { one = ap (name_at 4) (index-tidied d (subscripts_of 4) i at); before = λ n e. single 4 n e; equation = refl })
+            (same_some (variable 7 (tidied (subscripts_of 4) i)) v h),
+        (
+          λ v at h. absurd (never_none v h),
+          (
+            λ v at h. absurd (never_none v h),
+            (
+              λ v at h.
+                  for_variable d (name_at 7 i) (variable 8 (tidied (subscripts_of 7) i)) v
+                  (record { one = ap (name_at 7) (index-tidied d (subscripts_of 7) i at); before = λ n e. single 7 n e; equation = refl })
+                  (same_some (variable 8 (tidied (subscripts_of 7) i)) v h),
+              (
+                λ v at h.
+                    for_variable d (name_at 8 i) (variable 9 (tidied (subscripts_of 8) i)) v
+                    (record { one = ap (name_at 8) (index-tidied d (subscripts_of 8) i at); before = λ n e. single 8 n e; equation = refl })
+                    (same_some (variable 9 (tidied (subscripts_of 8) i)) v h),
+                (
+                  λ v at h.
+                      for_variable d (name_at 9 i) (variable 10 (tidied (subscripts_of 9) i)) v
+                      (record { one = ap (name_at 9) (index-tidied d (subscripts_of 9) i at); before = λ n e. single 9 n e; equation = refl })
+                      (same_some (variable 10 (tidied (subscripts_of 9) i)) v h),
+                  (
+                    λ v at h.
+                        for_variable d (name_at 10 i) (variable 11 (tidied (subscripts_of 10) i)) v
+                        (record { one = ap (name_at 10) (index-tidied d (subscripts_of 10) i at); before = λ n e. single 10 n e; equation = refl })
+                        (same_some (variable 11 (tidied (subscripts_of 10) i)) v h),
+                    (
+                      λ v at h.
+                          for_variable d (name_at 11 i) (variable 12 (tidied (subscripts_of 11) i)) v
+                          (record { one = ap (name_at 11) (index-tidied d (subscripts_of 11) i at); before = λ n e. single 11 n e; equation = refl })
+                          (same_some (variable 12 (tidied (subscripts_of 11) i)) v h),
+                      (
+                        λ v at h.
+                            for_variable d (name_at 12 i) (variable 13 (tidied (subscripts_of 12) i)) v
+                            (record { one = ap (name_at 12) (index-tidied d (subscripts_of 12) i at); before = λ n e. single 12 n e; equation = refl })
+                            (same_some (variable 13 (tidied (subscripts_of 12) i)) v h),
+                        (
+                          λ v at h.
+                              for_variable d (name_at 13 i) (variable 14 (tidied (subscripts_of 13) i)) v
+                              (record { one = ap (name_at 13) (index-tidied d (subscripts_of 13) i at); before = λ n e. single 13 n e; equation = refl })
+                              (same_some (variable 14 (tidied (subscripts_of 13) i)) v h),
+                          (
+                            λ v at h.
+                                for_variable d (name_at 14 i) (variable 15 (tidied (subscripts_of 14) i)) v
+                                (record { one = ap (name_at 14) (index-tidied d (subscripts_of 14) i at); before = λ n e. single 14 n e; equation = refl })
+                                (same_some (variable 15 (tidied (subscripts_of 14) i)) v h),
+                            (
+                              λ v at h.
+                                  for_variable d (name_at 15 i) (variable 16 (tidied (subscripts_of 15) i)) v
+                                  (record { one = ap (name_at 15) (index-tidied d (subscripts_of 15) i at); before = λ n e. single 15 n e; equation = refl })
+                                  (same_some (variable 16 (tidied (subscripts_of 15) i)) v h),
+                              (
+                                λ v at h.
+                                    for_variable d (name_at 16 i) (trade i.other i.region i.slice i.fuel i.year) v
+                                    (record { one = ap (name_at 16) (index-tidied d (subscripts_of 16) i at); before = λ n e. single 16 n e; equation = refl })
+                                    (exchanged (nat_le i.region i.other) (trade i.other i.region i.slice i.fuel i.year) v h),
+                                (
+                                  λ v at h. absurd (never_none v h),
+                                  (
+                                    λ v at h.
+                                        for_variable d (name_at 18 i) (variable 17 (tidied (subscripts_of 18) i)) v
+                                        (record { one = ap (name_at 18) (index-tidied d (subscripts_of 18) i at); before = λ n e. single 18 n e; equation = refl })
+                                        (same_some (variable 17 (tidied (subscripts_of 18) i)) v h),
+                                    (
+                                      λ v at h.
+                                          for_variable d (name_at 19 i) (variable 18 (tidied (subscripts_of 19) i)) v
+                                          (record { one = ap (name_at 19) (index-tidied d (subscripts_of 19) i at); before = λ n e. single 19 n e; equation = refl })
+                                          (same_some (variable 18 (tidied (subscripts_of 19) i)) v h),
+                                      (
+                                        λ v at h.
+                                            for_variable d (name_at 20 i) (variable 19 (tidied (subscripts_of 20) i)) v
+                                            (record { one = ap (name_at 20) (index-tidied d (subscripts_of 20) i at); before = λ n e. single 20 n e; equation = refl })
+                                            (same_some (variable 19 (tidied (subscripts_of 20) i)) v h),
+                                        (
+                                          λ v at h. absurd (never_none v h),
+                                          (
+                                            λ v at h.
+                                                for_variable d (name_at 22 i) (variable 20 (tidied (subscripts_of 22) i)) v
+                                                (record { one = ap (name_at 22) (index-tidied d (subscripts_of 22) i at); before = λ n e. single 22 n e; equation = refl })
+                                                (same_some (variable 20 (tidied (subscripts_of 22) i)) v h),
+                                            (
+                                              λ v at h.
+                                                  for_variable d (name_at 23 i) (variable 21 (tidied (subscripts_of 23) i)) v
+                                                  (record { one = ap (name_at 23) (index-tidied d (subscripts_of 23) i at); before = λ n e. single 23 n e; equation = refl })
+                                                  (same_some (variable 21 (tidied (subscripts_of 23) i)) v h),
+                                              (
+                                                λ v at h.
+                                                    for_variable d (name_at 24 i) (variable 22 (tidied (subscripts_of 24) i)) v
+                                                    (record { one = ap (name_at 24) (index-tidied d (subscripts_of 24) i at); before = λ n e. single 24 n e; equation = refl })
+                                                    (same_some (variable 22 (tidied (subscripts_of 24) i)) v h),
+                                                tt,
+                                              ),
+                                            ),
+                                          ),
+                                        ),
+                                      ),
+                                    ),
+                                  ),
+                                ),
+                              ),
+                            ),
+                          ),
+                        ),
+                      ),
+                    ),
+                  ),
+                ),
+              ),
+            ),
+          ),
+        ),
+      ),
+    ),
+  ),
+)
 
 pub is-definer : (d : Data) (name : RowName) (v : Var) → IsBuiltInstance d name → variable_of name ≡ Some v → IsDefiner d name v
 is-definer d name v instance defines =
@@ -196,54 +219,78 @@ no_equation_either e = absurd (cc e)
 
 undefining : (d : Data) (i : Index) → EachFrom (Undefining d i) 1 24
 undefining d i = (
-    λ h e. absurd (never_some (variable 4 (tidied (subscripts_of 1) i)) h),
-    (
+  λ h e. absurd (never_some (variable 4 (tidied (subscripts_of 1) i)) h),
+  (
     λ h e. absurd (never_some (variable 5 (tidied (subscripts_of 2) i)) h),
     (
-    λ h e. absurd (never_some (variable 6 (tidied (subscripts_of 3) i)) h),
-    (
-    λ h e. absurd (never_some (variable 7 (tidied (subscripts_of 4) i)) h),
-    (
-    λ h e. no_equation e,
-    (
-    λ h e. no_equation e,
-    (
-    λ h e. absurd (never_some (variable 8 (tidied (subscripts_of 7) i)) h),
-    (
-    λ h e. absurd (never_some (variable 9 (tidied (subscripts_of 8) i)) h),
-    (
-    λ h e. absurd (never_some (variable 10 (tidied (subscripts_of 9) i)) h),
-    (
-    λ h e. absurd (never_some (variable 11 (tidied (subscripts_of 10) i)) h),
-    (
-    λ h e. absurd (never_some (variable 12 (tidied (subscripts_of 11) i)) h),
-    (
-    λ h e. absurd (never_some (variable 13 (tidied (subscripts_of 12) i)) h),
-    (
-    λ h e. absurd (never_some (variable 14 (tidied (subscripts_of 13) i)) h),
-    (
-    λ h e. absurd (never_some (variable 15 (tidied (subscripts_of 14) i)) h),
-    (
-    λ h e. absurd (never_some (variable 16 (tidied (subscripts_of 15) i)) h),
-    (
-    λ h e. (refl, not_exchanged (nat_le i.region i.other) (trade i.other i.region i.slice i.fuel i.year) h),
-    (
-    λ h e. no_equation_either e,
-    (
-    λ h e. absurd (never_some (variable 17 (tidied (subscripts_of 18) i)) h),
-    (
-    λ h e. absurd (never_some (variable 18 (tidied (subscripts_of 19) i)) h),
-    (
-    λ h e. absurd (never_some (variable 19 (tidied (subscripts_of 20) i)) h),
-    (
-    λ h e. no_equation_either e,
-    (
-    λ h e. absurd (never_some (variable 20 (tidied (subscripts_of 22) i)) h),
-    (
-    λ h e. absurd (never_some (variable 21 (tidied (subscripts_of 23) i)) h),
-    (
-    λ h e. absurd (never_some (variable 22 (tidied (subscripts_of 24) i)) h),
-    tt))))))))))))))))))))))))
+      λ h e. absurd (never_some (variable 6 (tidied (subscripts_of 3) i)) h),
+      (
+        λ h e. absurd (never_some (variable 7 (tidied (subscripts_of 4) i)) h),
+        (
+          λ h e. no_equation e,
+          (
+            λ h e. no_equation e,
+            (
+              λ h e. absurd (never_some (variable 8 (tidied (subscripts_of 7) i)) h),
+              (
+                λ h e. absurd (never_some (variable 9 (tidied (subscripts_of 8) i)) h),
+                (
+                  λ h e. absurd (never_some (variable 10 (tidied (subscripts_of 9) i)) h),
+                  (
+                    λ h e. absurd (never_some (variable 11 (tidied (subscripts_of 10) i)) h),
+                    (
+                      λ h e. absurd (never_some (variable 12 (tidied (subscripts_of 11) i)) h),
+                      (
+                        λ h e. absurd (never_some (variable 13 (tidied (subscripts_of 12) i)) h),
+                        (
+                          λ h e. absurd (never_some (variable 14 (tidied (subscripts_of 13) i)) h),
+                          (
+                            λ h e. absurd (never_some (variable 15 (tidied (subscripts_of 14) i)) h),
+                            (
+                              λ h e. absurd (never_some (variable 16 (tidied (subscripts_of 15) i)) h),
+                              (
+                                λ h e. (refl, not_exchanged (nat_le i.region i.other) (trade i.other i.region i.slice i.fuel i.year) h),
+                                (
+                                  λ h e. no_equation_either e,
+                                  (
+                                    λ h e. absurd (never_some (variable 17 (tidied (subscripts_of 18) i)) h),
+                                    (
+                                      λ h e. absurd (never_some (variable 18 (tidied (subscripts_of 19) i)) h),
+                                      (
+                                        λ h e. absurd (never_some (variable 19 (tidied (subscripts_of 20) i)) h),
+                                        (
+                                          λ h e. no_equation_either e,
+                                          (
+                                            λ h e. absurd (never_some (variable 20 (tidied (subscripts_of 22) i)) h),
+                                            (
+                                              λ h e. absurd (never_some (variable 21 (tidied (subscripts_of 23) i)) h),
+                                              (
+                                                λ h e. absurd (never_some (variable 22 (tidied (subscripts_of 24) i)) h),
+                                                tt,
+                                              ),
+                                            ),
+                                          ),
+                                        ),
+                                      ),
+                                    ),
+                                  ),
+                                ),
+                              ),
+                            ),
+                          ),
+                        ),
+                      ),
+                    ),
+                  ),
+                ),
+              ),
+            ),
+          ),
+        ),
+      ),
+    ),
+  ),
+)
 
 pub is-exchange : (d : Data) (name : RowName) → IsBuiltInstance d name → variable_of name ≡ None → (terms_at d name).sense ≡ Equal
     → (name.eq ≡ 16) × (nat_le name.index.region name.index.other ≡ false)
@@ -316,69 +363,91 @@ trade-found d i there =
 
 found : (d : Data) (i : Index) → EachFrom (Found d i) 1 22
 found d i = (
-    λ there. inl (inl refl),
-    (
+  λ there. inl (inl refl),
+  (
     λ there. inl (inr (inl refl)),
     (
-    trade-found d i,
-    (
-    λ there.
-    inr (by_definer d 1 4 i (omega arith, omega arith) (and_parts (is_index d (subscripts_of_kind 4) i) (exists_at d 4 i) there).0 refl refl),
-    (
-    λ there.
-    inr (by_definer d 2 5 i (omega arith, omega arith) (and_parts (is_index d (subscripts_of_kind 5) i) (exists_at d 5 i) there).0 refl refl),
-    (
-    λ there.
-    inr (by_definer d 3 6 i (omega arith, omega arith) (and_parts (is_index d (subscripts_of_kind 6) i) (exists_at d 6 i) there).0 refl refl),
-    (
-    λ there.
-    inr (by_definer d 4 7 i (omega arith, omega arith) (and_parts (is_index d (subscripts_of_kind 7) i) (exists_at d 7 i) there).0 refl refl),
-    (
-    λ there.
-    inr (by_definer d 7 8 i (omega arith, omega arith) (and_parts (is_index d (subscripts_of_kind 8) i) (exists_at d 8 i) there).0 (one_stands (stands_at d 7 i) (and_parts (is_index d (subscripts_of_kind 8) i) (exists_at d 8 i) there).1) refl),
-    (
-    λ there.
-    inr (by_definer d 8 9 i (omega arith, omega arith) (and_parts (is_index d (subscripts_of_kind 9) i) (exists_at d 9 i) there).0 (one_stands (stands_at d 8 i) (and_parts (is_index d (subscripts_of_kind 9) i) (exists_at d 9 i) there).1) refl),
-    (
-    λ there.
-    inr (by_definer d 9 10 i (omega arith, omega arith) (and_parts (is_index d (subscripts_of_kind 10) i) (exists_at d 10 i) there).0 refl refl),
-    (
-    λ there.
-    inr (by_definer d 10 11 i (omega arith, omega arith) (and_parts (is_index d (subscripts_of_kind 11) i) (exists_at d 11 i) there).0 (one_stands (stands_at d 10 i) (and_parts (is_index d (subscripts_of_kind 11) i) (exists_at d 11 i) there).1) refl),
-    (
-    λ there.
-    inr (by_definer d 11 12 i (omega arith, omega arith) (and_parts (is_index d (subscripts_of_kind 12) i) (exists_at d 12 i) there).0 (one_stands (stands_at d 11 i) (and_parts (is_index d (subscripts_of_kind 12) i) (exists_at d 12 i) there).1) refl),
-    (
-    λ there.
-    inr (by_definer d 12 13 i (omega arith, omega arith) (and_parts (is_index d (subscripts_of_kind 13) i) (exists_at d 13 i) there).0 refl refl),
-    (
-    λ there.
-    inr (by_definer d 13 14 i (omega arith, omega arith) (and_parts (is_index d (subscripts_of_kind 14) i) (exists_at d 14 i) there).0 refl refl),
-    (
-    λ there.
-    inr (by_definer d 14 15 i (omega arith, omega arith) (and_parts (is_index d (subscripts_of_kind 15) i) (exists_at d 15 i) there).0 refl refl),
-    (
-    λ there.
-    inr (by_definer d 15 16 i (omega arith, omega arith) (and_parts (is_index d (subscripts_of_kind 16) i) (exists_at d 16 i) there).0 refl refl),
-    (
-    λ there.
-    inr (by_definer d 18 17 i (omega arith, omega arith) (and_parts (is_index d (subscripts_of_kind 17) i) (exists_at d 17 i) there).0 refl refl),
-    (
-    λ there.
-    inr (by_definer d 19 18 i (omega arith, omega arith) (and_parts (is_index d (subscripts_of_kind 18) i) (exists_at d 18 i) there).0 refl refl),
-    (
-    λ there.
-    inr (by_definer d 20 19 i (omega arith, omega arith) (and_parts (is_index d (subscripts_of_kind 19) i) (exists_at d 19 i) there).0 refl refl),
-    (
-    λ there.
-    inr (by_definer d 22 20 i (omega arith, omega arith) (and_parts (is_index d (subscripts_of_kind 20) i) (exists_at d 20 i) there).0 (one_stands (stands_at d 22 i) (and_parts (is_index d (subscripts_of_kind 20) i) (exists_at d 20 i) there).1) refl),
-    (
-    λ there.
-    inr (by_definer d 23 21 i (omega arith, omega arith) (and_parts (is_index d (subscripts_of_kind 21) i) (exists_at d 21 i) there).0 (one_stands (stands_at d 23 i) (and_parts (is_index d (subscripts_of_kind 21) i) (exists_at d 21 i) there).1) refl),
-    (
-    λ there.
-    inr (by_definer d 24 22 i (omega arith, omega arith) (and_parts (is_index d (subscripts_of_kind 22) i) (exists_at d 22 i) there).0 refl refl),
-    tt))))))))))))))))))))))
+      trade-found d i,
+      (
+        λ there.
+            inr (by_definer d 1 4 i (omega arith, omega arith) (and_parts (is_index d (subscripts_of_kind 4) i) (exists_at d 4 i) there).0 refl refl),
+        (
+          λ there.
+              inr (by_definer d 2 5 i (omega arith, omega arith) (and_parts (is_index d (subscripts_of_kind 5) i) (exists_at d 5 i) there).0 refl refl),
+          (
+            λ there.
+                inr (by_definer d 3 6 i (omega arith, omega arith) (and_parts (is_index d (subscripts_of_kind 6) i) (exists_at d 6 i) there).0 refl refl),
+            (
+              λ there.
+                  inr (by_definer d 4 7 i (omega arith, omega arith) (and_parts (is_index d (subscripts_of_kind 7) i) (exists_at d 7 i) there).0 refl refl),
+              (
+                λ there.
+                    inr (by_definer d 7 8 i (omega arith, omega arith) (and_parts (is_index d (subscripts_of_kind 8) i) (exists_at d 8 i) there).0 (one_stands (stands_at d 7 i) (and_parts (is_index d (subscripts_of_kind 8) i) (exists_at d 8 i) there).1) refl),
+                (
+                  λ there.
+                      inr (by_definer d 8 9 i (omega arith, omega arith) (and_parts (is_index d (subscripts_of_kind 9) i) (exists_at d 9 i) there).0 (one_stands (stands_at d 8 i) (and_parts (is_index d (subscripts_of_kind 9) i) (exists_at d 9 i) there).1) refl),
+                  (
+                    λ there.
+                        inr (by_definer d 9 10 i (omega arith, omega arith) (and_parts (is_index d (subscripts_of_kind 10) i) (exists_at d 10 i) there).0 refl refl),
+                    (
+                      λ there.
+                          inr (by_definer d 10 11 i (omega arith, omega arith) (and_parts (is_index d (subscripts_of_kind 11) i) (exists_at d 11 i) there).0 (one_stands (stands_at d 10 i) (and_parts (is_index d (subscripts_of_kind 11) i) (exists_at d 11 i) there).1) refl),
+                      (
+                        λ there.
+                            inr (by_definer d 11 12 i (omega arith, omega arith) (and_parts (is_index d (subscripts_of_kind 12) i) (exists_at d 12 i) there).0 (one_stands (stands_at d 11 i) (and_parts (is_index d (subscripts_of_kind 12) i) (exists_at d 12 i) there).1) refl),
+                        (
+                          λ there.
+                              inr (by_definer d 12 13 i (omega arith, omega arith) (and_parts (is_index d (subscripts_of_kind 13) i) (exists_at d 13 i) there).0 refl refl),
+                          (
+                            λ there.
+                                inr (by_definer d 13 14 i (omega arith, omega arith) (and_parts (is_index d (subscripts_of_kind 14) i) (exists_at d 14 i) there).0 refl refl),
+                            (
+                              λ there.
+                                  inr (by_definer d 14 15 i (omega arith, omega arith) (and_parts (is_index d (subscripts_of_kind 15) i) (exists_at d 15 i) there).0 refl refl),
+                              (
+                                λ there.
+                                    inr (by_definer d 15 16 i (omega arith, omega arith) (and_parts (is_index d (subscripts_of_kind 16) i) (exists_at d 16 i) there).0 refl refl),
+                                (
+                                  λ there.
+                                      inr (by_definer d 18 17 i (omega arith, omega arith) (and_parts (is_index d (subscripts_of_kind 17) i) (exists_at d 17 i) there).0 refl refl),
+                                  (
+                                    λ there.
+                                        inr (by_definer d 19 18 i (omega arith, omega arith) (and_parts (is_index d (subscripts_of_kind 18) i) (exists_at d 18 i) there).0 refl refl),
+                                    (
+                                      λ there.
+                                          inr (by_definer d 20 19 i (omega arith, omega arith) (and_parts (is_index d (subscripts_of_kind 19) i) (exists_at d 19 i) there).0 refl refl),
+                                      (
+                                        λ there.
+                                            inr (by_definer d 22 20 i (omega arith, omega arith) (and_parts (is_index d (subscripts_of_kind 20) i) (exists_at d 20 i) there).0 (one_stands (stands_at d 22 i) (and_parts (is_index d (subscripts_of_kind 20) i) (exists_at d 20 i) there).1) refl),
+                                        (
+                                          λ there.
+                                              inr (by_definer d 23 21 i (omega arith, omega arith) (and_parts (is_index d (subscripts_of_kind 21) i) (exists_at d 21 i) there).0 (one_stands (stands_at d 23 i) (and_parts (is_index d (subscripts_of_kind 21) i) (exists_at d 21 i) there).1) refl),
+                                          (
+                                            λ there.
+                                                inr (by_definer d 24 22 i (omega arith, omega arith) (and_parts (is_index d (subscripts_of_kind 22) i) (exists_at d 22 i) there).0 refl refl),
+                                            tt,
+                                          ),
+                                        ),
+                                      ),
+                                    ),
+                                  ),
+                                ),
+                              ),
+                            ),
+                          ),
+                        ),
+                      ),
+                    ),
+                  ),
+                ),
+              ),
+            ),
+          ),
+        ),
+      ),
+    ),
+  ),
+)
 
 pub least_kind : (d : Data) (v : Var) → exists d v ≡ true → 1 ≤ v.kind
 least_kind d v there = elim (cases_lt 0 v.kind) [ inl above ↦ omega (arith, above) | inr none ↦ absurd (no_kind (v.kind) (omega (arith, none)) there) ]

@@ -1,5 +1,5 @@
 -- What is true of each variable of an equation's terms is true of each variable of its row's entries.
-use Rattle.std.proofs.Common.{◌≡◌, ℕ, Bool, true, false, ℤ, pos, ◌*ℤ◌, List, [], ◌∷◌, refl, ap, sym, ◌∙◌, subst}
+use Rattle.std.proofs.Common.{ℕ, Bool, true, false, ℤ, List, [], ◌∷◌, sym, subst}
 use Rattle.std.specs.List.{AllByRecursion}
 use Rattle.std.specs.declared.cmp.Ordering.{Ordering}
 use Rattle.std.specs.declared.cmp.Ordering.TheVariants.{Less, Equal, Greater}
@@ -13,7 +13,7 @@ use Rattle.row_core.specs.EquationTerms.{EquationTerms, IsRowOf, coefficients_of
 use Rattle.row_core.specs.Numbers.{is_zero, variables_of}
 use Rattle.row_core.specs.Order.{var_cmp}
 use Rattle.row_core.specs.Terms.{gathered_onto, with_term}
-use Rattle.row_core.specs.Written.{cleared_entries, common_denominator, entries_divided, entries_over, kept, written_divisor, written_entries}
+use Rattle.row_core.specs.Written.{cleared_entries, common_denominator, entries_divided, entries_over, kept, written_divisor}
 
 -- true of the variable of each
 abbrev pub OfVariables : {A : Type 0} → (Var → Type 0) → List (Var × A) → Type 0

@@ -1,5 +1,5 @@
 -- The equations of capacity adequacy stand everywhere, and so their rows stop only where a number doesn't fit.
-use Rattle.std.proofs.Common.{◌≡◌, ℕ, ◌+◌, ◌<◌, ◌≤◌, true, not, ◌&&◌, ◌||◌, refl, ap, ap₂, sym, ◌∙◌, subst, arith, le-leb}
+use Rattle.std.proofs.Common.{◌≡◌, ◌≤◌, true, not, ◌&&◌, ◌||◌, refl, ap, ap₂, sym, ◌∙◌, subst, arith, le-leb}
 use Rattle.std.specs.Prelude.{if◌then◌else◌}
 use Rattle.exact_num.specs.Range.{all_fit}
 use Rattle.model_sets.specs.Data.{Data}

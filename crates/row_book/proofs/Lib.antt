@@ -1,18 +1,20 @@
-mod BuiltInstances
-mod CellLaws
-mod Definers
-mod Elements
-mod EntryVariables
-mod InstanceRows
+pub mod BuiltInstances
+pub mod CellLaws
+pub mod Definers
+pub mod Elements
+pub mod EntryVariables
+mod Examples
+pub mod InstanceRows
+pub mod KindLaws
 pub mod Lists
-mod Places
-mod Ranges
-mod RatioCells
+pub mod Places
+pub mod Ranges
+pub mod RatioCells
 pub mod Regions
 pub mod RowsAddedLaws
 pub mod Subscripts
-mod TermVariables
-mod Triangles
-mod VariablesInOrder
-mod WalkOrder
-mod Within
+pub mod TermVariables
+pub mod Triangles
+pub mod VariablesInOrder
+pub mod WalkOrder
+pub mod Within

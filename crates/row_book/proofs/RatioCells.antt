@@ -1,5 +1,5 @@
 -- Where a ratio isn't 0: the indices that are asked, and those without their mode.
-use Rattle.std.proofs.Common.{◌≡◌, ℕ, zero, suc, ◌+◌, ◌<◌, ◌≤◌, Bool, true, false, cond, ◌⊎◌, inl, inr, List, [], ◌∷◌, ◌++◌, map, filter, length, get_or, take, nat_eq, nat_lt, refl, ap, sym, ◌∙◌, subst, arith, ltb-true}
+use Rattle.std.proofs.Common.{◌≡◌, ℕ, zero, suc, ◌+◌, ◌<◌, Bool, true, false, cond, inl, inr, List, [], ◌∷◌, ◌++◌, map, filter, length, get_or, take, refl, ap, sym, ◌∙◌, subst, arith, ltb-true}
 use Rattle.std.specs.Cmp.{IsEquivalence}
 use Rattle.std.specs.List.{AllByRecursion, dedup, flat_map, list_any}
 use Rattle.std.specs.List.Sorted.{IsPermutation, IsSorted, IsStrictlySortedBy}
@@ -20,7 +20,7 @@ use Rattle.row_core.specs.declared.Index.{Index}
 use Rattle.row_core.specs.Subscripts as place
 use Rattle.named_equations.specs.Indices.{at_r, index}
 use Rattle.named_equations.specs.Instances.{subscripts_of, values_at}
-use Rattle.named_equations.specs.Positions.{count_of, fuels, modes, positions, technologies, all_years}
+use Rattle.named_equations.specs.Positions.{count_of, fuels, modes, technologies, all_years}
 use Rattle.named_equations.proofs.InstanceOrder.{from_e, from_f, from_m, from_y}
 use Rattle.named_equations.proofs.InstanceTests.{Contains-from_Has, Has, Has-flat_map, Has-from_Contains, flat_map_parts}
 use Rattle.named_equations.proofs.SortedLists.{Every, Sorted, Sorted-filter}

@@ -1,5 +1,5 @@
 -- The instances of an equation are those of its regions one after another, and in a region those of one list of inner subscripts with each of the outer ones.
-use Rattle.std.proofs.Common.{◌≡◌, ℕ, ◌+◌, ◌<◌, ◌≤◌, ◌-◌, length, Bool, true, List, [], ◌∷◌, ◌++◌, map, filter, refl, ap, sym, ◌∙◌, subst, arith, inl, inr}
+use Rattle.std.proofs.Common.{◌≡◌, ℕ, ◌+◌, ◌<◌, ◌-◌, length, true, List, [], ◌∷◌, ◌++◌, map, filter, refl, ap, sym, ◌∙◌, subst, arith, inl, inr}
 use Rattle.std.specs.List.{AllByRecursion, flat_map, range_with_len}
 use Rattle.std.proofs.lemmas.List.{append-nil}
 use Rattle.std.proofs.lemmas.List.FromFn.{length-range_with_len}
@@ -8,13 +8,12 @@ use Rattle.named_equations.specs.Positions.{count_of, positions}
 use Rattle.row_book.proofs.Ranges.{range-middle}
 use Rattle.model_sets.specs.Data.{Data}
 use Rattle.row_core.specs.declared.Index.{Index}
-use Rattle.row_core.specs.declared.RowName.{RowName}
 use Rattle.row_core.specs.Subscripts as place
 use Rattle.named_equations.specs.Indices.{at_r}
 use Rattle.named_equations.specs.Instances.{indices, instances_of, is_index, name_at, stands_at, subscripts_of, values_at}
 use Rattle.named_equations.proofs.InstanceTests.{Has, indices-pass}
 use Rattle.named_equations.proofs.TermMeaning.{EachFrom, at_number}
-use Rattle.row_book.specs.Built.{IsBuilt, IsBuiltInstance, built_count}
+use Rattle.row_book.specs.Built.{IsBuilt, IsBuiltInstance}
 use Rattle.row_book.specs.Walks.{cells_of, inner_subscripts, joined, moved, names_in, names_with, outer_subscripts, outers_of, place_of, walk}
 use Rattle.row_book.specs.declared.walk.Subscript.{Subscript}
 use Rattle.row_book.proofs.Lists.{AllByRecursion-middle, AllByRecursion-filter, AllByRecursion-flat_map, AllByRecursion-map, AllByRecursion-weaker, filter-flat_map, filter-map, flat_map-alike, flat_map-flat_map, flat_map-same, map-flat_map, map-map}

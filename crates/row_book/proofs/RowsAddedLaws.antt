@@ -12,7 +12,7 @@ use Rattle.row_core.specs.declared.place.Place.{Place}
 use Rattle.row_core.specs.declared.place.Stopped.{Stopped}
 use Rattle.row_core.specs.Stops.{IsStop}
 use Rattle.named_equations.specs.RowMeaning.{IsNamedRow}
-use Rattle.row_book.specs.Books.{AreRowsOf, CanBeMade, HasStopped, StopsAt, IsTooWide, HasTooMany, row_fits, entries_in, entry_count, entry_limit}
+use Rattle.row_book.specs.Books.{AreRowsOf, CanBeMade, HasStopped, StopsAt, row_fits, entries_in, entry_count, entry_limit}
 use Rattle.row_book.specs.Built.{terms_at}
 use Rattle.row_book.specs.RowsAdded.{AddsRows}
 use Rattle.row_book.specs.declared.fail.BookFail.{BookFail}

@@ -1,9 +1,8 @@
 -- The subscripts of an index, one by one, and which variables exist at them.
-use Rattle.std.proofs.Common.{◌≡◌, ℕ, zero, suc, ◌+◌, ◌<◌, ◌≤◌, Bool, true, false, ◌&&◌, List, [], ◌∷◌, nat_eq, nat_lt, refl, ap, sym, ◌∙◌, arith, lt-ltb, eqb-true}
+use Rattle.std.proofs.Common.{◌≡◌, ℕ, zero, suc, ◌+◌, ◌≤◌, Bool, true, false, ◌&&◌, List, [], ◌∷◌, nat_eq, nat_lt, refl, arith, lt-ltb, eqb-true}
 use Rattle.std.specs.Cmp.Derive.{both_true}
 use Rattle.std.specs.List.{AllByRecursion, list_any, range_with_len}
 use Rattle.std.specs.Prelude.{if◌then◌else◌}
-use Rattle.std.proofs.lemmas.Bool.{and_parts}
 use Rattle.model_sets.specs.Data.{Data}
 use Rattle.model_sets.specs.Names as sets
 use Rattle.row_core.specs.declared.Index.{Index}
@@ -13,6 +12,7 @@ use Rattle.named_equations.specs.Existence.{exists, exists_at, kind_numbers, sub
 use Rattle.named_equations.specs.Indices.{index, at_rltmy, at_rty, at_rrrlfy, at_rlfy, at_rlty, at_rltfmy, at_rltfy, at_rfy, at_rrrfy, at_rtmy}
 use Rattle.named_equations.specs.Instances.{is_index, is_one_of, is_value_at}
 use Rattle.named_equations.specs.Positions.{count_of, positions}
+use Rattle.row_book.specs.Kinds.{tidied}
 
 -- each subscript takes one of its values
 pub record AreValues (d : Data) (s : List ℕ) (i : Index) : Type 0 where
@@ -120,19 +120,6 @@ pub exists-from_values : (d : Data) (v : Var) → list_any (nat_eq v.kind) kind_
 exists-from_values d v listed are stands = both_true (both_true listed (index-from_values d (subscripts_of_kind v.kind) v.index are)) stands
 
 -- ---- an index has 0 for the subscripts that aren't asked for
-
--- the index with 0 for the subscripts that aren't among these
-abbrev pub tidied : List ℕ → Index → Index
-tidied s i = record {
-  region = if is_one_of s place.r then i.region else 0;
-  other = if is_one_of s place.rr then i.other else 0;
-  slice = if is_one_of s place.l then i.slice else 0;
-  tech = if is_one_of s place.t then i.tech else 0;
-  fuel = if is_one_of s place.f then i.fuel else 0;
-  emission = if is_one_of s place.e then i.emission else 0;
-  mode = if is_one_of s place.m then i.mode else 0;
-  year = if is_one_of s place.y then i.year else 0;
-}
 
 tidy-value : (b : Bool) (i n : ℕ) → (if b then nat_lt i n else nat_eq i 0) ≡ true → i ≡ (if b then i else 0)
 tidy-value true i n passes = refl

@@ -1,7 +1,7 @@
 -- The rows of all instances are triangular.
-use Rattle.std.proofs.Common.{◌≡◌, ℕ, zero, suc, ◌+◌, ◌<◌, ◌≤◌, Bool, true, false, cond, ◌⊎◌, inl, inr, List, [], ◌∷◌, ◌++◌, nat_le, Option, Some, None, refl, ap, ap₂, sym, ◌∙◌, subst, arith, le-leb, leb-true}
-use Rattle.std.specs.List.{AllByRecursion, flat_map}
-use Rattle.std.specs.Prelude.{Contains, slice_get, ℤ, pos, ◌<ℤ◌}
+use Rattle.std.proofs.Common.{◌≡◌, ℕ, zero, suc, ◌<◌, ◌≤◌, Bool, true, false, cond, inl, inr, List, [], ◌∷◌, nat_le, Some, None, refl, ap, ap₂, sym, ◌∙◌, subst, arith, le-leb, leb-true}
+use Rattle.std.specs.List.{AllByRecursion}
+use Rattle.std.specs.Prelude.{slice_get}
 use Rattle.std.specs.declared.cmp.Ordering.{Ordering}
 use Rattle.std.specs.declared.cmp.Ordering.TheVariants.{Less, Equal, Greater}
 use Rattle.std.specs.Ordering.{nat_cmp, ordering_reverse, ordering_then}
@@ -13,14 +13,11 @@ use Rattle.model_sets.specs.Data.{Data}
 use Rattle.row_core.specs.declared.Index.{Index}
 use Rattle.row_core.specs.declared.Row.{Row}
 use Rattle.row_core.specs.declared.RowName.{RowName}
-use Rattle.row_core.specs.declared.Sense.TheVariants as sense
 use Rattle.row_core.specs.declared.Var.{Var}
-use Rattle.row_core.specs.Amounts.{Amount}
 use Rattle.row_core.specs.EquationTerms.{right_of, terms_of}
 use Rattle.row_core.specs.Numbers.{variables_of}
 use Rattle.row_core.specs.Order.{index_cmp, row_name_cmp, var_cmp}
-use Rattle.row_core.specs.Rows.{number_at}
-use Rattle.row_core.specs.Terms.{gathered, with_term}
+use Rattle.row_core.specs.Terms.{gathered}
 use Rattle.row_core.specs.Written.{written_entries, written_right}
 use Rattle.row_core.proofs.Orders.{var_cmp_total}
 use Rattle.named_equations.specs.Existence.{exists}
@@ -30,12 +27,12 @@ use Rattle.named_equations.specs.Variables.{trade}
 use Rattle.named_equations.proofs.InstanceTests.{Contains-from_Has, Has, Has-from_Contains}
 use Rattle.row_book.specs.Books.{AreRowsOf, entry_variables}
 use Rattle.row_book.specs.Built.{IsBuiltInstance, built_instances, terms_at}
-use Rattle.row_book.specs.Definitions.{AreTriangular, Defines, HasEntry, IsAt, IsChosen, IsDefinedIn, IsRepeatedIn}
+use Rattle.row_book.specs.Definitions.{AreTriangular, Defines, IsAt}
 use Rattle.row_book.proofs.BuiltInstances.{Has-built, Sorted-built, all-at, all-instances, less_then, sorted-at, sorted-once}
-use Rattle.row_book.proofs.Definers.{IsDefined, IsDefiner, definer, exchange-instance, is-definer, is-exchange, is-found, swapped}
+use Rattle.row_book.proofs.Definers.{definer, exchange-instance, is-definer, is-exchange, is-found, swapped}
 use Rattle.row_book.proofs.EntryVariables.{OfVariables, entries-from_terms}
 use Rattle.row_book.proofs.Lists.{AllByRecursion-append, AllByRecursion-weaker}
-use Rattle.row_book.proofs.TermVariables.{HasTerms, IsTermOf, has-terms, is_earlier}
+use Rattle.row_book.proofs.TermVariables.{IsTermOf, has-terms}
 
 -- ---- rows by position and by name
 
@@ -163,11 +160,11 @@ triangular d rows are =
     λ i name at. all-at (IsBuiltInstance d) names i name (all-instances d) at in
     let once : (i j : ℕ) (row other : Row) (v : Var) → IsAt rows i row → IsAt rows j other → Defines row v → Defines other v → i ≡ j =
     λ i j row other v at bt defines defines_too.
-        let a = row_at d names rows i row are at in
-        let b = row_at d names rows j other are bt in
-        let of_a = is-definer d a.name v (instance i a.name a.at) (ap variable_of (sym a.is.written.named) ∙ defines) in
-        let of_b = is-definer d b.name v (instance j b.name b.at) (ap variable_of (sym b.is.written.named) ∙ defines_too) in
-        sorted-once names i j a.name (Sorted-built d) a.at (b.at ∙ ap (λ n. Some n) (of_b.one ∙ sym of_a.one)) in
+    let a = row_at d names rows i row are at in
+    let b = row_at d names rows j other are bt in
+    let of_a = is-definer d a.name v (instance i a.name a.at) (ap variable_of (sym a.is.written.named) ∙ defines) in
+    let of_b = is-definer d b.name v (instance j b.name b.at) (ap variable_of (sym b.is.written.named) ∙ defines_too) in
+    sorted-once names i j a.name (Sorted-built d) a.at (b.at ∙ ap (λ n. Some n) (of_b.one ∙ sym of_a.one)) in
     record {
       solvable = λ i row v at defines.
           let a = row_at d names rows i row are at in

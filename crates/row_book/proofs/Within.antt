@@ -1,7 +1,7 @@
 -- The names of instances, and the variables that exist, have the positions of members as their subscripts.
-use Rattle.std.proofs.Common.{◌≡◌, ℕ, ◌+◌, ◌<◌, ◌≤◌, Bool, true, false, ◌&&◌, List, [], ◌∷◌, ◌++◌, nat_eq, nat_lt, refl, ap, sym, ◌∙◌, subst, arith, ltb-true, leb-true, nat_le, inl, inr}
+use Rattle.std.proofs.Common.{◌≡◌, ℕ, ◌<◌, ◌≤◌, Bool, true, ◌&&◌, List, [], ◌∷◌, ◌++◌, nat_eq, nat_lt, refl, ap, sym, ◌∙◌, subst, arith, ltb-true, leb-true, inl, inr}
 use Rattle.std.specs.List.{AllByRecursion, list_all, list_any}
-use Rattle.std.specs.Prelude.{Contains, if◌then◌else◌}
+use Rattle.std.specs.Prelude.{if◌then◌else◌}
 use Rattle.std.proofs.lemmas.Bool.{and_parts}
 use Rattle.model_sets.specs.Data.{Data}
 use Rattle.row_core.specs.declared.Index.{Index}
@@ -9,11 +9,9 @@ use Rattle.row_core.specs.declared.Row.{Row}
 use Rattle.row_core.specs.declared.RowName.{RowName}
 use Rattle.row_core.specs.declared.Var.{Var}
 use Rattle.row_core.specs.Equations.{IsEquation}
-use Rattle.row_core.specs.Kinds.{IsKind}
-use Rattle.row_core.specs.NameTexts.{IsWithin, RowNameIsWithin, VariableIsWithin, position_at, set_of}
+use Rattle.row_core.specs.NameTexts.{IsWithin, RowNameIsWithin}
 use Rattle.named_equations.specs.Existence.{exists, exists_at, kind_numbers, subscripts_of_kind}
-use Rattle.named_equations.specs.Instances.{is_index, is_one_of, is_value_at, subscripts_of}
-use Rattle.named_equations.specs.Positions.{count_of}
+use Rattle.named_equations.specs.Instances.{is_index, is_one_of, subscripts_of}
 use Rattle.named_equations.proofs.InstanceTests.{Contains-from_Has, Has, Has-from_Contains}
 use Rattle.named_equations.proofs.TermMeaning.{EachFrom, at_number}
 use Rattle.row_book.specs.declared.fail.BookFail.{BookFail}

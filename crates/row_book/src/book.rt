@@ -1,14 +1,17 @@
 //! The book of rows.
 
-ghost use Rattle.std.specs.Prelude.{◌≡◌, ◌<◌, true, IfErr, IfOk, OnOk};
+ghost use Rattle.std.specs.Prelude.{◌≡◌, ◌<◌, true, length, IfErr, IfOk, OnOk};
 ghost use Rattle.std.specs.List.{AllByRecursion};
 ghost use Rattle.row_core.specs.Numbers.{ascends};
 ghost use Rattle.row_core.specs.Order.{row_name_cmp};
 ghost use Rattle.named_equations.specs.Existence.{exists};
-ghost use Rattle.row_book.specs.Books.{AreRowsOf, AreVariablesOf, CanBeMade, HasNameWithin, HasStopped, NamesRowWithin, IsWithinSets, names_of};
+ghost use Rattle.named_equations.specs.Instances.{variable_of};
+ghost use Rattle.row_core.specs.declared.Row.{Row};
+ghost use Rattle.row_book.specs.Books.{AreRowsOf, AreVariablesOf, CanBeMade, HasNameWithin, HasStopped, IsWithinSets, NamesRowWithin, names_of};
 ghost use Rattle.row_book.specs.Built.{built_instances};
-ghost use Rattle.row_book.specs.Definitions.{AreTriangular};
+ghost use Rattle.row_book.specs.Definitions.{AreTriangular, IsAt, cost_of};
 
+use crate::defined::defined_variable;
 use crate::fail::BookFail;
 use crate::rows::built_rows;
 use crate::variables::variables_of_rows;
@@ -16,6 +19,9 @@ use param_tables::ModelData;
 use row_core::{Row, Var};
 use std::alloc::Global;
 use std::marker::Model;
+
+/// The kind of TotalDiscountedCost.
+const TOTAL_DISCOUNTED_COST: u8 = 37;
 
 /// All rows of a model, in order, and their variables.
 #[derive(Drop)]
@@ -75,5 +81,25 @@ impl RowBook {
         ensures { result.now ≡ self.now.vars }
     {
         &self.vars
+    }
+
+    /// The variable that the equation of row `i` defines, if any: the variable at which the row has a positive
+    /// entry, and that no other row defines.
+    pub fn defined_by(&self, i: usize) -> Option<Var>
+        requires { i < length self.now.rows }
+        ensures { (row : Row) → IsAt self.now.rows i row → result ≡ variable_of row.name }
+    {
+        defined_variable(self.rows[i].name)
+    }
+
+    /// The coefficient of a variable in the cost: 1 for TotalDiscountedCost, and 0 for any other.
+    pub fn cost_of(&self, var: Var) -> i128
+        ensures { result ≡ cost_of var }
+    {
+        if var.kind == TOTAL_DISCOUNTED_COST {
+            1
+        } else {
+            0
+        }
     }
 }

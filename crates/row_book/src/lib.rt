@@ -5,6 +5,7 @@
 
 mod book;
 mod cells;
+mod defined;
 mod fail;
 mod instance_row;
 mod made_rows;
@@ -15,3 +16,6 @@ mod walk;
 
 pub use book::RowBook;
 pub use fail::BookFail;
+
+#[cfg(test)]
+mod tests;

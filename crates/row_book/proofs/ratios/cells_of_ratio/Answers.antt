@@ -1,5 +1,5 @@
 -- Index by index.
-use Rattle.std.proofs.Common.{◌≡◌, ◌∙◌, ◌<◌, ◌++◌, ℕ, Bool, List, [], ◌∷◌, length, filter, take, get_or, ap, sym, subst, Vec, Global}
+use Rattle.std.proofs.Common.{◌∙◌, ℕ, Bool, List, ap, sym, subst, Vec, Global}
 use Rattle.std.specs.List.{AllByRecursion}
 use Rattle.row_core.specs.declared.Index.{Index}
 use Rattle.named_equations.specs.Instances.{subscripts_of}

@@ -1,5 +1,4 @@
-use Rattle.std.proofs.Common.{◌≡◌, ◌∙◌, List, ap, subst}
-use Rattle.row_core.specs.declared.Row.{Row}
+use Rattle.std.proofs.Common.{◌∙◌, ap, subst}
 use Rattle.row_core.specs.Numbers.{ascends}
 use Rattle.row_core.specs.Order.{row_name_cmp}
 use Rattle.row_book.specs.Books.{AreVariablesOf}

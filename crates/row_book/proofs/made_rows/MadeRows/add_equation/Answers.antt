@@ -1,7 +1,5 @@
-use Rattle.std.proofs.Common.{◌≡◌, ◌≤◌, ◌<◌, ◌+◌, ◌-◌, ℕ, ap, sym, subst, ◌∙◌, arith}
+use Rattle.std.proofs.Common.{◌≡◌, ◌<◌, ◌+◌, ◌-◌, ℕ, ap, sym, subst, ◌∙◌, arith}
 use Rattle.std.specs.List.{flat_map, range_with_len}
-use Rattle.model_sets.specs.Names as sets
-use Rattle.named_equations.specs.Positions.{count_of}
 use Rattle.row_book.specs.Books.{HasStopped}
 use Rattle.row_book.specs.RowsAdded.{AddsRows}
 use Rattle.row_book.specs.Walks.{names_in}

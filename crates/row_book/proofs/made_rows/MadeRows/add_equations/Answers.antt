@@ -1,4 +1,4 @@
-use Rattle.std.proofs.Common.{◌≡◌, ◌≤◌, ◌<◌, ◌+◌, ◌-◌, ℕ, ap, subst, arith}
+use Rattle.std.proofs.Common.{◌≡◌, ◌≤◌, ◌<◌, ◌+◌, ◌-◌, subst, arith}
 use Rattle.std.specs.List.{flat_map, range_with_len}
 use Rattle.named_equations.specs.Instances.{instances_of}
 use Rattle.row_book.specs.RowsAdded.{AddsRows}

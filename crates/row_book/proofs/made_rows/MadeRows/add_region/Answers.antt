@@ -1,12 +1,11 @@
-use Rattle.std.proofs.Common.{◌≡◌, ◌∙◌, ◌+◌, List, suc, drop, take, get_or, length, ap, sym, subst}
+use Rattle.std.proofs.Common.{◌≡◌, ◌∙◌, suc, drop, take, get_or, sym, subst}
 use Rattle.std.specs.List.{AllByRecursion, flat_map}
 use Rattle.row_core.specs.declared.Index.{Index}
-use Rattle.row_core.specs.declared.RowName.{RowName}
 use Rattle.named_equations.specs.Indices.{index}
 use Rattle.row_book.specs.Books.{HasStopped}
 use Rattle.row_book.specs.Built.{IsBuiltInstance}
 use Rattle.row_book.specs.RowsAdded.{AddsRows}
-use Rattle.row_book.specs.Walks.{cells_of, names_in, names_with, outers_of}
+use Rattle.row_book.specs.Walks.{cells_of, names_with, outers_of}
 use Rattle.row_book.proofs.Lists.{AllByRecursion-middle}
 use Rattle.row_book.proofs.Places.{list-middle}
 use Rattle.row_book.proofs.RowsAddedLaws.{adds-nothing, loop-adds, loop-ends, loop-stops}

@@ -1,0 +1,144 @@
+-- The definitions on the base example of one region, technology, fuel, timeslice, mode and year, and near misses.
+use Rattle.std.proofs.Common.{◌≡◌, ℕ, ◌*◌, ◌^◌, true, false, List, [], ◌∷◌, map, pos, neg_ℤ, Some, None, inr, refl, arith}
+use Rattle.std.specs.List.{enumerate_from}
+use Rattle.std.specs.Prelude.{ℤ, codes}
+use Rattle.exact_num.specs.Formed.{product_formed, sum_formed}
+use Rattle.exact_num.specs.Gcd.{gcd_of, gcd_within}
+use Rattle.exact_num.specs.Range.{all_fit, in_range}
+use Rattle.exact_num.specs.Rational.{lowest, plus, times}
+use Rattle.model_sets.specs.Data.{Data, Default}
+use Rattle.row_core.specs.declared.Row.{Row}
+use Rattle.row_core.specs.declared.RowName.{RowName}
+use Rattle.row_core.specs.declared.Var.{Var}
+use Rattle.row_core.specs.Numbers.{ascends}
+use Rattle.row_core.specs.Order.{row_name_cmp, var_cmp}
+use Rattle.named_equations.specs.Indices.{at_rrrlfy, index}
+use Rattle.named_equations.specs.Instances.{name_at, variable_of}
+use Rattle.named_equations.specs.Variables.{new_capacity, trade, variable}
+use Rattle.row_book.specs.Books.{AreRowsOf, AreVariablesOf, CanBeMade, HasTooMany, IsTooWide, entries_in, row_fits}
+use Rattle.row_book.specs.Built.{built_instances}
+use Rattle.row_book.specs.Definitions.{AreTriangular, Defines, IsChosen, cost_of}
+
+-- ---- the data
+
+abbrev whole : ℕ → ℤ
+whole n = pos (n * 10 ^ 9)
+
+abbrev minus_one : ℤ
+minus_one = neg_ℤ (whole 1)
+
+-- the defaults of the used parameters, from number 1, with this CapacityToActivityUnit
+abbrev defaults : ℤ → List Default
+defaults unit =
+    map (λ entry. record { param = entry.0; value = entry.1 })
+    (enumerate_from 1
+    (whole 1 ∷ whole 0 ∷ whole 1 ∷ whole 0 ∷ whole 10 ∷ whole 1 ∷ whole 0 ∷ unit ∷ whole 1 ∷ whole 1 ∷ whole 1 ∷ whole 0 ∷ whole 0 ∷ whole 1
+    ∷ whole 5 ∷ whole 2 ∷ whole 1 ∷ whole 0 ∷ minus_one ∷ whole 0 ∷ minus_one ∷ whole 0 ∷ minus_one ∷ whole 0 ∷ whole 0 ∷ whole 0
+    ∷ whole 0 ∷ whole 0 ∷ whole 0 ∷ whole 0 ∷ whole 0 ∷ whole 0 ∷ whole 0 ∷ whole 0 ∷ whole 0 ∷ minus_one ∷ whole 0 ∷ minus_one ∷ []))
+
+abbrev data_of : List (List ℕ) → ℤ → Data
+data_of regions unit = record {
+  sets = regions ∷ (codes "T" ∷ []) ∷ (codes "F" ∷ []) ∷ [] ∷ (codes "1" ∷ []) ∷ (codes "D" ∷ []) ∷ (codes "2020" ∷ []) ∷ [] ∷ [] ∷ [] ∷ [] ∷ [];
+  given = [];
+  defaults = defaults unit;
+}
+
+abbrev base : Data
+base = data_of (codes "R" ∷ []) (whole 1)
+
+abbrev two_regions : Data
+two_regions = data_of (codes "A" ∷ codes "B" ∷ []) (whole 1)
+
+abbrev at_zeros : ℕ → RowName
+at_zeros eq = name_at eq (index 0 0 0 0 0 0 0 0)
+
+-- ---- instances
+
+-- 21 instances: none of use, as nothing is taken in
+base_instances : built_instances base ≡ map at_zeros
+    (1 ∷ 2 ∷ 3 ∷ 4 ∷ 5 ∷ 6 ∷ 7 ∷ 8 ∷ 9 ∷ 12 ∷ 13 ∷ 14 ∷ 15 ∷ 16 ∷ 17 ∷ 18 ∷ 19 ∷ 20 ∷ 21 ∷ 22 ∷ 24 ∷ [])
+base_instances = refl
+
+-- they ascend; with two of them exchanged they don't, and no more with one twice
+ascending : ascends row_name_cmp (at_zeros 2 ∷ at_zeros 3 ∷ []) ≡ true
+ascending = refl
+
+exchanged : ascends row_name_cmp (at_zeros 3 ∷ at_zeros 2 ∷ []) ≡ false
+exchanged = refl
+
+twice : ascends row_name_cmp (at_zeros 2 ∷ at_zeros 2 ∷ []) ≡ false
+twice = refl
+
+-- a row too few, and one too many
+too_few : (name : RowName) → AreRowsOf base (name ∷ []) [] → ⊥
+too_few name are = are
+
+too_many : (row : Row) → AreRowsOf base [] (row ∷ []) → ⊥
+too_many row are = are
+
+-- ---- entries
+
+-- 40 entries in all
+base_entries : entries_in base (built_instances base) ≡ 40
+unfolding lowest times plus gcd_of gcd_within
+base_entries = refl
+
+-- the two entries of CAa1 keep the limit, and with one more before them they don't
+at_the_limit : CanBeMade base 3999998 (at_zeros 2 ∷ [])
+unfolding all_fit in_range gcd_of gcd_within
+at_the_limit = record { fit = refl; few = omega arith }
+
+past_the_limit : HasTooMany base 3999999 (at_zeros 2 ∷ []) (at_zeros 2)
+unfolding all_fit in_range gcd_of gcd_within
+past_the_limit = record {
+  stops = record { front = []; behind = []; split = refl; made = record { fit = refl; few = omega arith } };
+  fits = refl;
+  many = omega arith;
+}
+
+-- with a capacity of 2^127 units of activity a row isn't written
+wide : row_fits (data_of (codes "R" ∷ []) (whole (2 ^ 127))) (at_zeros 6) ≡ false
+unfolding all_fit in_range product_formed sum_formed lowest times plus gcd_of gcd_within
+wide = refl
+
+-- a row that fits isn't too wide, whatever stands around it
+not_wide : (before : ℕ) (names : List RowName) → IsTooWide base before names (at_zeros 6) → ⊥
+unfolding all_fit in_range product_formed sum_formed lowest times plus gcd_of gcd_within
+not_wide before names too_wide =
+    let fits : row_fits base (at_zeros 6) ≡ true = refl in
+    let fails : row_fits base (at_zeros 6) ≡ false = too_wide.wide in
+    cc
+
+-- ---- variables
+
+-- a list with a variable twice isn't that of the variables of any rows
+doubled : (rows : List Row) → AreVariablesOf rows (new_capacity 0 0 0 ∷ new_capacity 0 0 0 ∷ []) → ⊥
+doubled rows are = let found : ascends var_cmp (new_capacity 0 0 0 ∷ new_capacity 0 0 0 ∷ []) ≡ true = are.ascending in cc
+
+-- ---- definitions
+
+-- of two regions the exchange from the earlier to the later defines the trade the other way, and the other one nothing
+forth : variable_of (name_at 16 (at_rrrlfy 0 1 0 0 0)) ≡ Some (trade 1 0 0 0 0)
+forth = refl
+
+back : variable_of (name_at 16 (at_rrrlfy 1 0 0 0 0)) ≡ None
+back = refl
+
+-- within a region it defines the trade with itself
+home : variable_of (name_at 16 (at_rrrlfy 0 0 0 0 0)) ≡ Some (trade 0 0 0 0 0)
+home = refl
+
+chosen : IsChosen (trade 0 1 0 0 0)
+chosen = inr (inr (refl, omega arith))
+
+-- two rows that define one variable aren't triangular
+one_twice : (row : Row) (v : Var) → Defines row v → AreTriangular (row ∷ row ∷ []) → ⊥
+one_twice row v defines triangular = let same : 0 ≡ 1 = triangular.once 0 1 row row v refl refl defines defines in omega (arith, same)
+
+-- ---- cost
+
+costs : cost_of (variable 37 (index 0 0 0 0 0 0 0 0)) ≡ pos 1
+costs = refl
+
+costs_nothing : cost_of (new_capacity 0 0 0) ≡ pos 0
+costs_nothing = refl
