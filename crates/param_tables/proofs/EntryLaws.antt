@@ -1,7 +1,10 @@
 -- Look-ups in a list of places that ascend, each with its value.
 use Rattle.std.proofs.Common.{◌≡◌, ◌≢◌, ℕ, zero, suc, ◌+◌, ◌<◌, ◌≤◌, Bool, true, false, cond, nat_eq, List, [], ◌∷◌, None, Some, length, map, get_or, refl, sym, ap, ◌∙◌, subst, inl, inr, arith}
-use Rattle.std.specs.Prelude.{ℤ, Result, Ok, Err}
-use Rattle.std.specs.Option.{option_and_then}
+use Rattle.std.specs.Prelude.{ℤ, Option, Result, Ok, Err}
+use Rattle.std.specs.Option.{option_and_then, option_copied}
+use Rattle.std.specs.Slice.{IsItemAt}
+use Rattle.std.specs.Borrow.{Bor}
+use Rattle.std.proofs.lemmas.Option.{slice_get_past, slice_get-get_or}
 use Rattle.std.specs.BTreeMap.{BTreeMap, get, keys, values}
 use Rattle.std.specs.Ordering.{nat_cmp, is_eq}
 use Rattle.std.specs.declared.cmp.Ordering.TheVariants.{Less, Equal, Greater}
@@ -22,14 +25,14 @@ given_none (p ∷ ps) (v ∷ vs) place apart =
     let other : place ≢ p = λ e. apart 0 (omega arith) (sym e) in
     ap (λ b. cond b (Some v) (given_in (zip ps vs) place)) (ne_eqb place p other) ∙ given_none ps vs place (λ k below. apart (suc k) (omega arith))
 
-later : (p : ℕ) (ps : List ℕ) → IsStrictlyIncreasing (p ∷ ps) → IsStrictlyIncreasing ps
+pub later : (p : ℕ) (ps : List ℕ) → IsStrictlyIncreasing (p ∷ ps) → IsStrictlyIncreasing ps
 later p ps rising k below =
     let at : suc k + 1 ≡ suc (k + 1) = omega arith in
     let P : ℕ → Type 0 = λ n. get_or ps k 0 < get_or (p ∷ ps) n 0 in
     subst P at (rising (suc k) (omega arith))
 
 -- the first is below the others
-first_below : (p : ℕ) (ps : List ℕ) → IsStrictlyIncreasing (p ∷ ps) → (k : ℕ) → k < length ps → p < get_or ps k 0
+pub first_below : (p : ℕ) (ps : List ℕ) → IsStrictlyIncreasing (p ∷ ps) → (k : ℕ) → k < length ps → p < get_or ps k 0
 first_below p ps rising zero below = rising 0 (omega arith)
 first_below p ps rising (suc k) below =
     let before : p < get_or ps k 0 = first_below p ps rising k (omega arith) in
@@ -65,6 +68,11 @@ given_in-searched places values place (Err i) rising long found =
       | inl before ↦ λ e. let less = at.1 k before in omega arith
       | inr past ↦ λ e. let more = at.2 k past below in omega arith
     ])
+
+-- the value that a look-up by position copies
+pub copied_at : (xs : List ℤ) (i : ℕ) (r : Option (Bor ℤ)) → IsItemAt xs i r → option_copied r ≡ slice_get xs i
+copied_at xs i None item = sym (slice_get_past xs i item.3)
+copied_at xs i (Some x) item = sym (slice_get-get_or xs i x.now item.3.0 ∙ ap (λ y. Some y) (sym item.1))
 
 -- ---- the entries of a map as two lists
 

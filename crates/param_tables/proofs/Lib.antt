@@ -1,3 +1,4 @@
+pub mod AscendingLaws
 pub mod BuildLaws
 pub mod DataLaws
 pub mod EntryLaws
@@ -7,10 +8,16 @@ pub mod GapLaws
 pub mod GivenLaws
 pub mod IndexLaws
 pub mod KeptLaws
+pub mod NonzeroLaws
 pub mod ParamLaws
 pub mod PlaceLaws
+pub mod RangeLists
 pub mod RangeRules
+mod RatioExamples
+pub mod RatioFacts
+pub mod RatioPlaceLaws
 pub mod RefusalLaws
+pub mod SearchLaws
 pub mod SetLaws
 pub mod TableLaws
 pub mod TableOfLaws

@@ -5,6 +5,8 @@ pub mod Places
 pub mod Positions
 pub mod RangeTable
 pub mod Ranges
+pub mod RatioPlaces
+pub mod Ratios
 pub mod Refusals
 pub mod SetRefusals
 pub mod Stops

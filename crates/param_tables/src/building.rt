@@ -8,6 +8,7 @@ ghost use Rattle.model_sets.specs.Params.{used_count};
 ghost use Rattle.param_tables.specs.BlockData.{data_told, set_lists};
 ghost use Rattle.param_tables.specs.Built.{AreComplete, AreSameData, IsBuiltFrom};
 ghost use Rattle.param_tables.specs.InTurn.{first_of};
+ghost use Rattle.param_tables.specs.RatioPlaces.{AreKeptWith};
 ghost use Rattle.param_tables.specs.Refusals.{first_refusal, param_refusals};
 ghost use Rattle.mathprog_data.specs.BlocksView.{blocks_told};
 ghost use Rattle.param_tables.specs.Tables.{AreTablesFor, HaveShapes};
@@ -20,6 +21,7 @@ use crate::checks::check_param;
 use crate::fault::{BuildFail, BuildFault, Stop};
 use crate::model_data::ModelData;
 use crate::param_table::ParamTable;
+use crate::ratio_places::AllRatioPlaces;
 use crate::tables::tables_of;
 use mathprog_data::Blocks;
 use model_sets::Sets;
@@ -30,6 +32,13 @@ const STORAGE: u8 = 8;
 
 /// How many parameters are used.
 const USED_COUNT: u8 = 38;
+
+/// The tables of the used parameters, and the places at which their ratios aren't 0.
+#[derive(Drop)]
+struct CheckedParts {
+    tables: Vec<ParamTable>,
+    ratios: AllRatioPlaces,
+}
 
 /// Whether each used parameter has a value in its range at each of its indices. Refuses the first fault,
 /// parameter by parameter in the order of their numbers. Memory may be wanting.
@@ -61,6 +70,20 @@ fn checked_tables(alloc: Global, blocks: &Blocks, sets: &Sets) -> Result<Vec<Par
     Ok(tables)
 }
 
+/// The checked tables, with the places at which their ratios aren't 0. Refuses as `build` does.
+fn checked_parts(alloc: Global, blocks: &Blocks, sets: &Sets) -> Result<CheckedParts, Stop>
+    requires blocks { AreWellFormed (blocks_told blocks.now) }
+    requires sets { sets.now ≡ set_lists (blocks_told blocks.now) }
+    ensures kept { IfOk result (λ parts. AreKeptWith sets.now parts.tables.items parts.ratios) }
+    ensures same { IfOk result (λ parts. AreSameData (facts_of sets.now parts.tables.items) (data_told (blocks_told blocks.now))) }
+    ensures accepted { OnOk result (first_refusal (blocks_told blocks.now) ≡ None) }
+    ensures refused { IfErr result (IsStopDue (first_refusal (blocks_told blocks.now)) sets.now) }
+{
+    let tables = checked_tables(alloc, blocks, sets)?;
+    let ratios = AllRatioPlaces::new(alloc, sets, tables.as_slice())?;
+    Ok(CheckedParts { tables, ratios })
+}
+
 /// The checked data of the blocks, which are such as a text can give, over the sets that `sets_of` answered
 /// for the same blocks.
 ///
@@ -80,8 +103,8 @@ pub fn build(alloc: Global, blocks: &Blocks, sets: Sets) -> Result<ModelData, Bu
     ensures accepted { OnOk result (first_refusal (blocks_told blocks.now) ≡ None) }
     ensures refused { IfErr result (IsBuildFailDue (first_refusal (blocks_told blocks.now)) (set_lists (blocks_told blocks.now))) }
 {
-    match checked_tables(alloc, blocks, &sets) {
-        Ok(tables) => Ok(ModelData::new(sets, tables, blocks.rounded)),
+    match checked_parts(alloc, blocks, &sets) {
+        Ok(parts) => Ok(ModelData::new(sets, parts.tables, parts.ratios, blocks.rounded)),
         Err(Stop::Fault(fault)) => Err(BuildFail::Fault(fault, sets)),
         Err(Stop::Memory) => Err(BuildFail::Memory),
     }

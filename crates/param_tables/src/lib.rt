@@ -9,18 +9,25 @@ mod first_fault;
 mod given;
 mod indices;
 mod laws;
+mod listed;
 mod model_data;
 mod param_table;
+mod place_search;
 mod ranges;
+mod ratio_places;
+mod ratio_sizes;
+mod ratios;
 mod set_members;
 mod subscripts;
 mod tables;
+mod tried;
 
 pub use building::build;
 pub use fault::{BuildFail, BuildFault, Cell, CellFault};
 pub use laws::{range_laws, table_laws};
 pub use model_data::ModelData;
 pub use ranges::Range;
+pub use ratios::{ActivityRatio, RatioIndex};
 pub use set_members::sets_of;
 pub use subscripts::subscript_sets;
 

@@ -1,6 +1,6 @@
 //! The checked data of a model.
 
-ghost use Rattle.std.specs.Prelude.{◌≡◌, None, unsigned_abs, unwrap_or, pos, ◌≤◌, ◌^◌, IfSome, IsSomeAnd};
+ghost use Rattle.std.specs.Prelude.{◌≡◌, ◌≤◌, ◌^◌, None, unsigned_abs, unwrap_or, pos, IfOk, IfSome, IsSomeAnd};
 ghost use Rattle.exact_num.specs.Rational.{lowest};
 ghost use Rattle.exact_num.specs.Value.{value_of};
 ghost use Rattle.model_sets.specs.Data.{value_at};
@@ -9,14 +9,22 @@ ghost use Rattle.param_tables.specs.Built.{AreComplete, IsValueIn, amount_at};
 ghost use Rattle.param_tables.specs.Positions.{IsIndexOf, names_at};
 ghost use Rattle.param_tables.specs.RangeTable.{range_of};
 ghost use Rattle.param_tables.specs.Ranges.{billion};
-ghost use Rattle.param_tables.specs.View.{AreKept, facts_of};
+ghost use Rattle.param_tables.specs.RatioPlaces.{AreKeptWith, IsWithin, ratio_sizes};
+ghost use Rattle.param_tables.specs.Ratios.{AreMembersFor, IsRegion, IsTechnology, is_nonzero_in, nonzero_indices, nonzero_modes, nonzero_technologies};
+ghost use Rattle.param_tables.specs.View.{facts_of};
 ghost use Rattle.mathprog_data.specs.WellFormed.{IsNumber};
 
 use crate::indices::place_of;
-use crate::param_table::ParamTable;
+use crate::listed::{listed_indices, listed_modes, listed_technologies};
+use crate::param_table::{ParamTable, is_nonzero};
+use crate::ratio_places::AllRatioPlaces;
+use crate::ratio_sizes::RatioSizes;
+use crate::ratios::{ActivityRatio, RatioIndex};
 use crate::subscripts::subscript_sets;
+use crate::tried::{tried_indices, tried_modes, tried_technologies};
 use exact_num::{Frac, ratio};
 use model_sets::Sets;
+use std::alloc::{AllocError, Global};
 use std::marker::Model;
 
 /// One, in billionths.
@@ -29,18 +37,20 @@ const BILLION: i128 = 1_000_000_000;
 pub struct ModelData {
     sets: Sets,
     tables: Vec<ParamTable>,
+    ratios: AllRatioPlaces,
     rounded: u64,
 }
 
 impl Model for ModelData {
     ghost use Rattle.param_tables.specs.Built.{Built};
-    ghost use Rattle.param_tables.specs.View.{AreKept, facts_of};
+    ghost use Rattle.param_tables.specs.RatioPlaces.{AreKeptWith};
+    ghost use Rattle.param_tables.specs.View.{facts_of};
 
     ghost Value = { Built };
 
     ghost view = { λ model. record { facts = facts_of model.sets model.tables.items; rounded = model.rounded } };
 
-    ghost invariant = { λ model. AreKept model.sets model.tables.items };
+    ghost invariant = { λ model. AreKeptWith model.sets model.tables.items model.ratios };
 }
 
 /// The value, which is given in billionths.
@@ -52,17 +62,34 @@ fn amount(value: Option<i128>) -> Frac
 }
 
 impl ModelData {
-    /// The data of these sets and these tables.
-    pub(crate) fn new(sets: Sets, tables: Vec<ParamTable>, rounded: u64) -> ModelData
-        requires { AreKept sets tables.items }
+    /// The data of these sets and these tables, with the places at which their ratios aren't 0.
+    pub(crate) fn new(
+        sets: Sets,
+        tables: Vec<ParamTable>,
+        ratios: AllRatioPlaces,
+        rounded: u64,
+    ) -> ModelData
+        requires { AreKeptWith sets tables.items ratios }
         ensures facts { result.facts ≡ facts_of sets tables.items }
         ensures rounded { result.rounded ≡ rounded }
     {
         ModelData {
             sets,
             tables,
+            ratios,
             rounded,
         }
+    }
+
+    /// The value of the used parameter at the index, in billionths.
+    fn value(&self, param: u8, index: &[u16]) -> Option<i128>
+        requires used { IsUsedParam param }
+        requires index { IsIndexOf self.now.facts.sets param index.now }
+        ensures value { result ≡ value_at self.now.facts param (names_at self.now.facts.sets param index.now) }
+        ensures given { IsSomeAnd result (IsValueIn (range_of param)) }
+    {
+        let place = place_of(&self.sets, subscript_sets(param), index);
+        self.tables[usize::from(param - 1)].value_at(param, place)
     }
 
     /// The value of the used parameter (number 1 to 38) at the index, which has one position for each
@@ -73,8 +100,97 @@ impl ModelData {
         ensures amount { value_of result ≡ amount_at self.now.facts param index.now }
         ensures given { IsSomeAnd (value_at self.now.facts param (names_at self.now.facts.sets param index.now)) (IsValueIn (range_of param)) }
     {
-        let place = place_of(&self.sets, subscript_sets(param), index);
-        amount(self.tables[usize::from(param - 1)].value_at(param, place))
+        amount(self.value(param, index))
+    }
+
+    /// Whether the ratio isn't 0 at the index of the region.
+    pub(crate) fn is_ratio_nonzero(
+        &self,
+        ratio: ActivityRatio,
+        region: u16,
+        index: RatioIndex,
+    ) -> bool
+        requires region { IsRegion self.now.facts.sets region }
+        requires index { IsWithin (ratio_sizes self.now.facts.sets ratio) index.technology index.commodity index.mode index.year }
+        ensures { result ≡ is_nonzero_in self.now.facts ratio region index }
+    {
+        let positions = [
+            region,
+            index.technology,
+            index.commodity,
+            index.mode,
+            index.year,
+        ];
+        is_nonzero(self.value(ratio.param(), &positions))
+    }
+
+    /// The modes, ascending, in which the ratio isn't 0 for the technology, the fuel or emission and the
+    /// year in the region, all by their positions. Memory may be wanting. Where the ratio's default is 0, the
+    /// time is in proportion to what is listed, beside a search; else each mode is tried.
+    pub fn nonzero_modes(
+        &self,
+        alloc: Global,
+        ratio: ActivityRatio,
+        region: u16,
+        technology: u16,
+        commodity: u16,
+        year: u16,
+    ) -> Result<Vec<u16>, AllocError>
+        requires members { AreMembersFor self.now.facts.sets ratio region commodity year }
+        requires technology { IsTechnology self.now.facts.sets technology }
+        ensures { IfOk result (λ modes. modes.items ≡ nonzero_modes self.now.facts ratio region technology commodity year) }
+    {
+        if is_nonzero(self.tables[usize::from(ratio.param() - 1)].default) {
+            return tried_modes(alloc, self, ratio, region, technology, commodity, year);
+        }
+        let sizes = RatioSizes::new(&self.sets, ratio);
+        let group = sizes.group_of(u64::from(region), commodity, year);
+        let places = self.ratios.of(ratio);
+        listed_modes(alloc, sizes, places.grouped.as_slice(), group, technology)
+    }
+
+    /// The technologies, ascending, that have a mode in which the ratio isn't 0 for the fuel or emission and
+    /// the year in the region, all by their positions. Memory may be wanting. Where the ratio's default is 0,
+    /// the time is in proportion to the modes of the technologies listed, beside a search; else each
+    /// technology and mode is tried.
+    pub fn nonzero_technologies(
+        &self,
+        alloc: Global,
+        ratio: ActivityRatio,
+        region: u16,
+        commodity: u16,
+        year: u16,
+    ) -> Result<Vec<u16>, AllocError>
+        requires { AreMembersFor self.now.facts.sets ratio region commodity year }
+        ensures { IfOk result (λ technologies. technologies.items ≡ nonzero_technologies self.now.facts ratio region commodity year) }
+    {
+        if is_nonzero(self.tables[usize::from(ratio.param() - 1)].default) {
+            return tried_technologies(alloc, self, ratio, region, commodity, year);
+        }
+        let sizes = RatioSizes::new(&self.sets, ratio);
+        let group = sizes.group_of(u64::from(region), commodity, year);
+        let places = self.ratios.of(ratio);
+        listed_technologies(alloc, sizes, places.grouped.as_slice(), group)
+    }
+
+    /// The indices of the region at which the ratio isn't 0, in the order of technology, fuel or emission,
+    /// mode and year, each set's members in their own order. Memory may be wanting. Where the ratio's default
+    /// is 0, the time is in proportion to what is listed, beside a search; else each index is tried.
+    pub fn nonzero_indices(
+        &self,
+        alloc: Global,
+        ratio: ActivityRatio,
+        region: u16,
+    ) -> Result<Vec<RatioIndex>, AllocError>
+        requires { IsRegion self.now.facts.sets region }
+        ensures { IfOk result (λ indices. indices.items ≡ nonzero_indices self.now.facts ratio region) }
+    {
+        if is_nonzero(self.tables[usize::from(ratio.param() - 1)].default) {
+            return tried_indices(alloc, self, ratio, region);
+        }
+        let sizes = RatioSizes::new(&self.sets, ratio);
+        let places = self.ratios.of(ratio);
+        listed_indices(alloc, sizes, places.in_order.as_slice(), region)
     }
 
     /// The sets.

@@ -4,6 +4,7 @@ ghost use Rattle.std.specs.Prelude.{◌≡◌, ℕ, [], None, length, IfOk};
 ghost use Rattle.std.specs.BTreeMap.{get};
 ghost use Rattle.std.specs.List.Sorted.{IsStrictlyIncreasing};
 ghost use Rattle.std.specs.Ordering.{nat_cmp};
+ghost use Rattle.param_tables.specs.RatioPlaces.{is_nonzero_value};
 ghost use Rattle.param_tables.specs.Tables.{entries_of, given_in, table_value, value_else};
 
 use std::alloc::{AllocError, Global};
@@ -30,6 +31,13 @@ pub(crate) fn value_else(param: u8, default: Option<i128>) -> Option<i128>
         None if param == UNIT_CAPACITY => Some(0),
         None => None,
     }
+}
+
+/// Whether the value isn't 0, where there is one.
+pub(crate) fn is_nonzero(value: Option<i128>) -> bool
+    ensures { result ≡ is_nonzero_value value }
+{
+    value.unwrap_or(0) != 0
 }
 
 impl ParamTable {

@@ -1,6 +1,8 @@
 //! The refusals and values of small data sections.
 
-use crate::{BuildFail, BuildFault, Cell, ModelData, build, sets_of, subscript_sets};
+use crate::{
+    ActivityRatio, BuildFail, BuildFault, Cell, ModelData, build, sets_of, subscript_sets,
+};
 use exact_num::Frac;
 use mathprog_data::{param_word, read_blocks};
 use model_sets::SetFail;
@@ -19,6 +21,10 @@ const TWO_YEARS: &str =
 /// The same with the technologies T and U as well.
 const TWO_EACH: &str =
     "set REGION := R; set TECHNOLOGY := T U; set FUEL := F; set TIMESLICE := D; set MODE_OF_OPERATION := 1; set YEAR := 2020 2021;\n";
+
+/// The same with the technologies T and U, and the modes 1 and 2.
+const TWO_MODES: &str =
+    "set REGION := R; set TECHNOLOGY := T U; set FUEL := F; set TIMESLICE := D; set MODE_OF_OPERATION := 1 2; set YEAR := 2020 2021;\n";
 
 /// A default for each parameter, from number 1.
 const DEFAULTS: [&str; 38] = [
@@ -322,5 +328,65 @@ fn defaults_and_lowest_terms(rt: HostRuntime) -> Result<(), Fail> {
     assert!(rt; is(model.at(19, &[0, 0, 0]), -1, 1));
     assert_eq!(rt; model.rounded(), 1);
     assert_eq!(rt; subscript_sets(19), [1u8, 2, 7].as_slice());
+    Ok(())
+}
+
+/// What a text says of where OutputActivityRatio isn't 0: the modes of T in 2020, the technologies in 2020
+/// and in 2021, and all indices by technology, fuel, mode and year.
+fn nonzero_lines(
+    rt: &impl Abort,
+    alloc: Global,
+    model: &ModelData,
+) -> Result<[String; 4], AllocError> {
+    let sets = model.sets();
+    assert!(rt; sets.count(1) == 1);
+    assert!(rt; sets.count(2) == 2);
+    assert!(rt; sets.count(3) == 1);
+    assert!(rt; sets.count(7) == 2);
+    let modes = model.nonzero_modes(alloc, ActivityRatio::Output, 0, 0, 0, 0)?;
+    let first = model.nonzero_technologies(alloc, ActivityRatio::Output, 0, 0, 0)?;
+    let last = model.nonzero_technologies(alloc, ActivityRatio::Output, 0, 0, 1)?;
+    let mut indices = String::new(alloc);
+    for i in &model.nonzero_indices(alloc, ActivityRatio::Output, 0)? {
+        let line = format!(in alloc; "{}{}{}{} ", i.technology, i.commodity, i.mode, i.year)?;
+        indices.push_str(line.as_str())?;
+    }
+    Ok([
+        format!(in alloc; "{modes:?}")?,
+        format!(in alloc; "{first:?}")?,
+        format!(in alloc; "{last:?}")?,
+        indices,
+    ])
+}
+
+#[test]
+fn where_a_ratio_isnt_0(rt: HostRuntime) -> Result<(), Fail> {
+    let values = ":= R T F 1 2020 1 R T F 2 2020 0 R U F 2 2021 0.5 ;";
+    let rows = [
+        ("default 0", ["[0]", "[0]", "[1]", "0000 1011 "]),
+        (
+            "default 1",
+            [
+                "[0]",
+                "[0, 1]",
+                "[0, 1]",
+                "0000 0001 0011 1000 1001 1010 1011 ",
+            ],
+        ),
+    ];
+    for (default, expected) in rows {
+        let statement = format!(in rt.alloc(); "param OutputActivityRatio {default} {values}")?;
+        let text = text(rt.alloc(), TWO_MODES, 14, statement.as_str())?;
+        let Ending::Built(model) = outcome(&rt, rt.alloc(), text.as_str())? else {
+            assert!(rt; false, "refused: {default}");
+            return Ok(());
+        };
+        let lines = nonzero_lines(&rt, rt.alloc(), &model)?;
+        for (line, wanted) in lines.iter().zip(expected.iter()) {
+            assert_eq!(rt; line.as_str(), *wanted, "{default}");
+        }
+        let input = model.nonzero_indices(rt.alloc(), ActivityRatio::Input, 0)?;
+        assert!(rt; input.is_empty());
+    }
     Ok(())
 }

@@ -14,7 +14,7 @@ returns-in-Ok-clause-built c = record {
 }
 
 pub returns-in-Ok-clause-complete : goal.returns-in-Ok-clause-complete
-returns-in-Ok-clause-complete c = subst AreComplete (sym c.new.ensures.facts) c.in-Ok.ensures.kept.complete
+returns-in-Ok-clause-complete c = subst AreComplete (sym c.new.ensures.facts) c.in-Ok.ensures.kept.kept.complete
 
 pub returns-in-Err-Fault-clause-refused : goal.returns-in-Err-Fault-clause-refused
 returns-in-Err-Fault-clause-refused c =

@@ -1,12 +1,9 @@
-use Rattle.std.proofs.Common.{◌≡◌, ℕ, List, None, Some, sym, ap, subst, ◌∙◌}
-use Rattle.std.specs.Option.{option_and_then, option_copied}
-use Rattle.std.specs.Slice.{IsItemAt}
-use Rattle.std.specs.Borrow.{Bor}
-use Rattle.std.proofs.lemmas.Option.{slice_get_past, slice_get-get_or}
-use Rattle.std.specs.Prelude.{slice_get, Option, ℤ}
+use Rattle.std.proofs.Common.{◌≡◌, ℕ, List, sym, ap, subst, ◌∙◌}
+use Rattle.std.specs.Option.{option_and_then}
+use Rattle.std.specs.Prelude.{slice_get}
 use Rattle.std.specs.List.Sorted.{IsBinarySearchResult}
 use Rattle.std.specs.Ordering.{nat_cmp}
-use Rattle.param_tables.proofs.EntryLaws.{given_in-searched}
+use Rattle.param_tables.proofs.EntryLaws.{copied_at, given_in-searched}
 use Rattle.param_tables.proofs.param_table.ParamTable.given_at.Goals as goal
 
 pub returns-in_err-i : goal.returns-in_err-i
@@ -17,10 +14,6 @@ returns-in_err-i c =
     c.from_residual.ensures
     ∙ ap (option_and_then (slice_get table.values.items)) c.in_err-i.ensures.value
     ∙ sym (given_in-searched table.places.items table.values.items c.args.place c.binary_search.result c.requires.ascending c.requires.long found)
-
-copied_at : (xs : List ℤ) (i : ℕ) (r : Option (Bor ℤ)) → IsItemAt xs i r → option_copied r ≡ slice_get xs i
-copied_at xs i None item = sym (slice_get_past xs i item.3)
-copied_at xs i (Some x) item = sym (slice_get-get_or xs i x.now item.3.0 ∙ ap (λ y. Some y) (sym item.1))
 
 pub returns : goal.returns
 returns c =

@@ -1,0 +1,6 @@
+use Rattle.std.proofs.Common.{◌≡◌, map, take}
+use Rattle.param_tables.specs.RatioPlaces.{regrouped}
+use Rattle.param_tables.proofs.ratio_places.grouped_places.Given as goal
+
+abbrev pub invariant-loop-place : goal.invariant-loop-place
+invariant-loop-place l = l.grouped.items ≡ map (regrouped l.sizes) (take l.place-index l.places)

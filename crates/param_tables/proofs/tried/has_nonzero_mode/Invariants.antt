@@ -1,0 +1,6 @@
+use Rattle.std.proofs.Common.{◌≡◌, ℕ, ◌<◌, false}
+use Rattle.param_tables.specs.Ratios.{is_ratio_nonzero}
+use Rattle.param_tables.proofs.tried.has_nonzero_mode.Given as goal
+
+abbrev pub invariant-loop-mode : goal.invariant-loop-mode
+invariant-loop-mode l = (m : ℕ) → m < l.mode → is_ratio_nonzero l.model.facts l.ratio l.region l.technology l.commodity m l.year ≡ false
