@@ -15,3 +15,6 @@ mod variables;
 mod years;
 
 pub use rows::rows_of;
+
+#[cfg(test)]
+mod tests;

@@ -1,6 +1,6 @@
 -- The terms of each equation of capacity adequacy mean it.
-use Rattle.std.proofs.Common.{◌≡◌, ◌≢◌, true, ℕ, ◌-◌, ◌<◌, ◌≤◌, ℤ, pos, neg_ℤ, ◌+ℤ◌, ◌*ℤ◌, ◌∷◌, [], Some, refl, sym, ap, ap₂, ◌∙◌, subst, arith}
-use Rattle.std.specs.Prelude.{◌<ℤ◌, slice_index_or}
+use Rattle.std.proofs.Common.{◌≡◌, true, ℕ, ◌<◌, ℤ, pos, neg_ℤ, ◌+ℤ◌, ◌*ℤ◌, ◌∷◌, [], refl, sym, ap, ap₂, ◌∙◌, subst, arith}
+use Rattle.std.specs.Prelude.{◌<ℤ◌}
 use Rattle.std.proofs.lemmas.Int.{ints}
 use Rattle.exact_num.proofs.Ring.{products, *ℤ_comm, zero-*ℤ, neg_ℤ-*ℤ}
 use Rattle.model_sets.specs.Data.{Data}
@@ -9,11 +9,11 @@ use Rattle.row_core.specs.declared.Index.{Index}
 use Rattle.row_core.specs.declared.RowName.{RowName}
 use Rattle.row_core.specs.declared.Var.{Var}
 use Rattle.row_core.specs.Amounts.{Amount, Whole, Billionths, Product, Negative, value_of_amount}
-use Rattle.row_core.specs.EquationTerms.{EquationTerms, less, each}
+use Rattle.row_core.specs.EquationTerms.{less, each}
 use Rattle.row_core.specs.Values.{IsOver, alone}
 use Rattle.row_core.proofs.SumLaws.{IsOver-times, IsOver-negated, IsOver-multiplied}
 use Rattle.named_equations.specs.Capacity.{years_counting}
-use Rattle.named_equations.specs.Instances.{is_index, subscripts_of, name_at, stands_at, variable_of}
+use Rattle.named_equations.specs.Instances.{is_index, subscripts_of, name_at, stands_at}
 use Rattle.named_equations.specs.Notation.{sum_over, values}
 use Rattle.named_equations.specs.Parameters.{year_split, capacity_to_activity_unit, capacity_factor, availability_factor, residual_capacity}
 use Rattle.named_equations.specs.Positions.{count_of, modes, timeslices}

@@ -8,3 +8,6 @@ mod rows;
 mod variables;
 
 pub use rows::rows_of;
+
+#[cfg(test)]
+mod tests;

@@ -1,10 +1,9 @@
 -- One timeslice after another.
-use Rattle.std.proofs.Common.{◌≡◌, ℕ, ◌+◌, ◌<◌, sym, ap, ap₂, ◌∙◌, subst, Option}
+use Rattle.std.proofs.Common.{ℕ, ◌+◌, ◌<◌, sym, ap, ap₂, ◌∙◌, subst}
 use Rattle.model_sets.specs.Names.{timeslice}
-use Rattle.exact_num.specs.Rational.{Rational}
 use Rattle.row_core.specs.Amounts.{Amount, Billionths, Product}
-use Rattle.row_core.specs.Calculated.{product_of, total_of}
-use Rattle.row_core.proofs.RepeatedLaws.{total_with_rest, total-begin, total-step, total-end}
+use Rattle.row_core.specs.Calculated.{product_of}
+use Rattle.row_core.proofs.RepeatedLaws.{total_with_rest, total-begin, total-step}
 use Rattle.named_equations.specs.Parameters.{capacity_factor, year_split}
 use Rattle.named_equations.specs.Positions.{count_of}
 use Rattle.capacity_rows.proofs.capacity.slices_capacity.Goals as goal

@@ -1,7 +1,7 @@
 -- The sum so far, with the timeslices from here on, is the whole sum.
-use Rattle.std.proofs.Common.{◌≡◌, ℕ}
+use Rattle.std.proofs.Common.{◌≡◌}
 use Rattle.model_sets.specs.Names.{timeslice}
-use Rattle.row_core.specs.Amounts.{Amount, Billionths, Product}
+use Rattle.row_core.specs.Amounts.{Billionths, Product}
 use Rattle.row_core.specs.Calculated.{known, number_of}
 use Rattle.row_core.proofs.RepeatedLaws.{total_with_rest}
 use Rattle.named_equations.specs.Parameters.{capacity_factor, year_split}

@@ -1,5 +1,5 @@
 -- The numerator of a life is its number of years.
-use Rattle.std.proofs.Common.{◌≡◌, ℤ, List, [], ◌∷◌, Option, sym, ap, ◌∙◌, arith, rules}
+use Rattle.std.proofs.Common.{ℤ, [], ◌∷◌, Option, ap, ◌∙◌, rules}
 use Rattle.std.specs.Prelude.{unsigned_abs}
 use Rattle.exact_num.specs.Value.{value_of}
 use Rattle.exact_num.proofs.RangeLaws.{back_in_range}

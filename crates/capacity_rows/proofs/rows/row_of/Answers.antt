@@ -1,6 +1,6 @@
 -- Each number has its equation.
-use Rattle.std.proofs.Common.{◌≡◌, ap, sym, subst, refl, arith, rules}
-use Rattle.row_core.specs.EquationTerms.{EquationTerms, IsWritten}
+use Rattle.std.proofs.Common.{◌≡◌, sym, subst, refl, rules}
+use Rattle.row_core.specs.EquationTerms.{IsWritten}
 use Rattle.capacity_rows.proofs.Meaning.{terms-at, in_sets}
 use Rattle.capacity_rows.proofs.rows.row_of.Goals as goal
 
