@@ -1,0 +1,12 @@
+-- Whether some mode does is decided by those from here on.
+use Rattle.std.proofs.Common.{◌≡◌}
+use Rattle.model_sets.specs.Names.{mode}
+use Rattle.named_equations.specs.Positions.{count_of}
+use Rattle.named_equations.specs.Where.{produces, produces_in_mode}
+use Rattle.limit_rows.proofs.SomePosition.{any_from}
+use Rattle.limit_rows.proofs.conditions.produces.Given as goal
+
+abbrev pub invariant-loop-m : goal.invariant-loop-m
+invariant-loop-m l =
+    (l.m-end ≡ count_of l.facts.facts mode)
+    × (produces l.facts.facts l.r l.t l.f l.y ≡ any_from (λ m. produces_in_mode l.facts.facts l.r l.t l.f m l.y) (count_of l.facts.facts mode) l.m)

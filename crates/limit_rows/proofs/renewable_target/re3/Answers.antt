@@ -1,0 +1,21 @@
+-- One timeslice after another.
+use Rattle.std.proofs.Common.{ℕ, ◌+◌, ◌<◌, List, sym, ap, ◌∙◌, subst}
+use Rattle.model_sets.specs.Names.{timeslice}
+use Rattle.row_core.specs.declared.Var.{Var}
+use Rattle.row_core.specs.Amounts.{Amount}
+use Rattle.named_equations.specs.Positions.{count_of}
+use Rattle.limit_rows.specs.RenewableTarget.{target_production}
+use Rattle.limit_rows.proofs.NestedTerms.{with_rest_of, nested-step}
+use Rattle.limit_rows.proofs.renewable_target.re3.Goals as goal
+
+pub loop-l-preserved : goal.loop-l-preserved
+loop-l-preserved c =
+    let d = c.args.facts.now.facts in
+    let f : ℕ → List (Var × Amount) = λ i. target_production d c.args.name.index.region i c.args.name.index.year in
+    let n = count_of d timeslice in
+    let i = c.loop-l.l in (
+      c.loop-l.invariant.0,
+      c.loop-l.invariant.1
+          ∙ nested-step f n i c.loop-l.left (subst (λ k. i < k) c.loop-l.invariant.0 c.loop-l-test.true)
+          ∙ ap (with_rest_of f n (i + 1)) (sym c.in_ok-add_target_production.ensures),
+    )

@@ -1,0 +1,14 @@
+-- The terms of the timeslices from here on make of the left side what the equation's terms make.
+use Rattle.std.proofs.Common.{◌≡◌}
+use Rattle.model_sets.specs.Names.{timeslice}
+use Rattle.row_core.specs.Calculated.{no_terms, with_amounts}
+use Rattle.named_equations.specs.Positions.{count_of}
+use Rattle.limit_rows.specs.RenewableTarget.{re3, target_production}
+use Rattle.limit_rows.proofs.NestedTerms.{with_rest_of}
+use Rattle.limit_rows.proofs.renewable_target.re3.Given as goal
+
+abbrev pub invariant-loop-l : goal.invariant-loop-l
+invariant-loop-l l =
+    (l.l-end ≡ count_of l.facts.facts timeslice)
+    × (with_amounts (re3 l.facts.facts l.r l.y).terms (no_terms l.fn.name)
+    ≡ with_rest_of (λ i. target_production l.facts.facts l.r i l.y) (count_of l.facts.facts timeslice) l.l l.left)

@@ -1,0 +1,5 @@
+pub mod Limits
+pub mod RenewableTarget
+pub mod ReserveMargin
+pub mod Rows
+pub mod Shapes

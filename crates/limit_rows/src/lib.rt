@@ -1,0 +1,20 @@
+//! The rows of limits, reserve margin and renewable target: equations 43 to 60 of an OSeMOSYS model (Howells et al.,
+//! "OSeMOSYS: The Open Source Energy Modeling System", Energy Policy 39, 2011).
+#![tactic(auto)]
+
+mod activity_limits;
+mod capacity_limits;
+mod conditions;
+mod investment_limits;
+mod parameters;
+mod renewable_target;
+mod reserve_margin;
+mod rows;
+mod sets;
+mod shapes;
+mod variables;
+
+pub use rows::rows_of;
+
+#[cfg(test)]
+mod tests;

@@ -1,0 +1,205 @@
+//! The renewable target: what tagged technologies make, of any fuel, is at least a part of the production of tagged fuels.
+
+ghost use Rattle.std.specs.Prelude.{◌≡◌, OnOk};
+ghost use Rattle.row_core.specs.Amounts.{Billionths, Negative};
+ghost use Rattle.row_core.specs.Calculated.{known, number_of, with_amounts};
+ghost use Rattle.row_core.specs.EquationTerms.{IsWritten};
+ghost use Rattle.row_core.specs.Repeated.{IsTerm, IsTermWhere};
+ghost use Rattle.named_equations.specs.Indices.{by_rtfy, by_ry};
+ghost use Rattle.named_equations.specs.Parameters.{re_tag_technology};
+ghost use Rattle.named_equations.specs.Positions.{technologies, timeslices};
+ghost use Rattle.named_equations.specs.Variables.{production_by_technology_annual, rate_of_production};
+ghost use Rattle.named_equations.specs.Where.{produces};
+ghost use Rattle.named_equations.specs.Within.{IsRegion, IsSlice, IsTechnology, IsFuel, IsYear};
+ghost use Rattle.limit_rows.specs.Shapes.{for_each};
+ghost use Rattle.limit_rows.specs.RenewableTarget.{re1, re2, re3, re4, re5, part_for_target, renewable_production, target_production};
+
+use crate::conditions::produces;
+use crate::parameters::{re_min_production_target, re_tag_fuel, re_tag_technology, year_split};
+use crate::sets::{FUEL, TECHNOLOGY, TIMESLICE};
+use crate::shapes::is_covered;
+use crate::variables::{
+    production_by_technology, production_by_technology_annual, rate_of_production,
+    re_total_production_of_target_fuel_annual, total_re_production_annual, use_by_technology,
+    use_by_technology_annual,
+};
+use exact_num::Frac;
+use param_tables::ModelData;
+use row_core::{
+    Index, LeftSide, Row, RowName, Sense, Stopped, minus_one, negative, one, times, zero,
+};
+use std::alloc::{AllocError, Global};
+
+/// RE1: what a technology makes of a fuel in a year is that of the timeslices.
+pub(crate) fn re1(alloc: Global, facts: &ModelData, name: RowName) -> Result<Row, Stopped>
+    ensures { IsWritten name (by_rtfy (re1 facts.now.facts) name.index) result }
+{
+    let Index {
+        region: r,
+        tech: t,
+        fuel: f,
+        year: y,
+        ..
+    } = name.index;
+    let mut left = LeftSide::new(alloc, name);
+    left.add(production_by_technology_annual(r, t, f, y), one())?;
+    left.add_each(
+        facts.sets().count(TIMESLICE),
+        |l| (production_by_technology(r, l, t, f, y), minus_one()),
+    )?;
+    left.write(alloc, Sense::Equal, zero())
+}
+
+/// RE2: renewable production is what the technologies make of all fuels, times the technology's tag.
+pub(crate) fn re2(alloc: Global, facts: &ModelData, name: RowName) -> Result<Row, Stopped>
+    requires region { IsRegion facts.now.facts name.index.region }
+    requires year { IsYear facts.now.facts name.index.year }
+    ensures { IsWritten name (by_ry (re2 facts.now.facts) name.index) result }
+{
+    let Index {
+        region: r,
+        year: y,
+        ..
+    } = name.index;
+    let mut left = LeftSide::new(alloc, name);
+    left.add(total_re_production_annual(r, y), one())?;
+    for t in 0..facts.sets().count(TECHNOLOGY) {
+        add_renewable_production(&mut left, facts, r, t, y)?;
+    }
+    left.write(alloc, Sense::Equal, zero())
+}
+
+/// Takes away what a technology makes, of each fuel, times the technology's tag.
+fn add_renewable_production(
+    left: &mut LeftSide,
+    facts: &ModelData,
+    r: u16,
+    t: u16,
+    y: u16,
+) -> Result<(), AllocError>
+    requires region { IsRegion facts.now.facts r }
+    requires technology { IsTechnology facts.now.facts t }
+    requires year { IsYear facts.now.facts y }
+    ensures { OnOk result (left.new ≡ with_amounts (renewable_production facts.now.facts r t y) left.old) }
+{
+    left.add_where(
+        facts.sets().count(FUEL),
+        |f|
+            requires region { IsRegion facts.now.facts r }
+            requires technology { IsTechnology facts.now.facts t }
+            requires fuel { IsFuel facts.now.facts f }
+            requires year { IsYear facts.now.facts y }
+            ensures { IsTermWhere (produces facts.entry.now.facts r t f y) (production_by_technology_annual r t f y, Negative (Billionths (re_tag_technology facts.entry.now.facts r t y))) result }
+        {
+            if produces(facts, r, t, f, y) {
+                Some((
+                    production_by_technology_annual(r, t, f, y),
+                    negative(re_tag_technology(facts, r, t, y)),
+                ))
+            } else {
+                None
+            }
+        },
+    )
+}
+
+/// RE3: the production that the target is about is the sum over the timeslices and fuels of the rate of production
+/// times the part of the year times the fuel's tag.
+pub(crate) fn re3(alloc: Global, facts: &ModelData, name: RowName) -> Result<Row, Stopped>
+    requires region { IsRegion facts.now.facts name.index.region }
+    requires year { IsYear facts.now.facts name.index.year }
+    ensures { IsWritten name (by_ry (re3 facts.now.facts) name.index) result }
+{
+    let Index {
+        region: r,
+        year: y,
+        ..
+    } = name.index;
+    let mut left = LeftSide::new(alloc, name);
+    left.add(re_total_production_of_target_fuel_annual(r, y), one())?;
+    for l in 0..facts.sets().count(TIMESLICE) {
+        add_target_production(&mut left, facts, r, l, y)?;
+    }
+    left.write(alloc, Sense::Equal, zero())
+}
+
+/// Takes away what is produced in a timeslice, of each fuel, as far as it counts for the target.
+fn add_target_production(
+    left: &mut LeftSide,
+    facts: &ModelData,
+    r: u16,
+    l: u16,
+    y: u16,
+) -> Result<(), AllocError>
+    requires region { IsRegion facts.now.facts r }
+    requires slice { IsSlice facts.now.facts l }
+    requires year { IsYear facts.now.facts y }
+    ensures { OnOk result (left.new ≡ with_amounts (target_production facts.now.facts r l y) left.old) }
+{
+    left.add_each(
+        facts.sets().count(FUEL),
+        |f|
+            requires region { IsRegion facts.now.facts r }
+            requires slice { IsSlice facts.now.facts l }
+            requires fuel { IsFuel facts.now.facts f }
+            requires year { IsYear facts.now.facts y }
+            ensures { IsTerm (rate_of_production r l f y, Negative (part_for_target facts.entry.now.facts r l f y)) result }
+        {
+            (
+                rate_of_production(r, l, f, y),
+                negative(part_for_target(facts, r, l, f, y)),
+            )
+        },
+    )
+}
+
+/// The part of a rate of production that counts for the target: the part of the year times the fuel's tag.
+fn part_for_target(facts: &ModelData, r: u16, l: u16, f: u16, y: u16) -> Option<Frac>
+    requires region { IsRegion facts.now.facts r }
+    requires slice { IsSlice facts.now.facts l }
+    requires fuel { IsFuel facts.now.facts f }
+    requires year { IsYear facts.now.facts y }
+    ensures { known result ≡ number_of (part_for_target facts.now.facts r l f y) }
+{
+    times(year_split(facts, l, y), re_tag_fuel(facts, r, f, y))
+}
+
+/// RE4: the target's part of that production is at most the renewable production.
+pub(crate) fn re4(alloc: Global, facts: &ModelData, name: RowName) -> Result<Row, Stopped>
+    requires region { IsRegion facts.now.facts name.index.region }
+    requires year { IsYear facts.now.facts name.index.year }
+    ensures { IsWritten name (by_ry (re4 facts.now.facts) name.index) result }
+{
+    let Index {
+        region: r,
+        year: y,
+        ..
+    } = name.index;
+    is_covered(
+        alloc,
+        name,
+        re_total_production_of_target_fuel_annual(r, y),
+        re_min_production_target(facts, r, y),
+        total_re_production_annual(r, y),
+    )
+}
+
+/// RE5: what a technology takes of a fuel in a year is that of the timeslices.
+pub(crate) fn re5(alloc: Global, facts: &ModelData, name: RowName) -> Result<Row, Stopped>
+    ensures { IsWritten name (by_rtfy (re5 facts.now.facts) name.index) result }
+{
+    let Index {
+        region: r,
+        tech: t,
+        fuel: f,
+        year: y,
+        ..
+    } = name.index;
+    let mut left = LeftSide::new(alloc, name);
+    left.add(use_by_technology_annual(r, t, f, y), one())?;
+    left.add_each(
+        facts.sets().count(TIMESLICE),
+        |l| (use_by_technology(r, l, t, f, y), minus_one()),
+    )?;
+    left.write(alloc, Sense::Equal, zero())
+}

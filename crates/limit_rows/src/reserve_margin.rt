@@ -1,0 +1,122 @@
+//! The reserve margin: tagged capacity covers tagged production with a margin, in each timeslice.
+
+ghost use Rattle.std.specs.Prelude.{◌≡◌};
+ghost use Rattle.row_core.specs.Amounts.{Billionths, Negative};
+ghost use Rattle.row_core.specs.Calculated.{known, number_of};
+ghost use Rattle.row_core.specs.EquationTerms.{IsWritten};
+ghost use Rattle.row_core.specs.Repeated.{IsTerm};
+ghost use Rattle.named_equations.specs.Indices.{by_rly, by_ry};
+ghost use Rattle.named_equations.specs.Parameters.{reserve_margin_tag_fuel};
+ghost use Rattle.named_equations.specs.Variables.{rate_of_production, total_capacity_annual};
+ghost use Rattle.named_equations.specs.Within.{IsRegion, IsTechnology, IsFuel, IsYear};
+ghost use Rattle.limit_rows.specs.ReserveMargin.{rm1, rm2, rm3, unit_in_margin};
+
+use crate::parameters::{
+    capacity_to_activity_unit, reserve_margin, reserve_margin_tag_fuel,
+    reserve_margin_tag_technology,
+};
+use crate::sets::{FUEL, TECHNOLOGY};
+use crate::shapes::is_covered;
+use crate::variables::{
+    demand_needing_reserve_margin, rate_of_production, total_capacity_annual,
+    total_capacity_in_reserve_margin,
+};
+use exact_num::Frac;
+use param_tables::ModelData;
+use row_core::{Index, LeftSide, Row, RowName, Sense, Stopped, negative, one, times, zero};
+use std::alloc::Global;
+
+/// RM1: the capacity in the margin is the sum over the technologies of what their capacity adds.
+pub(crate) fn rm1(alloc: Global, facts: &ModelData, name: RowName) -> Result<Row, Stopped>
+    requires region { IsRegion facts.now.facts name.index.region }
+    requires year { IsYear facts.now.facts name.index.year }
+    ensures { IsWritten name (by_ry (rm1 facts.now.facts) name.index) result }
+{
+    let Index {
+        region: r,
+        year: y,
+        ..
+    } = name.index;
+    let mut left = LeftSide::new(alloc, name);
+    left.add(total_capacity_in_reserve_margin(r, y), one())?;
+    left.add_each(
+        facts.sets().count(TECHNOLOGY),
+        |t|
+            requires region { IsRegion facts.now.facts r }
+            requires technology { IsTechnology facts.now.facts t }
+            requires year { IsYear facts.now.facts y }
+            ensures { IsTerm (total_capacity_annual r t y, Negative (unit_in_margin facts.entry.now.facts r t y)) result }
+        {
+            (
+                total_capacity_annual(r, t, y),
+                negative(unit_in_margin(facts, r, t, y)),
+            )
+        },
+    )?;
+    left.write(alloc, Sense::Equal, zero())
+}
+
+/// What a unit of a technology's capacity adds to the margin.
+fn unit_in_margin(facts: &ModelData, r: u16, t: u16, y: u16) -> Option<Frac>
+    requires region { IsRegion facts.now.facts r }
+    requires technology { IsTechnology facts.now.facts t }
+    requires year { IsYear facts.now.facts y }
+    ensures { known result ≡ number_of (unit_in_margin facts.now.facts r t y) }
+{
+    times(
+        reserve_margin_tag_technology(facts, r, t, y),
+        capacity_to_activity_unit(facts, r, t),
+    )
+}
+
+/// RM2: the demand that needs the margin is the sum over the fuels of the rate of production times the fuel's tag.
+pub(crate) fn rm2(alloc: Global, facts: &ModelData, name: RowName) -> Result<Row, Stopped>
+    requires region { IsRegion facts.now.facts name.index.region }
+    requires year { IsYear facts.now.facts name.index.year }
+    ensures { IsWritten name (by_rly (rm2 facts.now.facts) name.index) result }
+{
+    let Index {
+        region: r,
+        slice: l,
+        year: y,
+        ..
+    } = name.index;
+    let mut left = LeftSide::new(alloc, name);
+    left.add(demand_needing_reserve_margin(r, l, y), one())?;
+    left.add_each(
+        facts.sets().count(FUEL),
+        |f|
+            requires region { IsRegion facts.now.facts r }
+            requires fuel { IsFuel facts.now.facts f }
+            requires year { IsYear facts.now.facts y }
+            ensures { IsTerm (rate_of_production r l f y, Negative (Billionths (reserve_margin_tag_fuel facts.entry.now.facts r f y))) result }
+        {
+            (
+                rate_of_production(r, l, f, y),
+                negative(reserve_margin_tag_fuel(facts, r, f, y)),
+            )
+        },
+    )?;
+    left.write(alloc, Sense::Equal, zero())
+}
+
+/// RM3: the demand that needs the margin, times the margin, is at most the capacity in the margin.
+pub(crate) fn rm3(alloc: Global, facts: &ModelData, name: RowName) -> Result<Row, Stopped>
+    requires region { IsRegion facts.now.facts name.index.region }
+    requires year { IsYear facts.now.facts name.index.year }
+    ensures { IsWritten name (by_rly (rm3 facts.now.facts) name.index) result }
+{
+    let Index {
+        region: r,
+        slice: l,
+        year: y,
+        ..
+    } = name.index;
+    is_covered(
+        alloc,
+        name,
+        demand_needing_reserve_margin(r, l, y),
+        reserve_margin(facts, r, y),
+        total_capacity_in_reserve_margin(r, y),
+    )
+}

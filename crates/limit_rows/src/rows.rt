@@ -1,0 +1,105 @@
+//! The row of an equation at an index.
+
+ghost use Rattle.std.specs.Prelude.{◌≡◌, true, is_some, IfOk, IfErr, IfSome, not, ◌||◌};
+ghost use Rattle.exact_num.specs.Range.{all_fit};
+ghost use Rattle.row_core.specs.declared.place.Place.{Place};
+ghost use Rattle.row_core.specs.EquationTerms.{IsWritten, equation_formed};
+ghost use Rattle.row_core.specs.Stops.{IsStop};
+ghost use Rattle.named_equations.specs.Instances.{is_index, name_at, stands_at, subscripts_of};
+ghost use Rattle.named_equations.specs.RowMeaning.{IsNamedRow};
+ghost use Rattle.limit_rows.specs.Rows.{IsLimitEquation, terms_at};
+
+use crate::activity_limits::{
+    aac1, aac2, aac3, has_aac2, has_aac3, has_tac2, has_tac3, tac1, tac2, tac3,
+};
+use crate::capacity_limits::{has_tcc1, has_tcc2, tcc1, tcc2};
+use crate::conditions::{produces, uses};
+use crate::investment_limits::{has_ncc1, has_ncc2, ncc1, ncc2};
+use crate::renewable_target::{re1, re2, re3, re4, re5};
+use crate::reserve_margin::{rm1, rm2, rm3};
+use param_tables::ModelData;
+use row_core::{Index, Row, RowName, Stopped};
+use std::alloc::Global;
+
+/// The row of a limit, of the reserve margin or of the renewable target with this number (43 TCC1 to 52 TAC3, 53 RM1
+/// to 55 RM3, 56 RE1 to 60 RE5) at the index: what its equation says, written with whole numbers and without common
+/// divisor. A definition has its variable with a positive entry, an inequality is its left side less its right side.
+/// `None` comes exactly where the equation has no instance: at a greatest value of -1 (TCC1, NCC1, AAC2), at one of the
+/// model period that isn't above 0 (TAC2), at a least value of 0 (TCC2, NCC2, AAC3, TAC3), and where the technology
+/// doesn't make the fuel (RE1) or take it (RE5).
+///
+/// Coefficients are made by multiplying and adding from left to right, those of one variable are added, and
+/// denominators are cleared. `Width` with the row's name comes exactly where there is an instance and a number
+/// that this forms lies outside the range from `-(2^127 - 1)` to `2^127 - 1`.
+pub fn rows_of(alloc: Global, facts: &ModelData, eq: u8, at: Index) -> Result<Option<Row>, Stopped>
+    requires equation { IsLimitEquation eq }
+    requires index { is_index facts.now.facts (subscripts_of eq) at ≡ true }
+    ensures instance { IfOk result (λ found. is_some found ≡ stands_at facts.now.facts eq at) }
+    ensures row { IfOk result (λ found. IfSome found (IsNamedRow facts.now.facts (name_at eq at) (terms_at facts.now.facts (name_at eq at)))) }
+    ensures fits { IfOk result (λ found. IfSome found (λ row. all_fit (equation_formed (terms_at facts.now.facts (name_at eq at))) ≡ true)) }
+    ensures stopped { IfErr result (IsStop (Place.Row (name_at eq at)) (not (stands_at facts.now.facts eq at) || all_fit (equation_formed (terms_at facts.now.facts (name_at eq at))))) }
+{
+    if !stands(facts, eq, at) {
+        return Ok(None);
+    }
+    match row_of(alloc, facts, RowName { eq, index: at }) {
+        Ok(row) => Ok(Some(row)),
+        Err(stopped) => Err(stopped),
+    }
+}
+
+/// Whether the equation has an instance at the index.
+fn stands(facts: &ModelData, eq: u8, at: Index) -> bool
+    requires equation { IsLimitEquation eq }
+    requires index { is_index facts.now.facts (subscripts_of eq) at ≡ true }
+    ensures { result ≡ stands_at facts.now.facts eq at }
+{
+    let Index {
+        region: r,
+        tech: t,
+        fuel: f,
+        year: y,
+        ..
+    } = at;
+    match eq {
+        43 => has_tcc1(facts, r, t, y),
+        44 => has_tcc2(facts, r, t, y),
+        45 => has_ncc1(facts, r, t, y),
+        46 => has_ncc2(facts, r, t, y),
+        48 => has_aac2(facts, r, t, y),
+        49 => has_aac3(facts, r, t, y),
+        51 => has_tac2(facts, r, t),
+        52 => has_tac3(facts, r, t),
+        56 => produces(facts, r, t, f, y),
+        60 => uses(facts, r, t, f, y),
+        _ => true,
+    }
+}
+
+/// The row of the equation of this name.
+fn row_of(alloc: Global, facts: &ModelData, name: RowName) -> Result<Row, Stopped>
+    requires equation { IsLimitEquation name.eq }
+    requires index { is_index facts.now.facts (subscripts_of name.eq) name.index ≡ true }
+    ensures { IsWritten name (terms_at facts.now.facts name) result }
+{
+    match name.eq {
+        43 => tcc1(alloc, facts, name),
+        44 => tcc2(alloc, facts, name),
+        45 => ncc1(alloc, facts, name),
+        46 => ncc2(alloc, facts, name),
+        47 => aac1(alloc, facts, name),
+        48 => aac2(alloc, facts, name),
+        49 => aac3(alloc, facts, name),
+        50 => tac1(alloc, facts, name),
+        51 => tac2(alloc, facts, name),
+        52 => tac3(alloc, facts, name),
+        53 => rm1(alloc, facts, name),
+        54 => rm2(alloc, facts, name),
+        55 => rm3(alloc, facts, name),
+        56 => re1(alloc, facts, name),
+        57 => re2(alloc, facts, name),
+        58 => re3(alloc, facts, name),
+        59 => re4(alloc, facts, name),
+        _ => re5(alloc, facts, name),
+    }
+}
