@@ -7,7 +7,7 @@ use Rattle.named_equations.specs.Indices.{index}
 use Rattle.named_equations.specs.Instances.{name_at}
 use Rattle.param_tables.specs.Refusals.{StorageMember, UnknownName, GivenBefore, TooManyIndices, AtIndex}
 use Rattle.param_tables.specs.declared.fault.CellFault.TheVariants.{NoValue, OutOfRange, WholeUnits}
-use Rattle.osemosys_run.specs.Due.{width_line}
+use Rattle.osemosys_run.specs.Due.{entries_line, width_line}
 use Rattle.osemosys_run.specs.RefusalLines.{text_line, set_line, data_line}
 
 text_fault : text_line 9 (record { line = 12; column = 3 }) ≡ codes "refused line 12 column 3 RowTooShort\n"
@@ -56,3 +56,6 @@ two_regions =
 
 wide_row : width_line two_regions (name_at 3 (index 1 0 0 0 0 0 0 0)) ≡ codes "uncertified width row CAa2[B,T,2020]\n"
 wide_row = refl
+
+too_many_entries : entries_line ≡ codes "refused too many entries\n"
+too_many_entries = refl

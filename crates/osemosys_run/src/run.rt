@@ -24,8 +24,9 @@ const FILE: u8 = 1;
 /// Runs the program on the words behind its name: reads the files that they name from the shelf, and
 /// writes the text that is due into the sink.
 ///
-/// `mps FILE` writes the equations CAa1 and CAa2 of a data file of GNU MathProg as free MPS. Where the
-/// words, the file or what it says is refused, or a number of a row leaves 128 bits, one line says why.
+/// `mps FILE` writes the equations that are built of a data file of GNU MathProg as free MPS. Where the
+/// words, the file or what it says is refused, a number of a row leaves 128 bits, or the rows have too many
+/// entries, one line says why.
 /// Want of memory may come anywhere; then nothing is written.
 pub fn osemosys<S: Shelf, K: Sink>(
     alloc: Global,

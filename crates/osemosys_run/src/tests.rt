@@ -1,5 +1,8 @@
 // Calls of the program over files and text in memory.
+mod base_lines;
+
 use crate::{ReadStop, Status, WordFault, osemosys};
+use base_lines::BASE_LINES;
 use io_edges::{MemShelf, MemSink};
 use std::alloc::Global;
 use std::test::Fail;
@@ -59,14 +62,6 @@ const BASE: [&[u8]; 51] = [
     b"end;",
 ];
 
-/// The MPS text of its capacity equations, worked out by hand.
-const BASE_TEXT: &[u8] =
-    b"NAME OSEMOSYS\nROWS\n N COST\n* CAa1[R,T,2020]\n E R1\n* CAa2[R,T,2020]\n E R2\nCOLUMNS\n* NewCapacity[R,T,2020]\n C1 R1 -1\n* AccumulatedNewCapacity[R,T,2020]\n C2 R1 1\n C2 R2 -1\n* TotalCapacityAnnual[R,T,2020]\n C3 R2 1\nRHS\nENDATA\n";
-
-/// The same where half a unit of capacity stands already: 2 TotalCapacityAnnual - 2 AccumulatedNewCapacity = 1.
-const HALF_TEXT: &[u8] =
-    b"NAME OSEMOSYS\nROWS\n N COST\n* CAa1[R,T,2020]\n E R1\n* CAa2[R,T,2020]\n E R2\nCOLUMNS\n* NewCapacity[R,T,2020]\n C1 R1 -1\n* AccumulatedNewCapacity[R,T,2020]\n C2 R1 1\n C2 R2 -2\n* TotalCapacityAnnual[R,T,2020]\n C3 R2 2\nRHS\n RHS R2 1\nENDATA\n";
-
 /// The places of some statements among those of the model.
 const DATA: usize = 0;
 
@@ -83,6 +78,12 @@ const YEAR_SPLIT: usize = 12;
 const DISCOUNT_RATE: usize = 13;
 
 const SPECIFIED_DEMAND_PROFILE: usize = 17;
+
+const CAPACITY_TO_ACTIVITY_UNIT: usize = 19;
+
+const CAPACITY_FACTOR: usize = 20;
+
+const AVAILABILITY_FACTOR: usize = 21;
 
 const OPERATIONAL_LIFE: usize = 22;
 
@@ -120,6 +121,40 @@ fn model_with(alloc: Global, place: usize, statement: &[u8]) -> Result<Vec<u8>, 
     Ok(text)
 }
 
+// The statements of the model with others at these places, as a text.
+fn model_with_all(alloc: Global, others: &[(usize, &[u8])]) -> Result<Vec<u8>, Fail> {
+    let mut text = Vec::new(alloc);
+    for (i, own) in BASE.iter().enumerate() {
+        let other = others.iter().find(|(place, _)| *place == i);
+        text.extend_from_slice(match other {
+            Some((_, statement)) => *statement,
+            None => *own,
+        })?;
+        text.push(b'\n')?;
+    }
+    Ok(text)
+}
+
+// The MPS text of the model.
+fn base_text(alloc: Global) -> Result<Vec<u8>, Fail> {
+    let mut text = Vec::new(alloc);
+    for line in BASE_LINES {
+        text.extend_from_slice(line)?;
+        text.push(b'\n')?;
+    }
+    Ok(text)
+}
+
+// Whether the text has this line.
+fn has_line(text: &[u8], line: &[u8]) -> bool {
+    for own in text.split(|byte| *byte == b'\n') {
+        if own == line {
+            return true;
+        }
+    }
+    false
+}
+
 // The model.
 fn model(alloc: Global) -> Result<Vec<u8>, Fail> {
     model_with(alloc, DATA, BASE[DATA])
@@ -135,7 +170,7 @@ fn call(
     let words = words_of(alloc, words)?;
     let mut shelf = MemShelf::new(alloc, failing)?;
     shelf.put("model.dat", text)?;
-    let mut out = MemSink::new(alloc, 1000, &[])?;
+    let mut out = MemSink::new(alloc, 2000, &[])?;
     let status = osemosys(alloc, &words, &mut shelf, &mut out);
     Ok((status, out))
 }
@@ -200,18 +235,50 @@ fn the_model_gives_its_rows(rt: HostRuntime) -> Result<(), Fail> {
     ] {
         let (status, out) = call(rt.alloc(), words, &text, &[])?;
         assert_eq!(rt; status.code(), 0);
-        assert_eq!(rt; out.bytes(), BASE_TEXT);
+        assert_eq!(rt; out.bytes(), base_text(rt.alloc())?.as_slice());
     }
     Ok(())
 }
 
+// 2 TotalCapacityAnnual - 2 AccumulatedNewCapacity = 1
 #[test]
 fn a_capacity_of_a_half_gives_whole_numbers_in_lowest_terms(rt: HostRuntime) -> Result<(), Fail> {
     let statement = b"param ResidualCapacity default 0.5 := ;";
     let text = model_with(rt.alloc(), RESIDUAL_CAPACITY, statement)?;
     let (status, out) = call(rt.alloc(), &["mps", "model.dat"], &text, &[])?;
     assert_eq!(rt; status.code(), 0);
-    assert_eq!(rt; out.bytes(), HALF_TEXT);
+    let lines: [&[u8]; 3] = [b" C5 R3 -2", b" C6 R3 2", b" RHS R3 1"];
+    for line in lines {
+        assert!(rt; has_line(out.bytes(), line));
+    }
+    Ok(())
+}
+
+// The product of the four numbers of CAb1 leaves 128 bits; those of the rows in front of it don't.
+#[test]
+fn a_number_that_leaves_128_bits_is_told_by_its_row(rt: HostRuntime) -> Result<(), Fail> {
+    let others: [(usize, &[u8]); 4] = [
+        (YEAR_SPLIT, b"param YearSplit default 0.999999999 := ;"),
+        (
+            CAPACITY_TO_ACTIVITY_UNIT,
+            b"param CapacityToActivityUnit default 999999999999999.999999999 := ;",
+        ),
+        (
+            CAPACITY_FACTOR,
+            b"param CapacityFactor default 0.999999999 := ;",
+        ),
+        (
+            AVAILABILITY_FACTOR,
+            b"param AvailabilityFactor default 0.999999999 := ;",
+        ),
+    ];
+    let text = model_with_all(rt.alloc(), &others)?;
+    let (status, out) = call(rt.alloc(), &["mps", "model.dat"], &text, &[])?;
+    assert_eq!(rt; status.code(), 3);
+    assert_eq!(rt;
+        out.bytes(),
+        b"uncertified width row CAb1[R,T,2020]\n".as_slice()
+    );
     Ok(())
 }
 
@@ -374,7 +441,7 @@ fn a_file_of_64_mib_is_read_and_one_byte_more_is_too_long(rt: HostRuntime) -> Re
     text.resize(MOST, b' ')?;
     let (status, out) = call(alloc, &["mps", "model.dat"], &text, &[])?;
     assert_eq!(rt; status.code(), 0);
-    assert_eq!(rt; out.bytes(), BASE_TEXT);
+    assert_eq!(rt; out.bytes(), base_text(rt.alloc())?.as_slice());
     text.push(b' ')?;
     let (status, out) = call(alloc, &["mps", "model.dat"], &text, &[])?;
     assert_eq!(rt; status.code(), 4);
