@@ -12,6 +12,7 @@ pub mod Ranges
 pub mod RatioCells
 pub mod Regions
 pub mod RowsAddedLaws
+pub mod StopLaws
 pub mod Subscripts
 pub mod TermVariables
 pub mod Triangles

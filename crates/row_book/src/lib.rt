@@ -8,6 +8,7 @@ mod cells;
 mod defined;
 mod fail;
 mod instance_row;
+mod laws;
 mod made_rows;
 mod ratios;
 mod rows;
@@ -16,6 +17,7 @@ mod walk;
 
 pub use book::RowBook;
 pub use fail::BookFail;
+pub use laws::stop_laws;
 
 #[cfg(test)]
 mod tests;
