@@ -34,3 +34,11 @@ printable_is_no_line_feed byte e = no_line_feed (is_line_feed byte) byte refl e
     no_line_feed : (b : Bool) (byte : ℕ) → is_line_feed byte ≡ b → is_printable byte ≡ true → b ≡ false
     no_line_feed false byte e h = refl
     no_line_feed true byte e h = let at_10 : is_printable 10 ≡ true = subst (λ n. is_printable n ≡ true) (eqb-true byte 10 e) h in cc
+
+-- a byte of bare symbols ends no line
+pub symbol_is_no_line_feed : (byte : ℕ) → is_symbol_byte byte ≡ true → is_line_feed byte ≡ false
+symbol_is_no_line_feed byte e = no_line_feed (is_line_feed byte) byte refl e
+  where
+    no_line_feed : (b : Bool) (byte : ℕ) → is_line_feed byte ≡ b → is_symbol_byte byte ≡ true → b ≡ false
+    no_line_feed false byte e h = refl
+    no_line_feed true byte e h = let at_10 : is_symbol_byte 10 ≡ true = subst (λ n. is_symbol_byte n ≡ true) (eqb-true byte 10 e) h in cc

@@ -5,7 +5,7 @@ use Rattle.mathprog_data.specs.declared.lexer.pending.Pending.{Pending}
 use Rattle.mathprog_data.specs.declared.lexer.pending.Pending.TheVariants as pendings
 use Rattle.mathprog_data.specs.Places.{is_line_feed}
 use Rattle.mathprog_data.specs.LexingBytes.{is_separator, is_symbol_byte}
-use Rattle.mathprog_data.specs.LexingMachine.{State, quiet, passed, in_comment}
+use Rattle.mathprog_data.specs.LexingMachine.{State, quiet, passed, begun, in_comment}
 use Rattle.mathprog_data.specs.LexingRuns.{run}
 use Rattle.mathprog_data.proofs.LexingByteLemmas.{separator_is_no_symbol}
 
@@ -39,3 +39,23 @@ quiet_in (pendings.Quote quote) s byte bytes p e = cc
 -- past a quiet byte what is seen is what is seen of the rest
 pub run_quiet : (s : State) (byte : ℕ) (bytes : List ℕ) (p : Pending) → quiet s.pending byte ≡ Some p → run s (byte ∷ bytes) ≡ run (passed s byte p) bytes
 run_quiet s byte bytes p e = quiet_in s.pending s byte bytes p e
+
+begun_in : (pending : Pending) (s : State) (byte : ℕ) (bytes : List ℕ) → pending ≡ pendings.Gap → is_symbol_byte byte ≡ true → run (record s { pending = pending }) (byte ∷ bytes) ≡ run (begun s byte pendings.Bare) bytes
+unfolding run
+begun_in pendings.Gap s byte bytes gap symbol = rw symbol refl
+begun_in pendings.Bare s byte bytes gap symbol = cc
+begun_in pendings.LineComment s byte bytes gap symbol = cc
+begun_in pendings.BlockComment s byte bytes gap symbol = cc
+begun_in pendings.Slash s byte bytes gap symbol = cc
+begun_in pendings.Star s byte bytes gap symbol = cc
+begun_in pendings.Colon s byte bytes gap symbol = cc
+begun_in (pendings.Quoted quote) s byte bytes gap symbol = cc
+begun_in (pendings.Quote quote) s byte bytes gap symbol = cc
+
+-- the same past the first byte of a bare symbol
+pub run_begun : (s : State) (byte : ℕ) (bytes : List ℕ) → s.pending ≡ pendings.Gap → is_symbol_byte byte ≡ true → run s (byte ∷ bytes) ≡ run (begun s byte pendings.Bare) bytes
+run_begun s byte bytes gap symbol = begun_in s.pending s byte bytes gap symbol
+
+-- and past a byte with which one goes on
+pub run_symbol : (s : State) (byte : ℕ) (bytes : List ℕ) → s.pending ≡ pendings.Bare → is_symbol_byte byte ≡ true → run s (byte ∷ bytes) ≡ run (passed s byte s.pending) bytes
+run_symbol s byte bytes bare symbol = run_quiet s byte bytes s.pending (rw (bare, symbol) refl)

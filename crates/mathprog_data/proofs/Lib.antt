@@ -33,6 +33,7 @@ pub mod SaneSound
 pub mod SectionMeans
 pub mod SectionsSound
 pub mod SectionsTaken
+pub mod SliceLemmas
 mod StatementExamples
 pub mod StatementFaultLaws
 mod StatementLawsHold

@@ -1,5 +1,5 @@
 -- What lists of tokens mean, and which fault they have, computed on examples, with near misses.
-use Rattle.std.proofs.Common.{◌≡◌, ℕ, ℤ, pos, true, false, List, [], ◌∷◌, Option, Some, None, Result, Ok, Err, length, arith, refl, ap}
+use Rattle.std.proofs.Common.{◌≡◌, ℕ, ℤ, pos, List, [], ◌∷◌, Option, Some, None, length, arith, refl, ap}
 use Rattle.std.specs.Prelude.{codes}
 use Rattle.scaled_decimals.specs.DecimalReading.{numerator, denominator}
 use Rattle.scaled_decimals.specs.Digits.{number_of}
@@ -7,13 +7,11 @@ use Rattle.mathprog_data.specs.declared.blocks.Mark.{Mark}
 use Rattle.mathprog_data.specs.declared.lexeme.Sign.TheVariants as signs
 use Rattle.mathprog_data.specs.Faults.{unexpected, unknown_name, given_twice, wrong_slice, row_too_short, bad_number, tabbing}
 use Rattle.mathprog_data.specs.Lexemes.{Lexeme, Sign, Bare, Quoted, Placed}
-use Rattle.mathprog_data.specs.MachineRuns.{run}
-use Rattle.mathprog_data.specs.MachineSteps.{beginning}
 use Rattle.mathprog_data.specs.Meaning.{SetBlock, ParamBlock, GivenValue, Blocks, Means}
 use Rattle.mathprog_data.specs.NumberReading.{reading}
 use Rattle.mathprog_data.specs.StatementFaults.{FaultIn, EndsTooSoon}
 use Rattle.mathprog_data.proofs.GoodLists.{ends-means}
-use Rattle.mathprog_data.proofs.Verdicts.{stopped-fault, unfinished-soon, one_meaning, one_fault, means-faultless}
+use Rattle.mathprog_data.proofs.Verdicts.{stopped-fault, unfinished-soon, one_meaning, means-faultless}
 
 abbrev mark : ℕ → ℕ → Mark
 mark line column = record { line = line; column = column }

@@ -12,6 +12,7 @@ pub mod MachineStates
 pub mod MachineSteps
 pub mod MachineViews
 pub mod Meaning
+pub mod NameView
 pub mod NumberReading
 pub mod ParamTables
 pub mod Params

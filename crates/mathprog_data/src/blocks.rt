@@ -1,9 +1,10 @@
 //! What a data section says: the members of its sets, and the defaults and values of its parameters.
 
-ghost use Rattle.std.specs.Prelude.{◌≡◌, IfOk};
+ghost use Rattle.std.specs.Prelude.{◌≡◌, ◌≤◌, IfOk, [], length, take};
 
 use std::alloc::{AllocError, Global};
 use std::marker::Model;
+use std::mem::size_of;
 
 /// A place in the text: line and column, both counted from 1. Columns count bytes, a tab as one.
 #[derive(Clone, Copy, Debug, PartialEq, Eq)]
@@ -12,40 +13,95 @@ pub struct Mark {
     pub column: u32,
 }
 
+/// How many bytes of a name stand in the name itself. A longer one has memory of its own.
+const SHORT: usize = 22;
+
+/// A name of 22 bytes at most, in the first places of the array.
+#[derive(Clone, Copy)]
+struct ShortName {
+    length: u8,
+    bytes: [u8; 22],
+    ghost fits: { length ≤ 22 },
+}
+
+/// How a name is kept. Nearly all names of a model are short, and a large data section has millions of them:
+/// those need no memory of their own.
+#[derive(Drop)]
+enum Kept {
+    Short(ShortName),
+    /// In a box, since a `Vec` in its place would make every name larger.
+    Long(Box<Vec<u8>>),
+}
+
 /// The name of a member, as bytes. A bare symbol of digits only names the digits without leading zeros,
 /// any other symbol its bytes, a quoted one those between its quotes, where a doubled quote stands for one.
 #[derive(Drop)]
-pub struct Name(Vec<u8>);
+pub struct Name(Kept);
+
+const _: () = prove!(size_of::<Name>() == 24);
 
 impl Model for Name {
     ghost use Rattle.std.specs.Prelude.{ℕ, List};
+    ghost use Rattle.mathprog_data.specs.NameView.{kept_bytes};
 
     ghost Value = { List ℕ };
 
-    ghost view = { λ name. name.0.items };
+    ghost view = { λ name. kept_bytes name.0 };
 }
 
 impl Name {
-    /// The name of these bytes.
-    pub(crate) fn new(bytes: Vec<u8>) -> Name
-        ensures { result ≡ bytes.items }
+    /// The name without bytes.
+    pub(crate) fn empty() -> Name
+        ensures { result ≡ [] }
     {
-        Name(bytes)
+        Name(Kept::Short(ShortName {
+            length: 0,
+            bytes: [0; 22],
+        }))
+    }
+
+    /// The name of these bytes.
+    pub(crate) fn from_slice(alloc: Global, bytes: &[u8]) -> Result<Name, AllocError>
+        ensures { IfOk result (λ name. name ≡ bytes.now) }
+    {
+        if bytes.len() <= SHORT {
+            return Ok(Name(Kept::Short(short_name(bytes))));
+        }
+        let long = Box::new(alloc, Vec::from_slice(alloc, bytes)?)?;
+        Ok(Name(Kept::Long(long)))
     }
 
     /// A second name of the same bytes.
     pub(crate) fn copy(&self, alloc: Global) -> Result<Name, AllocError>
         ensures { IfOk result (λ name. name ≡ self.now) }
     {
-        let bytes = Vec::from_slice(alloc, self.0.as_slice())?;
-        Ok(Name(bytes))
+        match &self.0 {
+            Kept::Short(short) => Ok(Name(Kept::Short(*short))),
+            Kept::Long(long) => Name::from_slice(alloc, long.as_slice()),
+        }
     }
 
     /// The bytes of the name.
     pub fn bytes(&self) -> &[u8]
         ensures { result.now ≡ self.now }
     {
-        self.0.as_slice()
+        match &self.0 {
+            Kept::Short(short) => &short.bytes[..short.length as usize],
+            Kept::Long(long) => long.as_slice(),
+        }
+    }
+}
+
+/// The short name of these bytes.
+fn short_name(bytes: &[u8]) -> ShortName
+    requires { length bytes.now ≤ 22 }
+    ensures { take result.length result.bytes ≡ bytes.now }
+{
+    let mut places = [0; 22];
+    places[..bytes.len()].copy_from_slice(bytes);
+    ShortName {
+        length: bytes.len() as u8,
+        bytes: places,
     }
 }
 
@@ -54,12 +110,14 @@ impl Name {
 pub struct Given {
     /// The names of the members, one for each subscript, in the order of the subscripts.
     pub index: Vec<Name>,
-    /// The value in billionths.
-    pub value: i128,
     /// In a table the place of the row's symbol. Else the place of the first subscript that no slice fixes,
     /// or that of the value where every subscript is fixed.
     pub at: Mark,
+    /// The value in billionths.
+    pub value: i128,
 }
+
+const _: () = prove!(size_of::<Given>() == 48);
 
 /// What a statement says of a set.
 #[derive(Drop)]

@@ -5,6 +5,7 @@ mod pending;
 
 ghost use Rattle.std.specs.Prelude.{◌≡◌, ◌+◌, ◌<◌, ◌≤◌, ◌∷◌, ℕ, List, true, false};
 ghost use Rattle.mathprog_data.specs.LexingRuns.{run};
+ghost use Rattle.mathprog_data.specs.LexingBytes.{is_symbol_byte};
 ghost use Rattle.mathprog_data.specs.LexingMachine.{least_length, least_span, IsWithin, next_mark};
 
 use crate::blocks::Mark;
@@ -109,9 +110,26 @@ impl Lexer {
         }
     }
 
-    /// Goes past the byte, where it ends nothing, begins nothing and makes nothing whole, and says whether it did.
+    /// Goes past the byte, where it ends nothing and makes nothing whole, and says whether it did.
     #[inline]
     pub(crate) fn pass_over(&mut self, byte: u8) -> bool
+        requires { self.old.place < 67108864 }
+        ensures passes { result ≡ true → (bytes : List ℕ) → run self.old (byte ∷ bytes) ≡ run self.new bytes }
+        ensures place { result ≡ true → self.new.place ≡ self.old.place + 1 }
+        ensures mark { result ≡ true → self.new.mark ≡ next_mark self.old.mark byte }
+        ensures kept { result ≡ false → self.new ≡ self.old }
+    {
+        match self.pending {
+            Pending::Bare if is_symbol_byte(byte) => self.pass_symbol_byte(byte),
+            Pending::Gap if is_symbol_byte(byte) => self.begin(byte, Pending::Bare),
+            _ => return self.pass_quiet(byte),
+        }
+        true
+    }
+
+    /// Goes past the byte, where it ends nothing, begins nothing and makes nothing whole, and says whether it did.
+    #[inline]
+    fn pass_quiet(&mut self, byte: u8) -> bool
         requires { self.old.place < 67108864 }
         ensures passes { result ≡ true → (bytes : List ℕ) → run self.old (byte ∷ bytes) ≡ run self.new bytes }
         ensures place { result ≡ true → self.new.place ≡ self.old.place + 1 }
@@ -125,6 +143,17 @@ impl Lexer {
             }
             None => false,
         }
+    }
+
+    /// Goes past a byte of bare symbols, which ends no line.
+    #[inline]
+    fn pass_symbol_byte(&mut self, byte: u8)
+        requires symbol { is_symbol_byte byte ≡ true }
+        requires room { self.old.place < 67108864 }
+        ensures { self.new ≡ passed self.old byte self.old.pending }
+    {
+        self.mark.column += 1;
+        self.place += 1;
     }
 
     /// What this byte ends. The byte isn't taken yet.

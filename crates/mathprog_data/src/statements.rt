@@ -128,7 +128,7 @@ impl StatementReader {
             left: 0,
             columns: Vec::new(alloc),
             transposed: false,
-            row: Name::new(Vec::new(alloc)),
+            row: Name::empty(),
             cells: 0,
             draft: Draft::new(alloc),
         }

@@ -42,8 +42,8 @@ impl StatementReader {
             Seen::Empty => Ok(Some(UNEXPECTED)),
             Seen::Symbol(symbol) => {
                 self.mark = at;
-                self.names = Vec::new(self.alloc);
                 self.left = free_count(&self.slice);
+                self.names = Vec::with_capacity(self.alloc, self.left)?;
                 self.plain(symbol)
             }
         }

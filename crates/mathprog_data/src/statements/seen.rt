@@ -126,13 +126,10 @@ impl Symbol<'_> {
         ensures { IfOk result (λ name. name ≡ name_in self.now) }
     {
         match self.quote {
-            None => {
-                let bytes = Vec::from_slice(alloc, bare_name(self.bytes))?;
-                Ok(Name::new(bytes))
-            }
+            None => Name::from_slice(alloc, bare_name(self.bytes)),
             Some(quote) => {
                 let bytes = undoubled(alloc, quote, self.bytes)?;
-                Ok(Name::new(bytes))
+                Name::from_slice(alloc, bytes.as_slice())
             }
         }
     }

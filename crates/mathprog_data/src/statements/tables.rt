@@ -9,7 +9,7 @@ ghost use Rattle.mathprog_data.specs.SymbolViews.{seen_view, word_in, number_in}
 ghost use Rattle.mathprog_data.specs.Tables.{given, cell_index};
 
 use super::seen::{Seen, Symbol};
-use super::slices::{free_count, index_at};
+use super::slices::{free_count, index_of_two};
 use super::{State, StatementReader};
 use crate::blocks::{Mark, Name};
 use crate::fault::{BAD_NUMBER, ROW_TOO_SHORT, UNEXPECTED, WRONG_SLICE};
@@ -33,10 +33,7 @@ fn cell_index(
     } else {
         (row, column)
     };
-    let mut names = Vec::with_capacity(alloc, 2)?;
-    names.push(first.copy(alloc)?)?;
-    names.push(second.copy(alloc)?)?;
-    index_at(alloc, slice, names)
+    index_of_two(alloc, slice, first, second)
 }
 
 impl StatementReader {

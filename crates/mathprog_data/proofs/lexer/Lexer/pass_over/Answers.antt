@@ -1,11 +1,18 @@
-use Rattle.std.proofs.Common.{◌≡◌, Some, ap, ◌∙◌, sym}
-use Rattle.mathprog_data.specs.LexingMachine.{quiet}
+use Rattle.std.proofs.Common.{◌≡◌, true, ap, ◌∙◌, rules, sym}
+use Rattle.mathprog_data.specs.declared.lexer.pending.Pending.TheVariants as pendings
+use Rattle.mathprog_data.specs.LexingBytes.{is_symbol_byte}
 use Rattle.mathprog_data.specs.LexingRuns.{run}
-use Rattle.mathprog_data.proofs.LexingQuiet.{run_quiet}
+use Rattle.mathprog_data.proofs.LexingQuiet.{run_begun, run_symbol}
 use Rattle.mathprog_data.proofs.lexer.Lexer.pass_over.Goals as goal
 
-pub returns-in-Some-clause-passes : goal.returns-in-Some-clause-passes
-returns-in-Some-clause-passes c r bytes =
-    let found : quiet c.args.self.now.pending c.args.byte ≡ Some c.in-Some.pending =
-    ap (λ s. quiet s.pending c.args.byte) (sym c.self.view_is) ∙ sym c.quiet.ensures.value ∙ c.in-Some.is in
-    run_quiet c.args.self.now c.args.byte bytes c.in-Some.pending found ∙ ap (λ s. run s bytes) (sym c.pass.ensures)
+pub returns-in-Bare-clause-passes : goal.returns-in-Bare-clause-passes
+returns-in-Bare-clause-passes c r bytes =
+    let bare : c.args.self.now.pending ≡ pendings.Bare = ap (λ s. s.pending) (sym c.self.view_is) ∙ c.in-Bare.is in
+    let symbol : is_symbol_byte c.args.byte ≡ true = sym c.is_symbol_byte.ensures ∙ c.if-is_symbol_byte.true in
+    run_symbol c.args.self.now c.args.byte bytes bare symbol ∙ ap (λ s. run s bytes) (sym c.pass_symbol_byte.ensures)
+
+pub returns-in-Gap-clause-passes : goal.returns-in-Gap-clause-passes
+returns-in-Gap-clause-passes c r bytes =
+    let gap : c.args.self.now.pending ≡ pendings.Gap = ap (λ s. s.pending) (sym c.self.view_is) ∙ c.in-Gap.is in
+    let symbol : is_symbol_byte c.args.byte ≡ true = search rules in
+    run_begun c.args.self.now c.args.byte bytes gap symbol ∙ ap (λ s. run s bytes) (sym c.begin.ensures)
