@@ -110,8 +110,9 @@ impl Lexer {
         }
     }
 
-    /// Goes past the byte, where it ends nothing and makes nothing whole, and says whether it did.
-    #[inline]
+    /// Goes past the byte, where it ends nothing and makes nothing whole, and says whether it did. Small, so that it
+    /// stands in the loop over the bytes: most of them are those of bare symbols.
+    #[inline(always)]
     pub(crate) fn pass_over(&mut self, byte: u8) -> bool
         requires { self.old.place < 67108864 }
         ensures passes { result ≡ true → (bytes : List ℕ) → run self.old (byte ∷ bytes) ≡ run self.new bytes }
@@ -128,7 +129,7 @@ impl Lexer {
     }
 
     /// Goes past the byte, where it ends nothing, begins nothing and makes nothing whole, and says whether it did.
-    #[inline]
+    #[inline(never)]
     fn pass_quiet(&mut self, byte: u8) -> bool
         requires { self.old.place < 67108864 }
         ensures passes { result ≡ true → (bytes : List ℕ) → run self.old (byte ∷ bytes) ≡ run self.new bytes }

@@ -141,7 +141,7 @@ fn the_first_token_that_no_data_section_could_have_carries_its_fault(
 /// A text of one line, and what it says, value by value in billionths, with columns.
 type Meant<'a> = (&'a [u8], &'a [u8]);
 
-const MEANT: [Meant<'static>; 16] = [
+const MEANT: [Meant<'static>; 17] = [
     (b"", b"rounded 0"),
     (b"end ; @ [", b"rounded 0"),
     (b"data ;", b"rounded 0"),
@@ -193,6 +193,10 @@ const MEANT: [Meant<'static>; 16] = [
     (
         b"set 'REGION' 0012 'it''s' := := \"a\", ; set FUEL ; param YearSplit := 'D' 2020 -5e-10 := ;",
         b"REGION 12 it's a; FUEL; YearSplit [D,2020]=-1@70; rounded 1",
+    ),
+    (
+        b"set FUEL := abcdefghijklmnopqrstuv abcdefghijklmnopqrstuvw ; param OperationalLife : 'a technology with a long name' := R 1 ;",
+        b"FUEL abcdefghijklmnopqrstuv abcdefghijklmnopqrstuvw; OperationalLife [R,a technology with a long name]=1000000000@121; rounded 0",
     ),
 ];
 
