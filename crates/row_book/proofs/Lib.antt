@@ -10,6 +10,7 @@ pub mod Lists
 pub mod Places
 pub mod Ranges
 pub mod RatioCells
+pub mod RatioIndices
 pub mod Regions
 pub mod RowsAddedLaws
 pub mod StopLaws

@@ -1,74 +1,30 @@
 -- Where a ratio isn't 0: the indices that are asked, and those without their mode.
-use Rattle.std.proofs.Common.{◌≡◌, ℕ, zero, suc, ◌+◌, ◌<◌, Bool, true, false, cond, inl, inr, List, [], ◌∷◌, ◌++◌, map, filter, length, get_or, take, refl, ap, sym, ◌∙◌, subst, arith, ltb-true}
+use Rattle.std.proofs.Common.{◌≡◌, ℕ, Bool, true, false, inl, inr, List, [], ◌∷◌, map, refl, ap, sym, ◌∙◌, subst}
 use Rattle.std.specs.Cmp.{IsEquivalence}
-use Rattle.std.specs.List.{AllByRecursion, dedup, flat_map, list_any}
+use Rattle.std.specs.List.{AllByRecursion, dedup, list_any}
 use Rattle.std.specs.List.Sorted.{IsPermutation, IsSorted, IsStrictlySortedBy}
 use Rattle.std.specs.Ordering.{eq_by_cmp, is_eq, ordering_reverse}
 use Rattle.std.specs.Prelude.{◌||◌}
 use Rattle.std.specs.declared.cmp.Ordering.{Ordering}
 use Rattle.std.specs.declared.cmp.Ordering.TheVariants.{Less, Equal, Greater}
 use Rattle.std.proofs.lemmas.Cmp.{eq_by_cmp_equiv}
-use Rattle.std.proofs.lemmas.List.{append-nil}
-use Rattle.std.proofs.lemmas.List.Elements.{filter_more}
 use Rattle.std.proofs.lemmas.List.Kept.{Contains-dedup, Contains-from_dedup, IsStrictlySortedBy-dedup}
 use Rattle.std.proofs.lemmas.List.Sorted.{Contains-permutation, IsPermutation-sym}
 use Rattle.row_core.specs.Order.{index_cmp}
 use Rattle.row_core.proofs.Orders.{index_cmp_exact, index_cmp_total}
 use Rattle.model_sets.specs.Data.{Data}
-use Rattle.model_sets.specs.Names as sets
 use Rattle.row_core.specs.declared.Index.{Index}
 use Rattle.row_core.specs.Subscripts as place
 use Rattle.named_equations.specs.Indices.{at_r, index}
 use Rattle.named_equations.specs.Instances.{subscripts_of, values_at}
-use Rattle.named_equations.specs.Positions.{count_of, fuels, modes, technologies, all_years}
+use Rattle.named_equations.specs.Positions.{modes}
 use Rattle.named_equations.proofs.InstanceOrder.{from_e, from_f, from_m, from_y}
 use Rattle.named_equations.proofs.InstanceTests.{Contains-from_Has, Has, Has-flat_map, Has-from_Contains, flat_map_parts}
 use Rattle.named_equations.proofs.SortedLists.{Every, Sorted, Sorted-filter}
-use Rattle.row_book.specs.Ratios.{AreMembers, cells_of_ratio, cells_of_some_mode, has_ratio, has_ratio_in, has_some_ratio, without_mode}
+use Rattle.row_book.specs.Ratios.{cells_of_ratio, cells_of_some_mode, has_ratio, has_ratio_in, has_some_ratio, without_mode}
 use Rattle.row_book.specs.Walks.{inner_subscripts, walk}
 use Rattle.row_book.proofs.Elements.{Has-filter, Has-map, filter_parts, map_parts}
-use Rattle.row_book.proofs.Lists.{AllByRecursion-append}
 use Rattle.row_book.proofs.WalkOrder.{Sorted-walk}
-use Rattle.row_book.proofs.Subscripts.{In, positions-in}
-
--- a fact of the parts of elements of which another is true
-pub AllByRecursion-parts_of : {A B : Type 0} (Q : A → Type 0) (P : B → Type 0) (f : A → List B) → ((x : A) → Q x → AllByRecursion P (f x)) → (xs : List A) → AllByRecursion Q xs
-    → AllByRecursion P (flat_map f xs)
-AllByRecursion-parts_of Q P f of_each [] of_xs = tt
-AllByRecursion-parts_of Q P f of_each (x ∷ xs) of_xs =
-    AllByRecursion-append P (f x) (flat_map f xs) (of_each x of_xs.0) (AllByRecursion-parts_of Q P f of_each xs of_xs.1)
-
--- the position is below the number of members
-below : (d : Data) (k i : ℕ) → In d k i → i < count_of d k
-below d k i h = ltb-true i (count_of d k) h
-
--- the indices that are asked have positions of members
-pub asked-members : (d : Data) (r : ℕ) → r < count_of d sets.region → AllByRecursion (AreMembers d) (walk d (subscripts_of 7) inner_subscripts (at_r r))
-asked-members d r in_region =
-    let P = AreMembers d in
-    AllByRecursion-parts_of (In d sets.technology) P (λ t. flat_map (λ f. flat_map (λ e. flat_map (λ m. flat_map (λ y. index r 0 0 t f e m y ∷ []) (all_years d)) (modes d)) (0 ∷ [])) (fuels d))
-    (λ t in_t.
-    AllByRecursion-parts_of (In d sets.fuel) P (λ f. flat_map (λ e. flat_map (λ m. flat_map (λ y. index r 0 0 t f e m y ∷ []) (all_years d)) (modes d)) (0 ∷ []))
-    (λ f in_f.
-    AllByRecursion-append P (flat_map (λ m. flat_map (λ y. index r 0 0 t f 0 m y ∷ []) (all_years d)) (modes d)) []
-    (AllByRecursion-parts_of (In d sets.mode) P (λ m. flat_map (λ y. index r 0 0 t f 0 m y ∷ []) (all_years d))
-    (λ m in_m.
-    AllByRecursion-parts_of (In d sets.year) P (λ y. index r 0 0 t f 0 m y ∷ [])
-    (λ y in_y. (
-      record {
-        region = in_region;
-        technology = below d sets.technology t in_t;
-        fuel = below d sets.fuel f in_f;
-        mode = below d sets.mode m in_m;
-        year = below d sets.year y in_y;
-      },
-      tt,
-    ))
-    (all_years d) (positions-in d sets.year))
-    (modes d) (positions-in d sets.mode))
-    tt)
-    (fuels d) (positions-in d sets.fuel))
-    (technologies d) (positions-in d sets.technology)
 
 -- ---- what is walked
 
@@ -282,22 +238,3 @@ some-mode-cells same ties d ratio r in_modes without sorted cells are are_withou
     Has-from_Contains (dedup same sorted) z
     (Contains-dedup (same-equivalence same ties) (λ x y e. index_cmp_exact x y (alike (index_cmp x y) (sym (ties x y) ∙ e))) sorted z
     (Contains-permutation without sorted z permutation (Contains-from_Has without z (subst (λ is. Has is z) (sym all) (from_some d ratio r z h))))))
-
--- ---- index by index
-
-pub all-get : {A : Type 0} (P : A → Type 0) (xs : List A) (i : ℕ) (d : A) → AllByRecursion P xs → i < length xs → P (get_or xs i d)
-all-get P [] i d of_all inside = absurd (omega (arith, inside))
-all-get P (x ∷ xs) zero d of_all inside = of_all.0
-all-get P (x ∷ xs) (suc i) d of_all inside = all-get P xs i d of_all.1 (omega (arith, inside))
-
--- one element more is kept, or left out
-pub kept-more : (test : Index → Bool) (xs so_far : List Index) (i : ℕ) (d : Index) → i < length xs → so_far ≡ filter test (take i xs) → test (get_or xs i d) ≡ true
-    → so_far ++ get_or xs i d ∷ [] ≡ filter test (take (i + 1) xs)
-kept-more test xs so_far i d inside is passes =
-    ap (λ front. front ++ get_or xs i d ∷ []) is ∙ sym (filter_more test xs i d inside ∙ ap (λ b. filter test (take i xs) ++ cond b (get_or xs i d ∷ []) []) passes)
-
-pub left-out : (test : Index → Bool) (xs so_far : List Index) (i : ℕ) (d : Index) → i < length xs → so_far ≡ filter test (take i xs) → test (get_or xs i d) ≡ false
-    → so_far ≡ filter test (take (i + 1) xs)
-left-out test xs so_far i d inside is fails =
-    is
-    ∙ sym (filter_more test xs i d inside ∙ ap (λ b. filter test (take i xs) ++ cond b (get_or xs i d ∷ []) []) fails ∙ append-nil (filter test (take i xs)))

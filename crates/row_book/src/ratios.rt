@@ -3,10 +3,9 @@
 ghost use Rattle.std.specs.Prelude.{◌≡◌, ◌<◌, IfOk, map};
 ghost use Rattle.model_sets.specs.Names as sets;
 ghost use Rattle.named_equations.specs.Positions.{count_of};
-ghost use Rattle.row_book.specs.Ratios.{AreMembers, cells_of_ratio, cells_of_some_mode, has_ratio, param_of, without_mode};
+ghost use Rattle.row_book.specs.Ratios.{activity_ratio, cell_at, cells_of_ratio, cells_of_some_mode, param_of, without_mode};
 
-use crate::walk::{INNER, in_region, walked};
-use param_tables::ModelData;
+use param_tables::{ActivityRatio, ModelData, RatioIndex};
 use row_core::Index;
 use std::alloc::{AllocError, Global};
 
@@ -18,25 +17,13 @@ pub(crate) enum Ratio {
     Output,
 }
 
-/// The number of EBa1, which has the subscripts of a ratio and the timeslice.
-const EBA1: u8 = 7;
-
-/// Whether the ratio isn't 0 at the region, technology, fuel, mode and year of the index.
-fn has_ratio(facts: &ModelData, ratio: Ratio, index: Index) -> bool
-    requires { AreMembers facts.now.facts index }
-    ensures { result ≡ has_ratio facts.now.facts (param_of ratio) index }
+/// The ratio by its parameter.
+fn activity_ratio(ratio: Ratio) -> ActivityRatio
+    ensures { result ≡ activity_ratio ratio }
 {
-    let Index {
-        region: r,
-        tech: t,
-        fuel: f,
-        mode: m,
-        year: y,
-        ..
-    } = index;
     match ratio {
-        Ratio::Input => facts.at(13, &[r, t, f, m, y]).num != 0,
-        Ratio::Output => facts.at(14, &[r, t, f, m, y]).num != 0,
+        Ratio::Input => ActivityRatio::Input,
+        Ratio::Output => ActivityRatio::Output,
     }
 }
 
@@ -50,14 +37,28 @@ pub(crate) fn cells_of_ratio(
     requires { region < count_of facts.now.facts sets.region }
     ensures { IfOk result (λ cells. cells.items ≡ cells_of_ratio facts.now.facts (param_of ratio) region) }
 {
-    let mut cells = Vec::new(alloc);
-    let all = walked(alloc, facts, EBA1, &INNER, in_region(region))?;
-    for cell in &all {
-        if has_ratio(facts, ratio, *cell) {
-            cells.push(*cell)?;
-        }
-    }
+    let indices = facts.nonzero_indices(alloc, activity_ratio(ratio), region)?;
+    let cells = cells_at(alloc, region, &indices)?;
     Ok(cells)
+}
+
+/// The indices of a ratio in a region, each with 0 for the timeslice, the other region and the emission.
+fn cells_at(alloc: Global, region: u16, indices: &[RatioIndex]) -> Result<Vec<Index>, AllocError>
+    ensures { IfOk result (λ cells. cells.items ≡ map (cell_at region) indices.now) }
+{
+    indices
+        .iter()
+        .map(|at| Index {
+            region,
+            other: 0,
+            slice: 0,
+            tech: at.technology,
+            fuel: at.commodity,
+            emission: 0,
+            mode: at.mode,
+            year: at.year,
+        })
+        .collect(alloc)
 }
 
 /// The technologies, fuels and years of a region where it isn't 0 in some mode, in order.
