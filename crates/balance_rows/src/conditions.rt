@@ -1,4 +1,4 @@
-//! Where the equations of production and use stand, and over which members their sums run.
+//! Where the equations of production and use stand.
 
 ghost use Rattle.std.specs.Prelude.{◌≡◌};
 ghost use Rattle.named_equations.specs.Where.{produces, produces_in_mode, uses, uses_in_mode};

@@ -5,6 +5,7 @@
 mod accounting;
 mod conditions;
 mod demand;
+mod listed;
 mod parameters;
 mod production;
 mod rows;

@@ -1,24 +1,20 @@
 //! The equations of production and use.
 
-ghost use Rattle.row_core.specs.Repeated.{IsTermWhere};
-ghost use Rattle.named_equations.specs.Variables.{rate_of_production_by_technology_by_mode, rate_of_production_by_technology, rate_of_use_by_technology_by_mode, rate_of_use_by_technology};
-ghost use Rattle.named_equations.specs.Where.{produces, produces_in_mode, uses, uses_in_mode};
-ghost use Rattle.row_core.specs.EquationTerms.{IsWritten, less};
+ghost use Rattle.row_core.specs.EquationTerms.{IsWritten};
 ghost use Rattle.named_equations.specs.Indices.{by_rlfy, by_rltfmy, by_rltfy};
 ghost use Rattle.named_equations.specs.Within.{IsRegion, IsTechnology, IsFuel, IsMode, IsYear};
 ghost use Rattle.balance_rows.specs.Balance.{eba1, eba2, eba3, eba4, eba5, eba6};
 
-use crate::conditions::{produces, produces_in_mode, uses, uses_in_mode};
+use crate::listed::take_away_each;
 use crate::parameters::{input_activity_ratio, output_activity_ratio};
-use crate::sets::{MODE, TECHNOLOGY};
 use crate::shapes::is_times;
 use crate::variables::{
     rate_of_activity, rate_of_production, rate_of_production_by_technology,
     rate_of_production_by_technology_by_mode, rate_of_use, rate_of_use_by_technology,
     rate_of_use_by_technology_by_mode,
 };
-use param_tables::ModelData;
-use row_core::{Index, LeftSide, Row, RowName, Sense, Stopped, minus_one, one, zero};
+use param_tables::{ActivityRatio, ModelData};
+use row_core::{Index, LeftSide, Row, RowName, Sense, Stopped, one, zero};
 use std::alloc::Global;
 
 /// EBa1: the rate of production in a mode is the rate of activity times the ratio.
@@ -66,26 +62,10 @@ pub(crate) fn eba2(alloc: Global, facts: &ModelData, name: RowName) -> Result<Ro
     } = name.index;
     let mut left = LeftSide::new(alloc, name);
     left.add(rate_of_production_by_technology(r, l, t, f, y), one())?;
-    left.add_where(
-        facts.sets().count(MODE),
-        |m|
-            requires region { IsRegion facts.now.facts r }
-            requires technology { IsTechnology facts.now.facts t }
-            requires fuel { IsFuel facts.now.facts f }
-            requires mode { IsMode facts.now.facts m }
-            requires year { IsYear facts.now.facts y }
-            ensures { IsTermWhere (produces_in_mode facts.entry.now.facts r t f m y) (less (rate_of_production_by_technology_by_mode r l t f m y)) result }
-        {
-            if produces_in_mode(facts, r, t, f, m, y) {
-                Some((
-                    rate_of_production_by_technology_by_mode(r, l, t, f, m, y),
-                    minus_one(),
-                ))
-            } else {
-                None
-            }
-        },
-    )?;
+    let modes = facts.nonzero_modes(alloc, ActivityRatio::Output, r, t, f, y)?;
+    take_away_each(&mut left, &modes, |m| {
+        rate_of_production_by_technology_by_mode(r, l, t, f, m, y)
+    })?;
     left.write(alloc, Sense::Equal, zero())
 }
 
@@ -105,22 +85,10 @@ pub(crate) fn eba3(alloc: Global, facts: &ModelData, name: RowName) -> Result<Ro
     } = name.index;
     let mut left = LeftSide::new(alloc, name);
     left.add(rate_of_production(r, l, f, y), one())?;
-    left.add_where(
-        facts.sets().count(TECHNOLOGY),
-        |t|
-            requires region { IsRegion facts.now.facts r }
-            requires technology { IsTechnology facts.now.facts t }
-            requires fuel { IsFuel facts.now.facts f }
-            requires year { IsYear facts.now.facts y }
-            ensures { IsTermWhere (produces facts.entry.now.facts r t f y) (less (rate_of_production_by_technology r l t f y)) result }
-        {
-            if produces(facts, r, t, f, y) {
-                Some((rate_of_production_by_technology(r, l, t, f, y), minus_one()))
-            } else {
-                None
-            }
-        },
-    )?;
+    let technologies = facts.nonzero_technologies(alloc, ActivityRatio::Output, r, f, y)?;
+    take_away_each(&mut left, &technologies, |t| {
+        rate_of_production_by_technology(r, l, t, f, y)
+    })?;
     left.write(alloc, Sense::Equal, zero())
 }
 
@@ -169,26 +137,10 @@ pub(crate) fn eba5(alloc: Global, facts: &ModelData, name: RowName) -> Result<Ro
     } = name.index;
     let mut left = LeftSide::new(alloc, name);
     left.add(rate_of_use_by_technology(r, l, t, f, y), one())?;
-    left.add_where(
-        facts.sets().count(MODE),
-        |m|
-            requires region { IsRegion facts.now.facts r }
-            requires technology { IsTechnology facts.now.facts t }
-            requires fuel { IsFuel facts.now.facts f }
-            requires mode { IsMode facts.now.facts m }
-            requires year { IsYear facts.now.facts y }
-            ensures { IsTermWhere (uses_in_mode facts.entry.now.facts r t f m y) (less (rate_of_use_by_technology_by_mode r l t f m y)) result }
-        {
-            if uses_in_mode(facts, r, t, f, m, y) {
-                Some((
-                    rate_of_use_by_technology_by_mode(r, l, t, f, m, y),
-                    minus_one(),
-                ))
-            } else {
-                None
-            }
-        },
-    )?;
+    let modes = facts.nonzero_modes(alloc, ActivityRatio::Input, r, t, f, y)?;
+    take_away_each(&mut left, &modes, |m| {
+        rate_of_use_by_technology_by_mode(r, l, t, f, m, y)
+    })?;
     left.write(alloc, Sense::Equal, zero())
 }
 
@@ -208,21 +160,9 @@ pub(crate) fn eba6(alloc: Global, facts: &ModelData, name: RowName) -> Result<Ro
     } = name.index;
     let mut left = LeftSide::new(alloc, name);
     left.add(rate_of_use(r, l, f, y), one())?;
-    left.add_where(
-        facts.sets().count(TECHNOLOGY),
-        |t|
-            requires region { IsRegion facts.now.facts r }
-            requires technology { IsTechnology facts.now.facts t }
-            requires fuel { IsFuel facts.now.facts f }
-            requires year { IsYear facts.now.facts y }
-            ensures { IsTermWhere (uses facts.entry.now.facts r t f y) (less (rate_of_use_by_technology r l t f y)) result }
-        {
-            if uses(facts, r, t, f, y) {
-                Some((rate_of_use_by_technology(r, l, t, f, y), minus_one()))
-            } else {
-                None
-            }
-        },
-    )?;
+    let technologies = facts.nonzero_technologies(alloc, ActivityRatio::Input, r, f, y)?;
+    take_away_each(&mut left, &technologies, |t| {
+        rate_of_use_by_technology(r, l, t, f, y)
+    })?;
     left.write(alloc, Sense::Equal, zero())
 }

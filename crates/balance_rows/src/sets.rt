@@ -2,8 +2,6 @@
 
 pub(crate) const REGION: u8 = 1;
 
-pub(crate) const TECHNOLOGY: u8 = 2;
-
 pub(crate) const MODE: u8 = 5;
 
 pub(crate) const TIMESLICE: u8 = 6;
