@@ -7,11 +7,9 @@ ghost use Rattle.row_core.specs.EquationTerms.{IsWritten};
 ghost use Rattle.row_core.specs.Repeated.{IsTerm, IsTermWhere};
 ghost use Rattle.named_equations.specs.Indices.{by_rtfy, by_ry};
 ghost use Rattle.named_equations.specs.Parameters.{re_tag_technology};
-ghost use Rattle.named_equations.specs.Positions.{technologies, timeslices};
 ghost use Rattle.named_equations.specs.Variables.{production_by_technology_annual, rate_of_production};
 ghost use Rattle.named_equations.specs.Where.{produces};
 ghost use Rattle.named_equations.specs.Within.{IsRegion, IsSlice, IsTechnology, IsFuel, IsYear};
-ghost use Rattle.limit_rows.specs.Shapes.{for_each};
 ghost use Rattle.limit_rows.specs.RenewableTarget.{re1, re2, re3, re4, re5, part_for_target, renewable_production, target_production};
 
 use crate::conditions::produces;
@@ -64,13 +62,13 @@ pub(crate) fn re2(alloc: Global, facts: &ModelData, name: RowName) -> Result<Row
     let mut left = LeftSide::new(alloc, name);
     left.add(total_re_production_annual(r, y), one())?;
     for t in 0..facts.sets().count(TECHNOLOGY) {
-        add_renewable_production(&mut left, facts, r, t, y)?;
+        subtract_renewable_production(&mut left, facts, r, t, y)?;
     }
     left.write(alloc, Sense::Equal, zero())
 }
 
 /// Takes away what a technology makes, of each fuel, times the technology's tag.
-fn add_renewable_production(
+fn subtract_renewable_production(
     left: &mut LeftSide,
     facts: &ModelData,
     r: u16,
@@ -118,13 +116,13 @@ pub(crate) fn re3(alloc: Global, facts: &ModelData, name: RowName) -> Result<Row
     let mut left = LeftSide::new(alloc, name);
     left.add(re_total_production_of_target_fuel_annual(r, y), one())?;
     for l in 0..facts.sets().count(TIMESLICE) {
-        add_target_production(&mut left, facts, r, l, y)?;
+        subtract_target_production(&mut left, facts, r, l, y)?;
     }
     left.write(alloc, Sense::Equal, zero())
 }
 
 /// Takes away what is produced in a timeslice, of each fuel, as far as it counts for the target.
-fn add_target_production(
+fn subtract_target_production(
     left: &mut LeftSide,
     facts: &ModelData,
     r: u16,

@@ -17,5 +17,5 @@ loop-t-preserved c =
       c.loop-t.invariant.0,
       c.loop-t.invariant.1
           ∙ nested-step f n i c.loop-t.left (subst (λ k. i < k) c.loop-t.invariant.0 c.loop-t-test.true)
-          ∙ ap (with_rest_of f n (i + 1)) (sym c.in_ok-add_renewable_production.ensures),
+          ∙ ap (with_rest_of f n (i + 1)) (sym c.in_ok-subtract_renewable_production.ensures),
     )

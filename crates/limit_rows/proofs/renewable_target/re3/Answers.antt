@@ -17,5 +17,5 @@ loop-l-preserved c =
       c.loop-l.invariant.0,
       c.loop-l.invariant.1
           ∙ nested-step f n i c.loop-l.left (subst (λ k. i < k) c.loop-l.invariant.0 c.loop-l-test.true)
-          ∙ ap (with_rest_of f n (i + 1)) (sym c.in_ok-add_target_production.ensures),
+          ∙ ap (with_rest_of f n (i + 1)) (sym c.in_ok-subtract_target_production.ensures),
     )
