@@ -3,8 +3,7 @@ use Rattle.std.proofs.Common.{◌≡◌, ℕ, List, [], ◌∷◌, refl}
 use Rattle.std.specs.Prelude.{codes}
 use Rattle.std.specs.Fmt.{digits}
 use Rattle.model_sets.specs.Members.{SetLists}
-use Rattle.named_equations.specs.Indices.{index}
-use Rattle.named_equations.specs.Instances.{name_at}
+use Rattle.row_core.specs.Names.{caa2}
 use Rattle.param_tables.specs.Refusals.{StorageMember, UnknownName, GivenBefore, TooManyIndices, AtIndex}
 use Rattle.param_tables.specs.declared.fault.CellFault.TheVariants.{NoValue, OutOfRange, WholeUnits}
 use Rattle.osemosys_run.specs.Due.{entries_line, width_line}
@@ -54,7 +53,7 @@ two_regions =
     (codes "A" ∷ codes "B" ∷ []) ∷ (codes "T" ∷ []) ∷ (codes "F" ∷ []) ∷ [] ∷ (codes "1" ∷ []) ∷ (codes "D" ∷ []) ∷ (codes "2020" ∷ [])
     ∷ [] ∷ [] ∷ [] ∷ [] ∷ []
 
-wide_row : width_line two_regions (name_at 3 (index 1 0 0 0 0 0 0 0)) ≡ codes "uncertified width row CAa2[B,T,2020]\n"
+wide_row : width_line two_regions (caa2 1 0 0) ≡ codes "uncertified width row CAa2[B,T,2020]\n"
 wide_row = refl
 
 too_many_entries : entries_line ≡ codes "refused too many entries\n"
