@@ -7,7 +7,6 @@ use Rattle.model_sets.specs.declared.fault.SetFault.{SetFault}
 use Rattle.param_tables.specs.Refusals.{Refusal as DataRefusal, first_refusal}
 use Rattle.param_tables.specs.SetRefusals.{first_set_refusal}
 use Rattle.model_sets.specs.Data.{Data}
-use Rattle.osemosys_run.specs.Codes.{code_of}
 use Rattle.osemosys_run.specs.Due.{too_long_line, DueForEquations, DueForData, DueForBlocks, DueForMps, DueForFile, Due, Sight, CausedByFile, Caused, Delivers}
 use Rattle.osemosys_run.specs.declared.status.Status.{Status}
 use Rattle.osemosys_run.specs.declared.status.Status.TheVariants.{Done, Uncertified, Refused, Words, ReadFault, WriteFault, Memory}
