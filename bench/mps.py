@@ -1,4 +1,5 @@
-"""Runs the program on data files that it makes, and prints time and memory, and those of glpsol on a model with as many entries."""
+"""Runs the program on data files that it makes, and prints time and memory, the time in which glpsol makes the same rows by mps.mod, and
+whether glpsol reads the text."""
 
 import os
 import subprocess
@@ -38,10 +39,10 @@ def numbered(letter, count):
     return [f"{letter}{i}" for i in range(1, count + 1)]
 
 
-def few_ratios(fuels, modes):
+def few_ratios(fuels, modes, slices):
     """One region with many technologies and timeslices, and ten ratios that aren't 0."""
     members = {"REGION": ["R"], "TECHNOLOGY": numbered("T", 500), "FUEL": numbered("F", fuels), "MODE_OF_OPERATION": numbered("", modes),
-               "TIMESLICE": numbered("S", 300), "YEAR": ["2020", "2021"]}
+               "TIMESLICE": numbered("S", slices), "YEAR": ["2020", "2021"]}
     ratios = [f"R T{i} F{1 + i % fuels} {1 + i % modes} 2020 1" for i in range(1, 11)]
     return data(members, {"OutputActivityRatio": ratios})
 
@@ -72,8 +73,9 @@ def near_the_limit():
 
 
 FILES = {
-    "500 technologies, 200 fuels, 20 modes": lambda: few_ratios(200, 20),
-    "500 technologies, 10 fuels, 1 mode": lambda: few_ratios(10, 1),
+    "200 fuels, 20 modes, 300 timeslices": lambda: few_ratios(200, 20, 300),
+    "200 fuels, 20 modes, 60 timeslices": lambda: few_ratios(200, 20, 60),
+    "10 fuels, 1 mode, 60 timeslices": lambda: few_ratios(10, 1, 60),
     "made file of 20": lambda: made(18),
     "made file of 60": lambda: made(58),
     "made file of 122": lambda: made(120),
@@ -89,20 +91,37 @@ def measured(command, output):
     return os.waitstatus_to_exitcode(status), usage.ru_utime + usage.ru_stime, usage.ru_maxrss * 1024
 
 
-def peer(entries, folder):
-    """The time in which glpsol checks a model with as many entries, ten a row, and writes it as free MPS."""
-    model = folder + "/model"
-    with open(model, "w") as file:
-        file.write(f"param n := {max(entries // 10, 1)};\nvar x{{1..n + 9}} >= 0;\nminimize cost: sum{{i in 1..n}} x[i];\n"
-                   "s.t. row{i in 1..n}: sum{k in 0..9} (k + 1) * x[i + k] >= i;\nend;\n")
-    status, took, most = measured(["glpsol", "--check", "--math", model, "--wfreemps", folder + "/peer.mps"], os.devnull)
-    return took if status == 0 else None
+def is_read(output):
+    """Whether glpsol reads the text as free MPS, with its rows and the cost, its columns and its entries."""
+    section, rows, columns, entries = "", 1, 0, 0
+    with open(output) as file:
+        for line in file:
+            if line[0] not in " *":
+                section = line.split()[0]
+            elif section == "ROWS":
+                rows += line[:3] in (" E ", " L ", " G ")
+            elif section == "COLUMNS":
+                columns += line[0] == "*"
+                entries += line[0] == " "
+    answer = subprocess.run(["glpsol", "--check", "--freemps", output], capture_output=True, text=True).stdout
+    return f"{rows} rows, {columns} columns, {entries} non-zeros" in answer
+
+
+def peer(path, folder):
+    """The time in which glpsol makes the same rows of the same data and writes them as free MPS, and its entries; none after two minutes."""
+    model = os.path.join(os.path.dirname(os.path.abspath(__file__)), "mps.mod")
+    command = ["timeout", "120", "glpsol", "--check", "--math", model, "--data", path, "--wfreemps", folder + "/peer.mps"]
+    answer = folder + "/answer"
+    status, took, _ = measured(command, answer)
+    with open(answer) as file:
+        entries = [line.split("=")[1].strip() for line in file if line.startswith("Number of non-zeros (matrix)")]
+    return (took, int(entries[0])) if status == 0 else None
 
 
 def main():
     program, folder = sys.argv[1:3]
     chosen = sys.argv[3:] or list(FILES)
-    print(f"{'file':38} {'entries':>8} {'MB out':>7} {'seconds':>8} {'memory':>9} {'a entry':>8} {'glpsol':>7}")
+    print(f"{'file':38} {'entries':>8} {'MB out':>7} {'seconds':>8} {'memory':>9} {'a entry':>8} {'glpsol':>8}  read by glpsol")
     for name in chosen:
         path, output = folder + "/data", folder + "/mps"
         with open(path, "w") as file:
@@ -112,11 +131,11 @@ def main():
             if status != 0:
                 print(f"{name:38} status {status}: {file.readline().strip()}", flush=True)
                 continue
-            entries = sum(line.startswith(" C") and not line.startswith(" C1 COST") and " COST " not in line for line in file)
-        other = peer(entries, folder)
-        shown = "none" if other is None else f"{other:.2f}"
+            entries = sum(line.startswith(" C") and " COST " not in line for line in file)
+        other = peer(path, folder)
+        shown = "over 120" if other is None else f"{other[0]:.2f}" if other[1] == entries else f"{other[0]:.2f} of {other[1]}"
         size = os.path.getsize(output) / 1e6
-        print(f"{name:38} {entries:8} {size:7.1f} {took:8.2f} {most / MIB:5.0f} MiB {most / max(entries, 1):8.0f} {shown:>7}", flush=True)
+        print(f"{name:38} {entries:8} {size:7.1f} {took:8.2f} {most / MIB:5.0f} MiB {most / max(entries, 1):8.0f} {shown:>8}  {'yes' if is_read(output) else 'no'}", flush=True)
 
 
 main()

@@ -1,7 +1,8 @@
 #!/bin/sh
 # Prints the processor time and the most memory that `osemosys mps` takes on files that it makes, with the entries and the bytes that it
-# writes, and the time in which glpsol checks a model with as many entries and writes it as free MPS. It builds the program where that
-# isn't built, so the first run may take long.
+# writes; the time in which glpsol makes the same rows from the same file by mps.mod and writes them as free MPS, with its number of
+# entries where that is another one; and whether glpsol reads the text. It builds the program where that isn't built, so the first run
+# may take long.
 for tool in rt python3 glpsol; do
     if ! command -v "$tool" >/dev/null 2>&1; then
         echo "mps.sh: $tool is missing (glpsol is in Debian's glpk-utils)" >&2

@@ -331,13 +331,9 @@ fn defaults_and_lowest_terms(rt: HostRuntime) -> Result<(), Fail> {
     Ok(())
 }
 
-/// What a text says of where OutputActivityRatio isn't 0: the modes of T in 2020, the technologies in 2020
-/// and in 2021, and all indices by technology, fuel, mode and year.
-fn nonzero_lines(
-    rt: &impl Abort,
-    alloc: Global,
-    model: &ModelData,
-) -> Result<[String; 4], AllocError> {
+/// Where OutputActivityRatio isn't 0: the modes of T in 2020, the technologies in 2020 and in 2021, and all
+/// indices by technology, fuel, mode and year.
+fn nonzero_line(rt: &impl Abort, alloc: Global, model: &ModelData) -> Result<String, AllocError> {
     let sets = model.sets();
     assert!(rt; sets.count(1) == 1);
     assert!(rt; sets.count(2) == 2);
@@ -346,47 +342,36 @@ fn nonzero_lines(
     let modes = model.nonzero_modes(alloc, ActivityRatio::Output, 0, 0, 0, 0)?;
     let first = model.nonzero_technologies(alloc, ActivityRatio::Output, 0, 0, 0)?;
     let last = model.nonzero_technologies(alloc, ActivityRatio::Output, 0, 0, 1)?;
-    let mut indices = String::new(alloc);
+    let mut line = format!(in alloc; "{modes:?} {first:?} {last:?}")?;
     for i in &model.nonzero_indices(alloc, ActivityRatio::Output, 0)? {
-        let line = format!(in alloc; "{}{}{}{} ", i.technology, i.commodity, i.mode, i.year)?;
-        indices.push_str(line.as_str())?;
+        let index = format!(in alloc; " {}{}{}{}", i.technology, i.commodity, i.mode, i.year)?;
+        line.push_str(index.as_str())?;
     }
-    Ok([
-        format!(in alloc; "{modes:?}")?,
-        format!(in alloc; "{first:?}")?,
-        format!(in alloc; "{last:?}")?,
-        indices,
-    ])
+    let taken = model.nonzero_indices(alloc, ActivityRatio::Input, 0)?;
+    assert!(rt; taken.is_empty());
+    Ok(line)
 }
 
 #[test]
 fn where_a_ratio_isnt_0(rt: HostRuntime) -> Result<(), Fail> {
-    let values = ":= R T F 1 2020 1 R T F 2 2020 0 R U F 2 2021 0.5 ;";
     let rows = [
-        ("default 0", ["[0]", "[0]", "[1]", "0000 1011 "]),
         (
-            "default 1",
-            [
-                "[0]",
-                "[0, 1]",
-                "[0, 1]",
-                "0000 0001 0011 1000 1001 1010 1011 ",
-            ],
+            "param OutputActivityRatio default 0 := R T F 1 2020 1 R T F 2 2020 0 R U F 2 2021 0.5 ;",
+            "[0] [0] [1] 0000 1011",
+        ),
+        (
+            "param OutputActivityRatio default 1 := R T F 1 2020 1 R T F 2 2020 0 R U F 2 2021 0.5 ;",
+            "[0] [0, 1] [0, 1] 0000 0001 0011 1000 1001 1010 1011",
         ),
     ];
-    for (default, expected) in rows {
-        let statement = format!(in rt.alloc(); "param OutputActivityRatio {default} {values}")?;
-        let text = text(rt.alloc(), TWO_MODES, 14, statement.as_str())?;
+    for (statement, expected) in rows {
+        let text = text(rt.alloc(), TWO_MODES, 14, statement)?;
         let Ending::Built(model) = outcome(&rt, rt.alloc(), text.as_str())? else {
-            assert!(rt; false, "refused: {default}");
+            assert!(rt; false, "refused: {statement}");
             return Ok(());
         };
-        let lines = nonzero_lines(&rt, rt.alloc(), &model)?;
-        for (line, wanted) in lines.iter().zip(expected.iter()) {
-            assert_eq!(rt; line.as_str(), *wanted, "{default}");
-        }
-        let input = model.nonzero_indices(rt.alloc(), ActivityRatio::Input, 0)?;
-        assert!(rt; input.is_empty());
+        let line = nonzero_line(&rt, rt.alloc(), &model)?;
+        assert_eq!(rt; line.as_str(), expected, "{statement}");
     }
     Ok(())
 }
