@@ -22,6 +22,7 @@ pub mod LexingRunQuotes
 pub mod LexingRunTexts
 pub mod LexingRunTokens
 pub mod LexingSteps
+pub mod LexingSymbols
 pub mod NamesGo
 pub mod NamesOnce
 pub mod NumberReadingLaws
@@ -33,6 +34,7 @@ pub mod SaneSound
 pub mod SectionMeans
 pub mod SectionsSound
 pub mod SectionsTaken
+pub mod ShortNumbers
 pub mod SliceLemmas
 mod StatementExamples
 pub mod StatementFaultLaws

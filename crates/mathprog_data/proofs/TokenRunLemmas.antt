@@ -1,5 +1,5 @@
 -- What the lexer sees from a byte on, by what was seen of the byte.
-use Rattle.std.proofs.Common.{◌≡◌, ℕ, List, [], ◌∷◌, map, length, get_or, drop, ◌+◌, ◌<◌, ◌≤◌, refl, sym, ap, subst, ◌∙◌, append-nil, add-one, drop-cons}
+use Rattle.std.proofs.Common.{◌≡◌, ℕ, List, [], ◌∷◌, map, length, get_or, drop, slice_range, ◌+◌, ◌-◌, ◌<◌, ◌≤◌, refl, sym, ap, subst, ◌∙◌, append-nil, add-one, drop-cons, le_of_eq, length-drop, take_all}
 use Rattle.std.proofs.Math.ListN.{drop_of_length-le}
 use Rattle.mathprog_data.specs.declared.closing.Closing.{Closing}
 use Rattle.mathprog_data.specs.declared.token.Token.{Token}
@@ -41,3 +41,6 @@ drop_byte text i h = rw (add-one, drop-cons text i 0)
 
 pub drop_end : (text : List ℕ) (i : ℕ) → length text ≤ i → drop i text ≡ []
 drop_end text i h = drop_of_length-le text h
+
+pub rest_of : (text : List ℕ) (i : ℕ) → slice_range text i (length text) ≡ drop i text
+rest_of text i = take_all (length text - i) (drop i text) (le_of_eq (length-drop i text))

@@ -68,6 +68,10 @@ next_mark mark byte =
 abbrev pub passed : State → ℕ → Pending → State
 passed s byte pending = record s { pending = pending; place = s.place + 1; mark = next_mark s.mark byte }
 
+-- so many bytes are taken of which none ends a line, with all of which what is pending goes on
+abbrev pub symbols_passed : State → ℕ → State
+symbols_passed s count = record s { place = s.place + count; mark = record { line = s.mark.line; column = s.mark.column + count } }
+
 -- the byte is taken and is the first of what is pending then
 abbrev pub begun : State → ℕ → Pending → State
 begun s byte pending =

@@ -61,6 +61,7 @@ impl Name {
     }
 
     /// The name of these bytes.
+    #[inline(always)]
     pub(crate) fn from_slice(alloc: Global, bytes: &[u8]) -> Result<Name, AllocError>
         ensures { IfOk result (λ name. name ≡ bytes.now) }
     {

@@ -3,15 +3,19 @@
 mod bytes;
 mod pending;
 
-ghost use Rattle.std.specs.Prelude.{◌≡◌, ◌+◌, ◌<◌, ◌≤◌, ◌∷◌, ℕ, List, true, false};
+ghost use Rattle.std.specs.Prelude.{◌≡◌, ◌+◌, ◌<◌, ◌≤◌, ◌∷◌, ◌++◌, ℕ, List, length, drop, take, true, false};
+ghost use Rattle.std.specs.List.{prefix_len};
 ghost use Rattle.mathprog_data.specs.LexingRuns.{run};
 ghost use Rattle.mathprog_data.specs.LexingBytes.{is_symbol_byte};
 ghost use Rattle.mathprog_data.specs.LexingMachine.{least_length, least_span, IsWithin, next_mark};
+ghost use Rattle.mathprog_data.specs.Places.{place_after};
 
 use crate::blocks::Mark;
 use crate::fault::{BAD_BYTE, DataFault, OPEN_COMMENT, OPEN_STRING};
 use crate::lexeme::Sign;
-use bytes::{is_line_feed, is_printable, is_quote, is_separator, is_symbol_byte, sign_of};
+use bytes::{
+    is_line_feed, is_printable, is_quote, is_separator, is_symbol_byte, sign_of, symbol_length,
+};
 use pending::{Pending, behind_star, in_comment};
 use std::marker::Model;
 
@@ -70,7 +74,7 @@ impl Model for Lexer {
 }
 
 impl Lexer {
-    ghost use Rattle.mathprog_data.specs.LexingMachine.{first, before, taken, ended, passed, begun, opened, quoted_taken, token_of, fault_of, closed, sign_taken, sign_of};
+    ghost use Rattle.mathprog_data.specs.LexingMachine.{first, before, taken, ended, passed, symbols_passed, begun, opened, quoted_taken, token_of, fault_of, closed, sign_taken, sign_of};
 
     /// Before the first byte of a text.
     pub(crate) fn new() -> Lexer
@@ -121,7 +125,7 @@ impl Lexer {
         ensures kept { result ≡ false → self.new ≡ self.old }
     {
         match self.pending {
-            Pending::Bare if is_symbol_byte(byte) => self.pass_symbol_byte(byte),
+            Pending::Bare => return self.pass_symbol_byte(byte),
             Pending::Gap if is_symbol_byte(byte) => self.begin(byte, Pending::Bare),
             _ => return self.pass_quiet(byte),
         }
@@ -146,15 +150,50 @@ impl Lexer {
         }
     }
 
-    /// Goes past a byte of bare symbols, which ends no line.
-    #[inline]
-    fn pass_symbol_byte(&mut self, byte: u8)
-        requires symbol { is_symbol_byte byte ≡ true }
+    /// Goes past the byte, where the bare symbol that is pending goes on with it, and says whether it does.
+    #[inline(always)]
+    fn pass_symbol_byte(&mut self, byte: u8) -> bool
         requires room { self.old.place < 67108864 }
-        ensures { self.new ≡ passed self.old byte self.old.pending }
+        ensures value { result ≡ is_symbol_byte byte }
+        ensures passes { result ≡ true → self.new ≡ passed self.old byte self.old.pending }
+        ensures kept { result ≡ false → self.new ≡ self.old }
     {
+        if !is_symbol_byte(byte) {
+            return false;
+        }
         self.mark.column += 1;
         self.place += 1;
+        true
+    }
+
+    /// Goes past all the bytes in front with which the bare symbol that is pending goes on, where one is, and says how
+    /// many they are. So they are counted without a look at the state behind each.
+    #[inline(always)]
+    pub(crate) fn pass_symbol(&mut self, rest: &[u8]) -> usize
+        requires { self.old.place + length rest.now ≤ 67108864 }
+        ensures count { result ≤ length rest.now }
+        ensures passes { run self.old rest.now ≡ run self.new (drop result rest.now) }
+        ensures place { self.new.place ≡ self.old.place + result }
+        ensures mark { (front : List ℕ) → self.old.mark ≡ place_after front → self.new.mark ≡ place_after (front ++ take result rest.now) }
+    {
+        match self.pending {
+            Pending::Bare => self.pass_symbol_bytes(rest),
+            _ => 0,
+        }
+    }
+
+    /// Goes past all the bytes of bare symbols in front, and says how many they are.
+    #[inline(always)]
+    fn pass_symbol_bytes(&mut self, rest: &[u8]) -> usize
+        requires { self.old.place + length rest.now ≤ 67108864 }
+        ensures count { result ≡ prefix_len is_symbol_byte rest.now }
+        ensures within { result ≤ length rest.now }
+        ensures state { self.new ≡ symbols_passed self.old result }
+    {
+        let count = symbol_length(rest);
+        self.mark.column += count as u32;
+        self.place += count as u32;
+        count
     }
 
     /// What this byte ends. The byte isn't taken yet.

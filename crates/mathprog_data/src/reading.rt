@@ -175,12 +175,15 @@ fn read(alloc: Global, text: &[u8]) -> Result<Blocks, ReadFail>
     let mut lexer = Lexer::new();
     let mut closing = Closing::Free;
     let mut reader = StatementReader::new(alloc);
-    for byte in text {
-        match take_byte(text, *byte, &mut lexer, &mut closing, &mut reader) {
+    let mut taken = 0;
+    while taken < text.len() {
+        match take_byte(text, text[taken], &mut lexer, &mut closing, &mut reader) {
             Ok(false) => {}
             Ok(true) => return Ok(reader.into_blocks()),
             Err(fail) => return Err(fail),
         }
+        taken += 1;
+        taken += lexer.pass_symbol(&text[taken..]);
     }
     let last = lexer.end();
     match take_seen(text, last, &mut closing, &mut reader) {

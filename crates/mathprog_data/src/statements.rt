@@ -14,6 +14,7 @@ mod params;
 mod plain;
 mod seen;
 mod sets;
+mod short_number;
 mod slices;
 mod tables;
 mod turns;

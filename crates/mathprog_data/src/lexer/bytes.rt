@@ -1,6 +1,7 @@
 //! The bytes of a data section by kind.
 
-ghost use Rattle.std.specs.Prelude.{◌≡◌};
+ghost use Rattle.std.specs.Prelude.{◌≡◌, ◌≤◌, length};
+ghost use Rattle.std.specs.List.{prefix_len};
 ghost use Rattle.mathprog_data.specs.Places.{is_line_feed};
 ghost use Rattle.mathprog_data.specs.LexingBytes.{is_separator, is_symbol_byte, is_quote, is_printable};
 ghost use Rattle.mathprog_data.specs.LexingMachine.{sign_of};
@@ -29,6 +30,20 @@ pub(crate) fn is_symbol_byte(byte: u8) -> bool
     ensures { result ≡ is_symbol_byte byte }
 {
     byte.is_ascii_alphanumeric() || byte == b'+' || byte == b'-' || byte == b'.' || byte == b'_'
+}
+
+/// How many bytes of bare symbols stand in front.
+#[inline(always)]
+pub(crate) fn symbol_length(text: &[u8]) -> usize
+    ensures count { result ≡ prefix_len is_symbol_byte text.now }
+    ensures within { result ≤ length text.now }
+{
+    for (i, byte) in text.iter().enumerate() {
+        if !is_symbol_byte(*byte) {
+            return i;
+        }
+    }
+    text.len()
 }
 
 /// Whether it begins and ends a quoted symbol.

@@ -94,6 +94,7 @@ impl Draft {
     }
 
     /// Adds a value to the open parameter.
+    #[inline(always)]
     pub(crate) fn give_value(
         &mut self,
         index: Vec<Name>,

@@ -80,6 +80,7 @@ impl StatementReader {
     }
 
     /// Takes a symbol of plain data.
+    #[inline(always)]
     fn plain(&mut self, symbol: Symbol) -> Result<Option<u8>, AllocError>
         requires { self.old.draft.rounded + 1 < 2 ^ 64 }
         ensures { IfOk result (λ fault. Turned self.old (plain (form_view self.old.tabbing) self.old.item self.old.slice.items self.old.names.items self.old.mark self.old.left (name_in symbol.entry) (number_in symbol.entry)) fault self.new) }
@@ -94,6 +95,7 @@ impl StatementReader {
     }
 
     /// Takes the value of plain data.
+    #[inline(always)]
     fn plain_value(&mut self, symbol: Symbol) -> Result<Option<u8>, AllocError>
         requires { self.old.draft.rounded + 1 < 2 ^ 64 }
         ensures { IfOk result (λ fault. Turned self.old (plain_value (form_view self.old.tabbing) self.old.item self.old.slice.items self.old.names.items self.old.mark (number_in symbol.entry)) fault self.new) }
@@ -111,6 +113,7 @@ impl StatementReader {
 }
 
 /// The value of a parameter that a symbol is: 0 for ResultsPath.
+#[inline(always)]
 fn value_of(param: u8, symbol: Symbol) -> Option<(i128, bool)>
     ensures { result ≡ (if nat_eq param results_path then Some (pos 0, false) else number_in symbol.entry) }
 {

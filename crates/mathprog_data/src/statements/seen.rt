@@ -7,6 +7,7 @@ ghost use Rattle.mathprog_data.specs.MachineStates.{seen_of};
 ghost use Rattle.mathprog_data.specs.NumberReading.{reading};
 ghost use Rattle.mathprog_data.specs.SymbolViews.{seen_view, word_in, name_in, number_in};
 
+use super::short_number::short_number;
 use crate::blocks::Name;
 use crate::lexeme::{Lexeme, Sign};
 use crate::words::{Word, word_of};
@@ -72,7 +73,7 @@ fn bare_name(bytes: &[u8]) -> &[u8]
 }
 
 /// Whether all bytes are digits.
-fn are_digits(bytes: &[u8]) -> bool
+pub(super) fn are_digits(bytes: &[u8]) -> bool
     ensures { result ≡ all_ascii_digits bytes.now }
 {
     for c in bytes {
@@ -122,6 +123,7 @@ impl Symbol<'_> {
     }
 
     /// The name of the symbol.
+    #[inline(always)]
     pub(crate) fn name(&self, alloc: Global) -> Result<Name, AllocError>
         ensures { IfOk result (λ name. name ≡ name_in self.now) }
     {
@@ -136,6 +138,7 @@ impl Symbol<'_> {
 
     /// The number that the symbol is, in billionths, and whether it was rounded. Nothing where it is none, or
     /// above 10^15.
+    #[inline(always)]
     pub(crate) fn number(&self) -> Option<(i128, bool)>
         ensures { result ≡ number_in self.now }
     {
@@ -150,6 +153,9 @@ impl Symbol<'_> {
 fn reading(bytes: &[u8]) -> Option<(i128, bool)>
     ensures { result ≡ reading bytes.now }
 {
+    if let Some(number) = short_number(bytes) {
+        return Some((number, false));
+    }
     match read_decimal(bytes) {
         Ok(number) => Some(number),
         Err(_) => None,

@@ -1,0 +1,6 @@
+use Rattle.std.proofs.Common.{◌≡◌, ◌≤◌, drop}
+use Rattle.scaled_decimals.specs.Digits.{continued}
+use Rattle.mathprog_data.proofs.statements.short_number.continued.Given as goal
+
+abbrev pub invariant-loop-digit : goal.invariant-loop-digit
+invariant-loop-digit l = (l.number ≤ 1000000255) × (continued l.number (drop l.digit-index l.digits) ≡ continued l.fn.so_far l.digits)
