@@ -10,6 +10,7 @@ mod MadeFile
 mod MadeInstances
 mod ParameterNames
 pub mod SortedLists
+mod RegionFactorExamples
 mod Tables
 mod Targets
 mod Trades
@@ -17,3 +18,8 @@ mod TwoOfEach
 mod VariableNames
 mod YearsWithGap
 pub mod TermMeaning
+pub mod TermShapes
+pub mod NestedTerms
+pub mod PositionsInSets
+pub mod SomePosition
+pub mod SumExchange

@@ -1,31 +1,31 @@
 -- How the terms of an equation mean its statement: once for each shape that equations share.
-use Rattle.std.proofs.Common.{◌≡◌, ℕ, zero, suc, ◌+◌, ◌<◌, ◌≤◌, ◌⊎◌, ◌^◌, ℤ, pos, negsuc, neg_ℤ, ◌+ℤ◌, ◌*ℤ◌, List, [], ◌∷◌, Some, inl, inr, refl, sym, ap, ap₂, ◌∙◌, subst, arith}
+use Rattle.std.proofs.Common.{◌≡◌, ℕ, zero, suc, ◌+◌, ◌<◌, ◌≤◌, ◌^◌, ℤ, pos, negsuc, neg_ℤ, ◌+ℤ◌, ◌*ℤ◌, List, [], ◌∷◌, Some, None, inl, inr, refl, sym, ap, ap₂, ◌∙◌, subst, arith}
 use Rattle.std.specs.Prelude.{◌<ℤ◌, ◌≤ℤ◌, ◌↔◌, if◌then◌else◌}
 use Rattle.std.specs.Ordering.{int_cmp, is_eq}
 use Rattle.std.specs.declared.cmp.Ordering.TheVariants.{Greater}
 use Rattle.std.proofs.lemmas.Int.{ints}
 use Rattle.std.proofs.Math.Nat.{eq-or-lt_of_le}
-use Rattle.exact_num.specs.Rational.{Rational, lowest, whole}
-use Rattle.exact_num.proofs.Integers.{*ℤ_pos, ≤ℤ_or_<ℤ}
+use Rattle.exact_num.specs.Rational.{lowest, whole}
+use Rattle.exact_num.proofs.Integers.{≤ℤ_or_<ℤ}
 use Rattle.exact_num.proofs.OrderLaws.{int_cmp-less, int_cmp-equal, int_cmp-greater}
-use Rattle.exact_num.proofs.Ring.{ring, products, *ℤ-+ℤ, *ℤ-zero, *ℤ-one, +ℤ-zero, one-*ℤ, zero-*ℤ, neg_ℤ-*ℤ, neg_ℤ-+ℤ, *ℤ_comm, *ℤ-neg_ℤ}
+use Rattle.exact_num.proofs.Ring.{*ℤ-+ℤ, *ℤ-zero, *ℤ-one, +ℤ-zero, one-*ℤ, zero-*ℤ, neg_ℤ-*ℤ, neg_ℤ-+ℤ, *ℤ_comm}
 use Rattle.model_sets.specs.Data.{Data}
 use Rattle.row_core.specs.declared.Row.{Row}
 use Rattle.row_core.specs.declared.RowName.{RowName}
 use Rattle.row_core.specs.declared.Sense.{Sense}
 use Rattle.row_core.specs.declared.Sense.TheVariants.{Least, Equal, Most}
 use Rattle.row_core.specs.declared.Var.{Var}
-use Rattle.row_core.specs.Amounts.{Amount, Whole, Billionths, Product, Total, Negative, value_of_amount, total_from, total_over}
-use Rattle.row_core.specs.EquationTerms.{EquationTerms, once, less, each, nothing, coefficients_of, terms_of, right_of, IsRowOf, SaysWhat}
+use Rattle.row_core.specs.Amounts.{Amount, Whole, Billionths, Total, Negative, value_of_amount, total_from, total_over}
+use Rattle.row_core.specs.EquationTerms.{EquationTerms, once, less, each, nothing, coefficients_of, right_of, IsRowOf, SaysWhat}
 use Rattle.row_core.specs.Rows.{RowHolds, number_at}
 use Rattle.row_core.specs.Statements.{Statement, Stands, Holds}
-use Rattle.row_core.specs.Values.{IsOver, IsSumOver, SaysTheSame, HasSigns, alone}
+use Rattle.row_core.specs.Values.{IsOver, IsSumOver, alone}
 use Rattle.row_core.proofs.TermLaws.{same_alike}
-use Rattle.row_core.proofs.SumLaws.{IsOver-plus, IsOver-times, IsOver-negated, IsOver-ratio, IsOver-whole, IsOver-multiplied, IsSumOver-gathered}
+use Rattle.row_core.proofs.SumLaws.{IsOver-plus, IsOver-negated, IsOver-ratio, IsSumOver-gathered}
 use Rattle.named_equations.specs.Instances.{variable_of}
 use Rattle.named_equations.specs.Notation.{◌equals◌, sum_over, values}
-use Rattle.named_equations.specs.Plans.{Meets, says}
-use Rattle.named_equations.specs.RowMeaning.{SaysNamed, DefinesNamed, IsNamedRow}
+use Rattle.named_equations.specs.Plans.{says}
+use Rattle.named_equations.specs.RowMeaning.{IsNamedRow}
 
 -- ---- sums
 
@@ -164,6 +164,17 @@ means-positive e statement row m w v h =
 pub record IsNamedEquation (d : Data) (name : RowName) (e : EquationTerms) : Type 0 where
   pub means : MeansStatement e (λ q x. says d q x name)
   pub defines : (v : Var) → variable_of name ≡ Some v → pos 0 <ℤ means.sum (alone v)
+
+-- one that defines v
+pub definition_is : (d : Data) (name : RowName) (e : EquationTerms) (v : Var) (m : MeansStatement e (λ q x. says d q x name)) → variable_of name ≡ Some v → pos 0 <ℤ m.sum (alone v) → IsNamedEquation d name e
+definition_is d name e v m is h = record { means = m; defines = λ w k. subst (λ u. pos 0 <ℤ m.sum (alone u)) (one_variable v w (sym is ∙ k)) h }
+  where
+    one_variable : (v w : Var) → Some v ≡ Some w → v ≡ w
+    one_variable v w h = cc
+
+-- one that defines nothing
+pub inequality_is : (d : Data) (name : RowName) (e : EquationTerms) → MeansStatement e (λ q x. says d q x name) → variable_of name ≡ None → IsNamedEquation d name e
+inequality_is d name e m none = record { means = m; defines = λ w k. absurd (cc (none, k)) }
 
 pub named_row : (d : Data) (name : RowName) (e : EquationTerms) (row : Row) → IsNamedEquation d name e → IsRowOf name e row → SaysWhat e row → IsNamedRow d name e row
 named_row d name e row n written w = record {

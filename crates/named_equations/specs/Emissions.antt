@@ -50,7 +50,7 @@ e6 d q x r e y =
     x (annual_emissions r e y)
     equals sum_over (technologies d) (λ t. x (annual_technology_emission r t e y))
 
--- E7_EmissionsAccounting2[r,e]: the emissions of the model period are the sum over the years plus what is given off elsewhere in the period; times 10^9
+-- E7_EmissionsAccounting2[r,e]: the emissions of the model period are the sum over the years plus the exogenous emission of the period; times 10^9
 abbrev pub e7 : Data → ℕ → (Var → ℤ) → ℕ → ℕ → Statement
 e7 d q x r e =
     values 1 *ℤ x (model_period_emissions r e)
@@ -60,7 +60,7 @@ e7 d q x r e =
 abbrev pub has_e8 : Data → ℕ → ℕ → ℕ → Bool
 has_e8 d r e y = is_limit (annual_emission_limit d r e y)
 
--- E8_AnnualEmissionsLimit[r,e,y]: annual emissions are at most the limit, less what is given off elsewhere in the year; times 10^9
+-- E8_AnnualEmissionsLimit[r,e,y]: annual emissions are at most the limit, less the exogenous emission of the year; times 10^9
 abbrev pub e8 : Data → ℕ → (Var → ℤ) → ℕ → ℕ → ℕ → Statement
 e8 d q x r e y =
     values 1 *ℤ x (annual_emissions r e y)

@@ -24,3 +24,5 @@ pub mod Where
 pub mod WrittenFactors
 pub mod RowMeaning
 pub mod Within
+pub mod TermShapes
+pub mod RegionFactors

@@ -17,14 +17,14 @@ method_of d r = unsigned_abs (depreciation_method d r) / 10 ^ 9
 abbrev pub life_of : Data → ℕ → ℕ → ℕ
 life_of d r t = unsigned_abs (operational_life d r t) / 10 ^ 9
 
--- 1 over DiscountFactor: what 1 is worth n years before it is due, at the beginning of a year
+-- what 1 is worth n years before it is due, at the beginning of a year, in millionths; it stands for 1 over DiscountFactor, rounded down
 abbrev pub capital_factor_of : Data → ℕ → ℕ → ℤ
 capital_factor_of d r n = pos (capital_factor (rate_of d r) n)
 
--- 1 over DiscountFactorMid: what 1 is worth n years and a half before it is due, in the middle of a year
+-- what 1 is worth n years and a half before it is due, in the middle of a year, in millionths; it stands for 1 over DiscountFactorMid, rounded down
 abbrev pub operating_factor_of : Data → ℕ → ℕ → ℤ
 operating_factor_of d r n = pos (operating_factor (rate_of d r) n)
 
--- the part of an investment of year y that is left at the end of the model period, by this method
+-- the part of an investment of year y that is left at the end of the model period, by this method, in millionths
 abbrev pub salvage_fraction_of : Data → ℕ → ℕ → ℕ → ℕ → ℤ
 salvage_fraction_of d method r t y = pos (salvage_fraction method (rate_of d r) (life_of d r t) (years_left d y))
