@@ -24,7 +24,7 @@ use Rattle.plain_equations.specs.declared.expressions.Places.{Places}
 use Rattle.plain_equations.specs.declared.points.Point.{Point}
 use Rattle.plain_equations.specs.ExistsWhere.{ExistsWhere, Everywhere, InMode, InSomeMode, is_met, exists_where}
 use Rattle.plain_equations.specs.Meaning.{is_true_at, value_at_point}
-use Rattle.plain_equations.specs.NamesExisting.{is_same, are_same, is_own, also, depends_on, apart_from, says_in_mode, says_in_some_mode, fits_place, fits_places, follows, is_existing, names_existing}
+use Rattle.plain_equations.specs.NamesExisting.{is_same, are_same, is_own, also, depends_alone_on, apart_from, says_in_mode, says_in_some_mode, fits_place, fits_places, follows, is_existing, names_existing}
 use Rattle.plain_equations.specs.Occurrences.{variables_in}
 use Rattle.plain_equations.specs.Points.{at, at_place, moved, set_of, index_at, point_at}
 use Rattle.plain_equations.proofs.ExistingKinds.{exists_at-rule}
@@ -58,7 +58,7 @@ not_moved : (b : Bool) (i j : ℕ) → not b ≡ true → cond b i j ≡ j
 not_moved true i j other = absurd (true≢false (sym other))
 not_moved false i j other = refl
 
-true_apart : (d : Data) (p : Point) (letter : Letter) (i : ℕ) (condition : Condition) → depends_on (λ other. not (is_same letter other)) condition ≡ true
+true_apart : (d : Data) (p : Point) (letter : Letter) (i : ℕ) (condition : Condition) → depends_alone_on (λ other. not (is_same letter other)) condition ≡ true
     → is_true_at d condition (moved p letter i) ≡ is_true_at d condition p
 true_apart d p letter i condition apart =
     true-same d (moved p letter i) p (λ other. not (is_same letter other))
@@ -73,7 +73,7 @@ facts-moved : (d : Data) (p : Point) (letter : Letter) (i : ℕ) (facts : List C
 facts-moved d p letter i [] known = refl
 facts-moved d p letter i (condition ∷ facts) known =
     let both = and_parts (is_true_at d condition p) (list_all (λ c. is_true_at d c p) facts) known in
-    kept_facts (λ c. is_true_at d c (moved p letter i)) condition (apart_from letter facts) (depends_on (λ other. not (is_same letter other)) condition)
+    kept_facts (λ c. is_true_at d c (moved p letter i)) condition (apart_from letter facts) (depends_alone_on (λ other. not (is_same letter other)) condition)
     (λ apart. true_apart d p letter i condition apart ∙ both.0) (facts-moved d p letter i facts both.1)
 
 -- ---- rules

@@ -16,7 +16,7 @@ use Rattle.plain_equations.specs.declared.expressions.Letter.TheVariants.{R, RR,
 use Rattle.plain_equations.specs.declared.expressions.Places.{Places}
 use Rattle.plain_equations.specs.declared.points.Point.{Point}
 use Rattle.plain_equations.specs.Meaning.{value_at_point, is_true_at}
-use Rattle.plain_equations.specs.NamesExisting.{rank, is_same, are_same, is_letter, is_own, also, depends_on}
+use Rattle.plain_equations.specs.NamesExisting.{rank, is_same, are_same, is_letter, is_own, also, depends_alone_on}
 use Rattle.plain_equations.specs.Points.{at, at_place, moved, set_of, name_at, index_at, point_at}
 use Rattle.plain_equations.specs.Walks.{all_letters}
 
@@ -116,7 +116,7 @@ three-same f p o test same all =
     ap₂ (λ r t. f r t p.index.year) (same R first.0) (same T first.1) ∙ ap (f o.index.region o.index.tech) (same Y last.1)
 
 -- a condition that depends on these subscripts alone
-pub true-same : (d : Data) (p o : Point) (test : Letter → Bool) → SameAt test p o → (condition : Condition) → depends_on test condition ≡ true
+pub true-same : (d : Data) (p o : Point) (test : Letter → Bool) → SameAt test p o → (condition : Condition) → depends_alone_on test condition ≡ true
     → is_true_at d condition p ≡ is_true_at d condition o
 true-same d p o test same Always all = refl
 true-same d p o test same (NotZero param letters) all = ap is_not_zero (value-same d p o test same param letters.now all)

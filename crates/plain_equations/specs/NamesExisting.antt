@@ -1,5 +1,5 @@
--- Whether an equation as data names only variables that exist: a test of its text alone. It goes down into each side, and knows on the way which subscripts
--- are positions of their sets, and which conditions are true: where the equation stands, and those of the sums.
+-- A test of an equation's text alone: what passes it names only variables that exist; of what fails nothing is said. It goes down into each side, and knows
+-- on the way which subscripts are positions of their sets, and which conditions are true: where the equation stands, and those of the sums.
 use Rattle.std.specs.Prelude.{ℕ, Bool, true, false, ◌&&◌, ◌||◌, not, nat_eq, List, [], ◌∷◌, map, filter, Option, Some, None}
 use Rattle.std.specs.List.{list_any, list_all}
 use Rattle.model_sets.specs.Names.{region, technology, fuel, emission, mode, timeslice, year}
@@ -96,21 +96,21 @@ is_subscript subscripts letter = is_one_of subscripts (place_of letter) && not (
 abbrev pub also : Letter → (Letter → Bool) → Letter → Bool
 also letter within other = is_same letter other || within other
 
--- all subscripts on which the condition depends pass the test
-abbrev pub depends_on : (Letter → Bool) → Condition → Bool
-depends_on test Always = true
-depends_on test (NotZero param letters) = list_all test letters.now
-depends_on test (SomeMode param letters) = list_all (also M test) letters.now
-depends_on test (Limit param letters) = list_all test letters.now
-depends_on test (Positive param letters) = list_all test letters.now
-depends_on test StillCounts = test R && test T && test Y && test YY
-depends_on test SinkingFund = test R && test T && test Y
-depends_on test StraightLine = test R && test T && test Y
-depends_on test NoSalvage = test R && test T && test Y
+-- the condition depends on subscripts that pass the test alone
+abbrev pub depends_alone_on : (Letter → Bool) → Condition → Bool
+depends_alone_on test Always = true
+depends_alone_on test (NotZero param letters) = list_all test letters.now
+depends_alone_on test (SomeMode param letters) = list_all (also M test) letters.now
+depends_alone_on test (Limit param letters) = list_all test letters.now
+depends_alone_on test (Positive param letters) = list_all test letters.now
+depends_alone_on test StillCounts = test R && test T && test Y && test YY
+depends_alone_on test SinkingFund = test R && test T && test Y
+depends_alone_on test StraightLine = test R && test T && test Y
+depends_alone_on test NoSalvage = test R && test T && test Y
 
--- the conditions that don't depend on the subscript: they stay true in a sum over it
+-- the conditions that don't ask the subscript: they stay true in a sum over it
 abbrev pub apart_from : Letter → List Condition → List Condition
-apart_from letter facts = filter (depends_on (λ other. not (is_same letter other))) facts
+apart_from letter facts = filter (depends_alone_on (λ other. not (is_same letter other))) facts
 
 -- the condition is that the parameter isn't 0 at these subscripts
 abbrev pub says_in_mode : ℕ → List Letter → Condition → Bool
@@ -145,14 +145,14 @@ follows facts places Everywhere = true
 follows facts places (InMode param letters) = list_all (is_own places) letters && list_any (says_in_mode param letters) facts
 follows facts places (InSomeMode param letters) = list_all (also M (is_own places)) letters && list_any (says_in_some_mode param letters) facts
 
--- the variable exists
+-- the variable passes as one that exists
 abbrev pub is_existing : (Letter → Bool) → List Condition → ℕ → Places → Bool
 is_existing within facts kind places =
     list_any (nat_eq kind) kind_numbers && fits_places within (subscripts_of_kind kind) places && follows facts places (exists_where kind)
 
 -- ---- expressions and equations
 
--- each variable of the expression exists
+-- each variable of the expression passes
 abbrev pub names_existing : (Letter → Bool) → List Condition → Expr → Bool
 names_existing within facts Zero = true
 names_existing within facts Whole = true
@@ -168,7 +168,7 @@ names_existing within facts (Difference' _ a _ b) = names_existing within facts 
 names_existing within facts (Product' _ a _ b) = names_existing within facts a && names_existing within facts b
 names_existing within facts (Over' letter condition _ a) = names_existing (also letter within) (condition ∷ apart_from letter facts) a
 
--- each variable of the equation exists, at each index with these subscripts at which the equation stands
+-- each variable of the equation passes, at indices with these subscripts at which the equation stands
 abbrev pub has_existing_variables : List ℕ → Equation → Bool
 has_existing_variables subscripts equation =
     names_existing (is_subscript subscripts) (equation.stands ∷ []) equation.left

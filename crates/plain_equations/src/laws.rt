@@ -53,11 +53,12 @@ pub fn variable_laws()
     ensures by_kind { (d : Data) (kind : ℕ) (i : Index) → IsKind kind → exists_at d kind i ≡ is_met d (exists_where kind) (point_at i) }
 {}
 
-/// An equation names variables that exist and no others: at each of its instances it says the same of two plans that agree
-/// on all variables that exist, and the variable that it defines there exists.
+/// An equation depends on no variables but those that exist: at each of its instances it says the same of two plans that
+/// agree on all variables that exist. The variable that it defines there exists. That each variable it names exists is
+/// clause `existing` of `equation`.
 pub fn existence_law(eq: u8)
     requires { IsEquation eq }
-    ensures named { (d : Data) (q : ℕ) (x y : Var → ℤ) (i : Index) → is_instance d (name_at eq i) ≡ true → AgreeOnExisting d x y → says d q x (name_at eq i) ≡ says d q y (name_at eq i) }
+    ensures agreeing { (d : Data) (q : ℕ) (x y : Var → ℤ) (i : Index) → is_instance d (name_at eq i) ≡ true → AgreeOnExisting d x y → says d q x (name_at eq i) ≡ says d q y (name_at eq i) }
     ensures defined { (d : Data) (i : Index) (v : Var) → is_instance d (name_at eq i) ≡ true → variable_of (name_at eq i) ≡ Some v → exists d v ≡ true }
 {
     entry(eq);

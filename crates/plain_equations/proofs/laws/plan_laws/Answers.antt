@@ -10,7 +10,7 @@ pub loop-eq-preserved : goal.loop-eq-preserved
 loop-eq-preserved c eq least most =
     let so_far : eq ≤ c.loop-eq.eq = omega (arith, most) in
     elim (eq-or-lt_of_le so_far) [
-      | inl here ↦ subst NamesExisting (sym here) c.existence_law.ensures.named
+      | inl here ↦ subst NamesExisting (sym here) c.existence_law.ensures.agreeing
       | inr before ↦ c.loop-eq.invariant eq least before
     ]
 
