@@ -1,4 +1,3 @@
 pub mod RatioLaws
-pub mod Positions
 pub mod Splits
 pub mod Meaning

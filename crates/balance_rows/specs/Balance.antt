@@ -6,9 +6,9 @@ use Rattle.row_core.specs.Amounts.{Billionths, Product, Negative}
 use Rattle.row_core.specs.EquationTerms.{EquationTerms, once, less, each, nothing}
 use Rattle.named_equations.specs.Parameters.{year_split, specified_annual_demand, specified_demand_profile, trade_route, accumulated_annual_demand, input_activity_ratio, output_activity_ratio}
 use Rattle.named_equations.specs.Positions.{regions, timeslices}
+use Rattle.named_equations.specs.TermShapes.{is_made_of, is_times, sum_away, products_away}
 use Rattle.named_equations.specs.Variables.{rate_of_activity, trade, rate_of_demand, rate_of_production_by_technology_by_mode, rate_of_production_by_technology, rate_of_production, rate_of_use_by_technology_by_mode, rate_of_use_by_technology, rate_of_use, production, use_of_fuel, demand, production_annual, use_annual, trade_annual, production_by_technology, use_by_technology, total_annual_technology_activity_by_mode}
 use Rattle.named_equations.specs.Where.{producing_modes, producing_technologies, using_modes, using_technologies}
-use Rattle.balance_rows.specs.Shapes.{is_times, is_sum}
 
 -- ---- demand
 
@@ -24,41 +24,41 @@ eq_specified_demand d r l f y = record {
 
 -- EBa1[r,l,t,f,m,y]: RateOfProductionByTechnologyByMode = RateOfActivity * OutputActivityRatio
 abbrev pub eba1 : Data → ℕ → ℕ → ℕ → ℕ → ℕ → ℕ → EquationTerms
-eba1 d r l t f m y = is_times (rate_of_production_by_technology_by_mode r l t f m y) (rate_of_activity r l t m y) (output_activity_ratio d r t f m y)
+eba1 d r l t f m y = is_times (rate_of_production_by_technology_by_mode r l t f m y) (rate_of_activity r l t m y) (Billionths (output_activity_ratio d r t f m y))
 
 -- EBa2[r,l,t,f,y]: RateOfProductionByTechnology is its sum over the producing modes
 abbrev pub eba2 : Data → ℕ → ℕ → ℕ → ℕ → ℕ → EquationTerms
-eba2 d r l t f y = is_sum (rate_of_production_by_technology r l t f y) (producing_modes d r t f y) (λ m. rate_of_production_by_technology_by_mode r l t f m y)
+eba2 d r l t f y = is_made_of (rate_of_production_by_technology r l t f y) (sum_away (producing_modes d r t f y) (λ m. rate_of_production_by_technology_by_mode r l t f m y))
 
 -- EBa3[r,l,f,y]: RateOfProduction is its sum over the producing technologies
 abbrev pub eba3 : Data → ℕ → ℕ → ℕ → ℕ → EquationTerms
-eba3 d r l f y = is_sum (rate_of_production r l f y) (producing_technologies d r f y) (λ t. rate_of_production_by_technology r l t f y)
+eba3 d r l f y = is_made_of (rate_of_production r l f y) (sum_away (producing_technologies d r f y) (λ t. rate_of_production_by_technology r l t f y))
 
 -- EBa4[r,l,t,f,m,y]: RateOfUseByTechnologyByMode = RateOfActivity * InputActivityRatio
 abbrev pub eba4 : Data → ℕ → ℕ → ℕ → ℕ → ℕ → ℕ → EquationTerms
-eba4 d r l t f m y = is_times (rate_of_use_by_technology_by_mode r l t f m y) (rate_of_activity r l t m y) (input_activity_ratio d r t f m y)
+eba4 d r l t f m y = is_times (rate_of_use_by_technology_by_mode r l t f m y) (rate_of_activity r l t m y) (Billionths (input_activity_ratio d r t f m y))
 
 -- EBa5[r,l,t,f,y]: RateOfUseByTechnology is its sum over the using modes
 abbrev pub eba5 : Data → ℕ → ℕ → ℕ → ℕ → ℕ → EquationTerms
-eba5 d r l t f y = is_sum (rate_of_use_by_technology r l t f y) (using_modes d r t f y) (λ m. rate_of_use_by_technology_by_mode r l t f m y)
+eba5 d r l t f y = is_made_of (rate_of_use_by_technology r l t f y) (sum_away (using_modes d r t f y) (λ m. rate_of_use_by_technology_by_mode r l t f m y))
 
 -- EBa6[r,l,f,y]: RateOfUse is its sum over the using technologies
 abbrev pub eba6 : Data → ℕ → ℕ → ℕ → ℕ → EquationTerms
-eba6 d r l f y = is_sum (rate_of_use r l f y) (using_technologies d r f y) (λ t. rate_of_use_by_technology r l t f y)
+eba6 d r l f y = is_made_of (rate_of_use r l f y) (sum_away (using_technologies d r f y) (λ t. rate_of_use_by_technology r l t f y))
 
 -- ---- each timeslice
 
 -- EBa7[r,l,f,y]: Production = RateOfProduction * YearSplit
 abbrev pub eba7 : Data → ℕ → ℕ → ℕ → ℕ → EquationTerms
-eba7 d r l f y = is_times (production r l f y) (rate_of_production r l f y) (year_split d l y)
+eba7 d r l f y = is_times (production r l f y) (rate_of_production r l f y) (Billionths (year_split d l y))
 
 -- EBa8[r,l,f,y]: Use = RateOfUse * YearSplit
 abbrev pub eba8 : Data → ℕ → ℕ → ℕ → ℕ → EquationTerms
-eba8 d r l f y = is_times (use_of_fuel r l f y) (rate_of_use r l f y) (year_split d l y)
+eba8 d r l f y = is_times (use_of_fuel r l f y) (rate_of_use r l f y) (Billionths (year_split d l y))
 
 -- EBa9[r,l,f,y]: Demand = RateOfDemand * YearSplit
 abbrev pub eba9 : Data → ℕ → ℕ → ℕ → ℕ → EquationTerms
-eba9 d r l f y = is_times (demand r l f y) (rate_of_demand r l f y) (year_split d l y)
+eba9 d r l f y = is_times (demand r l f y) (rate_of_demand r l f y) (Billionths (year_split d l y))
 
 -- EBa10[r,rr,l,f,y]: Trade[r,rr] + Trade[rr,r] = 0
 abbrev pub eba10 : Data → ℕ → ℕ → ℕ → ℕ → ℕ → EquationTerms
@@ -78,15 +78,15 @@ eba11 d r l f y = record {
 
 -- EBb1[r,f,y]: ProductionAnnual is the sum of Production over the timeslices
 abbrev pub ebb1 : Data → ℕ → ℕ → ℕ → EquationTerms
-ebb1 d r f y = is_sum (production_annual r f y) (timeslices d) (λ l. production r l f y)
+ebb1 d r f y = is_made_of (production_annual r f y) (sum_away (timeslices d) (λ l. production r l f y))
 
 -- EBb2[r,f,y]: UseAnnual is the sum of Use over the timeslices
 abbrev pub ebb2 : Data → ℕ → ℕ → ℕ → EquationTerms
-ebb2 d r f y = is_sum (use_annual r f y) (timeslices d) (λ l. use_of_fuel r l f y)
+ebb2 d r f y = is_made_of (use_annual r f y) (sum_away (timeslices d) (λ l. use_of_fuel r l f y))
 
 -- EBb3[r,rr,f,y]: TradeAnnual is the sum of Trade over the timeslices
 abbrev pub ebb3 : Data → ℕ → ℕ → ℕ → ℕ → EquationTerms
-ebb3 d r rr f y = is_sum (trade_annual r rr f y) (timeslices d) (λ l. trade r rr l f y)
+ebb3 d r rr f y = is_made_of (trade_annual r rr f y) (sum_away (timeslices d) (λ l. trade r rr l f y))
 
 -- EBb4[r,f,y]: ProductionAnnual - UseAnnual - the sum over rr of TradeAnnual * TradeRoute >= AccumulatedAnnualDemand
 abbrev pub ebb4 : Data → ℕ → ℕ → ℕ → EquationTerms
@@ -102,16 +102,13 @@ ebb4 d r f y = record {
 
 -- Acc1[r,l,t,f,y]: ProductionByTechnology = RateOfProductionByTechnology * YearSplit
 abbrev pub acc1 : Data → ℕ → ℕ → ℕ → ℕ → ℕ → EquationTerms
-acc1 d r l t f y = is_times (production_by_technology r l t f y) (rate_of_production_by_technology r l t f y) (year_split d l y)
+acc1 d r l t f y = is_times (production_by_technology r l t f y) (rate_of_production_by_technology r l t f y) (Billionths (year_split d l y))
 
 -- Acc2[r,l,t,f,y]: UseByTechnology = RateOfUseByTechnology * YearSplit
 abbrev pub acc2 : Data → ℕ → ℕ → ℕ → ℕ → ℕ → EquationTerms
-acc2 d r l t f y = is_times (use_by_technology r l t f y) (rate_of_use_by_technology r l t f y) (year_split d l y)
+acc2 d r l t f y = is_times (use_by_technology r l t f y) (rate_of_use_by_technology r l t f y) (Billionths (year_split d l y))
 
 -- Acc3[r,t,m,y]: TotalAnnualTechnologyActivityByMode - the sum over l of RateOfActivity * YearSplit = 0
 abbrev pub acc3 : Data → ℕ → ℕ → ℕ → ℕ → EquationTerms
-acc3 d r t m y = record {
-  terms = once (total_annual_technology_activity_by_mode r t m y) ∷ each (timeslices d) (λ l. (rate_of_activity r l t m y, Negative (Billionths (year_split d l y))));
-  sense = Equal;
-  right = nothing;
-}
+acc3 d r t m y =
+    is_made_of (total_annual_technology_activity_by_mode r t m y) (products_away (timeslices d) (λ l. rate_of_activity r l t m y) (λ l. Billionths (year_split d l y)))

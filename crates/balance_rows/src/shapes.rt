@@ -1,10 +1,10 @@
 //! A shape that many equations share.
 
-ghost use Rattle.std.specs.Prelude.{◌≡◌, ℤ};
-ghost use Rattle.row_core.specs.Amounts.{Billionths};
+ghost use Rattle.std.specs.Prelude.{◌≡◌};
+ghost use Rattle.row_core.specs.Amounts.{Amount};
 ghost use Rattle.row_core.specs.Calculated.{known, number_of};
 ghost use Rattle.row_core.specs.EquationTerms.{IsWritten};
-ghost use Rattle.balance_rows.specs.Shapes.{is_times};
+ghost use Rattle.named_equations.specs.TermShapes.{is_times};
 
 use exact_num::Frac;
 use row_core::{LeftSide, Row, RowName, Sense, Stopped, Var, negative, one, zero};
@@ -18,7 +18,7 @@ pub(crate) fn is_times(
     other: Var,
     factor: Option<Frac>,
 ) -> Result<Row, Stopped>
-    ensures { (z : ℤ) → known factor ≡ number_of (Billionths z) → IsWritten name (is_times variable other z) result }
+    ensures { (a : Amount) → known factor ≡ number_of a → IsWritten name (is_times variable other a) result }
 {
     let mut left = LeftSide::new(alloc, name);
     left.add(variable, one())?;

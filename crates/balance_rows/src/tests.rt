@@ -1,10 +1,8 @@
-//! Rows of small models: printed ones, none, one that doesn't fit, and random ones against the plain program.
+//! Rows of small models: printed ones, none, and one that doesn't fit.
 
 mod indices;
 mod lines;
-mod plans;
 mod printed;
-mod random;
 mod sections;
 
 ghost use Rattle.std.specs.Prelude.{IsTrue};
@@ -14,9 +12,7 @@ ghost use Rattle.row_core.specs.Equations.{IsEquation};
 use crate::rows_of;
 use crate::tests::indices::is_index;
 use crate::tests::lines::line_of;
-use crate::tests::plans::{holds, random_plan, test_near_plans, zero_plan};
 use crate::tests::printed::PRINTED;
-use crate::tests::random::{Random, random_section};
 use crate::tests::sections::{Model, read, section};
 use param_tables::ModelData;
 use row_core::{Index, Place, Row, RowName, Stopped};
@@ -146,23 +142,5 @@ fn a_row_that_does_not_fit_stops_with_its_name(rt: HostRuntime) -> Result<(), Fa
             index: ORIGIN
         })))
     );
-    Ok(())
-}
-
-#[test]
-fn rows_say_what_the_plain_program_says(rt: HostRuntime) -> Result<(), Fail> {
-    let a = rt.alloc();
-    for seed in 0..6 {
-        let mut random = Random::new(seed);
-        let text = random_section(&rt, a, &mut random)?;
-        let model = read(&rt, a, text.as_str())?;
-        let rows = all_rows(&rt, a, &model)?;
-        let plan = random_plan(a, &mut random, &rows)?;
-        for row in rows.iter() {
-            holds(&rt, &model.plain, row, &zero_plan(a))?;
-            holds(&rt, &model.plain, row, &plan)?;
-            test_near_plans(&rt, a, &model.plain, row, &plan)?;
-        }
-    }
     Ok(())
 }
