@@ -11,17 +11,18 @@ use Rattle.row_core.specs.Amounts.{Amount, Billionths, Product, value_of_amount}
 use Rattle.row_core.specs.Values.{IsOver, alone}
 use Rattle.row_core.proofs.SumLaws.{IsOver-times}
 use Rattle.named_equations.specs.Instances.{name_at, stands_at, variable_of}
-use Rattle.named_equations.specs.Notation.{values}
+use Rattle.named_equations.specs.Notation.{sum_over, values}
 use Rattle.named_equations.specs.Parameters.{year_split, capacity_to_activity_unit, total_annual_max_capacity, total_annual_min_capacity, total_annual_max_capacity_investment, total_annual_min_capacity_investment, total_technology_annual_activity_upper_limit, total_technology_annual_activity_lower_limit, total_technology_model_period_activity_upper_limit, total_technology_model_period_activity_lower_limit, reserve_margin_tag_technology, reserve_margin_tag_fuel, reserve_margin, re_tag_technology, re_tag_fuel, re_min_production_target}
 use Rattle.named_equations.specs.Positions.{technologies, fuels, timeslices, all_years}
 use Rattle.named_equations.specs.Plans.{says}
 use Rattle.named_equations.specs.Variables.{new_capacity, total_capacity_annual, rate_of_total_activity, rate_of_production, production_by_technology, use_by_technology, total_technology_annual_activity, total_technology_model_period_activity, total_capacity_in_reserve_margin, demand_needing_reserve_margin, production_by_technology_annual, total_re_production_annual, re_total_production_of_target_fuel_annual, use_by_technology_annual}
-use Rattle.named_equations.specs.Where.{produced_fuels}
-use Rattle.named_equations.proofs.TermMeaning.{MeansStatement, IsNamedEquation, EachFrom, at_number, defined, limit, sum_of_others, sum_of_others-defines, weighted_sum, weighted_sum-defines, over-data}
-use Rattle.limit_rows.specs.RenewableTarget.{part_for_target}
+use Rattle.named_equations.specs.Where.{produced_fuels, producing_technologies, produces}
+use Rattle.named_equations.proofs.TermMeaning.{MeansStatement, IsNamedEquation, EachFrom, at_number, definition_is, inequality_is, limit, sum_of_others, sum_of_others-defines, weighted_sum, weighted_sum-defines, over-data}
+use Rattle.limit_rows.specs.RenewableTarget.{part_for_target, re2}
 use Rattle.limit_rows.specs.ReserveMargin.{unit_in_margin}
 use Rattle.limit_rows.specs.Rows.{IsLimitEquation, terms_at}
-use Rattle.limit_rows.proofs.TermShapes.{sum_of_products, sum_of_products-defines, sum_of_sums, sum_of_sums-defines, covered, covered_behind}
+use Rattle.named_equations.proofs.SumExchange.{sum_over-exchanged}
+use Rattle.named_equations.proofs.TermShapes.{means_equal, means_equal-defines, over-product, sum_of_products, sum_of_products-defines, sum_of_sums, sum_of_sums-defines, covered, covered_behind}
 
 -- the equation of number n
 abbrev pub IsNamed : Data → Index → ℕ → Type 0
@@ -31,33 +32,27 @@ IsNamed d i n = IsNamedEquation d (name_at n i) (terms_at d (name_at n i))
 abbrev pub Means : Data → Index → ℕ → Type 0
 Means d i n = MeansStatement (terms_at d (name_at n i)) (λ q x. says d q x (name_at n i))
 
--- one that defines v
-definition_is : (d : Data) (i : Index) (n : ℕ) (v : Var) (m : Means d i n) → variable_of (name_at n i) ≡ Some v → pos 0 <ℤ m.sum (alone v) → IsNamed d i n
-definition_is d i n v m is h = record { means = m; defines = λ w k. defined (λ u. pos 0 <ℤ m.sum (alone u)) v w (sym is ∙ k) h }
+definition : (d : Data) (i : Index) (n : ℕ) (v : Var) (m : Means d i n) → variable_of (name_at n i) ≡ Some v → pos 0 <ℤ m.sum (alone v) → IsNamed d i n
+definition d i n v m is h = definition_is d (name_at n i) (terms_at d (name_at n i)) v m is h
 
--- one that defines nothing
-inequality_is : (d : Data) (i : Index) (n : ℕ) → Means d i n → variable_of (name_at n i) ≡ None → IsNamed d i n
-inequality_is d i n m none = record { means = m; defines = λ w k. absurd (cc (none, k)) }
-
--- a product of two data values
-over-product : (z y : ℤ) → IsOver (values 2) (value_of_amount (Product (Billionths z) (Billionths y))) (z *ℤ y)
-over-product z y = IsOver-times (values 1) (values 1) (value_of_amount (Billionths z)) (value_of_amount (Billionths y)) z y (over-data z) (over-data y)
+inequality : (d : Data) (i : Index) (n : ℕ) → Means d i n → variable_of (name_at n i) ≡ None → IsNamed d i n
+inequality d i n m none = inequality_is d (name_at n i) (terms_at d (name_at n i)) m none
 
 -- ---- total capacity
 
 tcc1-named : (d : Data) (i : Index) → IsNamed d i 43
-tcc1-named d i = inequality_is d i 43 (limit Most (total_capacity_annual i.region i.tech i.year) (total_annual_max_capacity d i.region i.tech i.year)) refl
+tcc1-named d i = inequality d i 43 (limit Most (total_capacity_annual i.region i.tech i.year) (total_annual_max_capacity d i.region i.tech i.year)) refl
 
 tcc2-named : (d : Data) (i : Index) → IsNamed d i 44
-tcc2-named d i = inequality_is d i 44 (limit Least (total_capacity_annual i.region i.tech i.year) (total_annual_min_capacity d i.region i.tech i.year)) refl
+tcc2-named d i = inequality d i 44 (limit Least (total_capacity_annual i.region i.tech i.year) (total_annual_min_capacity d i.region i.tech i.year)) refl
 
 -- ---- new capacity
 
 ncc1-named : (d : Data) (i : Index) → IsNamed d i 45
-ncc1-named d i = inequality_is d i 45 (limit Most (new_capacity i.region i.tech i.year) (total_annual_max_capacity_investment d i.region i.tech i.year)) refl
+ncc1-named d i = inequality d i 45 (limit Most (new_capacity i.region i.tech i.year) (total_annual_max_capacity_investment d i.region i.tech i.year)) refl
 
 ncc2-named : (d : Data) (i : Index) → IsNamed d i 46
-ncc2-named d i = inequality_is d i 46 (limit Least (new_capacity i.region i.tech i.year) (total_annual_min_capacity_investment d i.region i.tech i.year)) refl
+ncc2-named d i = inequality d i 46 (limit Least (new_capacity i.region i.tech i.year) (total_annual_min_capacity_investment d i.region i.tech i.year)) refl
 
 -- ---- activity
 
@@ -66,25 +61,25 @@ aac1-named d i =
     let v = total_technology_annual_activity i.region i.tech i.year in
     let w : ℕ → Var = λ l. rate_of_total_activity i.region l i.tech i.year in
     let z : ℕ → ℤ = λ l. year_split d l i.year in
-    definition_is d i 47 v (weighted_sum v (timeslices d) w z) refl (weighted_sum-defines v (timeslices d) w z (λ l. refl))
+    definition d i 47 v (weighted_sum v (timeslices d) w z) refl (weighted_sum-defines v (timeslices d) w z (λ l. refl))
 
 aac2-named : (d : Data) (i : Index) → IsNamed d i 48
-aac2-named d i = inequality_is d i 48 (limit Most (total_technology_annual_activity i.region i.tech i.year) (total_technology_annual_activity_upper_limit d i.region i.tech i.year)) refl
+aac2-named d i = inequality d i 48 (limit Most (total_technology_annual_activity i.region i.tech i.year) (total_technology_annual_activity_upper_limit d i.region i.tech i.year)) refl
 
 aac3-named : (d : Data) (i : Index) → IsNamed d i 49
-aac3-named d i = inequality_is d i 49 (limit Least (total_technology_annual_activity i.region i.tech i.year) (total_technology_annual_activity_lower_limit d i.region i.tech i.year)) refl
+aac3-named d i = inequality d i 49 (limit Least (total_technology_annual_activity i.region i.tech i.year) (total_technology_annual_activity_lower_limit d i.region i.tech i.year)) refl
 
 tac1-named : (d : Data) (i : Index) → IsNamed d i 50
 tac1-named d i =
     let v = total_technology_model_period_activity i.region i.tech in
     let w : ℕ → Var = λ y. total_technology_annual_activity i.region i.tech y in
-    definition_is d i 50 v (sum_of_others v (all_years d) w) refl (sum_of_others-defines v (all_years d) w (λ y. refl))
+    definition d i 50 v (sum_of_others v (all_years d) w) refl (sum_of_others-defines v (all_years d) w (λ y. refl))
 
 tac2-named : (d : Data) (i : Index) → IsNamed d i 51
-tac2-named d i = inequality_is d i 51 (limit Most (total_technology_model_period_activity i.region i.tech) (total_technology_model_period_activity_upper_limit d i.region i.tech)) refl
+tac2-named d i = inequality d i 51 (limit Most (total_technology_model_period_activity i.region i.tech) (total_technology_model_period_activity_upper_limit d i.region i.tech)) refl
 
 tac3-named : (d : Data) (i : Index) → IsNamed d i 52
-tac3-named d i = inequality_is d i 52 (limit Least (total_technology_model_period_activity i.region i.tech) (total_technology_model_period_activity_lower_limit d i.region i.tech)) refl
+tac3-named d i = inequality d i 52 (limit Least (total_technology_model_period_activity i.region i.tech) (total_technology_model_period_activity_lower_limit d i.region i.tech)) refl
 
 -- ---- reserve margin
 
@@ -98,7 +93,7 @@ rm1-named d i =
     let s : ℤ = values 2 in
     let h : pos 0 <ℤ s = omega (arith, ints) in
     let over : (t : ℕ) → IsOver s (value_of_amount (a t)) (tag t *ℤ unit t) = λ t. over-product (tag t) (unit t) in
-    definition_is d i 53 v (sum_of_products s h v (technologies d) w a (λ t. tag t *ℤ unit t) over) refl
+    definition d i 53 v (sum_of_products s h v (technologies d) w a (λ t. tag t *ℤ unit t) over) refl
     (sum_of_products-defines s h v (technologies d) w a (λ t. tag t *ℤ unit t) over (λ t. refl))
 
 rm2-named : (d : Data) (i : Index) → IsNamed d i 54
@@ -106,11 +101,11 @@ rm2-named d i =
     let v = demand_needing_reserve_margin i.region i.slice i.year in
     let w : ℕ → Var = λ f. rate_of_production i.region i.slice f i.year in
     let z : ℕ → ℤ = λ f. reserve_margin_tag_fuel d i.region f i.year in
-    definition_is d i 54 v (weighted_sum v (fuels d) w z) refl (weighted_sum-defines v (fuels d) w z (λ f. refl))
+    definition d i 54 v (weighted_sum v (fuels d) w z) refl (weighted_sum-defines v (fuels d) w z (λ f. refl))
 
 rm3-named : (d : Data) (i : Index) → IsNamed d i 55
 rm3-named d i =
-    inequality_is d i 55 (covered_behind (demand_needing_reserve_margin i.region i.slice i.year) (reserve_margin d i.region i.year) (total_capacity_in_reserve_margin i.region i.year)) refl
+    inequality d i 55 (covered_behind (demand_needing_reserve_margin i.region i.slice i.year) (reserve_margin d i.region i.year) (total_capacity_in_reserve_margin i.region i.year)) refl
 
 -- ---- renewable target
 
@@ -118,19 +113,27 @@ re1-named : (d : Data) (i : Index) → IsNamed d i 56
 re1-named d i =
     let v = production_by_technology_annual i.region i.tech i.fuel i.year in
     let w : ℕ → Var = λ l. production_by_technology i.region l i.tech i.fuel i.year in
-    definition_is d i 56 v (sum_of_others v (timeslices d) w) refl (sum_of_others-defines v (timeslices d) w (λ l. refl))
+    definition d i 56 v (sum_of_others v (timeslices d) w) refl (sum_of_others-defines v (timeslices d) w (λ l. refl))
 
 re2-named : (d : Data) (i : Index) → IsNamed d i 57
 re2-named d i =
-    let v = total_re_production_annual i.region i.year in
-    let made : ℕ → List ℕ = λ t. produced_fuels d i.region t i.year in
-    let w : ℕ → ℕ → Var = λ t f. production_by_technology_annual i.region t f i.year in
-    let tag : ℕ → ℕ → ℤ = λ t f. re_tag_technology d i.region t i.year in
-    let a : ℕ → ℕ → Amount = λ t f. Billionths (tag t f) in
+    let r = i.region in
+    let y = i.year in
+    let v = total_re_production_annual r y in
+    let makers : ℕ → List ℕ = λ f. producing_technologies d r f y in
+    let w : ℕ → ℕ → Var = λ f t. production_by_technology_annual r t f y in
+    let tag : ℕ → ℕ → ℤ = λ f t. re_tag_technology d r t y in
+    let a : ℕ → ℕ → Amount = λ f t. Billionths (tag f t) in
     let s : ℤ = values 1 in
     let h : pos 0 <ℤ s = omega (arith, ints) in
-    let over : (t f : ℕ) → IsOver s (value_of_amount (a t f)) (tag t f) = λ t f. over-data (tag t f) in
-    definition_is d i 57 v (sum_of_sums s h v (technologies d) made w a tag over) refl (sum_of_sums-defines s h v (technologies d) made w a tag over (λ t f. refl))
+    let over : (f t : ℕ) → IsOver s (value_of_amount (a f t)) (tag f t) = λ f t. over-data (tag f t) in
+    let by_fuel : (Var → ℤ) → ℤ = λ x. sum_over (fuels d) (λ f. sum_over (makers f) (λ t. x (w f t) *ℤ tag f t)) in
+    let by_technology : (Var → ℤ) → ℤ = λ x. sum_over (technologies d) (λ t. sum_over (produced_fuels d r t y) (λ f. x (w f t) *ℤ tag f t)) in
+    let same : (x : Var → ℤ) → by_technology x ≡ by_fuel x =
+    λ x. sum_over-exchanged (technologies d) (fuels d) (λ t f. produces d r t f y) (λ t f. x (w f t) *ℤ tag f t) in
+    let each = sum_of_sums s h v (fuels d) makers w a tag over in
+    definition d i 57 v (means_equal s v (re2 d r y) by_fuel by_technology same each) refl
+    (means_equal-defines s v (re2 d r y) by_fuel by_technology same each (sum_of_sums-defines s h v (fuels d) makers w a tag over (λ f t. refl)))
 
 re3-named : (d : Data) (i : Index) → IsNamed d i 58
 re3-named d i =
@@ -143,17 +146,17 @@ re3-named d i =
     let s : ℤ = values 2 in
     let h : pos 0 <ℤ s = omega (arith, ints) in
     let over : (l f : ℕ) → IsOver s (value_of_amount (a l f)) (z l f) = λ l f. over-product (split l) (tag f) in
-    definition_is d i 58 v (sum_of_sums s h v (timeslices d) (λ l. fuels d) w a z over) refl (sum_of_sums-defines s h v (timeslices d) (λ l. fuels d) w a z over (λ l f. refl))
+    definition d i 58 v (sum_of_sums s h v (timeslices d) (λ l. fuels d) w a z over) refl (sum_of_sums-defines s h v (timeslices d) (λ l. fuels d) w a z over (λ l f. refl))
 
 re4-named : (d : Data) (i : Index) → IsNamed d i 59
 re4-named d i =
-    inequality_is d i 59 (covered (re_total_production_of_target_fuel_annual i.region i.year) (re_min_production_target d i.region i.year) (total_re_production_annual i.region i.year)) refl
+    inequality d i 59 (covered (re_total_production_of_target_fuel_annual i.region i.year) (re_min_production_target d i.region i.year) (total_re_production_annual i.region i.year)) refl
 
 re5-named : (d : Data) (i : Index) → IsNamed d i 60
 re5-named d i =
     let v = use_by_technology_annual i.region i.tech i.fuel i.year in
     let w : ℕ → Var = λ l. use_by_technology i.region l i.tech i.fuel i.year in
-    definition_is d i 60 v (sum_of_others v (timeslices d) w) refl (sum_of_others-defines v (timeslices d) w (λ l. refl))
+    definition d i 60 v (sum_of_others v (timeslices d) w) refl (sum_of_others-defines v (timeslices d) w (λ l. refl))
 
 -- ---- by number
 

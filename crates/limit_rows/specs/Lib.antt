@@ -2,4 +2,3 @@ pub mod Limits
 pub mod RenewableTarget
 pub mod ReserveMargin
 pub mod Rows
-pub mod Shapes

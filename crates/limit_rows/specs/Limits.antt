@@ -7,7 +7,7 @@ use Rattle.row_core.specs.EquationTerms.{EquationTerms}
 use Rattle.named_equations.specs.Parameters.{year_split, total_annual_max_capacity, total_annual_min_capacity, total_annual_max_capacity_investment, total_annual_min_capacity_investment, total_technology_annual_activity_upper_limit, total_technology_annual_activity_lower_limit, total_technology_model_period_activity_upper_limit, total_technology_model_period_activity_lower_limit}
 use Rattle.named_equations.specs.Positions.{timeslices, all_years}
 use Rattle.named_equations.specs.Variables.{new_capacity, total_capacity_annual, rate_of_total_activity, total_technology_annual_activity, total_technology_model_period_activity}
-use Rattle.limit_rows.specs.Shapes.{is_limited, is_made_of, sum_away, products_away}
+use Rattle.named_equations.specs.TermShapes.{is_limited, is_made_of, sum_away, products_away}
 
 -- ---- total capacity
 

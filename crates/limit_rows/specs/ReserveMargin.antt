@@ -6,7 +6,7 @@ use Rattle.row_core.specs.EquationTerms.{EquationTerms}
 use Rattle.named_equations.specs.Parameters.{capacity_to_activity_unit, reserve_margin_tag_technology, reserve_margin_tag_fuel, reserve_margin}
 use Rattle.named_equations.specs.Positions.{technologies, fuels}
 use Rattle.named_equations.specs.Variables.{total_capacity_annual, rate_of_production, total_capacity_in_reserve_margin, demand_needing_reserve_margin}
-use Rattle.limit_rows.specs.Shapes.{is_covered, is_made_of, products_away}
+use Rattle.named_equations.specs.TermShapes.{is_covered, is_made_of, products_away}
 
 -- what a unit of a technology's capacity adds to the margin: ReserveMarginTagTechnology * CapacityToActivityUnit
 abbrev pub unit_in_margin : Data → ℕ → ℕ → ℕ → Amount

@@ -1,20 +1,17 @@
 //! The renewable target: what tagged technologies make, of any fuel, is at least a part of the production of tagged fuels.
 
-ghost use Rattle.std.specs.Prelude.{◌≡◌, OnOk};
-ghost use Rattle.row_core.specs.Amounts.{Billionths, Negative};
+ghost use Rattle.std.specs.Prelude.{◌≡◌, All, OnOk};
+ghost use Rattle.row_core.specs.Amounts.{Negative};
 ghost use Rattle.row_core.specs.Calculated.{known, number_of, with_amounts};
 ghost use Rattle.row_core.specs.EquationTerms.{IsWritten};
-ghost use Rattle.row_core.specs.Repeated.{IsTerm, IsTermWhere};
+ghost use Rattle.row_core.specs.Repeated.{IsTerm};
 ghost use Rattle.named_equations.specs.Indices.{by_rtfy, by_ry};
-ghost use Rattle.named_equations.specs.Parameters.{re_tag_technology};
-ghost use Rattle.named_equations.specs.Variables.{production_by_technology_annual, rate_of_production};
-ghost use Rattle.named_equations.specs.Where.{produces};
+ghost use Rattle.named_equations.specs.Variables.{rate_of_production};
 ghost use Rattle.named_equations.specs.Within.{IsRegion, IsSlice, IsTechnology, IsFuel, IsYear};
-ghost use Rattle.limit_rows.specs.RenewableTarget.{re1, re2, re3, re4, re5, part_for_target, renewable_production, target_production};
+ghost use Rattle.limit_rows.specs.RenewableTarget.{re1, re2, re3, re4, re5, part_for_target, products_of, renewable_production, target_production};
 
-use crate::conditions::produces;
 use crate::parameters::{re_min_production_target, re_tag_fuel, re_tag_technology, year_split};
-use crate::sets::{FUEL, TECHNOLOGY, TIMESLICE};
+use crate::sets::{FUEL, TIMESLICE};
 use crate::shapes::is_covered;
 use crate::variables::{
     production_by_technology, production_by_technology_annual, rate_of_production,
@@ -22,7 +19,7 @@ use crate::variables::{
     use_by_technology_annual,
 };
 use exact_num::Frac;
-use param_tables::ModelData;
+use param_tables::{ActivityRatio, ModelData};
 use row_core::{
     Index, LeftSide, Row, RowName, Sense, Stopped, minus_one, negative, one, times, zero,
 };
@@ -61,44 +58,51 @@ pub(crate) fn re2(alloc: Global, facts: &ModelData, name: RowName) -> Result<Row
     } = name.index;
     let mut left = LeftSide::new(alloc, name);
     left.add(total_re_production_annual(r, y), one())?;
-    for t in 0..facts.sets().count(TECHNOLOGY) {
-        subtract_renewable_production(&mut left, facts, r, t, y)?;
+    for f in 0..facts.sets().count(FUEL) {
+        subtract_renewable_production(alloc, &mut left, facts, r, f, y)?;
     }
     left.write(alloc, Sense::Equal, zero())
 }
 
-/// Takes away what a technology makes, of each fuel, times the technology's tag.
+/// Takes away what is made of a fuel, by each technology that makes it, times the technology's tag.
 fn subtract_renewable_production(
+    alloc: Global,
     left: &mut LeftSide,
     facts: &ModelData,
     r: u16,
-    t: u16,
+    f: u16,
     y: u16,
 ) -> Result<(), AllocError>
     requires region { IsRegion facts.now.facts r }
-    requires technology { IsTechnology facts.now.facts t }
+    requires fuel { IsFuel facts.now.facts f }
     requires year { IsYear facts.now.facts y }
-    ensures { OnOk result (left.new ≡ with_amounts (renewable_production facts.now.facts r t y) left.old) }
+    ensures { OnOk result (left.new ≡ with_amounts (renewable_production facts.now.facts r f y) left.old) }
 {
-    left.add_where(
-        facts.sets().count(FUEL),
-        |f|
-            requires region { IsRegion facts.now.facts r }
-            requires technology { IsTechnology facts.now.facts t }
-            requires fuel { IsFuel facts.now.facts f }
-            requires year { IsYear facts.now.facts y }
-            ensures { IsTermWhere (produces facts.entry.now.facts r t f y) (production_by_technology_annual r t f y, Negative (Billionths (re_tag_technology facts.entry.now.facts r t y))) result }
-        {
-            if produces(facts, r, t, f, y) {
-                Some((
-                    production_by_technology_annual(r, t, f, y),
-                    negative(re_tag_technology(facts, r, t, y)),
-                ))
-            } else {
-                None
-            }
-        },
-    )
+    let makers = facts.nonzero_technologies(alloc, ActivityRatio::Output, r, f, y)?;
+    subtract_products(left, facts, &makers, r, f, y)
+}
+
+/// Takes away what these technologies make of a fuel, each times its tag.
+fn subtract_products(
+    left: &mut LeftSide,
+    facts: &ModelData,
+    makers: &[u16],
+    r: u16,
+    f: u16,
+    y: u16,
+) -> Result<(), AllocError>
+    requires region { IsRegion facts.now.facts r }
+    requires technologies { All (IsTechnology facts.now.facts) makers.now }
+    requires year { IsYear facts.now.facts y }
+    ensures { OnOk result (left.new ≡ with_amounts (products_of facts.now.facts r f y makers.now) left.old) }
+{
+    for t in makers {
+        left.add(
+            production_by_technology_annual(r, *t, f, y),
+            negative(re_tag_technology(facts, r, *t, y)),
+        )?;
+    }
+    Ok(())
 }
 
 /// RE3: the production that the target is about is the sum over the timeslices and fuels of the rate of production

@@ -31,6 +31,7 @@ use std::alloc::Global;
 /// Coefficients are made by multiplying and adding from left to right, those of one variable are added, and
 /// denominators are cleared. `Width` with the row's name comes exactly where there is an instance and a number
 /// that this forms lies outside the range from `-(2^127 - 1)` to `2^127 - 1`.
+/// `Memory` comes where memory ran out.
 pub fn rows_of(alloc: Global, facts: &ModelData, eq: u8, at: Index) -> Result<Option<Row>, Stopped>
     requires equation { IsLimitEquation eq }
     requires index { is_index facts.now.facts (subscripts_of eq) at ≡ true }

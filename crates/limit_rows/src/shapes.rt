@@ -4,7 +4,7 @@ ghost use Rattle.std.specs.Prelude.{◌≡◌, ℤ};
 ghost use Rattle.row_core.specs.Amounts.{Billionths};
 ghost use Rattle.row_core.specs.Calculated.{known, number_of};
 ghost use Rattle.row_core.specs.EquationTerms.{IsWritten};
-ghost use Rattle.limit_rows.specs.Shapes.{is_covered, is_limited};
+ghost use Rattle.named_equations.specs.TermShapes.{is_covered, is_limited};
 
 use exact_num::Frac;
 use row_core::{LeftSide, Row, RowName, Sense, Stopped, Var, minus_one, one, zero};
@@ -25,7 +25,7 @@ pub(crate) fn is_limited(
     left.write(alloc, sense, limit)
 }
 
-/// The row that says that a part of a variable is at most another.
+/// The row that says that a variable times a data value is at most another.
 pub(crate) fn is_covered(
     alloc: Global,
     name: RowName,

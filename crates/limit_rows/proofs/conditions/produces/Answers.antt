@@ -3,7 +3,7 @@ use Rattle.std.proofs.Common.{ℕ, ◌<◌, ◌≤◌, Bool, sym, ap, ◌∙◌,
 use Rattle.model_sets.specs.Names.{mode}
 use Rattle.named_equations.specs.Positions.{count_of}
 use Rattle.named_equations.specs.Where.{produces_in_mode}
-use Rattle.limit_rows.proofs.SomePosition.{any-begin, any-here, any-later, any-end}
+use Rattle.named_equations.proofs.SomePosition.{any-begin, any-here, any-later, any-end}
 use Rattle.limit_rows.proofs.conditions.produces.Goals as goal
 
 pub loop-m-init : goal.loop-m-init

@@ -3,7 +3,7 @@ use Rattle.std.proofs.Common.{◌≡◌}
 use Rattle.model_sets.specs.Names.{mode}
 use Rattle.named_equations.specs.Positions.{count_of}
 use Rattle.named_equations.specs.Where.{produces, produces_in_mode}
-use Rattle.limit_rows.proofs.SomePosition.{any_from}
+use Rattle.named_equations.proofs.SomePosition.{any_from}
 use Rattle.limit_rows.proofs.conditions.produces.Given as goal
 
 abbrev pub invariant-loop-m : goal.invariant-loop-m

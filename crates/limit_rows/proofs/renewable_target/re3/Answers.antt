@@ -5,7 +5,7 @@ use Rattle.row_core.specs.declared.Var.{Var}
 use Rattle.row_core.specs.Amounts.{Amount}
 use Rattle.named_equations.specs.Positions.{count_of}
 use Rattle.limit_rows.specs.RenewableTarget.{target_production}
-use Rattle.limit_rows.proofs.NestedTerms.{with_rest_of, nested-step}
+use Rattle.named_equations.proofs.NestedTerms.{with_rest_of, nested-step}
 use Rattle.limit_rows.proofs.renewable_target.re3.Goals as goal
 
 pub loop-l-preserved : goal.loop-l-preserved

@@ -4,7 +4,7 @@ use Rattle.model_sets.specs.Names.{timeslice}
 use Rattle.row_core.specs.Calculated.{no_terms, with_amounts}
 use Rattle.named_equations.specs.Positions.{count_of}
 use Rattle.limit_rows.specs.RenewableTarget.{re3, target_production}
-use Rattle.limit_rows.proofs.NestedTerms.{with_rest_of}
+use Rattle.named_equations.proofs.NestedTerms.{with_rest_of}
 use Rattle.limit_rows.proofs.renewable_target.re3.Given as goal
 
 abbrev pub invariant-loop-l : goal.invariant-loop-l

@@ -2,7 +2,7 @@
 use Rattle.std.proofs.Common.{◌≡◌, sym, subst, refl, rules}
 use Rattle.row_core.specs.EquationTerms.{IsWritten}
 use Rattle.limit_rows.proofs.Meaning.{terms-at}
-use Rattle.limit_rows.proofs.Positions.{of_number}
+use Rattle.named_equations.proofs.PositionsInSets.{of_number}
 use Rattle.limit_rows.proofs.rows.row_of.Goals as goal
 
 pub tcc1-requires : goal.tcc1-requires

@@ -1,7 +1,7 @@
 -- The left side is made of the terms.
 use Rattle.std.proofs.Common.{refl}
 use Rattle.row_core.proofs.AmountLaws.{added}
-use Rattle.limit_rows.specs.Shapes.{is_covered}
+use Rattle.named_equations.specs.TermShapes.{is_covered}
 use Rattle.limit_rows.proofs.shapes.is_covered.Goals as goal
 
 pub returns : goal.returns

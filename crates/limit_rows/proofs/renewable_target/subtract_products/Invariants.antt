@@ -1,0 +1,9 @@
+-- The technologies that are left make of the left side what all of them make of the first.
+use Rattle.std.proofs.Common.{◌≡◌, drop}
+use Rattle.row_core.specs.Calculated.{with_amounts}
+use Rattle.limit_rows.specs.RenewableTarget.{products_of}
+use Rattle.limit_rows.proofs.renewable_target.subtract_products.Given as goal
+
+abbrev pub invariant-loop-t : goal.invariant-loop-t
+invariant-loop-t l =
+    with_amounts (products_of l.facts.facts l.r l.f l.y l.fn.makers) l.fn.left ≡ with_amounts (products_of l.facts.facts l.r l.f l.y (drop l.t-index l.makers)) l.left

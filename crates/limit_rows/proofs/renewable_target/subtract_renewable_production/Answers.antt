@@ -1,0 +1,12 @@
+-- Those that are listed are technologies.
+use Rattle.std.proofs.Common.{◌∙◌}
+use Rattle.model_sets.specs.Names.{technology}
+use Rattle.named_equations.specs.Positions.{count_of}
+use Rattle.named_equations.specs.Where.{produces}
+use Rattle.limit_rows.proofs.Makers.{below_count}
+use Rattle.limit_rows.proofs.renewable_target.subtract_renewable_production.Goals as goal
+
+pub subtract_products-requires-clause-technologies : goal.subtract_products-requires-clause-technologies
+subtract_products-requires-clause-technologies c =
+    let d = c.args.facts.now.facts in
+    below_count (λ t. produces d c.args.r t c.args.f c.args.y) (count_of d technology) c.deref.result.now (c.deref.ensures.value ∙ c.in_ok-makers.ensures)
