@@ -1,0 +1,100 @@
+//! Emissions of regions, and their limits.
+
+ghost use Rattle.row_core.specs.EquationTerms.{IsWritten};
+ghost use Rattle.named_equations.specs.Indices.{by_re, by_rey};
+ghost use Rattle.named_equations.specs.Within.{IsRegion, IsEmission, IsYear};
+ghost use Rattle.emission_rows.specs.Emissions.{e6, e7, e8, e9};
+
+use crate::parameters::{
+    annual_emission_limit, annual_exogenous_emission, model_period_emission_limit,
+    model_period_exogenous_emission,
+};
+use crate::sets::{TECHNOLOGY, YEAR};
+use crate::variables::{annual_emissions, annual_technology_emission, model_period_emissions};
+use param_tables::ModelData;
+use row_core::{
+    Index, LeftSide, Row, RowName, Sense, Stopped, minus_one, negative, one, plus, zero,
+};
+use std::alloc::Global;
+
+/// E6: the annual emissions of a region are those of its technologies.
+pub(crate) fn e6(alloc: Global, facts: &ModelData, name: RowName) -> Result<Row, Stopped>
+    ensures { IsWritten name (by_rey (e6 facts.now.facts) name.index) result }
+{
+    let Index {
+        region: r,
+        emission: e,
+        year: y,
+        ..
+    } = name.index;
+    let mut left = LeftSide::new(alloc, name);
+    left.add(annual_emissions(r, e, y), one())?;
+    left.add_each(
+        facts.sets().count(TECHNOLOGY),
+        |t| (annual_technology_emission(r, t, e, y), minus_one()),
+    )?;
+    left.write(alloc, Sense::Equal, zero())
+}
+
+/// E7: the emissions of the model period are those of its years and the exogenous emission of the period.
+pub(crate) fn e7(alloc: Global, facts: &ModelData, name: RowName) -> Result<Row, Stopped>
+    requires region { IsRegion facts.now.facts name.index.region }
+    requires emission { IsEmission facts.now.facts name.index.emission }
+    ensures { IsWritten name (by_re (e7 facts.now.facts) name.index) result }
+{
+    let Index {
+        region: r,
+        emission: e,
+        ..
+    } = name.index;
+    let mut left = LeftSide::new(alloc, name);
+    left.add(model_period_emissions(r, e), one())?;
+    left.add_each(
+        facts.sets().count(YEAR),
+        |y| (annual_emissions(r, e, y), minus_one()),
+    )?;
+    left.write(
+        alloc,
+        Sense::Equal,
+        model_period_exogenous_emission(facts, r, e),
+    )
+}
+
+/// E8: the annual emissions are at most the limit of the year, less the exogenous emission of the year.
+pub(crate) fn e8(alloc: Global, facts: &ModelData, name: RowName) -> Result<Row, Stopped>
+    requires region { IsRegion facts.now.facts name.index.region }
+    requires emission { IsEmission facts.now.facts name.index.emission }
+    requires year { IsYear facts.now.facts name.index.year }
+    ensures { IsWritten name (by_rey (e8 facts.now.facts) name.index) result }
+{
+    let Index {
+        region: r,
+        emission: e,
+        year: y,
+        ..
+    } = name.index;
+    let mut left = LeftSide::new(alloc, name);
+    left.add(annual_emissions(r, e, y), one())?;
+    let exogenous = annual_exogenous_emission(facts, r, e, y);
+    left.write(
+        alloc,
+        Sense::Most,
+        plus(annual_emission_limit(facts, r, e, y), negative(exogenous)),
+    )
+}
+
+/// E9: the emissions of the model period are at most the limit of the period.
+pub(crate) fn e9(alloc: Global, facts: &ModelData, name: RowName) -> Result<Row, Stopped>
+    requires region { IsRegion facts.now.facts name.index.region }
+    requires emission { IsEmission facts.now.facts name.index.emission }
+    ensures { IsWritten name (by_re (e9 facts.now.facts) name.index) result }
+{
+    let Index {
+        region: r,
+        emission: e,
+        ..
+    } = name.index;
+    let mut left = LeftSide::new(alloc, name);
+    left.add(model_period_emissions(r, e), one())?;
+    left.write(alloc, Sense::Most, model_period_emission_limit(facts, r, e))
+}

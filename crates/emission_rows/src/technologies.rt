@@ -1,0 +1,144 @@
+//! Emissions of technologies, and their penalties.
+
+ghost use Rattle.row_core.specs.EquationTerms.{IsWritten};
+ghost use Rattle.named_equations.specs.Indices.{by_rtemy, by_rtey, by_rty};
+ghost use Rattle.named_equations.specs.RegionFactors.{AreRegionFactors};
+ghost use Rattle.named_equations.specs.Within.{IsRegion, IsTechnology, IsEmission, IsMode, IsYear};
+ghost use Rattle.emission_rows.specs.Emissions.{e1, e2, e3, e4, e5};
+
+use crate::factors::operating_factor;
+use crate::listed::take_away_each;
+use crate::parameters::{emission_activity_ratio, emissions_penalty};
+use crate::sets::EMISSION;
+use crate::shapes::is_times;
+use crate::variables::{
+    annual_technology_emission, annual_technology_emission_by_mode,
+    annual_technology_emission_penalty_by_emission, annual_technology_emissions_penalty,
+    discounted_technology_emissions_penalty, total_annual_technology_activity_by_mode,
+};
+use discount_factors::Factors;
+use param_tables::{ActivityRatio, ModelData};
+use row_core::{Index, LeftSide, Row, RowName, Sense, Stopped, minus_one, one, zero};
+use std::alloc::Global;
+
+/// E1: the emission of a mode is the mode's annual activity times the ratio.
+pub(crate) fn e1(alloc: Global, facts: &ModelData, name: RowName) -> Result<Row, Stopped>
+    requires region { IsRegion facts.now.facts name.index.region }
+    requires technology { IsTechnology facts.now.facts name.index.tech }
+    requires emission { IsEmission facts.now.facts name.index.emission }
+    requires mode { IsMode facts.now.facts name.index.mode }
+    requires year { IsYear facts.now.facts name.index.year }
+    ensures { IsWritten name (by_rtemy (e1 facts.now.facts) name.index) result }
+{
+    let Index {
+        region: r,
+        tech: t,
+        emission: e,
+        mode: m,
+        year: y,
+        ..
+    } = name.index;
+    is_times(
+        alloc,
+        name,
+        annual_technology_emission_by_mode(r, t, e, m, y),
+        total_annual_technology_activity_by_mode(r, t, m, y),
+        emission_activity_ratio(facts, r, t, e, m, y),
+    )
+}
+
+/// E2: the emission of a technology is that of the modes that emit.
+pub(crate) fn e2(alloc: Global, facts: &ModelData, name: RowName) -> Result<Row, Stopped>
+    requires region { IsRegion facts.now.facts name.index.region }
+    requires technology { IsTechnology facts.now.facts name.index.tech }
+    requires emission { IsEmission facts.now.facts name.index.emission }
+    requires year { IsYear facts.now.facts name.index.year }
+    ensures { IsWritten name (by_rtey (e2 facts.now.facts) name.index) result }
+{
+    let Index {
+        region: r,
+        tech: t,
+        emission: e,
+        year: y,
+        ..
+    } = name.index;
+    let mut left = LeftSide::new(alloc, name);
+    left.add(annual_technology_emission(r, t, e, y), one())?;
+    let modes = facts.nonzero_modes(alloc, ActivityRatio::Emission, r, t, e, y)?;
+    take_away_each(&mut left, &modes, |m| {
+        annual_technology_emission_by_mode(r, t, e, m, y)
+    })?;
+    left.write(alloc, Sense::Equal, zero())
+}
+
+/// E3: the penalty of an emission of a technology is the emission times its penalty.
+pub(crate) fn e3(alloc: Global, facts: &ModelData, name: RowName) -> Result<Row, Stopped>
+    requires region { IsRegion facts.now.facts name.index.region }
+    requires emission { IsEmission facts.now.facts name.index.emission }
+    requires year { IsYear facts.now.facts name.index.year }
+    ensures { IsWritten name (by_rtey (e3 facts.now.facts) name.index) result }
+{
+    let Index {
+        region: r,
+        tech: t,
+        emission: e,
+        year: y,
+        ..
+    } = name.index;
+    is_times(
+        alloc,
+        name,
+        annual_technology_emission_penalty_by_emission(r, t, e, y),
+        annual_technology_emission(r, t, e, y),
+        emissions_penalty(facts, r, e, y),
+    )
+}
+
+/// E4: the penalty of a technology is that of its emissions.
+pub(crate) fn e4(alloc: Global, facts: &ModelData, name: RowName) -> Result<Row, Stopped>
+    ensures { IsWritten name (by_rty (e4 facts.now.facts) name.index) result }
+{
+    let Index {
+        region: r,
+        tech: t,
+        year: y,
+        ..
+    } = name.index;
+    let mut left = LeftSide::new(alloc, name);
+    left.add(annual_technology_emissions_penalty(r, t, y), one())?;
+    left.add_each(
+        facts.sets().count(EMISSION),
+        |e| (
+            annual_technology_emission_penalty_by_emission(r, t, e, y),
+            minus_one(),
+        ),
+    )?;
+    left.write(alloc, Sense::Equal, zero())
+}
+
+/// E5: the discounted penalty is the penalty times the operating factor, since it is due in the middle of the year.
+pub(crate) fn e5(
+    alloc: Global,
+    facts: &ModelData,
+    factors: &[Factors],
+    name: RowName,
+) -> Result<Row, Stopped>
+    requires factors { AreRegionFactors facts.now.facts factors.now }
+    requires region { IsRegion facts.now.facts name.index.region }
+    requires year { IsYear facts.now.facts name.index.year }
+    ensures { IsWritten name (by_rty (e5 facts.now.facts) name.index) result }
+{
+    let Index {
+        region: r,
+        tech: t,
+        year: y,
+        ..
+    } = name.index;
+    is_times(
+        alloc,
+        name,
+        discounted_technology_emissions_penalty(r, t, y),
+        annual_technology_emissions_penalty(r, t, y),
+        operating_factor(facts, factors, r, y),
+    )
+}
