@@ -1,0 +1,5 @@
+mod FactorLists
+pub mod FactorLaws
+pub mod Meaning
+pub mod WholeNumbers
+pub mod YearLaws

@@ -1,0 +1,232 @@
+-- The terms of each equation of investment, salvage value, operating cost and total cost mean it.
+use Rattle.std.proofs.Common.{◌≡◌, ◌≢◌, true, ℕ, ℤ, pos, neg_ℤ, ◌+ℤ◌, ◌*ℤ◌, List, [], ◌∷◌, Some, inl, inr, refl, ap, ◌∙◌, subst, arith}
+use Rattle.std.specs.Prelude.{◌<ℤ◌, ◌-ℤ◌}
+use Rattle.std.proofs.lemmas.Int.{ints}
+use Rattle.exact_num.proofs.Ring.{one-*ℤ, neg_ℤ-*ℤ, *ℤ_comm, *ℤ_assoc}
+use Rattle.model_sets.specs.Data.{Data}
+use Rattle.row_core.specs.declared.Index.{Index}
+use Rattle.row_core.specs.declared.RowName.{RowName}
+use Rattle.row_core.specs.declared.Var.{Var}
+use Rattle.row_core.specs.Amounts.{Amount, Billionths, Millionths, Product}
+use Rattle.row_core.specs.EquationTerms.{once, less, coefficients_of}
+use Rattle.row_core.specs.Values.{IsSumOver, alone}
+use Rattle.named_equations.specs.Instances.{name_at, stands_at, variable_of}
+use Rattle.named_equations.specs.Notation.{◌equals◌, values, million}
+use Rattle.named_equations.specs.Parameters.{capital_cost, variable_cost, fixed_cost}
+use Rattle.named_equations.specs.Positions.{technologies, modes, all_years, years_since_first, years_in_all}
+use Rattle.named_equations.specs.Plans.{says}
+use Rattle.named_equations.specs.TermShapes.{is_times}
+use Rattle.named_equations.specs.Variables.{new_capacity, total_capacity_annual, total_annual_technology_activity_by_mode, capital_investment, discounted_capital_investment, salvage_value, discounted_salvage_value, annual_variable_operating_cost, annual_fixed_operating_cost, operating_cost, discounted_operating_cost, discounted_technology_emissions_penalty, total_discounted_cost_by_technology, total_discounted_cost, model_period_cost_by_region}
+use Rattle.named_equations.specs.WrittenFactors.{capital_factor_of, operating_factor_of, salvage_fraction_of}
+use Rattle.named_equations.proofs.TermMeaning.{MeansStatement, IsNamedEquation, EachFrom, at_number, definition_is, sum_of_others, sum_of_others-defines, weighted_sum, weighted_sum-defines, scaled_other, scaled_other-defines, over-one, over-minus_one, over-data, sum-none, sum-term}
+use Rattle.named_equations.proofs.TermShapes.{made_of_others, made_of_others-defines, times_number, times_number-defines, over-factor, over-value_factor}
+use Rattle.cost_rows.specs.Rows.{IsCostEquation, terms_at}
+
+-- the equation of number n
+abbrev pub IsNamed : Data → Index → ℕ → Type 0
+IsNamed d i n = IsNamedEquation d (name_at n i) (terms_at d (name_at n i))
+
+-- that its terms mean it
+abbrev pub Means : Data → Index → ℕ → Type 0
+Means d i n = MeansStatement (terms_at d (name_at n i)) (λ q x. says d q x (name_at n i))
+
+definition : (d : Data) (i : Index) (n : ℕ) (v : Var) (m : Means d i n) → variable_of (name_at n i) ≡ Some v → pos 0 <ℤ m.sum (alone v) → IsNamed d i n
+definition d i n v m is h = definition_is d (name_at n i) (terms_at d (name_at n i)) v m is h
+
+-- ---- shapes
+
+one_million : pos 0 <ℤ million
+one_million = omega (arith, ints)
+
+-- a variable is another times a written factor: CC2, SV4, OC4
+factored : (v w : Var) (z : ℤ) → MeansStatement (is_times v w (Millionths z)) (λ q x. million *ℤ x v equals x w *ℤ z)
+factored v w z = times_number million one_million v w (Millionths z) z (over-factor z) (λ x. x w *ℤ z) (λ x. refl)
+
+factored-defines : (v w : Var) (z : ℤ) → alone v w ≡ pos 0 → pos 0 <ℤ (factored v w z).sum (alone v)
+unfolding factored
+factored-defines v w z none = times_number-defines million one_million v w (Millionths z) z (over-factor z) (λ x. x w *ℤ z) (λ x. refl) none
+
+value_of_part : (z y f : ℤ) → (z *ℤ y) *ℤ f ≡ y *ℤ (z *ℤ f)
+value_of_part z y f = ap (λ n. n *ℤ f) (*ℤ_comm z y) ∙ *ℤ_assoc y z f
+
+million_values : pos 0 <ℤ (values 1 *ℤ million)
+million_values = omega (arith, ints)
+
+-- a variable is another times a data value and a written factor: SV1, SV2
+valued : (v w : Var) (z f : ℤ) → MeansStatement (is_times v w (Product (Billionths z) (Millionths f))) (λ q x. values 1 *ℤ million *ℤ x v equals z *ℤ x w *ℤ f)
+valued v w z f =
+    times_number (values 1 *ℤ million) million_values v w (Product (Billionths z) (Millionths f)) (z *ℤ f) (over-value_factor z f) (λ x. z *ℤ x w *ℤ f) (λ x. value_of_part z (x w) f)
+
+valued-defines : (v w : Var) (z f : ℤ) → alone v w ≡ pos 0 → pos 0 <ℤ (valued v w z f).sum (alone v)
+unfolding valued
+valued-defines v w z f none =
+    times_number-defines (values 1 *ℤ million) million_values v w (Product (Billionths z) (Millionths f)) (z *ℤ f) (over-value_factor z f) (λ x. z *ℤ x w *ℤ f) (λ x. value_of_part z (x w) f) none
+
+minus_one_times : (y : ℤ) → neg_ℤ (pos 1) *ℤ y ≡ neg_ℤ y
+minus_one_times y = neg_ℤ-*ℤ (pos 1) y ∙ ap neg_ℤ (one-*ℤ y)
+
+-- a variable taken away before others
+sum-less : (x : Var → ℤ) (w : Var) (terms : List (Var × Amount)) (n : ℤ) → IsSumOver (pos 1) x (coefficients_of terms) n → IsSumOver (pos 1) x (coefficients_of (less w ∷ terms)) (neg_ℤ (x w) +ℤ n)
+sum-less x w terms n is =
+    subst (λ y. IsSumOver (pos 1) x (coefficients_of (less w ∷ terms)) (y +ℤ n)) (minus_one_times (x w))
+    (sum-term (pos 1) x w (less w).1 terms (neg_ℤ (pos 1)) n (over-minus_one (pos 1)) is)
+
+-- a variable itself before others
+sum-once : (x : Var → ℤ) (w : Var) (terms : List (Var × Amount)) (n : ℤ) → IsSumOver (pos 1) x (coefficients_of terms) n → IsSumOver (pos 1) x (coefficients_of (once w ∷ terms)) (x w +ℤ n)
+sum-once x w terms n is =
+    subst (λ y. IsSumOver (pos 1) x (coefficients_of (once w ∷ terms)) (y +ℤ n)) (one-*ℤ (x w))
+    (sum-term (pos 1) x w (once w).1 terms (pos 1) n (over-one (pos 1)) is)
+
+-- ---- investment
+
+cc1-named : (d : Data) (i : Index) → IsNamed d i 25
+cc1-named d i =
+    let v = capital_investment i.region i.tech i.year in
+    let w = new_capacity i.region i.tech i.year in
+    let z = capital_cost d i.region i.tech i.year in
+    let s : ℤ = values 1 in
+    let h : pos 0 <ℤ s = omega (arith, ints) in
+    let n : (Var → ℤ) → ℤ = λ x. z *ℤ x w in
+    let same : (x : Var → ℤ) → n x ≡ x w *ℤ z = λ x. *ℤ_comm z (x w) in
+    definition d i 25 v (times_number s h v w (Billionths z) z (over-data z) n same) refl (times_number-defines s h v w (Billionths z) z (over-data z) n same refl)
+
+cc2-named : (d : Data) (i : Index) → IsNamed d i 26
+cc2-named d i =
+    let v = discounted_capital_investment i.region i.tech i.year in
+    let w = capital_investment i.region i.tech i.year in
+    let z = capital_factor_of d i.region (years_since_first d i.year) in
+    definition d i 26 v (factored v w z) refl (factored-defines v w z refl)
+
+-- ---- salvage value
+
+sv1-named : (d : Data) (i : Index) → IsNamed d i 27
+sv1-named d i =
+    let v = salvage_value i.region i.tech i.year in
+    let w = new_capacity i.region i.tech i.year in
+    let z = capital_cost d i.region i.tech i.year in
+    let f = salvage_fraction_of d 1 i.region i.tech i.year in
+    definition d i 27 v (valued v w z f) refl (valued-defines v w z f refl)
+
+sv2-named : (d : Data) (i : Index) → IsNamed d i 28
+sv2-named d i =
+    let v = salvage_value i.region i.tech i.year in
+    let w = new_capacity i.region i.tech i.year in
+    let z = capital_cost d i.region i.tech i.year in
+    let f = salvage_fraction_of d 2 i.region i.tech i.year in
+    definition d i 28 v (valued v w z f) refl (valued-defines v w z f refl)
+
+sv3-named : (d : Data) (i : Index) → IsNamed d i 29
+sv3-named d i =
+    let v = salvage_value i.region i.tech i.year in
+    let none : (Var → ℤ) → ℤ = λ x. pos 0 in
+    let is : (x : Var → ℤ) → IsSumOver (pos 1) x (coefficients_of []) (neg_ℤ (none x)) = λ x. sum-none (pos 1) x in
+    definition d i 29 v (made_of_others v [] none is) refl (made_of_others-defines v [] none is refl)
+
+sv4-named : (d : Data) (i : Index) → IsNamed d i 30
+sv4-named d i =
+    let v = discounted_salvage_value i.region i.tech i.year in
+    let w = salvage_value i.region i.tech i.year in
+    let z = capital_factor_of d i.region (years_in_all d) in
+    definition d i 30 v (factored v w z) refl (factored-defines v w z refl)
+
+-- ---- operating cost
+
+oc1-named : (d : Data) (i : Index) → IsNamed d i 31
+oc1-named d i =
+    let v = annual_variable_operating_cost i.region i.tech i.year in
+    let w : ℕ → Var = λ m. total_annual_technology_activity_by_mode i.region i.tech m i.year in
+    let z : ℕ → ℤ = λ m. variable_cost d i.region i.tech m i.year in
+    definition d i 31 v (weighted_sum v (modes d) w z) refl (weighted_sum-defines v (modes d) w z (λ m. refl))
+
+oc2-named : (d : Data) (i : Index) → IsNamed d i 32
+oc2-named d i =
+    let v = annual_fixed_operating_cost i.region i.tech i.year in
+    let w = total_capacity_annual i.region i.tech i.year in
+    let z = fixed_cost d i.region i.tech i.year in
+    definition d i 32 v (scaled_other v w z) refl (scaled_other-defines v w z refl)
+
+two_away : (a b : ℤ) → neg_ℤ a +ℤ (neg_ℤ b +ℤ pos 0) ≡ neg_ℤ (a +ℤ b)
+two_away a b = omega (arith, ints)
+
+oc3-named : (d : Data) (i : Index) → IsNamed d i 33
+oc3-named d i =
+    let v = operating_cost i.region i.tech i.year in
+    let a = annual_variable_operating_cost i.region i.tech i.year in
+    let b = annual_fixed_operating_cost i.region i.tech i.year in
+    let others : List (Var × Amount) = less a ∷ less b ∷ [] in
+    let n : (Var → ℤ) → ℤ = λ x. x a +ℤ x b in
+    let is : (x : Var → ℤ) → IsSumOver (pos 1) x (coefficients_of others) (neg_ℤ (n x)) = λ x.
+    subst (IsSumOver (pos 1) x (coefficients_of others)) (two_away (x a) (x b))
+    (sum-less x a (less b ∷ []) (neg_ℤ (x b) +ℤ pos 0) (sum-less x b [] (pos 0) (sum-none (pos 1) x))) in
+    definition d i 33 v (made_of_others v others n is) refl (made_of_others-defines v others n is refl)
+
+oc4-named : (d : Data) (i : Index) → IsNamed d i 34
+oc4-named d i =
+    let v = discounted_operating_cost i.region i.tech i.year in
+    let w = operating_cost i.region i.tech i.year in
+    let z = operating_factor_of d i.region (years_since_first d i.year) in
+    definition d i 34 v (factored v w z) refl (factored-defines v w z refl)
+
+-- ---- total cost
+
+three_away_and_one : (a b c s : ℤ) → neg_ℤ a +ℤ (neg_ℤ b +ℤ (neg_ℤ c +ℤ (s +ℤ pos 0))) ≡ neg_ℤ (((a +ℤ b) +ℤ c) -ℤ s)
+three_away_and_one a b c s = omega (arith, ints)
+
+tdc1-named : (d : Data) (i : Index) → IsNamed d i 40
+tdc1-named d i =
+    let v = total_discounted_cost_by_technology i.region i.tech i.year in
+    let a = discounted_operating_cost i.region i.tech i.year in
+    let b = discounted_capital_investment i.region i.tech i.year in
+    let c = discounted_technology_emissions_penalty i.region i.tech i.year in
+    let s = discounted_salvage_value i.region i.tech i.year in
+    let others : List (Var × Amount) = less a ∷ less b ∷ less c ∷ once s ∷ [] in
+    let n : (Var → ℤ) → ℤ = λ x. ((x a +ℤ x b) +ℤ x c) -ℤ x s in
+    let is : (x : Var → ℤ) → IsSumOver (pos 1) x (coefficients_of others) (neg_ℤ (n x)) = λ x.
+    subst (IsSumOver (pos 1) x (coefficients_of others)) (three_away_and_one (x a) (x b) (x c) (x s))
+    (sum-less x a (less b ∷ less c ∷ once s ∷ []) (neg_ℤ (x b) +ℤ (neg_ℤ (x c) +ℤ (x s +ℤ pos 0)))
+    (sum-less x b (less c ∷ once s ∷ []) (neg_ℤ (x c) +ℤ (x s +ℤ pos 0))
+    (sum-less x c (once s ∷ []) (x s +ℤ pos 0)
+    (sum-once x s [] (pos 0) (sum-none (pos 1) x))))) in
+    definition d i 40 v (made_of_others v others n is) refl (made_of_others-defines v others n is refl)
+
+tdc2-named : (d : Data) (i : Index) → IsNamed d i 41
+tdc2-named d i =
+    let v = total_discounted_cost i.region i.year in
+    let w : ℕ → Var = λ t. total_discounted_cost_by_technology i.region t i.year in
+    definition d i 41 v (sum_of_others v (technologies d) w) refl (sum_of_others-defines v (technologies d) w (λ t. refl))
+
+acc4-named : (d : Data) (i : Index) → IsNamed d i 42
+acc4-named d i =
+    let v = model_period_cost_by_region i.region in
+    let w : ℕ → Var = λ y. total_discounted_cost i.region y in
+    definition d i 42 v (sum_of_others v (all_years d) w) refl (sum_of_others-defines v (all_years d) w (λ y. refl))
+
+-- ---- by number
+
+parts-named : (d : Data) (i : Index) → EachFrom (IsNamed d i) 25 10
+parts-named d i = (cc1-named d i, (cc2-named d i, (sv1-named d i, (sv2-named d i, (sv3-named d i, (sv4-named d i, (oc1-named d i, (oc2-named d i, (oc3-named d i, (oc4-named d i, tt))))))))))
+
+totals-named : (d : Data) (i : Index) → EachFrom (IsNamed d i) 40 3
+totals-named d i = (tdc1-named d i, (tdc2-named d i, (acc4-named d i, tt)))
+
+pub named : (d : Data) (n : ℕ) (i : Index) → IsCostEquation n → IsNamed d i n
+named d n i (inl h) = at_number (IsNamed d i) 25 10 n (parts-named d i) h.0 (omega (arith, h.1))
+named d n i (inr h) = at_number (IsNamed d i) 40 3 n (totals-named d i) h.0 (omega (arith, h.1))
+
+pub terms-at : (d : Data) (name : RowName) (n : ℕ) → name.eq ≡ n → terms_at d name ≡ terms_at d (name_at n name.index)
+terms-at d name n h = ap (λ m. terms_at d (name_at m name.index)) h
+
+-- where no condition is asked, the equation stands everywhere
+abbrev pub Stands : Data → Index → ℕ → Type 0
+Stands d i n = n ≢ 27 → n ≢ 28 → n ≢ 29 → true ≡ stands_at d n i
+
+parts-stand : (d : Data) (i : Index) → EachFrom (Stands d i) 25 10
+parts-stand d i =
+    ((λ a b c. refl), ((λ a b c. refl), ((λ a b c. absurd (a refl)), ((λ a b c. absurd (b refl)), ((λ a b c. absurd (c refl)), ((λ a b c. refl), ((λ a b c. refl), ((λ a b c. refl), ((λ a b c. refl), ((λ a b c. refl), tt))))))))))
+
+totals-stand : (d : Data) (i : Index) → EachFrom (Stands d i) 40 3
+totals-stand d i = ((λ a b c. refl), ((λ a b c. refl), ((λ a b c. refl), tt)))
+
+pub everywhere_else : (d : Data) (n : ℕ) (i : Index) → IsCostEquation n → Stands d i n
+everywhere_else d n i (inl h) = at_number (Stands d i) 25 10 n (parts-stand d i) h.0 (omega (arith, h.1))
+everywhere_else d n i (inr h) = at_number (Stands d i) 40 3 n (totals-stand d i) h.0 (omega (arith, h.1))

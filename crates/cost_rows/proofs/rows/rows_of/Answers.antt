@@ -1,0 +1,12 @@
+-- The row is that of the named equation.
+use Rattle.named_equations.specs.Instances.{name_at}
+use Rattle.named_equations.proofs.TermMeaning.{named_row}
+use Rattle.cost_rows.specs.Rows.{terms_at}
+use Rattle.cost_rows.proofs.Meaning.{named}
+use Rattle.cost_rows.proofs.rows.rows_of.Goals as goal
+
+pub returns-in-Ok-clause-row : goal.returns-in-Ok-clause-row
+returns-in-Ok-clause-row c =
+    let d = c.args.facts.now.facts in
+    let name = name_at c.args.eq c.args.at in
+    named_row d name (terms_at d name) c.in-Ok.row (named d c.args.eq c.args.at c.requires.equation) c.in-Ok.ensures.0 c.in-Ok.ensures.1

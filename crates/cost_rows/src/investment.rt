@@ -1,0 +1,65 @@
+//! Capital investment.
+
+ghost use Rattle.row_core.specs.EquationTerms.{IsWritten};
+ghost use Rattle.named_equations.specs.Indices.{by_rty};
+ghost use Rattle.named_equations.specs.RegionFactors.{AreRegionFactors};
+ghost use Rattle.named_equations.specs.Within.{IsRegion, IsTechnology, IsYear};
+ghost use Rattle.cost_rows.specs.Costs.{cc1, cc2};
+
+use crate::factors::capital_factor;
+use crate::parameters::capital_cost;
+use crate::shapes::is_times;
+use crate::variables::{capital_investment, discounted_capital_investment, new_capacity};
+use discount_factors::Factors;
+use param_tables::ModelData;
+use row_core::{Index, Row, RowName, Stopped};
+use std::alloc::Global;
+
+/// CC1: the investment is what is built times its capital cost.
+pub(crate) fn cc1(alloc: Global, facts: &ModelData, name: RowName) -> Result<Row, Stopped>
+    requires region { IsRegion facts.now.facts name.index.region }
+    requires technology { IsTechnology facts.now.facts name.index.tech }
+    requires year { IsYear facts.now.facts name.index.year }
+    ensures { IsWritten name (by_rty (cc1 facts.now.facts) name.index) result }
+{
+    let Index {
+        region: r,
+        tech: t,
+        year: y,
+        ..
+    } = name.index;
+    is_times(
+        alloc,
+        name,
+        capital_investment(r, t, y),
+        new_capacity(r, t, y),
+        capital_cost(facts, r, t, y),
+    )
+}
+
+/// CC2: the discounted investment is the investment times the capital factor of its year.
+pub(crate) fn cc2(
+    alloc: Global,
+    facts: &ModelData,
+    factors: &[Factors],
+    name: RowName,
+) -> Result<Row, Stopped>
+    requires factors { AreRegionFactors facts.now.facts factors.now }
+    requires region { IsRegion facts.now.facts name.index.region }
+    requires year { IsYear facts.now.facts name.index.year }
+    ensures { IsWritten name (by_rty (cc2 facts.now.facts) name.index) result }
+{
+    let Index {
+        region: r,
+        tech: t,
+        year: y,
+        ..
+    } = name.index;
+    is_times(
+        alloc,
+        name,
+        discounted_capital_investment(r, t, y),
+        capital_investment(r, t, y),
+        capital_factor(facts, factors, r, y),
+    )
+}

@@ -1,0 +1,21 @@
+//! The rows of investment, salvage value, operating cost and total cost: equations 25 to 34 and 40 to 42 of an OSeMOSYS
+//! model (Howells et al., "OSeMOSYS: The Open Source Energy Modeling System", Energy Policy 39, 2011).
+#![tactic(auto)]
+
+mod depreciation;
+mod factors;
+mod investment;
+mod operating_cost;
+mod parameters;
+mod rows;
+mod salvage;
+mod sets;
+mod shapes;
+mod total_cost;
+mod variables;
+mod years;
+
+pub use rows::rows_of;
+
+#[cfg(test)]
+mod tests;

@@ -1,0 +1,123 @@
+//! Operating cost.
+
+ghost use Rattle.row_core.specs.Amounts.{Billionths, Negative};
+ghost use Rattle.row_core.specs.EquationTerms.{IsWritten};
+ghost use Rattle.row_core.specs.Repeated.{IsTerm};
+ghost use Rattle.named_equations.specs.Indices.{by_rty};
+ghost use Rattle.named_equations.specs.Parameters.{variable_cost};
+ghost use Rattle.named_equations.specs.RegionFactors.{AreRegionFactors};
+ghost use Rattle.named_equations.specs.Variables.{total_annual_technology_activity_by_mode};
+ghost use Rattle.named_equations.specs.Within.{IsRegion, IsTechnology, IsMode, IsYear};
+ghost use Rattle.cost_rows.specs.Costs.{oc1, oc2, oc3, oc4};
+
+use crate::factors::operating_factor;
+use crate::parameters::{fixed_cost, variable_cost};
+use crate::sets::MODE;
+use crate::shapes::is_times;
+use crate::variables::{
+    annual_fixed_operating_cost, annual_variable_operating_cost, discounted_operating_cost,
+    operating_cost, total_annual_technology_activity_by_mode, total_capacity_annual,
+};
+use discount_factors::Factors;
+use param_tables::ModelData;
+use row_core::{Index, LeftSide, Row, RowName, Sense, Stopped, minus_one, negative, one, zero};
+use std::alloc::Global;
+
+/// OC1: the variable cost is the sum over the modes of their activity times its cost.
+pub(crate) fn oc1(alloc: Global, facts: &ModelData, name: RowName) -> Result<Row, Stopped>
+    requires region { IsRegion facts.now.facts name.index.region }
+    requires technology { IsTechnology facts.now.facts name.index.tech }
+    requires year { IsYear facts.now.facts name.index.year }
+    ensures { IsWritten name (by_rty (oc1 facts.now.facts) name.index) result }
+{
+    let Index {
+        region: r,
+        tech: t,
+        year: y,
+        ..
+    } = name.index;
+    let mut left = LeftSide::new(alloc, name);
+    left.add(annual_variable_operating_cost(r, t, y), one())?;
+    left.add_each(
+        facts.sets().count(MODE),
+        |m|
+            requires region { IsRegion facts.now.facts r }
+            requires technology { IsTechnology facts.now.facts t }
+            requires mode { IsMode facts.now.facts m }
+            requires year { IsYear facts.now.facts y }
+            ensures { IsTerm (total_annual_technology_activity_by_mode r t m y, Negative (Billionths (variable_cost facts.entry.now.facts r t m y))) result }
+        {
+            (
+                total_annual_technology_activity_by_mode(r, t, m, y),
+                negative(variable_cost(facts, r, t, m, y)),
+            )
+        },
+    )?;
+    left.write(alloc, Sense::Equal, zero())
+}
+
+/// OC2: the fixed cost is the total capacity times its cost.
+pub(crate) fn oc2(alloc: Global, facts: &ModelData, name: RowName) -> Result<Row, Stopped>
+    requires region { IsRegion facts.now.facts name.index.region }
+    requires technology { IsTechnology facts.now.facts name.index.tech }
+    requires year { IsYear facts.now.facts name.index.year }
+    ensures { IsWritten name (by_rty (oc2 facts.now.facts) name.index) result }
+{
+    let Index {
+        region: r,
+        tech: t,
+        year: y,
+        ..
+    } = name.index;
+    is_times(
+        alloc,
+        name,
+        annual_fixed_operating_cost(r, t, y),
+        total_capacity_annual(r, t, y),
+        fixed_cost(facts, r, t, y),
+    )
+}
+
+/// OC3: the operating cost is the variable and the fixed cost.
+pub(crate) fn oc3(alloc: Global, facts: &ModelData, name: RowName) -> Result<Row, Stopped>
+    ensures { IsWritten name (by_rty (oc3 facts.now.facts) name.index) result }
+{
+    let Index {
+        region: r,
+        tech: t,
+        year: y,
+        ..
+    } = name.index;
+    let mut left = LeftSide::new(alloc, name);
+    left.add(operating_cost(r, t, y), one())?;
+    left.add(annual_variable_operating_cost(r, t, y), minus_one())?;
+    left.add(annual_fixed_operating_cost(r, t, y), minus_one())?;
+    left.write(alloc, Sense::Equal, zero())
+}
+
+/// OC4: the discounted operating cost is the operating cost times the operating factor of its year.
+pub(crate) fn oc4(
+    alloc: Global,
+    facts: &ModelData,
+    factors: &[Factors],
+    name: RowName,
+) -> Result<Row, Stopped>
+    requires factors { AreRegionFactors facts.now.facts factors.now }
+    requires region { IsRegion facts.now.facts name.index.region }
+    requires year { IsYear facts.now.facts name.index.year }
+    ensures { IsWritten name (by_rty (oc4 facts.now.facts) name.index) result }
+{
+    let Index {
+        region: r,
+        tech: t,
+        year: y,
+        ..
+    } = name.index;
+    is_times(
+        alloc,
+        name,
+        discounted_operating_cost(r, t, y),
+        operating_cost(r, t, y),
+        operating_factor(facts, factors, r, y),
+    )
+}

@@ -1,0 +1,145 @@
+//! Salvage value: what an investment is still worth when the last year is over.
+
+ghost use Rattle.std.specs.Prelude.{◌≡◌, ◌≤◌, true};
+ghost use Rattle.row_core.specs.Calculated.{known, number_of};
+ghost use Rattle.row_core.specs.EquationTerms.{IsWritten};
+ghost use Rattle.named_equations.specs.Indices.{by_rty};
+ghost use Rattle.named_equations.specs.RegionFactors.{AreRegionFactors};
+ghost use Rattle.named_equations.specs.Salvage.{outlasts};
+ghost use Rattle.named_equations.specs.Within.{IsRegion, IsTechnology, IsYear};
+ghost use Rattle.cost_rows.specs.Costs.{salvage_value_of_unit, sv1, sv2, sv3, sv4};
+
+use crate::depreciation::{SINKING_FUND, STRAIGHT_LINE};
+use crate::factors::{final_capital_factor, salvage_fraction};
+use crate::parameters::capital_cost;
+use crate::shapes::is_times;
+use crate::variables::{discounted_salvage_value, new_capacity, salvage_value};
+use discount_factors::Factors;
+use exact_num::Frac;
+use param_tables::ModelData;
+use row_core::{Index, LeftSide, Row, RowName, Sense, Stopped, one, times, zero};
+use std::alloc::Global;
+
+/// The salvage value of a unit of capacity that is built in the year, by this method of depreciation.
+fn salvage_value_of_unit(
+    facts: &ModelData,
+    factors: &[Factors],
+    method: u8,
+    r: u16,
+    t: u16,
+    y: u16,
+) -> Option<Frac>
+    requires factors { AreRegionFactors facts.now.facts factors.now }
+    requires method_least { 1 ≤ method }
+    requires method_most { method ≤ 2 }
+    requires region { IsRegion facts.now.facts r }
+    requires technology { IsTechnology facts.now.facts t }
+    requires year { IsYear facts.now.facts y }
+    requires outlasts { outlasts facts.now.facts r t y ≡ true }
+    ensures { known result ≡ number_of (salvage_value_of_unit facts.now.facts method r t y) }
+{
+    times(
+        capital_cost(facts, r, t, y),
+        salvage_fraction(facts, factors, method, r, t, y),
+    )
+}
+
+/// SV1: the salvage value is what the sinking fund leaves of what is built.
+pub(crate) fn sv1(
+    alloc: Global,
+    facts: &ModelData,
+    factors: &[Factors],
+    name: RowName,
+) -> Result<Row, Stopped>
+    requires factors { AreRegionFactors facts.now.facts factors.now }
+    requires region { IsRegion facts.now.facts name.index.region }
+    requires technology { IsTechnology facts.now.facts name.index.tech }
+    requires year { IsYear facts.now.facts name.index.year }
+    requires outlasts { by_rty (outlasts facts.now.facts) name.index ≡ true }
+    ensures { IsWritten name (by_rty (sv1 facts.now.facts) name.index) result }
+{
+    let Index {
+        region: r,
+        tech: t,
+        year: y,
+        ..
+    } = name.index;
+    is_times(
+        alloc,
+        name,
+        salvage_value(r, t, y),
+        new_capacity(r, t, y),
+        salvage_value_of_unit(facts, factors, SINKING_FUND, r, t, y),
+    )
+}
+
+/// SV2: the salvage value is what the straight line leaves of what is built.
+pub(crate) fn sv2(
+    alloc: Global,
+    facts: &ModelData,
+    factors: &[Factors],
+    name: RowName,
+) -> Result<Row, Stopped>
+    requires factors { AreRegionFactors facts.now.facts factors.now }
+    requires region { IsRegion facts.now.facts name.index.region }
+    requires technology { IsTechnology facts.now.facts name.index.tech }
+    requires year { IsYear facts.now.facts name.index.year }
+    requires outlasts { by_rty (outlasts facts.now.facts) name.index ≡ true }
+    ensures { IsWritten name (by_rty (sv2 facts.now.facts) name.index) result }
+{
+    let Index {
+        region: r,
+        tech: t,
+        year: y,
+        ..
+    } = name.index;
+    is_times(
+        alloc,
+        name,
+        salvage_value(r, t, y),
+        new_capacity(r, t, y),
+        salvage_value_of_unit(facts, factors, STRAIGHT_LINE, r, t, y),
+    )
+}
+
+/// SV3: nothing is left.
+pub(crate) fn sv3(alloc: Global, facts: &ModelData, name: RowName) -> Result<Row, Stopped>
+    ensures { IsWritten name (by_rty (sv3 facts.now.facts) name.index) result }
+{
+    let Index {
+        region: r,
+        tech: t,
+        year: y,
+        ..
+    } = name.index;
+    let mut left = LeftSide::new(alloc, name);
+    left.add(salvage_value(r, t, y), one())?;
+    left.write(alloc, Sense::Equal, zero())
+}
+
+/// SV4: the discounted salvage value is the salvage value times the capital factor of the whole model period.
+pub(crate) fn sv4(
+    alloc: Global,
+    facts: &ModelData,
+    factors: &[Factors],
+    name: RowName,
+) -> Result<Row, Stopped>
+    requires factors { AreRegionFactors facts.now.facts factors.now }
+    requires region { IsRegion facts.now.facts name.index.region }
+    requires year { IsYear facts.now.facts name.index.year }
+    ensures { IsWritten name (by_rty (sv4 facts.now.facts) name.index) result }
+{
+    let Index {
+        region: r,
+        tech: t,
+        year: y,
+        ..
+    } = name.index;
+    is_times(
+        alloc,
+        name,
+        discounted_salvage_value(r, t, y),
+        salvage_value(r, t, y),
+        final_capital_factor(facts, factors, r),
+    )
+}
