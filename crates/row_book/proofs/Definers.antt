@@ -1,19 +1,33 @@
 -- Which variable an instance defines: the row names and the variables that are defined go together one by one.
-use Rattle.std.proofs.Common.{◌≡◌, ℕ, ◌<◌, ◌≤◌, Bool, true, false, cond, ◌&&◌, ◌||◌, ◌⊎◌, inl, inr, List, [], ◌∷◌, nat_le, nat_lt, Some, None, refl, ap, sym, ◌∙◌, subst, arith, ltb-true, le-leb, leb-true}
-use Rattle.std.specs.Prelude.{◌==◌, if◌then◌else◌}
-use Rattle.std.proofs.lemmas.Bool.{and_parts, cases_lt}
+use Rattle.std.proofs.Common.{◌≡◌, ◌≢◌, ℕ, ◌<◌, ◌≤◌, Bool, true, false, cond, not, ◌&&◌, ◌⊎◌, inl, inr, List, [], ◌∷◌, nat_eq, nat_le, nat_lt, Some, None, refl, ap, ap₂, sym, ◌∙◌, subst, arith, ltb-true, le-leb, leb-true, eq-eqb, eqb-true}
+use Rattle.std.specs.List.{list_all, list_any}
+use Rattle.std.specs.Prelude.{if◌then◌else◌}
+use Rattle.std.proofs.Math.Nat.{eq-or-lt_of_le}
+use Rattle.std.proofs.lemmas.Bool.{and_parts, cases_lt, ne_eqb, or_cases}
 use Rattle.model_sets.specs.Data.{Data}
 use Rattle.row_core.specs.declared.Index.{Index}
 use Rattle.row_core.specs.declared.RowName.{RowName}
+use Rattle.row_core.specs.declared.Sense.{Sense}
 use Rattle.row_core.specs.declared.Sense.TheVariants.{Equal, Least, Most}
 use Rattle.row_core.specs.declared.Var.{Var}
-use Rattle.named_equations.specs.Existence.{definers, exists, exists_at, subscripts_of_kind}
-use Rattle.named_equations.specs.Instances.{is_index, name_at, stands_at, subscripts_of, variable_of}
+use Rattle.row_core.specs.Equations.{IsEquation}
+use Rattle.row_core.specs.Kinds.{IsKind}
+use Rattle.named_equations.specs.Existence.{defines_kind, definers, exists, exists_at, exists_everywhere, kind_numbers, subscripts_of_kind}
+use Rattle.named_equations.specs.Instances.{equation_numbers, is_index, name_at, stands_at, subscripts_of, variable_of}
+use Rattle.named_equations.specs.Salvage.{by_sinking_fund, by_straight_line, has_sv1, has_sv2, outlasts}
+use Rattle.named_equations.specs.Table.{other_trade}
 use Rattle.named_equations.specs.Variables.{trade, variable}
+use Rattle.named_equations.specs.WrittenFactors.{method_of, rate_of}
+use Rattle.named_equations.proofs.InstanceTests.{Has}
 use Rattle.named_equations.proofs.TermMeaning.{EachFrom, at_number}
-use Rattle.row_book.specs.Built.{IsBuilt, IsBuiltInstance, terms_at}
 use Rattle.row_book.specs.Definitions.{IsChosen}
+use Rattle.row_book.specs.EquationRows.{terms_at}
 use Rattle.row_book.specs.Kinds.{tidied}
+use Rattle.row_book.proofs.Elements.{Has-filter, filter_parts}
+use Rattle.row_book.proofs.Instances.{IsInstance}
+use Rattle.row_book.proofs.KindLaws.{defined-by_kind, defines-kind, kind_of, one-number, salvage-number, same-subscripts, trade-number, variable-defined}
+use Rattle.row_book.proofs.Numbers.{Has-range, in-range, range-has}
+use Rattle.row_book.proofs.RatioCells.{has-any}
 use Rattle.row_book.proofs.Subscripts.{AreValues, index-from_values, index-tidied, values-from_index}
 use Rattle.row_book.proofs.TermVariables.{is_earlier}
 
@@ -21,25 +35,17 @@ use Rattle.row_book.proofs.TermVariables.{is_earlier}
 abbrev pub swapped : Index → Index
 swapped i = record i { region = i.other; other = i.region }
 
--- the first of these numbers
-abbrev first_of : List ℕ → ℕ
-first_of [] = 0
-first_of (n ∷ ns) = n
+-- the index at which a variable of this kind is defined
+abbrev defining_index : Var → Index
+defining_index v = if nat_eq v.kind 3 then swapped v.index else v.index
 
--- the one name of an instance that can define the variable
-abbrev pub definer : Var → RowName
-definer v = name_at (first_of (definers v.kind)) (if v.kind == 3 then swapped v.index else v.index)
+-- ---- what is true of an instance that defines a variable
 
-same_some : (v w : Var) → Some v ≡ Some w → v ≡ w
-same_some v w e = cc
-
-exchanged : (b : Bool) (v w : Var) → cond b (Some v) None ≡ Some w → v ≡ w
-exchanged true v w e = same_some v w e
-exchanged false v w e = absurd (cc e)
-
-not_exchanged : (b : Bool) (v : Var) → cond b (Some v) None ≡ None → b ≡ false
-not_exchanged true v e = absurd (cc e)
-not_exchanged false v e = refl
+-- its number is one that defines the variable's kind, and the two indices are the same but for an exchange
+pub record IsDefiner (name : RowName) (v : Var) : Type 0 where
+  pub kind : kind_of name.eq ≡ v.kind
+  pub some : kind_of name.eq ≢ 0
+  pub index : name.index ≡ defining_index v
 
 never_some : (v : Var) → Some v ≡ None → ⊥
 never_some v e = cc
@@ -47,279 +53,215 @@ never_some v e = cc
 never_none : (v : Var) → None ≡ Some v → ⊥
 never_none v e = cc
 
--- ---- what is true of an instance that defines a variable, number by number
+same_some : (v w : Var) → Some v ≡ Some w → v ≡ w
+same_some v w e = cc
 
--- the name is that of the variable's one definer, which is before a number exactly if all its definers are, and the row is an equation
-pub record IsDefiner (d : Data) (name : RowName) (v : Var) : Type 0 where
-  pub one : name ≡ definer v
-  pub before : (n : ℕ) → is_earlier v.kind n ≡ true → name.eq < n
-  pub equation : (terms_at d name).sense ≡ Equal
+pub chosen-some : (b : Bool) (v w : Var) → cond b (Some v) None ≡ Some w → (b ≡ true) × (v ≡ w)
+chosen-some true v w e = (refl, same_some v w e)
+chosen-some false v w e = absurd (never_none w e)
 
--- it is true of w, so of the variable that is w
-for_variable : (d : Data) (name : RowName) (w v : Var) → IsDefiner d name w → w ≡ v → IsDefiner d name v
-for_variable d name w v of_w same = subst (IsDefiner d name) same of_w
+not_chosen : (b : Bool) (v : Var) → cond b (Some v) None ≡ None → b ≡ false
+not_chosen true v e = absurd (never_some v e)
+not_chosen false v e = refl
 
-single : (k n : ℕ) → (nat_lt k n && true) ≡ true → k < n
-single k n h = ltb-true k n (and_parts (nat_lt k n) true h).0
+not_zero : (k : ℕ) → nat_eq k 0 ≡ false → k ≢ 0
+not_zero k fails zero_is = let passes : nat_eq k 0 ≡ true = eq-eqb k 0 zero_is in cc
 
-abbrev Defining : Data → Index → ℕ → Type 0
-Defining d i n = (v : Var) → AreValues d (subscripts_of n) i → variable_of (name_at n i) ≡ Some v → IsDefiner d (name_at n i) v
+-- of a trade
+by_trade : (i : Index) (v : Var) → i ≡ tidied (subscripts_of 16) i → other_trade i ≡ Some v → (v.kind ≡ 3) × (i ≡ defining_index v)
+by_trade i v tidy defines =
+    let chosen = chosen-some (nat_le i.region i.other) (trade i.other i.region i.slice i.fuel i.year) v defines in
+    let kind : v.kind ≡ 3 = ap (λ (w : Var). w.kind) (sym chosen.1) in
+    (kind, tidy ∙ ap defining_index chosen.1)
 
-defining : (d : Data) (i : Index) → EachFrom (Defining d i) 1 24
-defining d i = (
-  λ v at h.
-      for_variable d (name_at 1 i) (variable 4 (tidied (subscripts_of 1) i)) v
-      (record { one = ap (name_at 1) (index-tidied d (subscripts_of 1) i at); before = λ n e. single 1 n e; equation = refl })
-      (same_some (variable 4 (tidied (subscripts_of 1) i)) v h),
-  (
-    λ v at h.
-        for_variable d (name_at 2 i) (variable 5 (tidied (subscripts_of 2) i)) v
-        (record { one = ap (name_at 2) (index-tidied d (subscripts_of 2) i at); before = λ n e. single 2 n e; equation = refl })
-        (same_some (variable 5 (tidied (subscripts_of 2) i)) v h),
-    (
-      λ v at h.
-          for_variable d (name_at 3 i) (variable 6 (tidied (subscripts_of 3) i)) v
-          (record { one = ap (name_at 3) (index-tidied d (subscripts_of 3) i at); before = λ n e. single 3 n e; equation = refl })
-          (same_some (variable 6 (tidied (subscripts_of 3) i)) v h),
+-- of another kind
+by_own : (k : ℕ) (i : Index) (v : Var) → nat_eq k 3 ≡ false → Some (variable k i) ≡ Some v → (k ≡ v.kind) × (i ≡ defining_index v)
+by_own k i v other defines =
+    let same = same_some (variable k i) v defines in
+    (ap (λ (w : Var). w.kind) same, ap (λ b. if b then swapped i else i) (sym other) ∙ ap defining_index same)
+
+pub is-definer : (d : Data) (name : RowName) (v : Var) → IsInstance d name → variable_of name ≡ Some v → IsDefiner name v
+is-definer d name v instance defines =
+    let tidy = index-tidied d (subscripts_of name.eq) name.index (values-from_index d (subscripts_of name.eq) name.index instance.within) in
+    by_test (nat_eq (kind_of name.eq) 0) (nat_eq (kind_of name.eq) 3) refl refl tidy (sym (defined-by_kind name instance.equation) ∙ defines)
+  where
+    by_test : (b c : Bool) → nat_eq (kind_of name.eq) 0 ≡ b → nat_eq (kind_of name.eq) 3 ≡ c → name.index ≡ tidied (subscripts_of name.eq) name.index
+        → (if b then None else if c then other_trade name.index else Some (variable (kind_of name.eq) (tidied (subscripts_of name.eq) name.index))) ≡ Some v → IsDefiner name v
+    by_test true c is_0 is_3 tidy e = absurd (never_none v e)
+    by_test false true is_0 is_3 tidy e =
+        let kind : kind_of name.eq ≡ 3 = eqb-true (kind_of name.eq) 3 is_3 in
+        let number : name.eq ≡ 16 = trade-number name.eq instance.equation kind in
+        let parts = by_trade name.index v (subst (λ n. name.index ≡ tidied (subscripts_of n) name.index) number tidy) e in
+        record { kind = kind ∙ sym parts.0; some = not_zero (kind_of name.eq) is_0; index = parts.1 }
+    by_test false false is_0 is_3 tidy e =
+        let parts = by_own (kind_of name.eq) (tidied (subscripts_of name.eq) name.index) v is_3 e in
+        record { kind = parts.0; some = not_zero (kind_of name.eq) is_0; index = tidy ∙ parts.1 }
+
+-- it is one of the numbers that define the kind
+definer_listed : (d : Data) (name : RowName) (v : Var) → IsInstance d name → IsDefiner name v → Has (definers v.kind) name.eq
+definer_listed d name v instance of_name =
+    Has-filter (defines_kind v.kind) equation_numbers name.eq (Has-range 1 64 name.eq instance.equation.0 (omega (arith, instance.equation.1)))
+    (defines-kind name.eq v.kind instance.equation
+    ∙ ap (λ b. if b then false else nat_eq (kind_of name.eq) v.kind) (ne_eqb (kind_of name.eq) 0 of_name.some)
+    ∙ eq-eqb (kind_of name.eq) v.kind of_name.kind)
+
+-- so it is before a number that they are all before
+pub definer-before : (d : Data) (name : RowName) (v : Var) (n : ℕ) → IsInstance d name → variable_of name ≡ Some v → is_earlier v.kind n ≡ true → name.eq < n
+definer-before d name v n instance defines earlier =
+    at_one (definers v.kind) (definer_listed d name v instance (is-definer d name v instance defines)) earlier
+  where
+    at_one : (ns : List ℕ) → Has ns name.eq → list_all (λ m. nat_lt m n) ns ≡ true → name.eq < n
+    at_one [] has passes = absurd has
+    at_one (m ∷ ns) (inl e) passes = ltb-true name.eq n (subst (λ k. nat_lt k n ≡ true) e (and_parts (nat_lt m n) (list_all (λ k. nat_lt k n) ns) passes).0)
+    at_one (m ∷ ns) (inr has) passes = at_one ns has (and_parts (nat_lt m n) (list_all (λ k. nat_lt k n) ns) passes).1
+
+-- ---- no variable has two
+
+-- which of the three equations of the salvage value has an instance at the index
+abbrev salvage_number_at : Data → Index → ℕ
+salvage_number_at d i = if has_sv1 d i.region i.tech i.year then 27 else if has_sv2 d i.region i.tech i.year then 28 else 29
+
+-- no region depreciates both ways
+not_both : (d : Data) (r : ℕ) → by_sinking_fund d r ≡ true → by_straight_line d r ≡ true → ⊥
+not_both d r fund line =
+    let first = and_parts (nat_eq (method_of d r) 1) (nat_lt 0 (rate_of d r)) fund in
+    let one : method_of d r ≡ 1 = eqb-true (method_of d r) 1 first.0 in
+    let above : 0 < rate_of d r = ltb-true 0 (rate_of d r) first.1 in
+    elim (or_cases (nat_eq (method_of d r) 2) (nat_eq (method_of d r) 1 && nat_eq (rate_of d r) 0) line) [
+      | inl second ↦ let two : method_of d r ≡ 2 = eqb-true (method_of d r) 2 second in omega (arith, one, two)
+      | inr rest ↦
+          let none : rate_of d r ≡ 0 = eqb-true (rate_of d r) 0 (and_parts (nat_eq (method_of d r) 1) (nat_eq (rate_of d r) 0) rest).1 in
+          omega (arith, above, none)
+    ]
+
+false_unless : (b : Bool) → (b ≡ true → ⊥) → b ≡ false
+false_unless true never = absurd (never refl)
+false_unless false never = refl
+
+not_true : (b : Bool) → not b ≡ true → b ≡ false
+not_true true e = absurd (cc e)
+not_true false e = refl
+
+salvage_numbers : (d : Data) (i : Index) → EachFrom (λ n. stands_at d n i ≡ true → n ≡ salvage_number_at d i) 27 3
+salvage_numbers d i =
+    let first : Bool = has_sv1 d i.region i.tech i.year in
+    let second : Bool = has_sv2 d i.region i.tech i.year in
+    let none : second ≡ true → first ≡ false =
+    λ is_second. false_unless first
+    (λ is_first.
+    not_both d i.region (and_parts (outlasts d i.region i.tech i.year) (by_sinking_fund d i.region) is_first).1
+    (and_parts (outlasts d i.region i.tech i.year) (by_straight_line d i.region) is_second).1) in (
+      λ is_first. sym (ap (λ b. if b then 27 else if second then 28 else 29) is_first),
       (
-        λ v at h.
-            for_variable d (name_at 4 i) (variable 7 (tidied (subscripts_of 4) i)) v
-            (record { one = ap (name_at 4) (index-tidied d (subscripts_of 4) i at); before = λ n e. single 4 n e; equation = refl })
-            (same_some (variable 7 (tidied (subscripts_of 4) i)) v h),
+        λ is_second. sym (ap₂ (λ a b. if a then 27 else if b then 28 else 29) (none is_second) is_second),
         (
-          λ v at h. absurd (never_none v h),
-          (
-            λ v at h. absurd (never_none v h),
-            (
-              λ v at h.
-                  for_variable d (name_at 7 i) (variable 8 (tidied (subscripts_of 7) i)) v
-                  (record { one = ap (name_at 7) (index-tidied d (subscripts_of 7) i at); before = λ n e. single 7 n e; equation = refl })
-                  (same_some (variable 8 (tidied (subscripts_of 7) i)) v h),
-              (
-                λ v at h.
-                    for_variable d (name_at 8 i) (variable 9 (tidied (subscripts_of 8) i)) v
-                    (record { one = ap (name_at 8) (index-tidied d (subscripts_of 8) i at); before = λ n e. single 8 n e; equation = refl })
-                    (same_some (variable 9 (tidied (subscripts_of 8) i)) v h),
-                (
-                  λ v at h.
-                      for_variable d (name_at 9 i) (variable 10 (tidied (subscripts_of 9) i)) v
-                      (record { one = ap (name_at 9) (index-tidied d (subscripts_of 9) i at); before = λ n e. single 9 n e; equation = refl })
-                      (same_some (variable 10 (tidied (subscripts_of 9) i)) v h),
-                  (
-                    λ v at h.
-                        for_variable d (name_at 10 i) (variable 11 (tidied (subscripts_of 10) i)) v
-                        (record { one = ap (name_at 10) (index-tidied d (subscripts_of 10) i at); before = λ n e. single 10 n e; equation = refl })
-                        (same_some (variable 11 (tidied (subscripts_of 10) i)) v h),
-                    (
-                      λ v at h.
-                          for_variable d (name_at 11 i) (variable 12 (tidied (subscripts_of 11) i)) v
-                          (record { one = ap (name_at 11) (index-tidied d (subscripts_of 11) i at); before = λ n e. single 11 n e; equation = refl })
-                          (same_some (variable 12 (tidied (subscripts_of 11) i)) v h),
-                      (
-                        λ v at h.
-                            for_variable d (name_at 12 i) (variable 13 (tidied (subscripts_of 12) i)) v
-                            (record { one = ap (name_at 12) (index-tidied d (subscripts_of 12) i at); before = λ n e. single 12 n e; equation = refl })
-                            (same_some (variable 13 (tidied (subscripts_of 12) i)) v h),
-                        (
-                          λ v at h.
-                              for_variable d (name_at 13 i) (variable 14 (tidied (subscripts_of 13) i)) v
-                              (record { one = ap (name_at 13) (index-tidied d (subscripts_of 13) i at); before = λ n e. single 13 n e; equation = refl })
-                              (same_some (variable 14 (tidied (subscripts_of 13) i)) v h),
-                          (
-                            λ v at h.
-                                for_variable d (name_at 14 i) (variable 15 (tidied (subscripts_of 14) i)) v
-                                (record { one = ap (name_at 14) (index-tidied d (subscripts_of 14) i at); before = λ n e. single 14 n e; equation = refl })
-                                (same_some (variable 15 (tidied (subscripts_of 14) i)) v h),
-                            (
-                              λ v at h.
-                                  for_variable d (name_at 15 i) (variable 16 (tidied (subscripts_of 15) i)) v
-                                  (record { one = ap (name_at 15) (index-tidied d (subscripts_of 15) i at); before = λ n e. single 15 n e; equation = refl })
-                                  (same_some (variable 16 (tidied (subscripts_of 15) i)) v h),
-                              (
-                                λ v at h.
-                                    for_variable d (name_at 16 i) (trade i.other i.region i.slice i.fuel i.year) v
-                                    (record { one = ap (name_at 16) (index-tidied d (subscripts_of 16) i at); before = λ n e. single 16 n e; equation = refl })
-                                    (exchanged (nat_le i.region i.other) (trade i.other i.region i.slice i.fuel i.year) v h),
-                                (
-                                  λ v at h. absurd (never_none v h),
-                                  (
-                                    λ v at h.
-                                        for_variable d (name_at 18 i) (variable 17 (tidied (subscripts_of 18) i)) v
-                                        (record { one = ap (name_at 18) (index-tidied d (subscripts_of 18) i at); before = λ n e. single 18 n e; equation = refl })
-                                        (same_some (variable 17 (tidied (subscripts_of 18) i)) v h),
-                                    (
-                                      λ v at h.
-                                          for_variable d (name_at 19 i) (variable 18 (tidied (subscripts_of 19) i)) v
-                                          (record { one = ap (name_at 19) (index-tidied d (subscripts_of 19) i at); before = λ n e. single 19 n e; equation = refl })
-                                          (same_some (variable 18 (tidied (subscripts_of 19) i)) v h),
-                                      (
-                                        λ v at h.
-                                            for_variable d (name_at 20 i) (variable 19 (tidied (subscripts_of 20) i)) v
-                                            (record { one = ap (name_at 20) (index-tidied d (subscripts_of 20) i at); before = λ n e. single 20 n e; equation = refl })
-                                            (same_some (variable 19 (tidied (subscripts_of 20) i)) v h),
-                                        (
-                                          λ v at h. absurd (never_none v h),
-                                          (
-                                            λ v at h.
-                                                for_variable d (name_at 22 i) (variable 20 (tidied (subscripts_of 22) i)) v
-                                                (record { one = ap (name_at 22) (index-tidied d (subscripts_of 22) i at); before = λ n e. single 22 n e; equation = refl })
-                                                (same_some (variable 20 (tidied (subscripts_of 22) i)) v h),
-                                            (
-                                              λ v at h.
-                                                  for_variable d (name_at 23 i) (variable 21 (tidied (subscripts_of 23) i)) v
-                                                  (record { one = ap (name_at 23) (index-tidied d (subscripts_of 23) i at); before = λ n e. single 23 n e; equation = refl })
-                                                  (same_some (variable 21 (tidied (subscripts_of 23) i)) v h),
-                                              (
-                                                λ v at h.
-                                                    for_variable d (name_at 24 i) (variable 22 (tidied (subscripts_of 24) i)) v
-                                                    (record { one = ap (name_at 24) (index-tidied d (subscripts_of 24) i at); before = λ n e. single 24 n e; equation = refl })
-                                                    (same_some (variable 22 (tidied (subscripts_of 24) i)) v h),
-                                                tt,
-                                              ),
-                                            ),
-                                          ),
-                                        ),
-                                      ),
-                                    ),
-                                  ),
-                                ),
-                              ),
-                            ),
-                          ),
-                        ),
-                      ),
-                    ),
-                  ),
-                ),
-              ),
-            ),
-          ),
+          λ is_third.
+              let neither = and_parts (not first) (not second) is_third in
+              sym (ap₂ (λ a b. if a then 27 else if b then 28 else 29) (not_true first neither.0) (not_true second neither.1)),
+          tt,
         ),
       ),
-    ),
-  ),
-)
+    )
 
-pub is-definer : (d : Data) (name : RowName) (v : Var) → IsBuiltInstance d name → variable_of name ≡ Some v → IsDefiner d name v
-is-definer d name v instance defines =
-    at_number (Defining d name.index) 1 24 name.eq (defining d name.index) instance.built.0 (omega (arith, instance.built.1)) v
-    (values-from_index d (subscripts_of name.eq) name.index instance.within) defines
+salvage_at : (d : Data) (name : RowName) → IsInstance d name → kind_of name.eq ≡ 25 → name.eq ≡ salvage_number_at d name.index
+salvage_at d name instance kind =
+    let range = salvage-number name.eq instance.equation kind in
+    at_number (λ n. stands_at d n name.index ≡ true → n ≡ salvage_number_at d name.index) 27 3 name.eq (salvage_numbers d name.index) range.0 (omega (arith, range.1)) instance.stands
 
--- ---- equations that define nothing
+-- two instances that define one variable are one
+pub same-definer : (d : Data) (a b : RowName) (v : Var) → IsInstance d a → IsInstance d b → variable_of a ≡ Some v → variable_of b ≡ Some v → a ≡ b
+same-definer d a b v instance other defines defines_too =
+    let of_a = is-definer d a v instance defines in
+    let of_b = is-definer d b v other defines_too in
+    let index : a.index ≡ b.index = of_a.index ∙ sym of_b.index in
+    let kind : kind_of a.eq ≡ kind_of b.eq = of_a.kind ∙ sym of_b.kind in
+    ap₂ name_at (by_test (nat_eq (kind_of a.eq) 25) refl of_a.some index kind) index
+  where
+    by_test : (c : Bool) → nat_eq (kind_of a.eq) 25 ≡ c → kind_of a.eq ≢ 0 → a.index ≡ b.index → kind_of a.eq ≡ kind_of b.eq → a.eq ≡ b.eq
+    by_test true is some index kind =
+        let salvage : kind_of a.eq ≡ 25 = eqb-true (kind_of a.eq) 25 is in
+        salvage_at d a instance salvage ∙ ap (salvage_number_at d) index ∙ sym (salvage_at d b other (sym kind ∙ salvage))
+    by_test false is some index kind =
+        one-number a.eq b.eq instance.equation other.equation kind some (λ e. let passes : nat_eq (kind_of a.eq) 25 ≡ true = eq-eqb (kind_of a.eq) 25 e in cc)
+
+-- a trade that is defined doesn't go to a later region
+pub defined-trade : (d : Data) (name : RowName) (v : Var) → IsInstance d name → variable_of name ≡ Some v → v.kind ≡ 3 → v.index.other ≤ v.index.region
+defined-trade d name v instance defines trades =
+    let of_name = is-definer d name v instance defines in
+    let number : name.eq ≡ 16 = trade-number name.eq instance.equation (of_name.kind ∙ trades) in
+    let chosen =
+    chosen-some (nat_le name.index.region name.index.other) (trade name.index.other name.index.region name.index.slice name.index.fuel name.index.year) v
+    (ap (λ n. variable_of (name_at n name.index)) (sym number) ∙ defines) in
+    subst (λ (w : Var). w.index.other ≤ w.index.region) chosen.1 (leb-true name.index.region name.index.other chosen.0)
+
+-- ---- equations and inequalities
+
+abbrev is_equality : Sense → Bool
+is_equality Least = false
+is_equality Equal = true
+is_equality Most = false
+
+equal_where : (sense : Sense) → is_equality sense ≡ true → sense ≡ Equal
+equal_where Least e = absurd (cc e)
+equal_where Equal e = refl
+equal_where Most e = absurd (cc e)
+
+-- the rows of the definitions are equations, and no others
+equality-each : (d : Data) (i : Index) → EachFrom (λ n. is_equality (terms_at d (name_at n i)).sense ≡ not (nat_eq (kind_of n) 0)) 1 64
+equality-each d i = (refl, (refl, (refl, (refl, (refl, (refl, (refl, (refl, (refl, (refl, (refl, (refl, (refl, (refl, (refl, (refl, (refl, (refl, (refl, (refl, (refl, (refl, (refl, (refl, (refl, (refl, (refl, (refl, (refl, (refl, (refl, (refl, (refl, (refl, (refl, (refl, (refl, (refl, (refl, (refl, (refl, (refl, (refl, (refl, (refl, (refl, (refl, (refl, (refl, (refl, (refl, (refl, (refl, (refl, (refl, (refl, (refl, (refl, (refl, (refl, (refl, (refl, (refl, (refl, tt))))))))))))))))))))))))))))))))))))))))))))))))))))))))))))))))
+
+equality-at : (d : Data) (name : RowName) → IsInstance d name → is_equality (terms_at d name).sense ≡ not (nat_eq (kind_of name.eq) 0)
+equality-at d name instance =
+    at_number (λ n. is_equality (terms_at d (name_at n name.index)).sense ≡ not (nat_eq (kind_of n) 0)) 1 64 name.eq (equality-each d name.index)
+    instance.equation.0 (omega (arith, instance.equation.1))
+
+pub definer-equation : (d : Data) (name : RowName) (v : Var) → IsInstance d name → variable_of name ≡ Some v → (terms_at d name).sense ≡ Equal
+definer-equation d name v instance defines =
+    equal_where (terms_at d name).sense
+    (equality-at d name instance ∙ ap not (ne_eqb (kind_of name.eq) 0 (is-definer d name v instance defines).some))
 
 -- an equation that defines nothing is an exchange from a later region to an earlier one
-abbrev Undefining : Data → Index → ℕ → Type 0
-Undefining d i n = variable_of (name_at n i) ≡ None → (terms_at d (name_at n i)).sense ≡ Equal → (n ≡ 16) × (nat_le i.region i.other ≡ false)
-
-no_equation : {A : Type 0} → Most ≡ Equal → A
-no_equation e = absurd (cc e)
-
-no_equation_either : {A : Type 0} → Least ≡ Equal → A
-no_equation_either e = absurd (cc e)
-
-undefining : (d : Data) (i : Index) → EachFrom (Undefining d i) 1 24
-undefining d i = (
-  λ h e. absurd (never_some (variable 4 (tidied (subscripts_of 1) i)) h),
-  (
-    λ h e. absurd (never_some (variable 5 (tidied (subscripts_of 2) i)) h),
-    (
-      λ h e. absurd (never_some (variable 6 (tidied (subscripts_of 3) i)) h),
-      (
-        λ h e. absurd (never_some (variable 7 (tidied (subscripts_of 4) i)) h),
-        (
-          λ h e. no_equation e,
-          (
-            λ h e. no_equation e,
-            (
-              λ h e. absurd (never_some (variable 8 (tidied (subscripts_of 7) i)) h),
-              (
-                λ h e. absurd (never_some (variable 9 (tidied (subscripts_of 8) i)) h),
-                (
-                  λ h e. absurd (never_some (variable 10 (tidied (subscripts_of 9) i)) h),
-                  (
-                    λ h e. absurd (never_some (variable 11 (tidied (subscripts_of 10) i)) h),
-                    (
-                      λ h e. absurd (never_some (variable 12 (tidied (subscripts_of 11) i)) h),
-                      (
-                        λ h e. absurd (never_some (variable 13 (tidied (subscripts_of 12) i)) h),
-                        (
-                          λ h e. absurd (never_some (variable 14 (tidied (subscripts_of 13) i)) h),
-                          (
-                            λ h e. absurd (never_some (variable 15 (tidied (subscripts_of 14) i)) h),
-                            (
-                              λ h e. absurd (never_some (variable 16 (tidied (subscripts_of 15) i)) h),
-                              (
-                                λ h e. (refl, not_exchanged (nat_le i.region i.other) (trade i.other i.region i.slice i.fuel i.year) h),
-                                (
-                                  λ h e. no_equation_either e,
-                                  (
-                                    λ h e. absurd (never_some (variable 17 (tidied (subscripts_of 18) i)) h),
-                                    (
-                                      λ h e. absurd (never_some (variable 18 (tidied (subscripts_of 19) i)) h),
-                                      (
-                                        λ h e. absurd (never_some (variable 19 (tidied (subscripts_of 20) i)) h),
-                                        (
-                                          λ h e. no_equation_either e,
-                                          (
-                                            λ h e. absurd (never_some (variable 20 (tidied (subscripts_of 22) i)) h),
-                                            (
-                                              λ h e. absurd (never_some (variable 21 (tidied (subscripts_of 23) i)) h),
-                                              (
-                                                λ h e. absurd (never_some (variable 22 (tidied (subscripts_of 24) i)) h),
-                                                tt,
-                                              ),
-                                            ),
-                                          ),
-                                        ),
-                                      ),
-                                    ),
-                                  ),
-                                ),
-                              ),
-                            ),
-                          ),
-                        ),
-                      ),
-                    ),
-                  ),
-                ),
-              ),
-            ),
-          ),
-        ),
-      ),
-    ),
-  ),
-)
-
-pub is-exchange : (d : Data) (name : RowName) → IsBuiltInstance d name → variable_of name ≡ None → (terms_at d name).sense ≡ Equal
+pub is-exchange : (d : Data) (name : RowName) → IsInstance d name → variable_of name ≡ None → (terms_at d name).sense ≡ Equal
     → (name.eq ≡ 16) × (nat_le name.index.region name.index.other ≡ false)
 is-exchange d name instance none equal =
-    at_number (Undefining d name.index) 1 24 name.eq (undefining d name.index) instance.built.0 (omega (arith, instance.built.1)) none equal
+    by_test (nat_eq (kind_of name.eq) 0) (nat_eq (kind_of name.eq) 3) refl (sym (equality-at d name instance) ∙ ap is_equality equal) (sym (defined-by_kind name instance.equation) ∙ none)
+  where
+    by_test : (b c : Bool) → nat_eq (kind_of name.eq) 3 ≡ c → not b ≡ true
+        → (if b then None else if c then other_trade name.index else Some (variable (kind_of name.eq) (tidied (subscripts_of name.eq) name.index))) ≡ None
+        → (name.eq ≡ 16) × (nat_le name.index.region name.index.other ≡ false)
+    by_test true c is_3 some e = absurd (cc some)
+    by_test false true is_3 some e = (
+      trade-number name.eq instance.equation (eqb-true (kind_of name.eq) 3 is_3),
+      not_chosen (nat_le name.index.region name.index.other) (trade name.index.other name.index.region name.index.slice name.index.fuel name.index.year) e,
+    )
+    by_test false false is_3 some e = absurd (never_some (variable (kind_of name.eq) (tidied (subscripts_of name.eq) name.index)) e)
 
 -- ---- variables that exist are chosen or defined
 
 -- some instance defines the variable
 pub record IsDefined (d : Data) (v : Var) : Type 0 where
   pub name : RowName
-  pub instance : IsBuiltInstance d name
+  pub instance : IsInstance d name
   pub defines : variable_of name ≡ Some v
 
--- it is the instance at the variable's own index, whose subscripts are those of the kind
-by_definer : (d : Data) (n k : ℕ) (i : Index) → IsBuilt n → is_index d (subscripts_of n) i ≡ true → stands_at d n i ≡ true
-    → variable_of (name_at n i) ≡ Some (variable k (tidied (subscripts_of n) i)) → IsDefined d (variable k i)
-by_definer d n k i built within stands defines = record {
-  name = name_at n i;
-  instance = record { built = built; within = within; stands = stands };
-  defines = defines ∙ ap (λ (j : Index). Some (variable k j)) (sym (index-tidied d (subscripts_of n) i (values-from_index d (subscripts_of n) i within)));
-}
+-- what it is for a variable to exist
+record Exists (d : Data) (v : Var) : Type 0 where
+  kind : IsKind v.kind
+  within : is_index d (subscripts_of_kind v.kind) v.index ≡ true
+  stands : exists_at d v.kind v.index ≡ true
 
-one_stands : (b : Bool) → (b || false) ≡ true → b ≡ true
-one_stands true h = refl
-one_stands false h = h
+exists-parts : (d : Data) (v : Var) → exists d v ≡ true → Exists d v
+exists-parts d v there =
+    let tests = and_parts (list_any (nat_eq v.kind) kind_numbers && is_index d (subscripts_of_kind v.kind) v.index) (exists_at d v.kind v.index) there in
+    let first = and_parts (list_any (nat_eq v.kind) kind_numbers) (is_index d (subscripts_of_kind v.kind) v.index) tests.0 in
+    let range = in-range v.kind 1 48 first.0 in
+    record { kind = (range.0, omega (arith, range.1)); within = first.1; stands = tests.1 }
 
-abbrev Found : Data → Index → ℕ → Type 0
-Found d i k = exists d (variable k i) ≡ true → IsChosen (variable k i) ⊎ IsDefined d (variable k i)
+pub exists-kind : (d : Data) (v : Var) → exists d v ≡ true → IsKind v.kind
+exists-kind d v there = (exists-parts d v there).kind
+
+pub exists-within : (d : Data) (v : Var) → exists d v ≡ true → is_index d (subscripts_of_kind v.kind) v.index ≡ true
+exists-within d v there = (exists-parts d v there).within
 
 swapped-values : (d : Data) (i : Index) → AreValues d (subscripts_of 16) i → AreValues d (subscripts_of 16) (swapped i)
 swapped-values d i at = record {
@@ -334,20 +276,16 @@ swapped-values d i at = record {
 }
 
 -- the instance with the two regions exchanged
-pub exchange-instance : (d : Data) (i : Index) → is_index d (subscripts_of 16) i ≡ true → IsBuiltInstance d (name_at 16 (swapped i))
+pub exchange-instance : (d : Data) (i : Index) → is_index d (subscripts_of 16) i ≡ true → IsInstance d (name_at 16 (swapped i))
 exchange-instance d i within = record {
-  built = (omega arith, omega arith);
+  equation = (omega arith, omega arith);
   within = index-from_values d (subscripts_of 16) (swapped i) (swapped-values d i (values-from_index d (subscripts_of 16) i within));
   stands = refl;
 }
 
-leb-from_le : (a b : ℕ) → a ≤ b → nat_le a b ≡ true
-leb-from_le a b h = le-leb a b h
-
 -- a trade from a region to one that isn't later is defined
-trade-found : (d : Data) (i : Index) → Found d i 3
-trade-found d i there =
-    let within : is_index d (subscripts_of 16) i ≡ true = (and_parts (is_index d (subscripts_of_kind 3) i) true there).0 in
+trade_found : (d : Data) (i : Index) → is_index d (subscripts_of_kind 3) i ≡ true → IsChosen (variable 3 i) ⊎ IsDefined d (variable 3 i)
+trade_found d i within =
     elim (cases_lt i.region i.other) [
       | inl less ↦ inl (inr (inr (refl, less)))
       | inr from ↦
@@ -356,105 +294,55 @@ trade-found d i there =
             name = name_at 16 (swapped i);
             instance = exchange-instance d i within;
             defines =
-                ap (λ b. cond b (Some (trade i.region i.other i.slice i.fuel i.year)) None) (leb-from_le i.other i.region from)
+                ap (λ b. cond b (Some (trade i.region i.other i.slice i.fuel i.year)) None) (le-leb i.other i.region from)
                 ∙ ap (λ (j : Index). Some (variable 3 j)) (sym (index-tidied d (subscripts_of 16) i (values-from_index d (subscripts_of 16) i within)));
           })
     ]
 
-found : (d : Data) (i : Index) → EachFrom (Found d i) 1 22
-found d i = (
-  λ there. inl (inl refl),
-  (
-    λ there. inl (inr (inl refl)),
-    (
-      trade-found d i,
-      (
-        λ there.
-            inr (by_definer d 1 4 i (omega arith, omega arith) (and_parts (is_index d (subscripts_of_kind 4) i) (exists_at d 4 i) there).0 refl refl),
-        (
-          λ there.
-              inr (by_definer d 2 5 i (omega arith, omega arith) (and_parts (is_index d (subscripts_of_kind 5) i) (exists_at d 5 i) there).0 refl refl),
-          (
-            λ there.
-                inr (by_definer d 3 6 i (omega arith, omega arith) (and_parts (is_index d (subscripts_of_kind 6) i) (exists_at d 6 i) there).0 refl refl),
-            (
-              λ there.
-                  inr (by_definer d 4 7 i (omega arith, omega arith) (and_parts (is_index d (subscripts_of_kind 7) i) (exists_at d 7 i) there).0 refl refl),
-              (
-                λ there.
-                    inr (by_definer d 7 8 i (omega arith, omega arith) (and_parts (is_index d (subscripts_of_kind 8) i) (exists_at d 8 i) there).0 (one_stands (stands_at d 7 i) (and_parts (is_index d (subscripts_of_kind 8) i) (exists_at d 8 i) there).1) refl),
-                (
-                  λ there.
-                      inr (by_definer d 8 9 i (omega arith, omega arith) (and_parts (is_index d (subscripts_of_kind 9) i) (exists_at d 9 i) there).0 (one_stands (stands_at d 8 i) (and_parts (is_index d (subscripts_of_kind 9) i) (exists_at d 9 i) there).1) refl),
-                  (
-                    λ there.
-                        inr (by_definer d 9 10 i (omega arith, omega arith) (and_parts (is_index d (subscripts_of_kind 10) i) (exists_at d 10 i) there).0 refl refl),
-                    (
-                      λ there.
-                          inr (by_definer d 10 11 i (omega arith, omega arith) (and_parts (is_index d (subscripts_of_kind 11) i) (exists_at d 11 i) there).0 (one_stands (stands_at d 10 i) (and_parts (is_index d (subscripts_of_kind 11) i) (exists_at d 11 i) there).1) refl),
-                      (
-                        λ there.
-                            inr (by_definer d 11 12 i (omega arith, omega arith) (and_parts (is_index d (subscripts_of_kind 12) i) (exists_at d 12 i) there).0 (one_stands (stands_at d 11 i) (and_parts (is_index d (subscripts_of_kind 12) i) (exists_at d 12 i) there).1) refl),
-                        (
-                          λ there.
-                              inr (by_definer d 12 13 i (omega arith, omega arith) (and_parts (is_index d (subscripts_of_kind 13) i) (exists_at d 13 i) there).0 refl refl),
-                          (
-                            λ there.
-                                inr (by_definer d 13 14 i (omega arith, omega arith) (and_parts (is_index d (subscripts_of_kind 14) i) (exists_at d 14 i) there).0 refl refl),
-                            (
-                              λ there.
-                                  inr (by_definer d 14 15 i (omega arith, omega arith) (and_parts (is_index d (subscripts_of_kind 15) i) (exists_at d 15 i) there).0 refl refl),
-                              (
-                                λ there.
-                                    inr (by_definer d 15 16 i (omega arith, omega arith) (and_parts (is_index d (subscripts_of_kind 16) i) (exists_at d 16 i) there).0 refl refl),
-                                (
-                                  λ there.
-                                      inr (by_definer d 18 17 i (omega arith, omega arith) (and_parts (is_index d (subscripts_of_kind 17) i) (exists_at d 17 i) there).0 refl refl),
-                                  (
-                                    λ there.
-                                        inr (by_definer d 19 18 i (omega arith, omega arith) (and_parts (is_index d (subscripts_of_kind 18) i) (exists_at d 18 i) there).0 refl refl),
-                                    (
-                                      λ there.
-                                          inr (by_definer d 20 19 i (omega arith, omega arith) (and_parts (is_index d (subscripts_of_kind 19) i) (exists_at d 19 i) there).0 refl refl),
-                                      (
-                                        λ there.
-                                            inr (by_definer d 22 20 i (omega arith, omega arith) (and_parts (is_index d (subscripts_of_kind 20) i) (exists_at d 20 i) there).0 (one_stands (stands_at d 22 i) (and_parts (is_index d (subscripts_of_kind 20) i) (exists_at d 20 i) there).1) refl),
-                                        (
-                                          λ there.
-                                              inr (by_definer d 23 21 i (omega arith, omega arith) (and_parts (is_index d (subscripts_of_kind 21) i) (exists_at d 21 i) there).0 (one_stands (stands_at d 23 i) (and_parts (is_index d (subscripts_of_kind 21) i) (exists_at d 21 i) there).1) refl),
-                                          (
-                                            λ there.
-                                                inr (by_definer d 24 22 i (omega arith, omega arith) (and_parts (is_index d (subscripts_of_kind 22) i) (exists_at d 22 i) there).0 refl refl),
-                                            tt,
-                                          ),
-                                        ),
-                                      ),
-                                    ),
-                                  ),
-                                ),
-                              ),
-                            ),
-                          ),
-                        ),
-                      ),
-                    ),
-                  ),
-                ),
-              ),
-            ),
-          ),
-        ),
-      ),
-    ),
-  ),
-)
-
-pub least_kind : (d : Data) (v : Var) → exists d v ≡ true → 1 ≤ v.kind
-least_kind d v there = elim (cases_lt 0 v.kind) [ inl above ↦ omega (arith, above) | inr none ↦ absurd (no_kind (v.kind) (omega (arith, none)) there) ]
+not_zero_kind : (k kind : ℕ) → (if nat_eq k 0 then false else nat_eq k kind) ≡ true → (k ≢ 0) × (k ≡ kind)
+not_zero_kind k kind e = by_test (nat_eq k 0) refl e
   where
-    no_kind : (k : ℕ) → k ≡ 0 → exists d (variable k v.index) ≡ true → ⊥
-    no_kind k zero_is h = absurd (cc (subst (λ n. exists d (variable n v.index) ≡ true) zero_is h))
+    by_test : (b : Bool) → nat_eq k 0 ≡ b → (if b then false else nat_eq k kind) ≡ true → (k ≢ 0) × (k ≡ kind)
+    by_test true is e = absurd (cc e)
+    by_test false is e = (not_zero k is, eqb-true k kind e)
 
-pub is-found : (d : Data) (v : Var) → exists d v ≡ true → nat_le v.kind 22 ≡ true → IsChosen v ⊎ IsDefined d v
-is-found d v there listed =
-    at_number (Found d v.index) 1 22 v.kind (found d v.index) (least_kind d v there) (omega (arith, leb-true v.kind 22 listed)) there
+-- a variable of another kind is defined where an equation of its kind stands
+own_found : (d : Data) (v : Var) → Exists d v → v.kind ≢ 3 → list_any (λ eq. stands_at d eq v.index) (definers v.kind) ≡ true → IsDefined d v
+own_found d v there other some =
+    let found = has-any (λ eq. stands_at d eq v.index) (definers v.kind) some in
+    let passed = filter_parts (defines_kind v.kind) equation_numbers found.0 found.1.0 in
+    let range = range-has 1 64 found.0 passed.0 in
+    let equation : IsEquation found.0 = (range.0, omega (arith, range.1)) in
+    let kind = not_zero_kind (kind_of found.0) v.kind (sym (defines-kind found.0 v.kind equation) ∙ passed.1) in
+    let subscripts : subscripts_of found.0 ≡ subscripts_of_kind v.kind = same-subscripts found.0 equation kind.0 ∙ ap subscripts_of_kind kind.1 in
+    let within : is_index d (subscripts_of found.0) v.index ≡ true = subst (λ s. is_index d s v.index ≡ true) (sym subscripts) there.within in
+    record {
+      name = name_at found.0 v.index;
+      instance = record { equation = equation; within = within; stands = found.1.1 };
+      defines =
+          sym (variable-defined (name_at found.0 v.index) (kind_of found.0) equation refl kind.0 (λ e. other (sym kind.1 ∙ e)))
+          ∙ ap₂ (λ k (j : Index). Some (variable k j)) kind.1 (sym (index-tidied d (subscripts_of found.0) v.index (values-from_index d (subscripts_of found.0) v.index within)));
+    }
+
+pub is-found : (d : Data) (v : Var) → exists d v ≡ true → IsChosen v ⊎ IsDefined d v
+is-found d v there = by_test (nat_eq v.kind 3) refl (exists-parts d v there)
+  where
+    by_test : (b : Bool) → nat_eq v.kind 3 ≡ b → Exists d v → IsChosen v ⊎ IsDefined d v
+    by_test true is there =
+        let trades : v.kind ≡ 3 = eqb-true v.kind 3 is in
+        subst (λ k. IsChosen (variable k v.index) ⊎ IsDefined d (variable k v.index)) (sym trades)
+        (trade_found d v.index (subst (λ k. is_index d (subscripts_of_kind k) v.index ≡ true) trades there.within))
+    by_test false is there =
+        let other : v.kind ≢ 3 = λ e. let passes : nat_eq v.kind 3 ≡ true = eq-eqb v.kind 3 e in cc in
+        elim (or_cases (exists_everywhere v.kind) (list_any (λ eq. stands_at d eq v.index) (definers v.kind)) there.stands) [
+          | inl low ↦ inl (chosen (leb-true v.kind 3 low) other there.kind.0)
+          | inr some ↦ inr (own_found d v there other some)
+        ]
+      where
+        chosen : v.kind ≤ 3 → v.kind ≢ 3 → 1 ≤ v.kind → IsChosen v
+        chosen most other least =
+            elim (eq-or-lt_of_le least) [
+              | inl one ↦ inl (sym one)
+              | inr above ↦
+                  elim (eq-or-lt_of_le above) [ inl two ↦ inr (inl (sym two)) | inr past ↦ absurd (other (let three : v.kind ≡ 3 = omega (arith, most, past) in three)) ]
+            ]

@@ -7,17 +7,22 @@ use Rattle.exact_num.specs.Gcd.{gcd_of, gcd_within}
 use Rattle.exact_num.specs.Range.{all_fit, in_range}
 use Rattle.exact_num.specs.Rational.{lowest, plus, times}
 use Rattle.model_sets.specs.Data.{Data, Default}
+use Rattle.param_tables.specs.declared.ratios.ActivityRatio.TheVariants.{Input, Output, Emission}
 use Rattle.row_core.specs.declared.Row.{Row}
 use Rattle.row_core.specs.declared.RowName.{RowName}
+use Rattle.row_core.specs.declared.Sense.TheVariants.{Most}
 use Rattle.row_core.specs.declared.Var.{Var}
+use Rattle.row_core.specs.Amounts.{Billionths, Negative, Total}
 use Rattle.row_core.specs.Numbers.{ascends}
 use Rattle.row_core.specs.Order.{row_name_cmp, var_cmp}
 use Rattle.named_equations.specs.Indices.{at_rrrlfy, index}
-use Rattle.named_equations.specs.Instances.{name_at, variable_of}
+use Rattle.named_equations.specs.Instances.{instances, name_at, variable_of}
 use Rattle.named_equations.specs.Variables.{new_capacity, trade, variable}
 use Rattle.row_book.specs.Books.{AreRowsOf, AreVariablesOf, CanBeMade, HasTooMany, IsTooWide, entries_in, row_fits}
-use Rattle.row_book.specs.Built.{built_instances}
 use Rattle.row_book.specs.Definitions.{AreTriangular, Defines, IsChosen, cost_of}
+use Rattle.row_book.specs.EquationRows.{is_from, terms_at}
+use Rattle.row_book.specs.Ratios.{cells_of_ratio, cells_of_some_mode}
+use Rattle.row_book.specs.Walks.{instance_at, instances_in}
 
 -- ---- the data
 
@@ -54,9 +59,10 @@ at_zeros eq = name_at eq (index 0 0 0 0 0 0 0 0)
 
 -- ---- instances
 
--- 21 instances: none of use, as nothing is taken in
-base_instances : built_instances base ≡ map at_zeros
-    (1 ∷ 2 ∷ 3 ∷ 4 ∷ 5 ∷ 6 ∷ 7 ∷ 8 ∷ 9 ∷ 12 ∷ 13 ∷ 14 ∷ 15 ∷ 16 ∷ 17 ∷ 18 ∷ 19 ∷ 20 ∷ 21 ∷ 22 ∷ 24 ∷ [])
+-- 43 instances: none of use, as nothing is taken in, of the three equations of the salvage value the last one, and no limit
+base_instances : instances base ≡ map at_zeros
+    (1 ∷ 2 ∷ 3 ∷ 4 ∷ 5 ∷ 6 ∷ 7 ∷ 8 ∷ 9 ∷ 12 ∷ 13 ∷ 14 ∷ 15 ∷ 16 ∷ 17 ∷ 18 ∷ 19 ∷ 20 ∷ 21 ∷ 22 ∷ 24 ∷ 25 ∷ 26 ∷ 29 ∷ 30
+    ∷ 31 ∷ 32 ∷ 33 ∷ 34 ∷ 38 ∷ 39 ∷ 40 ∷ 41 ∷ 42 ∷ 47 ∷ 50 ∷ 53 ∷ 54 ∷ 55 ∷ 56 ∷ 57 ∷ 58 ∷ 59 ∷ [])
 base_instances = refl
 
 -- they ascend; with two of them exchanged they don't, and no more with one twice
@@ -78,10 +84,49 @@ too_many row are = are
 
 -- ---- entries
 
--- 40 entries in all
-base_entries : entries_in base (built_instances base) ≡ 40
+-- eight entries in the rows of CAa1, EBa10, EBa11 and TAC1 together
+some_entries : entries_in base (map at_zeros (2 ∷ 16 ∷ 17 ∷ 50 ∷ [])) ≡ 8
 unfolding lowest times plus gcd_of gcd_within
-base_entries = refl
+some_entries = refl
+
+-- ---- equations as terms
+
+-- the first and the last number, and the next
+first_cost : is_from 25 34 25 ≡ true
+first_cost = refl
+
+last_cost : is_from 25 34 34 ≡ true
+last_cost = refl
+
+past_costs : is_from 25 34 35 ≡ false
+past_costs = refl
+
+-- AAC2, whose row is one of a limit, and E8, of emissions
+upper_limit : (terms_at base (at_zeros 48)).sense ≡ Most
+upper_limit = refl
+
+emission_limit : (terms_at base (at_zeros 63)).right ≡ Total (Billionths minus_one) (Negative (Billionths (pos 0)))
+emission_limit = refl
+
+-- ---- where they are asked
+
+-- the technology makes the fuel, and takes none
+made : cells_of_ratio base Output 0 ≡ index 0 0 0 0 0 0 0 0 ∷ []
+made = refl
+
+taken : cells_of_some_mode base Input 0 ≡ []
+taken = refl
+
+-- there is no emission
+given_off : cells_of_ratio base Emission 0 ≡ []
+given_off = refl
+
+-- CAa3 has an instance, and EBa4 none
+one_instance : instances_in base 4 0 ≡ at_zeros 4 ∷ []
+one_instance = refl
+
+no_instance : instance_at base 10 (index 0 0 0 0 0 0 0 0) ≡ []
+no_instance = refl
 
 -- the two entries of CAa1 keep the limit, and with one more before them they don't
 at_the_limit : CanBeMade base 3999998 (at_zeros 2 ∷ [])

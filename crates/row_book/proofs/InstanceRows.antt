@@ -1,6 +1,5 @@
 -- The equations of capacity adequacy stand everywhere, and so their rows stop only where a number doesn't fit.
-use Rattle.std.proofs.Common.{◌≡◌, ◌≤◌, true, not, ◌&&◌, ◌||◌, refl, ap, ap₂, sym, ◌∙◌, subst, arith, le-leb}
-use Rattle.std.specs.Prelude.{if◌then◌else◌}
+use Rattle.std.proofs.Common.{◌≡◌, ◌≤◌, true, not, ◌||◌, refl, ap, sym, ◌∙◌, subst, arith}
 use Rattle.exact_num.specs.Range.{all_fit}
 use Rattle.model_sets.specs.Data.{Data}
 use Rattle.row_core.specs.declared.RowName.{RowName}
@@ -8,21 +7,19 @@ use Rattle.row_core.specs.declared.place.Place.{Place}
 use Rattle.row_core.specs.declared.place.Stopped.{Stopped}
 use Rattle.row_core.specs.EquationTerms.{equation_formed}
 use Rattle.row_core.specs.Stops.{IsStop}
-use Rattle.named_equations.specs.Instances.{stands_at}
-use Rattle.named_equations.proofs.TermMeaning.{EachFrom, at_number}
+use Rattle.named_equations.specs.Instances.{name_at, stands_at}
+use Rattle.named_equations.proofs.TermMeaning.{at_number}
 use Rattle.capacity_rows.specs.Rows as capacity
-use Rattle.balance_rows.specs.Rows as balance
 use Rattle.row_book.specs.Books.{row_fits}
-use Rattle.row_book.specs.Built.{terms_at}
+use Rattle.row_book.specs.EquationRows.{terms_at}
 
 capacity-stands : (d : Data) (name : RowName) → 2 ≤ name.eq → name.eq ≤ 6 → stands_at d name.eq name.index ≡ true
 capacity-stands d name from to =
-    let each : EachFrom (λ n. stands_at d n name.index ≡ true) 2 5 = (refl, (refl, (refl, (refl, (refl, tt))))) in
-    at_number (λ n. stands_at d n name.index ≡ true) 2 5 name.eq each from (omega (arith, to))
+    at_number (λ n. stands_at d n name.index ≡ true) 2 5 name.eq (refl, (refl, (refl, (refl, (refl, tt))))) from (omega (arith, to))
 
 capacity-terms : (d : Data) (name : RowName) → 2 ≤ name.eq → name.eq ≤ 6 → terms_at d name ≡ capacity.terms_at d name
 capacity-terms d name from to =
-    ap₂ (λ a b. if a && b then capacity.terms_at d name else balance.terms_at d name) (le-leb 2 name.eq from) (le-leb name.eq 6 to)
+    at_number (λ n. terms_at d (name_at n name.index) ≡ capacity.terms_at d (name_at n name.index)) 2 5 name.eq (refl, (refl, (refl, (refl, (refl, tt))))) from (omega (arith, to))
 
 pub capacity-stops : (d : Data) (name : RowName) (stopped : Stopped) → 2 ≤ name.eq → name.eq ≤ 6
     → IsStop (Place.Row name) (all_fit (equation_formed (capacity.terms_at d name))) stopped → IsStop (Place.Row name) (not (stands_at d name.eq name.index) || row_fits d name) stopped

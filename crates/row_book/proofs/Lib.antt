@@ -1,12 +1,18 @@
-pub mod BuiltInstances
+pub mod AllTerms
 pub mod CellLaws
+pub mod CostTerms
 pub mod Definers
 pub mod Elements
+pub mod EnergyTerms
 pub mod EntryVariables
 mod Examples
 pub mod InstanceRows
+pub mod Instances
 pub mod KindLaws
+pub mod LimitTerms
 pub mod Lists
+pub mod Numbers
+pub mod Periods
 pub mod Places
 pub mod Ranges
 pub mod RatioCells
@@ -18,5 +24,4 @@ pub mod Subscripts
 pub mod TermVariables
 pub mod Triangles
 pub mod VariablesInOrder
-pub mod WalkOrder
 pub mod Within

@@ -1,9 +1,9 @@
 -- Lists made part by part.
-use Rattle.std.proofs.Common.{◌≡◌, Bool, true, false, cond, List, [], ◌∷◌, ◌++◌, map, filter, refl, ap, ◌∙◌}
+use Rattle.std.proofs.Common.{◌≡◌, Bool, true, false, cond, inl, inr, List, [], ◌∷◌, ◌++◌, map, filter, refl, ap, sym, ◌∙◌, subst}
 use Rattle.std.specs.List.{AllByRecursion, flat_map}
 use Rattle.std.proofs.lemmas.List.{append-nil, map-append}
-use Rattle.std.proofs.lemmas.List.Elements.{filter-append}
 use Rattle.std.proofs.lemmas.Grind.{flat_map-append}
+use Rattle.named_equations.proofs.InstanceTests.{Has}
 
 -- ---- parts
 
@@ -14,10 +14,6 @@ flat_map-same f g same (x ∷ xs) = ap (λ front. front ++ flat_map f xs) (same 
 pub map-flat_map : {A B C : Type 0} (g : B → C) (f : A → List B) (xs : List A) → map g (flat_map f xs) ≡ flat_map (λ x. map g (f x)) xs
 map-flat_map g f [] = refl
 map-flat_map g f (x ∷ xs) = map-append g (f x) (flat_map f xs) ∙ ap (λ rest. map g (f x) ++ rest) (map-flat_map g f xs)
-
-pub filter-flat_map : {A B : Type 0} (test : B → Bool) (f : A → List B) (xs : List A) → filter test (flat_map f xs) ≡ flat_map (λ x. filter test (f x)) xs
-filter-flat_map test f [] = refl
-filter-flat_map test f (x ∷ xs) = filter-append test (f x) (flat_map f xs) ∙ ap (λ rest. filter test (f x) ++ rest) (filter-flat_map test f xs)
 
 pub flat_map-flat_map : {A B C : Type 0} (g : B → List C) (f : A → List B) (xs : List A) → flat_map g (flat_map f xs) ≡ flat_map (λ x. flat_map g (f x)) xs
 flat_map-flat_map g f [] = refl
@@ -33,28 +29,20 @@ flat_map-last f front x = flat_map-append f front (x ∷ []) ∙ ap (λ last. fl
 
 -- ---- filters
 
-filter-step : {A B : Type 0} (g : A → B) (b : Bool) (x : A) (xs : List A) (ys : List B) → ys ≡ map g xs → cond b (g x ∷ ys) ys ≡ map g (cond b (x ∷ xs) xs)
-filter-step g true x xs ys e = ap (λ rest. g x ∷ rest) e
-filter-step g false x xs ys e = e
-
--- where the test of what is made is that of what it is made from
-pub filter-map : {A B : Type 0} (test : B → Bool) (other : A → Bool) (g : A → B) → ((x : A) → test (g x) ≡ other x) → (xs : List A) → filter test (map g xs) ≡ map g (filter other xs)
-filter-map test other g same [] = refl
-filter-map test other g same (x ∷ xs) =
-    ap (λ b. cond b (g x ∷ filter test (map g xs)) (filter test (map g xs))) (same x)
-    ∙ filter-step g (other x) x (filter other xs) (filter test (map g xs)) (filter-map test other g same xs)
-
-pub filter-same : {A : Type 0} (test other : A → Bool) → ((x : A) → test x ≡ other x) → (xs : List A) → filter test xs ≡ filter other xs
-filter-same test other same [] = refl
-filter-same test other same (x ∷ xs) =
-    ap (λ b. cond b (x ∷ filter test xs) (filter test xs)) (same x)
-    ∙ ap (λ rest. cond (other x) (x ∷ rest) rest) (filter-same test other same xs)
-
 pub filter-all : {A : Type 0} (xs : List A) → filter (λ x. true) xs ≡ xs
 filter-all [] = refl
 filter-all (x ∷ xs) = ap (λ rest. x ∷ rest) (filter-all xs)
 
 -- ---- facts of every element
+
+pub all-from : {A : Type 0} (P : A → Type 0) (xs : List A) → ((x : A) → Has xs x → P x) → AllByRecursion P xs
+all-from P [] of_each = tt
+all-from P (x ∷ xs) of_each = (of_each x (inl refl), all-from P xs (λ y h. of_each y (inr h)))
+
+pub all-has : {A : Type 0} (P : A → Type 0) (xs : List A) (x : A) → AllByRecursion P xs → Has xs x → P x
+all-has P [] x of_all has = absurd has
+all-has P (y ∷ xs) x of_all (inl e) = subst P e of_all.0
+all-has P (y ∷ xs) x of_all (inr has) = all-has P xs x of_all.1 has
 
 pub AllByRecursion-append : {A : Type 0} (P : A → Type 0) (xs ys : List A) → AllByRecursion P xs → AllByRecursion P ys → AllByRecursion P (xs ++ ys)
 AllByRecursion-append P [] ys of_xs of_ys = of_ys
@@ -89,6 +77,16 @@ AllByRecursion-filter P test (x ∷ xs) of_xs = by_test (test x) refl (AllByRecu
     by_test true is rest = ((of_xs.0, is), rest)
     by_test false is rest = rest
 
+pub AllByRecursion-from_map : {A B : Type 0} (P : B → Type 0) (g : A → B) (xs : List A) → AllByRecursion P (map g xs) → AllByRecursion (λ x. P (g x)) xs
+AllByRecursion-from_map P g [] of_xs = tt
+AllByRecursion-from_map P g (x ∷ xs) of_xs = (of_xs.0, AllByRecursion-from_map P g xs of_xs.1)
+
+-- of what is made part by part, for each element of which something is true
+pub AllByRecursion-parts_of : {A B : Type 0} (P : B → Type 0) (Q : A → Type 0) (f : A → List B) (xs : List A) → ((x : A) → Q x → AllByRecursion P (f x)) → AllByRecursion Q xs → AllByRecursion P (flat_map f xs)
+AllByRecursion-parts_of P Q f [] of_each of_xs = tt
+AllByRecursion-parts_of P Q f (x ∷ xs) of_each of_xs =
+    AllByRecursion-append P (f x) (flat_map f xs) (of_each x of_xs.0) (AllByRecursion-parts_of P Q f xs of_each of_xs.1)
+
 pub AllByRecursion-map : {A B : Type 0} (P : B → Type 0) (g : A → B) (xs : List A) → AllByRecursion (λ x. P (g x)) xs → AllByRecursion P (map g xs)
 AllByRecursion-map P g [] of_xs = tt
 AllByRecursion-map P g (x ∷ xs) of_xs = (of_xs.0, AllByRecursion-map P g xs of_xs.1)
@@ -98,6 +96,15 @@ pub flat_map-alike : {A B : Type 0} (f g : A → List B) (xs : List A) → AllBy
 flat_map-alike f g [] alike = refl
 flat_map-alike f g (x ∷ xs) alike = ap (λ front. front ++ flat_map f xs) alike.0 ∙ ap (λ rest. g x ++ rest) (flat_map-alike f g xs alike.1)
 
-pub map-map : {A B C : Type 0} (g : B → C) (f : A → B) (xs : List A) → map g (map f xs) ≡ map (λ x. g (f x)) xs
-map-map g f [] = refl
-map-map g f (x ∷ xs) = ap (λ rest. g (f x) ∷ rest) (map-map g f xs)
+pub flat_map-map : {A B C : Type 0} (g : B → List C) (f : A → B) (xs : List A) → flat_map g (map f xs) ≡ flat_map (λ x. g (f x)) xs
+flat_map-map g f [] = refl
+flat_map-map g f (x ∷ xs) = ap (λ rest. g (f x) ++ rest) (flat_map-map g f xs)
+
+-- the elements that a test takes out give nothing
+pub flat_map-kept : {A B : Type 0} (test : A → Bool) (f : A → List B) → ((x : A) → test x ≡ false → f x ≡ []) → (xs : List A) → flat_map f (filter test xs) ≡ flat_map f xs
+flat_map-kept test f none [] = refl
+flat_map-kept test f none (x ∷ xs) = by_test (test x) refl (flat_map-kept test f none xs)
+  where
+    by_test : (b : Bool) → test x ≡ b → flat_map f (filter test xs) ≡ flat_map f xs → flat_map f (cond b (x ∷ filter test xs) (filter test xs)) ≡ f x ++ flat_map f xs
+    by_test true is rest = ap (λ more. f x ++ more) rest
+    by_test false is rest = rest ∙ ap (λ front. front ++ flat_map f xs) (sym (none x is))

@@ -1,5 +1,5 @@
 -- The elements of a list in front of a place, at it, and behind it.
-use Rattle.std.proofs.Common.{◌≡◌, ℕ, zero, suc, ◌<◌, ◌≤◌, List, [], ◌∷◌, ◌++◌, length, get_or, take, drop, map, refl, ap, arith}
+use Rattle.std.proofs.Common.{◌≡◌, ℕ, zero, suc, ◌<◌, ◌≤◌, List, [], ◌∷◌, ◌++◌, length, get_or, take, drop, refl, ap, arith}
 use Rattle.std.specs.List.{AllByRecursion}
 
 -- a list around one of its elements
@@ -15,8 +15,8 @@ take-past [] (suc i) past = refl
 take-past (x ∷ xs) zero past = absurd (omega (arith, past))
 take-past (x ∷ xs) (suc i) past = ap (λ rest. x ∷ rest) (take-past xs i (omega (arith, past)))
 
--- a fact of what is mapped, at a place
-pub all-mapped : {A B : Type 0} (P : B → Type 0) (f : A → B) (xs : List A) (i : ℕ) (d : A) → AllByRecursion P (map f xs) → i < length xs → P (f (get_or xs i d))
-all-mapped P f [] i d of_all inside = absurd (omega (arith, inside))
-all-mapped P f (x ∷ xs) zero d of_all inside = of_all.0
-all-mapped P f (x ∷ xs) (suc i) d of_all inside = all-mapped P f xs i d of_all.1 (omega (arith, inside))
+-- a fact of all elements, at a place
+pub all-at_place : {A : Type 0} (P : A → Type 0) (xs : List A) (i : ℕ) (d : A) → AllByRecursion P xs → i < length xs → P (get_or xs i d)
+all-at_place P [] i d of_all inside = absurd (omega (arith, inside))
+all-at_place P (x ∷ xs) zero d of_all inside = of_all.0
+all-at_place P (x ∷ xs) (suc i) d of_all inside = all-at_place P xs i d of_all.1 (omega (arith, inside))

@@ -15,16 +15,17 @@ use Rattle.row_core.proofs.Orders.{index_cmp_exact, index_cmp_total}
 use Rattle.model_sets.specs.Data.{Data}
 use Rattle.row_core.specs.declared.Index.{Index}
 use Rattle.row_core.specs.Subscripts as place
+use Rattle.param_tables.specs.declared.ratios.ActivityRatio.{ActivityRatio}
+use Rattle.param_tables.specs.declared.ratios.ActivityRatio.TheVariants.{Input, Output, Emission}
 use Rattle.named_equations.specs.Indices.{at_r, index}
-use Rattle.named_equations.specs.Instances.{subscripts_of, values_at}
+use Rattle.named_equations.specs.Instances.{values_at}
 use Rattle.named_equations.specs.Positions.{modes}
-use Rattle.named_equations.proofs.InstanceOrder.{from_e, from_f, from_m, from_y}
+use Rattle.named_equations.proofs.InstanceOrder.{from_e, from_f, from_m, from_y, sorted_t}
 use Rattle.named_equations.proofs.InstanceTests.{Contains-from_Has, Has, Has-flat_map, Has-from_Contains, flat_map_parts}
 use Rattle.named_equations.proofs.SortedLists.{Every, Sorted, Sorted-filter}
-use Rattle.row_book.specs.Ratios.{cells_of_ratio, cells_of_some_mode, has_ratio, has_ratio_in, has_some_ratio, without_mode}
+use Rattle.row_book.specs.Ratios.{cells_of_ratio, cells_of_some_mode, has_ratio, has_some_ratio, ratio_subscripts, subscripts_but_mode, with_mode}
 use Rattle.row_book.specs.Walks.{inner_subscripts, walk}
 use Rattle.row_book.proofs.Elements.{Has-filter, Has-map, filter_parts, map_parts}
-use Rattle.row_book.proofs.WalkOrder.{Sorted-walk}
 
 -- ---- what is walked
 
@@ -76,43 +77,57 @@ walked-has d s r i w =
     (Has-flat_map (λ m. from_y d s r 0 0 w.tech w.fuel w.emission m) (values_at d s place.m) w.mode _ w.of_mode
     (Has-flat_map (λ y. index r 0 0 w.tech w.fuel w.emission w.mode y ∷ []) (values_at d s place.y) w.year _ w.of_year (inl refl))))))
 
+-- these subscripts are those but for the mode
+record DropsMode (d : Data) (s but : List ℕ) : Type 0 where
+  tech : values_at d s place.t ≡ values_at d but place.t
+  fuel : values_at d s place.f ≡ values_at d but place.f
+  emission : values_at d s place.e ≡ values_at d but place.e
+  year : values_at d s place.y ≡ values_at d but place.y
+  modes_are : values_at d s place.m ≡ modes d
+  none : values_at d but place.m ≡ 0 ∷ []
+
+drops-mode : (d : Data) (ratio : ActivityRatio) → DropsMode d (ratio_subscripts ratio) (subscripts_but_mode ratio)
+drops-mode d Input = record { tech = refl; fuel = refl; emission = refl; year = refl; modes_are = refl; none = refl }
+drops-mode d Output = record { tech = refl; fuel = refl; emission = refl; year = refl; modes_are = refl; none = refl }
+drops-mode d Emission = record { tech = refl; fuel = refl; emission = refl; year = refl; modes_are = refl; none = refl }
+
 -- without its mode an index of the first walk is one of the second
-walked-without : (d : Data) (r : ℕ) (i : Index) → IsWalked d (subscripts_of 7) r i → IsWalked d (subscripts_of 8) r (without_mode i)
-walked-without d r i w = record {
+walked-without : (d : Data) (s but : List ℕ) (r : ℕ) (i : Index) → DropsMode d s but → IsWalked d s r i → IsWalked d but r (with_mode 0 i)
+walked-without d s but r i drops w = record {
   tech = w.tech;
   fuel = w.fuel;
   emission = w.emission;
   mode = 0;
   year = w.year;
-  of_tech = w.of_tech;
-  of_fuel = w.of_fuel;
-  of_emission = w.of_emission;
-  of_mode = inl refl;
-  of_year = w.of_year;
-  is = ap without_mode w.is;
+  of_tech = subst (λ vs. Has vs w.tech) drops.tech w.of_tech;
+  of_fuel = subst (λ vs. Has vs w.fuel) drops.fuel w.of_fuel;
+  of_emission = subst (λ vs. Has vs w.emission) drops.emission w.of_emission;
+  of_mode = subst (λ vs. Has vs 0) (sym drops.none) (inl refl);
+  of_year = subst (λ vs. Has vs w.year) drops.year w.of_year;
+  is = ap (with_mode 0) w.is;
 }
 
 -- with a mode an index of the second is one of the first
-walked-with : (d : Data) (r m : ℕ) (i : Index) → Has (modes d) m → IsWalked d (subscripts_of 8) r i → IsWalked d (subscripts_of 7) r (record i { mode = m })
-walked-with d r m i in_modes w = record {
+walked-with : (d : Data) (s but : List ℕ) (r m : ℕ) (i : Index) → DropsMode d s but → Has (modes d) m → IsWalked d but r i → IsWalked d s r (with_mode m i)
+walked-with d s but r m i drops in_modes w = record {
   tech = w.tech;
   fuel = w.fuel;
   emission = w.emission;
   mode = m;
   year = w.year;
-  of_tech = w.of_tech;
-  of_fuel = w.of_fuel;
-  of_emission = w.of_emission;
-  of_mode = in_modes;
-  of_year = w.of_year;
-  is = ap (λ (j : Index). record j { mode = m }) w.is;
+  of_tech = subst (λ vs. Has vs w.tech) (sym drops.tech) w.of_tech;
+  of_fuel = subst (λ vs. Has vs w.fuel) (sym drops.fuel) w.of_fuel;
+  of_emission = subst (λ vs. Has vs w.emission) (sym drops.emission) w.of_emission;
+  of_mode = subst (λ vs. Has vs m) (sym drops.modes_are) in_modes;
+  of_year = subst (λ vs. Has vs w.year) (sym drops.year) w.of_year;
+  is = ap (with_mode m) w.is;
 }
 
 -- it has no mode of its own
-walked-mode : (d : Data) (r m : ℕ) (i : Index) → IsWalked d (subscripts_of 8) r i → without_mode (record i { mode = m }) ≡ i
-walked-mode d r m i w =
-    let none : w.mode ≡ 0 = sym (only_one 0 w.mode w.of_mode) in
-    ap (λ (j : Index). record j { mode = 0 }) (sym w.is) ∙ ap (λ k. index r 0 0 w.tech w.fuel w.emission k w.year) (sym none) ∙ w.is
+walked-mode : (d : Data) (s but : List ℕ) (r m : ℕ) (i : Index) → DropsMode d s but → IsWalked d but r i → with_mode 0 (with_mode m i) ≡ i
+walked-mode d s but r m i drops w =
+    let none : w.mode ≡ 0 = sym (only_one 0 w.mode (subst (λ vs. Has vs w.mode) drops.none w.of_mode)) in
+    ap (with_mode 0) (sym w.is) ∙ ap (λ k. index r 0 0 w.tech w.fuel w.emission k w.year) (sym none) ∙ w.is
 
 -- ---- tests of some element
 
@@ -125,7 +140,7 @@ any-has test (k ∷ ns) n (inr h) passes = or_later (test k) (list_any test ns) 
     or_later true b e = refl
     or_later false b e = e
 
-has-any : (test : ℕ → Bool) (ns : List ℕ) → list_any test ns ≡ true → (n : ℕ) × (Has ns n × (test n ≡ true))
+pub has-any : (test : ℕ → Bool) (ns : List ℕ) → list_any test ns ≡ true → (n : ℕ) × (Has ns n × (test n ≡ true))
 has-any test [] passes = absurd (cc passes)
 has-any test (k ∷ ns) passes = by_test (test k) refl passes (has-any test ns)
   where
@@ -197,37 +212,45 @@ alike Equal h = refl
 alike Greater h = absurd (cc h)
 
 -- a cell of some mode is one without its mode, and the other way round
-to_some : (d : Data) (ratio r : ℕ) (i : Index) → Has (map without_mode (cells_of_ratio d ratio r)) i → Has (cells_of_some_mode d ratio r) i
+to_some : (d : Data) (ratio : ActivityRatio) (r : ℕ) (i : Index) → Has (map (with_mode 0) (cells_of_ratio d ratio r)) i → Has (cells_of_some_mode d ratio r) i
 to_some d ratio r i h =
-    let mapped = map_parts without_mode (cells_of_ratio d ratio r) i h in
-    let passed = filter_parts (has_ratio d ratio) (walk d (subscripts_of 7) inner_subscripts (at_r r)) mapped.0 mapped.1 in
-    let w = walked-parts d (subscripts_of 7) r mapped.0 passed.0 in
-    let mode : Has (modes d) mapped.0.mode = subst (λ (j : Index). Has (modes d) j.mode) w.is w.of_mode in
+    let s = ratio_subscripts ratio in
+    let but = subscripts_but_mode ratio in
+    let drops = drops-mode d ratio in
+    let mapped = map_parts (with_mode 0) (cells_of_ratio d ratio r) i h in
+    let passed = filter_parts (has_ratio d ratio) (walk d s inner_subscripts (at_r r)) mapped.0 mapped.1 in
+    let w = walked-parts d s r mapped.0 passed.0 in
+    let of_mode : Has (modes d) w.mode = subst (λ vs. Has vs w.mode) drops.modes_are w.of_mode in
+    let mode : Has (modes d) mapped.0.mode = subst (λ (j : Index). Has (modes d) j.mode) w.is of_mode in
     subst (λ j. Has (cells_of_some_mode d ratio r) j) mapped.2
-    (Has-filter (has_some_ratio d ratio) (walk d (subscripts_of 8) inner_subscripts (at_r r)) (without_mode mapped.0)
-    (walked-has d (subscripts_of 8) r (without_mode mapped.0) (walked-without d r mapped.0 w))
-    (any-has (has_ratio_in d ratio (without_mode mapped.0)) (modes d) mapped.0.mode mode passed.1))
+    (Has-filter (has_some_ratio d ratio) (walk d but inner_subscripts (at_r r)) (with_mode 0 mapped.0)
+    (walked-has d but r (with_mode 0 mapped.0) (walked-without d s but r mapped.0 drops w))
+    (any-has (λ m. has_ratio d ratio (with_mode m mapped.0)) (modes d) mapped.0.mode mode passed.1))
 
-from_some : (d : Data) (ratio r : ℕ) (i : Index) → Has (cells_of_some_mode d ratio r) i → Has (map without_mode (cells_of_ratio d ratio r)) i
+from_some : (d : Data) (ratio : ActivityRatio) (r : ℕ) (i : Index) → Has (cells_of_some_mode d ratio r) i → Has (map (with_mode 0) (cells_of_ratio d ratio r)) i
 from_some d ratio r i h =
-    let passed = filter_parts (has_some_ratio d ratio) (walk d (subscripts_of 8) inner_subscripts (at_r r)) i h in
-    let w = walked-parts d (subscripts_of 8) r i passed.0 in
-    let found = has-any (has_ratio_in d ratio i) (modes d) passed.1 in
-    let cell : Index = record i { mode = found.0 } in
-    subst (λ j. Has (map without_mode (cells_of_ratio d ratio r)) j) (walked-mode d r found.0 i w)
-    (Has-map without_mode (cells_of_ratio d ratio r) cell
-    (Has-filter (has_ratio d ratio) (walk d (subscripts_of 7) inner_subscripts (at_r r)) cell
-    (walked-has d (subscripts_of 7) r cell (walked-with d r found.0 i found.1.0 w)) found.1.1))
+    let s = ratio_subscripts ratio in
+    let but = subscripts_but_mode ratio in
+    let drops = drops-mode d ratio in
+    let passed = filter_parts (has_some_ratio d ratio) (walk d but inner_subscripts (at_r r)) i h in
+    let w = walked-parts d but r i passed.0 in
+    let found = has-any (λ m. has_ratio d ratio (with_mode m i)) (modes d) passed.1 in
+    let cell : Index = with_mode found.0 i in
+    subst (λ j. Has (map (with_mode 0) (cells_of_ratio d ratio r)) j) (walked-mode d s but r found.0 i drops w)
+    (Has-map (with_mode 0) (cells_of_ratio d ratio r) cell
+    (Has-filter (has_ratio d ratio) (walk d s inner_subscripts (at_r r)) cell
+    (walked-has d s r cell (walked-with d s but r found.0 i drops found.1.0 w)) found.1.1))
 
-pub some-mode-cells : (same : Index → Index → Bool) → ((v w : Index) → same v w ≡ eq_by_cmp index_cmp v w) → (d : Data) (ratio r : ℕ) (in_modes without sorted cells : List Index)
-    → in_modes ≡ cells_of_ratio d ratio r → without ≡ map without_mode in_modes → IsPermutation without sorted → IsSorted index_cmp sorted → cells ≡ dedup same sorted
+pub some-mode-cells : (same : Index → Index → Bool) → ((v w : Index) → same v w ≡ eq_by_cmp index_cmp v w) → (d : Data) (ratio : ActivityRatio) (r : ℕ) (in_modes without sorted cells : List Index)
+    → in_modes ≡ cells_of_ratio d ratio r → without ≡ map (with_mode 0) in_modes → IsPermutation without sorted → IsSorted index_cmp sorted → cells ≡ dedup same sorted
     → cells ≡ cells_of_some_mode d ratio r
 some-mode-cells same ties d ratio r in_modes without sorted cells are are_without permutation in_order distinct =
-    let all : without ≡ map without_mode (cells_of_ratio d ratio r) = are_without ∙ ap (map without_mode) are in
+    let all : without ≡ map (with_mode 0) (cells_of_ratio d ratio r) = are_without ∙ ap (map (with_mode 0)) are in
+    let but = subscripts_but_mode ratio in
     distinct
     ∙ same_sorted (dedup same sorted) (cells_of_some_mode d ratio r)
     (sorted_from (dedup same sorted) (IsStrictlySortedBy-dedup index_cmp_total ties sorted in_order))
-    (Sorted-filter index_cmp (has_some_ratio d ratio) (walk d (subscripts_of 8) inner_subscripts (at_r r)) (Sorted-walk d (subscripts_of 8) r))
+    (Sorted-filter index_cmp (has_some_ratio d ratio) (walk d but inner_subscripts (at_r r)) (sorted_t d but r 0 0))
     (λ z h.
     to_some d ratio r z
     (subst (λ is. Has is z) all

@@ -1,22 +1,23 @@
--- The instances of an equation are those of its regions one after another, and in a region those of one list of inner subscripts with each of the outer ones.
-use Rattle.std.proofs.Common.{◌≡◌, ℕ, ◌+◌, ◌<◌, ◌-◌, length, true, List, [], ◌∷◌, ◌++◌, map, filter, refl, ap, sym, ◌∙◌, subst, arith, inl, inr}
-use Rattle.std.specs.List.{AllByRecursion, flat_map, range_with_len}
+-- The indices of an equation are those of its regions one after another, and in a region those of one list of inner subscripts with each of the outer ones.
+use Rattle.std.proofs.Common.{◌≡◌, ℕ, ◌+◌, ◌<◌, ◌-◌, Bool, true, false, List, [], ◌∷◌, ◌++◌, map, filter, cond, refl, ap, sym, ◌∙◌, subst, arith}
+use Rattle.std.specs.List.{AllByRecursion, flat_map, list_all, range_with_len}
+use Rattle.std.specs.Prelude.{if◌then◌else◌}
 use Rattle.std.proofs.lemmas.List.{append-nil}
-use Rattle.std.proofs.lemmas.List.FromFn.{length-range_with_len}
-use Rattle.model_sets.specs.Names as sets
-use Rattle.named_equations.specs.Positions.{count_of, positions}
-use Rattle.row_book.proofs.Ranges.{range-middle}
 use Rattle.model_sets.specs.Data.{Data}
+use Rattle.model_sets.specs.Names as sets
 use Rattle.row_core.specs.declared.Index.{Index}
+use Rattle.row_core.specs.declared.RowName.{RowName}
+use Rattle.row_core.specs.Equations.{IsEquation}
 use Rattle.row_core.specs.Subscripts as place
 use Rattle.named_equations.specs.Indices.{at_r}
-use Rattle.named_equations.specs.Instances.{indices, instances_of, is_index, name_at, stands_at, subscripts_of, values_at}
-use Rattle.named_equations.proofs.InstanceTests.{Has, indices-pass}
-use Rattle.named_equations.proofs.TermMeaning.{EachFrom, at_number}
-use Rattle.row_book.specs.Built.{IsBuilt, IsBuiltInstance}
-use Rattle.row_book.specs.Walks.{cells_of, inner_subscripts, joined, moved, names_in, names_with, outer_subscripts, outers_of, place_of, walk}
+use Rattle.named_equations.specs.Instances.{equation_numbers, indices, instances_of, is_index, is_one_of, name_at, stands_at, subscripts_of, values_at}
+use Rattle.named_equations.specs.Positions.{count_of, positions}
+use Rattle.named_equations.proofs.InstanceTests.{indices-pass}
+use Rattle.row_book.specs.Walks.{AreAsked, inner_subscripts, inners_of, instance_at, instances_in, instances_with, joined, moved, outer_subscripts, outers_of, place_of, walk}
 use Rattle.row_book.specs.declared.walk.Subscript.{Subscript}
-use Rattle.row_book.proofs.Lists.{AllByRecursion-middle, AllByRecursion-filter, AllByRecursion-flat_map, AllByRecursion-map, AllByRecursion-weaker, filter-flat_map, filter-map, flat_map-alike, flat_map-flat_map, flat_map-same, map-flat_map, map-map}
+use Rattle.row_book.proofs.Lists.{AllByRecursion-filter, AllByRecursion-flat_map, AllByRecursion-from_map, AllByRecursion-middle, AllByRecursion-weaker, all-from, flat_map-alike, flat_map-flat_map, flat_map-kept, flat_map-map, flat_map-same, map-flat_map}
+use Rattle.row_book.proofs.Numbers.{passes-at}
+use Rattle.row_book.proofs.Ranges.{range-middle}
 
 -- ---- walks
 
@@ -49,14 +50,7 @@ indices-walk : (d : Data) (subscripts : List ℕ)
     → indices d subscripts ≡ flat_map (λ r. walk d subscripts (outer_subscripts ++ inner_subscripts) (at_r r)) (values_at d subscripts place.r)
 indices-walk d subscripts = refl
 
--- ---- a region
-
--- whether there is an instance doesn't depend on the outer subscripts
-stands-joined : (d : Data) (eq : ℕ) → IsBuilt eq → (outer cell : Index) → stands_at d eq (joined outer cell) ≡ stands_at d eq cell
-stands-joined d eq built outer cell =
-    let each : EachFrom (λ n. stands_at d n (joined outer cell) ≡ stands_at d n cell) 1 24 =
-    (refl, (refl, (refl, (refl, (refl, (refl, (refl, (refl, (refl, (refl, (refl, (refl, (refl, (refl, (refl, (refl, (refl, (refl, (refl, (refl, (refl, (refl, (refl, (refl, tt)))))))))))))))))))))))) in
-    at_number (λ n. stands_at d n (joined outer cell) ≡ stands_at d n cell) 1 24 eq each built.0 (omega (arith, built.1))
+-- ---- the indices in a region
 
 -- an index with nothing but a region and outer subscripts
 abbrev IsOuterIn : ℕ → Index → Type 0
@@ -68,79 +62,97 @@ outers-are d eq r =
     (λ rr. AllByRecursion-flat_map (IsOuterIn r) (λ l. (record (at_r r) { other = rr; slice = l }) ∷ []) (λ l. (refl, tt)) (values_at d (subscripts_of eq) place.l))
     (values_at d (subscripts_of eq) place.rr)
 
--- the instances with some outer subscripts
-names-outer : (d : Data) (eq r : ℕ) (outer : Index) → IsBuilt eq → IsOuterIn r outer
-    → map (name_at eq) (filter (stands_at d eq) (walk d (subscripts_of eq) inner_subscripts outer)) ≡ names_with eq (cells_of d eq r) outer
-names-outer d eq r outer built is =
-    ap (λ i. map (name_at eq) (filter (stands_at d eq) (walk d (subscripts_of eq) inner_subscripts i))) is
-    ∙ ap (λ is. map (name_at eq) (filter (stands_at d eq) is))
-    (walk-changed d (subscripts_of eq) (joined outer) inner_subscripts
-    (λ i v. refl, (λ i v. refl, (λ i v. refl, (λ i v. refl, (λ i v. refl, tt))))) (at_r r))
-    ∙ ap (map (name_at eq))
-    (filter-map (stands_at d eq) (stands_at d eq) (joined outer) (λ cell. stands-joined d eq built outer cell) (walk d (subscripts_of eq) inner_subscripts (at_r r)))
-    ∙ map-map (name_at eq) (joined outer) (cells_of d eq r)
+-- the indices in a region
+abbrev pub indices_in : Data → ℕ → ℕ → List Index
+indices_in d eq r = flat_map (λ outer. map (joined outer) (inners_of d eq r)) (outers_of d eq r)
 
--- the instances in a region
-names-region : (d : Data) (eq r : ℕ) → IsBuilt eq
-    → map (name_at eq) (filter (stands_at d eq) (walk d (subscripts_of eq) (outer_subscripts ++ inner_subscripts) (at_r r))) ≡ names_in d eq r
-names-region d eq r built =
-    let s = subscripts_of eq in
-    ap (λ is. map (name_at eq) (filter (stands_at d eq) is)) (walk-append d s outer_subscripts inner_subscripts (at_r r))
-    ∙ ap (map (name_at eq)) (filter-flat_map (stands_at d eq) (walk d s inner_subscripts) (outers_of d eq r))
-    ∙ map-flat_map (name_at eq) (λ outer. filter (stands_at d eq) (walk d s inner_subscripts outer)) (outers_of d eq r)
-    ∙ flat_map-alike (λ outer. map (name_at eq) (filter (stands_at d eq) (walk d s inner_subscripts outer))) (names_with eq (cells_of d eq r)) (outers_of d eq r)
-    (AllByRecursion-weaker (IsOuterIn r)
-    (λ outer. map (name_at eq) (filter (stands_at d eq) (walk d s inner_subscripts outer)) ≡ names_with eq (cells_of d eq r) outer)
-    (λ outer is. names-outer d eq r outer built is) (outers_of d eq r) (outers-are d eq r))
+inner-walk : (d : Data) (eq r : ℕ) (outer : Index) → IsOuterIn r outer → walk d (subscripts_of eq) inner_subscripts outer ≡ map (joined outer) (inners_of d eq r)
+inner-walk d eq r outer is =
+    ap (walk d (subscripts_of eq) inner_subscripts) is
+    ∙ walk-changed d (subscripts_of eq) (joined outer) inner_subscripts
+    (λ i v. refl, (λ i v. refl, (λ i v. refl, (λ i v. refl, (λ i v. refl, tt))))) (at_r r)
 
--- the instances of an equation, region by region
-pub instances-regions : (d : Data) (eq : ℕ) → IsBuilt eq → instances_of d eq ≡ flat_map (names_in d eq) (values_at d (subscripts_of eq) place.r)
-instances-regions d eq built =
-    let s = subscripts_of eq in
-    let in_region : ℕ → List Index = λ r. walk d s (outer_subscripts ++ inner_subscripts) (at_r r) in
-    ap (λ is. map (name_at eq) (filter (stands_at d eq) is)) (indices-walk d s)
-    ∙ ap (map (name_at eq)) (filter-flat_map (stands_at d eq) in_region (values_at d s place.r))
-    ∙ map-flat_map (name_at eq) (λ r. filter (stands_at d eq) (in_region r)) (values_at d s place.r)
-    ∙ flat_map-same (λ r. map (name_at eq) (filter (stands_at d eq) (in_region r))) (names_in d eq) (λ r. names-region d eq r built) (values_at d s place.r)
-
--- ---- each of them is an instance
-
-all_from : {A : Type 0} (P : A → Type 0) (xs : List A) → ((x : A) → Has xs x → P x) → AllByRecursion P xs
-all_from P [] of_each = tt
-all_from P (x ∷ xs) of_each = (of_each x (inl refl), all_from P xs (λ y h. of_each y (inr h)))
-
-pub are-instances : (d : Data) (eq : ℕ) → IsBuilt eq → AllByRecursion (IsBuiltInstance d) (instances_of d eq)
-are-instances d eq built =
-    let s = subscripts_of eq in
-    let Within : Index → Type 0 = λ i. is_index d s i ≡ true in
-    let Stands : Index → Type 0 = λ i. Within i × (stands_at d eq i ≡ true) in
-    AllByRecursion-map (IsBuiltInstance d) (name_at eq) (filter (stands_at d eq) (indices d s))
-    (AllByRecursion-weaker Stands (λ i. IsBuiltInstance d (name_at eq i))
-    (λ i parts. record { built = built; within = parts.0; stands = parts.1 })
-    (filter (stands_at d eq) (indices d s))
-    (AllByRecursion-filter Within (stands_at d eq) (indices d s) (all_from Within (indices d s) (indices-pass d s))))
-
--- ---- the regions
+region-walk : (d : Data) (eq r : ℕ) → walk d (subscripts_of eq) (outer_subscripts ++ inner_subscripts) (at_r r) ≡ indices_in d eq r
+region-walk d eq r =
+    let inner : Index → List Index = walk d (subscripts_of eq) inner_subscripts in
+    walk-append d (subscripts_of eq) outer_subscripts inner_subscripts (at_r r)
+    ∙ flat_map-alike inner (λ outer. map (joined outer) (inners_of d eq r)) (outers_of d eq r)
+    (AllByRecursion-weaker (IsOuterIn r) (λ outer. inner outer ≡ map (joined outer) (inners_of d eq r)) (inner-walk d eq r) (outers_of d eq r) (outers-are d eq r))
 
 -- each equation runs over all regions
-pub regions-of : (d : Data) (eq : ℕ) → IsBuilt eq → values_at d (subscripts_of eq) place.r ≡ positions d sets.region
-regions-of d eq built =
-    let each : EachFrom (λ n. values_at d (subscripts_of n) place.r ≡ positions d sets.region) 1 24 =
-    (refl, (refl, (refl, (refl, (refl, (refl, (refl, (refl, (refl, (refl, (refl, (refl, (refl, (refl, (refl, (refl, (refl, (refl, (refl, (refl, (refl, (refl, (refl, (refl, tt)))))))))))))))))))))))) in
-    at_number (λ n. values_at d (subscripts_of n) place.r ≡ positions d sets.region) 1 24 eq each built.0 (omega (arith, built.1))
+regions-of : (d : Data) (eq : ℕ) → IsEquation eq → values_at d (subscripts_of eq) place.r ≡ positions d sets.region
+regions-of d eq equation =
+    let have_region : list_all (λ n. is_one_of (subscripts_of n) place.r) equation_numbers ≡ true = refl in
+    ap (λ has. if has then positions d sets.region else 0 ∷ [])
+    (passes-at (λ n. is_one_of (subscripts_of n) place.r) 1 64 eq have_region equation.0 (omega (arith, equation.1)))
 
--- as many as there are
-pub regions-count : (d : Data) (eq n : ℕ) → IsBuilt eq → range_with_len 0 n ≡ values_at d (subscripts_of eq) place.r → n ≡ count_of d sets.region
-regions-count d eq n built are =
-    sym (length-range_with_len 0 n) ∙ ap length (are ∙ regions-of d eq built) ∙ length-range_with_len 0 (count_of d sets.region)
+-- the indices, region by region
+indices-regions : (d : Data) (eq : ℕ) → IsEquation eq → indices d (subscripts_of eq) ≡ flat_map (indices_in d eq) (positions d sets.region)
+indices-regions d eq equation =
+    indices-walk d (subscripts_of eq)
+    ∙ flat_map-same (λ r. walk d (subscripts_of eq) (outer_subscripts ++ inner_subscripts) (at_r r)) (indices_in d eq) (region-walk d eq) (values_at d (subscripts_of eq) place.r)
+    ∙ ap (flat_map (indices_in d eq)) (regions-of d eq equation)
 
--- the instances, by the number of regions
-pub instances-by_count : (d : Data) (eq n : ℕ) → IsBuilt eq → range_with_len 0 n ≡ values_at d (subscripts_of eq) place.r → instances_of d eq ≡ flat_map (names_in d eq) (range_with_len 0 n)
-instances-by_count d eq n built are = instances-regions d eq built ∙ ap (flat_map (names_in d eq)) (sym are)
+-- ---- instances
 
--- those of a region are instances
-pub region-instances : (d : Data) (eq n r : ℕ) → IsBuilt eq → range_with_len 0 n ≡ values_at d (subscripts_of eq) place.r → r < n → AllByRecursion (IsBuiltInstance d) (names_in d eq r)
-region-instances d eq n r built are inside =
-    AllByRecursion-middle (IsBuiltInstance d) (names_in d eq) (range_with_len 0 (r - 0)) r (range_with_len (r + 1) ((0 + n) - (r + 1)))
-    (subst (λ names. AllByRecursion (IsBuiltInstance d) names)
-    (instances-by_count d eq n built are ∙ ap (flat_map (names_in d eq)) (range-middle 0 n r (omega arith) (omega (arith, inside)))) (are-instances d eq built))
+-- those among some indices
+instances-each : (d : Data) (eq : ℕ) (is : List Index) → map (name_at eq) (filter (stands_at d eq) is) ≡ flat_map (instance_at d eq) is
+instances-each d eq [] = refl
+instances-each d eq (i ∷ is) = by_test (stands_at d eq i) (instances-each d eq is)
+  where
+    by_test : (b : Bool) → map (name_at eq) (filter (stands_at d eq) is) ≡ flat_map (instance_at d eq) is
+        → map (name_at eq) (cond b (i ∷ filter (stands_at d eq) is) (filter (stands_at d eq) is)) ≡ (if b then name_at eq i ∷ [] else []) ++ flat_map (instance_at d eq) is
+    by_test true rest = ap (λ names. name_at eq i ∷ names) rest
+    by_test false rest = rest
+
+-- those in a region
+region-instances : (d : Data) (eq r : ℕ) → flat_map (instance_at d eq) (indices_in d eq r) ≡ instances_in d eq r
+region-instances d eq r =
+    flat_map-flat_map (instance_at d eq) (λ outer. map (joined outer) (inners_of d eq r)) (outers_of d eq r)
+    ∙ flat_map-same (λ outer. flat_map (instance_at d eq) (map (joined outer) (inners_of d eq r))) (instances_with d eq (inners_of d eq r))
+    (λ outer. flat_map-map (instance_at d eq) (joined outer) (inners_of d eq r)) (outers_of d eq r)
+
+-- all of them, region by region
+pub instances-regions : (d : Data) (eq : ℕ) → IsEquation eq → instances_of d eq ≡ flat_map (instances_in d eq) (positions d sets.region)
+instances-regions d eq equation =
+    instances-each d eq (indices d (subscripts_of eq))
+    ∙ ap (flat_map (instance_at d eq)) (indices-regions d eq equation)
+    ∙ flat_map-flat_map (instance_at d eq) (indices_in d eq) (positions d sets.region)
+    ∙ flat_map-same (λ r. flat_map (instance_at d eq) (indices_in d eq r)) (instances_in d eq) (region-instances d eq) (positions d sets.region)
+
+-- ---- the inner subscripts that are asked
+
+-- where there is no instance, none is listed
+not_listed : (stands asked : Bool) (name : RowName) → (stands ≡ true → asked ≡ true) → asked ≡ false → (if stands then name ∷ [] else []) ≡ []
+not_listed true asked name every none = absurd (let is : asked ≡ true = every refl in cc)
+not_listed false asked name every none = refl
+
+-- they find all instances
+pub instances-asked : (d : Data) (eq r : ℕ) (cells : List Index) → AreAsked d eq r cells → (outer : Index) → instances_with d eq cells outer ≡ instances_with d eq (inners_of d eq r) outer
+instances-asked d eq r cells are outer =
+    ap (λ is. instances_with d eq is outer) are.are
+    ∙ flat_map-kept are.asked (λ cell. instance_at d eq (joined outer cell))
+    (λ cell none. not_listed (stands_at d eq (joined outer cell)) (are.asked cell) (name_at eq (joined outer cell)) (are.every outer cell) none) (inners_of d eq r)
+
+-- the index is one of the equation
+abbrev pub IsIndex : Data → ℕ → Index → Type 0
+IsIndex d eq i = is_index d (subscripts_of eq) i ≡ true
+
+region-within : (d : Data) (eq r : ℕ) → IsEquation eq → r < count_of d sets.region → AllByRecursion (IsIndex d eq) (indices_in d eq r)
+region-within d eq r equation inside =
+    AllByRecursion-middle (IsIndex d eq) (indices_in d eq) (range_with_len 0 (r - 0)) r (range_with_len (r + 1) ((0 + count_of d sets.region) - (r + 1)))
+    (subst (AllByRecursion (IsIndex d eq))
+    (indices-regions d eq equation ∙ ap (flat_map (indices_in d eq)) (range-middle 0 (count_of d sets.region) r (omega arith) (omega (arith, inside))))
+    (all-from (IsIndex d eq) (indices d (subscripts_of eq)) (indices-pass d (subscripts_of eq))))
+
+-- with each of the outer ones they are indices
+pub asked-within : (d : Data) (eq r : ℕ) (cells front : List Index) (outer : Index) (behind : List Index) → IsEquation eq → r < count_of d sets.region → AreAsked d eq r cells
+    → outers_of d eq r ≡ front ++ outer ∷ behind → AllByRecursion (λ cell. IsIndex d eq (joined outer cell)) cells
+asked-within d eq r cells front outer behind equation inside are split =
+    let of_outer : AllByRecursion (λ cell. IsIndex d eq (joined outer cell)) (inners_of d eq r) =
+    AllByRecursion-from_map (IsIndex d eq) (joined outer) (inners_of d eq r)
+    (AllByRecursion-middle (IsIndex d eq) (λ other. map (joined other) (inners_of d eq r)) front outer behind
+    (subst (λ outers. AllByRecursion (IsIndex d eq) (flat_map (λ other. map (joined other) (inners_of d eq r)) outers)) split (region-within d eq r equation inside))) in
+    subst (AllByRecursion (λ cell. IsIndex d eq (joined outer cell))) (sym are.are)
+    (AllByRecursion-weaker (λ cell. IsIndex d eq (joined outer cell) × (are.asked cell ≡ true)) (λ cell. IsIndex d eq (joined outer cell)) (λ cell both. both.0) (filter are.asked (inners_of d eq r))
+    (AllByRecursion-filter (λ cell. IsIndex d eq (joined outer cell)) are.asked (inners_of d eq r) of_outer))

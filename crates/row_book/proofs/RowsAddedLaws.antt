@@ -1,6 +1,7 @@
 -- Rows that are made for one list of instances after another, and the first that can't be.
-use Rattle.std.proofs.Common.{◌≡◌, ℕ, ◌+◌, ◌-◌, ◌<◌, ◌≤◌, true, ◌&&◌, length, get_or, take, drop, suc, List, [], ◌∷◌, ◌++◌, refl, ap, sym, ◌∙◌, subst, arith}
+use Rattle.std.proofs.Common.{◌≡◌, ℕ, ◌+◌, ◌-◌, ◌<◌, ◌≤◌, Bool, true, false, not, ◌&&◌, ◌||◌, length, get_or, take, drop, suc, List, [], ◌∷◌, ◌++◌, refl, ap, sym, ◌∙◌, subst, arith}
 use Rattle.std.specs.List.{flat_map, list_all, range_with_len}
+use Rattle.std.specs.Prelude.{if◌then◌else◌}
 use Rattle.std.specs.Cmp.Derive.{both_true}
 use Rattle.std.proofs.lemmas.List.{append-nil, append_assoc, take_more}
 use Rattle.std.proofs.lemmas.List.Folds.{list_all-append}
@@ -11,10 +12,12 @@ use Rattle.row_core.specs.declared.RowName.{RowName}
 use Rattle.row_core.specs.declared.place.Place.{Place}
 use Rattle.row_core.specs.declared.place.Stopped.{Stopped}
 use Rattle.row_core.specs.Stops.{IsStop}
+use Rattle.named_equations.specs.Instances.{stands_at}
 use Rattle.named_equations.specs.RowMeaning.{IsNamedRow}
 use Rattle.row_book.specs.Books.{AreRowsOf, CanBeMade, HasStopped, StopsAt, row_fits, entries_in, entry_count, entry_limit}
-use Rattle.row_book.specs.Built.{terms_at}
+use Rattle.row_book.specs.EquationRows.{terms_at}
 use Rattle.row_book.specs.RowsAdded.{AddsRows}
+use Rattle.row_book.specs.Walks.{instance_at}
 use Rattle.row_book.specs.declared.fail.BookFail.{BookFail}
 use Rattle.row_book.specs.declared.fail.BookFail.TheVariants.{Width, TooManyEntries, Memory}
 use Rattle.row_book.specs.declared.made_rows.MadeRows.{MadeRows}
@@ -141,30 +144,56 @@ range-stops d f from n i a b fail low high so_far stops =
 
 -- ---- one row
 
+-- where there is an instance, and where there is none
+listed_where : (stands : Bool) (name : RowName) → stands ≡ true → (if stands then name ∷ [] else []) ≡ name ∷ []
+listed_where true name e = refl
+listed_where false name e = absurd (cc e)
+
+instance-listed : (d : Data) (name : RowName) → stands_at d name.eq name.index ≡ true → instance_at d name.eq name.index ≡ name ∷ []
+instance-listed d name stands = listed_where (stands_at d name.eq name.index) name stands
+
+none_where : (stands : Bool) (name : RowName) → stands ≡ false → (if stands then name ∷ [] else []) ≡ []
+none_where true name e = absurd (cc e)
+none_where false name e = refl
+
+pub nothing-listed : (d : Data) (name : RowName) (old : MadeRows) → stands_at d name.eq name.index ≡ false → AddsRows d (instance_at d name.eq name.index) old old
+nothing-listed d name old none = subst (λ names. AddsRows d names old old) (sym (none_where (stands_at d name.eq name.index) name none)) (adds-nothing d old)
+
 entries-counted : (d : Data) (name : RowName) (row : Row) → IsNamedRow d name (terms_at d name) row → length row.entries.items ≡ entry_count d name
 entries-counted d name row is = ap length is.written.entries
 
 -- a row behind others
-pub adds-one : (d : Data) (name : RowName) (row : Row) (n : ℕ) (old new : MadeRows) → IsNamedRow d name (terms_at d name) row → row_fits d name ≡ true → n ≡ length row.entries.items
-    → new.rows.items ≡ old.rows.items ++ row ∷ [] → new.entries ≡ old.entries + n → AddsRows d (name ∷ []) old new
-adds-one d name row n old new is fits count behind counted = record {
-  added = row ∷ [];
-  behind = behind;
-  rows = (is, tt);
-  fit = ap (λ b. b && true) fits;
-  counted = omega (arith, counted, count, entries-counted d name row is);
-}
+pub adds-one : (d : Data) (name : RowName) (row : Row) (n : ℕ) (old new : MadeRows) → stands_at d name.eq name.index ≡ true → IsNamedRow d name (terms_at d name) row → row_fits d name ≡ true
+    → n ≡ length row.entries.items → new.rows.items ≡ old.rows.items ++ row ∷ [] → new.entries ≡ old.entries + n → AddsRows d (instance_at d name.eq name.index) old new
+adds-one d name row n old new stands is fits count behind counted =
+    subst (λ names. AddsRows d names old new) (sym (instance-listed d name stands))
+    (record {
+      added = row ∷ [];
+      behind = behind;
+      rows = (is, tt);
+      fit = ap (λ b. b && true) fits;
+      counted = omega (arith, counted, count, entries-counted d name row is);
+    })
 
 first-stop : (d : Data) (n : ℕ) (name : RowName) → n ≤ entry_limit → StopsAt d n (name ∷ []) name
 first-stop d n name few = record { front = []; behind = []; split = refl; made = record { fit = refl; few = omega (arith, few) } }
 
 -- a row with a number that doesn't fit
-pub stops-wide : (d : Data) (n : ℕ) (name : RowName) (place : Place) → n ≤ entry_limit → IsStop (Place.Row name) (row_fits d name) (Stopped.Width place) → HasStopped d n (name ∷ []) (Width place)
-stops-wide d n name place few is = (name, is.0, record { stops = first-stop d n name few; wide = is.1 })
+wide_parts : (stands fits : Bool) → (not stands || fits) ≡ false → (stands ≡ true) × (fits ≡ false)
+wide_parts true fits e = (refl, e)
+wide_parts false fits e = absurd (cc e)
+
+pub stops-wide : (d : Data) (n : ℕ) (name : RowName) (place : Place) → n ≤ entry_limit
+    → IsStop (Place.Row name) (not (stands_at d name.eq name.index) || row_fits d name) (Stopped.Width place) → HasStopped d n (instance_at d name.eq name.index) (Width place)
+stops-wide d n name place few is =
+    let parts = wide_parts (stands_at d name.eq name.index) (row_fits d name) is.1 in
+    subst (λ names. HasStopped d n names (Width place)) (sym (instance-listed d name parts.0))
+    (name, is.0, record { stops = first-stop d n name few; wide = parts.1 })
 
 -- a row with which the limit is passed
-pub stops-many : (d : Data) (name : RowName) (row : Row) (n count : ℕ) → n ≤ entry_limit → IsNamedRow d name (terms_at d name) row → row_fits d name ≡ true → count ≡ length row.entries.items
-    → entry_limit - n < count → HasStopped d n (name ∷ []) TooManyEntries
+pub stops-many : (d : Data) (name : RowName) (row : Row) (n count : ℕ) → n ≤ entry_limit → stands_at d name.eq name.index ≡ true → IsNamedRow d name (terms_at d name) row → row_fits d name ≡ true
+    → count ≡ length row.entries.items → entry_limit - n < count → HasStopped d n (instance_at d name.eq name.index) TooManyEntries
 unfolding first-stop
-stops-many d name row n count few is fits counted above =
+stops-many d name row n count few stands is fits counted above =
+    subst (λ names. HasStopped d n names TooManyEntries) (sym (instance-listed d name stands))
     (name, record { stops = first-stop d n name few; fits = fits; many = omega (arith, above, few, counted, entries-counted d name row is) })

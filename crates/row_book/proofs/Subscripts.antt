@@ -9,7 +9,7 @@ use Rattle.row_core.specs.declared.Index.{Index}
 use Rattle.row_core.specs.declared.Var.{Var}
 use Rattle.row_core.specs.Subscripts as place
 use Rattle.named_equations.specs.Existence.{exists, exists_at, kind_numbers, subscripts_of_kind}
-use Rattle.named_equations.specs.Indices.{index, at_rltmy, at_rty, at_rrrlfy, at_rlfy, at_rlty, at_rltfmy, at_rltfy, at_rfy, at_rrrfy, at_rtmy}
+use Rattle.named_equations.specs.Indices.{index, at_r, at_re, at_rey, at_rfy, at_rlfy, at_rltfmy, at_rltfy, at_rltmy, at_rlty, at_rly, at_rrrfy, at_rrrlfy, at_rt, at_rtemy, at_rtey, at_rtfy, at_rtmy, at_rty, at_ry}
 use Rattle.named_equations.specs.Instances.{is_index, is_one_of, is_value_at}
 use Rattle.named_equations.specs.Positions.{count_of, positions}
 use Rattle.row_book.specs.Kinds.{tidied}
@@ -101,6 +101,47 @@ pub values-rtmy : (d : Data) (r t m y : ℕ) → In d sets.region r → In d set
     → AreValues d (place.r ∷ place.t ∷ place.m ∷ place.y ∷ []) (at_rtmy r t m y)
 values-rtmy d r t m y in_r in_t in_m in_y =
     record { region = in_r; other = refl; slice = refl; tech = in_t; fuel = refl; emission = refl; mode = in_m; year = in_y }
+
+pub values-rtfy : (d : Data) (r t f y : ℕ) → In d sets.region r → In d sets.technology t → In d sets.fuel f → In d sets.year y
+    → AreValues d (place.r ∷ place.t ∷ place.f ∷ place.y ∷ []) (at_rtfy r t f y)
+values-rtfy d r t f y in_r in_t in_f in_y =
+    record { region = in_r; other = refl; slice = refl; tech = in_t; fuel = in_f; emission = refl; mode = refl; year = in_y }
+
+pub values-rtemy : (d : Data) (r t e m y : ℕ) → In d sets.region r → In d sets.technology t → In d sets.emission e → In d sets.mode m → In d sets.year y
+    → AreValues d (place.r ∷ place.t ∷ place.e ∷ place.m ∷ place.y ∷ []) (at_rtemy r t e m y)
+values-rtemy d r t e m y in_r in_t in_e in_m in_y =
+    record { region = in_r; other = refl; slice = refl; tech = in_t; fuel = refl; emission = in_e; mode = in_m; year = in_y }
+
+pub values-rtey : (d : Data) (r t e y : ℕ) → In d sets.region r → In d sets.technology t → In d sets.emission e → In d sets.year y
+    → AreValues d (place.r ∷ place.t ∷ place.e ∷ place.y ∷ []) (at_rtey r t e y)
+values-rtey d r t e y in_r in_t in_e in_y =
+    record { region = in_r; other = refl; slice = refl; tech = in_t; fuel = refl; emission = in_e; mode = refl; year = in_y }
+
+pub values-rt : (d : Data) (r t : ℕ) → In d sets.region r → In d sets.technology t → AreValues d (place.r ∷ place.t ∷ []) (at_rt r t)
+values-rt d r t in_r in_t =
+    record { region = in_r; other = refl; slice = refl; tech = in_t; fuel = refl; emission = refl; mode = refl; year = refl }
+
+pub values-rly : (d : Data) (r l y : ℕ) → In d sets.region r → In d sets.timeslice l → In d sets.year y
+    → AreValues d (place.r ∷ place.l ∷ place.y ∷ []) (at_rly r l y)
+values-rly d r l y in_r in_l in_y =
+    record { region = in_r; other = refl; slice = in_l; tech = refl; fuel = refl; emission = refl; mode = refl; year = in_y }
+
+pub values-ry : (d : Data) (r y : ℕ) → In d sets.region r → In d sets.year y → AreValues d (place.r ∷ place.y ∷ []) (at_ry r y)
+values-ry d r y in_r in_y =
+    record { region = in_r; other = refl; slice = refl; tech = refl; fuel = refl; emission = refl; mode = refl; year = in_y }
+
+pub values-r : (d : Data) (r : ℕ) → In d sets.region r → AreValues d (place.r ∷ []) (at_r r)
+values-r d r in_r =
+    record { region = in_r; other = refl; slice = refl; tech = refl; fuel = refl; emission = refl; mode = refl; year = refl }
+
+pub values-rey : (d : Data) (r e y : ℕ) → In d sets.region r → In d sets.emission e → In d sets.year y
+    → AreValues d (place.r ∷ place.e ∷ place.y ∷ []) (at_rey r e y)
+values-rey d r e y in_r in_e in_y =
+    record { region = in_r; other = refl; slice = refl; tech = refl; fuel = refl; emission = in_e; mode = refl; year = in_y }
+
+pub values-re : (d : Data) (r e : ℕ) → In d sets.region r → In d sets.emission e → AreValues d (place.r ∷ place.e ∷ []) (at_re r e)
+values-re d r e in_r in_e =
+    record { region = in_r; other = refl; slice = refl; tech = refl; fuel = refl; emission = in_e; mode = refl; year = refl }
 
 -- ---- positions
 

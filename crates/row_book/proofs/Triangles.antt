@@ -1,5 +1,5 @@
 -- The rows of all instances are triangular.
-use Rattle.std.proofs.Common.{◌≡◌, ℕ, zero, suc, ◌<◌, ◌≤◌, Bool, true, false, cond, inl, inr, List, [], ◌∷◌, nat_le, Some, None, refl, ap, ap₂, sym, ◌∙◌, subst, arith, le-leb, leb-true}
+use Rattle.std.proofs.Common.{◌≡◌, ℕ, zero, suc, ◌<◌, ◌≤◌, true, false, cond, inl, inr, List, [], ◌∷◌, nat_le, Some, None, refl, ap, ap₂, sym, ◌∙◌, subst, arith, le-leb, leb-true}
 use Rattle.std.specs.List.{AllByRecursion}
 use Rattle.std.specs.Prelude.{slice_get}
 use Rattle.std.specs.declared.cmp.Ordering.{Ordering}
@@ -21,18 +21,20 @@ use Rattle.row_core.specs.Terms.{gathered}
 use Rattle.row_core.specs.Written.{written_entries, written_right}
 use Rattle.row_core.proofs.Orders.{var_cmp_total}
 use Rattle.named_equations.specs.Existence.{exists}
-use Rattle.named_equations.specs.Instances.{is_index, name_at, subscripts_of, variable_of}
+use Rattle.named_equations.specs.Instances.{instances, is_index, name_at, subscripts_of, variable_of}
 use Rattle.named_equations.specs.RowMeaning.{IsNamedRow}
 use Rattle.named_equations.specs.Variables.{trade}
+use Rattle.named_equations.proofs.InstanceOrder.{Sorted-instances, less_then}
 use Rattle.named_equations.proofs.InstanceTests.{Contains-from_Has, Has, Has-from_Contains}
 use Rattle.row_book.specs.Books.{AreRowsOf, entry_variables}
-use Rattle.row_book.specs.Built.{IsBuiltInstance, built_instances, terms_at}
 use Rattle.row_book.specs.Definitions.{AreTriangular, Defines, IsAt}
-use Rattle.row_book.proofs.BuiltInstances.{Has-built, Sorted-built, all-at, all-instances, less_then, sorted-at, sorted-once}
-use Rattle.row_book.proofs.Definers.{definer, exchange-instance, is-definer, is-exchange, is-found, swapped}
+use Rattle.row_book.specs.EquationRows.{terms_at}
+use Rattle.row_book.proofs.AllTerms.{has-terms}
+use Rattle.row_book.proofs.Definers.{chosen-some, defined-trade, definer-before, definer-equation, exchange-instance, is-exchange, is-found, same-definer, swapped}
 use Rattle.row_book.proofs.EntryVariables.{OfVariables, entries-from_terms}
-use Rattle.row_book.proofs.Lists.{AllByRecursion-append, AllByRecursion-weaker}
-use Rattle.row_book.proofs.TermVariables.{IsTermOf, has-terms}
+use Rattle.row_book.proofs.Instances.{Has-instance, IsInstance, all-at, all-instances, sorted-at, sorted-once}
+use Rattle.row_book.proofs.Lists.{AllByRecursion-append, AllByRecursion-weaker, all-has}
+use Rattle.row_book.proofs.TermVariables.{IsTermOf}
 
 -- ---- rows by position and by name
 
@@ -61,31 +63,26 @@ row_of d (n ∷ names) (r ∷ rows) name are (inl e) = (r, (inl refl, subst (λ 
 row_of d (n ∷ names) (r ∷ rows) name are (inr has) =
     let rest = row_of d names rows name are.1 has in (rest.0, (inr rest.1.0, rest.1.1))
 
-pub all-has : {A : Type 0} (P : A → Type 0) (xs : List A) (x : A) → AllByRecursion P xs → Has xs x → P x
-all-has P [] x of_all has = absurd has
-all-has P (y ∷ xs) x of_all (inl e) = subst P e of_all.0
-all-has P (y ∷ xs) x of_all (inr has) = all-has P xs x of_all.1 has
-
 -- ---- the variables of entries
 
-of_entries : (d : Data) (name : RowName) (row : Row) → IsBuiltInstance d name → IsNamedRow d name (terms_at d name) row → OfVariables (IsTermOf d name) row.entries.items
+of_entries : (d : Data) (name : RowName) (row : Row) → IsInstance d name → IsNamedRow d name (terms_at d name) row → OfVariables (IsTermOf d name) row.entries.items
 of_entries d name row instance is = entries-from_terms (IsTermOf d name) name (terms_at d name) row is.written (has-terms d name instance)
 
--- the variable exists, and is of one of the kinds that are built
+-- the variable exists
 abbrev pub IsThere : Data → Var → Type 0
-IsThere d v = (exists d v ≡ true) × (nat_le v.kind 22 ≡ true)
+IsThere d v = exists d v ≡ true
 
-entries_there : (d : Data) (names : List RowName) (rows : List Row) → AllByRecursion (IsBuiltInstance d) names → AreRowsOf d names rows → AllByRecursion (IsThere d) (entry_variables rows)
+entries_there : (d : Data) (names : List RowName) (rows : List Row) → AllByRecursion (IsInstance d) names → AreRowsOf d names rows → AllByRecursion (IsThere d) (entry_variables rows)
 entries_there d [] [] instances are = tt
 entries_there d [] (r ∷ rows) instances are = absurd are
 entries_there d (n ∷ names) [] instances are = absurd are
 entries_there d (n ∷ names) (r ∷ rows) instances are =
     AllByRecursion-append (IsThere d) (variables_of r.entries.items) (entry_variables rows)
-    (AllByRecursion-weaker (IsTermOf d n) (IsThere d) (λ v t. (t.there, t.listed)) (variables_of r.entries.items) (of_entries d n r instances.0 are.0))
+    (AllByRecursion-weaker (IsTermOf d n) (IsThere d) (λ v t. t.there) (variables_of r.entries.items) (of_entries d n r instances.0 are.0))
     (entries_there d names rows instances.1 are.1)
 
-pub all-there : (d : Data) (rows : List Row) → AreRowsOf d (built_instances d) rows → AllByRecursion (IsThere d) (entry_variables rows)
-all-there d rows are = entries_there d (built_instances d) rows (all-instances d) are
+pub all-there : (d : Data) (rows : List Row) → AreRowsOf d (instances d) rows → AllByRecursion (IsThere d) (entry_variables rows)
+all-there d rows are = entries_there d (instances d) rows (all-instances d) are
 
 -- ---- order
 
@@ -105,22 +102,14 @@ eq_le a b less =
 
 -- ---- exchanges
 
-chosen_some : (b : Bool) (v w : Var) → cond b (Some v) None ≡ Some w → (b ≡ true) × (v ≡ w)
-chosen_some true v w e = let same : v ≡ w = cc in (refl, same)
-chosen_some false v w e = absurd (cc e)
-
 -- of an exchange that defines a variable, the other one isn't defined, unless it is the same
-other_trade : (i : Index) (v w : Var) (name : RowName) → variable_of (name_at 16 i) ≡ Some v → w ≡ trade i.region i.other i.slice i.fuel i.year
-    → name ≡ definer w → variable_of name ≡ Some w → v ≡ w
-other_trade i v w name defines is one other =
-    let this = chosen_some (nat_le i.region i.other) (trade i.other i.region i.slice i.fuel i.year) v defines in
-    let at_definer : variable_of (definer (trade i.region i.other i.slice i.fuel i.year)) ≡ Some w =
-    ap (λ u. variable_of (definer u)) (sym is) ∙ ap variable_of (sym one) ∙ other in
-    let that = chosen_some (nat_le i.other i.region) (trade i.region i.other i.slice i.fuel i.year) w at_definer in
+other_trade : (i : Index) (v w : Var) → variable_of (name_at 16 i) ≡ Some v → w ≡ trade i.region i.other i.slice i.fuel i.year → w.index.other ≤ w.index.region → v ≡ w
+other_trade i v w defines is down =
+    let this = chosen-some (nat_le i.region i.other) (trade i.other i.region i.slice i.fuel i.year) v defines in
     let up : i.region ≤ i.other = leb-true i.region i.other this.0 in
-    let down : i.other ≤ i.region = leb-true i.other i.region that.0 in
-    let same : i.other ≡ i.region = omega (arith, up, down) in
-    sym this.1 ∙ ap₂ (λ a b. trade a b i.slice i.fuel i.year) same (sym same) ∙ that.1
+    let back : i.other ≤ i.region = subst (λ (u : Var). u.index.other ≤ u.index.region) is down in
+    let same : i.other ≡ i.region = omega (arith, up, back) in
+    sym this.1 ∙ ap₂ (λ a b. trade a b i.slice i.fuel i.year) same (sym same) ∙ sym is
 
 at_less : {A : Type 0} (x y z : A) (o : Ordering) → o ≡ Less → elim o as (λ p. A) [ Less ↦ x | Equal ↦ y | Greater ↦ z ] ≡ x
 at_less x y z Less e = refl
@@ -153,29 +142,29 @@ exchanged_terms d i less =
 
 -- ---- the whole
 
-pub triangular : (d : Data) (rows : List Row) → AreRowsOf d (built_instances d) rows → AreTriangular rows
+pub triangular : (d : Data) (rows : List Row) → AreRowsOf d (instances d) rows → AreTriangular rows
 triangular d rows are =
-    let names = built_instances d in
-    let instance : (i : ℕ) (name : RowName) → slice_get names i ≡ Some name → IsBuiltInstance d name =
-    λ i name at. all-at (IsBuiltInstance d) names i name (all-instances d) at in
+    let names = instances d in
+    let instance : (i : ℕ) (name : RowName) → slice_get names i ≡ Some name → IsInstance d name =
+    λ i name at. all-at (IsInstance d) names i name (all-instances d) at in
     let once : (i j : ℕ) (row other : Row) (v : Var) → IsAt rows i row → IsAt rows j other → Defines row v → Defines other v → i ≡ j =
     λ i j row other v at bt defines defines_too.
     let a = row_at d names rows i row are at in
     let b = row_at d names rows j other are bt in
-    let of_a = is-definer d a.name v (instance i a.name a.at) (ap variable_of (sym a.is.written.named) ∙ defines) in
-    let of_b = is-definer d b.name v (instance j b.name b.at) (ap variable_of (sym b.is.written.named) ∙ defines_too) in
-    sorted-once names i j a.name (Sorted-built d) a.at (b.at ∙ ap (λ n. Some n) (of_b.one ∙ sym of_a.one)) in
+    let same =
+    same-definer d a.name b.name v (instance i a.name a.at) (instance j b.name b.at) (ap variable_of (sym a.is.written.named) ∙ defines) (ap variable_of (sym b.is.written.named) ∙ defines_too) in
+    sorted-once names i j a.name (Sorted-instances d) a.at (b.at ∙ ap (λ n. Some n) (sym same)) in
     record {
       solvable = λ i row v at defines.
           let a = row_at d names rows i row are at in
           let named : variable_of a.name ≡ Some v = ap variable_of (sym a.is.written.named) ∙ defines in
-          (a.is.written.sense ∙ (is-definer d a.name v (instance i a.name a.at) named).equation, a.is.defines v named);
+          (a.is.written.sense ∙ definer-equation d a.name v (instance i a.name a.at) named, a.is.defines v named);
       backward = λ i j row later v w less at bt defines defines_later entry.
           let a = row_at d names rows i row are at in
           let b = row_at d names rows j later are bt in
           let named : variable_of a.name ≡ Some v = ap variable_of (sym a.is.written.named) ∙ defines in
           let named_later : variable_of b.name ≡ Some w = ap variable_of (sym b.is.written.named) ∙ defines_later in
-          let of_b = is-definer d b.name w (instance j b.name b.at) named_later in
+          let of_b = instance j b.name b.at in
           let term = all-has (IsTermOf d a.name) (variables_of row.entries.items) w (of_entries d a.name row (instance i a.name a.at) a.is) (Has-from_Contains (variables_of row.entries.items) w entry) in
           let once_more : v ≡ w → ⊥ =
           λ same. let position : i ≡ j = once i j row later v at bt defines (defines_later ∙ ap (λ u. Some u) (sym same)) in omega (arith, position, less) in
@@ -184,21 +173,22 @@ triangular d rows are =
             | inr rest ↦
                 elim rest [
                   | inl early ↦
-                      let before : b.name.eq < a.name.eq = of_b.before a.name.eq early in
-                      let from : a.name.eq ≤ b.name.eq = eq_le a.name b.name (sorted-at names i j a.name b.name (Sorted-built d) less a.at b.at) in
+                      let before : b.name.eq < a.name.eq = definer-before d b.name w a.name.eq of_b named_later early in
+                      let from : a.name.eq ≤ b.name.eq = eq_le a.name b.name (sorted-at names i j a.name b.name (Sorted-instances d) less a.at b.at) in
                       omega (arith, before, from)
                   | inr other ↦
                       once_more
-                      (other_trade a.name.index v w b.name (ap (λ n. variable_of (name_at n a.name.index)) (sym other.0) ∙ named) other.1 of_b.one named_later)
+                      (other_trade a.name.index v w (ap (λ n. variable_of (name_at n a.name.index)) (sym other.0) ∙ named) other.1
+                      (defined-trade d b.name w of_b named_later (ap (λ (u : Var). u.kind) other.1)))
                 ]
           ];
       once = once;
       whole = λ v entry.
           let there = all-has (IsThere d) (entry_variables rows) v (all-there d rows are) (Has-from_Contains (entry_variables rows) v entry) in
-          elim (is-found d v there.0 there.1) [
+          elim (is-found d v there) [
             | inl chosen ↦ inl chosen
             | inr defined ↦
-                let found = row_of d names rows defined.name are (Has-built d defined.name defined.instance) in
+                let found = row_of d names rows defined.name are (Has-instance d defined.name defined.instance) in
                 inr (record { row = found.0; among = Contains-from_Has rows found.0 found.1.0; defines = ap variable_of found.1.1.written.named ∙ defined.defines })
           ];
       repeated = λ i row at equal none.
@@ -209,7 +199,7 @@ triangular d rows are =
           let within : is_index d (subscripts_of 16) k ≡ true = subst (λ n. is_index d (subscripts_of n) k ≡ true) exchange.0 of_a.within in
           let less : k.other < k.region = not_le k.region k.other exchange.1 in
           let other = name_at 16 (swapped k) in
-          let found = row_of d names rows other are (Has-built d other (exchange-instance d k within)) in
+          let found = row_of d names rows other are (Has-instance d other (exchange-instance d k within)) in
           let number : terms_at d a.name ≡ terms_at d (name_at 16 k) = ap (λ n. terms_at d (name_at n k)) exchange.0 in
           record {
             other = found.0;

@@ -1,6 +1,6 @@
 -- The names of instances, and the variables that exist, have the positions of members as their subscripts.
-use Rattle.std.proofs.Common.{◌≡◌, ℕ, ◌<◌, ◌≤◌, Bool, true, ◌&&◌, List, [], ◌∷◌, ◌++◌, nat_eq, nat_lt, refl, ap, sym, ◌∙◌, subst, arith, ltb-true, leb-true, inl, inr}
-use Rattle.std.specs.List.{AllByRecursion, list_all, list_any}
+use Rattle.std.proofs.Common.{◌≡◌, ℕ, ◌<◌, Bool, true, ◌&&◌, List, [], ◌∷◌, ◌++◌, nat_eq, nat_lt, refl, ap, sym, ◌∙◌, subst, arith, ltb-true}
+use Rattle.std.specs.List.{AllByRecursion, list_all}
 use Rattle.std.specs.Prelude.{if◌then◌else◌}
 use Rattle.std.proofs.lemmas.Bool.{and_parts}
 use Rattle.model_sets.specs.Data.{Data}
@@ -10,19 +10,20 @@ use Rattle.row_core.specs.declared.RowName.{RowName}
 use Rattle.row_core.specs.declared.Var.{Var}
 use Rattle.row_core.specs.Equations.{IsEquation}
 use Rattle.row_core.specs.NameTexts.{IsWithin, RowNameIsWithin}
-use Rattle.named_equations.specs.Existence.{exists, exists_at, kind_numbers, subscripts_of_kind}
-use Rattle.named_equations.specs.Instances.{is_index, is_one_of, subscripts_of}
+use Rattle.named_equations.specs.Existence.{exists, kind_numbers, subscripts_of_kind}
+use Rattle.named_equations.specs.Instances.{equation_numbers, instances, is_one_of, subscripts_of}
 use Rattle.named_equations.proofs.InstanceTests.{Contains-from_Has, Has, Has-from_Contains}
 use Rattle.named_equations.proofs.TermMeaning.{EachFrom, at_number}
 use Rattle.row_book.specs.declared.fail.BookFail.{BookFail}
 use Rattle.row_book.specs.declared.fail.BookFail.TheVariants.{Width, TooManyEntries, Memory}
 use Rattle.row_core.specs.declared.place.Place.{Place}
 use Rattle.row_book.specs.Books.{AreRowsOf, AreVariablesOf, HasNameWithin, HasStopped, IsWithinSets, NamesRowWithin, entry_variables, names_of}
-use Rattle.row_book.specs.Built.{IsBuiltInstance, built_instances}
-use Rattle.row_book.proofs.BuiltInstances.{all-instances}
-use Rattle.row_book.proofs.Definers.{least_kind}
+use Rattle.row_book.proofs.Definers.{exists-kind, exists-within}
+use Rattle.row_book.proofs.Instances.{IsInstance, all-instances}
+use Rattle.row_book.proofs.Lists.{all-from, all-has}
+use Rattle.row_book.proofs.Numbers.{passes-at}
 use Rattle.row_book.proofs.Subscripts.{AreValues, values-from_index}
-use Rattle.row_book.proofs.Triangles.{IsThere, all-has, all-there}
+use Rattle.row_book.proofs.Triangles.{IsThere, all-there}
 
 -- ---- one subscript after another
 
@@ -69,18 +70,18 @@ all_within d s i are (p ∷ ps) passes =
 
 -- ---- names of rows
 
-equation-places : EachFrom (λ n. list_all (is_place (subscripts_of n)) (subscripts_of n) ≡ true) 1 24
-equation-places =
-    (refl, (refl, (refl, (refl, (refl, (refl, (refl, (refl, (refl, (refl, (refl, (refl, (refl, (refl, (refl, (refl, (refl, (refl, (refl, (refl, (refl, (refl, (refl, (refl, tt))))))))))))))))))))))))
+-- each equation has its places
+equation-places : list_all (λ n. list_all (is_place (subscripts_of n)) (subscripts_of n)) equation_numbers ≡ true
+equation-places = refl
 
-name-within : (d : Data) (name : RowName) → IsBuiltInstance d name → IsEquation name.eq × RowNameIsWithin d.sets name
+name-within : (d : Data) (name : RowName) → IsInstance d name → IsEquation name.eq × RowNameIsWithin d.sets name
 name-within d name instance = (
-  (instance.built.0, omega (arith, instance.built.1)),
+  instance.equation,
   all_within d (subscripts_of name.eq) name.index (values-from_index d (subscripts_of name.eq) name.index instance.within) (subscripts_of name.eq)
-      (at_number (λ n. list_all (is_place (subscripts_of n)) (subscripts_of n) ≡ true) 1 24 name.eq equation-places instance.built.0 (omega (arith, instance.built.1))),
+      (passes-at (λ n. list_all (is_place (subscripts_of n)) (subscripts_of n)) 1 64 name.eq equation-places instance.equation.0 (omega (arith, instance.equation.1))),
 )
 
-names_within : (d : Data) (names : List RowName) (rows : List Row) → AllByRecursion (IsBuiltInstance d) names → AreRowsOf d names rows → AllByRecursion (HasNameWithin d.sets) rows
+names_within : (d : Data) (names : List RowName) (rows : List Row) → AllByRecursion (IsInstance d) names → AreRowsOf d names rows → AllByRecursion (HasNameWithin d.sets) rows
 names_within d [] [] instances are = tt
 names_within d [] (r ∷ rows) instances are = absurd are
 names_within d (n ∷ names) [] instances are = absurd are
@@ -89,8 +90,8 @@ names_within d (n ∷ names) (r ∷ rows) instances are = (
   names_within d names rows instances.1 are.1,
 )
 
-pub rows-within : (d : Data) (rows : List Row) → AreRowsOf d (built_instances d) rows → AllByRecursion (HasNameWithin d.sets) rows
-rows-within d rows are = names_within d (built_instances d) rows (all-instances d) are
+pub rows-within : (d : Data) (rows : List Row) → AreRowsOf d (instances d) rows → AllByRecursion (HasNameWithin d.sets) rows
+rows-within d rows are = names_within d (instances d) rows (all-instances d) are
 
 -- the names of the rows are those of the instances
 pub names-of_rows : (d : Data) (names : List RowName) (rows : List Row) → AreRowsOf d names rows → names_of rows ≡ names
@@ -102,36 +103,29 @@ names-of_rows d (n ∷ names) (r ∷ rows) are =
 
 -- ---- variables
 
-kind-places : EachFrom (λ k. list_all (is_place (subscripts_of_kind k)) (subscripts_of_kind k) ≡ true) 1 22
-kind-places =
-    (refl, (refl, (refl, (refl, (refl, (refl, (refl, (refl, (refl, (refl, (refl, (refl, (refl, (refl, (refl, (refl, (refl, (refl, (refl, (refl, (refl, (refl, tt))))))))))))))))))))))
+-- each kind has its places
+kind-places : list_all (λ k. list_all (is_place (subscripts_of_kind k)) (subscripts_of_kind k)) kind_numbers ≡ true
+kind-places = refl
 
 variable-within : (d : Data) (v : Var) → IsThere d v → IsWithinSets d.sets v
 variable-within d v there =
     let s = subscripts_of_kind v.kind in
-    let least : 1 ≤ v.kind = least_kind d v there.0 in
-    let most : v.kind ≤ 22 = leb-true v.kind 22 there.1 in
-    let outer = and_parts (list_any (nat_eq v.kind) kind_numbers && is_index d s v.index) (exists_at d v.kind v.index) there.0 in
-    let within = and_parts (list_any (nat_eq v.kind) kind_numbers) (is_index d s v.index) outer.0 in (
-      (least, omega (arith, most)),
-      all_within d s v.index (values-from_index d s v.index within.1) s
-          (at_number (λ k. list_all (is_place (subscripts_of_kind k)) (subscripts_of_kind k) ≡ true) 1 22 v.kind kind-places least (omega (arith, most))),
+    let kind = exists-kind d v there in (
+      kind,
+      all_within d s v.index (values-from_index d s v.index (exists-within d v there)) s
+          (passes-at (λ k. list_all (is_place (subscripts_of_kind k)) (subscripts_of_kind k)) 1 48 v.kind kind-places kind.0 (omega (arith, kind.1))),
     )
 
-all_from : (P : Var → Type 0) (vs : List Var) → ((v : Var) → Has vs v → P v) → AllByRecursion P vs
-all_from P [] of_each = tt
-all_from P (v ∷ vs) of_each = (of_each v (inl refl), all_from P vs (λ w h. of_each w (inr h)))
-
 -- each of the listed variables is one of an entry, and so it exists
-listed_there : (d : Data) (rows : List Row) (vars : List Var) (v : Var) → AreRowsOf d (built_instances d) rows → AreVariablesOf rows vars → Has vars v → IsThere d v
+listed_there : (d : Data) (rows : List Row) (vars : List Var) (v : Var) → AreRowsOf d (instances d) rows → AreVariablesOf rows vars → Has vars v → IsThere d v
 listed_there d rows vars v are listed has =
     all-has (IsThere d) (entry_variables rows) v (all-there d rows are) (Has-from_Contains (entry_variables rows) v ((listed.each v).0 (Contains-from_Has vars v has)))
 
-pub variables-within : (d : Data) (rows : List Row) (vars : List Var) → AreRowsOf d (built_instances d) rows → AreVariablesOf rows vars → AllByRecursion (IsWithinSets d.sets) vars
-variables-within d rows vars are listed = all_from (IsWithinSets d.sets) vars (λ v has. variable-within d v (listed_there d rows vars v are listed has))
+pub variables-within : (d : Data) (rows : List Row) (vars : List Var) → AreRowsOf d (instances d) rows → AreVariablesOf rows vars → AllByRecursion (IsWithinSets d.sets) vars
+variables-within d rows vars are listed = all-from (IsWithinSets d.sets) vars (λ v has. variable-within d v (listed_there d rows vars v are listed has))
 
-pub variables-exist : (d : Data) (rows : List Row) (vars : List Var) → AreRowsOf d (built_instances d) rows → AreVariablesOf rows vars → AllByRecursion (λ v. exists d v ≡ true) vars
-variables-exist d rows vars are listed = all_from (λ v. exists d v ≡ true) vars (λ v has. (listed_there d rows vars v are listed has).0)
+pub variables-exist : (d : Data) (rows : List Row) (vars : List Var) → AreRowsOf d (instances d) rows → AreVariablesOf rows vars → AllByRecursion (λ v. exists d v ≡ true) vars
+variables-exist d rows vars are listed = all-from (λ v. exists d v ≡ true) vars (λ v has. listed_there d rows vars v are listed has)
 
 -- ---- the row that can't be made
 
@@ -139,9 +133,9 @@ behind-front : (P : RowName → Type 0) (front behind : List RowName) (name : Ro
 behind-front P [] behind name all = all.0
 behind-front P (n ∷ front) behind name all = behind-front P front behind name all.1
 
-pub stopped-within : (d : Data) (fail : BookFail) → HasStopped d 0 (built_instances d) fail → NamesRowWithin d.sets fail
+pub stopped-within : (d : Data) (fail : BookFail) → HasStopped d 0 (instances d) fail → NamesRowWithin d.sets fail
 stopped-within d (Width place) (name, is, wide) =
     subst (λ (p : Place). NamesRowWithin d.sets (Width p)) (sym is)
-    (name-within d name (behind-front (IsBuiltInstance d) wide.stops.front wide.stops.behind name (subst (AllByRecursion (IsBuiltInstance d)) wide.stops.split (all-instances d))))
+    (name-within d name (behind-front (IsInstance d) wide.stops.front wide.stops.behind name (subst (AllByRecursion (IsInstance d)) wide.stops.split (all-instances d))))
 stopped-within d TooManyEntries stopped = tt
 stopped-within d Memory stopped = tt

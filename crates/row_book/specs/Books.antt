@@ -18,7 +18,7 @@ use Rattle.row_core.specs.Written.{written_entries}
 use Rattle.named_equations.specs.RowMeaning.{IsNamedRow}
 use Rattle.row_book.specs.declared.fail.BookFail.{BookFail}
 use Rattle.row_book.specs.declared.fail.BookFail.TheVariants.{Width, TooManyEntries, Memory}
-use Rattle.row_book.specs.Built.{terms_at}
+use Rattle.row_book.specs.EquationRows.{terms_at}
 
 -- ---- rows
 

@@ -1,6 +1,6 @@
 pub mod Books
-pub mod Built
 pub mod Definitions
+pub mod EquationRows
 pub mod Kinds
 pub mod Ratios
 pub mod RowsAdded

@@ -1,5 +1,5 @@
 -- Walking through the subscripts of an equation, and its instances region by region. Only private functions cite these.
-use Rattle.std.specs.Prelude.{ℕ, List, [], ◌∷◌, map, filter}
+use Rattle.std.specs.Prelude.{◌≡◌, ℕ, Bool, true, List, [], ◌∷◌, filter, if◌then◌else◌}
 use Rattle.std.specs.List.{flat_map}
 use Rattle.model_sets.specs.Data.{Data}
 use Rattle.model_sets.specs.Names as sets
@@ -65,18 +65,28 @@ inner_subscripts = Tech ∷ Fuel ∷ Emission ∷ Mode ∷ Year ∷ []
 abbrev pub outers_of : Data → ℕ → ℕ → List Index
 outers_of d eq r = walk d (subscripts_of eq) outer_subscripts (at_r r)
 
--- the inner subscripts in a region with which the equation has instances, in order, with 0 for the others
-abbrev pub cells_of : Data → ℕ → ℕ → List Index
-cells_of d eq r = filter (stands_at d eq) (walk d (subscripts_of eq) inner_subscripts (at_r r))
+-- the inner subscripts in a region, in order, with 0 for the others
+abbrev pub inners_of : Data → ℕ → ℕ → List Index
+inners_of d eq r = walk d (subscripts_of eq) inner_subscripts (at_r r)
 
 -- the inner subscripts of one index with the outer ones of another
 abbrev pub joined : Index → Index → Index
 joined outer cell = record cell { other = outer.other; slice = outer.slice }
 
--- the instances with these outer subscripts and these inner ones
-abbrev pub names_with : ℕ → List Index → Index → List RowName
-names_with eq cells outer = map (λ cell. name_at eq (joined outer cell)) cells
+-- the equation at the index, where it has an instance there
+abbrev pub instance_at : Data → ℕ → Index → List RowName
+instance_at d eq i = if stands_at d eq i then name_at eq i ∷ [] else []
+
+-- the instances with these outer subscripts and these inner ones, in order
+abbrev pub instances_with : Data → ℕ → List Index → Index → List RowName
+instances_with d eq cells outer = flat_map (λ cell. instance_at d eq (joined outer cell)) cells
 
 -- the instances of the equation in a region, in order
-abbrev pub names_in : Data → ℕ → ℕ → List RowName
-names_in d eq r = flat_map (names_with eq (cells_of d eq r)) (outers_of d eq r)
+abbrev pub instances_in : Data → ℕ → ℕ → List RowName
+instances_in d eq r = flat_map (instances_with d eq (inners_of d eq r)) (outers_of d eq r)
+
+-- the inner subscripts are some of those in a region, in order, and among them are all with which the equation has an instance
+pub record AreAsked (d : Data) (eq r : ℕ) (cells : List Index) : Type 0 where
+  pub asked : Index → Bool
+  pub are : cells ≡ filter asked (inners_of d eq r)
+  pub every : (outer cell : Index) → stands_at d eq (joined outer cell) ≡ true → asked cell ≡ true

@@ -5,15 +5,15 @@ ghost use Rattle.std.specs.List.{AllByRecursion};
 ghost use Rattle.row_core.specs.Numbers.{ascends};
 ghost use Rattle.row_core.specs.Order.{row_name_cmp};
 ghost use Rattle.named_equations.specs.Existence.{exists};
-ghost use Rattle.named_equations.specs.Instances.{variable_of};
+ghost use Rattle.named_equations.specs.Instances.{instances, variable_of};
 ghost use Rattle.row_core.specs.declared.Row.{Row};
 ghost use Rattle.row_book.specs.Books.{AreRowsOf, AreVariablesOf, CanBeMade, HasNameWithin, HasStopped, IsWithinSets, NamesRowWithin, names_of};
-ghost use Rattle.row_book.specs.Built.{built_instances};
 ghost use Rattle.row_book.specs.Definitions.{AreTriangular, IsAt, cost_of};
 
 use crate::defined::defined_variable;
+use crate::factors::region_factors;
 use crate::fail::BookFail;
-use crate::rows::built_rows;
+use crate::rows::all_rows;
 use crate::variables::variables_of_rows;
 use param_tables::ModelData;
 use row_core::{Row, Var};
@@ -39,14 +39,14 @@ impl Model for RowBook {
 }
 
 impl RowBook {
-    /// The row of each instance of the equations that are built, by the equation's number and then by
-    /// subscripts, and the variables of all entries.
+    /// The row of each instance of the named equations, by the equation's number and then by subscripts, and
+    /// the variables of all entries.
     ///
     /// The first row that can't be made is refused: with `Width` and its name where a number that is formed
     /// for it doesn't fit, and else with `TooManyEntries`, where the entries of the rows up to and with it
-    /// are more than 4,000,000.
+    /// are more than 4,000,000. `Memory` comes where memory ran out.
     pub fn new(alloc: Global, facts: &ModelData) -> Result<RowBook, BookFail>
-        ensures rows { IfOk result (λ book. AreRowsOf facts.now.facts (built_instances facts.now.facts) book.rows) }
+        ensures rows { IfOk result (λ book. AreRowsOf facts.now.facts (instances facts.now.facts) book.rows) }
         ensures ascending { IfOk result (λ book. ascends row_name_cmp (names_of book.rows) ≡ true) }
         ensures variables { IfOk result (λ book. AreVariablesOf book.rows book.vars) }
         ensures definitions { IfOk result (λ book. AreTriangular book.rows) }
@@ -57,11 +57,12 @@ impl RowBook {
         ensures exist { IfOk result (λ book. AllByRecursion (λ v. exists facts.now.facts v ≡ true) book.vars) }
 
         // When there is a book, and why there is none.
-        ensures made { OnOk result (CanBeMade facts.now.facts 0 (built_instances facts.now.facts)) }
-        ensures stopped { IfErr result (HasStopped facts.now.facts 0 (built_instances facts.now.facts)) }
+        ensures made { OnOk result (CanBeMade facts.now.facts 0 (instances facts.now.facts)) }
+        ensures stopped { IfErr result (HasStopped facts.now.facts 0 (instances facts.now.facts)) }
         ensures place { IfErr result (NamesRowWithin facts.now.facts.sets) }
     {
-        let rows = match built_rows(alloc, facts) {
+        let factors = region_factors(alloc, facts)?;
+        let rows = match all_rows(alloc, facts, &factors) {
             Ok(rows) => rows,
             Err(fail) => return Err(fail),
         };
@@ -69,22 +70,23 @@ impl RowBook {
         Ok(RowBook { rows, vars })
     }
 
-    /// The rows, which ascend strictly by name.
+    /// The rows. Those of a book that `new` made ascend strictly by name.
     pub fn rows(&self) -> &[Row]
         ensures { result.now ≡ self.now.rows }
     {
         &self.rows
     }
 
-    /// The variables at which the rows have entries, which ascend strictly.
+    /// The variables. Those of a book that `new` made are the ones at which the rows have entries, and ascend
+    /// strictly.
     pub fn vars(&self) -> &[Var]
         ensures { result.now ≡ self.now.vars }
     {
         &self.vars
     }
 
-    /// The variable that the equation of row `i` defines, if any: the variable at which the row has a positive
-    /// entry, and that no other row defines.
+    /// The variable that the equation of row `i` defines, if any. In a book that `new` made the row has a
+    /// positive entry there, and no other row defines that variable.
     pub fn defined_by(&self, i: usize) -> Option<Var>
         requires { i < length self.now.rows }
         ensures { (row : Row) → IsAt self.now.rows i row → result ≡ variable_of row.name }

@@ -1,47 +1,49 @@
-//! Where an equation has instances in a region. Which timeslice it is, and which other region, doesn't matter
-//! for that; so its instances are those of one list with each timeslice and each other region.
+//! Where an equation may have instances in a region. Which timeslice it is, and which other region, doesn't
+//! matter for that; so its instances are found by one list with each timeslice and each other region.
 
 ghost use Rattle.std.specs.Prelude.{◌≡◌, ◌<◌, IfOk};
 ghost use Rattle.model_sets.specs.Names as sets;
+ghost use Rattle.row_core.specs.Equations.{IsEquation};
 ghost use Rattle.named_equations.specs.Positions.{count_of};
-ghost use Rattle.row_book.specs.Built.{IsBuilt};
-ghost use Rattle.row_book.specs.Walks.{cells_of, outers_of};
+ghost use Rattle.row_book.specs.Walks.{AreAsked, outers_of};
 
-use crate::ratios::{Ratio, cells_of_ratio, cells_of_some_mode};
+use crate::ratios::{cells_of_ratio, cells_of_some_mode};
 use crate::walk::{INNER, OUTER, in_region, walked};
-use param_tables::ModelData;
+use param_tables::{ActivityRatio, ModelData};
 use row_core::Index;
 use std::alloc::{AllocError, Global};
 
-/// The other regions and timeslices with which the equation has instances in a region, in order.
+/// The other regions and timeslices of the equation in a region, in order.
 pub(crate) fn outers_of(
     alloc: Global,
     facts: &ModelData,
     eq: u8,
     region: u16,
 ) -> Result<Vec<Index>, AllocError>
-    requires { IsBuilt eq }
+    requires { IsEquation eq }
     ensures { IfOk result (λ outers. outers.items ≡ outers_of facts.now.facts eq region) }
 {
     walked(alloc, facts, eq, &OUTER, in_region(region))
 }
 
-/// The other subscripts with which it has them, in order.
+/// The other subscripts with which it may have instances, in order. Where it stands by a ratio, these are the
+/// ones of which the ratio isn't 0, and no others are looked at.
 pub(crate) fn cells_of(
     alloc: Global,
     facts: &ModelData,
     eq: u8,
     region: u16,
 ) -> Result<Vec<Index>, AllocError>
-    requires built { IsBuilt eq }
+    requires equation { IsEquation eq }
     requires region { region < count_of facts.now.facts sets.region }
-    ensures { IfOk result (λ cells. cells.items ≡ cells_of facts.now.facts eq region) }
+    ensures { IfOk result (λ cells. AreAsked facts.now.facts eq region cells.items) }
 {
     match eq {
-        7 => cells_of_ratio(alloc, facts, Ratio::Output, region),
-        10 => cells_of_ratio(alloc, facts, Ratio::Input, region),
-        8 | 22 => cells_of_some_mode(alloc, facts, Ratio::Output, region),
-        11 | 23 => cells_of_some_mode(alloc, facts, Ratio::Input, region),
+        7 => cells_of_ratio(alloc, facts, ActivityRatio::Output, region),
+        10 => cells_of_ratio(alloc, facts, ActivityRatio::Input, region),
+        35 => cells_of_ratio(alloc, facts, ActivityRatio::Emission, region),
+        8 | 22 | 56 => cells_of_some_mode(alloc, facts, ActivityRatio::Output, region),
+        11 | 23 | 60 => cells_of_some_mode(alloc, facts, ActivityRatio::Input, region),
         _ => walked(alloc, facts, eq, &INNER, in_region(region)),
     }
 }

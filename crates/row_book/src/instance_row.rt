@@ -1,20 +1,29 @@
 //! The row of one instance.
 
-ghost use Rattle.std.specs.Prelude.{◌≡◌, true, not, ◌||◌, is_some, IfErr, IfOk, IfSome, OnOk};
+ghost use Rattle.std.specs.Prelude.{◌≡◌, true, not, ◌||◌, is_some, IfErr, IfOk, IfSome};
+ghost use Rattle.row_core.specs.Equations.{IsEquation};
 ghost use Rattle.row_core.specs.Stops.{IsStop};
 ghost use Rattle.row_core.specs.declared.place.Place.{Place};
 ghost use Rattle.named_equations.specs.Instances.{is_index, stands_at, subscripts_of};
+ghost use Rattle.named_equations.specs.RegionFactors.{AreRegionFactors};
 ghost use Rattle.named_equations.specs.RowMeaning.{IsNamedRow};
 ghost use Rattle.row_book.specs.Books.{row_fits};
-ghost use Rattle.row_book.specs.Built.{IsBuilt, IsBuiltInstance, terms_at};
+ghost use Rattle.row_book.specs.EquationRows.{terms_at};
 
+use discount_factors::Factors;
 use param_tables::ModelData;
 use row_core::{Row, RowName, Stopped};
 use std::alloc::Global;
 
 /// The row of an equation at an index, if there is an instance.
-fn found(alloc: Global, facts: &ModelData, name: RowName) -> Result<Option<Row>, Stopped>
-    requires built { IsBuilt name.eq }
+pub(crate) fn row_of(
+    alloc: Global,
+    facts: &ModelData,
+    factors: &[Factors],
+    name: RowName,
+) -> Result<Option<Row>, Stopped>
+    requires equation { IsEquation name.eq }
+    requires factors { AreRegionFactors facts.now.facts factors.now }
     requires index { is_index facts.now.facts (subscripts_of name.eq) name.index ≡ true }
     ensures instance { IfOk result (λ found. is_some found ≡ stands_at facts.now.facts name.eq name.index) }
     ensures row { IfOk result (λ found. IfSome found (IsNamedRow facts.now.facts name (terms_at facts.now.facts name))) }
@@ -23,20 +32,9 @@ fn found(alloc: Global, facts: &ModelData, name: RowName) -> Result<Option<Row>,
 {
     match name.eq {
         2..=6 => capacity_rows::rows_of(alloc, facts, name.eq, name.index),
+        25..=34 | 40..=42 => cost_rows::rows_of(alloc, facts, factors, name.eq, name.index),
+        35..=39 | 61..=64 => emission_rows::rows_of(alloc, facts, factors, name.eq, name.index),
+        43..=60 => limit_rows::rows_of(alloc, facts, name.eq, name.index),
         _ => balance_rows::rows_of(alloc, facts, name.eq, name.index),
-    }
-}
-
-/// The row of an instance.
-pub(crate) fn row_of(alloc: Global, facts: &ModelData, name: RowName) -> Result<Row, Stopped>
-    requires { IsBuiltInstance facts.now.facts name }
-    ensures row { IfOk result (IsNamedRow facts.now.facts name (terms_at facts.now.facts name)) }
-    ensures fits { OnOk result (row_fits facts.now.facts name ≡ true) }
-    ensures stopped { IfErr result (IsStop (Place.Row name) (row_fits facts.now.facts name)) }
-{
-    match found(alloc, facts, name) {
-        Ok(Some(row)) => Ok(row),
-        Ok(None) => unreachable!(),
-        Err(stopped) => Err(stopped),
     }
 }

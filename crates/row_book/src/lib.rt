@@ -1,11 +1,12 @@
 //! All rows of the linear program of an OSeMOSYS model (Howells et al., "OSeMOSYS: The Open Source Energy
-//! Modeling System", Energy Policy 39, 2011): one for each instance of the named equations that are built, in
-//! order, and their variables.
+//! Modeling System", Energy Policy 39, 2011): one for each instance of the named equations, in order, and their
+//! variables.
 #![tactic(auto)]
 
 mod book;
 mod cells;
 mod defined;
+mod factors;
 mod fail;
 mod instance_row;
 mod laws;

@@ -1,75 +1,74 @@
-//! Where the ratios of input and output aren't 0.
+//! Where the ratios of input, of output and of emission aren't 0.
 
 ghost use Rattle.std.specs.Prelude.{◌≡◌, ◌<◌, IfOk, map};
 ghost use Rattle.model_sets.specs.Names as sets;
 ghost use Rattle.named_equations.specs.Positions.{count_of};
-ghost use Rattle.row_book.specs.Ratios.{activity_ratio, cell_at, cells_of_ratio, cells_of_some_mode, param_of, without_mode};
+ghost use Rattle.row_book.specs.Ratios.{cell_at, cells_of_ratio, cells_of_some_mode, with_mode};
 
 use param_tables::{ActivityRatio, ModelData, RatioIndex};
 use row_core::Index;
 use std::alloc::{AllocError, Global};
 
-/// What a technology takes in or puts out for each unit of its activity: InputActivityRatio or
-/// OutputActivityRatio.
-#[derive(Clone, Copy)]
-pub(crate) enum Ratio {
-    Input,
-    Output,
-}
-
-/// The ratio by its parameter.
-fn activity_ratio(ratio: Ratio) -> ActivityRatio
-    ensures { result ≡ activity_ratio ratio }
-{
-    match ratio {
-        Ratio::Input => ActivityRatio::Input,
-        Ratio::Output => ActivityRatio::Output,
-    }
-}
-
-/// The technologies, fuels, modes and years of a region where the ratio isn't 0, in order.
+/// The technologies, fuels or emissions, modes and years of a region where the ratio isn't 0, in order.
 pub(crate) fn cells_of_ratio(
     alloc: Global,
     facts: &ModelData,
-    ratio: Ratio,
+    ratio: ActivityRatio,
     region: u16,
 ) -> Result<Vec<Index>, AllocError>
     requires { region < count_of facts.now.facts sets.region }
-    ensures { IfOk result (λ cells. cells.items ≡ cells_of_ratio facts.now.facts (param_of ratio) region) }
+    ensures { IfOk result (λ cells. cells.items ≡ cells_of_ratio facts.now.facts ratio region) }
 {
-    let indices = facts.nonzero_indices(alloc, activity_ratio(ratio), region)?;
-    let cells = cells_at(alloc, region, &indices)?;
+    let indices = facts.nonzero_indices(alloc, ratio, region)?;
+    let cells = cells_at(alloc, ratio, region, &indices)?;
     Ok(cells)
 }
 
-/// The indices of a ratio in a region, each with 0 for the timeslice, the other region and the emission.
-fn cells_at(alloc: Global, region: u16, indices: &[RatioIndex]) -> Result<Vec<Index>, AllocError>
-    ensures { IfOk result (λ cells. cells.items ≡ map (cell_at region) indices.now) }
+/// The indices of a ratio in a region, each with 0 for the other subscripts.
+fn cells_at(
+    alloc: Global,
+    ratio: ActivityRatio,
+    region: u16,
+    indices: &[RatioIndex],
+) -> Result<Vec<Index>, AllocError>
+    ensures { IfOk result (λ cells. cells.items ≡ map (cell_at ratio region) indices.now) }
 {
     indices
         .iter()
-        .map(|at| Index {
-            region,
-            other: 0,
-            slice: 0,
-            tech: at.technology,
-            fuel: at.commodity,
-            emission: 0,
-            mode: at.mode,
-            year: at.year,
-        })
+        .map(|at| cell_at(ratio, region, *at))
         .collect(alloc)
 }
 
-/// The technologies, fuels and years of a region where it isn't 0 in some mode, in order.
+/// An index of a ratio in a region, with 0 for the other subscripts. What a technology takes in, puts out or
+/// gives off is a fuel or an emission.
+fn cell_at(ratio: ActivityRatio, region: u16, at: RatioIndex) -> Index
+    ensures { result ≡ cell_at ratio region at }
+{
+    let (fuel, emission) = match ratio {
+        ActivityRatio::Input | ActivityRatio::Output => (at.commodity, 0),
+        ActivityRatio::Emission => (0, at.commodity),
+    };
+    Index {
+        region,
+        other: 0,
+        slice: 0,
+        tech: at.technology,
+        fuel,
+        emission,
+        mode: at.mode,
+        year: at.year,
+    }
+}
+
+/// The technologies, fuels or emissions, and years of a region where it isn't 0 in some mode, in order.
 pub(crate) fn cells_of_some_mode(
     alloc: Global,
     facts: &ModelData,
-    ratio: Ratio,
+    ratio: ActivityRatio,
     region: u16,
 ) -> Result<Vec<Index>, AllocError>
     requires { region < count_of facts.now.facts sets.region }
-    ensures { IfOk result (λ cells. cells.items ≡ cells_of_some_mode facts.now.facts (param_of ratio) region) }
+    ensures { IfOk result (λ cells. cells.items ≡ cells_of_some_mode facts.now.facts ratio region) }
 {
     let in_modes = cells_of_ratio(alloc, facts, ratio, region)?;
     let mut cells = without_modes(alloc, &in_modes)?;
@@ -80,7 +79,7 @@ pub(crate) fn cells_of_some_mode(
 
 /// The indices with 0 as their mode.
 fn without_modes(alloc: Global, indices: &[Index]) -> Result<Vec<Index>, AllocError>
-    ensures { IfOk result (λ cells. cells.items ≡ map without_mode indices.now) }
+    ensures { IfOk result (λ cells. cells.items ≡ map (with_mode 0) indices.now) }
 {
     indices
         .iter()

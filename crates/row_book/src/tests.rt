@@ -1,10 +1,16 @@
-//! The books of small models, compared with rows worked out elsewhere.
+//! The books of small models, compared with rows worked out elsewhere, and of random ones, compared with what the
+//! plain program says of plans.
 
+mod plans;
+mod random;
+mod sections;
+
+use crate::tests::plans::{holds, part_for, random_plan, test_near_plans, zero_plan};
+use crate::tests::random::{Random, random_section};
+use crate::tests::sections::{Model, read, section};
 use crate::{BookFail, RowBook};
-use mathprog_data::{param_word, read_blocks};
-use param_tables::{BuildFail, ModelData, build, sets_of};
 use row_core::{Index, Place, RowName, Sense, Var};
-use std::alloc::{AllocError, Global};
+use std::alloc::Global;
 use std::process::Abort;
 use std::test::Fail;
 
@@ -20,13 +26,6 @@ const TWO_REGIONS: &str =
 const TWO_MODES: &str =
     "set REGION := R; set TECHNOLOGY := T; set FUEL := F; set TIMESLICE := D; set MODE_OF_OPERATION := 1 2; set YEAR := 2020 2021;\n";
 
-/// A default for each parameter, from number 1: those of the base example.
-const DEFAULTS: [&str; 38] = [
-    "1", "0", "1", "0", "10", "1", "0", "1", "1", "1", "1", "0", "0", "1", "5", "2", "1", "0",
-    "-1", "0", "-1", "0", "-1", "0", "0", "0", "0", "0", "0", "0", "0", "0", "0", "0", "0", "-1",
-    "0", "-1",
-];
-
 /// The index of zeros.
 const ZEROS: Index = Index {
     region: 0,
@@ -41,7 +40,7 @@ const ZEROS: Index = Index {
 
 /// The rows of the base example, as its MPS text has them: the equation, the sense, the kinds of the entries'
 /// variables with their numbers, and the right side.
-static BASE_ROWS: [(u8, Sense, &[(u8, i128)], i128); 21] = [
+static BASE_ROWS: [(u8, Sense, &[(u8, i128)], i128); 43] = [
     (1, Sense::Equal, &[(4, 1)], 10),
     (2, Sense::Equal, &[(2, -1), (5, 1)], 0),
     (3, Sense::Equal, &[(5, -1), (6, 1)], 0),
@@ -63,43 +62,40 @@ static BASE_ROWS: [(u8, Sense, &[(u8, i128)], i128); 21] = [
     (21, Sense::Least, &[(17, 1), (18, -1)], 0),
     (22, Sense::Equal, &[(9, -1), (20, 1)], 0),
     (24, Sense::Equal, &[(1, -1), (22, 1)], 0),
+    (25, Sense::Equal, &[(2, -5), (23, 1)], 0),
+    (26, Sense::Equal, &[(23, -1), (24, 1)], 0),
+    (29, Sense::Equal, &[(25, 1)], 0),
+    (30, Sense::Equal, &[(25, -1), (26, 1)], 0),
+    (31, Sense::Equal, &[(22, -2), (27, 1)], 0),
+    (32, Sense::Equal, &[(6, -1), (28, 1)], 0),
+    (33, Sense::Equal, &[(27, -1), (28, -1), (29, 1)], 0),
+    (34, Sense::Equal, &[(29, -1), (30, 1)], 0),
+    (38, Sense::Equal, &[(34, 1)], 0),
+    (39, Sense::Equal, &[(34, -1), (35, 1)], 0),
+    (
+        40,
+        Sense::Equal,
+        &[(24, -1), (26, 1), (30, -1), (35, -1), (36, 1)],
+        0,
+    ),
+    (41, Sense::Equal, &[(36, -1), (37, 1)], 0),
+    (42, Sense::Equal, &[(37, -1), (38, 1)], 0),
+    (47, Sense::Equal, &[(7, -1), (39, 1)], 0),
+    (50, Sense::Equal, &[(39, -1), (40, 1)], 0),
+    (53, Sense::Equal, &[(41, 1)], 0),
+    (54, Sense::Equal, &[(42, 1)], 0),
+    (55, Sense::Most, &[(41, -1)], 0),
+    (56, Sense::Equal, &[(20, -1), (43, 1)], 0),
+    (57, Sense::Equal, &[(44, 1)], 0),
+    (58, Sense::Equal, &[(45, 1)], 0),
+    (59, Sense::Most, &[(44, -1)], 0),
 ];
 
 /// The kinds of its variables.
-static BASE_KINDS: [u8; 19] = [
-    1, 2, 3, 4, 5, 6, 7, 8, 9, 10, 13, 14, 15, 16, 17, 18, 19, 20, 22,
+static BASE_KINDS: [u8; 39] = [
+    1, 2, 3, 4, 5, 6, 7, 8, 9, 10, 13, 14, 15, 16, 17, 18, 19, 20, 22, 23, 24, 25, 26, 27, 28, 29,
+    30, 34, 35, 36, 37, 38, 39, 40, 41, 42, 43, 44, 45,
 ];
-
-/// The sets, the statements, and a default for each parameter whose number isn't among the changed ones.
-fn text(alloc: Global, sets: &str, changed: &[u8], statements: &str) -> Result<String, AllocError> {
-    let mut text = String::from_str(alloc, sets)?;
-    text.push_str(statements)?;
-    for (i, default) in DEFAULTS.iter().enumerate() {
-        let param = i as u8 + 1;
-        if !changed.contains(&param) {
-            text.push_str("\nparam ")?;
-            text.push_str(param_word(param))?;
-            text.push_str(" default ")?;
-            text.push_str(default)?;
-            text.push_str(" := ;")?;
-        }
-    }
-    Ok(text)
-}
-
-/// The data of the text, if they are accepted.
-fn model(rt: &impl Abort, alloc: Global, text: &str) -> Result<Option<ModelData>, Fail> {
-    assert!(rt; text.len() <= 1_000_000);
-    let blocks = read_blocks(alloc, text.as_bytes())?;
-    let Ok(sets) = sets_of(alloc, &blocks) else {
-        return Ok(None);
-    };
-    match build(alloc, &blocks, sets) {
-        Ok(model) => Ok(Some(model)),
-        Err(BuildFail::Fault(_, _)) => Ok(None),
-        Err(BuildFail::Memory) => Ok(None),
-    }
-}
 
 /// The book of the base example with these sets and these statements in the place of the changed defaults.
 fn book(
@@ -109,12 +105,9 @@ fn book(
     changed: &[u8],
     statements: &str,
 ) -> Result<Result<RowBook, BookFail>, Fail> {
-    let text = text(alloc, sets, changed, statements)?;
-    let Some(facts) = model(rt, alloc, text.as_str())? else {
-        assert!(rt; false, "refused: {statements}");
-        return Ok(Err(BookFail::Memory));
-    };
-    Ok(RowBook::new(alloc, &facts))
+    let text = section(alloc, sets, changed, statements)?;
+    let model = read(rt, alloc, text.as_str())?;
+    Ok(RowBook::new(alloc, &model.facts))
 }
 
 #[test]
@@ -123,7 +116,7 @@ fn base_example(rt: HostRuntime) -> Result<(), Fail> {
         assert!(rt; false, "no book");
         return Ok(());
     };
-    assert_eq!(rt; book.rows().len(), 21);
+    assert_eq!(rt; book.rows().len(), 43);
     for (row, (eq, sense, entries, rhs)) in book.rows().iter().zip(BASE_ROWS.iter()) {
         assert!(rt;
             row.name
@@ -147,7 +140,7 @@ fn base_example(rt: HostRuntime) -> Result<(), Fail> {
             assert!(rt; *number == *expected, "{eq}");
         }
     }
-    assert_eq!(rt; book.vars().len(), 19);
+    assert_eq!(rt; book.vars().len(), 39);
     for (var, kind) in book.vars().iter().zip(BASE_KINDS.iter()) {
         assert!(rt;
             *var == Var {
@@ -156,13 +149,11 @@ fn base_example(rt: HostRuntime) -> Result<(), Fail> {
             },
             "{kind}"
         );
-        assert!(rt; book.cost_of(*var) == 0);
+        assert!(rt;
+            book.cost_of(*var) == if *kind == 37 { 1 } else { 0 },
+            "{kind}"
+        );
     }
-    let cost = Var {
-        kind: 37,
-        index: ZEROS,
-    };
-    assert!(rt; book.cost_of(cost) == 1);
     Ok(())
 }
 
@@ -172,7 +163,7 @@ fn exchanges_of_two_regions(rt: HostRuntime) -> Result<(), Fail> {
         assert!(rt; false, "no book");
         return Ok(());
     };
-    assert_eq!(rt; book.rows().len(), 46);
+    assert_eq!(rt; book.rows().len(), 90);
     let trade = |region: u16, other: u16| Var {
         kind: 3,
         index: Index {
@@ -268,6 +259,37 @@ fn a_number_past_128_bits(rt: HostRuntime) -> Result<(), Fail> {
                 index: ZEROS,
             };
             assert!(rt; fail == BookFail::Width(Place::Row(name)));
+        }
+    }
+    Ok(())
+}
+
+/// The book of a model, after a test that its rows are those of all instances, in order.
+fn whole_book(rt: &impl Abort, alloc: Global, model: &Model) -> Result<RowBook, Fail> {
+    let Ok(book) = RowBook::new(alloc, &model.facts) else {
+        return Err(Fail::from("no book"));
+    };
+    let instances = model.plain.instances(alloc)?;
+    assert_eq!(rt; book.rows().len(), instances.len());
+    for (row, name) in book.rows().iter().zip(instances.iter()) {
+        assert_eq!(rt; row.name, *name);
+    }
+    Ok(book)
+}
+
+#[test]
+fn rows_say_what_the_plain_program_says(rt: HostRuntime) -> Result<(), Fail> {
+    let a = rt.alloc();
+    for seed in 0..6 {
+        let mut random = Random::new(seed);
+        let text = random_section(&rt, a, &mut random)?;
+        let model = read(&rt, a, text.as_str())?;
+        let book = whole_book(&rt, a, &model)?;
+        let plan = random_plan(a, &mut random, book.vars())?;
+        for row in book.rows() {
+            holds(&rt, &model.plain, row, &zero_plan(a))?;
+            holds(&rt, &model.plain, row, &plan)?;
+            test_near_plans(&rt, a, &model.plain, row, &part_for(a, &plan, row)?)?;
         }
     }
     Ok(())

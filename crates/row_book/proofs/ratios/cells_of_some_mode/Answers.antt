@@ -1,11 +1,11 @@
 use Rattle.std.proofs.Common.{◌∙◌, ap, map}
 use Rattle.std.proofs.lemmas.List.Filters.{dedup_is}
 use Rattle.row_core.specs.contracts.IndexOrd.TheImpl.Laws.{matches_eq-law}
-use Rattle.row_book.specs.Ratios.{param_of, without_mode}
+use Rattle.row_book.specs.Ratios.{with_mode}
 use Rattle.row_book.proofs.RatioCells.{some-mode-cells}
 use Rattle.row_book.proofs.ratios.cells_of_some_mode.Goals as goal
 
 pub returns : goal.returns
 returns c =
-    some-mode-cells _ matches_eq-law c.args.facts.now.facts (param_of c.args.ratio) c.args.region c.in_ok-in_modes.in_modes.items c.in_ok-cells.cells.items c.sort.new.self.items
-    c.dedup.new.self.items c.in_ok-in_modes.ensures (c.in_ok-cells.ensures ∙ ap (map without_mode) c.deref.ensures.value) c.in_ok-sort.ensures.permutation c.in_ok-sort.ensures.sorted (dedup_is _ _ _ c.dedup.ensures.filtered)
+    some-mode-cells _ matches_eq-law c.args.facts.now.facts c.args.ratio c.args.region c.in_ok-in_modes.in_modes.items c.in_ok-cells.cells.items c.sort.new.self.items
+    c.dedup.new.self.items c.in_ok-in_modes.ensures (c.in_ok-cells.ensures ∙ ap (map (with_mode 0)) c.deref.ensures.value) c.in_ok-sort.ensures.permutation c.in_ok-sort.ensures.sorted (dedup_is _ _ _ c.dedup.ensures.filtered)

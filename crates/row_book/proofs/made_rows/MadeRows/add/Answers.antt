@@ -1,6 +1,11 @@
-use Rattle.std.proofs.Common.{◌≡◌, length, refl, arith}
-use Rattle.row_book.proofs.RowsAddedLaws.{adds-one, stops-many, stops-wide}
+use Rattle.std.proofs.Common.{◌≡◌, length, refl, sym, ap, ◌∙◌, arith}
+use Rattle.std.specs.Option.{is_some}
+use Rattle.row_book.proofs.RowsAddedLaws.{adds-one, nothing-listed, stops-many, stops-wide}
 use Rattle.row_book.proofs.made_rows.MadeRows.add.Goals as goal
+
+pub returns-in-Ok-None-clause-added : goal.returns-in-Ok-None-clause-added
+returns-in-Ok-None-clause-added c =
+    nothing-listed c.args.facts.now.facts c.args.name c.args.self.now (sym c.in-Ok-None.ensures.instance ∙ ap is_some c.in-Ok-None.field-0-is)
 
 pub returns-in-Err-Width-clause-stopped : goal.returns-in-Err-Width-clause-stopped
 returns-in-Err-Width-clause-stopped c =
@@ -9,12 +14,18 @@ returns-in-Err-Width-clause-stopped c =
 
 pub returns-then-count-self-clause-stopped : goal.returns-then-count-self-clause-stopped
 returns-then-count-self-clause-stopped c =
-    let counted : c.len-count.result ≡ length c.in-Ok.row.entries.items = omega (arith, c.len-count.ensures, c.in-Ok.row.entries.ok.0) in
-    stops-many c.args.facts.now.facts c.args.name c.in-Ok.row c.args.self.now.entries c.len-count.result c.args.self.now.few c.in-Ok.ensures.row c.in-Ok.ensures.fits
+    let row = c.in-Ok-Some.row in
+    let counted : c.len-count.result ≡ length row.entries.items = omega (arith, c.len-count.ensures, row.entries.ok.0) in
+    stops-many c.args.facts.now.facts c.args.name row c.args.self.now.entries c.len-count.result c.args.self.now.few
+    (sym c.in-Ok-Some.ensures.instance ∙ ap is_some c.in-Ok-Some.field-0-is)
+    (rw c.in-Ok-Some.field-0-is at c.in-Ok-Some.ensures.row) (rw c.in-Ok-Some.field-0-is at c.in-Ok-Some.ensures.fits)
     counted c.if-count-self.true
 
 pub returns-clause-added : goal.returns-clause-added
 returns-clause-added c =
-    let counted : c.len-count.result ≡ length c.in-Ok.row.entries.items = omega (arith, c.len-count.ensures, c.in-Ok.row.entries.ok.0) in
-    adds-one c.args.facts.now.facts c.args.name c.in-Ok.row c.len-count.result c.args.self.now _ c.in-Ok.ensures.row c.in-Ok.ensures.fits
+    let row = c.in-Ok-Some.row in
+    let counted : c.len-count.result ≡ length row.entries.items = omega (arith, c.len-count.ensures, row.entries.ok.0) in
+    adds-one c.args.facts.now.facts c.args.name row c.len-count.result c.args.self.now _
+    (sym c.in-Ok-Some.ensures.instance ∙ ap is_some c.in-Ok-Some.field-0-is)
+    (rw c.in-Ok-Some.field-0-is at c.in-Ok-Some.ensures.row) (rw c.in-Ok-Some.field-0-is at c.in-Ok-Some.ensures.fits)
     counted c.in_ok-push.ensures.items refl

@@ -1,9 +1,9 @@
 use Rattle.std.proofs.Common.{◌-◌}
 use Rattle.std.specs.List.{flat_map, range_with_len}
 use Rattle.row_book.specs.RowsAdded.{AddsRows}
-use Rattle.row_book.specs.Walks.{names_in}
+use Rattle.row_book.specs.Walks.{instances_in}
 use Rattle.row_book.proofs.made_rows.MadeRows.add_equation.Given as goal
 
 -- the rows of the regions so far were added
 abbrev pub invariant-loop-region : goal.invariant-loop-region
-invariant-loop-region l = AddsRows l.facts.facts (flat_map (names_in l.facts.facts l.eq) (range_with_len 0 (l.region - 0))) l.fn.self l.self
+invariant-loop-region l = AddsRows l.facts.facts (flat_map (instances_in l.facts.facts l.eq) (range_with_len 0 (l.region - 0))) l.fn.self l.self

@@ -10,8 +10,8 @@ loop-eq-init c = (omega arith, adds-nothing c.args.facts.now.facts c.args.self.n
 
 pub returns-in-Err-clause-stopped : goal.returns-in-Err-clause-stopped
 returns-in-Err-clause-stopped c =
-    let inside : c.loop-eq.eq < 1 + 24 = omega (arith, c.loop-eq-test.true) in
-    range-stops c.args.facts.now.facts (instances_of c.args.facts.now.facts) 1 24 c.loop-eq.eq c.args.self.now c.loop-eq.self c.in-Err.fail
+    let inside : c.loop-eq.eq < 1 + 64 = omega (arith, c.loop-eq-test.true) in
+    range-stops c.args.facts.now.facts (instances_of c.args.facts.now.facts) 1 64 c.loop-eq.eq c.args.self.now c.loop-eq.self c.in-Err.fail
     c.loop-eq.invariant.0 inside c.loop-eq.invariant.1 c.in-Err.ensures.stopped
 
 pub loop-eq-preserved : goal.loop-eq-preserved
@@ -23,5 +23,5 @@ loop-eq-preserved c =
 
 pub returns-clause-added : goal.returns-clause-added
 returns-clause-added c =
-    let all : c.loop-eq.eq - 1 ≡ 24 = omega arith in
+    let all : c.loop-eq.eq - 1 ≡ 64 = omega arith in
     subst (λ n. AddsRows c.args.facts.now.facts (flat_map (instances_of c.args.facts.now.facts) (range_with_len 1 n)) c.args.self.now c.loop-eq.self) all c.loop-eq.invariant.1

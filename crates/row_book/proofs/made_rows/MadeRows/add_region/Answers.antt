@@ -1,59 +1,56 @@
-use Rattle.std.proofs.Common.{◌≡◌, ◌∙◌, suc, drop, take, get_or, sym, subst}
-use Rattle.std.specs.List.{AllByRecursion, flat_map}
+use Rattle.std.proofs.Common.{◌∙◌, suc, drop, take, get_or, sym, subst}
+use Rattle.std.specs.List.{flat_map}
 use Rattle.row_core.specs.declared.Index.{Index}
-use Rattle.named_equations.specs.Indices.{index}
+use Rattle.named_equations.specs.Indices.{at_r}
 use Rattle.row_book.specs.Books.{HasStopped}
-use Rattle.row_book.specs.Built.{IsBuiltInstance}
 use Rattle.row_book.specs.RowsAdded.{AddsRows}
-use Rattle.row_book.specs.Walks.{cells_of, names_with, outers_of}
-use Rattle.row_book.proofs.Lists.{AllByRecursion-middle}
+use Rattle.row_book.specs.Walks.{AreAsked, inners_of, instances_with}
 use Rattle.row_book.proofs.Places.{list-middle}
+use Rattle.row_book.proofs.Regions.{asked-within, instances-asked}
 use Rattle.row_book.proofs.RowsAddedLaws.{adds-nothing, loop-adds, loop-ends, loop-stops}
 use Rattle.row_book.proofs.made_rows.MadeRows.add_region.Goals as goal
-
--- what stands at no place
-abbrev zeros : Index
-zeros = index 0 0 0 0 0 0 0 0
 
 pub loop-outer-init : goal.loop-outer-init
 loop-outer-init c = (c.deref-outer-items.ensures.value ∙ c.in_ok-outers.ensures, adds-nothing c.args.facts.now.facts c.args.self.now)
 
-pub add_cells-requires : goal.add_cells-requires
-add_cells-requires c =
+pub add_cells-requires-clause-indices : goal.add_cells-requires-clause-indices
+add_cells-requires-clause-indices c =
     let d = c.args.facts.now.facts in
     let eq = c.args.eq in
-    let cells : c.deref.result.now ≡ cells_of d eq c.args.region = c.deref.ensures.value ∙ c.in_ok-cells.ensures in
-    let outers : outers_of d eq c.args.region ≡ c.deref-outer-items.result.now = sym c.loop-outer.invariant.0 in
-    subst (λ is. AllByRecursion (IsBuiltInstance d) (names_with eq is (get_or c.deref-outer-items.result.now c.loop-outer.outer-index zeros))) (sym cells)
-    (AllByRecursion-middle (IsBuiltInstance d) (names_with eq (cells_of d eq c.args.region)) (take c.loop-outer.outer-index c.deref-outer-items.result.now)
-    (get_or c.deref-outer-items.result.now c.loop-outer.outer-index zeros) (drop (suc c.loop-outer.outer-index) c.deref-outer-items.result.now)
-    (subst (λ is. AllByRecursion (IsBuiltInstance d) (flat_map (names_with eq (cells_of d eq c.args.region)) is))
-    (outers ∙ list-middle c.deref-outer-items.result.now c.loop-outer.outer-index zeros c.loop-outer-test.true) c.requires.instances))
+    let outers = c.deref-outer-items.result.now in
+    let i = c.loop-outer.outer-index in
+    let asked : AreAsked d eq c.args.region c.deref.result.now = subst (AreAsked d eq c.args.region) (sym c.deref.ensures.value) c.in_ok-cells.ensures in
+    asked-within d eq c.args.region c.deref.result.now (take i outers) (get_or outers i (at_r 0)) (drop (suc i) outers) c.requires.equation c.requires.region asked
+    (sym c.loop-outer.invariant.0 ∙ list-middle outers i (at_r 0) c.loop-outer-test.true)
 
 pub returns-in-Err-clause-stopped : goal.returns-in-Err-clause-stopped
 returns-in-Err-clause-stopped c =
     let d = c.args.facts.now.facts in
     let eq = c.args.eq in
-    let cells : c.deref.result.now ≡ cells_of d eq c.args.region = c.deref.ensures.value ∙ c.in_ok-cells.ensures in
-    subst (λ is. HasStopped d c.args.self.now.entries (flat_map (names_with eq (cells_of d eq c.args.region)) is) c.in-Err.fail) c.loop-outer.invariant.0
-    (loop-stops d (names_with eq (cells_of d eq c.args.region)) c.deref-outer-items.result.now c.loop-outer.outer-index zeros c.args.self.now c.loop-outer.self c.in-Err.fail
+    let outers = c.deref-outer-items.result.now in
+    let outer : Index = get_or outers c.loop-outer.outer-index (at_r 0) in
+    let asked : AreAsked d eq c.args.region c.deref.result.now = subst (AreAsked d eq c.args.region) (sym c.deref.ensures.value) c.in_ok-cells.ensures in
+    subst (λ is. HasStopped d c.args.self.now.entries (flat_map (instances_with d eq (inners_of d eq c.args.region)) is) c.in-Err.fail) c.loop-outer.invariant.0
+    (loop-stops d (instances_with d eq (inners_of d eq c.args.region)) outers c.loop-outer.outer-index (at_r 0) c.args.self.now c.loop-outer.self c.in-Err.fail
     c.loop-outer-test.true c.loop-outer.invariant.1
-    (subst (λ is. HasStopped d c.loop-outer.self.entries (names_with eq is (get_or c.deref-outer-items.result.now c.loop-outer.outer-index zeros)) c.in-Err.fail) cells c.in-Err.ensures.stopped))
+    (subst (λ names. HasStopped d c.loop-outer.self.entries names c.in-Err.fail) (instances-asked d eq c.args.region c.deref.result.now asked outer) c.in-Err.ensures.stopped))
 
 pub loop-outer-preserved : goal.loop-outer-preserved
 loop-outer-preserved c =
     let d = c.args.facts.now.facts in
     let eq = c.args.eq in
-    let cells : c.deref.result.now ≡ cells_of d eq c.args.region = c.deref.ensures.value ∙ c.in_ok-cells.ensures in (
+    let outers = c.deref-outer-items.result.now in
+    let outer : Index = get_or outers c.loop-outer.outer-index (at_r 0) in
+    let asked : AreAsked d eq c.args.region c.deref.result.now = subst (AreAsked d eq c.args.region) (sym c.deref.ensures.value) c.in_ok-cells.ensures in (
       c.loop-outer.invariant.0,
-      loop-adds d (names_with eq (cells_of d eq c.args.region)) c.deref-outer-items.result.now c.loop-outer.outer-index zeros c.args.self.now c.loop-outer.self c.add_cells.new.self
+      loop-adds d (instances_with d eq (inners_of d eq c.args.region)) outers c.loop-outer.outer-index (at_r 0) c.args.self.now c.loop-outer.self c.add_cells.new.self
           c.loop-outer-test.true c.loop-outer.invariant.1
-          (subst (λ is. AddsRows d (names_with eq is (get_or c.deref-outer-items.result.now c.loop-outer.outer-index zeros)) c.loop-outer.self c.add_cells.new.self) cells c.in-Ok.ensures.added),
+          (subst (λ names. AddsRows d names c.loop-outer.self c.add_cells.new.self) (instances-asked d eq c.args.region c.deref.result.now asked outer) c.in-Ok.ensures.added),
     )
 
 pub returns-clause-added : goal.returns-clause-added
 returns-clause-added c =
     let d = c.args.facts.now.facts in
     let eq = c.args.eq in
-    subst (λ is. AddsRows d (flat_map (names_with eq (cells_of d eq c.args.region)) is) c.args.self.now c.loop-outer.self) c.loop-outer.invariant.0
-    (loop-ends d (names_with eq (cells_of d eq c.args.region)) c.deref-outer-items.result.now c.loop-outer.outer-index c.args.self.now c.loop-outer.self c.loop-outer-test.false c.loop-outer.invariant.1)
+    subst (λ is. AddsRows d (flat_map (instances_with d eq (inners_of d eq c.args.region)) is) c.args.self.now c.loop-outer.self) c.loop-outer.invariant.0
+    (loop-ends d (instances_with d eq (inners_of d eq c.args.region)) c.deref-outer-items.result.now c.loop-outer.outer-index c.args.self.now c.loop-outer.self c.loop-outer-test.false c.loop-outer.invariant.1)

@@ -1,11 +1,11 @@
 use Rattle.std.proofs.Common.{◌≡◌, take}
 use Rattle.std.specs.List.{flat_map}
 use Rattle.row_book.specs.RowsAdded.{AddsRows}
-use Rattle.row_book.specs.Walks.{cells_of, names_with, outers_of}
+use Rattle.row_book.specs.Walks.{inners_of, instances_with, outers_of}
 use Rattle.row_book.proofs.made_rows.MadeRows.add_region.Given as goal
 
 -- the rows of the outer subscripts so far were added
 abbrev pub invariant-loop-outer : goal.invariant-loop-outer
 invariant-loop-outer l =
     (l.outer-items ≡ outers_of l.facts.facts l.eq l.region)
-    × AddsRows l.facts.facts (flat_map (names_with l.eq (cells_of l.facts.facts l.eq l.region)) (take l.outer-index l.outer-items)) l.fn.self l.self
+    × AddsRows l.facts.facts (flat_map (instances_with l.facts.facts l.eq (inners_of l.facts.facts l.eq l.region)) (take l.outer-index l.outer-items)) l.fn.self l.self

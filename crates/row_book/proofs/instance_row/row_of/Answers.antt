@@ -1,7 +1,7 @@
 use Rattle.std.proofs.Common.{◌≤◌, arith}
 use Rattle.std.proofs.lemmas.Result.{IfErr-weaker}
 use Rattle.row_book.proofs.InstanceRows.{capacity-stops}
-use Rattle.row_book.proofs.instance_row.found.Goals as goal
+use Rattle.row_book.proofs.instance_row.row_of.Goals as goal
 
 pub returns-in-2-to-6-clause-stopped : goal.returns-in-2-to-6-clause-stopped
 returns-in-2-to-6-clause-stopped c =

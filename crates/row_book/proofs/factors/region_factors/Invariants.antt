@@ -1,0 +1,11 @@
+use Rattle.std.proofs.Common.{◌≡◌, ℕ, length, Some}
+use Rattle.std.specs.Prelude.{slice_get}
+use Rattle.discount_factors.specs.Known.{Discounting}
+use Rattle.named_equations.specs.RegionFactors.{AreFactorsOf}
+use Rattle.row_book.proofs.factors.region_factors.Given as goal
+
+-- those of the regions so far
+abbrev pub invariant-loop-region : goal.invariant-loop-region
+invariant-loop-region l =
+    (length l.factors.items ≡ l.region)
+    × ((r : ℕ) (one : Discounting) → slice_get l.factors.items r ≡ Some one → AreFactorsOf l.facts.facts r one)

@@ -1,0 +1,23 @@
+-- What each named equation is as terms. Five crates make the rows, each of them those of its own equations.
+use Rattle.std.specs.Prelude.{ℕ, Bool, ◌&&◌, ◌||◌, nat_le, if◌then◌else◌}
+use Rattle.model_sets.specs.Data.{Data}
+use Rattle.row_core.specs.declared.RowName.{RowName}
+use Rattle.row_core.specs.EquationTerms.{EquationTerms}
+use Rattle.balance_rows.specs.Rows as balance
+use Rattle.capacity_rows.specs.Rows as capacity
+use Rattle.cost_rows.specs.Rows as cost
+use Rattle.emission_rows.specs.Rows as emission
+use Rattle.limit_rows.specs.Rows as limit
+
+-- the number is one of those from the first to the last
+abbrev pub is_from : ℕ → ℕ → ℕ → Bool
+is_from first last eq = nat_le first eq && nat_le eq last
+
+-- the equation of this name, as terms: one of capacity adequacy, of cost, of emissions, of limits, or of the energy balance
+abbrev pub terms_at : Data → RowName → EquationTerms
+terms_at d name =
+    if is_from 2 6 name.eq then capacity.terms_at d name
+    else if is_from 25 34 name.eq || is_from 40 42 name.eq then cost.terms_at d name
+    else if is_from 35 39 name.eq || is_from 61 64 name.eq then emission.terms_at d name
+    else if is_from 43 60 name.eq then limit.terms_at d name
+    else balance.terms_at d name

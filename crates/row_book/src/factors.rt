@@ -1,0 +1,91 @@
+//! The written factors of the regions: what 1 of a later year is worth, and what is left of an investment.
+
+ghost use Rattle.std.specs.Prelude.{◌≡◌, ℕ, ◌≤◌, pos, ◌≤ℤ◌, IfOk, unsigned_abs};
+ghost use Rattle.named_equations.specs.Positions.{years_in_all};
+ghost use Rattle.named_equations.specs.RegionFactors.{AreFactorsOf, AreRegionFactors};
+ghost use Rattle.named_equations.specs.Within.{IsRegion, IsTechnology};
+ghost use Rattle.named_equations.specs.WrittenFactors.{life_of, rate_of};
+
+use discount_factors::Factors;
+use param_tables::ModelData;
+use std::alloc::{AllocError, Global};
+
+/// The number of the set REGION.
+const REGION: u8 = 1;
+
+/// The number of the set TECHNOLOGY.
+const TECHNOLOGY: u8 = 2;
+
+/// The number of the set YEAR.
+const YEAR: u8 = 7;
+
+/// One, in billionths.
+const BILLION: i128 = 1_000_000_000;
+
+/// The factors of each region, in order: they are those of its DiscountRate, for the years of the model period
+/// and for the lives of its technologies. Refuses for want of memory alone.
+pub(crate) fn region_factors(alloc: Global, facts: &ModelData) -> Result<Vec<Factors>, AllocError>
+    ensures { IfOk result (λ factors. AreRegionFactors facts.now.facts factors.items) }
+{
+    let mut factors = Vec::new(alloc);
+    for region in 0..facts.sets().count(REGION) {
+        let one = factors_of(alloc, facts, region)?;
+        factors.push(one)?;
+    }
+    Ok(factors)
+}
+
+/// The factors of a region.
+fn factors_of(alloc: Global, facts: &ModelData, region: u16) -> Result<Factors, AllocError>
+    requires { IsRegion facts.now.facts region }
+    ensures { IfOk result (λ factors. AreFactorsOf facts.now.facts region factors) }
+{
+    let rate = rate_of(facts, region);
+    let span = years_in_all(facts);
+    let lives = longest_life(facts, region);
+    Factors::new(alloc, rate, span, lives)
+}
+
+/// DiscountRate of a region, in billionths.
+fn rate_of(facts: &ModelData, region: u16) -> i128
+    requires { IsRegion facts.now.facts region }
+    ensures least { pos 0 ≤ℤ result }
+    ensures most { result ≤ℤ pos 1000000000 }
+    ensures rate { unsigned_abs result ≡ rate_of facts.now.facts region }
+{
+    let rate = facts.at(2, &[region]);
+    rate.num * (BILLION / rate.den)
+}
+
+/// How many years the model period has, from the first year to the last, gaps included; 1 where there is no
+/// year.
+fn years_in_all(facts: &ModelData) -> u16
+    ensures { result ≡ years_in_all facts.now.facts }
+{
+    let sets = facts.sets();
+    if sets.count(YEAR) == 0 {
+        return 1;
+    }
+    sets.last_year() - sets.first_year() + 1
+}
+
+/// OperationalLife of a technology in a region, in years.
+fn life_of(facts: &ModelData, region: u16, technology: u16) -> u16
+    requires region { IsRegion facts.now.facts region }
+    requires technology { IsTechnology facts.now.facts technology }
+    ensures { result ≡ life_of facts.now.facts region technology }
+{
+    facts.at(11, &[region, technology]).num as u16
+}
+
+/// The longest life of a technology in a region, in years.
+fn longest_life(facts: &ModelData, region: u16) -> u16
+    requires { IsRegion facts.now.facts region }
+    ensures { (t : ℕ) → IsTechnology facts.now.facts t → life_of facts.now.facts region t ≤ result }
+{
+    let mut longest = 0;
+    for technology in 0..facts.sets().count(TECHNOLOGY) {
+        longest = longest.max(life_of(facts, region, technology));
+    }
+    longest
+}
