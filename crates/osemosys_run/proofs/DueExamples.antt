@@ -15,6 +15,7 @@ use Rattle.osemosys_run.specs.declared.status.WordFault.TheVariants as faults
 use Rattle.osemosys_run.specs.declared.status.ReadStop.TheVariants as stops
 use Rattle.io_edges.specs.Count.{Rose}
 use Rattle.io_edges.specs.Edges.{Lacks}
+use Rattle.osemosys_run.specs.Complete.{CanBeWritten, Completes}
 use Rattle.osemosys_run.specs.Reading.{most_bytes, IsTooLong}
 
 -- ---- what may come of a file's bytes
@@ -207,3 +208,21 @@ read_on_and_on : (line : List ℕ) → Caused mps_file (counts 0 0 0) (counts 0 
 read_on_and_on line h =
     let soon : 67174401 ≤ 67174400 = (many_at_too_long (codes "FILE") line (counts 0 0 0) (counts 0 1 67174401) h.1).at_once in
     omega (arith, soon)
+
+-- ---- what must be written
+
+-- words that ask for nothing ask for no file
+nothing_asked : (files : List (List ℕ × List ℕ)) → CanBeWritten [] files → ⊥
+nothing_asked files can = cc can.asks
+
+-- a file that isn't there, and one of another name
+not_there : CanBeWritten mps_file [] → ⊥
+not_there can = cc can.there
+
+-- a file that can't be written may have any status; one that can has no refusal
+no_claim : (status : Status) → Completes [] [] status
+no_claim status can = absurd (nothing_asked [] can)
+
+not_refused : (words : List (List ℕ)) (files : List (List ℕ × List ℕ)) → CanBeWritten words files → Completes words files (Refused refusals.TooManyEntries) → ⊥
+not_refused words files can completes =
+    elim (completes can) [ inl done ↦ let same : Refused refusals.TooManyEntries ≡ Done = done in cc same | inr memory ↦ let same : Refused refusals.TooManyEntries ≡ Memory = memory in cc same ]

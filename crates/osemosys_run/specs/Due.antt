@@ -17,7 +17,7 @@ use Rattle.param_tables.specs.SetRefusals.{first_set_refusal}
 use Rattle.param_tables.specs.Told.{NamesCell, refusal_told}
 use Rattle.param_tables.specs.declared.fault.BuildFault.{BuildFault}
 use Rattle.row_book.specs.Books.{CanBeMade, HasTooMany, IsTooWide}
-use Rattle.row_book.specs.Built.{built_instances}
+use Rattle.named_equations.specs.Instances.{instances}
 use Rattle.row_core.specs.NameTexts.{row_name}
 use Rattle.io_edges.specs.Count.{counted, Rose}
 use Rattle.io_edges.specs.Edges.{Lacks}
@@ -69,15 +69,19 @@ entries_line = line (codes "refused too many entries")
 abbrev pub width_line : SetLists → RowName → List ℕ
 width_line sets name = line (codes "uncertified width row " ++ row_name sets name)
 
+-- the line for a place at which a number doesn't fit
+abbrev pub place_line : SetLists → Place → List ℕ
+place_line sets (Place.Row name) = width_line sets name
+
 -- ---- what is due over files that are known
 
 -- for `mps` over accepted data: its equations, where their rows can be made; else the line for the first row that can't, in which a number
 -- doesn't fit, or with which the entries are too many
 abbrev pub DueForEquations : Data → Status → List ℕ → Type 0
 DueForEquations d status text =
-    (CanBeMade d 0 (built_instances d) × (status ≡ Done) × WritesEquations d text)
-    ⊎ ((name : RowName) × IsTooWide d 0 (built_instances d) name × (status ≡ Uncertified (Stop.Width (Place.Row name))) × (text ≡ width_line d.sets name))
-    ⊎ ((name : RowName) × HasTooMany d 0 (built_instances d) name × (status ≡ Refused refusals.TooManyEntries) × (text ≡ entries_line))
+    (CanBeMade d 0 (instances d) × (status ≡ Done) × WritesEquations d text)
+    ⊎ ((name : RowName) × IsTooWide d 0 (instances d) name × (status ≡ Uncertified (Stop.Width (Place.Row name))) × (text ≡ width_line d.sets name))
+    ⊎ ((name : RowName) × HasTooMany d 0 (instances d) name × (status ≡ Refused refusals.TooManyEntries) × (text ≡ entries_line))
 
 -- the status tells the refusal of the data, with an index of the parameter's own where it names one, and the text is its line
 pub record RefusesData (sets : SetLists) (refusal : DataRefusal) (status : Status) (text : List ℕ) : Type 0 where

@@ -2,6 +2,7 @@ pub mod ClapWords
 pub mod Codes
 pub mod CommandLine
 pub mod Commands
+pub mod Complete
 pub mod Due
 pub mod ReadEnds
 pub mod Reading

@@ -8,11 +8,12 @@ ghost use Rattle.param_tables.specs.Refusals.{first_refusal};
 ghost use Rattle.param_tables.specs.SetRefusals.{first_set_refusal};
 ghost use Rattle.param_tables.specs.Told.{NamesCell, refusal_told};
 ghost use Rattle.std.specs.List.{AllByRecursion};
-ghost use Rattle.row_book.specs.Books.{AreRowsOf, AreVariablesOf, HasNameWithin, IsWithinSets};
-ghost use Rattle.row_book.specs.Built.{built_instances};
+ghost use Rattle.row_book.specs.Books.{AreRowsOf, AreVariablesOf, HasNameWithin, IsWithinSets, NamesRowWithin};
+ghost use Rattle.row_book.specs.declared.fail.BookFail.{BookFail};
+ghost use Rattle.named_equations.specs.Instances.{instances};
 ghost use Rattle.row_core.specs.Equations.{IsEquation};
 ghost use Rattle.row_core.specs.NameTexts.{RowNameIsWithin};
-ghost use Rattle.osemosys_run.specs.Due.{DueForBlocks, DueForData, DueForEquations, DueForMps, RefusesData, entries_line, stop_line, too_long_line, width_line, words_line};
+ghost use Rattle.osemosys_run.specs.Due.{DueForBlocks, DueForData, DueForEquations, DueForMps, RefusesData, entries_line, place_line, stop_line, too_long_line, width_line, words_line};
 ghost use Rattle.osemosys_run.specs.Reading.{most_bytes};
 ghost use Rattle.osemosys_run.specs.RefusalLines.{set_line, text_line};
 ghost use Rattle.osemosys_run.specs.Written.{WritesEquations};
@@ -81,7 +82,7 @@ fn answer_equations(alloc: Global, facts: &ModelData) -> Result<Answer, AllocErr
 {
     match RowBook::new(alloc, facts) {
         Ok(book) => write_book(alloc, facts, &book),
-        Err(BookFail::Width(Place::Row(name))) => stop_at_row(alloc, name, facts.sets()),
+        Err(BookFail::Width(place)) => stop_at(alloc, place, facts.sets()),
         Err(BookFail::TooManyEntries) => refuse_entries(alloc),
         Err(BookFail::Memory) => Err(AllocError),
     }
@@ -89,7 +90,7 @@ fn answer_equations(alloc: Global, facts: &ModelData) -> Result<Answer, AllocErr
 
 // The text of the rows of a book.
 fn write_book(alloc: Global, facts: &ModelData, book: &RowBook) -> Result<Answer, AllocError>
-    requires rows { AreRowsOf facts.now.facts (built_instances facts.now.facts) book.now.rows }
+    requires rows { AreRowsOf facts.now.facts (instances facts.now.facts) book.now.rows }
     requires variables { AreVariablesOf book.now.rows book.now.vars }
     requires named { AllByRecursion (HasNameWithin facts.now.facts.sets) book.now.rows }
     requires within { AllByRecursion (IsWithinSets facts.now.facts.sets) book.now.vars }
@@ -159,6 +160,17 @@ fn refuse_data(alloc: Global, fault: BuildFault, sets: &Sets) -> Result<Answer, 
     let text = data_line(alloc, &fault, sets)?;
     let status = Status::Refused(Refusal::Build(fault));
     Ok(Answer { status, text })
+}
+
+// The answer where a number that is formed at this place doesn't fit.
+fn stop_at(alloc: Global, place: Place, sets: &Sets) -> Result<Answer, AllocError>
+    requires { NamesRowWithin sets.now (BookFail.Width place) }
+    ensures { IfOk result (λ answer. (answer.status ≡ Status.Uncertified (Stop.Width place))
+        × (answer.text.items ≡ place_line sets.now place)) }
+{
+    match place {
+        Place::Row(name) => stop_at_row(alloc, name, sets),
+    }
 }
 
 // The answer where a number of this row doesn't fit.

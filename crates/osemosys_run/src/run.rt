@@ -3,6 +3,7 @@ ghost use Rattle.std.specs.Prelude.{◌≡◌, ◌≤◌, ◌⊎◌, List, ℕ, 
 ghost use Rattle.std.specs.String.{string_bytes};
 ghost use Rattle.io_edges.specs.Count.{Rose, counted};
 ghost use Rattle.io_edges.specs.Told.{WhereTold};
+ghost use Rattle.osemosys_run.specs.Complete.{Completes};
 ghost use Rattle.osemosys_run.specs.Due.{Caused, CausedByFile, Delivers, Due, ReadsWhole, sight};
 ghost use Rattle.mathprog_data.specs.Meaning.{Blocks};
 ghost use Rattle.mathprog_data.specs.Verdicts.{FaultAt, Says};
@@ -16,6 +17,7 @@ use crate::status::{ReadStop, Status};
 use crate::words::{Command, read_command, spelled_parts};
 use io_edges::{Shelf, Sink};
 use mathprog_data::verdict_laws;
+use row_book::stop_laws;
 use std::alloc::{AllocError, Global};
 
 /// The number of the first file that the words name.
@@ -24,7 +26,7 @@ const FILE: u8 = 1;
 /// Runs the program on the words behind its name: reads the files that they name from the shelf, and
 /// writes the text that is due into the sink.
 ///
-/// `mps FILE` writes the equations that are built of a data file of GNU MathProg as free MPS. Where the
+/// `mps FILE` writes the named equations of a data file of GNU MathProg as free MPS. Where the
 /// words, the file or what it says is refused, a number of a row leaves 128 bits, or the rows have too many
 /// entries, one line says why.
 /// Want of memory may come anywhere; then nothing is written.
@@ -55,12 +57,18 @@ pub fn osemosys<S: Shelf, K: Sink>(
         (Rose (S.faults shelf.old) (S.faults shelf.new) → ⊥)
         → ReadsWhole (map string_bytes words.now) files result (S.rest shelf.new)) }
 
+    // A file that isn't refused, and whose rows can be made, is written out, unless memory runs out; over a shelf and
+    // a sink without a fault.
+    ensures complete { WhereTold (S.files shelf.old) (λ files.
+        (Rose (S.faults shelf.old) (S.faults shelf.new) → ⊥) → (Rose (K.faults out.old) (K.faults out.new) → ⊥)
+        → Completes (map string_bytes words.now) files result) }
+
     // What a text says is one thing, or it has one fault, and never both.
     ensures one_reading { (text : List ℕ) (blocks others : Blocks) → Says text blocks → Says text others → blocks ≡ others }
     ensures one_fault { (text : List ℕ) (number other : ℕ) (at place : Mark) → FaultAt text number at → FaultAt text other place →
         (number ≡ other) × (at ≡ place) }
     ensures not_both { (text : List ℕ) (blocks : Blocks) (number : ℕ) (at : Mark) → Says text blocks → FaultAt text number at → ⊥ }
-    ensures some { (text : List ℕ) → ((blocks : Blocks) × Says text blocks) ⊎ ((number : ℕ) × (at : Mark) × FaultAt text number at) }
+    ensures reading_or_fault { (text : List ℕ) → ((blocks : Blocks) × Says text blocks) ⊎ ((number : ℕ) × (at : Mark) × FaultAt text number at) }
 
     // The parts that the words after a command say are those that are spelled so.
     ensures spelled_parts { (words : List (List ℕ)) (parts : List Part) → HasSpelledParts words parts }
@@ -72,6 +80,7 @@ pub fn osemosys<S: Shelf, K: Sink>(
 {
     // The laws that the clauses of their names state.
     verdict_laws();
+    stop_laws();
     spelled_parts();
     match perform(alloc, words, shelf) {
         Ok(Answer { status, text }) => match send(&text, out) {

@@ -2,7 +2,7 @@
 mod base_lines;
 
 use crate::{ReadStop, Status, WordFault, osemosys};
-use base_lines::BASE_LINES;
+use base_lines::base_text;
 use io_edges::{MemShelf, MemSink};
 use std::alloc::Global;
 use std::test::Fail;
@@ -67,7 +67,11 @@ const DATA: usize = 0;
 
 const REGION: usize = 1;
 
+const TECHNOLOGY: usize = 2;
+
 const MODE_OF_OPERATION: usize = 5;
+
+const TIMESLICE: usize = 6;
 
 const YEAR: usize = 7;
 
@@ -135,16 +139,6 @@ fn model_with_all(alloc: Global, others: &[(usize, &[u8])]) -> Result<Vec<u8>, F
     Ok(text)
 }
 
-// The MPS text of the model.
-fn base_text(alloc: Global) -> Result<Vec<u8>, Fail> {
-    let mut text = Vec::new(alloc);
-    for line in BASE_LINES {
-        text.extend_from_slice(line)?;
-        text.push(b'\n')?;
-    }
-    Ok(text)
-}
-
 // Whether the text has this line.
 fn has_line(text: &[u8], line: &[u8]) -> bool {
     for own in text.split(|byte| *byte == b'\n') {
@@ -170,7 +164,7 @@ fn call(
     let words = words_of(alloc, words)?;
     let mut shelf = MemShelf::new(alloc, failing)?;
     shelf.put("model.dat", text)?;
-    let mut out = MemSink::new(alloc, 2000, &[])?;
+    let mut out = MemSink::new(alloc, 8000, &[])?;
     let status = osemosys(alloc, &words, &mut shelf, &mut out);
     Ok((status, out))
 }
@@ -379,6 +373,39 @@ fn a_model_with_one_other_statement_is_refused(rt: HostRuntime) -> Result<(), Fa
         assert_eq!(rt; out.bytes(), line);
         assert_eq!(rt; status.code(), 4);
     }
+    Ok(())
+}
+
+// A statement of a set with the members 1 to `count`.
+fn set_of_numbers(alloc: Global, front: &[u8], count: u16) -> Result<Vec<u8>, Fail> {
+    let mut statement = Vec::new(alloc);
+    statement.extend_from_slice(front)?;
+    let mut digits = itoa::Buffer::new();
+    for number in 1..=count {
+        statement.push(b' ')?;
+        statement.extend_from_slice(digits.format(number).as_bytes())?;
+    }
+    statement.extend_from_slice(b" ;")?;
+    Ok(statement)
+}
+
+// With 20 modes a row of CAa3 has 21 entries; 500 technologies, 300 timeslices and 2 years make 300,000 of them.
+#[test]
+fn rows_with_more_than_four_million_entries_are_refused(rt: HostRuntime) -> Result<(), Fail> {
+    let alloc = rt.alloc();
+    let technologies = set_of_numbers(alloc, b"set TECHNOLOGY :=", 500)?;
+    let modes = set_of_numbers(alloc, b"set MODE_OF_OPERATION :=", 20)?;
+    let timeslices = set_of_numbers(alloc, b"set TIMESLICE :=", 300)?;
+    let others: [(usize, &[u8]); 4] = [
+        (TECHNOLOGY, &technologies),
+        (MODE_OF_OPERATION, &modes),
+        (TIMESLICE, &timeslices),
+        (YEAR, b"set YEAR := 2020 2021 ;"),
+    ];
+    let text = model_with_all(alloc, &others)?;
+    let (status, out) = call(alloc, &["mps", "model.dat"], &text, &[])?;
+    assert_eq!(rt; status.code(), 4);
+    assert_eq!(rt; out.bytes(), b"refused too many entries\n".as_slice());
     Ok(())
 }
 

@@ -1,5 +1,10 @@
-// The MPS text of the model, line by line, as it was worked out by hand.
-pub(super) const BASE_LINES: [&[u8]; 111] = [
+//! The MPS text of the model, line by line, from a published example of the format; not from this program. It stands in parts, since the
+//! prover takes each function's constants as a whole.
+
+use std::alloc::{AllocError, Global};
+
+/// The rows.
+const ROW_LINES: [&[u8]; 89] = [
     b"NAME OSEMOSYS",
     b"ROWS",
     b" N COST",
@@ -45,6 +50,54 @@ pub(super) const BASE_LINES: [&[u8]; 111] = [
     b" E R20",
     b"* Acc3[R,T,1,2020]",
     b" E R21",
+    b"* CC1[R,T,2020]",
+    b" E R22",
+    b"* CC2[R,T,2020]",
+    b" E R23",
+    b"* SV3[R,T,2020]",
+    b" E R24",
+    b"* SV4[R,T,2020]",
+    b" E R25",
+    b"* OC1[R,T,2020]",
+    b" E R26",
+    b"* OC2[R,T,2020]",
+    b" E R27",
+    b"* OC3[R,T,2020]",
+    b" E R28",
+    b"* OC4[R,T,2020]",
+    b" E R29",
+    b"* E4[R,T,2020]",
+    b" E R30",
+    b"* E5[R,T,2020]",
+    b" E R31",
+    b"* TDC1[R,T,2020]",
+    b" E R32",
+    b"* TDC2[R,2020]",
+    b" E R33",
+    b"* Acc4[R]",
+    b" E R34",
+    b"* AAC1[R,T,2020]",
+    b" E R35",
+    b"* TAC1[R,T]",
+    b" E R36",
+    b"* RM1[R,2020]",
+    b" E R37",
+    b"* RM2[R,D,2020]",
+    b" E R38",
+    b"* RM3[R,D,2020]",
+    b" L R39",
+    b"* RE1[R,T,F,2020]",
+    b" E R40",
+    b"* RE2[R,2020]",
+    b" E R41",
+    b"* RE3[R,2020]",
+    b" E R42",
+    b"* RE4[R,2020]",
+    b" L R43",
+];
+
+/// The columns of activity, capacity and energy.
+const ENERGY_COLUMN_LINES: [&[u8]; 65] = [
     b"COLUMNS",
     b"* RateOfActivity[R,D,T,1,2020]",
     b" C1 R4 -1",
@@ -52,6 +105,7 @@ pub(super) const BASE_LINES: [&[u8]; 111] = [
     b" C1 R21 -1",
     b"* NewCapacity[R,T,2020]",
     b" C2 R2 -1",
+    b" C2 R22 -5",
     b"* Trade[R,R,D,F,2020]",
     b" C3 R14 1",
     b" C3 R18 -1",
@@ -65,10 +119,12 @@ pub(super) const BASE_LINES: [&[u8]; 111] = [
     b" C6 R3 1",
     b" C6 R5 -1",
     b" C6 R6 -1",
+    b" C6 R27 -1",
     b"* RateOfTotalActivity[R,D,T,2020]",
     b" C7 R4 1",
     b" C7 R5 1",
     b" C7 R6 1",
+    b" C7 R35 -1",
     b"* RateOfProductionByTechnologyByMode[R,D,T,F,1,2020]",
     b" C8 R7 1",
     b" C8 R8 -1",
@@ -103,12 +159,126 @@ pub(super) const BASE_LINES: [&[u8]; 111] = [
     b" C17 R18 1",
     b"* ProductionByTechnology[R,D,T,F,2020]",
     b" C18 R20 1",
+    b" C18 R40 -1",
     b"* TotalAnnualTechnologyActivityByMode[R,T,1,2020]",
     b" C19 R21 1",
+    b" C19 R26 -2",
+];
+
+/// The columns of costs, and of what is limited.
+const COST_COLUMN_LINES: [&[u8]; 56] = [
+    b"* CapitalInvestment[R,T,2020]",
+    b" C20 R22 1",
+    b" C20 R23 -1",
+    b"* DiscountedCapitalInvestment[R,T,2020]",
+    b" C21 R23 1",
+    b" C21 R32 -1",
+    b"* SalvageValue[R,T,2020]",
+    b" C22 R24 1",
+    b" C22 R25 -1",
+    b"* DiscountedSalvageValue[R,T,2020]",
+    b" C23 R25 1",
+    b" C23 R32 1",
+    b"* AnnualVariableOperatingCost[R,T,2020]",
+    b" C24 R26 1",
+    b" C24 R28 -1",
+    b"* AnnualFixedOperatingCost[R,T,2020]",
+    b" C25 R27 1",
+    b" C25 R28 -1",
+    b"* OperatingCost[R,T,2020]",
+    b" C26 R28 1",
+    b" C26 R29 -1",
+    b"* DiscountedOperatingCost[R,T,2020]",
+    b" C27 R29 1",
+    b" C27 R32 -1",
+    b"* AnnualTechnologyEmissionsPenalty[R,T,2020]",
+    b" C28 R30 1",
+    b" C28 R31 -1",
+    b"* DiscountedTechnologyEmissionsPenalty[R,T,2020]",
+    b" C29 R31 1",
+    b" C29 R32 -1",
+    b"* TotalDiscountedCostByTechnology[R,T,2020]",
+    b" C30 R32 1",
+    b" C30 R33 -1",
+    b"* TotalDiscountedCost[R,2020]",
+    b" C31 COST 1",
+    b" C31 R33 1",
+    b" C31 R34 -1",
+    b"* ModelPeriodCostByRegion[R]",
+    b" C32 R34 1",
+    b"* TotalTechnologyAnnualActivity[R,T,2020]",
+    b" C33 R35 1",
+    b" C33 R36 -1",
+    b"* TotalTechnologyModelPeriodActivity[R,T]",
+    b" C34 R36 1",
+    b"* TotalCapacityInReserveMargin[R,2020]",
+    b" C35 R37 1",
+    b" C35 R39 -1",
+    b"* DemandNeedingReserveMargin[R,D,2020]",
+    b" C36 R38 1",
+    b"* ProductionByTechnologyAnnual[R,T,F,2020]",
+    b" C37 R40 1",
+    b"* TotalREProductionAnnual[R,2020]",
+    b" C38 R41 1",
+    b" C38 R43 -1",
+    b"* RETotalProductionOfTargetFuelAnnual[R,2020]",
+    b" C39 R42 1",
+];
+
+/// The right side and the bounds.
+const LAST_LINES: [&[u8]; 19] = [
     b"RHS",
     b" RHS R1 10",
     b"BOUNDS",
     b" FR BND C3",
     b" FR BND C17",
+    b" FR BND C20",
+    b" FR BND C21",
+    b" FR BND C22",
+    b" FR BND C23",
+    b" FR BND C24",
+    b" FR BND C25",
+    b" FR BND C26",
+    b" FR BND C27",
+    b" FR BND C28",
+    b" FR BND C29",
+    b" FR BND C30",
+    b" FR BND C31",
+    b" FR BND C32",
     b"ENDATA",
 ];
+
+/// Appends the lines.
+fn push_lines(text: &mut Vec<u8>, lines: &[&[u8]]) -> Result<(), AllocError> {
+    for line in lines {
+        text.extend_from_slice(line)?;
+        text.push(b'\n')?;
+    }
+    Ok(())
+}
+
+fn push_rows(text: &mut Vec<u8>) -> Result<(), AllocError> {
+    push_lines(text, &ROW_LINES)
+}
+
+fn push_energy_columns(text: &mut Vec<u8>) -> Result<(), AllocError> {
+    push_lines(text, &ENERGY_COLUMN_LINES)
+}
+
+fn push_cost_columns(text: &mut Vec<u8>) -> Result<(), AllocError> {
+    push_lines(text, &COST_COLUMN_LINES)
+}
+
+fn push_last_lines(text: &mut Vec<u8>) -> Result<(), AllocError> {
+    push_lines(text, &LAST_LINES)
+}
+
+/// The text.
+pub(super) fn base_text(alloc: Global) -> Result<Vec<u8>, AllocError> {
+    let mut text = Vec::new(alloc);
+    push_rows(&mut text)?;
+    push_energy_columns(&mut text)?;
+    push_cost_columns(&mut text)?;
+    push_last_lines(&mut text)?;
+    Ok(text)
+}

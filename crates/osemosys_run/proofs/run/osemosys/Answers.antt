@@ -3,6 +3,7 @@ use Rattle.std.specs.String.{string_bytes}
 use Rattle.io_edges.specs.Told.{WhereTold}
 use Rattle.osemosys_run.specs.Due.{Sight, Caused, Due}
 use Rattle.osemosys_run.specs.Sending.{HoldsFrontOf}
+use Rattle.osemosys_run.proofs.Completeness.{Laws, completes}
 use Rattle.osemosys_run.proofs.Outcomes.{due_from_cause, is_answer, delivered}
 use Rattle.osemosys_run.proofs.run.osemosys.Goals as goal
 
@@ -72,3 +73,14 @@ returns-in-Err-send-clause-caused g c =
         λ bytes is. subst (λ (t : List ℕ). HoldsFrontOf t bytes (sink.written c.send.new.out)) c.deref.ensures.value (c.in-Err-send.ensures.cut bytes is),
       ),
     )
+
+pub returns-in-Ok-send-clause-complete : goal.returns-in-Ok-send-clause-complete
+returns-in-Ok-send-clause-complete g c = λ files told calm unfailing.
+    let sink = g.K.Sink in
+    let laws : Laws =
+    record { one_reading = c.verdict_laws.ensures.one_meaning; not_both = c.verdict_laws.ensures.not_both; made = c.stop_laws.ensures.made } in
+    completes laws (map string_bytes c.args.words.now) files c.in-Ok.field-0.status (sink.written c.args.out.now) (sink.written c.send.new.out) (sink.faults c.args.out.now) (sink.faults c.send.new.out)
+    (returns-in-Ok-send-clause-due g c files told calm) unfailing
+
+pub returns-in-Err-send-clause-complete : goal.returns-in-Err-send-clause-complete
+returns-in-Err-send-clause-complete g c = λ files told calm unfailing. absurd (unfailing c.in-Err-send.ensures.failed)

@@ -1,0 +1,36 @@
+-- What stopped the book is told by its line.
+use Rattle.std.proofs.Common.{◌≡◌, ℕ, List, inl, inr, ap, subst, ◌∙◌}
+use Rattle.std.proofs.lemmas.Result.{IfOk-weaker}
+use Rattle.model_sets.specs.Data.{Data}
+use Rattle.model_sets.specs.Members.{SetLists}
+use Rattle.named_equations.specs.Instances.{instances}
+use Rattle.row_core.specs.declared.place.Place.{Place}
+use Rattle.row_book.specs.Books.{HasStopped}
+use Rattle.row_book.specs.declared.fail.BookFail.TheVariants.{Width}
+use Rattle.osemosys_run.specs.declared.status.Status.{Status}
+use Rattle.osemosys_run.specs.declared.status.Status.TheVariants.{Uncertified}
+use Rattle.osemosys_run.specs.declared.status.Stop.{Stop}
+use Rattle.osemosys_run.specs.Due.{DueForEquations, place_line}
+use Rattle.osemosys_run.proofs.answer.answer_equations.Goals as goal
+
+-- the row that the book names is the one that is told
+width_told : (d : Data) (place : Place) (sets : SetLists) (status : Status) (text : List ℕ) → HasStopped d 0 (instances d) (Width place) → sets ≡ d.sets
+    → status ≡ Uncertified (Stop.Width place) → text ≡ place_line sets place → DueForEquations d status text
+width_told d place sets status text stopped same told line =
+    inr
+    (inl
+    (stopped.0, stopped.2, told ∙ ap (λ p. Uncertified (Stop.Width p)) stopped.1, line ∙ ap (λ p. place_line sets p) stopped.1 ∙ ap (λ s. place_line s (Place.Row stopped.0)) same))
+
+pub returns-in-Err-Width : goal.returns-in-Err-Width
+returns-in-Err-Width c =
+    let d = c.args.facts.now.facts in
+    let stopped = subst (HasStopped d 0 (instances d)) c.in-Err-Width.field-0-is c.in-Err-Width.ensures.stopped in
+    IfOk-weaker c.stop_at.result _ _
+    (λ answer told. width_told d c.in-Err-Width.place c.sets.result.now answer.status answer.text.items stopped c.sets.ensures.sets told.0 told.1)
+    c.stop_at.ensures
+
+pub returns-in-Err-TooManyEntries : goal.returns-in-Err-TooManyEntries
+returns-in-Err-TooManyEntries c =
+    let d = c.args.facts.now.facts in
+    let stopped = subst (HasStopped d 0 (instances d)) c.in-Err-TooManyEntries.field-0-is c.in-Err-TooManyEntries.ensures.stopped in
+    IfOk-weaker c.refuse_entries.result _ _ (λ answer told. inr (inr (stopped.0, stopped.1, told.0, told.1))) c.refuse_entries.ensures
