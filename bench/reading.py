@@ -94,7 +94,10 @@ def peer(name, path, folder):
 
 def main():
     program, folder = sys.argv[1:3]
-    chosen = sys.argv[3:] or list(TEXTS)
+    words = sys.argv[3:]
+    chosen = [name for name in TEXTS if not words or any(word in name for word in words)]
+    if not chosen:
+        sys.exit("reading.py: no text has a name with these words; there are " + "; ".join(TEXTS))
     path = folder + "/text"
     print(f"{'text':34} {'MiB':>5} {'call':>7} {'seconds':>8} {'MB/s':>6} {'memory':>9}  answer")
     for name in chosen:

@@ -1,7 +1,7 @@
 #!/bin/sh
 # Prints the processor time that `tokens` and `read_blocks` take on large and on hostile texts, less what reading the file alone
 # takes, and the most memory that the program holds, the file in it included. It proves and builds a small program in a copy of the repository, so the first run takes minutes.
-# The texts, of up to 64 MiB, stand in a temporary folder that is removed at the end.
+# The texts, of up to 64 MiB, stand in a temporary folder that is removed at the end. Words choose the texts whose names have one of them.
 for tool in rt python3; do
     if ! command -v "$tool" >/dev/null 2>&1; then
         echo "reading.sh: $tool is missing" >&2
