@@ -5,6 +5,8 @@ import os
 import subprocess
 import sys
 
+from choosing import chosen
+
 MIB = 1 << 20
 SETS = ("REGION TECHNOLOGY FUEL EMISSION MODE_OF_OPERATION TIMESLICE YEAR STORAGE SEASON DAYTYPE DAILYTIMEBRACKET").split()
 PARAMS = (
@@ -189,14 +191,11 @@ def counts(output):
 
 def main():
     program, folder = sys.argv[1:3]
-    words = sys.argv[3:]
-    chosen = [name for name in FILES if not words or any(word in name for word in words)]
-    if not chosen:
-        sys.exit("mps.py: no file has a name with these words; there are " + "; ".join(FILES))
+    names = chosen(FILES, sys.argv[3:])
     print(f"{'':38} {'':>8} {'the program':^40} {'glpsol':^18} {'glpsol to program':^18}")
     print(f"{'file':38} {'entries':>8} {'MB out':>7} {'seconds':>8} {'memory':>9} {'bytes/entry':>12}  {'seconds':>8} {'memory':>9}"
           f" {'time':>8} {'memory':>8}  text read, same counts")
-    for name in chosen:
+    for name in names:
         path, output = folder + "/data", folder + "/mps"
         with open(path, "w") as file:
             file.write(FILES[name]())

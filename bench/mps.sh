@@ -21,4 +21,4 @@ if [ ! -x "$program" ]; then
     echo "mps.sh: the program wasn't built" >&2
     exit 1
 fi
-python3 "$top/bench/mps.py" "$program" "$work" "$@"
+python3 -B "$top/bench/mps.py" "$program" "$work" "$@"

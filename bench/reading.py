@@ -5,6 +5,8 @@ import shutil
 import subprocess
 import sys
 
+from choosing import chosen
+
 MIB = 1 << 20
 LIMIT = 64 * MIB
 
@@ -94,13 +96,10 @@ def peer(name, path, folder):
 
 def main():
     program, folder = sys.argv[1:3]
-    words = sys.argv[3:]
-    chosen = [name for name in TEXTS if not words or any(word in name for word in words)]
-    if not chosen:
-        sys.exit("reading.py: no text has a name with these words; there are " + "; ".join(TEXTS))
+    names = chosen(TEXTS, sys.argv[3:])
     path = folder + "/text"
     print(f"{'text':34} {'MiB':>5} {'call':>7} {'seconds':>8} {'MB/s':>6} {'memory':>9}  answer")
-    for name in chosen:
+    for name in names:
         text = TEXTS[name]()
         with open(path, "wb") as file:
             file.write(text)

@@ -23,4 +23,4 @@ cp "$top/bench/reading.txt" "$work/crates/reading_bench/src/main.rt"
     tail -n 20 "$work/log" >&2
     exit 1
 }
-python3 "$top/bench/reading.py" "$work/crates/reading_bench/out/reading_bench" "$work" "$@"
+python3 -B "$top/bench/reading.py" "$work/crates/reading_bench/out/reading_bench" "$work" "$@"
