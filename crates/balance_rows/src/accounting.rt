@@ -21,10 +21,10 @@ use row_core::{Index, LeftSide, Row, RowName, Sense, Stopped, negative, one, zer
 use std::alloc::Global;
 
 /// Acc1: the production of a technology is its rate times the part of the year.
-pub(crate) fn acc1(alloc: Global, facts: &ModelData, name: RowName) -> Result<Row, Stopped>
-    requires slice { IsSlice facts.now.facts name.index.slice }
-    requires year { IsYear facts.now.facts name.index.year }
-    ensures { IsWritten name (by_rltfy (acc1 facts.now.facts) name.index) result }
+pub(crate) fn acc1(alloc: Global, model: &ModelData, name: RowName) -> Result<Row, Stopped>
+    requires slice { IsSlice model.now.facts name.index.slice }
+    requires year { IsYear model.now.facts name.index.year }
+    ensures { IsWritten name (by_rltfy (acc1 model.now.facts) name.index) result }
 {
     let Index {
         region: r,
@@ -39,15 +39,15 @@ pub(crate) fn acc1(alloc: Global, facts: &ModelData, name: RowName) -> Result<Ro
         name,
         production_by_technology(r, l, t, f, y),
         rate_of_production_by_technology(r, l, t, f, y),
-        year_split(facts, l, y),
+        year_split(model, l, y),
     )
 }
 
 /// Acc2: the use of a technology is its rate times the part of the year.
-pub(crate) fn acc2(alloc: Global, facts: &ModelData, name: RowName) -> Result<Row, Stopped>
-    requires slice { IsSlice facts.now.facts name.index.slice }
-    requires year { IsYear facts.now.facts name.index.year }
-    ensures { IsWritten name (by_rltfy (acc2 facts.now.facts) name.index) result }
+pub(crate) fn acc2(alloc: Global, model: &ModelData, name: RowName) -> Result<Row, Stopped>
+    requires slice { IsSlice model.now.facts name.index.slice }
+    requires year { IsYear model.now.facts name.index.year }
+    ensures { IsWritten name (by_rltfy (acc2 model.now.facts) name.index) result }
 {
     let Index {
         region: r,
@@ -62,14 +62,14 @@ pub(crate) fn acc2(alloc: Global, facts: &ModelData, name: RowName) -> Result<Ro
         name,
         use_by_technology(r, l, t, f, y),
         rate_of_use_by_technology(r, l, t, f, y),
-        year_split(facts, l, y),
+        year_split(model, l, y),
     )
 }
 
 /// Acc3: the annual activity of a mode is the sum over the timeslices of its rate times their parts of the year.
-pub(crate) fn acc3(alloc: Global, facts: &ModelData, name: RowName) -> Result<Row, Stopped>
-    requires year { IsYear facts.now.facts name.index.year }
-    ensures { IsWritten name (by_rtmy (acc3 facts.now.facts) name.index) result }
+pub(crate) fn acc3(alloc: Global, model: &ModelData, name: RowName) -> Result<Row, Stopped>
+    requires year { IsYear model.now.facts name.index.year }
+    ensures { IsWritten name (by_rtmy (acc3 model.now.facts) name.index) result }
 {
     let Index {
         region: r,
@@ -81,15 +81,15 @@ pub(crate) fn acc3(alloc: Global, facts: &ModelData, name: RowName) -> Result<Ro
     let mut left = LeftSide::new(alloc, name);
     left.add(total_annual_technology_activity_by_mode(r, t, m, y), one())?;
     left.add_each(
-        facts.sets().count(TIMESLICE),
+        model.sets().count(TIMESLICE),
         |l|
-            requires slice { IsSlice facts.now.facts l }
-            requires year { IsYear facts.now.facts y }
-            ensures { IsTerm (rate_of_activity r l t m y, Negative (Billionths (year_split facts.entry.now.facts l y))) result }
+            requires slice { IsSlice model.now.facts l }
+            requires year { IsYear model.now.facts y }
+            ensures { IsTerm (rate_of_activity r l t m y, Negative (Billionths (year_split model.entry.now.facts l y))) result }
         {
             (
                 rate_of_activity(r, l, t, m, y),
-                negative(year_split(facts, l, y)),
+                negative(year_split(model, l, y)),
             )
         },
     )?;

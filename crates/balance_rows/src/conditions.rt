@@ -8,39 +8,39 @@ use crate::sets::MODE;
 use param_tables::ModelData;
 
 /// Whether the technology makes the fuel in this mode: its output ratio isn't 0.
-pub(crate) fn produces_in_mode(facts: &ModelData, r: u16, t: u16, f: u16, m: u16, y: u16) -> bool
-    requires region { IsRegion facts.now.facts r }
-    requires technology { IsTechnology facts.now.facts t }
-    requires fuel { IsFuel facts.now.facts f }
-    requires mode { IsMode facts.now.facts m }
-    requires year { IsYear facts.now.facts y }
-    ensures { result ≡ produces_in_mode facts.now.facts r t f m y }
+pub(crate) fn produces_in_mode(model: &ModelData, r: u16, t: u16, f: u16, m: u16, y: u16) -> bool
+    requires region { IsRegion model.now.facts r }
+    requires technology { IsTechnology model.now.facts t }
+    requires fuel { IsFuel model.now.facts f }
+    requires mode { IsMode model.now.facts m }
+    requires year { IsYear model.now.facts y }
+    ensures { result ≡ produces_in_mode model.now.facts r t f m y }
 {
-    facts.at(14, &[r, t, f, m, y]).num != 0
+    model.at(14, &[r, t, f, m, y]).num != 0
 }
 
 /// Whether the technology takes the fuel in this mode: its input ratio isn't 0.
-pub(crate) fn uses_in_mode(facts: &ModelData, r: u16, t: u16, f: u16, m: u16, y: u16) -> bool
-    requires region { IsRegion facts.now.facts r }
-    requires technology { IsTechnology facts.now.facts t }
-    requires fuel { IsFuel facts.now.facts f }
-    requires mode { IsMode facts.now.facts m }
-    requires year { IsYear facts.now.facts y }
-    ensures { result ≡ uses_in_mode facts.now.facts r t f m y }
+pub(crate) fn uses_in_mode(model: &ModelData, r: u16, t: u16, f: u16, m: u16, y: u16) -> bool
+    requires region { IsRegion model.now.facts r }
+    requires technology { IsTechnology model.now.facts t }
+    requires fuel { IsFuel model.now.facts f }
+    requires mode { IsMode model.now.facts m }
+    requires year { IsYear model.now.facts y }
+    ensures { result ≡ uses_in_mode model.now.facts r t f m y }
 {
-    facts.at(13, &[r, t, f, m, y]).num != 0
+    model.at(13, &[r, t, f, m, y]).num != 0
 }
 
 /// Whether the technology makes the fuel in some mode.
-pub(crate) fn produces(facts: &ModelData, r: u16, t: u16, f: u16, y: u16) -> bool
-    requires region { IsRegion facts.now.facts r }
-    requires technology { IsTechnology facts.now.facts t }
-    requires fuel { IsFuel facts.now.facts f }
-    requires year { IsYear facts.now.facts y }
-    ensures { result ≡ produces facts.now.facts r t f y }
+pub(crate) fn produces(model: &ModelData, r: u16, t: u16, f: u16, y: u16) -> bool
+    requires region { IsRegion model.now.facts r }
+    requires technology { IsTechnology model.now.facts t }
+    requires fuel { IsFuel model.now.facts f }
+    requires year { IsYear model.now.facts y }
+    ensures { result ≡ produces model.now.facts r t f y }
 {
     for m in 0..facts.sets().count(MODE) {
-        if produces_in_mode(facts, r, t, f, m, y) {
+        if produces_in_mode(model, r, t, f, m, y) {
             return true;
         }
     }
@@ -48,15 +48,15 @@ pub(crate) fn produces(facts: &ModelData, r: u16, t: u16, f: u16, y: u16) -> boo
 }
 
 /// Whether the technology takes the fuel in some mode.
-pub(crate) fn uses(facts: &ModelData, r: u16, t: u16, f: u16, y: u16) -> bool
-    requires region { IsRegion facts.now.facts r }
-    requires technology { IsTechnology facts.now.facts t }
-    requires fuel { IsFuel facts.now.facts f }
-    requires year { IsYear facts.now.facts y }
-    ensures { result ≡ uses facts.now.facts r t f y }
+pub(crate) fn uses(model: &ModelData, r: u16, t: u16, f: u16, y: u16) -> bool
+    requires region { IsRegion model.now.facts r }
+    requires technology { IsTechnology model.now.facts t }
+    requires fuel { IsFuel model.now.facts f }
+    requires year { IsYear model.now.facts y }
+    ensures { result ≡ uses model.now.facts r t f y }
 {
     for m in 0..facts.sets().count(MODE) {
-        if uses_in_mode(facts, r, t, f, m, y) {
+        if uses_in_mode(model, r, t, f, m, y) {
             return true;
         }
     }

@@ -16,15 +16,15 @@ use std::alloc::Global;
 /// EQ_SpecifiedDemand: the part of the year times the rate of demand is the part of the annual demand.
 pub(crate) fn eq_specified_demand(
     alloc: Global,
-    facts: &ModelData,
+    model: &ModelData,
     name: RowName,
 ) -> Result<Row, Stopped>
-    requires region { IsRegion facts.now.facts name.index.region }
-    requires slice { IsSlice facts.now.facts name.index.slice }
-    requires fuel { IsFuel facts.now.facts name.index.fuel }
-    requires year { IsYear facts.now.facts name.index.year }
-    ensures written { IsWritten name (by_rlfy (eq_specified_demand facts.now.facts) name.index) result }
-    ensures positive { pos 0 <ℤ year_split facts.now.facts name.index.slice name.index.year }
+    requires region { IsRegion model.now.facts name.index.region }
+    requires slice { IsSlice model.now.facts name.index.slice }
+    requires fuel { IsFuel model.now.facts name.index.fuel }
+    requires year { IsYear model.now.facts name.index.year }
+    ensures written { IsWritten name (by_rlfy (eq_specified_demand model.now.facts) name.index) result }
+    ensures positive { pos 0 <ℤ year_split model.now.facts name.index.slice name.index.year }
 {
     let Index {
         region: r,
@@ -34,10 +34,10 @@ pub(crate) fn eq_specified_demand(
         ..
     } = name.index;
     let mut left = LeftSide::new(alloc, name);
-    left.add(rate_of_demand(r, l, f, y), year_split(facts, l, y))?;
+    left.add(rate_of_demand(r, l, f, y), year_split(model, l, y))?;
     let demand = times(
-        specified_annual_demand(facts, r, f, y),
-        specified_demand_profile(facts, r, f, l, y),
+        specified_annual_demand(model, r, f, y),
+        specified_demand_profile(model, r, f, l, y),
     );
     left.write(alloc, Sense::Equal, demand)
 }

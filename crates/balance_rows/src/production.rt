@@ -18,13 +18,13 @@ use row_core::{Index, LeftSide, Row, RowName, Sense, Stopped, one, zero};
 use std::alloc::Global;
 
 /// EBa1: the rate of production in a mode is the rate of activity times the ratio.
-pub(crate) fn eba1(alloc: Global, facts: &ModelData, name: RowName) -> Result<Row, Stopped>
-    requires region { IsRegion facts.now.facts name.index.region }
-    requires technology { IsTechnology facts.now.facts name.index.tech }
-    requires fuel { IsFuel facts.now.facts name.index.fuel }
-    requires mode { IsMode facts.now.facts name.index.mode }
-    requires year { IsYear facts.now.facts name.index.year }
-    ensures { IsWritten name (by_rltfmy (eba1 facts.now.facts) name.index) result }
+pub(crate) fn eba1(alloc: Global, model: &ModelData, name: RowName) -> Result<Row, Stopped>
+    requires region { IsRegion model.now.facts name.index.region }
+    requires technology { IsTechnology model.now.facts name.index.tech }
+    requires fuel { IsFuel model.now.facts name.index.fuel }
+    requires mode { IsMode model.now.facts name.index.mode }
+    requires year { IsYear model.now.facts name.index.year }
+    ensures { IsWritten name (by_rltfmy (eba1 model.now.facts) name.index) result }
 {
     let Index {
         region: r,
@@ -40,17 +40,17 @@ pub(crate) fn eba1(alloc: Global, facts: &ModelData, name: RowName) -> Result<Ro
         name,
         rate_of_production_by_technology_by_mode(r, l, t, f, m, y),
         rate_of_activity(r, l, t, m, y),
-        output_activity_ratio(facts, r, t, f, m, y),
+        output_activity_ratio(model, r, t, f, m, y),
     )
 }
 
 /// EBa2: the rate of production of a technology is that of its modes.
-pub(crate) fn eba2(alloc: Global, facts: &ModelData, name: RowName) -> Result<Row, Stopped>
-    requires region { IsRegion facts.now.facts name.index.region }
-    requires technology { IsTechnology facts.now.facts name.index.tech }
-    requires fuel { IsFuel facts.now.facts name.index.fuel }
-    requires year { IsYear facts.now.facts name.index.year }
-    ensures { IsWritten name (by_rltfy (eba2 facts.now.facts) name.index) result }
+pub(crate) fn eba2(alloc: Global, model: &ModelData, name: RowName) -> Result<Row, Stopped>
+    requires region { IsRegion model.now.facts name.index.region }
+    requires technology { IsTechnology model.now.facts name.index.tech }
+    requires fuel { IsFuel model.now.facts name.index.fuel }
+    requires year { IsYear model.now.facts name.index.year }
+    ensures { IsWritten name (by_rltfy (eba2 model.now.facts) name.index) result }
 {
     let Index {
         region: r,
@@ -62,7 +62,7 @@ pub(crate) fn eba2(alloc: Global, facts: &ModelData, name: RowName) -> Result<Ro
     } = name.index;
     let mut left = LeftSide::new(alloc, name);
     left.add(rate_of_production_by_technology(r, l, t, f, y), one())?;
-    let modes = facts.nonzero_modes(alloc, ActivityRatio::Output, r, t, f, y)?;
+    let modes = model.nonzero_modes(alloc, ActivityRatio::Output, r, t, f, y)?;
     take_away_each(&mut left, &modes, |m| {
         rate_of_production_by_technology_by_mode(r, l, t, f, m, y)
     })?;
@@ -70,11 +70,11 @@ pub(crate) fn eba2(alloc: Global, facts: &ModelData, name: RowName) -> Result<Ro
 }
 
 /// EBa3: the rate of production is that of all technologies.
-pub(crate) fn eba3(alloc: Global, facts: &ModelData, name: RowName) -> Result<Row, Stopped>
-    requires region { IsRegion facts.now.facts name.index.region }
-    requires fuel { IsFuel facts.now.facts name.index.fuel }
-    requires year { IsYear facts.now.facts name.index.year }
-    ensures { IsWritten name (by_rlfy (eba3 facts.now.facts) name.index) result }
+pub(crate) fn eba3(alloc: Global, model: &ModelData, name: RowName) -> Result<Row, Stopped>
+    requires region { IsRegion model.now.facts name.index.region }
+    requires fuel { IsFuel model.now.facts name.index.fuel }
+    requires year { IsYear model.now.facts name.index.year }
+    ensures { IsWritten name (by_rlfy (eba3 model.now.facts) name.index) result }
 {
     let Index {
         region: r,
@@ -85,7 +85,7 @@ pub(crate) fn eba3(alloc: Global, facts: &ModelData, name: RowName) -> Result<Ro
     } = name.index;
     let mut left = LeftSide::new(alloc, name);
     left.add(rate_of_production(r, l, f, y), one())?;
-    let technologies = facts.nonzero_technologies(alloc, ActivityRatio::Output, r, f, y)?;
+    let technologies = model.nonzero_technologies(alloc, ActivityRatio::Output, r, f, y)?;
     take_away_each(&mut left, &technologies, |t| {
         rate_of_production_by_technology(r, l, t, f, y)
     })?;
@@ -93,13 +93,13 @@ pub(crate) fn eba3(alloc: Global, facts: &ModelData, name: RowName) -> Result<Ro
 }
 
 /// EBa4: the rate of use in a mode is the rate of activity times the ratio.
-pub(crate) fn eba4(alloc: Global, facts: &ModelData, name: RowName) -> Result<Row, Stopped>
-    requires region { IsRegion facts.now.facts name.index.region }
-    requires technology { IsTechnology facts.now.facts name.index.tech }
-    requires fuel { IsFuel facts.now.facts name.index.fuel }
-    requires mode { IsMode facts.now.facts name.index.mode }
-    requires year { IsYear facts.now.facts name.index.year }
-    ensures { IsWritten name (by_rltfmy (eba4 facts.now.facts) name.index) result }
+pub(crate) fn eba4(alloc: Global, model: &ModelData, name: RowName) -> Result<Row, Stopped>
+    requires region { IsRegion model.now.facts name.index.region }
+    requires technology { IsTechnology model.now.facts name.index.tech }
+    requires fuel { IsFuel model.now.facts name.index.fuel }
+    requires mode { IsMode model.now.facts name.index.mode }
+    requires year { IsYear model.now.facts name.index.year }
+    ensures { IsWritten name (by_rltfmy (eba4 model.now.facts) name.index) result }
 {
     let Index {
         region: r,
@@ -115,17 +115,17 @@ pub(crate) fn eba4(alloc: Global, facts: &ModelData, name: RowName) -> Result<Ro
         name,
         rate_of_use_by_technology_by_mode(r, l, t, f, m, y),
         rate_of_activity(r, l, t, m, y),
-        input_activity_ratio(facts, r, t, f, m, y),
+        input_activity_ratio(model, r, t, f, m, y),
     )
 }
 
 /// EBa5: the rate of use of a technology is that of its modes.
-pub(crate) fn eba5(alloc: Global, facts: &ModelData, name: RowName) -> Result<Row, Stopped>
-    requires region { IsRegion facts.now.facts name.index.region }
-    requires technology { IsTechnology facts.now.facts name.index.tech }
-    requires fuel { IsFuel facts.now.facts name.index.fuel }
-    requires year { IsYear facts.now.facts name.index.year }
-    ensures { IsWritten name (by_rltfy (eba5 facts.now.facts) name.index) result }
+pub(crate) fn eba5(alloc: Global, model: &ModelData, name: RowName) -> Result<Row, Stopped>
+    requires region { IsRegion model.now.facts name.index.region }
+    requires technology { IsTechnology model.now.facts name.index.tech }
+    requires fuel { IsFuel model.now.facts name.index.fuel }
+    requires year { IsYear model.now.facts name.index.year }
+    ensures { IsWritten name (by_rltfy (eba5 model.now.facts) name.index) result }
 {
     let Index {
         region: r,
@@ -137,7 +137,7 @@ pub(crate) fn eba5(alloc: Global, facts: &ModelData, name: RowName) -> Result<Ro
     } = name.index;
     let mut left = LeftSide::new(alloc, name);
     left.add(rate_of_use_by_technology(r, l, t, f, y), one())?;
-    let modes = facts.nonzero_modes(alloc, ActivityRatio::Input, r, t, f, y)?;
+    let modes = model.nonzero_modes(alloc, ActivityRatio::Input, r, t, f, y)?;
     take_away_each(&mut left, &modes, |m| {
         rate_of_use_by_technology_by_mode(r, l, t, f, m, y)
     })?;
@@ -145,11 +145,11 @@ pub(crate) fn eba5(alloc: Global, facts: &ModelData, name: RowName) -> Result<Ro
 }
 
 /// EBa6: the rate of use is that of all technologies.
-pub(crate) fn eba6(alloc: Global, facts: &ModelData, name: RowName) -> Result<Row, Stopped>
-    requires region { IsRegion facts.now.facts name.index.region }
-    requires fuel { IsFuel facts.now.facts name.index.fuel }
-    requires year { IsYear facts.now.facts name.index.year }
-    ensures { IsWritten name (by_rlfy (eba6 facts.now.facts) name.index) result }
+pub(crate) fn eba6(alloc: Global, model: &ModelData, name: RowName) -> Result<Row, Stopped>
+    requires region { IsRegion model.now.facts name.index.region }
+    requires fuel { IsFuel model.now.facts name.index.fuel }
+    requires year { IsYear model.now.facts name.index.year }
+    ensures { IsWritten name (by_rlfy (eba6 model.now.facts) name.index) result }
 {
     let Index {
         region: r,
@@ -160,7 +160,7 @@ pub(crate) fn eba6(alloc: Global, facts: &ModelData, name: RowName) -> Result<Ro
     } = name.index;
     let mut left = LeftSide::new(alloc, name);
     left.add(rate_of_use(r, l, f, y), one())?;
-    let technologies = facts.nonzero_technologies(alloc, ActivityRatio::Input, r, f, y)?;
+    let technologies = model.nonzero_technologies(alloc, ActivityRatio::Input, r, f, y)?;
     take_away_each(&mut left, &technologies, |t| {
         rate_of_use_by_technology(r, l, t, f, y)
     })?;

@@ -30,28 +30,28 @@ use std::alloc::Global;
 /// denominators are cleared. `Width` with the row's name comes exactly where there is an instance and a number
 /// that this forms lies outside the range from `-(2^127 - 1)` to `2^127 - 1`.
 /// `Memory` comes where memory ran out.
-pub fn rows_of(alloc: Global, facts: &ModelData, eq: u8, at: Index) -> Result<Option<Row>, Stopped>
+pub fn rows_of(alloc: Global, model: &ModelData, eq: u8, at: Index) -> Result<Option<Row>, Stopped>
     requires equation { IsBalanceEquation eq }
-    requires index { is_index facts.now.facts (subscripts_of eq) at ≡ true }
-    ensures instance { IfOk result (λ found. is_some found ≡ stands_at facts.now.facts eq at) }
-    ensures row { IfOk result (λ found. IfSome found (IsNamedRow facts.now.facts (name_at eq at) (terms_at facts.now.facts (name_at eq at)))) }
-    ensures fits { IfOk result (λ found. IfSome found (λ row. all_fit (equation_formed (terms_at facts.now.facts (name_at eq at))) ≡ true)) }
-    ensures stopped { IfErr result (IsStop (Place.Row (name_at eq at)) (not (stands_at facts.now.facts eq at) || all_fit (equation_formed (terms_at facts.now.facts (name_at eq at))))) }
+    requires index { is_index model.now.facts (subscripts_of eq) at ≡ true }
+    ensures instance { IfOk result (λ found. is_some found ≡ stands_at model.now.facts eq at) }
+    ensures row { IfOk result (λ found. IfSome found (IsNamedRow model.now.facts (name_at eq at) (terms_at model.now.facts (name_at eq at)))) }
+    ensures fits { IfOk result (λ found. IfSome found (λ row. all_fit (equation_formed (terms_at model.now.facts (name_at eq at))) ≡ true)) }
+    ensures stopped { IfErr result (IsStop (Place.Row (name_at eq at)) (not (stands_at model.now.facts eq at) || all_fit (equation_formed (terms_at model.now.facts (name_at eq at))))) }
 {
-    if !stands(facts, eq, at) {
+    if !stands(model, eq, at) {
         return Ok(None);
     }
-    match row_of(alloc, facts, RowName { eq, index: at }) {
+    match row_of(alloc, model, RowName { eq, index: at }) {
         Ok(row) => Ok(Some(row)),
         Err(stopped) => Err(stopped),
     }
 }
 
 /// Whether the equation has an instance at the index.
-fn stands(facts: &ModelData, eq: u8, at: Index) -> bool
+fn stands(model: &ModelData, eq: u8, at: Index) -> bool
     requires equation { IsBalanceEquation eq }
-    requires index { is_index facts.now.facts (subscripts_of eq) at ≡ true }
-    ensures { result ≡ stands_at facts.now.facts eq at }
+    requires index { is_index model.now.facts (subscripts_of eq) at ≡ true }
+    ensures { result ≡ stands_at model.now.facts eq at }
 {
     let Index {
         region: r,
@@ -62,42 +62,42 @@ fn stands(facts: &ModelData, eq: u8, at: Index) -> bool
         ..
     } = at;
     match eq {
-        7 => produces_in_mode(facts, r, t, f, m, y),
-        8 => produces(facts, r, t, f, y),
-        10 => uses_in_mode(facts, r, t, f, m, y),
-        11 => uses(facts, r, t, f, y),
-        22 => produces(facts, r, t, f, y),
-        23 => uses(facts, r, t, f, y),
+        7 => produces_in_mode(model, r, t, f, m, y),
+        8 => produces(model, r, t, f, y),
+        10 => uses_in_mode(model, r, t, f, m, y),
+        11 => uses(model, r, t, f, y),
+        22 => produces(model, r, t, f, y),
+        23 => uses(model, r, t, f, y),
         _ => true,
     }
 }
 
 /// The row of the equation of this name.
-fn row_of(alloc: Global, facts: &ModelData, name: RowName) -> Result<Row, Stopped>
+fn row_of(alloc: Global, model: &ModelData, name: RowName) -> Result<Row, Stopped>
     requires equation { IsBalanceEquation name.eq }
-    requires index { is_index facts.now.facts (subscripts_of name.eq) name.index ≡ true }
-    ensures written { IsWritten name (terms_at facts.now.facts name) result }
-    ensures positive { name.eq ≡ 1 → pos 0 <ℤ year_split facts.now.facts name.index.slice name.index.year }
+    requires index { is_index model.now.facts (subscripts_of name.eq) name.index ≡ true }
+    ensures written { IsWritten name (terms_at model.now.facts name) result }
+    ensures positive { name.eq ≡ 1 → pos 0 <ℤ year_split model.now.facts name.index.slice name.index.year }
 {
     match name.eq {
-        1 => eq_specified_demand(alloc, facts, name),
-        7 => eba1(alloc, facts, name),
-        8 => eba2(alloc, facts, name),
-        9 => eba3(alloc, facts, name),
-        10 => eba4(alloc, facts, name),
-        11 => eba5(alloc, facts, name),
-        12 => eba6(alloc, facts, name),
-        13 => eba7(alloc, facts, name),
-        14 => eba8(alloc, facts, name),
-        15 => eba9(alloc, facts, name),
-        16 => eba10(alloc, facts, name),
-        17 => eba11(alloc, facts, name),
-        18 => ebb1(alloc, facts, name),
-        19 => ebb2(alloc, facts, name),
-        20 => ebb3(alloc, facts, name),
-        21 => ebb4(alloc, facts, name),
-        22 => acc1(alloc, facts, name),
-        23 => acc2(alloc, facts, name),
-        _ => acc3(alloc, facts, name),
+        1 => eq_specified_demand(alloc, model, name),
+        7 => eba1(alloc, model, name),
+        8 => eba2(alloc, model, name),
+        9 => eba3(alloc, model, name),
+        10 => eba4(alloc, model, name),
+        11 => eba5(alloc, model, name),
+        12 => eba6(alloc, model, name),
+        13 => eba7(alloc, model, name),
+        14 => eba8(alloc, model, name),
+        15 => eba9(alloc, model, name),
+        16 => eba10(alloc, model, name),
+        17 => eba11(alloc, model, name),
+        18 => ebb1(alloc, model, name),
+        19 => ebb2(alloc, model, name),
+        20 => ebb3(alloc, model, name),
+        21 => ebb4(alloc, model, name),
+        22 => acc1(alloc, model, name),
+        23 => acc2(alloc, model, name),
+        _ => acc3(alloc, model, name),
     }
 }

@@ -41,10 +41,10 @@ fn is_balance_equation(eq: u8) -> bool
 }
 
 /// The row of an instance.
-fn row_at(rt: &impl Abort, alloc: Global, facts: &ModelData, name: RowName) -> Result<Row, Fail> {
+fn row_at(rt: &impl Abort, alloc: Global, model: &ModelData, name: RowName) -> Result<Row, Fail> {
     assert!(rt; is_balance_equation(name.eq));
-    assert!(rt; is_index(facts, name.eq, name.index));
-    let row = rows_of(alloc, facts, name.eq, name.index)?;
+    assert!(rt; is_index(model, name.eq, name.index));
+    let row = rows_of(alloc, model, name.eq, name.index)?;
     Ok(row.ok_or("an instance without a row")?)
 }
 

@@ -20,10 +20,10 @@ use row_core::{Index, LeftSide, Row, RowName, Sense, Stopped, minus_one, negativ
 use std::alloc::Global;
 
 /// EBa7: production is its rate times the part of the year.
-pub(crate) fn eba7(alloc: Global, facts: &ModelData, name: RowName) -> Result<Row, Stopped>
-    requires slice { IsSlice facts.now.facts name.index.slice }
-    requires year { IsYear facts.now.facts name.index.year }
-    ensures { IsWritten name (by_rlfy (eba7 facts.now.facts) name.index) result }
+pub(crate) fn eba7(alloc: Global, model: &ModelData, name: RowName) -> Result<Row, Stopped>
+    requires slice { IsSlice model.now.facts name.index.slice }
+    requires year { IsYear model.now.facts name.index.year }
+    ensures { IsWritten name (by_rlfy (eba7 model.now.facts) name.index) result }
 {
     let Index {
         region: r,
@@ -37,15 +37,15 @@ pub(crate) fn eba7(alloc: Global, facts: &ModelData, name: RowName) -> Result<Ro
         name,
         production(r, l, f, y),
         rate_of_production(r, l, f, y),
-        year_split(facts, l, y),
+        year_split(model, l, y),
     )
 }
 
 /// EBa8: use is its rate times the part of the year.
-pub(crate) fn eba8(alloc: Global, facts: &ModelData, name: RowName) -> Result<Row, Stopped>
-    requires slice { IsSlice facts.now.facts name.index.slice }
-    requires year { IsYear facts.now.facts name.index.year }
-    ensures { IsWritten name (by_rlfy (eba8 facts.now.facts) name.index) result }
+pub(crate) fn eba8(alloc: Global, model: &ModelData, name: RowName) -> Result<Row, Stopped>
+    requires slice { IsSlice model.now.facts name.index.slice }
+    requires year { IsYear model.now.facts name.index.year }
+    ensures { IsWritten name (by_rlfy (eba8 model.now.facts) name.index) result }
 {
     let Index {
         region: r,
@@ -59,15 +59,15 @@ pub(crate) fn eba8(alloc: Global, facts: &ModelData, name: RowName) -> Result<Ro
         name,
         use_of_fuel(r, l, f, y),
         rate_of_use(r, l, f, y),
-        year_split(facts, l, y),
+        year_split(model, l, y),
     )
 }
 
 /// EBa9: demand is its rate times the part of the year.
-pub(crate) fn eba9(alloc: Global, facts: &ModelData, name: RowName) -> Result<Row, Stopped>
-    requires slice { IsSlice facts.now.facts name.index.slice }
-    requires year { IsYear facts.now.facts name.index.year }
-    ensures { IsWritten name (by_rlfy (eba9 facts.now.facts) name.index) result }
+pub(crate) fn eba9(alloc: Global, model: &ModelData, name: RowName) -> Result<Row, Stopped>
+    requires slice { IsSlice model.now.facts name.index.slice }
+    requires year { IsYear model.now.facts name.index.year }
+    ensures { IsWritten name (by_rlfy (eba9 model.now.facts) name.index) result }
 {
     let Index {
         region: r,
@@ -81,7 +81,7 @@ pub(crate) fn eba9(alloc: Global, facts: &ModelData, name: RowName) -> Result<Ro
         name,
         demand(r, l, f, y),
         rate_of_demand(r, l, f, y),
-        year_split(facts, l, y),
+        year_split(model, l, y),
     )
 }
 
@@ -104,11 +104,11 @@ pub(crate) fn eba10(alloc: Global, _facts: &ModelData, name: RowName) -> Result<
 }
 
 /// EBa11: production covers demand, use, and the trade along the routes out of the region.
-pub(crate) fn eba11(alloc: Global, facts: &ModelData, name: RowName) -> Result<Row, Stopped>
-    requires region { IsRegion facts.now.facts name.index.region }
-    requires fuel { IsFuel facts.now.facts name.index.fuel }
-    requires year { IsYear facts.now.facts name.index.year }
-    ensures { IsWritten name (by_rlfy (eba11 facts.now.facts) name.index) result }
+pub(crate) fn eba11(alloc: Global, model: &ModelData, name: RowName) -> Result<Row, Stopped>
+    requires region { IsRegion model.now.facts name.index.region }
+    requires fuel { IsFuel model.now.facts name.index.fuel }
+    requires year { IsYear model.now.facts name.index.year }
+    ensures { IsWritten name (by_rlfy (eba11 model.now.facts) name.index) result }
 {
     let Index {
         region: r,
@@ -122,17 +122,17 @@ pub(crate) fn eba11(alloc: Global, facts: &ModelData, name: RowName) -> Result<R
     left.add(demand(r, l, f, y), minus_one())?;
     left.add(use_of_fuel(r, l, f, y), minus_one())?;
     left.add_each(
-        facts.sets().count(REGION),
+        model.sets().count(REGION),
         |rr|
-            requires region { IsRegion facts.now.facts r }
-            requires other { IsRegion facts.now.facts rr }
-            requires fuel { IsFuel facts.now.facts f }
-            requires year { IsYear facts.now.facts y }
-            ensures { IsTerm (trade r rr l f y, Negative (Billionths (trade_route facts.entry.now.facts r rr f y))) result }
+            requires region { IsRegion model.now.facts r }
+            requires other { IsRegion model.now.facts rr }
+            requires fuel { IsFuel model.now.facts f }
+            requires year { IsYear model.now.facts y }
+            ensures { IsTerm (trade r rr l f y, Negative (Billionths (trade_route model.entry.now.facts r rr f y))) result }
         {
             (
                 trade(r, rr, l, f, y),
-                negative(trade_route(facts, r, rr, f, y)),
+                negative(trade_route(model, r, rr, f, y)),
             )
         },
     )?;

@@ -19,8 +19,8 @@ use row_core::{Index, LeftSide, Row, RowName, Sense, Stopped, minus_one, negativ
 use std::alloc::Global;
 
 /// EBb1: the annual production is that of the timeslices.
-pub(crate) fn ebb1(alloc: Global, facts: &ModelData, name: RowName) -> Result<Row, Stopped>
-    ensures { IsWritten name (by_rfy (ebb1 facts.now.facts) name.index) result }
+pub(crate) fn ebb1(alloc: Global, model: &ModelData, name: RowName) -> Result<Row, Stopped>
+    ensures { IsWritten name (by_rfy (ebb1 model.now.facts) name.index) result }
 {
     let Index {
         region: r,
@@ -31,15 +31,15 @@ pub(crate) fn ebb1(alloc: Global, facts: &ModelData, name: RowName) -> Result<Ro
     let mut left = LeftSide::new(alloc, name);
     left.add(production_annual(r, f, y), one())?;
     left.add_each(
-        facts.sets().count(TIMESLICE),
+        model.sets().count(TIMESLICE),
         |l| (production(r, l, f, y), minus_one()),
     )?;
     left.write(alloc, Sense::Equal, zero())
 }
 
 /// EBb2: the annual use is that of the timeslices.
-pub(crate) fn ebb2(alloc: Global, facts: &ModelData, name: RowName) -> Result<Row, Stopped>
-    ensures { IsWritten name (by_rfy (ebb2 facts.now.facts) name.index) result }
+pub(crate) fn ebb2(alloc: Global, model: &ModelData, name: RowName) -> Result<Row, Stopped>
+    ensures { IsWritten name (by_rfy (ebb2 model.now.facts) name.index) result }
 {
     let Index {
         region: r,
@@ -50,15 +50,15 @@ pub(crate) fn ebb2(alloc: Global, facts: &ModelData, name: RowName) -> Result<Ro
     let mut left = LeftSide::new(alloc, name);
     left.add(use_annual(r, f, y), one())?;
     left.add_each(
-        facts.sets().count(TIMESLICE),
+        model.sets().count(TIMESLICE),
         |l| (use_of_fuel(r, l, f, y), minus_one()),
     )?;
     left.write(alloc, Sense::Equal, zero())
 }
 
 /// EBb3: the annual trade is that of the timeslices.
-pub(crate) fn ebb3(alloc: Global, facts: &ModelData, name: RowName) -> Result<Row, Stopped>
-    ensures { IsWritten name (by_rrrfy (ebb3 facts.now.facts) name.index) result }
+pub(crate) fn ebb3(alloc: Global, model: &ModelData, name: RowName) -> Result<Row, Stopped>
+    ensures { IsWritten name (by_rrrfy (ebb3 model.now.facts) name.index) result }
 {
     let Index {
         region: r,
@@ -70,18 +70,18 @@ pub(crate) fn ebb3(alloc: Global, facts: &ModelData, name: RowName) -> Result<Ro
     let mut left = LeftSide::new(alloc, name);
     left.add(trade_annual(r, rr, f, y), one())?;
     left.add_each(
-        facts.sets().count(TIMESLICE),
+        model.sets().count(TIMESLICE),
         |l| (trade(r, rr, l, f, y), minus_one()),
     )?;
     left.write(alloc, Sense::Equal, zero())
 }
 
 /// EBb4: the annual production covers the annual use, the trade along the routes out of the region, and the accumulated demand.
-pub(crate) fn ebb4(alloc: Global, facts: &ModelData, name: RowName) -> Result<Row, Stopped>
-    requires region { IsRegion facts.now.facts name.index.region }
-    requires fuel { IsFuel facts.now.facts name.index.fuel }
-    requires year { IsYear facts.now.facts name.index.year }
-    ensures { IsWritten name (by_rfy (ebb4 facts.now.facts) name.index) result }
+pub(crate) fn ebb4(alloc: Global, model: &ModelData, name: RowName) -> Result<Row, Stopped>
+    requires region { IsRegion model.now.facts name.index.region }
+    requires fuel { IsFuel model.now.facts name.index.fuel }
+    requires year { IsYear model.now.facts name.index.year }
+    ensures { IsWritten name (by_rfy (ebb4 model.now.facts) name.index) result }
 {
     let Index {
         region: r,
@@ -93,23 +93,23 @@ pub(crate) fn ebb4(alloc: Global, facts: &ModelData, name: RowName) -> Result<Ro
     left.add(production_annual(r, f, y), one())?;
     left.add(use_annual(r, f, y), minus_one())?;
     left.add_each(
-        facts.sets().count(REGION),
+        model.sets().count(REGION),
         |rr|
-            requires region { IsRegion facts.now.facts r }
-            requires other { IsRegion facts.now.facts rr }
-            requires fuel { IsFuel facts.now.facts f }
-            requires year { IsYear facts.now.facts y }
-            ensures { IsTerm (trade_annual r rr f y, Negative (Billionths (trade_route facts.entry.now.facts r rr f y))) result }
+            requires region { IsRegion model.now.facts r }
+            requires other { IsRegion model.now.facts rr }
+            requires fuel { IsFuel model.now.facts f }
+            requires year { IsYear model.now.facts y }
+            ensures { IsTerm (trade_annual r rr f y, Negative (Billionths (trade_route model.entry.now.facts r rr f y))) result }
         {
             (
                 trade_annual(r, rr, f, y),
-                negative(trade_route(facts, r, rr, f, y)),
+                negative(trade_route(model, r, rr, f, y)),
             )
         },
     )?;
     left.write(
         alloc,
         Sense::Least,
-        accumulated_annual_demand(facts, r, f, y),
+        accumulated_annual_demand(model, r, f, y),
     )
 }

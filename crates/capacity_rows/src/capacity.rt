@@ -38,11 +38,11 @@ const TIMESLICE: u8 = 6;
 const YEAR: u8 = 7;
 
 /// CAa1: what was built and still counts is the sum of what was built in the years that count.
-pub(crate) fn caa1(alloc: Global, facts: &ModelData, name: RowName) -> Result<Row, Stopped>
-    requires region { IsRegion facts.now.facts name.index.region }
-    requires technology { IsTechnology facts.now.facts name.index.tech }
-    requires year { IsYear facts.now.facts name.index.year }
-    ensures { IsWritten name (by_rty (caa1 facts.now.facts) name.index) result }
+pub(crate) fn caa1(alloc: Global, model: &ModelData, name: RowName) -> Result<Row, Stopped>
+    requires region { IsRegion model.now.facts name.index.region }
+    requires technology { IsTechnology model.now.facts name.index.tech }
+    requires year { IsYear model.now.facts name.index.year }
+    ensures { IsWritten name (by_rty (caa1 model.now.facts) name.index) result }
 {
     let Index {
         region: r,
@@ -52,16 +52,16 @@ pub(crate) fn caa1(alloc: Global, facts: &ModelData, name: RowName) -> Result<Ro
     } = name.index;
     let mut left = LeftSide::new(alloc, name);
     left.add(accumulated_new_capacity(r, t, y), one())?;
-    let life = operational_life(facts, r, t);
+    let life = operational_life(model, r, t);
     left.add_where(
-        facts.sets().count(YEAR),
+        model.sets().count(YEAR),
         |yy|
-            requires life { life ≡ life_of facts.now.facts r t }
-            requires year { IsYear facts.now.facts y }
-            requires built { IsYear facts.now.facts yy }
-            ensures { IsTermWhere (still_counts facts.entry.now.facts r t y yy) (less (new_capacity r t yy)) result }
+            requires life { life ≡ life_of model.now.facts r t }
+            requires year { IsYear model.now.facts y }
+            requires built { IsYear model.now.facts yy }
+            ensures { IsTermWhere (still_counts model.entry.now.facts r t y yy) (less (new_capacity r t yy)) result }
         {
-            if still_counts(facts, life, y, yy) {
+            if still_counts(model, life, y, yy) {
                 Some((new_capacity(r, t, yy), minus_one()))
             } else {
                 None
@@ -72,11 +72,11 @@ pub(crate) fn caa1(alloc: Global, facts: &ModelData, name: RowName) -> Result<Ro
 }
 
 /// CAa2: what is there in a year is what was built and still counts, and what was there before.
-pub(crate) fn caa2(alloc: Global, facts: &ModelData, name: RowName) -> Result<Row, Stopped>
-    requires region { IsRegion facts.now.facts name.index.region }
-    requires technology { IsTechnology facts.now.facts name.index.tech }
-    requires year { IsYear facts.now.facts name.index.year }
-    ensures { IsWritten name (by_rty (caa2 facts.now.facts) name.index) result }
+pub(crate) fn caa2(alloc: Global, model: &ModelData, name: RowName) -> Result<Row, Stopped>
+    requires region { IsRegion model.now.facts name.index.region }
+    requires technology { IsTechnology model.now.facts name.index.tech }
+    requires year { IsYear model.now.facts name.index.year }
+    ensures { IsWritten name (by_rty (caa2 model.now.facts) name.index) result }
 {
     let Index {
         region: r,
@@ -87,12 +87,12 @@ pub(crate) fn caa2(alloc: Global, facts: &ModelData, name: RowName) -> Result<Ro
     let mut left = LeftSide::new(alloc, name);
     left.add(total_capacity_annual(r, t, y), one())?;
     left.add(accumulated_new_capacity(r, t, y), minus_one())?;
-    left.write(alloc, Sense::Equal, residual_capacity(facts, r, t, y))
+    left.write(alloc, Sense::Equal, residual_capacity(model, r, t, y))
 }
 
 /// CAa3: the activity of a technology is that of its modes.
-pub(crate) fn caa3(alloc: Global, facts: &ModelData, name: RowName) -> Result<Row, Stopped>
-    ensures { IsWritten name (by_rlty (caa3 facts.now.facts) name.index) result }
+pub(crate) fn caa3(alloc: Global, model: &ModelData, name: RowName) -> Result<Row, Stopped>
+    ensures { IsWritten name (by_rlty (caa3 model.now.facts) name.index) result }
 {
     let Index {
         region: r,
@@ -104,19 +104,19 @@ pub(crate) fn caa3(alloc: Global, facts: &ModelData, name: RowName) -> Result<Ro
     let mut left = LeftSide::new(alloc, name);
     left.add(rate_of_total_activity(r, l, t, y), one())?;
     left.add_each(
-        facts.sets().count(MODE),
+        model.sets().count(MODE),
         |m| (rate_of_activity(r, l, t, m, y), minus_one()),
     )?;
     left.write(alloc, Sense::Equal, zero())
 }
 
 /// CAa4: in each timeslice the activity stays within the capacity.
-pub(crate) fn caa4(alloc: Global, facts: &ModelData, name: RowName) -> Result<Row, Stopped>
-    requires region { IsRegion facts.now.facts name.index.region }
-    requires slice { IsSlice facts.now.facts name.index.slice }
-    requires technology { IsTechnology facts.now.facts name.index.tech }
-    requires year { IsYear facts.now.facts name.index.year }
-    ensures { IsWritten name (by_rlty (caa4 facts.now.facts) name.index) result }
+pub(crate) fn caa4(alloc: Global, model: &ModelData, name: RowName) -> Result<Row, Stopped>
+    requires region { IsRegion model.now.facts name.index.region }
+    requires slice { IsSlice model.now.facts name.index.slice }
+    requires technology { IsTechnology model.now.facts name.index.tech }
+    requires year { IsYear model.now.facts name.index.year }
+    ensures { IsWritten name (by_rlty (caa4 model.now.facts) name.index) result }
 {
     let Index {
         region: r,
@@ -128,8 +128,8 @@ pub(crate) fn caa4(alloc: Global, facts: &ModelData, name: RowName) -> Result<Ro
     let mut left = LeftSide::new(alloc, name);
     left.add(rate_of_total_activity(r, l, t, y), one())?;
     let unit = times(
-        capacity_factor(facts, r, t, l, y),
-        capacity_to_activity_unit(facts, r, t),
+        capacity_factor(model, r, t, l, y),
+        capacity_to_activity_unit(model, r, t),
     );
     left.add(total_capacity_annual(r, t, y), negative(unit))?;
     left.write(alloc, Sense::Most, zero())
@@ -137,11 +137,11 @@ pub(crate) fn caa4(alloc: Global, facts: &ModelData, name: RowName) -> Result<Ro
 
 /// CAb1: in each year the activity stays within what the capacity can do in the part of the year for which it
 /// is available.
-pub(crate) fn cab1(alloc: Global, facts: &ModelData, name: RowName) -> Result<Row, Stopped>
-    requires region { IsRegion facts.now.facts name.index.region }
-    requires technology { IsTechnology facts.now.facts name.index.tech }
-    requires year { IsYear facts.now.facts name.index.year }
-    ensures { IsWritten name (by_rty (cab1 facts.now.facts) name.index) result }
+pub(crate) fn cab1(alloc: Global, model: &ModelData, name: RowName) -> Result<Row, Stopped>
+    requires region { IsRegion model.now.facts name.index.region }
+    requires technology { IsTechnology model.now.facts name.index.tech }
+    requires year { IsYear model.now.facts name.index.year }
+    ensures { IsWritten name (by_rty (cab1 model.now.facts) name.index) result }
 {
     let Index {
         region: r,
@@ -152,45 +152,45 @@ pub(crate) fn cab1(alloc: Global, facts: &ModelData, name: RowName) -> Result<Ro
     let mut left = LeftSide::new(alloc, name);
     left.add(
         total_capacity_annual(r, t, y),
-        negative(year_capacity(facts, r, t, y)),
+        negative(year_capacity(model, r, t, y)),
     )?;
     left.add_each(
-        facts.sets().count(TIMESLICE),
+        model.sets().count(TIMESLICE),
         |l|
-            requires slice { IsSlice facts.now.facts l }
-            requires year { IsYear facts.now.facts y }
-            ensures { IsTerm (rate_of_total_activity r l t y, Billionths (year_split facts.entry.now.facts l y)) result }
-        { (rate_of_total_activity(r, l, t, y), year_split(facts, l, y)) },
+            requires slice { IsSlice model.now.facts l }
+            requires year { IsYear model.now.facts y }
+            ensures { IsTerm (rate_of_total_activity r l t y, Billionths (year_split model.entry.now.facts l y)) result }
+        { (rate_of_total_activity(r, l, t, y), year_split(model, l, y)) },
     )?;
     left.write(alloc, Sense::Most, zero())
 }
 
 /// What a unit of capacity can do in a year.
-fn year_capacity(facts: &ModelData, r: u16, t: u16, y: u16) -> Option<Frac>
-    requires region { IsRegion facts.now.facts r }
-    requires technology { IsTechnology facts.now.facts t }
-    requires year { IsYear facts.now.facts y }
-    ensures { known result ≡ number_of (year_capacity facts.now.facts r t y) }
+fn year_capacity(model: &ModelData, r: u16, t: u16, y: u16) -> Option<Frac>
+    requires region { IsRegion model.now.facts r }
+    requires technology { IsTechnology model.now.facts t }
+    requires year { IsYear model.now.facts y }
+    ensures { known result ≡ number_of (year_capacity model.now.facts r t y) }
 {
-    let slices = slices_capacity(facts, r, t, y);
+    let slices = slices_capacity(model, r, t, y);
     times(
-        times(slices, availability_factor(facts, r, t, y)),
-        capacity_to_activity_unit(facts, r, t),
+        times(slices, availability_factor(model, r, t, y)),
+        capacity_to_activity_unit(model, r, t),
     )
 }
 
 /// The sum over the timeslices of the capacity factor times the part of the year.
-fn slices_capacity(facts: &ModelData, r: u16, t: u16, y: u16) -> Option<Frac>
-    requires region { IsRegion facts.now.facts r }
-    requires technology { IsTechnology facts.now.facts t }
-    requires year { IsYear facts.now.facts y }
-    ensures { known result ≡ number_of (slices_capacity facts.now.facts r t y) }
+fn slices_capacity(model: &ModelData, r: u16, t: u16, y: u16) -> Option<Frac>
+    requires region { IsRegion model.now.facts r }
+    requires technology { IsTechnology model.now.facts t }
+    requires year { IsYear model.now.facts y }
+    ensures { known result ≡ number_of (slices_capacity model.now.facts r t y) }
 {
     let mut sum = zero();
     for l in 0..facts.sets().count(TIMESLICE) {
         sum = plus(
             sum,
-            times(capacity_factor(facts, r, t, l, y), year_split(facts, l, y)),
+            times(capacity_factor(model, r, t, l, y), year_split(model, l, y)),
         );
     }
     sum

@@ -23,31 +23,31 @@ use std::alloc::Global;
 /// denominators are cleared. `Width` with the row's name comes exactly where a number that this forms lies
 /// outside the range from `-(2^127 - 1)` to `2^127 - 1`.
 /// `Memory` comes where memory ran out.
-pub fn rows_of(alloc: Global, facts: &ModelData, eq: u8, at: Index) -> Result<Option<Row>, Stopped>
+pub fn rows_of(alloc: Global, model: &ModelData, eq: u8, at: Index) -> Result<Option<Row>, Stopped>
     requires equation { IsCapacityEquation eq }
-    requires index { is_index facts.now.facts (subscripts_of eq) at ≡ true }
-    ensures instance { IfOk result (λ found. is_some found ≡ stands_at facts.now.facts eq at) }
-    ensures row { IfOk result (λ found. IfSome found (IsNamedRow facts.now.facts (name_at eq at) (terms_at facts.now.facts (name_at eq at)))) }
-    ensures fits { IfOk result (λ found. all_fit (equation_formed (terms_at facts.now.facts (name_at eq at))) ≡ true) }
-    ensures stopped { IfErr result (IsStop (Place.Row (name_at eq at)) (all_fit (equation_formed (terms_at facts.now.facts (name_at eq at))))) }
+    requires index { is_index model.now.facts (subscripts_of eq) at ≡ true }
+    ensures instance { IfOk result (λ found. is_some found ≡ stands_at model.now.facts eq at) }
+    ensures row { IfOk result (λ found. IfSome found (IsNamedRow model.now.facts (name_at eq at) (terms_at model.now.facts (name_at eq at)))) }
+    ensures fits { IfOk result (λ found. all_fit (equation_formed (terms_at model.now.facts (name_at eq at))) ≡ true) }
+    ensures stopped { IfErr result (IsStop (Place.Row (name_at eq at)) (all_fit (equation_formed (terms_at model.now.facts (name_at eq at))))) }
 {
-    match row_of(alloc, facts, RowName { eq, index: at }) {
+    match row_of(alloc, model, RowName { eq, index: at }) {
         Ok(row) => Ok(Some(row)),
         Err(stopped) => Err(stopped),
     }
 }
 
 /// The row of the equation of this name.
-fn row_of(alloc: Global, facts: &ModelData, name: RowName) -> Result<Row, Stopped>
+fn row_of(alloc: Global, model: &ModelData, name: RowName) -> Result<Row, Stopped>
     requires equation { IsCapacityEquation name.eq }
-    requires index { is_index facts.now.facts (subscripts_of name.eq) name.index ≡ true }
-    ensures { IsWritten name (terms_at facts.now.facts name) result }
+    requires index { is_index model.now.facts (subscripts_of name.eq) name.index ≡ true }
+    ensures { IsWritten name (terms_at model.now.facts name) result }
 {
     match name.eq {
-        2 => caa1(alloc, facts, name),
-        3 => caa2(alloc, facts, name),
-        4 => caa3(alloc, facts, name),
-        5 => caa4(alloc, facts, name),
-        _ => cab1(alloc, facts, name),
+        2 => caa1(alloc, model, name),
+        3 => caa2(alloc, model, name),
+        4 => caa3(alloc, model, name),
+        5 => caa4(alloc, model, name),
+        _ => cab1(alloc, model, name),
     }
 }

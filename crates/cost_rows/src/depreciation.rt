@@ -16,74 +16,74 @@ pub(crate) const SINKING_FUND: u8 = 1;
 pub(crate) const STRAIGHT_LINE: u8 = 2;
 
 /// DepreciationMethod[r], 1 or 2. It is a whole number, so its denominator is 1.
-fn method(facts: &ModelData, r: u16) -> u8
-    requires region { IsRegion facts.now.facts r }
-    ensures { result ≡ method_of facts.now.facts r }
+fn method(model: &ModelData, r: u16) -> u8
+    requires region { IsRegion model.now.facts r }
+    ensures { result ≡ method_of model.now.facts r }
 {
-    facts.at(3, &[r]).num as u8
+    model.at(3, &[r]).num as u8
 }
 
 /// Whether DiscountRate[r] is above 0.
-fn has_rate(facts: &ModelData, r: u16) -> bool
-    requires region { IsRegion facts.now.facts r }
-    ensures { result ≡ nat_lt 0 (rate_of facts.now.facts r) }
+fn has_rate(model: &ModelData, r: u16) -> bool
+    requires region { IsRegion model.now.facts r }
+    ensures { result ≡ nat_lt 0 (rate_of model.now.facts r) }
 {
-    facts.at(2, &[r]).num > 0
+    model.at(2, &[r]).num > 0
 }
 
 /// Whether the region depreciates by the sinking fund: by its method, at a rate above 0.
-fn by_sinking_fund(facts: &ModelData, r: u16) -> bool
-    requires region { IsRegion facts.now.facts r }
-    ensures { result ≡ by_sinking_fund facts.now.facts r }
+fn by_sinking_fund(model: &ModelData, r: u16) -> bool
+    requires region { IsRegion model.now.facts r }
+    ensures { result ≡ by_sinking_fund model.now.facts r }
 {
-    method(facts, r) == SINKING_FUND && has_rate(facts, r)
+    method(model, r) == SINKING_FUND && has_rate(model, r)
 }
 
 /// Whether the region depreciates by the straight line: by its method, or because a sinking fund at rate 0 is one.
-fn by_straight_line(facts: &ModelData, r: u16) -> bool
-    requires region { IsRegion facts.now.facts r }
-    ensures { result ≡ by_straight_line facts.now.facts r }
+fn by_straight_line(model: &ModelData, r: u16) -> bool
+    requires region { IsRegion model.now.facts r }
+    ensures { result ≡ by_straight_line model.now.facts r }
 {
-    let method = method(facts, r);
-    method == STRAIGHT_LINE || (method == SINKING_FUND && !has_rate(facts, r))
+    let method = method(model, r);
+    method == STRAIGHT_LINE || (method == SINKING_FUND && !has_rate(model, r))
 }
 
 /// Whether what is built in the year lasts past the last year: fewer years are left than its life has.
-fn outlasts(facts: &ModelData, r: u16, t: u16, y: u16) -> bool
-    requires region { IsRegion facts.now.facts r }
-    requires technology { IsTechnology facts.now.facts t }
-    requires year { IsYear facts.now.facts y }
-    ensures { result ≡ outlasts facts.now.facts r t y }
+fn outlasts(model: &ModelData, r: u16, t: u16, y: u16) -> bool
+    requires region { IsRegion model.now.facts r }
+    requires technology { IsTechnology model.now.facts t }
+    requires year { IsYear model.now.facts y }
+    ensures { result ≡ outlasts model.now.facts r t y }
 {
-    years_left(facts, y) < operational_life(facts, r, t)
+    years_left(model, y) < operational_life(model, r, t)
 }
 
 /// Whether something is left at the end, by the sinking fund.
-pub(crate) fn has_sv1(facts: &ModelData, r: u16, t: u16, y: u16) -> bool
-    requires region { IsRegion facts.now.facts r }
-    requires technology { IsTechnology facts.now.facts t }
-    requires year { IsYear facts.now.facts y }
-    ensures { result ≡ has_sv1 facts.now.facts r t y }
+pub(crate) fn has_sv1(model: &ModelData, r: u16, t: u16, y: u16) -> bool
+    requires region { IsRegion model.now.facts r }
+    requires technology { IsTechnology model.now.facts t }
+    requires year { IsYear model.now.facts y }
+    ensures { result ≡ has_sv1 model.now.facts r t y }
 {
-    outlasts(facts, r, t, y) && by_sinking_fund(facts, r)
+    outlasts(model, r, t, y) && by_sinking_fund(model, r)
 }
 
 /// Whether something is left at the end, by the straight line.
-pub(crate) fn has_sv2(facts: &ModelData, r: u16, t: u16, y: u16) -> bool
-    requires region { IsRegion facts.now.facts r }
-    requires technology { IsTechnology facts.now.facts t }
-    requires year { IsYear facts.now.facts y }
-    ensures { result ≡ has_sv2 facts.now.facts r t y }
+pub(crate) fn has_sv2(model: &ModelData, r: u16, t: u16, y: u16) -> bool
+    requires region { IsRegion model.now.facts r }
+    requires technology { IsTechnology model.now.facts t }
+    requires year { IsYear model.now.facts y }
+    ensures { result ≡ has_sv2 model.now.facts r t y }
 {
-    outlasts(facts, r, t, y) && by_straight_line(facts, r)
+    outlasts(model, r, t, y) && by_straight_line(model, r)
 }
 
 /// Whether nothing is left at the end.
-pub(crate) fn has_sv3(facts: &ModelData, r: u16, t: u16, y: u16) -> bool
-    requires region { IsRegion facts.now.facts r }
-    requires technology { IsTechnology facts.now.facts t }
-    requires year { IsYear facts.now.facts y }
-    ensures { result ≡ has_sv3 facts.now.facts r t y }
+pub(crate) fn has_sv3(model: &ModelData, r: u16, t: u16, y: u16) -> bool
+    requires region { IsRegion model.now.facts r }
+    requires technology { IsTechnology model.now.facts t }
+    requires year { IsYear model.now.facts y }
+    ensures { result ≡ has_sv3 model.now.facts r t y }
 {
-    !has_sv1(facts, r, t, y) && !has_sv2(facts, r, t, y)
+    !has_sv1(model, r, t, y) && !has_sv2(model, r, t, y)
 }

@@ -28,59 +28,59 @@ fn millionths(factor: i128) -> Option<Frac>
 }
 
 /// What 1 that is due at the beginning of this year is worth at the beginning of the first.
-pub(crate) fn capital_factor(facts: &ModelData, factors: &[Factors], r: u16, y: u16) -> Option<Frac>
-    requires factors { AreRegionFactors facts.now.facts factors.now }
-    requires region { IsRegion facts.now.facts r }
-    requires year { IsYear facts.now.facts y }
-    ensures { known result ≡ number_of (Millionths (capital_factor_of facts.now.facts r (years_since_first facts.now.facts y))) }
+pub(crate) fn capital_factor(model: &ModelData, factors: &[Factors], r: u16, y: u16) -> Option<Frac>
+    requires factors { AreRegionFactors model.now.facts factors.now }
+    requires region { IsRegion model.now.facts r }
+    requires year { IsYear model.now.facts y }
+    ensures { known result ≡ number_of (Millionths (capital_factor_of model.now.facts r (years_since_first model.now.facts y))) }
 {
-    millionths(factors[usize::from(r)].capital(years_since_first(facts, y)))
+    millionths(factors[usize::from(r)].capital(years_since_first(model, y)))
 }
 
 /// What 1 that is due when the last year is over is worth at the beginning of the first.
-pub(crate) fn final_capital_factor(facts: &ModelData, factors: &[Factors], r: u16) -> Option<Frac>
-    requires factors { AreRegionFactors facts.now.facts factors.now }
-    requires region { IsRegion facts.now.facts r }
-    requires year { IsYear facts.now.facts 0 }
-    ensures { known result ≡ number_of (Millionths (capital_factor_of facts.now.facts r (years_in_all facts.now.facts))) }
+pub(crate) fn final_capital_factor(model: &ModelData, factors: &[Factors], r: u16) -> Option<Frac>
+    requires factors { AreRegionFactors model.now.facts factors.now }
+    requires region { IsRegion model.now.facts r }
+    requires year { IsYear model.now.facts 0 }
+    ensures { known result ≡ number_of (Millionths (capital_factor_of model.now.facts r (years_in_all model.now.facts))) }
 {
-    millionths(factors[usize::from(r)].capital(years_in_all(facts)))
+    millionths(factors[usize::from(r)].capital(years_in_all(model)))
 }
 
 /// What 1 that is due in the middle of this year is worth at the beginning of the first.
 pub(crate) fn operating_factor(
-    facts: &ModelData,
+    model: &ModelData,
     factors: &[Factors],
     r: u16,
     y: u16,
 ) -> Option<Frac>
-    requires factors { AreRegionFactors facts.now.facts factors.now }
-    requires region { IsRegion facts.now.facts r }
-    requires year { IsYear facts.now.facts y }
-    ensures { known result ≡ number_of (Millionths (operating_factor_of facts.now.facts r (years_since_first facts.now.facts y))) }
+    requires factors { AreRegionFactors model.now.facts factors.now }
+    requires region { IsRegion model.now.facts r }
+    requires year { IsYear model.now.facts y }
+    ensures { known result ≡ number_of (Millionths (operating_factor_of model.now.facts r (years_since_first model.now.facts y))) }
 {
-    millionths(factors[usize::from(r)].operating(years_since_first(facts, y)))
+    millionths(factors[usize::from(r)].operating(years_since_first(model, y)))
 }
 
 /// The part of an investment of this year that is left when the last year is over, by this method of depreciation.
 pub(crate) fn salvage_fraction(
-    facts: &ModelData,
+    model: &ModelData,
     factors: &[Factors],
     method: u8,
     r: u16,
     t: u16,
     y: u16,
 ) -> Option<Frac>
-    requires factors { AreRegionFactors facts.now.facts factors.now }
+    requires factors { AreRegionFactors model.now.facts factors.now }
     requires method_least { 1 ≤ method }
     requires method_most { method ≤ 2 }
-    requires region { IsRegion facts.now.facts r }
-    requires technology { IsTechnology facts.now.facts t }
-    requires year { IsYear facts.now.facts y }
-    requires outlasts { outlasts facts.now.facts r t y ≡ true }
-    ensures { known result ≡ number_of (Millionths (salvage_fraction_of facts.now.facts method r t y)) }
+    requires region { IsRegion model.now.facts r }
+    requires technology { IsTechnology model.now.facts t }
+    requires year { IsYear model.now.facts y }
+    requires outlasts { outlasts model.now.facts r t y ≡ true }
+    ensures { known result ≡ number_of (Millionths (salvage_fraction_of model.now.facts method r t y)) }
 {
-    let life = operational_life(facts, r, t);
-    let age = years_left(facts, y);
+    let life = operational_life(model, r, t);
+    let age = years_left(model, y);
     millionths(factors[usize::from(r)].salvage(method, life, age))
 }

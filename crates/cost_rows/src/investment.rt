@@ -16,11 +16,11 @@ use row_core::{Index, Row, RowName, Stopped};
 use std::alloc::Global;
 
 /// CC1: the investment is what is built times its capital cost.
-pub(crate) fn cc1(alloc: Global, facts: &ModelData, name: RowName) -> Result<Row, Stopped>
-    requires region { IsRegion facts.now.facts name.index.region }
-    requires technology { IsTechnology facts.now.facts name.index.tech }
-    requires year { IsYear facts.now.facts name.index.year }
-    ensures { IsWritten name (by_rty (cc1 facts.now.facts) name.index) result }
+pub(crate) fn cc1(alloc: Global, model: &ModelData, name: RowName) -> Result<Row, Stopped>
+    requires region { IsRegion model.now.facts name.index.region }
+    requires technology { IsTechnology model.now.facts name.index.tech }
+    requires year { IsYear model.now.facts name.index.year }
+    ensures { IsWritten name (by_rty (cc1 model.now.facts) name.index) result }
 {
     let Index {
         region: r,
@@ -33,21 +33,21 @@ pub(crate) fn cc1(alloc: Global, facts: &ModelData, name: RowName) -> Result<Row
         name,
         capital_investment(r, t, y),
         new_capacity(r, t, y),
-        capital_cost(facts, r, t, y),
+        capital_cost(model, r, t, y),
     )
 }
 
 /// CC2: the discounted investment is the investment times the capital factor of its year.
 pub(crate) fn cc2(
     alloc: Global,
-    facts: &ModelData,
+    model: &ModelData,
     factors: &[Factors],
     name: RowName,
 ) -> Result<Row, Stopped>
-    requires factors { AreRegionFactors facts.now.facts factors.now }
-    requires region { IsRegion facts.now.facts name.index.region }
-    requires year { IsYear facts.now.facts name.index.year }
-    ensures { IsWritten name (by_rty (cc2 facts.now.facts) name.index) result }
+    requires factors { AreRegionFactors model.now.facts factors.now }
+    requires region { IsRegion model.now.facts name.index.region }
+    requires year { IsYear model.now.facts name.index.year }
+    ensures { IsWritten name (by_rty (cc2 model.now.facts) name.index) result }
 {
     let Index {
         region: r,
@@ -60,6 +60,6 @@ pub(crate) fn cc2(
         name,
         discounted_capital_investment(r, t, y),
         capital_investment(r, t, y),
-        capital_factor(facts, factors, r, y),
+        capital_factor(model, factors, r, y),
     )
 }

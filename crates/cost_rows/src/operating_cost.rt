@@ -24,11 +24,11 @@ use row_core::{Index, LeftSide, Row, RowName, Sense, Stopped, minus_one, negativ
 use std::alloc::Global;
 
 /// OC1: the variable cost is the sum over the modes of their activity times its cost.
-pub(crate) fn oc1(alloc: Global, facts: &ModelData, name: RowName) -> Result<Row, Stopped>
-    requires region { IsRegion facts.now.facts name.index.region }
-    requires technology { IsTechnology facts.now.facts name.index.tech }
-    requires year { IsYear facts.now.facts name.index.year }
-    ensures { IsWritten name (by_rty (oc1 facts.now.facts) name.index) result }
+pub(crate) fn oc1(alloc: Global, model: &ModelData, name: RowName) -> Result<Row, Stopped>
+    requires region { IsRegion model.now.facts name.index.region }
+    requires technology { IsTechnology model.now.facts name.index.tech }
+    requires year { IsYear model.now.facts name.index.year }
+    ensures { IsWritten name (by_rty (oc1 model.now.facts) name.index) result }
 {
     let Index {
         region: r,
@@ -39,17 +39,17 @@ pub(crate) fn oc1(alloc: Global, facts: &ModelData, name: RowName) -> Result<Row
     let mut left = LeftSide::new(alloc, name);
     left.add(annual_variable_operating_cost(r, t, y), one())?;
     left.add_each(
-        facts.sets().count(MODE),
+        model.sets().count(MODE),
         |m|
-            requires region { IsRegion facts.now.facts r }
-            requires technology { IsTechnology facts.now.facts t }
-            requires mode { IsMode facts.now.facts m }
-            requires year { IsYear facts.now.facts y }
-            ensures { IsTerm (total_annual_technology_activity_by_mode r t m y, Negative (Billionths (variable_cost facts.entry.now.facts r t m y))) result }
+            requires region { IsRegion model.now.facts r }
+            requires technology { IsTechnology model.now.facts t }
+            requires mode { IsMode model.now.facts m }
+            requires year { IsYear model.now.facts y }
+            ensures { IsTerm (total_annual_technology_activity_by_mode r t m y, Negative (Billionths (variable_cost model.entry.now.facts r t m y))) result }
         {
             (
                 total_annual_technology_activity_by_mode(r, t, m, y),
-                negative(variable_cost(facts, r, t, m, y)),
+                negative(variable_cost(model, r, t, m, y)),
             )
         },
     )?;
@@ -57,11 +57,11 @@ pub(crate) fn oc1(alloc: Global, facts: &ModelData, name: RowName) -> Result<Row
 }
 
 /// OC2: the fixed cost is the total capacity times its cost.
-pub(crate) fn oc2(alloc: Global, facts: &ModelData, name: RowName) -> Result<Row, Stopped>
-    requires region { IsRegion facts.now.facts name.index.region }
-    requires technology { IsTechnology facts.now.facts name.index.tech }
-    requires year { IsYear facts.now.facts name.index.year }
-    ensures { IsWritten name (by_rty (oc2 facts.now.facts) name.index) result }
+pub(crate) fn oc2(alloc: Global, model: &ModelData, name: RowName) -> Result<Row, Stopped>
+    requires region { IsRegion model.now.facts name.index.region }
+    requires technology { IsTechnology model.now.facts name.index.tech }
+    requires year { IsYear model.now.facts name.index.year }
+    ensures { IsWritten name (by_rty (oc2 model.now.facts) name.index) result }
 {
     let Index {
         region: r,
@@ -74,13 +74,13 @@ pub(crate) fn oc2(alloc: Global, facts: &ModelData, name: RowName) -> Result<Row
         name,
         annual_fixed_operating_cost(r, t, y),
         total_capacity_annual(r, t, y),
-        fixed_cost(facts, r, t, y),
+        fixed_cost(model, r, t, y),
     )
 }
 
 /// OC3: the operating cost is the variable and the fixed cost.
-pub(crate) fn oc3(alloc: Global, facts: &ModelData, name: RowName) -> Result<Row, Stopped>
-    ensures { IsWritten name (by_rty (oc3 facts.now.facts) name.index) result }
+pub(crate) fn oc3(alloc: Global, model: &ModelData, name: RowName) -> Result<Row, Stopped>
+    ensures { IsWritten name (by_rty (oc3 model.now.facts) name.index) result }
 {
     let Index {
         region: r,
@@ -98,14 +98,14 @@ pub(crate) fn oc3(alloc: Global, facts: &ModelData, name: RowName) -> Result<Row
 /// OC4: the discounted operating cost is the operating cost times the operating factor of its year.
 pub(crate) fn oc4(
     alloc: Global,
-    facts: &ModelData,
+    model: &ModelData,
     factors: &[Factors],
     name: RowName,
 ) -> Result<Row, Stopped>
-    requires factors { AreRegionFactors facts.now.facts factors.now }
-    requires region { IsRegion facts.now.facts name.index.region }
-    requires year { IsYear facts.now.facts name.index.year }
-    ensures { IsWritten name (by_rty (oc4 facts.now.facts) name.index) result }
+    requires factors { AreRegionFactors model.now.facts factors.now }
+    requires region { IsRegion model.now.facts name.index.region }
+    requires year { IsYear model.now.facts name.index.year }
+    ensures { IsWritten name (by_rty (oc4 model.now.facts) name.index) result }
 {
     let Index {
         region: r,
@@ -118,6 +118,6 @@ pub(crate) fn oc4(
         name,
         discounted_operating_cost(r, t, y),
         operating_cost(r, t, y),
-        operating_factor(facts, factors, r, y),
+        operating_factor(model, factors, r, y),
     )
 }

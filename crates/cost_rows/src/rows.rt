@@ -36,33 +36,33 @@ use std::alloc::Global;
 /// `Memory` comes where memory ran out.
 pub fn rows_of(
     alloc: Global,
-    facts: &ModelData,
+    model: &ModelData,
     factors: &[Factors],
     eq: u8,
     at: Index,
 ) -> Result<Option<Row>, Stopped>
     requires equation { IsCostEquation eq }
-    requires factors { AreRegionFactors facts.now.facts factors.now }
-    requires index { is_index facts.now.facts (subscripts_of eq) at ≡ true }
-    ensures instance { IfOk result (λ found. is_some found ≡ stands_at facts.now.facts eq at) }
-    ensures row { IfOk result (λ found. IfSome found (IsNamedRow facts.now.facts (name_at eq at) (terms_at facts.now.facts (name_at eq at)))) }
-    ensures fits { IfOk result (λ found. IfSome found (λ row. all_fit (equation_formed (terms_at facts.now.facts (name_at eq at))) ≡ true)) }
-    ensures stopped { IfErr result (IsStop (Place.Row (name_at eq at)) (not (stands_at facts.now.facts eq at) || all_fit (equation_formed (terms_at facts.now.facts (name_at eq at))))) }
+    requires factors { AreRegionFactors model.now.facts factors.now }
+    requires index { is_index model.now.facts (subscripts_of eq) at ≡ true }
+    ensures instance { IfOk result (λ found. is_some found ≡ stands_at model.now.facts eq at) }
+    ensures row { IfOk result (λ found. IfSome found (IsNamedRow model.now.facts (name_at eq at) (terms_at model.now.facts (name_at eq at)))) }
+    ensures fits { IfOk result (λ found. IfSome found (λ row. all_fit (equation_formed (terms_at model.now.facts (name_at eq at))) ≡ true)) }
+    ensures stopped { IfErr result (IsStop (Place.Row (name_at eq at)) (not (stands_at model.now.facts eq at) || all_fit (equation_formed (terms_at model.now.facts (name_at eq at))))) }
 {
-    if !stands(facts, eq, at) {
+    if !stands(model, eq, at) {
         return Ok(None);
     }
-    match row_of(alloc, facts, factors, RowName { eq, index: at }) {
+    match row_of(alloc, model, factors, RowName { eq, index: at }) {
         Ok(row) => Ok(Some(row)),
         Err(stopped) => Err(stopped),
     }
 }
 
 /// Whether the equation has an instance at the index.
-fn stands(facts: &ModelData, eq: u8, at: Index) -> bool
+fn stands(model: &ModelData, eq: u8, at: Index) -> bool
     requires equation { IsCostEquation eq }
-    requires index { is_index facts.now.facts (subscripts_of eq) at ≡ true }
-    ensures { result ≡ stands_at facts.now.facts eq at }
+    requires index { is_index model.now.facts (subscripts_of eq) at ≡ true }
+    ensures { result ≡ stands_at model.now.facts eq at }
 {
     let Index {
         region: r,
@@ -71,9 +71,9 @@ fn stands(facts: &ModelData, eq: u8, at: Index) -> bool
         ..
     } = at;
     match eq {
-        27 => has_sv1(facts, r, t, y),
-        28 => has_sv2(facts, r, t, y),
-        29 => has_sv3(facts, r, t, y),
+        27 => has_sv1(model, r, t, y),
+        28 => has_sv2(model, r, t, y),
+        29 => has_sv3(model, r, t, y),
         _ => true,
     }
 }
@@ -81,29 +81,29 @@ fn stands(facts: &ModelData, eq: u8, at: Index) -> bool
 /// The row of the equation of this name, which has an instance.
 fn row_of(
     alloc: Global,
-    facts: &ModelData,
+    model: &ModelData,
     factors: &[Factors],
     name: RowName,
 ) -> Result<Row, Stopped>
     requires equation { IsCostEquation name.eq }
-    requires factors { AreRegionFactors facts.now.facts factors.now }
-    requires index { is_index facts.now.facts (subscripts_of name.eq) name.index ≡ true }
-    requires instance { stands_at facts.now.facts name.eq name.index ≡ true }
-    ensures { IsWritten name (terms_at facts.now.facts name) result }
+    requires factors { AreRegionFactors model.now.facts factors.now }
+    requires index { is_index model.now.facts (subscripts_of name.eq) name.index ≡ true }
+    requires instance { stands_at model.now.facts name.eq name.index ≡ true }
+    ensures { IsWritten name (terms_at model.now.facts name) result }
 {
     match name.eq {
-        25 => cc1(alloc, facts, name),
-        26 => cc2(alloc, facts, factors, name),
-        27 => sv1(alloc, facts, factors, name),
-        28 => sv2(alloc, facts, factors, name),
-        29 => sv3(alloc, facts, name),
-        30 => sv4(alloc, facts, factors, name),
-        31 => oc1(alloc, facts, name),
-        32 => oc2(alloc, facts, name),
-        33 => oc3(alloc, facts, name),
-        34 => oc4(alloc, facts, factors, name),
-        40 => tdc1(alloc, facts, name),
-        41 => tdc2(alloc, facts, name),
-        _ => acc4(alloc, facts, name),
+        25 => cc1(alloc, model, name),
+        26 => cc2(alloc, model, factors, name),
+        27 => sv1(alloc, model, factors, name),
+        28 => sv2(alloc, model, factors, name),
+        29 => sv3(alloc, model, name),
+        30 => sv4(alloc, model, factors, name),
+        31 => oc1(alloc, model, name),
+        32 => oc2(alloc, model, name),
+        33 => oc3(alloc, model, name),
+        34 => oc4(alloc, model, factors, name),
+        40 => tdc1(alloc, model, name),
+        41 => tdc2(alloc, model, name),
+        _ => acc4(alloc, model, name),
     }
 }

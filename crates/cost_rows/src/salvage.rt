@@ -22,41 +22,41 @@ use std::alloc::Global;
 
 /// The salvage value of a unit of capacity that is built in the year, by this method of depreciation.
 fn salvage_value_of_unit(
-    facts: &ModelData,
+    model: &ModelData,
     factors: &[Factors],
     method: u8,
     r: u16,
     t: u16,
     y: u16,
 ) -> Option<Frac>
-    requires factors { AreRegionFactors facts.now.facts factors.now }
+    requires factors { AreRegionFactors model.now.facts factors.now }
     requires method_least { 1 ≤ method }
     requires method_most { method ≤ 2 }
-    requires region { IsRegion facts.now.facts r }
-    requires technology { IsTechnology facts.now.facts t }
-    requires year { IsYear facts.now.facts y }
-    requires outlasts { outlasts facts.now.facts r t y ≡ true }
-    ensures { known result ≡ number_of (salvage_value_of_unit facts.now.facts method r t y) }
+    requires region { IsRegion model.now.facts r }
+    requires technology { IsTechnology model.now.facts t }
+    requires year { IsYear model.now.facts y }
+    requires outlasts { outlasts model.now.facts r t y ≡ true }
+    ensures { known result ≡ number_of (salvage_value_of_unit model.now.facts method r t y) }
 {
     times(
-        capital_cost(facts, r, t, y),
-        salvage_fraction(facts, factors, method, r, t, y),
+        capital_cost(model, r, t, y),
+        salvage_fraction(model, factors, method, r, t, y),
     )
 }
 
 /// SV1: the salvage value is what the sinking fund leaves of what is built.
 pub(crate) fn sv1(
     alloc: Global,
-    facts: &ModelData,
+    model: &ModelData,
     factors: &[Factors],
     name: RowName,
 ) -> Result<Row, Stopped>
-    requires factors { AreRegionFactors facts.now.facts factors.now }
-    requires region { IsRegion facts.now.facts name.index.region }
-    requires technology { IsTechnology facts.now.facts name.index.tech }
-    requires year { IsYear facts.now.facts name.index.year }
-    requires outlasts { by_rty (outlasts facts.now.facts) name.index ≡ true }
-    ensures { IsWritten name (by_rty (sv1 facts.now.facts) name.index) result }
+    requires factors { AreRegionFactors model.now.facts factors.now }
+    requires region { IsRegion model.now.facts name.index.region }
+    requires technology { IsTechnology model.now.facts name.index.tech }
+    requires year { IsYear model.now.facts name.index.year }
+    requires outlasts { by_rty (outlasts model.now.facts) name.index ≡ true }
+    ensures { IsWritten name (by_rty (sv1 model.now.facts) name.index) result }
 {
     let Index {
         region: r,
@@ -69,23 +69,23 @@ pub(crate) fn sv1(
         name,
         salvage_value(r, t, y),
         new_capacity(r, t, y),
-        salvage_value_of_unit(facts, factors, SINKING_FUND, r, t, y),
+        salvage_value_of_unit(model, factors, SINKING_FUND, r, t, y),
     )
 }
 
 /// SV2: the salvage value is what the straight line leaves of what is built.
 pub(crate) fn sv2(
     alloc: Global,
-    facts: &ModelData,
+    model: &ModelData,
     factors: &[Factors],
     name: RowName,
 ) -> Result<Row, Stopped>
-    requires factors { AreRegionFactors facts.now.facts factors.now }
-    requires region { IsRegion facts.now.facts name.index.region }
-    requires technology { IsTechnology facts.now.facts name.index.tech }
-    requires year { IsYear facts.now.facts name.index.year }
-    requires outlasts { by_rty (outlasts facts.now.facts) name.index ≡ true }
-    ensures { IsWritten name (by_rty (sv2 facts.now.facts) name.index) result }
+    requires factors { AreRegionFactors model.now.facts factors.now }
+    requires region { IsRegion model.now.facts name.index.region }
+    requires technology { IsTechnology model.now.facts name.index.tech }
+    requires year { IsYear model.now.facts name.index.year }
+    requires outlasts { by_rty (outlasts model.now.facts) name.index ≡ true }
+    ensures { IsWritten name (by_rty (sv2 model.now.facts) name.index) result }
 {
     let Index {
         region: r,
@@ -98,13 +98,13 @@ pub(crate) fn sv2(
         name,
         salvage_value(r, t, y),
         new_capacity(r, t, y),
-        salvage_value_of_unit(facts, factors, STRAIGHT_LINE, r, t, y),
+        salvage_value_of_unit(model, factors, STRAIGHT_LINE, r, t, y),
     )
 }
 
 /// SV3: nothing is left.
-pub(crate) fn sv3(alloc: Global, facts: &ModelData, name: RowName) -> Result<Row, Stopped>
-    ensures { IsWritten name (by_rty (sv3 facts.now.facts) name.index) result }
+pub(crate) fn sv3(alloc: Global, model: &ModelData, name: RowName) -> Result<Row, Stopped>
+    ensures { IsWritten name (by_rty (sv3 model.now.facts) name.index) result }
 {
     let Index {
         region: r,
@@ -120,14 +120,14 @@ pub(crate) fn sv3(alloc: Global, facts: &ModelData, name: RowName) -> Result<Row
 /// SV4: the discounted salvage value is the salvage value times the capital factor of the whole model period.
 pub(crate) fn sv4(
     alloc: Global,
-    facts: &ModelData,
+    model: &ModelData,
     factors: &[Factors],
     name: RowName,
 ) -> Result<Row, Stopped>
-    requires factors { AreRegionFactors facts.now.facts factors.now }
-    requires region { IsRegion facts.now.facts name.index.region }
-    requires year { IsYear facts.now.facts name.index.year }
-    ensures { IsWritten name (by_rty (sv4 facts.now.facts) name.index) result }
+    requires factors { AreRegionFactors model.now.facts factors.now }
+    requires region { IsRegion model.now.facts name.index.region }
+    requires year { IsYear model.now.facts name.index.year }
+    ensures { IsWritten name (by_rty (sv4 model.now.facts) name.index) result }
 {
     let Index {
         region: r,
@@ -140,6 +140,6 @@ pub(crate) fn sv4(
         name,
         discounted_salvage_value(r, t, y),
         salvage_value(r, t, y),
-        final_capital_factor(facts, factors, r),
+        final_capital_factor(model, factors, r),
     )
 }

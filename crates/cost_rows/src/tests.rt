@@ -89,58 +89,58 @@ fn model(rt: &impl Abort, alloc: Global, text: &str) -> Result<Option<ModelData>
 }
 
 /// Whether the region has this rate, in billionths.
-fn is_rate(facts: &ModelData, r: u16, rate: i128) -> bool
-    requires { IsRegion facts.now.facts r }
+fn is_rate(model: &ModelData, r: u16, rate: i128) -> bool
+    requires { IsRegion model.now.facts r }
     ensures least { result ≡ true → pos 0 ≤ℤ rate }
     ensures most { result ≡ true → rate ≤ℤ pos 1000000000 }
-    ensures rate { result ≡ true → unsigned_abs rate ≡ rate_of facts.now.facts r }
+    ensures rate { result ≡ true → unsigned_abs rate ≡ rate_of model.now.facts r }
 {
-    rate >= 0 && rate <= BILLION && facts.at(2, &[r]) == ratio(rate, BILLION)
+    rate >= 0 && rate <= BILLION && model.at(2, &[r]) == ratio(rate, BILLION)
 }
 
 /// The longest life of a technology in the region, in years.
-fn longest_life(facts: &ModelData, r: u16) -> u16
-    requires { IsRegion facts.now.facts r }
-    ensures { (t : ℕ) → IsTechnology facts.now.facts t → life_of facts.now.facts r t ≤ result }
+fn longest_life(model: &ModelData, r: u16) -> u16
+    requires { IsRegion model.now.facts r }
+    ensures { (t : ℕ) → IsTechnology model.now.facts t → life_of model.now.facts r t ≤ result }
 {
     let mut longest = 0;
     for t in 0..facts.sets().count(TECHNOLOGY) {
-        longest = longest.max(operational_life(facts, r, t));
+        longest = longest.max(operational_life(model, r, t));
     }
     longest
 }
 
 /// The factors of the region, at its rate in billionths.
-fn factors_of(alloc: Global, facts: &ModelData, r: u16, rate: i128) -> Result<Factors, AllocError>
-    requires region { IsRegion facts.now.facts r }
-    requires year { IsYear facts.now.facts 0 }
+fn factors_of(alloc: Global, model: &ModelData, r: u16, rate: i128) -> Result<Factors, AllocError>
+    requires region { IsRegion model.now.facts r }
+    requires year { IsYear model.now.facts 0 }
     requires least { pos 0 ≤ℤ rate }
     requires most { rate ≤ℤ pos 1000000000 }
-    requires rate { unsigned_abs rate ≡ rate_of facts.now.facts r }
-    ensures { IfOk result (AreFactorsOf facts.now.facts r) }
+    requires rate { unsigned_abs rate ≡ rate_of model.now.facts r }
+    ensures { IfOk result (AreFactorsOf model.now.facts r) }
 {
-    Factors::new(alloc, rate, years_in_all(facts), longest_life(facts, r))
+    Factors::new(alloc, rate, years_in_all(model), longest_life(model, r))
 }
 
 /// The factors of each region, or none where these aren't their rates in billionths.
 fn region_factors(
     alloc: Global,
-    facts: &ModelData,
+    model: &ModelData,
     rates: &[i128],
 ) -> Result<Option<Vec<Factors>>, AllocError>
-    ensures { IfOk result (λ made. IfSome made (λ factors. AreRegionFactors facts.now.facts factors.items)) }
+    ensures { IfOk result (λ made. IfSome made (λ factors. AreRegionFactors model.now.facts factors.items)) }
 {
-    let regions = facts.sets().count(REGION);
-    if rates.len() != usize::from(regions) || facts.sets().count(YEAR) == 0 {
+    let regions = model.sets().count(REGION);
+    if rates.len() != usize::from(regions) || model.sets().count(YEAR) == 0 {
         return Ok(None);
     }
     let mut factors = Vec::new(alloc);
     for r in 0..regions {
         let rate = rates[usize::from(r)];
-        if !is_rate(facts, r, rate) {
+        if !is_rate(model, r, rate) {
             return Ok(None);
         }
-        factors.push(factors_of(alloc, facts, r, rate)?)?;
+        factors.push(factors_of(alloc, model, r, rate)?)?;
     }
     Ok(Some(factors))
 }
@@ -153,11 +153,11 @@ fn is_value(has: bool, i: u16, count: u16) -> bool
 }
 
 /// Whether the index has the subscripts of the equation, each in its set.
-fn is_index(facts: &ModelData, eq: u8, at: Index) -> bool
+fn is_index(model: &ModelData, eq: u8, at: Index) -> bool
     requires { IsEquation eq }
-    ensures { result ≡ is_index facts.now.facts (subscripts_of eq) at }
+    ensures { result ≡ is_index model.now.facts (subscripts_of eq) at }
 {
-    let sets = facts.sets();
+    let sets = model.sets();
     let region = is_value(row_has(eq, 0), at.region, sets.count(1));
     let other = is_value(row_has(eq, 1), at.other, sets.count(1));
     let slice = is_value(row_has(eq, 2), at.slice, sets.count(6));
@@ -195,7 +195,7 @@ fn with_each(
 }
 
 /// The indices of the equation, in their order.
-fn indices(alloc: Global, facts: &ModelData, eq: u8) -> Result<Vec<Index>, AllocError>
+fn indices(alloc: Global, model: &ModelData, eq: u8) -> Result<Vec<Index>, AllocError>
     requires { IsEquation eq }
 {
     let first = Index {
@@ -208,7 +208,7 @@ fn indices(alloc: Global, facts: &ModelData, eq: u8) -> Result<Vec<Index>, Alloc
         mode: 0,
         year: 0,
     };
-    let sets = facts.sets();
+    let sets = model.sets();
     let mut list = Vec::new(alloc);
     list.push(first)?;
     for (place, set) in [(0, 1), (3, 2), (7, 7)] {
@@ -267,19 +267,19 @@ fn push_entry(
 fn rows(
     rt: &impl Abort,
     alloc: Global,
-    facts: &ModelData,
+    model: &ModelData,
     factors: &[Factors],
     equations: &[u8],
 ) -> Result<String, Fail>
-    requires { AreRegionFactors facts.now.facts factors.now }
+    requires { AreRegionFactors model.now.facts factors.now }
 {
     let mut out = String::new(alloc);
     for eq in equations {
         let eq = *eq;
         assert!(rt; (25 <= eq && eq <= 34) || (40 <= eq && eq <= 42));
-        for at in indices(alloc, facts, eq)?.iter() {
-            assert!(rt; is_index(facts, eq, *at));
-            if let Some(row) = rows_of(alloc, facts, factors, eq, *at)? {
+        for at in indices(alloc, model, eq)?.iter() {
+            assert!(rt; is_index(model, eq, *at));
+            if let Some(row) = rows_of(alloc, model, factors, eq, *at)? {
                 push_row(rt, alloc, &mut out, &row)?;
             }
         }
@@ -296,13 +296,13 @@ fn assert_rows(
     equations: &[u8],
     expected: &str,
 ) -> Result<(), Fail> {
-    let Some(facts) = model(rt, alloc, text)? else {
+    let Some(model) = model(rt, alloc, text)? else {
         panic!(rt; "the data are refused");
     };
-    let Some(factors) = region_factors(alloc, &facts, rates)? else {
+    let Some(factors) = region_factors(alloc, &model, rates)? else {
         panic!(rt; "other rates");
     };
-    let rows = rows(rt, alloc, &facts, factors.as_slice(), equations)?;
+    let rows = rows(rt, alloc, &model, factors.as_slice(), equations)?;
     assert_eq!(rt; rows.as_str(), expected);
     Ok(())
 }

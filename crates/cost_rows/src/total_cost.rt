@@ -16,8 +16,8 @@ use std::alloc::Global;
 
 /// TDC1: the cost of a technology is its operating cost, its investment and its emissions penalty, less its salvage
 /// value, all discounted.
-pub(crate) fn tdc1(alloc: Global, facts: &ModelData, name: RowName) -> Result<Row, Stopped>
-    ensures { IsWritten name (by_rty (tdc1 facts.now.facts) name.index) result }
+pub(crate) fn tdc1(alloc: Global, model: &ModelData, name: RowName) -> Result<Row, Stopped>
+    ensures { IsWritten name (by_rty (tdc1 model.now.facts) name.index) result }
 {
     let Index {
         region: r,
@@ -38,8 +38,8 @@ pub(crate) fn tdc1(alloc: Global, facts: &ModelData, name: RowName) -> Result<Ro
 }
 
 /// TDC2: the cost of a year is that of its technologies.
-pub(crate) fn tdc2(alloc: Global, facts: &ModelData, name: RowName) -> Result<Row, Stopped>
-    ensures { IsWritten name (by_ry (tdc2 facts.now.facts) name.index) result }
+pub(crate) fn tdc2(alloc: Global, model: &ModelData, name: RowName) -> Result<Row, Stopped>
+    ensures { IsWritten name (by_ry (tdc2 model.now.facts) name.index) result }
 {
     let Index {
         region: r,
@@ -49,21 +49,21 @@ pub(crate) fn tdc2(alloc: Global, facts: &ModelData, name: RowName) -> Result<Ro
     let mut left = LeftSide::new(alloc, name);
     left.add(total_discounted_cost(r, y), one())?;
     left.add_each(
-        facts.sets().count(TECHNOLOGY),
+        model.sets().count(TECHNOLOGY),
         |t| (total_discounted_cost_by_technology(r, t, y), minus_one()),
     )?;
     left.write(alloc, Sense::Equal, zero())
 }
 
 /// Acc4: the cost of a region is that of its years.
-pub(crate) fn acc4(alloc: Global, facts: &ModelData, name: RowName) -> Result<Row, Stopped>
-    ensures { IsWritten name (by_r (acc4 facts.now.facts) name.index) result }
+pub(crate) fn acc4(alloc: Global, model: &ModelData, name: RowName) -> Result<Row, Stopped>
+    ensures { IsWritten name (by_r (acc4 model.now.facts) name.index) result }
 {
     let r = name.index.region;
     let mut left = LeftSide::new(alloc, name);
     left.add(model_period_cost_by_region(r), one())?;
     left.add_each(
-        facts.sets().count(YEAR),
+        model.sets().count(YEAR),
         |y| (total_discounted_cost(r, y), minus_one()),
     )?;
     left.write(alloc, Sense::Equal, zero())

@@ -7,27 +7,27 @@ ghost use Rattle.named_equations.specs.Within.{IsYear};
 use param_tables::ModelData;
 
 /// The years from the first year to this one.
-pub(crate) fn years_since_first(facts: &ModelData, y: u16) -> u16
-    requires { IsYear facts.now.facts y }
-    ensures exact { result ≡ years_since_first facts.now.facts y }
-    ensures within { result < years_in_all facts.now.facts }
+pub(crate) fn years_since_first(model: &ModelData, y: u16) -> u16
+    requires { IsYear model.now.facts y }
+    ensures exact { result ≡ years_since_first model.now.facts y }
+    ensures within { result < years_in_all model.now.facts }
 {
-    facts.sets().year(y) - facts.sets().first_year()
+    model.sets().year(y) - model.sets().first_year()
 }
 
 /// The years from this one to the last, both included.
-pub(crate) fn years_left(facts: &ModelData, y: u16) -> u16
-    requires { IsYear facts.now.facts y }
-    ensures exact { result ≡ years_left facts.now.facts y }
+pub(crate) fn years_left(model: &ModelData, y: u16) -> u16
+    requires { IsYear model.now.facts y }
+    ensures exact { result ≡ years_left model.now.facts y }
     ensures some { 0 < result }
 {
-    facts.sets().last_year() - facts.sets().year(y) + 1
+    model.sets().last_year() - model.sets().year(y) + 1
 }
 
 /// The years of the model period, from the first to the last, gaps included.
-pub(crate) fn years_in_all(facts: &ModelData) -> u16
-    requires { IsYear facts.now.facts 0 }
-    ensures { result ≡ years_in_all facts.now.facts }
+pub(crate) fn years_in_all(model: &ModelData) -> u16
+    requires { IsYear model.now.facts 0 }
+    ensures { result ≡ years_in_all model.now.facts }
 {
-    facts.sets().last_year() - facts.sets().first_year() + 1
+    model.sets().last_year() - model.sets().first_year() + 1
 }

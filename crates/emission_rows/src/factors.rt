@@ -16,27 +16,27 @@ use param_tables::ModelData;
 const MILLION: i128 = 1_000_000;
 
 /// The years from the first year to this one.
-fn years_since_first(facts: &ModelData, y: u16) -> u16
-    requires { IsYear facts.now.facts y }
-    ensures number { result ≡ years_since_first facts.now.facts y }
-    ensures within { result < years_in_all facts.now.facts }
+fn years_since_first(model: &ModelData, y: u16) -> u16
+    requires { IsYear model.now.facts y }
+    ensures number { result ≡ years_since_first model.now.facts y }
+    ensures within { result < years_in_all model.now.facts }
 {
-    let sets = facts.sets();
+    let sets = model.sets();
     sets.year(y) - sets.first_year()
 }
 
 /// The region's operating factor of the years from the first year to this one.
 pub(crate) fn operating_factor(
-    facts: &ModelData,
+    model: &ModelData,
     factors: &[Factors],
     r: u16,
     y: u16,
 ) -> Option<Frac>
-    requires factors { AreRegionFactors facts.now.facts factors.now }
-    requires region { IsRegion facts.now.facts r }
-    requires year { IsYear facts.now.facts y }
-    ensures { known result ≡ number_of (Millionths (operating_factor_of facts.now.facts r (years_since_first facts.now.facts y))) }
+    requires factors { AreRegionFactors model.now.facts factors.now }
+    requires region { IsRegion model.now.facts r }
+    requires year { IsYear model.now.facts y }
+    ensures { known result ≡ number_of (Millionths (operating_factor_of model.now.facts r (years_since_first model.now.facts y))) }
 {
-    let years = years_since_first(facts, y);
+    let years = years_since_first(model, y);
     Some(ratio(factors[usize::from(r)].operating(years), MILLION))
 }

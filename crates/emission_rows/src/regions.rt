@@ -18,8 +18,8 @@ use row_core::{
 use std::alloc::Global;
 
 /// E6: the annual emissions of a region are those of its technologies.
-pub(crate) fn e6(alloc: Global, facts: &ModelData, name: RowName) -> Result<Row, Stopped>
-    ensures { IsWritten name (by_rey (e6 facts.now.facts) name.index) result }
+pub(crate) fn e6(alloc: Global, model: &ModelData, name: RowName) -> Result<Row, Stopped>
+    ensures { IsWritten name (by_rey (e6 model.now.facts) name.index) result }
 {
     let Index {
         region: r,
@@ -30,17 +30,17 @@ pub(crate) fn e6(alloc: Global, facts: &ModelData, name: RowName) -> Result<Row,
     let mut left = LeftSide::new(alloc, name);
     left.add(annual_emissions(r, e, y), one())?;
     left.add_each(
-        facts.sets().count(TECHNOLOGY),
+        model.sets().count(TECHNOLOGY),
         |t| (annual_technology_emission(r, t, e, y), minus_one()),
     )?;
     left.write(alloc, Sense::Equal, zero())
 }
 
 /// E7: the emissions of the model period are those of its years and the exogenous emission of the period.
-pub(crate) fn e7(alloc: Global, facts: &ModelData, name: RowName) -> Result<Row, Stopped>
-    requires region { IsRegion facts.now.facts name.index.region }
-    requires emission { IsEmission facts.now.facts name.index.emission }
-    ensures { IsWritten name (by_re (e7 facts.now.facts) name.index) result }
+pub(crate) fn e7(alloc: Global, model: &ModelData, name: RowName) -> Result<Row, Stopped>
+    requires region { IsRegion model.now.facts name.index.region }
+    requires emission { IsEmission model.now.facts name.index.emission }
+    ensures { IsWritten name (by_re (e7 model.now.facts) name.index) result }
 {
     let Index {
         region: r,
@@ -50,22 +50,22 @@ pub(crate) fn e7(alloc: Global, facts: &ModelData, name: RowName) -> Result<Row,
     let mut left = LeftSide::new(alloc, name);
     left.add(model_period_emissions(r, e), one())?;
     left.add_each(
-        facts.sets().count(YEAR),
+        model.sets().count(YEAR),
         |y| (annual_emissions(r, e, y), minus_one()),
     )?;
     left.write(
         alloc,
         Sense::Equal,
-        model_period_exogenous_emission(facts, r, e),
+        model_period_exogenous_emission(model, r, e),
     )
 }
 
 /// E8: the annual emissions are at most the limit of the year, less the exogenous emission of the year.
-pub(crate) fn e8(alloc: Global, facts: &ModelData, name: RowName) -> Result<Row, Stopped>
-    requires region { IsRegion facts.now.facts name.index.region }
-    requires emission { IsEmission facts.now.facts name.index.emission }
-    requires year { IsYear facts.now.facts name.index.year }
-    ensures { IsWritten name (by_rey (e8 facts.now.facts) name.index) result }
+pub(crate) fn e8(alloc: Global, model: &ModelData, name: RowName) -> Result<Row, Stopped>
+    requires region { IsRegion model.now.facts name.index.region }
+    requires emission { IsEmission model.now.facts name.index.emission }
+    requires year { IsYear model.now.facts name.index.year }
+    ensures { IsWritten name (by_rey (e8 model.now.facts) name.index) result }
 {
     let Index {
         region: r,
@@ -75,19 +75,19 @@ pub(crate) fn e8(alloc: Global, facts: &ModelData, name: RowName) -> Result<Row,
     } = name.index;
     let mut left = LeftSide::new(alloc, name);
     left.add(annual_emissions(r, e, y), one())?;
-    let exogenous = annual_exogenous_emission(facts, r, e, y);
+    let exogenous = annual_exogenous_emission(model, r, e, y);
     left.write(
         alloc,
         Sense::Most,
-        plus(annual_emission_limit(facts, r, e, y), negative(exogenous)),
+        plus(annual_emission_limit(model, r, e, y), negative(exogenous)),
     )
 }
 
 /// E9: the emissions of the model period are at most the limit of the period.
-pub(crate) fn e9(alloc: Global, facts: &ModelData, name: RowName) -> Result<Row, Stopped>
-    requires region { IsRegion facts.now.facts name.index.region }
-    requires emission { IsEmission facts.now.facts name.index.emission }
-    ensures { IsWritten name (by_re (e9 facts.now.facts) name.index) result }
+pub(crate) fn e9(alloc: Global, model: &ModelData, name: RowName) -> Result<Row, Stopped>
+    requires region { IsRegion model.now.facts name.index.region }
+    requires emission { IsEmission model.now.facts name.index.emission }
+    ensures { IsWritten name (by_re (e9 model.now.facts) name.index) result }
 {
     let Index {
         region: r,
@@ -96,5 +96,5 @@ pub(crate) fn e9(alloc: Global, facts: &ModelData, name: RowName) -> Result<Row,
     } = name.index;
     let mut left = LeftSide::new(alloc, name);
     left.add(model_period_emissions(r, e), one())?;
-    left.write(alloc, Sense::Most, model_period_emission_limit(facts, r, e))
+    left.write(alloc, Sense::Most, model_period_emission_limit(model, r, e))
 }

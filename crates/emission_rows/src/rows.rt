@@ -33,33 +33,33 @@ use std::alloc::Global;
 /// `Memory` comes where memory ran out.
 pub fn rows_of(
     alloc: Global,
-    facts: &ModelData,
+    model: &ModelData,
     factors: &[Factors],
     eq: u8,
     at: Index,
 ) -> Result<Option<Row>, Stopped>
     requires equation { IsEmissionEquation eq }
-    requires factors { AreRegionFactors facts.now.facts factors.now }
-    requires index { is_index facts.now.facts (subscripts_of eq) at ≡ true }
-    ensures instance { IfOk result (λ found. is_some found ≡ stands_at facts.now.facts eq at) }
-    ensures row { IfOk result (λ found. IfSome found (IsNamedRow facts.now.facts (name_at eq at) (terms_at facts.now.facts (name_at eq at)))) }
-    ensures fits { IfOk result (λ found. IfSome found (λ row. all_fit (equation_formed (terms_at facts.now.facts (name_at eq at))) ≡ true)) }
-    ensures stopped { IfErr result (IsStop (Place.Row (name_at eq at)) (not (stands_at facts.now.facts eq at) || all_fit (equation_formed (terms_at facts.now.facts (name_at eq at))))) }
+    requires factors { AreRegionFactors model.now.facts factors.now }
+    requires index { is_index model.now.facts (subscripts_of eq) at ≡ true }
+    ensures instance { IfOk result (λ found. is_some found ≡ stands_at model.now.facts eq at) }
+    ensures row { IfOk result (λ found. IfSome found (IsNamedRow model.now.facts (name_at eq at) (terms_at model.now.facts (name_at eq at)))) }
+    ensures fits { IfOk result (λ found. IfSome found (λ row. all_fit (equation_formed (terms_at model.now.facts (name_at eq at))) ≡ true)) }
+    ensures stopped { IfErr result (IsStop (Place.Row (name_at eq at)) (not (stands_at model.now.facts eq at) || all_fit (equation_formed (terms_at model.now.facts (name_at eq at))))) }
 {
-    if !stands(facts, eq, at) {
+    if !stands(model, eq, at) {
         return Ok(None);
     }
-    match row_of(alloc, facts, factors, RowName { eq, index: at }) {
+    match row_of(alloc, model, factors, RowName { eq, index: at }) {
         Ok(row) => Ok(Some(row)),
         Err(stopped) => Err(stopped),
     }
 }
 
 /// Whether the equation has an instance at the index.
-fn stands(facts: &ModelData, eq: u8, at: Index) -> bool
+fn stands(model: &ModelData, eq: u8, at: Index) -> bool
     requires equation { IsEmissionEquation eq }
-    requires index { is_index facts.now.facts (subscripts_of eq) at ≡ true }
-    ensures { result ≡ stands_at facts.now.facts eq at }
+    requires index { is_index model.now.facts (subscripts_of eq) at ≡ true }
+    ensures { result ≡ stands_at model.now.facts eq at }
 {
     let Index {
         region: r,
@@ -70,9 +70,9 @@ fn stands(facts: &ModelData, eq: u8, at: Index) -> bool
         ..
     } = at;
     match eq {
-        35 => emits_in_mode(facts, r, t, e, m, y),
-        63 => has_e8(facts, r, e, y),
-        64 => has_e9(facts, r, e),
+        35 => emits_in_mode(model, r, t, e, m, y),
+        63 => has_e8(model, r, e, y),
+        64 => has_e9(model, r, e),
         _ => true,
     }
 }
@@ -80,24 +80,24 @@ fn stands(facts: &ModelData, eq: u8, at: Index) -> bool
 /// The row of the equation of this name.
 fn row_of(
     alloc: Global,
-    facts: &ModelData,
+    model: &ModelData,
     factors: &[Factors],
     name: RowName,
 ) -> Result<Row, Stopped>
     requires equation { IsEmissionEquation name.eq }
-    requires factors { AreRegionFactors facts.now.facts factors.now }
-    requires index { is_index facts.now.facts (subscripts_of name.eq) name.index ≡ true }
-    ensures { IsWritten name (terms_at facts.now.facts name) result }
+    requires factors { AreRegionFactors model.now.facts factors.now }
+    requires index { is_index model.now.facts (subscripts_of name.eq) name.index ≡ true }
+    ensures { IsWritten name (terms_at model.now.facts name) result }
 {
     match name.eq {
-        35 => e1(alloc, facts, name),
-        36 => e2(alloc, facts, name),
-        37 => e3(alloc, facts, name),
-        38 => e4(alloc, facts, name),
-        39 => e5(alloc, facts, factors, name),
-        61 => e6(alloc, facts, name),
-        62 => e7(alloc, facts, name),
-        63 => e8(alloc, facts, name),
-        _ => e9(alloc, facts, name),
+        35 => e1(alloc, model, name),
+        36 => e2(alloc, model, name),
+        37 => e3(alloc, model, name),
+        38 => e4(alloc, model, name),
+        39 => e5(alloc, model, factors, name),
+        61 => e6(alloc, model, name),
+        62 => e7(alloc, model, name),
+        63 => e8(alloc, model, name),
+        _ => e9(alloc, model, name),
     }
 }

@@ -22,13 +22,13 @@ use row_core::{Index, LeftSide, Row, RowName, Sense, Stopped, minus_one, one, ze
 use std::alloc::Global;
 
 /// E1: the emission of a mode is the mode's annual activity times the ratio.
-pub(crate) fn e1(alloc: Global, facts: &ModelData, name: RowName) -> Result<Row, Stopped>
-    requires region { IsRegion facts.now.facts name.index.region }
-    requires technology { IsTechnology facts.now.facts name.index.tech }
-    requires emission { IsEmission facts.now.facts name.index.emission }
-    requires mode { IsMode facts.now.facts name.index.mode }
-    requires year { IsYear facts.now.facts name.index.year }
-    ensures { IsWritten name (by_rtemy (e1 facts.now.facts) name.index) result }
+pub(crate) fn e1(alloc: Global, model: &ModelData, name: RowName) -> Result<Row, Stopped>
+    requires region { IsRegion model.now.facts name.index.region }
+    requires technology { IsTechnology model.now.facts name.index.tech }
+    requires emission { IsEmission model.now.facts name.index.emission }
+    requires mode { IsMode model.now.facts name.index.mode }
+    requires year { IsYear model.now.facts name.index.year }
+    ensures { IsWritten name (by_rtemy (e1 model.now.facts) name.index) result }
 {
     let Index {
         region: r,
@@ -43,17 +43,17 @@ pub(crate) fn e1(alloc: Global, facts: &ModelData, name: RowName) -> Result<Row,
         name,
         annual_technology_emission_by_mode(r, t, e, m, y),
         total_annual_technology_activity_by_mode(r, t, m, y),
-        emission_activity_ratio(facts, r, t, e, m, y),
+        emission_activity_ratio(model, r, t, e, m, y),
     )
 }
 
 /// E2: the emission of a technology is that of the modes that emit.
-pub(crate) fn e2(alloc: Global, facts: &ModelData, name: RowName) -> Result<Row, Stopped>
-    requires region { IsRegion facts.now.facts name.index.region }
-    requires technology { IsTechnology facts.now.facts name.index.tech }
-    requires emission { IsEmission facts.now.facts name.index.emission }
-    requires year { IsYear facts.now.facts name.index.year }
-    ensures { IsWritten name (by_rtey (e2 facts.now.facts) name.index) result }
+pub(crate) fn e2(alloc: Global, model: &ModelData, name: RowName) -> Result<Row, Stopped>
+    requires region { IsRegion model.now.facts name.index.region }
+    requires technology { IsTechnology model.now.facts name.index.tech }
+    requires emission { IsEmission model.now.facts name.index.emission }
+    requires year { IsYear model.now.facts name.index.year }
+    ensures { IsWritten name (by_rtey (e2 model.now.facts) name.index) result }
 {
     let Index {
         region: r,
@@ -64,7 +64,7 @@ pub(crate) fn e2(alloc: Global, facts: &ModelData, name: RowName) -> Result<Row,
     } = name.index;
     let mut left = LeftSide::new(alloc, name);
     left.add(annual_technology_emission(r, t, e, y), one())?;
-    let modes = facts.nonzero_modes(alloc, ActivityRatio::Emission, r, t, e, y)?;
+    let modes = model.nonzero_modes(alloc, ActivityRatio::Emission, r, t, e, y)?;
     take_away_each(&mut left, &modes, |m| {
         annual_technology_emission_by_mode(r, t, e, m, y)
     })?;
@@ -72,11 +72,11 @@ pub(crate) fn e2(alloc: Global, facts: &ModelData, name: RowName) -> Result<Row,
 }
 
 /// E3: the penalty of an emission of a technology is the emission times its penalty.
-pub(crate) fn e3(alloc: Global, facts: &ModelData, name: RowName) -> Result<Row, Stopped>
-    requires region { IsRegion facts.now.facts name.index.region }
-    requires emission { IsEmission facts.now.facts name.index.emission }
-    requires year { IsYear facts.now.facts name.index.year }
-    ensures { IsWritten name (by_rtey (e3 facts.now.facts) name.index) result }
+pub(crate) fn e3(alloc: Global, model: &ModelData, name: RowName) -> Result<Row, Stopped>
+    requires region { IsRegion model.now.facts name.index.region }
+    requires emission { IsEmission model.now.facts name.index.emission }
+    requires year { IsYear model.now.facts name.index.year }
+    ensures { IsWritten name (by_rtey (e3 model.now.facts) name.index) result }
 {
     let Index {
         region: r,
@@ -90,13 +90,13 @@ pub(crate) fn e3(alloc: Global, facts: &ModelData, name: RowName) -> Result<Row,
         name,
         annual_technology_emission_penalty_by_emission(r, t, e, y),
         annual_technology_emission(r, t, e, y),
-        emissions_penalty(facts, r, e, y),
+        emissions_penalty(model, r, e, y),
     )
 }
 
 /// E4: the penalty of a technology is that of its emissions.
-pub(crate) fn e4(alloc: Global, facts: &ModelData, name: RowName) -> Result<Row, Stopped>
-    ensures { IsWritten name (by_rty (e4 facts.now.facts) name.index) result }
+pub(crate) fn e4(alloc: Global, model: &ModelData, name: RowName) -> Result<Row, Stopped>
+    ensures { IsWritten name (by_rty (e4 model.now.facts) name.index) result }
 {
     let Index {
         region: r,
@@ -107,7 +107,7 @@ pub(crate) fn e4(alloc: Global, facts: &ModelData, name: RowName) -> Result<Row,
     let mut left = LeftSide::new(alloc, name);
     left.add(annual_technology_emissions_penalty(r, t, y), one())?;
     left.add_each(
-        facts.sets().count(EMISSION),
+        model.sets().count(EMISSION),
         |e| (
             annual_technology_emission_penalty_by_emission(r, t, e, y),
             minus_one(),
@@ -119,14 +119,14 @@ pub(crate) fn e4(alloc: Global, facts: &ModelData, name: RowName) -> Result<Row,
 /// E5: the discounted penalty is the penalty times the operating factor, since it is due in the middle of the year.
 pub(crate) fn e5(
     alloc: Global,
-    facts: &ModelData,
+    model: &ModelData,
     factors: &[Factors],
     name: RowName,
 ) -> Result<Row, Stopped>
-    requires factors { AreRegionFactors facts.now.facts factors.now }
-    requires region { IsRegion facts.now.facts name.index.region }
-    requires year { IsYear facts.now.facts name.index.year }
-    ensures { IsWritten name (by_rty (e5 facts.now.facts) name.index) result }
+    requires factors { AreRegionFactors model.now.facts factors.now }
+    requires region { IsRegion model.now.facts name.index.region }
+    requires year { IsYear model.now.facts name.index.year }
+    ensures { IsWritten name (by_rty (e5 model.now.facts) name.index) result }
 {
     let Index {
         region: r,
@@ -139,6 +139,6 @@ pub(crate) fn e5(
         name,
         discounted_technology_emissions_penalty(r, t, y),
         annual_technology_emissions_penalty(r, t, y),
-        operating_factor(facts, factors, r, y),
+        operating_factor(model, factors, r, y),
     )
 }

@@ -73,45 +73,45 @@ fn model(rt: &impl Abort, alloc: Global, text: &str) -> Result<Option<ModelData>
 }
 
 /// Whether the discount rate of the first region is this many billionths.
-fn is_rate(facts: &ModelData, rate: i128) -> bool
-    requires region { IsRegion facts.now.facts 0 }
+fn is_rate(model: &ModelData, rate: i128) -> bool
+    requires region { IsRegion model.now.facts 0 }
     requires least { pos 0 ≤ℤ rate }
     requires most { rate ≤ℤ pos 1000000000 }
-    ensures { result ≡ true → unsigned_abs rate ≡ rate_of facts.now.facts 0 }
+    ensures { result ≡ true → unsigned_abs rate ≡ rate_of model.now.facts 0 }
 {
-    let given = facts.at(2, &[0]);
+    let given = model.at(2, &[0]);
     let expected = ratio(rate, 1_000_000_000);
     given.num == expected.num && given.den == expected.den
 }
 
 /// The first region has one or two technologies, and none lives longer than 200 years.
-fn assert_lives(rt: &impl Abort, facts: &ModelData)
-    requires region { IsRegion facts.now.facts 0 }
-    ensures { (t : ℕ) → IsTechnology facts.now.facts t → life_of facts.now.facts 0 t ≤ 200 }
+fn assert_lives(rt: &impl Abort, model: &ModelData)
+    requires region { IsRegion model.now.facts 0 }
+    ensures { (t : ℕ) → IsTechnology model.now.facts t → life_of model.now.facts 0 t ≤ 200 }
 {
-    let technologies = facts.sets().count(2);
+    let technologies = model.sets().count(2);
     assert!(rt; technologies >= 1);
     assert!(rt; technologies <= 2);
-    let _first = facts.at(11, &[0, 0]);
-    let _last = facts.at(11, &[0, technologies - 1]);
+    let _first = model.at(11, &[0, 0]);
+    let _last = model.at(11, &[0, technologies - 1]);
 }
 
 /// The factors of the one region, whose discount rate is this many billionths.
 fn region_factors(
     rt: &impl Abort,
     alloc: Global,
-    facts: &ModelData,
+    model: &ModelData,
     rate: i128,
 ) -> Result<Vec<Factors>, Fail>
-    ensures { IfOk result (λ factors. AreRegionFactors facts.now.facts factors.items) }
+    ensures { IfOk result (λ factors. AreRegionFactors model.now.facts factors.items) }
 {
-    let sets = facts.sets();
+    let sets = model.sets();
     assert!(rt; sets.count(1) == 1);
     assert!(rt; sets.count(7) >= 1);
     assert!(rt; rate >= 0);
     assert!(rt; rate <= 1_000_000_000);
-    assert!(rt; is_rate(facts, rate));
-    assert_lives(rt, facts);
+    assert!(rt; is_rate(model, rate));
+    assert_lives(rt, model);
     let years = sets.last_year() - sets.first_year();
     assert!(rt; years < 1_000);
     let mut factors = Vec::new(alloc);
@@ -127,11 +127,11 @@ fn is_value(has: bool, i: u16, count: u16) -> bool
 }
 
 /// Whether the index has the subscripts of the equation, each in its set.
-fn is_index(facts: &ModelData, eq: u8, at: Index) -> bool
+fn is_index(model: &ModelData, eq: u8, at: Index) -> bool
     requires { IsEquation eq }
-    ensures { result ≡ is_index facts.now.facts (subscripts_of eq) at }
+    ensures { result ≡ is_index model.now.facts (subscripts_of eq) at }
 {
-    let sets = facts.sets();
+    let sets = model.sets();
     let region = is_value(row_has(eq, 0), at.region, sets.count(1));
     let other = is_value(row_has(eq, 1), at.other, sets.count(1));
     let slice = is_value(row_has(eq, 2), at.slice, sets.count(6));
@@ -173,7 +173,7 @@ fn with_each(
 }
 
 /// The indices of the equation in the first region, in their order.
-fn indices(alloc: Global, facts: &ModelData, eq: u8) -> Result<Vec<Index>, AllocError>
+fn indices(alloc: Global, model: &ModelData, eq: u8) -> Result<Vec<Index>, AllocError>
     requires { IsEquation eq }
 {
     let first = Index {
@@ -186,7 +186,7 @@ fn indices(alloc: Global, facts: &ModelData, eq: u8) -> Result<Vec<Index>, Alloc
         mode: 0,
         year: 0,
     };
-    let sets = facts.sets();
+    let sets = model.sets();
     let mut list = Vec::new(alloc);
     list.push(first)?;
     for (place, set) in [(3, 2), (5, 4), (6, 5), (7, 7)] {
@@ -245,18 +245,18 @@ fn push_entry(
 fn rows(
     rt: &impl Abort,
     alloc: Global,
-    facts: &ModelData,
+    model: &ModelData,
     rate: i128,
     equations: &[u8],
 ) -> Result<String, Fail> {
-    let factors = region_factors(rt, alloc, facts, rate)?;
+    let factors = region_factors(rt, alloc, model, rate)?;
     let mut out = String::new(alloc);
     for equation in equations {
         let eq = *equation;
         assert!(rt; eq >= 35 && eq <= 39 || eq >= 61 && eq <= 64);
-        for at in indices(alloc, facts, eq)?.iter() {
-            assert!(rt; is_index(facts, eq, *at));
-            if let Some(row) = rows_of(alloc, facts, factors.as_slice(), eq, *at)? {
+        for at in indices(alloc, model, eq)?.iter() {
+            assert!(rt; is_index(model, eq, *at));
+            if let Some(row) = rows_of(alloc, model, factors.as_slice(), eq, *at)? {
                 push_row(rt, alloc, &mut out, &row)?;
             }
         }
@@ -274,9 +274,9 @@ fn assert_rows(
     expected: &str,
 ) -> Result<(), Fail> {
     match model(rt, alloc, text)? {
-        Some(facts) => {
+        Some(model) => {
             assert_eq!(rt;
-                rows(rt, alloc, &facts, rate, equations)?.as_str(),
+                rows(rt, alloc, &model, rate, equations)?.as_str(),
                 expected
             );
         }

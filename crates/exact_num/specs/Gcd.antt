@@ -1,5 +1,5 @@
 -- The greatest common divisor of two whole numbers, by Euclid's rule (Elements VII, 2).
--- That it divides both, and that every common divisor divides it, is the contract of `gcd_is_greatest`.
+-- That it divides both, and that every common divisor divides it, is the contract of `gcd_laws`.
 use Rattle.std.specs.Prelude.{ℕ, zero, suc, ◌%◌}
 
 -- at most so many steps of: gcd(a, 0) is a, and gcd(a, b) is gcd(b, a mod b)

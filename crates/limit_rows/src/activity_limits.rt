@@ -28,9 +28,9 @@ use row_core::{Index, LeftSide, Row, RowName, Sense, Stopped, minus_one, negativ
 use std::alloc::Global;
 
 /// AAC1: the activity in a year is the sum over the timeslices of its rate times their parts of the year.
-pub(crate) fn aac1(alloc: Global, facts: &ModelData, name: RowName) -> Result<Row, Stopped>
-    requires year { IsYear facts.now.facts name.index.year }
-    ensures { IsWritten name (by_rty (aac1 facts.now.facts) name.index) result }
+pub(crate) fn aac1(alloc: Global, model: &ModelData, name: RowName) -> Result<Row, Stopped>
+    requires year { IsYear model.now.facts name.index.year }
+    ensures { IsWritten name (by_rty (aac1 model.now.facts) name.index) result }
 {
     let Index {
         region: r,
@@ -41,15 +41,15 @@ pub(crate) fn aac1(alloc: Global, facts: &ModelData, name: RowName) -> Result<Ro
     let mut left = LeftSide::new(alloc, name);
     left.add(total_technology_annual_activity(r, t, y), one())?;
     left.add_each(
-        facts.sets().count(TIMESLICE),
+        model.sets().count(TIMESLICE),
         |l|
-            requires slice { IsSlice facts.now.facts l }
-            requires year { IsYear facts.now.facts y }
-            ensures { IsTerm (rate_of_total_activity r l t y, Negative (Billionths (year_split facts.entry.now.facts l y))) result }
+            requires slice { IsSlice model.now.facts l }
+            requires year { IsYear model.now.facts y }
+            ensures { IsTerm (rate_of_total_activity r l t y, Negative (Billionths (year_split model.entry.now.facts l y))) result }
         {
             (
                 rate_of_total_activity(r, l, t, y),
-                negative(year_split(facts, l, y)),
+                negative(year_split(model, l, y)),
             )
         },
     )?;
@@ -57,21 +57,21 @@ pub(crate) fn aac1(alloc: Global, facts: &ModelData, name: RowName) -> Result<Ro
 }
 
 /// Whether a greatest activity in the year is set, 0 included.
-pub(crate) fn has_aac2(facts: &ModelData, r: u16, t: u16, y: u16) -> bool
-    requires region { IsRegion facts.now.facts r }
-    requires technology { IsTechnology facts.now.facts t }
-    requires year { IsYear facts.now.facts y }
-    ensures { result ≡ has_aac2 facts.now.facts r t y }
+pub(crate) fn has_aac2(model: &ModelData, r: u16, t: u16, y: u16) -> bool
+    requires region { IsRegion model.now.facts r }
+    requires technology { IsTechnology model.now.facts t }
+    requires year { IsYear model.now.facts y }
+    ensures { result ≡ has_aac2 model.now.facts r t y }
 {
-    is_limit(facts.at(23, &[r, t, y]))
+    is_limit(model.at(23, &[r, t, y]))
 }
 
 /// AAC2: the activity in the year is at most its limit.
-pub(crate) fn aac2(alloc: Global, facts: &ModelData, name: RowName) -> Result<Row, Stopped>
-    requires region { IsRegion facts.now.facts name.index.region }
-    requires technology { IsTechnology facts.now.facts name.index.tech }
-    requires year { IsYear facts.now.facts name.index.year }
-    ensures { IsWritten name (by_rty (aac2 facts.now.facts) name.index) result }
+pub(crate) fn aac2(alloc: Global, model: &ModelData, name: RowName) -> Result<Row, Stopped>
+    requires region { IsRegion model.now.facts name.index.region }
+    requires technology { IsTechnology model.now.facts name.index.tech }
+    requires year { IsYear model.now.facts name.index.year }
+    ensures { IsWritten name (by_rty (aac2 model.now.facts) name.index) result }
 {
     let Index {
         region: r,
@@ -84,26 +84,26 @@ pub(crate) fn aac2(alloc: Global, facts: &ModelData, name: RowName) -> Result<Ro
         name,
         total_technology_annual_activity(r, t, y),
         Sense::Most,
-        total_technology_annual_activity_upper_limit(facts, r, t, y),
+        total_technology_annual_activity_upper_limit(model, r, t, y),
     )
 }
 
 /// Whether a least activity in the year is set.
-pub(crate) fn has_aac3(facts: &ModelData, r: u16, t: u16, y: u16) -> bool
-    requires region { IsRegion facts.now.facts r }
-    requires technology { IsTechnology facts.now.facts t }
-    requires year { IsYear facts.now.facts y }
-    ensures { result ≡ has_aac3 facts.now.facts r t y }
+pub(crate) fn has_aac3(model: &ModelData, r: u16, t: u16, y: u16) -> bool
+    requires region { IsRegion model.now.facts r }
+    requires technology { IsTechnology model.now.facts t }
+    requires year { IsYear model.now.facts y }
+    ensures { result ≡ has_aac3 model.now.facts r t y }
 {
-    is_positive(facts.at(24, &[r, t, y]))
+    is_positive(model.at(24, &[r, t, y]))
 }
 
 /// AAC3: the activity in the year is at least its limit.
-pub(crate) fn aac3(alloc: Global, facts: &ModelData, name: RowName) -> Result<Row, Stopped>
-    requires region { IsRegion facts.now.facts name.index.region }
-    requires technology { IsTechnology facts.now.facts name.index.tech }
-    requires year { IsYear facts.now.facts name.index.year }
-    ensures { IsWritten name (by_rty (aac3 facts.now.facts) name.index) result }
+pub(crate) fn aac3(alloc: Global, model: &ModelData, name: RowName) -> Result<Row, Stopped>
+    requires region { IsRegion model.now.facts name.index.region }
+    requires technology { IsTechnology model.now.facts name.index.tech }
+    requires year { IsYear model.now.facts name.index.year }
+    ensures { IsWritten name (by_rty (aac3 model.now.facts) name.index) result }
 {
     let Index {
         region: r,
@@ -116,13 +116,13 @@ pub(crate) fn aac3(alloc: Global, facts: &ModelData, name: RowName) -> Result<Ro
         name,
         total_technology_annual_activity(r, t, y),
         Sense::Least,
-        total_technology_annual_activity_lower_limit(facts, r, t, y),
+        total_technology_annual_activity_lower_limit(model, r, t, y),
     )
 }
 
 /// TAC1: the activity of the model period is that of its years.
-pub(crate) fn tac1(alloc: Global, facts: &ModelData, name: RowName) -> Result<Row, Stopped>
-    ensures { IsWritten name (by_rt (tac1 facts.now.facts) name.index) result }
+pub(crate) fn tac1(alloc: Global, model: &ModelData, name: RowName) -> Result<Row, Stopped>
+    ensures { IsWritten name (by_rt (tac1 model.now.facts) name.index) result }
 {
     let Index {
         region: r,
@@ -132,26 +132,26 @@ pub(crate) fn tac1(alloc: Global, facts: &ModelData, name: RowName) -> Result<Ro
     let mut left = LeftSide::new(alloc, name);
     left.add(total_technology_model_period_activity(r, t), one())?;
     left.add_each(
-        facts.sets().count(YEAR),
+        model.sets().count(YEAR),
         |y| (total_technology_annual_activity(r, t, y), minus_one()),
     )?;
     left.write(alloc, Sense::Equal, zero())
 }
 
 /// Whether a greatest activity of the model period is set. 0 sets none here, unlike in a year.
-pub(crate) fn has_tac2(facts: &ModelData, r: u16, t: u16) -> bool
-    requires region { IsRegion facts.now.facts r }
-    requires technology { IsTechnology facts.now.facts t }
-    ensures { result ≡ has_tac2 facts.now.facts r t }
+pub(crate) fn has_tac2(model: &ModelData, r: u16, t: u16) -> bool
+    requires region { IsRegion model.now.facts r }
+    requires technology { IsTechnology model.now.facts t }
+    ensures { result ≡ has_tac2 model.now.facts r t }
 {
-    is_positive(facts.at(25, &[r, t]))
+    is_positive(model.at(25, &[r, t]))
 }
 
 /// TAC2: the activity of the model period is at most its limit.
-pub(crate) fn tac2(alloc: Global, facts: &ModelData, name: RowName) -> Result<Row, Stopped>
-    requires region { IsRegion facts.now.facts name.index.region }
-    requires technology { IsTechnology facts.now.facts name.index.tech }
-    ensures { IsWritten name (by_rt (tac2 facts.now.facts) name.index) result }
+pub(crate) fn tac2(alloc: Global, model: &ModelData, name: RowName) -> Result<Row, Stopped>
+    requires region { IsRegion model.now.facts name.index.region }
+    requires technology { IsTechnology model.now.facts name.index.tech }
+    ensures { IsWritten name (by_rt (tac2 model.now.facts) name.index) result }
 {
     let Index {
         region: r,
@@ -163,24 +163,24 @@ pub(crate) fn tac2(alloc: Global, facts: &ModelData, name: RowName) -> Result<Ro
         name,
         total_technology_model_period_activity(r, t),
         Sense::Most,
-        total_technology_model_period_activity_upper_limit(facts, r, t),
+        total_technology_model_period_activity_upper_limit(model, r, t),
     )
 }
 
 /// Whether a least activity of the model period is set.
-pub(crate) fn has_tac3(facts: &ModelData, r: u16, t: u16) -> bool
-    requires region { IsRegion facts.now.facts r }
-    requires technology { IsTechnology facts.now.facts t }
-    ensures { result ≡ has_tac3 facts.now.facts r t }
+pub(crate) fn has_tac3(model: &ModelData, r: u16, t: u16) -> bool
+    requires region { IsRegion model.now.facts r }
+    requires technology { IsTechnology model.now.facts t }
+    ensures { result ≡ has_tac3 model.now.facts r t }
 {
-    is_positive(facts.at(26, &[r, t]))
+    is_positive(model.at(26, &[r, t]))
 }
 
 /// TAC3: the activity of the model period is at least its limit.
-pub(crate) fn tac3(alloc: Global, facts: &ModelData, name: RowName) -> Result<Row, Stopped>
-    requires region { IsRegion facts.now.facts name.index.region }
-    requires technology { IsTechnology facts.now.facts name.index.tech }
-    ensures { IsWritten name (by_rt (tac3 facts.now.facts) name.index) result }
+pub(crate) fn tac3(alloc: Global, model: &ModelData, name: RowName) -> Result<Row, Stopped>
+    requires region { IsRegion model.now.facts name.index.region }
+    requires technology { IsTechnology model.now.facts name.index.tech }
+    ensures { IsWritten name (by_rt (tac3 model.now.facts) name.index) result }
 {
     let Index {
         region: r,
@@ -192,6 +192,6 @@ pub(crate) fn tac3(alloc: Global, facts: &ModelData, name: RowName) -> Result<Ro
         name,
         total_technology_model_period_activity(r, t),
         Sense::Least,
-        total_technology_model_period_activity_lower_limit(facts, r, t),
+        total_technology_model_period_activity_lower_limit(model, r, t),
     )
 }

@@ -16,21 +16,21 @@ use row_core::{Index, Row, RowName, Sense, Stopped};
 use std::alloc::Global;
 
 /// Whether a greatest total capacity is set, 0 included.
-pub(crate) fn has_tcc1(facts: &ModelData, r: u16, t: u16, y: u16) -> bool
-    requires region { IsRegion facts.now.facts r }
-    requires technology { IsTechnology facts.now.facts t }
-    requires year { IsYear facts.now.facts y }
-    ensures { result ≡ has_tcc1 facts.now.facts r t y }
+pub(crate) fn has_tcc1(model: &ModelData, r: u16, t: u16, y: u16) -> bool
+    requires region { IsRegion model.now.facts r }
+    requires technology { IsTechnology model.now.facts t }
+    requires year { IsYear model.now.facts y }
+    ensures { result ≡ has_tcc1 model.now.facts r t y }
 {
-    is_limit(facts.at(19, &[r, t, y]))
+    is_limit(model.at(19, &[r, t, y]))
 }
 
 /// TCC1: the total capacity is at most its limit.
-pub(crate) fn tcc1(alloc: Global, facts: &ModelData, name: RowName) -> Result<Row, Stopped>
-    requires region { IsRegion facts.now.facts name.index.region }
-    requires technology { IsTechnology facts.now.facts name.index.tech }
-    requires year { IsYear facts.now.facts name.index.year }
-    ensures { IsWritten name (by_rty (tcc1 facts.now.facts) name.index) result }
+pub(crate) fn tcc1(alloc: Global, model: &ModelData, name: RowName) -> Result<Row, Stopped>
+    requires region { IsRegion model.now.facts name.index.region }
+    requires technology { IsTechnology model.now.facts name.index.tech }
+    requires year { IsYear model.now.facts name.index.year }
+    ensures { IsWritten name (by_rty (tcc1 model.now.facts) name.index) result }
 {
     let Index {
         region: r,
@@ -43,26 +43,26 @@ pub(crate) fn tcc1(alloc: Global, facts: &ModelData, name: RowName) -> Result<Ro
         name,
         total_capacity_annual(r, t, y),
         Sense::Most,
-        total_annual_max_capacity(facts, r, t, y),
+        total_annual_max_capacity(model, r, t, y),
     )
 }
 
 /// Whether a least total capacity is set.
-pub(crate) fn has_tcc2(facts: &ModelData, r: u16, t: u16, y: u16) -> bool
-    requires region { IsRegion facts.now.facts r }
-    requires technology { IsTechnology facts.now.facts t }
-    requires year { IsYear facts.now.facts y }
-    ensures { result ≡ has_tcc2 facts.now.facts r t y }
+pub(crate) fn has_tcc2(model: &ModelData, r: u16, t: u16, y: u16) -> bool
+    requires region { IsRegion model.now.facts r }
+    requires technology { IsTechnology model.now.facts t }
+    requires year { IsYear model.now.facts y }
+    ensures { result ≡ has_tcc2 model.now.facts r t y }
 {
-    is_positive(facts.at(20, &[r, t, y]))
+    is_positive(model.at(20, &[r, t, y]))
 }
 
 /// TCC2: the total capacity is at least its limit.
-pub(crate) fn tcc2(alloc: Global, facts: &ModelData, name: RowName) -> Result<Row, Stopped>
-    requires region { IsRegion facts.now.facts name.index.region }
-    requires technology { IsTechnology facts.now.facts name.index.tech }
-    requires year { IsYear facts.now.facts name.index.year }
-    ensures { IsWritten name (by_rty (tcc2 facts.now.facts) name.index) result }
+pub(crate) fn tcc2(alloc: Global, model: &ModelData, name: RowName) -> Result<Row, Stopped>
+    requires region { IsRegion model.now.facts name.index.region }
+    requires technology { IsTechnology model.now.facts name.index.tech }
+    requires year { IsYear model.now.facts name.index.year }
+    ensures { IsWritten name (by_rty (tcc2 model.now.facts) name.index) result }
 {
     let Index {
         region: r,
@@ -75,6 +75,6 @@ pub(crate) fn tcc2(alloc: Global, facts: &ModelData, name: RowName) -> Result<Ro
         name,
         total_capacity_annual(r, t, y),
         Sense::Least,
-        total_annual_min_capacity(facts, r, t, y),
+        total_annual_min_capacity(model, r, t, y),
     )
 }

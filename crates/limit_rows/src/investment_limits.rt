@@ -18,21 +18,21 @@ use row_core::{Index, Row, RowName, Sense, Stopped};
 use std::alloc::Global;
 
 /// Whether a greatest new capacity is set, 0 included.
-pub(crate) fn has_ncc1(facts: &ModelData, r: u16, t: u16, y: u16) -> bool
-    requires region { IsRegion facts.now.facts r }
-    requires technology { IsTechnology facts.now.facts t }
-    requires year { IsYear facts.now.facts y }
-    ensures { result ≡ has_ncc1 facts.now.facts r t y }
+pub(crate) fn has_ncc1(model: &ModelData, r: u16, t: u16, y: u16) -> bool
+    requires region { IsRegion model.now.facts r }
+    requires technology { IsTechnology model.now.facts t }
+    requires year { IsYear model.now.facts y }
+    ensures { result ≡ has_ncc1 model.now.facts r t y }
 {
-    is_limit(facts.at(21, &[r, t, y]))
+    is_limit(model.at(21, &[r, t, y]))
 }
 
 /// NCC1: the new capacity is at most its limit.
-pub(crate) fn ncc1(alloc: Global, facts: &ModelData, name: RowName) -> Result<Row, Stopped>
-    requires region { IsRegion facts.now.facts name.index.region }
-    requires technology { IsTechnology facts.now.facts name.index.tech }
-    requires year { IsYear facts.now.facts name.index.year }
-    ensures { IsWritten name (by_rty (ncc1 facts.now.facts) name.index) result }
+pub(crate) fn ncc1(alloc: Global, model: &ModelData, name: RowName) -> Result<Row, Stopped>
+    requires region { IsRegion model.now.facts name.index.region }
+    requires technology { IsTechnology model.now.facts name.index.tech }
+    requires year { IsYear model.now.facts name.index.year }
+    ensures { IsWritten name (by_rty (ncc1 model.now.facts) name.index) result }
 {
     let Index {
         region: r,
@@ -45,26 +45,26 @@ pub(crate) fn ncc1(alloc: Global, facts: &ModelData, name: RowName) -> Result<Ro
         name,
         new_capacity(r, t, y),
         Sense::Most,
-        total_annual_max_capacity_investment(facts, r, t, y),
+        total_annual_max_capacity_investment(model, r, t, y),
     )
 }
 
 /// Whether a least new capacity is set.
-pub(crate) fn has_ncc2(facts: &ModelData, r: u16, t: u16, y: u16) -> bool
-    requires region { IsRegion facts.now.facts r }
-    requires technology { IsTechnology facts.now.facts t }
-    requires year { IsYear facts.now.facts y }
-    ensures { result ≡ has_ncc2 facts.now.facts r t y }
+pub(crate) fn has_ncc2(model: &ModelData, r: u16, t: u16, y: u16) -> bool
+    requires region { IsRegion model.now.facts r }
+    requires technology { IsTechnology model.now.facts t }
+    requires year { IsYear model.now.facts y }
+    ensures { result ≡ has_ncc2 model.now.facts r t y }
 {
-    is_positive(facts.at(22, &[r, t, y]))
+    is_positive(model.at(22, &[r, t, y]))
 }
 
 /// NCC2: the new capacity is at least its limit.
-pub(crate) fn ncc2(alloc: Global, facts: &ModelData, name: RowName) -> Result<Row, Stopped>
-    requires region { IsRegion facts.now.facts name.index.region }
-    requires technology { IsTechnology facts.now.facts name.index.tech }
-    requires year { IsYear facts.now.facts name.index.year }
-    ensures { IsWritten name (by_rty (ncc2 facts.now.facts) name.index) result }
+pub(crate) fn ncc2(alloc: Global, model: &ModelData, name: RowName) -> Result<Row, Stopped>
+    requires region { IsRegion model.now.facts name.index.region }
+    requires technology { IsTechnology model.now.facts name.index.tech }
+    requires year { IsYear model.now.facts name.index.year }
+    ensures { IsWritten name (by_rty (ncc2 model.now.facts) name.index) result }
 {
     let Index {
         region: r,
@@ -77,6 +77,6 @@ pub(crate) fn ncc2(alloc: Global, facts: &ModelData, name: RowName) -> Result<Ro
         name,
         new_capacity(r, t, y),
         Sense::Least,
-        total_annual_min_capacity_investment(facts, r, t, y),
+        total_annual_min_capacity_investment(model, r, t, y),
     )
 }

@@ -26,8 +26,8 @@ use row_core::{
 use std::alloc::{AllocError, Global};
 
 /// RE1: what a technology makes of a fuel in a year is that of the timeslices.
-pub(crate) fn re1(alloc: Global, facts: &ModelData, name: RowName) -> Result<Row, Stopped>
-    ensures { IsWritten name (by_rtfy (re1 facts.now.facts) name.index) result }
+pub(crate) fn re1(alloc: Global, model: &ModelData, name: RowName) -> Result<Row, Stopped>
+    ensures { IsWritten name (by_rtfy (re1 model.now.facts) name.index) result }
 {
     let Index {
         region: r,
@@ -39,17 +39,17 @@ pub(crate) fn re1(alloc: Global, facts: &ModelData, name: RowName) -> Result<Row
     let mut left = LeftSide::new(alloc, name);
     left.add(production_by_technology_annual(r, t, f, y), one())?;
     left.add_each(
-        facts.sets().count(TIMESLICE),
+        model.sets().count(TIMESLICE),
         |l| (production_by_technology(r, l, t, f, y), minus_one()),
     )?;
     left.write(alloc, Sense::Equal, zero())
 }
 
 /// RE2: renewable production is what the technologies make of all fuels, times the technology's tag.
-pub(crate) fn re2(alloc: Global, facts: &ModelData, name: RowName) -> Result<Row, Stopped>
-    requires region { IsRegion facts.now.facts name.index.region }
-    requires year { IsYear facts.now.facts name.index.year }
-    ensures { IsWritten name (by_ry (re2 facts.now.facts) name.index) result }
+pub(crate) fn re2(alloc: Global, model: &ModelData, name: RowName) -> Result<Row, Stopped>
+    requires region { IsRegion model.now.facts name.index.region }
+    requires year { IsYear model.now.facts name.index.year }
+    ensures { IsWritten name (by_ry (re2 model.now.facts) name.index) result }
 {
     let Index {
         region: r,
@@ -59,7 +59,7 @@ pub(crate) fn re2(alloc: Global, facts: &ModelData, name: RowName) -> Result<Row
     let mut left = LeftSide::new(alloc, name);
     left.add(total_re_production_annual(r, y), one())?;
     for f in 0..facts.sets().count(FUEL) {
-        subtract_renewable_production(alloc, &mut left, facts, r, f, y)?;
+        subtract_renewable_production(alloc, &mut left, model, r, f, y)?;
     }
     left.write(alloc, Sense::Equal, zero())
 }
@@ -68,38 +68,38 @@ pub(crate) fn re2(alloc: Global, facts: &ModelData, name: RowName) -> Result<Row
 fn subtract_renewable_production(
     alloc: Global,
     left: &mut LeftSide,
-    facts: &ModelData,
+    model: &ModelData,
     r: u16,
     f: u16,
     y: u16,
 ) -> Result<(), AllocError>
-    requires region { IsRegion facts.now.facts r }
-    requires fuel { IsFuel facts.now.facts f }
-    requires year { IsYear facts.now.facts y }
-    ensures { OnOk result (left.new ≡ with_amounts (renewable_production facts.now.facts r f y) left.old) }
+    requires region { IsRegion model.now.facts r }
+    requires fuel { IsFuel model.now.facts f }
+    requires year { IsYear model.now.facts y }
+    ensures { OnOk result (left.new ≡ with_amounts (renewable_production model.now.facts r f y) left.old) }
 {
-    let makers = facts.nonzero_technologies(alloc, ActivityRatio::Output, r, f, y)?;
-    subtract_products(left, facts, &makers, r, f, y)
+    let makers = model.nonzero_technologies(alloc, ActivityRatio::Output, r, f, y)?;
+    subtract_products(left, model, &makers, r, f, y)
 }
 
 /// Takes away what these technologies make of a fuel, each times its tag.
 fn subtract_products(
     left: &mut LeftSide,
-    facts: &ModelData,
+    model: &ModelData,
     makers: &[u16],
     r: u16,
     f: u16,
     y: u16,
 ) -> Result<(), AllocError>
-    requires region { IsRegion facts.now.facts r }
-    requires technologies { All (IsTechnology facts.now.facts) makers.now }
-    requires year { IsYear facts.now.facts y }
-    ensures { OnOk result (left.new ≡ with_amounts (products_of facts.now.facts r f y makers.now) left.old) }
+    requires region { IsRegion model.now.facts r }
+    requires technologies { All (IsTechnology model.now.facts) makers.now }
+    requires year { IsYear model.now.facts y }
+    ensures { OnOk result (left.new ≡ with_amounts (products_of model.now.facts r f y makers.now) left.old) }
 {
     for t in makers {
         left.add(
             production_by_technology_annual(r, *t, f, y),
-            negative(re_tag_technology(facts, r, *t, y)),
+            negative(re_tag_technology(model, r, *t, y)),
         )?;
     }
     Ok(())
@@ -107,10 +107,10 @@ fn subtract_products(
 
 /// RE3: the production that the target is about is the sum over the timeslices and fuels of the rate of production
 /// times the part of the year times the fuel's tag.
-pub(crate) fn re3(alloc: Global, facts: &ModelData, name: RowName) -> Result<Row, Stopped>
-    requires region { IsRegion facts.now.facts name.index.region }
-    requires year { IsYear facts.now.facts name.index.year }
-    ensures { IsWritten name (by_ry (re3 facts.now.facts) name.index) result }
+pub(crate) fn re3(alloc: Global, model: &ModelData, name: RowName) -> Result<Row, Stopped>
+    requires region { IsRegion model.now.facts name.index.region }
+    requires year { IsYear model.now.facts name.index.year }
+    ensures { IsWritten name (by_ry (re3 model.now.facts) name.index) result }
 {
     let Index {
         region: r,
@@ -120,7 +120,7 @@ pub(crate) fn re3(alloc: Global, facts: &ModelData, name: RowName) -> Result<Row
     let mut left = LeftSide::new(alloc, name);
     left.add(re_total_production_of_target_fuel_annual(r, y), one())?;
     for l in 0..facts.sets().count(TIMESLICE) {
-        subtract_target_production(&mut left, facts, r, l, y)?;
+        subtract_target_production(&mut left, model, r, l, y)?;
     }
     left.write(alloc, Sense::Equal, zero())
 }
@@ -128,49 +128,49 @@ pub(crate) fn re3(alloc: Global, facts: &ModelData, name: RowName) -> Result<Row
 /// Takes away what is produced in a timeslice, of each fuel, as far as it counts for the target.
 fn subtract_target_production(
     left: &mut LeftSide,
-    facts: &ModelData,
+    model: &ModelData,
     r: u16,
     l: u16,
     y: u16,
 ) -> Result<(), AllocError>
-    requires region { IsRegion facts.now.facts r }
-    requires slice { IsSlice facts.now.facts l }
-    requires year { IsYear facts.now.facts y }
-    ensures { OnOk result (left.new ≡ with_amounts (target_production facts.now.facts r l y) left.old) }
+    requires region { IsRegion model.now.facts r }
+    requires slice { IsSlice model.now.facts l }
+    requires year { IsYear model.now.facts y }
+    ensures { OnOk result (left.new ≡ with_amounts (target_production model.now.facts r l y) left.old) }
 {
     left.add_each(
-        facts.sets().count(FUEL),
+        model.sets().count(FUEL),
         |f|
-            requires region { IsRegion facts.now.facts r }
-            requires slice { IsSlice facts.now.facts l }
-            requires fuel { IsFuel facts.now.facts f }
-            requires year { IsYear facts.now.facts y }
-            ensures { IsTerm (rate_of_production r l f y, Negative (part_for_target facts.entry.now.facts r l f y)) result }
+            requires region { IsRegion model.now.facts r }
+            requires slice { IsSlice model.now.facts l }
+            requires fuel { IsFuel model.now.facts f }
+            requires year { IsYear model.now.facts y }
+            ensures { IsTerm (rate_of_production r l f y, Negative (part_for_target model.entry.now.facts r l f y)) result }
         {
             (
                 rate_of_production(r, l, f, y),
-                negative(part_for_target(facts, r, l, f, y)),
+                negative(part_for_target(model, r, l, f, y)),
             )
         },
     )
 }
 
 /// The part of a rate of production that counts for the target: the part of the year times the fuel's tag.
-fn part_for_target(facts: &ModelData, r: u16, l: u16, f: u16, y: u16) -> Option<Frac>
-    requires region { IsRegion facts.now.facts r }
-    requires slice { IsSlice facts.now.facts l }
-    requires fuel { IsFuel facts.now.facts f }
-    requires year { IsYear facts.now.facts y }
-    ensures { known result ≡ number_of (part_for_target facts.now.facts r l f y) }
+fn part_for_target(model: &ModelData, r: u16, l: u16, f: u16, y: u16) -> Option<Frac>
+    requires region { IsRegion model.now.facts r }
+    requires slice { IsSlice model.now.facts l }
+    requires fuel { IsFuel model.now.facts f }
+    requires year { IsYear model.now.facts y }
+    ensures { known result ≡ number_of (part_for_target model.now.facts r l f y) }
 {
-    times(year_split(facts, l, y), re_tag_fuel(facts, r, f, y))
+    times(year_split(model, l, y), re_tag_fuel(model, r, f, y))
 }
 
 /// RE4: the target's part of that production is at most the renewable production.
-pub(crate) fn re4(alloc: Global, facts: &ModelData, name: RowName) -> Result<Row, Stopped>
-    requires region { IsRegion facts.now.facts name.index.region }
-    requires year { IsYear facts.now.facts name.index.year }
-    ensures { IsWritten name (by_ry (re4 facts.now.facts) name.index) result }
+pub(crate) fn re4(alloc: Global, model: &ModelData, name: RowName) -> Result<Row, Stopped>
+    requires region { IsRegion model.now.facts name.index.region }
+    requires year { IsYear model.now.facts name.index.year }
+    ensures { IsWritten name (by_ry (re4 model.now.facts) name.index) result }
 {
     let Index {
         region: r,
@@ -181,14 +181,14 @@ pub(crate) fn re4(alloc: Global, facts: &ModelData, name: RowName) -> Result<Row
         alloc,
         name,
         re_total_production_of_target_fuel_annual(r, y),
-        re_min_production_target(facts, r, y),
+        re_min_production_target(model, r, y),
         total_re_production_annual(r, y),
     )
 }
 
 /// RE5: what a technology takes of a fuel in a year is that of the timeslices.
-pub(crate) fn re5(alloc: Global, facts: &ModelData, name: RowName) -> Result<Row, Stopped>
-    ensures { IsWritten name (by_rtfy (re5 facts.now.facts) name.index) result }
+pub(crate) fn re5(alloc: Global, model: &ModelData, name: RowName) -> Result<Row, Stopped>
+    ensures { IsWritten name (by_rtfy (re5 model.now.facts) name.index) result }
 {
     let Index {
         region: r,
@@ -200,7 +200,7 @@ pub(crate) fn re5(alloc: Global, facts: &ModelData, name: RowName) -> Result<Row
     let mut left = LeftSide::new(alloc, name);
     left.add(use_by_technology_annual(r, t, f, y), one())?;
     left.add_each(
-        facts.sets().count(TIMESLICE),
+        model.sets().count(TIMESLICE),
         |l| (use_by_technology(r, l, t, f, y), minus_one()),
     )?;
     left.write(alloc, Sense::Equal, zero())

@@ -27,10 +27,10 @@ use row_core::{Index, LeftSide, Row, RowName, Sense, Stopped, negative, one, tim
 use std::alloc::Global;
 
 /// RM1: the capacity in the margin is the sum over the technologies of what their capacity adds.
-pub(crate) fn rm1(alloc: Global, facts: &ModelData, name: RowName) -> Result<Row, Stopped>
-    requires region { IsRegion facts.now.facts name.index.region }
-    requires year { IsYear facts.now.facts name.index.year }
-    ensures { IsWritten name (by_ry (rm1 facts.now.facts) name.index) result }
+pub(crate) fn rm1(alloc: Global, model: &ModelData, name: RowName) -> Result<Row, Stopped>
+    requires region { IsRegion model.now.facts name.index.region }
+    requires year { IsYear model.now.facts name.index.year }
+    ensures { IsWritten name (by_ry (rm1 model.now.facts) name.index) result }
 {
     let Index {
         region: r,
@@ -40,16 +40,16 @@ pub(crate) fn rm1(alloc: Global, facts: &ModelData, name: RowName) -> Result<Row
     let mut left = LeftSide::new(alloc, name);
     left.add(total_capacity_in_reserve_margin(r, y), one())?;
     left.add_each(
-        facts.sets().count(TECHNOLOGY),
+        model.sets().count(TECHNOLOGY),
         |t|
-            requires region { IsRegion facts.now.facts r }
-            requires technology { IsTechnology facts.now.facts t }
-            requires year { IsYear facts.now.facts y }
-            ensures { IsTerm (total_capacity_annual r t y, Negative (unit_in_margin facts.entry.now.facts r t y)) result }
+            requires region { IsRegion model.now.facts r }
+            requires technology { IsTechnology model.now.facts t }
+            requires year { IsYear model.now.facts y }
+            ensures { IsTerm (total_capacity_annual r t y, Negative (unit_in_margin model.entry.now.facts r t y)) result }
         {
             (
                 total_capacity_annual(r, t, y),
-                negative(unit_in_margin(facts, r, t, y)),
+                negative(unit_in_margin(model, r, t, y)),
             )
         },
     )?;
@@ -57,23 +57,23 @@ pub(crate) fn rm1(alloc: Global, facts: &ModelData, name: RowName) -> Result<Row
 }
 
 /// What a unit of a technology's capacity adds to the margin.
-fn unit_in_margin(facts: &ModelData, r: u16, t: u16, y: u16) -> Option<Frac>
-    requires region { IsRegion facts.now.facts r }
-    requires technology { IsTechnology facts.now.facts t }
-    requires year { IsYear facts.now.facts y }
-    ensures { known result ≡ number_of (unit_in_margin facts.now.facts r t y) }
+fn unit_in_margin(model: &ModelData, r: u16, t: u16, y: u16) -> Option<Frac>
+    requires region { IsRegion model.now.facts r }
+    requires technology { IsTechnology model.now.facts t }
+    requires year { IsYear model.now.facts y }
+    ensures { known result ≡ number_of (unit_in_margin model.now.facts r t y) }
 {
     times(
-        reserve_margin_tag_technology(facts, r, t, y),
-        capacity_to_activity_unit(facts, r, t),
+        reserve_margin_tag_technology(model, r, t, y),
+        capacity_to_activity_unit(model, r, t),
     )
 }
 
 /// RM2: the demand that needs the margin is the sum over the fuels of the rate of production times the fuel's tag.
-pub(crate) fn rm2(alloc: Global, facts: &ModelData, name: RowName) -> Result<Row, Stopped>
-    requires region { IsRegion facts.now.facts name.index.region }
-    requires year { IsYear facts.now.facts name.index.year }
-    ensures { IsWritten name (by_rly (rm2 facts.now.facts) name.index) result }
+pub(crate) fn rm2(alloc: Global, model: &ModelData, name: RowName) -> Result<Row, Stopped>
+    requires region { IsRegion model.now.facts name.index.region }
+    requires year { IsYear model.now.facts name.index.year }
+    ensures { IsWritten name (by_rly (rm2 model.now.facts) name.index) result }
 {
     let Index {
         region: r,
@@ -84,16 +84,16 @@ pub(crate) fn rm2(alloc: Global, facts: &ModelData, name: RowName) -> Result<Row
     let mut left = LeftSide::new(alloc, name);
     left.add(demand_needing_reserve_margin(r, l, y), one())?;
     left.add_each(
-        facts.sets().count(FUEL),
+        model.sets().count(FUEL),
         |f|
-            requires region { IsRegion facts.now.facts r }
-            requires fuel { IsFuel facts.now.facts f }
-            requires year { IsYear facts.now.facts y }
-            ensures { IsTerm (rate_of_production r l f y, Negative (Billionths (reserve_margin_tag_fuel facts.entry.now.facts r f y))) result }
+            requires region { IsRegion model.now.facts r }
+            requires fuel { IsFuel model.now.facts f }
+            requires year { IsYear model.now.facts y }
+            ensures { IsTerm (rate_of_production r l f y, Negative (Billionths (reserve_margin_tag_fuel model.entry.now.facts r f y))) result }
         {
             (
                 rate_of_production(r, l, f, y),
-                negative(reserve_margin_tag_fuel(facts, r, f, y)),
+                negative(reserve_margin_tag_fuel(model, r, f, y)),
             )
         },
     )?;
@@ -101,10 +101,10 @@ pub(crate) fn rm2(alloc: Global, facts: &ModelData, name: RowName) -> Result<Row
 }
 
 /// RM3: the demand that needs the margin, times the margin, is at most the capacity in the margin.
-pub(crate) fn rm3(alloc: Global, facts: &ModelData, name: RowName) -> Result<Row, Stopped>
-    requires region { IsRegion facts.now.facts name.index.region }
-    requires year { IsYear facts.now.facts name.index.year }
-    ensures { IsWritten name (by_rly (rm3 facts.now.facts) name.index) result }
+pub(crate) fn rm3(alloc: Global, model: &ModelData, name: RowName) -> Result<Row, Stopped>
+    requires region { IsRegion model.now.facts name.index.region }
+    requires year { IsYear model.now.facts name.index.year }
+    ensures { IsWritten name (by_rly (rm3 model.now.facts) name.index) result }
 {
     let Index {
         region: r,
@@ -116,7 +116,7 @@ pub(crate) fn rm3(alloc: Global, facts: &ModelData, name: RowName) -> Result<Row
         alloc,
         name,
         demand_needing_reserve_margin(r, l, y),
-        reserve_margin(facts, r, y),
+        reserve_margin(model, r, y),
         total_capacity_in_reserve_margin(r, y),
     )
 }

@@ -32,28 +32,28 @@ use std::alloc::Global;
 /// denominators are cleared. `Width` with the row's name comes exactly where there is an instance and a number
 /// that this forms lies outside the range from `-(2^127 - 1)` to `2^127 - 1`.
 /// `Memory` comes where memory ran out.
-pub fn rows_of(alloc: Global, facts: &ModelData, eq: u8, at: Index) -> Result<Option<Row>, Stopped>
+pub fn rows_of(alloc: Global, model: &ModelData, eq: u8, at: Index) -> Result<Option<Row>, Stopped>
     requires equation { IsLimitEquation eq }
-    requires index { is_index facts.now.facts (subscripts_of eq) at ≡ true }
-    ensures instance { IfOk result (λ found. is_some found ≡ stands_at facts.now.facts eq at) }
-    ensures row { IfOk result (λ found. IfSome found (IsNamedRow facts.now.facts (name_at eq at) (terms_at facts.now.facts (name_at eq at)))) }
-    ensures fits { IfOk result (λ found. IfSome found (λ row. all_fit (equation_formed (terms_at facts.now.facts (name_at eq at))) ≡ true)) }
-    ensures stopped { IfErr result (IsStop (Place.Row (name_at eq at)) (not (stands_at facts.now.facts eq at) || all_fit (equation_formed (terms_at facts.now.facts (name_at eq at))))) }
+    requires index { is_index model.now.facts (subscripts_of eq) at ≡ true }
+    ensures instance { IfOk result (λ found. is_some found ≡ stands_at model.now.facts eq at) }
+    ensures row { IfOk result (λ found. IfSome found (IsNamedRow model.now.facts (name_at eq at) (terms_at model.now.facts (name_at eq at)))) }
+    ensures fits { IfOk result (λ found. IfSome found (λ row. all_fit (equation_formed (terms_at model.now.facts (name_at eq at))) ≡ true)) }
+    ensures stopped { IfErr result (IsStop (Place.Row (name_at eq at)) (not (stands_at model.now.facts eq at) || all_fit (equation_formed (terms_at model.now.facts (name_at eq at))))) }
 {
-    if !stands(facts, eq, at) {
+    if !stands(model, eq, at) {
         return Ok(None);
     }
-    match row_of(alloc, facts, RowName { eq, index: at }) {
+    match row_of(alloc, model, RowName { eq, index: at }) {
         Ok(row) => Ok(Some(row)),
         Err(stopped) => Err(stopped),
     }
 }
 
 /// Whether the equation has an instance at the index.
-fn stands(facts: &ModelData, eq: u8, at: Index) -> bool
+fn stands(model: &ModelData, eq: u8, at: Index) -> bool
     requires equation { IsLimitEquation eq }
-    requires index { is_index facts.now.facts (subscripts_of eq) at ≡ true }
-    ensures { result ≡ stands_at facts.now.facts eq at }
+    requires index { is_index model.now.facts (subscripts_of eq) at ≡ true }
+    ensures { result ≡ stands_at model.now.facts eq at }
 {
     let Index {
         region: r,
@@ -63,44 +63,44 @@ fn stands(facts: &ModelData, eq: u8, at: Index) -> bool
         ..
     } = at;
     match eq {
-        43 => has_tcc1(facts, r, t, y),
-        44 => has_tcc2(facts, r, t, y),
-        45 => has_ncc1(facts, r, t, y),
-        46 => has_ncc2(facts, r, t, y),
-        48 => has_aac2(facts, r, t, y),
-        49 => has_aac3(facts, r, t, y),
-        51 => has_tac2(facts, r, t),
-        52 => has_tac3(facts, r, t),
-        56 => produces(facts, r, t, f, y),
-        60 => uses(facts, r, t, f, y),
+        43 => has_tcc1(model, r, t, y),
+        44 => has_tcc2(model, r, t, y),
+        45 => has_ncc1(model, r, t, y),
+        46 => has_ncc2(model, r, t, y),
+        48 => has_aac2(model, r, t, y),
+        49 => has_aac3(model, r, t, y),
+        51 => has_tac2(model, r, t),
+        52 => has_tac3(model, r, t),
+        56 => produces(model, r, t, f, y),
+        60 => uses(model, r, t, f, y),
         _ => true,
     }
 }
 
 /// The row of the equation of this name.
-fn row_of(alloc: Global, facts: &ModelData, name: RowName) -> Result<Row, Stopped>
+fn row_of(alloc: Global, model: &ModelData, name: RowName) -> Result<Row, Stopped>
     requires equation { IsLimitEquation name.eq }
-    requires index { is_index facts.now.facts (subscripts_of name.eq) name.index ≡ true }
-    ensures { IsWritten name (terms_at facts.now.facts name) result }
+    requires index { is_index model.now.facts (subscripts_of name.eq) name.index ≡ true }
+    ensures { IsWritten name (terms_at model.now.facts name) result }
 {
     match name.eq {
-        43 => tcc1(alloc, facts, name),
-        44 => tcc2(alloc, facts, name),
-        45 => ncc1(alloc, facts, name),
-        46 => ncc2(alloc, facts, name),
-        47 => aac1(alloc, facts, name),
-        48 => aac2(alloc, facts, name),
-        49 => aac3(alloc, facts, name),
-        50 => tac1(alloc, facts, name),
-        51 => tac2(alloc, facts, name),
-        52 => tac3(alloc, facts, name),
-        53 => rm1(alloc, facts, name),
-        54 => rm2(alloc, facts, name),
-        55 => rm3(alloc, facts, name),
-        56 => re1(alloc, facts, name),
-        57 => re2(alloc, facts, name),
-        58 => re3(alloc, facts, name),
-        59 => re4(alloc, facts, name),
-        _ => re5(alloc, facts, name),
+        43 => tcc1(alloc, model, name),
+        44 => tcc2(alloc, model, name),
+        45 => ncc1(alloc, model, name),
+        46 => ncc2(alloc, model, name),
+        47 => aac1(alloc, model, name),
+        48 => aac2(alloc, model, name),
+        49 => aac3(alloc, model, name),
+        50 => tac1(alloc, model, name),
+        51 => tac2(alloc, model, name),
+        52 => tac3(alloc, model, name),
+        53 => rm1(alloc, model, name),
+        54 => rm2(alloc, model, name),
+        55 => rm3(alloc, model, name),
+        56 => re1(alloc, model, name),
+        57 => re2(alloc, model, name),
+        58 => re3(alloc, model, name),
+        59 => re4(alloc, model, name),
+        _ => re5(alloc, model, name),
     }
 }

@@ -72,11 +72,11 @@ fn is_value(has: bool, i: u16, count: u16) -> bool
 }
 
 /// Whether the index has the subscripts of the equation, each in its set.
-fn is_index(facts: &ModelData, eq: u8, at: Index) -> bool
+fn is_index(model: &ModelData, eq: u8, at: Index) -> bool
     requires { IsEquation eq }
-    ensures { result ≡ is_index facts.now.facts (subscripts_of eq) at }
+    ensures { result ≡ is_index model.now.facts (subscripts_of eq) at }
 {
-    let sets = facts.sets();
+    let sets = model.sets();
     let region = is_value(row_has(eq, 0), at.region, sets.count(1));
     let other = is_value(row_has(eq, 1), at.other, sets.count(1));
     let slice = is_value(row_has(eq, 2), at.slice, sets.count(6));
@@ -115,7 +115,7 @@ fn with_each(
 }
 
 /// The indices of the equation in the first region, in their order.
-fn indices(alloc: Global, facts: &ModelData, eq: u8) -> Result<Vec<Index>, AllocError>
+fn indices(alloc: Global, model: &ModelData, eq: u8) -> Result<Vec<Index>, AllocError>
     requires { IsEquation eq }
 {
     let first = Index {
@@ -128,7 +128,7 @@ fn indices(alloc: Global, facts: &ModelData, eq: u8) -> Result<Vec<Index>, Alloc
         mode: 0,
         year: 0,
     };
-    let sets = facts.sets();
+    let sets = model.sets();
     let mut list = Vec::new(alloc);
     list.push(first)?;
     for (place, set) in [(2, 6), (3, 2), (4, 3), (7, 7)] {
@@ -187,16 +187,16 @@ fn push_entry(
 fn rows(
     rt: &impl Abort,
     alloc: Global,
-    facts: &ModelData,
+    model: &ModelData,
     first: u8,
     last: u8,
 ) -> Result<String, Fail> {
     let mut out = String::new(alloc);
     assert!(rt; first >= 43 && last <= 60);
     for eq in first..last + 1 {
-        for at in indices(alloc, facts, eq)?.iter() {
-            assert!(rt; is_index(facts, eq, *at));
-            if let Some(row) = rows_of(alloc, facts, eq, *at)? {
+        for at in indices(alloc, model, eq)?.iter() {
+            assert!(rt; is_index(model, eq, *at));
+            if let Some(row) = rows_of(alloc, model, eq, *at)? {
                 push_row(rt, alloc, &mut out, &row)?;
             }
         }
@@ -214,7 +214,7 @@ fn assert_rows(
     expected: &str,
 ) -> Result<(), Fail> {
     match model(rt, alloc, text)? {
-        Some(facts) => assert_eq!(rt; rows(rt, alloc, &facts, first, last)?.as_str(), expected),
+        Some(model) => assert_eq!(rt; rows(rt, alloc, &model, first, last)?.as_str(), expected),
         None => assert!(rt; false, "refused"),
     }
     Ok(())

@@ -7,7 +7,7 @@ use Rattle.std.specs.declared.cmp.Ordering.{Ordering}
 use Rattle.std.specs.declared.cmp.Ordering.TheVariants.{Less}
 use Rattle.row_core.specs.Numbers.{before_first, ascends}
 
--- ---- facts of every element
+-- ---- model of every element
 
 -- the fact holds of each element
 abbrev pub Every : {A : Type 0} → (A → Type 0) → List A → Type 0

@@ -70,33 +70,33 @@ fn answer_data(alloc: Global, blocks: &Blocks, sets: Sets) -> Result<Answer, All
         (first_refusal (blocks_told blocks.now)) answer.status answer.text.items) }
 {
     match build(alloc, blocks, sets) {
-        Ok(facts) => answer_equations(alloc, &facts),
+        Ok(model) => answer_equations(alloc, &model),
         Err(BuildFail::Fault(fault, sets)) => refuse_data(alloc, fault, &sets),
         Err(BuildFail::Memory) => Err(AllocError),
     }
 }
 
 // The equations of the data, or the line for the first row that can't be made.
-fn answer_equations(alloc: Global, facts: &ModelData) -> Result<Answer, AllocError>
-    ensures { IfOk result (λ answer. DueForEquations facts.now.facts answer.status answer.text.items) }
+fn answer_equations(alloc: Global, model: &ModelData) -> Result<Answer, AllocError>
+    ensures { IfOk result (λ answer. DueForEquations model.now.facts answer.status answer.text.items) }
 {
-    match RowBook::new(alloc, facts) {
-        Ok(book) => write_book(alloc, facts, &book),
-        Err(BookFail::Width(place)) => stop_at(alloc, place, facts.sets()),
+    match RowBook::new(alloc, model) {
+        Ok(book) => write_book(alloc, model, &book),
+        Err(BookFail::Width(place)) => stop_at(alloc, place, model.sets()),
         Err(BookFail::TooManyEntries) => refuse_entries(alloc),
         Err(BookFail::Memory) => Err(AllocError),
     }
 }
 
 // The text of the rows of a book.
-fn write_book(alloc: Global, facts: &ModelData, book: &RowBook) -> Result<Answer, AllocError>
-    requires rows { AreRowsOf facts.now.facts (instances facts.now.facts) book.now.rows }
+fn write_book(alloc: Global, model: &ModelData, book: &RowBook) -> Result<Answer, AllocError>
+    requires rows { AreRowsOf model.now.facts (instances model.now.facts) book.now.rows }
     requires variables { AreVariablesOf book.now.rows book.now.vars }
-    requires named { AllByRecursion (HasNameWithin facts.now.facts.sets) book.now.rows }
-    requires within { AllByRecursion (IsWithinSets facts.now.facts.sets) book.now.vars }
-    ensures { IfOk result (λ answer. (answer.status ≡ Status.Done) × WritesEquations facts.now.facts answer.text.items) }
+    requires named { AllByRecursion (HasNameWithin model.now.facts.sets) book.now.rows }
+    requires within { AllByRecursion (IsWithinSets model.now.facts.sets) book.now.vars }
+    ensures { IfOk result (λ answer. (answer.status ≡ Status.Done) × WritesEquations model.now.facts answer.text.items) }
 {
-    let text = mps_text(alloc, book.rows(), book.vars(), facts.sets())?;
+    let text = mps_text(alloc, book.rows(), book.vars(), model.sets())?;
     let status = Status::Done;
     Ok(Answer { status, text })
 }

@@ -33,7 +33,7 @@ pub filter-all : {A : Type 0} (xs : List A) → filter (λ x. true) xs ≡ xs
 filter-all [] = refl
 filter-all (x ∷ xs) = ap (λ rest. x ∷ rest) (filter-all xs)
 
--- ---- facts of every element
+-- ---- model of every element
 
 pub all-from : {A : Type 0} (P : A → Type 0) (xs : List A) → ((x : A) → Has xs x → P x) → AllByRecursion P xs
 all-from P [] of_each = tt

@@ -45,24 +45,24 @@ impl RowBook {
     /// The first row that can't be made is refused: with `Width` and its name where a number that is formed
     /// for it doesn't fit, and else with `TooManyEntries`, where the entries of the rows up to and with it
     /// are more than 4,000,000. `Memory` comes where memory ran out.
-    pub fn new(alloc: Global, facts: &ModelData) -> Result<RowBook, BookFail>
-        ensures rows { IfOk result (λ book. AreRowsOf facts.now.facts (instances facts.now.facts) book.rows) }
+    pub fn new(alloc: Global, model: &ModelData) -> Result<RowBook, BookFail>
+        ensures rows { IfOk result (λ book. AreRowsOf model.now.facts (instances model.now.facts) book.rows) }
         ensures ascending { IfOk result (λ book. ascends row_name_cmp (names_of book.rows) ≡ true) }
         ensures variables { IfOk result (λ book. AreVariablesOf book.rows book.vars) }
         ensures definitions { IfOk result (λ book. AreTriangular book.rows) }
 
         // Each name is of its list, with the positions of members as its subscripts, and each variable exists.
-        ensures named { IfOk result (λ book. AllByRecursion (HasNameWithin facts.now.facts.sets) book.rows) }
-        ensures within { IfOk result (λ book. AllByRecursion (IsWithinSets facts.now.facts.sets) book.vars) }
-        ensures exist { IfOk result (λ book. AllByRecursion (λ v. exists facts.now.facts v ≡ true) book.vars) }
+        ensures named { IfOk result (λ book. AllByRecursion (HasNameWithin model.now.facts.sets) book.rows) }
+        ensures within { IfOk result (λ book. AllByRecursion (IsWithinSets model.now.facts.sets) book.vars) }
+        ensures exist { IfOk result (λ book. AllByRecursion (λ v. exists model.now.facts v ≡ true) book.vars) }
 
         // When there is a book, and why there is none.
-        ensures made { OnOk result (CanBeMade facts.now.facts 0 (instances facts.now.facts)) }
-        ensures stopped { IfErr result (HasStopped facts.now.facts 0 (instances facts.now.facts)) }
-        ensures place { IfErr result (NamesRowWithin facts.now.facts.sets) }
+        ensures made { OnOk result (CanBeMade model.now.facts 0 (instances model.now.facts)) }
+        ensures stopped { IfErr result (HasStopped model.now.facts 0 (instances model.now.facts)) }
+        ensures place { IfErr result (NamesRowWithin model.now.facts.sets) }
     {
-        let factors = region_factors(alloc, facts)?;
-        let rows = match all_rows(alloc, facts, &factors) {
+        let factors = region_factors(alloc, model)?;
+        let rows = match all_rows(alloc, model, &factors) {
             Ok(rows) => rows,
             Err(fail) => return Err(fail),
         };

@@ -16,34 +16,34 @@ use std::alloc::{AllocError, Global};
 /// The other regions and timeslices of the equation in a region, in order.
 pub(crate) fn outers_of(
     alloc: Global,
-    facts: &ModelData,
+    model: &ModelData,
     eq: u8,
     region: u16,
 ) -> Result<Vec<Index>, AllocError>
     requires { IsEquation eq }
-    ensures { IfOk result (λ outers. outers.items ≡ outers_of facts.now.facts eq region) }
+    ensures { IfOk result (λ outers. outers.items ≡ outers_of model.now.facts eq region) }
 {
-    walked(alloc, facts, eq, &OUTER, in_region(region))
+    walked(alloc, model, eq, &OUTER, in_region(region))
 }
 
 /// The other subscripts with which it may have instances, in order. Where it stands by a ratio, these are the
 /// ones of which the ratio isn't 0, and no others are looked at.
 pub(crate) fn cells_of(
     alloc: Global,
-    facts: &ModelData,
+    model: &ModelData,
     eq: u8,
     region: u16,
 ) -> Result<Vec<Index>, AllocError>
     requires equation { IsEquation eq }
-    requires region { region < count_of facts.now.facts sets.region }
-    ensures { IfOk result (λ cells. AreAsked facts.now.facts eq region cells.items) }
+    requires region { region < count_of model.now.facts sets.region }
+    ensures { IfOk result (λ cells. AreAsked model.now.facts eq region cells.items) }
 {
     match eq {
-        7 => cells_of_ratio(alloc, facts, ActivityRatio::Output, region),
-        10 => cells_of_ratio(alloc, facts, ActivityRatio::Input, region),
-        35 => cells_of_ratio(alloc, facts, ActivityRatio::Emission, region),
-        8 | 22 | 56 => cells_of_some_mode(alloc, facts, ActivityRatio::Output, region),
-        11 | 23 | 60 => cells_of_some_mode(alloc, facts, ActivityRatio::Input, region),
-        _ => walked(alloc, facts, eq, &INNER, in_region(region)),
+        7 => cells_of_ratio(alloc, model, ActivityRatio::Output, region),
+        10 => cells_of_ratio(alloc, model, ActivityRatio::Input, region),
+        35 => cells_of_ratio(alloc, model, ActivityRatio::Emission, region),
+        8 | 22 | 56 => cells_of_some_mode(alloc, model, ActivityRatio::Output, region),
+        11 | 23 | 60 => cells_of_some_mode(alloc, model, ActivityRatio::Input, region),
+        _ => walked(alloc, model, eq, &INNER, in_region(region)),
     }
 }

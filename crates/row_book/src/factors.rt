@@ -24,45 +24,45 @@ const BILLION: i128 = 1_000_000_000;
 
 /// The factors of each region, in order: they are those of its DiscountRate, for the years of the model period
 /// and for the lives of its technologies. Refuses for want of memory alone.
-pub(crate) fn region_factors(alloc: Global, facts: &ModelData) -> Result<Vec<Factors>, AllocError>
-    ensures { IfOk result (λ factors. AreRegionFactors facts.now.facts factors.items) }
+pub(crate) fn region_factors(alloc: Global, model: &ModelData) -> Result<Vec<Factors>, AllocError>
+    ensures { IfOk result (λ factors. AreRegionFactors model.now.facts factors.items) }
 {
     let mut factors = Vec::new(alloc);
     for region in 0..facts.sets().count(REGION) {
-        let one = factors_of(alloc, facts, region)?;
+        let one = factors_of(alloc, model, region)?;
         factors.push(one)?;
     }
     Ok(factors)
 }
 
 /// The factors of a region.
-fn factors_of(alloc: Global, facts: &ModelData, region: u16) -> Result<Factors, AllocError>
-    requires { IsRegion facts.now.facts region }
-    ensures { IfOk result (λ factors. AreFactorsOf facts.now.facts region factors) }
+fn factors_of(alloc: Global, model: &ModelData, region: u16) -> Result<Factors, AllocError>
+    requires { IsRegion model.now.facts region }
+    ensures { IfOk result (λ factors. AreFactorsOf model.now.facts region factors) }
 {
-    let rate = rate_of(facts, region);
-    let span = years_in_all(facts);
-    let lives = longest_life(facts, region);
+    let rate = rate_of(model, region);
+    let span = years_in_all(model);
+    let lives = longest_life(model, region);
     Factors::new(alloc, rate, span, lives)
 }
 
 /// DiscountRate of a region, in billionths.
-fn rate_of(facts: &ModelData, region: u16) -> i128
-    requires { IsRegion facts.now.facts region }
+fn rate_of(model: &ModelData, region: u16) -> i128
+    requires { IsRegion model.now.facts region }
     ensures least { pos 0 ≤ℤ result }
     ensures most { result ≤ℤ pos 1000000000 }
-    ensures rate { unsigned_abs result ≡ rate_of facts.now.facts region }
+    ensures rate { unsigned_abs result ≡ rate_of model.now.facts region }
 {
-    let rate = facts.at(2, &[region]);
+    let rate = model.at(2, &[region]);
     rate.num * (BILLION / rate.den)
 }
 
 /// How many years the model period has, from the first year to the last, gaps included; 1 where there is no
 /// year.
-fn years_in_all(facts: &ModelData) -> u16
-    ensures { result ≡ years_in_all facts.now.facts }
+fn years_in_all(model: &ModelData) -> u16
+    ensures { result ≡ years_in_all model.now.facts }
 {
-    let sets = facts.sets();
+    let sets = model.sets();
     if sets.count(YEAR) == 0 {
         return 1;
     }
@@ -70,22 +70,22 @@ fn years_in_all(facts: &ModelData) -> u16
 }
 
 /// OperationalLife of a technology in a region, in years.
-fn life_of(facts: &ModelData, region: u16, technology: u16) -> u16
-    requires region { IsRegion facts.now.facts region }
-    requires technology { IsTechnology facts.now.facts technology }
-    ensures { result ≡ life_of facts.now.facts region technology }
+fn life_of(model: &ModelData, region: u16, technology: u16) -> u16
+    requires region { IsRegion model.now.facts region }
+    requires technology { IsTechnology model.now.facts technology }
+    ensures { result ≡ life_of model.now.facts region technology }
 {
-    facts.at(11, &[region, technology]).num as u16
+    model.at(11, &[region, technology]).num as u16
 }
 
 /// The longest life of a technology in a region, in years.
-fn longest_life(facts: &ModelData, region: u16) -> u16
-    requires { IsRegion facts.now.facts region }
-    ensures { (t : ℕ) → IsTechnology facts.now.facts t → life_of facts.now.facts region t ≤ result }
+fn longest_life(model: &ModelData, region: u16) -> u16
+    requires { IsRegion model.now.facts region }
+    ensures { (t : ℕ) → IsTechnology model.now.facts t → life_of model.now.facts region t ≤ result }
 {
     let mut longest = 0;
     for technology in 0..facts.sets().count(TECHNOLOGY) {
-        longest = longest.max(life_of(facts, region, technology));
+        longest = longest.max(life_of(model, region, technology));
     }
     longest
 }

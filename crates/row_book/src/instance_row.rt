@@ -18,23 +18,23 @@ use std::alloc::Global;
 /// The row of an equation at an index, if there is an instance.
 pub(crate) fn row_of(
     alloc: Global,
-    facts: &ModelData,
+    model: &ModelData,
     factors: &[Factors],
     name: RowName,
 ) -> Result<Option<Row>, Stopped>
     requires equation { IsEquation name.eq }
-    requires factors { AreRegionFactors facts.now.facts factors.now }
-    requires index { is_index facts.now.facts (subscripts_of name.eq) name.index ≡ true }
-    ensures instance { IfOk result (λ found. is_some found ≡ stands_at facts.now.facts name.eq name.index) }
-    ensures row { IfOk result (λ found. IfSome found (IsNamedRow facts.now.facts name (terms_at facts.now.facts name))) }
-    ensures fits { IfOk result (λ found. IfSome found (λ row. row_fits facts.now.facts name ≡ true)) }
-    ensures stopped { IfErr result (IsStop (Place.Row name) (not (stands_at facts.now.facts name.eq name.index) || row_fits facts.now.facts name)) }
+    requires factors { AreRegionFactors model.now.facts factors.now }
+    requires index { is_index model.now.facts (subscripts_of name.eq) name.index ≡ true }
+    ensures instance { IfOk result (λ found. is_some found ≡ stands_at model.now.facts name.eq name.index) }
+    ensures row { IfOk result (λ found. IfSome found (IsNamedRow model.now.facts name (terms_at model.now.facts name))) }
+    ensures fits { IfOk result (λ found. IfSome found (λ row. row_fits model.now.facts name ≡ true)) }
+    ensures stopped { IfErr result (IsStop (Place.Row name) (not (stands_at model.now.facts name.eq name.index) || row_fits model.now.facts name)) }
 {
     match name.eq {
-        2..=6 => capacity_rows::rows_of(alloc, facts, name.eq, name.index),
-        25..=34 | 40..=42 => cost_rows::rows_of(alloc, facts, factors, name.eq, name.index),
-        35..=39 | 61..=64 => emission_rows::rows_of(alloc, facts, factors, name.eq, name.index),
-        43..=60 => limit_rows::rows_of(alloc, facts, name.eq, name.index),
-        _ => balance_rows::rows_of(alloc, facts, name.eq, name.index),
+        2..=6 => capacity_rows::rows_of(alloc, model, name.eq, name.index),
+        25..=34 | 40..=42 => cost_rows::rows_of(alloc, model, factors, name.eq, name.index),
+        35..=39 | 61..=64 => emission_rows::rows_of(alloc, model, factors, name.eq, name.index),
+        43..=60 => limit_rows::rows_of(alloc, model, name.eq, name.index),
+        _ => balance_rows::rows_of(alloc, model, name.eq, name.index),
     }
 }

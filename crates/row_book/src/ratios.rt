@@ -12,14 +12,14 @@ use std::alloc::{AllocError, Global};
 /// The technologies, fuels or emissions, modes and years of a region where the ratio isn't 0, in order.
 pub(crate) fn cells_of_ratio(
     alloc: Global,
-    facts: &ModelData,
+    model: &ModelData,
     ratio: ActivityRatio,
     region: u16,
 ) -> Result<Vec<Index>, AllocError>
-    requires { region < count_of facts.now.facts sets.region }
-    ensures { IfOk result (λ cells. cells.items ≡ cells_of_ratio facts.now.facts ratio region) }
+    requires { region < count_of model.now.facts sets.region }
+    ensures { IfOk result (λ cells. cells.items ≡ cells_of_ratio model.now.facts ratio region) }
 {
-    let indices = facts.nonzero_indices(alloc, ratio, region)?;
+    let indices = model.nonzero_indices(alloc, ratio, region)?;
     let cells = cells_at(alloc, ratio, region, &indices)?;
     Ok(cells)
 }
@@ -63,14 +63,14 @@ fn cell_at(ratio: ActivityRatio, region: u16, at: RatioIndex) -> Index
 /// The technologies, fuels or emissions, and years of a region where it isn't 0 in some mode, in order.
 pub(crate) fn cells_of_some_mode(
     alloc: Global,
-    facts: &ModelData,
+    model: &ModelData,
     ratio: ActivityRatio,
     region: u16,
 ) -> Result<Vec<Index>, AllocError>
-    requires { region < count_of facts.now.facts sets.region }
-    ensures { IfOk result (λ cells. cells.items ≡ cells_of_some_mode facts.now.facts ratio region) }
+    requires { region < count_of model.now.facts sets.region }
+    ensures { IfOk result (λ cells. cells.items ≡ cells_of_some_mode model.now.facts ratio region) }
 {
-    let in_modes = cells_of_ratio(alloc, facts, ratio, region)?;
+    let in_modes = cells_of_ratio(alloc, model, ratio, region)?;
     let mut cells = without_modes(alloc, &in_modes)?;
     cells.sort()?;
     cells.dedup();

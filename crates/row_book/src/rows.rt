@@ -31,14 +31,14 @@ const ENTRY_LIMIT: usize = 4_000_000;
 
 impl MadeRows {
     /// Adds the row of an equation at an index, if there is an instance.
-    fn add(&mut self, facts: &ModelData, factors: &[Factors], name: RowName) -> Result<(), BookFail>
+    fn add(&mut self, model: &ModelData, factors: &[Factors], name: RowName) -> Result<(), BookFail>
         requires equation { IsEquation name.eq }
-        requires factors { AreRegionFactors facts.now.facts factors.now }
-        requires index { is_index facts.now.facts (subscripts_of name.eq) name.index ≡ true }
-        ensures added { OnOk result (AddsRows facts.now.facts (instance_at facts.now.facts name.eq name.index) self.old self.new) }
-        ensures stopped { IfErr result (HasStopped facts.now.facts self.old.entries (instance_at facts.now.facts name.eq name.index)) }
+        requires factors { AreRegionFactors model.now.facts factors.now }
+        requires index { is_index model.now.facts (subscripts_of name.eq) name.index ≡ true }
+        ensures added { OnOk result (AddsRows model.now.facts (instance_at model.now.facts name.eq name.index) self.old self.new) }
+        ensures stopped { IfErr result (HasStopped model.now.facts self.old.entries (instance_at model.now.facts name.eq name.index)) }
     {
-        let row = match row_of(self.alloc, facts, factors, name) {
+        let row = match row_of(self.alloc, model, factors, name) {
             Ok(Some(row)) => row,
             Ok(None) => return Ok(()),
             Err(Stopped::Width(place)) => return Err(BookFail::Width(place)),
@@ -56,17 +56,17 @@ impl MadeRows {
     /// Adds the rows of the instances with these outer subscripts and one of these inner ones.
     fn add_cells(
         &mut self,
-        facts: &ModelData,
+        model: &ModelData,
         factors: &[Factors],
         eq: u8,
         cells: &[Index],
         outer: Index,
     ) -> Result<(), BookFail>
         requires equation { IsEquation eq }
-        requires factors { AreRegionFactors facts.now.facts factors.now }
-        requires indices { AllByRecursion (λ cell. is_index facts.now.facts (subscripts_of eq) (joined outer cell) ≡ true) cells.now }
-        ensures added { OnOk result (AddsRows facts.now.facts (instances_with facts.now.facts eq cells.now outer) self.old self.new) }
-        ensures stopped { IfErr result (HasStopped facts.now.facts self.old.entries (instances_with facts.now.facts eq cells.now outer)) }
+        requires factors { AreRegionFactors model.now.facts factors.now }
+        requires indices { AllByRecursion (λ cell. is_index model.now.facts (subscripts_of eq) (joined outer cell) ≡ true) cells.now }
+        ensures added { OnOk result (AddsRows model.now.facts (instances_with model.now.facts eq cells.now outer) self.old self.new) }
+        ensures stopped { IfErr result (HasStopped model.now.facts self.old.entries (instances_with model.now.facts eq cells.now outer)) }
     {
         for cell in cells {
             let index = Index {
@@ -74,7 +74,7 @@ impl MadeRows {
                 slice: outer.slice,
                 ..*cell
             };
-            match self.add(facts, factors, RowName { eq, index }) {
+            match self.add(model, factors, RowName { eq, index }) {
                 Ok(()) => {}
                 Err(fail) => return Err(fail),
             }
@@ -85,21 +85,21 @@ impl MadeRows {
     /// Adds the rows of an equation in a region.
     fn add_region(
         &mut self,
-        facts: &ModelData,
+        model: &ModelData,
         factors: &[Factors],
         eq: u8,
         region: u16,
     ) -> Result<(), BookFail>
         requires equation { IsEquation eq }
-        requires factors { AreRegionFactors facts.now.facts factors.now }
-        requires region { region < count_of facts.now.facts sets.region }
-        ensures added { OnOk result (AddsRows facts.now.facts (instances_in facts.now.facts eq region) self.old self.new) }
-        ensures stopped { IfErr result (HasStopped facts.now.facts self.old.entries (instances_in facts.now.facts eq region)) }
+        requires factors { AreRegionFactors model.now.facts factors.now }
+        requires region { region < count_of model.now.facts sets.region }
+        ensures added { OnOk result (AddsRows model.now.facts (instances_in model.now.facts eq region) self.old self.new) }
+        ensures stopped { IfErr result (HasStopped model.now.facts self.old.entries (instances_in model.now.facts eq region)) }
     {
-        let cells = cells_of(self.alloc, facts, eq, region)?;
-        let outers = outers_of(self.alloc, facts, eq, region)?;
+        let cells = cells_of(self.alloc, model, eq, region)?;
+        let outers = outers_of(self.alloc, model, eq, region)?;
         for outer in &outers {
-            match self.add_cells(facts, factors, eq, &cells, *outer) {
+            match self.add_cells(model, factors, eq, &cells, *outer) {
                 Ok(()) => {}
                 Err(fail) => return Err(fail),
             }
@@ -110,17 +110,17 @@ impl MadeRows {
     /// Adds the rows of an equation.
     fn add_equation(
         &mut self,
-        facts: &ModelData,
+        model: &ModelData,
         factors: &[Factors],
         eq: u8,
     ) -> Result<(), BookFail>
         requires equation { IsEquation eq }
-        requires factors { AreRegionFactors facts.now.facts factors.now }
-        ensures added { OnOk result (AddsRows facts.now.facts (instances_of facts.now.facts eq) self.old self.new) }
-        ensures stopped { IfErr result (HasStopped facts.now.facts self.old.entries (instances_of facts.now.facts eq)) }
+        requires factors { AreRegionFactors model.now.facts factors.now }
+        ensures added { OnOk result (AddsRows model.now.facts (instances_of model.now.facts eq) self.old self.new) }
+        ensures stopped { IfErr result (HasStopped model.now.facts self.old.entries (instances_of model.now.facts eq)) }
     {
         for region in 0..facts.sets().count(REGION) {
-            match self.add_region(facts, factors, eq, region) {
+            match self.add_region(model, factors, eq, region) {
                 Ok(()) => {}
                 Err(fail) => return Err(fail),
             }
@@ -129,13 +129,13 @@ impl MadeRows {
     }
 
     /// Adds the rows of all equations.
-    fn add_equations(&mut self, facts: &ModelData, factors: &[Factors]) -> Result<(), BookFail>
-        requires { AreRegionFactors facts.now.facts factors.now }
-        ensures added { OnOk result (AddsRows facts.now.facts (instances facts.now.facts) self.old self.new) }
-        ensures stopped { IfErr result (HasStopped facts.now.facts self.old.entries (instances facts.now.facts)) }
+    fn add_equations(&mut self, model: &ModelData, factors: &[Factors]) -> Result<(), BookFail>
+        requires { AreRegionFactors model.now.facts factors.now }
+        ensures added { OnOk result (AddsRows model.now.facts (instances model.now.facts) self.old self.new) }
+        ensures stopped { IfErr result (HasStopped model.now.facts self.old.entries (instances model.now.facts)) }
     {
         for eq in 1..EQUATION_COUNT + 1 {
-            match self.add_equation(facts, factors, eq) {
+            match self.add_equation(model, factors, eq) {
                 Ok(()) => {}
                 Err(fail) => return Err(fail),
             }
@@ -147,20 +147,20 @@ impl MadeRows {
 /// The row of each instance, in order.
 pub(crate) fn all_rows(
     alloc: Global,
-    facts: &ModelData,
+    model: &ModelData,
     factors: &[Factors],
 ) -> Result<Vec<Row>, BookFail>
-    requires { AreRegionFactors facts.now.facts factors.now }
-    ensures rows { IfOk result (λ rows. AreRowsOf facts.now.facts (instances facts.now.facts) rows.items) }
-    ensures made { OnOk result (CanBeMade facts.now.facts 0 (instances facts.now.facts)) }
-    ensures stopped { IfErr result (HasStopped facts.now.facts 0 (instances facts.now.facts)) }
+    requires { AreRegionFactors model.now.facts factors.now }
+    ensures rows { IfOk result (λ rows. AreRowsOf model.now.facts (instances model.now.facts) rows.items) }
+    ensures made { OnOk result (CanBeMade model.now.facts 0 (instances model.now.facts)) }
+    ensures stopped { IfErr result (HasStopped model.now.facts 0 (instances model.now.facts)) }
 {
     let mut rows = MadeRows {
         alloc,
         rows: Vec::new(alloc),
         entries: 0,
     };
-    match rows.add_equations(facts, factors) {
+    match rows.add_equations(model, factors) {
         Ok(()) => Ok(rows.rows),
         Err(fail) => Err(fail),
     }

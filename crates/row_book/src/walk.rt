@@ -104,12 +104,12 @@ fn moved(mut index: Index, subscript: Subscript, position: u16) -> Index
 
 /// How many values the subscript takes in the instances of the equation: as many as its set has members, and
 /// one, which is 0, where the equation doesn't have it.
-pub(crate) fn number_of_values(facts: &ModelData, eq: u8, subscript: Subscript) -> u16
+pub(crate) fn number_of_values(model: &ModelData, eq: u8, subscript: Subscript) -> u16
     requires { IsEquation eq }
-    ensures { range_with_len 0 result ≡ values_at facts.now.facts (subscripts_of eq) (place_of subscript) }
+    ensures { range_with_len 0 result ≡ values_at model.now.facts (subscripts_of eq) (place_of subscript) }
 {
     if row_has(eq, subscript.place()) {
-        facts.sets().count(subscript.set())
+        model.sets().count(subscript.set())
     } else {
         1
     }
@@ -119,19 +119,19 @@ pub(crate) fn number_of_values(facts: &ModelData, eq: u8, subscript: Subscript) 
 /// in the instances of the equation.
 fn push_walk(
     out: &mut Vec<Index>,
-    facts: &ModelData,
+    model: &ModelData,
     eq: u8,
     subscripts: &[Subscript],
     start: Index,
 ) -> Result<(), AllocError>
     requires { IsEquation eq }
-    ensures { OnOk result (out.new.items ≡ out.old.items ++ walk facts.now.facts (subscripts_of eq) subscripts.now start) }
+    ensures { OnOk result (out.new.items ≡ out.old.items ++ walk model.now.facts (subscripts_of eq) subscripts.now start) }
 {
     match subscripts.split_first() {
         None => out.push(start)?,
         Some((subscript, more)) => {
-            for position in 0..number_of_values(facts, eq, *subscript) {
-                push_walk(out, facts, eq, more, moved(start, *subscript, position))?;
+            for position in 0..number_of_values(model, eq, *subscript) {
+                push_walk(out, model, eq, more, moved(start, *subscript, position))?;
             }
         }
     }
@@ -142,15 +142,15 @@ fn push_walk(
 /// instances of the equation. Refuses for want of memory alone.
 pub(crate) fn walked(
     alloc: Global,
-    facts: &ModelData,
+    model: &ModelData,
     eq: u8,
     subscripts: &[Subscript],
     start: Index,
 ) -> Result<Vec<Index>, AllocError>
     requires { IsEquation eq }
-    ensures { IfOk result (λ indices. indices.items ≡ walk facts.now.facts (subscripts_of eq) subscripts.now start) }
+    ensures { IfOk result (λ indices. indices.items ≡ walk model.now.facts (subscripts_of eq) subscripts.now start) }
 {
     let mut out = Vec::new(alloc);
-    push_walk(&mut out, facts, eq, subscripts, start)?;
+    push_walk(&mut out, model, eq, subscripts, start)?;
     Ok(out)
 }

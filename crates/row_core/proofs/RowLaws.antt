@@ -1,4 +1,4 @@
--- How the facts that a row keeps come about: numbers without a common divisor, and lists that grow at their end.
+-- How the model that a row keeps come about: numbers without a common divisor, and lists that grow at their end.
 use Rattle.std.proofs.Common.{◌≡◌, ℕ, ◌*◌, ◌<◌, ◌≤◌, ℤ, pos, ◌*ℤ◌, Bool, true, false, List, [], ◌∷◌, ◌++◌, ◌&&◌, ◌||◌, not, nat_eq, refl, sym, ap, ◌∙◌, subst, arith}
 use Rattle.std.specs.Prelude.{unsigned_abs}
 use Rattle.std.specs.Int.{◌∣◌}

@@ -26,29 +26,29 @@ pub(crate) fn set_at(place: u8) -> u8
 }
 
 /// Whether the subscript at this place is a position in its set, or 0 where the equation doesn't have it.
-fn is_value_at(facts: &ModelData, eq: u8, place: u8, position: u16) -> bool
+fn is_value_at(model: &ModelData, eq: u8, place: u8, position: u16) -> bool
     requires equation { IsEquation eq }
     requires place { place < 8 }
-    ensures { result ≡ is_value_at facts.now.facts (subscripts_of eq) place position }
+    ensures { result ≡ is_value_at model.now.facts (subscripts_of eq) place position }
 {
     if row_has(eq, place) {
-        position < facts.sets().count(set_at(place))
+        position < model.sets().count(set_at(place))
     } else {
         position == 0
     }
 }
 
 /// Whether each subscript of the equation is a position in its set, and each other one 0.
-pub(crate) fn is_index(facts: &ModelData, eq: u8, at: Index) -> bool
+pub(crate) fn is_index(model: &ModelData, eq: u8, at: Index) -> bool
     requires { IsEquation eq }
-    ensures { result ≡ is_index facts.now.facts (subscripts_of eq) at }
+    ensures { result ≡ is_index model.now.facts (subscripts_of eq) at }
 {
-    is_value_at(facts, eq, 0, at.region)
-        && is_value_at(facts, eq, 1, at.other)
-        && is_value_at(facts, eq, 2, at.slice)
-        && is_value_at(facts, eq, 3, at.tech)
-        && is_value_at(facts, eq, 4, at.fuel)
-        && is_value_at(facts, eq, 5, at.emission)
-        && is_value_at(facts, eq, 6, at.mode)
-        && is_value_at(facts, eq, 7, at.year)
+    is_value_at(model, eq, 0, at.region)
+        && is_value_at(model, eq, 1, at.other)
+        && is_value_at(model, eq, 2, at.slice)
+        && is_value_at(model, eq, 3, at.tech)
+        && is_value_at(model, eq, 4, at.fuel)
+        && is_value_at(model, eq, 5, at.emission)
+        && is_value_at(model, eq, 6, at.mode)
+        && is_value_at(model, eq, 7, at.year)
 }

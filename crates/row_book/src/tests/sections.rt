@@ -40,7 +40,7 @@ pub(crate) fn section(
 /// What a data section says: as rows are made of it, and for the plain program.
 #[derive(Drop)]
 pub(crate) struct Model {
-    pub(crate) facts: ModelData,
+    pub(crate) model: ModelData,
     pub(crate) plain: PlainData,
 }
 
@@ -51,7 +51,7 @@ pub(crate) fn read(rt: &impl Abort, alloc: Global, text: &str) -> Result<Model, 
     let plain = plain_of(alloc, &blocks, sets_of(alloc, &blocks)?)?;
     let sets = sets_of(alloc, &blocks)?;
     match build(alloc, &blocks, sets) {
-        Ok(facts) => Ok(Model { facts, plain }),
+        Ok(model) => Ok(Model { model, plain }),
         Err(_) => Err(Fail::from("the data are refused")),
     }
 }
