@@ -4,6 +4,7 @@ use Rattle.std.specs.Cmp.Lexicographic.{pointwise}
 use Rattle.std.specs.List.{find, flat_map}
 use Rattle.std.specs.Option.{option_map, option_or}
 use Rattle.std.specs.Str.{bytes_eq}
+use Rattle.model_sets.specs.declared.param_numbers.TheConstants.{CAPACITY_OF_ONE_TECHNOLOGY_UNIT}
 use Rattle.model_sets.specs.Members.{SetLists, members}
 use Rattle.model_sets.specs.Params.{subscript_sets}
 
@@ -38,7 +39,7 @@ default_of d param = option_map (λ default. default.value) (find (λ default. n
 
 -- the number of CapacityOfOneTechnologyUnit
 abbrev pub unit_capacity : ℕ
-unit_capacity = 18
+unit_capacity = CAPACITY_OF_ONE_TECHNOLOGY_UNIT
 
 -- the value that a parameter has where neither a value nor a default is given: 0 for CapacityOfOneTechnologyUnit, and none for the others
 abbrev pub value_of_none : ℕ → Option ℤ

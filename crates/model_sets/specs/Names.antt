@@ -1,33 +1,34 @@
 -- The sets of the OSeMOSYS long code: numbers from 1, words and limits.
+use Rattle.model_sets.specs.declared.set_numbers.TheConstants.{REGION, TECHNOLOGY, FUEL, EMISSION, MODE_OF_OPERATION, TIMESLICE, YEAR, SET_COUNT}
 use Rattle.std.specs.Prelude.{ℕ, ◌-◌, ◌≤◌, List, [], ◌∷◌, codes, slice_index_or}
 
 -- the number of REGION
 abbrev pub region : ℕ
-region = 1
+region = REGION
 
 -- the number of TECHNOLOGY
 abbrev pub technology : ℕ
-technology = 2
+technology = TECHNOLOGY
 
 -- the number of FUEL
 abbrev pub fuel : ℕ
-fuel = 3
+fuel = FUEL
 
 -- the number of EMISSION
 abbrev pub emission : ℕ
-emission = 4
+emission = EMISSION
 
 -- the number of MODE_OF_OPERATION
 abbrev pub mode : ℕ
-mode = 5
+mode = MODE_OF_OPERATION
 
 -- the number of TIMESLICE
 abbrev pub timeslice : ℕ
-timeslice = 6
+timeslice = TIMESLICE
 
 -- the number of YEAR
 abbrev pub year : ℕ
-year = 7
+year = YEAR
 
 -- the words of the sets, from number 1
 abbrev pub set_words : List (List ℕ)
@@ -51,7 +52,7 @@ limits = 20 ∷ 500 ∷ 200 ∷ 50 ∷ 20 ∷ 300 ∷ 120 ∷ 1000 ∷ 1000 ∷ 
 
 -- how many sets there are
 abbrev pub set_count : ℕ
-set_count = 11
+set_count = SET_COUNT
 
 -- k is the number of a set
 abbrev pub IsSet : ℕ → Type 0

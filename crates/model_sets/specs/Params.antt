@@ -2,6 +2,7 @@
 use Rattle.std.specs.Prelude.{ℕ, ◌+◌, ◌-◌, ◌≤◌, List, [], ◌∷◌, ◌++◌, codes, length, map, Option, slice_index_or, position}
 use Rattle.std.specs.Option.{option_map}
 use Rattle.std.specs.Str.{bytes_eq}
+use Rattle.model_sets.specs.declared.param_numbers.TheConstants.{USED_PARAM_COUNT}
 use Rattle.model_sets.specs.Names.{region, technology, fuel, emission, mode, timeslice, year}
 
 -- a parameter's word, and for each of its subscripts the number of the set that it runs over
@@ -88,7 +89,7 @@ unused_params =
 
 -- how many parameters are used
 abbrev pub used_count : ℕ
-used_count = 38
+used_count = USED_PARAM_COUNT
 
 -- the words of all parameters, from number 1
 abbrev pub param_words : List (List ℕ)

@@ -9,6 +9,8 @@ mod fault;
 mod laws;
 mod limits;
 mod member_list;
+pub mod param_numbers;
+pub mod set_numbers;
 mod sets;
 mod years;
 

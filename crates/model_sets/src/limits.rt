@@ -3,11 +3,7 @@
 ghost use Rattle.std.specs.Prelude.{◌≡◌, ◌≤◌};
 ghost use Rattle.model_sets.specs.Names.{IsSet, limit_of};
 
-/// How many sets there are.
-pub(crate) const SET_COUNT: usize = 11;
-
-/// The number of the set YEAR.
-pub(crate) const YEAR: u8 = 7;
+use crate::set_numbers::SET_COUNT;
 
 /// The greatest numbers of members, from set 1.
 const LIMITS: [u16; SET_COUNT] = [20, 500, 200, 50, 20, 300, 120, 1000, 1000, 1000, 1000];

@@ -7,15 +7,16 @@ ghost use Rattle.model_sets.specs.Years.{IsYear, IsLeast, IsGreatest};
 ghost use Rattle.model_sets.specs.Refusals.{IsDueTo};
 
 use crate::fault::{BAD_YEAR, EMPTY_SET, SetFail, SetFault, TOO_MANY, TWICE_IN_SET};
-use crate::limits::{SET_COUNT, YEAR, limit_of};
+use crate::limits::limit_of;
 use crate::member_list::MemberList;
+use crate::set_numbers::{FUEL, MODE_OF_OPERATION, REGION, SET_COUNT, TECHNOLOGY, TIMESLICE, YEAR};
 use crate::years::year_of;
 use std::alloc::{AllocError, Global};
 use std::marker::Model;
 
 /// The sets that must have a member, in the order in which they are asked: REGION, TECHNOLOGY, FUEL,
 /// MODE_OF_OPERATION, TIMESLICE, YEAR.
-const REQUIRED_SETS: [u8; 6] = [1, 2, 3, 5, 6, 7];
+const REQUIRED_SETS: [u8; 6] = [REGION, TECHNOLOGY, FUEL, MODE_OF_OPERATION, TIMESLICE, YEAR];
 
 /// The members of the eleven sets, each set's in the order in which they were added. No name stands twice
 /// in a set, no set passes its limit, and each member of YEAR is a whole number from 1 to 9999, written

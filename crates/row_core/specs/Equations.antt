@@ -1,6 +1,7 @@
 -- The 64 named equations of the OSeMOSYS long code, by their short names.
 use Rattle.std.specs.Prelude.{ℕ, ◌-◌, ◌≤◌, Bool, List, [], ◌∷◌, codes, nat_eq, slice_index_or}
 use Rattle.std.specs.List.{list_any}
+use Rattle.row_core.specs.declared.equation_numbers.TheConstants.{EQUATION_COUNT}
 use Rattle.row_core.specs.Subscripts.{r, rr, l, t, f, e, m, y}
 
 -- a named equation: its word and its subscripts
@@ -83,7 +84,7 @@ equations =
 
 -- the number is that of an equation
 abbrev pub IsEquation : ℕ → Type 0
-IsEquation eq = (1 ≤ eq) × (eq ≤ 64)
+IsEquation eq = (1 ≤ eq) × (eq ≤ EQUATION_COUNT)
 
 -- the equation of a number
 abbrev pub equation_at : ℕ → Equation

@@ -1,6 +1,7 @@
 -- The 48 kinds of variables of the OSeMOSYS long code, in the order in which its equations define them after the three that are chosen: RateOfActivity, NewCapacity and Trade.
 use Rattle.std.specs.Prelude.{ℕ, ◌-◌, ◌≤◌, Bool, true, false, List, [], ◌∷◌, codes, nat_eq, slice_index_or}
 use Rattle.std.specs.List.{list_any}
+use Rattle.row_core.specs.declared.kind_numbers.TheConstants.{KIND_COUNT}
 use Rattle.row_core.specs.Subscripts.{r, rr, l, t, f, e, m, y}
 
 -- a kind of variable: its word, its subscripts, and whether it may be below 0
@@ -72,7 +73,7 @@ kinds =
 
 -- the number is that of a kind
 abbrev pub IsKind : ℕ → Type 0
-IsKind kind = (1 ≤ kind) × (kind ≤ 48)
+IsKind kind = (1 ≤ kind) × (kind ≤ KIND_COUNT)
 
 -- the kind of a number
 abbrev pub kind_at : ℕ → Kind

@@ -5,6 +5,7 @@ ghost use Rattle.row_core.specs.Equations.{IsEquation, equations, equation_at, w
 ghost use Rattle.row_core.specs.Tables.{described_equation};
 ghost use Rattle.row_core.specs.Words.{IsPlain};
 
+use crate::equation_numbers::EQUATION_COUNT;
 use crate::subscripts::{E, F, L, M, R, RR, T, Y};
 
 /// A named equation: its word and the places of its subscripts.
@@ -14,7 +15,7 @@ struct Equation {
 }
 
 /// The equations from number 1 on.
-static EQUATIONS: [Equation; 64] = [
+static EQUATIONS: [Equation; EQUATION_COUNT] = [
     Equation {
         word: "EQ_SpecifiedDemand",
         subscripts: &[R, L, F, Y],

@@ -6,6 +6,7 @@ ghost use Rattle.row_core.specs.Kinds.{IsKind, kinds, kind_at, word_of_kind, kin
 ghost use Rattle.row_core.specs.Tables.{described_kind};
 ghost use Rattle.row_core.specs.Words.{IsPlain};
 
+use crate::kind_numbers::KIND_COUNT;
 use crate::subscripts::{E, F, L, M, R, RR, T, Y};
 
 /// A kind of variables: its word, the places of its subscripts, and whether it may be below 0.
@@ -17,7 +18,7 @@ struct Kind {
 
 /// The kinds from number 1 on: the three that are chosen, and then those that the equations define, in
 /// the order of the equations.
-static KINDS: [Kind; 48] = [
+static KINDS: [Kind; KIND_COUNT] = [
     Kind {
         word: "RateOfActivity",
         subscripts: &[R, L, T, M, Y],

@@ -9,7 +9,9 @@ ghost use Rattle.row_core.specs.Numbers.{variables_of, numbers_of, ascends, none
 ghost use Rattle.row_core.specs.Order.{var_cmp};
 
 mod amounts;
+pub mod equation_numbers;
 mod equations;
+pub mod kind_numbers;
 mod kinds;
 mod left_side;
 mod names;
