@@ -10,6 +10,10 @@ use std::alloc::Global;
 use std::process::Abort;
 use std::test::Fail;
 
+/// The numbers of the models. They have up to three regions and two emissions, both methods of depreciation, rates of 0, of a
+/// twentieth and of the whole, and years with gaps.
+const MODELS: [u64; 6] = [1, 2, 4, 5, 10, 12];
+
 /// The rows are those of all instances, in order.
 fn assert_names(
     rt: &impl Abort,
@@ -44,8 +48,8 @@ fn assert_model(rt: &impl Abort, alloc: Global, seed: u64) -> Result<(), Fail> {
 
 #[test]
 fn rows_say_what_the_plain_program_says(rt: HostRuntime) -> Result<(), Fail> {
-    for seed in 0..6 {
-        assert_model(&rt, rt.alloc(), seed)?;
+    for seed in MODELS.iter() {
+        assert_model(&rt, rt.alloc(), *seed)?;
     }
     Ok(())
 }
