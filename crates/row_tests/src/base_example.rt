@@ -1,7 +1,8 @@
 //! The base example: one region, technology, fuel, timeslice, mode and year, and defaults alone.
 
 use crate::printed::{Printed, assert_printed, book_of};
-use crate::sections::{model_of, section};
+use crate::sections::model_of;
+use data_tests::section;
 use row_core::equation_numbers::EBA10;
 use row_core::kind_numbers::{TOTAL_DISCOUNTED_COST, TRADE};
 use row_core::{Index, Var};

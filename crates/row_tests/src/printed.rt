@@ -1,7 +1,8 @@
 //! Data sections with the rows that are printed for them.
 
 use crate::lines::push_row;
-use crate::sections::{model_of, section};
+use crate::sections::model_of;
+use data_tests::section;
 use param_tables::ModelData;
 use row_book::RowBook;
 use std::alloc::Global;

@@ -2,7 +2,7 @@
 
 ghost use Rattle.model_sets.specs.Params.{IsUsedParam};
 
-use crate::sections::section;
+use data_tests::section;
 use mathprog_data::{param_word, set_word};
 use model_sets::param_numbers::{
     ACCUMULATED_ANNUAL_DEMAND, ANNUAL_EMISSION_LIMIT, ANNUAL_EXOGENOUS_EMISSION,

@@ -1,34 +1,12 @@
-//! Small data sections, read as the program reads them and as plain lists.
+//! Data sections, read as the program reads them and as plain lists.
 
-use mathprog_data::{Blocks, Name, param_word, read_blocks};
+use mathprog_data::{Blocks, Name, read_blocks};
 use model_sets::Sets;
 use param_tables::{ModelData, build, sets_of};
 use plain_equations::{PlainData, PlainDefault, PlainValue};
 use std::alloc::{AllocError, Global};
 use std::process::Abort;
 use std::test::Fail;
-
-/// A default for each used parameter, from number 1.
-const DEFAULTS: [&str; 38] = [
-    "1", "0", "1", "0", "10", "1", "0", "1", "1", "1", "1", "0", "0", "1", "5", "2", "1", "0",
-    "-1", "0", "-1", "0", "-1", "0", "0", "0", "0", "0", "0", "0", "0", "0", "0", "0", "0", "-1",
-    "0", "-1",
-];
-
-/// The statements of the sets and of parameters, and a default for each used parameter that has none among them.
-pub(crate) fn section(alloc: Global, sets: &str, statements: &str) -> Result<String, AllocError> {
-    let mut text = String::from_str(alloc, sets)?;
-    text.push('\n')?;
-    text.push_str(statements)?;
-    for (i, default) in DEFAULTS.iter().enumerate() {
-        let word = param_word(i as u8 + 1);
-        let beginning = format!(in alloc; "param {word} ")?;
-        if !statements.contains(beginning.as_str()) {
-            text.push_str(format!(in alloc; "\nparam {word} default {default} := ;")?.as_str())?;
-        }
-    }
-    Ok(text)
-}
 
 /// The blocks of a data section.
 fn blocks_of(rt: &impl Abort, alloc: Global, text: &str) -> Result<Blocks, Fail> {

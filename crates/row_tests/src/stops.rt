@@ -1,6 +1,7 @@
 //! Data whose rows can't be made.
 
-use crate::sections::{model_of, section};
+use crate::sections::model_of;
+use data_tests::section;
 use row_book::{BookFail, RowBook};
 use row_core::equation_numbers::{CAB1, EQ_SPECIFIED_DEMAND};
 use row_core::{Index, Place, RowName};
