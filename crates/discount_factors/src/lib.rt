@@ -10,6 +10,3 @@ mod values;
 
 pub use factors::Factors;
 pub use laws::{bound_laws, closeness_laws, level_laws, root_laws};
-
-#[cfg(test)]
-mod tests;

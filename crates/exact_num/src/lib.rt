@@ -14,6 +14,3 @@ pub use fraction::Frac;
 pub use laws::{arithmetic_laws, gcd_laws, order_laws, range_laws, step_laws, value_laws};
 pub use order::cmp_frac;
 pub use range::{TooWide, difference, fits, product, total};
-
-#[cfg(test)]
-mod tests;

@@ -17,6 +17,3 @@ pub use mem_shelf::MemShelf;
 pub use mem_sink::MemSink;
 pub use out_sink::OutSink;
 pub use traits::{Failed, OpenFault, Shelf, Sink};
-
-#[cfg(test)]
-mod tests;

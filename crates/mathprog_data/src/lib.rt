@@ -14,13 +14,9 @@ mod params;
 mod reading;
 mod sets;
 mod spans;
-#[cfg(test)]
-mod statement_tests;
 mod statements;
 mod token;
 mod token_list;
-#[cfg(test)]
-mod token_tests;
 mod words;
 
 pub use blocks::{Blocks, Given, Mark, Name, ParamBlock, SetBlock};

@@ -17,6 +17,3 @@ mod years;
 pub use fault::{SetFail, SetFault};
 pub use laws::year_laws;
 pub use sets::Sets;
-
-#[cfg(test)]
-mod tests;

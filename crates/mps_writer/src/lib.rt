@@ -121,6 +121,3 @@ fn push_free_columns(out: &mut Vec<u8>, vars: &[Var], sets: &Sets) -> Result<(),
     }
     Ok(())
 }
-
-#[cfg(test)]
-mod tests;

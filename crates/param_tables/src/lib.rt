@@ -30,6 +30,3 @@ pub use ranges::Range;
 pub use ratios::{ActivityRatio, RatioIndex};
 pub use set_members::sets_of;
 pub use subscripts::subscript_sets;
-
-#[cfg(test)]
-mod tests;

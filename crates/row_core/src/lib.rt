@@ -94,10 +94,3 @@ pub struct Row {
     pub ghost fits: { IsTrue (all_in_range (rhs ∷ numbers_of entries.items)) },
     pub ghost lowest: { IsLowest (rhs ∷ numbers_of entries.items) },
 }
-
-#[cfg(test)]
-mod name_tests;
-#[cfg(test)]
-mod tests;
-#[cfg(test)]
-mod writing_tests;

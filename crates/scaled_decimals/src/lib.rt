@@ -5,8 +5,6 @@
 mod inverse;
 mod printing;
 mod reading;
-#[cfg(test)]
-mod reading_tests;
 
 pub use inverse::inverse_laws;
 pub use printing::{fraction_laws, places_laws, push_frac, push_places};

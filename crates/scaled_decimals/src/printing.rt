@@ -14,9 +14,6 @@ mod laws;
 
 pub use laws::{fraction_laws, places_laws};
 
-#[cfg(test)]
-mod tests;
-
 // A number of millionths, as its whole part and the millionths beyond it.
 #[derive(Clone, Copy)]
 struct Rounded {

@@ -1,0 +1,13 @@
+//! Tests of data sections: their tokens, their statements, and the sets and values that they give. Small data
+//! sections for these tests and those of rows.
+#![tactic(auto)]
+
+#[cfg(test)]
+mod blocks;
+mod sections;
+#[cfg(test)]
+mod tokens;
+#[cfg(test)]
+mod values;
+
+pub use sections::section;

@@ -1,0 +1,30 @@
+//! Tests of the rows of all equations, on which no crate stands: printed rows of small models, and random models of
+//! which the rows say what `plain_equations` says.
+#![tactic(auto)]
+
+#[cfg(test)]
+mod balance_rows;
+#[cfg(test)]
+mod base_example;
+#[cfg(test)]
+mod capacity_rows;
+#[cfg(test)]
+mod cost_rows;
+#[cfg(test)]
+mod emission_rows;
+#[cfg(test)]
+mod limit_rows;
+#[cfg(test)]
+mod lines;
+#[cfg(test)]
+mod plans;
+#[cfg(test)]
+mod printed;
+#[cfg(test)]
+mod random;
+#[cfg(test)]
+mod random_models;
+#[cfg(test)]
+mod sections;
+#[cfg(test)]
+mod stops;

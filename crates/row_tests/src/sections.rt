@@ -1,0 +1,61 @@
+//! Data sections, read as the program reads them and as plain lists.
+
+use mathprog_data::{Blocks, Name, read_blocks};
+use model_sets::Sets;
+use param_tables::{ModelData, build, sets_of};
+use plain_equations::{PlainData, PlainDefault, PlainValue};
+use std::alloc::{AllocError, Global};
+use std::process::Abort;
+use std::test::Fail;
+
+/// The blocks of a data section.
+fn blocks_of(rt: &impl Abort, alloc: Global, text: &str) -> Result<Blocks, Fail> {
+    assert!(rt; text.len() <= 1_000_000);
+    Ok(read_blocks(alloc, text.as_bytes())?)
+}
+
+/// What a data section says, as rows are made of it.
+pub(crate) fn model_of(rt: &impl Abort, alloc: Global, text: &str) -> Result<ModelData, Fail> {
+    let blocks = blocks_of(rt, alloc, text)?;
+    let sets = sets_of(alloc, &blocks)?;
+    match build(alloc, &blocks, sets) {
+        Ok(model) => Ok(model),
+        Err(_) => Err(Fail::from("the data are refused")),
+    }
+}
+
+/// What a data section says, for the plain program.
+pub(crate) fn plain_of(rt: &impl Abort, alloc: Global, text: &str) -> Result<PlainData, Fail> {
+    let blocks = blocks_of(rt, alloc, text)?;
+    let sets = sets_of(alloc, &blocks)?;
+    Ok(plain_data(alloc, &blocks, sets)?)
+}
+
+/// The data of blocks for the plain program.
+fn plain_data(alloc: Global, blocks: &Blocks, sets: Sets) -> Result<PlainData, AllocError> {
+    let mut given = Vec::new(alloc);
+    let mut defaults = Vec::new(alloc);
+    for block in blocks.params.iter() {
+        let param = block.param;
+        if let Some(value) = block.default {
+            defaults.push(PlainDefault { param, value })?;
+        }
+        for value in block.values.iter() {
+            given.push(PlainValue {
+                param,
+                index: names_of(alloc, &value.index)?,
+                value: value.value,
+            })?;
+        }
+    }
+    Ok(PlainData::new(sets, given, defaults))
+}
+
+/// The bytes of the names.
+fn names_of(alloc: Global, names: &[Name]) -> Result<Vec<Vec<u8>>, AllocError> {
+    let mut all = Vec::new(alloc);
+    for name in names {
+        all.push(Vec::from_slice(alloc, name.bytes())?)?;
+    }
+    Ok(all)
+}
