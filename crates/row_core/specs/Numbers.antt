@@ -11,7 +11,7 @@ variables_of [] = []
 variables_of (entry ∷ entries) = entry.0 ∷ variables_of entries
 
 -- the numbers of the entries, in their order
-abbrev pub numbers_of : List (Var × ℤ) → List ℤ
+abbrev pub numbers_of : {K : Type 0} → List (K × ℤ) → List ℤ
 numbers_of [] = []
 numbers_of (entry ∷ entries) = entry.1 ∷ numbers_of entries
 
