@@ -26,3 +26,5 @@ pub mod LessenedLaws
 pub mod CombinedLaws
 pub mod EvaluatedLaws
 mod CombinedExamples
+pub mod LookUpLaws
+pub mod PlanValueLaws

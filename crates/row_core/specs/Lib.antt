@@ -25,3 +25,5 @@ pub mod Combined
 pub mod Nexts
 pub mod Scaled
 pub mod Evaluated
+pub mod LookUps
+pub mod Plans

@@ -14,11 +14,11 @@ ghost use Rattle.row_core.specs.Forms.{form_of};
 ghost use Rattle.row_core.specs.Combined.{combined_formed, undivided_formed};
 ghost use Rattle.row_core.specs.Scaled.{IsScaled, SaysTheSameUnder, IsMade, IsCombined};
 
-use crate::merging::{less, merge, number_of};
-use exact_num::{Frac, gcd, ratio};
 use crate::dividing::{divide_all, divisor_of, quotient};
+use crate::merging::{less, merge, number_of};
 use crate::place::{Place, Stopped};
 use crate::{Row, RowName, Sense, Var};
+use exact_num::{Frac, gcd, ratio};
 use std::alloc::Global;
 
 /// Removes a variable from a row by the variable's definition, an equation in which it has a positive entry.

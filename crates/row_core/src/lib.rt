@@ -20,6 +20,8 @@ mod left_side;
 mod merging;
 mod names;
 mod place;
+mod plans;
+mod searching;
 mod subscripts;
 mod terms;
 mod writing;
@@ -33,6 +35,8 @@ pub use kinds::{is_free, var_has, var_word};
 pub use left_side::LeftSide;
 pub use names::{push_row_name, push_var};
 pub use place::{Place, Stopped};
+pub use plans::{Multipliers, Plan};
+pub use searching::look_up;
 pub use terms::{Term, Terms};
 pub use writing::write_row;
 

@@ -1,17 +1,19 @@
 //! The entries of two rows side by side, and their differences.
 
-ghost use Rattle.std.specs.Prelude.{◌≡◌, [], true, drop, is_ok, IfOk, IfErr, OnOk, IfSome, IfNone, ◌++◌};
+ghost use Rattle.std.specs.Prelude.{◌≡◌, IsTrue, [], true, drop, is_ok, IfOk, IfErr, OnOk, IfSome, IfNone, ◌++◌};
 ghost use Rattle.exact_num.specs.Range.{InRange, all_fit};
-ghost use Rattle.row_core.specs.Numbers.{numbers_of};
+ghost use Rattle.row_core.specs.Numbers.{numbers_of, keys_of, ascends};
+ghost use Rattle.row_core.specs.Order.{var_cmp};
 ghost use Rattle.row_core.specs.Rows.{number_at};
 ghost use Rattle.row_core.specs.Stops.{IsStop};
 ghost use Rattle.row_core.specs.declared.place.Stopped.TheVariants.{Memory};
 ghost use Rattle.row_core.specs.Combined.{less, less_formed, beside, lessened, all_less_formed, entry_unless_zero};
 ghost use Rattle.row_core.specs.Nexts.{IsNext};
 
-use exact_num::{TooWide, difference, product};
 use crate::Var;
 use crate::place::{Place, Stopped};
+use crate::searching::look_up;
+use exact_num::{TooWide, difference, product};
 use std::alloc::Global;
 use std::cmp::Ordering;
 
@@ -33,19 +35,18 @@ pub(crate) fn less(a: i128, b: i128, x: i128, y: i128) -> Result<i128, TooWide>
 
 /// The number that entries have at a variable, 0 where they have none.
 pub(crate) fn number_of(entries: &[(Var, i128)], variable: Var) -> i128
-    requires { all_fit (numbers_of entries.now) ≡ true }
+    requires ascending { IsTrue (ascends var_cmp (keys_of entries.now)) }
+    requires fits { all_fit (numbers_of entries.now) ≡ true }
     ensures value { result ≡ number_at entries.now variable }
     ensures range { InRange result }
 {
-    for entry in entries {
-        if entry.0 == variable {
-            return entry.1;
-        }
+    match look_up(entries, variable) {
+        Some(number) => number,
+        None => 0,
     }
-    0
 }
 
-/// The next variable of two rows: its number in either, 0 where a row hasn't it, and the positions behind it.
+/// The next variable of two rows: its number in either, 0 where a row hasn't it, and the positions after it.
 #[derive(Clone, Copy)]
 pub(crate) struct Next {
     pub(crate) variable: Var,

@@ -8,7 +8,8 @@ use Rattle.exact_num.specs.Range.{InRange, all_fit}
 use Rattle.exact_num.specs.Value.{value_of}
 use Rattle.exact_num.proofs.RangeLaws.{back_in_range}
 use Rattle.row_core.specs.declared.Var.{Var}
-use Rattle.row_core.specs.Numbers.{numbers_of}
+use Rattle.row_core.specs.Numbers.{numbers_of, keys_of, ascends}
+use Rattle.row_core.specs.Order.{var_cmp}
 use Rattle.row_core.specs.Rows.{number_at}
 use Rattle.row_core.specs.Forms.{form_of}
 use Rattle.row_core.specs.Combined.{row_factor, def_factor}
@@ -19,11 +20,17 @@ use Rattle.row_core.proofs.combining.combine.Goals as goal
 abbrev read : ℤ → ℤ
 read z = to_z w128 (of_z w128 z)
 
-pub number_of-own-requires : goal.number_of-own-requires
-number_of-own-requires c = ap (λ (es : List (Var × ℤ)). all_fit (numbers_of es)) c.deref.ensures.value ∙ row_fits c.args.definition.now
+pub number_of-own-requires-clause-ascending : goal.number_of-own-requires-clause-ascending
+number_of-own-requires-clause-ascending c = ap (λ (es : List (Var × ℤ)). ascends var_cmp (keys_of es)) c.deref.ensures.value ∙ c.args.definition.now.ascending
 
-pub number_of-number-requires : goal.number_of-number-requires
-number_of-number-requires c = ap (λ (es : List (Var × ℤ)). all_fit (numbers_of es)) c.deref-2.ensures.value ∙ row_fits c.args.row.now
+pub number_of-own-requires-clause-fits : goal.number_of-own-requires-clause-fits
+number_of-own-requires-clause-fits c = ap (λ (es : List (Var × ℤ)). all_fit (numbers_of es)) c.deref.ensures.value ∙ row_fits c.args.definition.now
+
+pub number_of-number-requires-clause-ascending : goal.number_of-number-requires-clause-ascending
+number_of-number-requires-clause-ascending c = ap (λ (es : List (Var × ℤ)). ascends var_cmp (keys_of es)) c.deref-2.ensures.value ∙ c.args.row.now.ascending
+
+pub number_of-number-requires-clause-fits : goal.number_of-number-requires-clause-fits
+number_of-number-requires-clause-fits c = ap (λ (es : List (Var × ℤ)). all_fit (numbers_of es)) c.deref-2.ensures.value ∙ row_fits c.args.row.now
 
 -- the divisor, and the factors by it
 divisor_from : (own number divisor p q : ℤ) → InRange own → InRange number → InRange divisor → divisor ≡ common (read own) (read number) → own ≡ p → number ≡ q → read divisor ≡ common p q

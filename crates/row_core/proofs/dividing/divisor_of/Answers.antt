@@ -1,5 +1,5 @@
 -- The greatest common divisor, number by number.
-use Rattle.std.proofs.Common.{◌≡◌, ℕ, ◌+◌, ◌<◌, ℤ, pos, ◌∷◌, get_or, drop, sym, ap, ◌∙◌, subst, arith, to_z, of_z}
+use Rattle.std.proofs.Common.{◌≡◌, ℕ, ◌+◌, ◌<◌, ℤ, pos, ◌∷◌, drop, sym, ap, ◌∙◌, subst, arith, to_z, of_z}
 use Rattle.std.specs.Int.{w128}
 use Rattle.std.specs.Prelude.{unsigned_abs, ◌≤ℤ◌, ◌<ℤ◌}
 use Rattle.std.proofs.lemmas.Int.{ints}
@@ -8,7 +8,6 @@ use Rattle.exact_num.specs.Range.{InRange}
 use Rattle.exact_num.proofs.GcdLaws.{gcd_of-zero, one-gcd_of}
 use Rattle.exact_num.proofs.Integers.{pos-unsigned_abs, unsigned_abs_pos, nonzero_of_pos}
 use Rattle.exact_num.proofs.RangeLaws.{back_in_range}
-use Rattle.row_core.specs.declared.Var.{Var}
 use Rattle.row_core.specs.Numbers.{numbers_of}
 use Rattle.row_core.specs.Written.{common_divisor}
 use Rattle.row_core.proofs.WritingSteps.{item_fits, nonnegative_is, shared-item, shared-end, row_divisor-by, above_zero}

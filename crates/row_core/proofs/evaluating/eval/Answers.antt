@@ -15,7 +15,9 @@ use Rattle.row_core.specs.Rows.{row_sum}
 use Rattle.row_core.specs.Values.{IsOver}
 use Rattle.row_core.proofs.WritingSteps.{entries_fit-at, no_entry}
 use Rattle.row_core.proofs.CombinedLaws.{row_fits, rhs_fits, and_false}
-use Rattle.row_core.specs.Evaluated.{value_in, sum_from, term_formed, sum_from_formed, evaluated_formed}
+use Rattle.row_core.specs.Order.{var_cmp}
+use Rattle.row_core.specs.Plans.{value_in}
+use Rattle.row_core.specs.Evaluated.{sum_from, term_formed, sum_from_formed, evaluated_formed}
 use Rattle.row_core.proofs.EvaluatedLaws.{sum-next, formed-next, formed-stop, sum-done, formed-done, evaluated-IsOver}
 use Rattle.row_core.proofs.evaluating.eval.Goals as goal
 
@@ -39,13 +41,13 @@ pub returns-in_default-clause-stopped : goal.returns-in_default-clause-stopped
 returns-in_default-clause-stopped c =
     let row = c.args.row.now in
     let es = row.entries.items in
-    let value : Var → Rational = value_in c.args.values.now in
+    let value : Var → Rational = value_in var_cmp c.args.plan.now in
     let xs = c.deref-entry-items.result.now in
     let i = c.loop-entry.entry-index in
     let e : Var × ℤ = get_or xs i no_entry in
     let number = back_in_range e.1 (entry_fits row xs i c.deref-entry-items.ensures.value c.loop-entry-test.true) in
     let wide : all_fit (term_formed (value_of c.loop-entry.sum) e.1 (value e.0)) ≡ false =
-    ap₂ (λ n v. all_fit (term_formed (value_of c.loop-entry.sum) n v)) (sym number) (sym c.value_of_variable.ensures) ∙ sym c.in_default.ensures.refused in
+    ap₂ (λ n v. all_fit (term_formed (value_of c.loop-entry.sum) n v)) (sym number) (sym c.value.ensures) ∙ sym c.in_default.ensures.refused in
     let all : all_fit (sum_from_formed value (whole (pos 0)) es) ≡ false =
     formed-stop value xs es i no_entry (value_of c.loop-entry.sum) (all_fit (sum_from_formed value (whole (pos 0)) es)) c.deref-entry-items.ensures.value c.loop-entry-test.true wide c.loop-entry.invariant.formed in
     (refl, parts value es row.rhs ∙ ap (λ t. t && all_fit (difference_formed (sum_from value (whole (pos 0)) es) (whole row.rhs))) all)
@@ -54,15 +56,15 @@ pub loop-entry-preserved : goal.loop-entry-preserved
 loop-entry-preserved c =
     let row = c.args.row.now in
     let es = row.entries.items in
-    let value : Var → Rational = value_in c.args.values.now in
+    let value : Var → Rational = value_in var_cmp c.args.plan.now in
     let xs = c.deref-entry-items.result.now in
     let i = c.loop-entry.entry-index in
     let e : Var × ℤ = get_or xs i no_entry in
     let s = value_of c.loop-entry.sum in
     let number = back_in_range e.1 (entry_fits row xs i c.deref-entry-items.ensures.value c.loop-entry-test.true) in
     let fit : all_fit (term_formed s e.1 (value e.0)) ≡ true =
-    ap₂ (λ n v. all_fit (term_formed s n v)) (sym number) (sym c.value_of_variable.ensures) ∙ sym c.in-Ok.ensures.refused in
-    let next : value_of c.in-Ok.next ≡ plus s (times (whole e.1) (value e.0)) = c.in-Ok.ensures.value ∙ ap₂ (λ n v. plus s (times (whole n) v)) number c.value_of_variable.ensures in
+    ap₂ (λ n v. all_fit (term_formed s n v)) (sym number) (sym c.value.ensures) ∙ sym c.in-Ok.ensures.refused in
+    let next : value_of c.in-Ok.next ≡ plus s (times (whole e.1) (value e.0)) = c.in-Ok.ensures.value ∙ ap₂ (λ n v. plus s (times (whole n) v)) number c.value.ensures in
     record {
       so_far = sum-next value xs es i no_entry s (value_of c.in-Ok.next) (sum_from value (whole (pos 0)) es) c.deref-entry-items.ensures.value c.loop-entry-test.true next c.loop-entry.invariant.so_far;
       formed = formed-next value xs es i no_entry s (value_of c.in-Ok.next) (all_fit (sum_from_formed value (whole (pos 0)) es)) c.deref-entry-items.ensures.value c.loop-entry-test.true next fit c.loop-entry.invariant.formed;
@@ -72,7 +74,7 @@ pub returns-in_default-sub-clause-stopped : goal.returns-in_default-sub-clause-s
 returns-in_default-sub-clause-stopped c =
     let row = c.args.row.now in
     let es = row.entries.items in
-    let value : Var → Rational = value_in c.args.values.now in
+    let value : Var → Rational = value_in var_cmp c.args.plan.now in
     let right : value_of c.fraction.result ≡ whole row.rhs = c.fraction.ensures ∙ ap whole (back_in_range row.rhs (rhs_fits row)) in
     let sum : value_of c.loop-entry.sum ≡ sum_from value (whole (pos 0)) es =
     sum-done value c.deref-entry-items.result.now es c.loop-entry.entry-index (value_of c.loop-entry.sum) (sum_from value (whole (pos 0)) es) c.deref-entry-items.ensures.value c.loop-entry-test.false c.loop-entry.invariant.so_far in
@@ -84,7 +86,7 @@ pub returns-clause-fits : goal.returns-clause-fits
 returns-clause-fits c =
     let row = c.args.row.now in
     let es = row.entries.items in
-    let value : Var → Rational = value_in c.args.values.now in
+    let value : Var → Rational = value_in var_cmp c.args.plan.now in
     let right : value_of c.fraction.result ≡ whole row.rhs = c.fraction.ensures ∙ ap whole (back_in_range row.rhs (rhs_fits row)) in
     let sum : value_of c.loop-entry.sum ≡ sum_from value (whole (pos 0)) es =
     sum-done value c.deref-entry-items.result.now es c.loop-entry.entry-index (value_of c.loop-entry.sum) (sum_from value (whole (pos 0)) es) c.deref-entry-items.ensures.value c.loop-entry-test.false c.loop-entry.invariant.so_far in
@@ -97,7 +99,7 @@ pub returns-clause-value : goal.returns-clause-value
 returns-clause-value c =
     let row = c.args.row.now in
     let es = row.entries.items in
-    let value : Var → Rational = value_in c.args.values.now in
+    let value : Var → Rational = value_in var_cmp c.args.plan.now in
     let right : value_of c.fraction.result ≡ whole row.rhs = c.fraction.ensures ∙ ap whole (back_in_range row.rhs (rhs_fits row)) in
     let sum : value_of c.loop-entry.sum ≡ sum_from value (whole (pos 0)) es =
     sum-done value c.deref-entry-items.result.now es c.loop-entry.entry-index (value_of c.loop-entry.sum) (sum_from value (whole (pos 0)) es) c.deref-entry-items.ensures.value c.loop-entry-test.false c.loop-entry.invariant.so_far in
@@ -106,4 +108,4 @@ returns-clause-value c =
 pub returns-clause-means : goal.returns-clause-means
 returns-clause-means c q x over =
     let row = c.args.row.now in
-    subst (λ r. IsOver q r (row_sum x row.entries.items -ℤ (row.rhs *ℤ q))) (sym (returns-clause-value c)) (evaluated-IsOver q x (value_in c.args.values.now) row.entries.items row.rhs over)
+    subst (λ r. IsOver q r (row_sum x row.entries.items -ℤ (row.rhs *ℤ q))) (sym (returns-clause-value c)) (evaluated-IsOver q x (value_in var_cmp c.args.plan.now) row.entries.items row.rhs over)

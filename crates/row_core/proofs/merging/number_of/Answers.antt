@@ -1,12 +1,20 @@
-use Rattle.std.proofs.Common.{ℤ, get_or}
+-- What is found is the number, and it fits.
+use Rattle.std.proofs.Common.{◌≡◌, sym, ap, ◌∙◌, subst}
 use Rattle.exact_num.specs.Range.{InRange}
 use Rattle.exact_num.proofs.RangeLaws.{back_in_range}
-use Rattle.row_core.specs.declared.Var.{Var}
-use Rattle.row_core.proofs.WritingSteps.{entries_fit-at, no_entry}
+use Rattle.row_core.specs.Rows.{number_at}
+use Rattle.row_core.proofs.PlanValueLaws.{number_or_zero, number_at-value, number_at-fits}
 use Rattle.row_core.proofs.merging.number_of.Goals as goal
 
-pub returns-then-eq-clause-range : goal.returns-then-eq-clause-range
-returns-then-eq-clause-range c =
-    let entry : Var × ℤ = get_or c.args.entries.now c.loop-entry.entry-index no_entry in
-    let fits : InRange entry.1 = entries_fit-at c.args.entries.now c.loop-entry.entry-index no_entry c.requires c.loop-entry-test.true in
-    rw (back_in_range entry.1 fits) fits
+pub returns-in-Some-clause-value : goal.returns-in-Some-clause-value
+returns-in-Some-clause-value c =
+    let v = c.args.variable in
+    let there : number_at c.args.entries.now v ≡ c.in-Some.number = number_at-value c.args.entries.now v ∙ ap number_or_zero (sym c.in-Some.ensures) in
+    back_in_range c.in-Some.number (subst InRange there (number_at-fits c.args.entries.now v c.requires.fits)) ∙ sym there
+
+pub returns-in-Some-clause-range : goal.returns-in-Some-clause-range
+returns-in-Some-clause-range c =
+    subst InRange (sym (returns-in-Some-clause-value c)) (number_at-fits c.args.entries.now c.args.variable c.requires.fits)
+
+pub returns-in-None-clause-value : goal.returns-in-None-clause-value
+returns-in-None-clause-value c = sym (number_at-value c.args.entries.now c.args.variable ∙ ap number_or_zero (sym c.in-None.ensures))
