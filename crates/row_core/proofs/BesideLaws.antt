@@ -29,7 +29,7 @@ beside-Equal e o es os h = ap (λ t. chosen t e o (beside es (o ∷ os)) (beside
 pub beside-Greater : (e o : Var × ℤ) (es os : List (Var × ℤ)) → var_cmp e.0 o.0 ≡ Greater → beside (e ∷ es) (o ∷ os) ≡ right_only o ∷ beside (e ∷ es) os
 beside-Greater e o es os h = ap (λ t. chosen t e o (beside es (o ∷ os)) (beside es os) (first_beside e (beside es) os)) h
 
--- the rest of the lists are side by side behind what came first
+-- the rest of the lists are side by side after what came first
 pub lessened-step : (a b : ℤ) (all made : List (Var × ℤ)) (first : Beside) (es fs : List Beside) → es ≡ first ∷ fs → made ++ lessened a b es ≡ all → (made ++ entry_unless_zero first.variable (less a b first.number first.other)) ++ lessened a b fs ≡ all
 lessened-step a b all made first es fs e h =
     append_assoc made (entry_unless_zero first.variable (less a b first.number first.other)) (lessened a b fs)

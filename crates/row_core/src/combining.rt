@@ -26,7 +26,7 @@ use std::alloc::Global;
 /// With `p` the definition's number at the variable, `q` the row's and `g` their greatest common divisor, the row is
 /// `p/g` times the row less `q/g` times the definition, divided by the common divisor of its numbers; and with it comes
 /// the positive fraction of `p/g` and that divisor. `Width(place)` comes exactly where a product or a difference that is
-/// formed doesn't fit; any other refusal is for want of memory.
+/// formed doesn't fit; any other refusal means that memory ran out.
 pub fn combine(
     alloc: Global,
     row: &Row,

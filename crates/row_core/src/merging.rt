@@ -134,7 +134,7 @@ fn push_unless_zero(
 }
 
 /// `a` times the entries of a row less `b` times those of another, without 0. `Width(place)` comes exactly where one of
-/// the products and differences doesn't fit; any other refusal is for want of memory.
+/// the products and differences doesn't fit; any other refusal means that memory ran out.
 pub(crate) fn merge(
     alloc: Global,
     place: Place,
