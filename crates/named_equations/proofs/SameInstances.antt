@@ -1,6 +1,6 @@
 -- Two data that are the same have the same instances, variables and feasible plans, and say the same of every plan at each instance.
-use Rattle.std.proofs.Common.{◌≡◌, ℕ, zero, suc, ◌+◌, ◌<◌, ◌≤◌, Bool, true, false, cond, ◌&&◌, ◌||◌, List, [], ◌∷◌, ◌++◌, map, filter, length, nat_eq, ap, ap₂, sym, ◌∙◌, refl, subst, arith, inl, inr, eqb-true, true≢false}
-use Rattle.std.specs.Prelude.{ℤ, ◌↔◌, slice_index_or, Contains}
+use Rattle.std.proofs.Common.{◌≡◌, ℕ, Bool, true, false, cond, ◌&&◌, ◌||◌, List, [], ◌∷◌, ◌++◌, map, filter, nat_eq, ap, ap₂, sym, ◌∙◌, refl, subst, arith, inl, inr, eqb-true, true≢false}
+use Rattle.std.specs.Prelude.{ℤ, ◌↔◌, Contains}
 use Rattle.std.specs.Cmp.Lexicographic.{pointwise}
 use Rattle.std.specs.List.{flat_map, list_any, list_all}
 use Rattle.std.proofs.lemmas.Bool.{and_parts}
@@ -11,14 +11,14 @@ use Rattle.row_core.specs.declared.RowName.{RowName}
 use Rattle.row_core.specs.declared.Var.{Var}
 use Rattle.row_core.specs.Statements.{Holds}
 use Rattle.named_equations.specs.Existence.{defines_kind, definers, exists, exists_at, exists_everywhere, kind_numbers, subscripts_of_kind}
-use Rattle.named_equations.specs.Instances.{equation_numbers, indices, instances, instances_of, is_index, is_instance, name_at, no_equation, stands_at, subscripts_of}
+use Rattle.named_equations.specs.Instances.{equation_numbers, indices, instances, instances_of, is_index, is_instance, name_at, stands_at, subscripts_of}
 use Rattle.named_equations.specs.Plans.{cost, Feasible, MeetsEach, says}
-use Rattle.named_equations.specs.Table.{NamedEquation, named_equations}
 use Rattle.named_equations.proofs.InstanceTests.{Has, any_has, filter_parts, Has-instances, indices-pass, range_parts}
 use Rattle.named_equations.proofs.PositionsInSets.{AreInSets, are_in_sets}
-use Rattle.named_equations.proofs.SameEquations.{EachSays, all-say}
-use Rattle.named_equations.proofs.SameStands.{EachStands, all-stand}
+use Rattle.named_equations.proofs.SameEquations.{SaysSame, all-say}
+use Rattle.named_equations.proofs.SameStands.{StandsSame, all-stand}
 use Rattle.named_equations.proofs.SameValues.{Agree, with_values}
+use Rattle.named_equations.proofs.TermMeaning.{at_number}
 
 -- ---- lists
 
@@ -63,32 +63,6 @@ same_numbers (x ∷ xs) (y ∷ ys) passes =
     ap₂ (λ z zs. z ∷ zs) (eqb-true x y parts.0) (same_numbers xs ys parts.1)
 
 module _ {d : Data} {given : List Given} {defaults : List Default} (same : Agree d given defaults) where
-  -- ---- an equation by its number
-
-  stands_from : (equations : List NamedEquation) (first k n : ℕ) (i : Index) → n ≡ k + first → k < length equations → EachStands same first equations → AreInSets d (subscripts_of n) i
-      → (slice_index_or equations k no_equation).stands d i ≡ (slice_index_or equations k no_equation).stands (with_values d given defaults) i
-  stands_from [] first k n i is below each at = absurd (omega (arith, below))
-  stands_from (equation ∷ equations) first zero n i is below each at =
-      let number : n ≡ first = omega (arith, is) in each.0 i (subst (λ m. AreInSets d (subscripts_of m) i) number at)
-  stands_from (equation ∷ equations) first (suc k) n i is below each at =
-      stands_from equations (suc first) k n i (omega (arith, is)) (omega (arith, below)) each.1 at
-
-  stands_of : (eq : ℕ) (i : Index) → 1 ≤ eq → eq < 65 → AreInSets d (subscripts_of eq) i → stands_at d eq i ≡ stands_at (with_values d given defaults) eq i
-  stands_of zero i low high at = absurd (omega (arith, low))
-  stands_of (suc k) i low high at = stands_from named_equations 1 k (suc k) i (omega arith) (omega (arith, high)) (all-stand same) at
-
-  says_from : (q : ℕ) (x : Var → ℤ) (equations : List NamedEquation) (first k n : ℕ) (i : Index) → n ≡ k + first → k < length equations → EachSays same q x first equations → AreInSets d (subscripts_of n) i
-      → (slice_index_or equations k no_equation).says d q x i ≡ (slice_index_or equations k no_equation).says (with_values d given defaults) q x i
-  says_from q x [] first k n i is below each at = absurd (omega (arith, below))
-  says_from q x (equation ∷ equations) first zero n i is below each at =
-      let number : n ≡ first = omega (arith, is) in each.0 i (subst (λ m. AreInSets d (subscripts_of m) i) number at)
-  says_from q x (equation ∷ equations) first (suc k) n i is below each at =
-      says_from q x equations (suc first) k n i (omega (arith, is)) (omega (arith, below)) each.1 at
-
-  says_of : (q : ℕ) (x : Var → ℤ) (eq : ℕ) (i : Index) → 1 ≤ eq → eq < 65 → AreInSets d (subscripts_of eq) i → says d q x (name_at eq i) ≡ says (with_values d given defaults) q x (name_at eq i)
-  says_of q x zero i low high at = absurd (omega (arith, low))
-  says_of q x (suc k) i low high at = says_from q x named_equations 1 k (suc k) i (omega arith) (omega (arith, high)) (all-say same q x) at
-
   -- ---- instances
 
   pub instances-same : instances d ≡ instances (with_values d given defaults)
@@ -98,14 +72,14 @@ module _ {d : Data} {given : List Given} {defaults : List Default} (same : Agree
       let number = range_parts 1 64 eq has in
       ap (map (name_at eq))
       (filter-congr (stands_at d eq) (stands_at (with_values d given defaults) eq) (indices d (subscripts_of eq))
-      (λ i among. stands_of eq i number.0 (omega (arith, number.1)) (are_in_sets d (subscripts_of eq) i (indices-pass d (subscripts_of eq) i among)))))
+      (λ i among. at_number (StandsSame same i) 1 64 eq (all-stand same i) number.0 (omega (arith, number.1)) (are_in_sets d (subscripts_of eq) i (indices-pass d (subscripts_of eq) i among)))))
 
   pub says-same : (q : ℕ) (x : Var → ℤ) (name : RowName) → is_instance d name ≡ true → says d q x name ≡ says (with_values d given defaults) q x name
   says-same q x name is =
       let tests = and_parts (list_any (nat_eq name.eq) equation_numbers && is_index d (subscripts_of name.eq) name.index) (stands_at d name.eq name.index) is in
       let within = and_parts (list_any (nat_eq name.eq) equation_numbers) (is_index d (subscripts_of name.eq) name.index) tests.0 in
       let number = range_parts 1 64 name.eq (any_has equation_numbers name.eq within.0) in
-      says_of q x name.eq name.index number.0 (omega (arith, number.1)) (are_in_sets d (subscripts_of name.eq) name.index within.1)
+      at_number (SaysSame same q x name.index) 1 64 name.eq (all-say same q x name.index) number.0 (omega (arith, number.1)) (are_in_sets d (subscripts_of name.eq) name.index within.1)
 
   -- ---- variables
 
@@ -117,7 +91,7 @@ module _ {d : Data} {given : List Given} {defaults : List Default} (same : Agree
       (λ eq among.
       let alike : subscripts_of_kind kind ≡ subscripts_of eq = same_numbers (subscripts_of_kind kind) (subscripts_of eq) (all_at (has_subscripts_of kind) (definers kind) eq have among) in
       let number = range_parts 1 64 eq (filter_parts (defines_kind kind) equation_numbers eq among).0 in
-      stands_of eq i number.0 (omega (arith, number.1)) (subst (λ subscripts. AreInSets d subscripts i) alike (are_in_sets d (subscripts_of_kind kind) i within)))
+      at_number (StandsSame same i) 1 64 eq (all-stand same i) number.0 (omega (arith, number.1)) (subst (λ subscripts. AreInSets d subscripts i) alike (are_in_sets d (subscripts_of_kind kind) i within)))
 
   exists-within : (b c : Bool) (v : Var) → list_any (nat_eq v.kind) kind_numbers ≡ b → is_index d (subscripts_of_kind v.kind) v.index ≡ c
       → (b && c && exists_at d v.kind v.index) ≡ (b && c && exists_at (with_values d given defaults) v.kind v.index)
@@ -146,14 +120,14 @@ module _ {d : Data} {given : List Given} {defaults : List Default} (same : Agree
 
 -- ---- any two data that are the same
 
-agree : {d e : Data} → AreSameData d e → Agree d e.given e.defaults
+pub agree : {d e : Data} → AreSameData d e → Agree d e.given e.defaults
 agree same = record { values = same.values }
 
 -- the sets of the one are those of the other
-with_sets : {d e : Data} → AreSameData d e → with_values d e.given e.defaults ≡ e
+pub with_sets : {d e : Data} → AreSameData d e → with_values d e.given e.defaults ≡ e
 with_sets {e = e} same = ap (λ (sets : SetLists). record { sets = sets; given = e.given; defaults = e.defaults }) same.sets
 
-back : {d e : Data} → AreSameData d e → AreSameData e d
+pub back : {d e : Data} → AreSameData d e → AreSameData e d
 back {d = d} {e = e} same = record {
   sets = sym same.sets;
   values = λ param used index has. sym (same.values param used index (subst (λ (sets : SetLists). Contains (indices_of sets param) index) (sym same.sets) has));
