@@ -1,12 +1,12 @@
 -- What the data are: the sets as lists of names, and a value for each parameter and index, by a look-up in the list of the values given.
-use Rattle.std.specs.Prelude.{ℕ, ℤ, pos, Bool, ◌&&◌, List, [], ◌∷◌, map, nat_eq, Option, None, Some, if◌then◌else◌}
+use Rattle.std.specs.Prelude.{◌≡◌, ℕ, ℤ, pos, Bool, ◌&&◌, List, [], ◌∷◌, map, nat_eq, Option, None, Some, Contains, if◌then◌else◌}
 use Rattle.std.specs.Cmp.Lexicographic.{pointwise}
 use Rattle.std.specs.List.{find, flat_map}
 use Rattle.std.specs.Option.{option_map, option_or}
 use Rattle.std.specs.Str.{bytes_eq}
 use Rattle.model_sets.specs.declared.param_numbers.TheConstants.{CAPACITY_OF_ONE_TECHNOLOGY_UNIT}
 use Rattle.model_sets.specs.Members.{SetLists, members}
-use Rattle.model_sets.specs.Params.{subscript_sets}
+use Rattle.model_sets.specs.Params.{IsUsedParam, subscript_sets}
 
 -- a value that was given: the parameter's number, the names of the index in the order of its subscripts, and the value in billionths
 pub record Given : Type 0 where
@@ -57,3 +57,8 @@ indices_over sets (k ∷ ks) = flat_map (λ name. map (λ rest. name ∷ rest) (
 -- all indices of the used parameter
 abbrev pub indices_of : SetLists → ℕ → List (List (List ℕ))
 indices_of sets param = indices_over sets (subscript_sets param)
+
+-- the same sets, and the same value of each used parameter at each of its indices
+pub record AreSameData (d e : Data) : Type 0 where
+  pub sets : d.sets ≡ e.sets
+  pub values : (param : ℕ) → IsUsedParam param → (index : List (List ℕ)) → Contains (indices_of d.sets param) index → value_at d param index ≡ value_at e param index

@@ -23,3 +23,9 @@ pub mod NestedTerms
 pub mod PositionsInSets
 pub mod SomePosition
 pub mod SumExchange
+pub mod SameValues
+pub mod SameParameters
+pub mod SameConditions
+pub mod SameEquations
+pub mod SameStands
+pub mod SameInstances
