@@ -1,27 +1,13 @@
 #!/bin/sh
 # Counts the instructions of a million greatest common divisors of random pairs of 20, 64 and 120 bits, and the time that they take.
-# It proves and builds a small program in a copy of the repository, so the first run takes minutes. The making of the pairs is
+# It proves and builds a small program in a copy of the repository, so it takes minutes before it measures. The making of the pairs is
 # counted apart and taken off.
-for tool in rt valgrind python3; do
-    if ! command -v "$tool" >/dev/null 2>&1; then
-        echo "gcd.sh: $tool is missing" >&2
-        exit 1
-    fi
-done
 top=$(cd "$(dirname "$0")/.." && pwd)
-work=$(mktemp -d)
-trap 'rm -rf "$work"' EXIT
-mkdir -p "$work/crates/gcd_bench/src"
-cp "$top/HANDLES" "$work/"
-cp -R "$top/crates/exact_num" "$work/crates/"
-printf 'exact_num:\ngcd_bench: exact_num\n' >"$work/crates.txt"
-cp "$top/bench/gcd.txt" "$work/crates/gcd_bench/src/main.rt"
-(cd "$work/crates/gcd_bench" && rt run -- 20 >/dev/null 2>"$work/log") || {
-    echo "gcd.sh: the program wasn't built:" >&2
-    tail -n 20 "$work/log" >&2
-    exit 1
-}
-program=$work/crates/gcd_bench/out/gcd_bench
+name=gcd.sh
+. "$top/bench/common.sh"
+need rt valgrind python3
+make_work
+build_over gcd_bench gcd.txt exact_num
 
 instructions() {
     valgrind --tool=callgrind --callgrind-out-file="$work/callgrind" "$program" "$@" 2>&1 >/dev/null |

@@ -187,7 +187,7 @@ fn slices_capacity(model: &ModelData, r: u16, t: u16, y: u16) -> Option<Frac>
     ensures { known result ≡ number_of (slices_capacity model.now.facts r t y) }
 {
     let mut sum = zero();
-    for l in 0..facts.sets().count(TIMESLICE) {
+    for l in 0..model.sets().count(TIMESLICE) {
         sum = plus(
             sum,
             times(capacity_factor(model, r, t, l, y), year_split(model, l, y)),

@@ -104,7 +104,7 @@ fn longest_life(model: &ModelData, r: u16) -> u16
     ensures { (t : ℕ) → IsTechnology model.now.facts t → life_of model.now.facts r t ≤ result }
 {
     let mut longest = 0;
-    for t in 0..facts.sets().count(TECHNOLOGY) {
+    for t in 0..model.sets().count(TECHNOLOGY) {
         longest = longest.max(operational_life(model, r, t));
     }
     longest

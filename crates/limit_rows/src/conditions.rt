@@ -65,7 +65,7 @@ pub(crate) fn produces(model: &ModelData, r: u16, t: u16, f: u16, y: u16) -> boo
     requires year { IsYear model.now.facts y }
     ensures { result ≡ produces model.now.facts r t f y }
 {
-    for m in 0..facts.sets().count(MODE) {
+    for m in 0..model.sets().count(MODE) {
         if produces_in_mode(model, r, t, f, m, y) {
             return true;
         }
@@ -81,7 +81,7 @@ pub(crate) fn uses(model: &ModelData, r: u16, t: u16, f: u16, y: u16) -> bool
     requires year { IsYear model.now.facts y }
     ensures { result ≡ uses model.now.facts r t f y }
 {
-    for m in 0..facts.sets().count(MODE) {
+    for m in 0..model.sets().count(MODE) {
         if uses_in_mode(model, r, t, f, m, y) {
             return true;
         }

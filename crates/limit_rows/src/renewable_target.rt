@@ -58,7 +58,7 @@ pub(crate) fn re2(alloc: Global, model: &ModelData, name: RowName) -> Result<Row
     } = name.index;
     let mut left = LeftSide::new(alloc, name);
     left.add(total_re_production_annual(r, y), one())?;
-    for f in 0..facts.sets().count(FUEL) {
+    for f in 0..model.sets().count(FUEL) {
         subtract_renewable_production(alloc, &mut left, model, r, f, y)?;
     }
     left.write(alloc, Sense::Equal, zero())
@@ -119,7 +119,7 @@ pub(crate) fn re3(alloc: Global, model: &ModelData, name: RowName) -> Result<Row
     } = name.index;
     let mut left = LeftSide::new(alloc, name);
     left.add(re_total_production_of_target_fuel_annual(r, y), one())?;
-    for l in 0..facts.sets().count(TIMESLICE) {
+    for l in 0..model.sets().count(TIMESLICE) {
         subtract_target_production(&mut left, model, r, l, y)?;
     }
     left.write(alloc, Sense::Equal, zero())

@@ -18,7 +18,7 @@ use Rattle.param_tables.specs.Told.{NamesCell, refusal_told}
 use Rattle.param_tables.specs.declared.fault.BuildFault.{BuildFault}
 use Rattle.row_book.specs.Books.{CanBeMade, HasTooMany, IsTooWide}
 use Rattle.named_equations.specs.Instances.{instances}
-use Rattle.row_core.specs.NameTexts.{row_name}
+use Rattle.row_core.specs.NameTexts.{row_name, variable_name}
 use Rattle.io_edges.specs.Count.{counted, Rose}
 use Rattle.io_edges.specs.Edges.{Lacks}
 use Rattle.io_edges.specs.Files.{file_named}
@@ -65,13 +65,29 @@ too_long_line file = line (codes "refused too long file " ++ decimal file)
 abbrev pub entries_line : List ℕ
 entries_line = line (codes "refused too many entries")
 
--- the line for a row in which a number doesn't fit
-abbrev pub width_line : SetLists → RowName → List ℕ
-width_line sets name = line (codes "uncertified width row " ++ row_name sets name)
+-- a place by its name
+abbrev pub place_text : SetLists → Place → List ℕ
+place_text sets (Place.Row name) = codes "row " ++ row_name sets name
+place_text sets (Place.Expand name) = codes "expand " ++ row_name sets name
+place_text sets Place.CostRow = codes "cost row"
+place_text sets (Place.Pivot number) = codes "pivot " ++ decimal number
+place_text sets (Place.LiftPlan var) = codes "plan " ++ variable_name sets var
+place_text sets (Place.LiftMultiplier name) = codes "multiplier " ++ row_name sets name
+place_text sets (Place.LiftDirection var) = codes "direction " ++ variable_name sets var
+place_text sets (Place.Check name) = codes "check " ++ row_name sets name
+place_text sets (Place.Column var) = codes "column " ++ variable_name sets var
+place_text sets Place.SumCost = codes "sum cost"
+place_text sets Place.SumBound = codes "sum bound"
+place_text sets Place.SumGap = codes "sum gap"
+place_text sets (Place.Price name) = codes "price " ++ row_name sets name
 
 -- the line for a place at which a number doesn't fit
 abbrev pub place_line : SetLists → Place → List ℕ
-place_line sets (Place.Row name) = width_line sets name
+place_line sets place = line (codes "uncertified width " ++ place_text sets place)
+
+-- the line for a row in which a number doesn't fit
+abbrev pub width_line : SetLists → RowName → List ℕ
+width_line sets name = line (codes "uncertified width row " ++ row_name sets name)
 
 -- ---- what is due over files that are known
 

@@ -170,6 +170,7 @@ fn stop_at(alloc: Global, place: Place, sets: &Sets) -> Result<Answer, AllocErro
 {
     match place {
         Place::Row(name) => stop_at_row(alloc, name, sets),
+        _ => unreachable!(),
     }
 }
 

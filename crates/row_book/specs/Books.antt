@@ -109,5 +109,6 @@ HasStopped d before names Memory = ⊤
 -- the row that is named is of its list, with the positions of members as its subscripts
 abbrev pub NamesRowWithin : SetLists → BookFail → Type 0
 NamesRowWithin sets (Width (Place.Row name)) = IsEquation name.eq × RowNameIsWithin sets name
+NamesRowWithin sets (Width place) = ⊥
 NamesRowWithin sets TooManyEntries = ⊤
 NamesRowWithin sets Memory = ⊤

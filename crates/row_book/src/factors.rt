@@ -28,7 +28,7 @@ pub(crate) fn region_factors(alloc: Global, model: &ModelData) -> Result<Vec<Fac
     ensures { IfOk result (λ factors. AreRegionFactors model.now.facts factors.items) }
 {
     let mut factors = Vec::new(alloc);
-    for region in 0..facts.sets().count(REGION) {
+    for region in 0..model.sets().count(REGION) {
         let one = factors_of(alloc, model, region)?;
         factors.push(one)?;
     }
@@ -84,7 +84,7 @@ fn longest_life(model: &ModelData, region: u16) -> u16
     ensures { (t : ℕ) → IsTechnology model.now.facts t → life_of model.now.facts region t ≤ result }
 {
     let mut longest = 0;
-    for technology in 0..facts.sets().count(TECHNOLOGY) {
+    for technology in 0..model.sets().count(TECHNOLOGY) {
         longest = longest.max(life_of(model, region, technology));
     }
     longest

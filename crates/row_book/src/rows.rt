@@ -119,7 +119,7 @@ impl MadeRows {
         ensures added { OnOk result (AddsRows model.now.facts (instances_of model.now.facts eq) self.old self.new) }
         ensures stopped { IfErr result (HasStopped model.now.facts self.old.entries (instances_of model.now.facts eq)) }
     {
-        for region in 0..facts.sets().count(REGION) {
+        for region in 0..model.sets().count(REGION) {
             match self.add_region(model, factors, eq, region) {
                 Ok(()) => {}
                 Err(fail) => return Err(fail),

@@ -3,7 +3,7 @@
 ghost use Rattle.std.specs.Prelude.{◌≡◌};
 ghost use Rattle.row_core.specs.declared.place.Stopped.TheVariants.{Memory};
 
-use crate::RowName;
+use crate::{RowName, Var};
 use std::alloc::{AllocError, AllocFailed};
 
 /// A place in a computation.
@@ -11,6 +11,30 @@ use std::alloc::{AllocError, AllocFailed};
 pub enum Place {
     /// The row of an equation, as it is written.
     Row(RowName),
+    /// The row of an equation, as the defined variables are removed from it.
+    Expand(RowName),
+    /// The row of the cost, as the defined variables are removed from it.
+    CostRow,
+    /// The pivot of this number, counted from 1.
+    Pivot(u64),
+    /// The value of a variable in a plan.
+    LiftPlan(Var),
+    /// The multiplier of an equation.
+    LiftMultiplier(RowName),
+    /// The value of a variable in a direction.
+    LiftDirection(Var),
+    /// The check of an equation at a plan or a direction.
+    Check(RowName),
+    /// The check of a variable's column of multipliers.
+    Column(Var),
+    /// The cost of a plan or a direction.
+    SumCost,
+    /// The bound of multipliers.
+    SumBound,
+    /// The gap between cost and bound.
+    SumGap,
+    /// The price that goes with an equation.
+    Price(RowName),
 }
 
 /// Why a computation stopped.
