@@ -1,7 +1,11 @@
 //! The text of columns without entries over small sets. Texts with rows are in the tests of the program.
 
 use model_sets::Sets;
+use model_sets::set_numbers::{DAILYTIMEBRACKET, REGION, TECHNOLOGY, YEAR};
 use mps_writer::mps_text;
+use row_core::kind_numbers::{
+    NEW_CAPACITY, TOTAL_DISCOUNTED_COST, TOTAL_DISCOUNTED_COST_BY_TECHNOLOGY,
+};
 use row_core::{Index, Var};
 use std::test::Fail;
 
@@ -9,12 +13,12 @@ use std::test::Fail;
 fn columns_without_entries_have_their_lines(rt: HostRuntime) -> Result<(), Fail> {
     let alloc = rt.alloc();
     let mut sets = Sets::new(alloc)?;
-    let members: [(u8, &[u8]); 3] = [(1, b"R"), (2, b"T"), (7, b"2020")];
+    let members: [(u8, &[u8]); 3] = [(REGION, b"R"), (TECHNOLOGY, b"T"), (YEAR, b"2020")];
     for (set, name) in members {
-        assert!(&rt; set >= 1 && set <= 11);
+        assert!(&rt; REGION <= set && set <= DAILYTIMEBRACKET);
         assert!(&rt; sets.add(set, name).is_ok());
     }
-    assert!(&rt; sets.count(1) == 1 && sets.count(2) == 1 && sets.count(7) == 1);
+    assert!(&rt; sets.count(REGION) == 1 && sets.count(TECHNOLOGY) == 1 && sets.count(YEAR) == 1);
     let index = Index {
         region: 0,
         other: 0,
@@ -26,9 +30,18 @@ fn columns_without_entries_have_their_lines(rt: HostRuntime) -> Result<(), Fail>
         year: 0,
     };
     let vars = [
-        Var { kind: 2, index },
-        Var { kind: 36, index },
-        Var { kind: 37, index },
+        Var {
+            kind: NEW_CAPACITY,
+            index,
+        },
+        Var {
+            kind: TOTAL_DISCOUNTED_COST_BY_TECHNOLOGY,
+            index,
+        },
+        Var {
+            kind: TOTAL_DISCOUNTED_COST,
+            index,
+        },
     ];
     let text = mps_text(alloc, &[], &vars, &sets)?;
     assert_eq!(&rt;

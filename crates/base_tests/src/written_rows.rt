@@ -2,16 +2,148 @@
 //! printed rows.
 
 use exact_num::{Frac, fits, ratio};
+use row_core::equation_numbers::CAB1;
+use row_core::kind_numbers::{
+    ACCUMULATED_NEW_CAPACITY, NEW_CAPACITY, RATE_OF_DEMAND, RATE_OF_TOTAL_ACTIVITY,
+    TOTAL_CAPACITY_ANNUAL,
+};
 use row_core::{Index, Place, Row, RowName, Sense, Stopped, Term, Terms, Var, write_row};
 use std::alloc::Global;
 use std::process::Abort;
-use std::test::Fail;
 
 /// A variable by its kind, its timeslice and its year, with the numerator and denominator of a coefficient.
 type Given = (u8, u16, u16, i128, i128);
 
 /// The same with the number of an entry.
 type Entry = (u8, u16, u16, i128);
+
+/// Terms in this order, the numerator and denominator of a right side, and the entries and the right side of the row,
+/// or none where a number that is formed doesn't fit.
+type Case = (
+    &'static [Given],
+    (i128, i128),
+    Option<(&'static [Entry], i128)>,
+);
+
+/// The greatest number that fits.
+const GREATEST: i128 = i128::MAX;
+
+/// A half of the range.
+const HALF: i128 = 1 << 126;
+
+/// Rows with their printed numbers.
+static PRINTED: [Case; 3] = [
+    // TotalCapacityAnnual - AccumulatedNewCapacity = 0.5.
+    (
+        &[
+            (TOTAL_CAPACITY_ANNUAL, 0, 0, 1, 1),
+            (ACCUMULATED_NEW_CAPACITY, 0, 0, -1, 1),
+        ],
+        (1, 2),
+        Some((
+            &[
+                (ACCUMULATED_NEW_CAPACITY, 0, 0, -2),
+                (TOTAL_CAPACITY_ANNUAL, 0, 0, 2),
+            ],
+            1,
+        )),
+    ),
+    // 0.25 * RateOfDemand = 44 * 0.2.
+    (
+        &[(RATE_OF_DEMAND, 0, 1, 1, 4)],
+        (44, 5),
+        Some((&[(RATE_OF_DEMAND, 0, 1, 5)], 176)),
+    ),
+    // The activity of two seasons of 0.25 is at most 0.9 of the capacity.
+    (
+        &[
+            (RATE_OF_TOTAL_ACTIVITY, 0, 0, 1, 4),
+            (RATE_OF_TOTAL_ACTIVITY, 1, 0, 1, 4),
+            (TOTAL_CAPACITY_ANNUAL, 0, 0, -9, 10),
+        ],
+        (0, 1),
+        Some((
+            &[
+                (TOTAL_CAPACITY_ANNUAL, 0, 0, -18),
+                (RATE_OF_TOTAL_ACTIVITY, 0, 0, 5),
+                (RATE_OF_TOTAL_ACTIVITY, 1, 0, 5),
+            ],
+            0,
+        )),
+    ),
+];
+
+/// Terms of one variable, which are added, and rows without entries, which keep the sign of the right side.
+static ADDED: [Case; 4] = [
+    (
+        &[
+            (NEW_CAPACITY, 0, 0, 1, 6),
+            (NEW_CAPACITY, 0, 1, 7, 1),
+            (NEW_CAPACITY, 0, 0, 1, 3),
+            (NEW_CAPACITY, 0, 1, -7, 1),
+        ],
+        (3, 2),
+        Some((&[(NEW_CAPACITY, 0, 0, 1)], 3)),
+    ),
+    (
+        &[
+            (NEW_CAPACITY, 0, 1, 2, 1),
+            (NEW_CAPACITY, 0, 2, 4, 1),
+            (NEW_CAPACITY, 0, 0, 6, 1),
+            (NEW_CAPACITY, 0, 2, 4, 1),
+            (NEW_CAPACITY, 0, 0, 2, 1),
+        ],
+        (10, 1),
+        Some((
+            &[
+                (NEW_CAPACITY, 0, 0, 4),
+                (NEW_CAPACITY, 0, 1, 1),
+                (NEW_CAPACITY, 0, 2, 4),
+            ],
+            5,
+        )),
+    ),
+    (&[], (0, 1), Some((&[], 0))),
+    (&[(NEW_CAPACITY, 0, 0, 0, 1)], (-4, 7), Some((&[], -1))),
+];
+
+/// Rows at the end of the range and past it: by a sum, an entry, the right side and the denominator.
+static WIDE: [Case; 5] = [
+    (
+        &[
+            (NEW_CAPACITY, 0, 0, GREATEST, 1),
+            (NEW_CAPACITY, 0, 1, 1, 1),
+        ],
+        (0, 1),
+        Some((
+            &[(NEW_CAPACITY, 0, 0, GREATEST), (NEW_CAPACITY, 0, 1, 1)],
+            0,
+        )),
+    ),
+    (
+        &[
+            (NEW_CAPACITY, 0, 0, GREATEST, 1),
+            (NEW_CAPACITY, 0, 0, 1, 1),
+        ],
+        (0, 1),
+        None,
+    ),
+    (
+        &[(NEW_CAPACITY, 0, 0, HALF, 1), (NEW_CAPACITY, 0, 1, 1, 2)],
+        (0, 1),
+        None,
+    ),
+    (&[(NEW_CAPACITY, 0, 1, 1, 2)], (HALF, 1), None),
+    // The denominators are 2^100 and 3^50.
+    (
+        &[
+            (NEW_CAPACITY, 0, 0, 1, 1 << 100),
+            (NEW_CAPACITY, 0, 1, 1, 717_897_987_691_852_588_770_249),
+        ],
+        (0, 1),
+        None,
+    ),
+];
 
 /// A right side or a coefficient.
 fn fraction(rt: &impl Abort, num: i128, den: i128) -> Frac {
@@ -39,8 +171,8 @@ fn variable(kind: u8, slice: u16, year: u16) -> Var {
 /// The name of the rows.
 fn name() -> RowName {
     RowName {
-        eq: 6,
-        index: variable(0, 0, 3).index,
+        eq: CAB1,
+        index: variable(NEW_CAPACITY, 0, 3).index,
     }
 }
 
@@ -49,8 +181,7 @@ fn row_of(
     rt: &impl Abort,
     alloc: Global,
     given: &[Given],
-    num: i128,
-    den: i128,
+    (num, den): (i128, i128),
 ) -> Result<Row, Stopped> {
     let mut terms = Terms::new(alloc);
     for (kind, slice, year, num, den) in given {
@@ -64,118 +195,43 @@ fn row_of(
 }
 
 /// The row has these entries and this right side.
-fn assert_row(rt: &impl Abort, row: Result<Row, Stopped>, entries: &[Entry], rhs: i128) {
-    match row {
-        Ok(row) => {
-            assert_eq!(rt; row.name, name());
-            assert_eq!(rt; row.sense, Sense::Most);
-            assert_eq!(rt; row.rhs, rhs);
-            assert_eq!(rt; row.entries.len(), entries.len());
-            for (i, (kind, slice, year, number)) in entries.iter().enumerate() {
-                assert_eq!(rt;
-                    row.entries.get(i).copied(),
-                    Some((variable(*kind, *slice, *year), *number))
-                );
+fn assert_row(rt: &impl Abort, row: &Row, entries: &[Entry], rhs: i128) {
+    assert_eq!(rt; row.name, name());
+    assert_eq!(rt; row.sense, Sense::Most);
+    assert_eq!(rt; row.rhs, rhs);
+    assert_eq!(rt; row.entries.len(), entries.len());
+    for (i, (kind, slice, year, number)) in entries.iter().enumerate() {
+        assert_eq!(rt;
+            row.entries.get(i).copied(),
+            Some((variable(*kind, *slice, *year), *number))
+        );
+    }
+}
+
+/// Each row comes as it should, or stops with its name.
+fn assert_all(rt: &impl Abort, alloc: Global, cases: &[Case]) {
+    for (terms, right, expected) in cases {
+        match (row_of(rt, alloc, *terms, *right), expected) {
+            (Ok(row), Some((entries, rhs))) => assert_row(rt, &row, *entries, *rhs),
+            (Err(stopped), None) => {
+                assert_eq!(rt; stopped, Stopped::Width(Place::Row(name())));
             }
+            _ => assert!(rt; false, "a row that fits, or one that doesn't"),
         }
-        Err(stopped) => assert_eq!(rt; Some(stopped), None),
     }
 }
 
 #[test]
-fn rows_have_their_printed_numbers(rt: HostRuntime) -> Result<(), Fail> {
-    let a = rt.alloc();
-    // TotalCapacityAnnual - AccumulatedNewCapacity = 0.5.
-    let total = row_of(&rt, a, &[(6, 0, 0, 1, 1), (5, 0, 0, -1, 1)], 1, 2);
-    assert_row(&rt, total, &[(5, 0, 0, -2), (6, 0, 0, 2)], 1);
-    // 0.25 * RateOfDemand = 44 * 0.2.
-    let demand = row_of(&rt, a, &[(4, 0, 1, 1, 4)], 44, 5);
-    assert_row(&rt, demand, &[(4, 0, 1, 5)], 176);
-    // The activity of four seasons of 0.25 is at most 0.9 of the capacity.
-    let seasons = [
-        (7, 0, 0, 1, 4),
-        (7, 1, 0, 1, 4),
-        (7, 2, 0, 1, 4),
-        (7, 3, 0, 1, 4),
-        (6, 0, 0, -9, 10),
-    ];
-    let expected = [
-        (6, 0, 0, -18),
-        (7, 0, 0, 5),
-        (7, 1, 0, 5),
-        (7, 2, 0, 5),
-        (7, 3, 0, 5),
-    ];
-    assert_row(&rt, row_of(&rt, a, &seasons, 0, 1), &expected, 0);
-    Ok(())
+fn rows_have_their_printed_numbers(rt: HostRuntime) {
+    assert_all(&rt, rt.alloc(), &PRINTED);
 }
 
 #[test]
-fn terms_of_one_variable_are_added(rt: HostRuntime) -> Result<(), Fail> {
-    let a = rt.alloc();
-    let sixth_and_third = [
-        (2, 0, 0, 1, 6),
-        (2, 0, 1, 7, 1),
-        (2, 0, 0, 1, 3),
-        (2, 0, 1, -7, 1),
-    ];
-    assert_row(
-        &rt,
-        row_of(&rt, a, &sixth_and_third, 3, 2),
-        &[(2, 0, 0, 1)],
-        3,
-    );
-    let at_both_ends = [
-        (2, 0, 1, 2, 1),
-        (2, 0, 2, 4, 1),
-        (2, 0, 0, 6, 1),
-        (2, 0, 2, 4, 1),
-        (2, 0, 0, 2, 1),
-    ];
-    assert_row(
-        &rt,
-        row_of(&rt, a, &at_both_ends, 10, 1),
-        &[(2, 0, 0, 4), (2, 0, 1, 1), (2, 0, 2, 4)],
-        5,
-    );
-    Ok(())
+fn terms_of_one_variable_are_added(rt: HostRuntime) {
+    assert_all(&rt, rt.alloc(), &ADDED);
 }
 
 #[test]
-fn rows_without_entries_keep_the_sign_of_the_right_side(rt: HostRuntime) -> Result<(), Fail> {
-    let a = rt.alloc();
-    assert_row(&rt, row_of(&rt, a, &[], 0, 1), &[], 0);
-    assert_row(&rt, row_of(&rt, a, &[(2, 0, 0, 0, 1)], -4, 7), &[], -1);
-    Ok(())
-}
-
-#[test]
-fn numbers_that_do_not_fit_stop_at_the_row(rt: HostRuntime) -> Result<(), Fail> {
-    let a = rt.alloc();
-    let width = Err(Stopped::Width(Place::Row(name())));
-    let greatest = i128::MAX;
-    let added = row_of(&rt, a, &[(2, 0, 0, greatest, 1), (2, 0, 0, 1, 1)], 0, 1);
-    assert_eq!(rt; added.map(|row| row.rhs), width);
-    let entry = row_of(&rt, a, &[(2, 0, 0, 1 << 126, 1), (2, 0, 1, 1, 2)], 0, 1);
-    assert_eq!(rt; entry.map(|row| row.rhs), width);
-    let right = row_of(&rt, a, &[(2, 0, 1, 1, 2)], 1 << 126, 1);
-    assert_eq!(rt; right.map(|row| row.rhs), width);
-    let denominator = row_of(
-        &rt,
-        a,
-        &[
-            (2, 0, 0, 1, 1 << 100),
-            (2, 0, 1, 1, 717897987691852588770249),
-        ],
-        0,
-        1,
-    );
-    assert_eq!(rt; denominator.map(|row| row.rhs), width);
-    assert_row(
-        &rt,
-        row_of(&rt, a, &[(2, 0, 0, greatest, 1), (2, 0, 1, 1, 1)], 0, 1),
-        &[(2, 0, 0, greatest), (2, 0, 1, 1)],
-        0,
-    );
-    Ok(())
+fn numbers_that_do_not_fit_stop_at_the_row(rt: HostRuntime) {
+    assert_all(&rt, rt.alloc(), &WIDE);
 }

@@ -4,6 +4,8 @@ use crate::section;
 use mathprog_data::{
     Blocks, DataFault, Mark, Name, ParamBlock, ReadFail, param_word, read_blocks, set_word,
 };
+use model_sets::param_numbers::{DISCOUNT_RATE_STORAGE, USED_PARAM_COUNT, YEAR_SPLIT};
+use model_sets::set_numbers::{DAILYTIMEBRACKET, REGION, SET_COUNT};
 use std::alloc::{AllocError, Global};
 use std::test::Fail;
 
@@ -196,7 +198,7 @@ fn push_param(alloc: Global, out: &mut Vec<u8>, block: &ParamBlock) -> Result<()
 fn told(alloc: Global, blocks: &Blocks) -> Result<Vec<u8>, AllocError> {
     let mut out = Vec::new(alloc);
     for block in &blocks.sets {
-        if block.set >= 1 && block.set <= 11 {
+        if REGION <= block.set && block.set <= DAILYTIMEBRACKET {
             out.extend_from_slice(set_word(block.set).as_bytes())?;
         }
         for name in &block.members {
@@ -206,7 +208,7 @@ fn told(alloc: Global, blocks: &Blocks) -> Result<Vec<u8>, AllocError> {
         out.extend_from_slice(b"; ")?;
     }
     for block in &blocks.params {
-        if block.param >= 1 && block.param <= 54 {
+        if YEAR_SPLIT <= block.param && block.param <= DISCOUNT_RATE_STORAGE {
             out.extend_from_slice(param_word(block.param).as_bytes())?;
         }
         push_param(alloc, &mut out, block)?;
@@ -237,8 +239,8 @@ fn a_whole_file_is_read_to_its_end(rt: HostRuntime) -> Result<(), Fail> {
     text.push_str("\nend;\n@ [ \u{c8}")?;
     assert!(&rt; text.len() <= 10_000);
     let blocks = read_blocks(rt.alloc(), text.as_bytes())?;
-    assert_eq!(&rt; blocks.sets.len(), 11);
-    assert_eq!(&rt; blocks.params.len(), 38);
+    assert_eq!(&rt; blocks.sets.len(), SET_COUNT);
+    assert_eq!(&rt; blocks.params.len(), USED_PARAM_COUNT);
     Ok(())
 }
 

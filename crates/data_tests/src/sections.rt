@@ -1,10 +1,11 @@
 //! Small data sections.
 
 use mathprog_data::param_word;
+use model_sets::param_numbers::USED_PARAM_COUNT;
 use std::alloc::{AllocError, Global};
 
 /// A default for each used parameter, from number 1.
-const DEFAULTS: [&str; 38] = [
+const DEFAULTS: [&str; USED_PARAM_COUNT] = [
     "1", "0", "1", "0", "10", "1", "0", "1", "1", "1", "1", "0", "0", "1", "5", "2", "1", "0",
     "-1", "0", "-1", "0", "-1", "0", "0", "0", "0", "0", "0", "0", "0", "0", "0", "0", "0", "-1",
     "0", "-1",

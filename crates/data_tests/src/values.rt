@@ -5,8 +5,8 @@ use exact_num::Frac;
 use mathprog_data::{param_word, read_blocks};
 use model_sets::SetFail;
 use model_sets::param_numbers::{
-    CAPACITY_OF_ONE_TECHNOLOGY_UNIT, CAPITAL_COST, DISCOUNT_RATE, TOTAL_ANNUAL_MAX_CAPACITY,
-    VARIABLE_COST,
+    CAPACITY_OF_ONE_TECHNOLOGY_UNIT, CAPITAL_COST, DISCOUNT_RATE, DISCOUNT_RATE_STORAGE,
+    TOTAL_ANNUAL_MAX_CAPACITY, VARIABLE_COST, YEAR_SPLIT,
 };
 use model_sets::set_numbers::{FUEL, MODE_OF_OPERATION, REGION, TECHNOLOGY, YEAR};
 use param_tables::{
@@ -45,7 +45,7 @@ fn cell_line(alloc: Global, word: &str, cell: &Cell) -> Result<String, AllocErro
 }
 
 fn param_word_of(param: u8) -> &'static str {
-    if param >= 1 && param <= 54 {
+    if YEAR_SPLIT <= param && param <= DISCOUNT_RATE_STORAGE {
         param_word(param)
     } else {
         ""

@@ -6,6 +6,8 @@ use model_sets::Sets;
 use model_sets::set_numbers::{
     EMISSION, FUEL, MODE_OF_OPERATION, REGION, TECHNOLOGY, TIMESLICE, YEAR,
 };
+use row_core::equation_numbers::{E9, EQ_SPECIFIED_DEMAND};
+use row_core::kind_numbers::{MODEL_PERIOD_EMISSIONS, RATE_OF_ACTIVITY};
 use row_core::{Index, Row, RowName, Sense, Var, row_has, row_word, var_has, var_word};
 use std::alloc::{AllocError, Global};
 use std::process::Abort;
@@ -65,7 +67,7 @@ fn push_name(
     sets: &Sets,
     name: RowName,
 ) -> Result<(), AllocError> {
-    assert!(rt; name.eq >= 1 && name.eq <= 64);
+    assert!(rt; EQ_SPECIFIED_DEMAND <= name.eq && name.eq <= E9);
     out.push_str(row_word(name.eq))?;
     out.push('[')?;
     for place in 0..8 {
@@ -83,7 +85,7 @@ fn push_variable(
     sets: &Sets,
     var: Var,
 ) -> Result<(), AllocError> {
-    assert!(rt; var.kind >= 1 && var.kind <= 48);
+    assert!(rt; RATE_OF_ACTIVITY <= var.kind && var.kind <= MODEL_PERIOD_EMISSIONS);
     out.push_str(var_word(var.kind))?;
     out.push('[')?;
     for place in 0..8 {

@@ -3,6 +3,7 @@
 use crate::random::Random;
 use exact_num::{TooWide, difference, product, total};
 use plain_equations::{PlainData, PlainPlan, equation};
+use row_core::equation_numbers::{E9, EQ_SPECIFIED_DEMAND};
 use row_core::{Row, Sense, Var};
 use std::alloc::{AllocError, Global};
 use std::process::Abort;
@@ -86,7 +87,7 @@ pub(crate) fn holds(
         Sense::Equal => gap == 0,
         Sense::Most => gap >= 0,
     };
-    assert!(rt; row.name.eq >= 1 && row.name.eq <= 64);
+    assert!(rt; EQ_SPECIFIED_DEMAND <= row.name.eq && row.name.eq <= E9);
     assert_eq!(rt;
         plain.meets(plan, equation(row.name.eq), row.name.index),
         Ok(held),

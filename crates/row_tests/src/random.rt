@@ -144,7 +144,7 @@ fn push_set(
     set: u8,
     members: &[&str],
 ) -> Result<(), AllocError> {
-    assert!(rt; set >= 1 && set <= 11);
+    assert!(rt; REGION <= set && set <= YEAR);
     out.push_str("set ")?;
     out.push_str(set_word(set))?;
     out.push_str(" :=")?;
@@ -196,7 +196,7 @@ fn push_param(
     param: u8,
     values: &[&'static str],
 ) -> Result<(), AllocError> {
-    assert!(rt; param >= 1 && param <= 38);
+    assert!(rt; YEAR_SPLIT <= param && param <= MODEL_PERIOD_EMISSION_LIMIT);
     let lists = lists_of(alloc, members, param)?;
     let mut count: usize = 1;
     for list in lists.iter() {
