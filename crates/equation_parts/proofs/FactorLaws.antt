@@ -1,0 +1,13 @@
+-- The factors at a region's position are the region's.
+use Rattle.std.proofs.Common.{◌≡◌, ℕ, List, get_or, sym, subst}
+use Rattle.std.proofs.lemmas.Option.{slice_get_read}
+use Rattle.discount_factors.specs.Known.{Discounting}
+use Rattle.model_sets.specs.Data.{Data}
+use Rattle.model_sets.specs.Names.{region}
+use Rattle.named_equations.specs.Positions.{count_of}
+use Rattle.named_equations.specs.RegionFactors.{AreFactorsOf, AreRegionFactors}
+use Rattle.named_equations.specs.Within.{IsRegion}
+
+pub factors-of : (d : Data) (factors : List Discounting) (r i : ℕ) (one : Discounting) → AreRegionFactors d factors → IsRegion d r → i ≡ r → one ≡ get_or factors i one → AreFactorsOf d r one
+factors-of d factors r i one all h same is =
+    all.each r one (slice_get_read factors (count_of d region) r one (sym all.one_each) h (subst (λ n. one ≡ get_or factors n one) same is))
