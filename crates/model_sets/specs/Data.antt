@@ -41,11 +41,11 @@ default_of d param = option_map (λ default. default.value) (find (λ default. n
 abbrev pub unit_capacity : ℕ
 unit_capacity = CAPACITY_OF_ONE_TECHNOLOGY_UNIT
 
--- the value that a parameter has where neither a value nor a default is given: 0 for CapacityOfOneTechnologyUnit, and none for the others
+-- the value that a used parameter has where neither a value nor a default is given: 0 for CapacityOfOneTechnologyUnit, and none for the others
 abbrev pub value_of_none : ℕ → Option ℤ
 value_of_none param = if nat_eq param unit_capacity then Some (pos 0) else None
 
--- the value of the parameter at the index, in billionths: the value given, else the default
+-- the value of the used parameter at one of its indices (`indices_of`), in billionths: the value given, else the default
 abbrev pub value_at : Data → ℕ → List (List ℕ) → Option ℤ
 value_at d param index = option_or (given_at d param index) (option_or (default_of d param) (value_of_none param))
 

@@ -10,7 +10,7 @@ use Rattle.param_tables.specs.Positions.{names_at}
 use Rattle.param_tables.specs.RangeTable.{range_of}
 use Rattle.param_tables.specs.Ranges.{IsInRange, billion}
 use Rattle.mathprog_data.specs.Meaning.{Blocks}
-use Rattle.mathprog_data.specs.WellFormed.{IsNumber}
+use Rattle.mathprog_data.specs.WellFormed.{IsWithinLimit}
 use Rattle.param_tables.specs.declared.ranges.Range.{Range}
 
 -- the data, and how many numbers of the text were rounded
@@ -26,7 +26,7 @@ pub record IsBuiltFrom (statements : Blocks) (built : Built) : Type 0 where
 -- the value lies in the range, and is a number of a data section
 pub record IsValueIn (range : Range) (v : ℤ) : Type 0 where
   pub within : IsInRange range v
-  pub number : IsNumber v
+  pub number : IsWithinLimit v
 
 -- what the data keep: the sets by their rules, and a value in its range for each used parameter at each of its indices
 pub record AreComplete (d : Data) : Type 0 where
