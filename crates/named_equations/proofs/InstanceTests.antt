@@ -22,12 +22,12 @@ abbrev pub Has : {A : Type 0} → List A → A → Type 0
 Has [] x = ⊥
 Has (y ∷ ys) x = (y ≡ x) ⊎ Has ys x
 
-Has-append_left : {A : Type 0} (xs ys : List A) (x : A) → Has xs x → Has (xs ++ ys) x
+pub Has-append_left : {A : Type 0} (xs ys : List A) (x : A) → Has xs x → Has (xs ++ ys) x
 Has-append_left [] ys x h = absurd h
 Has-append_left (z ∷ xs) ys x (inl e) = inl e
 Has-append_left (z ∷ xs) ys x (inr h) = inr (Has-append_left xs ys x h)
 
-Has-append_right : {A : Type 0} (xs ys : List A) (x : A) → Has ys x → Has (xs ++ ys) x
+pub Has-append_right : {A : Type 0} (xs ys : List A) (x : A) → Has ys x → Has (xs ++ ys) x
 Has-append_right [] ys x h = h
 Has-append_right (z ∷ xs) ys x h = inr (Has-append_right xs ys x h)
 

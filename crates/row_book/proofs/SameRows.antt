@@ -99,6 +99,7 @@ module _ (d e : Data) where
       record { stops = stops.2; wide = sym (fits-same name stops.1) ∙ wide.wide }
 
   has_too_many : (before : ℕ) (names : List RowName) (name : RowName) → HaveSameTerms names → HasTooMany d before names name → HasTooMany e before names name
+  unfolding stops_at
   has_too_many before names name terms many =
       let stops = stops_at before names name terms many.stops in
       record {
