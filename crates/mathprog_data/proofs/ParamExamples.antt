@@ -1,5 +1,5 @@
 -- The sets and parameters by number and word, computed, with near misses.
-use Rattle.std.proofs.Common.{◌≡◌, ℕ, List, [], ◌∷◌, Option, Some, None, map, length, refl}
+use Rattle.std.proofs.Common.{◌≡◌, [], ◌∷◌, Some, None, map, length, refl}
 use Rattle.std.specs.Prelude.{codes}
 use Rattle.std.specs.List.{range_with_len}
 use Rattle.mathprog_data.specs.Params.{params, param_words, set_words, set_word, set_number, param_word, param_number, subscript_count, set_count, param_count, results_path}

@@ -50,7 +50,7 @@ pub data Cells (slice : Slice) (transposed : Bool) (row : Name) (at : Mark) : Li
   filled : {t : Placed} {ts us rest : List Placed} {column : Name} {columns : List Name} {number : Number} {values : List Given}
       → IsNumberToken t number → Comma ts us → Cells slice transposed row at columns us rest values
       → Cells slice transposed row at (column ∷ columns) (t ∷ ts) rest
-        (given (cell_index slice transposed row column) number at ∷ values)
+      (given (cell_index slice transposed row column) number at ∷ values)
   -- '.' [','] cells, and the point gives no value
   point : {t : Placed} {ts us rest : List Placed} {column : Name} {columns : List Name} {values : List Given}
       → IsKeyword (codes ".") t → Comma ts us → Cells slice transposed row at columns us rest values

@@ -41,12 +41,12 @@ abbrev pub AreApart : (from size : ℕ) → List Slice → Type 0
 AreApart from size [] = from ≤ size
 AreApart from size (slice ∷ slices) = (from ≤ slice.from) × (slice.from < slice.to) × AreApart slice.to size slices
 
--- it is the lexical fault of the text; out of memory says nothing of the text
+-- it is the lexical fault of the text; running out of memory says nothing of the text
 abbrev pub IsLexicalFault : List ℕ → ReadFail → Type 0
 IsLexicalFault text (fails.Fault fault) = (placed : List Placed) × Lexes text placed (Fails fault.no fault.at)
 IsLexicalFault text fails.Memory = ⊤
 
--- out of memory, if any
+-- out of memory, and no fault
 abbrev pub IsMemory : ReadFail → Type 0
 IsMemory (fails.Fault fault) = ⊥
 IsMemory fails.Memory = ⊤

@@ -5,7 +5,9 @@ ghost use Rattle.model_sets.specs.Names.{IsSet};
 ghost use Rattle.model_sets.specs.Params.{IsUsedParam};
 ghost use Rattle.param_tables.specs.Ratios.{commodity, ratio_param};
 
-use model_sets::param_numbers::{EMISSION_ACTIVITY_RATIO, INPUT_ACTIVITY_RATIO, OUTPUT_ACTIVITY_RATIO};
+use model_sets::param_numbers::{
+    EMISSION_ACTIVITY_RATIO, INPUT_ACTIVITY_RATIO, OUTPUT_ACTIVITY_RATIO,
+};
 use model_sets::set_numbers::{EMISSION, FUEL};
 
 /// What a technology takes in, puts out or gives off for each unit of its activity: the parameters

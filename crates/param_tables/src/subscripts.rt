@@ -6,7 +6,9 @@ ghost use Rattle.model_sets.specs.Params.{IsUsedParam, subscript_sets, used_para
 ghost use Rattle.param_tables.specs.Subscripts.{lists_of};
 
 use model_sets::param_numbers::USED_PARAM_COUNT;
-use model_sets::set_numbers::{EMISSION, FUEL, MODE_OF_OPERATION, REGION, TECHNOLOGY, TIMESLICE, YEAR};
+use model_sets::set_numbers::{
+    EMISSION, FUEL, MODE_OF_OPERATION, REGION, TECHNOLOGY, TIMESLICE, YEAR,
+};
 
 /// The numbers of the sets, in the order of the subscripts, from parameter 1.
 static SUBSCRIPTS: [&[u8]; USED_PARAM_COUNT] = [
