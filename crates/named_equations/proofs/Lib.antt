@@ -1,7 +1,9 @@
 mod BaseFile
 mod BaseInstances
 mod BasePlan
+mod BothSides
 mod ExistingVariables
+mod FeasiblePlans
 mod FractionPlans
 pub mod InstanceOrder
 pub mod InstanceTests
@@ -16,6 +18,7 @@ mod Targets
 mod Trades
 mod TwoOfEach
 mod VariableNames
+mod WhatDefines
 mod YearsWithGap
 pub mod TermMeaning
 pub mod TermShapes

@@ -9,6 +9,7 @@ use Rattle.model_sets.specs.Members.{SetLists}
 use Rattle.row_core.specs.declared.Index.{Index}
 use Rattle.row_core.specs.declared.RowName.{RowName}
 use Rattle.row_core.specs.declared.Var.{Var}
+use Rattle.row_core.specs.declared.equation_numbers.TheConstants.{EQUATION_COUNT}
 use Rattle.row_core.specs.Statements.{Holds}
 use Rattle.named_equations.specs.Existence.{defines_kind, definers, exists, exists_at, exists_everywhere, kind_numbers, subscripts_of_kind}
 use Rattle.named_equations.specs.Instances.{equation_numbers, indices, instances, instances_of, is_index, is_instance, name_at, stands_at, subscripts_of}
@@ -69,17 +70,17 @@ module _ {d : Data} {given : List Given} {defaults : List Default} (same : Agree
   instances-same =
       flat_map-congr (instances_of d) (instances_of (with_values d given defaults)) equation_numbers
       (λ eq has.
-      let number = range_parts 1 64 eq has in
+      let number = range_parts 1 EQUATION_COUNT eq has in
       ap (map (name_at eq))
       (filter-congr (stands_at d eq) (stands_at (with_values d given defaults) eq) (indices d (subscripts_of eq))
-      (λ i among. at_number (StandsSame same i) 1 64 eq (all-stand same i) number.0 (omega (arith, number.1)) (are_in_sets d (subscripts_of eq) i (indices-pass d (subscripts_of eq) i among)))))
+      (λ i among. at_number (StandsSame same i) 1 EQUATION_COUNT eq (all-stand same i) number.0 (omega (arith, number.1)) (are_in_sets d (subscripts_of eq) i (indices-pass d (subscripts_of eq) i among)))))
 
   pub says-same : (q : ℕ) (x : Var → ℤ) (name : RowName) → is_instance d name ≡ true → says d q x name ≡ says (with_values d given defaults) q x name
   says-same q x name is =
       let tests = and_parts (list_any (nat_eq name.eq) equation_numbers && is_index d (subscripts_of name.eq) name.index) (stands_at d name.eq name.index) is in
       let within = and_parts (list_any (nat_eq name.eq) equation_numbers) (is_index d (subscripts_of name.eq) name.index) tests.0 in
-      let number = range_parts 1 64 name.eq (any_has equation_numbers name.eq within.0) in
-      at_number (SaysSame same q x name.index) 1 64 name.eq (all-say same q x name.index) number.0 (omega (arith, number.1)) (are_in_sets d (subscripts_of name.eq) name.index within.1)
+      let number = range_parts 1 EQUATION_COUNT name.eq (any_has equation_numbers name.eq within.0) in
+      at_number (SaysSame same q x name.index) 1 EQUATION_COUNT name.eq (all-say same q x name.index) number.0 (omega (arith, number.1)) (are_in_sets d (subscripts_of name.eq) name.index within.1)
 
   -- ---- variables
 
@@ -90,8 +91,8 @@ module _ {d : Data} {given : List Given} {defaults : List Default} (same : Agree
       any-congr (λ eq. stands_at d eq i) (λ eq. stands_at (with_values d given defaults) eq i) (definers kind)
       (λ eq among.
       let alike : subscripts_of_kind kind ≡ subscripts_of eq = same_numbers (subscripts_of_kind kind) (subscripts_of eq) (all_at (has_subscripts_of kind) (definers kind) eq have among) in
-      let number = range_parts 1 64 eq (filter_parts (defines_kind kind) equation_numbers eq among).0 in
-      at_number (StandsSame same i) 1 64 eq (all-stand same i) number.0 (omega (arith, number.1)) (subst (λ subscripts. AreInSets d subscripts i) alike (are_in_sets d (subscripts_of_kind kind) i within)))
+      let number = range_parts 1 EQUATION_COUNT eq (filter_parts (defines_kind kind) equation_numbers eq among).0 in
+      at_number (StandsSame same i) 1 EQUATION_COUNT eq (all-stand same i) number.0 (omega (arith, number.1)) (subst (λ subscripts. AreInSets d subscripts i) alike (are_in_sets d (subscripts_of_kind kind) i within)))
 
   exists-within : (b c : Bool) (v : Var) → list_any (nat_eq v.kind) kind_numbers ≡ b → is_index d (subscripts_of_kind v.kind) v.index ≡ c
       → (b && c && exists_at d v.kind v.index) ≡ (b && c && exists_at (with_values d given defaults) v.kind v.index)

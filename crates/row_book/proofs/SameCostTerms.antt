@@ -3,6 +3,7 @@ use Rattle.std.proofs.Common.{ℕ, List, refl}
 use Rattle.model_sets.specs.Data.{Data, Default, Given}
 use Rattle.model_sets.specs.Names as sets
 use Rattle.row_core.specs.declared.Index.{Index}
+use Rattle.row_core.specs.declared.equation_numbers.TheConstants.{CC1, CC2, SV1, SV2, SV3, SV4, OC1, OC2, OC3, OC4, E1, E2, E3, E4, E5, TDC1, TDC2, ACC4}
 use Rattle.row_core.specs.declared.Var.{Var}
 use Rattle.row_core.specs.Amounts.{Amount, Billionths, Negative}
 use Rattle.named_equations.specs.Parameters.{variable_cost}
@@ -15,60 +16,60 @@ use Rattle.named_equations.proofs.TermMeaning.{EachFrom}
 use Rattle.row_book.proofs.SameTerms.{TermsSame}
 
 module _ {d : Data} {given : List Given} {defaults : List Default} (same : Agree d given defaults) where
-  cc1-same : (i : Index) → TermsSame d given defaults i 25
+  cc1-same : (i : Index) → TermsSame d given defaults i CC1
   cc1-same i at = cc (capital_cost-same same i.region i.tech i.year (at.region refl) (at.technology refl) (at.year refl))
 
-  cc2-same : (i : Index) → TermsSame d given defaults i 26
+  cc2-same : (i : Index) → TermsSame d given defaults i CC2
   cc2-same i at = cc (capital_factor_of-same same i.region (years_since_first d i.year) (at.region refl))
 
-  sv1-same : (i : Index) → TermsSame d given defaults i 27
+  sv1-same : (i : Index) → TermsSame d given defaults i SV1
   sv1-same i at = cc (capital_cost-same same i.region i.tech i.year (at.region refl) (at.technology refl) (at.year refl), salvage_fraction_of-same same 1 i.region i.tech i.year (at.region refl) (at.technology refl))
 
-  sv2-same : (i : Index) → TermsSame d given defaults i 28
+  sv2-same : (i : Index) → TermsSame d given defaults i SV2
   sv2-same i at = cc (capital_cost-same same i.region i.tech i.year (at.region refl) (at.technology refl) (at.year refl), salvage_fraction_of-same same 2 i.region i.tech i.year (at.region refl) (at.technology refl))
 
-  sv3-same : (i : Index) → TermsSame d given defaults i 29
+  sv3-same : (i : Index) → TermsSame d given defaults i SV3
   sv3-same i at = refl
 
-  sv4-same : (i : Index) → TermsSame d given defaults i 30
+  sv4-same : (i : Index) → TermsSame d given defaults i SV4
   sv4-same i at = cc (capital_factor_of-same same i.region (years_in_all d) (at.region refl))
 
-  oc1-same : (i : Index) → TermsSame d given defaults i 31
+  oc1-same : (i : Index) → TermsSame d given defaults i OC1
   oc1-same i at =
       let part : Data → ℕ → Var × Amount = λ e m. (total_annual_technology_activity_by_mode i.region i.tech m i.year, Negative (Billionths (variable_cost e i.region i.tech m i.year))) in
       cc (map-same (count_of d sets.mode) (part d) (part (with_values d given defaults)) (λ m in_m. cc (variable_cost-same same i.region i.tech m i.year (at.region refl) (at.technology refl) in_m (at.year refl))))
 
-  oc2-same : (i : Index) → TermsSame d given defaults i 32
+  oc2-same : (i : Index) → TermsSame d given defaults i OC2
   oc2-same i at = cc (fixed_cost-same same i.region i.tech i.year (at.region refl) (at.technology refl) (at.year refl))
 
-  oc3-same : (i : Index) → TermsSame d given defaults i 33
+  oc3-same : (i : Index) → TermsSame d given defaults i OC3
   oc3-same i at = refl
 
-  oc4-same : (i : Index) → TermsSame d given defaults i 34
+  oc4-same : (i : Index) → TermsSame d given defaults i OC4
   oc4-same i at = cc (operating_factor_of-same same i.region (years_since_first d i.year) (at.region refl))
 
-  e1-same : (i : Index) → TermsSame d given defaults i 35
+  e1-same : (i : Index) → TermsSame d given defaults i E1
   e1-same i at = cc (emission_activity_ratio-same same i.region i.tech i.emission i.mode i.year (at.region refl) (at.technology refl) (at.emission refl) (at.mode refl) (at.year refl))
 
-  e2-same : (i : Index) → TermsSame d given defaults i 36
+  e2-same : (i : Index) → TermsSame d given defaults i E2
   e2-same i at = cc (emitting_modes-same same i.region i.tech i.emission i.year (at.region refl) (at.technology refl) (at.emission refl) (at.year refl))
 
-  e3-same : (i : Index) → TermsSame d given defaults i 37
+  e3-same : (i : Index) → TermsSame d given defaults i E3
   e3-same i at = cc (emissions_penalty-same same i.region i.emission i.year (at.region refl) (at.emission refl) (at.year refl))
 
-  e4-same : (i : Index) → TermsSame d given defaults i 38
+  e4-same : (i : Index) → TermsSame d given defaults i E4
   e4-same i at = refl
 
-  e5-same : (i : Index) → TermsSame d given defaults i 39
+  e5-same : (i : Index) → TermsSame d given defaults i E5
   e5-same i at = cc (operating_factor_of-same same i.region (years_since_first d i.year) (at.region refl))
 
-  tdc1-same : (i : Index) → TermsSame d given defaults i 40
+  tdc1-same : (i : Index) → TermsSame d given defaults i TDC1
   tdc1-same i at = refl
 
-  tdc2-same : (i : Index) → TermsSame d given defaults i 41
+  tdc2-same : (i : Index) → TermsSame d given defaults i TDC2
   tdc2-same i at = refl
 
-  acc4-same : (i : Index) → TermsSame d given defaults i 42
+  acc4-same : (i : Index) → TermsSame d given defaults i ACC4
   acc4-same i at = refl
 
   pub cost-same : (i : Index) → EachFrom (TermsSame d given defaults i) 25 18
