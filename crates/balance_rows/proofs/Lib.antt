@@ -1,3 +1,1 @@
-pub mod RatioLaws
-pub mod Splits
 pub mod Meaning

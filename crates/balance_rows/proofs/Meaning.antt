@@ -6,6 +6,7 @@ use Rattle.std.proofs.lemmas.Int.{ints}
 use Rattle.exact_num.proofs.Integers.{*ℤ_pos}
 use Rattle.exact_num.proofs.Ring.{*ℤ-+ℤ, one-*ℤ, zero-*ℤ, neg_ℤ-*ℤ}
 use Rattle.model_sets.specs.Data.{Data}
+use Rattle.row_core.specs.declared.equation_numbers.TheConstants.{EQ_SPECIFIED_DEMAND, EBA1, EBA2, EBA3, EBA4, EBA5, EBA6, EBA7, EBA8, EBA9, EBA10, EBA11, EBB1, EBB2, EBB3, EBB4, ACC1, ACC2, ACC3}
 use Rattle.row_core.specs.declared.Index.{Index}
 use Rattle.row_core.specs.declared.RowName.{RowName}
 use Rattle.row_core.specs.declared.Var.{Var}
@@ -21,7 +22,7 @@ use Rattle.named_equations.specs.Positions.{regions, timeslices}
 use Rattle.named_equations.specs.Plans.{says}
 use Rattle.named_equations.specs.Variables.{rate_of_activity, trade, rate_of_demand, rate_of_production_by_technology_by_mode, rate_of_production_by_technology, rate_of_production, rate_of_use_by_technology_by_mode, rate_of_use_by_technology, rate_of_use, production, use_of_fuel, demand, production_annual, use_annual, trade_annual, production_by_technology, use_by_technology, total_annual_technology_activity_by_mode}
 use Rattle.named_equations.specs.Where.{producing_modes, producing_technologies, using_modes, using_technologies}
-use Rattle.named_equations.proofs.TermMeaning.{MeansStatement, IsNamedEquation, sum_of_others, sum_of_others-defines, scaled_other, scaled_other-defines, weighted_sum, weighted_sum-defines, EachFrom, at_number, alone-self, first_positive, defined, sum_over-negated, over-one, over-minus_one, over-zero, over-data, over-negative_data, sum-none, sum-term, sum-each}
+use Rattle.named_equations.proofs.TermMeaning.{MeansStatement, IsNamedEquation, sum_of_others, sum_of_others-defines, scaled_other, scaled_other-defines, weighted_sum, weighted_sum-defines, EachFrom, at_number, alone-self, definition_is, inequality_is, first_positive, defined, sum_over-negated, over-one, over-minus_one, over-zero, over-data, over-negative_data, sum-none, sum-term, sum-each}
 use Rattle.balance_rows.specs.Balance.{eq_specified_demand, eba10, eba11, ebb4}
 use Rattle.balance_rows.specs.Rows.{IsBalanceEquation, terms_at}
 
@@ -30,7 +31,7 @@ use Rattle.balance_rows.specs.Rows.{IsBalanceEquation, terms_at}
 added_nothing : (a r : ℤ) → (a +ℤ pos 0) +ℤ r ≡ a +ℤ r
 added_nothing a r = omega (arith, ints)
 
-pub demand-means : (d : Data) (i : Index) → MeansStatement (eq_specified_demand d i.region i.slice i.fuel i.year) (λ q x. says d q x (name_at 1 i))
+pub demand-means : (d : Data) (i : Index) → MeansStatement (eq_specified_demand d i.region i.slice i.fuel i.year) (λ q x. says d q x (name_at EQ_SPECIFIED_DEMAND i))
 demand-means d i =
     let rate = rate_of_demand i.region i.slice i.fuel i.year in
     let split : ℤ = year_split d i.slice i.year in
@@ -63,7 +64,7 @@ exchanged : (a b q : ℤ) → ((pos 1 *ℤ a) +ℤ ((pos 1 *ℤ b) +ℤ pos 0)) 
 exchanged a b q =
     ap₂ (λ y z. (y +ℤ (z +ℤ pos 0)) +ℤ pos 0) (one-*ℤ a) (one-*ℤ b) ∙ omega (arith, ints) ∙ ap (λ z. (a +ℤ b) +ℤ z) (sym (zero-*ℤ q))
 
-pub exchange-means : (d : Data) (i : Index) → MeansStatement (eba10 d i.region i.other i.slice i.fuel i.year) (λ q x. says d q x (name_at 16 i))
+pub exchange-means : (d : Data) (i : Index) → MeansStatement (eba10 d i.region i.other i.slice i.fuel i.year) (λ q x. says d q x (name_at EBA10 i))
 exchange-means d i =
     let there = trade i.region i.other i.slice i.fuel i.year in
     let back = trade i.other i.region i.slice i.fuel i.year in
@@ -89,7 +90,7 @@ alone_nonnegative v w =
 both_positive : (a b : ℤ) → pos 0 ≤ℤ a → b ≡ pos 1 → pos 0 <ℤ ((pos 1 *ℤ a) +ℤ ((pos 1 *ℤ b) +ℤ pos 0))
 both_positive a b h one = subst (λ z. pos 0 <ℤ z) (sym (ap₂ (λ y z. y +ℤ (z +ℤ pos 0)) (one-*ℤ a) (one-*ℤ b ∙ one))) (omega (arith, ints, h))
 
-exchange-defines : (d : Data) (i : Index) (v : Var) → variable_of (name_at 16 i) ≡ Some v → pos 0 <ℤ (exchange-means d i).sum (alone v)
+exchange-defines : (d : Data) (i : Index) (v : Var) → variable_of (name_at EBA10 i) ≡ Some v → pos 0 <ℤ (exchange-means d i).sum (alone v)
 unfolding exchange-means
 exchange-defines d i v h =
     let there = trade i.region i.other i.slice i.fuel i.year in
@@ -109,7 +110,7 @@ cover_slice s p b c n q =
     ∙ omega (arith, ints)
     ∙ ap (λ y. (s *ℤ p) +ℤ y) (sym (zero-*ℤ q))
 
-pub cover-means : (d : Data) (i : Index) → MeansStatement (eba11 d i.region i.slice i.fuel i.year) (λ q x. says d q x (name_at 17 i))
+pub cover-means : (d : Data) (i : Index) → MeansStatement (eba11 d i.region i.slice i.fuel i.year) (λ q x. says d q x (name_at EBA11 i))
 cover-means d i =
     let made = production i.region i.slice i.fuel i.year in
     let due = demand i.region i.slice i.fuel i.year in
@@ -140,7 +141,7 @@ cover-means d i =
 cover_year : (s p b n r : ℤ) → ((s *ℤ p) +ℤ ((neg_ℤ s *ℤ b) +ℤ neg_ℤ n)) +ℤ (((s *ℤ b) +ℤ n) +ℤ r) ≡ (s *ℤ p) +ℤ r
 cover_year s p b n r = ap (λ y. ((s *ℤ p) +ℤ (y +ℤ neg_ℤ n)) +ℤ (((s *ℤ b) +ℤ n) +ℤ r)) (neg_ℤ-*ℤ s b) ∙ omega (arith, ints)
 
-pub cover_year-means : (d : Data) (i : Index) → MeansStatement (ebb4 d i.region i.fuel i.year) (λ q x. says d q x (name_at 21 i))
+pub cover_year-means : (d : Data) (i : Index) → MeansStatement (ebb4 d i.region i.fuel i.year) (λ q x. says d q x (name_at EBB4 i))
 cover_year-means d i =
     let made = production_annual i.region i.fuel i.year in
     let used = use_annual i.region i.fuel i.year in
@@ -173,120 +174,143 @@ cover_year-means d i =
 abbrev pub IsNamed : Data → Index → ℕ → Type 0
 IsNamed d i n = IsNamedEquation d (name_at n i) (terms_at d (name_at n i))
 
-eba1-named : (d : Data) (i : Index) → IsNamed d i 7
-eba1-named d i = record {
-  means = scaled_other (rate_of_production_by_technology_by_mode i.region i.slice i.tech i.fuel i.mode i.year) (rate_of_activity i.region i.slice i.tech i.mode i.year) (output_activity_ratio d i.region i.tech i.fuel i.mode i.year);
-  defines = λ v h. defined (λ w. pos 0 <ℤ (scaled_other (rate_of_production_by_technology_by_mode i.region i.slice i.tech i.fuel i.mode i.year) (rate_of_activity i.region i.slice i.tech i.mode i.year) (output_activity_ratio d i.region i.tech i.fuel i.mode i.year)).sum (alone w)) (rate_of_production_by_technology_by_mode i.region i.slice i.tech i.fuel i.mode i.year) v h (scaled_other-defines (rate_of_production_by_technology_by_mode i.region i.slice i.tech i.fuel i.mode i.year) (rate_of_activity i.region i.slice i.tech i.mode i.year) (output_activity_ratio d i.region i.tech i.fuel i.mode i.year) refl);
-}
+-- that its terms mean it
+abbrev pub Means : Data → Index → ℕ → Type 0
+Means d i n = MeansStatement (terms_at d (name_at n i)) (λ q x. says d q x (name_at n i))
 
-eba2-named : (d : Data) (i : Index) → IsNamed d i 8
-eba2-named d i = record {
-  means = sum_of_others (rate_of_production_by_technology i.region i.slice i.tech i.fuel i.year) (producing_modes d i.region i.tech i.fuel i.year) (λ m. rate_of_production_by_technology_by_mode i.region i.slice i.tech i.fuel m i.year);
-  defines = λ v h. defined (λ w. pos 0 <ℤ (sum_of_others (rate_of_production_by_technology i.region i.slice i.tech i.fuel i.year) (producing_modes d i.region i.tech i.fuel i.year) (λ m. rate_of_production_by_technology_by_mode i.region i.slice i.tech i.fuel m i.year)).sum (alone w)) (rate_of_production_by_technology i.region i.slice i.tech i.fuel i.year) v h (sum_of_others-defines (rate_of_production_by_technology i.region i.slice i.tech i.fuel i.year) (producing_modes d i.region i.tech i.fuel i.year) (λ m. rate_of_production_by_technology_by_mode i.region i.slice i.tech i.fuel m i.year) (λ m. refl));
-}
+definition : (d : Data) (i : Index) (n : ℕ) (v : Var) (m : Means d i n) → variable_of (name_at n i) ≡ Some v → pos 0 <ℤ m.sum (alone v) → IsNamed d i n
+definition d i n v m is h = definition_is d (name_at n i) (terms_at d (name_at n i)) v m is h
 
-eba3-named : (d : Data) (i : Index) → IsNamed d i 9
-eba3-named d i = record {
-  means = sum_of_others (rate_of_production i.region i.slice i.fuel i.year) (producing_technologies d i.region i.fuel i.year) (λ t. rate_of_production_by_technology i.region i.slice t i.fuel i.year);
-  defines = λ v h. defined (λ w. pos 0 <ℤ (sum_of_others (rate_of_production i.region i.slice i.fuel i.year) (producing_technologies d i.region i.fuel i.year) (λ t. rate_of_production_by_technology i.region i.slice t i.fuel i.year)).sum (alone w)) (rate_of_production i.region i.slice i.fuel i.year) v h (sum_of_others-defines (rate_of_production i.region i.slice i.fuel i.year) (producing_technologies d i.region i.fuel i.year) (λ t. rate_of_production_by_technology i.region i.slice t i.fuel i.year) (λ t. refl));
-}
+inequality : (d : Data) (i : Index) (n : ℕ) → Means d i n → variable_of (name_at n i) ≡ None → IsNamed d i n
+inequality d i n m none = inequality_is d (name_at n i) (terms_at d (name_at n i)) m none
 
-eba4-named : (d : Data) (i : Index) → IsNamed d i 10
-eba4-named d i = record {
-  means = scaled_other (rate_of_use_by_technology_by_mode i.region i.slice i.tech i.fuel i.mode i.year) (rate_of_activity i.region i.slice i.tech i.mode i.year) (input_activity_ratio d i.region i.tech i.fuel i.mode i.year);
-  defines = λ v h. defined (λ w. pos 0 <ℤ (scaled_other (rate_of_use_by_technology_by_mode i.region i.slice i.tech i.fuel i.mode i.year) (rate_of_activity i.region i.slice i.tech i.mode i.year) (input_activity_ratio d i.region i.tech i.fuel i.mode i.year)).sum (alone w)) (rate_of_use_by_technology_by_mode i.region i.slice i.tech i.fuel i.mode i.year) v h (scaled_other-defines (rate_of_use_by_technology_by_mode i.region i.slice i.tech i.fuel i.mode i.year) (rate_of_activity i.region i.slice i.tech i.mode i.year) (input_activity_ratio d i.region i.tech i.fuel i.mode i.year) refl);
-}
+eba1-named : (d : Data) (i : Index) → IsNamed d i EBA1
+eba1-named d i =
+    let v = rate_of_production_by_technology_by_mode i.region i.slice i.tech i.fuel i.mode i.year in
+    let w = rate_of_activity i.region i.slice i.tech i.mode i.year in
+    let z : ℤ = output_activity_ratio d i.region i.tech i.fuel i.mode i.year in
+    definition d i EBA1 v (scaled_other v w z) refl (scaled_other-defines v w z refl)
 
-eba5-named : (d : Data) (i : Index) → IsNamed d i 11
-eba5-named d i = record {
-  means = sum_of_others (rate_of_use_by_technology i.region i.slice i.tech i.fuel i.year) (using_modes d i.region i.tech i.fuel i.year) (λ m. rate_of_use_by_technology_by_mode i.region i.slice i.tech i.fuel m i.year);
-  defines = λ v h. defined (λ w. pos 0 <ℤ (sum_of_others (rate_of_use_by_technology i.region i.slice i.tech i.fuel i.year) (using_modes d i.region i.tech i.fuel i.year) (λ m. rate_of_use_by_technology_by_mode i.region i.slice i.tech i.fuel m i.year)).sum (alone w)) (rate_of_use_by_technology i.region i.slice i.tech i.fuel i.year) v h (sum_of_others-defines (rate_of_use_by_technology i.region i.slice i.tech i.fuel i.year) (using_modes d i.region i.tech i.fuel i.year) (λ m. rate_of_use_by_technology_by_mode i.region i.slice i.tech i.fuel m i.year) (λ m. refl));
-}
+eba2-named : (d : Data) (i : Index) → IsNamed d i EBA2
+eba2-named d i =
+    let v = rate_of_production_by_technology i.region i.slice i.tech i.fuel i.year in
+    let is : List ℕ = producing_modes d i.region i.tech i.fuel i.year in
+    let w : ℕ → Var = λ m. rate_of_production_by_technology_by_mode i.region i.slice i.tech i.fuel m i.year in
+    definition d i EBA2 v (sum_of_others v is w) refl (sum_of_others-defines v is w (λ m. refl))
 
-eba6-named : (d : Data) (i : Index) → IsNamed d i 12
-eba6-named d i = record {
-  means = sum_of_others (rate_of_use i.region i.slice i.fuel i.year) (using_technologies d i.region i.fuel i.year) (λ t. rate_of_use_by_technology i.region i.slice t i.fuel i.year);
-  defines = λ v h. defined (λ w. pos 0 <ℤ (sum_of_others (rate_of_use i.region i.slice i.fuel i.year) (using_technologies d i.region i.fuel i.year) (λ t. rate_of_use_by_technology i.region i.slice t i.fuel i.year)).sum (alone w)) (rate_of_use i.region i.slice i.fuel i.year) v h (sum_of_others-defines (rate_of_use i.region i.slice i.fuel i.year) (using_technologies d i.region i.fuel i.year) (λ t. rate_of_use_by_technology i.region i.slice t i.fuel i.year) (λ t. refl));
-}
+eba3-named : (d : Data) (i : Index) → IsNamed d i EBA3
+eba3-named d i =
+    let v = rate_of_production i.region i.slice i.fuel i.year in
+    let is : List ℕ = producing_technologies d i.region i.fuel i.year in
+    let w : ℕ → Var = λ t. rate_of_production_by_technology i.region i.slice t i.fuel i.year in
+    definition d i EBA3 v (sum_of_others v is w) refl (sum_of_others-defines v is w (λ t. refl))
 
-eba7-named : (d : Data) (i : Index) → IsNamed d i 13
-eba7-named d i = record {
-  means = scaled_other (production i.region i.slice i.fuel i.year) (rate_of_production i.region i.slice i.fuel i.year) (year_split d i.slice i.year);
-  defines = λ v h. defined (λ w. pos 0 <ℤ (scaled_other (production i.region i.slice i.fuel i.year) (rate_of_production i.region i.slice i.fuel i.year) (year_split d i.slice i.year)).sum (alone w)) (production i.region i.slice i.fuel i.year) v h (scaled_other-defines (production i.region i.slice i.fuel i.year) (rate_of_production i.region i.slice i.fuel i.year) (year_split d i.slice i.year) refl);
-}
+eba4-named : (d : Data) (i : Index) → IsNamed d i EBA4
+eba4-named d i =
+    let v = rate_of_use_by_technology_by_mode i.region i.slice i.tech i.fuel i.mode i.year in
+    let w = rate_of_activity i.region i.slice i.tech i.mode i.year in
+    let z : ℤ = input_activity_ratio d i.region i.tech i.fuel i.mode i.year in
+    definition d i EBA4 v (scaled_other v w z) refl (scaled_other-defines v w z refl)
 
-eba8-named : (d : Data) (i : Index) → IsNamed d i 14
-eba8-named d i = record {
-  means = scaled_other (use_of_fuel i.region i.slice i.fuel i.year) (rate_of_use i.region i.slice i.fuel i.year) (year_split d i.slice i.year);
-  defines = λ v h. defined (λ w. pos 0 <ℤ (scaled_other (use_of_fuel i.region i.slice i.fuel i.year) (rate_of_use i.region i.slice i.fuel i.year) (year_split d i.slice i.year)).sum (alone w)) (use_of_fuel i.region i.slice i.fuel i.year) v h (scaled_other-defines (use_of_fuel i.region i.slice i.fuel i.year) (rate_of_use i.region i.slice i.fuel i.year) (year_split d i.slice i.year) refl);
-}
+eba5-named : (d : Data) (i : Index) → IsNamed d i EBA5
+eba5-named d i =
+    let v = rate_of_use_by_technology i.region i.slice i.tech i.fuel i.year in
+    let is : List ℕ = using_modes d i.region i.tech i.fuel i.year in
+    let w : ℕ → Var = λ m. rate_of_use_by_technology_by_mode i.region i.slice i.tech i.fuel m i.year in
+    definition d i EBA5 v (sum_of_others v is w) refl (sum_of_others-defines v is w (λ m. refl))
 
-eba9-named : (d : Data) (i : Index) → IsNamed d i 15
-eba9-named d i = record {
-  means = scaled_other (demand i.region i.slice i.fuel i.year) (rate_of_demand i.region i.slice i.fuel i.year) (year_split d i.slice i.year);
-  defines = λ v h. defined (λ w. pos 0 <ℤ (scaled_other (demand i.region i.slice i.fuel i.year) (rate_of_demand i.region i.slice i.fuel i.year) (year_split d i.slice i.year)).sum (alone w)) (demand i.region i.slice i.fuel i.year) v h (scaled_other-defines (demand i.region i.slice i.fuel i.year) (rate_of_demand i.region i.slice i.fuel i.year) (year_split d i.slice i.year) refl);
-}
+eba6-named : (d : Data) (i : Index) → IsNamed d i EBA6
+eba6-named d i =
+    let v = rate_of_use i.region i.slice i.fuel i.year in
+    let is : List ℕ = using_technologies d i.region i.fuel i.year in
+    let w : ℕ → Var = λ t. rate_of_use_by_technology i.region i.slice t i.fuel i.year in
+    definition d i EBA6 v (sum_of_others v is w) refl (sum_of_others-defines v is w (λ t. refl))
 
-ebb1-named : (d : Data) (i : Index) → IsNamed d i 18
-ebb1-named d i = record {
-  means = sum_of_others (production_annual i.region i.fuel i.year) (timeslices d) (λ l. production i.region l i.fuel i.year);
-  defines = λ v h. defined (λ w. pos 0 <ℤ (sum_of_others (production_annual i.region i.fuel i.year) (timeslices d) (λ l. production i.region l i.fuel i.year)).sum (alone w)) (production_annual i.region i.fuel i.year) v h (sum_of_others-defines (production_annual i.region i.fuel i.year) (timeslices d) (λ l. production i.region l i.fuel i.year) (λ l. refl));
-}
+eba7-named : (d : Data) (i : Index) → IsNamed d i EBA7
+eba7-named d i =
+    let v = production i.region i.slice i.fuel i.year in
+    let w = rate_of_production i.region i.slice i.fuel i.year in
+    let z : ℤ = year_split d i.slice i.year in
+    definition d i EBA7 v (scaled_other v w z) refl (scaled_other-defines v w z refl)
 
-ebb2-named : (d : Data) (i : Index) → IsNamed d i 19
-ebb2-named d i = record {
-  means = sum_of_others (use_annual i.region i.fuel i.year) (timeslices d) (λ l. use_of_fuel i.region l i.fuel i.year);
-  defines = λ v h. defined (λ w. pos 0 <ℤ (sum_of_others (use_annual i.region i.fuel i.year) (timeslices d) (λ l. use_of_fuel i.region l i.fuel i.year)).sum (alone w)) (use_annual i.region i.fuel i.year) v h (sum_of_others-defines (use_annual i.region i.fuel i.year) (timeslices d) (λ l. use_of_fuel i.region l i.fuel i.year) (λ l. refl));
-}
+eba8-named : (d : Data) (i : Index) → IsNamed d i EBA8
+eba8-named d i =
+    let v = use_of_fuel i.region i.slice i.fuel i.year in
+    let w = rate_of_use i.region i.slice i.fuel i.year in
+    let z : ℤ = year_split d i.slice i.year in
+    definition d i EBA8 v (scaled_other v w z) refl (scaled_other-defines v w z refl)
 
-ebb3-named : (d : Data) (i : Index) → IsNamed d i 20
-ebb3-named d i = record {
-  means = sum_of_others (trade_annual i.region i.other i.fuel i.year) (timeslices d) (λ l. trade i.region i.other l i.fuel i.year);
-  defines = λ v h. defined (λ w. pos 0 <ℤ (sum_of_others (trade_annual i.region i.other i.fuel i.year) (timeslices d) (λ l. trade i.region i.other l i.fuel i.year)).sum (alone w)) (trade_annual i.region i.other i.fuel i.year) v h (sum_of_others-defines (trade_annual i.region i.other i.fuel i.year) (timeslices d) (λ l. trade i.region i.other l i.fuel i.year) (λ l. refl));
-}
+eba9-named : (d : Data) (i : Index) → IsNamed d i EBA9
+eba9-named d i =
+    let v = demand i.region i.slice i.fuel i.year in
+    let w = rate_of_demand i.region i.slice i.fuel i.year in
+    let z : ℤ = year_split d i.slice i.year in
+    definition d i EBA9 v (scaled_other v w z) refl (scaled_other-defines v w z refl)
 
-acc1-named : (d : Data) (i : Index) → IsNamed d i 22
-acc1-named d i = record {
-  means = scaled_other (production_by_technology i.region i.slice i.tech i.fuel i.year) (rate_of_production_by_technology i.region i.slice i.tech i.fuel i.year) (year_split d i.slice i.year);
-  defines = λ v h. defined (λ w. pos 0 <ℤ (scaled_other (production_by_technology i.region i.slice i.tech i.fuel i.year) (rate_of_production_by_technology i.region i.slice i.tech i.fuel i.year) (year_split d i.slice i.year)).sum (alone w)) (production_by_technology i.region i.slice i.tech i.fuel i.year) v h (scaled_other-defines (production_by_technology i.region i.slice i.tech i.fuel i.year) (rate_of_production_by_technology i.region i.slice i.tech i.fuel i.year) (year_split d i.slice i.year) refl);
-}
+ebb1-named : (d : Data) (i : Index) → IsNamed d i EBB1
+ebb1-named d i =
+    let v = production_annual i.region i.fuel i.year in
+    let is : List ℕ = timeslices d in
+    let w : ℕ → Var = λ l. production i.region l i.fuel i.year in
+    definition d i EBB1 v (sum_of_others v is w) refl (sum_of_others-defines v is w (λ l. refl))
 
-acc2-named : (d : Data) (i : Index) → IsNamed d i 23
-acc2-named d i = record {
-  means = scaled_other (use_by_technology i.region i.slice i.tech i.fuel i.year) (rate_of_use_by_technology i.region i.slice i.tech i.fuel i.year) (year_split d i.slice i.year);
-  defines = λ v h. defined (λ w. pos 0 <ℤ (scaled_other (use_by_technology i.region i.slice i.tech i.fuel i.year) (rate_of_use_by_technology i.region i.slice i.tech i.fuel i.year) (year_split d i.slice i.year)).sum (alone w)) (use_by_technology i.region i.slice i.tech i.fuel i.year) v h (scaled_other-defines (use_by_technology i.region i.slice i.tech i.fuel i.year) (rate_of_use_by_technology i.region i.slice i.tech i.fuel i.year) (year_split d i.slice i.year) refl);
-}
+ebb2-named : (d : Data) (i : Index) → IsNamed d i EBB2
+ebb2-named d i =
+    let v = use_annual i.region i.fuel i.year in
+    let is : List ℕ = timeslices d in
+    let w : ℕ → Var = λ l. use_of_fuel i.region l i.fuel i.year in
+    definition d i EBB2 v (sum_of_others v is w) refl (sum_of_others-defines v is w (λ l. refl))
 
-acc3-named : (d : Data) (i : Index) → IsNamed d i 24
-acc3-named d i = record {
-  means = weighted_sum (total_annual_technology_activity_by_mode i.region i.tech i.mode i.year) (timeslices d) (λ l. rate_of_activity i.region l i.tech i.mode i.year) (λ l. year_split d l i.year);
-  defines = λ v h. defined (λ w. pos 0 <ℤ (weighted_sum (total_annual_technology_activity_by_mode i.region i.tech i.mode i.year) (timeslices d) (λ l. rate_of_activity i.region l i.tech i.mode i.year) (λ l. year_split d l i.year)).sum (alone w)) (total_annual_technology_activity_by_mode i.region i.tech i.mode i.year) v h (weighted_sum-defines (total_annual_technology_activity_by_mode i.region i.tech i.mode i.year) (timeslices d) (λ l. rate_of_activity i.region l i.tech i.mode i.year) (λ l. year_split d l i.year) (λ l. refl));
-}
+ebb3-named : (d : Data) (i : Index) → IsNamed d i EBB3
+ebb3-named d i =
+    let v = trade_annual i.region i.other i.fuel i.year in
+    let is : List ℕ = timeslices d in
+    let w : ℕ → Var = λ l. trade i.region i.other l i.fuel i.year in
+    definition d i EBB3 v (sum_of_others v is w) refl (sum_of_others-defines v is w (λ l. refl))
 
-demand-named : (d : Data) (i : Index) → pos 0 <ℤ year_split d i.slice i.year → IsNamed d i 1
-demand-named d i p = record {
-  means = demand-means d i;
-  defines = λ v h. defined (λ w. pos 0 <ℤ (demand-means d i).sum (alone w)) (rate_of_demand i.region i.slice i.fuel i.year) v h (demand-defines d i p);
-}
+acc1-named : (d : Data) (i : Index) → IsNamed d i ACC1
+acc1-named d i =
+    let v = production_by_technology i.region i.slice i.tech i.fuel i.year in
+    let w = rate_of_production_by_technology i.region i.slice i.tech i.fuel i.year in
+    let z : ℤ = year_split d i.slice i.year in
+    definition d i ACC1 v (scaled_other v w z) refl (scaled_other-defines v w z refl)
 
-exchange-named : (d : Data) (i : Index) → IsNamed d i 16
+acc2-named : (d : Data) (i : Index) → IsNamed d i ACC2
+acc2-named d i =
+    let v = use_by_technology i.region i.slice i.tech i.fuel i.year in
+    let w = rate_of_use_by_technology i.region i.slice i.tech i.fuel i.year in
+    let z : ℤ = year_split d i.slice i.year in
+    definition d i ACC2 v (scaled_other v w z) refl (scaled_other-defines v w z refl)
+
+acc3-named : (d : Data) (i : Index) → IsNamed d i ACC3
+acc3-named d i =
+    let v = total_annual_technology_activity_by_mode i.region i.tech i.mode i.year in
+    let is : List ℕ = timeslices d in
+    let w : ℕ → Var = λ l. rate_of_activity i.region l i.tech i.mode i.year in
+    let z : ℕ → ℤ = λ l. year_split d l i.year in
+    definition d i ACC3 v (weighted_sum v is w z) refl (weighted_sum-defines v is w z (λ l. refl))
+
+demand-named : (d : Data) (i : Index) → pos 0 <ℤ year_split d i.slice i.year → IsNamed d i EQ_SPECIFIED_DEMAND
+demand-named d i p = definition d i EQ_SPECIFIED_DEMAND (rate_of_demand i.region i.slice i.fuel i.year) (demand-means d i) refl (demand-defines d i p)
+
+exchange-named : (d : Data) (i : Index) → IsNamed d i EBA10
 exchange-named d i = record { means = exchange-means d i; defines = exchange-defines d i }
 
-cover-named : (d : Data) (i : Index) → IsNamed d i 17
-cover-named d i = record { means = cover-means d i; defines = λ v h. absurd (cc h) }
+cover-named : (d : Data) (i : Index) → IsNamed d i EBA11
+cover-named d i = inequality d i EBA11 (cover-means d i) refl
 
-cover_year-named : (d : Data) (i : Index) → IsNamed d i 21
-cover_year-named d i = record { means = cover_year-means d i; defines = λ v h. absurd (cc h) }
+cover_year-named : (d : Data) (i : Index) → IsNamed d i EBB4
+cover_year-named d i = inequality d i EBB4 (cover_year-means d i) refl
 
-from_seven : (d : Data) (i : Index) → EachFrom (IsNamed d i) 7 18
+from_seven : (d : Data) (i : Index) → EachFrom (IsNamed d i) EBA1 18
 from_seven d i =
     (eba1-named d i, (eba2-named d i, (eba3-named d i, (eba4-named d i, (eba5-named d i, (eba6-named d i, (eba7-named d i, (eba8-named d i, (eba9-named d i, (exchange-named d i, (cover-named d i, (ebb1-named d i, (ebb2-named d i, (ebb3-named d i, (cover_year-named d i, (acc1-named d i, (acc2-named d i, (acc3-named d i, tt))))))))))))))))))
 
-pub named : (d : Data) (n : ℕ) (i : Index) → IsBalanceEquation n → (n ≡ 1 → pos 0 <ℤ year_split d i.slice i.year) → IsNamed d i n
+pub named : (d : Data) (n : ℕ) (i : Index) → IsBalanceEquation n → (n ≡ EQ_SPECIFIED_DEMAND → pos 0 <ℤ year_split d i.slice i.year) → IsNamed d i n
 named d n i h p =
     elim h [
       | inl one ↦ subst (IsNamed d i) (sym one) (demand-named d i (p one))
-      | inr more ↦ at_number (IsNamed d i) 7 18 n (from_seven d i) more.0 (omega (arith, more.1))
+      | inr more ↦ at_number (IsNamed d i) EBA1 18 n (from_seven d i) more.0 (omega (arith, more.1))
     ]
 
 pub terms-at : (d : Data) (name : RowName) (n : ℕ) → name.eq ≡ n → terms_at d name ≡ terms_at d (name_at n name.index)
@@ -294,9 +318,9 @@ terms-at d name n h = ap (λ m. terms_at d (name_at m name.index)) h
 
 -- where no condition is asked, the equation stands everywhere
 abbrev pub Stands : Data → Index → ℕ → Type 0
-Stands d i n = n ≢ 7 → n ≢ 8 → n ≢ 10 → n ≢ 11 → n ≢ 22 → n ≢ 23 → true ≡ stands_at d n i
+Stands d i n = n ≢ EBA1 → n ≢ EBA2 → n ≢ EBA4 → n ≢ EBA5 → n ≢ ACC1 → n ≢ ACC2 → true ≡ stands_at d n i
 
-conditions : (d : Data) (i : Index) → EachFrom (Stands d i) 7 18
+conditions : (d : Data) (i : Index) → EachFrom (Stands d i) EBA1 18
 conditions d i =
     ((λ a b c e f g. absurd (a refl)), ((λ a b c e f g. absurd (b refl)), ((λ a b c e f g. refl), ((λ a b c e f g. absurd (c refl)), ((λ a b c e f g. absurd (e refl)), ((λ a b c e f g. refl), ((λ a b c e f g. refl), ((λ a b c e f g. refl), ((λ a b c e f g. refl), ((λ a b c e f g. refl), ((λ a b c e f g. refl), ((λ a b c e f g. refl), ((λ a b c e f g. refl), ((λ a b c e f g. refl), ((λ a b c e f g. refl), ((λ a b c e f g. absurd (f refl)), ((λ a b c e f g. absurd (g refl)), ((λ a b c e f g. refl), tt))))))))))))))))))
 
@@ -304,5 +328,5 @@ pub everywhere_else : (d : Data) (n : ℕ) (i : Index) → IsBalanceEquation n �
 everywhere_else d n i h =
     elim h [
       | inl one ↦ subst (Stands d i) (sym one) (λ a b c e f g. refl)
-      | inr more ↦ at_number (Stands d i) 7 18 n (conditions d i) more.0 (omega (arith, more.1))
+      | inr more ↦ at_number (Stands d i) EBA1 18 n (conditions d i) more.0 (omega (arith, more.1))
     ]

@@ -1,6 +1,7 @@
 -- The equations of this crate by their numbers: 1, and 7 to 24.
 use Rattle.std.specs.Prelude.{◌≡◌, ℕ, ◌-◌, ◌≤◌, ◌⊎◌, List, [], ◌∷◌, slice_index_or}
 use Rattle.model_sets.specs.Data.{Data}
+use Rattle.row_core.specs.declared.equation_numbers.TheConstants.{EQ_SPECIFIED_DEMAND, CAB1, EBA1, ACC3}
 use Rattle.row_core.specs.declared.Index.{Index}
 use Rattle.row_core.specs.declared.RowName.{RowName}
 use Rattle.row_core.specs.EquationTerms.{EquationTerms}
@@ -9,7 +10,7 @@ use Rattle.balance_rows.specs.Balance.{eq_specified_demand, eba1, eba2, eba3, eb
 
 -- the equations are number 1 and numbers 7 to 24
 abbrev pub IsBalanceEquation : ℕ → Type 0
-IsBalanceEquation eq = (eq ≡ 1) ⊎ ((7 ≤ eq) × (eq ≤ 24))
+IsBalanceEquation eq = (eq ≡ EQ_SPECIFIED_DEMAND) ⊎ ((EBA1 ≤ eq) × (eq ≤ ACC3))
 
 -- the equations as terms: EQ_SpecifiedDemand, and those from number 7
 abbrev pub balance_terms : Data → List (Index → EquationTerms)
@@ -21,6 +22,6 @@ balance_terms d =
     ∷ by_rfy (ebb1 d) ∷ by_rfy (ebb2 d) ∷ by_rrrfy (ebb3 d) ∷ by_rfy (ebb4 d)
     ∷ by_rltfy (acc1 d) ∷ by_rltfy (acc2 d) ∷ by_rtmy (acc3 d) ∷ []
 
--- the equation of this name, as terms
+-- the equation of this name, as terms: EBa1 comes after CAb1, and 1 less the number of CAb1 is 0
 abbrev pub terms_at : Data → RowName → EquationTerms
-terms_at d name = slice_index_or (balance_terms d) (name.eq - 6) (by_rlfy (eq_specified_demand d)) name.index
+terms_at d name = slice_index_or (balance_terms d) (name.eq - CAB1) (by_rlfy (eq_specified_demand d)) name.index

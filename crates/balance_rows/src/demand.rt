@@ -7,8 +7,8 @@ ghost use Rattle.named_equations.specs.Parameters.{year_split};
 ghost use Rattle.named_equations.specs.Within.{IsRegion, IsSlice, IsFuel, IsYear};
 ghost use Rattle.balance_rows.specs.Balance.{eq_specified_demand};
 
-use crate::parameters::{specified_annual_demand, specified_demand_profile, year_split};
-use crate::variables::rate_of_demand;
+use equation_parts::parameters::{specified_annual_demand, specified_demand_profile, year_split};
+use equation_parts::variables::rate_of_demand;
 use param_tables::ModelData;
 use row_core::{Index, LeftSide, Row, RowName, Sense, Stopped, times};
 use std::alloc::Global;

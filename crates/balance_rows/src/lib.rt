@@ -3,19 +3,10 @@
 #![tactic(auto)]
 
 mod accounting;
-mod conditions;
 mod demand;
-mod listed;
-mod parameters;
 mod production;
 mod rows;
-mod sets;
-mod shapes;
 mod timeslices;
-mod variables;
 mod years;
 
 pub use rows::rows_of;
-
-#[cfg(test)]
-mod tests;

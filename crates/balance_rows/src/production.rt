@@ -5,14 +5,9 @@ ghost use Rattle.named_equations.specs.Indices.{by_rlfy, by_rltfmy, by_rltfy};
 ghost use Rattle.named_equations.specs.Within.{IsRegion, IsTechnology, IsFuel, IsMode, IsYear};
 ghost use Rattle.balance_rows.specs.Balance.{eba1, eba2, eba3, eba4, eba5, eba6};
 
-use crate::listed::take_away_each;
-use crate::parameters::{input_activity_ratio, output_activity_ratio};
-use crate::shapes::is_times;
-use crate::variables::{
-    rate_of_activity, rate_of_production, rate_of_production_by_technology,
-    rate_of_production_by_technology_by_mode, rate_of_use, rate_of_use_by_technology,
-    rate_of_use_by_technology_by_mode,
-};
+use equation_parts::parameters::{input_activity_ratio, output_activity_ratio};
+use equation_parts::shapes::{is_times, take_away_each};
+use equation_parts::variables::{rate_of_activity, rate_of_production, rate_of_production_by_technology, rate_of_production_by_technology_by_mode, rate_of_use, rate_of_use_by_technology, rate_of_use_by_technology_by_mode};
 use param_tables::{ActivityRatio, ModelData};
 use row_core::{Index, LeftSide, Row, RowName, Sense, Stopped, one, zero};
 use std::alloc::Global;

@@ -11,12 +11,13 @@ ghost use Rattle.named_equations.specs.RowMeaning.{IsNamedRow};
 ghost use Rattle.balance_rows.specs.Rows.{IsBalanceEquation, terms_at};
 
 use crate::accounting::{acc1, acc2, acc3};
-use crate::conditions::{produces, produces_in_mode, uses, uses_in_mode};
 use crate::demand::eq_specified_demand;
 use crate::production::{eba1, eba2, eba3, eba4, eba5, eba6};
 use crate::timeslices::{eba7, eba8, eba9, eba10, eba11};
 use crate::years::{ebb1, ebb2, ebb3, ebb4};
+use equation_parts::ratios::{produces, produces_in_mode, uses, uses_in_mode};
 use param_tables::ModelData;
+use row_core::equation_numbers::{ACC1, ACC2, EBA1, EBA10, EBA11, EBA2, EBA3, EBA4, EBA5, EBA6, EBA7, EBA8, EBA9, EBB1, EBB2, EBB3, EBB4, EQ_SPECIFIED_DEMAND};
 use row_core::{Index, Row, RowName, Stopped};
 use std::alloc::Global;
 
@@ -62,12 +63,12 @@ fn stands(model: &ModelData, eq: u8, at: Index) -> bool
         ..
     } = at;
     match eq {
-        7 => produces_in_mode(model, r, t, f, m, y),
-        8 => produces(model, r, t, f, y),
-        10 => uses_in_mode(model, r, t, f, m, y),
-        11 => uses(model, r, t, f, y),
-        22 => produces(model, r, t, f, y),
-        23 => uses(model, r, t, f, y),
+        EBA1 => produces_in_mode(model, r, t, f, m, y),
+        EBA2 => produces(model, r, t, f, y),
+        EBA4 => uses_in_mode(model, r, t, f, m, y),
+        EBA5 => uses(model, r, t, f, y),
+        ACC1 => produces(model, r, t, f, y),
+        ACC2 => uses(model, r, t, f, y),
         _ => true,
     }
 }
@@ -80,24 +81,24 @@ fn row_of(alloc: Global, model: &ModelData, name: RowName) -> Result<Row, Stoppe
     ensures positive { name.eq ≡ 1 → pos 0 <ℤ year_split model.now.facts name.index.slice name.index.year }
 {
     match name.eq {
-        1 => eq_specified_demand(alloc, model, name),
-        7 => eba1(alloc, model, name),
-        8 => eba2(alloc, model, name),
-        9 => eba3(alloc, model, name),
-        10 => eba4(alloc, model, name),
-        11 => eba5(alloc, model, name),
-        12 => eba6(alloc, model, name),
-        13 => eba7(alloc, model, name),
-        14 => eba8(alloc, model, name),
-        15 => eba9(alloc, model, name),
-        16 => eba10(alloc, model, name),
-        17 => eba11(alloc, model, name),
-        18 => ebb1(alloc, model, name),
-        19 => ebb2(alloc, model, name),
-        20 => ebb3(alloc, model, name),
-        21 => ebb4(alloc, model, name),
-        22 => acc1(alloc, model, name),
-        23 => acc2(alloc, model, name),
+        EQ_SPECIFIED_DEMAND => eq_specified_demand(alloc, model, name),
+        EBA1 => eba1(alloc, model, name),
+        EBA2 => eba2(alloc, model, name),
+        EBA3 => eba3(alloc, model, name),
+        EBA4 => eba4(alloc, model, name),
+        EBA5 => eba5(alloc, model, name),
+        EBA6 => eba6(alloc, model, name),
+        EBA7 => eba7(alloc, model, name),
+        EBA8 => eba8(alloc, model, name),
+        EBA9 => eba9(alloc, model, name),
+        EBA10 => eba10(alloc, model, name),
+        EBA11 => eba11(alloc, model, name),
+        EBB1 => ebb1(alloc, model, name),
+        EBB2 => ebb2(alloc, model, name),
+        EBB3 => ebb3(alloc, model, name),
+        EBB4 => ebb4(alloc, model, name),
+        ACC1 => acc1(alloc, model, name),
+        ACC2 => acc2(alloc, model, name),
         _ => acc3(alloc, model, name),
     }
 }

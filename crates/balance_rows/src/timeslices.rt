@@ -9,12 +9,10 @@ ghost use Rattle.named_equations.specs.Indices.{by_rlfy, by_rrrlfy};
 ghost use Rattle.named_equations.specs.Within.{IsRegion, IsSlice, IsFuel, IsYear};
 ghost use Rattle.balance_rows.specs.Balance.{eba7, eba8, eba9, eba10, eba11};
 
-use crate::parameters::{trade_route, year_split};
-use crate::sets::REGION;
-use crate::shapes::is_times;
-use crate::variables::{
-    demand, production, rate_of_demand, rate_of_production, rate_of_use, trade, use_of_fuel,
-};
+use equation_parts::parameters::{trade_route, year_split};
+use equation_parts::shapes::is_times;
+use equation_parts::variables::{demand, production, rate_of_demand, rate_of_production, rate_of_use, trade, use_of_fuel};
+use model_sets::set_numbers::REGION;
 use param_tables::ModelData;
 use row_core::{Index, LeftSide, Row, RowName, Sense, Stopped, minus_one, negative, one, zero};
 use std::alloc::Global;
@@ -86,8 +84,8 @@ pub(crate) fn eba9(alloc: Global, model: &ModelData, name: RowName) -> Result<Ro
 }
 
 /// EBa10: what one region gives another is the negative of what it gets from it.
-pub(crate) fn eba10(alloc: Global, _facts: &ModelData, name: RowName) -> Result<Row, Stopped>
-    ensures { IsWritten name (by_rrrlfy (eba10 _facts.now.facts) name.index) result }
+pub(crate) fn eba10(alloc: Global, _model: &ModelData, name: RowName) -> Result<Row, Stopped>
+    ensures { IsWritten name (by_rrrlfy (eba10 _model.now.facts) name.index) result }
 {
     let Index {
         region: r,

@@ -1,10 +1,10 @@
 -- The terms of each equation of capacity adequacy mean it.
-use Rattle.std.proofs.Common.{◌≡◌, true, ℕ, ◌<◌, ℤ, pos, neg_ℤ, ◌+ℤ◌, ◌*ℤ◌, ◌∷◌, [], refl, sym, ap, ap₂, ◌∙◌, subst, arith}
+use Rattle.std.proofs.Common.{◌≡◌, true, ℕ, ℤ, pos, neg_ℤ, ◌+ℤ◌, ◌*ℤ◌, List, ◌∷◌, [], Some, None, refl, sym, ap, ap₂, ◌∙◌, arith}
 use Rattle.std.specs.Prelude.{◌<ℤ◌}
 use Rattle.std.proofs.lemmas.Int.{ints}
 use Rattle.exact_num.proofs.Ring.{products, *ℤ_comm, zero-*ℤ, neg_ℤ-*ℤ}
 use Rattle.model_sets.specs.Data.{Data}
-use Rattle.model_sets.specs.Names.{region, technology, year}
+use Rattle.row_core.specs.declared.equation_numbers.TheConstants.{CAA1, CAA2, CAA3, CAA4, CAB1}
 use Rattle.row_core.specs.declared.Index.{Index}
 use Rattle.row_core.specs.declared.RowName.{RowName}
 use Rattle.row_core.specs.declared.Var.{Var}
@@ -13,23 +13,20 @@ use Rattle.row_core.specs.EquationTerms.{less, each}
 use Rattle.row_core.specs.Values.{IsOver, alone}
 use Rattle.row_core.proofs.SumLaws.{IsOver-times, IsOver-negated, IsOver-multiplied}
 use Rattle.named_equations.specs.Capacity.{years_counting}
-use Rattle.named_equations.specs.Instances.{is_index, subscripts_of, name_at, stands_at}
+use Rattle.named_equations.specs.Instances.{name_at, stands_at, variable_of}
 use Rattle.named_equations.specs.Notation.{sum_over, values}
 use Rattle.named_equations.specs.Parameters.{year_split, capacity_to_activity_unit, capacity_factor, availability_factor, residual_capacity}
-use Rattle.named_equations.specs.Positions.{count_of, modes, timeslices}
+use Rattle.named_equations.specs.Positions.{modes, timeslices}
 use Rattle.named_equations.specs.Plans.{says}
 use Rattle.named_equations.specs.Variables.{accumulated_new_capacity, new_capacity, total_capacity_annual, rate_of_total_activity, rate_of_activity}
-use Rattle.named_equations.proofs.TermMeaning.{MeansStatement, IsNamedEquation, sum_of_others, sum_of_others-defines, EachFrom, at_number, alone-self, first_positive, defined, sum_over-same, sum_over-times, over-one, over-minus_one, over-zero, over-data, total_over-IsOver, sum-none, sum-term, sum-each}
+use Rattle.named_equations.proofs.TermMeaning.{MeansStatement, IsNamedEquation, sum_of_others, sum_of_others-defines, EachFrom, at_number, alone-self, definition_is, inequality_is, first_positive, sum_over-same, sum_over-times, over-one, over-minus_one, over-zero, over-data, total_over-IsOver, sum-none, sum-term, sum-each}
 use Rattle.capacity_rows.specs.Rows.{IsCapacityEquation, terms_at}
-use Rattle.capacity_rows.specs.Capacity.{caa1, caa2, caa3, caa4, cab1, slices_capacity, year_capacity}
-
-pub caa1-means : (d : Data) (i : Index) → MeansStatement (caa1 d i.region i.tech i.year) (λ q x. says d q x (name_at 2 i))
-caa1-means d i = sum_of_others (accumulated_new_capacity i.region i.tech i.year) (years_counting d i.region i.tech i.year) (λ yy. new_capacity i.region i.tech yy)
+use Rattle.capacity_rows.specs.Capacity.{caa2, caa4, cab1, slices_capacity, year_capacity}
 
 caa2-sides : (s t a r : ℤ) → ((s *ℤ t) +ℤ ((neg_ℤ s *ℤ a) +ℤ pos 0)) +ℤ ((s *ℤ a) +ℤ r) ≡ (s *ℤ t) +ℤ r
 caa2-sides s t a r = ap (λ z. ((s *ℤ t) +ℤ (z +ℤ pos 0)) +ℤ ((s *ℤ a) +ℤ r)) (neg_ℤ-*ℤ s a) ∙ omega (arith, ints)
 
-pub caa2-means : (d : Data) (i : Index) → MeansStatement (caa2 d i.region i.tech i.year) (λ q x. says d q x (name_at 3 i))
+pub caa2-means : (d : Data) (i : Index) → MeansStatement (caa2 d i.region i.tech i.year) (λ q x. says d q x (name_at CAA2 i))
 caa2-means d i =
     let total = total_capacity_annual i.region i.tech i.year in
     let built = accumulated_new_capacity i.region i.tech i.year in
@@ -46,14 +43,11 @@ caa2-means d i =
       balance = λ q x. caa2-sides s (x total) (x built) (z *ℤ pos q);
     }
 
-pub caa3-means : (d : Data) (i : Index) → MeansStatement (caa3 d i.region i.slice i.tech i.year) (λ q x. says d q x (name_at 4 i))
-caa3-means d i = sum_of_others (rate_of_total_activity i.region i.slice i.tech i.year) (modes d) (λ m. rate_of_activity i.region i.slice i.tech m i.year)
-
 caa4-sides : (s b p t q : ℤ) → ((s *ℤ b) +ℤ ((neg_ℤ p *ℤ t) +ℤ pos 0)) +ℤ (t *ℤ p) ≡ (s *ℤ b) +ℤ (pos 0 *ℤ q)
 caa4-sides s b p t q =
     ap₂ (λ y z. ((s *ℤ b) +ℤ (y +ℤ pos 0)) +ℤ z) (neg_ℤ-*ℤ p t) (*ℤ_comm t p) ∙ omega (arith, ints) ∙ ap (λ z. (s *ℤ b) +ℤ z) (sym (zero-*ℤ q))
 
-pub caa4-means : (d : Data) (i : Index) → MeansStatement (caa4 d i.region i.slice i.tech i.year) (λ q x. says d q x (name_at 5 i))
+pub caa4-means : (d : Data) (i : Index) → MeansStatement (caa4 d i.region i.slice i.tech i.year) (λ q x. says d q x (name_at CAA4 i))
 caa4-means d i =
     let rate = rate_of_total_activity i.region i.slice i.tech i.year in
     let total = total_capacity_annual i.region i.tech i.year in
@@ -82,7 +76,7 @@ turned k a b = simp products
 cab1-sides : (c t n q : ℤ) → ((neg_ℤ c *ℤ t) +ℤ n) +ℤ (t *ℤ c) ≡ n +ℤ (pos 0 *ℤ q)
 cab1-sides c t n q = ap₂ (λ y z. (y +ℤ n) +ℤ z) (neg_ℤ-*ℤ c t) (*ℤ_comm t c) ∙ omega (arith, ints) ∙ ap (λ z. n +ℤ z) (sym (zero-*ℤ q))
 
-pub cab1-means : (d : Data) (i : Index) → MeansStatement (cab1 d i.region i.tech i.year) (λ q x. says d q x (name_at 6 i))
+pub cab1-means : (d : Data) (i : Index) → MeansStatement (cab1 d i.region i.tech i.year) (λ q x. says d q x (name_at CAB1 i))
 cab1-means d i =
     let r = i.region in
     let t = i.tech in
@@ -133,38 +127,47 @@ caa2-defines d i =
 
 -- ---- by number
 
-equations : (d : Data) (i : Index) → EachFrom (λ n. IsNamedEquation d (name_at n i) (terms_at d (name_at n i))) 2 5
-unfolding caa1-means caa3-means
+-- the equation of number n
+abbrev pub IsNamed : Data → Index → ℕ → Type 0
+IsNamed d i n = IsNamedEquation d (name_at n i) (terms_at d (name_at n i))
+
+-- that its terms mean it
+abbrev pub Means : Data → Index → ℕ → Type 0
+Means d i n = MeansStatement (terms_at d (name_at n i)) (λ q x. says d q x (name_at n i))
+
+definition : (d : Data) (i : Index) (n : ℕ) (v : Var) (m : Means d i n) → variable_of (name_at n i) ≡ Some v → pos 0 <ℤ m.sum (alone v) → IsNamed d i n
+definition d i n v m is h = definition_is d (name_at n i) (terms_at d (name_at n i)) v m is h
+
+inequality : (d : Data) (i : Index) (n : ℕ) → Means d i n → variable_of (name_at n i) ≡ None → IsNamed d i n
+inequality d i n m none = inequality_is d (name_at n i) (terms_at d (name_at n i)) m none
+
+caa1-named : (d : Data) (i : Index) → IsNamed d i CAA1
+caa1-named d i =
+    let v = accumulated_new_capacity i.region i.tech i.year in
+    let is : List ℕ = years_counting d i.region i.tech i.year in
+    let w : ℕ → Var = λ yy. new_capacity i.region i.tech yy in
+    definition d i CAA1 v (sum_of_others v is w) refl (sum_of_others-defines v is w (λ yy. refl))
+
+caa3-named : (d : Data) (i : Index) → IsNamed d i CAA3
+caa3-named d i =
+    let v = rate_of_total_activity i.region i.slice i.tech i.year in
+    let w : ℕ → Var = λ m. rate_of_activity i.region i.slice i.tech m i.year in
+    definition d i CAA3 v (sum_of_others v (modes d) w) refl (sum_of_others-defines v (modes d) w (λ m. refl))
+
+equations : (d : Data) (i : Index) → EachFrom (IsNamed d i) CAA1 5
 equations d i = (
-  record { means = caa1-means d i; defines = λ v h. defined (λ w. pos 0 <ℤ (caa1-means d i).sum (alone w)) (accumulated_new_capacity i.region i.tech i.year) v h (sum_of_others-defines (accumulated_new_capacity i.region i.tech i.year) (years_counting d i.region i.tech i.year) (λ yy. new_capacity i.region i.tech yy) (λ yy. refl)) },
+  caa1-named d i,
   (
-    record { means = caa2-means d i; defines = λ v h. defined (λ w. pos 0 <ℤ (caa2-means d i).sum (alone w)) (total_capacity_annual i.region i.tech i.year) v h (caa2-defines d i) },
-    (
-      record { means = caa3-means d i; defines = λ v h. defined (λ w. pos 0 <ℤ (caa3-means d i).sum (alone w)) (rate_of_total_activity i.region i.slice i.tech i.year) v h (sum_of_others-defines (rate_of_total_activity i.region i.slice i.tech i.year) (modes d) (λ m. rate_of_activity i.region i.slice i.tech m i.year) (λ m. refl)) },
-      (
-        record { means = caa4-means d i; defines = λ v h. absurd (cc h) },
-        (record { means = cab1-means d i; defines = λ v h. absurd (cc h) }, tt),
-      ),
-    ),
+    definition d i CAA2 (total_capacity_annual i.region i.tech i.year) (caa2-means d i) refl (caa2-defines d i),
+    (caa3-named d i, (inequality d i CAA4 (caa4-means d i) refl, (inequality d i CAB1 (cab1-means d i) refl, tt))),
   ),
 )
 
-pub named : (d : Data) (n : ℕ) (i : Index) → IsCapacityEquation n → IsNamedEquation d (name_at n i) (terms_at d (name_at n i))
-named d n i h = at_number (λ n. IsNamedEquation d (name_at n i) (terms_at d (name_at n i))) 2 5 n (equations d i) h.0 (omega (arith, h.1))
+pub named : (d : Data) (n : ℕ) (i : Index) → IsCapacityEquation n → IsNamed d i n
+named d n i h = at_number (IsNamed d i) CAA1 5 n (equations d i) h.0 (omega (arith, h.1))
 
 pub always : (d : Data) (n : ℕ) (i : Index) → IsCapacityEquation n → true ≡ stands_at d n i
-always d n i h = at_number (λ n. true ≡ stands_at d n i) 2 5 n (refl, (refl, (refl, (refl, (refl, tt))))) h.0 (omega (arith, h.1))
+always d n i h = at_number (λ n. true ≡ stands_at d n i) CAA1 5 n (refl, (refl, (refl, (refl, (refl, tt))))) h.0 (omega (arith, h.1))
 
 pub terms-at : (d : Data) (name : RowName) (n : ℕ) → name.eq ≡ n → terms_at d name ≡ terms_at d (name_at n name.index)
 terms-at d name n h = ap (λ m. terms_at d (name_at m name.index)) h
-
--- the subscripts r, t, y of an index lie in their sets
-pub record IsInSets (d : Data) (i : Index) : Type 0 where
-  pub region : i.region < count_of d region
-  pub technology : i.tech < count_of d technology
-  pub year : i.year < count_of d year
-
-pub in_sets : (d : Data) (n m : ℕ) (i : Index) → n ≡ m → subscripts_of m ≡ 0 ∷ 3 ∷ 7 ∷ [] → is_index d (subscripts_of n) i ≡ true → IsInSets d i
-in_sets d n m i e k h =
-    let at : is_index d (0 ∷ 3 ∷ 7 ∷ []) i ≡ true = subst (λ l. is_index d l i ≡ true) (ap subscripts_of e ∙ k) h in
-    record { region = grind (arith, at); technology = grind (arith, at); year = grind (arith, at) }

@@ -13,29 +13,22 @@ ghost use Rattle.named_equations.specs.Indices.{by_rty, by_rlty};
 ghost use Rattle.capacity_rows.specs.Capacity.{caa1, caa2, caa3, caa4, cab1, slices_capacity, year_capacity};
 ghost use Rattle.named_equations.specs.Within.{IsRegion, IsSlice, IsTechnology, IsYear};
 
-use crate::parameters::{
-    availability_factor, capacity_factor, capacity_to_activity_unit, operational_life,
-    residual_capacity, still_counts, year_split,
+use equation_parts::parameters::{
+    availability_factor, capacity_factor, capacity_to_activity_unit, residual_capacity, year_split,
 };
-use crate::variables::{
+use equation_parts::variables::{
     accumulated_new_capacity, new_capacity, rate_of_activity, rate_of_total_activity,
     total_capacity_annual,
 };
+use equation_parts::whole_numbers::operational_life;
+use equation_parts::years::still_counts;
 use exact_num::Frac;
+use model_sets::set_numbers::{MODE_OF_OPERATION, TIMESLICE, YEAR};
 use param_tables::ModelData;
 use row_core::{
     Index, LeftSide, Row, RowName, Sense, Stopped, minus_one, negative, one, plus, times, zero,
 };
 use std::alloc::Global;
-
-/// The number of the set MODE_OF_OPERATION.
-const MODE: u8 = 5;
-
-/// The number of the set TIMESLICE.
-const TIMESLICE: u8 = 6;
-
-/// The number of the set YEAR.
-const YEAR: u8 = 7;
 
 /// CAa1: what was built and still counts is the sum of what was built in the years that count.
 pub(crate) fn caa1(alloc: Global, model: &ModelData, name: RowName) -> Result<Row, Stopped>
@@ -104,7 +97,7 @@ pub(crate) fn caa3(alloc: Global, model: &ModelData, name: RowName) -> Result<Ro
     let mut left = LeftSide::new(alloc, name);
     left.add(rate_of_total_activity(r, l, t, y), one())?;
     left.add_each(
-        model.sets().count(MODE),
+        model.sets().count(MODE_OF_OPERATION),
         |m| (rate_of_activity(r, l, t, m, y), minus_one()),
     )?;
     left.write(alloc, Sense::Equal, zero())

@@ -3,11 +3,6 @@
 #![tactic(auto)]
 
 mod capacity;
-mod parameters;
 mod rows;
-mod variables;
 
 pub use rows::rows_of;
-
-#[cfg(test)]
-mod tests;

@@ -11,6 +11,7 @@ ghost use Rattle.capacity_rows.specs.Rows.{IsCapacityEquation, terms_at};
 
 use crate::capacity::{caa1, caa2, caa3, caa4, cab1};
 use param_tables::ModelData;
+use row_core::equation_numbers::{CAA1, CAA2, CAA3, CAA4};
 use row_core::{Index, Row, RowName, Stopped};
 use std::alloc::Global;
 
@@ -44,10 +45,10 @@ fn row_of(alloc: Global, model: &ModelData, name: RowName) -> Result<Row, Stoppe
     ensures { IsWritten name (terms_at model.now.facts name) result }
 {
     match name.eq {
-        2 => caa1(alloc, model, name),
-        3 => caa2(alloc, model, name),
-        4 => caa3(alloc, model, name),
-        5 => caa4(alloc, model, name),
+        CAA1 => caa1(alloc, model, name),
+        CAA2 => caa2(alloc, model, name),
+        CAA3 => caa3(alloc, model, name),
+        CAA4 => caa4(alloc, model, name),
         _ => cab1(alloc, model, name),
     }
 }

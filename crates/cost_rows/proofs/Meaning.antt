@@ -4,6 +4,7 @@ use Rattle.std.specs.Prelude.{◌<ℤ◌, ◌-ℤ◌}
 use Rattle.std.proofs.lemmas.Int.{ints}
 use Rattle.exact_num.proofs.Ring.{one-*ℤ, neg_ℤ-*ℤ, *ℤ_comm, *ℤ_assoc}
 use Rattle.model_sets.specs.Data.{Data}
+use Rattle.row_core.specs.declared.equation_numbers.TheConstants.{CC1, CC2, SV1, SV2, SV3, SV4, OC1, OC2, OC3, OC4, TDC1, TDC2, ACC4}
 use Rattle.row_core.specs.declared.Index.{Index}
 use Rattle.row_core.specs.declared.RowName.{RowName}
 use Rattle.row_core.specs.declared.Var.{Var}
@@ -79,7 +80,7 @@ sum-once x w terms n is =
 
 -- ---- investment
 
-cc1-named : (d : Data) (i : Index) → IsNamed d i 25
+cc1-named : (d : Data) (i : Index) → IsNamed d i CC1
 cc1-named d i =
     let v = capital_investment i.region i.tech i.year in
     let w = new_capacity i.region i.tech i.year in
@@ -88,67 +89,67 @@ cc1-named d i =
     let h : pos 0 <ℤ s = omega (arith, ints) in
     let n : (Var → ℤ) → ℤ = λ x. z *ℤ x w in
     let same : (x : Var → ℤ) → n x ≡ x w *ℤ z = λ x. *ℤ_comm z (x w) in
-    definition d i 25 v (times_number s h v w (Billionths z) z (over-data z) n same) refl (times_number-defines s h v w (Billionths z) z (over-data z) n same refl)
+    definition d i CC1 v (times_number s h v w (Billionths z) z (over-data z) n same) refl (times_number-defines s h v w (Billionths z) z (over-data z) n same refl)
 
-cc2-named : (d : Data) (i : Index) → IsNamed d i 26
+cc2-named : (d : Data) (i : Index) → IsNamed d i CC2
 cc2-named d i =
     let v = discounted_capital_investment i.region i.tech i.year in
     let w = capital_investment i.region i.tech i.year in
     let z = capital_factor_of d i.region (years_since_first d i.year) in
-    definition d i 26 v (factored v w z) refl (factored-defines v w z refl)
+    definition d i CC2 v (factored v w z) refl (factored-defines v w z refl)
 
 -- ---- salvage value
 
-sv1-named : (d : Data) (i : Index) → IsNamed d i 27
+sv1-named : (d : Data) (i : Index) → IsNamed d i SV1
 sv1-named d i =
     let v = salvage_value i.region i.tech i.year in
     let w = new_capacity i.region i.tech i.year in
     let z = capital_cost d i.region i.tech i.year in
     let f = salvage_fraction_of d 1 i.region i.tech i.year in
-    definition d i 27 v (valued v w z f) refl (valued-defines v w z f refl)
+    definition d i SV1 v (valued v w z f) refl (valued-defines v w z f refl)
 
-sv2-named : (d : Data) (i : Index) → IsNamed d i 28
+sv2-named : (d : Data) (i : Index) → IsNamed d i SV2
 sv2-named d i =
     let v = salvage_value i.region i.tech i.year in
     let w = new_capacity i.region i.tech i.year in
     let z = capital_cost d i.region i.tech i.year in
     let f = salvage_fraction_of d 2 i.region i.tech i.year in
-    definition d i 28 v (valued v w z f) refl (valued-defines v w z f refl)
+    definition d i SV2 v (valued v w z f) refl (valued-defines v w z f refl)
 
-sv3-named : (d : Data) (i : Index) → IsNamed d i 29
+sv3-named : (d : Data) (i : Index) → IsNamed d i SV3
 sv3-named d i =
     let v = salvage_value i.region i.tech i.year in
     let none : (Var → ℤ) → ℤ = λ x. pos 0 in
     let is : (x : Var → ℤ) → IsSumOver (pos 1) x (coefficients_of []) (neg_ℤ (none x)) = λ x. sum-none (pos 1) x in
-    definition d i 29 v (made_of_others v [] none is) refl (made_of_others-defines v [] none is refl)
+    definition d i SV3 v (made_of_others v [] none is) refl (made_of_others-defines v [] none is refl)
 
-sv4-named : (d : Data) (i : Index) → IsNamed d i 30
+sv4-named : (d : Data) (i : Index) → IsNamed d i SV4
 sv4-named d i =
     let v = discounted_salvage_value i.region i.tech i.year in
     let w = salvage_value i.region i.tech i.year in
     let z = capital_factor_of d i.region (years_in_all d) in
-    definition d i 30 v (factored v w z) refl (factored-defines v w z refl)
+    definition d i SV4 v (factored v w z) refl (factored-defines v w z refl)
 
 -- ---- operating cost
 
-oc1-named : (d : Data) (i : Index) → IsNamed d i 31
+oc1-named : (d : Data) (i : Index) → IsNamed d i OC1
 oc1-named d i =
     let v = annual_variable_operating_cost i.region i.tech i.year in
     let w : ℕ → Var = λ m. total_annual_technology_activity_by_mode i.region i.tech m i.year in
     let z : ℕ → ℤ = λ m. variable_cost d i.region i.tech m i.year in
-    definition d i 31 v (weighted_sum v (modes d) w z) refl (weighted_sum-defines v (modes d) w z (λ m. refl))
+    definition d i OC1 v (weighted_sum v (modes d) w z) refl (weighted_sum-defines v (modes d) w z (λ m. refl))
 
-oc2-named : (d : Data) (i : Index) → IsNamed d i 32
+oc2-named : (d : Data) (i : Index) → IsNamed d i OC2
 oc2-named d i =
     let v = annual_fixed_operating_cost i.region i.tech i.year in
     let w = total_capacity_annual i.region i.tech i.year in
     let z = fixed_cost d i.region i.tech i.year in
-    definition d i 32 v (scaled_other v w z) refl (scaled_other-defines v w z refl)
+    definition d i OC2 v (scaled_other v w z) refl (scaled_other-defines v w z refl)
 
 two_away : (a b : ℤ) → neg_ℤ a +ℤ (neg_ℤ b +ℤ pos 0) ≡ neg_ℤ (a +ℤ b)
 two_away a b = omega (arith, ints)
 
-oc3-named : (d : Data) (i : Index) → IsNamed d i 33
+oc3-named : (d : Data) (i : Index) → IsNamed d i OC3
 oc3-named d i =
     let v = operating_cost i.region i.tech i.year in
     let a = annual_variable_operating_cost i.region i.tech i.year in
@@ -158,21 +159,21 @@ oc3-named d i =
     let is : (x : Var → ℤ) → IsSumOver (pos 1) x (coefficients_of others) (neg_ℤ (n x)) = λ x.
     subst (IsSumOver (pos 1) x (coefficients_of others)) (two_away (x a) (x b))
     (sum-less x a (less b ∷ []) (neg_ℤ (x b) +ℤ pos 0) (sum-less x b [] (pos 0) (sum-none (pos 1) x))) in
-    definition d i 33 v (made_of_others v others n is) refl (made_of_others-defines v others n is refl)
+    definition d i OC3 v (made_of_others v others n is) refl (made_of_others-defines v others n is refl)
 
-oc4-named : (d : Data) (i : Index) → IsNamed d i 34
+oc4-named : (d : Data) (i : Index) → IsNamed d i OC4
 oc4-named d i =
     let v = discounted_operating_cost i.region i.tech i.year in
     let w = operating_cost i.region i.tech i.year in
     let z = operating_factor_of d i.region (years_since_first d i.year) in
-    definition d i 34 v (factored v w z) refl (factored-defines v w z refl)
+    definition d i OC4 v (factored v w z) refl (factored-defines v w z refl)
 
 -- ---- total cost
 
 three_away_and_one : (a b c s : ℤ) → neg_ℤ a +ℤ (neg_ℤ b +ℤ (neg_ℤ c +ℤ (s +ℤ pos 0))) ≡ neg_ℤ (((a +ℤ b) +ℤ c) -ℤ s)
 three_away_and_one a b c s = omega (arith, ints)
 
-tdc1-named : (d : Data) (i : Index) → IsNamed d i 40
+tdc1-named : (d : Data) (i : Index) → IsNamed d i TDC1
 tdc1-named d i =
     let v = total_discounted_cost_by_technology i.region i.tech i.year in
     let a = discounted_operating_cost i.region i.tech i.year in
@@ -187,46 +188,46 @@ tdc1-named d i =
     (sum-less x b (less c ∷ once s ∷ []) (neg_ℤ (x c) +ℤ (x s +ℤ pos 0))
     (sum-less x c (once s ∷ []) (x s +ℤ pos 0)
     (sum-once x s [] (pos 0) (sum-none (pos 1) x))))) in
-    definition d i 40 v (made_of_others v others n is) refl (made_of_others-defines v others n is refl)
+    definition d i TDC1 v (made_of_others v others n is) refl (made_of_others-defines v others n is refl)
 
-tdc2-named : (d : Data) (i : Index) → IsNamed d i 41
+tdc2-named : (d : Data) (i : Index) → IsNamed d i TDC2
 tdc2-named d i =
     let v = total_discounted_cost i.region i.year in
     let w : ℕ → Var = λ t. total_discounted_cost_by_technology i.region t i.year in
-    definition d i 41 v (sum_of_others v (technologies d) w) refl (sum_of_others-defines v (technologies d) w (λ t. refl))
+    definition d i TDC2 v (sum_of_others v (technologies d) w) refl (sum_of_others-defines v (technologies d) w (λ t. refl))
 
-acc4-named : (d : Data) (i : Index) → IsNamed d i 42
+acc4-named : (d : Data) (i : Index) → IsNamed d i ACC4
 acc4-named d i =
     let v = model_period_cost_by_region i.region in
     let w : ℕ → Var = λ y. total_discounted_cost i.region y in
-    definition d i 42 v (sum_of_others v (all_years d) w) refl (sum_of_others-defines v (all_years d) w (λ y. refl))
+    definition d i ACC4 v (sum_of_others v (all_years d) w) refl (sum_of_others-defines v (all_years d) w (λ y. refl))
 
 -- ---- by number
 
-parts-named : (d : Data) (i : Index) → EachFrom (IsNamed d i) 25 10
+parts-named : (d : Data) (i : Index) → EachFrom (IsNamed d i) CC1 10
 parts-named d i = (cc1-named d i, (cc2-named d i, (sv1-named d i, (sv2-named d i, (sv3-named d i, (sv4-named d i, (oc1-named d i, (oc2-named d i, (oc3-named d i, (oc4-named d i, tt))))))))))
 
-totals-named : (d : Data) (i : Index) → EachFrom (IsNamed d i) 40 3
+totals-named : (d : Data) (i : Index) → EachFrom (IsNamed d i) TDC1 3
 totals-named d i = (tdc1-named d i, (tdc2-named d i, (acc4-named d i, tt)))
 
 pub named : (d : Data) (n : ℕ) (i : Index) → IsCostEquation n → IsNamed d i n
-named d n i (inl h) = at_number (IsNamed d i) 25 10 n (parts-named d i) h.0 (omega (arith, h.1))
-named d n i (inr h) = at_number (IsNamed d i) 40 3 n (totals-named d i) h.0 (omega (arith, h.1))
+named d n i (inl h) = at_number (IsNamed d i) CC1 10 n (parts-named d i) h.0 (omega (arith, h.1))
+named d n i (inr h) = at_number (IsNamed d i) TDC1 3 n (totals-named d i) h.0 (omega (arith, h.1))
 
 pub terms-at : (d : Data) (name : RowName) (n : ℕ) → name.eq ≡ n → terms_at d name ≡ terms_at d (name_at n name.index)
 terms-at d name n h = ap (λ m. terms_at d (name_at m name.index)) h
 
 -- where no condition is asked, the equation stands everywhere
 abbrev pub Stands : Data → Index → ℕ → Type 0
-Stands d i n = n ≢ 27 → n ≢ 28 → n ≢ 29 → true ≡ stands_at d n i
+Stands d i n = n ≢ SV1 → n ≢ SV2 → n ≢ SV3 → true ≡ stands_at d n i
 
-parts-stand : (d : Data) (i : Index) → EachFrom (Stands d i) 25 10
+parts-stand : (d : Data) (i : Index) → EachFrom (Stands d i) CC1 10
 parts-stand d i =
     ((λ a b c. refl), ((λ a b c. refl), ((λ a b c. absurd (a refl)), ((λ a b c. absurd (b refl)), ((λ a b c. absurd (c refl)), ((λ a b c. refl), ((λ a b c. refl), ((λ a b c. refl), ((λ a b c. refl), ((λ a b c. refl), tt))))))))))
 
-totals-stand : (d : Data) (i : Index) → EachFrom (Stands d i) 40 3
+totals-stand : (d : Data) (i : Index) → EachFrom (Stands d i) TDC1 3
 totals-stand d i = ((λ a b c. refl), ((λ a b c. refl), ((λ a b c. refl), tt)))
 
 pub everywhere_else : (d : Data) (n : ℕ) (i : Index) → IsCostEquation n → Stands d i n
-everywhere_else d n i (inl h) = at_number (Stands d i) 25 10 n (parts-stand d i) h.0 (omega (arith, h.1))
-everywhere_else d n i (inr h) = at_number (Stands d i) 40 3 n (totals-stand d i) h.0 (omega (arith, h.1))
+everywhere_else d n i (inl h) = at_number (Stands d i) CC1 10 n (parts-stand d i) h.0 (omega (arith, h.1))
+everywhere_else d n i (inr h) = at_number (Stands d i) TDC1 3 n (totals-stand d i) h.0 (omega (arith, h.1))

@@ -1,6 +1,7 @@
 -- The equations of this crate by their numbers: 25 to 34 and 40 to 42.
 use Rattle.std.specs.Prelude.{ℕ, ◌-◌, ◌≤◌, ◌⊎◌, List, [], ◌∷◌, nat_le, slice_index_or, if◌then◌else◌}
 use Rattle.model_sets.specs.Data.{Data}
+use Rattle.row_core.specs.declared.equation_numbers.TheConstants.{CC1, OC4, TDC1, ACC4}
 use Rattle.row_core.specs.declared.Index.{Index}
 use Rattle.row_core.specs.declared.RowName.{RowName}
 use Rattle.row_core.specs.EquationTerms.{EquationTerms}
@@ -9,7 +10,7 @@ use Rattle.cost_rows.specs.Costs.{cc1, cc2, sv1, sv2, sv3, sv4, oc1, oc2, oc3, o
 
 -- the equations are numbers 25 to 34 and 40 to 42
 abbrev pub IsCostEquation : ℕ → Type 0
-IsCostEquation eq = ((25 ≤ eq) × (eq ≤ 34)) ⊎ ((40 ≤ eq) × (eq ≤ 42))
+IsCostEquation eq = ((CC1 ≤ eq) × (eq ≤ OC4)) ⊎ ((TDC1 ≤ eq) × (eq ≤ ACC4))
 
 -- those of investment, salvage value and operating cost as terms, from number 25
 abbrev pub parts_of_cost : Data → List (Index → EquationTerms)
@@ -25,6 +26,6 @@ totals_of_cost d = by_rty (tdc1 d) ∷ by_ry (tdc2 d) ∷ by_r (acc4 d) ∷ []
 -- the equation of this name, as terms
 abbrev pub terms_at : Data → RowName → EquationTerms
 terms_at d name =
-    if nat_le name.eq 34
-    then slice_index_or (parts_of_cost d) (name.eq - 25) (by_rty (cc1 d)) name.index
-    else slice_index_or (totals_of_cost d) (name.eq - 40) (by_rty (tdc1 d)) name.index
+    if nat_le name.eq OC4
+    then slice_index_or (parts_of_cost d) (name.eq - CC1) (by_rty (cc1 d)) name.index
+    else slice_index_or (totals_of_cost d) (name.eq - TDC1) (by_rty (tdc1 d)) name.index

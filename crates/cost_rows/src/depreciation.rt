@@ -1,12 +1,11 @@
 //! Which of the equations of salvage value stands: by what outlasts the model period, and by how a region depreciates.
 
-ghost use Rattle.std.specs.Prelude.{◌≡◌, nat_lt};
-ghost use Rattle.named_equations.specs.Salvage.{outlasts, by_sinking_fund, by_straight_line, has_sv1, has_sv2, has_sv3};
-ghost use Rattle.named_equations.specs.WrittenFactors.{rate_of, method_of};
+ghost use Rattle.std.specs.Prelude.{◌≡◌};
+ghost use Rattle.named_equations.specs.Salvage.{by_sinking_fund, by_straight_line, has_sv1, has_sv2, has_sv3};
 ghost use Rattle.named_equations.specs.Within.{IsRegion, IsTechnology, IsYear};
 
-use crate::parameters::operational_life;
-use crate::years::years_left;
+use equation_parts::whole_numbers::{depreciation_method, has_rate};
+use equation_parts::years::outlasts;
 use param_tables::ModelData;
 
 /// The number of the depreciation method by the sinking fund.
@@ -15,28 +14,12 @@ pub(crate) const SINKING_FUND: u8 = 1;
 /// The number of the depreciation method by the straight line.
 pub(crate) const STRAIGHT_LINE: u8 = 2;
 
-/// DepreciationMethod[r], 1 or 2. It is a whole number, so its denominator is 1.
-fn method(model: &ModelData, r: u16) -> u8
-    requires region { IsRegion model.now.facts r }
-    ensures { result ≡ method_of model.now.facts r }
-{
-    model.at(3, &[r]).num as u8
-}
-
-/// Whether DiscountRate[r] is above 0.
-fn has_rate(model: &ModelData, r: u16) -> bool
-    requires region { IsRegion model.now.facts r }
-    ensures { result ≡ nat_lt 0 (rate_of model.now.facts r) }
-{
-    model.at(2, &[r]).num > 0
-}
-
 /// Whether the region depreciates by the sinking fund: by its method, at a rate above 0.
 fn by_sinking_fund(model: &ModelData, r: u16) -> bool
     requires region { IsRegion model.now.facts r }
     ensures { result ≡ by_sinking_fund model.now.facts r }
 {
-    method(model, r) == SINKING_FUND && has_rate(model, r)
+    depreciation_method(model, r) == SINKING_FUND && has_rate(model, r)
 }
 
 /// Whether the region depreciates by the straight line: by its method, or because a sinking fund at rate 0 is one.
@@ -44,18 +27,8 @@ fn by_straight_line(model: &ModelData, r: u16) -> bool
     requires region { IsRegion model.now.facts r }
     ensures { result ≡ by_straight_line model.now.facts r }
 {
-    let method = method(model, r);
+    let method = depreciation_method(model, r);
     method == STRAIGHT_LINE || (method == SINKING_FUND && !has_rate(model, r))
-}
-
-/// Whether what is built in the year lasts past the last year: fewer years are left than its life has.
-fn outlasts(model: &ModelData, r: u16, t: u16, y: u16) -> bool
-    requires region { IsRegion model.now.facts r }
-    requires technology { IsTechnology model.now.facts t }
-    requires year { IsYear model.now.facts y }
-    ensures { result ≡ outlasts model.now.facts r t y }
-{
-    years_left(model, y) < operational_life(model, r, t)
 }
 
 /// Whether something is left at the end, by the sinking fund.

@@ -6,11 +6,11 @@ ghost use Rattle.named_equations.specs.RegionFactors.{AreRegionFactors};
 ghost use Rattle.named_equations.specs.Within.{IsRegion, IsTechnology, IsYear};
 ghost use Rattle.cost_rows.specs.Costs.{cc1, cc2};
 
-use crate::factors::capital_factor;
-use crate::parameters::capital_cost;
-use crate::shapes::is_times;
-use crate::variables::{capital_investment, discounted_capital_investment, new_capacity};
 use discount_factors::Factors;
+use equation_parts::factors::capital_factor;
+use equation_parts::parameters::capital_cost;
+use equation_parts::shapes::is_times;
+use equation_parts::variables::{capital_investment, discounted_capital_investment, new_capacity};
 use param_tables::ModelData;
 use row_core::{Index, Row, RowName, Stopped};
 use std::alloc::Global;

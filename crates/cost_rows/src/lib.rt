@@ -3,19 +3,10 @@
 #![tactic(auto)]
 
 mod depreciation;
-mod factors;
 mod investment;
 mod operating_cost;
-mod parameters;
 mod rows;
 mod salvage;
-mod sets;
-mod shapes;
 mod total_cost;
-mod variables;
-mod years;
 
 pub use rows::rows_of;
-
-#[cfg(test)]
-mod tests;

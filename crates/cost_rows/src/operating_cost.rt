@@ -10,15 +10,12 @@ ghost use Rattle.named_equations.specs.Variables.{total_annual_technology_activi
 ghost use Rattle.named_equations.specs.Within.{IsRegion, IsTechnology, IsMode, IsYear};
 ghost use Rattle.cost_rows.specs.Costs.{oc1, oc2, oc3, oc4};
 
-use crate::factors::operating_factor;
-use crate::parameters::{fixed_cost, variable_cost};
-use crate::sets::MODE;
-use crate::shapes::is_times;
-use crate::variables::{
-    annual_fixed_operating_cost, annual_variable_operating_cost, discounted_operating_cost,
-    operating_cost, total_annual_technology_activity_by_mode, total_capacity_annual,
-};
 use discount_factors::Factors;
+use equation_parts::factors::operating_factor;
+use equation_parts::parameters::{fixed_cost, variable_cost};
+use equation_parts::shapes::is_times;
+use equation_parts::variables::{annual_fixed_operating_cost, annual_variable_operating_cost, discounted_operating_cost, operating_cost, total_annual_technology_activity_by_mode, total_capacity_annual};
+use model_sets::set_numbers::MODE_OF_OPERATION;
 use param_tables::ModelData;
 use row_core::{Index, LeftSide, Row, RowName, Sense, Stopped, minus_one, negative, one, zero};
 use std::alloc::Global;
@@ -39,7 +36,7 @@ pub(crate) fn oc1(alloc: Global, model: &ModelData, name: RowName) -> Result<Row
     let mut left = LeftSide::new(alloc, name);
     left.add(annual_variable_operating_cost(r, t, y), one())?;
     left.add_each(
-        model.sets().count(MODE),
+        model.sets().count(MODE_OF_OPERATION),
         |m|
             requires region { IsRegion model.now.facts r }
             requires technology { IsTechnology model.now.facts t }

@@ -17,6 +17,7 @@ use crate::salvage::{sv1, sv2, sv3, sv4};
 use crate::total_cost::{acc4, tdc1, tdc2};
 use discount_factors::Factors;
 use param_tables::ModelData;
+use row_core::equation_numbers::{CC1, CC2, OC1, OC2, OC3, OC4, SV1, SV2, SV3, SV4, TDC1, TDC2};
 use row_core::{Index, Row, RowName, Stopped};
 use std::alloc::Global;
 
@@ -71,9 +72,9 @@ fn stands(model: &ModelData, eq: u8, at: Index) -> bool
         ..
     } = at;
     match eq {
-        27 => has_sv1(model, r, t, y),
-        28 => has_sv2(model, r, t, y),
-        29 => has_sv3(model, r, t, y),
+        SV1 => has_sv1(model, r, t, y),
+        SV2 => has_sv2(model, r, t, y),
+        SV3 => has_sv3(model, r, t, y),
         _ => true,
     }
 }
@@ -92,18 +93,18 @@ fn row_of(
     ensures { IsWritten name (terms_at model.now.facts name) result }
 {
     match name.eq {
-        25 => cc1(alloc, model, name),
-        26 => cc2(alloc, model, factors, name),
-        27 => sv1(alloc, model, factors, name),
-        28 => sv2(alloc, model, factors, name),
-        29 => sv3(alloc, model, name),
-        30 => sv4(alloc, model, factors, name),
-        31 => oc1(alloc, model, name),
-        32 => oc2(alloc, model, name),
-        33 => oc3(alloc, model, name),
-        34 => oc4(alloc, model, factors, name),
-        40 => tdc1(alloc, model, name),
-        41 => tdc2(alloc, model, name),
+        CC1 => cc1(alloc, model, name),
+        CC2 => cc2(alloc, model, factors, name),
+        SV1 => sv1(alloc, model, factors, name),
+        SV2 => sv2(alloc, model, factors, name),
+        SV3 => sv3(alloc, model, name),
+        SV4 => sv4(alloc, model, factors, name),
+        OC1 => oc1(alloc, model, name),
+        OC2 => oc2(alloc, model, name),
+        OC3 => oc3(alloc, model, name),
+        OC4 => oc4(alloc, model, factors, name),
+        TDC1 => tdc1(alloc, model, name),
+        TDC2 => tdc2(alloc, model, name),
         _ => acc4(alloc, model, name),
     }
 }

@@ -10,11 +10,11 @@ ghost use Rattle.named_equations.specs.Within.{IsRegion, IsTechnology, IsYear};
 ghost use Rattle.cost_rows.specs.Costs.{salvage_value_of_unit, sv1, sv2, sv3, sv4};
 
 use crate::depreciation::{SINKING_FUND, STRAIGHT_LINE};
-use crate::factors::{final_capital_factor, salvage_fraction};
-use crate::parameters::capital_cost;
-use crate::shapes::is_times;
-use crate::variables::{discounted_salvage_value, new_capacity, salvage_value};
 use discount_factors::Factors;
+use equation_parts::factors::{final_capital_factor, salvage_fraction};
+use equation_parts::parameters::capital_cost;
+use equation_parts::shapes::is_times;
+use equation_parts::variables::{discounted_salvage_value, new_capacity, salvage_value};
 use exact_num::Frac;
 use param_tables::ModelData;
 use row_core::{Index, LeftSide, Row, RowName, Sense, Stopped, one, times, zero};

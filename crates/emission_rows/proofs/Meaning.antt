@@ -4,6 +4,7 @@ use Rattle.std.specs.Prelude.{◌<ℤ◌}
 use Rattle.std.proofs.lemmas.Int.{ints}
 use Rattle.exact_num.proofs.Ring.{*ℤ_comm, neg_ℤ-*ℤ}
 use Rattle.model_sets.specs.Data.{Data}
+use Rattle.row_core.specs.declared.equation_numbers.TheConstants.{E1, E2, E3, E4, E5, E6, E7, E8, E9}
 use Rattle.row_core.specs.declared.Index.{Index}
 use Rattle.row_core.specs.declared.RowName.{RowName}
 use Rattle.row_core.specs.declared.Sense.TheVariants.{Most}
@@ -41,7 +42,7 @@ inequality d i n m none = inequality_is d (name_at n i) (terms_at d (name_at n i
 
 -- ---- technologies
 
-e1-named : (d : Data) (i : Index) → IsNamed d i 35
+e1-named : (d : Data) (i : Index) → IsNamed d i E1
 e1-named d i =
     let v = annual_technology_emission_by_mode i.region i.tech i.emission i.mode i.year in
     let w = total_annual_technology_activity_by_mode i.region i.tech i.mode i.year in
@@ -50,29 +51,29 @@ e1-named d i =
     let h : pos 0 <ℤ s = omega (arith, ints) in
     let n : (Var → ℤ) → ℤ = λ x. z *ℤ x w in
     let same : (x : Var → ℤ) → n x ≡ x w *ℤ z = λ x. *ℤ_comm z (x w) in
-    definition d i 35 v (times_number s h v w (Billionths z) z (over-data z) n same) refl (times_number-defines s h v w (Billionths z) z (over-data z) n same refl)
+    definition d i E1 v (times_number s h v w (Billionths z) z (over-data z) n same) refl (times_number-defines s h v w (Billionths z) z (over-data z) n same refl)
 
-e2-named : (d : Data) (i : Index) → IsNamed d i 36
+e2-named : (d : Data) (i : Index) → IsNamed d i E2
 e2-named d i =
     let v = annual_technology_emission i.region i.tech i.emission i.year in
     let is : List ℕ = emitting_modes d i.region i.tech i.emission i.year in
     let w : ℕ → Var = λ m. annual_technology_emission_by_mode i.region i.tech i.emission m i.year in
-    definition d i 36 v (sum_of_others v is w) refl (sum_of_others-defines v is w (λ m. refl))
+    definition d i E2 v (sum_of_others v is w) refl (sum_of_others-defines v is w (λ m. refl))
 
-e3-named : (d : Data) (i : Index) → IsNamed d i 37
+e3-named : (d : Data) (i : Index) → IsNamed d i E3
 e3-named d i =
     let v = annual_technology_emission_penalty_by_emission i.region i.tech i.emission i.year in
     let w = annual_technology_emission i.region i.tech i.emission i.year in
     let z : ℤ = emissions_penalty d i.region i.emission i.year in
-    definition d i 37 v (scaled_other v w z) refl (scaled_other-defines v w z refl)
+    definition d i E3 v (scaled_other v w z) refl (scaled_other-defines v w z refl)
 
-e4-named : (d : Data) (i : Index) → IsNamed d i 38
+e4-named : (d : Data) (i : Index) → IsNamed d i E4
 e4-named d i =
     let v = annual_technology_emissions_penalty i.region i.tech i.year in
     let w : ℕ → Var = λ e. annual_technology_emission_penalty_by_emission i.region i.tech e i.year in
-    definition d i 38 v (sum_of_others v (emissions d) w) refl (sum_of_others-defines v (emissions d) w (λ e. refl))
+    definition d i E4 v (sum_of_others v (emissions d) w) refl (sum_of_others-defines v (emissions d) w (λ e. refl))
 
-e5-named : (d : Data) (i : Index) → IsNamed d i 39
+e5-named : (d : Data) (i : Index) → IsNamed d i E5
 e5-named d i =
     let v = discounted_technology_emissions_penalty i.region i.tech i.year in
     let w = annual_technology_emissions_penalty i.region i.tech i.year in
@@ -80,20 +81,20 @@ e5-named d i =
     let h : pos 0 <ℤ million = omega (arith, ints) in
     let n : (Var → ℤ) → ℤ = λ x. x w *ℤ z in
     let same : (x : Var → ℤ) → n x ≡ x w *ℤ z = λ x. refl in
-    definition d i 39 v (times_number million h v w (Millionths z) z (over-factor z) n same) refl (times_number-defines million h v w (Millionths z) z (over-factor z) n same refl)
+    definition d i E5 v (times_number million h v w (Millionths z) z (over-factor z) n same) refl (times_number-defines million h v w (Millionths z) z (over-factor z) n same refl)
 
 -- ---- regions
 
-e6-named : (d : Data) (i : Index) → IsNamed d i 61
+e6-named : (d : Data) (i : Index) → IsNamed d i E6
 e6-named d i =
     let v = annual_emissions i.region i.emission i.year in
     let w : ℕ → Var = λ t. annual_technology_emission i.region t i.emission i.year in
-    definition d i 61 v (sum_of_others v (technologies d) w) refl (sum_of_others-defines v (technologies d) w (λ t. refl))
+    definition d i E6 v (sum_of_others v (technologies d) w) refl (sum_of_others-defines v (technologies d) w (λ t. refl))
 
 period_balanced : (s p n r : ℤ) → ((s *ℤ p) +ℤ (neg_ℤ s *ℤ n)) +ℤ ((s *ℤ n) +ℤ r) ≡ (s *ℤ p) +ℤ r
 period_balanced s p n r = ap (λ y. ((s *ℤ p) +ℤ y) +ℤ ((s *ℤ n) +ℤ r)) (neg_ℤ-*ℤ s n) ∙ omega (arith, ints)
 
-pub period-means : (d : Data) (i : Index) → MeansStatement (e7 d i.region i.emission) (λ q x. says d q x (name_at 62 i))
+pub period-means : (d : Data) (i : Index) → MeansStatement (e7 d i.region i.emission) (λ q x. says d q x (name_at E7 i))
 period-means d i =
     let v = model_period_emissions i.region i.emission in
     let w : ℕ → Var = λ y. annual_emissions i.region i.emission y in
@@ -124,13 +125,13 @@ period-defines d i =
     first_positive s (alone v v) (sum_over (all_years d) (λ y. neg_ℤ s *ℤ alone v (w y))) (omega (arith, ints)) (alone-self v)
     (sum_over-zero (all_years d) (λ y. neg_ℤ s *ℤ alone v (w y)) (λ y. refl))
 
-e7-named : (d : Data) (i : Index) → IsNamed d i 62
-e7-named d i = definition d i 62 (model_period_emissions i.region i.emission) (period-means d i) refl (period-defines d i)
+e7-named : (d : Data) (i : Index) → IsNamed d i E7
+e7-named d i = definition d i E7 (model_period_emissions i.region i.emission) (period-means d i) refl (period-defines d i)
 
 year_balanced : (a r : ℤ) → (a +ℤ pos 0) +ℤ r ≡ a +ℤ r
 year_balanced a r = omega (arith, ints)
 
-pub year-means : (d : Data) (i : Index) → MeansStatement (e8 d i.region i.emission i.year) (λ q x. says d q x (name_at 63 i))
+pub year-means : (d : Data) (i : Index) → MeansStatement (e8 d i.region i.emission i.year) (λ q x. says d q x (name_at E8 i))
 year-means d i =
     let v = annual_emissions i.region i.emission i.year in
     let most : ℤ = annual_emission_limit d i.region i.emission i.year in
@@ -149,25 +150,25 @@ year-means d i =
       balance = λ q x. year_balanced (s *ℤ x v) ((most -ℤ exogenous) *ℤ pos q);
     }
 
-e8-named : (d : Data) (i : Index) → IsNamed d i 63
-e8-named d i = inequality d i 63 (year-means d i) refl
+e8-named : (d : Data) (i : Index) → IsNamed d i E8
+e8-named d i = inequality d i E8 (year-means d i) refl
 
-e9-named : (d : Data) (i : Index) → IsNamed d i 64
-e9-named d i = inequality d i 64 (limit Most (model_period_emissions i.region i.emission) (model_period_emission_limit d i.region i.emission)) refl
+e9-named : (d : Data) (i : Index) → IsNamed d i E9
+e9-named d i = inequality d i E9 (limit Most (model_period_emissions i.region i.emission) (model_period_emission_limit d i.region i.emission)) refl
 
 -- ---- by number
 
-of_technologies : (d : Data) (i : Index) → EachFrom (IsNamed d i) 35 5
+of_technologies : (d : Data) (i : Index) → EachFrom (IsNamed d i) E1 5
 of_technologies d i = (e1-named d i, (e2-named d i, (e3-named d i, (e4-named d i, (e5-named d i, tt)))))
 
-of_regions : (d : Data) (i : Index) → EachFrom (IsNamed d i) 61 4
+of_regions : (d : Data) (i : Index) → EachFrom (IsNamed d i) E6 4
 of_regions d i = (e6-named d i, (e7-named d i, (e8-named d i, (e9-named d i, tt))))
 
 pub named : (d : Data) (n : ℕ) (i : Index) → IsEmissionEquation n → IsNamed d i n
 named d n i h =
     elim h [
-      | inl first ↦ at_number (IsNamed d i) 35 5 n (of_technologies d i) first.0 (omega (arith, first.1))
-      | inr second ↦ at_number (IsNamed d i) 61 4 n (of_regions d i) second.0 (omega (arith, second.1))
+      | inl first ↦ at_number (IsNamed d i) E1 5 n (of_technologies d i) first.0 (omega (arith, first.1))
+      | inr second ↦ at_number (IsNamed d i) E6 4 n (of_regions d i) second.0 (omega (arith, second.1))
     ]
 
 pub terms-at : (d : Data) (name : RowName) (n : ℕ) → name.eq ≡ n → terms_at d name ≡ terms_at d (name_at n name.index)
@@ -175,17 +176,17 @@ terms-at d name n h = ap (λ m. terms_at d (name_at m name.index)) h
 
 -- where no condition is asked, the equation stands everywhere
 abbrev pub Stands : Data → Index → ℕ → Type 0
-Stands d i n = n ≢ 35 → n ≢ 63 → n ≢ 64 → true ≡ stands_at d n i
+Stands d i n = n ≢ E1 → n ≢ E8 → n ≢ E9 → true ≡ stands_at d n i
 
-of_technologies-stand : (d : Data) (i : Index) → EachFrom (Stands d i) 35 5
+of_technologies-stand : (d : Data) (i : Index) → EachFrom (Stands d i) E1 5
 of_technologies-stand d i = ((λ a b c. absurd (a refl)), ((λ a b c. refl), ((λ a b c. refl), ((λ a b c. refl), ((λ a b c. refl), tt)))))
 
-of_regions-stand : (d : Data) (i : Index) → EachFrom (Stands d i) 61 4
+of_regions-stand : (d : Data) (i : Index) → EachFrom (Stands d i) E6 4
 of_regions-stand d i = ((λ a b c. refl), ((λ a b c. refl), ((λ a b c. absurd (b refl)), ((λ a b c. absurd (c refl)), tt))))
 
 pub everywhere_else : (d : Data) (n : ℕ) (i : Index) → IsEmissionEquation n → Stands d i n
 everywhere_else d n i h =
     elim h [
-      | inl first ↦ at_number (Stands d i) 35 5 n (of_technologies-stand d i) first.0 (omega (arith, first.1))
-      | inr second ↦ at_number (Stands d i) 61 4 n (of_regions-stand d i) second.0 (omega (arith, second.1))
+      | inl first ↦ at_number (Stands d i) E1 5 n (of_technologies-stand d i) first.0 (omega (arith, first.1))
+      | inr second ↦ at_number (Stands d i) E6 4 n (of_regions-stand d i) second.0 (omega (arith, second.1))
     ]

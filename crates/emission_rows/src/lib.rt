@@ -2,18 +2,8 @@
 //! et al., "OSeMOSYS: The Open Source Energy Modeling System", Energy Policy 39, 2011).
 #![tactic(auto)]
 
-mod conditions;
-mod factors;
-mod listed;
-mod parameters;
 mod regions;
 mod rows;
-mod sets;
-mod shapes;
 mod technologies;
-mod variables;
 
 pub use rows::rows_of;
-
-#[cfg(test)]
-mod tests;

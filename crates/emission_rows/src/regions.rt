@@ -1,16 +1,17 @@
 //! Emissions of regions, and their limits.
 
+ghost use Rattle.std.specs.Prelude.{◌≡◌};
 ghost use Rattle.row_core.specs.EquationTerms.{IsWritten};
+ghost use Rattle.named_equations.specs.Emissions.{has_e8, has_e9};
 ghost use Rattle.named_equations.specs.Indices.{by_re, by_rey};
 ghost use Rattle.named_equations.specs.Within.{IsRegion, IsEmission, IsYear};
 ghost use Rattle.emission_rows.specs.Emissions.{e6, e7, e8, e9};
 
-use crate::parameters::{
-    annual_emission_limit, annual_exogenous_emission, model_period_emission_limit,
-    model_period_exogenous_emission,
-};
-use crate::sets::{TECHNOLOGY, YEAR};
-use crate::variables::{annual_emissions, annual_technology_emission, model_period_emissions};
+use equation_parts::limits::is_limit;
+use equation_parts::parameters::{annual_emission_limit, annual_exogenous_emission, model_period_emission_limit, model_period_exogenous_emission};
+use equation_parts::variables::{annual_emissions, annual_technology_emission, model_period_emissions};
+use model_sets::param_numbers::{ANNUAL_EMISSION_LIMIT, MODEL_PERIOD_EMISSION_LIMIT};
+use model_sets::set_numbers::{TECHNOLOGY, YEAR};
 use param_tables::ModelData;
 use row_core::{
     Index, LeftSide, Row, RowName, Sense, Stopped, minus_one, negative, one, plus, zero,
@@ -60,6 +61,16 @@ pub(crate) fn e7(alloc: Global, model: &ModelData, name: RowName) -> Result<Row,
     )
 }
 
+/// Whether the emissions of the year have a limit, 0 and numbers below -1 included.
+pub(crate) fn has_e8(model: &ModelData, r: u16, e: u16, y: u16) -> bool
+    requires region { IsRegion model.now.facts r }
+    requires emission { IsEmission model.now.facts e }
+    requires year { IsYear model.now.facts y }
+    ensures { result ≡ has_e8 model.now.facts r e y }
+{
+    is_limit(model.at(ANNUAL_EMISSION_LIMIT, &[r, e, y]))
+}
+
 /// E8: the annual emissions are at most the limit of the year, less the exogenous emission of the year.
 pub(crate) fn e8(alloc: Global, model: &ModelData, name: RowName) -> Result<Row, Stopped>
     requires region { IsRegion model.now.facts name.index.region }
@@ -81,6 +92,15 @@ pub(crate) fn e8(alloc: Global, model: &ModelData, name: RowName) -> Result<Row,
         Sense::Most,
         plus(annual_emission_limit(model, r, e, y), negative(exogenous)),
     )
+}
+
+/// Whether the emissions of the model period have a limit, 0 and numbers below -1 included.
+pub(crate) fn has_e9(model: &ModelData, r: u16, e: u16) -> bool
+    requires region { IsRegion model.now.facts r }
+    requires emission { IsEmission model.now.facts e }
+    ensures { result ≡ has_e9 model.now.facts r e }
+{
+    is_limit(model.at(MODEL_PERIOD_EMISSION_LIMIT, &[r, e]))
 }
 
 /// E9: the emissions of the model period are at most the limit of the period.

@@ -10,11 +10,12 @@ ghost use Rattle.named_equations.specs.RegionFactors.{AreRegionFactors};
 ghost use Rattle.named_equations.specs.RowMeaning.{IsNamedRow};
 ghost use Rattle.emission_rows.specs.Rows.{IsEmissionEquation, terms_at};
 
-use crate::conditions::{emits_in_mode, has_e8, has_e9};
-use crate::regions::{e6, e7, e8, e9};
+use crate::regions::{e6, e7, e8, e9, has_e8, has_e9};
 use crate::technologies::{e1, e2, e3, e4, e5};
 use discount_factors::Factors;
+use equation_parts::ratios::emits_in_mode;
 use param_tables::ModelData;
+use row_core::equation_numbers::{E1, E2, E3, E4, E5, E6, E7, E8, E9};
 use row_core::{Index, Row, RowName, Stopped};
 use std::alloc::Global;
 
@@ -70,9 +71,9 @@ fn stands(model: &ModelData, eq: u8, at: Index) -> bool
         ..
     } = at;
     match eq {
-        35 => emits_in_mode(model, r, t, e, m, y),
-        63 => has_e8(model, r, e, y),
-        64 => has_e9(model, r, e),
+        E1 => emits_in_mode(model, r, t, e, m, y),
+        E8 => has_e8(model, r, e, y),
+        E9 => has_e9(model, r, e),
         _ => true,
     }
 }
@@ -90,14 +91,14 @@ fn row_of(
     ensures { IsWritten name (terms_at model.now.facts name) result }
 {
     match name.eq {
-        35 => e1(alloc, model, name),
-        36 => e2(alloc, model, name),
-        37 => e3(alloc, model, name),
-        38 => e4(alloc, model, name),
-        39 => e5(alloc, model, factors, name),
-        61 => e6(alloc, model, name),
-        62 => e7(alloc, model, name),
-        63 => e8(alloc, model, name),
+        E1 => e1(alloc, model, name),
+        E2 => e2(alloc, model, name),
+        E3 => e3(alloc, model, name),
+        E4 => e4(alloc, model, name),
+        E5 => e5(alloc, model, factors, name),
+        E6 => e6(alloc, model, name),
+        E7 => e7(alloc, model, name),
+        E8 => e8(alloc, model, name),
         _ => e9(alloc, model, name),
     }
 }

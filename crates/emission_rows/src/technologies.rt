@@ -6,17 +6,12 @@ ghost use Rattle.named_equations.specs.RegionFactors.{AreRegionFactors};
 ghost use Rattle.named_equations.specs.Within.{IsRegion, IsTechnology, IsEmission, IsMode, IsYear};
 ghost use Rattle.emission_rows.specs.Emissions.{e1, e2, e3, e4, e5};
 
-use crate::factors::operating_factor;
-use crate::listed::take_away_each;
-use crate::parameters::{emission_activity_ratio, emissions_penalty};
-use crate::sets::EMISSION;
-use crate::shapes::is_times;
-use crate::variables::{
-    annual_technology_emission, annual_technology_emission_by_mode,
-    annual_technology_emission_penalty_by_emission, annual_technology_emissions_penalty,
-    discounted_technology_emissions_penalty, total_annual_technology_activity_by_mode,
-};
 use discount_factors::Factors;
+use equation_parts::factors::operating_factor;
+use equation_parts::parameters::{emission_activity_ratio, emissions_penalty};
+use equation_parts::shapes::{is_times, take_away_each};
+use equation_parts::variables::{annual_technology_emission, annual_technology_emission_by_mode, annual_technology_emission_penalty_by_emission, annual_technology_emissions_penalty, discounted_technology_emissions_penalty, total_annual_technology_activity_by_mode};
+use model_sets::set_numbers::EMISSION;
 use param_tables::{ActivityRatio, ModelData};
 use row_core::{Index, LeftSide, Row, RowName, Sense, Stopped, minus_one, one, zero};
 use std::alloc::Global;

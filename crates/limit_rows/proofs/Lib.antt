@@ -1,3 +1,2 @@
-pub mod ValueLaws
-pub mod Meaning
 pub mod Makers
+pub mod Meaning

@@ -3,6 +3,7 @@ use Rattle.std.proofs.Common.{◌≡◌, ◌≢◌, true, ℕ, ℤ, pos, ◌*ℤ
 use Rattle.std.specs.Prelude.{◌<ℤ◌}
 use Rattle.std.proofs.lemmas.Int.{ints}
 use Rattle.model_sets.specs.Data.{Data}
+use Rattle.row_core.specs.declared.equation_numbers.TheConstants.{TCC1, TCC2, NCC1, NCC2, AAC1, AAC2, AAC3, TAC1, TAC2, TAC3, RM1, RM2, RM3, RE1, RE2, RE3, RE4, RE5}
 use Rattle.row_core.specs.declared.Index.{Index}
 use Rattle.row_core.specs.declared.RowName.{RowName}
 use Rattle.row_core.specs.declared.Sense.TheVariants.{Least, Most}
@@ -40,50 +41,50 @@ inequality d i n m none = inequality_is d (name_at n i) (terms_at d (name_at n i
 
 -- ---- total capacity
 
-tcc1-named : (d : Data) (i : Index) → IsNamed d i 43
-tcc1-named d i = inequality d i 43 (limit Most (total_capacity_annual i.region i.tech i.year) (total_annual_max_capacity d i.region i.tech i.year)) refl
+tcc1-named : (d : Data) (i : Index) → IsNamed d i TCC1
+tcc1-named d i = inequality d i TCC1 (limit Most (total_capacity_annual i.region i.tech i.year) (total_annual_max_capacity d i.region i.tech i.year)) refl
 
-tcc2-named : (d : Data) (i : Index) → IsNamed d i 44
-tcc2-named d i = inequality d i 44 (limit Least (total_capacity_annual i.region i.tech i.year) (total_annual_min_capacity d i.region i.tech i.year)) refl
+tcc2-named : (d : Data) (i : Index) → IsNamed d i TCC2
+tcc2-named d i = inequality d i TCC2 (limit Least (total_capacity_annual i.region i.tech i.year) (total_annual_min_capacity d i.region i.tech i.year)) refl
 
 -- ---- new capacity
 
-ncc1-named : (d : Data) (i : Index) → IsNamed d i 45
-ncc1-named d i = inequality d i 45 (limit Most (new_capacity i.region i.tech i.year) (total_annual_max_capacity_investment d i.region i.tech i.year)) refl
+ncc1-named : (d : Data) (i : Index) → IsNamed d i NCC1
+ncc1-named d i = inequality d i NCC1 (limit Most (new_capacity i.region i.tech i.year) (total_annual_max_capacity_investment d i.region i.tech i.year)) refl
 
-ncc2-named : (d : Data) (i : Index) → IsNamed d i 46
-ncc2-named d i = inequality d i 46 (limit Least (new_capacity i.region i.tech i.year) (total_annual_min_capacity_investment d i.region i.tech i.year)) refl
+ncc2-named : (d : Data) (i : Index) → IsNamed d i NCC2
+ncc2-named d i = inequality d i NCC2 (limit Least (new_capacity i.region i.tech i.year) (total_annual_min_capacity_investment d i.region i.tech i.year)) refl
 
 -- ---- activity
 
-aac1-named : (d : Data) (i : Index) → IsNamed d i 47
+aac1-named : (d : Data) (i : Index) → IsNamed d i AAC1
 aac1-named d i =
     let v = total_technology_annual_activity i.region i.tech i.year in
     let w : ℕ → Var = λ l. rate_of_total_activity i.region l i.tech i.year in
     let z : ℕ → ℤ = λ l. year_split d l i.year in
-    definition d i 47 v (weighted_sum v (timeslices d) w z) refl (weighted_sum-defines v (timeslices d) w z (λ l. refl))
+    definition d i AAC1 v (weighted_sum v (timeslices d) w z) refl (weighted_sum-defines v (timeslices d) w z (λ l. refl))
 
-aac2-named : (d : Data) (i : Index) → IsNamed d i 48
-aac2-named d i = inequality d i 48 (limit Most (total_technology_annual_activity i.region i.tech i.year) (total_technology_annual_activity_upper_limit d i.region i.tech i.year)) refl
+aac2-named : (d : Data) (i : Index) → IsNamed d i AAC2
+aac2-named d i = inequality d i AAC2 (limit Most (total_technology_annual_activity i.region i.tech i.year) (total_technology_annual_activity_upper_limit d i.region i.tech i.year)) refl
 
-aac3-named : (d : Data) (i : Index) → IsNamed d i 49
-aac3-named d i = inequality d i 49 (limit Least (total_technology_annual_activity i.region i.tech i.year) (total_technology_annual_activity_lower_limit d i.region i.tech i.year)) refl
+aac3-named : (d : Data) (i : Index) → IsNamed d i AAC3
+aac3-named d i = inequality d i AAC3 (limit Least (total_technology_annual_activity i.region i.tech i.year) (total_technology_annual_activity_lower_limit d i.region i.tech i.year)) refl
 
-tac1-named : (d : Data) (i : Index) → IsNamed d i 50
+tac1-named : (d : Data) (i : Index) → IsNamed d i TAC1
 tac1-named d i =
     let v = total_technology_model_period_activity i.region i.tech in
     let w : ℕ → Var = λ y. total_technology_annual_activity i.region i.tech y in
-    definition d i 50 v (sum_of_others v (all_years d) w) refl (sum_of_others-defines v (all_years d) w (λ y. refl))
+    definition d i TAC1 v (sum_of_others v (all_years d) w) refl (sum_of_others-defines v (all_years d) w (λ y. refl))
 
-tac2-named : (d : Data) (i : Index) → IsNamed d i 51
-tac2-named d i = inequality d i 51 (limit Most (total_technology_model_period_activity i.region i.tech) (total_technology_model_period_activity_upper_limit d i.region i.tech)) refl
+tac2-named : (d : Data) (i : Index) → IsNamed d i TAC2
+tac2-named d i = inequality d i TAC2 (limit Most (total_technology_model_period_activity i.region i.tech) (total_technology_model_period_activity_upper_limit d i.region i.tech)) refl
 
-tac3-named : (d : Data) (i : Index) → IsNamed d i 52
-tac3-named d i = inequality d i 52 (limit Least (total_technology_model_period_activity i.region i.tech) (total_technology_model_period_activity_lower_limit d i.region i.tech)) refl
+tac3-named : (d : Data) (i : Index) → IsNamed d i TAC3
+tac3-named d i = inequality d i TAC3 (limit Least (total_technology_model_period_activity i.region i.tech) (total_technology_model_period_activity_lower_limit d i.region i.tech)) refl
 
 -- ---- reserve margin
 
-rm1-named : (d : Data) (i : Index) → IsNamed d i 53
+rm1-named : (d : Data) (i : Index) → IsNamed d i RM1
 rm1-named d i =
     let v = total_capacity_in_reserve_margin i.region i.year in
     let w : ℕ → Var = λ t. total_capacity_annual i.region t i.year in
@@ -93,29 +94,29 @@ rm1-named d i =
     let s : ℤ = values 2 in
     let h : pos 0 <ℤ s = omega (arith, ints) in
     let over : (t : ℕ) → IsOver s (value_of_amount (a t)) (tag t *ℤ unit t) = λ t. over-product (tag t) (unit t) in
-    definition d i 53 v (sum_of_products s h v (technologies d) w a (λ t. tag t *ℤ unit t) over) refl
+    definition d i RM1 v (sum_of_products s h v (technologies d) w a (λ t. tag t *ℤ unit t) over) refl
     (sum_of_products-defines s h v (technologies d) w a (λ t. tag t *ℤ unit t) over (λ t. refl))
 
-rm2-named : (d : Data) (i : Index) → IsNamed d i 54
+rm2-named : (d : Data) (i : Index) → IsNamed d i RM2
 rm2-named d i =
     let v = demand_needing_reserve_margin i.region i.slice i.year in
     let w : ℕ → Var = λ f. rate_of_production i.region i.slice f i.year in
     let z : ℕ → ℤ = λ f. reserve_margin_tag_fuel d i.region f i.year in
-    definition d i 54 v (weighted_sum v (fuels d) w z) refl (weighted_sum-defines v (fuels d) w z (λ f. refl))
+    definition d i RM2 v (weighted_sum v (fuels d) w z) refl (weighted_sum-defines v (fuels d) w z (λ f. refl))
 
-rm3-named : (d : Data) (i : Index) → IsNamed d i 55
+rm3-named : (d : Data) (i : Index) → IsNamed d i RM3
 rm3-named d i =
-    inequality d i 55 (covered_behind (demand_needing_reserve_margin i.region i.slice i.year) (reserve_margin d i.region i.year) (total_capacity_in_reserve_margin i.region i.year)) refl
+    inequality d i RM3 (covered_behind (demand_needing_reserve_margin i.region i.slice i.year) (reserve_margin d i.region i.year) (total_capacity_in_reserve_margin i.region i.year)) refl
 
 -- ---- renewable target
 
-re1-named : (d : Data) (i : Index) → IsNamed d i 56
+re1-named : (d : Data) (i : Index) → IsNamed d i RE1
 re1-named d i =
     let v = production_by_technology_annual i.region i.tech i.fuel i.year in
     let w : ℕ → Var = λ l. production_by_technology i.region l i.tech i.fuel i.year in
-    definition d i 56 v (sum_of_others v (timeslices d) w) refl (sum_of_others-defines v (timeslices d) w (λ l. refl))
+    definition d i RE1 v (sum_of_others v (timeslices d) w) refl (sum_of_others-defines v (timeslices d) w (λ l. refl))
 
-re2-named : (d : Data) (i : Index) → IsNamed d i 57
+re2-named : (d : Data) (i : Index) → IsNamed d i RE2
 re2-named d i =
     let r = i.region in
     let y = i.year in
@@ -132,10 +133,10 @@ re2-named d i =
     let same : (x : Var → ℤ) → by_technology x ≡ by_fuel x =
     λ x. sum_over-exchanged (technologies d) (fuels d) (λ t f. produces d r t f y) (λ t f. x (w f t) *ℤ tag f t) in
     let each = sum_of_sums s h v (fuels d) makers w a tag over in
-    definition d i 57 v (means_equal s v (re2 d r y) by_fuel by_technology same each) refl
+    definition d i RE2 v (means_equal s v (re2 d r y) by_fuel by_technology same each) refl
     (means_equal-defines s v (re2 d r y) by_fuel by_technology same each (sum_of_sums-defines s h v (fuels d) makers w a tag over (λ f t. refl)))
 
-re3-named : (d : Data) (i : Index) → IsNamed d i 58
+re3-named : (d : Data) (i : Index) → IsNamed d i RE3
 re3-named d i =
     let v = re_total_production_of_target_fuel_annual i.region i.year in
     let w : ℕ → ℕ → Var = λ l f. rate_of_production i.region l f i.year in
@@ -146,37 +147,37 @@ re3-named d i =
     let s : ℤ = values 2 in
     let h : pos 0 <ℤ s = omega (arith, ints) in
     let over : (l f : ℕ) → IsOver s (value_of_amount (a l f)) (z l f) = λ l f. over-product (split l) (tag f) in
-    definition d i 58 v (sum_of_sums s h v (timeslices d) (λ l. fuels d) w a z over) refl (sum_of_sums-defines s h v (timeslices d) (λ l. fuels d) w a z over (λ l f. refl))
+    definition d i RE3 v (sum_of_sums s h v (timeslices d) (λ l. fuels d) w a z over) refl (sum_of_sums-defines s h v (timeslices d) (λ l. fuels d) w a z over (λ l f. refl))
 
-re4-named : (d : Data) (i : Index) → IsNamed d i 59
+re4-named : (d : Data) (i : Index) → IsNamed d i RE4
 re4-named d i =
-    inequality d i 59 (covered (re_total_production_of_target_fuel_annual i.region i.year) (re_min_production_target d i.region i.year) (total_re_production_annual i.region i.year)) refl
+    inequality d i RE4 (covered (re_total_production_of_target_fuel_annual i.region i.year) (re_min_production_target d i.region i.year) (total_re_production_annual i.region i.year)) refl
 
-re5-named : (d : Data) (i : Index) → IsNamed d i 60
+re5-named : (d : Data) (i : Index) → IsNamed d i RE5
 re5-named d i =
     let v = use_by_technology_annual i.region i.tech i.fuel i.year in
     let w : ℕ → Var = λ l. use_by_technology i.region l i.tech i.fuel i.year in
-    definition d i 60 v (sum_of_others v (timeslices d) w) refl (sum_of_others-defines v (timeslices d) w (λ l. refl))
+    definition d i RE5 v (sum_of_others v (timeslices d) w) refl (sum_of_others-defines v (timeslices d) w (λ l. refl))
 
 -- ---- by number
 
-from_first : (d : Data) (i : Index) → EachFrom (IsNamed d i) 43 18
+from_first : (d : Data) (i : Index) → EachFrom (IsNamed d i) TCC1 18
 from_first d i =
     (tcc1-named d i, (tcc2-named d i, (ncc1-named d i, (ncc2-named d i, (aac1-named d i, (aac2-named d i, (aac3-named d i, (tac1-named d i, (tac2-named d i, (tac3-named d i, (rm1-named d i, (rm2-named d i, (rm3-named d i, (re1-named d i, (re2-named d i, (re3-named d i, (re4-named d i, (re5-named d i, tt))))))))))))))))))
 
 pub named : (d : Data) (n : ℕ) (i : Index) → IsLimitEquation n → IsNamed d i n
-named d n i h = at_number (IsNamed d i) 43 18 n (from_first d i) h.0 (omega (arith, h.1))
+named d n i h = at_number (IsNamed d i) TCC1 18 n (from_first d i) h.0 (omega (arith, h.1))
 
 pub terms-at : (d : Data) (name : RowName) (n : ℕ) → name.eq ≡ n → terms_at d name ≡ terms_at d (name_at n name.index)
 terms-at d name n h = ap (λ m. terms_at d (name_at m name.index)) h
 
 -- where no condition is asked, the equation stands everywhere
 abbrev pub Stands : Data → Index → ℕ → Type 0
-Stands d i n = n ≢ 43 → n ≢ 44 → n ≢ 45 → n ≢ 46 → n ≢ 48 → n ≢ 49 → n ≢ 51 → n ≢ 52 → n ≢ 56 → n ≢ 60 → true ≡ stands_at d n i
+Stands d i n = n ≢ TCC1 → n ≢ TCC2 → n ≢ NCC1 → n ≢ NCC2 → n ≢ AAC2 → n ≢ AAC3 → n ≢ TAC2 → n ≢ TAC3 → n ≢ RE1 → n ≢ RE5 → true ≡ stands_at d n i
 
-conditions : (d : Data) (i : Index) → EachFrom (Stands d i) 43 18
+conditions : (d : Data) (i : Index) → EachFrom (Stands d i) TCC1 18
 conditions d i =
     ((λ a b c e f g h j k m. absurd (a refl)), ((λ a b c e f g h j k m. absurd (b refl)), ((λ a b c e f g h j k m. absurd (c refl)), ((λ a b c e f g h j k m. absurd (e refl)), ((λ a b c e f g h j k m. refl), ((λ a b c e f g h j k m. absurd (f refl)), ((λ a b c e f g h j k m. absurd (g refl)), ((λ a b c e f g h j k m. refl), ((λ a b c e f g h j k m. absurd (h refl)), ((λ a b c e f g h j k m. absurd (j refl)), ((λ a b c e f g h j k m. refl), ((λ a b c e f g h j k m. refl), ((λ a b c e f g h j k m. refl), ((λ a b c e f g h j k m. absurd (k refl)), ((λ a b c e f g h j k m. refl), ((λ a b c e f g h j k m. refl), ((λ a b c e f g h j k m. refl), ((λ a b c e f g h j k m. absurd (m refl)), tt))))))))))))))))))
 
 pub everywhere_else : (d : Data) (n : ℕ) (i : Index) → IsLimitEquation n → Stands d i n
-everywhere_else d n i h = at_number (Stands d i) 43 18 n (conditions d i) h.0 (omega (arith, h.1))
+everywhere_else d n i h = at_number (Stands d i) TCC1 18 n (conditions d i) h.0 (omega (arith, h.1))

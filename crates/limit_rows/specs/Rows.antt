@@ -1,6 +1,7 @@
 -- The equations of this crate by their numbers: 43 to 60.
 use Rattle.std.specs.Prelude.{ℕ, ◌-◌, ◌≤◌, List, [], ◌∷◌, slice_index_or}
 use Rattle.model_sets.specs.Data.{Data}
+use Rattle.row_core.specs.declared.equation_numbers.TheConstants.{TCC1, RE5}
 use Rattle.row_core.specs.declared.Index.{Index}
 use Rattle.row_core.specs.declared.RowName.{RowName}
 use Rattle.row_core.specs.EquationTerms.{EquationTerms}
@@ -11,7 +12,7 @@ use Rattle.limit_rows.specs.ReserveMargin.{rm1, rm2, rm3}
 
 -- the equations are numbers 43 to 60
 abbrev pub IsLimitEquation : ℕ → Type 0
-IsLimitEquation eq = (43 ≤ eq) × (eq ≤ 60)
+IsLimitEquation eq = (TCC1 ≤ eq) × (eq ≤ RE5)
 
 -- the equations as terms, from number 43
 abbrev pub limit_terms : Data → List (Index → EquationTerms)
@@ -23,4 +24,4 @@ limit_terms d =
 
 -- the equation of this name, as terms
 abbrev pub terms_at : Data → RowName → EquationTerms
-terms_at d name = slice_index_or (limit_terms d) (name.eq - 43) (by_rty (tcc1 d)) name.index
+terms_at d name = slice_index_or (limit_terms d) (name.eq - TCC1) (by_rty (tcc1 d)) name.index

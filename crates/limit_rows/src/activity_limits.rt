@@ -11,18 +11,12 @@ ghost use Rattle.named_equations.specs.Variables.{rate_of_total_activity};
 ghost use Rattle.named_equations.specs.Within.{IsRegion, IsSlice, IsTechnology, IsYear};
 ghost use Rattle.limit_rows.specs.Limits.{aac1, aac2, aac3, tac1, tac2, tac3};
 
-use crate::conditions::{is_limit, is_positive};
-use crate::parameters::{
-    total_technology_annual_activity_lower_limit, total_technology_annual_activity_upper_limit,
-    total_technology_model_period_activity_lower_limit,
-    total_technology_model_period_activity_upper_limit, year_split,
-};
-use crate::sets::{TIMESLICE, YEAR};
-use crate::shapes::is_limited;
-use crate::variables::{
-    rate_of_total_activity, total_technology_annual_activity,
-    total_technology_model_period_activity,
-};
+use equation_parts::limits::{is_limit, is_positive};
+use equation_parts::parameters::{total_technology_annual_activity_lower_limit, total_technology_annual_activity_upper_limit, total_technology_model_period_activity_lower_limit, total_technology_model_period_activity_upper_limit, year_split};
+use equation_parts::shapes::is_limited;
+use equation_parts::variables::{rate_of_total_activity, total_technology_annual_activity, total_technology_model_period_activity};
+use model_sets::param_numbers::{TOTAL_TECHNOLOGY_ANNUAL_ACTIVITY_LOWER_LIMIT, TOTAL_TECHNOLOGY_ANNUAL_ACTIVITY_UPPER_LIMIT, TOTAL_TECHNOLOGY_MODEL_PERIOD_ACTIVITY_LOWER_LIMIT, TOTAL_TECHNOLOGY_MODEL_PERIOD_ACTIVITY_UPPER_LIMIT};
+use model_sets::set_numbers::{TIMESLICE, YEAR};
 use param_tables::ModelData;
 use row_core::{Index, LeftSide, Row, RowName, Sense, Stopped, minus_one, negative, one, zero};
 use std::alloc::Global;
@@ -63,7 +57,7 @@ pub(crate) fn has_aac2(model: &ModelData, r: u16, t: u16, y: u16) -> bool
     requires year { IsYear model.now.facts y }
     ensures { result ≡ has_aac2 model.now.facts r t y }
 {
-    is_limit(model.at(23, &[r, t, y]))
+    is_limit(model.at(TOTAL_TECHNOLOGY_ANNUAL_ACTIVITY_UPPER_LIMIT, &[r, t, y]))
 }
 
 /// AAC2: the activity in the year is at most its limit.
@@ -95,7 +89,7 @@ pub(crate) fn has_aac3(model: &ModelData, r: u16, t: u16, y: u16) -> bool
     requires year { IsYear model.now.facts y }
     ensures { result ≡ has_aac3 model.now.facts r t y }
 {
-    is_positive(model.at(24, &[r, t, y]))
+    is_positive(model.at(TOTAL_TECHNOLOGY_ANNUAL_ACTIVITY_LOWER_LIMIT, &[r, t, y]))
 }
 
 /// AAC3: the activity in the year is at least its limit.
@@ -144,7 +138,7 @@ pub(crate) fn has_tac2(model: &ModelData, r: u16, t: u16) -> bool
     requires technology { IsTechnology model.now.facts t }
     ensures { result ≡ has_tac2 model.now.facts r t }
 {
-    is_positive(model.at(25, &[r, t]))
+    is_positive(model.at(TOTAL_TECHNOLOGY_MODEL_PERIOD_ACTIVITY_UPPER_LIMIT, &[r, t]))
 }
 
 /// TAC2: the activity of the model period is at most its limit.
@@ -173,7 +167,7 @@ pub(crate) fn has_tac3(model: &ModelData, r: u16, t: u16) -> bool
     requires technology { IsTechnology model.now.facts t }
     ensures { result ≡ has_tac3 model.now.facts r t }
 {
-    is_positive(model.at(26, &[r, t]))
+    is_positive(model.at(TOTAL_TECHNOLOGY_MODEL_PERIOD_ACTIVITY_LOWER_LIMIT, &[r, t]))
 }
 
 /// TAC3: the activity of the model period is at least its limit.

@@ -7,10 +7,11 @@ ghost use Rattle.named_equations.specs.Indices.{by_rty};
 ghost use Rattle.named_equations.specs.Within.{IsRegion, IsTechnology, IsYear};
 ghost use Rattle.limit_rows.specs.Limits.{tcc1, tcc2};
 
-use crate::conditions::{is_limit, is_positive};
-use crate::parameters::{total_annual_max_capacity, total_annual_min_capacity};
-use crate::shapes::is_limited;
-use crate::variables::total_capacity_annual;
+use equation_parts::limits::{is_limit, is_positive};
+use equation_parts::parameters::{total_annual_max_capacity, total_annual_min_capacity};
+use equation_parts::shapes::is_limited;
+use equation_parts::variables::total_capacity_annual;
+use model_sets::param_numbers::{TOTAL_ANNUAL_MAX_CAPACITY, TOTAL_ANNUAL_MIN_CAPACITY};
 use param_tables::ModelData;
 use row_core::{Index, Row, RowName, Sense, Stopped};
 use std::alloc::Global;
@@ -22,7 +23,7 @@ pub(crate) fn has_tcc1(model: &ModelData, r: u16, t: u16, y: u16) -> bool
     requires year { IsYear model.now.facts y }
     ensures { result ≡ has_tcc1 model.now.facts r t y }
 {
-    is_limit(model.at(19, &[r, t, y]))
+    is_limit(model.at(TOTAL_ANNUAL_MAX_CAPACITY, &[r, t, y]))
 }
 
 /// TCC1: the total capacity is at most its limit.
@@ -54,7 +55,7 @@ pub(crate) fn has_tcc2(model: &ModelData, r: u16, t: u16, y: u16) -> bool
     requires year { IsYear model.now.facts y }
     ensures { result ≡ has_tcc2 model.now.facts r t y }
 {
-    is_positive(model.at(20, &[r, t, y]))
+    is_positive(model.at(TOTAL_ANNUAL_MIN_CAPACITY, &[r, t, y]))
 }
 
 /// TCC2: the total capacity is at least its limit.

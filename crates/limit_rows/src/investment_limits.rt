@@ -7,12 +7,11 @@ ghost use Rattle.named_equations.specs.Indices.{by_rty};
 ghost use Rattle.named_equations.specs.Within.{IsRegion, IsTechnology, IsYear};
 ghost use Rattle.limit_rows.specs.Limits.{ncc1, ncc2};
 
-use crate::conditions::{is_limit, is_positive};
-use crate::parameters::{
-    total_annual_max_capacity_investment, total_annual_min_capacity_investment,
-};
-use crate::shapes::is_limited;
-use crate::variables::new_capacity;
+use equation_parts::limits::{is_limit, is_positive};
+use equation_parts::parameters::{total_annual_max_capacity_investment, total_annual_min_capacity_investment};
+use equation_parts::shapes::is_limited;
+use equation_parts::variables::new_capacity;
+use model_sets::param_numbers::{TOTAL_ANNUAL_MAX_CAPACITY_INVESTMENT, TOTAL_ANNUAL_MIN_CAPACITY_INVESTMENT};
 use param_tables::ModelData;
 use row_core::{Index, Row, RowName, Sense, Stopped};
 use std::alloc::Global;
@@ -24,7 +23,7 @@ pub(crate) fn has_ncc1(model: &ModelData, r: u16, t: u16, y: u16) -> bool
     requires year { IsYear model.now.facts y }
     ensures { result ≡ has_ncc1 model.now.facts r t y }
 {
-    is_limit(model.at(21, &[r, t, y]))
+    is_limit(model.at(TOTAL_ANNUAL_MAX_CAPACITY_INVESTMENT, &[r, t, y]))
 }
 
 /// NCC1: the new capacity is at most its limit.
@@ -56,7 +55,7 @@ pub(crate) fn has_ncc2(model: &ModelData, r: u16, t: u16, y: u16) -> bool
     requires year { IsYear model.now.facts y }
     ensures { result ≡ has_ncc2 model.now.facts r t y }
 {
-    is_positive(model.at(22, &[r, t, y]))
+    is_positive(model.at(TOTAL_ANNUAL_MIN_CAPACITY_INVESTMENT, &[r, t, y]))
 }
 
 /// NCC2: the new capacity is at least its limit.

@@ -4,17 +4,9 @@
 
 mod activity_limits;
 mod capacity_limits;
-mod conditions;
 mod investment_limits;
-mod parameters;
 mod renewable_target;
 mod reserve_margin;
 mod rows;
-mod sets;
-mod shapes;
-mod variables;
 
 pub use rows::rows_of;
-
-#[cfg(test)]
-mod tests;

@@ -13,11 +13,12 @@ use crate::activity_limits::{
     aac1, aac2, aac3, has_aac2, has_aac3, has_tac2, has_tac3, tac1, tac2, tac3,
 };
 use crate::capacity_limits::{has_tcc1, has_tcc2, tcc1, tcc2};
-use crate::conditions::{produces, uses};
 use crate::investment_limits::{has_ncc1, has_ncc2, ncc1, ncc2};
 use crate::renewable_target::{re1, re2, re3, re4, re5};
 use crate::reserve_margin::{rm1, rm2, rm3};
+use equation_parts::ratios::{produces, uses};
 use param_tables::ModelData;
+use row_core::equation_numbers::{AAC1, AAC2, AAC3, NCC1, NCC2, RE1, RE2, RE3, RE4, RE5, RM1, RM2, RM3, TAC1, TAC2, TAC3, TCC1, TCC2};
 use row_core::{Index, Row, RowName, Stopped};
 use std::alloc::Global;
 
@@ -63,16 +64,16 @@ fn stands(model: &ModelData, eq: u8, at: Index) -> bool
         ..
     } = at;
     match eq {
-        43 => has_tcc1(model, r, t, y),
-        44 => has_tcc2(model, r, t, y),
-        45 => has_ncc1(model, r, t, y),
-        46 => has_ncc2(model, r, t, y),
-        48 => has_aac2(model, r, t, y),
-        49 => has_aac3(model, r, t, y),
-        51 => has_tac2(model, r, t),
-        52 => has_tac3(model, r, t),
-        56 => produces(model, r, t, f, y),
-        60 => uses(model, r, t, f, y),
+        TCC1 => has_tcc1(model, r, t, y),
+        TCC2 => has_tcc2(model, r, t, y),
+        NCC1 => has_ncc1(model, r, t, y),
+        NCC2 => has_ncc2(model, r, t, y),
+        AAC2 => has_aac2(model, r, t, y),
+        AAC3 => has_aac3(model, r, t, y),
+        TAC2 => has_tac2(model, r, t),
+        TAC3 => has_tac3(model, r, t),
+        RE1 => produces(model, r, t, f, y),
+        RE5 => uses(model, r, t, f, y),
         _ => true,
     }
 }
@@ -84,23 +85,23 @@ fn row_of(alloc: Global, model: &ModelData, name: RowName) -> Result<Row, Stoppe
     ensures { IsWritten name (terms_at model.now.facts name) result }
 {
     match name.eq {
-        43 => tcc1(alloc, model, name),
-        44 => tcc2(alloc, model, name),
-        45 => ncc1(alloc, model, name),
-        46 => ncc2(alloc, model, name),
-        47 => aac1(alloc, model, name),
-        48 => aac2(alloc, model, name),
-        49 => aac3(alloc, model, name),
-        50 => tac1(alloc, model, name),
-        51 => tac2(alloc, model, name),
-        52 => tac3(alloc, model, name),
-        53 => rm1(alloc, model, name),
-        54 => rm2(alloc, model, name),
-        55 => rm3(alloc, model, name),
-        56 => re1(alloc, model, name),
-        57 => re2(alloc, model, name),
-        58 => re3(alloc, model, name),
-        59 => re4(alloc, model, name),
+        TCC1 => tcc1(alloc, model, name),
+        TCC2 => tcc2(alloc, model, name),
+        NCC1 => ncc1(alloc, model, name),
+        NCC2 => ncc2(alloc, model, name),
+        AAC1 => aac1(alloc, model, name),
+        AAC2 => aac2(alloc, model, name),
+        AAC3 => aac3(alloc, model, name),
+        TAC1 => tac1(alloc, model, name),
+        TAC2 => tac2(alloc, model, name),
+        TAC3 => tac3(alloc, model, name),
+        RM1 => rm1(alloc, model, name),
+        RM2 => rm2(alloc, model, name),
+        RM3 => rm3(alloc, model, name),
+        RE1 => re1(alloc, model, name),
+        RE2 => re2(alloc, model, name),
+        RE3 => re3(alloc, model, name),
+        RE4 => re4(alloc, model, name),
         _ => re5(alloc, model, name),
     }
 }

@@ -1,4 +1,4 @@
--- What could stand behind tokens is what the machine would take there.
+-- What could stand after tokens is what the machine would take there.
 use Rattle.std.proofs.Common.{◌≡◌, true, false, List, [], ◌∷◌, ◌++◌, codes, Some, None, refl, ap, subst}
 use Rattle.std.specs.Prelude.{pos}
 use Rattle.scaled_decimals.specs.DecimalReading.{numerator, denominator}
@@ -92,8 +92,8 @@ rest-way {o = o} front more w b =
     let v = loose-way (front ++ more) b in
     let c = cut (Reached v.open_part) (Reached-ends v.open_part) front v.walk in
     let same = same_end c.walk w in
-    let P : Open → Type 0 = λ p. Walks p more v.open_part c.behind in
-    (v.open_part, c.behind, subst P same.ends c.rest)
+    let P : Open → Type 0 = λ p. Walks p more v.open_part c.beyond in
+    (v.open_part, c.beyond, subst P same.ends c.rest)
 
 -- ---- what could stand
 pub could-on : {o : Open} {front : List Placed} {events : List Event} (t : Placed) → Walks Fresh front o events → BeginsLoose (front ++ t ∷ []) → on o (seen t) t.at ≡ true

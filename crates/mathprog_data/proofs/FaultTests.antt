@@ -38,11 +38,11 @@ set_seen = SymbolSeen words.Other (codes "REGION") None
 abbrev pub param_seen : Seen
 param_seen = SymbolSeen words.Other (codes "YearSplit") None
 
--- behind a comma `*` could stand
-abbrev pub star_behind : Turn → Mark → Bool
-star_behind (Stop fault) at = false
-star_behind (Go next) at = on next (SignSeen signs.Star) at
-star_behind (Emit event next) at = on next (SignSeen signs.Star) at
+-- after a comma `*` could stand
+abbrev pub star_after : Turn → Mark → Bool
+star_after (Stop fault) at = false
+star_after (Go next) at = on next (SignSeen signs.Star) at
+star_after (Emit event next) at = on next (SignSeen signs.Star) at
 
 -- the state is inside the records of an ordinary statement of a parameter without subscripts
 abbrev pub lacks : Open → Bool
@@ -71,7 +71,7 @@ bare_record s at = on s (SignSeen signs.Gives) at && lacks s
 
 abbrev pub wrong_test : Open → Seen → Mark → Bool
 wrong_test s (SignSeen signs.Comma) at = on s (SignSeen signs.CloseBracket) at
-wrong_test s (SignSeen signs.CloseBracket) at = on s (SignSeen signs.Star) at || star_behind (turn s (SignSeen signs.Comma) at) at
+wrong_test s (SignSeen signs.CloseBracket) at = on s (SignSeen signs.Star) at || star_after (turn s (SignSeen signs.Comma) at) at
 wrong_test s (SignSeen signs.OpenBracket) at = bare_record s at
 wrong_test s (SignSeen signs.Colon) at = on s (SignSeen signs.OpenBracket) at || bare_record s at
 wrong_test s (SignSeen signs.OpenParen) at = on s (SignSeen signs.OpenBracket) at || bare_record s at

@@ -6,7 +6,7 @@ use Rattle.mathprog_data.proofs.Endings.{sane-walk}
 use Rattle.mathprog_data.proofs.FaultTables.{agreed}
 use Rattle.mathprog_data.proofs.FaultTests.{goes_on, on, tests, unknown_test, wrong_test, short_test, bad_test, tabbing_test, expected, Agrees}
 use Rattle.mathprog_data.proofs.SaneSound.{sane-sound}
-use Rattle.mathprog_data.proofs.StatementFaultLaws.{Behind, Lacking, or-either, test-unknown, unknown-test, test-wrong, wrong-test, test-short, short-test, test-bad, bad-test, test-tabbing, tabbing-test}
+use Rattle.mathprog_data.proofs.StatementFaultLaws.{Beyond, Lacking, or-either, test-unknown, unknown-test, test-wrong, wrong-test, test-short, short-test, test-bad, bad-test, test-tabbing, tabbing-test}
 use Rattle.mathprog_data.proofs.TokensSeen.{seen}
 use Rattle.mathprog_data.proofs.TurnLaws.{Holds, stop, goes, emits, holds, is_fault}
 use Rattle.mathprog_data.specs.Faults.{unexpected, unknown_name, wrong_slice, row_too_short, bad_number, tabbing}
@@ -37,21 +37,21 @@ fault-of (stop {k = j} f) e = let same = stop-is e in subst (λ z. is_fault z �
 fault-of (goes m) e = cc
 fault-of (emits m) e = cc
 
-pub tested : {front : List Placed} {o : Open} → Behind front o → (t : Placed) (k : ℕ) → turn o (seen t) t.at ≡ Stop k → Tested o t k
+pub tested : {front : List Placed} {o : Open} → Beyond front o → (t : Placed) (k : ℕ) → turn o (seen t) t.at ≡ Stop k → Tested o t k
 tested {o = o} b t k e =
     let P : Turn → Type 0 = λ x. Agrees x (tests o (seen t) t.at) in
     let a = subst P e (agreed o (sane-sound o (sane-walk b.walk tt)) (seen t) t.at) in
     tested-by o t k a (fault-of (holds o (seen t) t.at) e)
 
 -- ---- a stop is carried
-stopped-refused : {front : List Placed} {o : Open} → Behind front o → (t : Placed) (k : ℕ) → turn o (seen t) t.at ≡ Stop k → IsRefused front t
+stopped-refused : {front : List Placed} {o : Open} → Beyond front o → (t : Placed) (k : ℕ) → turn o (seen t) t.at ≡ Stop k → IsRefused front t
 stopped-refused {o = o} b t k e c =
     let could = could-on t b.walk c in
     let cannot : on o (seen t) t.at ≡ false = ap goes_on e in
     cc
 
 -- what is the number: one of these, or that of no fault of its own
-carried-other : {front : List Placed} {o : Open} → Behind front o → (t : Placed) → Lacking front o t.at → (k : ℕ) → Tested o t k → IsRefused front t → nat_eq k unexpected ≡ true → Carries front t k
+carried-other : {front : List Placed} {o : Open} → Beyond front o → (t : Placed) → Lacking front o t.at → (k : ℕ) → Tested o t k → IsRefused front t → nat_eq k unexpected ≡ true → Carries front t k
 carried-other {front = front} {o = o} b t lacking k x refused e =
     let is : k ≡ unexpected = eqb-true k unexpected e in
     subst (λ z. Carries front t z) (sym is) (faults.Carries.no_other refused
@@ -64,7 +64,7 @@ carried-other {front = front} {o = o} b t lacking k x refused e =
     none : {p q : Bool} → p ≡ true → p ≡ q → q ≡ false → ⊥
     none a c d = cc
 
-pub carried : {front : List Placed} {o : Open} → Behind front o → (t : Placed) → Lacking front o t.at → (k : ℕ) → turn o (seen t) t.at ≡ Stop k → Carries front t k
+pub carried : {front : List Placed} {o : Open} → Beyond front o → (t : Placed) → Lacking front o t.at → (k : ℕ) → turn o (seen t) t.at ≡ Stop k → Carries front t k
 carried {front = front} {o = o} b t lacking k e = by_first (or-either (nat_eq k unexpected) (nat_eq k unknown_name || (nat_eq k wrong_slice || (nat_eq k row_too_short || (nat_eq k bad_number || nat_eq k tabbing)))) x.fault)
   where
     x : Tested o t k
@@ -109,7 +109,7 @@ only-unexpected k a b c d e ua wb sc bd te na nb nc nd ne f =
     by (inr h) g = cc
 
 -- no name is given twice where the token is refused
-pub carries-stop : {front : List Placed} {o : Open} → Behind front o → (t : Placed) → Lacking front o t.at → (k m : ℕ) → turn o (seen t) t.at ≡ Stop k → Carries front t m → m ≡ k
+pub carries-stop : {front : List Placed} {o : Open} → Beyond front o → (t : Placed) → Lacking front o t.at → (k m : ℕ) → turn o (seen t) t.at ≡ Stop k → Carries front t m → m ≡ k
 carries-stop b t lacking k m e (faults.Carries.a_second_statement c twice) = absurd (stopped-refused b t k e c)
 carries-stop b t lacking k m e (faults.Carries.an_unknown_name r f) = let x = tested b t k e in sym (eqb-true k unknown_name (sym x.unknown ∙ unknown-test b t f))
 carries-stop b t lacking k m e (faults.Carries.a_wrong_slice r f) = let x = tested b t k e in sym (eqb-true k wrong_slice (sym x.wrong ∙ wrong-test b t lacking f))

@@ -39,13 +39,13 @@ way-loose {o = o} w =
 -- ---- good lists
 -- the machine goes through a list
 pub record GoesThrough (ts : List Placed) : Type 0 where
-  pub behind : Reader
-  pub is : run beginning ts ≡ Ok behind
+  pub beyond : Reader
+  pub is : run beginning ts ≡ Ok beyond
 
 pub good-goes : (ts : List Placed) → IsGood ts → GoesThrough ts
 good-goes ts g =
     let w = loose-way ts g.begins in
-    record { behind = reader w.open_part (noted_all empty_draft w.events); is = run-walk empty_draft w.walk (names-new g.names w.walk) }
+    record { beyond = reader w.open_part (noted_all empty_draft w.events); is = run-walk empty_draft w.walk (names-new g.names w.walk) }
 
 pub goes-good : (ts : List Placed) (r : Reader) → run beginning ts ≡ Ok r → IsGood ts
 goes-good ts r e =
@@ -72,18 +72,18 @@ whole-finished (done reached) e = done (finished e)
 whole-finished (go f w) e = go f (whole-finished w e)
 whole-finished (emit f w) e = emit f (whole-finished w e)
 
--- the machine goes through a list, may end behind it, and has these blocks
+-- the machine goes through a list, may end after it, and has these blocks
 pub record EndsWith (ts : List Placed) (blocks : Blocks) : Type 0 where
-  pub behind : Reader
-  pub is : run beginning ts ≡ Ok behind
-  pub ends : may_end behind.open_part ≡ true
-  pub blocks_are : blocks ≡ drafted behind.draft
+  pub beyond : Reader
+  pub is : run beginning ts ≡ Ok beyond
+  pub ends : may_end beyond.open_part ≡ true
+  pub blocks_are : blocks ≡ drafted beyond.draft
 
 pub means-ends : (ts : List Placed) (blocks : Blocks) → Means ts blocks → EndsWith ts blocks
 means-ends ts blocks m =
     let w = finished-whole (take_loose m.loose) in
     record {
-      behind = reader w.end (noted_all empty_draft (statements_events m.statements []));
+      beyond = reader w.end (noted_all empty_draft (statements_events m.statements []));
       is = run-walk empty_draft w.walk (names-new m.names w.walk);
       ends = w.ends;
       blocks_are = m.blocks_are ∙ sym (drafted-all m.statements);

@@ -106,8 +106,8 @@ moved-go {o = o} {next = next} t e = of-go (subst (Holds o (seen t)) e (holds o 
 moved-emit : {o next : Open} {event : Event} (t : Placed) → turn o (seen t) t.at ≡ Emit event next → Moved o (seen t) next
 moved-emit {o = o} {next = next} {event = event} t e = of-emit (subst (Holds o (seen t)) e (holds o (seen t) t.at))
 
--- ---- the name behind `param`
--- behind `param`, the next state is inside records of this parameter alone where the symbol names it
+-- ---- the name after `param`
+-- after `param`, the next state is inside records of this parameter alone where the symbol names it
 abbrev NamesIt : Seen → ℕ → Type 0
 NamesIt x p = (w : Word) × (name : Name) × (n : Option Number) × (x ≡ SymbolSeen w name n) × (param_number name ≡ Some p)
 
@@ -232,11 +232,11 @@ stays p (emit {t = t} e w) h no_end = stays p w (stays-step t (moved-emit t e) h
 -- where a statement may begin, or the section is closed
 data Ready : Open → Type 0 where
   first : Ready Fresh
-  behind : Ready Between
+  beyond : Ready Between
   ended : Ready Ended
 
 closed-ready : (s : Open) → is_closed s ≡ true → Ready s
-closed-ready Between e = behind
+closed-ready Between e = beyond
 closed-ready Ended e = ended
 closed-ready s e = cc
 
@@ -288,14 +288,14 @@ word-stays {z = z} {after = after} word t name p first keyword is numbered no_en
     let turned : turn Fresh (seen word) word.at ≡ Go ParamRead = ap (λ l. turn Fresh (seen_of l) word.at) keyword in
     let same : next ≡ ParamRead = cc in
     named-stays t name p is numbered no_end (subst (λ (o : Open). Walks o (t ∷ after) z es) same w)
-word-stays {z = z} {after = after} word t name p behind keyword is numbered no_end (go {next = next} {events = es} e w) =
+word-stays {z = z} {after = after} word t name p beyond keyword is numbered no_end (go {next = next} {events = es} e w) =
     let turned : turn Between (seen word) word.at ≡ Go ParamRead = ap (λ l. turn Between (seen_of l) word.at) keyword in
     let same : next ≡ ParamRead = cc in
     named-stays t name p is numbered no_end (subst (λ (o : Open). Walks o (t ∷ after) z es) same w)
 word-stays word t name p ended keyword is numbered no_end (go e w) = cc
 word-stays word t name p first keyword is numbered no_end (emit e w) =
     let turned : turn Fresh (seen word) word.at ≡ Go ParamRead = ap (λ l. turn Fresh (seen_of l) word.at) keyword in cc
-word-stays word t name p behind keyword is numbered no_end (emit e w) =
+word-stays word t name p beyond keyword is numbered no_end (emit e w) =
     let turned : turn Between (seen word) word.at ≡ Go ParamRead = ap (λ l. turn Between (seen_of l) word.at) keyword in cc
 word-stays word t name p ended keyword is numbered no_end (emit e w) = cc
 

@@ -8,14 +8,14 @@ use Rattle.mathprog_data.specs.declared.lexer.Span.{Span}
 use Rattle.mathprog_data.specs.declared.closing.Closing.{Closing}
 use Rattle.mathprog_data.specs.declared.closing.Closing.TheVariants.{Free, End, Inside}
 use Rattle.mathprog_data.specs.Lexemes.{Lexeme, Sign, Bare, Quoted}
-use Rattle.mathprog_data.specs.Lexing.{is_semicolon, is_end, closes_behind, has_closing, LexingEnd, TextEnds, Closes, Fails}
-use Rattle.mathprog_data.specs.LexingRuns.{closes, closing_behind, placed_of, lexed_from, with_token}
+use Rattle.mathprog_data.specs.Lexing.{is_semicolon, is_end, closes_after, has_closing, LexingEnd, TextEnds, Closes, Fails}
+use Rattle.mathprog_data.specs.LexingRuns.{closes, closing_after, placed_of, lexed_from, with_token}
 use Rattle.mathprog_data.proofs.LexingPlaced.{said}
 
 -- some token closes the text, told token by token
 abbrev pub closed_in : Closing → List Lexeme → Bool
 closed_in closing [] = false
-closed_in closing (lexeme ∷ lexemes) = closes closing lexeme || closed_in (closing_behind closing lexeme) lexemes
+closed_in closing (lexeme ∷ lexemes) = closes closing lexeme || closed_in (closing_after closing lexeme) lexemes
 
 -- a `;` is no `end`
 semicolon_is_no_end : (lexeme : Lexeme) → is_semicolon lexeme ≡ true → is_end lexeme ≡ false
@@ -23,22 +23,22 @@ semicolon_is_no_end (Sign s) e = refl
 semicolon_is_no_end (Bare bytes) e = cc
 semicolon_is_no_end (Quoted bytes) e = refl
 
--- what is known behind a `;`, behind another token, and behind a `;` and `end`, is all that the rest depends on
+-- what is known after a `;`, after another token, and after a `;` and `end`, is all that the rest depends on
 record Known (lexemes : List Lexeme) : Type 0 where
-  free : (semicolon : Lexeme) → is_semicolon semicolon ≡ true → closes_behind (semicolon ∷ lexemes) ≡ closed_in Free lexemes
-  inside : (other : Lexeme) → is_semicolon other ≡ false → closes_behind (other ∷ lexemes) ≡ closed_in Inside lexemes
+  free : (semicolon : Lexeme) → is_semicolon semicolon ≡ true → closes_after (semicolon ∷ lexemes) ≡ closed_in Free lexemes
+  inside : (other : Lexeme) → is_semicolon other ≡ false → closes_after (other ∷ lexemes) ≡ closed_in Inside lexemes
   at_end : (semicolon end : Lexeme) → is_semicolon semicolon ≡ true → is_end end ≡ true → is_semicolon end ≡ false
-      → closes_behind (semicolon ∷ end ∷ lexemes) ≡ closed_in End lexemes
+      → closes_after (semicolon ∷ end ∷ lexemes) ≡ closed_in End lexemes
 
 inside_more : (other lexeme : Lexeme) (more : List Lexeme) → Known more → is_semicolon other ≡ false → (b : Bool) → is_semicolon lexeme ≡ b
-    → closes_behind (other ∷ lexeme ∷ more) ≡ closed_in (cond b Free Inside) more
+    → closes_after (other ∷ lexeme ∷ more) ≡ closed_in (cond b Free Inside) more
 inside_more other lexeme [] k e b f = refl
 inside_more other lexeme (next ∷ rest) k e true f = rw e (k.free lexeme f)
 inside_more other lexeme (next ∷ rest) k e false f = rw e (k.inside lexeme f)
 
 free_more : (semicolon lexeme : Lexeme) (more : List Lexeme) → Known more → is_semicolon semicolon ≡ true
     → (b c : Bool) → is_semicolon lexeme ≡ b → is_end lexeme ≡ c
-    → closes_behind (semicolon ∷ lexeme ∷ more) ≡ closed_in (cond b Free (cond c End Inside)) more
+    → closes_after (semicolon ∷ lexeme ∷ more) ≡ closed_in (cond b Free (cond c End Inside)) more
 free_more semicolon lexeme [] k e b c f g = refl
 free_more semicolon lexeme (next ∷ rest) k e true c f g = rw (e, semicolon_is_no_end lexeme f) (k.free lexeme f)
 free_more semicolon lexeme (next ∷ rest) k e false true f g = k.at_end semicolon lexeme e g f
@@ -72,9 +72,9 @@ lexed_open text closing [] None never = refl
 lexed_open text closing [] (Some fault) never = refl
 lexed_open text closing (span ∷ spans) fault never =
     let lexeme = (placed_of text span).lexeme in
-    let parts = or_parts (closes closing lexeme) (closed_in (closing_behind closing lexeme) (lexemes_at text spans)) never in
+    let parts = or_parts (closes closing lexeme) (closed_in (closing_after closing lexeme) (lexemes_at text spans)) never in
     cond-false (closes closing lexeme) _ _ parts.0
-    ∙ ap (with_token (placed_of text span)) (lexed_open text (closing_behind closing lexeme) spans fault parts.1)
+    ∙ ap (with_token (placed_of text span)) (lexed_open text (closing_after closing lexeme) spans fault parts.1)
 
 -- where a token is the first that closes it, the tokens up to it stand
 pub lexed_closed : (text : List ℕ) (closing : Closing) (before : List Span) (last : Span) (more : List Span) (fault : Option DataFault)
@@ -85,9 +85,9 @@ lexed_closed text closing [] last more fault never closed =
     cond-true (closes closing lexeme) _ _ (sym (or-false (closes closing lexeme)) ∙ closed)
 lexed_closed text closing (span ∷ before) last more fault never closed =
     let lexeme = (placed_of text span).lexeme in
-    let behind = closing_behind closing lexeme in
-    let parts = or_parts (closes closing lexeme) (closed_in behind (lexemes_at text before)) never in
-    let closed_later : closed_in behind (lexemes_at text (before ++ last ∷ [])) ≡ true =
-    sym (ap (λ b. b || closed_in behind (lexemes_at text (before ++ last ∷ []))) parts.0) ∙ closed in
+    let beyond = closing_after closing lexeme in
+    let parts = or_parts (closes closing lexeme) (closed_in beyond (lexemes_at text before)) never in
+    let closed_later : closed_in beyond (lexemes_at text (before ++ last ∷ [])) ≡ true =
+    sym (ap (λ b. b || closed_in beyond (lexemes_at text (before ++ last ∷ []))) parts.0) ∙ closed in
     cond-false (closes closing lexeme) _ _ parts.0
-    ∙ ap (with_token (placed_of text span)) (lexed_closed text behind before last more fault parts.1 closed_later)
+    ∙ ap (with_token (placed_of text span)) (lexed_closed text beyond before last more fault parts.1 closed_later)

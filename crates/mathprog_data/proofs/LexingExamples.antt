@@ -25,15 +25,15 @@ bare_end = Bare (codes "end")
 
 -- ---- places
 
--- the first byte, a byte behind a tab, and bytes behind a line feed
+-- the first byte, a byte after a tab, and bytes after a line feed
 first_place : place_after [] ≡ mark 1 1
 first_place = refl
 
 tab_is_one_column : place_after (codes "a\tb") ≡ mark 1 4
 tab_is_one_column = refl
 
-behind_line_feed : place_after (codes "ab\n") ≡ mark 2 1
-behind_line_feed = refl
+after_line_feed : place_after (codes "ab\n") ≡ mark 2 1
+after_line_feed = refl
 
 -- a byte above 127 is one column, and a carriage return ends no line
 columns_are_bytes : place_after (10 ∷ 13 ∷ 195 ∷ 164 ∷ []) ≡ mark 2 4
@@ -184,7 +184,7 @@ no_gaps = inl (record {
   ends = (refl, refl);
 })
 
--- nothing behind the closing `end ;` is looked at
+-- nothing after the closing `end ;` is looked at
 closed : Lexes (codes "\nend\t;@ [" ++ 200 ∷ []) (placed bare_end 1 4 2 1 ∷ placed semicolon 5 6 2 5 ∷ []) Closes
 closed = record {
   pieces = Separator 10 ∷ BareToken (codes "end") ∷ Separator 9 ∷ SignToken signs.Semicolon ∷ [];

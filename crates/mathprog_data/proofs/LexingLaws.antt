@@ -14,7 +14,7 @@ use Rattle.mathprog_data.specs.Places.{place_after}
 use Rattle.mathprog_data.specs.Lexemes.{Lexeme, Sign, Bare, Quoted, Placed}
 use Rattle.mathprog_data.specs.LexingPieces.{Piece, Separator, LineComment, BlockComment, SignToken, BareToken, QuotedToken, IsWhole, spelling, flawed}
 use Rattle.mathprog_data.specs.Lexing.{Lexes, LexingEnd, TextEnds, Closes, Fails, Ends, spellings, AreWhole, placed_after, lexemes_of, lexemes_in, has_closing, fault_of, bytes_passed}
-use Rattle.mathprog_data.specs.LexingRuns.{run, nothing_more, placed_of, closes, closing_behind, Lexed, lexed_from, lexed_run, lexed}
+use Rattle.mathprog_data.specs.LexingRuns.{run, nothing_more, placed_of, closes, closing_after, Lexed, lexed_from, lexed_run, lexed}
 use Rattle.mathprog_data.proofs.LexingSteps.{gap}
 use Rattle.mathprog_data.proofs.LexingRunTokens.{span}
 use Rattle.mathprog_data.proofs.LexingRunQuotes.{faulty}
@@ -131,7 +131,7 @@ AreWhole-front (piece ∷ before) more rest whole =
     ap (λ t. t ++ rest) (spellings-append before more) ∙ append_assoc (spellings before) (spellings more) rest in
     (subst (IsWhole piece) regrouped whole.0, AreWhole-front before more rest whole.1)
 
--- pieces up to the first `;` that closes them, and those behind it
+-- pieces up to the first `;` that closes them, and those after it
 record ClosedFrom (closing : Closing) (pieces : List Piece) : Type 0 where
   before : List Piece
   more : List Piece
@@ -174,15 +174,15 @@ with_gap closing piece pieces none later = record {
 
 -- a token that doesn't close
 with_lexeme : (closing : Closing) (piece : Piece) (lexeme : Lexeme) (pieces : List Piece) → lexemes_of piece ≡ lexeme ∷ [] → closes closing lexeme ≡ false
-    → ClosedFrom (closing_behind closing lexeme) pieces → ClosedFrom closing (piece ∷ pieces)
+    → ClosedFrom (closing_after closing lexeme) pieces → ClosedFrom closing (piece ∷ pieces)
 with_lexeme closing piece lexeme pieces is open_still later = record {
   before = piece ∷ later.before;
   more = later.more;
   parts = ap (λ t. piece ∷ t) later.parts;
-  never = ap (λ t. closed_in closing (t ++ lexemes_in later.before)) is ∙ ap (λ b. b || closed_in (closing_behind closing lexeme) (lexemes_in later.before)) open_still ∙ later.never;
+  never = ap (λ t. closed_in closing (t ++ lexemes_in later.before)) is ∙ ap (λ b. b || closed_in (closing_after closing lexeme) (lexemes_in later.before)) open_still ∙ later.never;
   closes =
       ap (λ t. closed_in closing (t ++ lexemes_in (later.before ++ semicolon))) is
-      ∙ ap (λ b. b || closed_in (closing_behind closing lexeme) (lexemes_in (later.before ++ semicolon))) open_still
+      ∙ ap (λ b. b || closed_in (closing_after closing lexeme) (lexemes_in (later.before ++ semicolon))) open_still
       ∙ later.closes;
 }
 
@@ -191,7 +191,7 @@ closed_later true c e f = cc
 closed_later false c e f = e
 
 closed_from_sign : (closing : Closing) (sign : TheSign) (pieces : List Piece) → (b : Bool) → closes closing (Sign sign) ≡ b
-    → (b ≡ false → ClosedFrom (closing_behind closing (Sign sign)) pieces) → ClosedFrom closing (SignToken sign ∷ pieces)
+    → (b ≡ false → ClosedFrom (closing_after closing (Sign sign)) pieces) → ClosedFrom closing (SignToken sign ∷ pieces)
 closed_from_sign closing sign pieces true e later = record {
   before = [];
   more = pieces;
@@ -208,13 +208,13 @@ closed_from (LineComment bytes ∷ pieces) closing e = with_gap closing (LineCom
 closed_from (BlockComment bytes ∷ pieces) closing e = with_gap closing (BlockComment bytes) pieces refl (closed_from pieces closing e)
 closed_from (SignToken sign ∷ pieces) closing e =
     let b = closes closing (Sign sign) in
-    closed_from_sign closing sign pieces b refl (λ f. closed_from pieces (closing_behind closing (Sign sign)) (closed_later b _ e f))
+    closed_from_sign closing sign pieces b refl (λ f. closed_from pieces (closing_after closing (Sign sign)) (closed_later b _ e f))
 closed_from (BareToken bytes ∷ pieces) closing e =
     let never = never_closes_bare closing bytes in
-    with_lexeme closing (BareToken bytes) (Bare bytes) pieces refl never (closed_from pieces (closing_behind closing (Bare bytes)) (closed_later (closes closing (Bare bytes)) _ e never))
+    with_lexeme closing (BareToken bytes) (Bare bytes) pieces refl never (closed_from pieces (closing_after closing (Bare bytes)) (closed_later (closes closing (Bare bytes)) _ e never))
 closed_from (QuotedToken quote bytes ∷ pieces) closing e =
     let never = never_closes_quoted closing bytes in
-    with_lexeme closing (QuotedToken quote bytes) (Quoted bytes) pieces refl never (closed_from pieces (closing_behind closing (Quoted bytes)) (closed_later (closes closing (Quoted bytes)) _ e never))
+    with_lexeme closing (QuotedToken quote bytes) (Quoted bytes) pieces refl never (closed_from pieces (closing_after closing (Quoted bytes)) (closed_later (closes closing (Quoted bytes)) _ e never))
 
 -- some lexing
 record SomeLexing (text : List ℕ) : Type 0 where

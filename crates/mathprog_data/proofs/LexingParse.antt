@@ -124,12 +124,12 @@ quote_end quote (byte ∷ next ∷ rest) =
 -- bytes that may all stand in a quoted symbol, or the first that may not
 data Printable (bytes : List ℕ) : Type 0 where
   all : list_all is_printable bytes ≡ true → Printable bytes
-  not_at : (before : List ℕ) (byte : ℕ) (behind : List ℕ) → bytes ≡ before ++ byte ∷ behind → list_all is_printable before ≡ true → is_printable byte ≡ false → Printable bytes
+  not_at : (before : List ℕ) (byte : ℕ) (beyond : List ℕ) → bytes ≡ before ++ byte ∷ beyond → list_all is_printable before ≡ true → is_printable byte ≡ false → Printable bytes
 
 printable_with : (byte : ℕ) (bytes : List ℕ) → is_printable byte ≡ true → Printable bytes → Printable (byte ∷ bytes)
 printable_with byte bytes e (all pass) = all (and_from (is_printable byte) (list_all is_printable bytes) e pass)
-printable_with byte bytes e (not_at before bad behind parts pass stopped) =
-    not_at (byte ∷ before) bad behind (ap (λ t. byte ∷ t) parts) (and_from (is_printable byte) (list_all is_printable before) e pass) stopped
+printable_with byte bytes e (not_at before bad beyond parts pass stopped) =
+    not_at (byte ∷ before) bad beyond (ap (λ t. byte ∷ t) parts) (and_from (is_printable byte) (list_all is_printable before) e pass) stopped
 
 printable : (bytes : List ℕ) → Printable bytes
 printable [] = all refl
@@ -158,24 +158,24 @@ first_line_comment rest =
     (omega (arith, ap length line.parts, length-append line.front line.rest))
 
 first_block_at : (rest : List ℕ) → CommentEnd rest → First (47 ∷ 42 ∷ rest)
-first_block_at rest (at_end inside behind parts none) =
-    piece (BlockComment inside) behind (ap (λ t. 47 ∷ 42 ∷ t) (parts ∙ sym (append_assoc inside (42 ∷ 47 ∷ []) behind))) none
-    (omega (arith, ap length parts, length-append inside (42 ∷ 47 ∷ behind)))
+first_block_at rest (at_end inside beyond parts none) =
+    piece (BlockComment inside) beyond (ap (λ t. 47 ∷ 42 ∷ t) (parts ∙ sym (append_assoc inside (42 ∷ 47 ∷ []) beyond))) none
+    (omega (arith, ap length parts, length-append inside (42 ∷ 47 ∷ beyond)))
 first_block_at rest (never none) = flaw (OpenBlock rest) refl none
 
-first_quoted_named : (quote : ℕ) (rest named behind : List ℕ) → is_quote quote ≡ true → rest ≡ doubled quote named ++ quote ∷ behind → is_one_line named ≡ true
-    → stops (λ next. next == quote) behind ≡ true → Printable named → First (quote ∷ rest)
-first_quoted_named quote rest named behind quotes parts line stopped (all pass) =
-    piece (QuotedToken quote named) behind (ap (λ t. quote ∷ t) (parts ∙ sym (append_assoc (doubled quote named) (quote ∷ []) behind))) (quotes, pass, stopped)
-    (omega (arith, ap length parts, length-append (doubled quote named) (quote ∷ behind)))
-first_quoted_named quote rest named behind quotes parts line stopped (not_at before byte after e pass bad) =
+first_quoted_named : (quote : ℕ) (rest named beyond : List ℕ) → is_quote quote ≡ true → rest ≡ doubled quote named ++ quote ∷ beyond → is_one_line named ≡ true
+    → stops (λ next. next == quote) beyond ≡ true → Printable named → First (quote ∷ rest)
+first_quoted_named quote rest named beyond quotes parts line stopped (all pass) =
+    piece (QuotedToken quote named) beyond (ap (λ t. quote ∷ t) (parts ∙ sym (append_assoc (doubled quote named) (quote ∷ []) beyond))) (quotes, pass, stopped)
+    (omega (arith, ap length parts, length-append (doubled quote named) (quote ∷ beyond)))
+first_quoted_named quote rest named beyond quotes parts line stopped (not_at before byte after e pass bad) =
     let split = ap is_one_line (sym e) ∙ line in
     let lines = and_parts (is_one_line before) (is_one_line (byte ∷ after)) (sym (list_all-append (λ b. not (is_line_feed b)) before (byte ∷ after)) ∙ split) in
-    flaw (BadInQuotes quote before byte after behind) (ap (λ t. quote ∷ t) (parts ∙ ap (λ n. doubled quote n ++ quote ∷ behind) e)) (quotes, pass, bad, lines.1, stopped)
+    flaw (BadInQuotes quote before byte after beyond) (ap (λ t. quote ∷ t) (parts ∙ ap (λ n. doubled quote n ++ quote ∷ beyond) e)) (quotes, pass, bad, lines.1, stopped)
 
 first_quoted_at : (quote : ℕ) (rest : List ℕ) → is_quote quote ≡ true → QuoteEnd quote rest → First (quote ∷ rest)
-first_quoted_at quote rest quotes (closed named behind parts line stopped) = first_quoted_named quote rest named behind quotes parts line stopped (printable named)
-first_quoted_at quote rest quotes (stays_open named behind parts line stopped) = flaw (OpenQuotes quote named behind) (ap (λ t. quote ∷ t) parts) (quotes, line, stopped)
+first_quoted_at quote rest quotes (closed named beyond parts line stopped) = first_quoted_named quote rest named beyond quotes parts line stopped (printable named)
+first_quoted_at quote rest quotes (stays_open named beyond parts line stopped) = flaw (OpenQuotes quote named beyond) (ap (λ t. quote ∷ t) parts) (quotes, line, stopped)
 
 first_colon : (rest : List ℕ) → First (58 ∷ rest)
 first_colon [] = piece (SignToken signs.Colon) [] refl refl (omega arith)
@@ -262,8 +262,8 @@ pub record Parse (text : List ℕ) : Type 0 where
   pub end : (rest ≡ []) ⊎ ((flaw : Flaw) × IsFlaw flaw × (rest ≡ flawed flaw))
 
 parse_first : (text : List ℕ) → First text → ((rest : List ℕ) → length rest < length text → Parse rest) → Parse text
-parse_first text (piece first behind parts whole shorter) later =
-    let more = later behind shorter in
+parse_first text (piece first beyond parts whole shorter) later =
+    let more = later beyond shorter in
     record {
       pieces = first ∷ more.pieces;
       rest = more.rest;

@@ -33,7 +33,7 @@ undoubled-doubled quote [] = refl
 undoubled-doubled quote (byte ∷ bytes) =
     undoubled_once quote byte (doubled quote bytes) (byte == quote) refl ∙ ap (λ t. byte ∷ t) (undoubled-doubled quote bytes)
 
--- a token with this lexeme that is spelled so behind these bytes
+-- a token with this lexeme that is spelled so after these bytes
 abbrev token : Lexeme → (front bytes : List ℕ) → Placed
 token lexeme front bytes = record { lexeme = lexeme; from = length front; to = length front + length bytes; at = place_after front }
 
@@ -76,10 +76,10 @@ placed_spans text [] front rest parts = refl
 placed_spans text (piece ∷ pieces) front rest parts =
     let spelled = spelling piece in
     let first : text ≡ front ++ (spelled ++ (spellings pieces ++ rest)) = parts ∙ ap (λ t. front ++ t) (append_assoc spelled (spellings pieces) rest) in
-    let behind : text ≡ (front ++ spelled) ++ (spellings pieces ++ rest) = first ∙ sym (append_assoc front spelled (spellings pieces ++ rest)) in
+    let beyond : text ≡ (front ++ spelled) ++ (spellings pieces ++ rest) = first ∙ sym (append_assoc front spelled (spellings pieces ++ rest)) in
     map-append (placed_of text) (spans_of front piece) (spans_after (front ++ spelled) pieces)
     ∙ ap (λ t. t ++ map (placed_of text) (spans_after (front ++ spelled) pieces)) (placed_spans_of text piece front (spellings pieces ++ rest) first)
-    ∙ ap (λ t. placed_at front piece ++ t) (placed_spans text pieces (front ++ spelled) rest behind)
+    ∙ ap (λ t. placed_at front piece ++ t) (placed_spans text pieces (front ++ spelled) rest beyond)
 
 -- the lexemes of the tokens are those among the pieces
 abbrev pub said : List Placed → List Lexeme

@@ -1,4 +1,4 @@
--- The place behind one more byte.
+-- The place after one more byte.
 use Rattle.std.proofs.Common.{◌≡◌, ℕ, ◌+◌, Bool, true, false, not, cond, List, [], ◌∷◌, ◌++◌, refl, ap, ◌∙◌, arith}
 use Rattle.std.specs.Prelude.{count_by}
 use Rattle.std.specs.List.{suffix_len, prefix_len}
@@ -25,8 +25,8 @@ by_line_feed false line column =
     ap (λ n. mark_of n (1 + column + 1)) lines ∙ ap (mark_of (line + 1)) columns
 
 -- one byte more moves the place on by one column, or to the next line
-pub place_behind : (front : List ℕ) (byte : ℕ) → place_after (front ++ byte ∷ []) ≡ next_mark (place_after front) byte
-place_behind front byte =
+pub place_after_byte : (front : List ℕ) (byte : ℕ) → place_after (front ++ byte ∷ []) ≡ next_mark (place_after front) byte
+place_after_byte front byte =
     ap (λ n. mark_of (n + 1) (suffix_len in_line (front ++ byte ∷ []) + 1)) (sum_by_push (λ b. cond (is_line_feed b) 1 0) front byte)
     ∙ ap (λ n. mark_of (count_by is_line_feed front + cond (is_line_feed byte) 1 0 + 1) (n + 1)) (suffix_push front byte)
     ∙ by_line_feed (is_line_feed byte) (count_by is_line_feed front) (suffix_len in_line front)

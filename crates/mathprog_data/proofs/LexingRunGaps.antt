@@ -71,27 +71,27 @@ block_goes_on false front byte rest from start bad open_still =
 block_goes_on true front byte rest from start bad open_still =
     rw open_still (ap (λ s. run s rest) (at_passed pendings.Star (in_block (is_star byte)) front byte from start bad))
 
-none_behind_star : (b : Bool) (bytes : List ℕ) → ((b && not (stops (λ next. next == 47) bytes)) || has_comment_end bytes) ≡ false → has_comment_end (star_before b bytes) ≡ false
-none_behind_star true bytes none = none
-none_behind_star false bytes none = none
+none_after_star : (b : Bool) (bytes : List ℕ) → ((b && not (stops (λ next. next == 47) bytes)) || has_comment_end bytes) ≡ false → has_comment_end (star_before b bytes) ≡ false
+none_after_star true bytes none = none
+none_after_star false bytes none = none
 
--- no end behind the first byte
-no_end_behind : (star : Bool) (byte : ℕ) (bytes : List ℕ) → has_comment_end (star_before star (byte ∷ bytes)) ≡ false
+-- no end after the first byte
+no_end_after : (star : Bool) (byte : ℕ) (bytes : List ℕ) → has_comment_end (star_before star (byte ∷ bytes)) ≡ false
     → ((star && (byte == 47)) ≡ false) × (has_comment_end (star_before (is_star byte) bytes) ≡ false)
-no_end_behind false byte bytes none = (refl, none_behind_star (is_star byte) bytes none)
-no_end_behind true byte bytes none =
+no_end_after false byte bytes none = (refl, none_after_star (is_star byte) bytes none)
+no_end_after true byte bytes none =
     let parts = or_parts (not (not (byte == 47))) (has_comment_end (byte ∷ bytes)) none in
-    (not-true (byte == 47) (not-false (not (byte == 47)) parts.0), none_behind_star (is_star byte) bytes parts.1)
+    (not-true (byte == 47) (not-false (not (byte == 47)) parts.0), none_after_star (is_star byte) bytes parts.1)
 
 pub through_block : (star : Bool) (bytes front rest : List ℕ) (from : ℕ) (start : Mark) (bad : Option Mark)
-    → (behind : List ℕ) → has_comment_end (star_before star (bytes ++ behind)) ≡ false
+    → (beyond : List ℕ) → has_comment_end (star_before star (bytes ++ beyond)) ≡ false
     → (last : Bool) × (run (at (in_block star) front from start bad) (bytes ++ rest) ≡ run (at (in_block last) (front ++ bytes) from start bad) rest)
-    × (has_comment_end (star_before last behind) ≡ false)
-through_block star [] front rest from start bad behind none =
+    × (has_comment_end (star_before last beyond) ≡ false)
+through_block star [] front rest from start bad beyond none =
     (star, ap (λ f. run (at (in_block star) f from start bad) rest) (sym (append-nil front)), none)
-through_block star (byte ∷ bytes) front rest from start bad behind none =
-    let parts = no_end_behind star byte (bytes ++ behind) none in
-    let more = through_block (is_star byte) bytes (front ++ byte ∷ []) rest from start bad behind parts.1 in (
+through_block star (byte ∷ bytes) front rest from start bad beyond none =
+    let parts = no_end_after star byte (bytes ++ beyond) none in
+    let more = through_block (is_star byte) bytes (front ++ byte ∷ []) rest from start bad beyond parts.1 in (
       more.0,
       block_goes_on star front byte (bytes ++ rest) from start bad parts.0
           ∙ more.1

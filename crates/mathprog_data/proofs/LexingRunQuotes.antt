@@ -32,7 +32,7 @@ run_quote quote front rest byte from start bad no_line_feed is_quote =
     ap (follow rest) (second (is_line_feed byte) (byte == quote) _ _ _ no_line_feed is_quote)
     ∙ ap (λ s. run s rest) (at_passed (pendings.Quoted quote) (pendings.Quote quote) front byte from start bad)
 
--- another quote behind it
+-- another quote after it
 run_second_quote : (quote : ℕ) (front rest : List ℕ) (byte from : ℕ) (start : Mark) (bad : Option Mark) → (byte == quote) ≡ true
     → run (at (pendings.Quote quote) front from start bad) (byte ∷ rest) ≡ run (at (pendings.Quoted quote) (front ++ byte ∷ []) from start bad) rest
 unfolding run
@@ -56,9 +56,9 @@ run_other quote front rest byte from start bad no_line_feed no_quote =
 abbrev as_written : ℕ → ℕ → List ℕ
 as_written quote byte = cond (byte == quote) (byte ∷ byte ∷ []) (byte ∷ [])
 
--- the first byte that may not stand between the quotes, behind one more byte
-abbrev bad_behind : ℕ → List ℕ → Option Mark → ℕ → Option Mark
-bad_behind quote front bad byte = cond (byte == quote) bad (cond (is_some bad || is_printable byte) bad (Some (place_after front)))
+-- the first byte that may not stand between the quotes, after one more byte
+abbrev bad_after : ℕ → List ℕ → Option Mark → ℕ → Option Mark
+bad_after quote front bad byte = cond (byte == quote) bad (cond (is_some bad || is_printable byte) bad (Some (place_after front)))
 
 run_written : (quote : ℕ) (front rest : List ℕ) (byte from : ℕ) (start : Mark) (bad : Option Mark) → (b : Bool) → (byte == quote) ≡ b → is_line_feed byte ≡ false
     → run (at (pendings.Quoted quote) front from start bad) (cond b (byte ∷ byte ∷ []) (byte ∷ []) ++ rest)
@@ -70,10 +70,10 @@ run_written quote front rest byte from start bad true e no_line_feed =
     ∙ ap (λ f. run (at (pendings.Quoted quote) f from start bad) rest) (append_assoc front (byte ∷ []) (byte ∷ []))
 run_written quote front rest byte from start bad false e no_line_feed = run_other quote front rest byte from start bad no_line_feed e
 
--- the same behind several bytes
+-- the same after several bytes
 abbrev bad_in : ℕ → List ℕ → Option Mark → List ℕ → Option Mark
 bad_in quote front bad [] = bad
-bad_in quote front bad (byte ∷ bytes) = bad_in quote (front ++ as_written quote byte) (bad_behind quote front bad byte) bytes
+bad_in quote front bad (byte ∷ bytes) = bad_in quote (front ++ as_written quote byte) (bad_after quote front bad byte) bytes
 
 -- the bytes of a line between quotes
 run_inside : (quote : ℕ) (bytes front rest : List ℕ) (from : ℕ) (start : Mark) (bad : Option Mark) → is_one_line bytes ≡ true
@@ -85,7 +85,7 @@ run_inside quote (byte ∷ bytes) front rest from start bad one_line =
     let written = as_written quote byte in
     ap (run (at (pendings.Quoted quote) front from start bad)) (append_assoc written (doubled quote bytes) rest)
     ∙ run_written quote front (doubled quote bytes ++ rest) byte from start bad (byte == quote) refl (not-true _ parts.0)
-    ∙ run_inside quote bytes (front ++ written) rest from start (bad_behind quote front bad byte) parts.1
+    ∙ run_inside quote bytes (front ++ written) rest from start (bad_after quote front bad byte) parts.1
     ∙ ap (λ f. run (at (pendings.Quoted quote) f from start (bad_in quote front bad (byte ∷ bytes))) rest) (append_assoc front written (doubled quote bytes))
 
 -- bytes that may stand there leave nothing to keep
@@ -95,44 +95,44 @@ one_line_printable (byte ∷ bytes) all =
     let parts = and_parts (is_printable byte) (list_all is_printable bytes) all in
     and_from (not (is_line_feed byte)) (is_one_line bytes) (not_from_false _ (printable_is_no_line_feed byte parts.0)) (one_line_printable bytes parts.1)
 
-none_behind : (b c : Bool) (at : Mark) → c ≡ true → cond b None (cond (false || c) None (Some at)) ≡ None
-none_behind true c at e = refl
-none_behind false c at e = cond-true c None (Some at) e
+none_after : (b c : Bool) (at : Mark) → c ≡ true → cond b None (cond (false || c) None (Some at)) ≡ None
+none_after true c at e = refl
+none_after false c at e = cond-true c None (Some at) e
 
 none_in : (quote : ℕ) (front bytes : List ℕ) → list_all is_printable bytes ≡ true → bad_in quote front None bytes ≡ None
 none_in quote front [] all = refl
 none_in quote front (byte ∷ bytes) all =
     let parts = and_parts (is_printable byte) (list_all is_printable bytes) all in
     let written = as_written quote byte in
-    ap (λ bad. bad_in quote (front ++ written) bad bytes) (none_behind (byte == quote) (is_printable byte) (place_after front) parts.0)
+    ap (λ bad. bad_in quote (front ++ written) bad bytes) (none_after (byte == quote) (is_printable byte) (place_after front) parts.0)
     ∙ none_in quote (front ++ written) bytes parts.1
 
 -- once one is kept, it stays
-kept_behind : (b c : Bool) (at other : Mark) → cond b (Some at) (cond (true || c) (Some at) (Some other)) ≡ Some at
-kept_behind true c at other = refl
-kept_behind false c at other = refl
+kept_after : (b c : Bool) (at other : Mark) → cond b (Some at) (cond (true || c) (Some at) (Some other)) ≡ Some at
+kept_after true c at other = refl
+kept_after false c at other = refl
 
 kept_in : (quote : ℕ) (front bytes : List ℕ) (at : Mark) → bad_in quote front (Some at) bytes ≡ Some at
 kept_in quote front [] at = refl
 kept_in quote front (byte ∷ bytes) at =
     let written = as_written quote byte in
-    ap (λ bad. bad_in quote (front ++ written) bad bytes) (kept_behind (byte == quote) (is_printable byte) at (place_after front))
+    ap (λ bad. bad_in quote (front ++ written) bad bytes) (kept_after (byte == quote) (is_printable byte) at (place_after front))
     ∙ kept_in quote (front ++ written) bytes at
 
 -- the first one is kept with its place
-first_bad : (quote : ℕ) (front before : List ℕ) (byte : ℕ) (behind : List ℕ) → list_all is_printable before ≡ true → (byte == quote) ≡ false → is_printable byte ≡ false
-    → bad_in quote front None (before ++ byte ∷ behind) ≡ Some (place_after (front ++ doubled quote before))
-first_bad quote front [] byte behind all no_quote bad =
+first_bad : (quote : ℕ) (front before : List ℕ) (byte : ℕ) (beyond : List ℕ) → list_all is_printable before ≡ true → (byte == quote) ≡ false → is_printable byte ≡ false
+    → bad_in quote front None (before ++ byte ∷ beyond) ≡ Some (place_after (front ++ doubled quote before))
+first_bad quote front [] byte beyond all no_quote bad =
     let written = as_written quote byte in
-    let kept : bad_behind quote front None byte ≡ Some (place_after front) = third (byte == quote) (is_printable byte) None None (Some (place_after front)) no_quote bad in
-    ap (λ bad. bad_in quote (front ++ written) bad behind) kept
-    ∙ kept_in quote (front ++ written) behind (place_after front)
+    let kept : bad_after quote front None byte ≡ Some (place_after front) = third (byte == quote) (is_printable byte) None None (Some (place_after front)) no_quote bad in
+    ap (λ bad. bad_in quote (front ++ written) bad beyond) kept
+    ∙ kept_in quote (front ++ written) beyond (place_after front)
     ∙ ap (λ f. Some (place_after f)) (sym (append-nil front))
-first_bad quote front (other ∷ before) byte behind all no_quote bad =
+first_bad quote front (other ∷ before) byte beyond all no_quote bad =
     let parts = and_parts (is_printable other) (list_all is_printable before) all in
     let written = as_written quote other in
-    ap (λ bad. bad_in quote (front ++ written) bad (before ++ byte ∷ behind)) (none_behind (other == quote) (is_printable other) (place_after front) parts.0)
-    ∙ first_bad quote (front ++ written) before byte behind parts.1 no_quote bad
+    ap (λ bad. bad_in quote (front ++ written) bad (before ++ byte ∷ beyond)) (none_after (other == quote) (is_printable other) (place_after front) parts.0)
+    ∙ first_bad quote (front ++ written) before byte beyond parts.1 no_quote bad
     ∙ ap (λ f. Some (place_after f)) (append_assoc front written (doubled quote before))
 
 quote_begins : (front : List ℕ) (quote : ℕ) → is_quote quote ≡ true → opened (gap front) quote ≡ silent (begun (gap front) quote (pendings.Quoted quote))
@@ -144,7 +144,7 @@ quote_ends_no_line quote = at_quote (λ q. is_line_feed q ≡ false) quote refl 
 quote_is_printable : (quote : ℕ) → is_quote quote ≡ true → is_printable quote ≡ true
 quote_is_printable quote = at_quote (λ q. is_printable q ≡ true) quote refl refl
 
--- from the quote up to the end of a line's bytes behind it
+-- from the quote up to the end of a line's bytes after it
 run_from_quote : (quote : ℕ) (front bytes rest : List ℕ) → is_quote quote ≡ true → is_one_line bytes ≡ true
     → run (gap front) (quote ∷ (doubled quote bytes ++ rest))
     ≡ run (since (pendings.Quoted quote) (front ++ quote ∷ doubled quote bytes) front (bad_in quote (front ++ quote ∷ []) None bytes)) rest
@@ -184,15 +184,15 @@ not_the_quote : (quote byte : ℕ) → is_quote quote ≡ true → is_printable 
 not_the_quote quote byte quotes bad =
     false_from_ne_true (byte == quote) (λ e. both_ways (is_printable byte) bad (subst (λ b. is_printable b ≡ true) (sym (eqb-true byte quote e)) (quote_is_printable quote quotes)))
 
-pub run_bad_in_quotes : (quote : ℕ) (front before : List ℕ) (byte : ℕ) (behind rest : List ℕ) → IsFlaw (BadInQuotes quote before byte behind rest)
-    → run (gap front) (flawed (BadInQuotes quote before byte behind rest)) ≡ faulty bad_byte (place_after (front ++ quote ∷ doubled quote before))
-run_bad_in_quotes quote front before byte behind rest flaw =
-    let bytes = before ++ byte ∷ behind in
+pub run_bad_in_quotes : (quote : ℕ) (front before : List ℕ) (byte : ℕ) (beyond rest : List ℕ) → IsFlaw (BadInQuotes quote before byte beyond rest)
+    → run (gap front) (flawed (BadInQuotes quote before byte beyond rest)) ≡ faulty bad_byte (place_after (front ++ quote ∷ doubled quote before))
+run_bad_in_quotes quote front before byte beyond rest flaw =
+    let bytes = before ++ byte ∷ beyond in
     let inside = front ++ quote ∷ (doubled quote bytes ++ quote ∷ []) in
     let place = place_after ((front ++ quote ∷ []) ++ doubled quote before) in
-    run_to_quote quote front bytes rest flaw.0 (one_line_with before (byte ∷ behind) (one_line_printable before flaw.1) flaw.3)
+    run_to_quote quote front bytes rest flaw.0 (one_line_with before (byte ∷ beyond) (one_line_printable before flaw.1) flaw.3)
     ∙ ap (λ bad. run (since (pendings.Quote quote) inside front bad) rest)
-    (first_bad quote (front ++ quote ∷ []) before byte behind flaw.1 (not_the_quote quote byte flaw.0 flaw.2) flaw.2)
+    (first_bad quote (front ++ quote ∷ []) before byte beyond flaw.1 (not_the_quote quote byte flaw.0 flaw.2) flaw.2)
     ∙ run_ended (pendings.Quote quote) inside (length front) (place_after front) (Some place) rest flaw.4
     ∙ ap (λ f. faulty bad_byte (place_after f)) (append_assoc front (quote ∷ []) (doubled quote before))
 

@@ -36,7 +36,7 @@ no_sign byte e =
       sign = rw (comma.0, comma.1, open_bracket.1, close_bracket.1, open_paren.1, close_paren.1, star.1) refl;
     }
 
--- nothing begins with the byte, except that it may be a slash without a star behind it
+-- nothing begins with the byte, except that it may be a slash without a star after it
 record IsStray (byte : ℕ) (rest : List ℕ) : Type 0 where
   separator : is_separator byte ≡ false
   no_sign : NoSign byte
@@ -70,11 +70,11 @@ run_stray_at front byte rest stray true e =
 run_stray_at front byte rest stray false e =
     ap (follow rest) (stray_opened front byte rest stray ∙ ap (λ b. cond b (silent (begun (gap front) byte pendings.Slash)) (sign_taken (gap front) byte None)) e)
 
--- at a flaw its fault is seen, and nothing behind it
+-- at a flaw its fault is seen, and nothing after it
 pub run_flaw : (front : List ℕ) (flaw : Flaw) → IsFlaw flaw → run (gap front) (flawed flaw) ≡ faulty (fault_of flaw) (place_after (front ++ bytes_passed flaw))
 run_flaw front (StrayByte byte rest) is =
     run_stray_at front byte rest (stray_parts byte rest is) (byte == 47) refl ∙ ap (λ f. faulty bad_byte (place_after f)) (sym (append-nil front))
-run_flaw front (BadInQuotes quote before byte behind rest) is = run_bad_in_quotes quote front before byte behind rest is
+run_flaw front (BadInQuotes quote before byte beyond rest) is = run_bad_in_quotes quote front before byte beyond rest is
 run_flaw front (OpenQuotes quote bytes rest) is = run_open_quotes quote front bytes rest is ∙ ap (λ f. faulty _ (place_after f)) (sym (append-nil front))
 run_flaw front (OpenBlock bytes) is = run_open_block front bytes is ∙ ap (λ f. faulty _ (place_after f)) (sym (append-nil front))
 

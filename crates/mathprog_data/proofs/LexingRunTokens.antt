@@ -19,11 +19,11 @@ use Rattle.mathprog_data.specs.LexingRuns.{run, and_then}
 use Rattle.mathprog_data.proofs.LexingSteps.{since, gap, follow, at_passed, at_begun, run_ended, run_gap}
 use Rattle.mathprog_data.proofs.LexingRunGaps.{GoesOn, through}
 
--- a token of this kind that is spelled so behind these bytes
+-- a token of this kind that is spelled so after these bytes
 abbrev pub span : Kind → (front bytes : List ℕ) → Span
 span kind front bytes = record { kind = kind; from = length front; to = length (front ++ bytes); at = place_after front }
 
--- of these bytes the lexer sees this token, and goes on behind them
+-- of these bytes the lexer sees this token, and goes on after them
 abbrev pub SeesToken : Kind → (front bytes rest : List ℕ) → Type 0
 SeesToken kind front bytes rest = run (gap front) (bytes ++ rest) ≡ and_then (Token (span kind front bytes)) (run (gap (front ++ bytes)) rest)
 

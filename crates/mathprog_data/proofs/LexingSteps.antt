@@ -10,30 +10,30 @@ use Rattle.mathprog_data.specs.LexingBytes.{is_separator, is_symbol_byte, is_quo
 use Rattle.mathprog_data.specs.declared.lexeme.Sign.{Sign as TheSign}
 use Rattle.mathprog_data.specs.LexingMachine.{State, Step, continues, passed, begun, ended, settled, sign_of, sign_taken}
 use Rattle.mathprog_data.specs.LexingRuns.{Run, run, and_then}
-use Rattle.mathprog_data.proofs.LexingPlaces.{place_behind}
+use Rattle.mathprog_data.proofs.LexingPlaces.{place_after_byte}
 
--- the state behind these bytes, in which this is pending since a place
+-- the state after these bytes, in which this is pending since a place
 abbrev pub at : Pending → List ℕ → ℕ → Mark → Option Mark → State
 at pending front from start bad =
     record { pending = pending; place = length front; mark = place_after front; from = from; start = start; bad = bad }
 
--- the state behind these bytes, in which this is pending since it began behind those
+-- the state after these bytes, in which this is pending since it began after those
 abbrev pub since : Pending → List ℕ → List ℕ → Option Mark → State
 since pending front began bad = at pending front (length began) (place_after began) bad
 
--- the state behind these bytes, in which nothing is pending
+-- the state after these bytes, in which nothing is pending
 abbrev pub gap : List ℕ → State
 gap front = at pendings.Gap front 0 (record { line = 1; column = 1 }) None
 
 -- a byte taken is one more before the place
 pub at_passed : (pending next : Pending) (front : List ℕ) (byte from : ℕ) (start : Mark) (bad : Option Mark)
     → passed (at pending front from start bad) byte next ≡ at next (front ++ byte ∷ []) from start bad
-at_passed pending next front byte from start bad = simp (length-append, place_behind)
+at_passed pending next front byte from start bad = simp (length-append, place_after_byte)
 
 -- a byte that begins something is the first before whose place that begins
 pub at_begun : (pending next : Pending) (front : List ℕ) (byte from : ℕ) (start : Mark) (bad : Option Mark)
     → begun (at pending front from start bad) byte next ≡ since next (front ++ byte ∷ []) front None
-at_begun pending next front byte from start bad = simp (length-append, place_behind)
+at_begun pending next front byte from start bad = simp (length-append, place_after_byte)
 
 -- what isn't gone on with ends, and the rest goes on where nothing is pending
 pub run_settled : (s : State) (rest : List ℕ) → stops (continues s.pending) rest ≡ true → run s rest ≡ and_then (ended s s.pending) (run (settled s) rest)

@@ -9,7 +9,7 @@ use Rattle.mathprog_data.specs.LexingBytes.{is_symbol_byte}
 use Rattle.mathprog_data.specs.LexingMachine.{State, passed, symbols_passed, next_mark}
 use Rattle.mathprog_data.specs.LexingRuns.{run}
 use Rattle.mathprog_data.proofs.LexingByteLemmas.{symbol_is_no_line_feed}
-use Rattle.mathprog_data.proofs.LexingPlaces.{place_behind}
+use Rattle.mathprog_data.proofs.LexingPlaces.{place_after_byte}
 use Rattle.mathprog_data.proofs.LexingQuiet.{run_symbol}
 
 -- this column of the line
@@ -69,7 +69,7 @@ place_by true byte bytes front e later =
     ap (λ n. place_after (front ++ take n (byte ∷ bytes))) more
     ∙ ap place_after (sym (append_assoc front (byte ∷ []) (take (count bytes) bytes)))
     ∙ later (front ++ byte ∷ [])
-    ∙ ap (λ mark. further mark (count bytes)) (place_behind front byte)
+    ∙ ap (λ mark. further mark (count bytes)) (place_after_byte front byte)
     ∙ one_further (place_after front) byte (count bytes) (symbol_is_no_line_feed byte e)
 place_by false byte bytes front e later = ap place_after (append-nil front) ∙ no_further (place_after front)
 

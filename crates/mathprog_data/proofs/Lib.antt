@@ -26,6 +26,8 @@ pub mod LexingSymbols
 pub mod NamesGo
 pub mod NamesOnce
 pub mod NumberReadingLaws
+pub mod OptionalCommas
+mod ParamExamples
 pub mod ReadingLaws
 pub mod ReadingLemmas
 pub mod RoundedCounts
@@ -36,7 +38,6 @@ pub mod SectionsSound
 pub mod SectionsTaken
 pub mod ShortNumbers
 pub mod SliceLemmas
-mod StatementExamples
 pub mod StatementFaultLaws
 mod StatementLawsHold
 pub mod StatementsGo
@@ -46,6 +47,7 @@ pub mod SymbolLemmas
 pub mod Tables
 pub mod TablesSound
 pub mod TablesTaken
+mod TextExamples
 pub mod TokenListLaws
 pub mod TokenRunLemmas
 pub mod TokensSeen

@@ -20,9 +20,10 @@ use Rattle.mathprog_data.specs.Slices.{Slice, free_count, all_free, index_at}
 use Rattle.mathprog_data.specs.Statements.{Form, Listed, Tabbing, Begun, SetBegun, ParamBegun, TabbingBegun, Beginning, Default, Statement}
 use Rattle.mathprog_data.specs.Statements as trees
 use Rattle.mathprog_data.specs.Tables.{given, cell_index}
-use Rattle.mathprog_data.specs.Symbols.{Name, Number, IsSign, IsKeyword, IsSymbol, IsNumber, OptionalComma, none, one}
+use Rattle.mathprog_data.specs.Symbols.{Name, Number, IsSign, IsKeyword, IsSymbol, IsNumberToken}
+use Rattle.mathprog_data.proofs.OptionalCommas.{OptionalComma, none, one, comma_of}
 
--- the name behind the colon of tabbing data, in front of ws
+-- the name after the colon of tabbing data, in front of ws
 pub data TabbingName (ws : List Placed) (default : Option Number) : Begun → List Placed → Type 0 where
   tabbing_name_is : {u : Placed} {param : ℕ} → (name : Name) → IsSymbol u name → param_number name ≡ Some param → TabbingName ws default (TabbingBegun param default) (u ∷ ws)
 
@@ -32,7 +33,7 @@ pub data LeadingColon (ws : List Placed) (default : Option Number) (begun : Begu
 
 -- a number, and that
 pub data LeadingValue (ws : List Placed) (begun : Begun) : List Placed → Type 0 where
-  leading_value : {u : Placed} {us : List Placed} {v : Number} → IsNumber u v → LeadingColon ws (Some v) begun true us → LeadingValue ws begun (u ∷ us)
+  leading_value : {u : Placed} {us : List Placed} {v : Number} → IsNumberToken u v → LeadingColon ws (Some v) begun true us → LeadingValue ws begun (u ∷ us)
 
 -- what may follow so that `begun` begins in front of ws
 abbrev pub BeginsAt : List Placed → Begun → Open → List Placed → Type 0
@@ -50,7 +51,7 @@ begins-colon ws begun t ts is (tabbing_name_is name s numbered) =
 
 begins-default : (ws : List Placed) (begun : Begun) (t : Placed) (ts : List Placed) → IsKeyword (codes "default") t → LeadingValue ws begun ts → BeginsAt ws begun ParamRead (t ∷ ts)
 begins-default ws begun t ts is (leading_value v (leading_colon d colon (tabbing_name_is name s numbered))) =
-    λ word k. trees.Beginning.tabbing_begins name k (trees.Default.stated is v d) colon s numbered
+    λ word k. trees.Beginning.tabbing_begins name k (trees.Default.stated is v (comma_of d)) colon s numbered
 
 begins-comma : (ws : List Placed) (begun : Begun) (t : Placed) (ts : List Placed) (v : Option Number) → IsSign signs.Comma t → LeadingColon ws v begun false ts → LeadingColon ws v begun true (t ∷ ts)
 begins-comma ws begun t ts v is (leading_colon none colon name) = leading_colon (one is) colon name
@@ -216,8 +217,8 @@ named-at o t ws begun next e =
     let P : Turn → Type 0 = λ x. NamesAt o t ws x in
     subst P e (names-all o t ws (seen t) refl)
 
--- a statement begins, behind these whole statements
-pub record BeginsBehind (ts ws : List Placed) (begun : Begun) (events : List Event) : Type 0 where
+-- a statement begins, after these whole statements
+pub record BeginsAfter (ts ws : List Placed) (begun : Begun) (events : List Event) : Type 0 where
   pub us : List Placed
   pub vs : List Placed
   pub statements : List Statement
@@ -226,8 +227,8 @@ pub record BeginsBehind (ts ws : List Placed) (begun : Begun) (events : List Eve
   pub begins : Beginning vs ws begun
   pub events_are : events ≡ statements_events statements []
 
-begins_behind : {ts ws : List Placed} {begun : Begun} {events : List Event} → Goes (BeginsAt ws begun) Fresh ts events → BeginsBehind ts ws begun events
-begins_behind (fresh {us = us} opening (after {us = vs} {ss = ss} statements begins)) = record { us = us; vs = vs; statements = ss; opening = opening; whole = statements; begins = begins; events_are = refl }
+begins_after : {ts ws : List Placed} {begun : Begun} {events : List Event} → Goes (BeginsAt ws begun) Fresh ts events → BeginsAfter ts ws begun events
+begins_after (fresh {us = us} opening (after {us = vs} {ss = ss} statements begins)) = record { us = us; vs = vs; statements = ss; opening = opening; whole = statements; begins = begins; events_are = refl }
 
 last-name : (o : Open) (t : Placed) (ws : List Placed) (begun : Begun) (next : Open) → turn o (seen t) t.at ≡ Emit (Begins begun) next → (p : Open) (us : List Placed) → AtName o (t ∷ ws) p us → Goes (BeginsAt ws begun) p us []
 last-name o t ws begun next e p us at_name = named-at o t ws begun next e
@@ -237,7 +238,7 @@ reaches-name o ws (done reached) = done at_name
 reaches-name o ws (go e w) = go e (reaches-name o ws w)
 reaches-name o ws (emit e w) = emit e (reaches-name o ws w)
 
--- where the machine takes a token as the name that begins a statement, it is that, behind whole statements
-pub name-begins : {front : List Placed} {o next : Open} {events : List Event} (t : Placed) (ws : List Placed) (begun : Begun) → Walks Fresh front o events → turn o (seen t) t.at ≡ Emit (Begins begun) next → BeginsBehind (front ++ t ∷ ws) ws begun events
+-- where the machine takes a token as the name that begins a statement, it is that, after whole statements
+pub name-begins : {front : List Placed} {o next : Open} {events : List Event} (t : Placed) (ws : List Placed) (begun : Begun) → Walks Fresh front o events → turn o (seen t) t.at ≡ Emit (Begins begun) next → BeginsAfter (front ++ t ∷ ws) ws begun events
 name-begins {o = o} {next = next} t ws begun w e =
-    begins_behind (sound (AtName o (t ∷ ws)) (BeginsAt ws begun) (BeginsAt-StepsBack ws begun) (last-name o t ws begun next e) (reaches-name o (t ∷ ws) w))
+    begins_after (sound (AtName o (t ∷ ws)) (BeginsAt ws begun) (BeginsAt-StepsBack ws begun) (last-name o t ws begun next e) (reaches-name o (t ∷ ws) w))

@@ -1,7 +1,7 @@
 -- No name begins a second statement in a list, exactly where none of the machine's events does.
 use Rattle.std.proofs.Common.{◌≡◌, ℕ, Bool, true, false, not, ◌&&◌, List, [], ◌∷◌, ◌++◌, Option, Some, None, sym, refl, ap, ap₂, ◌∙◌, subst}
 use Rattle.mathprog_data.proofs.Drafts.{second-named}
-use Rattle.mathprog_data.proofs.NamesGo.{BeginsBehind, name-begins}
+use Rattle.mathprog_data.proofs.NamesGo.{BeginsAfter, name-begins}
 use Rattle.mathprog_data.proofs.RunLaws.{noted_all, are_new, are_new-append, first_true, second_true}
 use Rattle.mathprog_data.proofs.SectionsTaken.{begun_open, take_beginning, take_statements, take_opening, FreshToo}
 use Rattle.mathprog_data.proofs.WalkLaws.{Reached, Walks, Picked, picked, longer}
@@ -17,16 +17,16 @@ use Rattle.mathprog_data.specs.Tables.{Given}
 -- ---- no name twice: no second event
 -- wherever an event is picked, it isn't that of a second statement
 abbrev NoSecond : Draft → List Event → Type 0
-NoSecond d events = (before : List Event) (event : Event) (behind : List Event) → events ≡ before ++ event ∷ behind → is_second (noted_all d before) event ≡ false
+NoSecond d events = (before : List Event) (event : Event) (beyond : List Event) → events ≡ before ++ event ∷ beyond → is_second (noted_all d before) event ≡ false
 
 all-new : (d : Draft) (events : List Event) → NoSecond d events → are_new d events ≡ true
 all-new d [] none = refl
-all-new d (e ∷ es) none = ap₂ (λ x y. not x && y) (none [] e es refl) (all-new (noted d e) es (λ before event behind h. none (e ∷ before) event behind (ap (λ z. e ∷ z) h)))
+all-new d (e ∷ es) none = ap₂ (λ x y. not x && y) (none [] e es refl) (all-new (noted d e) es (λ before event beyond h. none (e ∷ before) event beyond (ap (λ z. e ∷ z) h)))
 
-picked-new : (ts : List Placed) {o : Open} {before behind : List Event} (event : Event) → NoNameTwice ts → Picked (Reached o) Fresh ts before event behind → is_second (noted_all empty_draft before) event ≡ false
+picked-new : (ts : List Placed) {o : Open} {before beyond : List Event} (event : Event) → NoNameTwice ts → Picked (Reached o) Fresh ts before event beyond → is_second (noted_all empty_draft before) event ≡ false
 picked-new ts {before = before} (Begins begun) once p =
-    let P : List Placed → Type 0 = λ xs. BeginsBehind xs p.more begun before in
-    let b : BeginsBehind ts p.more begun before = subst P (sym p.parts) (name-begins p.token p.more begun p.walk p.turned) in
+    let P : List Placed → Type 0 = λ xs. BeginsAfter xs p.more begun before in
+    let b : BeginsAfter ts p.more begun before = subst P (sym p.parts) (name-begins p.token p.more begun p.walk p.turned) in
     ap (λ es. is_second (noted_all empty_draft es) (Begins begun)) b.events_are
     ∙ second-named b.statements begun
     ∙ once b.us b.vs p.more b.statements begun b.opening b.whole b.begins
@@ -38,7 +38,7 @@ picked-new ts (ParamClosed param) once p = refl
 
 pub names-new : {ts : List Placed} {o : Open} {events : List Event} → NoNameTwice ts → Walks Fresh ts o events → are_new empty_draft events ≡ true
 names-new {ts = ts} {o = o} {events = events} once w =
-    all-new empty_draft events (λ before event behind h. picked-new ts event once (picked (Reached o) before w h))
+    all-new empty_draft events (λ before event beyond h. picked-new ts event once (picked (Reached o) before w h))
 
 -- ---- no second event: no name twice
 member_events-append : (names : List Name) (es fs : List Event) → member_events names (es ++ fs) ≡ member_events names es ++ fs
@@ -67,9 +67,9 @@ statements-append : (ss : List Statement) (es fs : List Event) → statements_ev
 statements-append [] es fs = refl
 statements-append (s ∷ ss) es fs = ap (statement_events s) (statements-append ss es fs) ∙ statement-append s (statements_events ss es) fs
 
--- behind the beginning of a statement, in front of these tokens
-abbrev BehindName : Begun → List Placed → Open → List Placed → Type 0
-BehindName begun ws o ts = (o ≡ begun_open begun) × (ts ≡ ws)
+-- after the beginning of a statement, in front of these tokens
+abbrev AfterName : Begun → List Placed → Open → List Placed → Type 0
+AfterName begun ws o ts = (o ≡ begun_open begun) × (ts ≡ ws)
 
 begun-rests : (begun : Begun) → rests (begun_open begun) ≡ true
 begun-rests (SetBegun n) = refl
@@ -81,11 +81,11 @@ not-between (SetBegun n) e = cc
 not-between (ParamBegun param) e = cc
 not-between (TabbingBegun param default) e = cc
 
-BehindName-Rests : (begun : Begun) (ws : List Placed) → Rests (BehindName begun ws)
-BehindName-Rests begun ws o ts f = ap rests f.0 ∙ begun-rests begun
+AfterName-Rests : (begun : Begun) (ws : List Placed) → Rests (AfterName begun ws)
+AfterName-Rests begun ws o ts f = ap rests f.0 ∙ begun-rests begun
 
-BehindName-fresh : (begun : Begun) (ws : List Placed) → FreshToo (BehindName begun ws)
-BehindName-fresh begun ws ts f = absurd (not-between begun f.0)
+AfterName-fresh : (begun : Begun) (ws : List Placed) → FreshToo (AfterName begun ws)
+AfterName-fresh begun ws ts f = absurd (not-between begun f.0)
 
 not-false : (b : Bool) → not b ≡ true → b ≡ false
 not-false true e = cc
@@ -101,8 +101,8 @@ one-new d events more begun new =
 
 pub new-names : {ts : List Placed} {o : Open} {events : List Event} → Walks Fresh ts o events → are_new empty_draft events ≡ true → NoNameTwice ts
 new-names {events = events} w new us vs ws ss begun opening whole begins =
-    let F = BehindName begun ws in
-    let taken = take_opening F (BehindName-fresh begun ws) opening (take_statements F (BehindName-Rests begun ws) whole (take_beginning F (BehindName-Rests begun ws) begins (done (refl, refl)))) in
+    let F = AfterName begun ws in
+    let taken = take_opening F (AfterName-fresh begun ws) opening (take_statements F (AfterName-Rests begun ws) whole (take_beginning F (AfterName-Rests begun ws) begins (done (refl, refl)))) in
     let l = longer F taken w in
     let all : events ≡ (statements_events ss [] ++ Begins begun ∷ []) ++ l.more = l.parts ∙ ap (λ z. z ++ l.more) (statements-append ss [] (Begins begun ∷ [])) in
     sym (second-named ss begun) ∙ one-new empty_draft (statements_events ss []) l.more begun (ap (are_new empty_draft) (sym all) ∙ new)

@@ -19,7 +19,7 @@ use Rattle.mathprog_data.proofs.WellFormedLaws.{Means-well_formed}
 abbrev Answer : Type 0
 Answer = Result KeptBlocks ReadFail
 
--- the answer is what is made of the text, unless memory is wanting
+-- the answer is what is made of the text, unless it is out of memory
 abbrev ReadsExactly : List ℕ → Answer → Type 0
 ReadsExactly text r = IfOk r (λ blocks. outcome_of text ≡ Reads (blocks_told blocks))
 

@@ -87,7 +87,7 @@ pub data Halts (o : Open) (d : Draft) (t : Placed) : ℕ → Type 0 where
   stops : {k : ℕ} → turn o (seen t) t.at ≡ Stop k → Halts o d t k
   twice : {event : Event} {next : Open} → turn o (seen t) t.at ≡ Emit event next → is_second d event ≡ true → Halts o d t given_twice
 
--- the machine has stopped behind this way
+-- the machine has stopped after this way
 pub record Halted (o : Open) (d : Draft) (ts : List Placed) (s : Stopped) : Type 0 where
   pub front : List Placed
   pub token : Placed

@@ -17,7 +17,8 @@ use Rattle.mathprog_data.specs.Params.{subscript_count, set_number, param_number
 use Rattle.mathprog_data.specs.Slices.{all_free}
 use Rattle.mathprog_data.specs.Statements.{Listed, Tabbing, Default, NoDefault, SetBegun, ParamBegun, TabbingBegun}
 use Rattle.mathprog_data.specs.Statements as trees
-use Rattle.mathprog_data.specs.Symbols.{Name, Number, IsSign, IsKeyword, IsSymbol, IsNumber, none, one}
+use Rattle.mathprog_data.specs.Symbols.{Name, Number, IsSign, IsKeyword, IsSymbol, IsNumberToken}
+use Rattle.mathprog_data.proofs.OptionalCommas.{none, one, comma_of}
 
 -- a sign or another word is not the keyword `default`
 pub not_default : (t : Placed) (x : Seen) → seen t ≡ x → ((name : Name) (n : Option Number) → x ≡ SymbolSeen words.Default name n → ⊥) → IsKeyword (codes "default") t → ⊥
@@ -87,8 +88,8 @@ back_param_named param c t ts (SignSeen signs.Comma) e = back_named_comma c (see
 back_param_named param c t ts (SymbolSeen words.Default name n) e = back (stated_step (seen-keyword t words.Default name n (λ h. cc) e))
 back_param_named param c t ts x e = named_other param c t ts _ e (λ name n h. cc)
 
-records_first : {K : Open → List Placed → Type 0} {param : ℕ} {v : Number} {t : Placed} {ts : List Placed} → IsNumber t v → (events : List Event) → Goes K (records Listed param true) ts events → Goes K (DefaultRead param) (t ∷ ts) (DefaultGiven v ∷ events)
-records_first is events (in_records d r) = default_read is d r
+records_first : {K : Open → List Placed → Type 0} {param : ℕ} {v : Number} {t : Placed} {ts : List Placed} → IsNumberToken t v → (events : List Event) → Goes K (records Listed param true) ts events → Goes K (DefaultRead param) (t ∷ ts) (DefaultGiven v ∷ events)
+records_first is events (in_records d r) = default_read is (comma_of d) r
 
 default_number : {K : Open → List Placed → Type 0} {param : ℕ} (t : Placed) {ts : List Placed} (w : Word) (name : Name) (n : Option Number) → seen t ≡ SymbolSeen w name n → Back K (DefaultRead param) (t ∷ ts) ts (number n (λ v. Emit (DefaultGiven v) (records Listed param true)))
 default_number t w name None e = back tt
@@ -99,8 +100,8 @@ back_default_read param t ts (SymbolSeen w name n) e = default_number t w name n
 back_default_read param t ts x e = back tt
 
 -- ---- tabbing data
-leading_step : {K : Open → List Placed → Type 0} → StepsBack K → (t : Placed) (ts : List Placed) (v : Number) → IsNumber t v → (events : List Event) → Goes K (LeadingNumber (Some v) true) ts events → Goes K LeadingDefault (t ∷ ts) events
-leading_step k t ts v is events (leading_number d colon r) = leading_default is d colon r
+leading_step : {K : Open → List Placed → Type 0} → StepsBack K → (t : Placed) (ts : List Placed) (v : Number) → IsNumberToken t v → (events : List Event) → Goes K (LeadingNumber (Some v) true) ts events → Goes K LeadingDefault (t ∷ ts) events
+leading_step k t ts v is events (leading_number d colon r) = leading_default is (comma_of d) colon r
 leading_step k t ts v is events (cut_number c) = cut_default (k.reads t ts v is c)
 
 leading_value : {K : Open → List Placed → Type 0} → StepsBack K → (t : Placed) (ts : List Placed) (w : Word) (name : Name) (n : Option Number) → seen t ≡ SymbolSeen w name n → Back K LeadingDefault (t ∷ ts) ts (number n (λ v. Go (LeadingNumber (Some v) true)))
@@ -161,14 +162,14 @@ back_tabbing_named param c t ts x e = back tt
 set_after : {K : Open → List Placed → Type 0} → StepsBack K → (t : Placed) (ts : List Placed) → IsKeyword (codes "set") t → (events : List Event) → Goes K SetRead ts events → After K (t ∷ ts) events
 set_after k t ts is events (cut_set c) = after sections.Statements.none (k.sets t ts is c)
 set_after k t ts is events (set_read name s numbered (set_rest d members (after ss rest))) =
-    after (sections.Statements.more (trees.IsStatement.set_is (trees.Beginning.set_begins name is s numbered) d members) ss) rest
+    after (sections.Statements.more (trees.IsStatement.set_is (trees.Beginning.set_begins name is s numbered) (comma_of d) members) ss) rest
 
 param_after : {K : Open → List Placed → Type 0} → StepsBack K → (t : Placed) (ts : List Placed) → IsKeyword (codes "param") t → (events : List Event) → Goes K ParamRead ts events → After K (t ∷ ts) events
 param_after k t ts is events (cut_param c) = after sections.Statements.none (k.params t ts is c)
 param_after k t ts is events (tabbing_read leads colon (colon_rest name s numbered (tabbed_rest d gives (records_rest r (after ss rest))))) =
-    after (sections.Statements.more (trees.IsStatement.tabbing_is (trees.Beginning.tabbing_begins name is leads colon s numbered) d gives r) ss) rest
+    after (sections.Statements.more (trees.IsStatement.tabbing_is (trees.Beginning.tabbing_begins name is leads colon s numbered) (comma_of d) gives r) ss) rest
 param_after k t ts is events (param_read name s numbered (named_rest d default (records_rest r (after ss rest)))) =
-    after (sections.Statements.more (trees.IsStatement.param_is (trees.Beginning.param_begins name is s numbered) d default r) ss) rest
+    after (sections.Statements.more (trees.IsStatement.param_is (trees.Beginning.param_begins name is s numbered) (comma_of d) default r) ss) rest
 
 end_after : {K : Open → List Placed → Type 0} → StepsBack K → (o : Open) (t : Placed) (ts : List Placed) → ((events : List Event) → After K (t ∷ ts) events → Goes K o (t ∷ ts) events) → IsKeyword (codes "end") t → (events : List Event) → Goes K EndRead ts events → Goes K o (t ∷ ts) events
 end_after k o t ts whole is events (cut_end c) = whole events (after sections.Statements.none (k.ends t ts is c))

@@ -51,7 +51,7 @@ take_default F resting param (trees.Default.stated {u = u} {number = v} is numbe
     (emit (ap (λ x. turn (DefaultRead param) x u.at) s.2) (take_comma F resting listed c w))
 
 -- ---- beginnings
--- the state behind the beginning of a statement
+-- the state after the beginning of a statement
 abbrev pub begun_open : Begun → Open
 begun_open (SetBegun n) = InSet n true
 begun_open (ParamBegun param) = ParamNamed param true

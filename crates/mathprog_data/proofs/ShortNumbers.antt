@@ -16,19 +16,19 @@ use Rattle.mathprog_data.proofs.TokenRunLemmas.{rest_of}
 abbrev short : List ℕ → Option (List ℕ) → NumberText
 short whole fraction = record { sign = Bare; whole = whole; fraction = fraction; exponent = None }
 
--- digits, and perhaps a point with digits behind it, are the number of all digits, of which the last counts `factor` billionths
+-- digits, and perhaps a point with digits after it, are the number of all digits, of which the last counts `factor` billionths
 pub short_reading : (text whole : List ℕ) (fraction : Option (List ℕ)) (number factor : ℕ)
     → text ≡ whole ++ fraction_bytes fraction → AreDigits whole → AreDigits (fraction_digits fraction) → 0 < length whole
     → number ≡ continued (continued 0 whole) (fraction_digits fraction) → number ≤ 1000000255
     → factor * 10 ^ length (fraction_digits fraction) ≡ 10 ^ 9
     → reading text ≡ Some (pos (number * factor), false)
 unfolding number_of
-short_reading text whole fraction number factor bytes before behind some is few counts =
+short_reading text whole fraction number factor bytes before beyond some is few counts =
     let p = short whole fraction in
     let places = fraction_digits fraction in
     let d = 10 ^ length places in
     let spells : Spells p text = record {
-      formed = record { before = before; behind = behind; nonempty = omega (arith, some); power = tt };
+      formed = record { before = before; behind = beyond; nonempty = omega (arith, some); power = tt };
       bytes = bytes ∙ ap (λ x. whole ++ x) (sym (append-nil (fraction_bytes fraction)));
     } in
     let all : mantissa p ≡ number = sym (continued-zero (whole ++ places)) ∙ continued-append 0 whole places ∙ sym is in

@@ -1,8 +1,8 @@
--- The kinds of faults of a token, by the tests of the state behind the tokens before it.
+-- The kinds of faults of a token, by the tests of the state after the tokens before it.
 use Rattle.std.proofs.Common.{◌≡◌, ℕ, ◌⊎◌, inl, inr, Bool, true, false, not, ◌&&◌, ◌||◌, List, [], ◌∷◌, ◌++◌, codes, Option, Some, None, sym, refl, ap, ap₂, ◌∙◌}
 use Rattle.std.specs.Option.{is_none}
 use Rattle.mathprog_data.proofs.CouldStand.{zero-seen, x-seen, point-seen, set-seen, param-seen, GoesOn, by_go, by_emit, could-on, on-could, two-on, on-two}
-use Rattle.mathprog_data.proofs.FaultTests.{on, star_behind, zero_seen, x_seen, point_seen, set_seen, param_seen, lacks, unknown_test, bare_record, wrong_test, cell_due, short_test, bad_test, gives_due, tabbing_test}
+use Rattle.mathprog_data.proofs.FaultTests.{on, star_after, zero_seen, x_seen, point_seen, set_seen, param_seen, lacks, unknown_test, bare_record, wrong_test, cell_due, short_test, bad_test, gives_due, tabbing_test}
 use Rattle.mathprog_data.proofs.TokensSeen.{seen, sign-seen, seen-sign, symbol-seen, seen-symbol}
 use Rattle.mathprog_data.proofs.WalkLaws.{Walks}
 use Rattle.mathprog_data.specs.declared.blocks.Mark.{Mark}
@@ -50,18 +50,18 @@ none-is (Some n) e = cc
 abbrev pub swapped : Placed → Lexeme → Placed
 swapped t lexeme = record t { lexeme = lexeme }
 
--- the machine behind the tokens
-pub record Behind (front : List Placed) (o : Open) : Type 0 where
+-- the machine after the tokens
+pub record Beyond (front : List Placed) (o : Open) : Type 0 where
   pub events : List Event
   pub walk : Walks Fresh front o events
 
-test-could : {front : List Placed} {o : Open} → Behind front o → (t : Placed) (lexeme : Lexeme) (x : Seen) → seen_of lexeme ≡ x → on o x t.at ≡ true → CouldStand front t lexeme
+test-could : {front : List Placed} {o : Open} → Beyond front o → (t : Placed) (lexeme : Lexeme) (x : Seen) → seen_of lexeme ≡ x → on o x t.at ≡ true → CouldStand front t lexeme
 test-could {o = o} b t lexeme x e h = on-could (swapped t lexeme) b.walk (ap (λ y. on o y t.at) e ∙ h)
 
-could-test : {front : List Placed} {o : Open} → Behind front o → (t : Placed) (lexeme : Lexeme) (x : Seen) → seen_of lexeme ≡ x → CouldStand front t lexeme → on o x t.at ≡ true
+could-test : {front : List Placed} {o : Open} → Beyond front o → (t : Placed) (lexeme : Lexeme) (x : Seen) → seen_of lexeme ≡ x → CouldStand front t lexeme → on o x t.at ≡ true
 could-test {o = o} b t lexeme x e c = ap (λ y. on o y t.at) (sym e) ∙ could-on (swapped t lexeme) b.walk c
 
-star-goes : (o : Open) (at : Mark) (turned : Turn) → star_behind turned at ≡ true → (next : Open) × ((turned ≡ Go next) ⊎ ((event : Event) × (turned ≡ Emit event next))) × (on next (SignSeen signs.Star) at ≡ true)
+star-goes : (o : Open) (at : Mark) (turned : Turn) → star_after turned at ≡ true → (next : Open) × ((turned ≡ Go next) ⊎ ((event : Event) × (turned ≡ Emit event next))) × (on next (SignSeen signs.Star) at ≡ true)
 star-goes o at (Stop k) h = cc
 star-goes o at (Go next) h = (next, inl refl, h)
 star-goes o at (Emit event next) h = (next, inr (event, refl), h)
@@ -70,22 +70,22 @@ goes_by : (o next : Open) (t : Placed) → (turn o (seen t) t.at ≡ Go next) �
 goes_by o next t (inl e) = by_go e
 goes_by o next t (inr e) = by_emit e.1
 
-star-could : {front : List Placed} {o : Open} → Behind front o → (t : Placed) → star_behind (turn o (SignSeen signs.Comma) t.at) t.at ≡ true → BeginsLoose (front ++ swapped t (Sign signs.Comma) ∷ swapped t (Sign signs.Star) ∷ [])
+star-could : {front : List Placed} {o : Open} → Beyond front o → (t : Placed) → star_after (turn o (SignSeen signs.Comma) t.at) t.at ≡ true → BeginsLoose (front ++ swapped t (Sign signs.Comma) ∷ swapped t (Sign signs.Star) ∷ [])
 star-could {o = o} b t h =
     let s = star-goes o t.at (turn o (SignSeen signs.Comma) t.at) h in
     on-two (swapped t (Sign signs.Comma)) (swapped t (Sign signs.Star)) b.walk (goes_by o s.0 (swapped t (Sign signs.Comma)) s.1) s.2
 
-star-by : {o next : Open} (t : Placed) → GoesOn o t next → on next (SignSeen signs.Star) t.at ≡ true → star_behind (turn o (seen t) t.at) t.at ≡ true
-star-by t (by_go e) h = ap (λ x. star_behind x t.at) e ∙ h
-star-by t (by_emit e) h = ap (λ x. star_behind x t.at) e ∙ h
+star-by : {o next : Open} (t : Placed) → GoesOn o t next → on next (SignSeen signs.Star) t.at ≡ true → star_after (turn o (seen t) t.at) t.at ≡ true
+star-by t (by_go e) h = ap (λ x. star_after x t.at) e ∙ h
+star-by t (by_emit e) h = ap (λ x. star_after x t.at) e ∙ h
 
-could-star : {front : List Placed} {o : Open} → Behind front o → (t : Placed) → BeginsLoose (front ++ swapped t (Sign signs.Comma) ∷ swapped t (Sign signs.Star) ∷ []) → star_behind (turn o (SignSeen signs.Comma) t.at) t.at ≡ true
+could-star : {front : List Placed} {o : Open} → Beyond front o → (t : Placed) → BeginsLoose (front ++ swapped t (Sign signs.Comma) ∷ swapped t (Sign signs.Star) ∷ []) → star_after (turn o (SignSeen signs.Comma) t.at) t.at ≡ true
 could-star b t c =
     let s = two-on (swapped t (Sign signs.Comma)) (swapped t (Sign signs.Star)) b.walk c in
     star-by (swapped t (Sign signs.Comma)) s.1 s.2
 
 -- ---- unknown names
-pub test-unknown : {front : List Placed} {o : Open} → Behind front o → (t : Placed) (x : Seen) → seen t ≡ x → unknown_test o x t.at ≡ true → IsUnknownName front t
+pub test-unknown : {front : List Placed} {o : Open} → Beyond front o → (t : Placed) (x : Seen) → seen t ≡ x → unknown_test o x t.at ≡ true → IsUnknownName front t
 test-unknown b t (SignSeen s) e h = cc
 test-unknown b t EmptySeen e h = cc
 test-unknown {front = front} {o = o} b t (SymbolSeen w name n) e h =
@@ -97,11 +97,11 @@ test-unknown {front = front} {o = o} b t (SymbolSeen w name n) e h =
     either (inl s) = inl (test-could b t (Bare (codes "REGION")) set_seen set-seen s)
     either (inr p) = inr (test-could b t (Bare (codes "YearSplit")) param_seen param-seen p)
 
-unknown-by : {front : List Placed} {o : Open} → Behind front o → (t : Placed) → CouldStand front t (Bare (codes "REGION")) ⊎ CouldStand front t (Bare (codes "YearSplit")) → (on o set_seen t.at || on o param_seen t.at) ≡ true
+unknown-by : {front : List Placed} {o : Open} → Beyond front o → (t : Placed) → CouldStand front t (Bare (codes "REGION")) ⊎ CouldStand front t (Bare (codes "YearSplit")) → (on o set_seen t.at || on o param_seen t.at) ≡ true
 unknown-by {o = o} b t (inl c) = or-left (on o set_seen t.at) (on o param_seen t.at) (could-test b t (Bare (codes "REGION")) set_seen set-seen c)
 unknown-by {o = o} b t (inr c) = or-right (on o set_seen t.at) (on o param_seen t.at) (could-test b t (Bare (codes "YearSplit")) param_seen param-seen c)
 
-pub unknown-test : {front : List Placed} {o : Open} → Behind front o → (t : Placed) → IsUnknownName front t → unknown_test o (seen t) t.at ≡ true
+pub unknown-test : {front : List Placed} {o : Open} → Beyond front o → (t : Placed) → IsUnknownName front t → unknown_test o (seen t) t.at ≡ true
 unknown-test {o = o} b t (faults.IsUnknownName.unknown name is s p c) =
     let q = symbol-seen t name is in
     ap (λ x. unknown_test o x t.at) q.2
@@ -113,7 +113,7 @@ pub record Lacking (front : List Placed) (o : Open) (at : Mark) : Type 0 where
   pub known : LacksSubscripts front → lacks o ≡ true
   pub shown : on o (SignSeen signs.Gives) at ≡ true → lacks o ≡ true → LacksSubscripts front
 
-test-begins : {front : List Placed} {o : Open} → Behind front o → (t : Placed) → Lacking front o t.at → IsSign signs.Colon t ⊎ IsSign signs.OpenParen t → (on o (SignSeen signs.OpenBracket) t.at || bare_record o t.at) ≡ true → IsWrongSlice front t
+test-begins : {front : List Placed} {o : Open} → Beyond front o → (t : Placed) → Lacking front o t.at → IsSign signs.Colon t ⊎ IsSign signs.OpenParen t → (on o (SignSeen signs.OpenBracket) t.at || bare_record o t.at) ≡ true → IsWrongSlice front t
 test-begins {front = front} {o = o} b t lacking is h = by (or-either (on o (SignSeen signs.OpenBracket) t.at) (bare_record o t.at) h)
   where
     by : (on o (SignSeen signs.OpenBracket) t.at ≡ true) ⊎ (bare_record o t.at ≡ true) → IsWrongSlice front t
@@ -122,11 +122,11 @@ test-begins {front = front} {o = o} b t lacking is h = by (or-either (on o (Sign
         let both = and-both (on o (SignSeen signs.Gives) t.at) (lacks o) r in
         faults.IsWrongSlice.no_free_places is (lacking.shown both.0 both.1) (test-could b t (Sign signs.Gives) (SignSeen signs.Gives) refl both.0)
 
-pub test-wrong : {front : List Placed} {o : Open} → Behind front o → (t : Placed) → Lacking front o t.at → (x : Seen) → seen t ≡ x → wrong_test o x t.at ≡ true → IsWrongSlice front t
+pub test-wrong : {front : List Placed} {o : Open} → Beyond front o → (t : Placed) → Lacking front o t.at → (x : Seen) → seen t ≡ x → wrong_test o x t.at ≡ true → IsWrongSlice front t
 test-wrong b t lacking (SignSeen signs.Comma) e h = faults.IsWrongSlice.place_too_many (seen-sign signs.Comma t e) (test-could b t (Sign signs.CloseBracket) (SignSeen signs.CloseBracket) refl h)
-test-wrong {front = front} {o = o} b t lacking (SignSeen signs.CloseBracket) e h = by (or-either (on o (SignSeen signs.Star) t.at) (star_behind (turn o (SignSeen signs.Comma) t.at) t.at) h)
+test-wrong {front = front} {o = o} b t lacking (SignSeen signs.CloseBracket) e h = by (or-either (on o (SignSeen signs.Star) t.at) (star_after (turn o (SignSeen signs.Comma) t.at) t.at) h)
   where
-    by : (on o (SignSeen signs.Star) t.at ≡ true) ⊎ (star_behind (turn o (SignSeen signs.Comma) t.at) t.at ≡ true) → IsWrongSlice front t
+    by : (on o (SignSeen signs.Star) t.at ≡ true) ⊎ (star_after (turn o (SignSeen signs.Comma) t.at) t.at ≡ true) → IsWrongSlice front t
     by (inl c) = faults.IsWrongSlice.place_due (seen-sign signs.CloseBracket t e) (test-could b t (Sign signs.Star) (SignSeen signs.Star) refl c)
     by (inr c) = faults.IsWrongSlice.more_places_due (seen-sign signs.CloseBracket t e) (star-could b t c)
 test-wrong {o = o} b t lacking (SignSeen signs.OpenBracket) e h =
@@ -140,15 +140,15 @@ begins-test : (o : Open) (t : Placed) → IsSign signs.Colon t ⊎ IsSign signs.
 begins-test o t (inl is) h = ap (λ x. wrong_test o x t.at) (sign-seen signs.Colon t is) ∙ h
 begins-test o t (inr is) h = ap (λ x. wrong_test o x t.at) (sign-seen signs.OpenParen t is) ∙ h
 
-pub wrong-test : {front : List Placed} {o : Open} → Behind front o → (t : Placed) → Lacking front o t.at → IsWrongSlice front t → wrong_test o (seen t) t.at ≡ true
+pub wrong-test : {front : List Placed} {o : Open} → Beyond front o → (t : Placed) → Lacking front o t.at → IsWrongSlice front t → wrong_test o (seen t) t.at ≡ true
 wrong-test {o = o} b t lacking (faults.IsWrongSlice.place_too_many is c) =
     ap (λ x. wrong_test o x t.at) (sign-seen signs.Comma t is) ∙ could-test b t (Sign signs.CloseBracket) (SignSeen signs.CloseBracket) refl c
 wrong-test {o = o} b t lacking (faults.IsWrongSlice.place_due is c) =
     ap (λ x. wrong_test o x t.at) (sign-seen signs.CloseBracket t is)
-    ∙ or-left (on o (SignSeen signs.Star) t.at) (star_behind (turn o (SignSeen signs.Comma) t.at) t.at) (could-test b t (Sign signs.Star) (SignSeen signs.Star) refl c)
+    ∙ or-left (on o (SignSeen signs.Star) t.at) (star_after (turn o (SignSeen signs.Comma) t.at) t.at) (could-test b t (Sign signs.Star) (SignSeen signs.Star) refl c)
 wrong-test {o = o} b t lacking (faults.IsWrongSlice.more_places_due is c) =
     ap (λ x. wrong_test o x t.at) (sign-seen signs.CloseBracket t is)
-    ∙ or-right (on o (SignSeen signs.Star) t.at) (star_behind (turn o (SignSeen signs.Comma) t.at) t.at) (could-star b t c)
+    ∙ or-right (on o (SignSeen signs.Star) t.at) (star_after (turn o (SignSeen signs.Comma) t.at) t.at) (could-star b t c)
 wrong-test {o = o} b t lacking (faults.IsWrongSlice.no_places is l c) =
     ap (λ x. wrong_test o x t.at) (sign-seen signs.OpenBracket t is)
     ∙ ap₂ (λ x y. x && y) (could-test b t (Sign signs.Gives) (SignSeen signs.Gives) refl c) (lacking.known l)
@@ -158,12 +158,12 @@ wrong-test {o = o} b t lacking (faults.IsWrongSlice.no_free_places is l c) =
     begins-test o t is (or-right (on o (SignSeen signs.OpenBracket) t.at) (bare_record o t.at) (ap₂ (λ x y. x && y) (could-test b t (Sign signs.Gives) (SignSeen signs.Gives) refl c) (lacking.known l)))
 
 -- ---- rows that are too short
-test-due : {front : List Placed} {o : Open} → Behind front o → (t : Placed) → EndsTable (t ∷ []) → cell_due o t.at ≡ true → IsRowTooShort front t
+test-due : {front : List Placed} {o : Open} → Beyond front o → (t : Placed) → EndsTable (t ∷ []) → cell_due o t.at ≡ true → IsRowTooShort front t
 test-due {o = o} b t ends h =
     let both = and-both (on o point_seen t.at) (not (on o x_seen t.at)) h in
     faults.IsRowTooShort.short ends (test-could b t (Bare (codes ".")) point_seen point-seen both.0) (λ c. not-false (on o x_seen t.at) both.1 (could-test b t (Bare (codes "x")) x_seen x-seen c))
 
-pub test-short : {front : List Placed} {o : Open} → Behind front o → (t : Placed) (x : Seen) → seen t ≡ x → short_test o x t.at ≡ true → IsRowTooShort front t
+pub test-short : {front : List Placed} {o : Open} → Beyond front o → (t : Placed) (x : Seen) → seen t ≡ x → short_test o x t.at ≡ true → IsRowTooShort front t
 test-short b t (SignSeen signs.Semicolon) e h = test-due b t (tables.EndsTable.semicolon (seen-sign signs.Semicolon t e)) h
 test-short b t (SignSeen signs.OpenBracket) e h = test-due b t (tables.EndsTable.bracket (seen-sign signs.OpenBracket t e)) h
 test-short b t (SignSeen signs.Colon) e h = test-due b t (tables.EndsTable.colon (seen-sign signs.Colon t e)) h
@@ -176,23 +176,23 @@ ends-test o t (tables.EndsTable.bracket is) = ap (λ x. short_test o x t.at) (si
 ends-test o t (tables.EndsTable.colon is) = ap (λ x. short_test o x t.at) (sign-seen signs.Colon t is)
 ends-test o t (tables.EndsTable.paren is) = ap (λ x. short_test o x t.at) (sign-seen signs.OpenParen t is)
 
-pub short-test : {front : List Placed} {o : Open} → Behind front o → (t : Placed) → IsRowTooShort front t → short_test o (seen t) t.at ≡ true
+pub short-test : {front : List Placed} {o : Open} → Beyond front o → (t : Placed) → IsRowTooShort front t → short_test o (seen t) t.at ≡ true
 short-test {o = o} b t (faults.IsRowTooShort.short ends c other) =
     ends-test o t ends
     ∙ ap₂ (λ x y. x && y) (could-test b t (Bare (codes ".")) point_seen point-seen c) (false-not (on o x_seen t.at) (λ h. other (test-could b t (Bare (codes "x")) x_seen x-seen h)))
 
 -- ---- numbers
-pub test-bad : {front : List Placed} {o : Open} → Behind front o → (t : Placed) (x : Seen) → seen t ≡ x → bad_test o x t.at ≡ true → IsBadNumber front t
+pub test-bad : {front : List Placed} {o : Open} → Beyond front o → (t : Placed) (x : Seen) → seen t ≡ x → bad_test o x t.at ≡ true → IsBadNumber front t
 test-bad b t (SymbolSeen w name n) e h = faults.IsBadNumber.bad name (seen-symbol t w name n e) (test-could b t (Bare (codes "0")) zero_seen zero-seen h)
 test-bad b t x e h = cc
 
-pub bad-test : {front : List Placed} {o : Open} → Behind front o → (t : Placed) → IsBadNumber front t → bad_test o (seen t) t.at ≡ true
+pub bad-test : {front : List Placed} {o : Open} → Beyond front o → (t : Placed) → IsBadNumber front t → bad_test o (seen t) t.at ≡ true
 bad-test {o = o} b t (faults.IsBadNumber.bad name is c) =
     let q = symbol-seen t name is in
     ap (λ x. bad_test o x t.at) q.2 ∙ could-test b t (Bare (codes "0")) zero_seen zero-seen c
 
 -- ---- tabbing data
-pub test-tabbing : {front : List Placed} {o : Open} → Behind front o → (t : Placed) (x : Seen) → seen t ≡ x → tabbing_test o x t.at ≡ true → IsTabbing front t
+pub test-tabbing : {front : List Placed} {o : Open} → Beyond front o → (t : Placed) (x : Seen) → seen t ≡ x → tabbing_test o x t.at ≡ true → IsTabbing front t
 test-tabbing {o = o} b t (SymbolSeen w name n) e h =
     let both = and-both (on o (SignSeen signs.Gives) t.at) (not (on o zero_seen t.at)) h in
     faults.IsTabbing.symbol name (seen-symbol t w name n e) (test-could b t (Sign signs.Gives) (SignSeen signs.Gives) refl both.0) (λ c. not-false (on o zero_seen t.at) both.1 (could-test b t (Bare (codes "0")) zero_seen zero-seen c))
@@ -201,10 +201,10 @@ test-tabbing {o = o} b t (SignSeen signs.Colon) e h =
     faults.IsTabbing.colon (seen-sign signs.Colon t e) (test-could b t (Sign signs.Gives) (SignSeen signs.Gives) refl both.0) (λ c. not-false (on o zero_seen t.at) both.1 (could-test b t (Bare (codes "0")) zero_seen zero-seen c))
 test-tabbing b t x e h = cc
 
-gives-due : {front : List Placed} {o : Open} → Behind front o → (t : Placed) → CouldStand front t (Sign signs.Gives) → (CouldStand front t (Bare (codes "0")) → ⊥) → gives_due o t.at ≡ true
+gives-due : {front : List Placed} {o : Open} → Beyond front o → (t : Placed) → CouldStand front t (Sign signs.Gives) → (CouldStand front t (Bare (codes "0")) → ⊥) → gives_due o t.at ≡ true
 gives-due {o = o} b t c other = ap₂ (λ x y. x && y) (could-test b t (Sign signs.Gives) (SignSeen signs.Gives) refl c) (false-not (on o zero_seen t.at) (λ h. other (test-could b t (Bare (codes "0")) zero_seen zero-seen h)))
 
-pub tabbing-test : {front : List Placed} {o : Open} → Behind front o → (t : Placed) → IsTabbing front t → tabbing_test o (seen t) t.at ≡ true
+pub tabbing-test : {front : List Placed} {o : Open} → Beyond front o → (t : Placed) → IsTabbing front t → tabbing_test o (seen t) t.at ≡ true
 tabbing-test {o = o} b t (faults.IsTabbing.symbol name is c other) =
     let q = symbol-seen t name is in
     ap (λ x. tabbing_test o x t.at) q.2 ∙ gives-due b t c other

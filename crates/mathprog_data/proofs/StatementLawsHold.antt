@@ -8,9 +8,9 @@ use Rattle.mathprog_data.specs.MachineStates.{drafted}
 pub statement_laws : StatementLaws
 statement_laws = record {
   good = goes-good;
-  goes = λ ts g. let w = good-goes ts g in (w.behind, w.is);
+  goes = λ ts g. let w = good-goes ts g in (w.beyond, w.is);
   means = λ ts r e h. ends-means ts (drafted r.draft) r e h refl;
-  meant = λ ts blocks m. let w = means-ends ts blocks m in (w.behind, w.is, w.ends, sym w.blocks_are);
+  meant = λ ts blocks m. let w = means-ends ts blocks m in (w.beyond, w.is, w.ends, sym w.blocks_are);
   fault = λ ts s e. stopped-fault ts s.number s.at e;
   stops = fault-stopped;
 }

@@ -9,8 +9,9 @@ use Rattle.mathprog_data.specs.Meaning.{Opening, Statements}
 use Rattle.mathprog_data.specs.Params.{subscript_count, set_number, param_number}
 use Rattle.mathprog_data.specs.Slices.{Slice, all_free, index_at, Places}
 use Rattle.mathprog_data.specs.Statements.{Form, Listed, Tabbing, Members, Subscripts, Records, Default, SetBegun, ParamBegun, TabbingBegun, Statement}
-use Rattle.mathprog_data.specs.Symbols.{Name, Number, IsSign, IsKeyword, IsSymbol, IsNumber, IsValue, OptionalComma, Comma}
+use Rattle.mathprog_data.specs.Symbols.{Name, Number, IsSign, IsKeyword, IsSymbol, IsNumberToken, IsValue, Comma}
 use Rattle.mathprog_data.specs.Tables.{Given, given, Columns, Cells, Rows, EndsTable}
+use Rattle.mathprog_data.proofs.OptionalCommas.{OptionalComma}
 
 -- what may be left open, in which state: K says what must follow there. It is kept by a step backwards
 pub record StepsBack (K : Open → List Placed → Type 0) : Type 0 where
@@ -20,7 +21,7 @@ pub record StepsBack (K : Open → List Placed → Type 0) : Type 0 where
   pub params : (t : Placed) (ts : List Placed) → IsKeyword (codes "param") t → K ParamRead ts → K Between (t ∷ ts)
   pub colon : (t : Placed) (ts : List Placed) → IsSign signs.Colon t → K (TabbingColon None) ts → K ParamRead (t ∷ ts)
   pub leads : (t : Placed) (ts : List Placed) → IsKeyword (codes "default") t → K LeadingDefault ts → K ParamRead (t ∷ ts)
-  pub reads : (t : Placed) (ts : List Placed) (v : Number) → IsNumber t v → K (LeadingNumber (Some v) true) ts → K LeadingDefault (t ∷ ts)
+  pub reads : (t : Placed) (ts : List Placed) (v : Number) → IsNumberToken t v → K (LeadingNumber (Some v) true) ts → K LeadingDefault (t ∷ ts)
   pub commas : (t : Placed) (ts : List Placed) (v : Option Number) → IsSign signs.Comma t → K (LeadingNumber v false) ts → K (LeadingNumber v true) (t ∷ ts)
   pub colons : (t : Placed) (ts : List Placed) (v : Option Number) (c : Bool) → IsSign signs.Colon t → K (TabbingColon v) ts → K (LeadingNumber v c) (t ∷ ts)
 
@@ -71,8 +72,8 @@ pub data Goes (K : Open → List Placed → Type 0) : Open → List Placed → L
   tabbing_read : {u : Placed} {ts us : List Placed} {default : Option Number} {events : List Event} → Default ts (u ∷ us) default → IsSign signs.Colon u → ColonRest K default us events → Goes K ParamRead ts events
   cut_param : {ts : List Placed} → K ParamRead ts → Goes K ParamRead ts []
   param_named : {param : ℕ} {c : Bool} {ts : List Placed} {events : List Event} → NamedRest K param c ts events → Goes K (ParamNamed param c) ts events
-  default_read : {u : Placed} {us vs : List Placed} {param : ℕ} {v : Number} {events : List Event} → IsNumber u v → Comma us vs → RecordsRest K param Listed (all_free (subscript_count param)) vs events → Goes K (DefaultRead param) (u ∷ us) (DefaultGiven v ∷ events)
-  leading_default : {u w : Placed} {us ws : List Placed} {v : Number} {events : List Event} → IsNumber u v → Comma us (w ∷ ws) → IsSign signs.Colon w → ColonRest K (Some v) ws events → Goes K LeadingDefault (u ∷ us) events
+  default_read : {u : Placed} {us vs : List Placed} {param : ℕ} {v : Number} {events : List Event} → IsNumberToken u v → Comma us vs → RecordsRest K param Listed (all_free (subscript_count param)) vs events → Goes K (DefaultRead param) (u ∷ us) (DefaultGiven v ∷ events)
+  leading_default : {u w : Placed} {us ws : List Placed} {v : Number} {events : List Event} → IsNumberToken u v → Comma us (w ∷ ws) → IsSign signs.Colon w → ColonRest K (Some v) ws events → Goes K LeadingDefault (u ∷ us) events
   cut_default : {ts : List Placed} → K LeadingDefault ts → Goes K LeadingDefault ts []
   leading_number : {v : Option Number} {c : Bool} {w : Placed} {ts ws : List Placed} {events : List Event} → OptionalComma c ts (w ∷ ws) → IsSign signs.Colon w → ColonRest K v ws events → Goes K (LeadingNumber v c) ts events
   cut_number : {v : Option Number} {c : Bool} {ts : List Placed} → K (LeadingNumber v c) ts → Goes K (LeadingNumber v c) ts []

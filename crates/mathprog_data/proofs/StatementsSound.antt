@@ -15,9 +15,10 @@ use Rattle.mathprog_data.specs.Slices.{Slice, free_count, index_at, Places, IsPl
 use Rattle.mathprog_data.specs.Slices as slices
 use Rattle.mathprog_data.specs.Statements.{Form, Listed, Tabbing, Subscripts}
 use Rattle.mathprog_data.specs.Statements as trees
-use Rattle.mathprog_data.specs.Symbols.{Name, Number, IsSign, IsSymbol, IsValue, OptionalComma, none, one}
+use Rattle.mathprog_data.specs.Symbols.{Name, Number, IsSign, IsSymbol, IsValue, Comma}
 use Rattle.mathprog_data.specs.Symbols as symbols
 use Rattle.mathprog_data.specs.Tables.{given}
+use Rattle.mathprog_data.proofs.OptionalCommas.{none, one, comma_of}
 
 -- ---- sets
 set_semicolon : {K : Open → List Placed → Type 0} {n : ℕ} {c : Bool} {t : Placed} {ts : List Placed} → IsSign signs.Semicolon t → (events : List Event) → Goes K Between ts events → Goes K (InSet n c) (t ∷ ts) (SetClosed n ∷ events)
@@ -27,7 +28,7 @@ set_gives : {K : Open → List Placed → Type 0} {n : ℕ} {c : Bool} {t : Plac
 set_gives is events (in_set (set_rest none members a)) = in_set (set_rest none (trees.Members.gives is members) a)
 
 set_member : {K : Open → List Placed → Type 0} {n : ℕ} {c : Bool} {t : Placed} {ts : List Placed} (name : Name) → IsSymbol t name → (events : List Event) → Goes K (InSet n true) ts events → Goes K (InSet n c) (t ∷ ts) (MemberNamed name ∷ events)
-set_member name is events (in_set (set_rest d members a)) = in_set (set_rest none (trees.Members.member is d members) a)
+set_member name is events (in_set (set_rest d members a)) = in_set (set_rest none (trees.Members.member is (comma_of d) members) a)
 
 set_comma : {K : Open → List Placed → Type 0} {n : ℕ} (c : Bool) {t : Placed} {ts : List Placed} → IsSign signs.Comma t → Back K (InSet n c) (t ∷ ts) ts (comma c (InSet n false))
 set_comma false is = back tt
@@ -78,22 +79,22 @@ value_of param t w name n true v e is_path number =
 
 -- the value at the state where its subscripts were read
 value_step : {K : Open → List Placed → Type 0} (o : Open) {form : Form} {param : ℕ} {slice : Slice} {t : Placed} {ts : List Placed} (names : List Name) (mark : Mark) (m : Option Number)
-    → ((v : Number) (vs : List Placed) (events : List Event) → m ≡ Some v → OptionalComma true ts vs → RecordsRest K param form slice vs events → Goes K o (t ∷ ts) (ValueGiven (given (index_at slice names) v mark) ∷ events))
+    → ((v : Number) (vs : List Placed) (events : List Event) → m ≡ Some v → Comma ts vs → RecordsRest K param form slice vs events → Goes K o (t ∷ ts) (ValueGiven (given (index_at slice names) v mark) ∷ events))
     → Back K o (t ∷ ts) ts (number m (λ v. Emit (ValueGiven (given (index_at slice names) v mark)) (InRecords form param slice true)))
 value_step o names mark None is = back tt
 value_step {K = K} o {form = form} {param = param} {slice = slice} {t = t} {ts = ts} names mark (Some v) is = back step
   where
     step : (events : List Event) → Goes K (InRecords form param slice true) ts events → Goes K o (t ∷ ts) (ValueGiven (given (index_at slice names) v mark) ∷ events)
-    step events (in_records {us = us} d r) = is v us events refl d r
+    step events (in_records {us = us} d r) = is v us events refl (comma_of d) r
 
-plain_rest : {K : Open → List Placed → Type 0} {form : Form} {param : ℕ} {slice : Slice} {names : List Name} {c : Bool} {t u : Placed} {ts us vs : List Placed} {v : Number} {events : List Event} → Subscripts (free_count slice) (t ∷ ts) (u ∷ us) names → IsValue param u v → OptionalComma true us vs → RecordsRest K param form slice vs events
+plain_rest : {K : Open → List Placed → Type 0} {form : Form} {param : ℕ} {slice : Slice} {names : List Name} {c : Bool} {t u : Placed} {ts us vs : List Placed} {v : Number} {events : List Event} → Subscripts (free_count slice) (t ∷ ts) (u ∷ us) names → IsValue param u v → Comma us vs → RecordsRest K param form slice vs events
     → Goes K (InRecords form param slice c) (t ∷ ts) (ValueGiven (given (index_at slice names) v t.at) ∷ events)
 plain_rest subscripts is d (records_rest r a) = in_records none (records_rest (trees.Records.valued (trees.Plain.plain subscripts is d) r) a)
 
 first_step : {K : Open → List Placed → Type 0} {form : Form} {param : ℕ} {slice : Slice} {c : Bool} {t : Placed} {ts : List Placed} (name : Name) (left : ℕ) → free_count slice ≡ suc left → IsSymbol t name → (events : List Event) → Goes K (InPlain form param slice (name ∷ []) t.at left true) ts events → Goes K (InRecords form param slice c) (t ∷ ts) events
 first_step {slice = slice} {t = t} {ts = ts} name left e is events (in_plain {more = more} {u = u} {vs = vs} d subscripts value f r) =
     let P : ℕ → Type 0 = λ k. Subscripts k (t ∷ ts) (u ∷ vs) (name ∷ more) in
-    plain_rest (subst P (sym e) (trees.Subscripts.more is d subscripts)) value f r
+    plain_rest (subst P (sym e) (trees.Subscripts.more is (comma_of d) subscripts)) value f r
 
 -- the first token of plain data, where these many subscripts are free
 pub records_symbol : {K : Open → List Placed → Type 0} {form : Form} {param : ℕ} {slice : Slice} {c : Bool} (t : Placed) {ts : List Placed} (w : Word) (name : Name) (n : Option Number) (count : ℕ) → free_count slice ≡ count → seen t ≡ SymbolSeen w name n
@@ -107,7 +108,7 @@ records_symbol t w name n (suc left) e s = back (first_step name left e (seen-sy
 
 plain_more : {K : Open → List Placed → Type 0} {form : Form} {param : ℕ} {slice : Slice} {names : List Name} {mark : Mark} {c : Bool} {t : Placed} {ts : List Placed} (name : Name) (left : ℕ) → IsSymbol t name → (events : List Event) → Goes K (InPlain form param slice (names ++ name ∷ []) mark left true) ts events → Goes K (InPlain form param slice names mark (suc left) c) (t ∷ ts) events
 plain_more {names = names} name left is events (in_plain {more = more} d subscripts value f r) =
-    rw (append_assoc names (name ∷ []) more) (in_plain none (trees.Subscripts.more is d subscripts) value f r)
+    rw (append_assoc names (name ∷ []) more) (in_plain none (trees.Subscripts.more is (comma_of d) subscripts) value f r)
 
 plain_end : {K : Open → List Placed → Type 0} {o : Open} {ts : List Placed} (slice : Slice) {v : Number} {mark : Mark} {events : List Event} (names : List Name) → Goes K o ts (ValueGiven (given (index_at slice (names ++ [])) v mark) ∷ events) → Goes K o ts (ValueGiven (given (index_at slice names) v mark) ∷ events)
 plain_end {K = K} {o = o} {ts = ts} slice {v = v} {mark = mark} {events = events} names g =
@@ -147,7 +148,7 @@ back_place_due param places left t ts (SymbolSeen w name n) e = back (place_step
 back_place_due param places left t ts x e = back tt
 
 place_close : {K : Open → List Placed → Type 0} {param : ℕ} {places : Slice} {t : Placed} {ts : List Placed} → IsSign signs.CloseBracket t → (events : List Event) → Goes K (InRecords Listed param places true) ts events → Goes K (PlaceRead param places zero) (t ∷ ts) events
-place_close is events (in_records d r) = place_last is d r
+place_close is events (in_records d r) = place_last is (comma_of d) r
 
 place_comma : {K : Open → List Placed → Type 0} {param : ℕ} {places : Slice} {left : ℕ} {t : Placed} {ts : List Placed} → IsSign signs.Comma t → (events : List Event) → Goes K (PlaceDue param places left) ts events → Goes K (PlaceRead param places (suc left)) (t ∷ ts) events
 place_comma is events (place_due others d r) = place_more is others d r

@@ -15,7 +15,7 @@ use Rattle.mathprog_data.specs.Slices.{Slice, free_count, index_at, Places, IsPl
 use Rattle.mathprog_data.specs.Slices as slices
 use Rattle.mathprog_data.specs.Statements.{Form, Listed, Tabbing, Members, Subscripts, Plain, Records}
 use Rattle.mathprog_data.specs.Statements as trees
-use Rattle.mathprog_data.specs.Symbols.{Name, Number, IsSign, IsSymbol, IsNumber, IsValue, Comma}
+use Rattle.mathprog_data.specs.Symbols.{Name, Number, IsSign, IsSymbol, IsNumberToken, IsValue, Comma}
 use Rattle.mathprog_data.specs.Symbols as symbols
 use Rattle.mathprog_data.specs.Tables.{Given, given}
 
@@ -38,9 +38,9 @@ value-seen {t = t} (symbols.IsValue.any_symbol name path is) =
     let s = symbol-seen t name is in
     (s.0, name, s.1, s.2, ap (λ b. cond b (Some (pos 0, false)) s.1) path)
 
--- the state behind a value
-abbrev behind_value : Form → ℕ → Slice → Open
-behind_value form param slice = InRecords form param slice true
+-- the state after a value
+abbrev after_value : Form → ℕ → Slice → Open
+after_value form param slice = InRecords form param slice true
 
 take_value : (F : Open → List Placed → Type 0) (o : Open) (form : Form) {param : ℕ} (slice : Slice) (names : List Name) (mark : Mark) {t : Placed} {v : Number} {ts : List Placed} {events : List Event} → IsValue param t v
     → ((w : Word) (name : Name) (n : Option Number) → turn o (SymbolSeen w name n) t.at ≡ plain_value form param slice names mark n)

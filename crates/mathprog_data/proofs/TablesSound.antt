@@ -17,9 +17,10 @@ use Rattle.mathprog_data.specs.Params.{subscript_count}
 use Rattle.mathprog_data.specs.Slices.{Slice, free_count}
 use Rattle.mathprog_data.specs.Statements.{Form, Listed, Tabbing}
 use Rattle.mathprog_data.specs.Statements as statements
-use Rattle.mathprog_data.specs.Symbols.{Name, Number, IsSign, IsSymbol, IsNumber, OptionalComma, none, one}
+use Rattle.mathprog_data.specs.Symbols.{Name, Number, IsSign, IsSymbol, IsNumberToken, Comma}
 use Rattle.mathprog_data.specs.Tables.{Given, given, Heading, Columns, Cells, Rows, EndsTable, cell_index}
 use Rattle.mathprog_data.specs.Tables as trees
+use Rattle.mathprog_data.proofs.OptionalCommas.{none, one, comma_of}
 
 -- ---- the beginning of a table
 table_rest : {K : Open → List Placed → Type 0} {param : ℕ} {slice : Slice} {transposed : Bool} {c : Bool} {ts us : List Placed} {events : List Event} → free_count slice ≡ 2 → Heading transposed ts us → ColumnsRest K param slice transposed [] false us events → Goes K (InRecords Listed param slice c) ts events
@@ -87,10 +88,10 @@ columns_comma false is = back tt
 columns_comma true is = back (columns_one is)
 
 column_step : {K : Open → List Placed → Type 0} {param : ℕ} {slice : Slice} {transposed : Bool} {names : List Name} {c : Bool} {t : Placed} {ts : List Placed} (name : Name) → IsSymbol t name → (events : List Event) → Goes K (InColumns param slice transposed (names ++ name ∷ []) true) ts events → Goes K (InColumns param slice transposed names c) (t ∷ ts) events
-column_step name is events (in_columns (columns_end d gives some r)) = in_columns (columns_more none (trees.Columns.last is d gives) r)
+column_step name is events (in_columns (columns_end d gives some r)) = in_columns (columns_more none (trees.Columns.last is (comma_of d) gives) r)
 column_step {K = K} {param = param} {slice = slice} {transposed = transposed} {names = names} name is events (in_columns (columns_more {vs = vs} {more = others} d columns r)) =
     let P : List Name → Type 0 = λ ns. RowsRest K param slice transposed ns vs events in
-    in_columns (columns_more none (trees.Columns.more is d columns) (subst P (append_assoc names (name ∷ []) others) r))
+    in_columns (columns_more none (trees.Columns.more is (comma_of d) columns) (subst P (append_assoc names (name ∷ []) others) r))
 
 pub back_in_columns : {K : Open → List Placed → Type 0} (param : ℕ) (slice : Slice) (transposed : Bool) (names : List Name) (c : Bool) (t : Placed) (ts : List Placed) (x : Seen) → seen t ≡ x → Back K (InColumns param slice transposed names c) (t ∷ ts) ts (turn (InColumns param slice transposed names c) x t.at)
 back_in_columns param slice transposed names c t ts (SignSeen signs.Gives) e = columns_gives names (seen-sign signs.Gives t e)
@@ -108,7 +109,7 @@ rows_comma {K = K} {param = param} {slice = slice} {transposed = transposed} {na
 
 row_step : {K : Open → List Placed → Type 0} {param : ℕ} {slice : Slice} {transposed : Bool} {names : List Name} {c : Bool} {t : Placed} {ts : List Placed} (name : Name) → IsSymbol t name → (events : List Event) → Goes K (InRow param slice transposed names name t.at names true) ts events → Goes K (InRows param slice transposed names c) (t ∷ ts) events
 row_step name is events (in_row {values = values} d cells (rows_rest {values = others} {events = events'} rows ends r)) =
-    rw (← given_events-append values others events') (in_rows none (rows_rest (trees.Rows.more is d cells rows) ends r))
+    rw (← given_events-append values others events') (in_rows none (rows_rest (trees.Rows.more is (comma_of d) cells rows) ends r))
 
 -- what ends a table is the beginning of a record
 ends_goes : {K : Open → List Placed → Type 0} {param : ℕ} {slice : Slice} {transposed : Bool} {names : List Name} {c : Bool} {t : Placed} {ts : List Placed} {events : List Event} → EndsTable (t ∷ ts) → Goes K (InRecords Listed param slice false) (t ∷ ts) events → Goes K (InRows param slice transposed names c) (t ∷ ts) events
@@ -137,18 +138,18 @@ row_comma {K = K} {param = param} {slice = slice} {transposed = transposed} {nam
     step : (events : List Event) → Goes K (InRow param slice transposed names name mark left false) ts events → Goes K (InRow param slice transposed names name mark left true) (t ∷ ts) events
     step events (in_row none cells r) = in_row (one is) cells r
 
--- behind a cell: further cells, and rows
+-- after a cell: further cells, and rows
 data CellsLeft (K : Open → List Placed → Type 0) (param : ℕ) (slice : Slice) (transposed : Bool) (names : List Name) (name : Name) (mark : Mark) (left : List Name) : List Placed → List Event → Type 0 where
-  cells_left : {ts us vs : List Placed} {values : List Given} {events : List Event} → OptionalComma true ts us → Cells slice transposed name mark left us vs values → RowsRest K param slice transposed names vs events → CellsLeft K param slice transposed names name mark left ts (given_events values events)
+  cells_left : {ts us vs : List Placed} {values : List Given} {events : List Event} → Comma ts us → Cells slice transposed name mark left us vs values → RowsRest K param slice transposed names vs events → CellsLeft K param slice transposed names name mark left ts (given_events values events)
 
 left_goes : {K : Open → List Placed → Type 0} (param : ℕ) (slice : Slice) (transposed : Bool) (names : List Name) (name : Name) (mark : Mark) (left : List Name) {ts : List Placed} {events : List Event} → Goes K (row_left param slice transposed names name mark left) ts events → CellsLeft K param slice transposed names name mark left ts events
-left_goes param slice transposed names name mark [] (in_rows d r) = cells_left d trees.Cells.none r
-left_goes param slice transposed names name mark (column ∷ left) (in_row d cells r) = cells_left d cells r
+left_goes param slice transposed names name mark [] (in_rows d r) = cells_left (comma_of d) trees.Cells.none r
+left_goes param slice transposed names name mark (column ∷ left) (in_row d cells r) = cells_left (comma_of d) cells r
 
 point_goes : {K : Open → List Placed → Type 0} {param : ℕ} {slice : Slice} {transposed : Bool} {names : List Name} {name : Name} {mark : Mark} {column : Name} {left : List Name} {c : Bool} (t : Placed) {ts : List Placed} {events : List Event} (x : Name) (n : Option Number) → seen t ≡ SymbolSeen words.Point x n → CellsLeft K param slice transposed names name mark left ts events → Goes K (InRow param slice transposed names name mark (column ∷ left) c) (t ∷ ts) events
 point_goes t x n e (cells_left d cells r) = in_row none (trees.Cells.point (seen-keyword t words.Point x n (λ h. cc) e) d cells) r
 
-filled_goes : {K : Open → List Placed → Type 0} {param : ℕ} {slice : Slice} {transposed : Bool} {names : List Name} {name : Name} {mark : Mark} {column : Name} {left : List Name} {c : Bool} {t : Placed} {ts : List Placed} {events : List Event} {v : Number} → IsNumber t v → CellsLeft K param slice transposed names name mark left ts events → Goes K (InRow param slice transposed names name mark (column ∷ left) c) (t ∷ ts) (ValueGiven (given (cell_index slice transposed name column) v mark) ∷ events)
+filled_goes : {K : Open → List Placed → Type 0} {param : ℕ} {slice : Slice} {transposed : Bool} {names : List Name} {name : Name} {mark : Mark} {column : Name} {left : List Name} {c : Bool} {t : Placed} {ts : List Placed} {events : List Event} {v : Number} → IsNumberToken t v → CellsLeft K param slice transposed names name mark left ts events → Goes K (InRow param slice transposed names name mark (column ∷ left) c) (t ∷ ts) (ValueGiven (given (cell_index slice transposed name column) v mark) ∷ events)
 filled_goes is (cells_left d cells r) = in_row none (trees.Cells.filled is d cells) r
 
 row_number : {K : Open → List Placed → Type 0} {param : ℕ} {slice : Slice} {transposed : Bool} {names : List Name} {name : Name} {mark : Mark} {column : Name} {left : List Name} {c : Bool} (t : Placed) {ts : List Placed} (w : Word) (x : Name) (n : Option Number) → seen t ≡ SymbolSeen w x n

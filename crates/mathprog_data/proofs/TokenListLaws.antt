@@ -43,7 +43,7 @@ bare_has_bytes : (bytes : List ℕ) → bytes ≢ [] → 0 < length bytes
 bare_has_bytes [] some = absurd (some refl)
 bare_has_bytes (byte ∷ bytes) some = omega arith
 
--- tokens behind these bytes stand behind them, one behind the other
+-- tokens after these bytes stand after them, one after the other
 abbrev apart_from : List ℕ → (from size : ℕ) → List Placed → Type 0
 apart_from text from size placed = AreApart from size (map (slice_at text) placed)
 

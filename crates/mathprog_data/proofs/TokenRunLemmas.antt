@@ -4,7 +4,7 @@ use Rattle.std.proofs.Math.ListN.{drop_of_length-le}
 use Rattle.mathprog_data.specs.declared.closing.Closing.{Closing}
 use Rattle.mathprog_data.specs.declared.token.Token.{Token}
 use Rattle.mathprog_data.specs.TokenSlices.{slice_of}
-use Rattle.mathprog_data.specs.TokenRuns.{slices_of, slices, behind, closed_with, IsDone, ListsAll}
+use Rattle.mathprog_data.specs.TokenRuns.{slices_of, slices, preceded_by, closed_with, IsDone, ListsAll}
 use Rattle.mathprog_data.specs.declared.lexer.Seen.{Seen}
 use Rattle.mathprog_data.specs.LexingMachine.{State, before, taken, ended}
 use Rattle.mathprog_data.specs.LexingRuns.{run, and_then, nothing_more, lexed_run}
@@ -28,7 +28,7 @@ unfolding run
 run_end s seen e = rw e refl
 
 -- no more tokens come
-pub all_open : (text : List ℕ) (tokens : List Token) (closing : Closing) → behind tokens (slices_of text (lexed_run text closing nothing_more)) ≡ slices text → ListsAll text tokens
+pub all_open : (text : List ℕ) (tokens : List Token) (closing : Closing) → preceded_by tokens (slices_of text (lexed_run text closing nothing_more)) ≡ slices text → ListsAll text tokens
 all_open text tokens closing e = (sym (append-nil (map slice_of tokens)) ∙ ap (λ s. s.tokens) e, subst (λ s. IsDone s.end) e tt)
 
 -- the last token closes the text

@@ -10,7 +10,7 @@ use Rattle.mathprog_data.specs.Lexemes.{Lexeme, Sign, Bare, Quoted, Placed, bare
 use Rattle.mathprog_data.specs.MachineStates.{Seen, SignSeen, SymbolSeen, seen_of}
 use Rattle.mathprog_data.specs.NumberReading.{reading}
 use Rattle.mathprog_data.specs.Params.{param_number}
-use Rattle.mathprog_data.specs.Symbols.{Name, Number, IsSign, IsKeyword, IsSymbol, IsNumber, symbol_name}
+use Rattle.mathprog_data.specs.Symbols.{Name, Number, IsSign, IsKeyword, IsSymbol, IsNumberToken, symbol_name}
 use Rattle.mathprog_data.specs.Words.{word_of}
 
 -- what the machine sees of a token
@@ -143,7 +143,7 @@ point-no_number t name n e =
 abbrev pub SeesNumber : Placed → Number → Type 0
 SeesNumber t number = (w : Word) × (name : Name) × (seen t ≡ SymbolSeen w name (Some number))
 
-pub number-seen : (t : Placed) (number : Number) → IsNumber t number → SeesNumber t number
+pub number-seen : (t : Placed) (number : Number) → IsNumberToken t number → SeesNumber t number
 number-seen t number (bytes, is, reads) = (word_of bytes, bare_name bytes, ap seen_of is ∙ ap (SymbolSeen (word_of bytes) (bare_name bytes)) (Reads-reading bytes number reads))
 
 abbrev NumberIn : Lexeme → Number → Type 0
@@ -157,5 +157,5 @@ lexeme-number (Bare bytes) w name number e =
 lexeme-number (Quoted []) w name number e = cc
 lexeme-number (Quoted (c ∷ cs)) w name number e = cc
 
-pub seen-number : (t : Placed) (w : Word) (name : Name) (number : Number) → seen t ≡ SymbolSeen w name (Some number) → IsNumber t number
+pub seen-number : (t : Placed) (w : Word) (name : Name) (number : Number) → seen t ≡ SymbolSeen w name (Some number) → IsNumberToken t number
 seen-number t w name number e = lexeme-number t.lexeme w name number e

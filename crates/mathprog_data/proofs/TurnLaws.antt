@@ -67,7 +67,7 @@ abbrev pub is_param_read : Open → Bool
 is_param_read ParamRead = true
 is_param_read o = false
 
--- the parameter whose statement is open, where its name stands directly behind `param`
+-- the parameter whose statement is open, where its name stands directly after `param`
 abbrev pub listed_in : Open → Option ℕ
 listed_in (ParamNamed param c) = Some param
 listed_in (DefaultRead param) = Some param
@@ -87,9 +87,9 @@ listed_in o = None
 pub record Moved (o : Open) (x : Seen) (next : Open) : Type 0 where
   -- sound states lead to sound ones
   pub sane : IsSane o → IsSane next
-  -- whole statements stand behind a semicolon alone
+  -- whole statements stand after a semicolon alone
   pub closes : is_closed next ≡ is_semicolon x
-  -- the beginning of a parameter's statement stands behind `param` alone
+  -- the beginning of a parameter's statement stands after `param` alone
   pub starts : is_param_read next ≡ (is_start o && is_param_word x)
   pub not_fresh : is_fresh next ≡ false
   -- the open statement stays open
@@ -159,7 +159,7 @@ holds-set w name n (Some k) p = emits (moved (λ h. tt) refl refl refl (λ a b. 
 holds-set w name n None (Some k) = stop refl
 holds-set w name n None None = stop refl
 
--- a name behind `param` isn't that keyword again, for it would not be taken
+-- a name after `param` isn't that keyword again, for it would not be taken
 holds-param : (w : Word) (name : Name) (n : Option Number) (p s : Option ℕ) → Holds ParamRead (SymbolSeen w name n) (param_name p s)
 holds-param w name n (Some k) s = emits (moved (λ h. tt) refl refl refl (λ a b. cc))
 holds-param w name n None (Some k) = stop refl
@@ -199,7 +199,7 @@ holds-columns : {slice : Slice} {transposed c : Bool} (param : ℕ) (names : Lis
 holds-columns param [] = stop refl
 holds-columns param (name ∷ names) = goes (moved (λ h. (h, refl)) refl refl refl (λ a b. cc))
 
--- behind a cell
+-- after a cell
 left-sane : (param : ℕ) (slice : Slice) (transposed : Bool) (names : List Name) (row : Name) (mark : Mark) (left : List Name) → Tabled param slice → has_some names ≡ true → IsSane (row_left param slice transposed names row mark left)
 left-sane param slice transposed names row mark [] t h = (t, h)
 left-sane param slice transposed names row mark (column ∷ left) t h = (t, h, refl)

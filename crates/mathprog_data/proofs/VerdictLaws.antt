@@ -18,7 +18,7 @@ use Rattle.mathprog_data.specs.ReadingRuns.{Outcome, Reads, Refuses, at_text_end
 use Rattle.mathprog_data.specs.StatementFaults.{IsGood, FaultIn, EndsTooSoon}
 use Rattle.mathprog_data.specs.Verdicts.{Says, FaultAt, at_token, lexical, too_soon}
 use Rattle.mathprog_data.proofs.LexingLaws.{lexes_lexed, lexes_only}
-use Rattle.mathprog_data.proofs.ReadingLemmas.{may_end_behind}
+use Rattle.mathprog_data.proofs.ReadingLemmas.{may_end_after}
 
 -- what the reader of statements makes of tokens: it goes through exactly where they are good, what it has read then is what they
 -- mean exactly where the section may end, and it stops exactly at their fault
@@ -48,7 +48,7 @@ last_semicolon text placed lexes =
 may_end_closed : (text : List ℕ) (placed : List Placed) (r : Reader) → Lexes text placed Closes → run beginning placed ≡ Ok r → may_end r.open_part ≡ true
 may_end_closed text placed r lexes e =
     let last = last_semicolon text placed lexes in
-    may_end_behind last.0 last.1 beginning r (ap (run beginning) (sym last.2) ∙ e) last.3
+    may_end_after last.0 last.1 beginning r (ap (run beginning) (sym last.2) ∙ e) last.3
 
 -- what is made of the text, by its lexing
 outcome_lexed : (text : List ℕ) (placed : List Placed) (end : LexingEnd) → Lexes text placed end → outcome_of text ≡ outcome_at text end (run beginning placed)

@@ -6,7 +6,7 @@ use Rattle.mathprog_data.proofs.GoodLists.{way-loose, good-goes, goes-good, Ends
 use Rattle.mathprog_data.proofs.LastStatement.{lacks-is, is-lacks}
 use Rattle.mathprog_data.proofs.NamesOnce.{new-names}
 use Rattle.mathprog_data.proofs.RunLaws.{noted_all, are_new, are_new-append, went, Halts, stops, twice, halted, run-halts}
-use Rattle.mathprog_data.proofs.StatementFaultLaws.{Behind, Lacking}
+use Rattle.mathprog_data.proofs.StatementFaultLaws.{Beyond, Lacking}
 use Rattle.mathprog_data.proofs.TokensSeen.{seen}
 use Rattle.mathprog_data.proofs.WalkLaws.{Reached, reached, Walks, joined}
 use Rattle.mathprog_data.proofs.Walks.{done, go, emit}
@@ -20,8 +20,8 @@ use Rattle.mathprog_data.specs.Meaning.{Blocks, Means}
 use Rattle.mathprog_data.specs.StatementFaults.{BeginsLoose, IsGood, IsRefused, Carries, FaultIn, EndsTooSoon}
 use Rattle.mathprog_data.specs.StatementFaults as faults
 
--- the state behind tokens knows whether they lack subscripts
-lacking-of : {front : List Placed} {o : Open} (at : Mark) → Behind front o → Lacking front o at
+-- the state after tokens knows whether they lack subscripts
+lacking-of : {front : List Placed} {o : Open} (at : Mark) → Beyond front o → Lacking front o at
 lacking-of at b = record { known = λ l. is-lacks b.walk l; shown = λ h l. lacks-is b.walk l }
 
 -- ---- two runs say the same
@@ -33,9 +33,9 @@ ok-is h = cc
 
 -- ---- more is to come
 pub record Unfinished (ts : List Placed) : Type 0 where
-  pub behind : Reader
-  pub is : run beginning ts ≡ Ok behind
-  pub open_still : may_end behind.open_part ≡ false
+  pub beyond : Reader
+  pub is : run beginning ts ≡ Ok beyond
+  pub open_still : may_end beyond.open_part ≡ false
 
 not-end : (ts : List Placed) (r : Reader) (b : Bool) → run beginning ts ≡ Ok r → may_end r.open_part ≡ b → ((blocks : Blocks) → Means ts blocks → ⊥) → b ≡ false
 not-end ts r true e h none = absurd (none (drafted r.draft) (ends-means ts (drafted r.draft) r e h refl))
@@ -44,13 +44,13 @@ not-end ts r false e h none = refl
 pub soon-unfinished : (ts : List Placed) → EndsTooSoon ts → Unfinished ts
 soon-unfinished ts s =
     let g = good-goes ts s.good in
-    record { behind = g.behind; is = g.is; open_still = not-end ts g.behind (may_end g.behind.open_part) g.is refl s.means_nothing }
+    record { beyond = g.beyond; is = g.is; open_still = not-end ts g.beyond (may_end g.beyond.open_part) g.is refl s.means_nothing }
 
 -- a finished reader isn't an open one
 means-none : (ts : List Placed) (r : Reader) → run beginning ts ≡ Ok r → may_end r.open_part ≡ false → (blocks : Blocks) → Means ts blocks → ⊥
 means-none ts r e h blocks m =
     let w = means-ends ts blocks m in
-    let same : r ≡ w.behind = ok-is (sym e ∙ w.is) in
+    let same : r ≡ w.beyond = ok-is (sym e ∙ w.is) in
     let ends : may_end r.open_part ≡ true = ap (λ x. may_end x.open_part) same ∙ w.ends in
     cc
 
@@ -67,12 +67,12 @@ stops-bad : {front : List Placed} {o : Open} {events : List Event} (t : Placed) 
 stops-bad {front = front} t k w new h good =
     let g = good-goes (front ++ t ∷ []) good in
     let stop = run-halts empty_draft t [] k w new h in
-    let bad : Ok g.behind ≡ Err (stopped k t.at) = sym g.is ∙ stop in
+    let bad : Ok g.beyond ≡ Err (stopped k t.at) = sym g.is ∙ stop in
     cc
 
 halts-carried : {front : List Placed} {o : Open} {events : List Event} {d : Draft} (t : Placed) (k : ℕ) → Walks Fresh front o events → Halts o d t k → (IsGood (front ++ t ∷ []) → ⊥) → Carries front t k
 halts-carried {events = events} t k w (stops e) bad =
-    let b : Behind _ _ = record { events = events; walk = w } in
+    let b : Beyond _ _ = record { events = events; walk = w } in
     carried b t (lacking-of t.at b) k e
 halts-carried t k w (twice e second) bad =
     let v = one_more t w (by_emit e) in
@@ -123,7 +123,7 @@ halts-emit t m false w new e second bad c = absurd (bad (emits-still t w new e s
 
 halts-turn : {front : List Placed} {o : Open} {events : List Event} (t : Placed) (m : ℕ) (turned : Turn) → turn o (seen t) t.at ≡ turned → Walks Fresh front o events → are_new empty_draft events ≡ true → (IsGood (front ++ t ∷ []) → ⊥) → Carries front t m → Halts o (noted_all empty_draft events) t m
 halts-turn {o = o} {events = events} t m (Stop k) e w new bad c =
-    let b : Behind _ _ = record { events = events; walk = w } in
+    let b : Beyond _ _ = record { events = events; walk = w } in
     subst (λ z. Halts o (noted_all empty_draft events) t z) (sym (carries-stop b t (lacking-of t.at b) k m e c)) (stops e)
 halts-turn t m (Go next) e w new bad c = absurd (bad (goes-still t w new e))
 halts-turn {events = events} t m (Emit event next) e w new bad c = halts-emit t m (is_second (noted_all empty_draft events) event) w new e refl bad c
@@ -131,8 +131,8 @@ halts-turn {events = events} t m (Emit event next) e w new bad c = halts-emit t 
 pub fault-stopped : (ts : List Placed) (k : ℕ) (at : Mark) → FaultIn ts k at → run beginning ts ≡ Err (stopped k at)
 fault-stopped ts k at f =
     let g = good-goes f.front f.good in
-    let w = went f.front Fresh empty_draft g.behind g.is in
-    let h = halts-turn f.token k (turn g.behind.open_part (seen f.token) f.token.at) refl w.walk w.new f.stops f.carries in
+    let w = went f.front Fresh empty_draft g.beyond g.is in
+    let h = halts-turn f.token k (turn g.beyond.open_part (seen f.token) f.token.at) refl w.walk w.new f.stops f.carries in
     ap (run beginning) f.parts ∙ run-halts empty_draft f.token f.more k w.walk w.new h ∙ ap (λ m. Err (stopped k m)) (sym f.at_is)
 
 -- ---- the verdict on a list
@@ -144,8 +144,8 @@ pub record Verdict (ts : List Placed) : Type 0 where
 
 pub verdict_of : (ts : List Placed) → Verdict ts
 verdict_of ts = record {
-  means = λ blocks. (means-ends ts blocks, λ w. ends-means ts blocks w.behind w.is w.ends w.blocks_are);
-  too_soon = (soon-unfinished ts, λ u. unfinished-soon ts u.behind u.is u.open_still);
+  means = λ blocks. (means-ends ts blocks, λ w. ends-means ts blocks w.beyond w.is w.ends w.blocks_are);
+  too_soon = (soon-unfinished ts, λ u. unfinished-soon ts u.beyond u.is u.open_still);
   fault = λ k at. (fault-stopped ts k at, stopped-fault ts k at);
 }
 
@@ -154,7 +154,7 @@ pub one_meaning : (ts : List Placed) (a b : Blocks) → Means ts a → Means ts 
 one_meaning ts a b m n =
     let v = means-ends ts a m in
     let w = means-ends ts b n in
-    let same : v.behind ≡ w.behind = ok-is (sym v.is ∙ w.is) in
+    let same : v.beyond ≡ w.beyond = ok-is (sym v.is ∙ w.is) in
     v.blocks_are ∙ ap (λ r. drafted r.draft) same ∙ sym w.blocks_are
 
 abbrev halted_as : Stopped → Result Reader Stopped
@@ -172,7 +172,7 @@ one_fault ts n m at on_mark f g =
 pub means-faultless : (ts : List Placed) (blocks : Blocks) (k : ℕ) (at : Mark) → Means ts blocks → FaultIn ts k at → ⊥
 means-faultless ts blocks k at m f =
     let w = means-ends ts blocks m in
-    let bad : Ok w.behind ≡ Err (stopped k at) = sym w.is ∙ fault-stopped ts k at f in
+    let bad : Ok w.beyond ≡ Err (stopped k at) = sym w.is ∙ fault-stopped ts k at f in
     cc
 
 pub means-whole : (ts : List Placed) (blocks : Blocks) → Means ts blocks → EndsTooSoon ts → ⊥
@@ -181,7 +181,7 @@ means-whole ts blocks m s = s.means_nothing blocks m
 pub soon-faultless : (ts : List Placed) (k : ℕ) (at : Mark) → EndsTooSoon ts → FaultIn ts k at → ⊥
 soon-faultless ts k at s f =
     let g = good-goes ts s.good in
-    let bad : Ok g.behind ≡ Err (stopped k at) = sym g.is ∙ fault-stopped ts k at f in
+    let bad : Ok g.beyond ≡ Err (stopped k at) = sym g.is ∙ fault-stopped ts k at f in
     cc
 
 -- every list means blocks, ends too soon, or has a fault

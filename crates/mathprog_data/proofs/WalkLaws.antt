@@ -23,29 +23,29 @@ joined F (emit e w) v = emit e (joined F w v)
 pub record Cut (F : Open → List Placed → Type 0) (o : Open) (ts us : List Placed) (events : List Event) : Type 0 where
   pub mid : Open
   pub before : List Event
-  pub behind : List Event
+  pub beyond : List Event
   pub walk : Walks o ts mid before
-  pub rest : Takes F mid us behind
-  pub parts : events ≡ before ++ behind
+  pub rest : Takes F mid us beyond
+  pub parts : events ≡ before ++ beyond
 
 -- where F holds at the end of a list alone
 abbrev pub AtEnds : (Open → List Placed → Type 0) → Type 0
 AtEnds F = (o : Open) (t : Placed) (ts : List Placed) → F o (t ∷ ts) → ⊥
 
 cut-go : {F : Open → List Placed → Type 0} {o next : Open} {t : Placed} {ts us : List Placed} {events : List Event} → turn o (seen t) t.at ≡ Go next → Cut F next ts us events → Cut F o (t ∷ ts) us events
-cut-go e c = record { mid = c.mid; before = c.before; behind = c.behind; walk = go e c.walk; rest = c.rest; parts = c.parts }
+cut-go e c = record { mid = c.mid; before = c.before; beyond = c.beyond; walk = go e c.walk; rest = c.rest; parts = c.parts }
 
 cut-emit : {F : Open → List Placed → Type 0} {o next : Open} {t : Placed} {ts us : List Placed} {event : Event} {events : List Event} → turn o (seen t) t.at ≡ Emit event next → Cut F next ts us events → Cut F o (t ∷ ts) us (event ∷ events)
-cut-emit {event = event} e c = record { mid = c.mid; before = event ∷ c.before; behind = c.behind; walk = emit e c.walk; rest = c.rest; parts = ap (λ z. event ∷ z) c.parts }
+cut-emit {event = event} e c = record { mid = c.mid; before = event ∷ c.before; beyond = c.beyond; walk = emit e c.walk; rest = c.rest; parts = ap (λ z. event ∷ z) c.parts }
 
 pub cut : (F : Open → List Placed → Type 0) → AtEnds F → (ts : List Placed) {o : Open} {us : List Placed} {events : List Event} → Takes F o (ts ++ us) events → Cut F o ts us events
-cut F at_ends [] {o = o} {events = events} w = record { mid = o; before = []; behind = events; walk = done reached; rest = w; parts = refl }
+cut F at_ends [] {o = o} {events = events} w = record { mid = o; before = []; beyond = events; walk = done reached; rest = w; parts = refl }
 cut F at_ends (t ∷ ts) {o = o} {us = us} (done f) = absurd (at_ends o t (ts ++ us) f)
 cut F at_ends (t ∷ ts) (go e w) = cut-go e (cut F at_ends ts w)
 cut F at_ends (t ∷ ts) (emit e w) = cut-emit e (cut F at_ends ts w)
 
 -- a way over a list at whose events one is picked
-pub record Picked (F : Open → List Placed → Type 0) (o : Open) (ts : List Placed) (before : List Event) (event : Event) (behind : List Event) : Type 0 where
+pub record Picked (F : Open → List Placed → Type 0) (o : Open) (ts : List Placed) (before : List Event) (event : Event) (beyond : List Event) : Type 0 where
   pub mid : Open
   pub next : Open
   pub front : List Placed
@@ -54,36 +54,36 @@ pub record Picked (F : Open → List Placed → Type 0) (o : Open) (ts : List Pl
   pub parts : ts ≡ front ++ token ∷ more
   pub walk : Walks o front mid before
   pub turned : turn mid (seen token) token.at ≡ Emit event next
-  pub rest : Takes F next more behind
+  pub rest : Takes F next more beyond
 
-picked-go : {F : Open → List Placed → Type 0} {o next : Open} {t : Placed} {ts : List Placed} {before behind : List Event} {event : Event} → turn o (seen t) t.at ≡ Go next → Picked F next ts before event behind → Picked F o (t ∷ ts) before event behind
+picked-go : {F : Open → List Placed → Type 0} {o next : Open} {t : Placed} {ts : List Placed} {before beyond : List Event} {event : Event} → turn o (seen t) t.at ≡ Go next → Picked F next ts before event beyond → Picked F o (t ∷ ts) before event beyond
 picked-go {t = t} e p = record { mid = p.mid; next = p.next; front = t ∷ p.front; token = p.token; more = p.more; parts = ap (λ z. t ∷ z) p.parts; walk = go e p.walk; turned = p.turned; rest = p.rest }
 
-picked-emit : {F : Open → List Placed → Type 0} {o next : Open} {t : Placed} {ts : List Placed} {first : Event} {before behind : List Event} {event : Event} → turn o (seen t) t.at ≡ Emit first next → Picked F next ts before event behind → Picked F o (t ∷ ts) (first ∷ before) event behind
+picked-emit : {F : Open → List Placed → Type 0} {o next : Open} {t : Placed} {ts : List Placed} {first : Event} {before beyond : List Event} {event : Event} → turn o (seen t) t.at ≡ Emit first next → Picked F next ts before event beyond → Picked F o (t ∷ ts) (first ∷ before) event beyond
 picked-emit {t = t} e p = record { mid = p.mid; next = p.next; front = t ∷ p.front; token = p.token; more = p.more; parts = ap (λ z. t ∷ z) p.parts; walk = emit e p.walk; turned = p.turned; rest = p.rest }
 
-picked-here : {F : Open → List Placed → Type 0} {o next : Open} {t : Placed} {ts : List Placed} {event : Event} {behind : List Event} → turn o (seen t) t.at ≡ Emit event next → Takes F next ts behind → Picked F o (t ∷ ts) [] event behind
+picked-here : {F : Open → List Placed → Type 0} {o next : Open} {t : Placed} {ts : List Placed} {event : Event} {beyond : List Event} → turn o (seen t) t.at ≡ Emit event next → Takes F next ts beyond → Picked F o (t ∷ ts) [] event beyond
 picked-here {o = o} {next = next} {t = t} {ts = ts} e w = record { mid = o; next = next; front = []; token = t; more = ts; parts = refl; walk = done reached; turned = e; rest = w }
 
-picked-at : (F : Open → List Placed → Type 0) (before : List Event) {o next : Open} {t : Placed} {ts : List Placed} {first event : Event} {behind events : List Event} → turn o (seen t) t.at ≡ Emit first next → Takes F next ts events → first ∷ events ≡ before ++ event ∷ behind
-    → ((others : List Event) → events ≡ others ++ event ∷ behind → Picked F next ts others event behind) → Picked F o (t ∷ ts) before event behind
-picked-at F [] {o = o} {next = next} {t = t} {ts = ts} {first = first} {event = event} {behind = behind} {events = events} f w e more =
+picked-at : (F : Open → List Placed → Type 0) (before : List Event) {o next : Open} {t : Placed} {ts : List Placed} {first event : Event} {beyond events : List Event} → turn o (seen t) t.at ≡ Emit first next → Takes F next ts events → first ∷ events ≡ before ++ event ∷ beyond
+    → ((others : List Event) → events ≡ others ++ event ∷ beyond → Picked F next ts others event beyond) → Picked F o (t ∷ ts) before event beyond
+picked-at F [] {o = o} {next = next} {t = t} {ts = ts} {first = first} {event = event} {beyond = beyond} {events = events} f w e more =
     let same : first ≡ event = cc in
-    let tail : events ≡ behind = cc in
+    let tail : events ≡ beyond = cc in
     let P : List Event → Type 0 = λ es. Takes F next ts es in
     picked-here (f ∙ ap (λ x. Emit x next) same) (subst P tail w)
-picked-at F (one ∷ before) {o = o} {next = next} {t = t} {ts = ts} {first = first} {event = event} {behind = behind} {events = events} f w e more =
+picked-at F (one ∷ before) {o = o} {next = next} {t = t} {ts = ts} {first = first} {event = event} {beyond = beyond} {events = events} f w e more =
     let same : first ≡ one = cc in
-    let tail : events ≡ before ++ event ∷ behind = cc in
+    let tail : events ≡ before ++ event ∷ beyond = cc in
     picked-emit (f ∙ ap (λ x. Emit x next) same) (more before tail)
 
-no-events : (before : List Event) (event : Event) (behind : List Event) → [] ≡ before ++ event ∷ behind → ⊥
-no-events [] event behind e = cc
-no-events (x ∷ xs) event behind e = cc
+no-events : (before : List Event) (event : Event) (beyond : List Event) → [] ≡ before ++ event ∷ beyond → ⊥
+no-events [] event beyond e = cc
+no-events (x ∷ xs) event beyond e = cc
 
 -- every event of a way has its token
-pub picked : (F : Open → List Placed → Type 0) {o : Open} {ts : List Placed} {events : List Event} (before : List Event) {event : Event} {behind : List Event} → Takes F o ts events → events ≡ before ++ event ∷ behind → Picked F o ts before event behind
-picked F before {event = event} {behind = behind} (done f) e = absurd (no-events before event behind e)
+pub picked : (F : Open → List Placed → Type 0) {o : Open} {ts : List Placed} {events : List Event} (before : List Event) {event : Event} {beyond : List Event} → Takes F o ts events → events ≡ before ++ event ∷ beyond → Picked F o ts before event beyond
+picked F before {event = event} {beyond = beyond} (done f) e = absurd (no-events before event beyond e)
 picked F before (go f w) e = picked-go f (picked F before w e)
 picked F before (emit f w) e = picked-at F before f w e (λ others g. picked F others w g)
 

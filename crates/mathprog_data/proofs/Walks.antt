@@ -51,7 +51,7 @@ given_events-append [] hs events = refl
 given_events-append (g ∷ gs) hs events = ap (λ z. ValueGiven g ∷ z) (given_events-append gs hs events)
 
 -- ---- states in which a comma may stand
--- the first state is the second behind its comma
+-- the first state is the second after its comma
 pub data Loosened : Open → Open → Type 0 where
   set : {n : ℕ} → Loosened (InSet n false) (InSet n true)
   named : {param : ℕ} → Loosened (ParamNamed param false) (ParamNamed param true)
@@ -103,7 +103,7 @@ loosened-comma columns at = refl
 loosened-comma rows at = refl
 loosened-comma row at = refl
 
--- a way may be cut in this state: behind no comma, and not among records
+-- a way may be cut in this state: after no comma, and not among records
 abbrev pub rests : Open → Bool
 rests (InSet n c) = c
 rests (ParamNamed param c) = c

@@ -20,7 +20,7 @@ use Rattle.mathprog_data.specs.Slices.{Slice, all_free, free_count, index_at, Pl
 use Rattle.mathprog_data.specs.Slices as slices
 use Rattle.mathprog_data.specs.Statements.{Subscripts, Plain, Form, Records, Default, Begun, SetBegun, ParamBegun, TabbingBegun, Beginning, Statement, Set, Param, IsStatement}
 use Rattle.mathprog_data.specs.Statements as statements
-use Rattle.mathprog_data.specs.Symbols.{Name, Number, IsNumber, IsValue}
+use Rattle.mathprog_data.specs.Symbols.{Name, Number, IsNumberToken, IsValue}
 use Rattle.mathprog_data.specs.Symbols as symbols
 use Rattle.mathprog_data.specs.Tables.{Given, given, Cells, Rows, Table, cell_index}
 use Rattle.mathprog_data.specs.Tables as tables
@@ -50,7 +50,7 @@ IsWithin n = unsigned_abs n.0 ≤ 10 ^ 24
 reads-within : (bytes : List ℕ) (n : Number) → Reads bytes (Ok n) → IsWithin n
 reads-within bytes n (p, spells, is) = IfOk-bound p (Ok n) (sym is)
 
-number-is : (t : Placed) (n : Number) → IsNumber t n → IsWithin n
+number-is : (t : Placed) (n : Number) → IsNumberToken t n → IsWithin n
 number-is t n (bytes, bare, reads) = reads-within bytes n reads
 
 value-is : (param : ℕ) (t : Placed) (n : Number) → IsValue param t n → IsWithin n
@@ -178,7 +178,7 @@ begins-with ts rest (Set number members) (statements.set_is {us = us} beginning 
 begins-with ts rest (Param form number default values) (statements.param_is {us = us} beginning comma stated records) = (us, ParamBegun number, beginning, refl)
 begins-with ts rest (Param form number default values) (statements.tabbing_is {us = us} beginning comma sign records) = (us, TabbingBegun number default, beginning, refl)
 
--- statements behind statements
+-- statements after statements
 more-statements : (ts us vs : List Placed) (ss : List Statement) (s : Statement) → Statements ts us ss → IsStatement us vs s → Statements ts vs (ss ++ s ∷ [])
 more-statements ts us vs [] s meaning.none is = meaning.more is meaning.none
 more-statements ts us vs (first ∷ ss) s (meaning.more {us = ws} own others) is = meaning.more own (more-statements ws us vs ss s others is)

@@ -1,6 +1,7 @@
 -- Tokens by what they say: a sign, a bare symbol, or a quoted symbol (the data section of GNU MathProg).
 use Rattle.std.specs.Prelude.{ℕ, Bool, true, false, ◌&&◌, ◌==◌, nat_lt, not, List, [], ◌∷◌, length, if◌then◌else◌}
 use Rattle.std.specs.Str.{all_ascii_digits}
+use Rattle.mathprog_data.specs.Characters.{zero_digit}
 use Rattle.mathprog_data.specs.declared.blocks.Mark.{Mark}
 use Rattle.mathprog_data.specs.declared.lexeme.Sign.{Sign as TheSign}
 use Rattle.mathprog_data.specs.declared.lexeme.Lexeme.{Lexeme as SlicedLexeme}
@@ -22,7 +23,7 @@ pub record Placed : Type 0 where
 -- digits without leading zeros; one digit always stays
 abbrev pub without_leading_zeros : List ℕ → List ℕ
 without_leading_zeros [] = []
-without_leading_zeros (c ∷ cs) = if (c == 48) && nat_lt 0 (length cs) then without_leading_zeros cs else c ∷ cs
+without_leading_zeros (c ∷ cs) = if (c == zero_digit) && nat_lt 0 (length cs) then without_leading_zeros cs else c ∷ cs
 
 -- the name of a bare symbol: one of digits alone names the digits without leading zeros
 abbrev pub bare_name : List ℕ → List ℕ

@@ -9,7 +9,7 @@ use Rattle.mathprog_data.specs.Places.{place_after}
 use Rattle.mathprog_data.specs.Lexemes.{Lexeme, Sign, Bare, Quoted, Placed}
 use Rattle.mathprog_data.specs.LexingPieces.{Piece, SignToken, BareToken, QuotedToken, spelling, doubled, IsWhole, Flaw, StrayByte, BadInQuotes, OpenQuotes, OpenBlock, flawed, IsFlaw}
 
--- how a lexing ends: with the text, behind the closing `end ;`, or at a lexical fault, with its number and place
+-- how a lexing ends: with the text, after the closing `end ;`, or at a lexical fault, with its number and place
 pub data LexingEnd : Type 0 where
   TextEnds : LexingEnd
   Closes : LexingEnd
@@ -57,26 +57,26 @@ is_end (Bare bytes) = bytes_eq bytes (codes "end")
 is_end _ = false
 
 -- somewhere `;`, a bare `end` and `;` stand in turn
-abbrev pub closes_behind : List Lexeme → Bool
-closes_behind (first ∷ second ∷ third ∷ more) =
-    (is_semicolon first && is_end second && is_semicolon third) || closes_behind (second ∷ third ∷ more)
-closes_behind _ = false
+abbrev pub closes_after : List Lexeme → Bool
+closes_after (first ∷ second ∷ third ∷ more) =
+    (is_semicolon first && is_end second && is_semicolon third) || closes_after (second ∷ third ∷ more)
+closes_after _ = false
 
 -- somewhere a closing `end ;` stands: a bare `end` that is the first lexeme or stands directly after `;`, and `;` directly after it
 abbrev pub has_closing : List Lexeme → Bool
-has_closing lexemes = closes_behind (Sign Semicolon ∷ lexemes)
+has_closing lexemes = closes_after (Sign Semicolon ∷ lexemes)
 
 -- the number of a lexical fault
 abbrev pub fault_of : Flaw → ℕ
 fault_of (StrayByte byte rest) = bad_byte
-fault_of (BadInQuotes quote before byte behind rest) = bad_byte
+fault_of (BadInQuotes quote before byte after rest) = bad_byte
 fault_of (OpenQuotes quote bytes rest) = open_string
 fault_of (OpenBlock bytes) = open_comment
 
 -- what stands between the beginning of a flaw and the place at which it is answered: a byte that may not stand in a quoted
 -- symbol is answered at its own place, all else at its first byte
 abbrev pub bytes_passed : Flaw → List ℕ
-bytes_passed (BadInQuotes quote before byte behind rest) = quote ∷ doubled quote before
+bytes_passed (BadInQuotes quote before byte after rest) = quote ∷ doubled quote before
 bytes_passed _ = []
 
 -- the pieces end so before this rest of the text: at its end, with the `;` of the first closing `end ;`, or at a flaw; nothing

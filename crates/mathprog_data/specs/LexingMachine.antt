@@ -10,6 +10,7 @@ use Rattle.mathprog_data.specs.declared.lexer.Seen.{Seen}
 use Rattle.mathprog_data.specs.declared.lexer.Seen.TheVariants.{Nothing, Token, Fault}
 use Rattle.mathprog_data.specs.declared.lexer.pending.Pending.{Pending}
 use Rattle.mathprog_data.specs.declared.lexer.pending.Pending.TheVariants as pendings
+use Rattle.mathprog_data.specs.Characters.{hash, open_paren, close_paren, star, comma, slash, colon, semicolon, equals, open_bracket, close_bracket}
 use Rattle.mathprog_data.specs.Faults.{bad_byte, open_string, open_comment}
 use Rattle.mathprog_data.specs.Places.{is_line_feed}
 use Rattle.mathprog_data.specs.LexingBytes.{is_separator, is_symbol_byte, is_quote, is_printable}
@@ -27,31 +28,31 @@ pub record State : Type 0 where
 -- the sign of one byte, ':' left out
 abbrev pub sign_of : ℕ → Option TheSign
 sign_of byte =
-    if byte == 59 then Some signs.Semicolon else
-    if byte == 44 then Some signs.Comma else
-    if byte == 91 then Some signs.OpenBracket else
-    if byte == 93 then Some signs.CloseBracket else
-    if byte == 40 then Some signs.OpenParen else
-    if byte == 41 then Some signs.CloseParen else
-    if byte == 42 then Some signs.Star else None
+    if byte == semicolon then Some signs.Semicolon else
+    if byte == comma then Some signs.Comma else
+    if byte == open_bracket then Some signs.OpenBracket else
+    if byte == close_bracket then Some signs.CloseBracket else
+    if byte == open_paren then Some signs.OpenParen else
+    if byte == close_paren then Some signs.CloseParen else
+    if byte == star then Some signs.Star else None
 
 -- what is pending goes on with this byte
 abbrev pub continues : Pending → ℕ → Bool
 continues pendings.Gap byte = true
 continues pendings.LineComment byte = not (is_line_feed byte)
-continues pendings.Slash byte = byte == 42
+continues pendings.Slash byte = byte == star
 continues pendings.BlockComment byte = true
 continues pendings.Star byte = true
-continues pendings.Colon byte = byte == 61
+continues pendings.Colon byte = byte == equals
 continues pendings.Bare byte = is_symbol_byte byte
 continues (pendings.Quoted quote) byte = true
 continues (pendings.Quote quote) byte = byte == quote
 
--- what is pending behind a byte of a comment
+-- what is pending after a byte of a comment
 abbrev pub in_comment : ℕ → Pending
-in_comment byte = if byte == 42 then pendings.Star else pendings.BlockComment
+in_comment byte = if byte == star then pendings.Star else pendings.BlockComment
 
--- what is pending behind a byte that ends nothing, begins nothing and makes nothing whole
+-- what is pending after a byte that ends nothing, begins nothing and makes nothing whole
 abbrev pub quiet : Pending → ℕ → Option Pending
 quiet pendings.Gap byte = if is_separator byte then Some pendings.Gap else None
 quiet pendings.Bare byte = if is_symbol_byte byte then Some pendings.Bare else None
@@ -59,7 +60,7 @@ quiet pendings.LineComment byte = if is_line_feed byte then None else Some pendi
 quiet pendings.BlockComment byte = Some (in_comment byte)
 quiet _ byte = None
 
--- the place behind a byte at this place
+-- the place after a byte at this place
 abbrev pub next_mark : Mark → ℕ → Mark
 next_mark mark byte =
     if is_line_feed byte then record { line = mark.line + 1; column = 1 } else record { line = mark.line; column = mark.column + 1 }
@@ -135,10 +136,10 @@ abbrev pub opened : State → ℕ → Step
 opened s byte =
     if is_symbol_byte byte then silent (begun s byte pendings.Bare) else
     if is_separator byte then silent (passed s byte pendings.Gap) else
-    if byte == 58 then silent (begun s byte pendings.Colon) else
+    if byte == colon then silent (begun s byte pendings.Colon) else
     if is_quote byte then silent (begun s byte (pendings.Quoted byte)) else
-    if byte == 35 then silent (begun s byte pendings.LineComment) else
-    if byte == 47 then silent (begun s byte pendings.Slash) else
+    if byte == hash then silent (begun s byte pendings.LineComment) else
+    if byte == slash then silent (begun s byte pendings.Slash) else
     sign_taken s byte (sign_of byte)
 
 -- a byte is taken inside quotes of this byte
@@ -148,9 +149,9 @@ quoted_taken s quote byte =
     if byte == quote then silent (passed s byte (pendings.Quote quote)) else
     silent (quoted s byte (pendings.Quoted quote))
 
--- what is pending behind a byte that stands behind '*' in a comment
-abbrev pub behind_star : ℕ → Pending
-behind_star byte = if byte == 47 then pendings.Gap else in_comment byte
+-- what is pending after a byte that stands after '*' in a comment
+abbrev pub after_star : ℕ → Pending
+after_star byte = if byte == slash then pendings.Gap else in_comment byte
 
 -- a byte is taken with which this goes on
 abbrev pub taken_in : State → ℕ → Pending → Step
@@ -158,7 +159,7 @@ taken_in s byte pendings.Gap = opened s byte
 taken_in s byte pendings.LineComment = silent (passed s byte pendings.LineComment)
 taken_in s byte pendings.Slash = silent (passed s byte pendings.BlockComment)
 taken_in s byte pendings.BlockComment = silent (passed s byte (in_comment byte))
-taken_in s byte pendings.Star = silent (passed s byte (behind_star byte))
+taken_in s byte pendings.Star = silent (passed s byte (after_star byte))
 taken_in s byte pendings.Colon =
     let next = passed s byte pendings.Gap in record { state = next; seen = token_of next (Sign signs.Gives) }
 taken_in s byte pendings.Bare = silent (passed s byte pendings.Bare)

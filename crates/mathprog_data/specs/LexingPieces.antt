@@ -3,17 +3,21 @@ use Rattle.std.specs.Prelude.{◌≡◌, ◌≢◌, ℕ, Bool, true, false, not,
 use Rattle.std.specs.List.{list_all, flat_map}
 use Rattle.mathprog_data.specs.declared.lexeme.Sign.{Sign}
 use Rattle.mathprog_data.specs.declared.lexeme.Sign.TheVariants.{Semicolon, Comma, Colon, Gives, OpenBracket, CloseBracket, OpenParen, CloseParen, Star}
+use Rattle.mathprog_data.specs.Characters.{hash, star, slash, equals}
 use Rattle.mathprog_data.specs.Places.{is_line_feed}
 use Rattle.mathprog_data.specs.LexingBytes.{is_separator, is_sign_byte, is_symbol_byte, is_quote, is_printable, stops}
 
--- a byte that separates, a comment with its text, or a token; a quoted symbol has its quote and the bytes that it names
+-- a byte that separates, a comment with its text, or a token
 pub data Piece : Type 0 where
-  Separator : ℕ → Piece
-  LineComment : List ℕ → Piece
-  BlockComment : List ℕ → Piece
+  Separator : (byte : ℕ) → Piece
+  -- '#' and these bytes
+  LineComment : (bytes : List ℕ) → Piece
+  -- '/*', these bytes and '*/'
+  BlockComment : (bytes : List ℕ) → Piece
   SignToken : Sign → Piece
-  BareToken : List ℕ → Piece
-  QuotedToken : ℕ → List ℕ → Piece
+  BareToken : (bytes : List ℕ) → Piece
+  -- between two such quotes the bytes that it names
+  QuotedToken : (quote : ℕ) → (bytes : List ℕ) → Piece
 
 -- the bytes of a sign
 abbrev pub sign_bytes : Sign → List ℕ
@@ -43,7 +47,7 @@ spelling (QuotedToken quote bytes) = quote ∷ (doubled quote bytes ++ quote ∷
 -- whether '*' stands directly before '/' somewhere
 abbrev pub has_comment_end : List ℕ → Bool
 has_comment_end [] = false
-has_comment_end (byte ∷ rest) = (byte == 42 && not (stops (λ next. next == 47) rest)) || has_comment_end rest
+has_comment_end (byte ∷ rest) = (byte == star && not (stops (λ next. next == slash) rest)) || has_comment_end rest
 
 -- no line feed is among the bytes
 abbrev pub is_one_line : List ℕ → Bool
@@ -56,25 +60,27 @@ abbrev pub IsWhole : Piece → (rest : List ℕ) → Type 0
 IsWhole (Separator byte) rest = is_separator byte ≡ true
 IsWhole (LineComment bytes) rest = (is_one_line bytes ≡ true) × (stops (λ next. not (is_line_feed next)) rest ≡ true)
 IsWhole (BlockComment bytes) rest = has_comment_end (bytes ++ codes "*") ≡ false
-IsWhole (SignToken Colon) rest = stops (λ next. next == 61) rest ≡ true
+IsWhole (SignToken Colon) rest = stops (λ next. next == equals) rest ≡ true
 IsWhole (SignToken sign) rest = ⊤
 IsWhole (BareToken bytes) rest = (bytes ≢ []) × (list_all is_symbol_byte bytes ≡ true) × (stops is_symbol_byte rest ≡ true)
 IsWhole (QuotedToken quote bytes) rest =
     (is_quote quote ≡ true) × (list_all is_printable bytes ≡ true) × (stops (λ next. next == quote) rest ≡ true)
 
--- What stands where no piece does: a byte with which none can begin, a quoted symbol that is closed and holds a byte that
--- may not stand there (the first such byte between the bytes before and behind it), a quoted symbol that isn't closed on its
--- line, or a comment that isn't closed. Each has the whole rest of the text.
+-- what stands where no piece does, each with the whole rest of the text
 pub data Flaw : Type 0 where
-  StrayByte : ℕ → List ℕ → Flaw
-  BadInQuotes : ℕ → List ℕ → ℕ → List ℕ → List ℕ → Flaw
-  OpenQuotes : ℕ → List ℕ → List ℕ → Flaw
-  OpenBlock : List ℕ → Flaw
+  -- a byte with which no piece can begin
+  StrayByte : (byte : ℕ) → (rest : List ℕ) → Flaw
+  -- a quoted symbol that is closed, and its first byte that may not stand there, with the bytes before and after that
+  BadInQuotes : (quote : ℕ) → (before : List ℕ) → (byte : ℕ) → (after : List ℕ) → (rest : List ℕ) → Flaw
+  -- a quoted symbol with these bytes that isn't closed on its line
+  OpenQuotes : (quote : ℕ) → (bytes : List ℕ) → (rest : List ℕ) → Flaw
+  -- a comment that isn't closed, from after its '/*' on
+  OpenBlock : (bytes : List ℕ) → Flaw
 
 -- the text from the flaw on
 abbrev pub flawed : Flaw → List ℕ
 flawed (StrayByte byte rest) = byte ∷ rest
-flawed (BadInQuotes quote before byte behind rest) = quote ∷ (doubled quote (before ++ byte ∷ behind) ++ quote ∷ rest)
+flawed (BadInQuotes quote before byte after rest) = quote ∷ (doubled quote (before ++ byte ∷ after) ++ quote ∷ rest)
 flawed (OpenQuotes quote bytes rest) = quote ∷ (doubled quote bytes ++ rest)
 flawed (OpenBlock bytes) = codes "/*" ++ bytes
 
@@ -82,14 +88,14 @@ flawed (OpenBlock bytes) = codes "/*" ++ bytes
 abbrev pub begins_piece : ℕ → (rest : List ℕ) → Bool
 begins_piece byte rest =
     is_separator byte || is_sign_byte byte || is_symbol_byte byte || is_quote byte
-    || byte == 35 || (byte == 47 && not (stops (λ next. next == 42) rest))
+    || byte == hash || (byte == slash && not (stops (λ next. next == star) rest))
 
 -- the flaw is one
 abbrev pub IsFlaw : Flaw → Type 0
 IsFlaw (StrayByte byte rest) = begins_piece byte rest ≡ false
-IsFlaw (BadInQuotes quote before byte behind rest) =
+IsFlaw (BadInQuotes quote before byte after rest) =
     (is_quote quote ≡ true) × (list_all is_printable before ≡ true) × (is_printable byte ≡ false)
-    × (is_one_line (byte ∷ behind) ≡ true) × (stops (λ next. next == quote) rest ≡ true)
+    × (is_one_line (byte ∷ after) ≡ true) × (stops (λ next. next == quote) rest ≡ true)
 IsFlaw (OpenQuotes quote bytes rest) =
     (is_quote quote ≡ true) × (is_one_line bytes ≡ true) × (stops (λ next. not (is_line_feed next)) rest ≡ true)
 IsFlaw (OpenBlock bytes) = has_comment_end bytes ≡ false

@@ -27,7 +27,7 @@ and_then (Fault fault) run = record { spans = []; fault = Some fault }
 abbrev pub nothing_more : Run
 nothing_more = record { spans = []; fault = None }
 
--- what is seen of these bytes, behind which the text ends
+-- what is seen of these bytes, after which the text ends
 unfoldable pub run : State → List ℕ → Run
 run s [] = and_then (ended s s.pending) nothing_more
 run s (byte ∷ bytes) =
@@ -49,10 +49,10 @@ abbrev pub closes : Closing → Lexeme → Bool
 closes End lexeme = is_semicolon lexeme
 closes _ lexeme = false
 
--- what is known of the closing behind the lexeme
-abbrev pub closing_behind : Closing → Lexeme → Closing
-closing_behind Free lexeme = if is_semicolon lexeme then Free else if is_end lexeme then End else Inside
-closing_behind _ lexeme = if is_semicolon lexeme then Free else Inside
+-- what is known of the closing after the lexeme
+abbrev pub closing_after : Closing → Lexeme → Closing
+closing_after Free lexeme = if is_semicolon lexeme then Free else if is_end lexeme then End else Inside
+closing_after _ lexeme = if is_semicolon lexeme then Free else Inside
 
 -- the tokens of a text with their places, and how they end
 pub record Lexed : Type 0 where
@@ -70,7 +70,7 @@ lexed_from text closing [] (Some fault) = record { placed = []; end = Fails faul
 lexed_from text closing (span ∷ spans) fault =
     if closes closing (placed_of text span).lexeme
     then record { placed = placed_of text span ∷ []; end = Closes }
-    else with_token (placed_of text span) (lexed_from text (closing_behind closing (placed_of text span).lexeme) spans fault)
+    else with_token (placed_of text span) (lexed_from text (closing_after closing (placed_of text span).lexeme) spans fault)
 
 -- the same of what was seen
 abbrev pub lexed_run : List ℕ → Closing → Run → Lexed

@@ -1,4 +1,5 @@
 pub mod BlocksView
+pub mod Characters
 pub mod DraftViews
 pub mod Faults
 pub mod Lexemes

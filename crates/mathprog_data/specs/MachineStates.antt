@@ -46,23 +46,23 @@ pub data Open : Type 0 where
   ParamRead : Open
   -- a parameter's name
   ParamNamed : ℕ → Bool → Open
-  -- `default` behind it
+  -- `default` after it
   DefaultRead : ℕ → Open
   -- `param default`
   LeadingDefault : Open
-  -- a number behind that
+  -- a number after that
   LeadingNumber : Option Number → Bool → Open
   -- the colon of tabbing data
   TabbingColon : Option Number → Open
-  -- the parameter's name behind it
+  -- the parameter's name after it
   TabbingNamed : ℕ → Bool → Open
   -- records
   InRecords : Form → ℕ → Slice → Bool → Open
   -- subscripts of plain data, with the mark of the first and how many more are due
   InPlain : Form → ℕ → Slice → List Name → Mark → ℕ → Bool → Open
-  -- in a slice, where a place is due and these many behind it
+  -- in a slice, where a place is due and these many after it
   PlaceDue : ℕ → Slice → ℕ → Open
-  -- in a slice, behind a place, where these many more are due
+  -- in a slice, after a place, where these many more are due
   PlaceRead : ℕ → Slice → ℕ → Open
   -- `(`, `(tr`, `(tr)`
   ParenRead : ℕ → Slice → Open

@@ -192,7 +192,7 @@ abbrev pub tr_closed : ℕ → Slice → Seen → Turn
 tr_closed param slice (SignSeen signs.Colon) = Go (InColumns param slice true [] false)
 tr_closed param slice x = Stop unexpected
 
--- `:=` behind the columns, of which there must be one
+-- `:=` after the columns, of which there must be one
 abbrev pub columns_end : ℕ → Slice → Bool → List Name → Turn
 columns_end param slice transposed [] = Stop unexpected
 columns_end param slice transposed (column ∷ columns) = Go (InRows param slice transposed (column ∷ columns) false)
@@ -211,7 +211,7 @@ in_rows param slice transposed columns c (SignSeen signs.Comma) at = comma c (In
 in_rows param slice transposed columns c (SymbolSeen w name n) at = Go (InRow param slice transposed columns name at columns true)
 in_rows param slice transposed columns c x at = in_records Listed param slice false x at
 
--- behind a cell: in the row, or between rows where it was the last one
+-- after a cell: in the row, or between rows where it was the last one
 abbrev pub row_left : ℕ → Slice → Bool → List Name → Name → Mark → List Name → Open
 row_left param slice transposed columns row mark [] = InRows param slice transposed columns true
 row_left param slice transposed columns row mark (column ∷ left) = InRow param slice transposed columns row mark (column ∷ left) true
@@ -275,13 +275,13 @@ is_second d (ParamClosed param) = false
 abbrev pub reader : Open → Draft → Reader
 reader open_part draft = record { open_part = open_part; draft = draft }
 
--- the machine behind a turn: the number of the fault where it stops
+-- the machine after a turn: the number of the fault where it stops
 abbrev pub taken : Draft → Turn → Result Reader ℕ
 taken d (Stop fault) = Err fault
 taken d (Go next) = Ok (reader next d)
 taken d (Emit event next) = if is_second d event then Err given_twice else Ok (reader next (noted d event))
 
--- the machine behind a token
+-- the machine after a token
 abbrev pub step : Reader → Lexeme → Mark → Result Reader ℕ
 step r lexeme at = taken r.draft (turn r.open_part (seen_of lexeme) at)
 

@@ -55,4 +55,4 @@ outcome (Some fault) r = Err fault
 
 -- the answer and the new state are those of this turn
 abbrev pub Turned : StatementReader → Turn → Option ℕ → StatementReader → Type 0
-Turned before turn fault behind = taken (draft_view before.draft) turn ≡ outcome fault (reader_view behind)
+Turned before turn fault after = taken (draft_view before.draft) turn ≡ outcome fault (reader_view after)

@@ -48,7 +48,8 @@ set_blocks (Param form number default values) = []
 -- the block of a parameter
 abbrev pub param_blocks : Statement → List ParamBlock
 param_blocks (Set number members) = []
-param_blocks (Param form number default values) = record { param = number; default = default_value default; values = map value_of values } ∷ []
+param_blocks (Param form number default values) =
+    record { param = number; default = default_value default; values = map value_of values } ∷ []
 
 -- 1 for a rounded number, 0 for another
 abbrev pub count_of : Number → ℕ
@@ -70,7 +71,11 @@ rounded_of (Param form number default values) = rounded_default default + rounde
 
 -- the blocks of these statements, in their order
 abbrev pub blocks_of : List Statement → Blocks
-blocks_of statements = record { sets = flat_map set_blocks statements; params = flat_map param_blocks statements; rounded = sum (map rounded_of statements) }
+blocks_of statements = record {
+  sets = flat_map set_blocks statements;
+  params = flat_map param_blocks statements;
+  rounded = sum (map rounded_of statements);
+}
 
 -- what a statement names: a set or a parameter, by number
 pub data Item : Type 0 where
@@ -102,12 +107,16 @@ is_named item statements = list_any (λ s. same_item item (item_of s)) statement
 -- `data ;` at the beginning, or nothing
 pub data Opening : List Placed → List Placed → Type 0 where
   none : {ts : List Placed} → Opening ts ts
-  words : {t u : Placed} {rest : List Placed} → IsKeyword (codes "data") t → IsSign signs.Semicolon u → Opening (t ∷ u ∷ rest) rest
+  words : {t u : Placed} {rest : List Placed}
+      → IsKeyword (codes "data") t → IsSign signs.Semicolon u
+      → Opening (t ∷ u ∷ rest) rest
 
 -- statements, one after the other
 pub data Statements : List Placed → List Placed → List Statement → Type 0 where
   none : {ts : List Placed} → Statements ts ts []
-  more : {ts us rest : List Placed} {statement : Statement} {statements : List Statement} → IsStatement ts us statement → Statements us rest statements → Statements ts rest (statement ∷ statements)
+  more : {ts us rest : List Placed} {statement : Statement} {statements : List Statement}
+      → IsStatement ts us statement → Statements us rest statements
+      → Statements ts rest (statement ∷ statements)
 
 -- `end ;` at the end, or nothing
 pub data Closing : List Placed → Type 0 where
@@ -116,12 +125,17 @@ pub data Closing : List Placed → Type 0 where
 
 -- the list is an optional `data ;`, these statements, and an optional `end ;`, where two statements may have one name
 pub data IsLoose : List Placed → List Statement → Type 0 where
-  loose : {ts us vs : List Placed} {statements : List Statement} → Opening ts us → Statements us vs statements → Closing vs → IsLoose ts statements
+  loose : {ts us vs : List Placed} {statements : List Statement}
+      → Opening ts us → Statements us vs statements → Closing vs
+      → IsLoose ts statements
 
 -- no name in the list begins a second statement: wherever whole statements are followed by the beginning of another one, through its
 -- name, that name is the name of none of them
 abbrev pub NoNameTwice : List Placed → Type 0
-NoNameTwice ts = (us vs ws : List Placed) (statements : List Statement) (begun : Begun) → Opening ts us → Statements us vs statements → Beginning vs ws begun → is_named (item_begun begun) statements ≡ false
+NoNameTwice ts =
+    (us vs ws : List Placed) (statements : List Statement) (begun : Begun)
+    → Opening ts us → Statements us vs statements → Beginning vs ws begun
+    → is_named (item_begun begun) statements ≡ false
 
 -- the list means these blocks
 pub record Means (ts : List Placed) (blocks : Blocks) : Type 0 where

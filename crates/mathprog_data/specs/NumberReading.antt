@@ -5,31 +5,32 @@ use Rattle.scaled_decimals.specs.DecimalReading.{decimal_of}
 use Rattle.scaled_decimals.specs.NumberText.{NumberText, Exponent, Sign, Bare, Plus, Minus}
 use Rattle.scaled_decimals.specs.PartsReading.{digits_in_front, after_digits}
 use Rattle.scaled_decimals.specs.declared.reading.DecFault.{DecFault}
+use Rattle.mathprog_data.specs.Characters.{plus, minus, point}
 use Rattle.mathprog_data.specs.Symbols.{Number}
 
 -- what follows a sign in front, or the text where none stands there
 abbrev pub after_sign : List ℕ → List ℕ
-after_sign text = if (slice_index text 0 == 45) || (slice_index text 0 == 43) then drop 1 text else text
+after_sign text = if (slice_index text 0 == minus) || (slice_index text 0 == plus) then drop 1 text else text
 
 -- the sign, by whether it is a minus and whether it is a plus
 abbrev pub sign_by : Bool → Bool → Sign
-sign_by true plus = Minus
+sign_by true _ = Minus
 sign_by false true = Plus
 sign_by false false = Bare
 
 -- the sign in front
 abbrev pub sign_of : List ℕ → Sign
-sign_of text = sign_by (slice_index text 0 == 45) (slice_index text 0 == 43)
+sign_of text = sign_by (slice_index text 0 == minus) (slice_index text 0 == plus)
 
--- the digits behind a point in front
+-- the digits after a point in front
 abbrev pub places_in_front : List ℕ → List ℕ
-places_in_front text = if slice_index text 0 == 46 then digits_in_front (drop 1 text) else drop (length text) text
+places_in_front text = if slice_index text 0 == point then digits_in_front (drop 1 text) else drop (length text) text
 
 -- what follows a point in front and its digits
 abbrev pub after_places : List ℕ → List ℕ
-after_places text = if slice_index text 0 == 46 then after_digits (drop 1 text) else text
+after_places text = if slice_index text 0 == point then after_digits (drop 1 text) else text
 
--- the digits behind a point, where there is one
+-- the digits after a point, where there is one
 abbrev pub fraction_by : Bool → List ℕ → Option (List ℕ)
 fraction_by true text = Some (digits_in_front (drop 1 text))
 fraction_by false text = None
@@ -39,7 +40,7 @@ abbrev pub number_at : List ℕ → Option Exponent → NumberText
 number_at text e = record {
   sign = sign_of text;
   whole = digits_in_front (after_sign text);
-  fraction = fraction_by (slice_index (after_digits (after_sign text)) 0 == 46) (after_digits (after_sign text));
+  fraction = fraction_by (slice_index (after_digits (after_sign text)) 0 == point) (after_digits (after_sign text));
   exponent = e;
 }
 
@@ -51,7 +52,7 @@ power_at (c ∷ cs) =
     then Some (Some (record { capital = c == 69; sign = sign_of cs; digits = after_sign cs }))
     else None
 
--- the digits before and behind the point are one at least
+-- the digits before and after the point are one at least
 abbrev pub has_digits : List ℕ → Bool
 has_digits text = nat_lt 0 (length (digits_in_front (after_sign text)) + length (places_in_front (after_digits (after_sign text))))
 

@@ -2,6 +2,8 @@
 use Rattle.std.specs.Prelude.{ℕ, ◌+◌, ◌-◌, ◌≤◌, List, [], ◌∷◌, codes, map, Option, slice_index_or, position}
 use Rattle.std.specs.Option.{option_map}
 use Rattle.std.specs.Str.{bytes_eq}
+use Rattle.mathprog_data.specs.declared.params.TheConstants.{PARAM_COUNT, RESULTS_PATH}
+use Rattle.mathprog_data.specs.declared.sets.TheConstants.{SET_COUNT}
 
 -- a parameter: its word, and how many subscripts it has
 pub record Param : Type 0 where
@@ -28,7 +30,7 @@ set_words =
     ∷ codes "DAILYTIMEBRACKET"
     ∷ []
 
--- the parameters, from number 1; those from number 39 on are read and not used
+-- the parameters, from number 1: first those that the equations use, and from Conversionls on those that are read and not used
 abbrev pub params : List Param
 params =
     named (codes "YearSplit") 2
@@ -91,19 +93,27 @@ params =
 abbrev pub param_words : List (List ℕ)
 param_words = map (λ p. p.word) params
 
+-- how many sets there are
+abbrev pub set_count : ℕ
+set_count = SET_COUNT
+
+-- how many parameters there are
+abbrev pub param_count : ℕ
+param_count = PARAM_COUNT
+
 -- n is the number of a set
 abbrev pub IsSet : ℕ → Type 0
-IsSet n = (1 ≤ n) × (n ≤ 11)
+IsSet n = (1 ≤ n) × (n ≤ set_count)
 
 -- n is the number of a parameter
 abbrev pub IsParam : ℕ → Type 0
-IsParam n = (1 ≤ n) × (n ≤ 54)
+IsParam n = (1 ≤ n) × (n ≤ param_count)
 
--- the word of set n
+-- the word of set n. Blocks speak of numbers of sets alone (`AreWellFormed`)
 abbrev pub set_word : ℕ → List ℕ
 set_word n = slice_index_or set_words (n - 1) []
 
--- parameter n
+-- parameter n. Blocks speak of numbers of parameters alone (`AreWellFormed`), and a call takes no other (`IsParam`)
 abbrev pub param_at : ℕ → Param
 param_at n = slice_index_or params (n - 1) (named [] 0)
 
@@ -125,4 +135,4 @@ param_number word = option_map (λ i. i + 1) (position (bytes_eq word) param_wor
 
 -- the number of ResultsPath, whose values aren't numbers
 abbrev pub results_path : ℕ
-results_path = 44
+results_path = RESULTS_PATH

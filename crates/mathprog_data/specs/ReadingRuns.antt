@@ -15,11 +15,11 @@ pub data Outcome : Type 0 where
   Reads : Blocks → Outcome
   Refuses : ℕ → Mark → Outcome
 
--- the text ends behind these statements
+-- the text ends after these statements
 abbrev pub at_text_end : List ℕ → Reader → Outcome
 at_text_end text r = if may_end r.open_part then Reads (drafted r.draft) else Refuses end_too_soon (place_after text)
 
--- the lexing ends so, behind what was made of its tokens
+-- the lexing ends so, after what was made of its tokens
 abbrev pub outcome_at : List ℕ → LexingEnd → Result Reader Stopped → Outcome
 outcome_at text end (Err stopped) = Refuses stopped.number stopped.at
 outcome_at text TextEnds (Ok r) = at_text_end text r

@@ -11,17 +11,17 @@ use Rattle.mathprog_data.specs.NumberReading.{reading}
 use Rattle.mathprog_data.specs.Symbols.{Name, Number}
 use Rattle.mathprog_data.specs.Words.{word_of}
 
--- which word bytes are behind this quote, or without one
+-- which word bytes are after this quote, or without one
 abbrev pub word_by : Option ℕ → List ℕ → Word
 word_by None bytes = word_of bytes
 word_by (Some quote) bytes = Other
 
--- the name of bytes behind this quote, or without one
+-- the name of bytes after this quote, or without one
 abbrev pub name_by : Option ℕ → List ℕ → Name
 name_by None bytes = bare_name bytes
 name_by (Some quote) bytes = undoubled quote false bytes
 
--- the number of bytes behind this quote, or without one
+-- the number of bytes after this quote, or without one
 abbrev pub number_by : Option ℕ → List ℕ → Option Number
 number_by None bytes = reading bytes
 number_by (Some quote) bytes = None

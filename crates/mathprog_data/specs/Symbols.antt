@@ -34,19 +34,19 @@ abbrev pub IsSymbol : Placed → Name → Type 0
 IsSymbol t name = symbol_name t.lexeme ≡ Some name
 
 -- the token is this number: a bare symbol that reads as it, at most 10^15 in absolute value
-abbrev pub IsNumber : Placed → Number → Type 0
-IsNumber t number = (bytes : List ℕ) × (t.lexeme ≡ Bare bytes) × Reads bytes (Ok number)
+abbrev pub IsNumberToken : Placed → Number → Type 0
+IsNumberToken t number = (bytes : List ℕ) × (t.lexeme ≡ Bare bytes) × Reads bytes (Ok number)
 
--- the token is this value of the parameter: any symbol for ResultsPath, kept as 0 and never rounded, and a number for every other
-pub data IsValue : ℕ → Placed → Number → Type 0 where
-  numeric : {param : ℕ} {t : Placed} {n : Number} → nat_eq param results_path ≡ false → IsNumber t n → IsValue param t n
-  any_symbol : {param : ℕ} {t : Placed} → (name : Name) → nat_eq param results_path ≡ true → IsSymbol t name → IsValue param t (pos 0, false)
+-- the token is this value of the parameter
+pub data IsValue : (param : ℕ) → Placed → Number → Type 0 where
+  -- a number for every parameter but ResultsPath
+  numeric : {param : ℕ} {t : Placed} {n : Number} → nat_eq param results_path ≡ false → IsNumberToken t n → IsValue param t n
+  -- any symbol for ResultsPath, kept as 0 and never rounded
+  any_symbol : {param : ℕ} {t : Placed}
+      → (name : Name) → nat_eq param results_path ≡ true → IsSymbol t name
+      → IsValue param t (pos 0, false)
 
--- at most one comma, and none where commas aren't allowed; the second list follows it. The rules speak of places where one is allowed alone
-pub data OptionalComma : Bool → List Placed → List Placed → Type 0 where
-  none : {allowed : Bool} {ts : List Placed} → OptionalComma allowed ts ts
-  one : {t : Placed} {ts : List Placed} → IsSign signs.Comma t → OptionalComma true (t ∷ ts) ts
-
--- a comma, or none
-abbrev pub Comma : List Placed → List Placed → Type 0
-Comma ts rest = OptionalComma true ts rest
+-- [','], after which the second list of tokens follows
+pub data Comma : List Placed → List Placed → Type 0 where
+  none : {ts : List Placed} → Comma ts ts
+  one : {t : Placed} {ts : List Placed} → IsSign signs.Comma t → Comma (t ∷ ts) ts

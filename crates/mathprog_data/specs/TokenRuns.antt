@@ -18,8 +18,8 @@ abbrev pub slices : List ℕ → Slices
 slices text = slices_of text (lexed text)
 
 -- these tokens, and then those
-abbrev pub behind : List Token → Slices → Slices
-behind tokens more = record { tokens = map slice_of tokens ++ more.tokens; end = more.end }
+abbrev pub preceded_by : List Token → Slices → Slices
+preceded_by tokens more = record { tokens = map slice_of tokens ++ more.tokens; end = more.end }
 
 -- these tokens, of which the last closes the text
 abbrev pub closed_with : List Token → Slices

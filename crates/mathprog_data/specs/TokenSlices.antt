@@ -23,7 +23,7 @@ kind_of (Sign sign) = 1
 kind_of (Bare bytes) = 2
 kind_of (Quoted bytes) = 3
 
--- the token's kind, the bytes of the text from its first up to the one behind it, and where these two stand
+-- the token's kind, the bytes of the text from its first up to the one after it, and where these two stand
 abbrev pub slice_at : List ℕ → Placed → Slice
 slice_at text token = record {
   kind = kind_of token.lexeme;
@@ -36,22 +36,22 @@ slice_at text token = record {
 abbrev pub AreSlices : List ℕ → List Token → List Placed → Type 0
 AreSlices text tokens placed = map slice_of tokens ≡ map (slice_at text) placed
 
--- each slice has bytes, begins where the one before it ends or behind that, and ends within the text
+-- each slice has bytes, begins where the one before it ends or after that, and ends within the text
 abbrev pub AreApart : (from size : ℕ) → List Slice → Type 0
 AreApart from size [] = from ≤ size
 AreApart from size (slice ∷ slices) = (from ≤ slice.from) × (slice.from < slice.to) × AreApart slice.to size slices
 
--- it is the lexical fault of the text; want of memory says nothing of the text
+-- it is the lexical fault of the text; running out of memory says nothing of the text
 abbrev pub IsLexicalFault : List ℕ → ReadFail → Type 0
 IsLexicalFault text (fails.Fault fault) = (placed : List Placed) × Lexes text placed (Fails fault.no fault.at)
 IsLexicalFault text fails.Memory = ⊤
 
--- want of memory, if any
+-- out of memory, and no fault
 abbrev pub IsMemory : ReadFail → Type 0
 IsMemory (fails.Fault fault) = ⊥
 IsMemory fails.Memory = ⊤
 
--- this fault, or want of memory
+-- this fault, or out of memory
 abbrev pub IsFaultOrMemory : ℕ → Mark → ReadFail → Type 0
 IsFaultOrMemory number at (fails.Fault fault) = fault ≡ record { no = number; at = at }
 IsFaultOrMemory number at fails.Memory = ⊤

@@ -4,19 +4,19 @@ use Rattle.std.specs.List.{IsDistinct}
 use Rattle.mathprog_data.specs.Meaning.{GivenValue, ParamBlock, Blocks}
 use Rattle.mathprog_data.specs.Params.{IsParam, IsSet, subscript_count}
 
--- a number of a data section: 10^24 billionths at most, with either sign
-abbrev pub IsNumber : ℤ → Type 0
-IsNumber v = unsigned_abs v ≤ 10 ^ 24
+-- the value, in billionths, is within the limit of a data section: 10^15, with either sign
+abbrev pub IsWithinLimit : ℤ → Type 0
+IsWithinLimit v = unsigned_abs v ≤ 10 ^ 24
 
 -- the value has as many names as its parameter has subscripts, and is a number of a data section
 pub record IsValueOf (param : ℕ) (value : GivenValue) : Type 0 where
   pub index : length value.index ≡ subscript_count param
-  pub number : IsNumber value.value
+  pub number : IsWithinLimit value.value
 
 -- the number is a parameter's, and its default and values are such as a text can give
 pub record IsParamBlock (block : ParamBlock) : Type 0 where
   pub param : IsParam block.param
-  pub default : IfSome block.default IsNumber
+  pub default : IfSome block.default IsWithinLimit
   pub values : All (IsValueOf block.param) block.values
 
 -- the blocks of parameters are such as a text can give: none is on a parameter of which an earlier one speaks

@@ -123,7 +123,7 @@ const _: () = prove!(size_of::<Given>() == 48);
 /// What a statement says of a set.
 #[derive(Drop)]
 pub struct SetBlock {
-    /// The number of the set, from 1 to 11.
+    /// The number of the set, which counts from 1.
     pub set: u8,
     /// The members, in the order of the text.
     pub members: Vec<Name>,
@@ -132,7 +132,7 @@ pub struct SetBlock {
 /// What a statement says of a parameter.
 #[derive(Drop)]
 pub struct ParamBlock {
-    /// The number of the parameter, from 1 to 54.
+    /// The number of the parameter, which counts from 1.
     pub param: u8,
     /// The default in billionths.
     pub default: Option<i128>,

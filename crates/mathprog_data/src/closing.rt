@@ -1,8 +1,8 @@
-//! The closing `end ;`, behind which nothing is read.
+//! The closing `end ;`, after which nothing is read.
 
 ghost use Rattle.std.specs.Prelude.{◌≡◌};
 ghost use Rattle.mathprog_data.specs.Lexemes.{lexeme_of};
-ghost use Rattle.mathprog_data.specs.LexingRuns.{closing_behind, closes};
+ghost use Rattle.mathprog_data.specs.LexingRuns.{closing_after, closes};
 
 use crate::lexeme::{Lexeme, Sign};
 
@@ -31,8 +31,8 @@ impl Closing {
 
     /// What the tokens say with this one.
     #[inline]
-    pub(crate) fn behind(self, lexeme: &Lexeme<'_>) -> Closing
-        ensures { result ≡ closing_behind self (lexeme_of lexeme.now) }
+    pub(crate) fn after(self, lexeme: &Lexeme<'_>) -> Closing
+        ensures { result ≡ closing_after self (lexeme_of lexeme.now) }
     {
         match (self, lexeme) {
             (_, Lexeme::Sign(Sign::Semicolon)) => Closing::Free,

@@ -16,7 +16,7 @@ use crate::lexeme::Sign;
 use bytes::{
     is_line_feed, is_printable, is_quote, is_separator, is_symbol_byte, sign_of, symbol_length,
 };
-use pending::{Pending, behind_star, in_comment};
+use pending::{Pending, after_star, in_comment};
 use std::marker::Model;
 
 /// What kind of token it is.
@@ -28,7 +28,7 @@ pub(crate) enum Kind {
     Quoted(u8),
 }
 
-/// A token by its kind and where it stands, from its first byte up to the one behind it.
+/// A token by its kind and where it stands, from its first byte up to the one after it.
 #[derive(Clone, Copy, Debug, PartialEq, Eq)]
 pub(crate) struct Span {
     pub(crate) kind: Kind,
@@ -167,7 +167,7 @@ impl Lexer {
     }
 
     /// Goes past all the bytes in front with which the bare symbol that is pending goes on, where one is, and says how
-    /// many they are. So they are counted without a look at the state behind each.
+    /// many they are. So they are counted without a look at the state after each.
     #[inline(always)]
     pub(crate) fn pass_symbol(&mut self, rest: &[u8]) -> usize
         requires { self.old.place + length rest.now ≤ 67108864 }
@@ -233,7 +233,7 @@ impl Lexer {
             Pending::LineComment => self.pass(byte, Pending::LineComment),
             Pending::Slash => self.pass(byte, Pending::BlockComment),
             Pending::BlockComment => self.pass(byte, in_comment(byte)),
-            Pending::Star => self.pass(byte, behind_star(byte)),
+            Pending::Star => self.pass(byte, after_star(byte)),
             Pending::Bare => self.pass(byte, Pending::Bare),
             Pending::Quote(quote) => self.pass(byte, Pending::Quoted(quote)),
         }
@@ -378,7 +378,7 @@ impl Lexer {
     }
 }
 
-/// The place behind a byte at this place.
+/// The place after a byte at this place.
 #[inline]
 fn next_mark(mark: Mark, byte: u8) -> Mark
     requires line { mark.line < 4294967295 }

@@ -10,8 +10,15 @@ struct Parameter {
     subscripts: u8,
 }
 
-/// The parameters from number 1 on. Those from number 39 on are read and not used.
-static PARAMS: [Parameter; 54] = [
+/// How many parameters there are.
+const PARAM_COUNT: usize = 54;
+
+/// The number of ResultsPath, whose values are any symbols.
+pub(crate) const RESULTS_PATH: u8 = 44;
+
+/// The parameters from number 1 on: first those that the equations use, and from Conversionls on those that
+/// are read and not used.
+static PARAMS: [Parameter; PARAM_COUNT] = [
     Parameter {
         word: "YearSplit",
         subscripts: 2,
@@ -247,7 +254,7 @@ fn entry(param: u8) -> &'static Parameter
     look_up(&PARAMS, param)
 }
 
-/// The name of the parameter with this number, from 1 to 54, in the order of the table in docs/DATA.md.
+/// The name of the parameter with this number, which counts from 1 in the order of the table in docs/DATA.md.
 pub fn param_word(param: u8) -> &'static str
     requires { IsParam param }
     ensures { result.now ≡ param_word param }
@@ -255,7 +262,7 @@ pub fn param_word(param: u8) -> &'static str
     entry(param).word
 }
 
-/// How many subscripts the parameter with this number has, from 1 to 54.
+/// How many subscripts the parameter with this number has.
 pub fn subscript_count(param: u8) -> u8
     requires { IsParam param }
     ensures { result ≡ subscript_count param }
@@ -283,8 +290,8 @@ pub(crate) fn param_number(word: &[u8]) -> Option<u8>
     place_of(&PARAMS, word)
 }
 
-/// How many subscripts the parameter has. Where there is none of this number: as many as number 1 has below
-/// it, and none above.
+/// How many subscripts the parameter has. There is one of this number wherever this is asked; the caller need
+/// not show it.
 pub(crate) fn subscripts_of(param: u8) -> u8
     ensures { result ≡ subscript_count param }
 {

@@ -51,7 +51,7 @@ fn take_token(
 {
     let lexeme = lexeme_at(text, span);
     let closes = closing.closes(&lexeme);
-    *closing = closing.behind(&lexeme);
+    *closing = closing.after(&lexeme);
     match reader.take(lexeme, span.at) {
         Ok(None) => Ok(closes),
         Ok(Some(no)) => Err(ReadFail::Fault(DataFault { no, at: span.at })),
@@ -150,7 +150,7 @@ fn take_byte(
     take_any_byte(text, byte, lexer, closing, reader)
 }
 
-/// The blocks of the text behind its end, or `EndTooSoon` there.
+/// The blocks of the text after its end, or `EndTooSoon` there.
 fn finish(lexer: &Lexer, reader: StatementReader) -> Result<Blocks, ReadFail>
     ensures blocks { IfOk result (λ blocks. (may_end (open_view reader) ≡ true) × (blocks_told blocks ≡ drafted (draft_view reader.draft))) }
     ensures fault { (fault : DataFault) → result ≡ Err (Fault fault) →

@@ -5,8 +5,11 @@ ghost use Rattle.std.specs.Str.{bytes_eq};
 ghost use Rattle.mathprog_data.specs.Params.{IsSet, set_words, set_word, set_number};
 ghost use Rattle.mathprog_data.specs.ParamTables.{texts_of};
 
+/// How many sets there are.
+const SET_COUNT: usize = 11;
+
 /// The words of the sets, from number 1 on.
-static SETS: [&str; 11] = [
+static SETS: [&str; SET_COUNT] = [
     "REGION",
     "TECHNOLOGY",
     "FUEL",

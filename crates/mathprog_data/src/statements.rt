@@ -47,15 +47,15 @@ enum State {
     ParamRead,
     /// A parameter's name.
     ParamNamed,
-    /// `default` behind it.
+    /// `default` after it.
     DefaultRead,
     /// `param default`
     LeadingDefault,
-    /// A number behind that.
+    /// A number after that.
     LeadingNumber,
     /// The colon of tabbing data.
     TabbingColon,
-    /// The parameter's name behind it.
+    /// The parameter's name after it.
     TabbingNamed,
     /// Records.
     InRecords,
@@ -63,7 +63,7 @@ enum State {
     InPlain,
     /// In a slice, where a place is due.
     PlaceDue,
-    /// In a slice, behind a place.
+    /// In a slice, after a place.
     PlaceRead,
     /// `(`
     ParenRead,

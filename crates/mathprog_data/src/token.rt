@@ -9,6 +9,6 @@ pub struct Token<'a> {
     pub text: &'a [u8],
     /// Where it begins, in bytes from the beginning of the text.
     pub from: u32,
-    /// Where the byte behind it stands.
+    /// Where the byte after it stands.
     pub to: u32,
 }

@@ -9,7 +9,7 @@ ghost use Rattle.mathprog_data.specs.Lexing.{LexingEnd, Tokens, Lexes, Fails};
 ghost use Rattle.mathprog_data.specs.LexingMachine.{IsWithin};
 ghost use Rattle.mathprog_data.specs.LexingRuns.{Run, run, lexed, lexed_run, and_then};
 ghost use Rattle.mathprog_data.specs.TokenSlices.{slice_of, AreSlices, AreApart, IsLexicalFault, IsMemory, IsFaultOrMemory};
-ghost use Rattle.mathprog_data.specs.TokenRuns.{Slices, slices_of, slices, behind, closed_with, failed_with, ListsAll};
+ghost use Rattle.mathprog_data.specs.TokenRuns.{Slices, slices_of, slices, preceded_by, closed_with, failed_with, ListsAll};
 
 use crate::closing::Closing;
 use crate::fault::ReadFail;
@@ -28,10 +28,10 @@ fn add_seen<'a>(
 ) -> Result<bool, ReadFail>
     requires { IsWithin (length text.now) seen }
     ensures open { result ≡ Ok false → (run : Run) →
-        behind found.old.items (slices_of text.now (lexed_run text.now closing.old (and_then seen run)))
-        ≡ behind found.new.items (slices_of text.now (lexed_run text.now closing.new run)) }
+        preceded_by found.old.items (slices_of text.now (lexed_run text.now closing.old (and_then seen run)))
+        ≡ preceded_by found.new.items (slices_of text.now (lexed_run text.now closing.new run)) }
     ensures closed { result ≡ Ok true → (run : Run) →
-        behind found.old.items (slices_of text.now (lexed_run text.now closing.old (and_then seen run))) ≡ closed_with found.new.items }
+        preceded_by found.old.items (slices_of text.now (lexed_run text.now closing.old (and_then seen run))) ≡ closed_with found.new.items }
     ensures fault { (fault : DataFault) → result ≡ Err (Fault fault) → (run : Run) →
         slices_of text.now (lexed_run text.now closing.old (and_then seen run)) ≡ failed_with fault }
 {
@@ -42,7 +42,7 @@ fn add_seen<'a>(
             found.push(token_at(text, &span)).map_err(AllocError::from)?;
             let lexeme = lexeme_at(text, &span);
             let closes = closing.closes(&lexeme);
-            *closing = closing.behind(&lexeme);
+            *closing = closing.after(&lexeme);
             Ok(closes)
         }
     }
@@ -60,10 +60,10 @@ fn take_any_byte<'a>(
     requires short { length text.now ≤ 67108864 }
     ensures place { result ≡ Ok false → lexer.new.place ≡ lexer.old.place + 1 }
     ensures open { result ≡ Ok false → (bytes : List ℕ) →
-        behind found.old.items (slices_of text.now (lexed_run text.now closing.old (run lexer.old (byte ∷ bytes))))
-        ≡ behind found.new.items (slices_of text.now (lexed_run text.now closing.new (run lexer.new bytes))) }
+        preceded_by found.old.items (slices_of text.now (lexed_run text.now closing.old (run lexer.old (byte ∷ bytes))))
+        ≡ preceded_by found.new.items (slices_of text.now (lexed_run text.now closing.new (run lexer.new bytes))) }
     ensures closed { result ≡ Ok true → (bytes : List ℕ) →
-        behind found.old.items (slices_of text.now (lexed_run text.now closing.old (run lexer.old (byte ∷ bytes)))) ≡ closed_with found.new.items }
+        preceded_by found.old.items (slices_of text.now (lexed_run text.now closing.old (run lexer.old (byte ∷ bytes)))) ≡ closed_with found.new.items }
     ensures fault { (fault : DataFault) → result ≡ Err (Fault fault) → (bytes : List ℕ) →
         (lexed_run text.now closing.old (run lexer.old (byte ∷ bytes))).end ≡ Fails fault.no fault.at }
 {
@@ -91,10 +91,10 @@ fn take_byte<'a>(
     requires short { length text.now ≤ 67108864 }
     ensures place { result ≡ Ok false → lexer.new.place ≡ lexer.old.place + 1 }
     ensures open { result ≡ Ok false → (bytes : List ℕ) →
-        behind found.old.items (slices_of text.now (lexed_run text.now closing.old (run lexer.old (byte ∷ bytes))))
-        ≡ behind found.new.items (slices_of text.now (lexed_run text.now closing.new (run lexer.new bytes))) }
+        preceded_by found.old.items (slices_of text.now (lexed_run text.now closing.old (run lexer.old (byte ∷ bytes))))
+        ≡ preceded_by found.new.items (slices_of text.now (lexed_run text.now closing.new (run lexer.new bytes))) }
     ensures closed { result ≡ Ok true → (bytes : List ℕ) →
-        behind found.old.items (slices_of text.now (lexed_run text.now closing.old (run lexer.old (byte ∷ bytes)))) ≡ closed_with found.new.items }
+        preceded_by found.old.items (slices_of text.now (lexed_run text.now closing.old (run lexer.old (byte ∷ bytes)))) ≡ closed_with found.new.items }
     ensures fault { (fault : DataFault) → result ≡ Err (Fault fault) → (bytes : List ℕ) →
         (lexed_run text.now closing.old (run lexer.old (byte ∷ bytes))).end ≡ Fails fault.no fault.at }
 {

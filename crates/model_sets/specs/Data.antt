@@ -1,12 +1,12 @@
 -- What the data are: the sets as lists of names, and a value for each parameter and index, by a look-up in the list of the values given.
-use Rattle.std.specs.Prelude.{ℕ, ℤ, pos, Bool, ◌&&◌, List, [], ◌∷◌, map, nat_eq, Option, None, Some, if◌then◌else◌}
+use Rattle.std.specs.Prelude.{◌≡◌, ℕ, ℤ, pos, Bool, ◌&&◌, List, [], ◌∷◌, map, nat_eq, Option, None, Some, Contains, if◌then◌else◌}
 use Rattle.std.specs.Cmp.Lexicographic.{pointwise}
 use Rattle.std.specs.List.{find, flat_map}
 use Rattle.std.specs.Option.{option_map, option_or}
 use Rattle.std.specs.Str.{bytes_eq}
 use Rattle.model_sets.specs.declared.param_numbers.TheConstants.{CAPACITY_OF_ONE_TECHNOLOGY_UNIT}
 use Rattle.model_sets.specs.Members.{SetLists, members}
-use Rattle.model_sets.specs.Params.{subscript_sets}
+use Rattle.model_sets.specs.Params.{IsUsedParam, subscript_sets}
 
 -- a value that was given: the parameter's number, the names of the index in the order of its subscripts, and the value in billionths
 pub record Given : Type 0 where
@@ -41,11 +41,11 @@ default_of d param = option_map (λ default. default.value) (find (λ default. n
 abbrev pub unit_capacity : ℕ
 unit_capacity = CAPACITY_OF_ONE_TECHNOLOGY_UNIT
 
--- the value that a parameter has where neither a value nor a default is given: 0 for CapacityOfOneTechnologyUnit, and none for the others
+-- the value that a used parameter has where neither a value nor a default is given: 0 for CapacityOfOneTechnologyUnit, and none for the others
 abbrev pub value_of_none : ℕ → Option ℤ
 value_of_none param = if nat_eq param unit_capacity then Some (pos 0) else None
 
--- the value of the parameter at the index, in billionths: the value given, else the default
+-- the value of the used parameter at one of its indices (`indices_of`), in billionths: the value given, else the default
 abbrev pub value_at : Data → ℕ → List (List ℕ) → Option ℤ
 value_at d param index = option_or (given_at d param index) (option_or (default_of d param) (value_of_none param))
 
@@ -57,3 +57,8 @@ indices_over sets (k ∷ ks) = flat_map (λ name. map (λ rest. name ∷ rest) (
 -- all indices of the used parameter
 abbrev pub indices_of : SetLists → ℕ → List (List (List ℕ))
 indices_of sets param = indices_over sets (subscript_sets param)
+
+-- the same sets, and the same value of each used parameter at each of its indices
+pub record AreSameData (d e : Data) : Type 0 where
+  pub sets : d.sets ≡ e.sets
+  pub values : (param : ℕ) → IsUsedParam param → (index : List (List ℕ)) → Contains (indices_of d.sets param) index → value_at d param index ≡ value_at e param index

@@ -13,7 +13,7 @@ SetLists = List (List (List ℕ))
 abbrev pub no_members : SetLists
 no_members = replicate set_count []
 
--- the names of the members of set k
+-- the names of the members of set k, of the numbers of sets alone (`IsSet k`)
 abbrev pub members : SetLists → ℕ → List (List ℕ)
 members sets k = slice_index_or sets (k - 1) []
 

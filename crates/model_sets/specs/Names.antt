@@ -58,11 +58,11 @@ set_count = SET_COUNT
 abbrev pub IsSet : ℕ → Type 0
 IsSet k = (1 ≤ k) × (k ≤ set_count)
 
--- the word of set k
+-- the word of set k, of the numbers of sets alone (`IsSet k`): elsewhere the answer means nothing
 abbrev pub set_word : ℕ → List ℕ
 set_word k = slice_index_or set_words (k - 1) []
 
--- how many members set k may have
+-- how many members set k may have, of the numbers of sets alone (`IsSet k`)
 abbrev pub limit_of : ℕ → ℕ
 limit_of k = slice_index_or limits (k - 1) 0
 

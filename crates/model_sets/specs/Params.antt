@@ -103,15 +103,16 @@ subscript_counts = map (λ p. length p.subscripts) used_params ++ map (λ p. p.s
 abbrev pub IsUsedParam : ℕ → Type 0
 IsUsedParam n = (1 ≤ n) × (n ≤ used_count)
 
--- the word of parameter n
+-- the word of parameter n, from 1 to `PARAM_COUNT`; the blocks of a text name no other (`AreWellFormed` of mathprog_data), and
+-- elsewhere the answer means nothing
 abbrev pub param_word : ℕ → List ℕ
 param_word n = slice_index_or param_words (n - 1) []
 
--- how many subscripts parameter n has
+-- how many subscripts parameter n has, of the same numbers alone
 abbrev pub subscript_count : ℕ → ℕ
 subscript_count n = slice_index_or subscript_counts (n - 1) 0
 
--- the sets, by number, over which the subscripts of the used parameter n run
+-- the sets, by number, over which the subscripts of the used parameter n run (`IsUsedParam n`): elsewhere the answer means nothing
 abbrev pub subscript_sets : ℕ → List ℕ
 subscript_sets n = slice_index_or (map (λ p. p.subscripts) used_params) (n - 1) []
 

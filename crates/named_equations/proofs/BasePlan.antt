@@ -42,7 +42,7 @@ best_values =
 abbrev pub best : ℕ → Var → ℤ
 best q v = pos (slice_index_or best_values (v.kind - 1) 0 * q)
 
-best_meets_all : meets_all base 1 (best 1) ≡ true
+pub best_meets_all : meets_all base 1 (best 1) ≡ true
 unfolding discounted capital_factor root_from half_year_root operating_factor salvage_fraction
 best_meets_all = refl
 

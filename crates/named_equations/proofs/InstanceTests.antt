@@ -22,12 +22,12 @@ abbrev pub Has : {A : Type 0} → List A → A → Type 0
 Has [] x = ⊥
 Has (y ∷ ys) x = (y ≡ x) ⊎ Has ys x
 
-Has-append_left : {A : Type 0} (xs ys : List A) (x : A) → Has xs x → Has (xs ++ ys) x
+pub Has-append_left : {A : Type 0} (xs ys : List A) (x : A) → Has xs x → Has (xs ++ ys) x
 Has-append_left [] ys x h = absurd h
 Has-append_left (z ∷ xs) ys x (inl e) = inl e
 Has-append_left (z ∷ xs) ys x (inr h) = inr (Has-append_left xs ys x h)
 
-Has-append_right : {A : Type 0} (xs ys : List A) (x : A) → Has ys x → Has (xs ++ ys) x
+pub Has-append_right : {A : Type 0} (xs ys : List A) (x : A) → Has ys x → Has (xs ++ ys) x
 Has-append_right [] ys x h = h
 Has-append_right (z ∷ xs) ys x h = inr (Has-append_right xs ys x h)
 
@@ -53,7 +53,7 @@ pub Has-from_Contains : {A : Type 0} (xs : List A) (x : A) → Contains xs x →
 Has-from_Contains xs x h = at_place xs x h.0 h.1 h.2
 
 -- of one of the lists for these numbers
-pub Has-flat_map : {B : Type 0} (f : ℕ → List B) (vs : List ℕ) (v : ℕ) (x : B) → Has vs v → Has (f v) x → Has (flat_map f vs) x
+pub Has-flat_map : {A B : Type 0} (f : A → List B) (vs : List A) (v : A) (x : B) → Has vs v → Has (f v) x → Has (flat_map f vs) x
 Has-flat_map f [] v x in_vs in_f = absurd in_vs
 Has-flat_map f (w ∷ vs) v x (inl e) in_f = Has-append_left (f w) (flat_map f vs) x (subst (λ u. Has (f u) x) (sym e) in_f)
 Has-flat_map f (w ∷ vs) v x (inr h) in_f = Has-append_right (f w) (flat_map f vs) x (Has-flat_map f vs v x h in_f)
@@ -84,7 +84,7 @@ kept_parts true z x ys (inl e) = inl (refl, e)
 kept_parts true z x ys (inr h) = inr h
 kept_parts false z x ys h = inr h
 
-filter_parts : {A : Type 0} (test : A → Bool) (xs : List A) (x : A) → Has (filter test xs) x → Has xs x × (test x ≡ true)
+pub filter_parts : {A : Type 0} (test : A → Bool) (xs : List A) (x : A) → Has (filter test xs) x → Has xs x × (test x ≡ true)
 filter_parts test [] x h = absurd h
 filter_parts test (z ∷ xs) x h =
     elim (kept_parts (test z) z x (filter test xs) h) [
@@ -92,7 +92,7 @@ filter_parts test (z ∷ xs) x h =
       | inr r ↦ let rest = filter_parts test xs x r in (inr rest.0, rest.1)
     ]
 
-Has-map : {A B : Type 0} (g : A → B) (xs : List A) (x : A) → Has xs x → Has (map g xs) (g x)
+pub Has-map : {A B : Type 0} (g : A → B) (xs : List A) (x : A) → Has xs x → Has (map g xs) (g x)
 Has-map g [] x h = absurd h
 Has-map g (z ∷ xs) x (inl e) = inl (ap g e)
 Has-map g (z ∷ xs) x (inr h) = inr (Has-map g xs x h)
@@ -109,7 +109,7 @@ Has-range a zero v from to = absurd (omega (arith, from, to))
 Has-range a (suc n) v from to =
     elim (eq-or-lt_of_le from) [ inl e ↦ inl e | inr less ↦ inr (Has-range (a + 1) n v (omega (arith, less)) (omega (arith, to))) ]
 
-range_parts : (a n v : ℕ) → Has (range_with_len a n) v → (a ≤ v) × (v < a + n)
+pub range_parts : (a n v : ℕ) → Has (range_with_len a n) v → (a ≤ v) × (v < a + n)
 range_parts a zero v h = absurd h
 range_parts a (suc n) v (inl e) = (omega (arith, e), omega (arith, e))
 range_parts a (suc n) v (inr h) = let rest = range_parts (a + 1) n v h in (omega (arith, rest.0), omega (arith, rest.1))
@@ -131,7 +131,7 @@ values-pass : (d : Data) (s : List ℕ) (p v : ℕ) → Has (values_at d s p) v 
 values-pass d s p v h = value_passes (is_one_of s p) (count_of d (set_at p)) v h
 
 -- a number in a list
-any_has : (vs : List ℕ) (v : ℕ) → list_any (nat_eq v) vs ≡ true → Has vs v
+pub any_has : (vs : List ℕ) (v : ℕ) → list_any (nat_eq v) vs ≡ true → Has vs v
 any_has [] v passes = absurd (true≢false (sym passes))
 any_has (w ∷ vs) v passes =
     elim (or_cases (nat_eq v w) (list_any (nat_eq v) vs) passes) [ inl here ↦ inl (sym (eqb-true v w here)) | inr later ↦ inr (any_has vs v later) ]

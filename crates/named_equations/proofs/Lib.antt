@@ -1,7 +1,9 @@
 mod BaseFile
 mod BaseInstances
 mod BasePlan
+mod BothSides
 mod ExistingVariables
+mod FeasiblePlans
 mod FractionPlans
 pub mod InstanceOrder
 pub mod InstanceTests
@@ -16,6 +18,7 @@ mod Targets
 mod Trades
 mod TwoOfEach
 mod VariableNames
+mod WhatDefines
 mod YearsWithGap
 pub mod TermMeaning
 pub mod TermShapes
@@ -23,3 +26,9 @@ pub mod NestedTerms
 pub mod PositionsInSets
 pub mod SomePosition
 pub mod SumExchange
+pub mod SameValues
+pub mod SameParameters
+pub mod SameConditions
+pub mod SameEquations
+pub mod SameStands
+pub mod SameInstances

@@ -1,5 +1,5 @@
 -- Which factors are those of the base example's one region: rate 0, one year and a life of 1; and which nearly are.
-use Rattle.std.proofs.Common.{◌≡◌, ℕ, zero, suc, ◌<◌, ◌≤◌, List, [], ◌∷◌, refl, subst, arith}
+use Rattle.std.proofs.Common.{◌≡◌, ℕ, zero, suc, ◌<◌, ◌≤◌, [], ◌∷◌, refl, subst, arith}
 use Rattle.std.specs.Prelude.{Some, slice_get}
 use Rattle.discount_factors.specs.Known.{Discounting}
 use Rattle.model_sets.specs.Names.{technology}

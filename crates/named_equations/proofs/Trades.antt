@@ -14,12 +14,12 @@ use Rattle.named_equations.proofs.Tables.{tabled, meets_all, first_broken}
 -- ---- data
 
 -- the base example with the regions A and B in place of R
-abbrev two_regions : List Given → List Default → Data
+abbrev pub two_regions : List Given → List Default → Data
 two_regions values defaults =
     data_of (sets_of (codes "A" ∷ codes "B" ∷ []) (codes "T" ∷ []) (codes "F" ∷ []) [] (codes "1" ∷ []) (codes "D" ∷ []) (codes "2020" ∷ [])) values defaults
 
 -- routes both ways, a demand of 10 in B alone, and production in A alone
-abbrev routes_both_ways : Data
+abbrev pub routes_both_ways : Data
 routes_both_ways = two_regions
     (given 5 (codes "B" ∷ codes "F" ∷ codes "2020" ∷ []) (whole 10)
     ∷ given 14 (codes "B" ∷ codes "T" ∷ codes "F" ∷ codes "1" ∷ codes "2020" ∷ []) (whole 0) ∷ [])
@@ -98,10 +98,10 @@ other_way =
     ∷ []
 
 -- the plan of such a table
-abbrev regional : List (List ℤ) → Var → ℤ
+abbrev pub regional : List (List ℤ) → Var → ℤ
 regional table v = tabled (λ i. 2 * i.region + i.other) table v
 
-meets_both_ways : meets_all routes_both_ways 1 (regional both_ways) ≡ true
+pub meets_both_ways : meets_all routes_both_ways 1 (regional both_ways) ≡ true
 unfolding discounted capital_factor root_from half_year_root operating_factor salvage_fraction
 meets_both_ways = refl
 

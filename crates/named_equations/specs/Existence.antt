@@ -1,19 +1,21 @@
 -- The variables that exist: RateOfActivity, NewCapacity and Trade at every index, and each other one where an equation that defines it has an instance.
 -- Every equation but EBa10 defines its variable at the index of its own; EBa10 defines a Trade at the index with the two regions exchanged.
+-- Which equations define the variables of a kind comes of the table of equations; proofs/WhatDefines.antt shows it whole, with names.
 use Rattle.std.specs.Prelude.{ℕ, Bool, false, ◌&&◌, ◌||◌, List, map, filter, nat_eq, nat_le}
 use Rattle.std.specs.List.{list_any, flat_map, range_with_len}
 use Rattle.std.specs.Option.{option_map_or}
 use Rattle.model_sets.specs.Data.{Data}
 use Rattle.row_core.specs.declared.Index.{Index}
 use Rattle.row_core.specs.declared.Var.{Var}
+use Rattle.row_core.specs.declared.kind_numbers.TheConstants.{KIND_COUNT, TRADE}
 use Rattle.row_core.specs.Kinds.{kind_at}
 use Rattle.named_equations.specs.Indices.{index}
 use Rattle.named_equations.specs.Instances.{equation_of, equation_numbers, stands_at, indices, is_index}
 use Rattle.named_equations.specs.Variables.{variable}
 
--- the kinds whose variables exist at every index: RateOfActivity, NewCapacity and Trade
+-- the kinds whose variables exist at every index, the first three: RateOfActivity, NewCapacity and Trade
 abbrev pub exists_everywhere : ℕ → Bool
-exists_everywhere kind = nat_le kind 3
+exists_everywhere kind = nat_le kind TRADE
 
 -- the subscripts of a kind
 abbrev pub subscripts_of_kind : ℕ → List ℕ
@@ -33,7 +35,7 @@ exists_at d kind i = exists_everywhere kind || list_any (λ eq. stands_at d eq i
 
 -- the numbers of the kinds
 abbrev pub kind_numbers : List ℕ
-kind_numbers = range_with_len 1 48
+kind_numbers = range_with_len 1 KIND_COUNT
 
 -- the variables of one kind that exist
 abbrev pub variables_of_kind : Data → ℕ → List Var

@@ -6,6 +6,7 @@ use Rattle.model_sets.specs.Names.{region, technology, fuel, emission, mode, tim
 use Rattle.row_core.specs.declared.Index.{Index}
 use Rattle.row_core.specs.declared.RowName.{RowName}
 use Rattle.row_core.specs.declared.Var.{Var}
+use Rattle.row_core.specs.declared.equation_numbers.TheConstants.{EQUATION_COUNT}
 use Rattle.row_core.specs.Equations.{equation_at}
 use Rattle.row_core.specs.Subscripts as place
 use Rattle.named_equations.specs.Indices.{index}
@@ -61,7 +62,7 @@ is_index d subscripts i =
 abbrev pub no_equation : NamedEquation
 no_equation = inequality (λ d i. false) (λ d q x i. pos 0 equals pos 1)
 
--- the equation of this number, from 1 to 64
+-- the equation of this number, from 1 on
 abbrev pub equation_of : ℕ → NamedEquation
 equation_of eq = slice_index_or (no_equation ∷ named_equations) eq no_equation
 
@@ -75,7 +76,7 @@ stands_at d eq i = (equation_of eq).stands d i
 
 -- the numbers of the equations
 abbrev pub equation_numbers : List ℕ
-equation_numbers = range_with_len 1 64
+equation_numbers = range_with_len 1 EQUATION_COUNT
 
 -- the equation at the index
 abbrev pub name_at : ℕ → Index → RowName

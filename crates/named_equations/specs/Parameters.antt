@@ -1,6 +1,7 @@
 -- The used parameters by name, each with its own subscripts in the order of the long code, and each subscript a position in its set.
 -- A value is in billionths: the one given, else the default. Where there is neither it counts as 0; accepted data have all of them.
 use Rattle.std.specs.Prelude.{ℕ, ℤ, pos, List, [], ◌∷◌, slice_index_or, unwrap_or}
+use Rattle.model_sets.specs.declared.param_numbers.TheConstants.{YEAR_SPLIT, DISCOUNT_RATE, DEPRECIATION_METHOD, TRADE_ROUTE, SPECIFIED_ANNUAL_DEMAND, SPECIFIED_DEMAND_PROFILE, ACCUMULATED_ANNUAL_DEMAND, CAPACITY_TO_ACTIVITY_UNIT, CAPACITY_FACTOR, AVAILABILITY_FACTOR, OPERATIONAL_LIFE, RESIDUAL_CAPACITY, INPUT_ACTIVITY_RATIO, OUTPUT_ACTIVITY_RATIO, CAPITAL_COST, VARIABLE_COST, FIXED_COST, CAPACITY_OF_ONE_TECHNOLOGY_UNIT, TOTAL_ANNUAL_MAX_CAPACITY, TOTAL_ANNUAL_MIN_CAPACITY, TOTAL_ANNUAL_MAX_CAPACITY_INVESTMENT, TOTAL_ANNUAL_MIN_CAPACITY_INVESTMENT, TOTAL_TECHNOLOGY_ANNUAL_ACTIVITY_UPPER_LIMIT, TOTAL_TECHNOLOGY_ANNUAL_ACTIVITY_LOWER_LIMIT, TOTAL_TECHNOLOGY_MODEL_PERIOD_ACTIVITY_UPPER_LIMIT, TOTAL_TECHNOLOGY_MODEL_PERIOD_ACTIVITY_LOWER_LIMIT, RESERVE_MARGIN_TAG_TECHNOLOGY, RESERVE_MARGIN_TAG_FUEL, RESERVE_MARGIN, RE_TAG_TECHNOLOGY, RE_TAG_FUEL, RE_MIN_PRODUCTION_TARGET, EMISSION_ACTIVITY_RATIO, EMISSIONS_PENALTY, ANNUAL_EXOGENOUS_EMISSION, ANNUAL_EMISSION_LIMIT, MODEL_PERIOD_EXOGENOUS_EMISSION, MODEL_PERIOD_EMISSION_LIMIT}
 use Rattle.model_sets.specs.Data.{Data, value_at}
 use Rattle.model_sets.specs.Members.{members}
 use Rattle.model_sets.specs.Names.{region, technology, fuel, emission, mode, timeslice, year}
@@ -47,152 +48,152 @@ value_of d param names = unwrap_or (value_at d param names) (pos 0)
 
 -- YearSplit[l,y]
 abbrev pub year_split : Data → ℕ → ℕ → ℤ
-year_split d l y = value_of d 1 (slice_name d l ∷ year_name d y ∷ [])
+year_split d l y = value_of d YEAR_SPLIT (slice_name d l ∷ year_name d y ∷ [])
 
 -- DiscountRate[r]
 abbrev pub discount_rate : Data → ℕ → ℤ
-discount_rate d r = value_of d 2 (region_name d r ∷ [])
+discount_rate d r = value_of d DISCOUNT_RATE (region_name d r ∷ [])
 
 -- DepreciationMethod[r]
 abbrev pub depreciation_method : Data → ℕ → ℤ
-depreciation_method d r = value_of d 3 (region_name d r ∷ [])
+depreciation_method d r = value_of d DEPRECIATION_METHOD (region_name d r ∷ [])
 
 -- TradeRoute[r,rr,f,y]
 abbrev pub trade_route : Data → ℕ → ℕ → ℕ → ℕ → ℤ
-trade_route d r rr f y = value_of d 4 (region_name d r ∷ region_name d rr ∷ fuel_name d f ∷ year_name d y ∷ [])
+trade_route d r rr f y = value_of d TRADE_ROUTE (region_name d r ∷ region_name d rr ∷ fuel_name d f ∷ year_name d y ∷ [])
 
 -- SpecifiedAnnualDemand[r,f,y]
 abbrev pub specified_annual_demand : Data → ℕ → ℕ → ℕ → ℤ
-specified_annual_demand d r f y = value_of d 5 (region_name d r ∷ fuel_name d f ∷ year_name d y ∷ [])
+specified_annual_demand d r f y = value_of d SPECIFIED_ANNUAL_DEMAND (region_name d r ∷ fuel_name d f ∷ year_name d y ∷ [])
 
 -- SpecifiedDemandProfile[r,f,l,y]
 abbrev pub specified_demand_profile : Data → ℕ → ℕ → ℕ → ℕ → ℤ
-specified_demand_profile d r f l y = value_of d 6 (region_name d r ∷ fuel_name d f ∷ slice_name d l ∷ year_name d y ∷ [])
+specified_demand_profile d r f l y = value_of d SPECIFIED_DEMAND_PROFILE (region_name d r ∷ fuel_name d f ∷ slice_name d l ∷ year_name d y ∷ [])
 
 -- AccumulatedAnnualDemand[r,f,y]
 abbrev pub accumulated_annual_demand : Data → ℕ → ℕ → ℕ → ℤ
-accumulated_annual_demand d r f y = value_of d 7 (region_name d r ∷ fuel_name d f ∷ year_name d y ∷ [])
+accumulated_annual_demand d r f y = value_of d ACCUMULATED_ANNUAL_DEMAND (region_name d r ∷ fuel_name d f ∷ year_name d y ∷ [])
 
 -- CapacityToActivityUnit[r,t]
 abbrev pub capacity_to_activity_unit : Data → ℕ → ℕ → ℤ
-capacity_to_activity_unit d r t = value_of d 8 (region_name d r ∷ technology_name d t ∷ [])
+capacity_to_activity_unit d r t = value_of d CAPACITY_TO_ACTIVITY_UNIT (region_name d r ∷ technology_name d t ∷ [])
 
 -- CapacityFactor[r,t,l,y]
 abbrev pub capacity_factor : Data → ℕ → ℕ → ℕ → ℕ → ℤ
-capacity_factor d r t l y = value_of d 9 (region_name d r ∷ technology_name d t ∷ slice_name d l ∷ year_name d y ∷ [])
+capacity_factor d r t l y = value_of d CAPACITY_FACTOR (region_name d r ∷ technology_name d t ∷ slice_name d l ∷ year_name d y ∷ [])
 
 -- AvailabilityFactor[r,t,y]
 abbrev pub availability_factor : Data → ℕ → ℕ → ℕ → ℤ
-availability_factor d r t y = value_of d 10 (region_name d r ∷ technology_name d t ∷ year_name d y ∷ [])
+availability_factor d r t y = value_of d AVAILABILITY_FACTOR (region_name d r ∷ technology_name d t ∷ year_name d y ∷ [])
 
 -- OperationalLife[r,t]
 abbrev pub operational_life : Data → ℕ → ℕ → ℤ
-operational_life d r t = value_of d 11 (region_name d r ∷ technology_name d t ∷ [])
+operational_life d r t = value_of d OPERATIONAL_LIFE (region_name d r ∷ technology_name d t ∷ [])
 
 -- ResidualCapacity[r,t,y]
 abbrev pub residual_capacity : Data → ℕ → ℕ → ℕ → ℤ
-residual_capacity d r t y = value_of d 12 (region_name d r ∷ technology_name d t ∷ year_name d y ∷ [])
+residual_capacity d r t y = value_of d RESIDUAL_CAPACITY (region_name d r ∷ technology_name d t ∷ year_name d y ∷ [])
 
 -- InputActivityRatio[r,t,f,m,y]
 abbrev pub input_activity_ratio : Data → ℕ → ℕ → ℕ → ℕ → ℕ → ℤ
-input_activity_ratio d r t f m y = value_of d 13 (region_name d r ∷ technology_name d t ∷ fuel_name d f ∷ mode_name d m ∷ year_name d y ∷ [])
+input_activity_ratio d r t f m y = value_of d INPUT_ACTIVITY_RATIO (region_name d r ∷ technology_name d t ∷ fuel_name d f ∷ mode_name d m ∷ year_name d y ∷ [])
 
 -- OutputActivityRatio[r,t,f,m,y]
 abbrev pub output_activity_ratio : Data → ℕ → ℕ → ℕ → ℕ → ℕ → ℤ
-output_activity_ratio d r t f m y = value_of d 14 (region_name d r ∷ technology_name d t ∷ fuel_name d f ∷ mode_name d m ∷ year_name d y ∷ [])
+output_activity_ratio d r t f m y = value_of d OUTPUT_ACTIVITY_RATIO (region_name d r ∷ technology_name d t ∷ fuel_name d f ∷ mode_name d m ∷ year_name d y ∷ [])
 
 -- CapitalCost[r,t,y]
 abbrev pub capital_cost : Data → ℕ → ℕ → ℕ → ℤ
-capital_cost d r t y = value_of d 15 (region_name d r ∷ technology_name d t ∷ year_name d y ∷ [])
+capital_cost d r t y = value_of d CAPITAL_COST (region_name d r ∷ technology_name d t ∷ year_name d y ∷ [])
 
 -- VariableCost[r,t,m,y]
 abbrev pub variable_cost : Data → ℕ → ℕ → ℕ → ℕ → ℤ
-variable_cost d r t m y = value_of d 16 (region_name d r ∷ technology_name d t ∷ mode_name d m ∷ year_name d y ∷ [])
+variable_cost d r t m y = value_of d VARIABLE_COST (region_name d r ∷ technology_name d t ∷ mode_name d m ∷ year_name d y ∷ [])
 
 -- FixedCost[r,t,y]
 abbrev pub fixed_cost : Data → ℕ → ℕ → ℕ → ℤ
-fixed_cost d r t y = value_of d 17 (region_name d r ∷ technology_name d t ∷ year_name d y ∷ [])
+fixed_cost d r t y = value_of d FIXED_COST (region_name d r ∷ technology_name d t ∷ year_name d y ∷ [])
 
 -- CapacityOfOneTechnologyUnit[r,t,y]
 abbrev pub capacity_of_one_technology_unit : Data → ℕ → ℕ → ℕ → ℤ
-capacity_of_one_technology_unit d r t y = value_of d 18 (region_name d r ∷ technology_name d t ∷ year_name d y ∷ [])
+capacity_of_one_technology_unit d r t y = value_of d CAPACITY_OF_ONE_TECHNOLOGY_UNIT (region_name d r ∷ technology_name d t ∷ year_name d y ∷ [])
 
 -- TotalAnnualMaxCapacity[r,t,y]
 abbrev pub total_annual_max_capacity : Data → ℕ → ℕ → ℕ → ℤ
-total_annual_max_capacity d r t y = value_of d 19 (region_name d r ∷ technology_name d t ∷ year_name d y ∷ [])
+total_annual_max_capacity d r t y = value_of d TOTAL_ANNUAL_MAX_CAPACITY (region_name d r ∷ technology_name d t ∷ year_name d y ∷ [])
 
 -- TotalAnnualMinCapacity[r,t,y]
 abbrev pub total_annual_min_capacity : Data → ℕ → ℕ → ℕ → ℤ
-total_annual_min_capacity d r t y = value_of d 20 (region_name d r ∷ technology_name d t ∷ year_name d y ∷ [])
+total_annual_min_capacity d r t y = value_of d TOTAL_ANNUAL_MIN_CAPACITY (region_name d r ∷ technology_name d t ∷ year_name d y ∷ [])
 
 -- TotalAnnualMaxCapacityInvestment[r,t,y]
 abbrev pub total_annual_max_capacity_investment : Data → ℕ → ℕ → ℕ → ℤ
-total_annual_max_capacity_investment d r t y = value_of d 21 (region_name d r ∷ technology_name d t ∷ year_name d y ∷ [])
+total_annual_max_capacity_investment d r t y = value_of d TOTAL_ANNUAL_MAX_CAPACITY_INVESTMENT (region_name d r ∷ technology_name d t ∷ year_name d y ∷ [])
 
 -- TotalAnnualMinCapacityInvestment[r,t,y]
 abbrev pub total_annual_min_capacity_investment : Data → ℕ → ℕ → ℕ → ℤ
-total_annual_min_capacity_investment d r t y = value_of d 22 (region_name d r ∷ technology_name d t ∷ year_name d y ∷ [])
+total_annual_min_capacity_investment d r t y = value_of d TOTAL_ANNUAL_MIN_CAPACITY_INVESTMENT (region_name d r ∷ technology_name d t ∷ year_name d y ∷ [])
 
 -- TotalTechnologyAnnualActivityUpperLimit[r,t,y]
 abbrev pub total_technology_annual_activity_upper_limit : Data → ℕ → ℕ → ℕ → ℤ
-total_technology_annual_activity_upper_limit d r t y = value_of d 23 (region_name d r ∷ technology_name d t ∷ year_name d y ∷ [])
+total_technology_annual_activity_upper_limit d r t y = value_of d TOTAL_TECHNOLOGY_ANNUAL_ACTIVITY_UPPER_LIMIT (region_name d r ∷ technology_name d t ∷ year_name d y ∷ [])
 
 -- TotalTechnologyAnnualActivityLowerLimit[r,t,y]
 abbrev pub total_technology_annual_activity_lower_limit : Data → ℕ → ℕ → ℕ → ℤ
-total_technology_annual_activity_lower_limit d r t y = value_of d 24 (region_name d r ∷ technology_name d t ∷ year_name d y ∷ [])
+total_technology_annual_activity_lower_limit d r t y = value_of d TOTAL_TECHNOLOGY_ANNUAL_ACTIVITY_LOWER_LIMIT (region_name d r ∷ technology_name d t ∷ year_name d y ∷ [])
 
 -- TotalTechnologyModelPeriodActivityUpperLimit[r,t]
 abbrev pub total_technology_model_period_activity_upper_limit : Data → ℕ → ℕ → ℤ
-total_technology_model_period_activity_upper_limit d r t = value_of d 25 (region_name d r ∷ technology_name d t ∷ [])
+total_technology_model_period_activity_upper_limit d r t = value_of d TOTAL_TECHNOLOGY_MODEL_PERIOD_ACTIVITY_UPPER_LIMIT (region_name d r ∷ technology_name d t ∷ [])
 
 -- TotalTechnologyModelPeriodActivityLowerLimit[r,t]
 abbrev pub total_technology_model_period_activity_lower_limit : Data → ℕ → ℕ → ℤ
-total_technology_model_period_activity_lower_limit d r t = value_of d 26 (region_name d r ∷ technology_name d t ∷ [])
+total_technology_model_period_activity_lower_limit d r t = value_of d TOTAL_TECHNOLOGY_MODEL_PERIOD_ACTIVITY_LOWER_LIMIT (region_name d r ∷ technology_name d t ∷ [])
 
 -- ReserveMarginTagTechnology[r,t,y]
 abbrev pub reserve_margin_tag_technology : Data → ℕ → ℕ → ℕ → ℤ
-reserve_margin_tag_technology d r t y = value_of d 27 (region_name d r ∷ technology_name d t ∷ year_name d y ∷ [])
+reserve_margin_tag_technology d r t y = value_of d RESERVE_MARGIN_TAG_TECHNOLOGY (region_name d r ∷ technology_name d t ∷ year_name d y ∷ [])
 
 -- ReserveMarginTagFuel[r,f,y]
 abbrev pub reserve_margin_tag_fuel : Data → ℕ → ℕ → ℕ → ℤ
-reserve_margin_tag_fuel d r f y = value_of d 28 (region_name d r ∷ fuel_name d f ∷ year_name d y ∷ [])
+reserve_margin_tag_fuel d r f y = value_of d RESERVE_MARGIN_TAG_FUEL (region_name d r ∷ fuel_name d f ∷ year_name d y ∷ [])
 
 -- ReserveMargin[r,y]
 abbrev pub reserve_margin : Data → ℕ → ℕ → ℤ
-reserve_margin d r y = value_of d 29 (region_name d r ∷ year_name d y ∷ [])
+reserve_margin d r y = value_of d RESERVE_MARGIN (region_name d r ∷ year_name d y ∷ [])
 
 -- RETagTechnology[r,t,y]
 abbrev pub re_tag_technology : Data → ℕ → ℕ → ℕ → ℤ
-re_tag_technology d r t y = value_of d 30 (region_name d r ∷ technology_name d t ∷ year_name d y ∷ [])
+re_tag_technology d r t y = value_of d RE_TAG_TECHNOLOGY (region_name d r ∷ technology_name d t ∷ year_name d y ∷ [])
 
 -- RETagFuel[r,f,y]
 abbrev pub re_tag_fuel : Data → ℕ → ℕ → ℕ → ℤ
-re_tag_fuel d r f y = value_of d 31 (region_name d r ∷ fuel_name d f ∷ year_name d y ∷ [])
+re_tag_fuel d r f y = value_of d RE_TAG_FUEL (region_name d r ∷ fuel_name d f ∷ year_name d y ∷ [])
 
 -- REMinProductionTarget[r,y]
 abbrev pub re_min_production_target : Data → ℕ → ℕ → ℤ
-re_min_production_target d r y = value_of d 32 (region_name d r ∷ year_name d y ∷ [])
+re_min_production_target d r y = value_of d RE_MIN_PRODUCTION_TARGET (region_name d r ∷ year_name d y ∷ [])
 
 -- EmissionActivityRatio[r,t,e,m,y]
 abbrev pub emission_activity_ratio : Data → ℕ → ℕ → ℕ → ℕ → ℕ → ℤ
-emission_activity_ratio d r t e m y = value_of d 33 (region_name d r ∷ technology_name d t ∷ emission_name d e ∷ mode_name d m ∷ year_name d y ∷ [])
+emission_activity_ratio d r t e m y = value_of d EMISSION_ACTIVITY_RATIO (region_name d r ∷ technology_name d t ∷ emission_name d e ∷ mode_name d m ∷ year_name d y ∷ [])
 
 -- EmissionsPenalty[r,e,y]
 abbrev pub emissions_penalty : Data → ℕ → ℕ → ℕ → ℤ
-emissions_penalty d r e y = value_of d 34 (region_name d r ∷ emission_name d e ∷ year_name d y ∷ [])
+emissions_penalty d r e y = value_of d EMISSIONS_PENALTY (region_name d r ∷ emission_name d e ∷ year_name d y ∷ [])
 
 -- AnnualExogenousEmission[r,e,y]
 abbrev pub annual_exogenous_emission : Data → ℕ → ℕ → ℕ → ℤ
-annual_exogenous_emission d r e y = value_of d 35 (region_name d r ∷ emission_name d e ∷ year_name d y ∷ [])
+annual_exogenous_emission d r e y = value_of d ANNUAL_EXOGENOUS_EMISSION (region_name d r ∷ emission_name d e ∷ year_name d y ∷ [])
 
 -- AnnualEmissionLimit[r,e,y]
 abbrev pub annual_emission_limit : Data → ℕ → ℕ → ℕ → ℤ
-annual_emission_limit d r e y = value_of d 36 (region_name d r ∷ emission_name d e ∷ year_name d y ∷ [])
+annual_emission_limit d r e y = value_of d ANNUAL_EMISSION_LIMIT (region_name d r ∷ emission_name d e ∷ year_name d y ∷ [])
 
 -- ModelPeriodExogenousEmission[r,e]
 abbrev pub model_period_exogenous_emission : Data → ℕ → ℕ → ℤ
-model_period_exogenous_emission d r e = value_of d 37 (region_name d r ∷ emission_name d e ∷ [])
+model_period_exogenous_emission d r e = value_of d MODEL_PERIOD_EXOGENOUS_EMISSION (region_name d r ∷ emission_name d e ∷ [])
 
 -- ModelPeriodEmissionLimit[r,e]
 abbrev pub model_period_emission_limit : Data → ℕ → ℕ → ℤ
-model_period_emission_limit d r e = value_of d 38 (region_name d r ∷ emission_name d e ∷ [])
+model_period_emission_limit d r e = value_of d MODEL_PERIOD_EMISSION_LIMIT (region_name d r ∷ emission_name d e ∷ [])

@@ -7,53 +7,20 @@ use Rattle.model_sets.specs.declared.fault.SetFault.{SetFault}
 use Rattle.model_sets.specs.Data.{value_at}
 use Rattle.param_tables.specs.BlockData.{data_told, set_lists}
 use Rattle.param_tables.specs.Positions.{names_at}
-use Rattle.param_tables.specs.RangeTable.{range_of}
-use Rattle.param_tables.specs.Ranges.{range_fault, whole}
+use Rattle.param_tables.specs.Ranges.{whole}
 use Rattle.param_tables.specs.Refusals.{Refusal, StorageMember, UnknownName, GivenBefore, AtIndex, first_refusal}
 use Rattle.param_tables.specs.SetRefusals.{first_set_refusal}
 use Rattle.mathprog_data.specs.Meaning.{Blocks, SetBlock, ParamBlock, GivenValue}
-use Rattle.param_tables.specs.declared.fault.CellFault.TheVariants.{NoValue, Negative, NotPositive, NotWhole, OutOfRange, WholeUnits}
+use Rattle.param_tables.specs.declared.fault.CellFault.TheVariants.{NoValue, Negative, NotWhole, OutOfRange, WholeUnits}
 
--- ---- ranges
+-- ---- numbers
 
-half : ℤ
-half = pos 500000000
-
--- -0.5, -1, -1.5
+-- -0.5 and -1
 minus_half : ℤ
 minus_half = negsuc 499999999
 
 minus_whole : ℤ
 minus_whole = negsuc 999999999
-
-at_least_zero : map (range_fault (range_of 4)) (pos 0 ∷ pos 1 ∷ negsuc 0 ∷ []) ≡ None ∷ None ∷ Some Negative ∷ []
-at_least_zero = refl
-
-above_zero : map (range_fault (range_of 1)) (pos 1 ∷ pos 0 ∷ negsuc 0 ∷ []) ≡ None ∷ Some NotPositive ∷ Some NotPositive ∷ []
-above_zero = refl
-
-zero_to_one : map (range_fault (range_of 2)) (pos 0 ∷ whole 1 ∷ negsuc 0 ∷ pos 1000000001 ∷ []) ≡ None ∷ None ∷ Some OutOfRange ∷ Some OutOfRange ∷ []
-zero_to_one = refl
-
-one_or_two : map (range_fault (range_of 3)) (whole 1 ∷ whole 2 ∷ pos 1500000000 ∷ whole 0 ∷ whole 3 ∷ []) ≡ None ∷ None ∷ Some OutOfRange ∷ Some OutOfRange ∷ Some OutOfRange ∷ []
-one_or_two = refl
-
--- 1 and 200; 0, 201 and -1; 1.5, -0.5 and 200.000000001
-lives : map (range_fault (range_of 11)) (whole 1 ∷ whole 200 ∷ whole 0 ∷ whole 201 ∷ minus_whole ∷ pos 1500000000 ∷ minus_half ∷ pos 200000000001 ∷ []) ≡ None ∷ None ∷ Some OutOfRange ∷ Some OutOfRange ∷ Some OutOfRange ∷ Some NotWhole ∷ Some NotWhole ∷ Some NotWhole ∷ []
-unfolding minus_half minus_whole
-lives = refl
-
-whole_units : map (range_fault (range_of 18)) (pos 0 ∷ pos 1 ∷ negsuc 0 ∷ []) ≡ None ∷ Some WholeUnits ∷ Some WholeUnits ∷ []
-whole_units = refl
-
--- -1, 0 and 0.5 are limits; -0.5, -2 and -0.999999999 are none
-limits : map (range_fault (range_of 19)) (minus_whole ∷ pos 0 ∷ half ∷ minus_half ∷ negsuc 1999999999 ∷ negsuc 999999998 ∷ []) ≡ None ∷ None ∷ None ∷ Some OutOfRange ∷ Some OutOfRange ∷ Some OutOfRange ∷ []
-unfolding half minus_half minus_whole
-limits = refl
-
--- the costs and the emission limits may be below 0
-any : map (λ n. range_fault (range_of n) (negsuc 499999999)) (15 ∷ 16 ∷ 17 ∷ 33 ∷ 34 ∷ 35 ∷ 36 ∷ 37 ∷ 38 ∷ []) ≡ None ∷ None ∷ None ∷ None ∷ None ∷ None ∷ None ∷ None ∷ None ∷ []
-any = refl
 
 -- ---- a model of one region, technology, fuel, mode, timeslice and year, with defaults alone
 
@@ -197,6 +164,25 @@ no_mode : first_set_refusal (of (on_set 1 (codes "R" ∷ []) ∷ on_set 2 (codes
 unfolding of on_set digits
 no_mode = refl
 
+-- the sets are asked in the order of their numbers, whatever the order of their statements
+set_order : first_set_refusal (of (on_set 7 (codes "02020" ∷ []) ∷ on_set 1 (codes "R" ∷ codes "R" ∷ []) ∷ []) []) ≡ Some (record { no = 1; set = 1 })
+unfolding of on_set digits
+set_order = refl
+
+-- within a set the members are asked in the order of the text
+bad_year_first : first_set_refusal (with_set 5 (on_set 7 (codes "2020" ∷ codes "02021" ∷ codes "2020" ∷ []))) ≡ Some (record { no = 3; set = 7 })
+unfolding with_set of on_set some_sets digits
+bad_year_first = refl
+
+twice_before_bad_year : first_set_refusal (with_set 5 (on_set 7 (codes "2020" ∷ codes "2020" ∷ codes "02021" ∷ []))) ≡ Some (record { no = 1; set = 7 })
+unfolding with_set of on_set some_sets digits
+twice_before_bad_year = refl
+
+-- an empty set is refused after all members: REGION is empty, and a year stands twice
+empty_last : first_set_refusal (of (on_set 7 (codes "2020" ∷ codes "2020" ∷ []) ∷ []) []) ≡ Some (record { no = 1; set = 7 })
+unfolding of on_set digits
+empty_last = refl
+
 -- ---- refused parameters
 
 with_param : ParamBlock → Option Refusal
@@ -282,6 +268,16 @@ unknown_twice = refl
 value_first : first_refusal (of some_sets (by_values 38 (value (codes "X" ∷ codes "Y" ∷ []) (pos 0) (place 9 9) ∷ []) ∷ [])) ≡ Some (UnknownName (place 9 9))
 unfolding value place of some_sets on_set by_values
 value_first = refl
+
+-- values are asked in the order of the text: the member of a later statement is refused later, whatever the numbers of the parameters
+text_order : first_refusal (of two_years (by_values 15 (cost (codes "2022") (whole 5) 1 ∷ []) ∷ by_values 5 (value (codes "R" ∷ codes "X" ∷ codes "2020" ∷ []) (whole 5) (place 2 1) ∷ []) ∷ [])) ≡ Some (UnknownName (place 1 1))
+unfolding cost value place of two_years some_sets on_set by_values
+text_order = refl
+
+-- and a value given twice in an earlier statement is refused before an unknown member of a later one
+twice_in_text_order : first_refusal (of two_years (by_values 15 (cost (codes "2020") (whole 5) 1 ∷ cost (codes "2020") (whole 5) 2 ∷ []) ∷ by_values 5 (value (codes "R" ∷ codes "X" ∷ codes "2020" ∷ []) (whole 5) (place 3 1) ∷ []) ∷ [])) ≡ Some (GivenBefore (place 2 1))
+unfolding cost value place of two_years some_sets on_set by_values
+twice_in_text_order = refl
 
 -- nobody looks at the members and values of a parameter that isn't used
 unused : first_refusal (of some_sets (by_values 39 (value (codes "X" ∷ codes "Y" ∷ []) (pos 0) (place 9 9) ∷ []) ∷ defaults)) ≡ None

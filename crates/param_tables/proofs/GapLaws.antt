@@ -44,7 +44,7 @@ module _ (range : Range) (missing : Option CellFault) (places : List ℕ) (value
   abbrev pub fault_at_place : ℕ → Option CellFault
   fault_at_place place = place_fault range missing (given_in (zip places values) place)
 
-  -- no fault below `next`, which lies behind the first i places and not behind the others
+  -- no fault below `next`, which lies after the first i places and not after the others
   pub record IsWalked (next i : ℕ) : Type 0 where
     pub before : (k : ℕ) → k < i → get_or places k 0 < next
     pub after : (k : ℕ) → i ≤ k → k < length places → next ≤ get_or places k 0
@@ -74,7 +74,7 @@ module _ (range : Range) (missing : Option CellFault) (places : List ℕ) (value
     | inr later ↦ let some : next < end = omega arith in ap (place_fault range missing) (gap_none next i end place walked stops later below) ∙ fault_before-none missing next end e some
   ]
 
-  -- behind the last place
+  -- after the last place
   pub gap_last : (next i size : ℕ) (found : Option PlaceFault) → IsWalked next i → length places ≤ i → found ≡ fault_before missing next size → IsFirstFault fault_at_place size found
   gap_last next i size None walked all e = gap_free next i size walked (λ k low below. absurd (omega arith)) (sym e)
   gap_last next i size (Some found) walked all e = gap_first next i size size found walked (λ k low below. absurd (omega arith)) (omega arith) (sym e)

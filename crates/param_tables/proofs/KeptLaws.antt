@@ -16,7 +16,7 @@ use Rattle.param_tables.specs.Refusals.{AtIndex, TooManyIndices, fault_at, index
 use Rattle.mathprog_data.specs.Meaning.{ParamBlock, GivenValue}
 use Rattle.param_tables.specs.Tables.{AreTablesFor, HaveShapes}
 use Rattle.param_tables.specs.View.{AreKept, facts_of}
-use Rattle.mathprog_data.specs.WellFormed.{IsNumber, IsParamBlock}
+use Rattle.mathprog_data.specs.WellFormed.{IsWithinLimit, IsParamBlock}
 use Rattle.param_tables.specs.declared.param_table.ParamTable.{ParamTable}
 use Rattle.param_tables.specs.declared.ranges.Range.{Range}
 use Rattle.param_tables.proofs.FactLaws.{tables_for_facts}
@@ -52,44 +52,44 @@ either_some : {X : Type 0} (P : X → Type 0) (o p : Option X) → IfSome o P �
 either_some P None p first second = second
 either_some P (Some x) p first second = first
 
-given_numbers_of : (q p : ℕ) (index : List (List ℕ)) (values : List GivenValue) → All (λ v. IsNumber v.value) values → IfSome (option_map (λ g. g.value) (find (is_given_at p index) (map (given_of q) values))) IsNumber
+given_numbers_of : (q p : ℕ) (index : List (List ℕ)) (values : List GivenValue) → All (λ v. IsWithinLimit v.value) values → IfSome (option_map (λ g. g.value) (find (is_given_at p index) (map (given_of q) values))) IsWithinLimit
 given_numbers_of q p index [] every = tt
 given_numbers_of q p index (v ∷ vs) every = by (is_given_at p index (given_of q v)) (given_numbers_of q p index vs (λ k d below. every (suc k) d (omega arith)))
   where
-    by : (b : Bool) → IfSome (option_map (λ g. g.value) (find (is_given_at p index) (map (given_of q) vs))) IsNumber → IfSome (option_map (λ g. g.value) (cond b (Some (given_of q v)) (find (is_given_at p index) (map (given_of q) vs)))) IsNumber
+    by : (b : Bool) → IfSome (option_map (λ g. g.value) (find (is_given_at p index) (map (given_of q) vs))) IsWithinLimit → IfSome (option_map (λ g. g.value) (cond b (Some (given_of q v)) (find (is_given_at p index) (map (given_of q) vs)))) IsWithinLimit
     by true others = every 0 v (omega arith)
     by false others = others
 
-given_numbers : (sets : SetLists) (xs : List ParamBlock) (p : ℕ) (index : List (List ℕ)) → All IsParamBlock xs → IfSome (given_at (data_of sets xs) p index) IsNumber
+given_numbers : (sets : SetLists) (xs : List ParamBlock) (p : ℕ) (index : List (List ℕ)) → All IsParamBlock xs → IfSome (given_at (data_of sets xs) p index) IsWithinLimit
 given_numbers sets [] p index every = tt
 given_numbers sets (x ∷ xs) p index every =
     let first = given_numbers_of x.param p index x.values (λ k d below. ((every 0 x (omega arith)).values k d below).number) in
     let others = given_numbers sets xs p index (λ k d below. every (suc k) d (omega arith)) in
-    subst (λ o. IfSome (option_map (λ g. g.value) o) IsNumber) (sym (find-append (is_given_at p index) (givens_of x) (flat_map givens_of xs)))
-    (some_of IsNumber (λ (g : Given). g.value) (find (is_given_at p index) (givens_of x)) (find (is_given_at p index) (flat_map givens_of xs)) first others)
+    subst (λ o. IfSome (option_map (λ g. g.value) o) IsWithinLimit) (sym (find-append (is_given_at p index) (givens_of x) (flat_map givens_of xs)))
+    (some_of IsWithinLimit (λ (g : Given). g.value) (find (is_given_at p index) (givens_of x)) (find (is_given_at p index) (flat_map givens_of xs)) first others)
 
-default_number : (x : ParamBlock) (p : ℕ) (ds : List Default) (default : Option ℤ) → IfSome default IsNumber → IfSome (option_map (λ d. d.value) (find (λ (d : Default). nat_eq d.param p) ds)) IsNumber → IfSome (option_map (λ d. d.value) (find (λ (d : Default). nat_eq d.param p) (cons_option (option_map (λ value. record { param = x.param; value = value }) default) ds))) IsNumber
+default_number : (x : ParamBlock) (p : ℕ) (ds : List Default) (default : Option ℤ) → IfSome default IsWithinLimit → IfSome (option_map (λ d. d.value) (find (λ (d : Default). nat_eq d.param p) ds)) IsWithinLimit → IfSome (option_map (λ d. d.value) (find (λ (d : Default). nat_eq d.param p) (cons_option (option_map (λ value. record { param = x.param; value = value }) default) ds))) IsWithinLimit
 default_number x p ds None number others = others
 default_number x p ds (Some v) number others = by (nat_eq x.param p)
   where
-    by : (b : Bool) → IfSome (option_map (λ d. d.value) (cond b (Some (record { param = x.param; value = v })) (find (λ (d : Default). nat_eq d.param p) ds))) IsNumber
+    by : (b : Bool) → IfSome (option_map (λ d. d.value) (cond b (Some (record { param = x.param; value = v })) (find (λ (d : Default). nat_eq d.param p) ds))) IsWithinLimit
     by true = number
     by false = others
 
-default_numbers : (sets : SetLists) (xs : List ParamBlock) (p : ℕ) → All IsParamBlock xs → IfSome (default_of (data_of sets xs) p) IsNumber
+default_numbers : (sets : SetLists) (xs : List ParamBlock) (p : ℕ) → All IsParamBlock xs → IfSome (default_of (data_of sets xs) p) IsWithinLimit
 default_numbers sets [] p every = tt
 default_numbers sets (x ∷ xs) p every = default_number x p (filter_map stated_default xs) x.default (every 0 x (omega arith)).default (default_numbers sets xs p (λ k d below. every (suc k) d (omega arith)))
 
-none_number : (p : ℕ) → IfSome (value_of_none p) IsNumber
+none_number : (p : ℕ) → IfSome (value_of_none p) IsWithinLimit
 none_number p = by (nat_eq p unit_capacity)
   where
-    by : (b : Bool) → IfSome (if b then Some (pos 0) else None) IsNumber
+    by : (b : Bool) → IfSome (if b then Some (pos 0) else None) IsWithinLimit
     by true = omega arith
     by false = tt
 
 -- every value of statements that a text can give is a number
-pub values_are_numbers : (sets : SetLists) (xs : List ParamBlock) (p : ℕ) (index : List (List ℕ)) → All IsParamBlock xs → IfSome (value_at (data_of sets xs) p index) IsNumber
-values_are_numbers sets xs p index every = either_some IsNumber (given_at (data_of sets xs) p index) (option_or (default_of (data_of sets xs) p) (value_of_none p)) (given_numbers sets xs p index every) (either_some IsNumber (default_of (data_of sets xs) p) (value_of_none p) (default_numbers sets xs p every) (none_number p))
+pub values_are_numbers : (sets : SetLists) (xs : List ParamBlock) (p : ℕ) (index : List (List ℕ)) → All IsParamBlock xs → IfSome (value_at (data_of sets xs) p index) IsWithinLimit
+values_are_numbers sets xs p index every = either_some IsWithinLimit (given_at (data_of sets xs) p index) (option_or (default_of (data_of sets xs) p) (value_of_none p)) (given_numbers sets xs p index every) (either_some IsWithinLimit (default_of (data_of sets xs) p) (value_of_none p) (default_numbers sets xs p every) (none_number p))
 
 -- ---- no refusal, so a value in its range
 
@@ -119,12 +119,12 @@ unmapped : {X Y : Type 0} (f : X → Y) (o : Option X) → option_map f o ≡ No
 unmapped f None e = refl
 unmapped f (Some x) e = absurd cc
 
-value_in : (range : Range) (o : Option ℤ) → value_fault range o ≡ None → IfSome o IsNumber → IsSomeAnd o (IsValueIn range)
+value_in : (range : Range) (o : Option ℤ) → value_fault range o ≡ None → IfSome o IsWithinLimit → IsSomeAnd o (IsValueIn range)
 value_in range None e number = absurd cc
 value_in range (Some v) e number = record { within = in_range_from range v e; number = number }
 
 -- data of which nothing is refused, and whose values are numbers, are complete
-pub complete_of : (d : Data) → AreSets d.sets → flat_map (param_refusals d) (range_with_len 1 used_count) ≡ [] → ((p : ℕ) → IsUsedParam p → (index : List (List ℕ)) → Contains (indices_of d.sets p) index → IfSome (value_at d p index) IsNumber) → AreComplete d
+pub complete_of : (d : Data) → AreSets d.sets → flat_map (param_refusals d) (range_with_len 1 used_count) ≡ [] → ((p : ℕ) → IsUsedParam p → (index : List (List ℕ)) → Contains (indices_of d.sets p) index → IfSome (value_at d p index) IsWithinLimit) → AreComplete d
 complete_of d are free numbers = record { sets = are; values = values }
   where
     none_of_param : (p : ℕ) → IsUsedParam p → param_refusals d p ≡ []
@@ -154,5 +154,5 @@ kept_of sets params tables are for every free =
     let same = same_facts_told sets params tables are for in
     record {
       tabled = tabled;
-      complete = complete_of (facts_of sets tables) are free (λ p used index has. subst (λ o. IfSome o IsNumber) (sym (same.values p used index has)) (values_are_numbers sets params p index every));
+      complete = complete_of (facts_of sets tables) are free (λ p used index has. subst (λ o. IfSome o IsWithinLimit) (sym (same.values p used index has)) (values_are_numbers sets params p index every));
     }

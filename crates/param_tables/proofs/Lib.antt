@@ -9,8 +9,10 @@ pub mod GivenLaws
 pub mod IndexLaws
 pub mod KeptLaws
 pub mod NonzeroLaws
+mod NumberExamples
 pub mod ParamLaws
 pub mod PlaceLaws
+mod RangeExamples
 pub mod RangeLists
 pub mod RangeRules
 mod RatioExamples

@@ -1,17 +1,16 @@
 -- The places at which a value is given that isn't 0, in order and in groups.
-use Rattle.std.proofs.Common.{◌≡◌, ℕ, zero, suc, ◌+◌, ◌*◌, ◌/◌, ◌%◌, ◌<◌, ◌≤◌, Bool, true, false, cond, not, List, [], ◌∷◌, ◌++◌, Option, None, Some, nat_eq, length, map, take, get_or, refl, sym, ap, ◌∙◌, subst, inl, inr, arith, All, pos}
+use Rattle.std.proofs.Common.{◌≡◌, ℕ, zero, suc, ◌+◌, ◌<◌, Bool, true, false, cond, List, [], ◌∷◌, ◌++◌, Some, nat_eq, length, map, take, get_or, refl, sym, ap, ◌∙◌, subst, arith, All}
 use Rattle.std.specs.Prelude.{◌↔◌, ℤ, Contains, filter, slice_get}
 use Rattle.std.specs.List.{dedup, zip}
 use Rattle.std.specs.List.Sorted.{IsPermutation, IsSorted, IsStrictlyIncreasing}
-use Rattle.std.specs.Option.{option_or}
-use Rattle.std.specs.Ordering.{int_eq, nat_cmp}
-use Rattle.std.proofs.lemmas.Bool.{cases_eq, eqb-true, false≢true}
+use Rattle.std.specs.Ordering.{nat_cmp}
+use Rattle.std.proofs.lemmas.Bool.{eqb-true, false≢true}
 use Rattle.std.proofs.lemmas.List.{append-nil}
 use Rattle.std.proofs.lemmas.List.Elements.{All-contains, filter_more}
 use Rattle.std.proofs.lemmas.List.Kept.{Contains-dedup_nat, Contains-from_dedup}
 use Rattle.std.proofs.lemmas.List.Sorted.{Contains-permutation, IsPermutation-sym}
 use Rattle.std.proofs.lemmas.Map.Keys.{IsStrictlyIncreasing-dedup}
-use Rattle.param_tables.specs.RatioPlaces.{AreGrouped, ArePlacesOf, IsWithin, grouped_place, is_given_nonzero, is_nonzero_value, ratio_place, region_size, regrouped}
+use Rattle.param_tables.specs.RatioPlaces.{AreGrouped, IsWithin, grouped_place, is_given_nonzero, is_nonzero_value, ratio_place, regrouped}
 use Rattle.param_tables.specs.Tables.{entries_of, given_in}
 use Rattle.param_tables.specs.declared.param_table.ParamTable.{ParamTable}
 use Rattle.param_tables.specs.declared.ratio_sizes.RatioSizes.{RatioSizes}

@@ -1,5 +1,5 @@
 -- Lists made by position: rows of equal length as one list, and a filter of what a list is made of.
-use Rattle.std.proofs.Common.{◌≡◌, ℕ, suc, ◌+◌, ◌*◌, ◌/◌, ◌%◌, ◌<◌, Bool, true, false, cond, List, [], ◌∷◌, length, map, get_or, refl, sym, ap, ◌∙◌, subst, arith}
+use Rattle.std.proofs.Common.{◌≡◌, ℕ, ◌*◌, ◌/◌, ◌%◌, ◌<◌, Bool, true, false, cond, List, [], ◌∷◌, length, map, get_or, refl, ap, ◌∙◌, arith}
 use Rattle.std.specs.Prelude.{filter}
 use Rattle.std.specs.List.{flat_map, range_with_len}
 use Rattle.std.proofs.lemmas.List.FromFn.{fill_by_all, get_or-map-range_with_len, get_or-range_with_len, length-map-range_with_len, length-range_with_len}
@@ -9,7 +9,6 @@ use Rattle.model_sets.specs.Names.{technology, mode, year}
 use Rattle.param_tables.specs.Ratios.{commodity, positions_in, ratio_index, ratio_indices}
 use Rattle.param_tables.specs.RatioPlaces.{commodity_size, index_at_offset, ratio_sizes, region_size, technology_size}
 use Rattle.param_tables.specs.declared.ratios.ActivityRatio.{ActivityRatio}
-use Rattle.param_tables.specs.declared.ratios.RatioIndex.{RatioIndex}
 
 -- m rows of n items each
 module _ {X : Type 0} (g : ℕ → ℕ → X) (m n : ℕ) where

@@ -1,5 +1,5 @@
 -- Where the ratios of kept data aren't 0: what is found among the places is what the data say.
-use Rattle.std.proofs.Common.{◌≡◌, ℕ, zero, suc, ◌+◌, ◌-◌, ◌*◌, ◌<◌, ◌≤◌, Bool, true, false, cond, List, [], ◌∷◌, ◌++◌, Option, None, Some, pos, nat_eq, length, map, get_or, refl, sym, ap, ◌∙◌, subst, inl, inr, arith}
+use Rattle.std.proofs.Common.{◌≡◌, ℕ, ◌+◌, ◌-◌, ◌*◌, ◌<◌, ◌≤◌, Bool, true, false, cond, List, [], ◌∷◌, Option, None, Some, pos, nat_eq, length, map, get_or, refl, sym, ap, ◌∙◌, subst, arith}
 use Rattle.std.specs.Prelude.{ℤ, Contains, filter}
 use Rattle.std.specs.List.{list_any, range_with_len}
 use Rattle.std.specs.List.Sorted.{IsStrictlyIncreasing}
@@ -14,9 +14,9 @@ use Rattle.model_sets.specs.Data.{Data, unit_capacity, value_of_none}
 use Rattle.model_sets.specs.Members.{SetLists}
 use Rattle.model_sets.specs.Params.{IsUsedParam}
 use Rattle.param_tables.specs.Positions.{names_at}
-use Rattle.param_tables.specs.RatioPlaces.{AreBlocks, AreIndicesAt, AreKeptWith, ArePlacesOf, IsPartBetween, IsWithin, group_of, group_size, index_at_offset, is_given_nonzero, is_nonzero_value, offset_of, places_of, ratio_place, ratio_sizes, region_size}
-use Rattle.param_tables.specs.Ratios.{AreMembersFor, IsRegion, IsTechnology, count_in, has_nonzero_mode, is_nonzero_in, is_ratio_nonzero, nonzero_indices, nonzero_modes, nonzero_technologies, positions_in, ratio_indices, ratio_param}
-use Rattle.param_tables.specs.Tables.{IsTableFor, entries_of, given_in, table_value, value_else}
+use Rattle.param_tables.specs.RatioPlaces.{AreBlocks, AreIndicesAt, AreKeptWith, ArePlacesOf, IsPartBetween, IsWithin, group_of, group_size, index_at_offset, is_given_nonzero, is_nonzero_value, places_of, ratio_place, ratio_sizes, region_size}
+use Rattle.param_tables.specs.Ratios.{AreMembersFor, IsRegion, IsTechnology, has_nonzero_mode, is_nonzero_in, is_ratio_nonzero, nonzero_indices, nonzero_modes, nonzero_technologies, ratio_param}
+use Rattle.param_tables.specs.Tables.{IsTableFor, entries_of, given_in, value_else}
 use Rattle.param_tables.specs.View.{facts_of}
 use Rattle.param_tables.specs.declared.param_table.ParamTable.{ParamTable}
 use Rattle.param_tables.specs.declared.ratio_places.AllRatioPlaces.{AllRatioPlaces}

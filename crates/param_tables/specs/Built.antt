@@ -1,6 +1,7 @@
 -- What built data mean: the sets, and a value in its range for each used parameter and index.
 use Rattle.std.specs.Prelude.{◌≡◌, ℕ, ℤ, pos, List, unwrap_or, Contains, IsSomeAnd}
 use Rattle.exact_num.specs.Rational.{Rational, lowest}
+pub use Rattle.model_sets.specs.Data.{AreSameData}
 use Rattle.model_sets.specs.Data.{Data, indices_of, value_at}
 use Rattle.model_sets.specs.Members.{AreSets}
 use Rattle.model_sets.specs.Params.{IsUsedParam}
@@ -9,18 +10,13 @@ use Rattle.param_tables.specs.Positions.{names_at}
 use Rattle.param_tables.specs.RangeTable.{range_of}
 use Rattle.param_tables.specs.Ranges.{IsInRange, billion}
 use Rattle.mathprog_data.specs.Meaning.{Blocks}
-use Rattle.mathprog_data.specs.WellFormed.{IsNumber}
+use Rattle.mathprog_data.specs.WellFormed.{IsWithinLimit}
 use Rattle.param_tables.specs.declared.ranges.Range.{Range}
 
 -- the data, and how many numbers of the text were rounded
 pub record Built : Type 0 where
   pub facts : Data
   pub rounded : ℕ
-
--- the same sets, and the same value of each used parameter at each of its indices
-pub record AreSameData (d e : Data) : Type 0 where
-  pub sets : d.sets ≡ e.sets
-  pub values : (param : ℕ) → IsUsedParam param → (index : List (List ℕ)) → Contains (indices_of d.sets param) index → value_at d param index ≡ value_at e param index
 
 -- what is built is what the statements give
 pub record IsBuiltFrom (statements : Blocks) (built : Built) : Type 0 where
@@ -30,7 +26,7 @@ pub record IsBuiltFrom (statements : Blocks) (built : Built) : Type 0 where
 -- the value lies in the range, and is a number of a data section
 pub record IsValueIn (range : Range) (v : ℤ) : Type 0 where
   pub within : IsInRange range v
-  pub number : IsNumber v
+  pub number : IsWithinLimit v
 
 -- what the data keep: the sets by their rules, and a value in its range for each used parameter at each of its indices
 pub record AreComplete (d : Data) : Type 0 where

@@ -4,7 +4,8 @@ use Rattle.std.specs.List.{list_all, zip}
 use Rattle.model_sets.specs.Data.{indices_over}
 use Rattle.model_sets.specs.Members.{SetLists, members, is_among}
 
--- whether each name of the index is a member of the set of its subscript
+-- whether each name of the index is a member of the set of its subscript; it has as many names as there are subscripts
+-- (`AreWellFormed`), so that none is left over
 abbrev pub are_members : SetLists → List ℕ → List (List ℕ) → Bool
 are_members sets ks index = list_all (λ (k, name). is_among (members sets k) name) (zip ks index)
 

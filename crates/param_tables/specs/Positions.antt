@@ -8,7 +8,8 @@ use Rattle.model_sets.specs.Params.{subscript_sets}
 abbrev pub ArePositions : SetLists → List ℕ → List ℕ → Type 0
 ArePositions sets ks positions = AllZip (λ k i. i < length (members sets k)) ks positions
 
--- the names of the members at the positions, one of each of these sets
+-- the names of the members at the positions, one of each of these sets; there are as many positions as sets, and each is
+-- a member's (`ArePositions`)
 abbrev pub names_over : SetLists → List ℕ → List ℕ → List (List ℕ)
 names_over sets ks positions = map (λ (k, i). slice_index_or (members sets k) i []) (zip ks positions)
 

@@ -59,6 +59,6 @@ ranged_params =
 abbrev pub ranges : List Range
 ranges = map (λ p. p.range) ranged_params
 
--- the range of parameter n
+-- the range of the used parameter n; it is asked of these alone (`IsUsedParam`), and `Any` stands for no other
 abbrev pub range_of : ℕ → Range
 range_of n = slice_index_or ranges (n - 1) Any

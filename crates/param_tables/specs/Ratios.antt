@@ -2,6 +2,7 @@
 use Rattle.std.specs.Prelude.{ℕ, ◌<◌, pos, Bool, not, List, [], ◌∷◌, length, map, filter, unwrap_or}
 use Rattle.std.specs.List.{flat_map, list_any, range_with_len}
 use Rattle.std.specs.Ordering.{int_eq}
+use Rattle.model_sets.specs.declared.param_numbers.TheConstants.{INPUT_ACTIVITY_RATIO, OUTPUT_ACTIVITY_RATIO, EMISSION_ACTIVITY_RATIO}
 use Rattle.model_sets.specs.Data.{Data, value_at}
 use Rattle.model_sets.specs.Members.{SetLists, members}
 use Rattle.model_sets.specs.Names.{region, technology, fuel, emission, mode, year}
@@ -12,9 +13,9 @@ use Rattle.param_tables.specs.declared.ratios.RatioIndex.{RatioIndex}
 
 -- the number of the parameter: InputActivityRatio, OutputActivityRatio or EmissionActivityRatio
 abbrev pub ratio_param : ActivityRatio → ℕ
-ratio_param Input = 13
-ratio_param Output = 14
-ratio_param Emission = 33
+ratio_param Input = INPUT_ACTIVITY_RATIO
+ratio_param Output = OUTPUT_ACTIVITY_RATIO
+ratio_param Emission = EMISSION_ACTIVITY_RATIO
 
 -- the number of the set of what a technology takes in, puts out or gives off
 abbrev pub commodity : ActivityRatio → ℕ

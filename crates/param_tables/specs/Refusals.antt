@@ -5,6 +5,7 @@ use Rattle.std.specs.List.{filter_map, flat_map, list_any, range_with_len}
 use Rattle.std.specs.Option.{option_map}
 use Rattle.std.specs.Str.{bytes_eq}
 use Rattle.mathprog_data.specs.declared.blocks.Mark.{Mark}
+use Rattle.model_sets.specs.declared.set_numbers.TheConstants.{STORAGE}
 use Rattle.model_sets.specs.Data.{Data, indices_of, value_at}
 use Rattle.model_sets.specs.Members.{SetLists, members}
 use Rattle.model_sets.specs.Params.{subscript_sets, used_count}
@@ -18,17 +19,22 @@ use Rattle.param_tables.specs.declared.fault.CellFault.{CellFault}
 use Rattle.param_tables.specs.declared.fault.CellFault.TheVariants.{NoValue}
 use Rattle.param_tables.specs.declared.ranges.Range.{Range}
 
--- a refusal: STORAGE has a member; a value's index has a name that is no member of its set, or was given before, at this place of the text; a parameter has too many indices; a parameter has this fault at this index
+-- why data are refused
 pub data Refusal : Type 0 where
+  -- STORAGE has a member
   StorageMember : Refusal
-  UnknownName : Mark → Refusal
-  GivenBefore : Mark → Refusal
-  TooManyIndices : ℕ → Refusal
-  AtIndex : CellFault → ℕ → List (List ℕ) → Refusal
+  -- the index of the value at this place of the text has a name that is no member of its set
+  UnknownName : (at : Mark) → Refusal
+  -- the index of the value at this place of the text was given before
+  GivenBefore : (at : Mark) → Refusal
+  -- the parameter has too many indices
+  TooManyIndices : (param : ℕ) → Refusal
+  -- the parameter has this fault at this index
+  AtIndex : CellFault → (param : ℕ) → (index : List (List ℕ)) → Refusal
 
--- the number of STORAGE
+-- the number of the set STORAGE
 abbrev pub storage : ℕ
-storage = 8
+storage = STORAGE
 
 -- how many indices a parameter may have
 abbrev pub most_indices : ℕ
@@ -53,7 +59,7 @@ value_refusal sets param before value =
     else if is_given_among before value.index then Some (GivenBefore value.at)
     else None
 
--- whether the statement is on a used parameter
+-- whether the statement is on a used parameter; its number is a parameter's, from 1 (`AreWellFormed`), and the used ones are the first
 abbrev pub is_on_used : ParamBlock → Bool
 is_on_used statement = nat_le statement.param used_count
 
@@ -61,7 +67,7 @@ is_on_used statement = nat_le statement.param used_count
 abbrev pub value_refusals : SetLists → ParamBlock → List Refusal
 value_refusals sets statement = if is_on_used statement then in_turn (value_refusal sets statement.param) statement.values else []
 
--- the fault of a value, or of the want of one
+-- the fault of a value, or of a missing one
 abbrev pub value_fault : Range → Option ℤ → Option CellFault
 value_fault range None = Some NoValue
 value_fault range (Some v) = range_fault range v

@@ -37,7 +37,7 @@ set_refusals sets =
 abbrev pub first_set_refusal : Blocks → Option SetFault
 first_set_refusal statements = first_of (set_refusals (set_lists statements))
 
--- the failure is due, where this refusal, in one of the sets, is the first; want of memory may come at any time
+-- the failure is due, where this refusal, in one of the sets, is the first; it may run out of memory at any time
 abbrev pub IsSetFailDue : Option SetFault → SetFail → Type 0
 IsSetFailDue refusal (Fault fault) = (refusal ≡ Some fault) × IsSet fault.set
 IsSetFailDue refusal Memory = Unit {0}

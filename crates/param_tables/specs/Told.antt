@@ -46,7 +46,7 @@ NamesCell sets Storage = Unit {0}
 NamesCell sets (WholeUnits cell) = IsCell sets cell
 NamesCell sets (TooManyCells param) = IsUsedParam param
 
--- the failure is due, where this refusal is the first: it tells the refusal, and hands these sets back; want of memory may come at any time
+-- the failure is due, where this refusal is the first: it tells the refusal, and hands these sets back; it may run out of memory at any time
 abbrev pub IsBuildFailDue : Option Refusal → SetLists → BuildFail → Type 0
 IsBuildFailDue refusal sets (Fault fault back) = (refusal ≡ Some (refusal_told sets fault)) × NamesCell sets fault × (back ≡ sets)
 IsBuildFailDue refusal sets Memory = Unit {0}

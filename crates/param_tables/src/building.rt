@@ -22,16 +22,11 @@ use crate::fault::{BuildFail, BuildFault, Stop};
 use crate::model_data::ModelData;
 use crate::param_table::ParamTable;
 use crate::ratio_places::AllRatioPlaces;
-use crate::tables::tables_of;
+use crate::tables::{LAST_USED_PARAM, tables_of};
 use mathprog_data::Blocks;
 use model_sets::Sets;
+use model_sets::set_numbers::STORAGE;
 use std::alloc::Global;
-
-/// The number of the set STORAGE.
-const STORAGE: u8 = 8;
-
-/// How many parameters are used.
-const USED_COUNT: u8 = 38;
 
 /// The tables of the used parameters, and the places at which their ratios aren't 0.
 #[derive(Drop)]
@@ -41,13 +36,13 @@ struct CheckedParts {
 }
 
 /// Whether each used parameter has a value in its range at each of its indices. Refuses the first fault,
-/// parameter by parameter in the order of their numbers. Memory may be wanting.
+/// parameter by parameter in the order of their numbers. It may run out of memory.
 fn check_params(alloc: Global, sets: &Sets, tables: &[ParamTable]) -> Result<(), Stop>
     requires { HaveShapes sets.now tables.now }
     ensures accepted { OnOk result ((d : Data) → d.sets ≡ sets.now → AreTablesFor d tables.now → flat_map (param_refusals d) (range_with_len 1 used_count) ≡ []) }
     ensures refused { IfErr result (λ stop. (d : Data) → d.sets ≡ sets.now → AreTablesFor d tables.now → IsStopDue (first_of (flat_map (param_refusals d) (range_with_len 1 used_count))) sets.now stop) }
 {
-    for param in 1..USED_COUNT + 1 {
+    for param in 1..LAST_USED_PARAM + 1 {
         check_param(alloc, sets, param, &tables[usize::from(param - 1)])?;
     }
     Ok(())
@@ -88,13 +83,13 @@ fn checked_parts(alloc: Global, blocks: &Blocks, sets: &Sets) -> Result<CheckedP
 /// for the same blocks.
 ///
 /// Refuses the first of these, and hands the sets back: a member of STORAGE (`Storage`); of the values of
-/// used parameters (number 1 to 38), in the order of the text, one whose index has a name that is no member
+/// used parameters, in the order of the text, one whose index has a name that is no member
 /// of its set (`UnknownMember`) or was given before (`ValueTwice`), each with its place in the text; and
 /// then, parameter by parameter in the order of their numbers, more than 4,000,000 indices
 /// (`TooManyCells`), or else the first index, in the order of the members with the last subscript running
 /// fastest, that has neither a value nor a default (`NoValue`) or whose value lies outside the parameter's
 /// range (the other faults), with the parameter and the index. Nobody looks at the members and values of
-/// the parameters that are read and not used. Memory may be wanting at any time.
+/// the parameters that are read and not used. It may run out of memory at any time.
 pub fn build(alloc: Global, blocks: &Blocks, sets: Sets) -> Result<ModelData, BuildFail>
     requires blocks { AreWellFormed (blocks_told blocks.now) }
     requires sets { sets ≡ set_lists (blocks_told blocks.now) }

@@ -34,7 +34,7 @@ fn missing_fault(param: u8, default: Option<i128>) -> Option<CellFault>
 
 /// Whether the parameter has at most 4,000,000 indices, and at each of them a value in its range. Refuses
 /// too many indices, and else the first index, in the order of the members, that has no value or one out
-/// of its range. Memory may be wanting.
+/// of its range. It may run out of memory.
 pub(crate) fn check_param(
     alloc: Global,
     sets: &Sets,

@@ -13,7 +13,7 @@ use std::alloc::AllocError;
 /// A used parameter at an index.
 #[derive(Drop)]
 pub struct Cell {
-    /// The number of the parameter, from 1 to 38.
+    /// The number of the used parameter.
     pub param: u8,
     /// The positions of the members, one for each subscript, in the order of the subscripts.
     pub index: Vec<u16>,

@@ -30,7 +30,7 @@ fn keep(values: &mut BTreeMap<u64, i128>, place: u64, value: &i128) -> Result<()
 
 /// The values, in billionths, by the places of their indices among those of the used parameter. Refuses the
 /// first value, in the order of the text, whose index has a name that is no member, or whose index was
-/// given before. Memory may be wanting.
+/// given before. It may run out of memory.
 pub(crate) fn placed_values(
     alloc: Global,
     sets: &Sets,

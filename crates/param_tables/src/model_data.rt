@@ -12,7 +12,7 @@ ghost use Rattle.param_tables.specs.Ranges.{billion};
 ghost use Rattle.param_tables.specs.RatioPlaces.{AreKeptWith, IsWithin, ratio_sizes};
 ghost use Rattle.param_tables.specs.Ratios.{AreMembersFor, IsRegion, IsTechnology, is_nonzero_in, nonzero_indices, nonzero_modes, nonzero_technologies};
 ghost use Rattle.param_tables.specs.View.{facts_of};
-ghost use Rattle.mathprog_data.specs.WellFormed.{IsNumber};
+ghost use Rattle.mathprog_data.specs.WellFormed.{IsWithinLimit};
 
 use crate::indices::place_of;
 use crate::listed::{listed_indices, listed_modes, listed_technologies};
@@ -30,9 +30,8 @@ use std::marker::Model;
 /// One, in billionths.
 const BILLION: i128 = 1_000_000_000;
 
-/// The data of a model: the members of its sets, and a value in its range for each used parameter (number
-/// 1 to 38) at each of its indices: the value given, else the default, else 0 for
-/// CapacityOfOneTechnologyUnit.
+/// The data of a model: the members of its sets, and a value in its range for each used parameter at each
+/// of its indices: the value given, else the default, else 0 for CapacityOfOneTechnologyUnit.
 #[derive(Drop)]
 pub struct ModelData {
     sets: Sets,
@@ -55,7 +54,7 @@ impl Model for ModelData {
 
 /// The value, which is given in billionths.
 fn amount(value: Option<i128>) -> Frac
-    requires { IfSome value IsNumber }
+    requires { IfSome value IsWithinLimit }
     ensures { value_of result ≡ lowest (unwrap_or value (pos 0)) (pos billion) }
 {
     ratio(value.unwrap_or(0), BILLION)
@@ -92,7 +91,7 @@ impl ModelData {
         self.tables[usize::from(param - 1)].value_at(param, place)
     }
 
-    /// The value of the used parameter (number 1 to 38) at the index, which has one position for each
+    /// The value of the used parameter at the index, which has one position for each
     /// subscript, below the number of members of its set. The value is a fraction in lowest terms.
     pub fn at(&self, param: u8, index: &[u16]) -> Frac
         requires used { IsUsedParam param }
@@ -125,7 +124,7 @@ impl ModelData {
     }
 
     /// The modes, ascending, in which the ratio isn't 0 for the technology, the fuel or emission and the
-    /// year in the region, all by their positions. Memory may be wanting. Where the ratio's default is 0, the
+    /// year in the region, all by their positions. It may run out of memory. Where the ratio's default is 0, the
     /// time is in proportion to what is listed, beside a search; else each mode is tried.
     pub fn nonzero_modes(
         &self,
@@ -150,7 +149,7 @@ impl ModelData {
     }
 
     /// The technologies, ascending, that have a mode in which the ratio isn't 0 for the fuel or emission and
-    /// the year in the region, all by their positions. Memory may be wanting. Where the ratio's default is 0,
+    /// the year in the region, all by their positions. It may run out of memory. Where the ratio's default is 0,
     /// the time is in proportion to the modes of the technologies listed, beside a search; else each
     /// technology and mode is tried.
     pub fn nonzero_technologies(
@@ -174,7 +173,7 @@ impl ModelData {
     }
 
     /// The indices of the region at which the ratio isn't 0, in the order of technology, fuel or emission,
-    /// mode and year, each set's members in their own order. Memory may be wanting. Where the ratio's default
+    /// mode and year, each set's members in their own order. It may run out of memory. Where the ratio's default
     /// is 0, the time is in proportion to what is listed, beside a search; else each index is tried.
     pub fn nonzero_indices(
         &self,

@@ -7,11 +7,9 @@ ghost use Rattle.std.specs.Ordering.{nat_cmp};
 ghost use Rattle.param_tables.specs.RatioPlaces.{is_nonzero_value};
 ghost use Rattle.param_tables.specs.Tables.{entries_of, given_in, table_value, value_else};
 
+use model_sets::param_numbers::CAPACITY_OF_ONE_TECHNOLOGY_UNIT;
 use std::alloc::{AllocError, Global};
 use std::collections::BTreeMap;
-
-/// The number of CapacityOfOneTechnologyUnit, which is 0 where it has neither a value nor a default.
-const UNIT_CAPACITY: u8 = 18;
 
 /// What is given of a parameter: its default, and the values given, in billionths, in the order of the
 /// places of their indices.
@@ -22,13 +20,13 @@ pub(crate) struct ParamTable {
     pub(crate) values: Vec<i128>,
 }
 
-/// The value of the parameter where none is given.
+/// The value of the parameter where none is given: the default, else 0 for CapacityOfOneTechnologyUnit.
 pub(crate) fn value_else(param: u8, default: Option<i128>) -> Option<i128>
     ensures { result ≡ value_else param default }
 {
     match default {
         Some(value) => Some(value),
-        None if param == UNIT_CAPACITY => Some(0),
+        None if param == CAPACITY_OF_ONE_TECHNOLOGY_UNIT => Some(0),
         None => None,
     }
 }

@@ -6,6 +6,7 @@ ghost use Rattle.param_tables.specs.RangeTable.{range_of};
 ghost use Rattle.param_tables.specs.Ranges.{range_fault, life_fault, is_whole, unless};
 
 use crate::fault::CellFault;
+use model_sets::param_numbers::USED_PARAM_COUNT;
 
 /// One, in billionths.
 const ONE: i128 = 1_000_000_000;
@@ -32,7 +33,7 @@ pub enum Range {
 }
 
 /// The ranges, from parameter 1.
-const RANGES: [Range; 38] = [
+const RANGES: [Range; USED_PARAM_COUNT] = [
     Range::AboveZero, // YearSplit
     Range::ZeroToOne, // DiscountRate
     Range::OneOrTwo, // DepreciationMethod

@@ -5,6 +5,11 @@ ghost use Rattle.model_sets.specs.Names.{IsSet};
 ghost use Rattle.model_sets.specs.Params.{IsUsedParam};
 ghost use Rattle.param_tables.specs.Ratios.{commodity, ratio_param};
 
+use model_sets::param_numbers::{
+    EMISSION_ACTIVITY_RATIO, INPUT_ACTIVITY_RATIO, OUTPUT_ACTIVITY_RATIO,
+};
+use model_sets::set_numbers::{EMISSION, FUEL};
+
 /// What a technology takes in, puts out or gives off for each unit of its activity: the parameters
 /// InputActivityRatio, OutputActivityRatio and EmissionActivityRatio. Inputs and outputs are of the members
 /// of FUEL, emissions of those of EMISSION.
@@ -32,9 +37,9 @@ impl ActivityRatio {
         ensures used { IsUsedParam result }
     {
         match self {
-            ActivityRatio::Input => 13,
-            ActivityRatio::Output => 14,
-            ActivityRatio::Emission => 33,
+            ActivityRatio::Input => INPUT_ACTIVITY_RATIO,
+            ActivityRatio::Output => OUTPUT_ACTIVITY_RATIO,
+            ActivityRatio::Emission => EMISSION_ACTIVITY_RATIO,
         }
     }
 
@@ -44,8 +49,8 @@ impl ActivityRatio {
         ensures listed { IsSet result }
     {
         match self {
-            ActivityRatio::Input | ActivityRatio::Output => 3,
-            ActivityRatio::Emission => 4,
+            ActivityRatio::Input | ActivityRatio::Output => FUEL,
+            ActivityRatio::Emission => EMISSION,
         }
     }
 }

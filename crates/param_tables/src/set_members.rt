@@ -10,11 +10,12 @@ ghost use Rattle.mathprog_data.specs.BlocksView.{blocks_told, sets_told};
 ghost use Rattle.mathprog_data.specs.WellFormed.{AreWellFormed};
 
 use mathprog_data::{Blocks, Name, SetBlock};
+use model_sets::set_numbers::SET_COUNT;
 use model_sets::{SetFail, Sets};
 use std::alloc::Global;
 
-/// How many sets there are.
-const SET_COUNT: u8 = 11;
+/// The number of the last set.
+const LAST_SET: u8 = SET_COUNT as u8;
 
 /// The members that the blocks give the set; none where no block speaks of it.
 fn members_of(blocks: &[SetBlock], set: u8) -> &[Name]
@@ -50,7 +51,7 @@ fn add_members(sets: &mut Sets, set: u8, names: &[Name]) -> Result<(), SetFail>
 /// refused: a member of YEAR that isn't a whole number from 1 to 9999 written without sign and without
 /// leading zeros (`no` 3), a name that stands twice in its set (1), a member past the set's limit (4).
 /// Then the first set without members of REGION, TECHNOLOGY, FUEL, MODE_OF_OPERATION, TIMESLICE and YEAR
-/// (2). Memory may be wanting at any time.
+/// (2). It may run out of memory at any time.
 pub fn sets_of(alloc: Global, blocks: &Blocks) -> Result<Sets, SetFail>
     requires { AreWellFormed (blocks_told blocks.now) }
     ensures sets { IfOk result (λ sets. sets ≡ set_lists (blocks_told blocks.now)) }
@@ -58,7 +59,7 @@ pub fn sets_of(alloc: Global, blocks: &Blocks) -> Result<Sets, SetFail>
     ensures refused { IfErr result (IsSetFailDue (first_set_refusal (blocks_told blocks.now))) }
 {
     let mut sets = Sets::new(alloc)?;
-    for set in 1..SET_COUNT + 1 {
+    for set in 1..LAST_SET + 1 {
         add_members(&mut sets, set, members_of(blocks.sets.as_slice(), set))?;
     }
     match sets.finish() {

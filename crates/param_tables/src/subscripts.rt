@@ -5,22 +5,13 @@ ghost use Rattle.model_sets.specs.Names.{IsSet};
 ghost use Rattle.model_sets.specs.Params.{IsUsedParam, subscript_sets, used_params};
 ghost use Rattle.param_tables.specs.Subscripts.{lists_of};
 
-const REGION: u8 = 1;
-
-const TECHNOLOGY: u8 = 2;
-
-const FUEL: u8 = 3;
-
-const EMISSION: u8 = 4;
-
-const MODE: u8 = 5;
-
-const TIMESLICE: u8 = 6;
-
-const YEAR: u8 = 7;
+use model_sets::param_numbers::USED_PARAM_COUNT;
+use model_sets::set_numbers::{
+    EMISSION, FUEL, MODE_OF_OPERATION, REGION, TECHNOLOGY, TIMESLICE, YEAR,
+};
 
 /// The numbers of the sets, in the order of the subscripts, from parameter 1.
-static SUBSCRIPTS: [&[u8]; 38] = [
+static SUBSCRIPTS: [&[u8]; USED_PARAM_COUNT] = [
     &[TIMESLICE, YEAR], // YearSplit
     &[REGION], // DiscountRate
     &[REGION], // DepreciationMethod
@@ -33,10 +24,10 @@ static SUBSCRIPTS: [&[u8]; 38] = [
     &[REGION, TECHNOLOGY, YEAR], // AvailabilityFactor
     &[REGION, TECHNOLOGY], // OperationalLife
     &[REGION, TECHNOLOGY, YEAR], // ResidualCapacity
-    &[REGION, TECHNOLOGY, FUEL, MODE, YEAR], // InputActivityRatio
-    &[REGION, TECHNOLOGY, FUEL, MODE, YEAR], // OutputActivityRatio
+    &[REGION, TECHNOLOGY, FUEL, MODE_OF_OPERATION, YEAR], // InputActivityRatio
+    &[REGION, TECHNOLOGY, FUEL, MODE_OF_OPERATION, YEAR], // OutputActivityRatio
     &[REGION, TECHNOLOGY, YEAR], // CapitalCost
-    &[REGION, TECHNOLOGY, MODE, YEAR], // VariableCost
+    &[REGION, TECHNOLOGY, MODE_OF_OPERATION, YEAR], // VariableCost
     &[REGION, TECHNOLOGY, YEAR], // FixedCost
     &[REGION, TECHNOLOGY, YEAR], // CapacityOfOneTechnologyUnit
     &[REGION, TECHNOLOGY, YEAR], // TotalAnnualMaxCapacity
@@ -53,7 +44,7 @@ static SUBSCRIPTS: [&[u8]; 38] = [
     &[REGION, TECHNOLOGY, YEAR], // RETagTechnology
     &[REGION, FUEL, YEAR], // RETagFuel
     &[REGION, YEAR], // REMinProductionTarget
-    &[REGION, TECHNOLOGY, EMISSION, MODE, YEAR], // EmissionActivityRatio
+    &[REGION, TECHNOLOGY, EMISSION, MODE_OF_OPERATION, YEAR], // EmissionActivityRatio
     &[REGION, EMISSION, YEAR], // EmissionsPenalty
     &[REGION, EMISSION, YEAR], // AnnualExogenousEmission
     &[REGION, EMISSION, YEAR], // AnnualEmissionLimit
@@ -70,8 +61,8 @@ fn look_up<'a>(table: &'a [&'static [u8]], param: u8) -> &'static [u8]
     table[usize::from(param - 1)]
 }
 
-/// The numbers of the sets over which the subscripts of the used parameter run, from 1 to 38, in the order of
-/// its subscripts (the OSeMOSYS long code, Howells et al., Energy Policy 2011).
+/// The numbers of the sets over which the subscripts of the used parameter run, in the order of its
+/// subscripts (the OSeMOSYS long code, Howells et al., Energy Policy 2011).
 pub fn subscript_sets(param: u8) -> &'static [u8]
     requires { IsUsedParam param }
     ensures sets { result.now ≡ subscript_sets param }

@@ -17,10 +17,11 @@ use crate::given::placed_values;
 use crate::param_table::ParamTable;
 use mathprog_data::ParamBlock;
 use model_sets::Sets;
+use model_sets::param_numbers::USED_PARAM_COUNT;
 use std::alloc::{AllocError, Global};
 
-/// How many parameters are used. Those with greater numbers are read and not looked at.
-const USED_COUNT: u8 = 38;
+/// The number of the last parameter that is used. Those with greater numbers are read and not looked at.
+pub(crate) const LAST_USED_PARAM: u8 = USED_PARAM_COUNT as u8;
 
 /// The table of a statement on a used parameter. Refuses its first refused value.
 fn table_of(alloc: Global, sets: &Sets, block: &ParamBlock) -> Result<ParamTable, Stop>
@@ -39,15 +40,15 @@ fn table_of(alloc: Global, sets: &Sets, block: &ParamBlock) -> Result<ParamTable
 fn empty_tables(alloc: Global, sets: &Sets) -> Result<Vec<ParamTable>, AllocError>
     ensures { IfOk result (λ tables. AreTablesFor (data_of sets.now []) tables.items) }
 {
-    let mut tables = Vec::with_capacity(alloc, usize::from(USED_COUNT))?;
-    for _ in 0..USED_COUNT {
+    let mut tables = Vec::with_capacity(alloc, USED_PARAM_COUNT)?;
+    for _ in 0..USED_PARAM_COUNT {
         tables.push(ParamTable::empty(alloc))?;
     }
     Ok(tables)
 }
 
 /// The tables of the used parameters, from number 1. Refuses the first refused value, in the order of the
-/// text. Memory may be wanting.
+/// text. It may run out of memory.
 pub(crate) fn tables_of(
     alloc: Global,
     sets: &Sets,
@@ -61,7 +62,7 @@ pub(crate) fn tables_of(
 {
     let mut tables = empty_tables(alloc, sets)?;
     for block in blocks {
-        if block.param <= USED_COUNT {
+        if block.param <= LAST_USED_PARAM {
             tables[usize::from(block.param - 1)] = table_of(alloc, sets, block)?;
         }
     }

@@ -19,6 +19,11 @@ pub mod RatioCells
 pub mod RatioIndices
 pub mod Regions
 pub mod RowsAddedLaws
+pub mod SameCostTerms
+pub mod SameEnergyTerms
+pub mod SameLimitTerms
+pub mod SameRows
+pub mod SameTerms
 pub mod StopLaws
 pub mod Subscripts
 pub mod TermVariables

@@ -1,9 +1,12 @@
 //! Laws of the book of rows. Each is proved as the contract of a function that changes nothing.
 
-ghost use Rattle.std.specs.Prelude.{◌≡◌, ◌≢◌, ℕ, List};
-ghost use Rattle.model_sets.specs.Data.{Data};
+ghost use Rattle.std.specs.Prelude.{◌≡◌, ◌≢◌, ◌↔◌, ℕ, List, true};
+ghost use Rattle.model_sets.specs.Data.{AreSameData, Data};
+ghost use Rattle.named_equations.specs.Instances.{instances, is_instance};
+ghost use Rattle.row_core.specs.declared.Row.{Row};
 ghost use Rattle.row_core.specs.declared.RowName.{RowName};
-ghost use Rattle.row_book.specs.Books.{CanBeMade, HasStopped};
+ghost use Rattle.row_book.specs.Books.{AreRowsOf, CanBeMade, HasStopped, HasTooMany, IsTooWide};
+ghost use Rattle.row_book.specs.EquationRows.{terms_at};
 ghost use Rattle.row_book.specs.declared.fail.BookFail.{BookFail};
 ghost use Rattle.row_book.specs.declared.fail.BookFail.TheVariants.{Memory};
 
@@ -12,4 +15,15 @@ ghost use Rattle.row_book.specs.declared.fail.BookFail.TheVariants.{Memory};
 pub fn stop_laws()
     ensures made { (d : Data) (before : ℕ) (names : List RowName) (fail : BookFail) → CanBeMade d before names → HasStopped d before names fail → fail ≡ Memory }
     ensures one { (d : Data) (before : ℕ) (names : List RowName) (fail other : BookFail) → fail ≢ Memory → other ≢ Memory → HasStopped d before names fail → HasStopped d before names other → fail ≡ other }
+{}
+
+/// The rows depend on nothing of the data but the sets and the value of each used parameter at each of its
+/// indices: of two data that are the same in these, each instance has the same terms, the same rows are
+/// theirs, and they can be made of both, or of neither and then stop at the same instance for one reason.
+pub fn same_data_laws()
+    ensures terms { (d e : Data) → AreSameData d e → (name : RowName) → is_instance d name ≡ true → terms_at d name ≡ terms_at e name }
+    ensures rows { (d e : Data) → AreSameData d e → (rows : List Row) → AreRowsOf d (instances d) rows ↔ AreRowsOf e (instances e) rows }
+    ensures made { (d e : Data) → AreSameData d e → (before : ℕ) → CanBeMade d before (instances d) ↔ CanBeMade e before (instances e) }
+    ensures wide { (d e : Data) → AreSameData d e → (before : ℕ) (name : RowName) → IsTooWide d before (instances d) name ↔ IsTooWide e before (instances e) name }
+    ensures many { (d e : Data) → AreSameData d e → (before : ℕ) (name : RowName) → HasTooMany d before (instances d) name ↔ HasTooMany e before (instances e) name }
 {}

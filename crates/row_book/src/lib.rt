@@ -18,7 +18,7 @@ mod walk;
 
 pub use book::RowBook;
 pub use fail::BookFail;
-pub use laws::stop_laws;
+pub use laws::{same_data_laws, stop_laws};
 
 #[cfg(test)]
 mod tests;

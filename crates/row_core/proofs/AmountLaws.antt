@@ -1,5 +1,5 @@
 -- What is made term by term is what an equation's terms are worth, exactly where all numbers fit that this forms.
-use Rattle.std.proofs.Common.{◌≡◌, ℕ, ℤ, pos, neg_ℤ, Bool, true, false, List, [], ◌∷◌, ◌++◌, ◌&&◌, refl, sym, ap, ap₂, ◌∙◌, subst, Option, Some, None}
+use Rattle.std.proofs.Common.{◌≡◌, ℤ, neg_ℤ, Bool, true, false, List, [], ◌∷◌, ◌++◌, ◌&&◌, refl, sym, ap, ap₂, ◌∙◌, subst, Option, Some, None}
 use Rattle.std.specs.Prelude.{IfOk, IfErr, OnOk, Result, Ok, Err}
 use Rattle.exact_num.specs.Formed.{product_formed, sum_formed}
 use Rattle.exact_num.specs.Range.{all_fit}
@@ -14,7 +14,7 @@ use Rattle.row_core.specs.declared.Sense.{Sense}
 use Rattle.row_core.specs.declared.Var.{Var}
 use Rattle.row_core.specs.Amounts.{Amount, Whole, Billionths, Millionths, Product, Total, Negative, value_of_amount, amount_formed}
 use Rattle.row_core.specs.Calculated.{only_if, product_of, total_of, negative_of, number_of, terms_with, Side, no_terms, with_number, with_amounts, can_be_written}
-use Rattle.row_core.specs.EquationTerms.{EquationTerms, coefficients_of, coefficients_formed, terms_of, right_of, equation_formed, IsRowOf, SaysWhat, IsWritten}
+use Rattle.row_core.specs.EquationTerms.{EquationTerms, coefficients_of, coefficients_formed, terms_of, right_of, equation_formed, IsWritten}
 use Rattle.row_core.specs.Terms.{with_term, term_formed, gathered_onto, gathered_formed_onto, gathered_formed}
 use Rattle.row_core.specs.Values.{SaysTheSame, HasSigns}
 use Rattle.row_core.specs.Written.{written_entries, written_right, written_formed}

@@ -19,3 +19,12 @@ pub mod WritingSteps
 pub mod WrittenLaws
 pub mod AmountLaws
 pub mod RepeatedLaws
+pub mod LessLaws
+pub mod BesideLaws
+pub mod NextLaws
+pub mod LessenedLaws
+pub mod CombinedLaws
+pub mod EvaluatedLaws
+mod CombinedExamples
+pub mod LookUpLaws
+pub mod PlanValueLaws

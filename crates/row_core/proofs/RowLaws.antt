@@ -36,7 +36,7 @@ pub variables_of-append : (es fs : List (Var × ℤ)) → variables_of (es ++ fs
 variables_of-append [] fs = refl
 variables_of-append (e ∷ es) fs = ap {B = List Var} (λ vs. e.0 ∷ vs) (variables_of-append es fs)
 
-pub numbers_of-append : (es fs : List (Var × ℤ)) → numbers_of (es ++ fs) ≡ numbers_of es ++ numbers_of fs
+pub numbers_of-append : {K : Type 0} (es fs : List (K × ℤ)) → numbers_of (es ++ fs) ≡ numbers_of es ++ numbers_of fs
 numbers_of-append [] fs = refl
 numbers_of-append (e ∷ es) fs = ap {B = List ℤ} (λ zs. e.1 ∷ zs) (numbers_of-append es fs)
 

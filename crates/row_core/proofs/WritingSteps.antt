@@ -1,5 +1,5 @@
 -- The steps of writing a row over the list of terms that the code keeps.
-use Rattle.std.proofs.Common.{◌≡◌, ◌≢◌, ℕ, zero, suc, ◌+◌, ◌<◌, ◌≤◌, ℤ, pos, Bool, true, false, List, [], ◌∷◌, ◌++◌, ◌&&◌, length, map, get_or, set, take, drop, add-one, arith, refl, sym, ap, ◌∙◌, if◌then◌else◌}
+use Rattle.std.proofs.Common.{◌≡◌, ◌≢◌, ℕ, zero, suc, ◌+◌, ◌<◌, ◌≤◌, ℤ, pos, Bool, true, false, List, [], ◌∷◌, ◌++◌, ◌&&◌, length, map, get_or, set, take, drop, add-one, arith, refl, sym, ap, ◌∙◌, subst, if◌then◌else◌}
 use Rattle.std.specs.Prelude.{int_div, unsigned_abs, ◌≤ℤ◌, ◌==◌}
 use Rattle.std.proofs.lemmas.Int.{ints}
 use Rattle.std.proofs.lemmas.Bool.Decides.{nat_tests}
@@ -70,13 +70,13 @@ pub entry_over-nonzero : (d : ℤ) (term : Var × Rational) → term.1.top ≢ p
 entry_over-nonzero d term h = ap (λ b. if b then [] else ((term.0, numerator_over d term.1) ∷ [])) (nonzero-test term.1.top h)
 
 -- whether the numbers of the entries fit
-abbrev pub entries_fit : List (Var × ℤ) → Bool
+abbrev pub entries_fit : {K : Type 0} → List (K × ℤ) → Bool
 entries_fit entries = all_fit (numbers_of entries)
 
 pub entries_fit-one : (v : Var) (z : ℤ) → entries_fit ((v, z) ∷ []) ≡ in_range z
 entries_fit-one v z = all_fit-cons z [] ∙ ap (λ b. in_range z && b) all_fit-nil ∙ and_true (in_range z)
 
-pub entries_fit-append : (es fs : List (Var × ℤ)) → entries_fit (es ++ fs) ≡ (entries_fit es && entries_fit fs)
+pub entries_fit-append : {K : Type 0} (es fs : List (K × ℤ)) → entries_fit (es ++ fs) ≡ (entries_fit es && entries_fit fs)
 entries_fit-append es fs = ap all_fit (numbers_of-append es fs) ∙ all_fit-append (numbers_of es) (numbers_of fs)
 
 entries_over-term : (d : ℤ) (term : Var × Rational) (terms : List (Var × Rational)) → entries_over d (kept (term ∷ terms)) ≡ entry_over d term ++ entries_over d (kept terms)
@@ -105,24 +105,28 @@ IsStop-more place some all Memory h stop = tt
 -- ---- division by the common divisor
 
 -- each entry of a list that fits does
-pub entries_fit-at : (es : List (Var × ℤ)) (i : ℕ) (d : Var × ℤ) → entries_fit es ≡ true → i < length es → InRange (get_or es i d).1
+pub entries_fit-at : {K : Type 0} (es : List (K × ℤ)) (i : ℕ) (d : K × ℤ) → entries_fit es ≡ true → i < length es → InRange (get_or es i d).1
 entries_fit-at [] i d fits h = absurd (omega arith)
 entries_fit-at (e ∷ es) zero d fits h = InRange-from_test e.1 (both_passed (in_range e.1) (entries_fit es) (sym (all_fit-cons e.1 (numbers_of es)) ∙ fits)).0
 entries_fit-at (e ∷ es) (suc i) d fits h = entries_fit-at es i d (both_passed (in_range e.1) (entries_fit es) (sym (all_fit-cons e.1 (numbers_of es)) ∙ fits)).1 (omega arith)
 
--- where the entries in front of a position are divided, the one there is as it was
-pub undivided_at : (g : ℕ) (es : List (Var × ℤ)) (i : ℕ) (d : Var × ℤ) → i < length es → get_or (entries_divided g (take i es) ++ drop i es) i d ≡ get_or es i d
+-- the same of the entry that is read there
+pub item_fits : {K : Type 0} (es : List (K × ℤ)) (i : ℕ) (e : K × ℤ) → entries_fit es ≡ true → i < length es → e ≡ get_or es i e → InRange e.1
+item_fits es i e fits h is = subst (λ y. InRange y.1) (sym is) (entries_fit-at es i e fits h)
+
+-- where the entries before a position are divided, the one there is as it was
+pub undivided_at : {K : Type 0} (g : ℕ) (es : List (K × ℤ)) (i : ℕ) (d : K × ℤ) → i < length es → get_or (entries_divided g (take i es) ++ drop i es) i d ≡ get_or es i d
 undivided_at g [] i d h = absurd (omega arith)
 undivided_at g (e ∷ es) zero d h = refl
 undivided_at g (e ∷ es) (suc i) d h = undivided_at g es i d (omega arith)
 
 -- and once it is divided too, one more is
-divided_next : (g : ℕ) (es : List (Var × ℤ)) (i : ℕ) (d : Var × ℤ) → i < length es → set (entries_divided g (take i es) ++ drop i es) i ((get_or es i d).0, int_div (get_or es i d).1 (pos g)) ≡ entries_divided g (take (suc i) es) ++ drop (suc i) es
+divided_next : {K : Type 0} (g : ℕ) (es : List (K × ℤ)) (i : ℕ) (d : K × ℤ) → i < length es → set (entries_divided g (take i es) ++ drop i es) i ((get_or es i d).0, int_div (get_or es i d).1 (pos g)) ≡ entries_divided g (take (suc i) es) ++ drop (suc i) es
 divided_next g [] i d h = absurd (omega arith)
 divided_next g (e ∷ es) zero d h = refl
-divided_next g (e ∷ es) (suc i) d h = ap {B = List (Var × ℤ)} (λ ys. (e.0, int_div e.1 (pos g)) ∷ ys) (divided_next g es i d (omega arith))
+divided_next {K} g (e ∷ es) (suc i) d h = ap {B = List (K × ℤ)} (λ (ys : List (K × ℤ)). (e.0, int_div e.1 (pos g)) ∷ ys) (divided_next g es i d (omega arith))
 
-pub divided_step : (g : ℕ) (es : List (Var × ℤ)) (i : ℕ) (d : Var × ℤ) → i < length es → set (entries_divided g (take i es) ++ drop i es) i ((get_or es i d).0, int_div (get_or es i d).1 (pos g)) ≡ entries_divided g (take (i + 1) es) ++ drop (i + 1) es
+pub divided_step : {K : Type 0} (g : ℕ) (es : List (K × ℤ)) (i : ℕ) (d : K × ℤ) → i < length es → set (entries_divided g (take i es) ++ drop i es) i ((get_or es i d).0, int_div (get_or es i d).1 (pos g)) ≡ entries_divided g (take (i + 1) es) ++ drop (i + 1) es
 divided_step g es i d h = divided_next g es i d h ∙ ap (λ n. entries_divided g (take n es) ++ drop n es) (sym (add-one i))
 
 -- ---- the greatest common divisor of a list, from left to right
@@ -147,12 +151,16 @@ pub nonnegative_is : (z : ℤ) (n : ℕ) → z ≡ pos n → pos 0 ≤ℤ z
 nonnegative_is z n h = omega (arith, ints)
 
 -- the divisor of what is left, with one number more
-pub shared-step : (g : ℕ) (es : List (Var × ℤ)) (i : ℕ) (d : Var × ℤ) → i < length es → gcd_of g (common_divisor (numbers_of (drop i es))) ≡ gcd_of (gcd_of g (unsigned_abs (get_or es i d).1)) (common_divisor (numbers_of (drop (i + 1) es)))
+pub shared-step : {K : Type 0} (g : ℕ) (es : List (K × ℤ)) (i : ℕ) (d : K × ℤ) → i < length es → gcd_of g (common_divisor (numbers_of (drop i es))) ≡ gcd_of (gcd_of g (unsigned_abs (get_or es i d).1)) (common_divisor (numbers_of (drop (i + 1) es)))
 shared-step g es i d h =
     ap (λ ys. gcd_of g (common_divisor (numbers_of ys))) (drop_more es i d h)
     ∙ sym (gcd_of_assoc g (unsigned_abs (get_or es i d).1) (common_divisor (numbers_of (drop (i + 1) es))))
 
-pub shared-end : (g : ℕ) (es : List (Var × ℤ)) (i : ℕ) → length es ≤ i → gcd_of g (common_divisor (numbers_of (drop i es))) ≡ g
+-- the same with the entry that is read there
+pub shared-item : {K : Type 0} (g : ℕ) (es : List (K × ℤ)) (i : ℕ) (e : K × ℤ) → i < length es → e ≡ get_or es i e → gcd_of g (common_divisor (numbers_of (drop i es))) ≡ gcd_of (gcd_of g (unsigned_abs e.1)) (common_divisor (numbers_of (drop (i + 1) es)))
+shared-item g es i e h is = shared-step g es i e h ∙ ap (λ y. gcd_of (gcd_of g (unsigned_abs y.1)) (common_divisor (numbers_of (drop (i + 1) es)))) (sym is)
+
+pub shared-end : {K : Type 0} (g : ℕ) (es : List (K × ℤ)) (i : ℕ) → length es ≤ i → gcd_of g (common_divisor (numbers_of (drop i es))) ≡ g
 shared-end g es i h = at_drop_all (λ ys. gcd_of g (common_divisor (numbers_of ys))) es i h ∙ gcd_of-zero g
 
 -- what a row is divided by, from the divisor of its numbers

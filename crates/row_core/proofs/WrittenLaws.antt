@@ -38,7 +38,7 @@ abbrev pub numbers_divided : ℕ → List ℤ → List ℤ
 numbers_divided g [] = []
 numbers_divided g (z ∷ zs) = int_div z (pos g) ∷ numbers_divided g zs
 
-pub numbers_of-divided : (g : ℕ) (es : List (Var × ℤ)) → numbers_of (entries_divided g es) ≡ numbers_divided g (numbers_of es)
+pub numbers_of-divided : {K : Type 0} (g : ℕ) (es : List (K × ℤ)) → numbers_of (entries_divided g es) ≡ numbers_divided g (numbers_of es)
 numbers_of-divided g [] = refl
 numbers_of-divided g (e ∷ es) = ap {B = List ℤ} (λ zs. int_div e.1 (pos g) ∷ zs) (numbers_of-divided g es)
 
@@ -179,12 +179,12 @@ all_in_range-divided g (z ∷ zs) h =
 
 -- ---- the numbers of the divided row
 
-pub numbers_of-reduced : (right : ℤ) (es : List (Var × ℤ)) (g : ℕ) → int_div right (pos g) ∷ numbers_of (entries_divided g es) ≡ numbers_divided g (right ∷ numbers_of es)
+pub numbers_of-reduced : {K : Type 0} (right : ℤ) (es : List (K × ℤ)) (g : ℕ) → int_div right (pos g) ∷ numbers_of (entries_divided g es) ≡ numbers_divided g (right ∷ numbers_of es)
 numbers_of-reduced right es g = ap {B = List ℤ} (λ zs. int_div right (pos g) ∷ zs) (numbers_of-divided g es)
 
 -- a division by 1 changes nothing
-pub entries_divided-one : (es : List (Var × ℤ)) → entries_divided 1 es ≡ es
+pub entries_divided-one : {K : Type 0} (es : List (K × ℤ)) → entries_divided 1 es ≡ es
 entries_divided-one [] = refl
-entries_divided-one (e ∷ es) =
+entries_divided-one {K} (e ∷ es) =
     let same : int_div e.1 (pos 1) ≡ e.1 = sym (*ℤ-one (int_div e.1 (pos 1))) ∙ int_div-mul e.1 1 (one-dvd (unsigned_abs e.1)) in
-    ap₂ {C = List (Var × ℤ)} (λ z ys. (e.0, z) ∷ ys) same (entries_divided-one es)
+    ap₂ {C = List (K × ℤ)} (λ z ys. (e.0, z) ∷ ys) same (entries_divided-one es)

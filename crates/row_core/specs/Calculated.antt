@@ -1,5 +1,5 @@
 -- Numbers and left sides while they are made: what has been made so far, or nothing once a number that was formed doesn't fit.
-use Rattle.std.specs.Prelude.{ℕ, ◌^◌, ℤ, pos, Bool, true, false, List, [], ◌∷◌, Option, Some, None, if◌then◌else◌}
+use Rattle.std.specs.Prelude.{◌^◌, pos, Bool, false, List, [], ◌∷◌, Option, Some, None, if◌then◌else◌}
 use Rattle.std.specs.Option.{option_map}
 use Rattle.exact_num.specs.Formed.{product_formed, sum_formed}
 use Rattle.exact_num.specs.Range.{all_fit}

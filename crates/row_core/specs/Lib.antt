@@ -20,3 +20,10 @@ pub mod Amounts
 pub mod Calculated
 pub mod EquationTerms
 pub mod Repeated
+pub mod Forms
+pub mod Combined
+pub mod Nexts
+pub mod Scaled
+pub mod Evaluated
+pub mod LookUps
+pub mod Plans

@@ -5,13 +5,17 @@ use Rattle.std.specs.declared.cmp.Ordering.{Ordering}
 use Rattle.std.specs.Int.{◌∣◌}
 use Rattle.row_core.specs.declared.Var.{Var}
 
+-- the keys of entries, in their order: the variables of entries or terms, or the names of multipliers
+abbrev pub keys_of : {K A : Type 0} → List (K × A) → List K
+keys_of [] = []
+keys_of (entry ∷ entries) = entry.0 ∷ keys_of entries
+
 -- the variables of entries or terms, in their order
 abbrev pub variables_of : {A : Type 0} → List (Var × A) → List Var
-variables_of [] = []
-variables_of (entry ∷ entries) = entry.0 ∷ variables_of entries
+variables_of entries = keys_of entries
 
 -- the numbers of the entries, in their order
-abbrev pub numbers_of : List (Var × ℤ) → List ℤ
+abbrev pub numbers_of : {K : Type 0} → List (K × ℤ) → List ℤ
 numbers_of [] = []
 numbers_of (entry ∷ entries) = entry.1 ∷ numbers_of entries
 

@@ -53,7 +53,7 @@ abbrev pub row_divisor : List ℤ → ℕ
 row_divisor zs = if common_divisor zs == 0 then 1 else common_divisor zs
 
 -- each entry divided by g
-abbrev pub entries_divided : ℕ → List (Var × ℤ) → List (Var × ℤ)
+abbrev pub entries_divided : {K : Type 0} → ℕ → List (K × ℤ) → List (K × ℤ)
 entries_divided g [] = []
 entries_divided g (entry ∷ entries) = (entry.0, int_div entry.1 (pos g)) ∷ entries_divided g entries
 

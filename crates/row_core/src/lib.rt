@@ -9,23 +9,34 @@ ghost use Rattle.row_core.specs.Numbers.{variables_of, numbers_of, ascends, none
 ghost use Rattle.row_core.specs.Order.{var_cmp};
 
 mod amounts;
+mod combining;
+mod dividing;
 pub mod equation_numbers;
 mod equations;
+mod evaluating;
 pub mod kind_numbers;
 mod kinds;
 mod left_side;
+mod merging;
 mod names;
 mod place;
+mod plans;
+mod searching;
 mod subscripts;
 mod terms;
 mod writing;
 
 pub use amounts::{minus_one, negative, one, plus, times, zero};
+pub use combining::combine;
+pub use dividing::{divide_all, divisor_of, quotient};
 pub use equations::{row_has, row_word};
+pub use evaluating::eval;
 pub use kinds::{is_free, var_has, var_word};
 pub use left_side::LeftSide;
 pub use names::{push_row_name, push_var};
 pub use place::{Place, Stopped};
+pub use plans::{Multipliers, Plan};
+pub use searching::look_up;
 pub use terms::{Term, Terms};
 pub use writing::write_row;
 

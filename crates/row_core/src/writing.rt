@@ -12,6 +12,7 @@ ghost use Rattle.row_core.specs.TermViews.{seen};
 ghost use Rattle.row_core.specs.Values.{SaysTheSame, IsMultiple, HasSigns};
 ghost use Rattle.row_core.specs.Written.{kept, denominators, widened, widened_by_each, common_denominator, numerator_over, entries_over, entries_divided, row_divisor, written_entries, written_right, written_formed};
 
+use crate::dividing::{divide_all, divisor_of, quotient};
 use crate::place::{Place, Stopped};
 use crate::terms::{Term, Terms};
 use crate::{Row, RowName, Sense, Var};
@@ -186,47 +187,4 @@ fn push_entry(
     };
     entries.push((term.variable, number))?;
     Ok(())
-}
-
-/// The greatest common divisor of a right side and the numbers of entries; 1 where all of them are 0.
-fn divisor_of(right: i128, entries: &[(Var, i128)]) -> i128
-    requires right_fits { InRange right }
-    requires entries_fit { all_fit (numbers_of entries.now) ≡ true }
-    ensures value { result ≡ pos (row_divisor (right ∷ numbers_of entries.now)) }
-    ensures range { InRange result }
-{
-    let mut divisor = gcd(right, 0);
-    for entry in entries {
-        if divisor == 1 {
-            return 1;
-        }
-        divisor = gcd(divisor, entry.1);
-    }
-    if divisor > 0 { divisor } else { 1 }
-}
-
-/// Divides each entry.
-fn divide_all(entries: &mut Vec<(Var, i128)>, divisor: i128)
-    requires fits { all_fit (numbers_of entries.old.items) ≡ true }
-    requires range { InRange divisor }
-    requires positive { pos 0 <ℤ divisor }
-    ensures { entries.new.items ≡ entries_divided (unsigned_abs divisor) entries.old.items }
-{
-    if divisor == 1 {
-        return;
-    }
-    for entry in entries.iter_mut() {
-        entry.1 = quotient(entry.1, divisor);
-    }
-}
-
-/// `n / divisor`. Most divisors are 1.
-fn quotient(n: i128, divisor: i128) -> i128
-    requires fits { InRange n }
-    requires divisor_fits { InRange divisor }
-    requires positive { pos 0 <ℤ divisor }
-    ensures value { result ≡ int_div n divisor }
-    ensures range { InRange result }
-{
-    if divisor == 1 { n } else { n / divisor }
 }

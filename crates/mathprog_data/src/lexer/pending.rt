@@ -1,7 +1,7 @@
 //! What is pending between two bytes.
 
 ghost use Rattle.std.specs.Prelude.{◌≡◌, IfSome};
-ghost use Rattle.mathprog_data.specs.LexingMachine.{continues, quiet, in_comment, behind_star, least_length};
+ghost use Rattle.mathprog_data.specs.LexingMachine.{continues, quiet, in_comment, after_star, least_length};
 
 use crate::lexer::bytes::{is_line_feed, is_separator, is_symbol_byte};
 
@@ -12,7 +12,7 @@ pub(crate) enum Pending {
     Gap,
     /// A comment that goes on to the end of the line.
     LineComment,
-    /// A `/`, behind which `*` is due.
+    /// A `/`, after which `*` is due.
     Slash,
     /// A comment that goes on to `*/`.
     BlockComment,
@@ -44,7 +44,7 @@ impl Pending {
         }
     }
 
-    /// What is pending behind this byte, where it ends nothing, begins nothing and makes nothing whole.
+    /// What is pending after this byte, where it ends nothing, begins nothing and makes nothing whole.
     #[inline]
     pub(crate) fn quiet(self, byte: u8) -> Option<Pending>
         ensures value { result ≡ quiet self byte }
@@ -60,7 +60,7 @@ impl Pending {
     }
 }
 
-/// What is pending behind a byte of a comment.
+/// What is pending after a byte of a comment.
 #[inline]
 pub(crate) fn in_comment(byte: u8) -> Pending
     ensures value { result ≡ in_comment byte }
@@ -73,10 +73,10 @@ pub(crate) fn in_comment(byte: u8) -> Pending
     }
 }
 
-/// What is pending behind a byte that stands behind `*` in a comment.
+/// What is pending after a byte that stands after `*` in a comment.
 #[inline]
-pub(crate) fn behind_star(byte: u8) -> Pending
-    ensures value { result ≡ behind_star byte }
+pub(crate) fn after_star(byte: u8) -> Pending
+    ensures value { result ≡ after_star byte }
     ensures least { least_length result ≡ 0 }
 {
     if byte == b'/' {

@@ -14,11 +14,9 @@ use super::{State, StatementReader};
 use crate::blocks::Mark;
 use crate::fault::{BAD_NUMBER, UNEXPECTED};
 use crate::lexeme::Sign;
+use crate::params::RESULTS_PATH;
 use std::alloc::AllocError;
 use std::mem;
-
-/// The number of ResultsPath, whose values are any symbols.
-const RESULTS_PATH: u8 = 44;
 
 impl StatementReader {
     /// Takes a token where a record may begin.
@@ -67,7 +65,7 @@ impl StatementReader {
         }
     }
 
-    /// Takes a token behind a subscript of plain data.
+    /// Takes a token after a subscript of plain data.
     pub(super) fn in_plain(&mut self, seen: Seen) -> Result<Option<u8>, AllocError>
         requires { self.old.draft.rounded + 1 < 2 ^ 64 }
         ensures { IfOk result (λ fault. Turned self.old (in_plain (form_view self.old.tabbing) self.old.item self.old.slice.items self.old.names.items self.old.mark self.old.left self.old.comma (seen_view seen.entry)) fault self.new) }

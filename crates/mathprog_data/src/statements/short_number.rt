@@ -47,7 +47,7 @@ fn digit_count(text: &[u8]) -> usize
     text.len()
 }
 
-/// The digits behind the point, where there is a point and nothing but digits follows it; no digits where the text is empty.
+/// The digits after the point, where there is a point and nothing but digits follows it; no digits where the text is empty.
 fn places_of(rest: &[u8]) -> Option<&[u8]>
     ensures { IfSome result (λ places. (fraction : Option (List ℕ)) × (rest.now ≡ fraction_bytes fraction)
         × (fraction_digits fraction ≡ places.now) × AreDigits places.now) }
@@ -66,7 +66,7 @@ fn places_of(rest: &[u8]) -> Option<&[u8]>
     }
 }
 
-/// The number that the digits write behind those of `so_far`, where it is small.
+/// The number that the digits write after those of `so_far`, where it is small.
 fn continued(so_far: u64, digits: &[u8]) -> Option<u64>
     requires { so_far ≤ 1000000255 }
     ensures { IfSome result (λ number. (number ≡ continued so_far digits.now) × (number ≤ 1000000255)) }

@@ -117,7 +117,7 @@ impl StatementReader {
         }
     }
 
-    /// Takes the `:=` behind the columns.
+    /// Takes the `:=` after the columns.
     fn end_columns(&mut self) -> Option<u8>
         ensures { Turned self.old (columns_end self.old.item self.old.slice.items self.old.transposed self.old.columns.items) result self.new }
     {
@@ -202,7 +202,7 @@ impl StatementReader {
         }
     }
 
-    /// Goes on behind a value: in the row, or between rows where it was the last one.
+    /// Goes on after a value: in the row, or between rows where it was the last one.
     fn next_cell(&mut self) -> Option<u8>
         requires { self.old.cells < length self.old.columns.items }
         ensures { Turned self.old (Go (row_left self.old.item self.old.slice.items self.old.transposed self.old.columns.items self.old.row self.old.mark (drop (self.old.cells + 1) self.old.columns.items))) result self.new }

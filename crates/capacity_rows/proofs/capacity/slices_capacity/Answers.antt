@@ -10,7 +10,7 @@ use Rattle.capacity_rows.proofs.capacity.slices_capacity.Goals as goal
 
 pub loop-l-init : goal.loop-l-init
 loop-l-init c =
-    let d = c.args.facts.now.facts in
+    let d = c.args.model.now.facts in
     let part : ℕ → Amount = λ i. Product (Billionths (capacity_factor d c.args.r c.args.t i c.args.y)) (Billionths (year_split d i c.args.y)) in
     let n = count_of d timeslice in (
       c.count-l-end.ensures.count ∙ ap (λ sets. count_of (record d { sets = sets }) timeslice) c.sets.ensures.sets,
@@ -19,13 +19,13 @@ loop-l-init c =
 
 pub loop-l-preserved : goal.loop-l-preserved
 loop-l-preserved c =
-    let d = c.args.facts.now.facts in
+    let d = c.args.model.now.facts in
     let part : ℕ → Amount = λ i. Product (Billionths (capacity_factor d c.args.r c.args.t i c.args.y)) (Billionths (year_split d i c.args.y)) in
     let n = count_of d timeslice in
     let i = c.loop-l.l in (
       c.loop-l.invariant.0,
       c.loop-l.invariant.1
           ∙ total-step part n i _ _ (subst (λ k. i < k) c.loop-l.invariant.0 c.loop-l-test.true)
-          (c.times.ensures ∙ ap₂ product_of c.capacity_factor.ensures c.year_split.ensures)
+          (c.times.ensures ∙ ap₂ product_of c.capacity_factor.ensures c.year_split.ensures.number)
           ∙ ap (total_with_rest part n (i + 1)) (sym c.plus-sum.ensures),
     )

@@ -11,6 +11,6 @@ use Rattle.capacity_rows.proofs.capacity.slices_capacity.Given as goal
 
 abbrev pub invariant-loop-l : goal.invariant-loop-l
 invariant-loop-l l =
-    (l.l-end ≡ count_of l.facts.facts timeslice)
-    × (number_of (slices_capacity l.facts.facts l.r l.t l.y)
-    ≡ total_with_rest (λ i. Product (Billionths (capacity_factor l.facts.facts l.r l.t i l.y)) (Billionths (year_split l.facts.facts i l.y))) (count_of l.facts.facts timeslice) l.l (known l.sum))
+    (l.l-end ≡ count_of l.model.facts timeslice)
+    × (number_of (slices_capacity l.model.facts l.r l.t l.y)
+    ≡ total_with_rest (λ i. Product (Billionths (capacity_factor l.model.facts l.r l.t i l.y)) (Billionths (year_split l.model.facts i l.y))) (count_of l.model.facts timeslice) l.l (known l.sum))

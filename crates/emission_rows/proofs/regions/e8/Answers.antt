@@ -8,7 +8,7 @@ use Rattle.emission_rows.proofs.regions.e8.Goals as goal
 
 pub returns : goal.returns
 returns c =
-    c.write.ensures c.args.name (by_rey (e8 c.args.facts.now.facts) c.args.name.index)
+    c.write.ensures c.args.name (by_rey (e8 c.args.model.now.facts) c.args.name.index)
     (added c.in_ok-add.ensures c.annual_emissions.ensures c.one.ensures c.new-left.ensures)
     refl
     (c.plus.ensures ∙ ap₂ total_of c.annual_emission_limit.ensures (c.negative.ensures ∙ ap negative_of c.annual_exogenous_emission-exogenous.ensures))

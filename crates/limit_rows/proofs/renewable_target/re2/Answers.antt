@@ -10,7 +10,7 @@ use Rattle.limit_rows.proofs.renewable_target.re2.Goals as goal
 
 pub loop-f-preserved : goal.loop-f-preserved
 loop-f-preserved c =
-    let d = c.args.facts.now.facts in
+    let d = c.args.model.now.facts in
     let f : ℕ → List (Var × Amount) = λ i. renewable_production d c.args.name.index.region i c.args.name.index.year in
     let n = count_of d fuel in
     let i = c.loop-f.f in (

@@ -10,7 +10,7 @@ use Rattle.limit_rows.proofs.renewable_target.re3.Goals as goal
 
 pub loop-l-preserved : goal.loop-l-preserved
 loop-l-preserved c =
-    let d = c.args.facts.now.facts in
+    let d = c.args.model.now.facts in
     let f : ℕ → List (Var × Amount) = λ i. target_production d c.args.name.index.region i c.args.name.index.year in
     let n = count_of d timeslice in
     let i = c.loop-l.l in (

@@ -9,6 +9,6 @@ use Rattle.limit_rows.proofs.renewable_target.re3.Given as goal
 
 abbrev pub invariant-loop-l : goal.invariant-loop-l
 invariant-loop-l l =
-    (l.l-end ≡ count_of l.facts.facts timeslice)
-    × (with_amounts (re3 l.facts.facts l.r l.y).terms (no_terms l.fn.name)
-    ≡ with_rest_of (λ i. target_production l.facts.facts l.r i l.y) (count_of l.facts.facts timeslice) l.l l.left)
+    (l.l-end ≡ count_of l.model.facts timeslice)
+    × (with_amounts (re3 l.model.facts l.r l.y).terms (no_terms l.fn.name)
+    ≡ with_rest_of (λ i. target_production l.model.facts l.r i l.y) (count_of l.model.facts timeslice) l.l l.left)

@@ -6,4 +6,4 @@ use Rattle.limit_rows.proofs.renewable_target.subtract_products.Given as goal
 
 abbrev pub invariant-loop-t : goal.invariant-loop-t
 invariant-loop-t l =
-    with_amounts (products_of l.facts.facts l.r l.f l.y l.fn.makers) l.fn.left ≡ with_amounts (products_of l.facts.facts l.r l.f l.y (drop l.t-index l.makers)) l.left
+    with_amounts (products_of l.model.facts l.r l.f l.y l.fn.makers) l.fn.left ≡ with_amounts (products_of l.model.facts l.r l.f l.y (drop l.t-index l.makers)) l.left

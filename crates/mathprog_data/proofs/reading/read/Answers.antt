@@ -13,7 +13,7 @@ use Rattle.mathprog_data.specs.MachineSteps.{may_end}
 use Rattle.mathprog_data.specs.MachineViews.{reader_view, open_view}
 use Rattle.mathprog_data.specs.Places.{place_after}
 use Rattle.mathprog_data.specs.ReadingRuns.{Reads, Refuses, outcome_from, outcome_of}
-use Rattle.mathprog_data.proofs.LexingPlaces.{place_behind}
+use Rattle.mathprog_data.proofs.LexingPlaces.{place_after_byte}
 use Rattle.mathprog_data.proofs.TokenRunLemmas.{run_end, drop_byte, drop_end, rest_of}
 use Rattle.mathprog_data.proofs.reading.read.Goals as goal
 use Rattle.mathprog_data.proofs.reading.read.Goals.{After-take_seen}
@@ -42,7 +42,7 @@ loop-taken-preserved c =
       c.pass_symbol-taken.ensures.place ∙ ap (λ p. p + n) (c.take_byte.ensures.place went_on ∙ ap (λ n. n + 1) before.0),
       c.pass_symbol-taken.ensures.mark (take (i + 1) text)
           (c.take_byte.ensures.mark went_on ∙ ap (λ m. next_mark m (get_or text i 0)) before.1
-          ∙ sym (place_behind (take i text) (get_or text i 0)) ∙ ap place_after (sym (take_more text i 0 c.loop-taken-test.true)))
+          ∙ sym (place_after_byte (take i text) (get_or text i 0)) ∙ ap place_after (sym (take_more text i 0 c.loop-taken-test.true)))
           ∙ ap (λ r. place_after (take (i + 1) text ++ take n r)) rest_is
           ∙ ap place_after (sym (take-add (i + 1) n text)),
       omega (arith, c.in-Ok-false.ensures.rounded, before.2),

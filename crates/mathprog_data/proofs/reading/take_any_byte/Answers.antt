@@ -26,7 +26,7 @@ returns-in-Err-clause-fault c fault r bytes =
     ended_first (goal.at.returns-in-Err-clause-fault c).After-take_seen bytes
     ∙ c.take_seen.ensures.fault fault (c.in-Err.is ∙ r) (follow bytes (taken c.before-ended.new.self c.args.byte))
 
--- what comes of the text behind what the byte ended, by what the byte made whole
+-- what comes of the text after what the byte ended, by what the byte made whole
 taken_both : (c : After-take_seen-in-Ok-false) (bytes : List ℕ)
     → outcome_from c.args.text.now (reader_view c.args.reader.now) (lexed_run c.args.text.now c.args.closing.now (run c.args.lexer.now (c.args.byte ∷ bytes)))
     ≡ outcome_from c.args.text.now (reader_view c.take_seen.new.reader) (lexed_run c.args.text.now c.take_seen.new.closing (and_then c.take-taken.result (run c.take-taken.new.self bytes)))

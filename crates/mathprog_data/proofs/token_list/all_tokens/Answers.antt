@@ -1,7 +1,7 @@
 use Rattle.std.proofs.Common.{◌≡◌, ◌+◌, drop, true, false, Ok, Err, Bool, ap, sym, ◌∙◌}
 use Rattle.mathprog_data.specs.declared.fault.ReadFail.TheVariants.{Fault}
 use Rattle.mathprog_data.specs.LexingRuns.{run, and_then, lexed_run, nothing_more}
-use Rattle.mathprog_data.specs.TokenRuns.{slices_of, slices, behind, ListsAll}
+use Rattle.mathprog_data.specs.TokenRuns.{slices_of, slices, preceded_by, ListsAll}
 use Rattle.mathprog_data.proofs.TokenRunLemmas.{run_end, all_open, all_closed, drop_byte, drop_end}
 use Rattle.mathprog_data.proofs.token_list.all_tokens.Goals as goal
 use Rattle.mathprog_data.proofs.token_list.all_tokens.Goals.{In-Ok}
@@ -15,9 +15,9 @@ returns-in-Err-clause-fault c fault r =
     ∙ c.in-Err.ensures.fault fault (ap Err e) (drop (i + 1) c.args.text.now)
 
 -- what comes of the end of the text, by what it ends
-at_end : (c : In-Ok) → behind c.loop-byte.found.items (slices_of c.args.text.now (lexed_run c.args.text.now c.loop-byte.closing (and_then c.end-last.result nothing_more))) ≡ slices c.args.text.now
+at_end : (c : In-Ok) → preceded_by c.loop-byte.found.items (slices_of c.args.text.now (lexed_run c.args.text.now c.loop-byte.closing (and_then c.end-last.result nothing_more))) ≡ slices c.args.text.now
 at_end c =
-    ap (λ r. behind c.loop-byte.found.items (slices_of c.args.text.now (lexed_run c.args.text.now c.loop-byte.closing r)))
+    ap (λ r. preceded_by c.loop-byte.found.items (slices_of c.args.text.now (lexed_run c.args.text.now c.loop-byte.closing r)))
     (sym (run_end c.loop-byte.lexer c.end-last.result c.end-last.ensures.seen)
     ∙ ap (run c.loop-byte.lexer) (sym (drop_end c.args.text.now c.loop-byte.byte-index c.loop-byte-test.false)))
     ∙ c.loop-byte.invariant.1

@@ -1,14 +1,14 @@
 use Rattle.std.proofs.Common.{Ok, ap, ◌∙◌}
 use Rattle.mathprog_data.specs.LexingMachine.{taken}
 use Rattle.mathprog_data.specs.LexingRuns.{lexed_run}
-use Rattle.mathprog_data.specs.TokenRuns.{slices_of, behind}
+use Rattle.mathprog_data.specs.TokenRuns.{slices_of, preceded_by}
 use Rattle.mathprog_data.proofs.LexingSteps.{follow}
 use Rattle.mathprog_data.proofs.TokenRunLemmas.{run_first, run_both}
 use Rattle.mathprog_data.proofs.token_list.take_any_byte.Goals as goal
 
 pub returns-in-Ok-false-clause-open : goal.returns-in-Ok-false-clause-open
 returns-in-Ok-false-clause-open c r bytes =
-    ap (λ x. behind c.args.found.now.items (slices_of c.args.text.now (lexed_run c.args.text.now c.args.closing.now x)))
+    ap (λ x. preceded_by c.args.found.now.items (slices_of c.args.text.now (lexed_run c.args.text.now c.args.closing.now x)))
     (run_both c.args.lexer.now c.before-ended.new.self c.take-taken.new.self c.args.byte bytes c.before-ended.result c.take-taken.result
     c.before-ended.ensures.state c.before-ended.ensures.seen c.take-taken.ensures.state c.take-taken.ensures.seen)
     ∙ c.add_seen.ensures.open (c.in-Ok-false.is ∙ ap Ok c.in-Ok-false.field-0-test) _
@@ -16,7 +16,7 @@ returns-in-Ok-false-clause-open c r bytes =
 
 pub returns-in-Ok-false-clause-closed : goal.returns-in-Ok-false-clause-closed
 returns-in-Ok-false-clause-closed c r bytes =
-    ap (λ x. behind c.args.found.now.items (slices_of c.args.text.now (lexed_run c.args.text.now c.args.closing.now x)))
+    ap (λ x. preceded_by c.args.found.now.items (slices_of c.args.text.now (lexed_run c.args.text.now c.args.closing.now x)))
     (run_both c.args.lexer.now c.before-ended.new.self c.take-taken.new.self c.args.byte bytes c.before-ended.result c.take-taken.result
     c.before-ended.ensures.state c.before-ended.ensures.seen c.take-taken.ensures.state c.take-taken.ensures.seen)
     ∙ c.add_seen.ensures.open (c.in-Ok-false.is ∙ ap Ok c.in-Ok-false.field-0-test) _
@@ -32,7 +32,7 @@ returns-in-Ok-false-clause-fault c fault r bytes =
 
 pub returns-in-Ok-true-clause-closed : goal.returns-in-Ok-true-clause-closed
 returns-in-Ok-true-clause-closed c r bytes =
-    ap (λ x. behind c.args.found.now.items (slices_of c.args.text.now (lexed_run c.args.text.now c.args.closing.now x)))
+    ap (λ x. preceded_by c.args.found.now.items (slices_of c.args.text.now (lexed_run c.args.text.now c.args.closing.now x)))
     (run_first c.args.lexer.now c.before-ended.new.self c.args.byte bytes c.before-ended.result c.before-ended.ensures.state c.before-ended.ensures.seen)
     ∙ c.add_seen.ensures.closed (c.in-Ok-true.is ∙ ap Ok c.in-Ok-true.field-0-test) (follow bytes (taken c.before-ended.new.self c.args.byte))
 

@@ -9,7 +9,7 @@ use Rattle.param_tables.proofs.building.build.Goals as goal
 
 pub returns-in-Ok-clause-built : goal.returns-in-Ok-clause-built
 returns-in-Ok-clause-built c = record {
-  model = subst (λ model. AreSameData model (data_told (blocks_told c.args.blocks.now))) (sym c.new.ensures.facts) c.in-Ok.ensures.same;
+  facts = subst (λ facts. AreSameData facts (data_told (blocks_told c.args.blocks.now))) (sym c.new.ensures.facts) c.in-Ok.ensures.same;
   rounded = c.new.ensures.rounded;
 }
 

@@ -1,4 +1,4 @@
-use Rattle.param_tables.proofs.SearchLaws.{AreCounts, counts_ordered, part_of}
+use Rattle.param_tables.proofs.SearchLaws.{part_of}
 use Rattle.param_tables.proofs.place_search.part_between.Goals as goal
 
 pub returns : goal.returns

@@ -1,4 +1,4 @@
-use Rattle.std.proofs.Common.{◌≡◌, map, take, nat_eq, ap, ◌∙◌}
+use Rattle.std.proofs.Common.{◌≡◌, map, nat_eq, ap, ◌∙◌}
 use Rattle.std.specs.List.{dedup}
 use Rattle.std.proofs.lemmas.List.{take_all}
 use Rattle.std.proofs.lemmas.List.Filters.{dedup_is}

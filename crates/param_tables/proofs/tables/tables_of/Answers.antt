@@ -12,7 +12,7 @@ use Rattle.mathprog_data.specs.WellFormed.{AreParamBlocks, IsParamBlock}
 use Rattle.param_tables.proofs.TableOfLaws.{stop_first, tables_more, tables_unused, unused_refusals}
 use Rattle.param_tables.proofs.TurnLaws.{rest_free, rest_refused}
 use Rattle.param_tables.proofs.tables.tables_of.Goals as goal
-use Rattle.param_tables.proofs.tables.tables_of.Goals.{then-block-le-USED_COUNT+in_ok-tables-2, else-block-le-USED_COUNT}
+use Rattle.param_tables.proofs.tables.tables_of.Goals.{then-block-le-LAST_USED_PARAM+in_ok-tables-2, else-block-le-LAST_USED_PARAM}
 
 -- the statement of the block at a place
 record IsAt (blocks : List KeptParam) (i : ℕ) (block : KeptParam) : Type 0 where
@@ -30,7 +30,7 @@ well_formed blocks i block are is = subst IsParamBlock is.at (are.each i (param_
 pub table_of-requires-clause-used : goal.table_of-requires-clause-used
 table_of-requires-clause-used c =
     let s = well_formed c.args.blocks.now c.loop-block.block-index c.block-item.result c.requires.statements (at_place c.args.blocks.now c.loop-block.block-index c.block-item.result c.loop-block-test.true c.block-item.is) in
-    (s.param.0, c.if-block-le-USED_COUNT.true)
+    (s.param.0, c.if-block-le-LAST_USED_PARAM.true)
 
 pub table_of-requires-clause-statement : goal.table_of-requires-clause-statement
 table_of-requires-clause-statement c = well_formed c.args.blocks.now c.loop-block.block-index c.block-item.result c.requires.statements (at_place c.args.blocks.now c.loop-block.block-index c.block-item.result c.loop-block-test.true c.block-item.is)
@@ -62,18 +62,18 @@ loop-block-preserved c =
     let s = param_told c.block-item.result in
     let f = value_refusals sets in
     let is = at_place c.args.blocks.now i c.block-item.result c.loop-block-test.true c.block-item.is in
-    elim c.if-block-le-USED_COUNT.branch [
-      | then-block-le-USED_COUNT+in_ok-tables-2 w ↦
+    elim c.if-block-le-LAST_USED_PARAM.branch [
+      | then-block-le-LAST_USED_PARAM+in_ok-tables-2 w ↦
           let statement = well_formed c.args.blocks.now i c.block-item.result c.requires.statements is in
-          let more = tables_more sets told i s is.below is.at c.loop-block.tables.items c.loop-block.invariant.tables c.requires.statements.once (statement.param.0, w.if-block-le-USED_COUNT.true) w.in_ok-tables-2.field-0 w.in_ok-tables-2.ensures.table in
-          let written : set c.loop-block.tables.items (s.param - 1) w.in_ok-tables-2.field-0 ≡ c.if-block-le-USED_COUNT.tables.items = ap (λ n. set c.loop-block.tables.items n w.in_ok-tables-2.field-0) (sym w.from.ensures) ∙ sym (ap (λ v. v.items) w.tables-is) in
+          let more = tables_more sets told i s is.below is.at c.loop-block.tables.items c.loop-block.invariant.tables c.requires.statements.once (statement.param.0, w.if-block-le-LAST_USED_PARAM.true) w.in_ok-tables-2.field-0 w.in_ok-tables-2.ensures.table in
+          let written : set c.loop-block.tables.items (s.param - 1) w.in_ok-tables-2.field-0 ≡ c.if-block-le-LAST_USED_PARAM.tables.items = ap (λ n. set c.loop-block.tables.items n w.in_ok-tables-2.field-0) (sym w.from.ensures) ∙ sym (ap (λ v. v.items) w.tables-is) in
           record {
             tables = subst (AreTablesFor (data_of sets (take (i + 1) told))) written more;
             refusals = rest_free f [] told i s (flat_map f told ++ []) is.below (ap f is.at ∙ w.in_ok-tables-2.ensures.accepted) c.loop-block.invariant.refusals;
           }
-      | else-block-le-USED_COUNT w ↦
+      | else-block-le-LAST_USED_PARAM w ↦
           record {
-            tables = subst (AreTablesFor (data_of sets (take (i + 1) told))) (sym (ap (λ v. v.items) w.tables-is)) (tables_unused sets told i s is.below is.at c.loop-block.tables.items c.loop-block.invariant.tables w.if-block-le-USED_COUNT.false);
-            refusals = rest_free f [] told i s (flat_map f told ++ []) is.below (ap f is.at ∙ unused_refusals sets s w.if-block-le-USED_COUNT.false) c.loop-block.invariant.refusals;
+            tables = subst (AreTablesFor (data_of sets (take (i + 1) told))) (sym (ap (λ v. v.items) w.tables-is)) (tables_unused sets told i s is.below is.at c.loop-block.tables.items c.loop-block.invariant.tables w.if-block-le-LAST_USED_PARAM.false);
+            refusals = rest_free f [] told i s (flat_map f told ++ []) is.below (ap f is.at ∙ unused_refusals sets s w.if-block-le-LAST_USED_PARAM.false) c.loop-block.invariant.refusals;
           }
     ]

@@ -4,7 +4,6 @@ use Rattle.std.specs.List.{range_with_len}
 use Rattle.param_tables.specs.Ratios.{is_nonzero_in}
 use Rattle.param_tables.specs.RatioPlaces.{index_at_offset, ratio_sizes, region_size}
 use Rattle.param_tables.specs.declared.ratio_sizes.RatioSizes.{RatioSizes}
-use Rattle.param_tables.specs.declared.ratios.RatioIndex.{RatioIndex}
 use Rattle.param_tables.proofs.AscendingLaws.{mapped_kept, mapped_left}
 use Rattle.param_tables.proofs.RangeLists.{indices_by_place}
 use Rattle.param_tables.proofs.tried.tried_indices.Goals as goal

@@ -1,4 +1,4 @@
-use Rattle.std.proofs.Common.{◌≡◌, ℕ, Bool, sym, ap, ◌∙◌}
+use Rattle.std.proofs.Common.{ℕ, sym, ap, ◌∙◌}
 use Rattle.param_tables.specs.Ratios.{is_ratio_nonzero}
 use Rattle.param_tables.proofs.AscendingLaws.{range_kept, range_left}
 use Rattle.param_tables.proofs.tried.tried_modes.Goals as goal

@@ -1,4 +1,4 @@
-use Rattle.std.proofs.Common.{◌≡◌, ℕ, Bool, sym, ap, ◌∙◌}
+use Rattle.std.proofs.Common.{ℕ, sym, ap, ◌∙◌}
 use Rattle.param_tables.specs.Ratios.{has_nonzero_mode}
 use Rattle.param_tables.proofs.AscendingLaws.{range_kept, range_left}
 use Rattle.param_tables.proofs.tried.tried_technologies.Goals as goal

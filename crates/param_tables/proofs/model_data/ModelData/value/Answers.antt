@@ -8,7 +8,6 @@ use Rattle.param_tables.specs.Positions.{names_at, names_over}
 use Rattle.param_tables.specs.RangeTable.{range_of}
 use Rattle.param_tables.specs.View.{facts_of}
 use Rattle.param_tables.proofs.ViewLaws.{value_kept, value_complete}
-use Rattle.param_tables.proofs.RatioFacts.{modes_listed}
 use Rattle.param_tables.proofs.model_data.ModelData.value.Goals as goal
 
 -- the index by names stands at the place, and the table is the parameter's

@@ -1,5 +1,4 @@
-use Rattle.std.proofs.Common.{◌≡◌, ℕ, ◌%◌, ◌/◌, ◌<◌, sym, ap, ◌∙◌, arith}
-use Rattle.param_tables.specs.RatioPlaces.{IsWithin}
+use Rattle.std.proofs.Common.{arith}
 use Rattle.param_tables.proofs.RatioPlaceLaws.{within_from}
 use Rattle.param_tables.proofs.ratio_sizes.RatioSizes.index_at.Goals as goal
 

@@ -1,6 +1,5 @@
-use Rattle.model_sets.specs.Names.{IsSet}
 use Rattle.param_tables.proofs.PlaceLaws.{members-most}
-use Rattle.std.proofs.Common.{◌≤◌, ◌≡◌, length, sym, arith, ap, ◌∙◌}
+use Rattle.std.proofs.Common.{◌≤◌, length, arith}
 use Rattle.model_sets.specs.Members.{members}
 use Rattle.param_tables.proofs.ratio_sizes.RatioSizes.new.Goals as goal
 

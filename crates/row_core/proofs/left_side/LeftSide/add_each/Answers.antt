@@ -1,5 +1,5 @@
 -- One term after another.
-use Rattle.std.proofs.Common.{◌≡◌, ◌+◌, refl, sym, ap, ◌∙◌}
+use Rattle.std.proofs.Common.{◌+◌, refl, sym, ap, ◌∙◌}
 use Rattle.row_core.proofs.RepeatedLaws.{with_rest_of_all, all-begin, all-step, all-end}
 use Rattle.row_core.proofs.left_side.LeftSide.add_each.Goals as goal
 

@@ -1,14 +1,9 @@
 -- The row is written of the terms and the right side of the equation, where both were made.
-use Rattle.std.proofs.Common.{◌≡◌, List, sym, ap, ap₂, ◌∙◌, subst, refl, Some, None, true, false}
-use Rattle.std.specs.Prelude.{IfOk}
-use Rattle.std.proofs.lemmas.Result.{IfOk-weaker}
+use Rattle.std.proofs.Common.{◌≡◌, sym, ap, ◌∙◌, Some, None}
 use Rattle.exact_num.specs.Rational.{Rational}
 use Rattle.exact_num.specs.Value.{value_of}
-use Rattle.row_core.specs.declared.Row.{Row}
-use Rattle.row_core.specs.declared.Var.{Var}
 use Rattle.row_core.specs.declared.place.Place.TheVariants.{Row as AtRow}
-use Rattle.row_core.specs.Calculated.{Side, known, no_terms, with_amounts, number_of, only_if}
-use Rattle.row_core.specs.EquationTerms.{EquationTerms, IsRowOf, SaysWhat, IsWritten, terms_of, right_of}
+use Rattle.row_core.specs.Calculated.{Side, known, no_terms, with_amounts, only_if}
 use Rattle.row_core.proofs.AmountLaws.{stops-without_right, stops-without_left, whole-is, IsWritten-made}
 use Rattle.row_core.proofs.left_side.LeftSide.write.Goals as goal
 

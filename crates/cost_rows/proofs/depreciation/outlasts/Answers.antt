@@ -1,8 +1,0 @@
--- Fewer years are left than the life has.
-use Rattle.std.proofs.Common.{ap₂, ◌∙◌}
-use Rattle.std.specs.Prelude.{nat_lt}
-use Rattle.cost_rows.proofs.YearLaws.{outlasts-coded}
-use Rattle.cost_rows.proofs.depreciation.outlasts.Goals as goal
-
-pub returns : goal.returns
-returns c = ap₂ (λ n m. nat_lt n m) c.years_left.ensures.exact c.operational_life.ensures ∙ outlasts-coded c.args.facts.now.facts c.args.r c.args.t c.args.y c.requires.year

@@ -1,7 +1,0 @@
--- A value is -1 exactly where its numerator is the negative of its denominator.
-use Rattle.exact_num.specs.Value.{value_of}
-use Rattle.emission_rows.proofs.ValueLaws.{limit-coded}
-use Rattle.emission_rows.proofs.conditions.is_limit.Goals as goal
-
-pub returns : goal.returns
-returns c z is = limit-coded z (value_of c.args.value) is c.args.value.positive c.args.value.num_fits c.args.value.den_fits

@@ -1,0 +1,5 @@
+pub mod FactorLaws
+pub mod Splits
+pub mod ValueLaws
+pub mod WholeNumbers
+pub mod YearLaws

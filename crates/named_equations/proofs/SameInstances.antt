@@ -1,0 +1,153 @@
+-- Two data that are the same have the same instances, variables and feasible plans, and say the same of every plan at each instance.
+use Rattle.std.proofs.Common.{◌≡◌, ℕ, Bool, true, false, cond, ◌&&◌, ◌||◌, List, [], ◌∷◌, ◌++◌, map, filter, nat_eq, ap, ap₂, sym, ◌∙◌, refl, subst, arith, inl, inr, eqb-true, true≢false}
+use Rattle.std.specs.Prelude.{ℤ, ◌↔◌, Contains}
+use Rattle.std.specs.Cmp.Lexicographic.{pointwise}
+use Rattle.std.specs.List.{flat_map, list_any, list_all}
+use Rattle.std.proofs.lemmas.Bool.{and_parts}
+use Rattle.model_sets.specs.Data.{AreSameData, Data, Default, Given, indices_of}
+use Rattle.model_sets.specs.Members.{SetLists}
+use Rattle.row_core.specs.declared.Index.{Index}
+use Rattle.row_core.specs.declared.RowName.{RowName}
+use Rattle.row_core.specs.declared.Var.{Var}
+use Rattle.row_core.specs.declared.equation_numbers.TheConstants.{EQUATION_COUNT}
+use Rattle.row_core.specs.Statements.{Holds}
+use Rattle.named_equations.specs.Existence.{defines_kind, definers, exists, exists_at, exists_everywhere, kind_numbers, subscripts_of_kind}
+use Rattle.named_equations.specs.Instances.{equation_numbers, indices, instances, instances_of, is_index, is_instance, name_at, stands_at, subscripts_of}
+use Rattle.named_equations.specs.Plans.{cost, Feasible, MeetsEach, says}
+use Rattle.named_equations.proofs.InstanceTests.{Has, any_has, filter_parts, Has-instances, indices-pass, range_parts}
+use Rattle.named_equations.proofs.PositionsInSets.{AreInSets, are_in_sets}
+use Rattle.named_equations.proofs.SameEquations.{SaysSame, all-say}
+use Rattle.named_equations.proofs.SameStands.{StandsSame, all-stand}
+use Rattle.named_equations.proofs.SameValues.{Agree, with_values}
+use Rattle.named_equations.proofs.TermMeaning.{at_number}
+
+-- ---- lists
+
+filter-congr : {A : Type 0} (f g : A → Bool) (xs : List A) → ((x : A) → Has xs x → f x ≡ g x) → filter f xs ≡ filter g xs
+filter-congr f g [] same = refl
+filter-congr f g (x ∷ xs) same =
+    ap (λ b. cond b (x ∷ filter f xs) (filter f xs)) (same x (inl refl))
+    ∙ ap (λ rest. cond (g x) (x ∷ rest) rest) (filter-congr f g xs (λ y has. same y (inr has)))
+
+flat_map-congr : {A B : Type 0} (f g : A → List B) (xs : List A) → ((x : A) → Has xs x → f x ≡ g x) → flat_map f xs ≡ flat_map g xs
+flat_map-congr f g [] same = refl
+flat_map-congr f g (x ∷ xs) same = ap₂ (λ y ys. y ++ ys) (same x (inl refl)) (flat_map-congr f g xs (λ y has. same y (inr has)))
+
+any-congr : {A : Type 0} (f g : A → Bool) (xs : List A) → ((x : A) → Has xs x → f x ≡ g x) → list_any f xs ≡ list_any g xs
+any-congr f g [] same = refl
+any-congr f g (x ∷ xs) same = ap₂ (λ b c. b || c) (same x (inl refl)) (any-congr f g xs (λ y has. same y (inr has)))
+
+-- ---- kinds and the equations that define their variables
+
+-- the equation has the subscripts of the kind
+abbrev has_subscripts_of : ℕ → ℕ → Bool
+has_subscripts_of kind eq = pointwise nat_eq (subscripts_of_kind kind) (subscripts_of eq)
+
+-- every equation that defines variables of the kind does, unless these exist at every index
+abbrev definers_have : ℕ → Bool
+definers_have kind = exists_everywhere kind || list_all (has_subscripts_of kind) (definers kind)
+
+all_definers_have : list_all definers_have kind_numbers ≡ true
+all_definers_have = refl
+
+all_at : {A : Type 0} (test : A → Bool) (xs : List A) (x : A) → list_all test xs ≡ true → Has xs x → test x ≡ true
+all_at test [] x passes has = absurd has
+all_at test (y ∷ ys) x passes (inl e) = ap test (sym e) ∙ (and_parts (test y) (list_all test ys) passes).0
+all_at test (y ∷ ys) x passes (inr has) = all_at test ys x (and_parts (test y) (list_all test ys) passes).1 has
+
+same_numbers : (xs ys : List ℕ) → pointwise nat_eq xs ys ≡ true → xs ≡ ys
+same_numbers [] [] passes = refl
+same_numbers [] (y ∷ ys) passes = absurd (true≢false (sym passes))
+same_numbers (x ∷ xs) [] passes = absurd (true≢false (sym passes))
+same_numbers (x ∷ xs) (y ∷ ys) passes =
+    let parts = and_parts (nat_eq x y) (pointwise nat_eq xs ys) passes in
+    ap₂ (λ z zs. z ∷ zs) (eqb-true x y parts.0) (same_numbers xs ys parts.1)
+
+module _ {d : Data} {given : List Given} {defaults : List Default} (same : Agree d given defaults) where
+  -- ---- instances
+
+  pub instances-same : instances d ≡ instances (with_values d given defaults)
+  instances-same =
+      flat_map-congr (instances_of d) (instances_of (with_values d given defaults)) equation_numbers
+      (λ eq has.
+      let number = range_parts 1 EQUATION_COUNT eq has in
+      ap (map (name_at eq))
+      (filter-congr (stands_at d eq) (stands_at (with_values d given defaults) eq) (indices d (subscripts_of eq))
+      (λ i among. at_number (StandsSame same i) 1 EQUATION_COUNT eq (all-stand same i) number.0 (omega (arith, number.1)) (are_in_sets d (subscripts_of eq) i (indices-pass d (subscripts_of eq) i among)))))
+
+  pub says-same : (q : ℕ) (x : Var → ℤ) (name : RowName) → is_instance d name ≡ true → says d q x name ≡ says (with_values d given defaults) q x name
+  says-same q x name is =
+      let tests = and_parts (list_any (nat_eq name.eq) equation_numbers && is_index d (subscripts_of name.eq) name.index) (stands_at d name.eq name.index) is in
+      let within = and_parts (list_any (nat_eq name.eq) equation_numbers) (is_index d (subscripts_of name.eq) name.index) tests.0 in
+      let number = range_parts 1 EQUATION_COUNT name.eq (any_has equation_numbers name.eq within.0) in
+      at_number (SaysSame same q x name.index) 1 EQUATION_COUNT name.eq (all-say same q x name.index) number.0 (omega (arith, number.1)) (are_in_sets d (subscripts_of name.eq) name.index within.1)
+
+  -- ---- variables
+
+  exists_at-kind : (kind : ℕ) (i : Index) (b : Bool) → (b || list_all (has_subscripts_of kind) (definers kind)) ≡ true → is_index d (subscripts_of_kind kind) i ≡ true
+      → (b || list_any (λ eq. stands_at d eq i) (definers kind)) ≡ (b || list_any (λ eq. stands_at (with_values d given defaults) eq i) (definers kind))
+  exists_at-kind kind i true have within = refl
+  exists_at-kind kind i false have within =
+      any-congr (λ eq. stands_at d eq i) (λ eq. stands_at (with_values d given defaults) eq i) (definers kind)
+      (λ eq among.
+      let alike : subscripts_of_kind kind ≡ subscripts_of eq = same_numbers (subscripts_of_kind kind) (subscripts_of eq) (all_at (has_subscripts_of kind) (definers kind) eq have among) in
+      let number = range_parts 1 EQUATION_COUNT eq (filter_parts (defines_kind kind) equation_numbers eq among).0 in
+      at_number (StandsSame same i) 1 EQUATION_COUNT eq (all-stand same i) number.0 (omega (arith, number.1)) (subst (λ subscripts. AreInSets d subscripts i) alike (are_in_sets d (subscripts_of_kind kind) i within)))
+
+  exists-within : (b c : Bool) (v : Var) → list_any (nat_eq v.kind) kind_numbers ≡ b → is_index d (subscripts_of_kind v.kind) v.index ≡ c
+      → (b && c && exists_at d v.kind v.index) ≡ (b && c && exists_at (with_values d given defaults) v.kind v.index)
+  exists-within false c v kind within = refl
+  exists-within true false v kind within = refl
+  exists-within true true v kind within =
+      exists_at-kind v.kind v.index (exists_everywhere v.kind) (all_at definers_have kind_numbers v.kind all_definers_have (any_has kind_numbers v.kind kind)) within
+
+  pub exists-same : (v : Var) → exists d v ≡ exists (with_values d given defaults) v
+  exists-same v = exists-within (list_any (nat_eq v.kind) kind_numbers) (is_index d (subscripts_of_kind v.kind) v.index) v refl refl
+
+  -- ---- plans
+
+  meets_each : (q : ℕ) (x : Var → ℤ) (names : List RowName) → ((name : RowName) → Has names name → says d q x name ≡ says (with_values d given defaults) q x name)
+      → MeetsEach d q x names → MeetsEach (with_values d given defaults) q x names
+  meets_each q x [] say met = tt
+  meets_each q x (name ∷ names) say met = (subst Holds (say name (inl refl)) met.0, meets_each q x names (λ other has. say other (inr has)) met.1)
+
+  pub feasible : (q : ℕ) (x : Var → ℤ) → Feasible d q x → Feasible (with_values d given defaults) q x
+  feasible q x plan = record {
+    positive = plan.positive;
+    equations = subst (MeetsEach (with_values d given defaults) q x) instances-same
+        (meets_each q x (instances d) (λ name has. says-same q x name ((Has-instances d name).0 has)) plan.equations);
+    signs = λ v is fixed. plan.signs v (exists-same v ∙ is) fixed;
+  }
+
+-- ---- any two data that are the same
+
+pub agree : {d e : Data} → AreSameData d e → Agree d e.given e.defaults
+agree same = record { values = same.values }
+
+-- the sets of the one are those of the other
+pub with_sets : {d e : Data} → AreSameData d e → with_values d e.given e.defaults ≡ e
+with_sets {e = e} same = ap (λ (sets : SetLists). record { sets = sets; given = e.given; defaults = e.defaults }) same.sets
+
+pub back : {d e : Data} → AreSameData d e → AreSameData e d
+back {d = d} {e = e} same = record {
+  sets = sym same.sets;
+  values = λ param used index has. sym (same.values param used index (subst (λ (sets : SetLists). Contains (indices_of sets param) index) (sym same.sets) has));
+}
+
+pub same-instances : (d e : Data) → AreSameData d e → instances d ≡ instances e
+same-instances d e same = instances-same (agree same) ∙ ap instances (with_sets same)
+
+pub same-says : (d e : Data) → AreSameData d e → (q : ℕ) (x : Var → ℤ) (name : RowName) → is_instance d name ≡ true → says d q x name ≡ says e q x name
+same-says d e same q x name is = says-same (agree same) q x name is ∙ ap (λ (f : Data). says f q x name) (with_sets same)
+
+pub same-exists : (d e : Data) → AreSameData d e → (v : Var) → exists d v ≡ exists e v
+same-exists d e same v = exists-same (agree same) v ∙ ap (λ (f : Data). exists f v) (with_sets same)
+
+pub same-cost : (d e : Data) → AreSameData d e → (x : Var → ℤ) → cost d x ≡ cost e x
+same-cost d e same x = ap (λ (f : Data). cost f x) (with_sets same)
+
+feasible-over : (d e : Data) → AreSameData d e → (q : ℕ) (x : Var → ℤ) → Feasible d q x → Feasible e q x
+feasible-over d e same q x plan = subst (λ (f : Data). Feasible f q x) (with_sets same) (feasible (agree same) q x plan)
+
+pub same-feasible : (d e : Data) → AreSameData d e → (q : ℕ) (x : Var → ℤ) → Feasible d q x ↔ Feasible e q x
+same-feasible d e same q x = (feasible-over d e same q x, feasible-over e d (back same) q x)

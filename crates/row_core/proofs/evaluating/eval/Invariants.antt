@@ -1,0 +1,15 @@
+-- The sum so far and the other entries give the sum of all; and form what is left of what all form.
+use Rattle.std.proofs.Common.{◌≡◌, pos, drop}
+use Rattle.exact_num.specs.Range.{all_fit}
+use Rattle.exact_num.specs.Rational.{whole}
+use Rattle.exact_num.specs.Value.{value_of}
+use Rattle.row_core.specs.Order.{var_cmp}
+use Rattle.row_core.specs.Plans.{value_in}
+use Rattle.row_core.specs.Evaluated.{sum_from, sum_from_formed}
+use Rattle.row_core.proofs.evaluating.eval.Given as goal
+
+abbrev pub invariant-loop-entry : goal.invariant-loop-entry
+invariant-loop-entry l = record {
+  so_far : sum_from (value_in var_cmp l.plan) (value_of l.sum) (drop l.entry-index l.row.entries.items) ≡ sum_from (value_in var_cmp l.plan) (whole (pos 0)) l.row.entries.items;
+  formed : all_fit (sum_from_formed (value_in var_cmp l.plan) (whole (pos 0)) l.row.entries.items) ≡ all_fit (sum_from_formed (value_in var_cmp l.plan) (value_of l.sum) (drop l.entry-index l.row.entries.items));
+}

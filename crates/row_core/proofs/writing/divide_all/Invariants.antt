@@ -1,9 +1,0 @@
--- The entries in front are divided, and the others are as they were.
-use Rattle.std.proofs.Common.{◌≡◌, ◌++◌, take, drop}
-use Rattle.std.specs.Prelude.{unsigned_abs}
-use Rattle.row_core.specs.Written.{entries_divided}
-use Rattle.row_core.proofs.writing.divide_all.Given as goal
-
-abbrev pub invariant-loop-entry : goal.invariant-loop-entry
-invariant-loop-entry l =
-    l.entry-items ≡ entries_divided (unsigned_abs l.divisor) (take l.entry-index l.initial.entry-items) ++ drop l.entry-index l.initial.entry-items
