@@ -8,8 +8,6 @@ mod refusal_lines;
 mod run;
 mod sending;
 mod status;
-#[cfg(test)]
-mod tests;
 mod words;
 
 pub use run::osemosys;

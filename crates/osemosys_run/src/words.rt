@@ -1,8 +1,6 @@
 // The words of the command line.
 mod any_command;
 mod parsing;
-#[cfg(test)]
-mod tests;
 mod values;
 
 ghost use Rattle.std.specs.Prelude.{◌≡◌, IfOk, map};
