@@ -1,6 +1,8 @@
 -- Where the variables of a kind exist, by ratios alone.
 use Rattle.std.specs.Prelude.{ℕ, Bool, true, List, [], ◌∷◌, if◌then◌else◌}
 use Rattle.std.specs.List.{list_any}
+use Rattle.model_sets.specs.declared.param_numbers.TheConstants.{EMISSION_ACTIVITY_RATIO, INPUT_ACTIVITY_RATIO, OUTPUT_ACTIVITY_RATIO}
+use Rattle.row_core.specs.declared.kind_numbers.TheConstants.{ANNUAL_TECHNOLOGY_EMISSION_BY_MODE, PRODUCTION_BY_TECHNOLOGY, PRODUCTION_BY_TECHNOLOGY_ANNUAL, RATE_OF_PRODUCTION_BY_TECHNOLOGY, RATE_OF_PRODUCTION_BY_TECHNOLOGY_BY_MODE, RATE_OF_USE_BY_TECHNOLOGY, RATE_OF_USE_BY_TECHNOLOGY_BY_MODE, USE_BY_TECHNOLOGY, USE_BY_TECHNOLOGY_ANNUAL}
 use Rattle.model_sets.specs.Data.{Data}
 use Rattle.named_equations.specs.Instances.{is_one_of}
 use Rattle.named_equations.specs.Positions.{modes}
@@ -28,13 +30,13 @@ is_met d (InSomeMode param letters) p = list_any (λ m. is_not_zero (value_at_po
 
 -- InputActivityRatio, OutputActivityRatio and EmissionActivityRatio
 abbrev pub input_ratio : ℕ
-input_ratio = 13
+input_ratio = INPUT_ACTIVITY_RATIO
 
 abbrev pub output_ratio : ℕ
-output_ratio = 14
+output_ratio = OUTPUT_ACTIVITY_RATIO
 
 abbrev pub emission_ratio : ℕ
-emission_ratio = 33
+emission_ratio = EMISSION_ACTIVITY_RATIO
 
 -- the subscripts of the first two, and of the third
 abbrev pub of_fuel : List Letter
@@ -47,9 +49,9 @@ of_emission = R ∷ T ∷ E ∷ M ∷ Y ∷ []
 -- the fuel; its emissions by mode, where it gives off the emission; all others at every index
 abbrev pub exists_where : ℕ → ExistsWhere
 exists_where kind =
-    if is_one_of (8 ∷ []) kind then InMode output_ratio of_fuel
-    else if is_one_of (9 ∷ 20 ∷ 43 ∷ []) kind then InSomeMode output_ratio of_fuel
-    else if is_one_of (11 ∷ []) kind then InMode input_ratio of_fuel
-    else if is_one_of (12 ∷ 21 ∷ 46 ∷ []) kind then InSomeMode input_ratio of_fuel
-    else if is_one_of (31 ∷ []) kind then InMode emission_ratio of_emission
+    if is_one_of (RATE_OF_PRODUCTION_BY_TECHNOLOGY_BY_MODE ∷ []) kind then InMode output_ratio of_fuel
+    else if is_one_of (RATE_OF_PRODUCTION_BY_TECHNOLOGY ∷ PRODUCTION_BY_TECHNOLOGY ∷ PRODUCTION_BY_TECHNOLOGY_ANNUAL ∷ []) kind then InSomeMode output_ratio of_fuel
+    else if is_one_of (RATE_OF_USE_BY_TECHNOLOGY_BY_MODE ∷ []) kind then InMode input_ratio of_fuel
+    else if is_one_of (RATE_OF_USE_BY_TECHNOLOGY ∷ USE_BY_TECHNOLOGY ∷ USE_BY_TECHNOLOGY_ANNUAL ∷ []) kind then InSomeMode input_ratio of_fuel
+    else if is_one_of (ANNUAL_TECHNOLOGY_EMISSION_BY_MODE ∷ []) kind then InMode emission_ratio of_emission
     else Everywhere

@@ -1,5 +1,6 @@
 -- Definitions in solved form: on the left the variable, times a scale that isn't 0, and on the right no variable of its kind.
 use Rattle.std.specs.Prelude.{ℕ, Bool, true, false, ◌&&◌, not, nat_eq, List, [], ◌∷◌}
+use Rattle.model_sets.specs.declared.param_numbers.TheConstants.{YEAR_SPLIT}
 use Rattle.row_core.specs.declared.Sense.{Sense}
 use Rattle.row_core.specs.declared.Sense.TheVariants.{Least, Equal, Most}
 use Rattle.plain_equations.specs.declared.expressions.Defines.{Defines}
@@ -44,7 +45,7 @@ is_l_y (_ ∷ letters) = false
 abbrev pub is_scale : Expr → Bool
 is_scale (Values n) = true
 is_scale Million = true
-is_scale (Given param letters) = nat_eq param 1 && is_l_y letters.now
+is_scale (Given param letters) = nat_eq param YEAR_SPLIT && is_l_y letters.now
 is_scale (Product' _ a _ b) = is_scale a && is_scale b
 is_scale _ = false
 

@@ -16,6 +16,7 @@ use crate::data::PlainData;
 use crate::expressions::Letter::{M, R, T};
 use crate::expressions::{Condition, Letter, Years};
 use crate::points::{Point, set_of};
+use model_sets::param_numbers::{DEPRECIATION_METHOD, DISCOUNT_RATE, OPERATIONAL_LIFE};
 
 /// The scale of data values: 1 is 10^9.
 const BILLION: u128 = 1_000_000_000;
@@ -25,14 +26,16 @@ impl PlainData {
     pub(crate) fn rate(&self, point: Point) -> u128
         ensures { result ≡ rate_of self.now point.index.region }
     {
-        self.value_at(point, 2, &[R]).unsigned_abs()
+        self.value_at(point, DISCOUNT_RATE, &[R]).unsigned_abs()
     }
 
     /// The number of the method of depreciation.
     fn method(&self, point: Point) -> u128
         ensures { result ≡ method_of self.now point.index.region }
     {
-        self.value_at(point, 3, &[R]).unsigned_abs() / BILLION
+        self.value_at(point, DEPRECIATION_METHOD, &[R])
+            .unsigned_abs()
+            / BILLION
     }
 
     /// How many years the technology lasts.
@@ -40,7 +43,9 @@ impl PlainData {
         ensures value { result ≡ life_of self.now point.index.region point.index.tech }
         ensures most { result < 2 ^ 100 }
     {
-        self.value_at(point, 11, &[R, T]).unsigned_abs() / BILLION
+        self.value_at(point, OPERATIONAL_LIFE, &[R, T])
+            .unsigned_abs()
+            / BILLION
     }
 
     /// The years from the first year to `y`.

@@ -15,10 +15,8 @@ ghost use Rattle.plain_equations.specs.Points.{name_at};
 use crate::expressions::Letter;
 use crate::points::{Point, set_of};
 use model_sets::Sets;
+use model_sets::set_numbers::YEAR;
 use std::marker::Model;
-
-/// The number of the set YEAR.
-const YEAR: u8 = 7;
 
 /// A value that is given: the number of its parameter, the names of the members of its index in the order
 /// of the parameter's subscripts, and the value in billionths.

@@ -29,6 +29,10 @@ ghost use Rattle.plain_equations.specs.Named.{named};
 ghost use Rattle.plain_equations.specs.Occurrences.{variables_at};
 
 use crate::expressions::Equation;
+use row_core::equation_numbers::{
+    AAC1, ACC1, ACC3, ACC4, CAA1, CAB1, CC1, CC2, E1, E5, EBA1, EBA6, EBA7, EBB4,
+    EQ_SPECIFIED_DEMAND, NCC2, OC1, OC4, RE1, RE5, RM1, RM3, SV1, SV4, TAC3, TCC1, TDC1,
+};
 
 /// The entry of this number.
 pub(crate) fn entry(eq: u8) -> &'static Equation
@@ -36,25 +40,25 @@ pub(crate) fn entry(eq: u8) -> &'static Equation
     ensures { described result.now ≡ expected eq }
 {
     match eq {
-        1 => demand::demand(eq),
-        2..=6 => capacity::capacity(eq),
-        7..=12 => production::production(eq),
-        13..=21 => balance::balance(eq),
-        22..=24 => accounting::accounting(eq),
-        25..=26 => capital_costs::capital_costs(eq),
-        27..=30 => salvage::salvage(eq),
-        31..=34 => operating_costs::operating_costs(eq),
-        35..=39 => penalties::penalties(eq),
-        40..=42 => discounted_costs::discounted_costs(eq),
-        43..=46 => capacity_limits::capacity_limits(eq),
-        47..=52 => activity_limits::activity_limits(eq),
-        53..=55 => reserve_margin::reserve_margin(eq),
-        56..=60 => renewable_target::renewable_target(eq),
+        EQ_SPECIFIED_DEMAND => demand::demand(eq),
+        CAA1..=CAB1 => capacity::capacity(eq),
+        EBA1..=EBA6 => production::production(eq),
+        EBA7..=EBB4 => balance::balance(eq),
+        ACC1..=ACC3 => accounting::accounting(eq),
+        CC1..=CC2 => capital_costs::capital_costs(eq),
+        SV1..=SV4 => salvage::salvage(eq),
+        OC1..=OC4 => operating_costs::operating_costs(eq),
+        E1..=E5 => penalties::penalties(eq),
+        TDC1..=ACC4 => discounted_costs::discounted_costs(eq),
+        TCC1..=NCC2 => capacity_limits::capacity_limits(eq),
+        AAC1..=TAC3 => activity_limits::activity_limits(eq),
+        RM1..=RM3 => reserve_margin::reserve_margin(eq),
+        RE1..=RE5 => renewable_target::renewable_target(eq),
         _ => emission_limits::emission_limits(eq),
     }
 }
 
-/// The equation of this number, from 1 to 64: it stands where the named equation does, says the same of every plan, and
+/// The equation of this number: it stands where the named equation does, says the same of every plan, and
 /// defines the same variable. At each of its instances, the variables that occur in it exist.
 pub fn equation(eq: u8) -> &'static Equation
     requires { IsEquation eq }

@@ -10,6 +10,7 @@ use crate::data::PlainData;
 use crate::equations::equation;
 use crate::expressions::Letter;
 use crate::points::{Point, set_of};
+use row_core::equation_numbers::{E9, EQ_SPECIFIED_DEMAND};
 use row_core::{Index, RowName, row_has};
 use std::alloc::{AllocError, Global};
 
@@ -122,7 +123,7 @@ impl PlainData {
         ensures { IfOk result (λ names. names.items ≡ instances self.now) }
     {
         let mut out = Vec::new(alloc);
-        for eq in 1..65 {
+        for eq in EQ_SPECIFIED_DEMAND..E9 + 1 {
             self.push_instances_of(&mut out, eq)?;
         }
         Ok(out)

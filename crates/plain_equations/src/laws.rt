@@ -18,6 +18,7 @@ ghost use Rattle.plain_equations.specs.Occurrences.{AgreeOnExisting};
 ghost use Rattle.plain_equations.specs.Points.{point_at};
 
 use crate::equations::entry;
+use row_core::equation_numbers::{E9, EQ_SPECIFIED_DEMAND};
 
 /// Whether a plan meets a named equation doesn't depend on which common denominator its values have: it is the
 /// same for the plan whose numbers, the denominator among them, are all multiplied by a positive number.
@@ -70,7 +71,7 @@ pub fn plan_laws()
     ensures feasible { (d : Data) (q : ℕ) (x y : Var → ℤ) → AgreeOnExisting d x y → Feasible d q x ↔ Feasible d q y }
     ensures cost { (d : Data) (x y : Var → ℤ) → AgreeOnExisting d x y → cost d x ≡ cost d y }
 {
-    for eq in 1..65 {
+    for eq in EQ_SPECIFIED_DEMAND..E9 + 1 {
         existence_law(eq);
     }
 }

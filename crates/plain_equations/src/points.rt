@@ -4,6 +4,9 @@ ghost use Rattle.std.specs.Prelude.{◌≡◌};
 ghost use Rattle.plain_equations.specs.Points.{at, at_place, moved, set_of, index_at};
 
 use crate::expressions::{Letter, Places};
+use model_sets::set_numbers::{
+    EMISSION, FUEL, MODE_OF_OPERATION, REGION, TECHNOLOGY, TIMESLICE, YEAR,
+};
 use row_core::Index;
 
 /// An index, and the year in which a capacity was built, a position in the set YEAR.
@@ -81,12 +84,12 @@ pub(crate) fn set_of(letter: Letter) -> u8
     ensures { result ≡ set_of letter }
 {
     match letter {
-        Letter::R | Letter::RR => 1,
-        Letter::T => 2,
-        Letter::F => 3,
-        Letter::E => 4,
-        Letter::M => 5,
-        Letter::L => 6,
-        Letter::Y | Letter::YY => 7,
+        Letter::R | Letter::RR => REGION,
+        Letter::T => TECHNOLOGY,
+        Letter::F => FUEL,
+        Letter::E => EMISSION,
+        Letter::M => MODE_OF_OPERATION,
+        Letter::L => TIMESLICE,
+        Letter::Y | Letter::YY => YEAR,
     }
 }

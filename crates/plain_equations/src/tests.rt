@@ -2,6 +2,9 @@
 
 use crate::{PlainData, PlainDefault, PlainFail, PlainPlan, PlainValue, equation};
 use model_sets::Sets;
+use model_sets::param_numbers::USED_PARAM_COUNT;
+use row_core::equation_numbers::E9;
+use row_core::kind_numbers::KIND_COUNT;
 use row_core::{Index, RowName, Var};
 use std::alloc::Global;
 use std::process::Abort;
@@ -10,7 +13,7 @@ use std::test::Fail;
 const ONE: i128 = 1_000_000_000;
 
 /// The defaults of the used parameters, from number 1.
-const DEFAULTS: [i128; 38] = [
+const DEFAULTS: [i128; USED_PARAM_COUNT] = [
     ONE,
     0,
     ONE,
@@ -52,7 +55,7 @@ const DEFAULTS: [i128; 38] = [
 ];
 
 /// The values of the best plan by kind, in whole units.
-const VALUES: [i128; 48] = [
+const VALUES: [i128; KIND_COUNT] = [
     10, 10, 0, 10, 10, 10, 10, 10, 10, 10, 0, 0, 0, 10, 0, 10, 10, 0, 0, 10, 0, 10, 50, 50, 0, 0,
     20, 10, 30, 30, 0, 0, 0, 0, 0, 80, 80, 80, 10, 10, 0, 0, 10, 0, 0, 0, 0, 0,
 ];
@@ -159,7 +162,7 @@ fn raised(alloc: Global, whole: u64, kind: u8) -> Result<PlainPlan, Fail> {
 /// The equation of the first of these instances that the plan doesn't meet, and 0 where it meets all.
 fn first_broken(rt: &impl Abort, data: &PlainData, plan: &PlainPlan, names: &[RowName]) -> u8 {
     for name in names.iter() {
-        assert!(rt; name.eq >= 1 && name.eq <= 64);
+        assert!(rt; name.eq >= 1 && name.eq <= E9);
         if data.meets(plan, equation(name.eq), name.index) != Ok(true) {
             return name.eq;
         }

@@ -86,8 +86,7 @@ module _ (d e : Data) where
   stops_at before names name terms stops =
       let among : List RowName → Type 0 = λ all. (other : RowName) → Has all other → Has names other in
       let whole : among (stops.front ++ name ∷ stops.behind) = λ other has. subst (λ (all : List RowName). Has all other) (sym stops.split) has in
-      let fronts : HaveSameTerms stops.front = λ other has. terms other (whole other (Has-append_left stops.front (name ∷ stops.behind) other has)) in
-      (
+      let fronts : HaveSameTerms stops.front = λ other has. terms other (whole other (Has-append_left stops.front (name ∷ stops.behind) other has)) in (
         fronts,
         terms name (whole name (Has-append_right stops.front (name ∷ stops.behind) name (inl refl))),
         record { front = stops.front; behind = stops.behind; split = stops.split; made = can_be_made before stops.front fronts stops.made },

@@ -1,5 +1,5 @@
 -- The definitions, computed on examples: some that hold, and near misses that don't.
-use Rattle.std.proofs.Common.{◌≡◌, ℕ, ◌-◌, ◌^◌, ℤ, pos, negsuc, Bool, true, false, List, [], ◌∷◌, length, map, refl, arith, nat_lt}
+use Rattle.std.proofs.Common.{◌≡◌, ℕ, ◌-◌, ◌^◌, ℤ, pos, negsuc, Bool, true, false, List, [], ◌∷◌, filter, length, map, refl, arith, nat_lt}
 use Rattle.std.specs.Prelude.{codes, count_by, nat_eq, ◌&&◌}
 use Rattle.std.specs.List.{list_all, range_with_len}
 use Rattle.std.specs.Ordering.{nat_cmp}
@@ -7,6 +7,7 @@ use Rattle.std.proofs.lemmas.Nat.Gcd.{dvd_of_mod-eq-zero}
 use Rattle.std.specs.declared.cmp.Ordering.TheVariants.{Less, Greater, Equal as Alike}
 use lib.Pointwise.{pointwise}
 use Rattle.row_core.specs.declared.Var.{Var}
+use Rattle.row_core.specs.declared.kind_numbers.TheConstants.{ANNUAL_EMISSIONS, ANNUAL_FIXED_OPERATING_COST, ANNUAL_TECHNOLOGY_EMISSION, ANNUAL_TECHNOLOGY_EMISSIONS_PENALTY, ANNUAL_TECHNOLOGY_EMISSION_BY_MODE, ANNUAL_TECHNOLOGY_EMISSION_PENALTY_BY_EMISSION, ANNUAL_VARIABLE_OPERATING_COST, CAPITAL_INVESTMENT, DISCOUNTED_CAPITAL_INVESTMENT, DISCOUNTED_OPERATING_COST, DISCOUNTED_SALVAGE_VALUE, DISCOUNTED_TECHNOLOGY_EMISSIONS_PENALTY, KIND_COUNT, MODEL_PERIOD_COST_BY_REGION, MODEL_PERIOD_EMISSIONS, OPERATING_COST, SALVAGE_VALUE, TOTAL_DISCOUNTED_COST, TOTAL_DISCOUNTED_COST_BY_TECHNOLOGY, TRADE, TRADE_ANNUAL}
 use Rattle.row_core.specs.declared.Sense.TheVariants.{Least, Equal, Most}
 use Rattle.row_core.specs.Equations.{equations, Equation, word_of_equation, equation_has}
 use Rattle.row_core.specs.Kinds.{kinds, Kind, word_of_kind, kind_has, kind_is_free}
@@ -29,6 +30,17 @@ number_of_equations = refl
 -- trades and the nineteen kinds of costs and emissions may be below 0
 number_of_free_kinds : count_by (λ (kind : Kind). kind.free) kinds ≡ 20
 number_of_free_kinds = refl
+
+-- which: Trade, TradeAnnual, those from CapitalInvestment to ModelPeriodCostByRegion, and AnnualEmissions and ModelPeriodEmissions
+free_kinds : filter kind_is_free (range_with_len 1 KIND_COUNT)
+    ≡ TRADE ∷ TRADE_ANNUAL
+    ∷ CAPITAL_INVESTMENT ∷ DISCOUNTED_CAPITAL_INVESTMENT ∷ SALVAGE_VALUE ∷ DISCOUNTED_SALVAGE_VALUE
+    ∷ ANNUAL_VARIABLE_OPERATING_COST ∷ ANNUAL_FIXED_OPERATING_COST ∷ OPERATING_COST ∷ DISCOUNTED_OPERATING_COST
+    ∷ ANNUAL_TECHNOLOGY_EMISSION_BY_MODE ∷ ANNUAL_TECHNOLOGY_EMISSION ∷ ANNUAL_TECHNOLOGY_EMISSION_PENALTY_BY_EMISSION
+    ∷ ANNUAL_TECHNOLOGY_EMISSIONS_PENALTY ∷ DISCOUNTED_TECHNOLOGY_EMISSIONS_PENALTY
+    ∷ TOTAL_DISCOUNTED_COST_BY_TECHNOLOGY ∷ TOTAL_DISCOUNTED_COST ∷ MODEL_PERIOD_COST_BY_REGION
+    ∷ ANNUAL_EMISSIONS ∷ MODEL_PERIOD_EMISSIONS ∷ []
+free_kinds = refl
 
 first_kind : word_of_kind 1 ≡ codes "RateOfActivity"
 first_kind = refl

@@ -1,4 +1,4 @@
-//! Accounting: equations 22 to 24.
+//! Accounting: Acc1 to Acc3.
 
 ghost use Rattle.std.specs.Prelude.{◌≡◌, ◌≤◌};
 ghost use Rattle.plain_equations.specs.Described.{described, expected};
@@ -16,6 +16,7 @@ use crate::names::{
 };
 use crate::tables::look_up;
 use row_core::Sense::Equal;
+use row_core::equation_numbers::{ACC1, ACC3};
 
 static EQUATIONS: [Equation; 3] = [
     // Acc1
@@ -46,9 +47,9 @@ static EQUATIONS: [Equation; 3] = [
 
 /// The equation of this number.
 pub(crate) fn accounting(eq: u8) -> &'static Equation
-    requires from { 22 ≤ eq }
-    requires to { eq ≤ 24 }
+    requires from { ACC1 ≤ eq }
+    requires to { eq ≤ ACC3 }
     ensures { described result.now ≡ expected eq }
 {
-    look_up(&EQUATIONS, 22, eq)
+    look_up(&EQUATIONS, ACC1, eq)
 }

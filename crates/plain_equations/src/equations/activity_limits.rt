@@ -1,4 +1,4 @@
-//! Limits on activity: equations 47 to 52.
+//! Limits on activity: AAC1 to TAC3.
 
 ghost use Rattle.std.specs.Prelude.{◌≡◌, ◌≤◌};
 ghost use Rattle.plain_equations.specs.Described.{described, expected};
@@ -16,7 +16,9 @@ use crate::names::{
     TOTAL_TECHNOLOGY_MODEL_PERIOD_ACTIVITY_UPPER_LIMIT, YEAR_SPLIT,
 };
 use crate::tables::look_up;
+use model_sets::param_numbers;
 use row_core::Sense::{Equal, Least, Most};
+use row_core::equation_numbers::{AAC1, TAC3};
 
 static EQUATIONS: [Equation; 6] = [
     // AAC1
@@ -29,7 +31,10 @@ static EQUATIONS: [Equation; 6] = [
     },
     // AAC2
     Equation {
-        stands: Limit(23, &[R, T, Y]),
+        stands: Limit(
+            param_numbers::TOTAL_TECHNOLOGY_ANNUAL_ACTIVITY_UPPER_LIMIT,
+            &[R, T, Y],
+        ),
         defines: Nothing,
         left: Product(&Values(One), &TOTAL_TECHNOLOGY_ANNUAL_ACTIVITY),
         sense: Most,
@@ -37,7 +42,10 @@ static EQUATIONS: [Equation; 6] = [
     },
     // AAC3
     Equation {
-        stands: Positive(24, &[R, T, Y]),
+        stands: Positive(
+            param_numbers::TOTAL_TECHNOLOGY_ANNUAL_ACTIVITY_LOWER_LIMIT,
+            &[R, T, Y],
+        ),
         defines: Nothing,
         left: Product(&Values(One), &TOTAL_TECHNOLOGY_ANNUAL_ACTIVITY),
         sense: Least,
@@ -53,7 +61,10 @@ static EQUATIONS: [Equation; 6] = [
     },
     // TAC2
     Equation {
-        stands: Positive(25, &[R, T]),
+        stands: Positive(
+            param_numbers::TOTAL_TECHNOLOGY_MODEL_PERIOD_ACTIVITY_UPPER_LIMIT,
+            &[R, T],
+        ),
         defines: Nothing,
         left: Product(&Values(One), &TOTAL_TECHNOLOGY_MODEL_PERIOD_ACTIVITY),
         sense: Most,
@@ -61,7 +72,10 @@ static EQUATIONS: [Equation; 6] = [
     },
     // TAC3
     Equation {
-        stands: Positive(26, &[R, T]),
+        stands: Positive(
+            param_numbers::TOTAL_TECHNOLOGY_MODEL_PERIOD_ACTIVITY_LOWER_LIMIT,
+            &[R, T],
+        ),
         defines: Nothing,
         left: Product(&Values(One), &TOTAL_TECHNOLOGY_MODEL_PERIOD_ACTIVITY),
         sense: Least,
@@ -71,9 +85,9 @@ static EQUATIONS: [Equation; 6] = [
 
 /// The equation of this number.
 pub(crate) fn activity_limits(eq: u8) -> &'static Equation
-    requires from { 47 ≤ eq }
-    requires to { eq ≤ 52 }
+    requires from { AAC1 ≤ eq }
+    requires to { eq ≤ TAC3 }
     ensures { described result.now ≡ expected eq }
 {
-    look_up(&EQUATIONS, 47, eq)
+    look_up(&EQUATIONS, AAC1, eq)
 }

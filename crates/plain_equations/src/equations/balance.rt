@@ -1,4 +1,4 @@
-//! Energy balance of each timeslice and of each year: equations 13 to 21.
+//! Energy balance of each timeslice and of each year: EBa7 to EBb4.
 
 ghost use Rattle.std.specs.Prelude.{◌≡◌, ◌≤◌};
 ghost use Rattle.plain_equations.specs.Described.{described, expected};
@@ -16,6 +16,7 @@ use crate::names::{
 };
 use crate::tables::look_up;
 use row_core::Sense::{Equal, Least};
+use row_core::equation_numbers::{EBA7, EBB4};
 
 static EQUATIONS: [Equation; 9] = [
     // EBa7
@@ -103,9 +104,9 @@ static EQUATIONS: [Equation; 9] = [
 
 /// The equation of this number.
 pub(crate) fn balance(eq: u8) -> &'static Equation
-    requires from { 13 ≤ eq }
-    requires to { eq ≤ 21 }
+    requires from { EBA7 ≤ eq }
+    requires to { eq ≤ EBB4 }
     ensures { described result.now ≡ expected eq }
 {
-    look_up(&EQUATIONS, 13, eq)
+    look_up(&EQUATIONS, EBA7, eq)
 }

@@ -1,4 +1,4 @@
-//! Capacity: equations 2 to 6.
+//! Capacity: CAa1 to CAb1.
 
 ghost use Rattle.std.specs.Prelude.{◌≡◌, ◌≤◌};
 ghost use Rattle.plain_equations.specs.Described.{described, expected};
@@ -16,6 +16,7 @@ use crate::names::{
 };
 use crate::tables::look_up;
 use row_core::Sense::{Equal, Most};
+use row_core::equation_numbers::{CAA1, CAB1};
 
 static EQUATIONS: [Equation; 5] = [
     // CAa1
@@ -80,9 +81,9 @@ static EQUATIONS: [Equation; 5] = [
 
 /// The equation of this number.
 pub(crate) fn capacity(eq: u8) -> &'static Equation
-    requires from { 2 ≤ eq }
-    requires to { eq ≤ 6 }
+    requires from { CAA1 ≤ eq }
+    requires to { eq ≤ CAB1 }
     ensures { described result.now ≡ expected eq }
 {
-    look_up(&EQUATIONS, 2, eq)
+    look_up(&EQUATIONS, CAA1, eq)
 }

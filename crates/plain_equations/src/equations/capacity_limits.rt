@@ -1,4 +1,4 @@
-//! Limits on capacity: equations 43 to 46.
+//! Limits on capacity: TCC1 to NCC2.
 
 ghost use Rattle.std.specs.Prelude.{◌≡◌, ◌≤◌};
 ghost use Rattle.plain_equations.specs.Described.{described, expected};
@@ -14,12 +14,14 @@ use crate::names::{
     TOTAL_ANNUAL_MIN_CAPACITY, TOTAL_ANNUAL_MIN_CAPACITY_INVESTMENT, TOTAL_CAPACITY_ANNUAL,
 };
 use crate::tables::look_up;
+use model_sets::param_numbers;
 use row_core::Sense::{Least, Most};
+use row_core::equation_numbers::{NCC2, TCC1};
 
 static EQUATIONS: [Equation; 4] = [
     // TCC1
     Equation {
-        stands: Limit(19, &[R, T, Y]),
+        stands: Limit(param_numbers::TOTAL_ANNUAL_MAX_CAPACITY, &[R, T, Y]),
         defines: Nothing,
         left: Product(&Values(One), &TOTAL_CAPACITY_ANNUAL),
         sense: Most,
@@ -27,7 +29,7 @@ static EQUATIONS: [Equation; 4] = [
     },
     // TCC2
     Equation {
-        stands: Positive(20, &[R, T, Y]),
+        stands: Positive(param_numbers::TOTAL_ANNUAL_MIN_CAPACITY, &[R, T, Y]),
         defines: Nothing,
         left: Product(&Values(One), &TOTAL_CAPACITY_ANNUAL),
         sense: Least,
@@ -35,7 +37,10 @@ static EQUATIONS: [Equation; 4] = [
     },
     // NCC1
     Equation {
-        stands: Limit(21, &[R, T, Y]),
+        stands: Limit(
+            param_numbers::TOTAL_ANNUAL_MAX_CAPACITY_INVESTMENT,
+            &[R, T, Y],
+        ),
         defines: Nothing,
         left: Product(&Values(One), &NEW_CAPACITY),
         sense: Most,
@@ -43,7 +48,10 @@ static EQUATIONS: [Equation; 4] = [
     },
     // NCC2
     Equation {
-        stands: Positive(22, &[R, T, Y]),
+        stands: Positive(
+            param_numbers::TOTAL_ANNUAL_MIN_CAPACITY_INVESTMENT,
+            &[R, T, Y],
+        ),
         defines: Nothing,
         left: Product(&Values(One), &NEW_CAPACITY),
         sense: Least,
@@ -53,9 +61,9 @@ static EQUATIONS: [Equation; 4] = [
 
 /// The equation of this number.
 pub(crate) fn capacity_limits(eq: u8) -> &'static Equation
-    requires from { 43 ≤ eq }
-    requires to { eq ≤ 46 }
+    requires from { TCC1 ≤ eq }
+    requires to { eq ≤ NCC2 }
     ensures { described result.now ≡ expected eq }
 {
-    look_up(&EQUATIONS, 43, eq)
+    look_up(&EQUATIONS, TCC1, eq)
 }

@@ -1,4 +1,4 @@
-//! Capital costs: equations 25 to 26.
+//! Capital costs: CC1 to CC2.
 
 ghost use Rattle.std.specs.Prelude.{◌≡◌, ◌≤◌};
 ghost use Rattle.plain_equations.specs.Described.{described, expected};
@@ -12,6 +12,7 @@ use crate::expressions::Years::SinceFirst;
 use crate::names::{CAPITAL_COST, CAPITAL_INVESTMENT, DISCOUNTED_CAPITAL_INVESTMENT, NEW_CAPACITY};
 use crate::tables::look_up;
 use row_core::Sense::Equal;
+use row_core::equation_numbers::{CC1, CC2};
 
 static EQUATIONS: [Equation; 2] = [
     // CC1
@@ -34,9 +35,9 @@ static EQUATIONS: [Equation; 2] = [
 
 /// The equation of this number.
 pub(crate) fn capital_costs(eq: u8) -> &'static Equation
-    requires from { 25 ≤ eq }
-    requires to { eq ≤ 26 }
+    requires from { CC1 ≤ eq }
+    requires to { eq ≤ CC2 }
     ensures { described result.now ≡ expected eq }
 {
-    look_up(&EQUATIONS, 25, eq)
+    look_up(&EQUATIONS, CC1, eq)
 }

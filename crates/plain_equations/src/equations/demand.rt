@@ -1,4 +1,4 @@
-//! Demand: equation 1.
+//! Demand: EQ_SpecifiedDemand.
 
 ghost use Rattle.std.specs.Prelude.{◌≡◌, ◌≤◌};
 ghost use Rattle.plain_equations.specs.Described.{described, expected};
@@ -11,6 +11,7 @@ use crate::expressions::Expr::{Product, Values, Whole};
 use crate::names::{RATE_OF_DEMAND, SPECIFIED_ANNUAL_DEMAND, SPECIFIED_DEMAND_PROFILE, YEAR_SPLIT};
 use crate::tables::look_up;
 use row_core::Sense::Equal;
+use row_core::equation_numbers::EQ_SPECIFIED_DEMAND;
 
 static EQUATIONS: [Equation; 1] = [
     // EQ_SpecifiedDemand
@@ -28,9 +29,9 @@ static EQUATIONS: [Equation; 1] = [
 
 /// The equation of this number.
 pub(crate) fn demand(eq: u8) -> &'static Equation
-    requires from { 1 ≤ eq }
-    requires to { eq ≤ 1 }
+    requires from { EQ_SPECIFIED_DEMAND ≤ eq }
+    requires to { eq ≤ EQ_SPECIFIED_DEMAND }
     ensures { described result.now ≡ expected eq }
 {
-    look_up(&EQUATIONS, 1, eq)
+    look_up(&EQUATIONS, EQ_SPECIFIED_DEMAND, eq)
 }

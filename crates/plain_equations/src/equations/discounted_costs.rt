@@ -1,4 +1,4 @@
-//! Total discounted costs: equations 40 to 42.
+//! Total discounted costs: TDC1 to Acc4.
 
 ghost use Rattle.std.specs.Prelude.{◌≡◌, ◌≤◌};
 ghost use Rattle.plain_equations.specs.Described.{described, expected};
@@ -15,6 +15,7 @@ use crate::names::{
 };
 use crate::tables::look_up;
 use row_core::Sense::Equal;
+use row_core::equation_numbers::{ACC4, TDC1};
 
 static EQUATIONS: [Equation; 3] = [
     // TDC1
@@ -51,9 +52,9 @@ static EQUATIONS: [Equation; 3] = [
 
 /// The equation of this number.
 pub(crate) fn discounted_costs(eq: u8) -> &'static Equation
-    requires from { 40 ≤ eq }
-    requires to { eq ≤ 42 }
+    requires from { TDC1 ≤ eq }
+    requires to { eq ≤ ACC4 }
     ensures { described result.now ≡ expected eq }
 {
-    look_up(&EQUATIONS, 40, eq)
+    look_up(&EQUATIONS, TDC1, eq)
 }

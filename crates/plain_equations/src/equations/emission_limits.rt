@@ -1,4 +1,4 @@
-//! Emissions of regions: equations 61 to 64.
+//! Emissions of regions: E6 to E9.
 
 ghost use Rattle.std.specs.Prelude.{◌≡◌, ◌≤◌};
 ghost use Rattle.plain_equations.specs.Described.{described, expected};
@@ -14,7 +14,9 @@ use crate::names::{
     MODEL_PERIOD_EMISSION_LIMIT, MODEL_PERIOD_EMISSIONS, MODEL_PERIOD_EXOGENOUS_EMISSION,
 };
 use crate::tables::look_up;
+use model_sets::param_numbers;
 use row_core::Sense::{Equal, Most};
+use row_core::equation_numbers::{E6, E9};
 
 static EQUATIONS: [Equation; 4] = [
     // E6
@@ -38,7 +40,7 @@ static EQUATIONS: [Equation; 4] = [
     },
     // E8
     Equation {
-        stands: Limit(36, &[R, E, Y]),
+        stands: Limit(param_numbers::ANNUAL_EMISSION_LIMIT, &[R, E, Y]),
         defines: Nothing,
         left: Product(&Values(One), &ANNUAL_EMISSIONS),
         sense: Most,
@@ -49,7 +51,7 @@ static EQUATIONS: [Equation; 4] = [
     },
     // E9
     Equation {
-        stands: Limit(38, &[R, E]),
+        stands: Limit(param_numbers::MODEL_PERIOD_EMISSION_LIMIT, &[R, E]),
         defines: Nothing,
         left: Product(&Values(One), &MODEL_PERIOD_EMISSIONS),
         sense: Most,
@@ -59,9 +61,9 @@ static EQUATIONS: [Equation; 4] = [
 
 /// The equation of this number.
 pub(crate) fn emission_limits(eq: u8) -> &'static Equation
-    requires from { 61 ≤ eq }
-    requires to { eq ≤ 64 }
+    requires from { E6 ≤ eq }
+    requires to { eq ≤ E9 }
     ensures { described result.now ≡ expected eq }
 {
-    look_up(&EQUATIONS, 61, eq)
+    look_up(&EQUATIONS, E6, eq)
 }

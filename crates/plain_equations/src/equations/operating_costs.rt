@@ -1,4 +1,4 @@
-//! Operating costs: equations 31 to 34.
+//! Operating costs: OC1 to OC4.
 
 ghost use Rattle.std.specs.Prelude.{◌≡◌, ◌≤◌};
 ghost use Rattle.plain_equations.specs.Described.{described, expected};
@@ -16,6 +16,7 @@ use crate::names::{
 };
 use crate::tables::look_up;
 use row_core::Sense::Equal;
+use row_core::equation_numbers::{OC1, OC4};
 
 static EQUATIONS: [Equation; 4] = [
     // OC1
@@ -61,9 +62,9 @@ static EQUATIONS: [Equation; 4] = [
 
 /// The equation of this number.
 pub(crate) fn operating_costs(eq: u8) -> &'static Equation
-    requires from { 31 ≤ eq }
-    requires to { eq ≤ 34 }
+    requires from { OC1 ≤ eq }
+    requires to { eq ≤ OC4 }
     ensures { described result.now ≡ expected eq }
 {
-    look_up(&EQUATIONS, 31, eq)
+    look_up(&EQUATIONS, OC1, eq)
 }

@@ -1,4 +1,4 @@
-//! Emissions and penalties of technologies: equations 35 to 39.
+//! Emissions and penalties of technologies: E1 to E5.
 
 ghost use Rattle.std.specs.Prelude.{◌≡◌, ◌≤◌};
 ghost use Rattle.plain_equations.specs.Described.{described, expected};
@@ -17,6 +17,7 @@ use crate::names::{
 };
 use crate::tables::look_up;
 use row_core::Sense::Equal;
+use row_core::equation_numbers::{E1, E5};
 
 static EQUATIONS: [Equation; 5] = [
     // E1
@@ -69,9 +70,9 @@ static EQUATIONS: [Equation; 5] = [
 
 /// The equation of this number.
 pub(crate) fn penalties(eq: u8) -> &'static Equation
-    requires from { 35 ≤ eq }
-    requires to { eq ≤ 39 }
+    requires from { E1 ≤ eq }
+    requires to { eq ≤ E5 }
     ensures { described result.now ≡ expected eq }
 {
-    look_up(&EQUATIONS, 35, eq)
+    look_up(&EQUATIONS, E1, eq)
 }

@@ -1,4 +1,4 @@
-//! Energy balance: production and use: equations 7 to 12.
+//! Energy balance: production and use: EBa1 to EBa6.
 
 ghost use Rattle.std.specs.Prelude.{◌≡◌, ◌≤◌};
 ghost use Rattle.plain_equations.specs.Described.{described, expected};
@@ -16,6 +16,7 @@ use crate::names::{
 };
 use crate::tables::look_up;
 use row_core::Sense::Equal;
+use row_core::equation_numbers::{EBA1, EBA6};
 
 static EQUATIONS: [Equation; 6] = [
     // EBa1
@@ -74,9 +75,9 @@ static EQUATIONS: [Equation; 6] = [
 
 /// The equation of this number.
 pub(crate) fn production(eq: u8) -> &'static Equation
-    requires from { 7 ≤ eq }
-    requires to { eq ≤ 12 }
+    requires from { EBA1 ≤ eq }
+    requires to { eq ≤ EBA6 }
     ensures { described result.now ≡ expected eq }
 {
-    look_up(&EQUATIONS, 7, eq)
+    look_up(&EQUATIONS, EBA1, eq)
 }

@@ -1,4 +1,4 @@
-//! Renewable target: equations 56 to 60.
+//! Renewable target: RE1 to RE5.
 
 ghost use Rattle.std.specs.Prelude.{◌≡◌, ◌≤◌};
 ghost use Rattle.plain_equations.specs.Described.{described, expected};
@@ -17,6 +17,7 @@ use crate::names::{
 };
 use crate::tables::look_up;
 use row_core::Sense::{Equal, Most};
+use row_core::equation_numbers::{RE1, RE5};
 
 static EQUATIONS: [Equation; 5] = [
     // RE1
@@ -82,9 +83,9 @@ static EQUATIONS: [Equation; 5] = [
 
 /// The equation of this number.
 pub(crate) fn renewable_target(eq: u8) -> &'static Equation
-    requires from { 56 ≤ eq }
-    requires to { eq ≤ 60 }
+    requires from { RE1 ≤ eq }
+    requires to { eq ≤ RE5 }
     ensures { described result.now ≡ expected eq }
 {
-    look_up(&EQUATIONS, 56, eq)
+    look_up(&EQUATIONS, RE1, eq)
 }

@@ -1,4 +1,4 @@
-//! Reserve margin: equations 53 to 55.
+//! Reserve margin: RM1 to RM3.
 
 ghost use Rattle.std.specs.Prelude.{◌≡◌, ◌≤◌};
 ghost use Rattle.plain_equations.specs.Described.{described, expected};
@@ -16,6 +16,7 @@ use crate::names::{
 };
 use crate::tables::look_up;
 use row_core::Sense::{Equal, Most};
+use row_core::equation_numbers::{RM1, RM3};
 
 static EQUATIONS: [Equation; 3] = [
     // RM1
@@ -57,9 +58,9 @@ static EQUATIONS: [Equation; 3] = [
 
 /// The equation of this number.
 pub(crate) fn reserve_margin(eq: u8) -> &'static Equation
-    requires from { 53 ≤ eq }
-    requires to { eq ≤ 55 }
+    requires from { RM1 ≤ eq }
+    requires to { eq ≤ RM3 }
     ensures { described result.now ≡ expected eq }
 {
-    look_up(&EQUATIONS, 53, eq)
+    look_up(&EQUATIONS, RM1, eq)
 }

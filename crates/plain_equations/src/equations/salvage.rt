@@ -1,4 +1,4 @@
-//! Salvage value: equations 27 to 30.
+//! Salvage value: SV1 to SV4.
 
 ghost use Rattle.std.specs.Prelude.{◌≡◌, ◌≤◌};
 ghost use Rattle.plain_equations.specs.Described.{described, expected};
@@ -12,6 +12,7 @@ use crate::expressions::Years::InAll;
 use crate::names::{CAPITAL_COST, DISCOUNTED_SALVAGE_VALUE, NEW_CAPACITY, SALVAGE_VALUE};
 use crate::tables::look_up;
 use row_core::Sense::Equal;
+use row_core::equation_numbers::{SV1, SV4};
 
 static EQUATIONS: [Equation; 4] = [
     // SV1
@@ -50,9 +51,9 @@ static EQUATIONS: [Equation; 4] = [
 
 /// The equation of this number.
 pub(crate) fn salvage(eq: u8) -> &'static Equation
-    requires from { 27 ≤ eq }
-    requires to { eq ≤ 30 }
+    requires from { SV1 ≤ eq }
+    requires to { eq ≤ SV4 }
     ensures { described result.now ≡ expected eq }
 {
-    look_up(&EQUATIONS, 27, eq)
+    look_up(&EQUATIONS, SV1, eq)
 }
