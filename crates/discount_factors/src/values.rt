@@ -24,7 +24,7 @@ fn one_year_later(value: u64, rate: u64) -> u64
     (u128::from(value) * BILLION / (BILLION + u128::from(rate))) as u64
 }
 
-/// The discounted values of the years from 0 to `last`, in order. Refuses for want of memory alone.
+/// The discounted values of the years from 0 to `last`, in order. Refuses only where memory runs out.
 pub(crate) fn discounted_values(alloc: Global, rate: u64, last: u16) -> Result<Vec<u64>, AllocError>
     ensures count { IfOk result (λ values. length values.items ≡ last + 1) }
     ensures values { IfOk result (λ values. AreDiscounted rate values.items) }

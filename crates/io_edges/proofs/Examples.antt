@@ -62,8 +62,8 @@ empty_name = refl
 in_its_place : put_file three (98 ∷ []) (9 ∷ []) ≡ (97 ∷ [], 1 ∷ 2 ∷ []) ∷ (98 ∷ [], 9 ∷ []) ∷ (97 ∷ [], 3 ∷ []) ∷ []
 in_its_place = refl
 
-behind_the_others : put_file ((97 ∷ [], []) ∷ []) (98 ∷ []) (9 ∷ []) ≡ (97 ∷ [], []) ∷ (98 ∷ [], 9 ∷ []) ∷ []
-behind_the_others = refl
+after_the_others : put_file ((97 ∷ [], []) ∷ []) (98 ∷ []) (9 ∷ []) ≡ (97 ∷ [], []) ∷ (98 ∷ [], 9 ∷ []) ∷ []
+after_the_others = refl
 
 -- a shelf that doesn't tell its files doesn't lack any
 lacks : Lacks (Some three) (99 ∷ [])

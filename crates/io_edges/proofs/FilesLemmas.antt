@@ -15,7 +15,7 @@ use Rattle.io_edges.specs.declared.mem_shelf.NamedFile.{NamedFile}
 abbrev pub has_name : List ℕ → NamedFile → Bool
 has_name name file = bytes_eq file.name.items name
 
--- where no file has the name, none is found, and one that is put goes behind the others
+-- where no file has the name, none is found, and one that is put goes after the others
 pub absent_from : (name : List ℕ) (files : List NamedFile) (start : ℕ) → position_from (has_name name) start files ≡ None → file_named (contents files) name ≡ None
 absent_from name [] start none = refl
 absent_from name (file ∷ files) start none =
@@ -24,12 +24,12 @@ absent_from name (file ∷ files) start none =
       | false ↦ λ h. absent_from name files (start + 1) h
     ] none
 
-pub behind_from : (new : NamedFile) (files : List NamedFile) (start : ℕ) → position_from (has_name new.name.items) start files ≡ None → put_file (contents files) new.name.items new.bytes.items ≡ contents (files ++ new ∷ [])
-behind_from new [] start none = refl
-behind_from new (file ∷ files) start none =
+pub following_from : (new : NamedFile) (files : List NamedFile) (start : ℕ) → position_from (has_name new.name.items) start files ≡ None → put_file (contents files) new.name.items new.bytes.items ≡ contents (files ++ new ∷ [])
+following_from new [] start none = refl
+following_from new (file ∷ files) start none =
     elim (has_name new.name.items file) as (λ b. cond b (Some start) (position_from (has_name new.name.items) (start + 1) files) ≡ None → cond b ((new.name.items, new.bytes.items) ∷ contents files) ((file.name.items, file.bytes.items) ∷ put_file (contents files) new.name.items new.bytes.items) ≡ contents (file ∷ files ++ new ∷ [])) [
       | true ↦ λ h. cc
-      | false ↦ λ h. ap (λ rest. (file.name.items, file.bytes.items) ∷ rest) (behind_from new files (start + 1) h)
+      | false ↦ λ h. ap (λ rest. (file.name.items, file.bytes.items) ∷ rest) (following_from new files (start + 1) h)
     ] none
 
 -- at the first place whose file has the name, that file is found, and one that is put stands there
@@ -51,8 +51,8 @@ put_at new (file ∷ files) (suc i) d below here before =
 pub absent : (name : List ℕ) (files : List NamedFile) → position (has_name name) files ≡ None → file_named (contents files) name ≡ None
 absent name files none = absent_from name files 0 (sym (position_from-zero (has_name name) files) ∙ none)
 
-pub behind : (new : NamedFile) (files : List NamedFile) → position (has_name new.name.items) files ≡ None → put_file (contents files) new.name.items new.bytes.items ≡ contents (files ++ new ∷ [])
-behind new files none = behind_from new files 0 (sym (position_from-zero (has_name new.name.items) files) ∙ none)
+pub following : (new : NamedFile) (files : List NamedFile) → position (has_name new.name.items) files ≡ None → put_file (contents files) new.name.items new.bytes.items ≡ contents (files ++ new ∷ [])
+following new files none = following_from new files 0 (sym (position_from-zero (has_name new.name.items) files) ∙ none)
 
 pub found : (name : List ℕ) (files : List NamedFile) (i : ℕ) (d : NamedFile) → position (has_name name) files ≡ Some i → file_named (contents files) name ≡ Some (get_or files i d).bytes.items
 found name files i d some = let first = position-Some (has_name name) files i d some in found_at name files i d first.0 first.1 first.2

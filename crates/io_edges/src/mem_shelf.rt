@@ -77,7 +77,7 @@ impl MemShelf {
     }
 
     /// Puts a file there, in place of one of that name. The unread rest stays as it is, and so do all
-    /// counts. Refuses for want of memory alone, and then changes nothing.
+    /// counts. Refuses only where memory runs out, and then changes nothing.
     pub fn put(&mut self, name: &str, bytes: &[u8]) -> Result<(), AllocError>
         ensures ok { OnOk result (self.new ≡ record self.old {
           files = put_file self.old.files name.now bytes.now;
@@ -115,7 +115,7 @@ fn bytes_of<'a>(files: &'a [NamedFile], name: &[u8]) -> Option<&'a [u8]>
     }
 }
 
-// Puts the file in the place of one of its name, else behind the others.
+// Puts the file in the place of one of its name, else after the others.
 fn place(files: &mut Vec<NamedFile>, file: NamedFile) -> Result<(), AllocError>
     ensures ok { OnOk result (contents files.new.items
         ≡ put_file (contents files.old.items) file.name.items file.bytes.items) }
@@ -172,7 +172,7 @@ impl Shelf for MemShelf {
         ensures fails { IsErr result ↔ IsTrue (fails_next self.old.failing self.old.calls) }
         ensures count { IfOk result (λ n. n ≡ min (length room.new) (length self.old.rest)) }
         ensures front { IfOk result (λ n. take n room.new ≡ take n self.old.rest) }
-        ensures behind { IfOk result (λ n. drop n room.new ≡ drop n room.old) }
+        ensures following { IfOk result (λ n. drop n room.new ≡ drop n room.old) }
         ensures ok { IfOk result (λ n. self.new ≡ read_on self.old n) }
         ensures err { OnErr result (self.new ≡ read_failed self.old) }
         ensures faults { self.old.faults ≤ self.new.faults }

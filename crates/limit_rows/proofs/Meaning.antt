@@ -23,7 +23,7 @@ use Rattle.limit_rows.specs.RenewableTarget.{part_for_target, re2}
 use Rattle.limit_rows.specs.ReserveMargin.{unit_in_margin}
 use Rattle.limit_rows.specs.Rows.{IsLimitEquation, terms_at}
 use Rattle.named_equations.proofs.SumExchange.{sum_over-exchanged}
-use Rattle.named_equations.proofs.TermShapes.{means_equal, means_equal-defines, over-product, sum_of_products, sum_of_products-defines, sum_of_sums, sum_of_sums-defines, covered, covered_behind}
+use Rattle.named_equations.proofs.TermShapes.{means_equal, means_equal-defines, over-product, sum_of_products, sum_of_products-defines, sum_of_sums, sum_of_sums-defines, covered, covered_after}
 
 -- the equation of number n
 abbrev pub IsNamed : Data → Index → ℕ → Type 0
@@ -106,7 +106,7 @@ rm2-named d i =
 
 rm3-named : (d : Data) (i : Index) → IsNamed d i RM3
 rm3-named d i =
-    inequality d i RM3 (covered_behind (demand_needing_reserve_margin i.region i.slice i.year) (reserve_margin d i.region i.year) (total_capacity_in_reserve_margin i.region i.year)) refl
+    inequality d i RM3 (covered_after (demand_needing_reserve_margin i.region i.slice i.year) (reserve_margin d i.region i.year) (total_capacity_in_reserve_margin i.region i.year)) refl
 
 -- ---- renewable target
 

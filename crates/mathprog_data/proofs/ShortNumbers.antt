@@ -28,7 +28,7 @@ short_reading text whole fraction number factor bytes before beyond some is few 
     let places = fraction_digits fraction in
     let d = 10 ^ length places in
     let spells : Spells p text = record {
-      formed = record { before = before; behind = beyond; nonempty = omega (arith, some); power = tt };
+      formed = record { before = before; following = beyond; nonempty = omega (arith, some); power = tt };
       bytes = bytes ∙ ap (λ x. whole ++ x) (sym (append-nil (fraction_bytes fraction)));
     } in
     let all : mantissa p ≡ number = sym (continued-zero (whole ++ places)) ∙ continued-append 0 whole places ∙ sym is in

@@ -63,7 +63,7 @@ impl MemberList {
         self.names.as_slice()[index].as_slice()
     }
 
-    /// Adds a name that isn't there, as the last one. Refuses for want of memory alone, and then changes
+    /// Adds a name that isn't there, as the last one. Refuses only where memory runs out, and then changes
     /// nothing.
     pub(crate) fn append(&mut self, alloc: Global, name: &[u8]) -> Result<(), AllocError>
         requires { is_among self.old name.now ≡ false }

@@ -40,7 +40,7 @@ impl Model for Sets {
 }
 
 impl Sets {
-    /// Sets without members. Refuses for want of memory alone.
+    /// Sets without members. Refuses only where memory runs out.
     pub fn new(alloc: Global) -> Result<Sets, AllocError>
         ensures { IfOk result (λ sets. sets ≡ no_members) }
     {

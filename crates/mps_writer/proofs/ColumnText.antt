@@ -14,7 +14,7 @@ use Rattle.row_core.specs.declared.Row.{Row}
 use Rattle.row_core.specs.Order.{var_cmp}
 use Rattle.row_core.proofs.Orders.{var_cmp_total}
 use Rattle.mps_writer.specs.declared.entries.Entry.{Entry}
-use Rattle.mps_writer.specs.Entries.{entry_of, row_entries, entries_of, is_of, is_after, RisesFrom, Rises, AreSorted, behind, lines_of, column_text}
+use Rattle.mps_writer.specs.Entries.{entry_of, row_entries, entries_of, is_of, is_after, RisesFrom, Rises, AreSorted, following, lines_of, column_text}
 use Rattle.mps_writer.specs.MpsText.{numbered, entry_line, entry_lines, column_head, column_lines, is_same_variable}
 use Rattle.mps_writer.proofs.SameVariables.{later, same-is}
 
@@ -60,12 +60,12 @@ lines-filter j v (e ∷ es) rises = by_choice (is_after v e) refl (is_of v e) re
     by_choice false before false is rest = rest
 
 -- what is passed by for v has no entry of a later variable
-pub behind-filter : (v w : Var) (es : List Entry) → var_cmp v w ≡ Less → filter (is_of w) (behind v es) ≡ filter (is_of w) es
-behind-filter v w [] less = refl
-behind-filter v w (e ∷ es) less = by_choice (is_after v e) refl (is_of w e) refl (behind-filter v w es less)
+pub following-filter : (v w : Var) (es : List Entry) → var_cmp v w ≡ Less → filter (is_of w) (following v es) ≡ filter (is_of w) es
+following-filter v w [] less = refl
+following-filter v w (e ∷ es) less = by_choice (is_after v e) refl (is_of w e) refl (following-filter v w es less)
   where
-    by_choice : (a : Bool) → is_after v e ≡ a → (b : Bool) → is_of w e ≡ b → filter (is_of w) (behind v es) ≡ filter (is_of w) es
-        → filter (is_of w) (cond a (e ∷ es) (behind v es)) ≡ cond b (e ∷ filter (is_of w) es) (filter (is_of w) es)
+    by_choice : (a : Bool) → is_after v e ≡ a → (b : Bool) → is_of w e ≡ b → filter (is_of w) (following v es) ≡ filter (is_of w) es
+        → filter (is_of w) (cond a (e ∷ es) (following v es)) ≡ cond b (e ∷ filter (is_of w) es) (filter (is_of w) es)
     by_choice true after b is rest = ap (λ (c : Bool). cond c (e ∷ filter (is_of w) es) (filter (is_of w) es)) is
     by_choice false before true is rest =
         let impossible : false ≡ true = sym before ∙ ap is_lt (ap (var_cmp v) (same-is e.variable w is) ∙ less) in
@@ -73,11 +73,11 @@ behind-filter v w (e ∷ es) less = by_choice (is_after v e) refl (is_of w e) re
     by_choice false before false is rest = rest
 
 -- what is left rises
-pub behind-rises : (v : Var) (es : List Entry) → Rises es → Rises (behind v es)
-behind-rises v [] rises = tt
-behind-rises v (e ∷ es) rises = by_choice (is_after v e) (behind-rises v es (rises-tail e es rises))
+pub following-rises : (v : Var) (es : List Entry) → Rises es → Rises (following v es)
+following-rises v [] rises = tt
+following-rises v (e ∷ es) rises = by_choice (is_after v e) (following-rises v es (rises-tail e es rises))
   where
-    by_choice : (a : Bool) → Rises (behind v es) → Rises (cond a (e ∷ es) (behind v es))
+    by_choice : (a : Bool) → Rises (following v es) → Rises (cond a (e ∷ es) (following v es))
     by_choice true rest = rises
     by_choice false rest = rest
 
@@ -88,12 +88,12 @@ abbrev pub AllAfter : Var → List Var → Type 0
 AllAfter v ws = AllByRecursion (λ w. var_cmp v w ≡ Less) ws
 
 -- the columns of later variables are the same among what is left
-pub columns-behind : (sets : SetLists) (v : Var) (es : List Entry) (k : ℕ) (ws : List Var) → AllAfter v ws
-    → flat_map (column_text sets (behind v es)) (enumerate_from k ws) ≡ flat_map (column_text sets es) (enumerate_from k ws)
-columns-behind sets v es k [] after = refl
-columns-behind sets v es k (w ∷ ws) after =
-    ap (λ (own : List Entry). (column_head sets (k, w) ++ flat_map (line_in k) own) ++ flat_map (column_text sets (behind v es)) (enumerate_from (k + 1) ws)) (behind-filter v w es after.0)
-    ∙ ap (λ (rest : List ℕ). column_text sets es (k, w) ++ rest) (columns-behind sets v es (k + 1) ws after.1)
+pub columns-following : (sets : SetLists) (v : Var) (es : List Entry) (k : ℕ) (ws : List Var) → AllAfter v ws
+    → flat_map (column_text sets (following v es)) (enumerate_from k ws) ≡ flat_map (column_text sets es) (enumerate_from k ws)
+columns-following sets v es k [] after = refl
+columns-following sets v es k (w ∷ ws) after =
+    ap (λ (own : List Entry). (column_head sets (k, w) ++ flat_map (line_in k) own) ++ flat_map (column_text sets (following v es)) (enumerate_from (k + 1) ws)) (following-filter v w es after.0)
+    ∙ ap (λ (rest : List ℕ). column_text sets es (k, w) ++ rest) (columns-following sets v es (k + 1) ws after.1)
 
 -- ---- the entries of the rows
 
@@ -136,40 +136,40 @@ after-by v e o compared = ap is_lt (var_cmp_total.antisymm v e.variable ∙ ap o
 
 -- an earlier entry is passed by
 pub lines-earlier : (j : ℕ) (v : Var) (es : List Entry) (i : ℕ) (e d : Entry) → i < length es → e ≡ get_or es i d → var_cmp e.variable v ≡ Less
-    → (lines_of j v (drop i es) ≡ lines_of j v (drop (i + 1) es)) × (behind v (drop i es) ≡ behind v (drop (i + 1) es))
+    → (lines_of j v (drop i es) ≡ lines_of j v (drop (i + 1) es)) × (following v (drop i es) ≡ following v (drop (i + 1) es))
 lines-earlier j v es i e d less is compared = (
   at_drop_more (lines_of j v) es i d less
       ∙ ap (λ (x : Entry). lines_of j v (x ∷ drop (i + 1) es)) (sym is)
       ∙ ap (λ (a : Bool). cond a [] (cond (is_of v e) (line_in j e) [] ++ lines_of j v (drop (i + 1) es))) (after-by v e Less compared)
       ∙ ap (λ (b : Bool). cond b (line_in j e) [] ++ lines_of j v (drop (i + 1) es)) (ap is_eq compared),
-  at_drop_more (behind v) es i d less
-      ∙ ap (λ (x : Entry). behind v (x ∷ drop (i + 1) es)) (sym is)
-      ∙ ap (λ (a : Bool). cond a (e ∷ drop (i + 1) es) (behind v (drop (i + 1) es))) (after-by v e Less compared),
+  at_drop_more (following v) es i d less
+      ∙ ap (λ (x : Entry). following v (x ∷ drop (i + 1) es)) (sym is)
+      ∙ ap (λ (a : Bool). cond a (e ∷ drop (i + 1) es) (following v (drop (i + 1) es))) (after-by v e Less compared),
 )
 
 -- an entry of v has its line
 pub lines-own : (j : ℕ) (v : Var) (es : List Entry) (i : ℕ) (e d : Entry) → i < length es → e ≡ get_or es i d → var_cmp e.variable v ≡ Equal
-    → (lines_of j v (drop i es) ≡ entry_line j e.row e.number ++ lines_of j v (drop (i + 1) es)) × (behind v (drop i es) ≡ behind v (drop (i + 1) es))
+    → (lines_of j v (drop i es) ≡ entry_line j e.row e.number ++ lines_of j v (drop (i + 1) es)) × (following v (drop i es) ≡ following v (drop (i + 1) es))
 lines-own j v es i e d less is compared = (
   at_drop_more (lines_of j v) es i d less
       ∙ ap (λ (x : Entry). lines_of j v (x ∷ drop (i + 1) es)) (sym is)
       ∙ ap (λ (a : Bool). cond a [] (cond (is_of v e) (line_in j e) [] ++ lines_of j v (drop (i + 1) es))) (after-by v e Equal compared)
       ∙ ap (λ (b : Bool). cond b (line_in j e) [] ++ lines_of j v (drop (i + 1) es)) (ap is_eq compared),
-  at_drop_more (behind v) es i d less
-      ∙ ap (λ (x : Entry). behind v (x ∷ drop (i + 1) es)) (sym is)
-      ∙ ap (λ (a : Bool). cond a (e ∷ drop (i + 1) es) (behind v (drop (i + 1) es))) (after-by v e Equal compared),
+  at_drop_more (following v) es i d less
+      ∙ ap (λ (x : Entry). following v (x ∷ drop (i + 1) es)) (sym is)
+      ∙ ap (λ (a : Bool). cond a (e ∷ drop (i + 1) es) (following v (drop (i + 1) es))) (after-by v e Equal compared),
 )
 
 -- a later entry ends the column
 pub lines-later : (j : ℕ) (v : Var) (es : List Entry) (i : ℕ) (e d : Entry) → i < length es → e ≡ get_or es i d → var_cmp e.variable v ≡ Greater
-    → (lines_of j v (drop i es) ≡ []) × (behind v (drop i es) ≡ drop i es)
+    → (lines_of j v (drop i es) ≡ []) × (following v (drop i es) ≡ drop i es)
 lines-later j v es i e d less is compared = (
   at_drop_more (lines_of j v) es i d less
       ∙ ap (λ (x : Entry). lines_of j v (x ∷ drop (i + 1) es)) (sym is)
       ∙ ap (λ (a : Bool). cond a [] (cond (is_of v e) (line_in j e) [] ++ lines_of j v (drop (i + 1) es))) (after-by v e Greater compared),
-  at_drop_more (behind v) es i d less
-      ∙ ap (λ (x : Entry). behind v (x ∷ drop (i + 1) es)) (sym is)
-      ∙ ap (λ (a : Bool). cond a (e ∷ drop (i + 1) es) (behind v (drop (i + 1) es))) (after-by v e Greater compared)
+  at_drop_more (following v) es i d less
+      ∙ ap (λ (x : Entry). following v (x ∷ drop (i + 1) es)) (sym is)
+      ∙ ap (λ (a : Bool). cond a (e ∷ drop (i + 1) es) (following v (drop (i + 1) es))) (after-by v e Greater compared)
       ∙ ap (λ (x : Entry). x ∷ drop (i + 1) es) is
       ∙ sym (at_drop_more (λ (xs : List Entry). xs) es i d less),
 )

@@ -11,9 +11,9 @@ use Rattle.row_core.specs.Order.{var_cmp}
 use Rattle.row_core.proofs.AscendingLaws.{both_passed, Less-from_test, ascends-tail}
 use Rattle.row_core.proofs.Orders.{var_cmp_total}
 use Rattle.mps_writer.specs.declared.entries.Entry.{Entry}
-use Rattle.mps_writer.specs.Entries.{Rises, behind, column_text, lines_of}
+use Rattle.mps_writer.specs.Entries.{Rises, following, column_text, lines_of}
 use Rattle.mps_writer.specs.MpsText.{column_head}
-use Rattle.mps_writer.proofs.ColumnText.{AllAfter, lines-filter, columns-behind}
+use Rattle.mps_writer.proofs.ColumnText.{AllAfter, lines-filter, columns-following}
 
 all_after-earlier : (u v : Var) (ws : List Var) → var_cmp u v ≡ Less → AllAfter v ws → AllAfter u ws
 all_after-earlier u v [] less all = all
@@ -37,7 +37,7 @@ ascends-drop (suc k) (w ∷ ws) h = ascends-drop k ws (ascends-tail var_cmp w ws
 pub column-turn : (sets : SetLists) (vars : List Var) (k : ℕ) (v d : Var) (es left : List Entry) (out headed pushed all : List ℕ)
     → k < length vars → v ≡ get_or vars k d → ascends var_cmp vars ≡ true → Rises es
     → out ++ flat_map (column_text sets es) (enumerate_from (k + 1) (drop k vars)) ≡ all
-    → headed ≡ out ++ column_head sets (k + 1, v) → pushed ≡ headed ++ lines_of (k + 1) v es → left ≡ behind v es
+    → headed ≡ out ++ column_head sets (k + 1, v) → pushed ≡ headed ++ lines_of (k + 1) v es → left ≡ following v es
     → pushed ++ flat_map (column_text sets left) (enumerate_from (k + 1 + 1) (drop (k + 1) vars)) ≡ all
 column-turn sets vars k v d es left out headed pushed all less is ascending rises so_far with_head with_lines passed =
     let ws = drop (k + 1) vars in
@@ -49,7 +49,7 @@ column-turn sets vars k v d es left out headed pushed all less is ascending rise
     let own : column_text sets es (k + 1, v) ≡ head ++ lines = ap (λ (text : List ℕ). head ++ text) (sym (lines-filter (k + 1) v es rises)) in
     ap (λ (front : List ℕ). front ++ flat_map (column_text sets left) (enumerate_from (k + 1 + 1) ws)) (with_lines ∙ ap (λ (front : List ℕ). front ++ lines) with_head)
     ∙ ap (λ (es' : List Entry). ((out ++ head) ++ lines) ++ flat_map (column_text sets es') (enumerate_from (k + 1 + 1) ws)) passed
-    ∙ ap (λ (rest : List ℕ). ((out ++ head) ++ lines) ++ rest) (columns-behind sets v es (k + 1 + 1) ws (all_after v ws whole))
+    ∙ ap (λ (rest : List ℕ). ((out ++ head) ++ lines) ++ rest) (columns-following sets v es (k + 1 + 1) ws (all_after v ws whole))
     ∙ ap (λ (front : List ℕ). front ++ others) (append_assoc out head lines)
     ∙ append_assoc out (head ++ lines) others
     ∙ ap (λ (text : List ℕ). out ++ (text ++ others)) (sym own)

@@ -47,9 +47,9 @@ abbrev pub is_after : Var → Entry → Bool
 is_after v e = is_lt (var_cmp v e.variable)
 
 -- the entries from the first one on whose variable is after v
-abbrev pub behind : Var → List Entry → List Entry
-behind v [] = []
-behind v (e ∷ es) = if is_after v e then e ∷ es else behind v es
+abbrev pub following : Var → List Entry → List Entry
+following v [] = []
+following v (e ∷ es) = if is_after v e then e ∷ es else following v es
 
 -- the lines of the entries of v in column j, up to the first entry whose variable is after v
 abbrev pub lines_of : ℕ → Var → List Entry → List ℕ

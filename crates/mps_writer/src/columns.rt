@@ -4,7 +4,7 @@ ghost use Rattle.std.specs.Prelude.{◌≡◌, ◌≤◌, ◌++◌, true, drop, 
 ghost use Rattle.std.specs.List.{AllByRecursion, flat_map};
 ghost use Rattle.row_core.specs.Numbers.{ascends};
 ghost use Rattle.row_core.specs.Order.{var_cmp};
-ghost use Rattle.mps_writer.specs.Entries.{Rises, behind, column_text, lines_of};
+ghost use Rattle.mps_writer.specs.Entries.{Rises, following, column_text, lines_of};
 ghost use Rattle.mps_writer.specs.MpsText.{IsNamedVariable, numbered};
 
 use crate::entries::Entry;
@@ -47,7 +47,7 @@ fn push_column(
 ) -> Result<usize, AllocError>
     requires within { from ≤ length entries.now }
     ensures text { OnOk result (out.new.items ≡ out.old.items ++ lines_of column var (drop from entries.now)) }
-    ensures rest { IfOk result (λ to. drop to entries.now ≡ behind var (drop from entries.now)) }
+    ensures rest { IfOk result (λ to. drop to entries.now ≡ following var (drop from entries.now)) }
     ensures within { IfOk result (λ to. to ≤ length entries.now) }
 {
     for i in from..entries.len() {

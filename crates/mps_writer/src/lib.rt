@@ -1,5 +1,5 @@
 //! The text of rows in the free MPS format (https://lpsolve.sourceforge.net/5.5/mps-format.htm): rows are
-//! `R1`, `R2`, .. and columns `C1`, `C2`, .., each behind a comment line with its name.
+//! `R1`, `R2`, .. and columns `C1`, `C2`, .., each after a comment line with its name.
 #![tactic(auto)]
 
 ghost use Rattle.std.specs.Prelude.{◌≡◌, ◌++◌, true, IfOk, OnOk};
@@ -24,7 +24,7 @@ use std::alloc::{AllocError, Global};
 /// The sections are `ROWS`, with the cost as the free row; `COLUMNS`, where a variable
 /// TotalDiscountedCost has the cost 1; `RHS`, with the right sides that aren't 0; `BOUNDS` where a
 /// variable may be below 0, with such variables as `FR`; and `ENDATA`. Every line ends with a line feed.
-/// An entry at a variable that isn't listed is left out. Refuses for want of memory alone.
+/// An entry at a variable that isn't listed is left out. Refuses only where memory runs out.
 pub fn mps_text(
     alloc: Global,
     rows: &[Row],

@@ -1,4 +1,4 @@
-//! The program: its words are those behind its name, its files those of the system, and its text goes to the
+//! The program: its words are those after its name, its files those of the system, and its text goes to the
 //! standard output. Its exit status is that of the call.
 #![tactic(auto)]
 
@@ -27,7 +27,7 @@ fn main(rt: HostRuntime) -> ExitCode {
     }
 }
 
-// The words behind the program's name.
+// The words after the program's name.
 fn words(rt: &HostRuntime) -> io::Result<Vec<String>> {
     let mut words = Vec::new(rt.alloc());
     for word in env::args(rt)?.skip(1) {

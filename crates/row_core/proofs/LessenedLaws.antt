@@ -136,8 +136,8 @@ ascends-first_beside e es up h (o ∷ os) k = cases (λ l. ascends-first_beside 
     cases rest Less is = both_true (before-beside e.0 es (o ∷ os) first (test-from_Less (var_cmp e.0 o.0) is)) (h (o ∷ os) k)
     cases rest Equal is = both_true (before-beside e.0 es os first (subst (λ v. before_first var_cmp v (variables_of os) ≡ true) (sym (var_cmp_exact e.0 o.0 is)) second.0)) (h os second.1)
     cases rest Greater is =
-        let behind : var_cmp o.0 e.0 ≡ Less = var_cmp_total.antisymm o.0 e.0 ∙ ap ordering_reverse is in
-        both_true (before-beside o.0 (e ∷ es) os (test-from_Less (var_cmp o.0 e.0) behind) second.0) (rest second.1)
+        let following : var_cmp o.0 e.0 ≡ Less = var_cmp_total.antisymm o.0 e.0 ∙ ap ordering_reverse is in
+        both_true (before-beside o.0 (e ∷ es) os (test-from_Less (var_cmp o.0 e.0) following) second.0) (rest second.1)
 
 pub ascends-beside : (es os : List (Var × ℤ)) → ascends var_cmp (variables_of es) ≡ true → ascends var_cmp (variables_of os) ≡ true → ascends var_cmp (beside_variables (beside es os)) ≡ true
 ascends-beside [] os h k = ap (ascends var_cmp) (variables-right os) ∙ k

@@ -40,8 +40,8 @@ module _ {K A : Type 0} (cmp : K → K → Ordering) (total : IsTotalOrder cmp) 
   value_at-found (e ∷ es) key h zero d k found = ap (λ o. if is_eq o then Some e.1 else value_at cmp es key) found
   value_at-found (e ∷ es) key h (suc i) d k found =
       let y : K = (get_or es i d).0 in
-      let behind : cmp y e.0 ≡ Greater = total.antisymm y e.0 ∙ ap ordering_reverse (before_all e.0 es h i d (omega arith)) in
-      let before : cmp e.0 key ≡ Less = total.antisymm e.0 key ∙ ap ordering_reverse (sym (total.congr y key e.0 found) ∙ behind) in
+      let following : cmp y e.0 ≡ Greater = total.antisymm y e.0 ∙ ap ordering_reverse (before_all e.0 es h i d (omega arith)) in
+      let before : cmp e.0 key ≡ Less = total.antisymm e.0 key ∙ ap ordering_reverse (sym (total.congr y key e.0 found) ∙ following) in
       ap (λ o. if is_eq o then Some e.1 else value_at cmp es key) before
       ∙ value_at-found es key (both_passed (before_first cmp e.0 (keys_of es)) (ascends cmp (keys_of es)) h).1 i d (omega arith) found
 

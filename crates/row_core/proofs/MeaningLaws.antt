@@ -84,13 +84,13 @@ row_says written right row sense q x s n r says in_sense positive sum over =
 
 -- ---- and each entry has the sign of its coefficient
 
--- the plan of 1 at a variable finds nothing behind it
-row_sum-behind : (v : Var) (es : List (Var × ℤ)) → ascends var_cmp (v ∷ variables_of es) ≡ true → row_sum (alone v) es ≡ pos 0
-row_sum-behind v [] h = refl
-row_sum-behind v (e ∷ es) h =
+-- the plan of 1 at a variable finds nothing after it
+row_sum-following : (v : Var) (es : List (Var × ℤ)) → ascends var_cmp (v ∷ variables_of es) ≡ true → row_sum (alone v) es ≡ pos 0
+row_sum-following v [] h = refl
+row_sum-following v (e ∷ es) h =
     let parts = both_passed (is_lt (var_cmp v e.0)) (ascends var_cmp (e.0 ∷ variables_of es)) h in
     let later : var_cmp e.0 v ≡ Greater = var_cmp_total.antisymm e.0 v ∙ ap ordering_reverse (Less-from_test (var_cmp v e.0) parts.0) in
-    let rest = row_sum-behind v es (ascends-skip var_cmp var_cmp_total v e.0 (variables_of es) h) in
+    let rest = row_sum-following v es (ascends-skip var_cmp var_cmp_total v e.0 (variables_of es) h) in
     ap₂ (λ y u. (e.1 *ℤ y) +ℤ u) (ap (λ o. if is_eq o then pos 1 else pos 0) later) rest ∙ ap (λ y. y +ℤ pos 0) (*ℤ-zero e.1)
 
 alike : (o : Ordering) → is_eq o ≡ true → o ≡ Alike
@@ -106,7 +106,7 @@ row_sum-alone v (e ∷ es) h =
     let Found : Bool → Type 0 = λ b. (e.1 *ℤ (if b then pos 1 else pos 0)) +ℤ row_sum (alone v) es ≡ (if b then e.1 else number_at es v) in
     let here : is_eq (var_cmp e.0 v) ≡ true → Found true =
     λ is. let same : e.0 ≡ v = var_cmp_exact e.0 v (alike (var_cmp e.0 v) is) in
-    let none : row_sum (alone v) es ≡ pos 0 = row_sum-behind v es (subst (λ w. ascends var_cmp (w ∷ variables_of es) ≡ true) same h) in
+    let none : row_sum (alone v) es ≡ pos 0 = row_sum-following v es (subst (λ w. ascends var_cmp (w ∷ variables_of es) ≡ true) same h) in
     ap₂ (λ y u. y +ℤ u) (*ℤ-one e.1) none ∙ +ℤ-zero e.1 in
     let elsewhere : Found false = ap₂ (λ y u. y +ℤ u) (*ℤ-zero e.1) (row_sum-alone v es parts.1) ∙ zero-+ℤ (number_at es v) in
     let cases : (b : Bool) → is_eq (var_cmp e.0 v) ≡ b → Found b = λ b. elim b as (λ p. is_eq (var_cmp e.0 v) ≡ p → Found p) [ true ↦ here | false ↦ λ is. elsewhere ] in

@@ -70,18 +70,18 @@ pub with_term-belongs : (new : Term) (terms : List Term) (at : ℕ) → BelongsA
 with_term-belongs new [] zero h = refl
 with_term-belongs new [] (suc at) h = absurd (omega (arith, h.within))
 with_term-belongs new (term ∷ terms) zero h =
-    sym (with_term-by Less (seen new) (seen term) (map seen terms) (turned term.variable new.variable Greater (h.behind new (omega arith))))
+    sym (with_term-by Less (seen new) (seen term) (map seen terms) (turned term.variable new.variable Greater (h.following new (omega arith))))
 with_term-belongs new (term ∷ terms) (suc at) h =
-    let rest : BelongsAt terms new.variable at = record { within = omega (arith, h.within); before = λ k e less. h.before (suc k) e (omega arith); behind = λ e less. h.behind e (omega arith) } in
+    let rest : BelongsAt terms new.variable at = record { within = omega (arith, h.within); before = λ k e less. h.before (suc k) e (omega arith); following = λ e less. h.following e (omega arith) } in
     ap {B = List (Var × Rational)} (λ ts. seen term ∷ ts) (with_term-belongs new terms at rest)
     ∙ sym (with_term-by Greater (seen new) (seen term) (map seen terms) (turned term.variable new.variable Less (h.before zero new (omega arith))))
 
 pub term_formed-belongs : (new : Var × Rational) (terms : List Term) (at : ℕ) (d : Term) → BelongsAt terms new.0 at → term_formed new (map seen terms) ≡ []
 term_formed-belongs new [] at d h = refl
 term_formed-belongs new (term ∷ terms) zero d h =
-    term_formed-by Less new (seen term) (map seen terms) (turned term.variable new.0 Greater (h.behind d (omega arith)))
+    term_formed-by Less new (seen term) (map seen terms) (turned term.variable new.0 Greater (h.following d (omega arith)))
 term_formed-belongs new (term ∷ terms) (suc at) d h =
-    let rest : BelongsAt terms new.0 at = record { within = omega (arith, h.within); before = λ k e less. h.before (suc k) e (omega arith); behind = λ e less. h.behind e (omega arith) } in
+    let rest : BelongsAt terms new.0 at = record { within = omega (arith, h.within); before = λ k e less. h.before (suc k) e (omega arith); following = λ e less. h.following e (omega arith) } in
     term_formed-by Greater new (seen term) (map seen terms) (turned term.variable new.0 Less (h.before zero d (omega arith)))
     ∙ term_formed-belongs new terms at d rest
 
@@ -160,8 +160,8 @@ AreBefore-last terms v last up within less k d h =
     let within_last : k ≤ last = omega arith in
     elim (eq-or-lt_of_le within_last) [ inl e ↦ itself e | inr below ↦ earlier below ]
 
--- what is not behind, and not the same, is before
+-- what is not after, and not the same, is before
 pub before-from_others : (v w : Var) → var_cmp v w ≢ Greater → v ≢ w → var_cmp v w ≡ Less
-before-from_others v w behind same =
-    let cases : (o : Ordering) → var_cmp v w ≡ o → o ≡ Less = λ o. elim o as (λ p. var_cmp v w ≡ p → p ≡ Less) [ Less ↦ λ e. refl | Equal ↦ λ e. absurd (same (var_cmp_exact v w e)) | Greater ↦ λ e. absurd (behind e) ] in
+before-from_others v w following same =
+    let cases : (o : Ordering) → var_cmp v w ≡ o → o ≡ Less = λ o. elim o as (λ p. var_cmp v w ≡ p → p ≡ Less) [ Less ↦ λ e. refl | Equal ↦ λ e. absurd (same (var_cmp_exact v w e)) | Greater ↦ λ e. absurd (following e) ] in
     cases (var_cmp v w) refl

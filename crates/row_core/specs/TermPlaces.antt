@@ -19,4 +19,4 @@ pub record IsThere (terms : List Term) (v : Var) (at : ℕ) : Type 0 where
 pub record BelongsAt (terms : List Term) (v : Var) (at : ℕ) : Type 0 where
   pub within : at ≤ length terms
   pub before : AreBefore terms v at
-  pub behind : (d : Term) → at < length terms → var_cmp (slice_index_or terms at d).variable v ≡ Greater
+  pub following : (d : Term) → at < length terms → var_cmp (slice_index_or terms at d).variable v ≡ Greater

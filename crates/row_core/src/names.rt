@@ -20,7 +20,7 @@ const YEAR: u8 = 7;
 
 /// Appends a variable's name, as `NewCapacity[R,T,2020]`: the word of its kind, and in brackets the
 /// members that its subscripts stand for, in the order of the fields of `Index`, with commas between them.
-/// Refuses for want of memory alone, and then `out` stays as it was.
+/// Refuses only where memory runs out, and then `out` stays as it was.
 pub fn push_var(out: &mut Vec<u8>, var: Var, sets: &Sets) -> Result<(), AllocError>
     requires listed { IsKind var.kind }
     requires within { VariableIsWithin sets.now var }
@@ -33,7 +33,7 @@ pub fn push_var(out: &mut Vec<u8>, var: Var, sets: &Sets) -> Result<(), AllocErr
 
 /// Appends a row's name, as `CAa1[R,T,2020]`: the word of its equation, and in brackets the members that
 /// its subscripts stand for, in the order of the fields of `Index`, with commas between them. Refuses for
-/// want of memory alone, and then `out` stays as it was.
+/// where memory runs out, and then `out` stays as it was.
 pub fn push_row_name(out: &mut Vec<u8>, name: RowName, sets: &Sets) -> Result<(), AllocError>
     requires listed { IsEquation name.eq }
     requires within { RowNameIsWithin sets.now name }
@@ -64,7 +64,7 @@ fn push_or_restore(
     pushed
 }
 
-// Appends a word and the members in brackets; where memory is wanting, a front of that may stand.
+// Appends a word and the members in brackets; where memory runs out, a prefix of that may stand.
 fn push_name(
     out: &mut Vec<u8>,
     word: &str,
@@ -82,7 +82,7 @@ fn push_name(
     out.extend_from_slice(b"]")
 }
 
-// Appends the members with commas between them; where memory is wanting, a front of that may stand.
+// Appends the members with commas between them; where memory runs out, a prefix of that may stand.
 fn push_members(
     out: &mut Vec<u8>,
     places: &[u8],
@@ -100,7 +100,7 @@ fn push_members(
     Ok(())
 }
 
-// Appends a comma where one is due, and a name; where memory is wanting, a front of that may stand.
+// Appends a comma where one is due, and a name; where memory runs out, a prefix of that may stand.
 fn push_member(out: &mut Vec<u8>, comma_due: bool, name: &[u8]) -> Result<(), AllocError>
     ensures text { OnOk result (out.new.items
         ≡ out.old.items ++ ((if comma_due then codes "," else []) ++ name.now)) }

@@ -101,11 +101,11 @@ fn position_of(list: &[Term], variable: Var) -> Result<usize, usize>
     }
 }
 
-/// How many terms aren't behind the variable. Looked for from the end, where most terms belong.
+/// How many terms aren't after the variable. Looked for from the end, where most terms belong.
 fn end_of(list: &[Term], variable: Var) -> usize
     ensures within { result ≤ length list.now }
-    ensures not_behind { (d : Term) → 0 < result → var_cmp (slice_index_or list.now (result - 1) d).variable variable ≢ Greater }
-    ensures behind { (d : Term) → result < length list.now → var_cmp (slice_index_or list.now result d).variable variable ≡ Greater }
+    ensures not_after { (d : Term) → 0 < result → var_cmp (slice_index_or list.now (result - 1) d).variable variable ≢ Greater }
+    ensures following { (d : Term) → result < length list.now → var_cmp (slice_index_or list.now result d).variable variable ≡ Greater }
 {
     let mut end = list.len();
     while end > 0 && compare(list[end - 1].variable, variable) == Ordering::Greater {

@@ -27,7 +27,7 @@ use std::alloc::Global;
 /// their greatest common divisor.
 ///
 /// The row says of every plan what the equation says. `Width` with the row's name comes exactly where one of these
-/// numbers doesn't fit, before the last division; any other refusal is for want of memory.
+/// numbers doesn't fit, before the last division; any other refusal comes where memory runs out.
 pub fn write_row(
     alloc: Global,
     name: RowName,

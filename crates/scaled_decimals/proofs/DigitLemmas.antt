@@ -92,7 +92,7 @@ AreDigits-append (x ∷ xs) ys h k =
 pub digit_range : (c : ℕ) → is_ascii_digit c ≡ true → (48 ≤ c) × (c ≤ 57)
 digit_range c h = grind (arith, nat_tests)
 
--- a run of digits with no digit behind it is the longest in front
+-- a run of digits with no digit after it is the longest in front
 pub prefix_len-digits : (ds rest : List ℕ) → AreDigits ds → prefix_len is_ascii_digit rest ≡ 0 → prefix_len is_ascii_digit (ds ++ rest) ≡ length ds
 prefix_len-digits [] rest h none = none
 prefix_len-digits (c ∷ cs) rest h none =
@@ -106,7 +106,7 @@ digits_in_front-append ds rest h none = rw (prefix_len-digits ds rest h none) (t
 pub after_digits-append : (ds rest : List ℕ) → AreDigits ds → prefix_len is_ascii_digit rest ≡ 0 → after_digits (ds ++ rest) ≡ rest
 after_digits-append ds rest h none = rw (prefix_len-digits ds rest h none) (drop-append_seam ds rest)
 
--- what stands in front are digits, and behind them is none
+-- what stands in front are digits, and after them is none
 AreDigits-take-if : (c : ℕ) (cs : List ℕ) (b : Bool) (n : ℕ) → is_ascii_digit c ≡ b → AreDigits (take n cs) → AreDigits (take (cond b (1 + n) 0) (c ∷ cs))
 AreDigits-take-if c cs true n e h = rw (one-add n) (AreDigits-cons c (take n cs) e h)
 AreDigits-take-if c cs false n e h = refl

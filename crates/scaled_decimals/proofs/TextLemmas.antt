@@ -79,7 +79,7 @@ IsUnsigned-numeral (c ∷ cs) is = let range = digit_range c (AreDigits-head c c
 pub digits-bytes : (text : List ℕ) → digits_in_front text ++ after_digits text ≡ text
 digits-bytes text = take-append-drop (prefix_len is_ascii_digit text) text
 
--- ---- a point and the digits behind it
+-- ---- a point and the digits after it
 abbrev pub places_in_front : List ℕ → List ℕ
 places_in_front text = cond (eqb (slice_index text 0) 46) (digits_in_front (drop 1 text)) (drop (length text) text)
 
@@ -169,13 +169,13 @@ IsCut-of q text is =
     let unsigned : IsUnsigned body = unsigned-body q.whole q.fraction q.exponent is.formed.before is.formed.nonempty in
     let rest : after_sign text ≡ body = ap after_sign is.bytes ∙ after_sign-of q.sign body unsigned in
     let none : prefix_len is_ascii_digit tail ≡ 0 = no-digit-fraction q.fraction q.exponent in
-    let behind : after_digits (after_sign text) ≡ tail = ap after_digits rest ∙ after_digits-append q.whole tail is.formed.before none in
+    let following : after_digits (after_sign text) ≡ tail = ap after_digits rest ∙ after_digits-append q.whole tail is.formed.before none in
     record {
       sign = ap sign_of is.bytes ∙ sign_of-bytes q.sign body unsigned;
       whole = ap digits_in_front rest ∙ digits_in_front-append q.whole tail is.formed.before none;
-      places = ap places_in_front behind ∙ places-of q.fraction q.exponent is.formed.behind;
-      fraction = ap fraction_of behind ∙ fraction_of-bytes q.fraction q.exponent is.formed.behind;
-      end = ap after_places behind ∙ after_places-of q.fraction q.exponent is.formed.behind;
+      places = ap places_in_front following ∙ places-of q.fraction q.exponent is.formed.following;
+      fraction = ap fraction_of following ∙ fraction_of-bytes q.fraction q.exponent is.formed.following;
+      end = ap after_places following ∙ after_places-of q.fraction q.exponent is.formed.following;
     }
 
 -- the number that a text spells, where its end is a power of ten
@@ -194,7 +194,7 @@ Spells-at text e some power end =
     record {
       formed = record {
         before = AreDigits-front body;
-        behind = fraction-digits tail;
+        following = fraction-digits tail;
         nonempty = rw (fraction_digits-of tail) some;
         power = power;
       };
@@ -251,13 +251,13 @@ pub IsPower-none : (text : List ℕ) → length text ≡ 0 → (e : Option Expon
 IsPower-none [] h = (None, record { formed = tt; bytes = refl; sign = refl; all = refl })
 IsPower-none (c ∷ cs) h = absurd (omega arith)
 
-pub IsPower-some : (text behind : List ℕ) (capital : Bool) (lowering : Bool) (digits : List ℕ) → text ≡ mark capital ∷ behind → lowering ≡ eqb (slice_index behind 0) 45 → digits ≡ after_sign behind → IsNumeral digits → (e : Option Exponent) × IsPower text lowering digits e
-IsPower-some text behind capital lowering digits is minus rest numeral = (
-  Some (record { capital = capital; sign = sign_of behind; digits = digits }),
+pub IsPower-some : (text following : List ℕ) (capital : Bool) (lowering : Bool) (digits : List ℕ) → text ≡ mark capital ∷ following → lowering ≡ eqb (slice_index following 0) 45 → digits ≡ after_sign following → IsNumeral digits → (e : Option Exponent) × IsPower text lowering digits e
+IsPower-some text following capital lowering digits is minus rest numeral = (
+  Some (record { capital = capital; sign = sign_of following; digits = digits }),
   record {
     formed = numeral;
-    bytes = is ∙ ap (λ t. mark capital ∷ t) (sign-bytes behind ∙ ap (λ t. sign_bytes (sign_of behind) ++ t) (sym rest));
-    sign = minus ∙ sym (is_minus-of behind);
+    bytes = is ∙ ap (λ t. mark capital ∷ t) (sign-bytes following ∙ ap (λ t. sign_bytes (sign_of following) ++ t) (sym rest));
+    sign = minus ∙ sym (is_minus-of following);
     all = refl;
   },
 )
@@ -266,8 +266,8 @@ pub not-IsPower : (text : List ℕ) → (0 < length text) → ((capital : Bool) 
 not-IsPower text some none None is bytes = let e : length text ≡ 0 = ap length bytes in absurd (omega arith)
 not-IsPower text some none (Some e) is bytes = none e.capital (sign_bytes e.sign ++ e.digits) bytes
 
-pub not-numeral : (text behind : List ℕ) (capital : Bool) → text ≡ mark capital ∷ behind → (IsNumeral (after_sign behind) → ⊥) → (e : Option Exponent) → IsExponent e → text ≡ exponent_bytes e → ⊥
-not-numeral text behind capital is none None formed bytes = let no : mark capital ∷ behind ≡ [] = sym is ∙ bytes in cc
-not-numeral text behind capital is none (Some e) formed bytes =
-    let parts = mark-parts capital e.capital behind (sign_bytes e.sign ++ e.digits) (sym is ∙ bytes) in
+pub not-numeral : (text following : List ℕ) (capital : Bool) → text ≡ mark capital ∷ following → (IsNumeral (after_sign following) → ⊥) → (e : Option Exponent) → IsExponent e → text ≡ exponent_bytes e → ⊥
+not-numeral text following capital is none None formed bytes = let no : mark capital ∷ following ≡ [] = sym is ∙ bytes in cc
+not-numeral text following capital is none (Some e) formed bytes =
+    let parts = mark-parts capital e.capital following (sign_bytes e.sign ++ e.digits) (sym is ∙ bytes) in
     none (subst IsNumeral (sym (ap after_sign parts.1 ∙ after_sign-of e.sign e.digits (IsUnsigned-numeral e.digits formed))) formed)

@@ -14,7 +14,7 @@ mantissa p = number_of (p.whole ++ fraction_digits p.fraction)
 abbrev pub raised : NumberText → ℕ
 raised p = if is_lowering p.exponent then 0 else number_of (exponent_digits p.exponent)
 
--- the power of ten that it is divided by: one for each digit behind the point, and that of an exponent with a minus
+-- the power of ten that it is divided by: one for each digit after the point, and that of an exponent with a minus
 abbrev pub lowered : NumberText → ℕ
 lowered p = length (fraction_digits p.fraction) + (if is_lowering p.exponent then number_of (exponent_digits p.exponent) else 0)
 
@@ -37,7 +37,7 @@ is_rounded p = not (billionths p * denominator p == 10 ^ 9 * numerator p)
 abbrev pub is_above : NumberText → Bool
 is_above p = nat_lt (10 ^ 15 * denominator p) (numerator p)
 
--- n, or -n behind a minus
+-- n, or -n after a minus
 abbrev pub with_sign : Bool → ℕ → ℤ
 with_sign negative n = if negative then neg_ℤ (pos n) else pos n
 

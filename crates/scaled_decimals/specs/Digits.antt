@@ -15,6 +15,6 @@ unfoldable pub number_of : List ℕ → ℕ
 number_of [] = 0
 number_of (c ∷ cs) = (c - 48) * 10 ^ length cs + number_of cs
 
--- the number that digits write behind those of n
+-- the number that digits write after those of n
 unfoldable pub continued : ℕ → List ℕ → ℕ
 continued n ds = n * 10 ^ length ds + number_of ds

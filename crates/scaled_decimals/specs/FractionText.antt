@@ -1,9 +1,9 @@
--- The texts of exact values: an optional minus, and behind it digits, or digits `/` digits, or digits `.` digits.
+-- The texts of exact values: an optional minus, and after it digits, or digits `/` digits, or digits `.` digits.
 use Rattle.std.specs.Prelude.{◌≡◌, ℕ, ◌^◌, ℤ, pos, Bool, List, [], ◌∷◌, ◌++◌, length, if◌then◌else◌}
 use Rattle.scaled_decimals.specs.Digits.{IsNumeral, number_of}
 use Rattle.scaled_decimals.specs.DecimalReading.{with_sign}
 
--- the three forms behind the sign
+-- the three forms after the sign
 pub data Form : Type 0 where
   Whole : List ℕ → Form
   Quotient : List ℕ → List ℕ → Form

@@ -1,4 +1,4 @@
--- The texts of numbers, as the data section of GNU MathProg writes them: an optional sign; digits, of which some may stand behind a
+-- The texts of numbers, as the data section of GNU MathProg writes them: an optional sign; digits, of which some may stand after a
 -- point; and an optional power of ten.
 use Rattle.std.specs.Prelude.{◌≡◌, ℕ, ◌+◌, ◌<◌, Bool, true, false, List, [], ◌∷◌, ◌++◌, length, Option, Some, None}
 use Rattle.scaled_decimals.specs.Digits.{AreDigits, IsNumeral}
@@ -15,7 +15,7 @@ pub record Exponent : Type 0 where
   pub sign : Sign
   pub digits : List ℕ
 
--- the parts of a number: its sign, the digits before the point, those behind it where there is a point, and the power of ten
+-- the parts of a number: its sign, the digits before the point, those after it where there is a point, and the power of ten
 pub record NumberText : Type 0 where
   pub sign : Sign
   pub whole : List ℕ
@@ -28,7 +28,7 @@ sign_bytes Bare = []
 sign_bytes Plus = 43 ∷ []
 sign_bytes Minus = 45 ∷ []
 
--- the bytes of a point and the digits behind it
+-- the bytes of a point and the digits after it
 abbrev pub fraction_bytes : Option (List ℕ) → List ℕ
 fraction_bytes None = []
 fraction_bytes (Some ds) = 46 ∷ ds
@@ -47,7 +47,7 @@ exponent_bytes (Some e) = mark e.capital ∷ (sign_bytes e.sign ++ e.digits)
 abbrev pub spelling : NumberText → List ℕ
 spelling p = sign_bytes p.sign ++ (p.whole ++ (fraction_bytes p.fraction ++ exponent_bytes p.exponent))
 
--- the digits behind the point
+-- the digits after the point
 abbrev pub fraction_digits : Option (List ℕ) → List ℕ
 fraction_digits None = []
 fraction_digits (Some ds) = ds
@@ -62,10 +62,10 @@ abbrev pub IsExponent : Option Exponent → Type 0
 IsExponent None = Unit {0}
 IsExponent (Some e) = IsNumeral e.digits
 
--- the parts are digits, of which at least one stands before or behind the point
+-- the parts are digits, of which at least one stands before or after the point
 pub record IsFormed (p : NumberText) : Type 0 where
   pub before : AreDigits p.whole
-  pub behind : AreDigits (fraction_digits p.fraction)
+  pub following : AreDigits (fraction_digits p.fraction)
   pub nonempty : 0 < length p.whole + length (fraction_digits p.fraction)
   pub power : IsExponent p.exponent
 

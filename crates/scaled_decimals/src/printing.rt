@@ -22,7 +22,7 @@ struct Rounded {
 }
 
 /// Appends `v` as `n` where its denominator is 1, else as `n/d`, in decimal digits and with `-` before a negative numerator.
-/// Where memory is wanting, `out` stays as it was.
+/// Where memory runs out, `out` stays as it was.
 pub fn push_frac(out: &mut Vec<u8>, v: Frac) -> Result<(), AllocError>
     ensures text { OnOk result (out.new.items ≡ out.old.items ++ fraction_text (value_of v)) }
     ensures unchanged { OnErr result (out.new.items ≡ out.old.items) }
@@ -42,7 +42,7 @@ pub fn push_frac(out: &mut Vec<u8>, v: Frac) -> Result<(), AllocError>
 }
 
 /// Appends `v` rounded to six decimal places, ties away from zero, as `150.165050`. There is a `-` only where the rounded value
-/// is below 0. Where memory is wanting, `out` stays as it was.
+/// is below 0. Where memory runs out, `out` stays as it was.
 pub fn push_places(out: &mut Vec<u8>, v: Frac) -> Result<(), AllocError>
     ensures text { OnOk result (out.new.items ≡ out.old.items ++ places_text (value_of v)) }
     ensures unchanged { OnErr result (out.new.items ≡ out.old.items) }

@@ -49,7 +49,7 @@ pub fn read_decimal(text: &[u8]) -> Result<(i128, bool), DecFault>
     }
 }
 
-/// The exact value of `text`: an optional `-`, and behind it digits, or digits `/` digits, or digits `.` digits.
+/// The exact value of `text`: an optional `-`, and after it digits, or digits `/` digits, or digits `.` digits.
 ///
 /// `NotNumber` comes exactly where `text` has none of these forms or its denominator is 0, and `TooLarge` exactly where it has one and
 /// its numerator or denominator as written is above `2^127 - 1`. As written a decimal has its digits without the point over the power

@@ -29,7 +29,7 @@ pub fn split_digits(text: &[u8]) -> (&[u8], &[u8])
 }
 
 // What follows this byte; none where another stands in front.
-pub fn behind(text: &[u8], byte: u8) -> Option<&[u8]>
+pub fn following(text: &[u8], byte: u8) -> Option<&[u8]>
     ensures { MatchOption result ((rest : List ℕ) → text.now ≡ byte ∷ rest → ⊥) (λ rest. text.now ≡ byte ∷ rest.now) }
 {
     if text.is_empty() {
@@ -43,10 +43,10 @@ pub fn behind(text: &[u8], byte: u8) -> Option<&[u8]>
 }
 
 // The digits that follow this byte; none where anything else stands there.
-pub fn numeral_behind(text: &[u8], byte: u8) -> Option<&[u8]>
+pub fn numeral_after(text: &[u8], byte: u8) -> Option<&[u8]>
     ensures { MatchOption result ((ds : List ℕ) → IsNumeral ds → text.now ≡ byte ∷ ds → ⊥) (λ ds. IsNumeral ds.now × (text.now ≡ byte ∷ ds.now)) }
 {
-    let digits = behind(text, byte)?;
+    let digits = following(text, byte)?;
     if is_numeral(digits) {
         Some(digits)
     } else {
@@ -61,7 +61,7 @@ pub fn is_numeral(text: &[u8]) -> bool
     !text.is_empty() && digit_count(text) == text.len()
 }
 
-// The number that the digits write behind those of `so_far`, or 2^127 where it is larger.
+// The number that the digits write after those of `so_far`, or 2^127 where it is larger.
 pub fn capped_number(so_far: u128, digits: &[u8]) -> u128
     requires { so_far ≤ 2 ^ 127 }
     ensures { result ≡ min (continued so_far digits.now) (2 ^ 127) }
@@ -73,7 +73,7 @@ pub fn capped_number(so_far: u128, digits: &[u8]) -> u128
     number
 }
 
-// The number that the digit writes behind those of `number`, or 2^127 where it is larger.
+// The number that the digit writes after those of `number`, or 2^127 where it is larger.
 fn with_digit(number: u128, digit: u8) -> u128
     requires { number ≤ 2 ^ 127 }
     ensures { result ≡ min (number * 10 + (digit - 48)) (2 ^ 127) }

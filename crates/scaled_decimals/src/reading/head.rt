@@ -3,7 +3,7 @@ ghost use Rattle.std.specs.Prelude.{◌≡◌, ◌+◌, ◌-◌, ◌*◌, ◌^�
 ghost use Rattle.scaled_decimals.specs.Digits.{AreDigits, continued};
 ghost use Rattle.scaled_decimals.specs.PartsReading.{IsHead};
 
-// The first digits of a number, how many digits are left out behind them, and whether one of those isn't 0.
+// The first digits of a number, how many digits are left out after them, and whether one of those isn't 0.
 #[derive(Clone, Copy, Drop)]
 pub struct Head {
     pub value: u128,
@@ -21,7 +21,7 @@ pub const EMPTY: Head = Head {
     rest: false,
 };
 
-// The first digits with further digits behind them.
+// The first digits with further digits after them.
 pub fn extended(head: Head, digits: &[u8]) -> Head
     requires small { head.value < 10 ^ 37 }
     requires few { head.dropped < 2 ^ 65 }
@@ -37,7 +37,7 @@ pub fn extended(head: Head, digits: &[u8]) -> Head
     longer
 }
 
-// The first digits with one digit behind them.
+// The first digits with one digit after them.
 fn with_digit(head: Head, digit: u8) -> Head
     requires small { head.value < 10 ^ 37 }
     requires few { head.dropped < 2 ^ 100 }

@@ -4,9 +4,9 @@ ghost use Rattle.scaled_decimals.specs.Digits.{IsNumeral};
 ghost use Rattle.scaled_decimals.specs.NumberText.{NumberText, Exponent, IsExponent, Spells, exponent_bytes, mark};
 ghost use Rattle.scaled_decimals.specs.PartsReading.{AreParts, IsPower, digits_in_front, after_digits};
 
-use crate::reading::digits::{behind, is_numeral, split_digits};
+use crate::reading::digits::{following, is_numeral, split_digits};
 
-// The parts of a number: whether it has a minus, the digits before and behind the point, and its power of ten, which is without
+// The parts of a number: whether it has a minus, the digits before and after the point, and its power of ten, which is without
 // digits where there is none.
 #[derive(Clone, Copy, Drop)]
 pub struct Parts<'a> {
@@ -22,8 +22,8 @@ pub fn parts_of(text: &[u8]) -> Option<Parts<'_>>
     ensures { MatchOption result ((p : NumberText) → Spells p text.now → ⊥) (λ s. (p : NumberText) × Spells p text.now × AreParts s p) }
 {
     let (negative, unsigned) = split_sign(text);
-    let (whole, behind) = split_digits(unsigned);
-    let (places, end) = split_places(behind);
+    let (whole, following) = split_digits(unsigned);
+    let (places, end) = split_places(following);
     if whole.is_empty() && places.is_empty() {
         return None;
     }
@@ -60,7 +60,7 @@ pub fn split_minus(text: &[u8]) -> (bool, &[u8])
     }
 }
 
-// The digits behind a point in front, and what follows them.
+// The digits after a point in front, and what follows them.
 fn split_places(text: &[u8]) -> (&[u8], &[u8])
     ensures places { result.0.now ≡ (if slice_index text.now 0 == 46 then digits_in_front (drop 1 text.now) else drop (length text.now) text.now) }
     ensures rest { result.1.now ≡ (if slice_index text.now 0 == 46 then after_digits (drop 1 text.now) else text.now) }
@@ -78,7 +78,7 @@ fn power_of(text: &[u8]) -> Option<(bool, &[u8])>
     if text.is_empty() {
         return Some((false, text));
     }
-    let (lowering, digits) = split_sign(behind_mark(text)?);
+    let (lowering, digits) = split_sign(after_mark(text)?);
     if is_numeral(digits) {
         Some((lowering, digits))
     } else {
@@ -87,11 +87,11 @@ fn power_of(text: &[u8]) -> Option<(bool, &[u8])>
 }
 
 // What follows `e` or `E`.
-fn behind_mark(text: &[u8]) -> Option<&[u8]>
+fn after_mark(text: &[u8]) -> Option<&[u8]>
     ensures { MatchOption result ((capital : Bool) (rest : List ℕ) → text.now ≡ mark capital ∷ rest → ⊥) (λ rest. (capital : Bool) × (text.now ≡ mark capital ∷ rest.now)) }
 {
-    match behind(text, b'e') {
+    match following(text, b'e') {
         Some(rest) => Some(rest),
-        None => behind(text, b'E'),
+        None => following(text, b'E'),
     }
 }

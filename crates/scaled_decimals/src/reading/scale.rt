@@ -76,7 +76,7 @@ fn divided(negative: bool, head: Head, divisor: u128) -> Result<(i128, bool), De
     }
 }
 
-// Whether nothing is left: no remainder, and no rest behind it.
+// Whether nothing is left: no remainder, and no rest after it.
 fn is_zero(remainder: u128, rest: bool) -> bool
     ensures { result ≡ ((remainder == 0) && not rest) }
 {

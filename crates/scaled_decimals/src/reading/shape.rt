@@ -3,9 +3,9 @@ ghost use Rattle.std.specs.Prelude.{◌≡◌, MatchOption};
 ghost use Rattle.scaled_decimals.specs.FractionText.{Form, IsFormed, form_bytes};
 ghost use Rattle.scaled_decimals.specs.PartsReading.{form_of};
 
-use crate::reading::digits::{numeral_behind, split_digits};
+use crate::reading::digits::{numeral_after, split_digits};
 
-// Digits, digits over digits, or digits with digits behind a point.
+// Digits, digits over digits, or digits with digits after a point.
 #[derive(Clone, Copy, Drop)]
 pub enum Shape<'a> {
     Whole(&'a [u8]),
@@ -23,9 +23,9 @@ pub fn shape_of(text: &[u8]) -> Option<Shape<'_>>
     }
     if rest.is_empty() {
         Some(Shape::Whole(front))
-    } else if let Some(below) = numeral_behind(rest, b'/') {
+    } else if let Some(below) = numeral_after(rest, b'/') {
         Some(Shape::Quotient(front, below))
-    } else if let Some(places) = numeral_behind(rest, b'.') {
+    } else if let Some(places) = numeral_after(rest, b'.') {
         Some(Shape::Decimal(front, places))
     } else {
         None

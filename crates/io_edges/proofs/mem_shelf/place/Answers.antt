@@ -1,6 +1,6 @@
 use Rattle.std.proofs.Common.{◌≡◌, Some, None, sym, ap, ◌∙◌}
 use Rattle.io_edges.specs.Named.{contents}
-use Rattle.io_edges.proofs.FilesLemmas.{has_name, in_place, behind}
+use Rattle.io_edges.proofs.FilesLemmas.{has_name, in_place, following}
 use Rattle.std.specs.List.{position}
 use Rattle.io_edges.proofs.mem_shelf.place.Goals as goal
 
@@ -12,4 +12,4 @@ returns-in-Some-clause-ok c =
 pub returns-in_ok-push-in-None-clause-ok : goal.returns-in_ok-push-in-None-clause-ok
 returns-in_ok-push-in-None-clause-ok c =
     let none : position (has_name c.args.file.name.items) c.args.files.now.items ≡ None = rw (← c.deref.ensures.value, ← c.deref-2.ensures.value) (sym c.in-None.ensures) in
-    ap contents c.in_ok-push-in-None.ensures.items ∙ sym (behind c.args.file c.args.files.now.items none)
+    ap contents c.in_ok-push-in-None.ensures.items ∙ sym (following c.args.file c.args.files.now.items none)

@@ -2,7 +2,7 @@ use Rattle.std.proofs.Common.{◌<◌, List, drop, get_or, length, sym, subst, r
 use Rattle.row_core.specs.declared.Var.{Var}
 use Rattle.mps_writer.specs.Entries.{Rises}
 use Rattle.mps_writer.specs.declared.entries.Entry.{Entry}
-use Rattle.mps_writer.proofs.ColumnText.{behind-rises}
+use Rattle.mps_writer.proofs.ColumnText.{following-rises}
 use Rattle.mps_writer.proofs.ColumnTurns.{column-turn}
 use Rattle.mps_writer.proofs.columns.push_columns.Goals as goal
 
@@ -23,6 +23,6 @@ loop-place-preserved c =
           c.loop-place.out.items c.push_column_head.new.out.items c.push_column.new.out.items _
           less refl c.requires.ascending c.loop-place.invariant.rises c.loop-place.invariant.text
           c.in_ok-push_column_head.ensures c.in_ok-next.ensures.text c.in_ok-next.ensures.rest;
-      rises = subst (λ (es : List Entry). Rises es) (sym c.in_ok-next.ensures.rest) (behind-rises v left c.loop-place.invariant.rises);
+      rises = subst (λ (es : List Entry). Rises es) (sym c.in_ok-next.ensures.rest) (following-rises v left c.loop-place.invariant.rises);
       within = c.in_ok-next.ensures.within;
     }

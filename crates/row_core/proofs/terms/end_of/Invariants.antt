@@ -1,4 +1,4 @@
--- The loop goes back from the end past terms that are behind the variable.
+-- The loop goes back from the end past terms that are after the variable.
 use Rattle.std.proofs.Common.{◌≡◌, ◌<◌, ◌≤◌, length, get_or}
 use Rattle.std.specs.declared.cmp.Ordering.TheVariants.{Greater}
 use Rattle.row_core.specs.declared.terms.Term.{Term}
@@ -8,7 +8,7 @@ use Rattle.row_core.proofs.terms.end_of.Given as goal
 abbrev pub invariant-loop-end : goal.invariant-loop-end
 invariant-loop-end l = record {
   within : l.end ≤ length l.list;
-  behind : (d : Term) → l.end < length l.list → var_cmp (get_or l.list l.end d).variable l.variable ≡ Greater;
+  following : (d : Term) → l.end < length l.list → var_cmp (get_or l.list l.end d).variable l.variable ≡ Greater;
 }
 
 abbrev pub decreases-loop-end : goal.decreases-loop-end

@@ -26,11 +26,11 @@ returns-in_default c =
     let end : suc at ≡ c.end_of-end.result = omega arith in
     let apart : (get_or terms at c.index-list-end.result).variable ≢ c.args.variable = λ e. c.in_default.not-Equal (c.compare.ensures ∙ same_alike _ c.args.variable e) in
     let found : var_cmp (get_or terms at c.index-list-end.result).variable c.args.variable ≡ Less =
-    before-from_others _ c.args.variable (c.end_of-end.ensures.not_behind c.index-list-end.result (omega arith)) apart in
+    before-from_others _ c.args.variable (c.end_of-end.ensures.not_after c.index-list-end.result (omega arith)) apart in
     let before : (d : Term) → var_cmp (get_or terms at d).variable c.args.variable ≡ Less =
     λ d. ap (λ (t : Term). var_cmp t.variable c.args.variable) (get_or_default terms at d c.index-list-end.result within) ∙ found in
     record {
       within = c.end_of-end.ensures.within;
       before = subst (AreBefore terms c.args.variable) end (AreBefore-last terms c.args.variable at c.requires within before);
-      behind = c.end_of-end.ensures.behind;
+      following = c.end_of-end.ensures.following;
     }

@@ -1,4 +1,4 @@
--- The digits before and behind the point are one number.
+-- The digits before and after the point are one number.
 use Rattle.std.proofs.Common.{◌≡◌, ℕ, List, ◌+◌, ◌++◌, ◌^◌, ◌<◌, Bool, length, true, false, cond, arith, sym, ap, ap₂, ◌∙◌, subst}
 use Rattle.std.specs.Prelude.{min}
 use Rattle.scaled_decimals.specs.DecimalReading.{mantissa, raised, lowered}

@@ -1,4 +1,4 @@
--- What stands behind the minus has one form only.
+-- What stands after the minus has one form only.
 use Rattle.std.proofs.Common.{◌≡◌, arith, eqb, sym, ap, ◌∙◌, subst}
 use Rattle.std.specs.Prelude.{slice_index}
 use Rattle.scaled_decimals.specs.FractionText.{FractionText, SpellsValue, below_of}

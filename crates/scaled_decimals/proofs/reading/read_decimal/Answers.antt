@@ -14,7 +14,7 @@ decimal-requires-clause-whole c =
 pub decimal-requires-clause-places : goal.decimal-requires-clause-places
 decimal-requires-clause-places c =
     let parts = c.in-Some.ensures.2 in
-    subst AreDigits (sym parts.places) parts.formed.behind
+    subst AreDigits (sym parts.places) parts.formed.following
 
 pub returns-in-Some-clause-answer : goal.returns-in-Some-clause-answer
 returns-in-Some-clause-answer c =

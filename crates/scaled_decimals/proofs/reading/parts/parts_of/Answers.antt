@@ -13,8 +13,8 @@ returns-then-is_empty-2 c =
     λ p is.
     let cut = IsCut-of p c.args.text.now is in
     let whole : c.split_digits.result.0.now ≡ p.whole = c.split_digits.ensures.digits ∙ ap digits_in_front c.split_sign-negative.ensures.rest ∙ cut.whole in
-    let behind = c.split_digits.ensures.rest ∙ ap after_digits c.split_sign-negative.ensures.rest in
-    let places : c.split_places.result.0.now ≡ fraction_digits p.fraction = c.split_places.ensures.places ∙ ap places_in_front behind ∙ cut.places in
+    let following = c.split_digits.ensures.rest ∙ ap after_digits c.split_sign-negative.ensures.rest in
+    let places : c.split_places.result.0.now ≡ fraction_digits p.fraction = c.split_places.ensures.places ∙ ap places_in_front following ∙ cut.places in
     let first : length p.whole ≡ 0 = ap length (sym whole) ∙ eqb-true (length c.split_digits.result.0.now) 0 (sym c.is_empty.ensures ∙ c.if-is_empty.true) in
     let second : length (fraction_digits p.fraction) ≡ 0 = ap length (sym places) ∙ eqb-true (length c.split_places.result.0.now) 0 (sym c.is_empty-then-is_empty.ensures ∙ c.if-is_empty-2.true) in
     omega (arith, is.formed.nonempty)
@@ -23,8 +23,8 @@ pub returns-in_err-lowering : goal.returns-in_err-lowering
 returns-in_err-lowering c =
     rw c.from_residual.ensures (λ p is.
     let cut = IsCut-of p c.args.text.now is in
-    let behind = c.split_digits.ensures.rest ∙ ap after_digits c.split_sign-negative.ensures.rest in
-    let end : c.split_places.result.1.now ≡ exponent_bytes p.exponent = c.split_places.ensures.rest ∙ ap after_places behind ∙ cut.end in
+    let following = c.split_digits.ensures.rest ∙ ap after_digits c.split_sign-negative.ensures.rest in
+    let end : c.split_places.result.1.now ≡ exponent_bytes p.exponent = c.split_places.ensures.rest ∙ ap after_places following ∙ cut.end in
     c.in_err-lowering.ensures p.exponent is.formed.power end)
 
 pub returns : goal.returns
@@ -32,9 +32,9 @@ returns c =
     let text = c.args.text.now in
     let power = c.in_ok-lowering.ensures in
     let whole : c.split_digits.result.0.now ≡ digits_in_front (after_sign text) = c.split_digits.ensures.digits ∙ ap digits_in_front c.split_sign-negative.ensures.rest in
-    let behind : c.split_digits.result.1.now ≡ after_digits (after_sign text) = c.split_digits.ensures.rest ∙ ap after_digits c.split_sign-negative.ensures.rest in
-    let places : c.split_places.result.0.now ≡ places_in_front (after_digits (after_sign text)) = c.split_places.ensures.places ∙ ap places_in_front behind in
-    let end : c.split_places.result.1.now ≡ after_places (after_digits (after_sign text)) = c.split_places.ensures.rest ∙ ap after_places behind in
+    let following : c.split_digits.result.1.now ≡ after_digits (after_sign text) = c.split_digits.ensures.rest ∙ ap after_digits c.split_sign-negative.ensures.rest in
+    let places : c.split_places.result.0.now ≡ places_in_front (after_digits (after_sign text)) = c.split_places.ensures.places ∙ ap places_in_front following in
+    let end : c.split_places.result.1.now ≡ after_places (after_digits (after_sign text)) = c.split_places.ensures.rest ∙ ap after_places following in
     let some : 0 < length c.split_digits.result.0.now + length c.split_places.result.0.now =
     elim c.else-is_empty.branch [
       | else-is_empty-via-then-is_empty+else-is_empty-2 w ↦ let full = sym w.is_empty-then-is_empty.ensures ∙ w.if-is_empty-2.false in grind (arith, nat_tests)

@@ -28,21 +28,21 @@ returns-in-Some c =
           ∙ ap (λ t. front ++ t) c.in-Some.ensures.1,
     )
 
-pub returns-in-Some-numeral_behind : goal.returns-in-Some-numeral_behind
-returns-in-Some-numeral_behind c =
+pub returns-in-Some-numeral_after : goal.returns-in-Some-numeral_after
+returns-in-Some-numeral_after c =
     let front = c.split_digits.result.0.now in (
-      (front-found c.args.text.now front c.split_digits.ensures.digits (sym c.is_empty.ensures ∙ c.if-is_empty.false), c.in-Some-numeral_behind.ensures.0),
+      (front-found c.args.text.now front c.split_digits.ensures.digits (sym c.is_empty.ensures ∙ c.if-is_empty.false), c.in-Some-numeral_after.ensures.0),
       made_of c.args.text.now front c.split_digits.result.1.now c.split_digits.ensures.digits c.split_digits.ensures.rest
-          ∙ ap (λ t. front ++ t) c.in-Some-numeral_behind.ensures.1,
+          ∙ ap (λ t. front ++ t) c.in-Some-numeral_after.ensures.1,
     )
 
-pub returns-in_default-numeral_behind : goal.returns-in_default-numeral_behind
-returns-in_default-numeral_behind c =
+pub returns-in_default-numeral_after : goal.returns-in_default-numeral_after
+returns-in_default-numeral_after c =
     λ f is e.
     let rest = c.split_digits.result.1.now in
     let some = not-zero (length rest) (sym c.is_empty-2.ensures ∙ c.if-is_empty-2.false) in
     no_form f c.args.text.now
     (λ none. some (ap length c.split_digits.ensures.rest ∙ none))
     (λ ds numeral over. c.in_default.ensures ds numeral (c.split_digits.ensures.rest ∙ over))
-    (λ ds numeral point. c.in_default-numeral_behind.ensures ds numeral (c.split_digits.ensures.rest ∙ point))
+    (λ ds numeral point. c.in_default-numeral_after.ensures ds numeral (c.split_digits.ensures.rest ∙ point))
     is e
