@@ -35,7 +35,7 @@ same_then a rest less =
 pub less_last : (a b : ℕ) → a < b → nat_cmp a b ≡ Less
 less_last a b less = ap (λ test. cond test Less (cond (a == b) Equal Greater)) (lt-ltb a b less)
 
--- ---- the indices with some subscripts, and any behind them
+-- ---- the indices with some subscripts, and any after them
 
 -- the values of a subscript grow
 pub of_choice : (b : Bool) (n : ℕ) → Grows (cond b (range_with_len 0 n) (0 ∷ []))

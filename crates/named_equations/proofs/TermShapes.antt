@@ -194,7 +194,7 @@ covered v z w =
       balance = λ q x. part_covered s (z *ℤ x v) (x w) (pos q);
     }
 
--- the same where the part stands behind
+-- the same where the part stands last
 pub covered_behind : (v : Var) (z : ℤ) (w : Var) → MeansStatement (is_covered v z w) (λ q x. x v *ℤ z at_most values 1 *ℤ x w)
 covered_behind v z w =
     let s : ℤ = values 1 in

@@ -118,7 +118,7 @@ impl PlainData {
     }
 
     /// All instances of the named equations, by the number of the equation and then by their indices.
-    /// Refuses for want of memory alone.
+    /// Refuses only where memory runs out.
     pub fn instances(&self, alloc: Global) -> Result<Vec<RowName>, AllocError>
         ensures { IfOk result (λ names. names.items ≡ instances self.now) }
     {
