@@ -1,4 +1,4 @@
--- Something is true of some position where it is true of one in front or after.
+-- Something is true of some position where it is true of this one, or of a later one.
 use Rattle.std.proofs.Common.{◌≡◌, ℕ, suc, ◌+◌, ◌-◌, ◌<◌, ◌≤◌, Bool, true, false, ◌||◌, ap, ◌∙◌, arith}
 use Rattle.std.specs.List.{list_any, range_with_len}
 

@@ -194,9 +194,9 @@ covered v z w =
       balance = λ q x. part_covered s (z *ℤ x v) (x w) (pos q);
     }
 
--- the same where the part stands after
-pub covered_after : (v : Var) (z : ℤ) (w : Var) → MeansStatement (is_covered v z w) (λ q x. x v *ℤ z at_most values 1 *ℤ x w)
-covered_after v z w =
+-- the same where the part stands last
+pub covered_behind : (v : Var) (z : ℤ) (w : Var) → MeansStatement (is_covered v z w) (λ q x. x v *ℤ z at_most values 1 *ℤ x w)
+covered_behind v z w =
     let s : ℤ = values 1 in
     let m = covered v z w in
     record {

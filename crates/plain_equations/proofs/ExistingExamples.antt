@@ -26,7 +26,7 @@ use Rattle.plain_equations.specs.Points.{point_at}
 
 -- ---- equations
 
--- after a reference
+-- by a reference
 abbrev shared : {X : Type 0} → X → Bor X
 shared x = record { ref_ptr = (0, 0); now = x }
 
