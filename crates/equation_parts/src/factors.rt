@@ -48,12 +48,7 @@ pub fn final_capital_factor(model: &ModelData, factors: &[Factors], r: u16) -> O
 }
 
 /// What 1 that is due in the middle of this year is worth at the beginning of the first.
-pub fn operating_factor(
-    model: &ModelData,
-    factors: &[Factors],
-    r: u16,
-    y: u16,
-) -> Option<Frac>
+pub fn operating_factor(model: &ModelData, factors: &[Factors], r: u16, y: u16) -> Option<Frac>
     requires factors { AreRegionFactors model.now.facts factors.now }
     requires region { IsRegion model.now.facts r }
     requires year { IsYear model.now.facts y }

@@ -3,8 +3,28 @@
 ghost use Rattle.std.specs.Prelude.{◌≡◌};
 ghost use Rattle.named_equations.specs.Variables.{variable, rate_of_activity, new_capacity, trade, rate_of_demand, accumulated_new_capacity, total_capacity_annual, rate_of_total_activity, rate_of_production_by_technology_by_mode, rate_of_production_by_technology, rate_of_production, rate_of_use_by_technology_by_mode, rate_of_use_by_technology, rate_of_use, production, use_of_fuel, demand, production_annual, use_annual, trade_annual, production_by_technology, use_by_technology, total_annual_technology_activity_by_mode, capital_investment, discounted_capital_investment, salvage_value, discounted_salvage_value, annual_variable_operating_cost, annual_fixed_operating_cost, operating_cost, discounted_operating_cost, annual_technology_emission_by_mode, annual_technology_emission, annual_technology_emission_penalty_by_emission, annual_technology_emissions_penalty, discounted_technology_emissions_penalty, total_discounted_cost_by_technology, total_discounted_cost, model_period_cost_by_region, total_technology_annual_activity, total_technology_model_period_activity, total_capacity_in_reserve_margin, demand_needing_reserve_margin, production_by_technology_annual, total_re_production_annual, re_total_production_of_target_fuel_annual, use_by_technology_annual, annual_emissions, model_period_emissions};
 
-use crate::indices::{at_r, at_re, at_rey, at_rfy, at_rlfy, at_rltfmy, at_rltfy, at_rltmy, at_rlty, at_rly, at_rrrfy, at_rrrlfy, at_rt, at_rtemy, at_rtey, at_rtfy, at_rtmy, at_rty, at_ry};
-use row_core::kind_numbers::{ACCUMULATED_NEW_CAPACITY, ANNUAL_EMISSIONS, ANNUAL_FIXED_OPERATING_COST, ANNUAL_TECHNOLOGY_EMISSION, ANNUAL_TECHNOLOGY_EMISSIONS_PENALTY, ANNUAL_TECHNOLOGY_EMISSION_BY_MODE, ANNUAL_TECHNOLOGY_EMISSION_PENALTY_BY_EMISSION, ANNUAL_VARIABLE_OPERATING_COST, CAPITAL_INVESTMENT, DEMAND, DEMAND_NEEDING_RESERVE_MARGIN, DISCOUNTED_CAPITAL_INVESTMENT, DISCOUNTED_OPERATING_COST, DISCOUNTED_SALVAGE_VALUE, DISCOUNTED_TECHNOLOGY_EMISSIONS_PENALTY, MODEL_PERIOD_COST_BY_REGION, MODEL_PERIOD_EMISSIONS, NEW_CAPACITY, OPERATING_COST, PRODUCTION, PRODUCTION_ANNUAL, PRODUCTION_BY_TECHNOLOGY, PRODUCTION_BY_TECHNOLOGY_ANNUAL, RATE_OF_ACTIVITY, RATE_OF_DEMAND, RATE_OF_PRODUCTION, RATE_OF_PRODUCTION_BY_TECHNOLOGY, RATE_OF_PRODUCTION_BY_TECHNOLOGY_BY_MODE, RATE_OF_TOTAL_ACTIVITY, RATE_OF_USE, RATE_OF_USE_BY_TECHNOLOGY, RATE_OF_USE_BY_TECHNOLOGY_BY_MODE, RE_TOTAL_PRODUCTION_OF_TARGET_FUEL_ANNUAL, SALVAGE_VALUE, TOTAL_ANNUAL_TECHNOLOGY_ACTIVITY_BY_MODE, TOTAL_CAPACITY_ANNUAL, TOTAL_CAPACITY_IN_RESERVE_MARGIN, TOTAL_DISCOUNTED_COST, TOTAL_DISCOUNTED_COST_BY_TECHNOLOGY, TOTAL_RE_PRODUCTION_ANNUAL, TOTAL_TECHNOLOGY_ANNUAL_ACTIVITY, TOTAL_TECHNOLOGY_MODEL_PERIOD_ACTIVITY, TRADE, TRADE_ANNUAL, USE, USE_ANNUAL, USE_BY_TECHNOLOGY, USE_BY_TECHNOLOGY_ANNUAL};
+use crate::indices::{
+    at_r, at_re, at_rey, at_rfy, at_rlfy, at_rltfmy, at_rltfy, at_rltmy, at_rlty, at_rly, at_rrrfy,
+    at_rrrlfy, at_rt, at_rtemy, at_rtey, at_rtfy, at_rtmy, at_rty, at_ry,
+};
+use row_core::kind_numbers::{
+    ACCUMULATED_NEW_CAPACITY, ANNUAL_EMISSIONS, ANNUAL_FIXED_OPERATING_COST,
+    ANNUAL_TECHNOLOGY_EMISSION, ANNUAL_TECHNOLOGY_EMISSION_BY_MODE,
+    ANNUAL_TECHNOLOGY_EMISSION_PENALTY_BY_EMISSION, ANNUAL_TECHNOLOGY_EMISSIONS_PENALTY,
+    ANNUAL_VARIABLE_OPERATING_COST, CAPITAL_INVESTMENT, DEMAND, DEMAND_NEEDING_RESERVE_MARGIN,
+    DISCOUNTED_CAPITAL_INVESTMENT, DISCOUNTED_OPERATING_COST, DISCOUNTED_SALVAGE_VALUE,
+    DISCOUNTED_TECHNOLOGY_EMISSIONS_PENALTY, MODEL_PERIOD_COST_BY_REGION, MODEL_PERIOD_EMISSIONS,
+    NEW_CAPACITY, OPERATING_COST, PRODUCTION, PRODUCTION_ANNUAL, PRODUCTION_BY_TECHNOLOGY,
+    PRODUCTION_BY_TECHNOLOGY_ANNUAL, RATE_OF_ACTIVITY, RATE_OF_DEMAND, RATE_OF_PRODUCTION,
+    RATE_OF_PRODUCTION_BY_TECHNOLOGY, RATE_OF_PRODUCTION_BY_TECHNOLOGY_BY_MODE,
+    RATE_OF_TOTAL_ACTIVITY, RATE_OF_USE, RATE_OF_USE_BY_TECHNOLOGY,
+    RATE_OF_USE_BY_TECHNOLOGY_BY_MODE, RE_TOTAL_PRODUCTION_OF_TARGET_FUEL_ANNUAL, SALVAGE_VALUE,
+    TOTAL_ANNUAL_TECHNOLOGY_ACTIVITY_BY_MODE, TOTAL_CAPACITY_ANNUAL,
+    TOTAL_CAPACITY_IN_RESERVE_MARGIN, TOTAL_DISCOUNTED_COST, TOTAL_DISCOUNTED_COST_BY_TECHNOLOGY,
+    TOTAL_RE_PRODUCTION_ANNUAL, TOTAL_TECHNOLOGY_ANNUAL_ACTIVITY,
+    TOTAL_TECHNOLOGY_MODEL_PERIOD_ACTIVITY, TRADE, TRADE_ANNUAL, USE, USE_ANNUAL,
+    USE_BY_TECHNOLOGY, USE_BY_TECHNOLOGY_ANNUAL,
+};
 use row_core::{Index, Var};
 
 /// The variable of this kind, at this index.
@@ -74,7 +94,10 @@ pub fn rate_of_production_by_technology_by_mode(
 ) -> Var
     ensures { result ≡ rate_of_production_by_technology_by_mode r l t f m y }
 {
-    variable(RATE_OF_PRODUCTION_BY_TECHNOLOGY_BY_MODE, at_rltfmy(r, l, t, f, m, y))
+    variable(
+        RATE_OF_PRODUCTION_BY_TECHNOLOGY_BY_MODE,
+        at_rltfmy(r, l, t, f, m, y),
+    )
 }
 
 /// RateOfProductionByTechnology[r,l,t,f,y].
@@ -95,7 +118,10 @@ pub fn rate_of_production(r: u16, l: u16, f: u16, y: u16) -> Var
 pub fn rate_of_use_by_technology_by_mode(r: u16, l: u16, t: u16, f: u16, m: u16, y: u16) -> Var
     ensures { result ≡ rate_of_use_by_technology_by_mode r l t f m y }
 {
-    variable(RATE_OF_USE_BY_TECHNOLOGY_BY_MODE, at_rltfmy(r, l, t, f, m, y))
+    variable(
+        RATE_OF_USE_BY_TECHNOLOGY_BY_MODE,
+        at_rltfmy(r, l, t, f, m, y),
+    )
 }
 
 /// RateOfUseByTechnology[r,l,t,f,y].
@@ -172,7 +198,10 @@ pub fn use_by_technology(r: u16, l: u16, t: u16, f: u16, y: u16) -> Var
 pub fn total_annual_technology_activity_by_mode(r: u16, t: u16, m: u16, y: u16) -> Var
     ensures { result ≡ total_annual_technology_activity_by_mode r t m y }
 {
-    variable(TOTAL_ANNUAL_TECHNOLOGY_ACTIVITY_BY_MODE, at_rtmy(r, t, m, y))
+    variable(
+        TOTAL_ANNUAL_TECHNOLOGY_ACTIVITY_BY_MODE,
+        at_rtmy(r, t, m, y),
+    )
 }
 
 /// CapitalInvestment[r,t,y].
@@ -249,7 +278,10 @@ pub fn annual_technology_emission(r: u16, t: u16, e: u16, y: u16) -> Var
 pub fn annual_technology_emission_penalty_by_emission(r: u16, t: u16, e: u16, y: u16) -> Var
     ensures { result ≡ annual_technology_emission_penalty_by_emission r t e y }
 {
-    variable(ANNUAL_TECHNOLOGY_EMISSION_PENALTY_BY_EMISSION, at_rtey(r, t, e, y))
+    variable(
+        ANNUAL_TECHNOLOGY_EMISSION_PENALTY_BY_EMISSION,
+        at_rtey(r, t, e, y),
+    )
 }
 
 /// AnnualTechnologyEmissionsPenalty[r,t,y].
