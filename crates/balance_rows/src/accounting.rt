@@ -11,7 +11,10 @@ ghost use Rattle.balance_rows.specs.Balance.{acc1, acc2, acc3};
 
 use equation_parts::parameters::year_split;
 use equation_parts::shapes::is_times;
-use equation_parts::variables::{production_by_technology, rate_of_activity, rate_of_production_by_technology, rate_of_use_by_technology, total_annual_technology_activity_by_mode, use_by_technology};
+use equation_parts::variables::{
+    production_by_technology, rate_of_activity, rate_of_production_by_technology,
+    rate_of_use_by_technology, total_annual_technology_activity_by_mode, use_by_technology,
+};
 use model_sets::set_numbers::TIMESLICE;
 use param_tables::ModelData;
 use row_core::{Index, LeftSide, Row, RowName, Sense, Stopped, negative, one, zero};

@@ -7,7 +7,11 @@ ghost use Rattle.balance_rows.specs.Balance.{eba1, eba2, eba3, eba4, eba5, eba6}
 
 use equation_parts::parameters::{input_activity_ratio, output_activity_ratio};
 use equation_parts::shapes::{is_times, take_away_each};
-use equation_parts::variables::{rate_of_activity, rate_of_production, rate_of_production_by_technology, rate_of_production_by_technology_by_mode, rate_of_use, rate_of_use_by_technology, rate_of_use_by_technology_by_mode};
+use equation_parts::variables::{
+    rate_of_activity, rate_of_production, rate_of_production_by_technology,
+    rate_of_production_by_technology_by_mode, rate_of_use, rate_of_use_by_technology,
+    rate_of_use_by_technology_by_mode,
+};
 use param_tables::{ActivityRatio, ModelData};
 use row_core::{Index, LeftSide, Row, RowName, Sense, Stopped, one, zero};
 use std::alloc::Global;

@@ -17,7 +17,10 @@ use crate::timeslices::{eba7, eba8, eba9, eba10, eba11};
 use crate::years::{ebb1, ebb2, ebb3, ebb4};
 use equation_parts::ratios::{produces, produces_in_mode, uses, uses_in_mode};
 use param_tables::ModelData;
-use row_core::equation_numbers::{ACC1, ACC2, EBA1, EBA10, EBA11, EBA2, EBA3, EBA4, EBA5, EBA6, EBA7, EBA8, EBA9, EBB1, EBB2, EBB3, EBB4, EQ_SPECIFIED_DEMAND};
+use row_core::equation_numbers::{
+    ACC1, ACC2, EBA1, EBA2, EBA3, EBA4, EBA5, EBA6, EBA7, EBA8, EBA9, EBA10, EBA11, EBB1, EBB2,
+    EBB3, EBB4, EQ_SPECIFIED_DEMAND,
+};
 use row_core::{Index, Row, RowName, Stopped};
 use std::alloc::Global;
 

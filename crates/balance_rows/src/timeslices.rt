@@ -11,7 +11,9 @@ ghost use Rattle.balance_rows.specs.Balance.{eba7, eba8, eba9, eba10, eba11};
 
 use equation_parts::parameters::{trade_route, year_split};
 use equation_parts::shapes::is_times;
-use equation_parts::variables::{demand, production, rate_of_demand, rate_of_production, rate_of_use, trade, use_of_fuel};
+use equation_parts::variables::{
+    demand, production, rate_of_demand, rate_of_production, rate_of_use, trade, use_of_fuel,
+};
 use model_sets::set_numbers::REGION;
 use param_tables::ModelData;
 use row_core::{Index, LeftSide, Row, RowName, Sense, Stopped, minus_one, negative, one, zero};

@@ -10,7 +10,9 @@ ghost use Rattle.named_equations.specs.Within.{IsRegion, IsFuel, IsYear};
 ghost use Rattle.balance_rows.specs.Balance.{ebb1, ebb2, ebb3, ebb4};
 
 use equation_parts::parameters::{accumulated_annual_demand, trade_route};
-use equation_parts::variables::{production, production_annual, trade, trade_annual, use_annual, use_of_fuel};
+use equation_parts::variables::{
+    production, production_annual, trade, trade_annual, use_annual, use_of_fuel,
+};
 use model_sets::set_numbers::{REGION, TIMESLICE};
 use param_tables::ModelData;
 use row_core::{Index, LeftSide, Row, RowName, Sense, Stopped, minus_one, negative, one, zero};

@@ -14,7 +14,10 @@ use discount_factors::Factors;
 use equation_parts::factors::operating_factor;
 use equation_parts::parameters::{fixed_cost, variable_cost};
 use equation_parts::shapes::is_times;
-use equation_parts::variables::{annual_fixed_operating_cost, annual_variable_operating_cost, discounted_operating_cost, operating_cost, total_annual_technology_activity_by_mode, total_capacity_annual};
+use equation_parts::variables::{
+    annual_fixed_operating_cost, annual_variable_operating_cost, discounted_operating_cost,
+    operating_cost, total_annual_technology_activity_by_mode, total_capacity_annual,
+};
 use model_sets::set_numbers::MODE_OF_OPERATION;
 use param_tables::ModelData;
 use row_core::{Index, LeftSide, Row, RowName, Sense, Stopped, minus_one, negative, one, zero};

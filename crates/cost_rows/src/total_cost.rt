@@ -4,7 +4,11 @@ ghost use Rattle.row_core.specs.EquationTerms.{IsWritten};
 ghost use Rattle.named_equations.specs.Indices.{by_r, by_rty, by_ry};
 ghost use Rattle.cost_rows.specs.Costs.{tdc1, tdc2, acc4};
 
-use equation_parts::variables::{discounted_capital_investment, discounted_operating_cost, discounted_salvage_value, discounted_technology_emissions_penalty, model_period_cost_by_region, total_discounted_cost, total_discounted_cost_by_technology};
+use equation_parts::variables::{
+    discounted_capital_investment, discounted_operating_cost, discounted_salvage_value,
+    discounted_technology_emissions_penalty, model_period_cost_by_region, total_discounted_cost,
+    total_discounted_cost_by_technology,
+};
 use model_sets::set_numbers::{TECHNOLOGY, YEAR};
 use param_tables::ModelData;
 use row_core::{Index, LeftSide, Row, RowName, Sense, Stopped, minus_one, one, zero};

@@ -8,8 +8,13 @@ ghost use Rattle.named_equations.specs.Within.{IsRegion, IsEmission, IsYear};
 ghost use Rattle.emission_rows.specs.Emissions.{e6, e7, e8, e9};
 
 use equation_parts::limits::is_limit;
-use equation_parts::parameters::{annual_emission_limit, annual_exogenous_emission, model_period_emission_limit, model_period_exogenous_emission};
-use equation_parts::variables::{annual_emissions, annual_technology_emission, model_period_emissions};
+use equation_parts::parameters::{
+    annual_emission_limit, annual_exogenous_emission, model_period_emission_limit,
+    model_period_exogenous_emission,
+};
+use equation_parts::variables::{
+    annual_emissions, annual_technology_emission, model_period_emissions,
+};
 use model_sets::param_numbers::{ANNUAL_EMISSION_LIMIT, MODEL_PERIOD_EMISSION_LIMIT};
 use model_sets::set_numbers::{TECHNOLOGY, YEAR};
 use param_tables::ModelData;

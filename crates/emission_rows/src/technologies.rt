@@ -10,7 +10,11 @@ use discount_factors::Factors;
 use equation_parts::factors::operating_factor;
 use equation_parts::parameters::{emission_activity_ratio, emissions_penalty};
 use equation_parts::shapes::{is_times, take_away_each};
-use equation_parts::variables::{annual_technology_emission, annual_technology_emission_by_mode, annual_technology_emission_penalty_by_emission, annual_technology_emissions_penalty, discounted_technology_emissions_penalty, total_annual_technology_activity_by_mode};
+use equation_parts::variables::{
+    annual_technology_emission, annual_technology_emission_by_mode,
+    annual_technology_emission_penalty_by_emission, annual_technology_emissions_penalty,
+    discounted_technology_emissions_penalty, total_annual_technology_activity_by_mode,
+};
 use model_sets::set_numbers::EMISSION;
 use param_tables::{ActivityRatio, ModelData};
 use row_core::{Index, LeftSide, Row, RowName, Sense, Stopped, minus_one, one, zero};

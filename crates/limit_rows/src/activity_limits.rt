@@ -12,10 +12,21 @@ ghost use Rattle.named_equations.specs.Within.{IsRegion, IsSlice, IsTechnology, 
 ghost use Rattle.limit_rows.specs.Limits.{aac1, aac2, aac3, tac1, tac2, tac3};
 
 use equation_parts::limits::{is_limit, is_positive};
-use equation_parts::parameters::{total_technology_annual_activity_lower_limit, total_technology_annual_activity_upper_limit, total_technology_model_period_activity_lower_limit, total_technology_model_period_activity_upper_limit, year_split};
+use equation_parts::parameters::{
+    total_technology_annual_activity_lower_limit, total_technology_annual_activity_upper_limit,
+    total_technology_model_period_activity_lower_limit,
+    total_technology_model_period_activity_upper_limit, year_split,
+};
 use equation_parts::shapes::is_limited;
-use equation_parts::variables::{rate_of_total_activity, total_technology_annual_activity, total_technology_model_period_activity};
-use model_sets::param_numbers::{TOTAL_TECHNOLOGY_ANNUAL_ACTIVITY_LOWER_LIMIT, TOTAL_TECHNOLOGY_ANNUAL_ACTIVITY_UPPER_LIMIT, TOTAL_TECHNOLOGY_MODEL_PERIOD_ACTIVITY_LOWER_LIMIT, TOTAL_TECHNOLOGY_MODEL_PERIOD_ACTIVITY_UPPER_LIMIT};
+use equation_parts::variables::{
+    rate_of_total_activity, total_technology_annual_activity,
+    total_technology_model_period_activity,
+};
+use model_sets::param_numbers::{
+    TOTAL_TECHNOLOGY_ANNUAL_ACTIVITY_LOWER_LIMIT, TOTAL_TECHNOLOGY_ANNUAL_ACTIVITY_UPPER_LIMIT,
+    TOTAL_TECHNOLOGY_MODEL_PERIOD_ACTIVITY_LOWER_LIMIT,
+    TOTAL_TECHNOLOGY_MODEL_PERIOD_ACTIVITY_UPPER_LIMIT,
+};
 use model_sets::set_numbers::{TIMESLICE, YEAR};
 use param_tables::ModelData;
 use row_core::{Index, LeftSide, Row, RowName, Sense, Stopped, minus_one, negative, one, zero};

@@ -8,10 +8,14 @@ ghost use Rattle.named_equations.specs.Within.{IsRegion, IsTechnology, IsYear};
 ghost use Rattle.limit_rows.specs.Limits.{ncc1, ncc2};
 
 use equation_parts::limits::{is_limit, is_positive};
-use equation_parts::parameters::{total_annual_max_capacity_investment, total_annual_min_capacity_investment};
+use equation_parts::parameters::{
+    total_annual_max_capacity_investment, total_annual_min_capacity_investment,
+};
 use equation_parts::shapes::is_limited;
 use equation_parts::variables::new_capacity;
-use model_sets::param_numbers::{TOTAL_ANNUAL_MAX_CAPACITY_INVESTMENT, TOTAL_ANNUAL_MIN_CAPACITY_INVESTMENT};
+use model_sets::param_numbers::{
+    TOTAL_ANNUAL_MAX_CAPACITY_INVESTMENT, TOTAL_ANNUAL_MIN_CAPACITY_INVESTMENT,
+};
 use param_tables::ModelData;
 use row_core::{Index, Row, RowName, Sense, Stopped};
 use std::alloc::Global;

@@ -10,9 +10,15 @@ ghost use Rattle.named_equations.specs.Variables.{rate_of_production};
 ghost use Rattle.named_equations.specs.Within.{IsRegion, IsSlice, IsTechnology, IsFuel, IsYear};
 ghost use Rattle.limit_rows.specs.RenewableTarget.{re1, re2, re3, re4, re5, part_for_target, products_of, renewable_production, target_production};
 
-use equation_parts::parameters::{re_min_production_target, re_tag_fuel, re_tag_technology, year_split};
+use equation_parts::parameters::{
+    re_min_production_target, re_tag_fuel, re_tag_technology, year_split,
+};
 use equation_parts::shapes::is_covered;
-use equation_parts::variables::{production_by_technology, production_by_technology_annual, rate_of_production, re_total_production_of_target_fuel_annual, total_re_production_annual, use_by_technology, use_by_technology_annual};
+use equation_parts::variables::{
+    production_by_technology, production_by_technology_annual, rate_of_production,
+    re_total_production_of_target_fuel_annual, total_re_production_annual, use_by_technology,
+    use_by_technology_annual,
+};
 use exact_num::Frac;
 use model_sets::set_numbers::{FUEL, TIMESLICE};
 use param_tables::{ActivityRatio, ModelData};

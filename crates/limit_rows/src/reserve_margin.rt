@@ -11,9 +11,15 @@ ghost use Rattle.named_equations.specs.Variables.{rate_of_production, total_capa
 ghost use Rattle.named_equations.specs.Within.{IsRegion, IsTechnology, IsFuel, IsYear};
 ghost use Rattle.limit_rows.specs.ReserveMargin.{rm1, rm2, rm3, unit_in_margin};
 
-use equation_parts::parameters::{capacity_to_activity_unit, reserve_margin, reserve_margin_tag_fuel, reserve_margin_tag_technology};
+use equation_parts::parameters::{
+    capacity_to_activity_unit, reserve_margin, reserve_margin_tag_fuel,
+    reserve_margin_tag_technology,
+};
 use equation_parts::shapes::is_covered;
-use equation_parts::variables::{demand_needing_reserve_margin, rate_of_production, total_capacity_annual, total_capacity_in_reserve_margin};
+use equation_parts::variables::{
+    demand_needing_reserve_margin, rate_of_production, total_capacity_annual,
+    total_capacity_in_reserve_margin,
+};
 use exact_num::Frac;
 use model_sets::set_numbers::{FUEL, TECHNOLOGY};
 use param_tables::ModelData;

@@ -18,7 +18,10 @@ use crate::renewable_target::{re1, re2, re3, re4, re5};
 use crate::reserve_margin::{rm1, rm2, rm3};
 use equation_parts::ratios::{produces, uses};
 use param_tables::ModelData;
-use row_core::equation_numbers::{AAC1, AAC2, AAC3, NCC1, NCC2, RE1, RE2, RE3, RE4, RE5, RM1, RM2, RM3, TAC1, TAC2, TAC3, TCC1, TCC2};
+use row_core::equation_numbers::{
+    AAC1, AAC2, AAC3, NCC1, NCC2, RE1, RE2, RE3, RE4, RE5, RM1, RM2, RM3, TAC1, TAC2, TAC3, TCC1,
+    TCC2,
+};
 use row_core::{Index, Row, RowName, Stopped};
 use std::alloc::Global;
 
