@@ -9,6 +9,7 @@ use Rattle.exact_num.specs.Rational.{Rational, lowest, whole}
 use Rattle.exact_num.proofs.RationalLaws.{lowest_is, whole-IsLowest}
 use Rattle.exact_num.proofs.Integers.{nonzero_of_pos}
 use Rattle.exact_num.proofs.Ring.{*ℤ-one}
+use Rattle.model_sets.specs.declared.param_numbers.TheConstants.{DISCOUNT_RATE, DEPRECIATION_METHOD, OPERATIONAL_LIFE}
 use Rattle.param_tables.specs.Built.{IsValueIn}
 use Rattle.param_tables.specs.Ranges.{billion}
 use Rattle.param_tables.specs.RangeTable.{range_of}
@@ -38,12 +39,12 @@ whole-is greatest n z x e is to =
     }
 
 -- a life that data give
-pub life-given : (given : Option ℤ) (x : Rational) → x ≡ lowest (unwrap_or given (pos 0)) (pos billion) → IsSomeAnd given (IsValueIn (range_of 11)) → IsWholeUpTo 200 (unwrap_or given (pos 0)) x
+pub life-given : (given : Option ℤ) (x : Rational) → x ≡ lowest (unwrap_or given (pos 0)) (pos billion) → IsSomeAnd given (IsValueIn (range_of OPERATIONAL_LIFE)) → IsWholeUpTo 200 (unwrap_or given (pos 0)) x
 life-given None x e h = absurd h
 life-given (Some z) x e h = let (n, is, from, to) = h.within in whole-is 200 n z x e is to
 
 -- a method that data give
-pub method-given : (given : Option ℤ) (x : Rational) → x ≡ lowest (unwrap_or given (pos 0)) (pos billion) → IsSomeAnd given (IsValueIn (range_of 3)) → IsWholeUpTo 2 (unwrap_or given (pos 0)) x
+pub method-given : (given : Option ℤ) (x : Rational) → x ≡ lowest (unwrap_or given (pos 0)) (pos billion) → IsSomeAnd given (IsValueIn (range_of DEPRECIATION_METHOD)) → IsWholeUpTo 2 (unwrap_or given (pos 0)) x
 method-given None x e h = absurd h
 method-given (Some z) x e h = elim h.within [ inl one ↦ whole-is 2 1 z x e one (omega arith) | inr two ↦ whole-is 2 2 z x e two (omega arith) ]
 
@@ -55,7 +56,7 @@ above_0 (pos n) from = refl
 above_0 (negsuc n) from = absurd (omega (arith, ints, from))
 
 -- a rate that data give
-pub rate-given : (given : Option ℤ) (x : Rational) → x ≡ lowest (unwrap_or given (pos 0)) (pos billion) → InRange x.top → IsSomeAnd given (IsValueIn (range_of 2))
+pub rate-given : (given : Option ℤ) (x : Rational) → x ≡ lowest (unwrap_or given (pos 0)) (pos billion) → InRange x.top → IsSomeAnd given (IsValueIn (range_of DISCOUNT_RATE))
     → int_lt (pos 0) (to_z w128 (of_z w128 x.top)) ≡ nat_lt 0 (unsigned_abs (unwrap_or given (pos 0)))
 rate-given None x e fits h = absurd h
 rate-given (Some z) x e fits h = positive-coded z x e fits ∙ above_0 z h.within.0

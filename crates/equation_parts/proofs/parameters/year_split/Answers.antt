@@ -1,6 +1,7 @@
 -- The range of YearSplit begins above 0.
 use Rattle.std.proofs.Common.{ℤ, [], ◌∷◌, Option}
 use Rattle.model_sets.specs.Data.{value_at}
+use Rattle.model_sets.specs.declared.param_numbers.TheConstants.{YEAR_SPLIT}
 use Rattle.named_equations.specs.Parameters.{slice_name, year_name}
 use Rattle.equation_parts.proofs.Splits.{above_zero}
 use Rattle.equation_parts.proofs.parameters.year_split.Goals as goal
@@ -8,5 +9,5 @@ use Rattle.equation_parts.proofs.parameters.year_split.Goals as goal
 pub returns-clause-positive : goal.returns-clause-positive
 returns-clause-positive c =
     let d = c.args.model.now.facts in
-    let given : Option ℤ = value_at d 1 (slice_name d c.args.l ∷ year_name d c.args.y ∷ []) in
+    let given : Option ℤ = value_at d YEAR_SPLIT (slice_name d c.args.l ∷ year_name d c.args.y ∷ []) in
     above_zero given c.at.ensures.given

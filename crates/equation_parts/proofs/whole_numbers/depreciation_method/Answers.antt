@@ -4,6 +4,7 @@ use Rattle.std.specs.Prelude.{unsigned_abs}
 use Rattle.exact_num.specs.Value.{value_of}
 use Rattle.exact_num.proofs.RangeLaws.{back_in_range}
 use Rattle.model_sets.specs.Data.{value_at}
+use Rattle.model_sets.specs.declared.param_numbers.TheConstants.{DEPRECIATION_METHOD}
 use Rattle.named_equations.specs.Parameters.{region_name}
 use Rattle.equation_parts.proofs.WholeNumbers.{method-given}
 use Rattle.equation_parts.proofs.whole_numbers.depreciation_method.Goals as goal
@@ -11,7 +12,7 @@ use Rattle.equation_parts.proofs.whole_numbers.depreciation_method.Goals as goal
 pub overflow_cast-result : goal.overflow_cast-result
 overflow_cast-result c =
     let d = c.args.model.now.facts in
-    let given : Option ℤ = value_at d 3 (region_name d c.args.r ∷ []) in
+    let given : Option ℤ = value_at d DEPRECIATION_METHOD (region_name d c.args.r ∷ []) in
     let method = method-given given (value_of c.at.result) c.at.ensures.amount c.at.ensures.given in
     let short = method.short in
     rw (back_in_range c.at.result.num c.at.result.num_fits, method.top) (search rules)
@@ -19,6 +20,6 @@ overflow_cast-result c =
 pub returns : goal.returns
 returns c =
     let d = c.args.model.now.facts in
-    let given : Option ℤ = value_at d 3 (region_name d c.args.r ∷ []) in
+    let given : Option ℤ = value_at d DEPRECIATION_METHOD (region_name d c.args.r ∷ []) in
     let method = method-given given (value_of c.at.result) c.at.ensures.amount c.at.ensures.given in
     ap unsigned_abs (back_in_range c.at.result.num c.at.result.num_fits ∙ method.top) ∙ method.is

@@ -2,6 +2,7 @@
 use Rattle.std.proofs.Common.{[], ◌∷◌}
 use Rattle.exact_num.specs.Value.{value_of}
 use Rattle.model_sets.specs.Data.{value_at}
+use Rattle.model_sets.specs.declared.param_numbers.TheConstants.{DISCOUNT_RATE}
 use Rattle.named_equations.specs.Parameters.{region_name}
 use Rattle.equation_parts.proofs.WholeNumbers.{rate-given}
 use Rattle.equation_parts.proofs.whole_numbers.has_rate.Goals as goal
@@ -9,4 +10,4 @@ use Rattle.equation_parts.proofs.whole_numbers.has_rate.Goals as goal
 pub returns : goal.returns
 returns c =
     let d = c.args.model.now.facts in
-    rate-given (value_at d 2 (region_name d c.args.r ∷ [])) (value_of c.at.result) c.at.ensures.amount c.at.result.num_fits c.at.ensures.given
+    rate-given (value_at d DISCOUNT_RATE (region_name d c.args.r ∷ [])) (value_of c.at.result) c.at.ensures.amount c.at.result.num_fits c.at.ensures.given
