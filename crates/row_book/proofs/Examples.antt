@@ -136,7 +136,7 @@ at_the_limit = record { fit = refl; few = omega arith }
 past_the_limit : HasTooMany base 3999999 (at_zeros 2 ∷ []) (at_zeros 2)
 unfolding all_fit in_range gcd_of gcd_within
 past_the_limit = record {
-  stops = record { front = []; behind = []; split = refl; made = record { fit = refl; few = omega arith } };
+  stops = record { earlier = []; later = []; split = refl; made = record { fit = refl; few = omega arith } };
   fits = refl;
   many = omega arith;
 }

@@ -1,17 +1,26 @@
 pub mod AllTerms
+mod BookExamples
 pub mod CellLaws
+pub mod Columns
 pub mod CostTerms
 pub mod Definers
+pub mod DefinitionSigns
 pub mod Elements
+pub mod EnergySigns
 pub mod EnergyTerms
 pub mod EntryVariables
 mod Examples
+pub mod GatheredLaws
+pub mod GivenValues
 pub mod InstanceRows
 pub mod Instances
+pub mod KeptLaws
 pub mod KindLaws
+pub mod LimitSigns
 pub mod LimitTerms
 pub mod Lists
 pub mod Numbers
+pub mod ParameterSigns
 pub mod Periods
 pub mod Places
 pub mod Ranges
@@ -24,6 +33,8 @@ pub mod SameEnergyTerms
 pub mod SameLimitTerms
 pub mod SameRows
 pub mod SameTerms
+pub mod SignLaws
+pub mod SignShapes
 pub mod StopLaws
 pub mod Subscripts
 pub mod TermVariables

@@ -9,7 +9,7 @@ use Rattle.named_equations.proofs.InstanceTests.{Has}
 
 pub flat_map-same : {A B : Type 0} (f g : A → List B) → ((x : A) → f x ≡ g x) → (xs : List A) → flat_map f xs ≡ flat_map g xs
 flat_map-same f g same [] = refl
-flat_map-same f g same (x ∷ xs) = ap (λ front. front ++ flat_map f xs) (same x) ∙ ap (λ rest. g x ++ rest) (flat_map-same f g same xs)
+flat_map-same f g same (x ∷ xs) = ap (λ earlier. earlier ++ flat_map f xs) (same x) ∙ ap (λ rest. g x ++ rest) (flat_map-same f g same xs)
 
 pub map-flat_map : {A B C : Type 0} (g : B → C) (f : A → List B) (xs : List A) → map g (flat_map f xs) ≡ flat_map (λ x. map g (f x)) xs
 map-flat_map g f [] = refl
@@ -20,12 +20,12 @@ flat_map-flat_map g f [] = refl
 flat_map-flat_map g f (x ∷ xs) = flat_map-append g (f x) (flat_map f xs) ∙ ap (λ rest. flat_map g (f x) ++ rest) (flat_map-flat_map g f xs)
 
 -- one part in the middle
-pub flat_map-middle : {A B : Type 0} (f : A → List B) (front : List A) (x : A) (behind : List A) → flat_map f (front ++ x ∷ behind) ≡ flat_map f front ++ (f x ++ flat_map f behind)
-flat_map-middle f front x behind = flat_map-append f front (x ∷ behind)
+pub flat_map-middle : {A B : Type 0} (f : A → List B) (earlier : List A) (x : A) (later : List A) → flat_map f (earlier ++ x ∷ later) ≡ flat_map f earlier ++ (f x ++ flat_map f later)
+flat_map-middle f earlier x later = flat_map-append f earlier (x ∷ later)
 
 -- one part at the end
-pub flat_map-last : {A B : Type 0} (f : A → List B) (front : List A) (x : A) → flat_map f (front ++ x ∷ []) ≡ flat_map f front ++ f x
-flat_map-last f front x = flat_map-append f front (x ∷ []) ∙ ap (λ last. flat_map f front ++ last) (append-nil (f x))
+pub flat_map-last : {A B : Type 0} (f : A → List B) (earlier : List A) (x : A) → flat_map f (earlier ++ x ∷ []) ≡ flat_map f earlier ++ f x
+flat_map-last f earlier x = flat_map-append f earlier (x ∷ []) ∙ ap (λ last. flat_map f earlier ++ last) (append-nil (f x))
 
 -- ---- filters
 
@@ -61,11 +61,11 @@ AllByRecursion-flat_map P f of_each [] = tt
 AllByRecursion-flat_map P f of_each (x ∷ xs) = AllByRecursion-append P (f x) (flat_map f xs) (of_each x) (AllByRecursion-flat_map P f of_each xs)
 
 -- of one part of a list made part by part
-pub AllByRecursion-middle : {A B : Type 0} (P : B → Type 0) (f : A → List B) (front : List A) (x : A) (behind : List A)
-    → AllByRecursion P (flat_map f (front ++ x ∷ behind)) → AllByRecursion P (f x)
-AllByRecursion-middle P f [] x behind of_all = (AllByRecursion-parts P (f x) (flat_map f behind) of_all).0
-AllByRecursion-middle P f (y ∷ front) x behind of_all =
-    AllByRecursion-middle P f front x behind (AllByRecursion-parts P (f y) (flat_map f (front ++ x ∷ behind)) of_all).1
+pub AllByRecursion-middle : {A B : Type 0} (P : B → Type 0) (f : A → List B) (earlier : List A) (x : A) (later : List A)
+    → AllByRecursion P (flat_map f (earlier ++ x ∷ later)) → AllByRecursion P (f x)
+AllByRecursion-middle P f [] x later of_all = (AllByRecursion-parts P (f x) (flat_map f later) of_all).0
+AllByRecursion-middle P f (y ∷ earlier) x later of_all =
+    AllByRecursion-middle P f earlier x later (AllByRecursion-parts P (f y) (flat_map f (earlier ++ x ∷ later)) of_all).1
 
 -- the fact of the elements that pass a test
 pub AllByRecursion-filter : {A : Type 0} (P : A → Type 0) (test : A → Bool) (xs : List A) → AllByRecursion P xs → AllByRecursion (λ x. P x × (test x ≡ true)) (filter test xs)
@@ -94,7 +94,7 @@ AllByRecursion-map P g (x ∷ xs) of_xs = (of_xs.0, AllByRecursion-map P g xs of
 -- parts that are the same at each element of the list
 pub flat_map-alike : {A B : Type 0} (f g : A → List B) (xs : List A) → AllByRecursion (λ x. f x ≡ g x) xs → flat_map f xs ≡ flat_map g xs
 flat_map-alike f g [] alike = refl
-flat_map-alike f g (x ∷ xs) alike = ap (λ front. front ++ flat_map f xs) alike.0 ∙ ap (λ rest. g x ++ rest) (flat_map-alike f g xs alike.1)
+flat_map-alike f g (x ∷ xs) alike = ap (λ earlier. earlier ++ flat_map f xs) alike.0 ∙ ap (λ rest. g x ++ rest) (flat_map-alike f g xs alike.1)
 
 pub flat_map-map : {A B C : Type 0} (g : B → List C) (f : A → B) (xs : List A) → flat_map g (map f xs) ≡ flat_map (λ x. g (f x)) xs
 flat_map-map g f [] = refl
@@ -107,4 +107,4 @@ flat_map-kept test f none (x ∷ xs) = by_test (test x) refl (flat_map-kept test
   where
     by_test : (b : Bool) → test x ≡ b → flat_map f (filter test xs) ≡ flat_map f xs → flat_map f (cond b (x ∷ filter test xs) (filter test xs)) ≡ f x ++ flat_map f xs
     by_test true is rest = ap (λ more. f x ++ more) rest
-    by_test false is rest = rest ∙ ap (λ front. front ++ flat_map f xs) (sym (none x is))
+    by_test false is rest = rest ∙ ap (λ earlier. earlier ++ flat_map f xs) (sym (none x is))

@@ -109,7 +109,7 @@ both-within a b =
           ]
     ]
 
--- ---- one behind others
+-- ---- one after others
 
 -- what stands at a place of a list with one element more
 pub place-of_more : {A : Type 0} (xs : List A) (x y : A) (i : ℕ) → slice_get (xs ++ x ∷ []) i ≡ Some y → (slice_get xs i ≡ Some y) ⊎ ((i ≡ length xs) × (x ≡ y))

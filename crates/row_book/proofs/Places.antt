@@ -1,4 +1,4 @@
--- The elements of a list in front of a place, at it, and behind it.
+-- The elements of a list before a place, at it, and after it.
 use Rattle.std.proofs.Common.{◌≡◌, ℕ, zero, suc, ◌<◌, ◌≤◌, List, [], ◌∷◌, ◌++◌, length, get_or, take, drop, refl, ap, arith}
 use Rattle.std.specs.List.{AllByRecursion}
 
@@ -8,7 +8,7 @@ list-middle [] i d inside = absurd (omega (arith, inside))
 list-middle (x ∷ xs) zero d inside = refl
 list-middle (x ∷ xs) (suc i) d inside = ap (λ rest. x ∷ rest) (list-middle xs i d (omega (arith, inside)))
 
--- all in front of its end
+-- all before its end
 pub take-past : {A : Type 0} (xs : List A) (i : ℕ) → length xs ≤ i → take i xs ≡ xs
 take-past [] zero past = refl
 take-past [] (suc i) past = refl

@@ -146,12 +146,12 @@ region-within d eq r equation inside =
     (all-from (IsIndex d eq) (indices d (subscripts_of eq)) (indices-pass d (subscripts_of eq))))
 
 -- with each of the outer ones they are indices
-pub asked-within : (d : Data) (eq r : ℕ) (cells front : List Index) (outer : Index) (behind : List Index) → IsEquation eq → r < count_of d sets.region → AreAsked d eq r cells
-    → outers_of d eq r ≡ front ++ outer ∷ behind → AllByRecursion (λ cell. IsIndex d eq (joined outer cell)) cells
-asked-within d eq r cells front outer behind equation inside are split =
+pub asked-within : (d : Data) (eq r : ℕ) (cells earlier : List Index) (outer : Index) (later : List Index) → IsEquation eq → r < count_of d sets.region → AreAsked d eq r cells
+    → outers_of d eq r ≡ earlier ++ outer ∷ later → AllByRecursion (λ cell. IsIndex d eq (joined outer cell)) cells
+asked-within d eq r cells earlier outer later equation inside are split =
     let of_outer : AllByRecursion (λ cell. IsIndex d eq (joined outer cell)) (inners_of d eq r) =
     AllByRecursion-from_map (IsIndex d eq) (joined outer) (inners_of d eq r)
-    (AllByRecursion-middle (IsIndex d eq) (λ other. map (joined other) (inners_of d eq r)) front outer behind
+    (AllByRecursion-middle (IsIndex d eq) (λ other. map (joined other) (inners_of d eq r)) earlier outer later
     (subst (λ outers. AllByRecursion (IsIndex d eq) (flat_map (λ other. map (joined other) (inners_of d eq r)) outers)) split (region-within d eq r equation inside))) in
     subst (AllByRecursion (λ cell. IsIndex d eq (joined outer cell))) (sym are.are)
     (AllByRecursion-weaker (λ cell. IsIndex d eq (joined outer cell) × (are.asked cell ≡ true)) (λ cell. IsIndex d eq (joined outer cell)) (λ cell both. both.0) (filter are.asked (inners_of d eq r))

@@ -37,12 +37,12 @@ both_fit d ns ms a b = list_all-append (row_fits d) ns ms ∙ both_true a b
 -- ---- one list after another
 
 pub adds-nothing : (d : Data) (rows : MadeRows) → AddsRows d [] rows rows
-adds-nothing d rows = record { added = []; behind = sym (append-nil rows.rows.items); rows = tt; fit = refl; counted = omega arith }
+adds-nothing d rows = record { added = []; later = sym (append-nil rows.rows.items); rows = tt; fit = refl; counted = omega arith }
 
 pub adds-more : (d : Data) (ns ms : List RowName) (a b c : MadeRows) → AddsRows d ns a b → AddsRows d ms b c → AddsRows d (ns ++ ms) a c
 adds-more d ns ms a b c first second = record {
   added = first.added ++ second.added;
-  behind = second.behind ∙ ap (λ (front : List Row). front ++ second.added) first.behind ∙ append_assoc a.rows.items first.added second.added;
+  later = second.later ∙ ap (λ (earlier : List Row). earlier ++ second.added) first.later ∙ append_assoc a.rows.items first.added second.added;
   rows = both_lists d ns ms first.added second.added first.rows second.rows;
   fit = both_fit d ns ms first.fit second.fit;
   counted = omega (arith, first.counted, second.counted, sum_by-append (entry_count d) ns ms);
@@ -52,15 +52,15 @@ adds-more d ns ms a b c first second = record {
 pub adds-made : (d : Data) (ns : List RowName) (a b : MadeRows) → AddsRows d ns a b → CanBeMade d a.entries ns
 adds-made d ns a b adds = record { fit = adds.fit; few = omega (arith, adds.counted, b.few) }
 
--- behind rows that can be made
+-- after rows that can be made
 later-stop : (d : Data) (n m : ℕ) (ns ms : List RowName) (name : RowName) → CanBeMade d n ns → m ≡ n + entries_in d ns → StopsAt d m ms name → StopsAt d n (ns ++ ms) name
 later-stop d n m ns ms name made counted stops = record {
-  front = ns ++ stops.front;
-  behind = stops.behind;
-  split = ap (λ rest. ns ++ rest) stops.split ∙ sym (append_assoc ns stops.front (name ∷ stops.behind));
+  earlier = ns ++ stops.earlier;
+  later = stops.later;
+  split = ap (λ rest. ns ++ rest) stops.split ∙ sym (append_assoc ns stops.earlier (name ∷ stops.later));
   made = record {
-    fit = both_fit d ns stops.front made.fit stops.made.fit;
-    few = omega (arith, stops.made.few, counted, sum_by-append (entry_count d) ns stops.front);
+    fit = both_fit d ns stops.earlier made.fit stops.made.fit;
+    few = omega (arith, stops.made.few, counted, sum_by-append (entry_count d) ns stops.earlier);
   };
 }
 
@@ -73,7 +73,7 @@ stops-later d n m ns ms TooManyEntries made counted (name, many) = (
   record {
     stops = later-stop d n m ns ms name made counted many.stops;
     fits = many.fits;
-    many = omega (arith, many.many, counted, sum_by-append (entry_count d) ns many.stops.front);
+    many = omega (arith, many.many, counted, sum_by-append (entry_count d) ns many.stops.earlier);
   },
 )
 stops-later d n m ns ms Memory made counted stops = tt
@@ -81,9 +81,9 @@ stops-later d n m ns ms Memory made counted stops = tt
 -- before any others
 earlier-stop : (d : Data) (n : ℕ) (ns ms : List RowName) (name : RowName) → StopsAt d n ns name → StopsAt d n (ns ++ ms) name
 earlier-stop d n ns ms name stops = record {
-  front = stops.front;
-  behind = stops.behind ++ ms;
-  split = ap (λ front. front ++ ms) stops.split ∙ append_assoc stops.front (name ∷ stops.behind) ms;
+  earlier = stops.earlier;
+  later = stops.later ++ ms;
+  split = ap (λ earlier. earlier ++ ms) stops.split ∙ append_assoc stops.earlier (name ∷ stops.later) ms;
   made = stops.made;
 }
 
@@ -95,30 +95,30 @@ stops-earlier d n ns ms Memory stops = tt
 
 -- rows that were added to none
 pub alone : (d : Data) (names : List RowName) (old new : MadeRows) → old.rows.items ≡ [] → AddsRows d names old new → AreRowsOf d names new.rows.items
-alone d names old new none adds = subst (AreRowsOf d names) (sym (adds.behind ∙ ap (λ (front : List Row). front ++ adds.added) none)) adds.rows
+alone d names old new none adds = subst (AreRowsOf d names) (sym (adds.later ∙ ap (λ (earlier : List Row). earlier ++ adds.added) none)) adds.rows
 
 -- ---- turn by turn
 
 -- a turn adds its rows
-pub turn-adds : {A : Type 0} (d : Data) (f : A → List RowName) (front : List A) (x : A) (a b c : MadeRows) → AddsRows d (flat_map f front) a b → AddsRows d (f x) b c
-    → AddsRows d (flat_map f (front ++ x ∷ [])) a c
-turn-adds d f front x a b c so_far turn =
-    subst (λ names. AddsRows d names a c) (sym (flat_map-last f front x)) (adds-more d (flat_map f front) (f x) a b c so_far turn)
+pub turn-adds : {A : Type 0} (d : Data) (f : A → List RowName) (earlier : List A) (x : A) (a b c : MadeRows) → AddsRows d (flat_map f earlier) a b → AddsRows d (f x) b c
+    → AddsRows d (flat_map f (earlier ++ x ∷ [])) a c
+turn-adds d f earlier x a b c so_far turn =
+    subst (λ names. AddsRows d names a c) (sym (flat_map-last f earlier x)) (adds-more d (flat_map f earlier) (f x) a b c so_far turn)
 
 -- what stops a turn stops all
-pub turn-stops : {A : Type 0} (d : Data) (f : A → List RowName) (front : List A) (x : A) (behind : List A) (a b : MadeRows) (fail : BookFail)
-    → AddsRows d (flat_map f front) a b → HasStopped d b.entries (f x) fail → HasStopped d a.entries (flat_map f (front ++ x ∷ behind)) fail
-turn-stops d f front x behind a b fail so_far stops =
-    subst (λ names. HasStopped d a.entries names fail) (sym (flat_map-middle f front x behind))
-    (stops-later d a.entries b.entries (flat_map f front) (f x ++ flat_map f behind) fail (adds-made d (flat_map f front) a b so_far) so_far.counted
-    (stops-earlier d b.entries (f x) (flat_map f behind) fail stops))
+pub turn-stops : {A : Type 0} (d : Data) (f : A → List RowName) (earlier : List A) (x : A) (later : List A) (a b : MadeRows) (fail : BookFail)
+    → AddsRows d (flat_map f earlier) a b → HasStopped d b.entries (f x) fail → HasStopped d a.entries (flat_map f (earlier ++ x ∷ later)) fail
+turn-stops d f earlier x later a b fail so_far stops =
+    subst (λ names. HasStopped d a.entries names fail) (sym (flat_map-middle f earlier x later))
+    (stops-later d a.entries b.entries (flat_map f earlier) (f x ++ flat_map f later) fail (adds-made d (flat_map f earlier) a b so_far) so_far.counted
+    (stops-earlier d b.entries (f x) (flat_map f later) fail stops))
 
 -- ---- loops over a list
 
 pub loop-adds : {A : Type 0} (d : Data) (f : A → List RowName) (xs : List A) (i : ℕ) (z : A) (a b c : MadeRows) → i < length xs → AddsRows d (flat_map f (take i xs)) a b
     → AddsRows d (f (get_or xs i z)) b c → AddsRows d (flat_map f (take (i + 1) xs)) a c
 loop-adds d f xs i z a b c inside so_far turn =
-    subst (λ front. AddsRows d (flat_map f front) a c) (sym (take_more xs i z inside)) (turn-adds d f (take i xs) (get_or xs i z) a b c so_far turn)
+    subst (λ earlier. AddsRows d (flat_map f earlier) a c) (sym (take_more xs i z inside)) (turn-adds d f (take i xs) (get_or xs i z) a b c so_far turn)
 
 pub loop-stops : {A : Type 0} (d : Data) (f : A → List RowName) (xs : List A) (i : ℕ) (z : A) (a b : MadeRows) (fail : BookFail) → i < length xs
     → AddsRows d (flat_map f (take i xs)) a b → HasStopped d b.entries (f (get_or xs i z)) fail → HasStopped d a.entries (flat_map f xs) fail
@@ -134,7 +134,7 @@ loop-ends d f xs i a b past so_far = subst (λ all. AddsRows d (flat_map f all) 
 pub range-adds : (d : Data) (f : ℕ → List RowName) (from i : ℕ) (a b c : MadeRows) → from ≤ i → AddsRows d (flat_map f (range_with_len from (i - from))) a b → AddsRows d (f i) b c
     → AddsRows d (flat_map f (range_with_len from ((i + 1) - from))) a c
 range-adds d f from i a b c low so_far turn =
-    subst (λ front. AddsRows d (flat_map f front) a c) (sym (range-last from i low)) (turn-adds d f (range_with_len from (i - from)) i a b c so_far turn)
+    subst (λ earlier. AddsRows d (flat_map f earlier) a c) (sym (range-last from i low)) (turn-adds d f (range_with_len from (i - from)) i a b c so_far turn)
 
 pub range-stops : (d : Data) (f : ℕ → List RowName) (from n i : ℕ) (a b : MadeRows) (fail : BookFail) → from ≤ i → i < from + n
     → AddsRows d (flat_map f (range_with_len from (i - from))) a b → HasStopped d b.entries (f i) fail → HasStopped d a.entries (flat_map f (range_with_len from n)) fail
@@ -162,21 +162,21 @@ nothing-listed d name old none = subst (λ names. AddsRows d names old old) (sym
 entries-counted : (d : Data) (name : RowName) (row : Row) → IsNamedRow d name (terms_at d name) row → length row.entries.items ≡ entry_count d name
 entries-counted d name row is = ap length is.written.entries
 
--- a row behind others
+-- a row after others
 pub adds-one : (d : Data) (name : RowName) (row : Row) (n : ℕ) (old new : MadeRows) → stands_at d name.eq name.index ≡ true → IsNamedRow d name (terms_at d name) row → row_fits d name ≡ true
     → n ≡ length row.entries.items → new.rows.items ≡ old.rows.items ++ row ∷ [] → new.entries ≡ old.entries + n → AddsRows d (instance_at d name.eq name.index) old new
-adds-one d name row n old new stands is fits count behind counted =
+adds-one d name row n old new stands is fits count later counted =
     subst (λ names. AddsRows d names old new) (sym (instance-listed d name stands))
     (record {
       added = row ∷ [];
-      behind = behind;
+      later = later;
       rows = (is, tt);
       fit = ap (λ b. b && true) fits;
       counted = omega (arith, counted, count, entries-counted d name row is);
     })
 
 first-stop : (d : Data) (n : ℕ) (name : RowName) → n ≤ entry_limit → StopsAt d n (name ∷ []) name
-first-stop d n name few = record { front = []; behind = []; split = refl; made = record { fit = refl; few = omega (arith, few) } }
+first-stop d n name few = record { earlier = []; later = []; split = refl; made = record { fit = refl; few = omega (arith, few) } }
 
 -- a row with a number that doesn't fit
 wide_parts : (stands fits : Bool) → (not stands || fits) ≡ false → (stands ≡ true) × (fits ≡ false)

@@ -1,5 +1,5 @@
 -- Two data that are the same have the same rows: the same terms at each instance, so that the same rows can be made, or the same one can't.
-use Rattle.std.proofs.Common.{◌≡◌, ℕ, ◌+◌, ◌<◌, ◌≤◌, Bool, true, false, ◌&&◌, List, [], ◌∷◌, ◌++◌, ap, ap₂, sym, ◌∙◌, refl, subst, arith, inl, inr}
+use Rattle.std.proofs.Common.{◌≡◌, ℕ, ◌+◌, ◌<◌, ◌≤◌, true, ◌&&◌, List, [], ◌∷◌, ◌++◌, ap, ap₂, sym, ◌∙◌, refl, subst, arith, inl, inr}
 use Rattle.std.specs.Prelude.{ℤ, ◌↔◌, length}
 use Rattle.std.specs.List.{list_all}
 use Rattle.std.proofs.lemmas.Bool.{cases_lt}
@@ -82,14 +82,14 @@ module _ (d e : Data) where
   }
 
   stops_at : (before : ℕ) (names : List RowName) (name : RowName) → HaveSameTerms names → (stops : StopsAt d before names name)
-      → HaveSameTerms stops.front × (terms_at d name ≡ terms_at e name) × StopsAt e before names name
+      → HaveSameTerms stops.earlier × (terms_at d name ≡ terms_at e name) × StopsAt e before names name
   stops_at before names name terms stops =
       let among : List RowName → Type 0 = λ all. (other : RowName) → Has all other → Has names other in
-      let whole : among (stops.front ++ name ∷ stops.behind) = λ other has. subst (λ (all : List RowName). Has all other) (sym stops.split) has in
-      let fronts : HaveSameTerms stops.front = λ other has. terms other (whole other (Has-append_left stops.front (name ∷ stops.behind) other has)) in (
-        fronts,
-        terms name (whole name (Has-append_right stops.front (name ∷ stops.behind) name (inl refl))),
-        record { front = stops.front; behind = stops.behind; split = stops.split; made = can_be_made before stops.front fronts stops.made },
+      let whole : among (stops.earlier ++ name ∷ stops.later) = λ other has. subst (λ (all : List RowName). Has all other) (sym stops.split) has in
+      let of_earlier : HaveSameTerms stops.earlier = λ other has. terms other (whole other (Has-append_left stops.earlier (name ∷ stops.later) other has)) in (
+        of_earlier,
+        terms name (whole name (Has-append_right stops.earlier (name ∷ stops.later) name (inl refl))),
+        record { earlier = stops.earlier; later = stops.later; split = stops.split; made = can_be_made before stops.earlier of_earlier stops.made },
       )
 
   is_too_wide : (before : ℕ) (names : List RowName) (name : RowName) → HaveSameTerms names → IsTooWide d before names name → IsTooWide e before names name
@@ -104,7 +104,7 @@ module _ (d e : Data) where
       record {
         stops = stops.2;
         fits = sym (fits-same name stops.1) ∙ many.fits;
-        many = subst (λ n. entry_limit < n) (ap₂ (λ m n. (before + m) + n) (entries-same many.stops.front stops.0) (count-same name stops.1)) many.many;
+        many = subst (λ n. entry_limit < n) (ap₂ (λ m n. (before + m) + n) (entries-same many.stops.earlier stops.0) (count-same name stops.1)) many.many;
       }
 
   -- of these instances it is the same what they say

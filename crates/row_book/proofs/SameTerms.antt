@@ -1,6 +1,6 @@
 -- What it means that two data have the same terms. Sums of amounts, and terms of chosen positions, are the same where what they are made of is
 -- the same at each position of a set.
-use Rattle.std.proofs.Common.{◌≡◌, ℕ, zero, suc, ◌+◌, ◌<◌, Bool, true, false, List, [], ◌∷◌, pos, cond, map, filter, refl, ap, ap₂, ◌∙◌, arith}
+use Rattle.std.proofs.Common.{◌≡◌, ℕ, zero, suc, ◌+◌, ◌<◌, Bool, true, false, List, ◌∷◌, pos, cond, map, filter, refl, ap, ap₂, ◌∙◌, arith}
 use Rattle.std.specs.List.{range_with_len}
 use Rattle.model_sets.specs.Data.{Data, Default, Given}
 use Rattle.row_core.specs.declared.Index.{Index}

@@ -39,29 +39,30 @@ use Rattle.row_book.proofs.TermVariables.{IsTermOf}
 -- ---- rows by position and by name
 
 -- the row at this position is that of the name there
-record IsRowAt (d : Data) (names : List RowName) (i : ℕ) (row : Row) : Type 0 where
-  name : RowName
-  at : slice_get names i ≡ Some name
-  is : IsNamedRow d name (terms_at d name) row
+pub record IsRowAt (d : Data) (names : List RowName) (i : ℕ) (row : Row) : Type 0 where
+  pub name : RowName
+  pub at : slice_get names i ≡ Some name
+  pub is : IsNamedRow d name (terms_at d name) row
 
-row_at : (d : Data) (names : List RowName) (rows : List Row) (i : ℕ) (row : Row) → AreRowsOf d names rows → IsAt rows i row → IsRowAt d names i row
-row_at d [] [] i row are at = absurd (cc at)
-row_at d [] (r ∷ rows) i row are at = absurd are
-row_at d (n ∷ names) [] i row are at = absurd are
-row_at d (n ∷ names) (r ∷ rows) zero row are at =
+pub row-at : (d : Data) (names : List RowName) (rows : List Row) (i : ℕ) (row : Row) → AreRowsOf d names rows → IsAt rows i row → IsRowAt d names i row
+row-at d [] [] i row are at = absurd (cc at)
+row-at d [] (r ∷ rows) i row are at = absurd are
+row-at d (n ∷ names) [] i row are at = absurd are
+row-at d (n ∷ names) (r ∷ rows) zero row are at =
     let same : r ≡ row = cc in
     record { name = n; at = refl; is = subst (λ q. IsNamedRow d n (terms_at d n) q) same are.0 }
-row_at d (n ∷ names) (r ∷ rows) (suc i) row are at =
-    let rest = row_at d names rows i row are.1 at in
+row-at d (n ∷ names) (r ∷ rows) (suc i) row are at =
+    let rest = row-at d names rows i row are.1 at in
     record { name = rest.name; at = rest.at; is = rest.is }
 
-row_of : (d : Data) (names : List RowName) (rows : List Row) (name : RowName) → AreRowsOf d names rows → Has names name
+-- the row of a name, which stands among them
+pub row-of : (d : Data) (names : List RowName) (rows : List Row) (name : RowName) → AreRowsOf d names rows → Has names name
     → (row : Row) × (Has rows row × IsNamedRow d name (terms_at d name) row)
-row_of d [] rows name are has = absurd has
-row_of d (n ∷ names) [] name are has = absurd are
-row_of d (n ∷ names) (r ∷ rows) name are (inl e) = (r, (inl refl, subst (λ m. IsNamedRow d m (terms_at d m) r) e are.0))
-row_of d (n ∷ names) (r ∷ rows) name are (inr has) =
-    let rest = row_of d names rows name are.1 has in (rest.0, (inr rest.1.0, rest.1.1))
+row-of d [] rows name are has = absurd has
+row-of d (n ∷ names) [] name are has = absurd are
+row-of d (n ∷ names) (r ∷ rows) name are (inl e) = (r, (inl refl, subst (λ m. IsNamedRow d m (terms_at d m) r) e are.0))
+row-of d (n ∷ names) (r ∷ rows) name are (inr has) =
+    let rest = row-of d names rows name are.1 has in (rest.0, (inr rest.1.0, rest.1.1))
 
 -- ---- the variables of entries
 
@@ -149,19 +150,19 @@ triangular d rows are =
     λ i name at. all-at (IsInstance d) names i name (all-instances d) at in
     let once : (i j : ℕ) (row other : Row) (v : Var) → IsAt rows i row → IsAt rows j other → Defines row v → Defines other v → i ≡ j =
     λ i j row other v at bt defines defines_too.
-    let a = row_at d names rows i row are at in
-    let b = row_at d names rows j other are bt in
+    let a = row-at d names rows i row are at in
+    let b = row-at d names rows j other are bt in
     let same =
     same-definer d a.name b.name v (instance i a.name a.at) (instance j b.name b.at) (ap variable_of (sym a.is.written.named) ∙ defines) (ap variable_of (sym b.is.written.named) ∙ defines_too) in
     sorted-once names i j a.name (Sorted-instances d) a.at (b.at ∙ ap (λ n. Some n) (sym same)) in
     record {
       solvable = λ i row v at defines.
-          let a = row_at d names rows i row are at in
+          let a = row-at d names rows i row are at in
           let named : variable_of a.name ≡ Some v = ap variable_of (sym a.is.written.named) ∙ defines in
           (a.is.written.sense ∙ definer-equation d a.name v (instance i a.name a.at) named, a.is.defines v named);
       backward = λ i j row later v w less at bt defines defines_later entry.
-          let a = row_at d names rows i row are at in
-          let b = row_at d names rows j later are bt in
+          let a = row-at d names rows i row are at in
+          let b = row-at d names rows j later are bt in
           let named : variable_of a.name ≡ Some v = ap variable_of (sym a.is.written.named) ∙ defines in
           let named_later : variable_of b.name ≡ Some w = ap variable_of (sym b.is.written.named) ∙ defines_later in
           let of_b = instance j b.name b.at in
@@ -188,18 +189,18 @@ triangular d rows are =
           elim (is-found d v there) [
             | inl chosen ↦ inl chosen
             | inr defined ↦
-                let found = row_of d names rows defined.name are (Has-instance d defined.name defined.instance) in
+                let found = row-of d names rows defined.name are (Has-instance d defined.name defined.instance) in
                 inr (record { row = found.0; among = Contains-from_Has rows found.0 found.1.0; defines = ap variable_of found.1.1.written.named ∙ defined.defines })
           ];
       repeated = λ i row at equal none.
-          let a = row_at d names rows i row are at in
+          let a = row-at d names rows i row are at in
           let k = a.name.index in
           let of_a = instance i a.name a.at in
           let exchange = is-exchange d a.name of_a (ap variable_of (sym a.is.written.named) ∙ none) (sym a.is.written.sense ∙ equal) in
           let within : is_index d (subscripts_of 16) k ≡ true = subst (λ n. is_index d (subscripts_of n) k ≡ true) exchange.0 of_a.within in
           let less : k.other < k.region = not_le k.region k.other exchange.1 in
           let other = name_at 16 (swapped k) in
-          let found = row_of d names rows other are (Has-instance d other (exchange-instance d k within)) in
+          let found = row-of d names rows other are (Has-instance d other (exchange-instance d k within)) in
           let number : terms_at d a.name ≡ terms_at d (name_at 16 k) = ap (λ n. terms_at d (name_at n k)) exchange.0 in
           record {
             other = found.0;

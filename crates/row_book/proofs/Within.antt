@@ -129,13 +129,13 @@ variables-exist d rows vars are listed = all-from (λ v. exists d v ≡ true) va
 
 -- ---- the row that can't be made
 
-behind-front : (P : RowName → Type 0) (front behind : List RowName) (name : RowName) → AllByRecursion P (front ++ name ∷ behind) → P name
-behind-front P [] behind name all = all.0
-behind-front P (n ∷ front) behind name all = behind-front P front behind name all.1
+at-split : (P : RowName → Type 0) (earlier later : List RowName) (name : RowName) → AllByRecursion P (earlier ++ name ∷ later) → P name
+at-split P [] later name all = all.0
+at-split P (n ∷ earlier) later name all = at-split P earlier later name all.1
 
 pub stopped-within : (d : Data) (fail : BookFail) → HasStopped d 0 (instances d) fail → NamesRowWithin d.sets fail
 stopped-within d (Width place) (name, is, wide) =
     subst (λ (p : Place). NamesRowWithin d.sets (Width p)) (sym is)
-    (name-within d name (behind-front (IsInstance d) wide.stops.front wide.stops.behind name (subst (AllByRecursion (IsInstance d)) wide.stops.split (all-instances d))))
+    (name-within d name (at-split (IsInstance d) wide.stops.earlier wide.stops.later name (subst (AllByRecursion (IsInstance d)) wide.stops.split (all-instances d))))
 stopped-within d TooManyEntries stopped = tt
 stopped-within d Memory stopped = tt

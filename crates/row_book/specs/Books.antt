@@ -77,17 +77,17 @@ entries_in d names = sum_by (entry_count d) names
 abbrev pub entry_limit : ℕ
 entry_limit = 4000000
 
--- behind rows with so many entries, the rows of these instances can be made: every number that is formed fits, and the entries keep the limit
+-- after rows with so many entries, the rows of these instances can be made: every number that is formed fits, and the entries keep the limit
 pub record CanBeMade (d : Data) (before : ℕ) (names : List RowName) : Type 0 where
   pub fit : list_all (row_fits d) names ≡ true
   pub few : before + entries_in d names ≤ entry_limit
 
--- the first of these instances whose row can't be made is this one: those in front of it can
+-- the first of these instances whose row can't be made is this one: those before it can
 pub record StopsAt (d : Data) (before : ℕ) (names : List RowName) (name : RowName) : Type 0 where
-  pub front : List RowName
-  pub behind : List RowName
-  pub split : names ≡ front ++ name ∷ behind
-  pub made : CanBeMade d before front
+  pub earlier : List RowName
+  pub later : List RowName
+  pub split : names ≡ earlier ++ name ∷ later
+  pub made : CanBeMade d before earlier
 
 -- the first row that can't be made is one for which a number is formed that doesn't fit
 pub record IsTooWide (d : Data) (before : ℕ) (names : List RowName) (name : RowName) : Type 0 where
@@ -98,9 +98,9 @@ pub record IsTooWide (d : Data) (before : ℕ) (names : List RowName) (name : Ro
 pub record HasTooMany (d : Data) (before : ℕ) (names : List RowName) (name : RowName) : Type 0 where
   pub stops : StopsAt d before names name
   pub fits : row_fits d name ≡ true
-  pub many : entry_limit < (before + entries_in d stops.front) + entry_count d name
+  pub many : entry_limit < (before + entries_in d stops.earlier) + entry_count d name
 
--- why the rows of these instances aren't made, behind rows with so many entries; want of memory has no cause
+-- why the rows of these instances aren't made, after rows with so many entries; that memory runs out has no cause here
 abbrev pub HasStopped : Data → ℕ → List RowName → BookFail → Type 0
 HasStopped d before names (Width place) = (name : RowName) × (place ≡ Place.Row name) × IsTooWide d before names name
 HasStopped d before names TooManyEntries = (name : RowName) × HasTooMany d before names name

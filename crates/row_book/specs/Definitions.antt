@@ -3,6 +3,7 @@ use Rattle.std.specs.Prelude.{◌≡◌, ℕ, ◌<◌, ℤ, pos, ◌<ℤ◌, ◌
 use Rattle.row_core.specs.declared.Row.{Row}
 use Rattle.row_core.specs.declared.Sense.TheVariants.{Equal}
 use Rattle.row_core.specs.declared.Var.{Var}
+use Rattle.row_core.specs.declared.kind_numbers.TheConstants.{RATE_OF_ACTIVITY, NEW_CAPACITY, TRADE, TOTAL_DISCOUNTED_COST}
 use Rattle.row_core.specs.Numbers.{variables_of}
 use Rattle.row_core.specs.Rows.{number_at}
 use Rattle.named_equations.specs.Instances.{variable_of}
@@ -20,9 +21,9 @@ HasEntry row v = Contains (variables_of row.entries.items) v
 abbrev pub IsAt : List Row → ℕ → Row → Type 0
 IsAt rows i row = slice_get rows i ≡ Some row
 
--- a variable that a plan chooses freely: RateOfActivity, NewCapacity, or the Trade of two regions in their order
+-- a variable that a plan chooses: RateOfActivity, NewCapacity, or the Trade of two regions in their order
 abbrev pub IsChosen : Var → Type 0
-IsChosen v = (v.kind ≡ 1) ⊎ ((v.kind ≡ 2) ⊎ ((v.kind ≡ 3) × (v.index.region < v.index.other)))
+IsChosen v = (v.kind ≡ RATE_OF_ACTIVITY) ⊎ ((v.kind ≡ NEW_CAPACITY) ⊎ ((v.kind ≡ TRADE) × (v.index.region < v.index.other)))
 
 -- some row defines the variable
 pub record IsDefinedIn (rows : List Row) (v : Var) : Type 0 where
@@ -49,6 +50,6 @@ pub record AreTriangular (rows : List Row) : Type 0 where
   pub whole : (v : Var) → Contains (entry_variables rows) v → IsChosen v ⊎ IsDefinedIn rows v
   pub repeated : (i : ℕ) (row : Row) → IsAt rows i row → row.sense ≡ Equal → variable_of row.name ≡ None → IsRepeatedIn rows row
 
--- the coefficient of a variable in the cost, which is the sum of the variables TotalDiscountedCost, the kind of number 37
+-- the coefficient of a variable in the cost, which is the sum of the variables TotalDiscountedCost
 abbrev pub cost_of : Var → ℤ
-cost_of v = if v.kind == 37 then pos 1 else pos 0
+cost_of v = if v.kind == TOTAL_DISCOUNTED_COST then pos 1 else pos 0

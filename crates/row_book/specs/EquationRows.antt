@@ -2,6 +2,7 @@
 use Rattle.std.specs.Prelude.{ℕ, Bool, ◌&&◌, ◌||◌, nat_le, if◌then◌else◌}
 use Rattle.model_sets.specs.Data.{Data}
 use Rattle.row_core.specs.declared.RowName.{RowName}
+use Rattle.row_core.specs.declared.equation_numbers.TheConstants.{CAA1, CAB1, CC1, OC4, E1, E5, TDC1, ACC4, TCC1, RE5, E6, E9}
 use Rattle.row_core.specs.EquationTerms.{EquationTerms}
 use Rattle.balance_rows.specs.Rows as balance
 use Rattle.capacity_rows.specs.Rows as capacity
@@ -16,8 +17,8 @@ is_from first last eq = nat_le first eq && nat_le eq last
 -- the equation of this name, as terms: one of capacity adequacy, of cost, of emissions, of limits, or of the energy balance
 abbrev pub terms_at : Data → RowName → EquationTerms
 terms_at d name =
-    if is_from 2 6 name.eq then capacity.terms_at d name
-    else if is_from 25 34 name.eq || is_from 40 42 name.eq then cost.terms_at d name
-    else if is_from 35 39 name.eq || is_from 61 64 name.eq then emission.terms_at d name
-    else if is_from 43 60 name.eq then limit.terms_at d name
+    if is_from CAA1 CAB1 name.eq then capacity.terms_at d name
+    else if is_from CC1 OC4 name.eq || is_from TDC1 ACC4 name.eq then cost.terms_at d name
+    else if is_from E1 E5 name.eq || is_from E6 E9 name.eq then emission.terms_at d name
+    else if is_from TCC1 RE5 name.eq then limit.terms_at d name
     else balance.terms_at d name

@@ -2,17 +2,85 @@
 use Rattle.std.specs.Prelude.{ℕ, List, [], ◌∷◌, ◌==◌, Option, None, Some, if◌then◌else◌}
 use Rattle.row_core.specs.declared.Index.{Index}
 use Rattle.row_core.specs.declared.Var.{Var}
+use Rattle.row_core.specs.declared.kind_numbers.TheConstants as kinds
 use Rattle.row_core.specs.Subscripts as place
 use Rattle.named_equations.specs.Instances.{is_one_of, subscripts_of}
 use Rattle.named_equations.specs.Table.{other_trade}
 use Rattle.named_equations.specs.Variables.{variable}
 
--- the kind of the variables that each equation defines, by the equation's number; 0 where it defines none
+-- stands for the kind of an equation that defines nothing
+abbrev pub nothing : ℕ
+nothing = 0
+
+-- the kind of the variables that each equation defines, by the equation's number; there is none of number 0
 abbrev pub defined_kinds : List ℕ
 defined_kinds =
-    0 ∷ 4 ∷ 5 ∷ 6 ∷ 7 ∷ 0 ∷ 0 ∷ 8 ∷ 9 ∷ 10 ∷ 11 ∷ 12 ∷ 13 ∷ 14 ∷ 15 ∷ 16 ∷ 3 ∷ 0 ∷ 17 ∷ 18 ∷ 19 ∷ 0 ∷ 20 ∷ 21 ∷ 22 ∷ 23 ∷ 24
-    ∷ 25 ∷ 25 ∷ 25 ∷ 26 ∷ 27 ∷ 28 ∷ 29 ∷ 30 ∷ 31 ∷ 32 ∷ 33 ∷ 34 ∷ 35 ∷ 36 ∷ 37 ∷ 38 ∷ 0 ∷ 0 ∷ 0 ∷ 0 ∷ 39 ∷ 0 ∷ 0 ∷ 40 ∷ 0 ∷ 0
-    ∷ 41 ∷ 42 ∷ 0 ∷ 43 ∷ 44 ∷ 45 ∷ 0 ∷ 46 ∷ 47 ∷ 48 ∷ 0 ∷ 0 ∷ []
+    nothing
+    ∷ kinds.RATE_OF_DEMAND
+    ∷ kinds.ACCUMULATED_NEW_CAPACITY
+    ∷ kinds.TOTAL_CAPACITY_ANNUAL
+    ∷ kinds.RATE_OF_TOTAL_ACTIVITY
+    ∷ nothing
+    ∷ nothing
+    ∷ kinds.RATE_OF_PRODUCTION_BY_TECHNOLOGY_BY_MODE
+    ∷ kinds.RATE_OF_PRODUCTION_BY_TECHNOLOGY
+    ∷ kinds.RATE_OF_PRODUCTION
+    ∷ kinds.RATE_OF_USE_BY_TECHNOLOGY_BY_MODE
+    ∷ kinds.RATE_OF_USE_BY_TECHNOLOGY
+    ∷ kinds.RATE_OF_USE
+    ∷ kinds.PRODUCTION
+    ∷ kinds.USE
+    ∷ kinds.DEMAND
+    ∷ kinds.TRADE
+    ∷ nothing
+    ∷ kinds.PRODUCTION_ANNUAL
+    ∷ kinds.USE_ANNUAL
+    ∷ kinds.TRADE_ANNUAL
+    ∷ nothing
+    ∷ kinds.PRODUCTION_BY_TECHNOLOGY
+    ∷ kinds.USE_BY_TECHNOLOGY
+    ∷ kinds.TOTAL_ANNUAL_TECHNOLOGY_ACTIVITY_BY_MODE
+    ∷ kinds.CAPITAL_INVESTMENT
+    ∷ kinds.DISCOUNTED_CAPITAL_INVESTMENT
+    ∷ kinds.SALVAGE_VALUE
+    ∷ kinds.SALVAGE_VALUE
+    ∷ kinds.SALVAGE_VALUE
+    ∷ kinds.DISCOUNTED_SALVAGE_VALUE
+    ∷ kinds.ANNUAL_VARIABLE_OPERATING_COST
+    ∷ kinds.ANNUAL_FIXED_OPERATING_COST
+    ∷ kinds.OPERATING_COST
+    ∷ kinds.DISCOUNTED_OPERATING_COST
+    ∷ kinds.ANNUAL_TECHNOLOGY_EMISSION_BY_MODE
+    ∷ kinds.ANNUAL_TECHNOLOGY_EMISSION
+    ∷ kinds.ANNUAL_TECHNOLOGY_EMISSION_PENALTY_BY_EMISSION
+    ∷ kinds.ANNUAL_TECHNOLOGY_EMISSIONS_PENALTY
+    ∷ kinds.DISCOUNTED_TECHNOLOGY_EMISSIONS_PENALTY
+    ∷ kinds.TOTAL_DISCOUNTED_COST_BY_TECHNOLOGY
+    ∷ kinds.TOTAL_DISCOUNTED_COST
+    ∷ kinds.MODEL_PERIOD_COST_BY_REGION
+    ∷ nothing
+    ∷ nothing
+    ∷ nothing
+    ∷ nothing
+    ∷ kinds.TOTAL_TECHNOLOGY_ANNUAL_ACTIVITY
+    ∷ nothing
+    ∷ nothing
+    ∷ kinds.TOTAL_TECHNOLOGY_MODEL_PERIOD_ACTIVITY
+    ∷ nothing
+    ∷ nothing
+    ∷ kinds.TOTAL_CAPACITY_IN_RESERVE_MARGIN
+    ∷ kinds.DEMAND_NEEDING_RESERVE_MARGIN
+    ∷ nothing
+    ∷ kinds.PRODUCTION_BY_TECHNOLOGY_ANNUAL
+    ∷ kinds.TOTAL_RE_PRODUCTION_ANNUAL
+    ∷ kinds.RE_TOTAL_PRODUCTION_OF_TARGET_FUEL_ANNUAL
+    ∷ nothing
+    ∷ kinds.USE_BY_TECHNOLOGY_ANNUAL
+    ∷ kinds.ANNUAL_EMISSIONS
+    ∷ kinds.MODEL_PERIOD_EMISSIONS
+    ∷ nothing
+    ∷ nothing
+    ∷ []
 
 -- the subscript if the list has its place, and else 0
 abbrev pub kept : List ℕ → ℕ → ℕ → ℕ
@@ -34,4 +102,4 @@ tidied s i = record {
 -- the variable of this kind that the equation of this number defines at the index
 abbrev pub variable_by_kind : ℕ → ℕ → Index → Option Var
 variable_by_kind kind eq i =
-    if kind == 0 then None else if kind == 3 then other_trade i else Some (variable kind (tidied (subscripts_of eq) i))
+    if kind == nothing then None else if kind == kinds.TRADE then other_trade i else Some (variable kind (tidied (subscripts_of eq) i))

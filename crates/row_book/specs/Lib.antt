@@ -1,7 +1,9 @@
 pub mod Books
 pub mod Definitions
 pub mod EquationRows
+pub mod Kept
 pub mod Kinds
 pub mod Ratios
 pub mod RowsAdded
+pub mod Signs
 pub mod Walks

@@ -1,14 +1,17 @@
 //! The book of rows.
 
-ghost use Rattle.std.specs.Prelude.{◌≡◌, ◌<◌, true, length, IfErr, IfOk, OnOk};
+ghost use Rattle.std.specs.Prelude.{◌≡◌, ◌<◌, true, length, Contains, IfErr, IfOk, IfSome, OnOk};
 ghost use Rattle.std.specs.List.{AllByRecursion};
 ghost use Rattle.row_core.specs.Numbers.{ascends};
 ghost use Rattle.row_core.specs.Order.{row_name_cmp};
 ghost use Rattle.named_equations.specs.Existence.{exists};
 ghost use Rattle.named_equations.specs.Instances.{instances, variable_of};
 ghost use Rattle.row_core.specs.declared.Row.{Row};
+ghost use Rattle.row_core.specs.declared.Var.{Var};
 ghost use Rattle.row_book.specs.Books.{AreRowsOf, AreVariablesOf, CanBeMade, HasNameWithin, HasStopped, IsWithinSets, NamesRowWithin, names_of};
 ghost use Rattle.row_book.specs.Definitions.{AreTriangular, IsAt, cost_of};
+ghost use Rattle.row_book.specs.Kept.{IsBook, IsDefinedAt};
+ghost use Rattle.row_book.specs.Signs.{HaveSigns};
 
 use crate::defined::defined_variable;
 use crate::factors::region_factors;
@@ -16,12 +19,10 @@ use crate::fail::BookFail;
 use crate::rows::all_rows;
 use crate::variables::variables_of_rows;
 use param_tables::ModelData;
+use row_core::kind_numbers::TOTAL_DISCOUNTED_COST;
 use row_core::{Row, Var};
 use std::alloc::Global;
 use std::marker::Model;
-
-/// The kind of TotalDiscountedCost.
-const TOTAL_DISCOUNTED_COST: u8 = 37;
 
 /// All rows of a model, in order, and their variables.
 #[derive(Drop)]
@@ -32,10 +33,13 @@ pub struct RowBook {
 
 impl Model for RowBook {
     ghost use Rattle.row_book.specs.Books.{Book};
+    ghost use Rattle.row_book.specs.Kept.{IsBook};
 
     ghost Value = { Book };
 
     ghost view = { λ book. record { rows = book.rows.items; vars = book.vars.items } };
+
+    ghost invariant = { λ book. IsBook book.rows.items book.vars.items };
 }
 
 impl RowBook {
@@ -50,11 +54,14 @@ impl RowBook {
         ensures ascending { IfOk result (λ book. ascends row_name_cmp (names_of book.rows) ≡ true) }
         ensures variables { IfOk result (λ book. AreVariablesOf book.rows book.vars) }
         ensures definitions { IfOk result (λ book. AreTriangular book.rows) }
+        ensures signs { IfOk result (λ book. HaveSigns book.rows) }
 
-        // Each name is of its list, with the positions of members as its subscripts, and each variable exists.
+        // Each name is of its list, with the positions of members as its subscripts. The variables are those that
+        // exist.
         ensures named { IfOk result (λ book. AllByRecursion (HasNameWithin model.now.facts.sets) book.rows) }
         ensures within { IfOk result (λ book. AllByRecursion (IsWithinSets model.now.facts.sets) book.vars) }
         ensures exist { IfOk result (λ book. AllByRecursion (λ v. exists model.now.facts v ≡ true) book.vars) }
+        ensures whole { IfOk result (λ book. (v : Var) → exists model.now.facts v ≡ true → Contains book.vars v) }
 
         // When there is a book, and why there is none.
         ensures made { OnOk result (CanBeMade model.now.facts 0 (instances model.now.facts)) }
@@ -70,26 +77,28 @@ impl RowBook {
         Ok(RowBook { rows, vars })
     }
 
-    /// The rows. Those of a book that `new` made ascend strictly by name.
+    /// The rows, which ascend strictly by name.
     pub fn rows(&self) -> &[Row]
-        ensures { result.now ≡ self.now.rows }
+        ensures rows { result.now ≡ self.now.rows }
+        ensures book { IsBook self.now.rows self.now.vars }
     {
         &self.rows
     }
 
-    /// The variables. Those of a book that `new` made are the ones at which the rows have entries, and ascend
-    /// strictly.
+    /// The variables at which the rows have entries, in strictly ascending order.
     pub fn vars(&self) -> &[Var]
-        ensures { result.now ≡ self.now.vars }
+        ensures variables { result.now ≡ self.now.vars }
+        ensures book { IsBook self.now.rows self.now.vars }
     {
         &self.vars
     }
 
-    /// The variable that the equation of row `i` defines, if any. In a book that `new` made the row has a
-    /// positive entry there, and no other row defines that variable.
+    /// The variable that the equation of row `i` defines, if any. The row is an equation with a positive entry
+    /// there, and no other row defines that variable.
     pub fn defined_by(&self, i: usize) -> Option<Var>
         requires { i < length self.now.rows }
-        ensures { (row : Row) → IsAt self.now.rows i row → result ≡ variable_of row.name }
+        ensures defines { (row : Row) → IsAt self.now.rows i row → result ≡ variable_of row.name }
+        ensures definition { IfSome result (IsDefinedAt self.now.rows i) }
     {
         defined_variable(self.rows[i].name)
     }

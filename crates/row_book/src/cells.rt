@@ -11,6 +11,7 @@ use crate::ratios::{cells_of_ratio, cells_of_some_mode};
 use crate::walk::{INNER, OUTER, in_region, walked};
 use param_tables::{ActivityRatio, ModelData};
 use row_core::Index;
+use row_core::equation_numbers::{ACC1, ACC2, E1, EBA1, EBA2, EBA4, EBA5, RE1, RE5};
 use std::alloc::{AllocError, Global};
 
 /// The other regions and timeslices of the equation in a region, in order.
@@ -39,11 +40,11 @@ pub(crate) fn cells_of(
     ensures { IfOk result (λ cells. AreAsked model.now.facts eq region cells.items) }
 {
     match eq {
-        7 => cells_of_ratio(alloc, model, ActivityRatio::Output, region),
-        10 => cells_of_ratio(alloc, model, ActivityRatio::Input, region),
-        35 => cells_of_ratio(alloc, model, ActivityRatio::Emission, region),
-        8 | 22 | 56 => cells_of_some_mode(alloc, model, ActivityRatio::Output, region),
-        11 | 23 | 60 => cells_of_some_mode(alloc, model, ActivityRatio::Input, region),
+        EBA1 => cells_of_ratio(alloc, model, ActivityRatio::Output, region),
+        EBA4 => cells_of_ratio(alloc, model, ActivityRatio::Input, region),
+        E1 => cells_of_ratio(alloc, model, ActivityRatio::Emission, region),
+        EBA2 | ACC1 | RE1 => cells_of_some_mode(alloc, model, ActivityRatio::Output, region),
+        EBA5 | ACC2 | RE5 => cells_of_some_mode(alloc, model, ActivityRatio::Input, region),
         _ => walked(alloc, model, eq, &INNER, in_region(region)),
     }
 }

@@ -6,22 +6,82 @@ ghost use Rattle.named_equations.specs.Instances.{subscripts_of, variable_of};
 ghost use Rattle.named_equations.specs.Table.{other_trade};
 ghost use Rattle.row_book.specs.Kinds.{defined_kinds, kept, tidied};
 
-use row_core::{Index, RowName, Var, row_has};
+use row_core::equation_numbers::{E9, EQ_SPECIFIED_DEMAND};
+use row_core::{Index, RowName, Var, kind_numbers as kinds, row_has};
 
-/// The kind of Trade.
-const TRADE: u8 = 3;
+/// Stands for the kind of an equation that defines nothing.
+const NONE: u8 = 0;
 
-/// How many equations there are.
-const EQUATION_COUNT: u8 = 64;
-
-/// The kind of the variables that each equation defines, by the equation's number; 0 where it defines none.
+/// The kind of the variables that each equation defines, by the equation's number. There is none of number 0.
 static DEFINED_KINDS: [u8; 65] = [
-    0, 4, 5, 6, 7, 0, 0, 8, 9, 10, 11, 12, 13, 14, 15, 16, 3, 0, 17, 18, 19, 0, 20, 21, 22, 23, 24,
-    25, 25, 25, 26, 27, 28, 29, 30, 31, 32, 33, 34, 35, 36, 37, 38, 0, 0, 0, 0, 39, 0, 0, 40, 0, 0,
-    41, 42, 0, 43, 44, 45, 0, 46, 47, 48, 0, 0,
+    NONE,
+    kinds::RATE_OF_DEMAND,
+    kinds::ACCUMULATED_NEW_CAPACITY,
+    kinds::TOTAL_CAPACITY_ANNUAL,
+    kinds::RATE_OF_TOTAL_ACTIVITY,
+    NONE,
+    NONE,
+    kinds::RATE_OF_PRODUCTION_BY_TECHNOLOGY_BY_MODE,
+    kinds::RATE_OF_PRODUCTION_BY_TECHNOLOGY,
+    kinds::RATE_OF_PRODUCTION,
+    kinds::RATE_OF_USE_BY_TECHNOLOGY_BY_MODE,
+    kinds::RATE_OF_USE_BY_TECHNOLOGY,
+    kinds::RATE_OF_USE,
+    kinds::PRODUCTION,
+    kinds::USE,
+    kinds::DEMAND,
+    kinds::TRADE,
+    NONE,
+    kinds::PRODUCTION_ANNUAL,
+    kinds::USE_ANNUAL,
+    kinds::TRADE_ANNUAL,
+    NONE,
+    kinds::PRODUCTION_BY_TECHNOLOGY,
+    kinds::USE_BY_TECHNOLOGY,
+    kinds::TOTAL_ANNUAL_TECHNOLOGY_ACTIVITY_BY_MODE,
+    kinds::CAPITAL_INVESTMENT,
+    kinds::DISCOUNTED_CAPITAL_INVESTMENT,
+    kinds::SALVAGE_VALUE,
+    kinds::SALVAGE_VALUE,
+    kinds::SALVAGE_VALUE,
+    kinds::DISCOUNTED_SALVAGE_VALUE,
+    kinds::ANNUAL_VARIABLE_OPERATING_COST,
+    kinds::ANNUAL_FIXED_OPERATING_COST,
+    kinds::OPERATING_COST,
+    kinds::DISCOUNTED_OPERATING_COST,
+    kinds::ANNUAL_TECHNOLOGY_EMISSION_BY_MODE,
+    kinds::ANNUAL_TECHNOLOGY_EMISSION,
+    kinds::ANNUAL_TECHNOLOGY_EMISSION_PENALTY_BY_EMISSION,
+    kinds::ANNUAL_TECHNOLOGY_EMISSIONS_PENALTY,
+    kinds::DISCOUNTED_TECHNOLOGY_EMISSIONS_PENALTY,
+    kinds::TOTAL_DISCOUNTED_COST_BY_TECHNOLOGY,
+    kinds::TOTAL_DISCOUNTED_COST,
+    kinds::MODEL_PERIOD_COST_BY_REGION,
+    NONE,
+    NONE,
+    NONE,
+    NONE,
+    kinds::TOTAL_TECHNOLOGY_ANNUAL_ACTIVITY,
+    NONE,
+    NONE,
+    kinds::TOTAL_TECHNOLOGY_MODEL_PERIOD_ACTIVITY,
+    NONE,
+    NONE,
+    kinds::TOTAL_CAPACITY_IN_RESERVE_MARGIN,
+    kinds::DEMAND_NEEDING_RESERVE_MARGIN,
+    NONE,
+    kinds::PRODUCTION_BY_TECHNOLOGY_ANNUAL,
+    kinds::TOTAL_RE_PRODUCTION_ANNUAL,
+    kinds::RE_TOTAL_PRODUCTION_OF_TARGET_FUEL_ANNUAL,
+    NONE,
+    kinds::USE_BY_TECHNOLOGY_ANNUAL,
+    kinds::ANNUAL_EMISSIONS,
+    kinds::MODEL_PERIOD_EMISSIONS,
+    NONE,
+    NONE,
 ];
 
-/// The kind of the variables that the equation defines, or 0.
+/// The kind of the variables that the equation defines, or `NONE`.
 fn defined_kind(eq: u8) -> u8
     requires { IsEquation eq }
     ensures { result ≡ slice_index_or defined_kinds eq 0 }
@@ -63,7 +123,7 @@ fn other_trade(index: Index) -> Option<Var>
         return None;
     }
     Some(Var {
-        kind: TRADE,
+        kind: kinds::TRADE,
         index: Index {
             region: index.other,
             other: index.region,
@@ -81,12 +141,12 @@ fn other_trade(index: Index) -> Option<Var>
 pub(crate) fn defined_variable(name: RowName) -> Option<Var>
     ensures { result ≡ variable_of name }
 {
-    if name.eq < 1 || name.eq > EQUATION_COUNT {
+    if name.eq < EQ_SPECIFIED_DEMAND || name.eq > E9 {
         return None;
     }
     match defined_kind(name.eq) {
-        0 => None,
-        TRADE => other_trade(name.index),
+        NONE => None,
+        kinds::TRADE => other_trade(name.index),
         kind => Some(Var {
             kind,
             index: tidied(name.eq, name.index),

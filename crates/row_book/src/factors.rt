@@ -5,27 +5,23 @@ ghost use Rattle.named_equations.specs.Positions.{years_in_all};
 ghost use Rattle.named_equations.specs.RegionFactors.{AreFactorsOf, AreRegionFactors};
 ghost use Rattle.named_equations.specs.Within.{IsRegion, IsTechnology};
 ghost use Rattle.named_equations.specs.WrittenFactors.{life_of, rate_of};
+ghost use Rattle.param_tables.specs.Built.{AreComplete};
 
 use discount_factors::Factors;
+use equation_parts::whole_numbers::operational_life;
+use model_sets::param_numbers::DISCOUNT_RATE;
+use model_sets::set_numbers::{REGION, TECHNOLOGY, YEAR};
 use param_tables::ModelData;
 use std::alloc::{AllocError, Global};
-
-/// The number of the set REGION.
-const REGION: u8 = 1;
-
-/// The number of the set TECHNOLOGY.
-const TECHNOLOGY: u8 = 2;
-
-/// The number of the set YEAR.
-const YEAR: u8 = 7;
 
 /// One, in billionths.
 const BILLION: i128 = 1_000_000_000;
 
 /// The factors of each region, in order: they are those of its DiscountRate, for the years of the model period
-/// and for the lives of its technologies. Refuses for want of memory alone.
+/// and for the lives of its technologies. Fails only where memory runs out.
 pub(crate) fn region_factors(alloc: Global, model: &ModelData) -> Result<Vec<Factors>, AllocError>
-    ensures { IfOk result (λ factors. AreRegionFactors model.now.facts factors.items) }
+    ensures factors { IfOk result (λ factors. AreRegionFactors model.now.facts factors.items) }
+    ensures complete { AreComplete model.now.facts }
 {
     let mut factors = Vec::new(alloc);
     for region in 0..model.sets().count(REGION) {
@@ -53,7 +49,7 @@ fn rate_of(model: &ModelData, region: u16) -> i128
     ensures most { result ≤ℤ pos 1000000000 }
     ensures rate { unsigned_abs result ≡ rate_of model.now.facts region }
 {
-    let rate = model.at(2, &[region]);
+    let rate = model.at(DISCOUNT_RATE, &[region]);
     rate.num * (BILLION / rate.den)
 }
 
@@ -69,15 +65,6 @@ fn years_in_all(model: &ModelData) -> u16
     sets.last_year() - sets.first_year() + 1
 }
 
-/// OperationalLife of a technology in a region, in years.
-fn life_of(model: &ModelData, region: u16, technology: u16) -> u16
-    requires region { IsRegion model.now.facts region }
-    requires technology { IsTechnology model.now.facts technology }
-    ensures { result ≡ life_of model.now.facts region technology }
-{
-    model.at(11, &[region, technology]).num as u16
-}
-
 /// The longest life of a technology in a region, in years.
 fn longest_life(model: &ModelData, region: u16) -> u16
     requires { IsRegion model.now.facts region }
@@ -85,7 +72,7 @@ fn longest_life(model: &ModelData, region: u16) -> u16
 {
     let mut longest = 0;
     for technology in 0..model.sets().count(TECHNOLOGY) {
-        longest = longest.max(life_of(model, region, technology));
+        longest = longest.max(operational_life(model, region, technology));
     }
     longest
 }

@@ -12,6 +12,7 @@ ghost use Rattle.row_book.specs.EquationRows.{terms_at};
 
 use discount_factors::Factors;
 use param_tables::ModelData;
+use row_core::equation_numbers::{ACC4, CAA1, CAB1, CC1, E1, E5, E6, E9, OC4, RE5, TCC1, TDC1};
 use row_core::{Row, RowName, Stopped};
 use std::alloc::Global;
 
@@ -31,10 +32,10 @@ pub(crate) fn row_of(
     ensures stopped { IfErr result (IsStop (Place.Row name) (not (stands_at model.now.facts name.eq name.index) || row_fits model.now.facts name)) }
 {
     match name.eq {
-        2..=6 => capacity_rows::rows_of(alloc, model, name.eq, name.index),
-        25..=34 | 40..=42 => cost_rows::rows_of(alloc, model, factors, name.eq, name.index),
-        35..=39 | 61..=64 => emission_rows::rows_of(alloc, model, factors, name.eq, name.index),
-        43..=60 => limit_rows::rows_of(alloc, model, name.eq, name.index),
+        CAA1..=CAB1 => capacity_rows::rows_of(alloc, model, name.eq, name.index),
+        CC1..=OC4 | TDC1..=ACC4 => cost_rows::rows_of(alloc, model, factors, name.eq, name.index),
+        E1..=E5 | E6..=E9 => emission_rows::rows_of(alloc, model, factors, name.eq, name.index),
+        TCC1..=RE5 => limit_rows::rows_of(alloc, model, name.eq, name.index),
         _ => balance_rows::rows_of(alloc, model, name.eq, name.index),
     }
 }

@@ -10,8 +10,8 @@ ghost use Rattle.row_book.specs.EquationRows.{terms_at};
 ghost use Rattle.row_book.specs.declared.fail.BookFail.{BookFail};
 ghost use Rattle.row_book.specs.declared.fail.BookFail.TheVariants.{Memory};
 
-/// Of some instances behind rows with so many entries either all rows can be made, and then nothing stops, or
-/// what stops is one thing; want of memory aside.
+/// Of some instances after rows with so many entries either all rows can be made, and then nothing stops but
+/// that memory runs out, or one thing stops them beside that.
 pub fn stop_laws()
     ensures made { (d : Data) (before : ℕ) (names : List RowName) (fail : BookFail) → CanBeMade d before names → HasStopped d before names fail → fail ≡ Memory }
     ensures one { (d : Data) (before : ℕ) (names : List RowName) (fail other : BookFail) → fail ≢ Memory → other ≢ Memory → HasStopped d before names fail → HasStopped d before names other → fail ≡ other }

@@ -19,6 +19,3 @@ mod walk;
 pub use book::RowBook;
 pub use fail::BookFail;
 pub use laws::{same_data_laws, stop_laws};
-
-#[cfg(test)]
-mod tests;

@@ -16,15 +16,11 @@ use crate::fail::BookFail;
 use crate::instance_row::row_of;
 use crate::made_rows::MadeRows;
 use discount_factors::Factors;
+use model_sets::set_numbers::REGION;
 use param_tables::ModelData;
+use row_core::equation_numbers::EQUATION_COUNT;
 use row_core::{Index, Row, RowName, Stopped};
 use std::alloc::Global;
-
-/// How many equations there are.
-const EQUATION_COUNT: u8 = 64;
-
-/// The number of the set REGION.
-const REGION: u8 = 1;
 
 /// How many entries all rows may have together.
 const ENTRY_LIMIT: usize = 4_000_000;
@@ -134,7 +130,7 @@ impl MadeRows {
         ensures added { OnOk result (AddsRows model.now.facts (instances model.now.facts) self.old self.new) }
         ensures stopped { IfErr result (HasStopped model.now.facts self.old.entries (instances model.now.facts)) }
     {
-        for eq in 1..EQUATION_COUNT + 1 {
+        for eq in 1..EQUATION_COUNT as u8 + 1 {
             match self.add_equation(model, factors, eq) {
                 Ok(()) => {}
                 Err(fail) => return Err(fail),

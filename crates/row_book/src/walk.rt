@@ -7,6 +7,9 @@ ghost use Rattle.named_equations.specs.Indices.{at_r};
 ghost use Rattle.named_equations.specs.Instances.{subscripts_of, values_at};
 ghost use Rattle.row_book.specs.Walks.{moved, place_of, set_of, walk};
 
+use model_sets::set_numbers::{
+    EMISSION, FUEL, MODE_OF_OPERATION, REGION, TECHNOLOGY, TIMESLICE, YEAR,
+};
 use param_tables::ModelData;
 use row_core::{Index, row_has};
 use std::alloc::{AllocError, Global};
@@ -46,18 +49,18 @@ impl Subscript {
         ensures { result ≡ set_of self }
     {
         match self {
-            Subscript::Region | Subscript::Other => 1,
-            Subscript::Tech => 2,
-            Subscript::Fuel => 3,
-            Subscript::Emission => 4,
-            Subscript::Mode => 5,
-            Subscript::Slice => 6,
-            Subscript::Year => 7,
+            Subscript::Region | Subscript::Other => REGION,
+            Subscript::Slice => TIMESLICE,
+            Subscript::Tech => TECHNOLOGY,
+            Subscript::Fuel => FUEL,
+            Subscript::Emission => EMISSION,
+            Subscript::Mode => MODE_OF_OPERATION,
+            Subscript::Year => YEAR,
         }
     }
 }
 
-/// The subscripts behind the region of which it doesn't depend whether an equation has an instance.
+/// The subscripts after the region of which it doesn't depend whether an equation has an instance.
 pub(crate) static OUTER: [Subscript; 2] = [Subscript::Other, Subscript::Slice];
 
 /// Those of which it may depend.
@@ -139,7 +142,7 @@ fn push_walk(
 }
 
 /// The indices that come from `start` when each of these subscripts in turn takes each of its values in the
-/// instances of the equation. Refuses for want of memory alone.
+/// instances of the equation. Fails only where memory runs out.
 pub(crate) fn walked(
     alloc: Global,
     model: &ModelData,

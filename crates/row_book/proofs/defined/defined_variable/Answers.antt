@@ -5,8 +5,8 @@ use Rattle.named_equations.specs.Variables.{variable}
 use Rattle.row_book.proofs.KindLaws.{none-defined, nothing-defined, trade-defined, variable-defined}
 use Rattle.row_book.proofs.defined.defined_variable.Goals as goal
 
-pub returns-then-name-lt1 : goal.returns-then-name-lt1
-returns-then-name-lt1 c = nothing-defined c.args.name c.then-name-lt1.either
+pub returns-then-name-lt-EQ_SPECIFIED_DEMAND : goal.returns-then-name-lt-EQ_SPECIFIED_DEMAND
+returns-then-name-lt-EQ_SPECIFIED_DEMAND c = nothing-defined c.args.name c.then-name-lt-EQ_SPECIFIED_DEMAND.either
 
 pub returns-in-0 : goal.returns-in-0
 returns-in-0 c =

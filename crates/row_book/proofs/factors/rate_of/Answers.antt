@@ -10,13 +10,13 @@ use Rattle.row_book.proofs.factors.rate_of.Goals as goal
 
 pub overflow_mul-result : goal.overflow_mul-result
 overflow_mul-result c =
-    let given : Option ℤ = value_at c.args.facts.now.facts 2 (region_name c.args.facts.now.facts c.args.region ∷ []) in
+    let given : Option ℤ = value_at c.args.model.now.facts 2 (region_name c.args.model.now.facts c.args.region ∷ []) in
     let rate = rate-given given c.at-rate.result.num c.at-rate.result.den c.at-rate.ensures.amount c.at-rate.result.positive c.at-rate.ensures.given in
     subst (λ z. FitsSigned w128 z) (sym (rate-computed (unwrap_or given (pos 0)) c.at-rate.result.num c.at-rate.result.den c.at-rate.result.num_fits c.at-rate.result.den_fits rate)) (FitsSigned-from_InRange _ (rate-fits (unwrap_or given (pos 0)) c.at-rate.result.num c.at-rate.result.den rate))
 
 pub returns-clause-least : goal.returns-clause-least
 returns-clause-least c =
-    let given : Option ℤ = value_at c.args.facts.now.facts 2 (region_name c.args.facts.now.facts c.args.region ∷ []) in
+    let given : Option ℤ = value_at c.args.model.now.facts 2 (region_name c.args.model.now.facts c.args.region ∷ []) in
     let rate = rate-given given c.at-rate.result.num c.at-rate.result.den c.at-rate.ensures.amount c.at-rate.result.positive c.at-rate.ensures.given in
     let z : ℤ = unwrap_or given (pos 0) in
     let is = rate-computed z c.at-rate.result.num c.at-rate.result.den c.at-rate.result.num_fits c.at-rate.result.den_fits rate in
@@ -24,7 +24,7 @@ returns-clause-least c =
 
 pub returns-clause-most : goal.returns-clause-most
 returns-clause-most c =
-    let given : Option ℤ = value_at c.args.facts.now.facts 2 (region_name c.args.facts.now.facts c.args.region ∷ []) in
+    let given : Option ℤ = value_at c.args.model.now.facts 2 (region_name c.args.model.now.facts c.args.region ∷ []) in
     let rate = rate-given given c.at-rate.result.num c.at-rate.result.den c.at-rate.ensures.amount c.at-rate.result.positive c.at-rate.ensures.given in
     let z : ℤ = unwrap_or given (pos 0) in
     let is = rate-computed z c.at-rate.result.num c.at-rate.result.den c.at-rate.result.num_fits c.at-rate.result.den_fits rate in
@@ -32,7 +32,7 @@ returns-clause-most c =
 
 pub returns-clause-rate : goal.returns-clause-rate
 returns-clause-rate c =
-    let given : Option ℤ = value_at c.args.facts.now.facts 2 (region_name c.args.facts.now.facts c.args.region ∷ []) in
+    let given : Option ℤ = value_at c.args.model.now.facts 2 (region_name c.args.model.now.facts c.args.region ∷ []) in
     let rate = rate-given given c.at-rate.result.num c.at-rate.result.den c.at-rate.ensures.amount c.at-rate.result.positive c.at-rate.ensures.given in
     let z : ℤ = unwrap_or given (pos 0) in
     let is = rate-computed z c.at-rate.result.num c.at-rate.result.den c.at-rate.result.num_fits c.at-rate.result.den_fits rate in

@@ -11,7 +11,7 @@ use Rattle.row_book.proofs.factors.region_factors.Goals as goal
 
 pub loop-region-preserved : goal.loop-region-preserved
 loop-region-preserved c =
-    let d = c.args.facts.now.facts in
+    let d = c.args.model.now.facts in
     let before : List Discounting = c.loop-region.factors.items in
     let this : Discounting = c.in_ok-one.one in
     let are : c.push.new.self.items ≡ before ++ this ∷ [] = c.in_ok-push.ensures.items in
@@ -24,10 +24,10 @@ loop-region-preserved c =
           ],
     )
 
-pub returns : goal.returns
-returns c =
+pub returns-clause-factors : goal.returns-clause-factors
+returns-clause-factors c =
     let counted : length c.loop-region.factors.items ≡ c.loop-region.region = c.loop-region.invariant.0 in
-    let count : c.count-region-end.result ≡ count_of c.args.facts.now.facts sets.region =
+    let count : c.count-region-end.result ≡ count_of c.args.model.now.facts sets.region =
     c.count-region-end.ensures.count ∙ ap (λ lists. length (members lists sets.region)) c.sets.ensures.sets in
     let all : c.loop-region.region ≡ c.count-region-end.result = omega (arith, c.loop-region-test.false, c.loop-region.auto.region-end) in
     record { one_each = counted ∙ all ∙ count; each = c.loop-region.invariant.1 }

@@ -7,4 +7,4 @@ pub returns-in-2-to-6-clause-stopped : goal.returns-in-2-to-6-clause-stopped
 returns-in-2-to-6-clause-stopped c =
     let from : 2 ≤ c.args.name.eq = omega arith in
     let to : c.args.name.eq ≤ 6 = omega arith in
-    IfErr-weaker c.rows_of.result _ _ (λ stopped stops. capacity-stops c.args.facts.now.facts c.args.name stopped from to stops) c.rows_of.ensures.stopped
+    IfErr-weaker c.rows_of.result _ _ (λ stopped stops. capacity-stops c.args.model.now.facts c.args.name stopped from to stops) c.rows_of.ensures.stopped

@@ -8,4 +8,4 @@ pub returns : goal.returns
 returns c =
     c.in_ok-cells.ensures
     ∙ ap (λ (indices : List RatioIndex). map (cell_at c.args.ratio c.args.region) indices) (c.deref.ensures.value ∙ c.in_ok-indices.ensures)
-    ∙ listed-cells c.args.facts.now.facts c.args.ratio c.args.region
+    ∙ listed-cells c.args.model.now.facts c.args.ratio c.args.region

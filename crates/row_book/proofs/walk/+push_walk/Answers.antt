@@ -9,7 +9,7 @@ use Rattle.row_book.proofs.walk.+push_walk.Goals as goal
 
 pub loop-position-preserved : goal.loop-position-preserved
 loop-position-preserved t c =
-    let walked : Index → List Index = walk c.args.facts.now.facts (subscripts_of c.args.eq) c.in-Some.more.now in
+    let walked : Index → List Index = walk c.args.model.now.facts (subscripts_of c.args.eq) c.in-Some.more.now in
     let f : ℕ → List Index = λ v. walked (moved c.args.start c.in-Some.subscript.now v) in
     let i = c.loop-position.position in
     let end = c.number_of_values-position-end.result in

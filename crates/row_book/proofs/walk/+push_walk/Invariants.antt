@@ -10,5 +10,5 @@ decreases-push_walk l = length l.subscripts.now
 -- the whole list is the list so far, and the walks from the values that are left
 abbrev pub invariant-loop-position : goal.invariant-loop-position
 invariant-loop-position l =
-    l.initial.out.items ++ flat_map (λ v. walk l.facts.facts (subscripts_of l.eq) l.more (moved l.start l.subscript v)) (range_with_len 0 l.position-end)
-    ≡ l.out.items ++ flat_map (λ v. walk l.facts.facts (subscripts_of l.eq) l.more (moved l.start l.subscript v)) (range_with_len l.position (l.position-end - l.position))
+    l.initial.out.items ++ flat_map (λ v. walk l.model.facts (subscripts_of l.eq) l.more (moved l.start l.subscript v)) (range_with_len 0 l.position-end)
+    ≡ l.out.items ++ flat_map (λ v. walk l.model.facts (subscripts_of l.eq) l.more (moved l.start l.subscript v)) (range_with_len l.position (l.position-end - l.position))

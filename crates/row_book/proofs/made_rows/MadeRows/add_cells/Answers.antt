@@ -7,19 +7,19 @@ use Rattle.row_book.proofs.made_rows.MadeRows.add_cells.Goals as goal
 
 pub add-requires-clause-index : goal.add-requires-clause-index
 add-requires-clause-index c =
-    all-at_place (λ cell. IsIndex c.args.facts.now.facts c.args.eq (joined c.args.outer cell)) c.args.cells.now c.loop-cell.cell-index _ c.requires.indices c.loop-cell-test.true
+    all-at_place (λ cell. IsIndex c.args.model.now.facts c.args.eq (joined c.args.outer cell)) c.args.cells.now c.loop-cell.cell-index _ c.requires.indices c.loop-cell-test.true
 
 pub returns-in-Err-clause-stopped : goal.returns-in-Err-clause-stopped
 returns-in-Err-clause-stopped c =
-    loop-stops c.args.facts.now.facts (λ (cell : Index). instance_at c.args.facts.now.facts c.args.eq (joined c.args.outer cell)) c.args.cells.now c.loop-cell.cell-index _ c.args.self.now c.loop-cell.self c.in-Err.fail
+    loop-stops c.args.model.now.facts (λ (cell : Index). instance_at c.args.model.now.facts c.args.eq (joined c.args.outer cell)) c.args.cells.now c.loop-cell.cell-index _ c.args.self.now c.loop-cell.self c.in-Err.fail
     c.loop-cell-test.true c.loop-cell.invariant c.in-Err.ensures.stopped
 
 pub loop-cell-preserved : goal.loop-cell-preserved
 loop-cell-preserved c =
-    loop-adds c.args.facts.now.facts (λ (cell : Index). instance_at c.args.facts.now.facts c.args.eq (joined c.args.outer cell)) c.args.cells.now c.loop-cell.cell-index _ c.args.self.now c.loop-cell.self c.add.new.self
+    loop-adds c.args.model.now.facts (λ (cell : Index). instance_at c.args.model.now.facts c.args.eq (joined c.args.outer cell)) c.args.cells.now c.loop-cell.cell-index _ c.args.self.now c.loop-cell.self c.add.new.self
     c.loop-cell-test.true c.loop-cell.invariant c.in-Ok.ensures.added
 
 pub returns-clause-added : goal.returns-clause-added
 returns-clause-added c =
-    loop-ends c.args.facts.now.facts (λ (cell : Index). instance_at c.args.facts.now.facts c.args.eq (joined c.args.outer cell)) c.args.cells.now c.loop-cell.cell-index c.args.self.now c.loop-cell.self
+    loop-ends c.args.model.now.facts (λ (cell : Index). instance_at c.args.model.now.facts c.args.eq (joined c.args.outer cell)) c.args.cells.now c.loop-cell.cell-index c.args.self.now c.loop-cell.self
     c.loop-cell-test.false c.loop-cell.invariant

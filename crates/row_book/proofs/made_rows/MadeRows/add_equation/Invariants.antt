@@ -6,4 +6,4 @@ use Rattle.row_book.proofs.made_rows.MadeRows.add_equation.Given as goal
 
 -- the rows of the regions so far were added
 abbrev pub invariant-loop-region : goal.invariant-loop-region
-invariant-loop-region l = AddsRows l.facts.facts (flat_map (instances_in l.facts.facts l.eq) (range_with_len 0 (l.region - 0))) l.fn.self l.self
+invariant-loop-region l = AddsRows l.model.facts (flat_map (instances_in l.model.facts l.eq) (range_with_len 0 (l.region - 0))) l.fn.self l.self

@@ -11,11 +11,11 @@ use Rattle.row_book.proofs.RowsAddedLaws.{adds-nothing, loop-adds, loop-ends, lo
 use Rattle.row_book.proofs.made_rows.MadeRows.add_region.Goals as goal
 
 pub loop-outer-init : goal.loop-outer-init
-loop-outer-init c = (c.deref-outer-items.ensures.value ∙ c.in_ok-outers.ensures, adds-nothing c.args.facts.now.facts c.args.self.now)
+loop-outer-init c = (c.deref-outer-items.ensures.value ∙ c.in_ok-outers.ensures, adds-nothing c.args.model.now.facts c.args.self.now)
 
 pub add_cells-requires-clause-indices : goal.add_cells-requires-clause-indices
 add_cells-requires-clause-indices c =
-    let d = c.args.facts.now.facts in
+    let d = c.args.model.now.facts in
     let eq = c.args.eq in
     let outers = c.deref-outer-items.result.now in
     let i = c.loop-outer.outer-index in
@@ -25,7 +25,7 @@ add_cells-requires-clause-indices c =
 
 pub returns-in-Err-clause-stopped : goal.returns-in-Err-clause-stopped
 returns-in-Err-clause-stopped c =
-    let d = c.args.facts.now.facts in
+    let d = c.args.model.now.facts in
     let eq = c.args.eq in
     let outers = c.deref-outer-items.result.now in
     let outer : Index = get_or outers c.loop-outer.outer-index (at_r 0) in
@@ -37,7 +37,7 @@ returns-in-Err-clause-stopped c =
 
 pub loop-outer-preserved : goal.loop-outer-preserved
 loop-outer-preserved c =
-    let d = c.args.facts.now.facts in
+    let d = c.args.model.now.facts in
     let eq = c.args.eq in
     let outers = c.deref-outer-items.result.now in
     let outer : Index = get_or outers c.loop-outer.outer-index (at_r 0) in
@@ -50,7 +50,7 @@ loop-outer-preserved c =
 
 pub returns-clause-added : goal.returns-clause-added
 returns-clause-added c =
-    let d = c.args.facts.now.facts in
+    let d = c.args.model.now.facts in
     let eq = c.args.eq in
     subst (λ is. AddsRows d (flat_map (instances_with d eq (inners_of d eq c.args.region)) is) c.args.self.now c.loop-outer.self) c.loop-outer.invariant.0
     (loop-ends d (instances_with d eq (inners_of d eq c.args.region)) c.deref-outer-items.result.now c.loop-outer.outer-index c.args.self.now c.loop-outer.self c.loop-outer-test.false c.loop-outer.invariant.1)

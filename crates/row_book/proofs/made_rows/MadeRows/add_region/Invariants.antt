@@ -7,5 +7,5 @@ use Rattle.row_book.proofs.made_rows.MadeRows.add_region.Given as goal
 -- the rows of the outer subscripts so far were added
 abbrev pub invariant-loop-outer : goal.invariant-loop-outer
 invariant-loop-outer l =
-    (l.outer-items ≡ outers_of l.facts.facts l.eq l.region)
-    × AddsRows l.facts.facts (flat_map (instances_with l.facts.facts l.eq (inners_of l.facts.facts l.eq l.region)) (take l.outer-index l.outer-items)) l.fn.self l.self
+    (l.outer-items ≡ outers_of l.model.facts l.eq l.region)
+    × AddsRows l.model.facts (flat_map (instances_with l.model.facts l.eq (inners_of l.model.facts l.eq l.region)) (take l.outer-index l.outer-items)) l.fn.self l.self
