@@ -195,8 +195,8 @@ covered v z w =
     }
 
 -- the same where the part stands last
-pub covered_behind : (v : Var) (z : ℤ) (w : Var) → MeansStatement (is_covered v z w) (λ q x. x v *ℤ z at_most values 1 *ℤ x w)
-covered_behind v z w =
+pub covered_after : (v : Var) (z : ℤ) (w : Var) → MeansStatement (is_covered v z w) (λ q x. x v *ℤ z at_most values 1 *ℤ x w)
+covered_after v z w =
     let s : ℤ = values 1 in
     let m = covered v z w in
     record {
