@@ -16,7 +16,7 @@ use Rattle.row_core.specs.Order.{var_cmp}
 use Rattle.row_core.specs.Values.{alone}
 use Rattle.row_core.proofs.SumLaws.{IsOver-times, IsOver-multiplied}
 use Rattle.named_equations.specs.Instances.{name_at, stands_at, variable_of}
-use Rattle.named_equations.specs.Notation.{sum_over, values}
+use Rattle.named_equations.specs.Notation.{sum_over, scale_of}
 use Rattle.named_equations.specs.Parameters.{year_split, specified_annual_demand, specified_demand_profile, trade_route, accumulated_annual_demand, input_activity_ratio, output_activity_ratio}
 use Rattle.named_equations.specs.Positions.{regions, timeslices}
 use Rattle.named_equations.specs.Plans.{says}
@@ -38,17 +38,17 @@ demand-means d i =
     let annual : ℤ = specified_annual_demand d i.region i.fuel i.year in
     let profile : ℤ = specified_demand_profile d i.region i.fuel i.slice i.year in
     record {
-      scale = values 2;
+      scale = scale_of 2;
       positive = omega (arith, ints);
-      sum = λ x. ((values 1 *ℤ split) *ℤ x rate) +ℤ pos 0;
+      sum = λ x. ((scale_of 1 *ℤ split) *ℤ x rate) +ℤ pos 0;
       right = annual *ℤ profile;
       is_sum = λ x.
-          sum-term (values 2) x rate (Billionths split) [] (values 1 *ℤ split) (pos 0)
-          (IsOver-multiplied (values 1) (values 1) (value_of_amount (Billionths split)) split (over-data split)) (sum-none (values 2) x);
+          sum-term (scale_of 2) x rate (Billionths split) [] (scale_of 1 *ℤ split) (pos 0)
+          (IsOver-multiplied (scale_of 1) (scale_of 1) (value_of_amount (Billionths split)) split (over-data split)) (sum-none (scale_of 2) x);
       is_right =
-          IsOver-times (values 1) (values 1) (value_of_amount (Billionths annual)) (value_of_amount (Billionths profile)) annual profile (over-data annual) (over-data profile);
+          IsOver-times (scale_of 1) (scale_of 1) (value_of_amount (Billionths annual)) (value_of_amount (Billionths profile)) annual profile (over-data annual) (over-data profile);
       same_sense = λ q x. refl;
-      balance = λ q x. added_nothing ((values 1 *ℤ split) *ℤ x rate) ((annual *ℤ profile) *ℤ pos q);
+      balance = λ q x. added_nothing ((scale_of 1 *ℤ split) *ℤ x rate) ((annual *ℤ profile) *ℤ pos q);
     }
 
 demand-defines : (d : Data) (i : Index) → pos 0 <ℤ year_split d i.slice i.year → pos 0 <ℤ (demand-means d i).sum (alone (rate_of_demand i.region i.slice i.fuel i.year))
@@ -56,7 +56,7 @@ unfolding demand-means
 demand-defines d i h =
     let rate = rate_of_demand i.region i.slice i.fuel i.year in
     let split : ℤ = year_split d i.slice i.year in
-    first_positive (values 1 *ℤ split) (alone rate rate) (pos 0) (*ℤ_pos (values 1) split (omega (arith, ints)) h) (alone-self rate) refl
+    first_positive (scale_of 1 *ℤ split) (alone rate rate) (pos 0) (*ℤ_pos (scale_of 1) split (omega (arith, ints)) h) (alone-self rate) refl
 
 -- ---- trade
 
@@ -117,7 +117,7 @@ cover-means d i =
     let used = use_of_fuel i.region i.slice i.fuel i.year in
     let out : ℕ → Var = λ rr. trade i.region rr i.slice i.fuel i.year in
     let route : ℕ → ℤ = λ rr. trade_route d i.region rr i.fuel i.year in
-    let s : ℤ = values 1 in
+    let s : ℤ = scale_of 1 in
     let routes : List (Var × Amount) = each (regions d) (λ rr. (out rr, Negative (Billionths (route rr)))) in
     record {
       scale = s;
@@ -148,7 +148,7 @@ cover_year-means d i =
     let out : ℕ → Var = λ rr. trade_annual i.region rr i.fuel i.year in
     let route : ℕ → ℤ = λ rr. trade_route d i.region rr i.fuel i.year in
     let due : ℤ = accumulated_annual_demand d i.region i.fuel i.year in
-    let s : ℤ = values 1 in
+    let s : ℤ = scale_of 1 in
     let routes : List (Var × Amount) = each (regions d) (λ rr. (out rr, Negative (Billionths (route rr)))) in
     record {
       scale = s;

@@ -14,7 +14,7 @@ use Rattle.row_core.specs.Values.{IsOver, alone}
 use Rattle.row_core.proofs.SumLaws.{IsOver-times, IsOver-negated, IsOver-multiplied}
 use Rattle.named_equations.specs.Capacity.{years_counting}
 use Rattle.named_equations.specs.Instances.{name_at, stands_at, variable_of}
-use Rattle.named_equations.specs.Notation.{sum_over, values}
+use Rattle.named_equations.specs.Notation.{sum_over, scale_of}
 use Rattle.named_equations.specs.Parameters.{year_split, capacity_to_activity_unit, capacity_factor, availability_factor, residual_capacity}
 use Rattle.named_equations.specs.Positions.{modes, timeslices}
 use Rattle.named_equations.specs.Plans.{says}
@@ -30,7 +30,7 @@ pub caa2-means : (d : Data) (i : Index) → MeansStatement (caa2 d i.region i.te
 caa2-means d i =
     let total = total_capacity_annual i.region i.tech i.year in
     let built = accumulated_new_capacity i.region i.tech i.year in
-    let s : ℤ = values 1 in
+    let s : ℤ = scale_of 1 in
     let z : ℤ = residual_capacity d i.region i.tech i.year in
     record {
       scale = s;
@@ -53,10 +53,10 @@ caa4-means d i =
     let total = total_capacity_annual i.region i.tech i.year in
     let factor : ℤ = capacity_factor d i.region i.tech i.slice i.year in
     let unit : ℤ = capacity_to_activity_unit d i.region i.tech in
-    let s : ℤ = values 2 in
+    let s : ℤ = scale_of 2 in
     let all = Product (Billionths factor) (Billionths unit) in
     let over : IsOver s (value_of_amount all) (factor *ℤ unit) =
-    IsOver-times (values 1) (values 1) (value_of_amount (Billionths factor)) (value_of_amount (Billionths unit)) factor unit (over-data factor) (over-data unit) in
+    IsOver-times (scale_of 1) (scale_of 1) (value_of_amount (Billionths factor)) (value_of_amount (Billionths unit)) factor unit (over-data factor) (over-data unit) in
     record {
       scale = s;
       positive = omega (arith, ints);
@@ -89,15 +89,15 @@ cab1-means d i =
     let unit : ℤ = capacity_to_activity_unit d r t in
     let part : ℤ = sum_over (timeslices d) (λ l. factor l *ℤ split l) in
     let capacity : ℤ = (part *ℤ available) *ℤ unit in
-    let s : ℤ = values 4 in
-    let k : ℤ = values 3 in
+    let s : ℤ = scale_of 4 in
+    let k : ℤ = scale_of 3 in
     let term : ℕ → Var × Amount = λ l. (rate l, Billionths (split l)) in
-    let slices : IsOver (values 2) (value_of_amount (slices_capacity d r t y)) part =
-    total_over-IsOver (values 2) (timeslices d) (λ l. Product (Billionths (factor l)) (Billionths (split l))) (λ l. factor l *ℤ split l)
-    (λ l. IsOver-times (values 1) (values 1) (value_of_amount (Billionths (factor l))) (value_of_amount (Billionths (split l))) (factor l) (split l) (over-data (factor l)) (over-data (split l))) in
+    let slices : IsOver (scale_of 2) (value_of_amount (slices_capacity d r t y)) part =
+    total_over-IsOver (scale_of 2) (timeslices d) (λ l. Product (Billionths (factor l)) (Billionths (split l))) (λ l. factor l *ℤ split l)
+    (λ l. IsOver-times (scale_of 1) (scale_of 1) (value_of_amount (Billionths (factor l))) (value_of_amount (Billionths (split l))) (factor l) (split l) (over-data (factor l)) (over-data (split l))) in
     let year : IsOver s (value_of_amount (year_capacity d r t y)) capacity =
-    IsOver-times (values 3) (values 1) (value_of_amount (Product (slices_capacity d r t y) (Billionths available))) (value_of_amount (Billionths unit)) (part *ℤ available) unit
-    (IsOver-times (values 2) (values 1) (value_of_amount (slices_capacity d r t y)) (value_of_amount (Billionths available)) part available slices (over-data available))
+    IsOver-times (scale_of 3) (scale_of 1) (value_of_amount (Product (slices_capacity d r t y) (Billionths available))) (value_of_amount (Billionths unit)) (part *ℤ available) unit
+    (IsOver-times (scale_of 2) (scale_of 1) (value_of_amount (slices_capacity d r t y)) (value_of_amount (Billionths available)) part available slices (over-data available))
     (over-data unit) in
     record {
       scale = s;
@@ -107,7 +107,7 @@ cab1-means d i =
       is_sum = λ x.
           sum-term s x total (Negative (year_capacity d r t y)) (each (timeslices d) term) (neg_ℤ capacity) (sum_over (timeslices d) (λ l. (k *ℤ split l) *ℤ x (rate l)))
           (IsOver-negated s (value_of_amount (year_capacity d r t y)) capacity year)
-          (sum-each s x (timeslices d) term (λ l. k *ℤ split l) (λ l. IsOver-multiplied k (values 1) (value_of_amount (Billionths (split l))) (split l) (over-data (split l))));
+          (sum-each s x (timeslices d) term (λ l. k *ℤ split l) (λ l. IsOver-multiplied k (scale_of 1) (value_of_amount (Billionths (split l))) (split l) (over-data (split l))));
       is_right = over-zero s;
       same_sense = λ q x. refl;
       balance = λ q x.
@@ -123,7 +123,7 @@ caa2-defines : (d : Data) (i : Index) → pos 0 <ℤ (caa2-means d i).sum (alone
 unfolding caa2-means
 caa2-defines d i =
     let total = total_capacity_annual i.region i.tech i.year in
-    first_positive (values 1) (alone total total) ((neg_ℤ (values 1) *ℤ pos 0) +ℤ pos 0) (omega (arith, ints)) (alone-self total) (omega (arith, ints))
+    first_positive (scale_of 1) (alone total total) ((neg_ℤ (scale_of 1) *ℤ pos 0) +ℤ pos 0) (omega (arith, ints)) (alone-self total) (omega (arith, ints))
 
 -- ---- by number
 

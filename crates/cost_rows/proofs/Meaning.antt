@@ -12,7 +12,7 @@ use Rattle.row_core.specs.Amounts.{Amount, Billionths, Millionths, Product}
 use Rattle.row_core.specs.EquationTerms.{once, less, coefficients_of}
 use Rattle.row_core.specs.Values.{IsSumOver, alone}
 use Rattle.named_equations.specs.Instances.{name_at, stands_at, variable_of}
-use Rattle.named_equations.specs.Notation.{◌equals◌, values, million}
+use Rattle.named_equations.specs.Notation.{◌equals◌, scale_of, million}
 use Rattle.named_equations.specs.Parameters.{capital_cost, variable_cost, fixed_cost}
 use Rattle.named_equations.specs.Positions.{technologies, modes, all_years, years_since_first, years_in_all}
 use Rattle.named_equations.specs.Plans.{says}
@@ -50,18 +50,18 @@ factored-defines v w z none = times_number-defines million one_million v w (Mill
 value_of_part : (z y f : ℤ) → (z *ℤ y) *ℤ f ≡ y *ℤ (z *ℤ f)
 value_of_part z y f = ap (λ n. n *ℤ f) (*ℤ_comm z y) ∙ *ℤ_assoc y z f
 
-million_values : pos 0 <ℤ (values 1 *ℤ million)
+million_values : pos 0 <ℤ (scale_of 1 *ℤ million)
 million_values = omega (arith, ints)
 
 -- a variable is another times a data value and a written factor: SV1, SV2
-valued : (v w : Var) (z f : ℤ) → MeansStatement (is_times v w (Product (Billionths z) (Millionths f))) (λ q x. values 1 *ℤ million *ℤ x v equals z *ℤ x w *ℤ f)
+valued : (v w : Var) (z f : ℤ) → MeansStatement (is_times v w (Product (Billionths z) (Millionths f))) (λ q x. scale_of 1 *ℤ million *ℤ x v equals z *ℤ x w *ℤ f)
 valued v w z f =
-    times_number (values 1 *ℤ million) million_values v w (Product (Billionths z) (Millionths f)) (z *ℤ f) (over-value_factor z f) (λ x. z *ℤ x w *ℤ f) (λ x. value_of_part z (x w) f)
+    times_number (scale_of 1 *ℤ million) million_values v w (Product (Billionths z) (Millionths f)) (z *ℤ f) (over-value_factor z f) (λ x. z *ℤ x w *ℤ f) (λ x. value_of_part z (x w) f)
 
 valued-defines : (v w : Var) (z f : ℤ) → alone v w ≡ pos 0 → pos 0 <ℤ (valued v w z f).sum (alone v)
 unfolding valued
 valued-defines v w z f none =
-    times_number-defines (values 1 *ℤ million) million_values v w (Product (Billionths z) (Millionths f)) (z *ℤ f) (over-value_factor z f) (λ x. z *ℤ x w *ℤ f) (λ x. value_of_part z (x w) f) none
+    times_number-defines (scale_of 1 *ℤ million) million_values v w (Product (Billionths z) (Millionths f)) (z *ℤ f) (over-value_factor z f) (λ x. z *ℤ x w *ℤ f) (λ x. value_of_part z (x w) f) none
 
 minus_one_times : (y : ℤ) → neg_ℤ (pos 1) *ℤ y ≡ neg_ℤ y
 minus_one_times y = neg_ℤ-*ℤ (pos 1) y ∙ ap neg_ℤ (one-*ℤ y)
@@ -85,7 +85,7 @@ cc1-named d i =
     let v = capital_investment i.region i.tech i.year in
     let w = new_capacity i.region i.tech i.year in
     let z = capital_cost d i.region i.tech i.year in
-    let s : ℤ = values 1 in
+    let s : ℤ = scale_of 1 in
     let h : pos 0 <ℤ s = omega (arith, ints) in
     let n : (Var → ℤ) → ℤ = λ x. z *ℤ x w in
     let same : (x : Var → ℤ) → n x ≡ x w *ℤ z = λ x. *ℤ_comm z (x w) in

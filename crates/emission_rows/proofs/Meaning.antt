@@ -14,7 +14,7 @@ use Rattle.row_core.specs.EquationTerms.{each, less}
 use Rattle.row_core.specs.Values.{alone}
 use Rattle.row_core.proofs.SumLaws.{IsOver-plus, IsOver-negated}
 use Rattle.named_equations.specs.Instances.{name_at, stands_at, variable_of}
-use Rattle.named_equations.specs.Notation.{sum_over, values, million}
+use Rattle.named_equations.specs.Notation.{sum_over, scale_of, million}
 use Rattle.named_equations.specs.Parameters.{emission_activity_ratio, emissions_penalty, annual_exogenous_emission, annual_emission_limit, model_period_exogenous_emission, model_period_emission_limit}
 use Rattle.named_equations.specs.Plans.{says}
 use Rattle.named_equations.specs.Positions.{technologies, emissions, all_years, years_since_first}
@@ -47,7 +47,7 @@ e1-named d i =
     let v = annual_technology_emission_by_mode i.region i.tech i.emission i.mode i.year in
     let w = total_annual_technology_activity_by_mode i.region i.tech i.mode i.year in
     let z : ℤ = emission_activity_ratio d i.region i.tech i.emission i.mode i.year in
-    let s : ℤ = values 1 in
+    let s : ℤ = scale_of 1 in
     let h : pos 0 <ℤ s = omega (arith, ints) in
     let n : (Var → ℤ) → ℤ = λ x. z *ℤ x w in
     let same : (x : Var → ℤ) → n x ≡ x w *ℤ z = λ x. *ℤ_comm z (x w) in
@@ -99,7 +99,7 @@ period-means d i =
     let v = model_period_emissions i.region i.emission in
     let w : ℕ → Var = λ y. annual_emissions i.region i.emission y in
     let exogenous : ℤ = model_period_exogenous_emission d i.region i.emission in
-    let s : ℤ = values 1 in
+    let s : ℤ = scale_of 1 in
     record {
       scale = s;
       positive = omega (arith, ints);
@@ -121,7 +121,7 @@ unfolding period-means
 period-defines d i =
     let v = model_period_emissions i.region i.emission in
     let w : ℕ → Var = λ y. annual_emissions i.region i.emission y in
-    let s : ℤ = values 1 in
+    let s : ℤ = scale_of 1 in
     first_positive s (alone v v) (sum_over (all_years d) (λ y. neg_ℤ s *ℤ alone v (w y))) (omega (arith, ints)) (alone-self v)
     (sum_over-zero (all_years d) (λ y. neg_ℤ s *ℤ alone v (w y)) (λ y. refl))
 
@@ -136,7 +136,7 @@ year-means d i =
     let v = annual_emissions i.region i.emission i.year in
     let most : ℤ = annual_emission_limit d i.region i.emission i.year in
     let exogenous : ℤ = annual_exogenous_emission d i.region i.emission i.year in
-    let s : ℤ = values 1 in
+    let s : ℤ = scale_of 1 in
     record {
       scale = s;
       positive = omega (arith, ints);

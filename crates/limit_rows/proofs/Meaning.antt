@@ -11,7 +11,7 @@ use Rattle.row_core.specs.declared.Var.{Var}
 use Rattle.row_core.specs.Amounts.{Amount, Billionths, value_of_amount}
 use Rattle.row_core.specs.Values.{IsOver, alone}
 use Rattle.named_equations.specs.Instances.{name_at, stands_at, variable_of}
-use Rattle.named_equations.specs.Notation.{sum_over, values}
+use Rattle.named_equations.specs.Notation.{sum_over, scale_of}
 use Rattle.named_equations.specs.Parameters.{year_split, capacity_to_activity_unit, total_annual_max_capacity, total_annual_min_capacity, total_annual_max_capacity_investment, total_annual_min_capacity_investment, total_technology_annual_activity_upper_limit, total_technology_annual_activity_lower_limit, total_technology_model_period_activity_upper_limit, total_technology_model_period_activity_lower_limit, reserve_margin_tag_technology, reserve_margin_tag_fuel, reserve_margin, re_tag_technology, re_tag_fuel, re_min_production_target}
 use Rattle.named_equations.specs.Positions.{technologies, fuels, timeslices, all_years}
 use Rattle.named_equations.specs.Plans.{says}
@@ -90,7 +90,7 @@ rm1-named d i =
     let tag : ℕ → ℤ = λ t. reserve_margin_tag_technology d i.region t i.year in
     let unit : ℕ → ℤ = λ t. capacity_to_activity_unit d i.region t in
     let a : ℕ → Amount = λ t. unit_in_margin d i.region t i.year in
-    let s : ℤ = values 2 in
+    let s : ℤ = scale_of 2 in
     let h : pos 0 <ℤ s = omega (arith, ints) in
     let over : (t : ℕ) → IsOver s (value_of_amount (a t)) (tag t *ℤ unit t) = λ t. over-product (tag t) (unit t) in
     definition d i RM1 v (sum_of_products s h v (technologies d) w a (λ t. tag t *ℤ unit t) over) refl
@@ -124,7 +124,7 @@ re2-named d i =
     let w : ℕ → ℕ → Var = λ f t. production_by_technology_annual r t f y in
     let tag : ℕ → ℕ → ℤ = λ f t. re_tag_technology d r t y in
     let a : ℕ → ℕ → Amount = λ f t. Billionths (tag f t) in
-    let s : ℤ = values 1 in
+    let s : ℤ = scale_of 1 in
     let h : pos 0 <ℤ s = omega (arith, ints) in
     let over : (f t : ℕ) → IsOver s (value_of_amount (a f t)) (tag f t) = λ f t. over-data (tag f t) in
     let by_fuel : (Var → ℤ) → ℤ = λ x. sum_over (fuels d) (λ f. sum_over (makers f) (λ t. x (w f t) *ℤ tag f t)) in
@@ -143,7 +143,7 @@ re3-named d i =
     let tag : ℕ → ℤ = λ f. re_tag_fuel d i.region f i.year in
     let a : ℕ → ℕ → Amount = λ l f. part_for_target d i.region l f i.year in
     let z : ℕ → ℕ → ℤ = λ l f. split l *ℤ tag f in
-    let s : ℤ = values 2 in
+    let s : ℤ = scale_of 2 in
     let h : pos 0 <ℤ s = omega (arith, ints) in
     let over : (l f : ℕ) → IsOver s (value_of_amount (a l f)) (z l f) = λ l f. over-product (split l) (tag f) in
     definition d i RE3 v (sum_of_sums s h v (timeslices d) (λ l. fuels d) w a z over) refl (sum_of_sums-defines s h v (timeslices d) (λ l. fuels d) w a z over (λ l f. refl))

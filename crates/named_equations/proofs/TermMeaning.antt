@@ -23,7 +23,7 @@ use Rattle.row_core.specs.Values.{IsOver, IsSumOver, alone}
 use Rattle.row_core.proofs.TermLaws.{same_alike}
 use Rattle.row_core.proofs.SumLaws.{IsOver-plus, IsOver-negated, IsOver-ratio, IsSumOver-gathered}
 use Rattle.named_equations.specs.Instances.{variable_of}
-use Rattle.named_equations.specs.Notation.{◌equals◌, sum_over, values}
+use Rattle.named_equations.specs.Notation.{◌equals◌, sum_over, scale_of}
 use Rattle.named_equations.specs.Plans.{says}
 use Rattle.named_equations.specs.RowMeaning.{IsNamedRow}
 
@@ -51,11 +51,11 @@ over-minus_one s = record { positive = omega (arith, ints); cross = *ℤ-one (ne
 pub over-zero : (s : ℤ) → IsOver s (whole (pos 0)) (pos 0)
 over-zero s = record { positive = omega (arith, ints); cross = sym (zero-*ℤ s) }
 
-pub over-data : (z : ℤ) → IsOver (values 1) (lowest z (pos (10 ^ 9))) z
+pub over-data : (z : ℤ) → IsOver (scale_of 1) (lowest z (pos (10 ^ 9))) z
 over-data z = IsOver-ratio z (pos (10 ^ 9)) (omega (arith, ints))
 
-pub over-negative_data : (z : ℤ) → IsOver (values 1) (value_of_amount (Negative (Billionths z))) (neg_ℤ z)
-over-negative_data z = IsOver-negated (values 1) (value_of_amount (Billionths z)) z (over-data z)
+pub over-negative_data : (z : ℤ) → IsOver (scale_of 1) (value_of_amount (Negative (Billionths z))) (neg_ℤ z)
+over-negative_data z = IsOver-negated (scale_of 1) (value_of_amount (Billionths z)) z (over-data z)
 
 -- sums of amounts over one scale
 total_from-IsOver : (s : ℤ) (sum : Amount) (z : ℤ) (is : List ℕ) (f : ℕ → Amount) (g : ℕ → ℤ) → IsOver s (value_of_amount sum) z → ((i : ℕ) → IsOver s (value_of_amount (f i)) (g i))
@@ -188,18 +188,18 @@ one_other : (s b p t q : ℤ) → ((s *ℤ b) +ℤ ((neg_ℤ p *ℤ t) +ℤ pos 
 one_other s b p t q =
     ap₂ (λ y z. ((s *ℤ b) +ℤ (y +ℤ pos 0)) +ℤ z) (neg_ℤ-*ℤ p t) (*ℤ_comm t p) ∙ omega (arith, ints) ∙ ap (λ z. (s *ℤ b) +ℤ z) (sym (zero-*ℤ q))
 
-pub scaled_other : (v w : Var) (z : ℤ) → MeansStatement (record { terms = once v ∷ (w, Negative (Billionths z)) ∷ []; sense = Equal; right = nothing }) (λ q x. values 1 *ℤ x v equals x w *ℤ z)
+pub scaled_other : (v w : Var) (z : ℤ) → MeansStatement (record { terms = once v ∷ (w, Negative (Billionths z)) ∷ []; sense = Equal; right = nothing }) (λ q x. scale_of 1 *ℤ x v equals x w *ℤ z)
 scaled_other v w z = record {
-  scale = values 1;
+  scale = scale_of 1;
   positive = omega (arith, ints);
-  sum = λ x. (values 1 *ℤ x v) +ℤ ((neg_ℤ z *ℤ x w) +ℤ pos 0);
+  sum = λ x. (scale_of 1 *ℤ x v) +ℤ ((neg_ℤ z *ℤ x w) +ℤ pos 0);
   right = pos 0;
   is_sum = λ x.
-      sum-term (values 1) x v (Whole (pos 1)) ((w, Negative (Billionths z)) ∷ []) (values 1) ((neg_ℤ z *ℤ x w) +ℤ pos 0) (over-one (values 1))
-      (sum-term (values 1) x w (Negative (Billionths z)) [] (neg_ℤ z) (pos 0) (over-negative_data z) (sum-none (values 1) x));
-  is_right = over-zero (values 1);
+      sum-term (scale_of 1) x v (Whole (pos 1)) ((w, Negative (Billionths z)) ∷ []) (scale_of 1) ((neg_ℤ z *ℤ x w) +ℤ pos 0) (over-one (scale_of 1))
+      (sum-term (scale_of 1) x w (Negative (Billionths z)) [] (neg_ℤ z) (pos 0) (over-negative_data z) (sum-none (scale_of 1) x));
+  is_right = over-zero (scale_of 1);
   same_sense = λ q x. refl;
-  balance = λ q x. one_other (values 1) (x v) z (x w) (pos q);
+  balance = λ q x. one_other (scale_of 1) (x v) z (x w) (pos q);
 }
 
 -- a variable is the sum of others times data values: Acc3, AAC1, OC1, RM2 and their like
@@ -215,20 +215,20 @@ some_others : (a n q : ℤ) → (a +ℤ neg_ℤ n) +ℤ n ≡ a +ℤ (pos 0 *ℤ
 some_others a n q = omega (arith, ints) ∙ ap (λ z. a +ℤ z) (sym (zero-*ℤ q))
 
 pub weighted_sum : (v : Var) (is : List ℕ) (w : ℕ → Var) (z : ℕ → ℤ)
-    → MeansStatement (record { terms = once v ∷ each is (λ i. (w i, Negative (Billionths (z i)))); sense = Equal; right = nothing }) (λ q x. values 1 *ℤ x v equals sum_over is (λ i. x (w i) *ℤ z i))
+    → MeansStatement (record { terms = once v ∷ each is (λ i. (w i, Negative (Billionths (z i)))); sense = Equal; right = nothing }) (λ q x. scale_of 1 *ℤ x v equals sum_over is (λ i. x (w i) *ℤ z i))
 weighted_sum v is w z = record {
-  scale = values 1;
+  scale = scale_of 1;
   positive = omega (arith, ints);
-  sum = λ x. (values 1 *ℤ x v) +ℤ sum_over is (λ i. neg_ℤ (z i) *ℤ x (w i));
+  sum = λ x. (scale_of 1 *ℤ x v) +ℤ sum_over is (λ i. neg_ℤ (z i) *ℤ x (w i));
   right = pos 0;
   is_sum = λ x.
-      sum-term (values 1) x v (Whole (pos 1)) (each is (λ i. (w i, Negative (Billionths (z i))))) (values 1) (sum_over is (λ i. neg_ℤ (z i) *ℤ x (w i))) (over-one (values 1))
-      (sum-each (values 1) x is (λ i. (w i, Negative (Billionths (z i)))) (λ i. neg_ℤ (z i)) (λ i. over-negative_data (z i)));
-  is_right = over-zero (values 1);
+      sum-term (scale_of 1) x v (Whole (pos 1)) (each is (λ i. (w i, Negative (Billionths (z i))))) (scale_of 1) (sum_over is (λ i. neg_ℤ (z i) *ℤ x (w i))) (over-one (scale_of 1))
+      (sum-each (scale_of 1) x is (λ i. (w i, Negative (Billionths (z i)))) (λ i. neg_ℤ (z i)) (λ i. over-negative_data (z i)));
+  is_right = over-zero (scale_of 1);
   same_sense = λ q x. refl;
   balance = λ q x.
-      ap (λ n. ((values 1 *ℤ x v) +ℤ n) +ℤ sum_over is (λ i. x (w i) *ℤ z i)) (sum_over-negated is z (λ i. x (w i)))
-      ∙ some_others (values 1 *ℤ x v) (sum_over is (λ i. x (w i) *ℤ z i)) (pos q);
+      ap (λ n. ((scale_of 1 *ℤ x v) +ℤ n) +ℤ sum_over is (λ i. x (w i) *ℤ z i)) (sum_over-negated is z (λ i. x (w i)))
+      ∙ some_others (scale_of 1 *ℤ x v) (sum_over is (λ i. x (w i) *ℤ z i)) (pos q);
 }
 
 -- a variable stands to a data value: TCC1, TCC2, NCC1, NCC2 and their like
@@ -236,16 +236,16 @@ limited : (a r : ℤ) → (a +ℤ pos 0) +ℤ r ≡ a +ℤ r
 limited a r = omega (arith, ints)
 
 pub limit : (sense : Sense) (v : Var) (z : ℤ)
-    → MeansStatement (record { terms = once v ∷ []; sense = sense; right = Billionths z }) (λ q x. record { left = values 1 *ℤ x v; sign = sense; right = z *ℤ pos q })
+    → MeansStatement (record { terms = once v ∷ []; sense = sense; right = Billionths z }) (λ q x. record { left = scale_of 1 *ℤ x v; sign = sense; right = z *ℤ pos q })
 limit sense v z = record {
-  scale = values 1;
+  scale = scale_of 1;
   positive = omega (arith, ints);
-  sum = λ x. (values 1 *ℤ x v) +ℤ pos 0;
+  sum = λ x. (scale_of 1 *ℤ x v) +ℤ pos 0;
   right = z;
-  is_sum = λ x. sum-term (values 1) x v (Whole (pos 1)) [] (values 1) (pos 0) (over-one (values 1)) (sum-none (values 1) x);
+  is_sum = λ x. sum-term (scale_of 1) x v (Whole (pos 1)) [] (scale_of 1) (pos 0) (over-one (scale_of 1)) (sum-none (scale_of 1) x);
   is_right = over-data z;
   same_sense = λ q x. refl;
-  balance = λ q x. limited (values 1 *ℤ x v) (z *ℤ pos q);
+  balance = λ q x. limited (scale_of 1 *ℤ x v) (z *ℤ pos q);
 }
 
 -- ---- equations by number
@@ -290,11 +290,11 @@ defined S v w h s = let same : v ≡ w = cc h in subst S same s
 pub scaled_other-defines : (v w : Var) (z : ℤ) → alone v w ≡ pos 0 → pos 0 <ℤ (scaled_other v w z).sum (alone v)
 unfolding scaled_other
 scaled_other-defines v w z h =
-    first_positive (values 1) (alone v v) ((neg_ℤ z *ℤ alone v w) +ℤ pos 0) (omega (arith, ints)) (alone-self v)
+    first_positive (scale_of 1) (alone v v) ((neg_ℤ z *ℤ alone v w) +ℤ pos 0) (omega (arith, ints)) (alone-self v)
     (ap (λ y. (neg_ℤ z *ℤ y) +ℤ pos 0) h ∙ ap (λ y. y +ℤ pos 0) (*ℤ-zero (neg_ℤ z)))
 
 pub weighted_sum-defines : (v : Var) (is : List ℕ) (w : ℕ → Var) (z : ℕ → ℤ) → ((i : ℕ) → alone v (w i) ≡ pos 0) → pos 0 <ℤ (weighted_sum v is w z).sum (alone v)
 unfolding weighted_sum
 weighted_sum-defines v is w z h =
-    first_positive (values 1) (alone v v) (sum_over is (λ i. neg_ℤ (z i) *ℤ alone v (w i))) (omega (arith, ints)) (alone-self v)
+    first_positive (scale_of 1) (alone v v) (sum_over is (λ i. neg_ℤ (z i) *ℤ alone v (w i))) (omega (arith, ints)) (alone-self v)
     (sum_over-zero is (λ i. neg_ℤ (z i) *ℤ alone v (w i)) (λ i. ap (λ y. neg_ℤ (z i) *ℤ y) (h i) ∙ *ℤ-zero (neg_ℤ (z i))))

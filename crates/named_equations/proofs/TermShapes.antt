@@ -8,7 +8,7 @@ use Rattle.row_core.specs.Amounts.{Amount, Whole, Billionths, Millionths, Produc
 use Rattle.row_core.specs.EquationTerms.{EquationTerms, less, coefficients_of}
 use Rattle.row_core.specs.Values.{IsOver, IsSumOver, alone}
 use Rattle.row_core.proofs.SumLaws.{IsOver-negated, IsOver-ratio, IsOver-times}
-use Rattle.named_equations.specs.Notation.{◌equals◌, ◌at_most◌, sum_over, values, million}
+use Rattle.named_equations.specs.Notation.{◌equals◌, ◌at_most◌, sum_over, scale_of, million}
 use Rattle.named_equations.proofs.TermMeaning.{MeansStatement, sum_over-negated, sum_over-zero, over-one, over-minus_one, over-zero, over-data, sum-none, sum-term, sum-each, first_positive, alone-self}
 use Rattle.named_equations.specs.TermShapes.{is_covered, is_made_of, is_times, products_away, for_each}
 
@@ -19,12 +19,12 @@ pub over-factor : (z : ℤ) → IsOver million (value_of_amount (Millionths z)) 
 over-factor z = IsOver-ratio z (pos (10 ^ 6)) (omega (arith, ints))
 
 -- a product of two data values
-pub over-product : (z y : ℤ) → IsOver (values 2) (value_of_amount (Product (Billionths z) (Billionths y))) (z *ℤ y)
-over-product z y = IsOver-times (values 1) (values 1) (value_of_amount (Billionths z)) (value_of_amount (Billionths y)) z y (over-data z) (over-data y)
+pub over-product : (z y : ℤ) → IsOver (scale_of 2) (value_of_amount (Product (Billionths z) (Billionths y))) (z *ℤ y)
+over-product z y = IsOver-times (scale_of 1) (scale_of 1) (value_of_amount (Billionths z)) (value_of_amount (Billionths y)) z y (over-data z) (over-data y)
 
 -- a product of a data value and a written factor
-pub over-value_factor : (z y : ℤ) → IsOver (values 1 *ℤ million) (value_of_amount (Product (Billionths z) (Millionths y))) (z *ℤ y)
-over-value_factor z y = IsOver-times (values 1) million (value_of_amount (Billionths z)) (value_of_amount (Millionths y)) z y (over-data z) (over-factor y)
+pub over-value_factor : (z y : ℤ) → IsOver (scale_of 1 *ℤ million) (value_of_amount (Product (Billionths z) (Millionths y))) (z *ℤ y)
+over-value_factor z y = IsOver-times (scale_of 1) million (value_of_amount (Billionths z)) (value_of_amount (Millionths y)) z y (over-data z) (over-factor y)
 
 -- ---- sums of terms over a scale
 
@@ -178,9 +178,9 @@ sum_of_sums-defines s h v is js w a z over none =
 part_covered : (s a n q : ℤ) → (a +ℤ ((neg_ℤ s *ℤ n) +ℤ pos 0)) +ℤ (s *ℤ n) ≡ a +ℤ (pos 0 *ℤ q)
 part_covered s a n q = ap (λ y. (a +ℤ (y +ℤ pos 0)) +ℤ (s *ℤ n)) (neg_ℤ-*ℤ s n) ∙ omega (arith, ints) ∙ ap (λ z. a +ℤ z) (sym (zero-*ℤ q))
 
-pub covered : (v : Var) (z : ℤ) (w : Var) → MeansStatement (is_covered v z w) (λ q x. z *ℤ x v at_most values 1 *ℤ x w)
+pub covered : (v : Var) (z : ℤ) (w : Var) → MeansStatement (is_covered v z w) (λ q x. z *ℤ x v at_most scale_of 1 *ℤ x w)
 covered v z w =
-    let s : ℤ = values 1 in
+    let s : ℤ = scale_of 1 in
     record {
       scale = s;
       positive = omega (arith, ints);
@@ -195,9 +195,9 @@ covered v z w =
     }
 
 -- the same where the part stands last
-pub covered_after : (v : Var) (z : ℤ) (w : Var) → MeansStatement (is_covered v z w) (λ q x. x v *ℤ z at_most values 1 *ℤ x w)
+pub covered_after : (v : Var) (z : ℤ) (w : Var) → MeansStatement (is_covered v z w) (λ q x. x v *ℤ z at_most scale_of 1 *ℤ x w)
 covered_after v z w =
-    let s : ℤ = values 1 in
+    let s : ℤ = scale_of 1 in
     let m = covered v z w in
     record {
       scale = m.scale;

@@ -3,7 +3,7 @@ use Rattle.std.specs.Prelude.{ℕ, ◌+◌, ℤ, pos, ◌+ℤ◌, ◌*ℤ◌, Bo
 use Rattle.model_sets.specs.Data.{Data}
 use Rattle.row_core.specs.declared.Var.{Var}
 use Rattle.row_core.specs.Statements.{Statement}
-use Rattle.named_equations.specs.Notation.{◌equals◌, ◌at_most◌, sum_over, values}
+use Rattle.named_equations.specs.Notation.{◌equals◌, ◌at_most◌, sum_over, scale_of}
 use Rattle.named_equations.specs.Parameters.{year_split, capacity_to_activity_unit, capacity_factor, availability_factor, residual_capacity}
 use Rattle.named_equations.specs.Positions.{all_years, timeslices, modes, number_of_year}
 use Rattle.named_equations.specs.Variables.{rate_of_activity, new_capacity, accumulated_new_capacity, total_capacity_annual, rate_of_total_activity}
@@ -28,8 +28,8 @@ caa1 d q x r t y =
 -- CAa2_TotalAnnualCapacity[r,t,y]: the total capacity is the accumulated new capacity plus the residual capacity; times 10^9
 abbrev pub caa2 : Data → ℕ → (Var → ℤ) → ℕ → ℕ → ℕ → Statement
 caa2 d q x r t y =
-    values 1 *ℤ x (total_capacity_annual r t y)
-    equals values 1 *ℤ x (accumulated_new_capacity r t y) +ℤ residual_capacity d r t y *ℤ pos q
+    scale_of 1 *ℤ x (total_capacity_annual r t y)
+    equals scale_of 1 *ℤ x (accumulated_new_capacity r t y) +ℤ residual_capacity d r t y *ℤ pos q
 
 -- CAa3_TotalActivityOfEachTechnology[r,l,t,y]: the rate of total activity is the sum of the rates of activity over the modes
 abbrev pub caa3 : Data → ℕ → (Var → ℤ) → ℕ → ℕ → ℕ → ℕ → Statement
@@ -40,12 +40,12 @@ caa3 d q x r l t y =
 -- CAa4_Constraint_Capacity[r,l,t,y]: the rate of total activity is at most what the capacity can do in the timeslice; times 10^18
 abbrev pub caa4 : Data → ℕ → (Var → ℤ) → ℕ → ℕ → ℕ → ℕ → Statement
 caa4 d q x r l t y =
-    values 2 *ℤ x (rate_of_total_activity r l t y)
+    scale_of 2 *ℤ x (rate_of_total_activity r l t y)
     at_most x (total_capacity_annual r t y) *ℤ (capacity_factor d r t l y *ℤ capacity_to_activity_unit d r t)
 
 -- CAb1_PlannedMaintenance[r,t,y]: the activity of the year is at most what the capacity can do in the part of the year for which it is available; times 10^36
 abbrev pub cab1 : Data → ℕ → (Var → ℤ) → ℕ → ℕ → ℕ → Statement
 cab1 d q x r t y =
-    values 3 *ℤ sum_over (timeslices d) (λ l. x (rate_of_total_activity r l t y) *ℤ year_split d l y)
+    scale_of 3 *ℤ sum_over (timeslices d) (λ l. x (rate_of_total_activity r l t y) *ℤ year_split d l y)
     at_most x (total_capacity_annual r t y)
     *ℤ (sum_over (timeslices d) (λ l. capacity_factor d r t l y *ℤ year_split d l y) *ℤ availability_factor d r t y *ℤ capacity_to_activity_unit d r t)

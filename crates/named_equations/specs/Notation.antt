@@ -22,8 +22,8 @@ abbrev pub ◌at_least◌ : ℤ → ℤ → Statement
 left at_least right = record { left = left; sign = Least; right = right }
 
 -- the scale of n data values, each of them in billionths
-abbrev pub values : ℕ → ℤ
-values n = pos (10 ^ (9 * n))
+abbrev pub scale_of : ℕ → ℤ
+scale_of n = pos (10 ^ (9 * n))
 
 -- the scale of a written factor, which is in millionths
 abbrev pub million : ℤ

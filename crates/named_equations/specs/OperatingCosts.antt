@@ -3,7 +3,7 @@ use Rattle.std.specs.Prelude.{ℕ, ℤ, ◌+ℤ◌, ◌*ℤ◌}
 use Rattle.model_sets.specs.Data.{Data}
 use Rattle.row_core.specs.declared.Var.{Var}
 use Rattle.row_core.specs.Statements.{Statement}
-use Rattle.named_equations.specs.Notation.{◌equals◌, sum_over, values, million}
+use Rattle.named_equations.specs.Notation.{◌equals◌, sum_over, scale_of, million}
 use Rattle.named_equations.specs.Parameters.{variable_cost, fixed_cost}
 use Rattle.named_equations.specs.Positions.{modes, years_since_first}
 use Rattle.named_equations.specs.Variables.{total_capacity_annual, total_annual_technology_activity_by_mode, annual_variable_operating_cost, annual_fixed_operating_cost, operating_cost, discounted_operating_cost}
@@ -12,13 +12,13 @@ use Rattle.named_equations.specs.WrittenFactors.{operating_factor_of}
 -- OC1_OperatingCostsVariable[r,t,y]: the variable cost is the sum over the modes of annual activity times its cost; times 10^9
 abbrev pub oc1 : Data → ℕ → (Var → ℤ) → ℕ → ℕ → ℕ → Statement
 oc1 d q x r t y =
-    values 1 *ℤ x (annual_variable_operating_cost r t y)
+    scale_of 1 *ℤ x (annual_variable_operating_cost r t y)
     equals sum_over (modes d) (λ m. x (total_annual_technology_activity_by_mode r t m y) *ℤ variable_cost d r t m y)
 
 -- OC2_OperatingCostsFixedAnnual[r,t,y]: the fixed cost is the total capacity times its cost; times 10^9
 abbrev pub oc2 : Data → ℕ → (Var → ℤ) → ℕ → ℕ → ℕ → Statement
 oc2 d q x r t y =
-    values 1 *ℤ x (annual_fixed_operating_cost r t y)
+    scale_of 1 *ℤ x (annual_fixed_operating_cost r t y)
     equals x (total_capacity_annual r t y) *ℤ fixed_cost d r t y
 
 -- OC3_OperatingCostsTotalAnnual[r,t,y]: the operating cost is the variable plus the fixed cost

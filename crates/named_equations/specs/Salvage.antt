@@ -4,7 +4,7 @@ use Rattle.model_sets.specs.Data.{Data}
 use Rattle.model_sets.specs.Members.{last_year}
 use Rattle.row_core.specs.declared.Var.{Var}
 use Rattle.row_core.specs.Statements.{Statement}
-use Rattle.named_equations.specs.Notation.{◌equals◌, values, million}
+use Rattle.named_equations.specs.Notation.{◌equals◌, scale_of, million}
 use Rattle.named_equations.specs.Parameters.{capital_cost}
 use Rattle.named_equations.specs.Positions.{number_of_year, years_in_all}
 use Rattle.named_equations.specs.Variables.{new_capacity, salvage_value, discounted_salvage_value}
@@ -37,13 +37,13 @@ has_sv3 d r t y = not (has_sv1 d r t y) && not (has_sv2 d r t y)
 -- SV1_SalvageValueAtEndOfPeriod1[r,t,y]: the salvage value is the part of the investment that the sinking fund leaves; times 10^15
 abbrev pub sv1 : Data → ℕ → (Var → ℤ) → ℕ → ℕ → ℕ → Statement
 sv1 d q x r t y =
-    values 1 *ℤ million *ℤ x (salvage_value r t y)
+    scale_of 1 *ℤ million *ℤ x (salvage_value r t y)
     equals capital_cost d r t y *ℤ x (new_capacity r t y) *ℤ salvage_fraction_of d 1 r t y
 
 -- SV2_SalvageValueAtEndOfPeriod2[r,t,y]: the salvage value is the part of the investment that the straight line leaves; times 10^15
 abbrev pub sv2 : Data → ℕ → (Var → ℤ) → ℕ → ℕ → ℕ → Statement
 sv2 d q x r t y =
-    values 1 *ℤ million *ℤ x (salvage_value r t y)
+    scale_of 1 *ℤ million *ℤ x (salvage_value r t y)
     equals capital_cost d r t y *ℤ x (new_capacity r t y) *ℤ salvage_fraction_of d 2 r t y
 
 -- SV3_SalvageValueAtEndOfPeriod3[r,t,y]: nothing is left

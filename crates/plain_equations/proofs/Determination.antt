@@ -12,7 +12,7 @@ use Rattle.row_core.specs.declared.Sense.TheVariants.{Least, Equal, Most}
 use Rattle.row_core.specs.declared.Var.{Var}
 use Rattle.row_core.specs.Statements.{Stands, Holds}
 use Rattle.named_equations.specs.Instances.{name_at, variable_of}
-use Rattle.named_equations.specs.Notation.{values}
+use Rattle.named_equations.specs.Notation.{scale_of}
 use Rattle.named_equations.specs.Parameters.{year_split}
 use Rattle.named_equations.specs.Plans.{Meets}
 use Rattle.named_equations.specs.Table.{other_trade}
@@ -90,7 +90,7 @@ scale-same d q x y (Over' letter condition _ a) p is = absurd (true≢false (sym
 above_zero : (n : ℕ) → pos (n + 1) ≢ pos 0
 above_zero n e = absurd (omega (arith, ap unsigned_abs e))
 
-values-nonzero : (n : Count) → values (number_of n) ≢ pos 0
+values-nonzero : (n : Count) → scale_of (number_of n) ≢ pos 0
 values-nonzero One = above_zero 999999999
 values-nonzero Two = above_zero 999999999999999999
 values-nonzero Three = above_zero 999999999999999999999999999

@@ -2,7 +2,7 @@
 use Rattle.std.specs.Prelude.{ℕ, ◌^◌, ℤ, pos, Bool, ◌&&◌, true, false, List, [], ◌∷◌, nat_lt, Result, Ok}
 use Rattle.model_sets.specs.Data.{Data}
 use Rattle.row_core.specs.declared.Var.{Var}
-use Rattle.named_equations.specs.Notation.{values, million}
+use Rattle.named_equations.specs.Notation.{scale_of, million}
 use Rattle.named_equations.specs.Positions.{positions, years_since_first}
 use Rattle.named_equations.specs.Variables.{variable}
 use Rattle.named_equations.specs.WrittenFactors.{rate_of, life_of, capital_factor_of, operating_factor_of, salvage_fraction_of}
@@ -45,7 +45,7 @@ sum_from counts f (i ∷ is) sum = one_more (counts i) sum (f i) (λ more. sum_f
 abbrev pub checked : Data → ℕ → (Var → ℤ) → Expr → Point → Result ℤ PlainFail
 checked d q x Zero p = Ok (pos 0)
 checked d q x Whole p = Ok (pos q)
-checked d q x (Values n) p = Ok (values (number_of n))
+checked d q x (Values n) p = Ok (scale_of (number_of n))
 checked d q x Million p = Ok million
 checked d q x (Plan kind places) p = Ok (x (variable kind (index_at p places)))
 checked d q x (Given param letters) p = Ok (value_at_point d p param letters.now)

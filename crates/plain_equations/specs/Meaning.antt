@@ -6,7 +6,7 @@ use Rattle.row_core.specs.declared.Index.{Index}
 use Rattle.row_core.specs.declared.Var.{Var}
 use Rattle.row_core.specs.Statements.{Statement}
 use Rattle.named_equations.specs.Capacity.{still_counts}
-use Rattle.named_equations.specs.Notation.{sum_over, values, million}
+use Rattle.named_equations.specs.Notation.{sum_over, scale_of, million}
 use Rattle.named_equations.specs.Parameters.{value_of}
 use Rattle.named_equations.specs.Positions.{positions, years_since_first, years_in_all}
 use Rattle.named_equations.specs.Salvage.{has_sv1, has_sv2, has_sv3}
@@ -73,7 +73,7 @@ number_of Three = 3
 abbrev pub meaning : Data → ℕ → (Var → ℤ) → Expr → Point → ℤ
 meaning d q x Zero p = pos 0
 meaning d q x Whole p = pos q
-meaning d q x (Values n) p = values (number_of n)
+meaning d q x (Values n) p = scale_of (number_of n)
 meaning d q x Million p = million
 meaning d q x (Plan kind places) p = x (variable kind (index_at p places))
 meaning d q x (Given param letters) p = value_at_point d p param letters.now

@@ -1,7 +1,7 @@
 //! The values of expressions.
 
 ghost use Rattle.std.specs.Prelude.{◌≡◌};
-ghost use Rattle.named_equations.specs.Notation.{values};
+ghost use Rattle.named_equations.specs.Notation.{scale_of};
 ghost use Rattle.row_core.specs.Rows.{number_at};
 ghost use Rattle.plain_equations.specs.Checked.{is_made, made_capital, made_operating, made_salvage, checked};
 ghost use Rattle.plain_equations.specs.Meaning.{number_of};
@@ -17,7 +17,7 @@ use row_core::Var;
 impl Count {
     /// The scale of so many data values.
     fn scale(self) -> i128
-        ensures { result ≡ values (number_of self) }
+        ensures { result ≡ scale_of (number_of self) }
     {
         match self {
             Count::One => 1_000_000_000,
