@@ -84,7 +84,7 @@ spelled v =
 
 -- ---- equations
 
--- B, with A as the other region, L2, T3, F4, E0, M2 and 2022
+-- the second region with the first as the other one, the third timeslice, the fourth technology, the fifth fuel, the third mode, and 2022
 abbrev there : Index
 there = index 1 0 2 3 4 0 2 1
 
