@@ -31,8 +31,8 @@ one_some e f = cc (e, f)
 
 -- blocks that are accepted aren't refused
 accepted_or_refused : (blocks : Blocks) (status : Status) (line : List ℕ) → first_set_refusal blocks ≡ None → first_refusal blocks ≡ None → RefusesBlocks blocks status line → ⊥
-accepted_or_refused blocks status line sets data (inl refused) = some_or_none refused.first sets
-accepted_or_refused blocks status line sets data (inr refused) = some_or_none refused.first data
+accepted_or_refused blocks status line sets values (inl refused) = some_or_none refused.first sets
+accepted_or_refused blocks status line sets values (inr refused) = some_or_none refused.first values
 
 pub not_both : ReaderLaws → (text : List ℕ) (d : Data) (status : Status) (line : List ℕ) → Accepted text d → DueWhereNotAccepted text status line → ⊥
 not_both laws text d status line a (inl refused) = laws.not_both text a.blocks refused.fault.no refused.fault.at a.says refused.first

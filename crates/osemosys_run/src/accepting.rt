@@ -1,5 +1,5 @@
 // From the text of a data file to its data, or to the answer that refuses it. Every command begins here.
-ghost use Rattle.std.specs.Prelude.{◌≡◌, ◌≤◌, List, ℕ, None, vec_len, IfOk, MatchResult};
+ghost use Rattle.std.specs.Prelude.{◌≡◌, ◌≤◌, List, ℕ, None, length, IfOk, MatchResult};
 ghost use Rattle.mathprog_data.specs.BlocksView.{blocks_told};
 ghost use Rattle.mathprog_data.specs.Verdicts.{FaultAt, Says};
 ghost use Rattle.mathprog_data.specs.WellFormed.{AreWellFormed};
@@ -28,7 +28,7 @@ use std::alloc::{AllocError, Global};
 ///
 /// The text and the blocks that it says are gone when the data come back.
 pub fn accept(alloc: Global, text: Vec<u8>) -> Result<Result<ModelData, Answer>, AllocError>
-    requires { vec_len text ≤ most_bytes }
+    requires { length text.items ≤ most_bytes }
     ensures { IfOk result (λ verdict. MatchResult verdict
         (λ model. (d : Data) × Accepted text.items d × AreSameData model.facts d)
         (λ answer. DueWhereNotAccepted text.items answer.status answer.text.items)) }
@@ -41,7 +41,7 @@ pub fn accept(alloc: Global, text: Vec<u8>) -> Result<Result<ModelData, Answer>,
 
 // The blocks that a text says, or the answer for its first fault.
 fn read_text(alloc: Global, text: Vec<u8>) -> Result<Result<Blocks, Answer>, AllocError>
-    requires { vec_len text ≤ most_bytes }
+    requires { length text.items ≤ most_bytes }
     ensures { IfOk result (λ verdict. MatchResult verdict
         (λ blocks. Says text.items (blocks_told blocks) × AreWellFormed (blocks_told blocks))
         (λ answer. RefusesText text.items answer.status answer.text.items)) }

@@ -1,5 +1,5 @@
 // The top call: words, reading, accepting, answering, sending.
-ghost use Rattle.std.specs.Prelude.{◌≡◌, ◌≤◌, ◌⊎◌, List, ℕ, IfOk, map, vec_len};
+ghost use Rattle.std.specs.Prelude.{◌≡◌, ◌≤◌, ◌⊎◌, List, ℕ, IfOk, map, length};
 ghost use Rattle.std.specs.String.{string_bytes};
 ghost use Rattle.io_edges.specs.Count.{Rose};
 ghost use Rattle.io_edges.specs.Told.{WhereTold};
@@ -154,7 +154,7 @@ fn perform_mps<S: Shelf>(alloc: Global, file: &str, shelf: &mut S) -> Result<Ans
 
 // The answer of `mps` over the text of its file. The text is gone before the first row is made.
 fn answer_text(alloc: Global, text: Vec<u8>) -> Result<Answer, AllocError>
-    requires { vec_len text ≤ most_bytes }
+    requires { length text.items ≤ most_bytes }
     ensures { IfOk result (λ answer. DueForText DueForEquations text.items answer.status answer.text.items) }
 {
     match accept(alloc, text)? {

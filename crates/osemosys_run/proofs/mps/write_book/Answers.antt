@@ -2,7 +2,7 @@ use Rattle.std.proofs.Common.{sym, subst}
 use Rattle.std.specs.List.{AllByRecursion}
 use Rattle.model_sets.specs.Members.{SetLists}
 use Rattle.mps_writer.specs.MpsText.{IsNamedRow, IsNamedVariable}
-use Rattle.osemosys_run.proofs.answer.write_book.Goals as goal
+use Rattle.osemosys_run.proofs.mps.write_book.Goals as goal
 
 pub mps_text-requires-clause-rows : goal.mps_text-requires-clause-rows
 mps_text-requires-clause-rows c =
