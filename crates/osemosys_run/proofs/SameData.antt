@@ -1,11 +1,10 @@
 -- What is due over some data is due over any with the same sets and values.
 use Rattle.std.proofs.Common.{◌≡◌, ℕ, List, inl, inr, ap, ◌∙◌}
 use Rattle.std.specs.Prelude.{◌↔◌}
-use Rattle.model_sets.specs.Data.{Data}
+use Rattle.model_sets.specs.Data.{AreSameData, Data}
 use Rattle.model_sets.specs.Members.{SetLists}
 use Rattle.mps_writer.specs.MpsText.{mps_text}
 use Rattle.named_equations.specs.Instances.{instances}
-use Rattle.param_tables.specs.Built.{AreSameData}
 use Rattle.row_book.specs.Books.{AreRowsOf, CanBeMade, HasTooMany, IsTooWide}
 use Rattle.row_core.specs.declared.Row.{Row}
 use Rattle.row_core.specs.declared.RowName.{RowName}

@@ -3,10 +3,9 @@ ghost use Rattle.std.specs.Prelude.{◌≡◌, ◌≤◌, List, ℕ, None, lengt
 ghost use Rattle.mathprog_data.specs.BlocksView.{blocks_told};
 ghost use Rattle.mathprog_data.specs.Verdicts.{FaultAt, Says};
 ghost use Rattle.mathprog_data.specs.WellFormed.{AreWellFormed};
-ghost use Rattle.model_sets.specs.Data.{Data};
+ghost use Rattle.model_sets.specs.Data.{AreSameData, Data};
 ghost use Rattle.model_sets.specs.Names.{IsSet};
 ghost use Rattle.param_tables.specs.BlockData.{data_told, set_lists};
-ghost use Rattle.param_tables.specs.Built.{AreSameData};
 ghost use Rattle.param_tables.specs.Refusals.{first_refusal};
 ghost use Rattle.param_tables.specs.SetRefusals.{first_set_refusal};
 ghost use Rattle.param_tables.specs.Told.{NamesCell, refusal_told};

@@ -1,15 +1,14 @@
 // What `mps` answers over accepted data: its equations, or the line for the first row that can't be made.
 ghost use Rattle.std.specs.Prelude.{◌≡◌, IfOk};
 ghost use Rattle.std.specs.List.{AllByRecursion};
-ghost use Rattle.model_sets.specs.Data.{Data};
+ghost use Rattle.model_sets.specs.Data.{AreSameData, Data};
 ghost use Rattle.named_equations.specs.Instances.{instances};
-ghost use Rattle.param_tables.specs.Built.{AreSameData};
-ghost use Rattle.row_book.specs.Books.{AreRowsOf, AreVariablesOf, HasNameWithin, IsWithinSets, NamesRowWithin};
+ghost use Rattle.row_book.specs.Books.{AreRowsOf, AreVariablesOf, CanBeMade, HasNameWithin, IsWithinSets, NamesRowWithin};
 ghost use Rattle.row_book.specs.declared.fail.BookFail.{BookFail};
 ghost use Rattle.row_core.specs.Equations.{IsEquation};
 ghost use Rattle.row_core.specs.NameTexts.{RowNameIsWithin};
 ghost use Rattle.osemosys_run.specs.Lines.{entries_line, uncertified_line};
-ghost use Rattle.osemosys_run.specs.Mps.{DueForEquations, WritesEquations};
+ghost use Rattle.osemosys_run.specs.Mps.{DueForEquations, IsWritten};
 
 use crate::answer::Answer;
 use crate::lines::{entries_line, width_line};
@@ -49,7 +48,8 @@ fn write_book(alloc: Global, model: &ModelData, book: &RowBook) -> Result<Answer
     requires variables { AreVariablesOf book.now.rows book.now.vars }
     requires named { AllByRecursion (HasNameWithin model.now.facts.sets) book.now.rows }
     requires within { AllByRecursion (IsWithinSets model.now.facts.sets) book.now.vars }
-    ensures { IfOk result (λ answer. (answer.status ≡ Status.Done) × WritesEquations model.now.facts answer.text.items) }
+    requires made { CanBeMade model.now.facts 0 (instances model.now.facts) }
+    ensures { IfOk result (λ answer. IsWritten model.now.facts answer.status answer.text.items) }
 {
     let text = mps_text(alloc, book.rows(), book.vars(), model.sets())?;
     let status = Status::Done;

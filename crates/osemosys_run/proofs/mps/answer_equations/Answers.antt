@@ -25,12 +25,6 @@ width_told d place sets status text stopped same told line =
       line_is = line ∙ ap (λ p. uncertified_line sets (Stop.Width p)) stopped.1 ∙ ap (λ s. uncertified_line s (Stop.Width (Place.Row stopped.0))) same;
     }))
 
-pub returns-in-Ok : goal.returns-in-Ok
-returns-in-Ok c =
-    IfOk-weaker c.write_book.result _ _
-    (λ answer written. inl (record { made = c.in-Ok.ensures.made; status_is = written.0; writes = written.1 }))
-    c.write_book.ensures
-
 pub returns-in-Err-Width : goal.returns-in-Err-Width
 returns-in-Err-Width c =
     let d = c.args.model.now.facts in

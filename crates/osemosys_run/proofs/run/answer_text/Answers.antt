@@ -1,7 +1,6 @@
 use Rattle.std.proofs.Common.{inr}
 use Rattle.std.proofs.lemmas.Result.{IfOk-weaker, MatchResult-at_ok}
-use Rattle.model_sets.specs.Data.{Data}
-use Rattle.param_tables.specs.Built.{AreSameData}
+use Rattle.model_sets.specs.Data.{AreSameData, Data}
 use Rattle.osemosys_run.specs.Accepted.{Accepted}
 use Rattle.osemosys_run.proofs.run.answer_text.Goals as goal
 
