@@ -8,7 +8,7 @@ use std::io::ErrorKind;
 use std::process::ExitCode;
 use std::{env, io};
 
-/// The exit status where memory doesn't suffice for the words.
+/// The exit status where memory runs out for the words.
 const WANT_OF_MEMORY: u8 = 8;
 
 /// The exit status where the system refuses the words for another cause, as for one that isn't UTF-8.
