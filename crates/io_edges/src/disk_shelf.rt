@@ -10,7 +10,7 @@ use std::marker::Model;
 use std::rt::Files;
 
 /// The system's files, by path. It tells nothing of them. Each error of the system is a fault, also
-/// where a file is missing; want of memory, where the system reports it as a file is opened, is none.
+/// where a file is missing; that memory runs out, where the system reports it as a file is opened, is none.
 #[derive(Drop)]
 pub struct DiskShelf<'a, R: Files> {
     rt: &'a R,

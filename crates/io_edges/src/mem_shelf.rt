@@ -77,7 +77,7 @@ impl MemShelf {
     }
 
     /// Puts a file there, in place of one of that name. The unread rest stays as it is, and so do all
-    /// counts. Refuses for want of memory alone, and then changes nothing.
+    /// counts. Refuses only where memory runs out, and then changes nothing.
     pub fn put(&mut self, name: &str, bytes: &[u8]) -> Result<(), AllocError>
         ensures ok { OnOk result (self.new ≡ record self.old {
           files = put_file self.old.files name.now bytes.now;
@@ -115,7 +115,7 @@ fn bytes_of<'a>(files: &'a [NamedFile], name: &[u8]) -> Option<&'a [u8]>
     }
 }
 
-// Puts the file in the place of one of its name, else behind the others.
+// Puts the file in the place of one of its name, else after the others.
 fn place(files: &mut Vec<NamedFile>, file: NamedFile) -> Result<(), AllocError>
     ensures ok { OnOk result (contents files.new.items
         ≡ put_file (contents files.old.items) file.name.items file.bytes.items) }

@@ -36,7 +36,7 @@ impl Model for MemSink {
 
 impl MemSink {
     /// A sink with room for `room` bytes, taken now, and nothing written. `failing` has the numbers of
-    /// the calls that fail. Refuses for want of memory alone.
+    /// the calls that fail. Refuses only where memory runs out.
     pub fn new(alloc: Global, room: usize, failing: &[u64]) -> Result<MemSink, AllocError>
         ensures { IfOk result (λ sink. sink ≡ record {
           room = room;

@@ -17,7 +17,7 @@ pub enum OpenFault {
     NoFile,
     /// A cause outside. The count of faults rose.
     Failed,
-    /// Want of memory.
+    /// Memory ran out.
     Memory,
 }
 
@@ -68,7 +68,7 @@ pub trait Shelf {
         ensures told { IsSome (rest self.old) → IsSome (rest self.new) }
         ensures refused { OnErr result (WhereTold (rest self.new) (λ left. left ≡ [])) }
 
-        // When each refusal comes. Want of memory has no cause.
+        // When each refusal comes. That memory runs out has no cause.
         ensures no_file { IsErrOf result OpenFault.NoFile → Lacks (files self.old) name.now }
         ensures no_fault { IsErrOf result OpenFault.NoFile → faults self.new ≡ faults self.old }
         ensures missing { Lacks (files self.old) name.now → ¬ Rose (faults self.old) (faults self.new)
@@ -80,8 +80,8 @@ pub trait Shelf {
         ensures begins { begins self.new ≡ counted (begins self.old) }
         ensures taken { taken self.new ≡ 0 };
 
-    /// Moves a front of the rest into the front of the room, and answers its length. In a room that
-    /// isn't empty, 0 is the end of the file. What stands behind it in the room, and in the room of a
+    /// Moves a prefix of the rest to the beginning of the room, and answers its length. In a room that
+    /// isn't empty, 0 is the end of the file. What stands after it in the room, and in the room of a
     /// refused call, is left open.
     fn read(&mut self, room: &mut [u8]) -> Result<usize, Failed>
         ensures files { files self.new ≡ files self.old }
@@ -110,7 +110,7 @@ pub trait Sink {
     /// How often a cause outside made a call fail.
     ghost faults: { Self → ℕ };
 
-    /// Appends a front of the piece, and answers its length: at least 1 where the piece isn't empty.
+    /// Appends a prefix of the piece, and answers its length: at least 1 where the piece isn't empty.
     fn write(&mut self, piece: &[u8]) -> Result<usize, Failed>
         ensures fits { IfOk result (λ n. n ≤ length piece.now) }
         ensures goes_on { IfOk result (λ n. 0 < length piece.now → 0 < n) }
