@@ -1,4 +1,4 @@
-//! The program: its words are those behind its name, its files those of the system, and its text goes to the
+//! The program: its words are those after its name, its files those of the system, and its text goes to the
 //! standard output. Its exit status is that of the call.
 #![tactic(auto)]
 
@@ -8,7 +8,7 @@ use std::io::ErrorKind;
 use std::process::ExitCode;
 use std::{env, io};
 
-/// The exit status where memory doesn't suffice for the words.
+/// The exit status where memory runs out for the words.
 const WANT_OF_MEMORY: u8 = 8;
 
 /// The exit status where the system refuses the words for another cause, as for one that isn't UTF-8.
@@ -27,7 +27,7 @@ fn main(rt: HostRuntime) -> ExitCode {
     }
 }
 
-// The words behind the program's name.
+// The words after the program's name.
 fn words(rt: &HostRuntime) -> io::Result<Vec<String>> {
     let mut words = Vec::new(rt.alloc());
     for word in env::args(rt)?.skip(1) {

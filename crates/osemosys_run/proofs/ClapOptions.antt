@@ -18,7 +18,7 @@ pub or_else_nil : (kinds : Kinds) → or_else kinds [] ≡ kinds
 or_else_nil [] = refl
 or_else_nil (k ∷ ks) = refl
 
--- what stands before and behind the first '=' of a long option
+-- what stands before and after the first '=' of a long option
 before_two : (bytes : Text) → before_first is_equals (45 ∷ 45 ∷ bytes) ≡ 45 ∷ 45 ∷ before_first is_equals bytes
 before_two bytes =
     let n = position_or_len is_equals bytes in
@@ -178,9 +178,9 @@ first_char b bytes utf8 = go (chars (b ∷ bytes)) (encodes-chars (b ∷ bytes) 
     go [] e = cc
     go (c ∷ cs) e = (c, refl)
 
-behind_dash : (bytes : Text) → IsUtf8 (45 ∷ bytes) → IsUtf8 bytes
+after_dash : (bytes : Text) → IsUtf8 (45 ∷ bytes) → IsUtf8 bytes
 unfolding encode_utf8
-behind_dash bytes utf8 = IsUtf8-past_char (45 ∷ bytes) bytes 45 utf8 refl
+after_dash bytes utf8 = IsUtf8-past_char (45 ∷ bytes) bytes 45 utf8 refl
 
 no_short_option : (flags : Text) (c k : ℕ) (h : Held) → slice_get (chars flags) 0 ≡ Some c → Fails (flags_fault rules false (suc k) flags 0 h)
 unfolding flags_fault
@@ -214,7 +214,7 @@ module _ (c : ℕ) (xs : Text) (other : (c == 45) ≡ false) where
     where
       flags_fail : Fails (flags_fault rules false (length (c ∷ xs)) (c ∷ xs) h.skip (record h { skip = 0 }))
       flags_fail =
-          let first = first_char c xs (behind_dash (c ∷ xs) utf8) in
+          let first = first_char c xs (after_dash (c ∷ xs) utf8) in
           rw skip (no_short_option (c ∷ xs) first.0 (length xs) (record h { skip = 0 }) first.1)
 
       go : (w : Waiting) → Fails (turn (at h w) short)

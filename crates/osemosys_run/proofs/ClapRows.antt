@@ -33,7 +33,7 @@ module _ (id : Text) (how : Reading) (value : Text) where
   abbrev added : List Row → List Row
   added = with_values id how CommandLine (value ∷ [])
 
-  -- the value goes behind those of its id
+  -- the value comes after those of its id
   pub added_here : (rows : List Row) → bytes_eq id id ≡ true → all_of id (added rows) ≡ Some (unwrap_or (all_of id rows) [] ++ value ∷ [])
   added_here [] same = rw same refl
   added_here (r ∷ rows) same = go (bytes_eq r.id id) refl (added_here rows same)

@@ -125,7 +125,7 @@ file_next word h idle ready e = let p = is_plain word e in rw (p.no_end, p.no_lo
 file_next word h (option id) ready e = absurd ready
 file_next word h positional ready e = let p = is_plain word e in rw (p.no_end, p.no_long, p.no_short) (ap (λ b. at (file_pushed word h b) positional) (and_false _))
 
--- behind `--` each word is a file
+-- after `--` each word is a file
 pub past_turn : (word : Text) (h : Held) (waiting : Waiting) → turn (past_end h waiting) word ≡ settling h
 past_turn word h waiting = ap (λ b. cond b [] (settling h)) (and_false _)
 

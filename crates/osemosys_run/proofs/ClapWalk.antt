@@ -79,7 +79,7 @@ goes_on w word words to out turns goes rest = agrees out (subst (λ (x : Walk). 
     agrees None fails = rw same fails
     agrees (Some g) fine = (same ∙ fine.0, fine.1)
 
--- ---- behind `--`
+-- ---- after `--`
 
 past_fails : (words : List Text) (h : Held) (waiting : Waiting) → Fails (settling h) → Fails (faults (past_end h waiting) words)
 past_fails [] h waiting fails = rw (last (past_end h waiting)) fails

@@ -2,12 +2,7 @@
 use Rattle.std.proofs.Common.{◌≡◌, ℕ, ◌<◌, ◌≤◌, ◌-◌, ◌^◌, List, [], ◌∷◌, ◌++◌, length, refl, sym, ap, subst, arith, inl, inr, Bool, true, MatchBool, nat_lt}
 use Rattle.std.specs.Prelude.{codes, Option, Some, None, ⊤}
 use Rattle.std.specs.Fmt.{digits}
-use Rattle.mathprog_data.specs.Meaning.{Blocks}
-use Rattle.model_sets.specs.declared.fault.SetFault.{SetFault}
-use Rattle.param_tables.specs.Refusals.{Refusal as DataRefusal, first_refusal}
-use Rattle.param_tables.specs.SetRefusals.{first_set_refusal}
 use Rattle.model_sets.specs.Data.{Data}
-use Rattle.osemosys_run.specs.Due.{too_long_line, DueForEquations, DueForData, DueForBlocks, DueForMps, DueForFile, Due, Sight, CausedByFile, Caused, Delivers}
 use Rattle.osemosys_run.specs.declared.status.Status.{Status}
 use Rattle.osemosys_run.specs.declared.status.Status.TheVariants.{Done, Uncertified, Refused, Words, ReadFault, WriteFault, Memory}
 use Rattle.osemosys_run.specs.declared.status.Refusal.TheVariants as refusals
@@ -15,8 +10,15 @@ use Rattle.osemosys_run.specs.declared.status.WordFault.TheVariants as faults
 use Rattle.osemosys_run.specs.declared.status.ReadStop.TheVariants as stops
 use Rattle.io_edges.specs.Count.{Rose}
 use Rattle.io_edges.specs.Edges.{Lacks}
+use Rattle.osemosys_run.specs.Causes.{Caused, CausedByFile, FollowsFromText}
 use Rattle.osemosys_run.specs.Complete.{CanBeWritten, Completes}
-use Rattle.osemosys_run.specs.Reading.{most_bytes, IsTooLong}
+use Rattle.osemosys_run.specs.Due.{Due, DueForFile, DueForText}
+use Rattle.osemosys_run.specs.Lines.{too_long_line}
+use Rattle.osemosys_run.specs.Mps.{DueForEquations}
+use Rattle.osemosys_run.specs.NotAccepted.{DueWhereNotAccepted}
+use Rattle.osemosys_run.specs.Reading.{Sight, BeganOne, most_bytes, IsTooLong}
+use Rattle.osemosys_run.specs.ReadToEnd.{IsReadToEnd}
+use Rattle.osemosys_run.specs.Sending.{Delivers}
 
 -- ---- what may come of a file's bytes
 
@@ -35,21 +37,18 @@ Comes WriteFault = ⊥
 Comes Memory = ⊥
 
 comes_of_equations : (d : Data) (status : Status) (text : List ℕ) → DueForEquations d status text → Comes status
-comes_of_equations d status text (inl written) = subst Comes (sym written.1) tt
-comes_of_equations d status text (inr (inl wide)) = subst Comes (sym wide.2) tt
-comes_of_equations d status text (inr (inr many)) = subst Comes (sym many.2) tt
+comes_of_equations d status text (inl written) = subst Comes (sym written.status_is) tt
+comes_of_equations d status text (inr (inl wide)) = subst Comes (sym wide.status_is) tt
+comes_of_equations d status text (inr (inr many)) = subst Comes (sym many.status_is) tt
 
-comes_of_data : (blocks : Blocks) (refusal : Option DataRefusal) (status : Status) (text : List ℕ) → DueForData blocks refusal status text → Comes status
-comes_of_data blocks None status text due = comes_of_equations due.0 status text due.2
-comes_of_data blocks (Some refusal) status text due = subst Comes (sym due.status_is) tt
+comes_of_refusal : (bytes : List ℕ) (status : Status) (text : List ℕ) → DueWhereNotAccepted bytes status text → Comes status
+comes_of_refusal bytes status text (inl refused) = subst Comes (sym refused.status_is) tt
+comes_of_refusal bytes status text (inr (blocks, says, inl refused)) = subst Comes (sym refused.status_is) tt
+comes_of_refusal bytes status text (inr (blocks, says, inr refused)) = subst Comes (sym refused.status_is) tt
 
-comes_of_blocks : (blocks : Blocks) (fault : Option SetFault) (status : Status) (text : List ℕ) → DueForBlocks blocks fault status text → Comes status
-comes_of_blocks blocks None status text due = comes_of_data blocks (first_refusal blocks) status text due
-comes_of_blocks blocks (Some fault) status text due = subst Comes (sym due.0) tt
-
-comes_of : (bytes : List ℕ) (status : Status) (text : List ℕ) → DueForMps bytes status text → Comes status
-comes_of bytes status text (inl refused) = subst Comes (sym refused.2) tt
-comes_of bytes status text (inr said) = comes_of_blocks said.0 (first_set_refusal said.0) status text said.2
+comes_of : (bytes : List ℕ) (status : Status) (text : List ℕ) → DueForText DueForEquations bytes status text → Comes status
+comes_of bytes status text (inl refused) = comes_of_refusal bytes status text refused
+comes_of bytes status text (inr said) = comes_of_equations said.0 status text said.2
 
 -- ---- what is due
 
@@ -79,14 +78,14 @@ other_fault : (line : List ℕ) → Due (codes "mps" ∷ []) (with_file []) (Wor
 other_fault line h = cc h.0
 
 -- a file of 64 MiB and a byte is too long, and one of 64 MiB isn't
-too_long_due : (bytes : List ℕ) → length bytes ≡ 67108865 → DueForFile (Some bytes) (Refused (refusals.TooLong 1)) (codes "refused too long file 1\n")
+too_long_due : (bytes : List ℕ) → length bytes ≡ 67108865 → DueForFile (DueForText DueForEquations) 1 (Some bytes) (Refused (refusals.TooLong 1)) (codes "refused too long file 1\n")
 unfolding digits
 too_long_due bytes e =
     let longer : nat_lt most_bytes (length bytes) ≡ true = ap (nat_lt most_bytes) e in
-    subst (λ (b : Bool). MatchBool b ((Refused (refusals.TooLong 1) ≡ Refused (refusals.TooLong 1)) × (codes "refused too long file 1\n" ≡ too_long_line 1)) (DueForMps bytes (Refused (refusals.TooLong 1)) (codes "refused too long file 1\n")))
+    subst (λ (b : Bool). MatchBool b ((Refused (refusals.TooLong 1) ≡ Refused (refusals.TooLong 1)) × (codes "refused too long file 1\n" ≡ too_long_line 1)) (DueForText DueForEquations bytes (Refused (refusals.TooLong 1)) (codes "refused too long file 1\n")))
     (sym longer) (refl, refl)
 
-not_too_long : (bytes line : List ℕ) → length bytes ≡ 67108864 → DueForFile (Some bytes) (Refused (refusals.TooLong 1)) line → DueForMps bytes (Refused (refusals.TooLong 1)) line
+not_too_long : (bytes line : List ℕ) → length bytes ≡ 67108864 → DueForFile (DueForText DueForEquations) 1 (Some bytes) (Refused (refusals.TooLong 1)) line → DueForText DueForEquations bytes (Refused (refusals.TooLong 1)) line
 not_too_long bytes line e h = rw e at h
 
 -- ---- what a call may leave
@@ -96,12 +95,12 @@ abbrev form_due : Status → List ℕ → Type 0
 form_due = Due (codes "mps" ∷ []) []
 
 -- bytes that are told are the ones that were
-behind : (before written bytes : List ℕ) → Some before ≡ Some bytes → Some (before ++ written) ≡ Some (bytes ++ written)
-behind before written bytes told = ap (λ (all : Option (List ℕ)). elim all as (λ _. Option (List ℕ)) [ None ↦ None | Some b ↦ Some (b ++ written) ]) told
+after_them : (before written bytes : List ℕ) → Some before ≡ Some bytes → Some (before ++ written) ≡ Some (bytes ++ written)
+after_them before written bytes told = ap (λ (all : Option (List ℕ)). elim all as (λ _. Option (List ℕ)) [ None ↦ None | Some b ↦ Some (b ++ written) ]) told
 
--- the whole line stands behind what was written before
+-- the whole line comes after what was written before
 delivered : Delivers form_due (Words faults.BadForm) (Some (codes "before ")) (Some (codes "before words refused BadForm\n")) 0 0
-delivered = (codes "words refused BadForm\n", (refl, refl), behind (codes "before ") (codes "words refused BadForm\n"))
+delivered = (codes "words refused BadForm\n", (refl, refl), after_them (codes "before ") (codes "words refused BadForm\n"))
 
 -- a line that lacks its last byte
 cut_short : Delivers form_due (Words faults.BadForm) (Some []) (Some (codes "words refused BadForm")) 0 0 → ⊥
@@ -110,15 +109,15 @@ cut_short h =
     let there : Some (codes "words refused BadForm") ≡ Some h.0 = h.2 [] refl in
     cc (whole, there)
 
--- a failed write leaves a front of the line, and the sink counted it
-front_left : Delivers form_due WriteFault (Some []) (Some (codes "words ref")) 0 1
-front_left = (omega arith, (Words faults.BadForm, codes "words refused BadForm\n", (refl, refl), λ bytes told. (9, omega arith, behind [] (codes "words ref") bytes told)))
+-- a failed write leaves a prefix of the line, and the sink counted it
+prefix_left : Delivers form_due WriteFault (Some []) (Some (codes "words ref")) 0 1
+prefix_left = (omega arith, (Words faults.BadForm, codes "words refused BadForm\n", (refl, refl), λ bytes told. (9, omega arith, after_them [] (codes "words ref") bytes told)))
 
 -- without a fault that the sink counted there is no write fault
 no_fault : (after : Option (List ℕ)) → Delivers form_due WriteFault (Some []) after 0 0 → ⊥
 no_fault after h = let rose : Rose 0 0 = h.0 in omega (arith, rose)
 
--- for want of memory nothing is written
+-- where memory ran out nothing is written
 nothing_written : Delivers form_due Memory (Some (codes "before")) (Some (codes "before")) 0 0
 nothing_written = refl
 
@@ -151,63 +150,110 @@ words_began line h =
 -- a read fault where the count rose
 failed_caused : Caused mps_file (counts 0 0 0) (counts 1 1 0) (ReadFault (stops.Failed 1)) (codes "read fault file 1\n")
 unfolding digits
-failed_caused = (refl, inr (inr (inr (refl, refl, omega arith))))
+failed_caused = inr (record { files = refl; begins = refl; faults = omega arith }, inr (inr (refl, refl, omega arith)))
 
 -- counters at their last value show no rise
 failed_at_last : Caused mps_file (counts (2 ^ 64 - 1) (2 ^ 64 - 1) 0) (counts (2 ^ 64 - 1) (2 ^ 64 - 1) 0) (ReadFault (stops.Failed 1)) (codes "read fault file 1\n")
 unfolding digits
-failed_at_last = (refl, inr (inr (inr (refl, refl, omega arith))))
+failed_at_last = inr (record { files = refl; begins = refl; faults = omega arith }, inr (inr (refl, refl, omega arith)))
+
+-- the file that was read, or at which the work stopped, as `mps` has it
+abbrev ByFile : List ℕ → Sight → Sight → Status → List ℕ → Type 0
+ByFile name before after status line = CausedByFile (FollowsFromText after status line) 1 name before after status line
 
 -- no read fault where it didn't
-rose_at_failure : (name line : List ℕ) (before after : Sight) → CausedByFile name before after (ReadFault (stops.Failed 1)) line → Rose before.faults after.faults
-rose_at_failure name line before after (inl (bytes, whole, due)) = absurd (comes_of bytes (ReadFault (stops.Failed 1)) line due)
-rose_at_failure name line before after (inr (inl h)) = let same : ReadFault (stops.Failed 1) ≡ Refused (refusals.TooLong 1) = h.0 in absurd (cc same)
-rose_at_failure name line before after (inr (inr (inl h))) = let same : ReadFault (stops.Failed 1) ≡ ReadFault (stops.NoFile 1) = h.0 in absurd (cc same)
-rose_at_failure name line before after (inr (inr (inr h))) = h.2
+rose_at_failure : (name line : List ℕ) (before after : Sight) → ByFile name before after (ReadFault (stops.Failed 1)) line → Rose before.faults after.faults
+rose_at_failure name line before after (inl whole) = absurd (comes_of whole.1 (ReadFault (stops.Failed 1)) line whole.4.1)
+rose_at_failure name line before after (inr (one, inl h)) = let same : ReadFault (stops.Failed 1) ≡ Refused (refusals.TooLong 1) = h.0 in absurd (cc same)
+rose_at_failure name line before after (inr (one, inr (inl h))) = let same : ReadFault (stops.Failed 1) ≡ ReadFault (stops.NoFile 1) = h.0 in absurd (cc same)
+rose_at_failure name line before after (inr (one, inr (inr h))) = h.2
 
 failed_for_nothing : (line : List ℕ) → Caused mps_file (counts 0 0 0) (counts 0 1 0) (ReadFault (stops.Failed 1)) line → ⊥
 failed_for_nothing line h =
-    let rose : Rose 0 0 = rose_at_failure (codes "FILE") line (counts 0 0 0) (counts 0 1 0) h.1 in
+    let rose : Rose 0 0 = rose_at_failure (codes "FILE") line (counts 0 0 0) (counts 0 1 0) h in
     omega (arith, rose)
 
 -- no read fault without a call of `begin`, or with two
+begun_at_failure : (name line : List ℕ) (before after : Sight) → ByFile name before after (ReadFault (stops.Failed 1)) line → BeganOne before after
+begun_at_failure name line before after (inl whole) = absurd (comes_of whole.1 (ReadFault (stops.Failed 1)) line whole.4.1)
+begun_at_failure name line before after (inr c) = c.0
+
 failed_unbegun : (line : List ℕ) → Caused mps_file (counts 0 0 0) (counts 1 0 0) (ReadFault (stops.Failed 1)) line → ⊥
-failed_unbegun line h = let once : 0 ≡ 1 = h.0 in omega (arith, once)
+failed_unbegun line h =
+    let once : 0 ≡ 1 = (begun_at_failure (codes "FILE") line (counts 0 0 0) (counts 1 0 0) h).begins in
+    omega (arith, once)
 
 failed_begun_twice : (line : List ℕ) → Caused mps_file (counts 0 0 0) (counts 1 2 0) (ReadFault (stops.Failed 1)) line → ⊥
-failed_begun_twice line h = let once : 2 ≡ 1 = h.0 in omega (arith, once)
+failed_begun_twice line h =
+    let once : 2 ≡ 1 = (begun_at_failure (codes "FILE") line (counts 0 0 0) (counts 1 2 0) h).begins in
+    omega (arith, once)
 
 -- a shelf that doesn't tell its files has no missing file
-lacks_at_missing : (name line : List ℕ) (before after : Sight) → CausedByFile name before after (ReadFault (stops.NoFile 1)) line → Lacks before.files name
-lacks_at_missing name line before after (inl (bytes, whole, due)) = absurd (comes_of bytes (ReadFault (stops.NoFile 1)) line due)
-lacks_at_missing name line before after (inr (inl h)) = let same : ReadFault (stops.NoFile 1) ≡ Refused (refusals.TooLong 1) = h.0 in absurd (cc same)
-lacks_at_missing name line before after (inr (inr (inl h))) = h.2
-lacks_at_missing name line before after (inr (inr (inr h))) = let same : ReadFault (stops.NoFile 1) ≡ ReadFault (stops.Failed 1) = h.0 in absurd (cc same)
+lacks_at_missing : (name line : List ℕ) (before after : Sight) → ByFile name before after (ReadFault (stops.NoFile 1)) line → Lacks before.files name
+lacks_at_missing name line before after (inl whole) = absurd (comes_of whole.1 (ReadFault (stops.NoFile 1)) line whole.4.1)
+lacks_at_missing name line before after (inr (one, inl h)) = let same : ReadFault (stops.NoFile 1) ≡ Refused (refusals.TooLong 1) = h.0 in absurd (cc same)
+lacks_at_missing name line before after (inr (one, inr (inl h))) = h.2
+lacks_at_missing name line before after (inr (one, inr (inr h))) = let same : ReadFault (stops.NoFile 1) ≡ ReadFault (stops.Failed 1) = h.0 in absurd (cc same)
 
 missing_untold : (line : List ℕ) → Caused mps_file (counts 0 0 0) (counts 0 1 0) (ReadFault (stops.NoFile 1)) line → ⊥
-missing_untold line h = lacks_at_missing (codes "FILE") line (counts 0 0 0) (counts 0 1 0) h.1
+missing_untold line h = lacks_at_missing (codes "FILE") line (counts 0 0 0) (counts 0 1 0) h
 
 -- more than 64 MiB were taken, by up to one room
 too_long_caused : (taken : ℕ) → 67108864 < taken → taken ≤ 67174400 → Caused mps_file (counts 0 0 0) (counts 0 1 taken) (Refused (refusals.TooLong 1)) (codes "refused too long file 1\n")
 unfolding digits
-too_long_caused taken more within = (refl, inr (inl (refl, refl, record { many_taken = more; at_once = within; longer = λ all told. absurd (cc told) })))
+too_long_caused taken more within =
+    inr (record { files = refl; begins = refl; faults = omega arith }, inl (refl, refl, record { many_taken = more; at_once = within; longer = λ all told. absurd (cc told) }))
 
 -- and no fewer
-many_at_too_long : (name line : List ℕ) (before after : Sight) → CausedByFile name before after (Refused (refusals.TooLong 1)) line → IsTooLong before.files name after.taken
-many_at_too_long name line before after (inl (bytes, whole, due)) = absurd (comes_of bytes (Refused (refusals.TooLong 1)) line due)
-many_at_too_long name line before after (inr (inl h)) = h.2
-many_at_too_long name line before after (inr (inr (inl h))) = let same : Refused (refusals.TooLong 1) ≡ ReadFault (stops.NoFile 1) = h.0 in absurd (cc same)
-many_at_too_long name line before after (inr (inr (inr h))) = let same : Refused (refusals.TooLong 1) ≡ ReadFault (stops.Failed 1) = h.0 in absurd (cc same)
+many_at_too_long : (name line : List ℕ) (before after : Sight) → ByFile name before after (Refused (refusals.TooLong 1)) line → IsTooLong before.files name after.taken
+many_at_too_long name line before after (inl whole) = absurd (comes_of whole.1 (Refused (refusals.TooLong 1)) line whole.4.1)
+many_at_too_long name line before after (inr (one, inl h)) = h.2
+many_at_too_long name line before after (inr (one, inr (inl h))) = let same : Refused (refusals.TooLong 1) ≡ ReadFault (stops.NoFile 1) = h.0 in absurd (cc same)
+many_at_too_long name line before after (inr (one, inr (inr h))) = let same : Refused (refusals.TooLong 1) ≡ ReadFault (stops.Failed 1) = h.0 in absurd (cc same)
 
 not_long_enough : (line : List ℕ) → Caused mps_file (counts 0 0 0) (counts 0 1 67108864) (Refused (refusals.TooLong 1)) line → ⊥
 not_long_enough line h =
-    let many : 67108864 < 67108864 = (many_at_too_long (codes "FILE") line (counts 0 0 0) (counts 0 1 67108864) h.1).many_taken in
+    let many : 67108864 < 67108864 = (many_at_too_long (codes "FILE") line (counts 0 0 0) (counts 0 1 67108864) h).many_taken in
     omega (arith, many)
 
 read_on_and_on : (line : List ℕ) → Caused mps_file (counts 0 0 0) (counts 0 1 67174401) (Refused (refusals.TooLong 1)) line → ⊥
 read_on_and_on line h =
-    let soon : 67174401 ≤ 67174400 = (many_at_too_long (codes "FILE") line (counts 0 0 0) (counts 0 1 67174401) h.1).at_once in
+    let soon : 67174401 ≤ 67174400 = (many_at_too_long (codes "FILE") line (counts 0 0 0) (counts 0 1 67174401) h).at_once in
     omega (arith, soon)
+
+-- ---- what is left to read
+
+-- a sight with this rest, after so many faults and bytes
+abbrev left : Option (List ℕ) → ℕ → ℕ → Sight
+left rest faults taken = record { files = None; rest = rest; faults = faults; begins = 0; taken = taken }
+
+-- the text was written after the whole file was read
+read_out : IsReadToEnd mps_file (left (Some (codes "old")) 0 0) (left (Some []) 0 9) Done
+read_out told = refl
+
+-- and not after a part of it
+stopped_early : IsReadToEnd mps_file (left (Some (codes "old")) 0 0) (left (Some (codes "end;")) 0 9) Done → ⊥
+stopped_early h = let none : Some (codes "end;") ≡ Some [] = h refl in cc none
+
+-- nothing is known of a rest that isn't told
+untold_rest : IsReadToEnd mps_file (left None 0 0) (left None 0 9) (Refused refusals.TooManyEntries)
+untold_rest told = absurd (cc told)
+
+-- a failed write where a part of the file was read has a cause in a fault of the shelf, in the words, or in the length of the file
+cut_after_fault : IsReadToEnd mps_file (left (Some []) 0 0) (left (Some (codes "end;")) 1 9) WriteFault
+cut_after_fault = inr (inr (inl (omega arith)))
+
+cut_after_words : IsReadToEnd (codes "mps" ∷ []) (left (Some (codes "x")) 0 0) (left (Some (codes "x")) 0 0) WriteFault
+cut_after_words = inr (inl refl)
+
+cut_after_much : IsReadToEnd mps_file (left (Some []) 0 0) (left (Some (codes "end;")) 0 67108865) WriteFault
+cut_after_much = inr (inr (inr (omega arith)))
+
+cut_for_nothing : IsReadToEnd mps_file (left (Some []) 0 0) (left (Some (codes "end;")) 0 9) WriteFault → ⊥
+cut_for_nothing (inl h) = let none : Some (codes "end;") ≡ Some [] = h refl in cc none
+cut_for_nothing (inr (inl h)) = cc h
+cut_for_nothing (inr (inr (inl h))) = let rose : Rose 0 0 = h in omega (arith, rose)
+cut_for_nothing (inr (inr (inr h))) = let many : 67108864 < 9 = h in omega (arith, many)
 
 -- ---- what must be written
 

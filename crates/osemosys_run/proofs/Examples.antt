@@ -6,7 +6,7 @@ use Rattle.osemosys_run.specs.declared.status.WordFault.TheVariants.{NoCommand, 
 use Rattle.osemosys_run.specs.declared.status.ReadStop.TheVariants as stops
 use Rattle.osemosys_run.specs.Words.{Mps, asked}
 use Rattle.osemosys_run.specs.WordParts.{is_option}
-use Rattle.osemosys_run.specs.Due.{words_line, stop_line, too_long_line}
+use Rattle.osemosys_run.specs.Lines.{words_line, stop_line, too_long_line}
 
 -- ---- words
 
@@ -19,9 +19,9 @@ one_file = refl
 unknown_command : asked (codes "mpz" ∷ codes "FILE" ∷ []) ≡ Err BadCommand
 unknown_command = refl
 
--- a front of a command is none
-front_of_command : asked (codes "mp" ∷ codes "FILE" ∷ []) ≡ Err BadCommand
-front_of_command = refl
+-- a prefix of a command is none
+prefix_of_command : asked (codes "mp" ∷ codes "FILE" ∷ []) ≡ Err BadCommand
+prefix_of_command = refl
 
 longer_than_command : asked (codes "mps " ∷ codes "FILE" ∷ []) ≡ Err BadCommand
 longer_than_command = refl

@@ -6,7 +6,9 @@ use Rattle.model_sets.specs.Members.{SetLists}
 use Rattle.row_core.specs.Names.{caa2}
 use Rattle.param_tables.specs.Refusals.{StorageMember, UnknownName, GivenBefore, TooManyIndices, AtIndex}
 use Rattle.param_tables.specs.declared.fault.CellFault.TheVariants.{NoValue, OutOfRange, WholeUnits}
-use Rattle.osemosys_run.specs.Due.{entries_line, width_line}
+use Rattle.row_core.specs.declared.place.Place.{Place}
+use Rattle.osemosys_run.specs.declared.status.Stop.TheVariants.{Width}
+use Rattle.osemosys_run.specs.Lines.{entries_line, uncertified_line}
 use Rattle.osemosys_run.specs.RefusalLines.{text_line, set_line, data_line}
 
 text_fault : text_line 9 (record { line = 12; column = 3 }) ≡ codes "refused line 12 column 3 RowTooShort\n"
@@ -53,7 +55,7 @@ two_regions =
     (codes "A" ∷ codes "B" ∷ []) ∷ (codes "T" ∷ []) ∷ (codes "F" ∷ []) ∷ [] ∷ (codes "1" ∷ []) ∷ (codes "D" ∷ []) ∷ (codes "2020" ∷ [])
     ∷ [] ∷ [] ∷ [] ∷ [] ∷ []
 
-wide_row : width_line two_regions (caa2 1 0 0) ≡ codes "uncertified width row CAa2[B,T,2020]\n"
+wide_row : uncertified_line two_regions (Width (Place.Row (caa2 1 0 0))) ≡ codes "uncertified width row CAa2[B,T,2020]\n"
 wide_row = refl
 
 too_many_entries : entries_line ≡ codes "refused too many entries\n"

@@ -8,7 +8,7 @@ use Rattle.io_edges.specs.Edges.{Moves}
 abbrev pub Parts : Option (List ℕ) → List ℕ → Option (List ℕ) → Type 0
 Parts rest bytes file = (left : List ℕ) × (rest ≡ Some left) × (file ≡ Some (bytes ++ left))
 
--- what a read moved goes behind what was read
+-- what a read moved comes after what was read
 pub moved : (rest after : Option (List ℕ)) (bytes room : List ℕ) (n : ℕ) (file : Option (List ℕ))
     → Parts rest bytes file → ((left : List ℕ) → rest ≡ Some left → Moves left n room after)
     → Parts after (bytes ++ take n room) file
@@ -46,11 +46,11 @@ still_told (Some left) after room n told moves =
     let step : Moves left n room after = moves left refl in
     subst (λ (o : Option (List ℕ)). IsSome o) (sym step.left_over) refl
 
--- the front of two lists joined, as long as the first
+-- the prefix of two lists joined that is as long as the first
 pub front_of_both : (n : ℕ) (xs ys : List ℕ) → n ≡ length xs → take n (xs ++ ys) ≡ xs
 front_of_both n xs ys e = ap (λ (k : ℕ). take k (xs ++ ys)) e ∙ take-append_seam xs ys
 
--- a front of what was left over goes behind the front that was sent
+-- a prefix of what was left over comes after the prefix that was sent
 pub sent_more : (before text : List ℕ) (sent n : ℕ) (piece : List ℕ) → piece ≡ drop sent text
     → (before ++ take sent text) ++ take n piece ≡ before ++ take (sent + n) text
 sent_more before text sent n piece e =

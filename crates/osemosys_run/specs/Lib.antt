@@ -1,10 +1,16 @@
+pub mod Accepted
+pub mod Causes
 pub mod ClapWords
 pub mod Codes
 pub mod CommandLine
 pub mod Commands
 pub mod Complete
 pub mod Due
+pub mod Lines
+pub mod Mps
+pub mod NotAccepted
 pub mod ReadEnds
+pub mod ReadToEnd
 pub mod Reading
 pub mod RefusalLines
 pub mod Sending
@@ -12,4 +18,3 @@ pub mod WordParts
 pub mod WordReading
 pub mod WordValues
 pub mod Words
-pub mod Written

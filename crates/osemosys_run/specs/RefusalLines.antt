@@ -1,38 +1,42 @@
 -- The lines that say why a data file is refused.
-use Rattle.std.specs.Prelude.{ℕ, ◌==◌, List, ◌++◌, codes, if◌then◌else◌}
+use Rattle.std.specs.Prelude.{ℕ, ◌==◌, List, [], ◌++◌, codes, if◌then◌else◌}
 use Rattle.std.specs.Fmt.{decimal}
 use Rattle.std.specs.List.{join_with_byte}
 use Rattle.mathprog_data.specs.declared.blocks.Mark.{Mark}
+use Rattle.mathprog_data.specs.Faults.{bad_byte, open_string, open_comment, unexpected, end_too_soon, unknown_name, given_twice, wrong_slice, row_too_short, bad_number, tabbing}
 use Rattle.mathprog_data.specs.Params.{param_word}
 use Rattle.model_sets.specs.declared.fault.SetFault.{SetFault}
+use Rattle.model_sets.specs.Members.{twice_in_set, empty_set, bad_year, too_many}
 use Rattle.model_sets.specs.Names.{set_word}
 use Rattle.mps_writer.specs.MpsText.{line}
 use Rattle.param_tables.specs.Refusals.{Refusal, StorageMember, UnknownName, GivenBefore, TooManyIndices, AtIndex}
 use Rattle.param_tables.specs.declared.fault.CellFault.{CellFault}
 use Rattle.param_tables.specs.declared.fault.CellFault.TheVariants.{NoValue, Negative, NotPositive, NotWhole, OutOfRange, WholeUnits}
 
--- the word of a fault of the text, by its number from 1 to 11
+-- the word of a fault of the text; no text has a fault of another number
 abbrev pub text_fault_word : ℕ → List ℕ
 text_fault_word number =
-    if number == 1 then codes "BadByte"
-    else if number == 2 then codes "OpenString"
-    else if number == 3 then codes "OpenComment"
-    else if number == 4 then codes "Unexpected"
-    else if number == 5 then codes "EndTooSoon"
-    else if number == 6 then codes "UnknownName"
-    else if number == 7 then codes "GivenTwice"
-    else if number == 8 then codes "WrongSlice"
-    else if number == 9 then codes "RowTooShort"
-    else if number == 10 then codes "BadNumber"
-    else codes "Tabbing"
+    if number == bad_byte then codes "BadByte"
+    else if number == open_string then codes "OpenString"
+    else if number == open_comment then codes "OpenComment"
+    else if number == unexpected then codes "Unexpected"
+    else if number == end_too_soon then codes "EndTooSoon"
+    else if number == unknown_name then codes "UnknownName"
+    else if number == given_twice then codes "GivenTwice"
+    else if number == wrong_slice then codes "WrongSlice"
+    else if number == row_too_short then codes "RowTooShort"
+    else if number == bad_number then codes "BadNumber"
+    else if number == tabbing then codes "Tabbing"
+    else []
 
--- the word of a fault of the sets, by its number from 1 to 4
+-- the word of a fault of the sets, by its number; sets have no fault of another number
 abbrev pub set_fault_word : ℕ → List ℕ
 set_fault_word number =
-    if number == 1 then codes "TwiceInSet"
-    else if number == 2 then codes "EmptySet"
-    else if number == 3 then codes "BadYear"
-    else codes "TooMany"
+    if number == twice_in_set then codes "TwiceInSet"
+    else if number == empty_set then codes "EmptySet"
+    else if number == bad_year then codes "BadYear"
+    else if number == too_many then codes "TooMany"
+    else []
 
 -- the word of what is wrong with a parameter at an index
 abbrev pub cell_fault_word : CellFault → List ℕ

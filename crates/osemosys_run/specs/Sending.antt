@@ -1,6 +1,19 @@
--- A text of which a front was written.
+-- What was written of the text that is due.
 use Rattle.std.specs.Prelude.{◌≡◌, ℕ, ◌≤◌, List, ◌++◌, length, take, Option, Some}
+use Rattle.io_edges.specs.Count.{Rose}
+use Rattle.io_edges.specs.Told.{WhereTold}
+use Rattle.osemosys_run.specs.declared.status.Status.{Status}
+use Rattle.osemosys_run.specs.declared.status.Status.TheVariants.{WriteFault, Memory}
 
--- behind the bytes from before stands a front of the text, and nothing else
-abbrev pub HoldsFrontOf : List ℕ → List ℕ → Option (List ℕ) → Type 0
-HoldsFrontOf text before after = (n : ℕ) × (n ≤ length text) × (after ≡ Some (before ++ take n text))
+-- after the bytes from before comes a prefix of the text, and nothing else
+abbrev pub HoldsPrefixOf : List ℕ → List ℕ → Option (List ℕ) → Type 0
+HoldsPrefixOf text before after = (n : ℕ) × (n ≤ length text) × (after ≡ Some (before ++ take n text))
+
+-- After what was written before comes the text that is due, and the status is the one that is due; where a write failed, which the sink
+-- counted, a prefix of that text; and nothing where memory ran out.
+abbrev pub Delivers : (Status → List ℕ → Type 0) → Status → Option (List ℕ) → Option (List ℕ) → ℕ → ℕ → Type 0
+Delivers Due Memory before after faults_before faults_after = after ≡ before
+Delivers Due WriteFault before after faults_before faults_after =
+    Rose faults_before faults_after × ((status : Status) × (text : List ℕ) × Due status text × WhereTold before (λ bytes. HoldsPrefixOf text bytes after))
+Delivers Due status before after faults_before faults_after =
+    (text : List ℕ) × Due status text × WhereTold before (λ bytes. after ≡ Some (bytes ++ text))

@@ -1,8 +1,14 @@
 //! The commands of the program, over any shelf of files and any sink for the text.
+//!
+//! A call does its work in this order, each step a module of its own: `words` (which command, over which files),
+//! `reading` (a whole file), `accepting` (from the file's text to its data, or to what refuses it), the command's own
+//! answer over the data (`mps`), and `sending` (the text into the sink). `run` puts them together.
 #![tactic(auto)]
 
+mod accepting;
 mod answer;
 mod lines;
+mod mps;
 mod reading;
 mod refusal_lines;
 mod run;

@@ -3,12 +3,12 @@ ghost use Rattle.std.specs.Prelude.{◌≡◌, ◌++◌, IfOk, decimal};
 ghost use Rattle.mps_writer.specs.MpsText.{line};
 ghost use Rattle.row_core.specs.Equations.{IsEquation};
 ghost use Rattle.row_core.specs.NameTexts.{RowNameIsWithin};
-ghost use Rattle.osemosys_run.specs.Due.{entries_line, stop_line, too_long_line, width_line, words_line};
+ghost use Rattle.osemosys_run.specs.Lines.{entries_line, stop_line, too_long_line, uncertified_line, words_line};
 
-use crate::status::{ReadStop, WordFault};
+use crate::status::{ReadStop, Stop, WordFault};
 use itoa::Buffer;
 use model_sets::Sets;
-use row_core::{RowName, push_row_name};
+use row_core::{Place, RowName, push_row_name};
 use std::alloc::{AllocError, Global};
 
 /// The line for words that ask for nothing: `words refused FAULT`.
@@ -54,7 +54,7 @@ pub fn entries_line(alloc: Global) -> Result<Vec<u8>, AllocError>
 pub fn width_line(alloc: Global, name: RowName, sets: &Sets) -> Result<Vec<u8>, AllocError>
     requires listed { IsEquation name.eq }
     requires within { RowNameIsWithin sets.now name }
-    ensures { IfOk result (λ text. text.items ≡ width_line sets.now name) }
+    ensures { IfOk result (λ text. text.items ≡ uncertified_line sets.now (Stop.Width (Place.Row name))) }
 {
     let mut text = Vec::from_slice(alloc, b"uncertified width row ")?;
     push_row_name(&mut text, name, sets)?;

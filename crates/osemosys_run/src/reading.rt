@@ -1,5 +1,5 @@
 // Whole files, read from a shelf to their ends.
-ghost use Rattle.std.specs.Prelude.{◌≡◌, ◌⊎◌, ◌≤◌, IfOk, IsErrOf, vec_len};
+ghost use Rattle.std.specs.Prelude.{◌≡◌, ◌⊎◌, ◌≤◌, [], IfOk, IsErrOf, IsSome, Some, vec_len};
 ghost use Rattle.io_edges.specs.Count.{counted, Rose};
 ghost use Rattle.io_edges.specs.Edges.{Lacks};
 ghost use Rattle.osemosys_run.specs.Reading.{IsWholeFile, IsTooLong};
@@ -23,7 +23,7 @@ pub enum ReadEnd {
     Failed,
     /// The file has more than 64 MiB.
     TooLong,
-    /// Want of memory.
+    /// Memory ran out.
     Memory,
 }
 
@@ -55,10 +55,11 @@ pub fn read_file<S: Shelf>(alloc: Global, name: &str, shelf: &mut S) -> Result<V
     ensures whole { IfOk result (λ bytes. IsWholeFile (S.files shelf.old) name.now bytes.items
         (S.rest shelf.old) (S.rest shelf.new) (S.taken shelf.new)) }
 
-    // When each refusal comes. Want of memory has no cause.
+    // When each refusal comes. That memory runs out has no cause.
     ensures no_file { IsErrOf result ReadEnd.NoFile → Lacks (S.files shelf.old) name.now }
     ensures missing { Lacks (S.files shelf.old) name.now → ¬ Rose (S.faults shelf.old) (S.faults shelf.new)
         → IsErrOf result ReadEnd.NoFile ⊎ IsErrOf result ReadEnd.Memory }
+    ensures unopened { IsErrOf result ReadEnd.NoFile → IsSome (S.rest shelf.old) → S.rest shelf.new ≡ Some [] }
     ensures failed { IsErrOf result ReadEnd.Failed → Rose (S.faults shelf.old) (S.faults shelf.new) }
     ensures too_long { IsErrOf result ReadEnd.TooLong
         → IsTooLong (S.files shelf.old) name.now (S.taken shelf.new) }

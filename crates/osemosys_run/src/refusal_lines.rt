@@ -118,7 +118,7 @@ fn push_member(out: &mut Vec<u8>, comma_due: bool, name: &[u8]) -> Result<(), Al
     out.extend_from_slice(name)
 }
 
-// The word of a fault of the text.
+// The word of a fault of the text, by the number of `DataFault`, which is never another.
 fn text_fault_word(no: u8) -> &'static str
     ensures { result.now ≡ text_fault_word no }
 {
@@ -133,11 +133,12 @@ fn text_fault_word(no: u8) -> &'static str
         8 => "WrongSlice",
         9 => "RowTooShort",
         10 => "BadNumber",
-        _ => "Tabbing",
+        11 => "Tabbing",
+        _ => "",
     }
 }
 
-// The word of a fault of the sets.
+// The word of a fault of the sets, by the number of `SetFault`, which is never another.
 fn set_fault_word(no: u8) -> &'static str
     ensures { result.now ≡ set_fault_word no }
 {
@@ -145,6 +146,7 @@ fn set_fault_word(no: u8) -> &'static str
         1 => "TwiceInSet",
         2 => "EmptySet",
         3 => "BadYear",
-        _ => "TooMany",
+        4 => "TooMany",
+        _ => "",
     }
 }

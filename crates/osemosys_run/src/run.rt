@@ -1,35 +1,46 @@
-// The top call: words, file, answer, text.
-ghost use Rattle.std.specs.Prelude.{◌≡◌, ◌≤◌, ◌⊎◌, List, ℕ, IfOk, map};
+// The top call: words, reading, accepting, answering, sending.
+ghost use Rattle.std.specs.Prelude.{◌≡◌, ◌≤◌, ◌⊎◌, List, ℕ, IfOk, map, length};
 ghost use Rattle.std.specs.String.{string_bytes};
-ghost use Rattle.io_edges.specs.Count.{Rose, counted};
+ghost use Rattle.io_edges.specs.Count.{Rose};
 ghost use Rattle.io_edges.specs.Told.{WhereTold};
-ghost use Rattle.osemosys_run.specs.Complete.{Completes};
-ghost use Rattle.osemosys_run.specs.Due.{Caused, CausedByFile, Delivers, Due, ReadsWhole, sight};
 ghost use Rattle.mathprog_data.specs.Meaning.{Blocks};
 ghost use Rattle.mathprog_data.specs.Verdicts.{FaultAt, Says};
 ghost use Rattle.mathprog_data.specs.declared.blocks.Mark.{Mark};
+ghost use Rattle.model_sets.specs.Data.{Data};
+ghost use Rattle.osemosys_run.specs.declared.status.Status.{Status};
+ghost use Rattle.osemosys_run.specs.Accepted.{Accepted};
+ghost use Rattle.osemosys_run.specs.Causes.{Caused, CausedByFile, FollowsFromText};
+ghost use Rattle.osemosys_run.specs.Complete.{Completes};
+ghost use Rattle.osemosys_run.specs.Due.{Due, DueForText};
+ghost use Rattle.osemosys_run.specs.Mps.{DueForEquations};
+ghost use Rattle.osemosys_run.specs.NotAccepted.{DueWhereNotAccepted};
+ghost use Rattle.osemosys_run.specs.Reading.{most_bytes, sight};
+ghost use Rattle.osemosys_run.specs.ReadToEnd.{IsReadToEnd, ReadsWhole};
+ghost use Rattle.osemosys_run.specs.Sending.{Delivers};
 ghost use Rattle.osemosys_run.specs.WordParts.{HasSpelledParts, Part};
 
-use crate::answer::{Answer, answer_mps, refuse_long_file, refuse_words, stop_reading};
-use crate::reading::{ReadEnd, read_file};
+use crate::accepting::{accept, acceptance_laws};
+use crate::answer::{Answer, refuse_file, refuse_words};
+use crate::mps::answer_mps;
+use crate::reading::read_file;
 use crate::sending::send;
-use crate::status::{ReadStop, Status};
+use crate::status::Status;
 use crate::words::{Command, read_command, spelled_parts};
 use io_edges::{Shelf, Sink};
 use mathprog_data::verdict_laws;
 use row_book::stop_laws;
 use std::alloc::{AllocError, Global};
 
-/// The number of the first file that the words name.
-const FILE: u8 = 1;
+/// The number of the data file among those that the words name.
+const DATA_FILE: u8 = 1;
 
-/// Runs the program on the words behind its name: reads the files that they name from the shelf, and
+/// Runs the program on the words after its name: reads the files that they name from the shelf, and
 /// writes the text that is due into the sink.
 ///
 /// `mps FILE` writes the named equations of a data file of GNU MathProg as free MPS. Where the
 /// words, the file or what it says is refused, a number of a row leaves 128 bits, or the rows have too many
 /// entries, one line says why.
-/// Want of memory may come anywhere; then nothing is written.
+/// Memory may run out anywhere; then nothing is written.
 pub fn osemosys<S: Shelf, K: Sink>(
     alloc: Global,
     words: &[String],
@@ -63,12 +74,26 @@ pub fn osemosys<S: Shelf, K: Sink>(
         (Rose (S.faults shelf.old) (S.faults shelf.new) → ⊥) → (Rose (K.faults out.old) (K.faults out.new) → ⊥)
         → Completes (map string_bytes words.now) files result) }
 
+    // A file was read to its end before any answer on what it says, over any shelf that tells its rest.
+    ensures read_to_end { IsReadToEnd (map string_bytes words.now)
+        (sight (S.files shelf.old) (S.rest shelf.old)
+        (S.faults shelf.old) (S.begins shelf.old) (S.taken shelf.old))
+        (sight (S.files shelf.new) (S.rest shelf.new)
+        (S.faults shelf.new) (S.begins shelf.new) (S.taken shelf.new))
+        result }
+
     // What a text says is one thing, or it has one fault, and never both.
     ensures one_reading { (text : List ℕ) (blocks others : Blocks) → Says text blocks → Says text others → blocks ≡ others }
     ensures one_fault { (text : List ℕ) (number other : ℕ) (at place : Mark) → FaultAt text number at → FaultAt text other place →
         (number ≡ other) × (at ≡ place) }
     ensures not_both { (text : List ℕ) (blocks : Blocks) (number : ℕ) (at : Mark) → Says text blocks → FaultAt text number at → ⊥ }
     ensures reading_or_fault { (text : List ℕ) → ((blocks : Blocks) × Says text blocks) ⊎ ((number : ℕ) × (at : Mark) × FaultAt text number at) }
+
+    // A text has the data of one model, or one line that refuses it, and never both.
+    ensures one_data { (text : List ℕ) (d e : Data) → Accepted text d → Accepted text e → d ≡ e }
+    ensures one_line { (text : List ℕ) (status other : Status) (line another : List ℕ) →
+        DueWhereNotAccepted text status line → DueWhereNotAccepted text other another → line ≡ another }
+    ensures not_accepted { (text : List ℕ) (d : Data) (status : Status) (line : List ℕ) → Accepted text d → DueWhereNotAccepted text status line → ⊥ }
 
     // The parts that the words after a command say are those that are spelled so.
     ensures spelled_parts { (words : List (List ℕ)) (parts : List Part) → HasSpelledParts words parts }
@@ -80,6 +105,7 @@ pub fn osemosys<S: Shelf, K: Sink>(
 {
     // The laws that the clauses of their names state.
     verdict_laws();
+    acceptance_laws();
     stop_laws();
     spelled_parts();
     match perform(alloc, words, shelf) {
@@ -110,21 +136,29 @@ fn perform<S: Shelf>(alloc: Global, words: &[String], shelf: &mut S) -> Result<A
 
 // The answer of `mps` over the file of this name.
 fn perform_mps<S: Shelf>(alloc: Global, file: &str, shelf: &mut S) -> Result<Answer, AllocError>
-    ensures caused { IfOk result (λ answer. CausedByFile file.now
+    ensures caused { IfOk result (λ answer.
+        let after = sight (S.files shelf.new) (S.rest shelf.new)
+            (S.faults shelf.new) (S.begins shelf.new) (S.taken shelf.new) in
+        CausedByFile (FollowsFromText after answer.status answer.text.items) DATA_FILE file.now
         (sight (S.files shelf.old) (S.rest shelf.old)
         (S.faults shelf.old) (S.begins shelf.old) (S.taken shelf.old))
-        (sight (S.files shelf.new) (S.rest shelf.new)
-        (S.faults shelf.new) (S.begins shelf.new) (S.taken shelf.new))
-        answer.status answer.text.items) }
+        after answer.status answer.text.items) }
     ensures files { S.files shelf.new ≡ S.files shelf.old }
-    ensures begins { S.begins shelf.new ≡ counted (S.begins shelf.old) }
     ensures faults { S.faults shelf.old ≤ S.faults shelf.new }
 {
     match read_file(alloc, file, shelf) {
-        Ok(bytes) => answer_mps(alloc, &bytes),
-        Err(ReadEnd::NoFile) => stop_reading(alloc, ReadStop::NoFile(FILE)),
-        Err(ReadEnd::Failed) => stop_reading(alloc, ReadStop::Failed(FILE)),
-        Err(ReadEnd::TooLong) => refuse_long_file(alloc, FILE),
-        Err(ReadEnd::Memory) => Err(AllocError),
+        Ok(bytes) => answer_text(alloc, bytes),
+        Err(end) => refuse_file(alloc, DATA_FILE, end),
+    }
+}
+
+// The answer of `mps` over the text of its file. The text is gone before the first row is made.
+fn answer_text(alloc: Global, text: Vec<u8>) -> Result<Answer, AllocError>
+    requires { length text.items ≤ most_bytes }
+    ensures { IfOk result (λ answer. DueForText DueForEquations text.items answer.status answer.text.items) }
+{
+    match accept(alloc, text)? {
+        Ok(model) => answer_mps(alloc, &model),
+        Err(answer) => Ok(answer),
     }
 }

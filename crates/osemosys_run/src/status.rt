@@ -20,9 +20,9 @@ pub enum Status {
     Words(WordFault),
     /// A file couldn't be read.
     ReadFault(ReadStop),
-    /// A write failed; a front of the text due was written.
+    /// A write failed; a prefix of the text due was written.
     WriteFault,
-    /// Want of memory; nothing was written.
+    /// Memory ran out; nothing was written.
     Memory,
 }
 

@@ -70,7 +70,7 @@ enum CommandName {
 /// none of the command's, is repeated or has no value, or a file is missing or too many; `BadNumber`
 /// where a number isn't one of the digits and the range that its place allows; `BadShow` where the value
 /// of `--show` is none of the command's; `GapAlone` where `check` has a gap and no multipliers. An
-/// option and its value are two words, or one with `=` between. Behind `--` no word is an option.
+/// option and its value are two words, or one with `=` between. After `--` no word is an option.
 pub fn read_any_command<'a>(
     alloc: Global,
     words: &'a [String],

@@ -1,9 +1,12 @@
 use Rattle.std.proofs.Common.{◌≡◌, ◌++◌, map, List, ℕ, Some, subst}
 use Rattle.std.specs.String.{string_bytes}
 use Rattle.io_edges.specs.Told.{WhereTold}
-use Rattle.osemosys_run.specs.Due.{Sight, Caused, Due}
-use Rattle.osemosys_run.specs.Sending.{HoldsFrontOf}
+use Rattle.osemosys_run.specs.Causes.{Caused}
+use Rattle.osemosys_run.specs.Due.{Due}
+use Rattle.osemosys_run.specs.Reading.{Sight}
+use Rattle.osemosys_run.specs.Sending.{HoldsPrefixOf}
 use Rattle.osemosys_run.proofs.Completeness.{Laws, completes}
+use Rattle.osemosys_run.proofs.EndsOfFiles.{read_at_write_fault, read_to_end}
 use Rattle.osemosys_run.proofs.Outcomes.{due_from_cause, is_answer, delivered}
 use Rattle.osemosys_run.proofs.run.osemosys.Goals as goal
 
@@ -41,7 +44,7 @@ returns-in-Err-send-clause-due g c = λ files told calm.
         status,
         text,
         due_from_cause words before after files status text told calm caused,
-        λ bytes is. subst (λ (t : List ℕ). HoldsFrontOf t bytes (sink.written c.send.new.out)) c.deref.ensures.value (c.in-Err-send.ensures.cut bytes is),
+        λ bytes is. subst (λ (t : List ℕ). HoldsPrefixOf t bytes (sink.written c.send.new.out)) c.deref.ensures.value (c.in-Err-send.ensures.cut bytes is),
       ),
     )
 
@@ -70,15 +73,38 @@ returns-in-Err-send-clause-caused g c =
         c.in-Ok.field-0.status,
         c.in-Ok.field-0.text.items,
         c.in-Ok.ensures.caused,
-        λ bytes is. subst (λ (t : List ℕ). HoldsFrontOf t bytes (sink.written c.send.new.out)) c.deref.ensures.value (c.in-Err-send.ensures.cut bytes is),
+        λ bytes is. subst (λ (t : List ℕ). HoldsPrefixOf t bytes (sink.written c.send.new.out)) c.deref.ensures.value (c.in-Err-send.ensures.cut bytes is),
       ),
     )
+
+pub returns-in-Ok-send-clause-read_to_end : goal.returns-in-Ok-send-clause-read_to_end
+returns-in-Ok-send-clause-read_to_end g c =
+    let words = map string_bytes c.args.words.now in
+    let shelf = g.S.Shelf in
+    let old = c.args.shelf.now in
+    let new = c.perform.new.shelf in
+    let before : Sight = record { files = shelf.files old; rest = shelf.rest old; faults = shelf.faults old; begins = shelf.begins old; taken = shelf.taken old } in
+    let after : Sight = record { files = shelf.files new; rest = shelf.rest new; faults = shelf.faults new; begins = shelf.begins new; taken = shelf.taken new } in
+    let status = c.in-Ok.field-0.status in
+    let text = c.in-Ok.field-0.text.items in
+    let caused : Caused words before after status text = c.in-Ok.ensures.caused in
+    read_to_end words before after status text (is_answer words before after status text caused).0 caused
+
+pub returns-in-Err-send-clause-read_to_end : goal.returns-in-Err-send-clause-read_to_end
+returns-in-Err-send-clause-read_to_end g c =
+    let words = map string_bytes c.args.words.now in
+    let shelf = g.S.Shelf in
+    let old = c.args.shelf.now in
+    let new = c.perform.new.shelf in
+    let before : Sight = record { files = shelf.files old; rest = shelf.rest old; faults = shelf.faults old; begins = shelf.begins old; taken = shelf.taken old } in
+    let after : Sight = record { files = shelf.files new; rest = shelf.rest new; faults = shelf.faults new; begins = shelf.begins new; taken = shelf.taken new } in
+    read_at_write_fault words before after c.in-Ok.field-0.status c.in-Ok.field-0.text.items c.in-Ok.ensures.caused
 
 pub returns-in-Ok-send-clause-complete : goal.returns-in-Ok-send-clause-complete
 returns-in-Ok-send-clause-complete g c = λ files told calm unfailing.
     let sink = g.K.Sink in
     let laws : Laws =
-    record { one_reading = c.verdict_laws.ensures.one_meaning; not_both = c.verdict_laws.ensures.not_both; made = c.stop_laws.ensures.made } in
+    record { one_data = c.acceptance_laws.ensures.one_data; not_both = c.acceptance_laws.ensures.not_both; made = c.stop_laws.ensures.made } in
     completes laws (map string_bytes c.args.words.now) files c.in-Ok.field-0.status (sink.written c.args.out.now) (sink.written c.send.new.out) (sink.faults c.args.out.now) (sink.faults c.send.new.out)
     (returns-in-Ok-send-clause-due g c files told calm) unfailing
 

@@ -2,7 +2,7 @@ use Rattle.std.proofs.Common.{◌≡◌, ◌-◌, ◌≤◌, ◌++◌, length, t
 use Rattle.io_edges.specs.Told.{WhereTold}
 use Rattle.osemosys_run.proofs.sending.send.Given as goal
 
--- the front that was sent stands behind what was written before
+-- the prefix that was sent comes after what was written before
 abbrev pub invariant-loop-sent : goal.invariant-loop-sent
 invariant-loop-sent g l =
     let sink = g.K.Sink in

@@ -10,20 +10,24 @@ use Rattle.row_book.specs.declared.fail.BookFail.TheVariants.{Width}
 use Rattle.osemosys_run.specs.declared.status.Status.{Status}
 use Rattle.osemosys_run.specs.declared.status.Status.TheVariants.{Uncertified}
 use Rattle.osemosys_run.specs.declared.status.Stop.{Stop}
-use Rattle.osemosys_run.specs.Due.{DueForEquations, place_line}
-use Rattle.osemosys_run.proofs.answer.answer_equations.Goals as goal
+use Rattle.osemosys_run.specs.Lines.{uncertified_line}
+use Rattle.osemosys_run.specs.Mps.{DueForEquations}
+use Rattle.osemosys_run.proofs.mps.answer_equations.Goals as goal
 
 -- the row that the book names is the one that is told
 width_told : (d : Data) (place : Place) (sets : SetLists) (status : Status) (text : List ℕ) → HasStopped d 0 (instances d) (Width place) → sets ≡ d.sets
-    → status ≡ Uncertified (Stop.Width place) → text ≡ place_line sets place → DueForEquations d status text
+    → status ≡ Uncertified (Stop.Width place) → text ≡ uncertified_line sets (Stop.Width place) → DueForEquations d status text
 width_told d place sets status text stopped same told line =
-    inr
-    (inl
-    (stopped.0, stopped.2, told ∙ ap (λ p. Uncertified (Stop.Width p)) stopped.1, line ∙ ap (λ p. place_line sets p) stopped.1 ∙ ap (λ s. place_line s (Place.Row stopped.0)) same))
+    inr (inl (record {
+      name = stopped.0;
+      wide = stopped.2;
+      status_is = told ∙ ap (λ p. Uncertified (Stop.Width p)) stopped.1;
+      line_is = line ∙ ap (λ p. uncertified_line sets (Stop.Width p)) stopped.1 ∙ ap (λ s. uncertified_line s (Stop.Width (Place.Row stopped.0))) same;
+    }))
 
 pub returns-in-Err-Width : goal.returns-in-Err-Width
 returns-in-Err-Width c =
-    let d = c.args.facts.now.facts in
+    let d = c.args.model.now.facts in
     let stopped = subst (HasStopped d 0 (instances d)) c.in-Err-Width.field-0-is c.in-Err-Width.ensures.stopped in
     IfOk-weaker c.stop_at.result _ _
     (λ answer told. width_told d c.in-Err-Width.place c.sets.result.now answer.status answer.text.items stopped c.sets.ensures.sets told.0 told.1)
@@ -31,6 +35,7 @@ returns-in-Err-Width c =
 
 pub returns-in-Err-TooManyEntries : goal.returns-in-Err-TooManyEntries
 returns-in-Err-TooManyEntries c =
-    let d = c.args.facts.now.facts in
+    let d = c.args.model.now.facts in
     let stopped = subst (HasStopped d 0 (instances d)) c.in-Err-TooManyEntries.field-0-is c.in-Err-TooManyEntries.ensures.stopped in
-    IfOk-weaker c.refuse_entries.result _ _ (λ answer told. inr (inr (stopped.0, stopped.1, told.0, told.1))) c.refuse_entries.ensures
+    IfOk-weaker c.refuse_entries.result _ _
+    (λ answer told. inr (inr (record { name = stopped.0; many = stopped.1; status_is = told.0; line_is = told.1 }))) c.refuse_entries.ensures

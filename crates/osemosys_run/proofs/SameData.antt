@@ -1,0 +1,45 @@
+-- What is due over some data is due over any with the same sets and values.
+use Rattle.std.proofs.Common.{◌≡◌, ℕ, List, inl, inr, ap, ◌∙◌}
+use Rattle.std.specs.Prelude.{◌↔◌}
+use Rattle.model_sets.specs.Data.{AreSameData, Data}
+use Rattle.model_sets.specs.Members.{SetLists}
+use Rattle.mps_writer.specs.MpsText.{mps_text}
+use Rattle.named_equations.specs.Instances.{instances}
+use Rattle.row_book.specs.Books.{AreRowsOf, CanBeMade, HasTooMany, IsTooWide}
+use Rattle.row_core.specs.declared.Row.{Row}
+use Rattle.row_core.specs.declared.RowName.{RowName}
+use Rattle.row_core.specs.declared.place.Place.{Place}
+use Rattle.osemosys_run.specs.declared.status.Status.{Status}
+use Rattle.osemosys_run.specs.declared.status.Stop.{Stop}
+use Rattle.osemosys_run.specs.Lines.{uncertified_line}
+use Rattle.osemosys_run.specs.Mps.{DueForEquations, WritesEquations}
+
+-- what the laws of the book say of two data that are the same
+pub record SameLaws (d e : Data) : Type 0 where
+  pub rows : (rows : List Row) → AreRowsOf d (instances d) rows ↔ AreRowsOf e (instances e) rows
+  pub made : (before : ℕ) → CanBeMade d before (instances d) ↔ CanBeMade e before (instances e)
+  pub wide : (before : ℕ) (name : RowName) → IsTooWide d before (instances d) name ↔ IsTooWide e before (instances e) name
+  pub many : (before : ℕ) (name : RowName) → HasTooMany d before (instances d) name ↔ HasTooMany e before (instances e) name
+
+-- the equations of one are those of the other
+writes_carry : (d e : Data) (text : List ℕ) → AreSameData d e → SameLaws d e → WritesEquations d text → WritesEquations e text
+writes_carry d e text same laws writes = record {
+  rows = writes.rows;
+  columns = writes.columns;
+  are_rows = (laws.rows writes.rows).0 writes.are_rows;
+  are_columns = writes.are_columns;
+  is = writes.is ∙ ap (λ (sets : SetLists). mps_text sets writes.rows writes.columns) same.sets;
+}
+
+pub equations_carry : (d e : Data) (status : Status) (text : List ℕ) → AreSameData d e → SameLaws d e → DueForEquations d status text → DueForEquations e status text
+equations_carry d e status text same laws (inl written) =
+    inl (record { made = (laws.made 0).0 written.made; status_is = written.status_is; writes = writes_carry d e text same laws written.writes })
+equations_carry d e status text same laws (inr (inl wide)) =
+    inr (inl (record {
+      name = wide.name;
+      wide = (laws.wide 0 wide.name).0 wide.wide;
+      status_is = wide.status_is;
+      line_is = wide.line_is ∙ ap (λ (sets : SetLists). uncertified_line sets (Stop.Width (Place.Row wide.name))) same.sets;
+    }))
+equations_carry d e status text same laws (inr (inr many)) =
+    inr (inr (record { name = many.name; many = (laws.many 0 many.name).0 many.many; status_is = many.status_is; line_is = many.line_is }))

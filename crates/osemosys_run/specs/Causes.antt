@@ -1,0 +1,42 @@
+-- Why a status and a text came, also where shelf and sink tell nothing.
+use Rattle.std.specs.Prelude.{◌≡◌, ℕ, List, ◌⊎◌, Result, Ok, Err}
+use Rattle.io_edges.specs.Count.{Rose}
+use Rattle.io_edges.specs.Edges.{Lacks}
+use Rattle.osemosys_run.specs.declared.status.Status.{Status}
+use Rattle.osemosys_run.specs.declared.status.Status.TheVariants.{Refused, Words, ReadFault}
+use Rattle.osemosys_run.specs.declared.status.Refusal.TheVariants.{TooLong}
+use Rattle.osemosys_run.specs.declared.status.ReadStop.TheVariants.{NoFile, Failed}
+use Rattle.osemosys_run.specs.declared.status.WordFault.{WordFault}
+use Rattle.osemosys_run.specs.Due.{DueForText}
+use Rattle.osemosys_run.specs.Lines.{stop_line, too_long_line, words_line}
+use Rattle.osemosys_run.specs.Mps.{DueForEquations}
+use Rattle.osemosys_run.specs.Reading.{Sight, BeganOne, HasNothingLeft, IsTooLong, IsWholeFile}
+use Rattle.osemosys_run.specs.Words.{Request, Mps, asked}
+
+-- the file of this name and number is too long, or missing, or the shelf failed and counted it; and the status and the text say so
+abbrev pub StopsAtFile : ℕ → List ℕ → Sight → Sight → Status → List ℕ → Type 0
+StopsAtFile number name before after status text =
+    ((status ≡ Refused (TooLong number)) × (text ≡ too_long_line number) × IsTooLong before.files name after.taken)
+    ⊎ ((status ≡ ReadFault (NoFile number)) × (text ≡ stop_line (NoFile number)) × Lacks before.files name × HasNothingLeft before after)
+    ⊎ ((status ≡ ReadFault (Failed number)) × (text ≡ stop_line (Failed number)) × Rose before.faults after.faults)
+
+-- The file of this name, which has this number among those that the words name, was read to its end, and `Then` says what followed from
+-- there on; or the work stops at it. Either way it alone was begun.
+abbrev pub CausedByFile : (Sight → List ℕ → Type 0) → ℕ → List ℕ → Sight → Sight → Status → List ℕ → Type 0
+CausedByFile Then number name before after status text =
+    ((there : Sight) × (bytes : List ℕ) × BeganOne before there
+    × IsWholeFile before.files name bytes before.rest there.rest there.taken × Then there bytes)
+    ⊎ (BeganOne before after × StopsAtFile number name before after status text)
+
+-- the shelf was left as it was, and the status and the text are due over the bytes
+abbrev pub FollowsFromText : Sight → Status → List ℕ → Sight → List ℕ → Type 0
+FollowsFromText after status text there bytes = (after ≡ there) × DueForText DueForEquations bytes status text
+
+-- for a request its file was begun, and for a fault of the words the shelf stays as it is
+abbrev pub CausedByRequest : Result Request WordFault → Sight → Sight → Status → List ℕ → Type 0
+CausedByRequest (Err fault) before after status text = (status ≡ Words fault) × (text ≡ words_line fault) × (after ≡ before)
+CausedByRequest (Ok (Mps name)) before after status text = CausedByFile (FollowsFromText after status text) 1 name before after status text
+
+-- The cause that the status and the text have: the words, a fault of the shelf that it counted, or the bytes that were read.
+abbrev pub Caused : List (List ℕ) → Sight → Sight → Status → List ℕ → Type 0
+Caused words before after status text = CausedByRequest (asked words) before after status text

@@ -1,0 +1,29 @@
+-- A file is read to its end before any answer on what it says.
+use Rattle.std.specs.Prelude.{◌≡◌, ◌≢◌, ℕ, ◌<◌, ◌≤◌, List, [], length, ◌⊎◌, Option, Some, Result, Ok, Err, ⊤, IsErr}
+use Rattle.io_edges.specs.Count.{Rose}
+use Rattle.io_edges.specs.Files.{file_named}
+use Rattle.osemosys_run.specs.declared.status.Status.{Status}
+use Rattle.osemosys_run.specs.declared.status.Status.TheVariants.{Done, Uncertified, Refused, Words, ReadFault, WriteFault, Memory}
+use Rattle.osemosys_run.specs.declared.status.Refusal.TheVariants.{TooLong}
+use Rattle.osemosys_run.specs.Reading.{Sight, HasNothingLeft, most_bytes}
+use Rattle.osemosys_run.specs.Words.{Mps, asked}
+
+-- where a write failed: nothing is left to read, or the words were refused, or the shelf counted a fault, or too many bytes were taken
+abbrev pub IsReadAtWriteFault : List (List ℕ) → Sight → Sight → Type 0
+IsReadAtWriteFault words before after =
+    HasNothingLeft before after ⊎ IsErr (asked words) ⊎ Rose before.faults after.faults ⊎ (most_bytes < after.taken)
+
+-- Nothing is left to read of a file that the answer speaks of, over any shelf that tells its rest: at every answer but those on the words, on
+-- a file that couldn't be read and on one that is too long; where memory ran out nothing is claimed.
+abbrev pub IsReadToEnd : List (List ℕ) → Sight → Sight → Status → Type 0
+IsReadToEnd words before after (Refused (TooLong number)) = ⊤
+IsReadToEnd words before after (Words fault) = ⊤
+IsReadToEnd words before after (ReadFault stop) = ⊤
+IsReadToEnd words before after Memory = ⊤
+IsReadToEnd words before after WriteFault = IsReadAtWriteFault words before after
+IsReadToEnd words before after status = HasNothingLeft before after
+
+-- a file that is there and isn't too long was read to its end, unless memory ran out; over a shelf that tells its files and had no fault
+abbrev pub ReadsWhole : List (List ℕ) → List (List ℕ × List ℕ) → Status → Option (List ℕ) → Type 0
+ReadsWhole words files status rest =
+    (name bytes : List ℕ) → asked words ≡ Ok (Mps name) → file_named files name ≡ Some bytes → length bytes ≤ most_bytes → status ≢ Memory → rest ≡ Some []

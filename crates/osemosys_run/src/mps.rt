@@ -1,0 +1,91 @@
+// What `mps` answers over accepted data: its equations, or the line for the first row that can't be made.
+ghost use Rattle.std.specs.Prelude.{◌≡◌, IfOk};
+ghost use Rattle.std.specs.List.{AllByRecursion};
+ghost use Rattle.model_sets.specs.Data.{AreSameData, Data};
+ghost use Rattle.named_equations.specs.Instances.{instances};
+ghost use Rattle.row_book.specs.Books.{AreRowsOf, AreVariablesOf, CanBeMade, HasNameWithin, IsWithinSets, NamesRowWithin};
+ghost use Rattle.row_book.specs.declared.fail.BookFail.{BookFail};
+ghost use Rattle.row_core.specs.Equations.{IsEquation};
+ghost use Rattle.row_core.specs.NameTexts.{RowNameIsWithin};
+ghost use Rattle.osemosys_run.specs.Lines.{entries_line, uncertified_line};
+ghost use Rattle.osemosys_run.specs.Mps.{DueForEquations, IsWritten};
+
+use crate::answer::Answer;
+use crate::lines::{entries_line, width_line};
+use crate::status::{Refusal, Status, Stop};
+use mps_writer::mps_text;
+use param_tables::ModelData;
+use row_book::{BookFail, RowBook, same_data_laws};
+use row_core::{Place, RowName};
+use model_sets::Sets;
+use std::alloc::{AllocError, Global};
+
+/// The MPS text of the equations of a model, or the line for the first row that can't be made. It is what is due
+/// over any data that have the model's sets and values.
+pub fn answer_mps(alloc: Global, model: &ModelData) -> Result<Answer, AllocError>
+    ensures { IfOk result (λ answer. (d : Data) → AreSameData model.now.facts d
+        → DueForEquations d answer.status answer.text.items) }
+{
+    same_data_laws();
+    answer_equations(alloc, model)
+}
+
+// The same over the model's own data.
+fn answer_equations(alloc: Global, model: &ModelData) -> Result<Answer, AllocError>
+    ensures { IfOk result (λ answer. DueForEquations model.now.facts answer.status answer.text.items) }
+{
+    match RowBook::new(alloc, model) {
+        Ok(book) => write_book(alloc, model, &book),
+        Err(BookFail::Width(place)) => stop_at(alloc, place, model.sets()),
+        Err(BookFail::TooManyEntries) => refuse_entries(alloc),
+        Err(BookFail::Memory) => Err(AllocError),
+    }
+}
+
+// The text of the rows of a book.
+fn write_book(alloc: Global, model: &ModelData, book: &RowBook) -> Result<Answer, AllocError>
+    requires rows { AreRowsOf model.now.facts (instances model.now.facts) book.now.rows }
+    requires variables { AreVariablesOf book.now.rows book.now.vars }
+    requires named { AllByRecursion (HasNameWithin model.now.facts.sets) book.now.rows }
+    requires within { AllByRecursion (IsWithinSets model.now.facts.sets) book.now.vars }
+    requires made { CanBeMade model.now.facts 0 (instances model.now.facts) }
+    ensures { IfOk result (λ answer. IsWritten model.now.facts answer.status answer.text.items) }
+{
+    let text = mps_text(alloc, book.rows(), book.vars(), model.sets())?;
+    let status = Status::Done;
+    Ok(Answer { status, text })
+}
+
+// The answer where a number that is formed at this place doesn't fit.
+fn stop_at(alloc: Global, place: Place, sets: &Sets) -> Result<Answer, AllocError>
+    requires { NamesRowWithin sets.now (BookFail.Width place) }
+    ensures { IfOk result (λ answer. (answer.status ≡ Status.Uncertified (Stop.Width place))
+        × (answer.text.items ≡ uncertified_line sets.now (Stop.Width place))) }
+{
+    match place {
+        Place::Row(name) => stop_at_row(alloc, name, sets),
+        _ => unreachable!(),
+    }
+}
+
+// The answer where a number of this row doesn't fit.
+fn stop_at_row(alloc: Global, name: RowName, sets: &Sets) -> Result<Answer, AllocError>
+    requires listed { IsEquation name.eq }
+    requires within { RowNameIsWithin sets.now name }
+    ensures { IfOk result (λ answer. (answer.status ≡ Status.Uncertified (Stop.Width (Place.Row name)))
+        × (answer.text.items ≡ uncertified_line sets.now (Stop.Width (Place.Row name)))) }
+{
+    let text = width_line(alloc, name, sets)?;
+    let status = Status::Uncertified(Stop::Width(Place::Row(name)));
+    Ok(Answer { status, text })
+}
+
+// The answer where the rows have too many entries.
+fn refuse_entries(alloc: Global) -> Result<Answer, AllocError>
+    ensures { IfOk result (λ answer. (answer.status ≡ Status.Refused Refusal.TooManyEntries)
+        × (answer.text.items ≡ entries_line)) }
+{
+    let text = entries_line(alloc)?;
+    let status = Status::Refused(Refusal::TooManyEntries);
+    Ok(Answer { status, text })
+}
