@@ -1,9 +1,8 @@
 -- What is left of a file to read, by the cause of the answer.
-use Rattle.std.proofs.Common.{◌≡◌, ◌≢◌, ℕ, ◌<◌, ◌≤◌, inl, inr, List, [], length, Option, Some, None, IsSome, Result, Ok, Err, refl, ap, sym, ◌∙◌, subst, arith}
+use Rattle.std.proofs.Common.{◌≡◌, ◌≢◌, ℕ, ◌<◌, inl, inr, List, [], Some, IsSome, Result, Ok, Err, refl, ap, sym, ◌∙◌, subst}
 use Rattle.std.specs.Prelude.{◌⊎◌, IsErr}
 use Rattle.io_edges.specs.Count.{Rose}
 use Rattle.io_edges.specs.Edges.{Lacks}
-use Rattle.io_edges.specs.Files.{file_named}
 use Rattle.osemosys_run.specs.declared.reading.ReadEnd.{ReadEnd}
 use Rattle.osemosys_run.specs.declared.reading.ReadEnd.TheVariants as ends
 use Rattle.osemosys_run.specs.declared.status.Status.{Status}
@@ -11,9 +10,9 @@ use Rattle.osemosys_run.specs.declared.status.Status.TheVariants.{Done, Uncertif
 use Rattle.osemosys_run.specs.declared.status.Refusal.TheVariants as refusals
 use Rattle.osemosys_run.specs.declared.status.ReadStop.TheVariants as stops
 use Rattle.osemosys_run.specs.declared.status.WordFault.{WordFault}
-use Rattle.osemosys_run.specs.Causes.{Caused, CausedByFile, CausedByRequest, FollowsFromText, StopsAtFile}
+use Rattle.osemosys_run.specs.Causes.{Caused, CausedByRequest, StopsAtFile}
 use Rattle.osemosys_run.specs.ReadEnds.{TellsEnd}
-use Rattle.osemosys_run.specs.Reading.{Sight, BeganOne, HasNothingLeft, IsTooLong, most_bytes}
+use Rattle.osemosys_run.specs.Reading.{Sight, HasNothingLeft, IsTooLong, most_bytes}
 use Rattle.osemosys_run.specs.ReadToEnd.{IsReadAtWriteFault, IsReadToEnd}
 use Rattle.osemosys_run.specs.Words.{Request, Mps, asked}
 
@@ -77,28 +76,3 @@ read_at_write_fault words before after status text caused = by_request (asked wo
     by_request (Err fault) c = inr (inl refl)
     by_request (Ok (Mps name)) (inl whole) = inl (left_alone before whole.0 after whole.3.none_left whole.4.0)
     by_request (Ok (Mps name)) (inr c) = stopped (Ok (Mps name)) name c.1
-
--- a file that is there and isn't too long was read to its end, whatever came of it
-pub reads_whole : (words : List (List ℕ)) (before after : Sight) (files : List (List ℕ × List ℕ)) (status : Status) (text : List ℕ)
-    → before.files ≡ Some files → IsSome before.rest → (Rose before.faults after.faults → ⊥) → Caused words before after status text
-    → (name bytes : List ℕ) → asked words ≡ Ok (Mps name) → file_named files name ≡ Some bytes → length bytes ≤ most_bytes → after.rest ≡ Some []
-reads_whole words before after files status text told rest_told calm caused name bytes asks there short =
-    by_cause (subst (λ (request : Result Request WordFault). CausedByRequest request before after status text) asks caused)
-  where
-    some_injective : {a b : List ℕ} → Some a ≡ Some b → a ≡ b
-    some_injective e = cc
-
-    some_none : {a : List ℕ} → Some a ≡ None → ⊥
-    some_none e = cc
-
-    stopped : StopsAtFile 1 name before after status text → after.rest ≡ Some []
-    stopped (inl long) =
-        let longer = long.2.longer files told in
-        let same : longer.0 ≡ bytes = some_injective (sym longer.1 ∙ there) in
-        absurd (omega (arith, longer.2, ap length same))
-    stopped (inr (inl missing)) = missing.3 rest_told
-    stopped (inr (inr failed)) = absurd (calm failed.2)
-
-    by_cause : CausedByFile (FollowsFromText after status text) 1 name before after status text → after.rest ≡ Some []
-    by_cause (inl whole) = left_alone before whole.0 after whole.3.none_left whole.4.0 rest_told
-    by_cause (inr c) = stopped c.1
