@@ -1,17 +1,15 @@
 -- A text is accepted with one model's data, or refused by one line.
 use Rattle.std.proofs.Common.{◌≡◌, ℕ, inl, inr, List, Option, Some, None, ap, sym, ◌∙◌, subst}
-use Rattle.std.specs.Prelude.{◌⊎◌}
 use Rattle.mathprog_data.specs.Meaning.{Blocks}
 use Rattle.mathprog_data.specs.Verdicts.{FaultAt, Says}
 use Rattle.mathprog_data.specs.declared.blocks.Mark.{Mark}
 use Rattle.model_sets.specs.Data.{Data}
-use Rattle.model_sets.specs.declared.fault.SetFault.{SetFault}
 use Rattle.param_tables.specs.BlockData.{data_told}
-use Rattle.param_tables.specs.Refusals.{Refusal, first_refusal}
+use Rattle.param_tables.specs.Refusals.{first_refusal}
 use Rattle.param_tables.specs.SetRefusals.{first_set_refusal}
 use Rattle.osemosys_run.specs.declared.status.Status.{Status}
 use Rattle.osemosys_run.specs.Accepted.{Accepted}
-use Rattle.osemosys_run.specs.NotAccepted.{DueWhereNotAccepted, RefusesBlocks, RefusesData, RefusesSets, RefusesText}
+use Rattle.osemosys_run.specs.NotAccepted.{DueWhereNotAccepted, RefusesBlocks}
 use Rattle.osemosys_run.specs.RefusalLines.{text_line, set_line, data_line}
 
 -- what the laws of the reader say

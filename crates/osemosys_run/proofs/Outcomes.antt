@@ -1,5 +1,5 @@
 -- From the cause of an answer to what is due, and from the answer to what was delivered.
-use Rattle.std.proofs.Common.{◌≡◌, ◌≢◌, ℕ, ◌≤◌, inl, inr, List, [], ◌++◌, length, Option, Some, None, Result, Ok, Err, Bool, true, false, refl, sym, ◌∙◌, subst, MatchBool, nat_lt, le-ltb, lt-ltb}
+use Rattle.std.proofs.Common.{◌≡◌, ◌≢◌, ℕ, inl, inr, List, ◌++◌, length, Option, Some, None, Result, Ok, Err, Bool, true, false, refl, sym, ◌∙◌, subst, MatchBool, nat_lt, le-ltb, lt-ltb}
 use Rattle.model_sets.specs.Data.{Data}
 use Rattle.row_core.specs.declared.place.Place.{Place}
 use Rattle.io_edges.specs.Count.{Rose}

@@ -1,5 +1,5 @@
 -- What is due over some data is due over any with the same sets and values.
-use Rattle.std.proofs.Common.{◌≡◌, ℕ, List, inl, inr, ap, ◌∙◌}
+use Rattle.std.proofs.Common.{ℕ, List, inl, inr, ap, ◌∙◌}
 use Rattle.std.specs.Prelude.{◌↔◌}
 use Rattle.model_sets.specs.Data.{AreSameData, Data}
 use Rattle.model_sets.specs.Members.{SetLists}

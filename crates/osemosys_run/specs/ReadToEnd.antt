@@ -1,9 +1,9 @@
 -- A file is read to its end before any answer on what it says.
-use Rattle.std.specs.Prelude.{◌≡◌, ◌≢◌, ℕ, ◌<◌, ◌≤◌, List, [], length, ◌⊎◌, Option, Some, Result, Ok, Err, ⊤, IsErr}
+use Rattle.std.specs.Prelude.{◌≡◌, ◌≢◌, ℕ, ◌<◌, ◌≤◌, List, [], length, ◌⊎◌, Option, Some, Ok, ⊤, IsErr}
 use Rattle.io_edges.specs.Count.{Rose}
 use Rattle.io_edges.specs.Files.{file_named}
 use Rattle.osemosys_run.specs.declared.status.Status.{Status}
-use Rattle.osemosys_run.specs.declared.status.Status.TheVariants.{Done, Uncertified, Refused, Words, ReadFault, WriteFault, Memory}
+use Rattle.osemosys_run.specs.declared.status.Status.TheVariants.{Refused, Words, ReadFault, WriteFault, Memory}
 use Rattle.osemosys_run.specs.declared.status.Refusal.TheVariants.{TooLong}
 use Rattle.osemosys_run.specs.Reading.{Sight, HasNothingLeft, most_bytes}
 use Rattle.osemosys_run.specs.Words.{Mps, asked}

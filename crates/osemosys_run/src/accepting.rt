@@ -57,7 +57,7 @@ fn accept_blocks(alloc: Global, blocks: &Blocks) -> Result<Result<ModelData, Ans
     requires { AreWellFormed (blocks_told blocks.now) }
     ensures { IfOk result (λ verdict. MatchResult verdict
         (λ model. (first_set_refusal (blocks_told blocks.now) ≡ None) × (first_refusal (blocks_told blocks.now) ≡ None)
-            × AreSameData model.facts (data_told (blocks_told blocks.now)))
+        × AreSameData model.facts (data_told (blocks_told blocks.now)))
         (λ answer. RefusesBlocks (blocks_told blocks.now) answer.status answer.text.items)) }
 {
     match sets_of(alloc, blocks) {
@@ -68,7 +68,11 @@ fn accept_blocks(alloc: Global, blocks: &Blocks) -> Result<Result<ModelData, Ans
 }
 
 // The data of blocks whose sets aren't refused, or the answer for their first refusal.
-fn accept_data(alloc: Global, blocks: &Blocks, sets: Sets) -> Result<Result<ModelData, Answer>, AllocError>
+fn accept_data(
+    alloc: Global,
+    blocks: &Blocks,
+    sets: Sets,
+) -> Result<Result<ModelData, Answer>, AllocError>
     requires blocks { AreWellFormed (blocks_told blocks.now) }
     requires sets { sets ≡ set_lists (blocks_told blocks.now) }
     requires accepted { first_set_refusal (blocks_told blocks.now) ≡ None }

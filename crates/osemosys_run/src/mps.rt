@@ -13,11 +13,11 @@ ghost use Rattle.osemosys_run.specs.Mps.{DueForEquations, IsWritten};
 use crate::answer::Answer;
 use crate::lines::{entries_line, width_line};
 use crate::status::{Refusal, Status, Stop};
+use model_sets::Sets;
 use mps_writer::mps_text;
 use param_tables::ModelData;
 use row_book::{BookFail, RowBook, same_data_laws};
 use row_core::{Place, RowName};
-use model_sets::Sets;
 use std::alloc::{AllocError, Global};
 
 /// The MPS text of the equations of a model, or the line for the first row that can't be made. It is what is due

@@ -138,7 +138,7 @@ fn perform<S: Shelf>(alloc: Global, words: &[String], shelf: &mut S) -> Result<A
 fn perform_mps<S: Shelf>(alloc: Global, file: &str, shelf: &mut S) -> Result<Answer, AllocError>
     ensures caused { IfOk result (λ answer.
         let after = sight (S.files shelf.new) (S.rest shelf.new)
-            (S.faults shelf.new) (S.begins shelf.new) (S.taken shelf.new) in
+        (S.faults shelf.new) (S.begins shelf.new) (S.taken shelf.new) in
         CausedByFile (FollowsFromText after answer.status answer.text.items) DATA_FILE file.now
         (sight (S.files shelf.old) (S.rest shelf.old)
         (S.faults shelf.old) (S.begins shelf.old) (S.taken shelf.old))

@@ -1,4 +1,4 @@
-use Rattle.std.proofs.Common.{◌≡◌, inl, inr, refl, rules}
+use Rattle.std.proofs.Common.{inl, inr, refl, rules}
 use Rattle.std.proofs.lemmas.Result.{IfOk-weaker}
 use Rattle.osemosys_run.specs.Reading.{BeganOne, Sight}
 use Rattle.osemosys_run.proofs.EndsOfFiles.{stops_at_file}
