@@ -3,23 +3,23 @@
 #![tactic(auto)]
 
 #[cfg(test)]
-mod balance_rows;
-#[cfg(test)]
 mod base_example;
-#[cfg(test)]
-mod capacity_rows;
-#[cfg(test)]
-mod cost_rows;
-#[cfg(test)]
-mod emission_rows;
-#[cfg(test)]
-mod limit_rows;
 #[cfg(test)]
 mod lines;
 #[cfg(test)]
 mod plans;
 #[cfg(test)]
 mod printed;
+#[cfg(test)]
+mod printed_balance;
+#[cfg(test)]
+mod printed_capacity;
+#[cfg(test)]
+mod printed_cost;
+#[cfg(test)]
+mod printed_emission;
+#[cfg(test)]
+mod printed_limit;
 #[cfg(test)]
 mod random;
 #[cfg(test)]
