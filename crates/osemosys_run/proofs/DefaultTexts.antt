@@ -140,26 +140,56 @@ members_whole (member ∷ members) more rest fit whole =
     (refl, (bare_whole member spelt (members_stop members more rest), members_whole members more rest others whole))
 
 line_whole : (line : Line) (more : List Piece) (rest : List ℕ) → found line ≡ due line → AreWhole more rest → AreWhole (line_pieces line more) rest
-line_whole (SetLine word number members) more rest fit whole =
-    (bare_whole (codes "set") refl refl,
-    (refl,
-    (bare_whole word (ap (λ f. f.0) fit) refl,
-    (refl,
-    (tt,
-    members_whole members more rest (ap (λ f. f.1) fit) whole)))))
-line_whole (DefaultLine word number digits value) more rest fit whole =
-    (bare_whole (codes "param") refl refl,
-    (refl,
-    (bare_whole word (ap (λ f. f.0) fit) refl,
-    (refl,
-    (bare_whole (codes "default") refl refl,
-    (refl,
-    (bare_whole digits (ap (λ f. f.1) fit) refl,
-    (refl,
-    (tt,
-    (tt,
-    (refl,
-    whole)))))))))))
+line_whole (SetLine word number members) more rest fit whole = (
+  bare_whole (codes "set") refl refl,
+  (
+    refl,
+    (
+      bare_whole word (ap (λ f. f.0) fit) refl,
+      (
+        refl,
+        (
+          tt,
+          members_whole members more rest (ap (λ f. f.1) fit) whole,
+        ),
+      ),
+    ),
+  ),
+)
+line_whole (DefaultLine word number digits value) more rest fit whole = (
+  bare_whole (codes "param") refl refl,
+  (
+    refl,
+    (
+      bare_whole word (ap (λ f. f.0) fit) refl,
+      (
+        refl,
+        (
+          bare_whole (codes "default") refl refl,
+          (
+            refl,
+            (
+              bare_whole digits (ap (λ f. f.1) fit) refl,
+              (
+                refl,
+                (
+                  tt,
+                  (
+                    tt,
+                    (
+                      refl,
+                      whole,
+                    ),
+                  ),
+                ),
+              ),
+            ),
+          ),
+        ),
+      ),
+    ),
+  ),
+)
 
 lines_whole : (lines : List Line) (more : List Piece) (rest : List ℕ) → AreFit lines → AreWhole more rest → AreWhole (lines_pieces lines more) rest
 lines_whole [] more rest fit whole = whole
@@ -167,11 +197,16 @@ lines_whole (line ∷ lines) more rest fit whole =
     line_whole line (lines_pieces lines more) rest (first_fits line lines fit) (lines_whole lines more rest (others_fit line lines fit) whole)
 
 section_whole : (lines : List Line) (rest : List ℕ) → AreFit lines → AreWhole (section lines) rest
-section_whole lines rest fit =
-    (bare_whole (codes "data") refl refl,
-    (tt,
-    (refl,
-    lines_whole lines (BareToken (codes "end") ∷ semicolon_sign ∷ []) rest fit (bare_whole (codes "end") refl refl, (tt, tt)))))
+section_whole lines rest fit = (
+  bare_whole (codes "data") refl refl,
+  (
+    tt,
+    (
+      refl,
+      lines_whole lines (BareToken (codes "end") ∷ semicolon_sign ∷ []) rest fit (bare_whole (codes "end") refl refl, (tt, tt)),
+    ),
+  ),
+)
 
 -- ---- what the tokens mean, wherever they stand
 
@@ -187,19 +222,21 @@ members_are (member ∷ members) more front =
 
 statement_is : (line : Line) (more : List Piece) (front : List ℕ) → found line ≡ due line → Somewhere (λ rest. IsStatement (placed_after front (line_pieces line more)) rest (statement_of line)) more
 statement_is (SetLine word number members) more front fit =
-    let named = members_are members more _ in
-    (named.0,
-    trees.IsStatement.set_is
-    (trees.Beginning.set_begins (bare_name word) refl refl (ap (λ f. f.2) fit))
-    symbols.Comma.none
-    (trees.Members.gives refl named.1))
-statement_is (DefaultLine word number digits value) more front fit =
-    (_,
-    trees.IsStatement.param_is
-    (trees.Beginning.param_begins (bare_name word) refl refl (ap (λ f. f.2) fit))
-    symbols.Comma.none
-    (trees.Default.stated refl (digits, refl, reading-Reads digits (value, false) (ap (λ f. f.3) fit)) symbols.Comma.none)
-    (trees.Records.gives refl (trees.Records.close refl)))
+    let named = members_are members more _ in (
+      named.0,
+      trees.IsStatement.set_is
+          (trees.Beginning.set_begins (bare_name word) refl refl (ap (λ f. f.2) fit))
+          symbols.Comma.none
+          (trees.Members.gives refl named.1),
+    )
+statement_is (DefaultLine word number digits value) more front fit = (
+  _,
+  trees.IsStatement.param_is
+      (trees.Beginning.param_begins (bare_name word) refl refl (ap (λ f. f.2) fit))
+      symbols.Comma.none
+      (trees.Default.stated refl (digits, refl, reading-Reads digits (value, false) (ap (λ f. f.3) fit)) symbols.Comma.none)
+      (trees.Records.gives refl (trees.Records.close refl)),
+)
 
 statements_are : (lines : List Line) (more : List Piece) (front : List ℕ) → AreFit lines → Somewhere (λ rest. sections.Statements (placed_after front (lines_pieces lines more)) rest (map statement_of lines)) more
 statements_are [] more front fit = (front, sections.Statements.none)
