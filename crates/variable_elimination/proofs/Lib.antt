@@ -1,0 +1,4 @@
+pub mod LiftLaws
+pub mod ReductionLaws
+pub mod ExpandLaws
+pub mod LookUpLaws

@@ -1,0 +1,4 @@
+pub mod Meaning
+pub mod Reductions
+pub mod Kept
+pub mod Expansions

@@ -1,0 +1,4 @@
+//! Defined variables are removed from rows, and values and multipliers of the reduced rows are carried back.
+#![tactic(auto)]
+
+mod expanding;

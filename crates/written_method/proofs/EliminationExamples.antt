@@ -1,0 +1,2 @@
+-- The least model, eliminated by computation.
+use Rattle.std.proofs.Common.{◌≡◌, refl}
