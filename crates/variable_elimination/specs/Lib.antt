@@ -2,3 +2,4 @@ pub mod Meaning
 pub mod Reductions
 pub mod Kept
 pub mod Expansions
+pub mod SoFar
