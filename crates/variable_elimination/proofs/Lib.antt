@@ -6,3 +6,5 @@ pub mod SameForms
 pub mod VariableLaws
 pub mod GrowthLaws
 pub mod DefinitionSteps
+pub mod SoFarLaws
+pub mod RowSteps

@@ -22,6 +22,7 @@ use Rattle.variable_elimination.specs.Reductions.{multiples_of, IsReduced, IsRed
 use Rattle.std.specs.Prelude.{Option, Some, None}
 use Rattle.row_core.specs.Forms.{Form, form_of}
 use Rattle.written_method.specs.Expanded.{scaled_by}
+use Rattle.exact_num.proofs.GcdLaws.{gcd_of-one}
 use Rattle.variable_elimination.proofs.LiftLaws.{minus-is, row_sum-avoids, row_sum-times}
 
 -- ---- multiples
@@ -287,3 +288,13 @@ IsReducedOver-combined definitions named None row j none exp u new hu within r e
 }
 IsReducedOver-combined definitions named (Some s) row j none exp u new hu within r e m =
     (times-IsLowest s u r.0 hu, IsReduced-combined definitions named s row j none e.scale exp u new r.0 hu within r.1 e.reduced m)
+
+pub IsLowest-one : IsLowest (whole (pos 1))
+IsLowest-one = record { positive = omega (arith, ints); coprime = gcd_of-one 1 }
+
+pub IsReducedBy-itself : (definitions : List Row) (row : Row) → IsReducedBy definitions row row
+IsReducedBy-itself definitions row = record { scale = whole (pos 1); lowest = IsLowest-one; reduced = IsReduced-itself definitions row }
+
+pub IsReducedOver-by : (definitions : List Row) (named : Row) (s : Option Rational) (new : Row) → IsReducedOver definitions named s new → IsReducedBy definitions named new
+IsReducedOver-by definitions named None new r = r
+IsReducedOver-by definitions named (Some s) new r = record { scale = s; lowest = r.0; reduced = r.1 }

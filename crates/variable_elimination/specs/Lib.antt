@@ -3,3 +3,4 @@ pub mod Reductions
 pub mod Kept
 pub mod Expansions
 pub mod SoFar
+pub mod ReducedRows
