@@ -1,5 +1,5 @@
 -- The elimination: the definitions are expanded one after another, then the rows that define nothing, and the row of the cost last.
-use Rattle.std.specs.Prelude.{ℕ, ℤ, pos, negsuc, Bool, true, false, not, ◌&&◌, ◌||◌, ◌==◌, nat_lt, List, [], ◌∷◌, ◌++◌, map, filter, Option, Some, None, if◌then◌else◌}
+use Rattle.std.specs.Prelude.{ℕ, ℤ, pos, negsuc, Bool, true, false, not, ◌&&◌, ◌||◌, ◌==◌, nat_lt, List, [], ◌∷◌, ◌++◌, map, filter, flat_map, Option, Some, None, if◌then◌else◌}
 use Rattle.std.specs.Ordering.{is_eq}
 use Rattle.std.specs.declared.cmp.Ordering.TheVariants.{Less, Equal as Alike, Greater}
 use Rattle.exact_num.specs.Rational.{Rational, whole}
@@ -12,6 +12,7 @@ use Rattle.row_core.specs.declared.kind_numbers.TheConstants.{RATE_OF_ACTIVITY, 
 use Rattle.row_core.specs.declared.place.Place.{Place}
 use Rattle.row_core.specs.declared.place.Place.TheVariants.{Expand, CostRow}
 use Rattle.row_core.specs.Forms.{Form, form_of}
+use Rattle.row_core.specs.Numbers.{variables_of}
 use Rattle.row_core.specs.Order.{var_cmp}
 use Rattle.row_core.specs.Rows.{number_at}
 use Rattle.row_core.specs.Statements.{stands}
@@ -72,6 +73,10 @@ row_steps defs (row ∷ rows) = record { place = Expand row.name; formed = expan
 abbrev pub is_column : Var → Bool
 is_column v = (v.kind == RATE_OF_ACTIVITY) || ((v.kind == NEW_CAPACITY) || ((v.kind == TRADE) && nat_lt v.index.region v.index.other))
 
+-- those of all entries, row by row
+abbrev pub column_entries : List Row → List Var
+column_entries rows = flat_map (λ row. filter is_column (variables_of row.entries.items)) rows
+
 -- ---- the cost
 
 -- the variable that stands for the cost, z: there is no kind 0
@@ -88,18 +93,26 @@ placed v (w ∷ ws) =
       | Greater ↦ w ∷ placed v ws
     ]
 
--- the defined variables of which the cost is the sum, ascending
-abbrev pub cost_variables : List Var → List Definition → List Var
+-- a defined variable of which the cost is the sum is put at its place
+abbrev pub with_cost_variable : List Var → Option Var → List Var
+with_cost_variable so_far None = so_far
+with_cost_variable so_far (Some v) = if v.kind == TOTAL_DISCOUNTED_COST then placed v so_far else so_far
+
+-- all of these, ascending
+abbrev pub cost_variables : List Var → List (Option Var) → List Var
 cost_variables so_far [] = so_far
-cost_variables so_far (d ∷ ds) = cost_variables (if d.variable.kind == TOTAL_DISCOUNTED_COST then placed d.variable so_far else so_far) ds
+cost_variables so_far (def ∷ defs) = cost_variables (with_cost_variable so_far def) defs
+
+abbrev pub minus_one_at : Var → Var × ℤ
+minus_one_at v = (v, negsuc 0)
 
 -- z less all of them is 0
-abbrev pub cost_form : List Definition → Form
-cost_form ds = record { entries = (cost_variable, pos 1) ∷ map (λ v. (v, negsuc 0)) (cost_variables [] ds); right = pos 0 }
+abbrev pub cost_form : List (Option Var) → Form
+cost_form defs = record { entries = (cost_variable, pos 1) ∷ map minus_one_at (cost_variables [] defs); right = pos 0 }
 
 -- that row without defined variables
-abbrev pub cost_row : List Definition → Form
-cost_row ds = (expanded (expanded_all [] ds) (unscaled (cost_form ds))).form
+abbrev pub cost_row : List (Var × Form) → List (Option Var) → Form
+cost_row forms defs = (expanded forms (unscaled (cost_form defs))).form
 
 -- the entries but that of a variable
 abbrev pub other_entries : Var → List (Var × ℤ) → List (Var × ℤ)
@@ -112,4 +125,4 @@ abbrev pub elimination_steps : List Row → List (Option Var) → List (Step Pla
 elimination_steps rows defs =
     definition_steps [] (definitions_of rows defs)
     ++ (row_steps (expanded_all [] (definitions_of rows defs)) (others_of rows defs)
-    ++ record { place = CostRow; formed = expanded_formed (expanded_all [] (definitions_of rows defs)) (unscaled (cost_form (definitions_of rows defs))) } ∷ [])
+    ++ record { place = CostRow; formed = expanded_formed (expanded_all [] (definitions_of rows defs)) (unscaled (cost_form defs)) } ∷ [])
