@@ -8,3 +8,7 @@ pub mod GrowthLaws
 pub mod DefinitionSteps
 pub mod SoFarLaws
 pub mod RowSteps
+pub mod PlacedLaws
+pub mod CostLaws
+pub mod ColumnsInOrder
+pub mod EliminationLaws

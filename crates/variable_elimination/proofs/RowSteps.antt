@@ -10,6 +10,9 @@ use Rattle.exact_num.specs.declared.fraction.Frac.{Frac}
 use Rattle.exact_num.proofs.StepLaws.{first_wide-fits, first_wide-stops, first_wide-nil}
 use Rattle.row_core.specs.declared.Row.{Row}
 use Rattle.row_core.specs.declared.Var.{Var}
+use Rattle.row_core.specs.declared.RowName.{RowName}
+use Rattle.row_core.specs.declared.Sense.{Sense}
+use Rattle.row_core.specs.Combined.{combined_scale}
 use Rattle.row_core.specs.declared.place.Place.TheVariants.{Expand}
 use Rattle.row_core.specs.Forms.{Form, form_of}
 use Rattle.row_core.specs.Statements.{stands}
@@ -27,11 +30,11 @@ HasScale (Some s) = Unit {0}
 
 without-scale : (o : Option Form) (v : Var) (s : Scaled) → HasScale s.scale → HasScale (without o v s).scale
 without-scale None v s h = h
-without-scale (Some def) v s h = by_scale s.scale h
+without-scale (Some def) v s h = by_scale (combined_scale s.form def v) s.scale h
   where
-    by_scale : {by : Rational} (o : Option Rational) → HasScale o → HasScale (scaled_by o by)
-    by_scale None h = h
-    by_scale (Some t) h = tt
+    by_scale : (by : Rational) (o : Option Rational) → HasScale o → HasScale (scaled_by o by)
+    by_scale by None h = h
+    by_scale by (Some t) h = tt
 
 pub all-scale : (defs : List (Var × Form)) (vs : List Var) (s : Scaled) → HasScale s.scale → HasScale (without_all defs vs s).scale
 all-scale defs [] s h = h
@@ -69,7 +72,7 @@ reduced_rows-last defs (first ∷ rows) row = cases (is_kept (reduced_row defs f
 shape_is : (defs : List (Var × Form)) (row made : Row) (scale : Frac) → made.name ≡ row.name → made.sense ≡ row.sense → scaled_of made (Some scale) ≡ expanded defs (at_first row) → shape_of made ≡ shape (reduced_row defs row)
 shape_is defs row made scale n s e = same made.name row.name made.sense row.sense (form_of made) (expanded defs (at_first row)).form n s (ap (λ (t : Scaled). t.form) e)
   where
-    same : (a b : _) (c d : _) (f g : Form) → a ≡ b → c ≡ d → f ≡ g → record { name = a; sense = c; form = f } ≡ record { name = b; sense = d; form = g }
+    same : (a b : RowName) (c d : Sense) (f g : Form) → a ≡ b → c ≡ d → f ≡ g → ◌≡◌ {A = Shape} (record { name = a; sense = c; form = f }) (record { name = b; sense = d; form = g })
     same a b c d f g p q r = cc
 
 stays_is : (defs : List (Var × Form)) (row made : Row) → shape_of made ≡ shape (reduced_row defs row) → stays made ≡ is_kept (reduced_row defs row)

@@ -4,3 +4,5 @@ pub mod Kept
 pub mod Expansions
 pub mod SoFar
 pub mod ReducedRows
+pub mod CostRows
+pub mod Columns
