@@ -44,7 +44,7 @@ pub first-fits : (vs : List Var) → all_in_range (pos 0 ∷ numbers_of (first_e
 first-fits vs = in_range-minus vs
 
 pub first-lowest : (vs : List Var) → IsLowest (pos 0 ∷ numbers_of (first_entries vs))
-first-lowest vs d above h = let small : d ≤ 1 = le_of_dvd d 1 h.1.0 (omega arith) in absurd (omega arith)
+first-lowest vs d above h = let one : 0 < 1 = omega arith in let small : d ≤ 1 = le_of_dvd one h.1.0 in absurd (omega arith)
 
 map-last : (vs : List Var) (v : Var) → map minus_one_at (vs ++ v ∷ []) ≡ map minus_one_at vs ++ minus_one_at v ∷ []
 map-last [] v = refl

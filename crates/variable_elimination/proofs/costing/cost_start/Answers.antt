@@ -13,7 +13,8 @@ pub loop-variable-init : goal.loop-variable-init
 loop-variable-init c = c.in_ok-push.ensures.items ∙ ap (λ (es : List (Var × ℤ)). es ++ (cost_variable, pos 1) ∷ []) c.new-entries.ensures.items
 
 pub loop-variable-preserved : goal.loop-variable-preserved
-loop-variable-preserved c = ?
+loop-variable-preserved c =
+    entries_more c.deref-variable-items.result.now c.loop-variable.variable-index cost_variable c.loop-variable.entries.items c.push-in-loop-variable.new.self.items c.loop-variable-test.true c.loop-variable.invariant c.in_ok-push-2.ensures.items
 
 -- all entries
 all_entries : (xs vs : List Var) (i : ℕ) (es : List (Var × ℤ)) → xs ≡ vs → length xs ≤ i → es ≡ (cost_variable, pos 1) ∷ map minus_one_at (take i xs) → es ≡ first_entries vs
