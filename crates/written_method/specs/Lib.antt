@@ -1,0 +1,4 @@
+pub mod Definitions
+pub mod Expanded
+pub mod Eliminated
+pub mod Lifted
