@@ -1,0 +1,7 @@
+pub mod RunLaws
+mod Examples
+pub mod CombinedLaws
+pub mod PivotLaws
+pub mod BasisLaws
+pub mod EndLaws
+pub mod LeavingLaws

@@ -1,0 +1,12 @@
+pub mod Lines
+pub mod Tableaus
+pub mod Choices
+pub mod Rounds
+pub mod Runs
+pub mod Programs
+pub mod FirstTableau
+pub mod Values
+pub mod Solved
+pub mod Meaning
+pub mod Basis
+pub mod Ends
