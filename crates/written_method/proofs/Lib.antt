@@ -5,3 +5,5 @@ pub mod PivotLaws
 pub mod BasisLaws
 pub mod EndLaws
 pub mod LeavingLaws
+pub mod FirstLaws
+pub mod DroppedLaws
