@@ -7,3 +7,4 @@ pub mod EndLaws
 pub mod LeavingLaws
 pub mod FirstLaws
 pub mod DroppedLaws
+pub mod ChosenLaws
