@@ -8,3 +8,4 @@ pub mod LeavingLaws
 pub mod FirstLaws
 pub mod DroppedLaws
 pub mod ChosenLaws
+pub mod PhaseLaws
