@@ -15,7 +15,7 @@ use Rattle.written_method.proofs.LeavingLaws.{AtMost, Leads, IsLeast, IsOfRow, l
 -- ---- what is due in a phase
 
 -- a round, in either phase
-pub round_of : State → Due
+abbrev pub round_of : State → Due
 round_of s = elim (entering s) [ None ↦ NoColumn | Some c ↦ leaving s c ]
 
 due_in : State → Phase → Due
@@ -31,11 +31,11 @@ unfolding due_in
 due-start s h = ap (due_in s) h
 
 pub due-one : (s : State) → s.phase ≡ One → due s ≡ round_of s
-unfolding due_in round_of
+unfolding due_in
 due-one s h = ap (due_in s) h
 
 pub due-two : (s : State) → s.phase ≡ Two → due s ≡ round_of s
-unfolding due_in round_of
+unfolding due_in
 due-two s h = ap (due_in s) h
 
 deciding_in : State → Phase → Line
@@ -157,7 +157,6 @@ of_candidate s r c a shaped enters chosen row =
     ]
 
 pub round-IsRound : (s : State) (r c : ℕ) → IsShaped s.tableau → round_of s ≡ Pivot r c → IsRound s r c
-unfolding round_of
 round-IsRound s r c shaped h = pick (entering s) refl h
   where
     chosen : (d : ℕ) → entering s ≡ Some d → (o : Option Candidate) → leaving_from (x0_of s) d 0 None s.tableau.lines s.tableau.basics ≡ o → elim o as (λ _. Due) [ None ↦ NoRow d | Some a ↦ Pivot a.row d ] ≡ Pivot r c → IsRound s r c
@@ -176,7 +175,6 @@ IsRound-MayLeave s r c w = record { row = w.row; positive = w.positive; least = 
 
 -- no column enters
 pub round-NoColumn : (s : State) → round_of s ≡ NoColumn → (c : ℕ) → entry_of (deciding_line s) c ≤ℤ pos 0
-unfolding round_of
 round-NoColumn s h c = pick (entering s) refl h
   where
     no_row_chosen : (o : Option Candidate) (d : ℕ) → elim o as (λ _. Due) [ None ↦ NoRow d | Some a ↦ Pivot a.row d ] ≡ NoColumn → ⊥
@@ -193,7 +191,6 @@ pub record IsStuck (s : State) (c : ℕ) : Type 0 where
   pub rows : (i : ℕ) → i < rows_of s.tableau → entry_of (line_of s.tableau i) c ≤ℤ pos 0
 
 pub round-NoRow : (s : State) (c : ℕ) → IsShaped s.tableau → round_of s ≡ NoRow c → IsStuck s c
-unfolding round_of
 round-NoRow s c shaped h = pick (entering s) refl h
   where
     chosen : (d : ℕ) → entering s ≡ Some d → (o : Option Candidate) → leaving_from (x0_of s) d 0 None s.tableau.lines s.tableau.basics ≡ o → elim o as (λ _. Due) [ None ↦ NoRow d | Some a ↦ Pivot a.row d ] ≡ NoRow c → IsStuck s c

@@ -135,7 +135,7 @@ length-without_last line n e = taken line.entries n e
         length_take (y ∷ ys) (suc k) l = ap suc (length_take ys k (omega arith))
 
 -- the values with 0 in one column
-pub without : ℕ → Values → Values
+abbrev pub without : ℕ → Values → Values
 without x v = record { q = v.q; column = λ c. if c == x then pos 0 else v.column c }
 
 eq_no : (a b : ℕ) → a ≢ b → (a == b) ≡ false
@@ -154,7 +154,6 @@ sum-without (z ∷ zs) (suc n) low x h =
     (sum-without zs n (suc low) x (omega arith) ∙ ap (λ m. sum_from (suc low) zs (λ c. if c == m then pos 0 else x c)) (omega arith))
 
 pub excess-without_last : (line : Line) (n : ℕ) (v : Values) (o : ℤ) → length line.entries ≡ suc n → excess (without_last line) v o ≡ excess line (without n v) o
-unfolding without
 excess-without_last line n v o h =
     ap (λ s. (s +ℤ (line.own *ℤ o)) -ℤ (line.right *ℤ v.q))
     (ap (λ k. sum_from 0 (take k line.entries) v.column) (omega arith) ∙ sum-without line.entries n 0 v.column h ∙ ap (λ k. sum_from 0 line.entries (λ c. if c == k then pos 0 else v.column c)) (omega arith))

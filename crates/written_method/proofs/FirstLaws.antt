@@ -135,41 +135,35 @@ artificial-x0 p = in_x0 (zeros (width_of p.columns)) (zeros (length p.rows)) (ne
 
 -- ---- the lines of the tableau
 
-pub tail_lines : LinearProgram → Bool → List Line
+abbrev pub tail_lines : LinearProgram → Bool → List Line
 tail_lines p there = cost_line p there ∷ (if there then (artificial_line p ∷ []) else [])
 
 pub rows_of-first : (p : LinearProgram) (there : Bool) → rows_of (tableau_with p there) ≡ length p.rows
 rows_of-first p there = length-counted_from (width_of p.columns) (length p.rows)
 
 pub line-row : (p : LinearProgram) (there : Bool) (i : ℕ) (d : Inequality) → i < length p.rows → line_of (tableau_with p there) i ≡ row_line p.columns there (length p.rows) i (get_or p.rows i d)
-unfolding tail_lines
 line-row p there i d h =
     get_or-append (row_lines p.columns there (length p.rows) 0 p.rows) (tail_lines p there) no_line i (omega (arith, length-row_lines p.columns there (length p.rows) 0 p.rows))
     ∙ get_or-row_lines p.columns there (length p.rows) 0 p.rows i d h
     ∙ ap (λ k. row_line p.columns there (length p.rows) k (get_or p.rows i d)) (omega arith)
 
 line-tail : (p : LinearProgram) (there : Bool) (k : ℕ) → line_of (tableau_with p there) (length p.rows + k) ≡ get_or (tail_lines p there) k no_line
-unfolding tail_lines
 line-tail p there k =
     ap (λ n. line_of (tableau_with p there) (n + k)) (sym (length-row_lines p.columns there (length p.rows) 0 p.rows))
     ∙ get_or-append-add (row_lines p.columns there (length p.rows) 0 p.rows) (tail_lines p there) k no_line
 
 pub line-cost : (p : LinearProgram) (there : Bool) → line_of (tableau_with p there) (length p.rows) ≡ cost_line p there
-unfolding tail_lines
 line-cost p there = ap (λ k. line_of (tableau_with p there) k) (omega arith) ∙ line-tail p there 0
 
 pub line-artificial : (p : LinearProgram) → line_of (tableau_with p true) (length p.rows + 1) ≡ artificial_line p
-unfolding tail_lines
 line-artificial p = line-tail p true 1
 
 pub length-lines : (p : LinearProgram) (there : Bool) → length (tableau_with p there).lines ≡ length p.rows + length (tail_lines p there)
-unfolding tail_lines
 length-lines p there =
     length-append (row_lines p.columns there (length p.rows) 0 p.rows) (tail_lines p there)
     ∙ ap (λ n. n + length (tail_lines p there)) (length-row_lines p.columns there (length p.rows) 0 p.rows)
 
 pub length-tail : (p : LinearProgram) (there : Bool) → length (tail_lines p there) ≡ suc (if there then 1 else 0)
-unfolding tail_lines
 length-tail p true = refl
 length-tail p false = refl
 
@@ -190,7 +184,6 @@ pub each_line : (p : LinearProgram) (there : Bool) (P : ℕ → Line → Type 0)
     → ((i : ℕ) → i < length p.rows → P i (row_line p.columns there (length p.rows) i (get_or p.rows i no_row)))
     → ((k : ℕ) → k < length (tail_lines p there) → P (length p.rows + k) (get_or (tail_lines p there) k no_line))
     → (i : ℕ) → i < length (tableau_with p there).lines → P i (line_of (tableau_with p there) i)
-unfolding tail_lines
 each_line p there P rows tail i h = elim (row_or_tail (length p.rows) i) [
   | inl within ↦ subst (P i) (sym (line-row p there i no_row within)) (rows i within)
   | inr w ↦
@@ -206,7 +199,6 @@ three_lengths : (xs ys zs : List ℤ) (w n m : ℕ) → length xs ≡ w → leng
 three_lengths xs ys zs w n m e f g = length-append xs (ys ++ zs) ∙ ap (λ k. length xs + k) (length-append ys zs) ∙ omega arith
 
 pub IsShaped-first : (p : LinearProgram) (there : Bool) → IsShaped (tableau_with p there)
-unfolding tail_lines
 IsShaped-first p there = record {
   lines = omega (arith, length-lines p there, rows_of-first p there);
   entries = each_line p there (λ i l. length l.entries ≡ w + n + (if there then 1 else 0)) (λ i h. row i) (tail there);
@@ -237,7 +229,6 @@ IsShaped-first p there = record {
     tail false (suc k) h = absurd (omega arith)
 
 pub HasCosts-first : (p : LinearProgram) (there : Bool) → pos 0 <ℤ p.cost_own → HasCosts (tableau_with p there)
-unfolding tail_lines
 HasCosts-first p there positive i h k =
     each_line p there (λ j l. length p.rows ≤ j → pos 0 <ℤ l.own) (λ j within le. absurd (omega arith)) (λ j within le. tail there j within) i k (omega (arith, rows_of-first p there))
   where
@@ -253,7 +244,6 @@ pub basic_of-first : (p : LinearProgram) (there : Bool) (k : ℕ) → k < length
 basic_of-first p there k h = get_or-counted_from (width_of p.columns) (length p.rows) k h
 
 tail-slack : (p : LinearProgram) (there : Bool) (k j : ℕ) → k < length (tail_lines p there) → j < length p.rows → entry_of (get_or (tail_lines p there) k no_line) (width_of p.columns + j) ≡ pos 0
-unfolding tail_lines
 tail-slack p there zero j h l = cost_line-slack p there j l
 tail-slack p true (suc zero) j h l = artificial-slack p j l
 tail-slack p true (suc (suc k)) j h l = absurd (omega arith)
@@ -303,14 +293,13 @@ weighted_one slack (first ∷ firsts) line v o (suc i) l one h =
     ∙ omega (arith, ints)
 
 -- the lines of the rows
-pub firsts_of : LinearProgram → Bool → List Line
+abbrev pub firsts_of : LinearProgram → Bool → List Line
 firsts_of p there = row_lines p.columns there (length p.rows) 0 p.rows
 
 row_combined : (w e x z : ℤ) → x ≡ e → w *ℤ e ≡ (w *ℤ x) +ℤ (pos 0 *ℤ z)
 row_combined w e x z h = ap (λ y. w *ℤ y) (sym h) ∙ sym (ap (λ y. (w *ℤ x) +ℤ y) (zero-*ℤ z) ∙ omega (arith, ints))
 
 pub row-IsCombination : (p : LinearProgram) (there : Bool) (cost : Line) (i : ℕ) → i < length p.rows → IsCombination (width_of p.columns) (firsts_of p there) cost (line_of (tableau_with p there) i)
-unfolding firsts_of
 row-IsCombination p there cost i h v o =
     let line : Line = row_line p.columns there (length p.rows) i (get_or p.rows i no_row) in
     let is : line_of (tableau_with p there) i ≡ line = line-row p there i no_row h in
@@ -328,13 +317,11 @@ self_combined : (w e x : ℤ) → x ≡ pos 0 → w *ℤ e ≡ (w *ℤ x) +ℤ (
 self_combined w e x h = sym (ap (λ y. (w *ℤ y) +ℤ (w *ℤ e)) h ∙ ap (λ y. y +ℤ (w *ℤ e)) (*ℤ-zero w) ∙ omega (arith, ints))
 
 pub cost-IsCombination : (p : LinearProgram) (there : Bool) → IsCombination (width_of p.columns) (firsts_of p there) (cost_line p there) (cost_line p there)
-unfolding firsts_of
 cost-IsCombination p there v o =
     self_combined p.cost_own (excess (cost_line p there) v o) (weighted (width_of p.columns) (firsts_of p there) (cost_line p there) v o)
     (weighted_none (width_of p.columns) (firsts_of p there) (cost_line p there) v o (λ j k. cost_line-slack p there j (omega (arith, length-row_lines p.columns there (length p.rows) 0 p.rows))))
 
 pub artificial-IsCombination : (p : LinearProgram) → IsCombination (width_of p.columns) (firsts_of p true) (artificial_line p) (artificial_line p)
-unfolding firsts_of
 artificial-IsCombination p v o =
     self_combined (pos 1) (excess (artificial_line p) v o) (weighted (width_of p.columns) (firsts_of p true) (artificial_line p) v o)
     (weighted_none (width_of p.columns) (firsts_of p true) (artificial_line p) v o (λ j k. artificial-slack p j (omega (arith, length-row_lines p.columns true (length p.rows) 0 p.rows))))

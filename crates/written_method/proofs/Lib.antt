@@ -9,3 +9,5 @@ pub mod FirstLaws
 pub mod DroppedLaws
 pub mod ChosenLaws
 pub mod PhaseLaws
+pub mod BegunLaws
+pub mod SecondPhaseLaws

@@ -42,7 +42,7 @@ SolvesRows-before t r c v s h p solved i k =
 
 -- ---- both phases
 
-pub x0_count : Bool → ℕ
+abbrev pub x0_count : Bool → ℕ
 x0_count there = if there then 1 else 0
 
 -- what holds of the tableau in both phases; `there` says whether x0 and the line of w are there
@@ -127,7 +127,6 @@ rank-other x b h = ap (λ t. if t then 0 else suc b) (eq_no b x h)
 pub HasArtificial-pivoted : (p : LinearProgram) (t : Tableau) (r c : ℕ) (w : HasArtificial p t) → IsReachedFrom p true t → MayLeave t r c → r ≢ w.home → pos 0 <ℤ entry_of (line_of t (rows_of t + 1)) c
     → (pos 0 <ℤ entry_of (line_of t w.home) c → Leads (line_of t r).right (entry_of (line_of t r) c) (rank_of (Some (t.columns - 1)) (basic_of t r)) (line_of t w.home).right (entry_of (line_of t w.home) c) (rank_of (Some (t.columns - 1)) (basic_of t w.home)))
     → HasArtificial p (pivoted r c t)
-unfolding x0_count
 HasArtificial-pivoted p t r c w u m apart enters leads =
     let row : r < rows_of t = m.row in
     let lines : rows_of t < length t.lines = u.shaped.lines in
@@ -174,7 +173,6 @@ HasArtificial-pivoted p t r c w u m apart enters leads =
 
 -- no row can leave in phase 1 only where no column can enter: x0's row has a positive entry wherever the line of w has one
 pub artificial-entry : (p : LinearProgram) (t : Tableau) (c : ℕ) (w : HasArtificial p t) → IsReachedFrom p true t → pos 0 <ℤ entry_of (line_of t (rows_of t + 1)) c → pos 0 <ℤ entry_of (line_of t w.home) c
-unfolding x0_count
 artificial-entry p t c w u enters =
     let last : rows_of t + 1 < length t.lines = omega (arith, u.lines, u.rows) in
     let not_x0 : c ≢ t.columns - 1 = λ e.
