@@ -157,18 +157,18 @@ minus_one : (x y : ℤ) → (pos 1 *ℤ x) -ℤ (negsuc 0 *ℤ y) ≡ x +ℤ y
 minus_one x y = omega (arith, ints)
 
 -- the tableau in which it is made, and what it takes
-record IsPrepared (p : LinearProgram) (r : ℕ) : Type 0 where
-  row : r < rows_of (negated r (tableau_with p true))
-  shaped : IsShaped (negated r (tableau_with p true))
-  costs : HasCosts (negated r (tableau_with p true))
-  beside : IsBasicBeside r (negated r (tableau_with p true))
-  entry_row : entry_of (line_of (negated r (tableau_with p true)) r) (width_of p.columns + length p.rows) ≡ pos 1
-  entry_other : (i : ℕ) → i < length p.rows → i ≢ r → entry_of (line_of (negated r (tableau_with p true)) i) (width_of p.columns + length p.rows) ≡ negsuc 0
-  last : line_of (negated r (tableau_with p true)) (length p.rows + 1) ≡ artificial_line p
-  right_row : (line_of (negated r (tableau_with p true)) r).right ≡ neg_ℤ (line_of (tableau_with p true) r).right
-  right_other : (i : ℕ) → i ≢ r → (line_of (negated r (tableau_with p true)) i).right ≡ (line_of (tableau_with p true) i).right
+pub record IsPrepared (p : LinearProgram) (r : ℕ) : Type 0 where
+  pub row : r < rows_of (negated r (tableau_with p true))
+  pub shaped : IsShaped (negated r (tableau_with p true))
+  pub costs : HasCosts (negated r (tableau_with p true))
+  pub beside : IsBasicBeside r (negated r (tableau_with p true))
+  pub entry_row : entry_of (line_of (negated r (tableau_with p true)) r) (width_of p.columns + length p.rows) ≡ pos 1
+  pub entry_other : (i : ℕ) → i < length p.rows → i ≢ r → entry_of (line_of (negated r (tableau_with p true)) i) (width_of p.columns + length p.rows) ≡ negsuc 0
+  pub last : line_of (negated r (tableau_with p true)) (length p.rows + 1) ≡ artificial_line p
+  pub right_row : (line_of (negated r (tableau_with p true)) r).right ≡ neg_ℤ (line_of (tableau_with p true) r).right
+  pub right_other : (i : ℕ) → i ≢ r → (line_of (negated r (tableau_with p true)) i).right ≡ (line_of (tableau_with p true) i).right
 
-prepared-is : (p : LinearProgram) (r : ℕ) → pos 0 <ℤ p.cost_own → r < length p.rows → IsPrepared p r
+pub prepared-is : (p : LinearProgram) (r : ℕ) → pos 0 <ℤ p.cost_own → r < length p.rows → IsPrepared p r
 prepared-is p r positive h =
     let t : Tableau = tableau_with p true in
     let row : r < rows_of t = omega (arith, rows_of-first p true) in
@@ -230,7 +230,7 @@ prepared-combined p r cost i h own = elim (same_or_not i r) [
   | inr n ↦ subst (IsCombination (width_of p.columns) (firsts_of p true) cost) (sym (line_of-negated_other (tableau_with p true) r i n)) (own n)
 ]
 
-begun-IsReachedFrom : (p : LinearProgram) (r : ℕ) → IsPrepared p r → IsLowestRow p r → IsReachedFrom p true (begun p r)
+pub begun-IsReachedFrom : (p : LinearProgram) (r : ℕ) → IsPrepared p r → IsLowestRow p r → IsReachedFrom p true (begun p r)
 begun-IsReachedFrom p r w m =
     let t : Tableau = negated r (tableau_with p true) in
     let x : ℕ = width_of p.columns + length p.rows in
@@ -253,7 +253,7 @@ begun-IsReachedFrom p r w m =
           (prepared-combined p r (cost_line p true) r m.row (λ n. absurd (n refl)));
     }
 
-begun-HasArtificial : (p : LinearProgram) (r : ℕ) → IsPrepared p r → IsLowestRow p r → HasArtificial p (begun p r)
+pub begun-HasArtificial : (p : LinearProgram) (r : ℕ) → IsPrepared p r → IsLowestRow p r → HasArtificial p (begun p r)
 begun-HasArtificial p r w m =
     let t : Tableau = negated r (tableau_with p true) in
     let x : ℕ = width_of p.columns + length p.rows in

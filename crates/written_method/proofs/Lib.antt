@@ -11,3 +11,4 @@ pub mod ChosenLaws
 pub mod PhaseLaws
 pub mod BegunLaws
 pub mod SecondPhaseLaws
+pub mod ReachedLaws
