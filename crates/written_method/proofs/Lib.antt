@@ -12,3 +12,5 @@ pub mod PhaseLaws
 pub mod BegunLaws
 pub mod SecondPhaseLaws
 pub mod ReachedLaws
+pub mod ColumnLaws
+pub mod CertificateLaws

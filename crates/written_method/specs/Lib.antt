@@ -10,3 +10,5 @@ pub mod Solved
 pub mod Meaning
 pub mod Basis
 pub mod Ends
+pub mod Ready
+pub mod Certificates
