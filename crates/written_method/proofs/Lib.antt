@@ -14,3 +14,6 @@ pub mod SecondPhaseLaws
 pub mod ReachedLaws
 pub mod ColumnLaws
 pub mod CertificateLaws
+pub mod VariableLaws
+pub mod EndValueLaws
+pub mod MeetsLaws
