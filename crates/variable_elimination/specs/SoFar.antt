@@ -17,7 +17,7 @@ use Rattle.written_method.specs.Expanded.{definition_among, expanded}
 use Rattle.variable_elimination.specs.Kept.{forms_in, AreDefinitions, AreReduced}
 use Rattle.variable_elimination.specs.Reductions.{IsReducedBy}
 
--- the stop is at the first step that forms a number that doesn't fit; a stop for lack of memory has no cause
+-- the stop is at the first step that forms a number that doesn't fit; a stop out of memory has no cause
 abbrev pub IsFirst : Option Place → Stopped → Type 0
 IsFirst first (Width place) = first ≡ Some place
 IsFirst first Memory = ⊤

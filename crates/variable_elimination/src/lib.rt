@@ -1,4 +1,4 @@
-//! Defined variables are removed from rows, and values and multipliers of the reduced rows are carried back.
+//! Defined variables are removed from rows, so that a linear program over the variables that a plan chooses freely is left.
 #![tactic(auto)]
 
 mod columns;

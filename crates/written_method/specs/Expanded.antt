@@ -1,4 +1,4 @@
--- A row without its defined variables: each is removed in turn, by its expanded definition. The row of an inequality keeps the fraction by which it was multiplied, its scale; other rows have none.
+-- A row without its defined variables: each is removed in turn, by its expanded definition. A row that defines nothing keeps the fraction by which it was multiplied, its scale; definitions and the row of the cost have none.
 use Rattle.std.specs.Prelude.{ℤ, List, [], ◌∷◌, ◌++◌, Option, Some, None, if◌then◌else◌}
 use Rattle.std.specs.Ordering.{is_eq}
 use Rattle.exact_num.specs.Formed.{product_formed}

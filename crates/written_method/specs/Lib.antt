@@ -2,3 +2,17 @@ pub mod Definitions
 pub mod Expanded
 pub mod Eliminated
 pub mod Lifted
+pub mod Lines
+pub mod Tableaus
+pub mod Choices
+pub mod Rounds
+pub mod Runs
+pub mod Programs
+pub mod FirstTableau
+pub mod Values
+pub mod Solved
+pub mod Meaning
+pub mod Basis
+pub mod Ends
+pub mod Ready
+pub mod Certificates

@@ -1,4 +1,4 @@
--- Values of the columns carried to the defined variables, and multipliers of reduced rows carried to the named ones.
+-- Values of the columns carried to the defined variables.
 use Rattle.std.specs.Prelude.{ℤ, pos, List, [], ◌∷◌, ◌++◌, if◌then◌else◌}
 use Rattle.std.specs.Ordering.{is_eq}
 use Rattle.exact_num.specs.Formed.{difference_formed, quotient_formed}
