@@ -1,29 +1,25 @@
 -- The first state of either phase: the slacks are basic, or x0 is after its pivot into the row with the least right side.
-use Rattle.std.proofs.Common.{◌≡◌, ◌≢◌, ℕ, zero, suc, ◌+◌, ◌-◌, ◌<◌, ◌≤◌, ℤ, pos, negsuc, ◌+ℤ◌, ◌-ℤ◌, ◌*ℤ◌, neg_ℤ, Bool, true, false, Option, Some, None, List, [], ◌∷◌, ◌++◌, length, get_or, map, take, arith, refl, sym, ap, ap₂, ◌∙◌, subst, ◌⊎◌, inl, inr, if◌then◌else◌, append_assoc}
-use Rattle.std.specs.Prelude.{◌<ℤ◌, ◌≤ℤ◌, ◌==◌, int_lt, ◌||◌}
-use Rattle.std.proofs.lemmas.Bool.Decides.{nat_tests}
+use Rattle.std.proofs.Common.{◌≡◌, ◌≢◌, ℕ, zero, suc, ◌+◌, ◌-◌, ◌<◌, ◌≤◌, ℤ, pos, negsuc, ◌+ℤ◌, ◌-ℤ◌, ◌*ℤ◌, neg_ℤ, Bool, true, false, List, [], ◌∷◌, ◌++◌, length, get_or, map, take, arith, refl, sym, ap, ap₂, ◌∙◌, subst, ◌⊎◌, inl, inr, if◌then◌else◌, append_assoc}
+use Rattle.std.specs.Prelude.{◌<ℤ◌, ◌≤ℤ◌, int_lt, ◌||◌}
 use Rattle.std.proofs.lemmas.Int.{ints}
 use Rattle.std.proofs.lemmas.List.{get_or-map, get_or-take, length-append}
-use Rattle.exact_num.proofs.Integers.{*ℤ_cancel, nonzero_of_pos, *ℤ_pos, ≤ℤ_or_<ℤ, <ℤ_cancel, ≤ℤ_cancel}
-use Rattle.exact_num.proofs.Ring.{ring, zero-*ℤ, *ℤ-zero, one-*ℤ}
+use Rattle.exact_num.proofs.Integers.{≤ℤ_cancel}
+use Rattle.exact_num.proofs.Ring.{ring, zero-*ℤ, one-*ℤ}
 use Rattle.row_core.specs.declared.Var.{Var}
 use Rattle.row_core.specs.Rows.{number_at}
-use Rattle.written_method.specs.Basis.{IsShaped, HasCosts, IsBasic, AreFeasible, MayLeave}
-use Rattle.written_method.specs.Choices.{least_right_from, rank_of}
-use Rattle.written_method.specs.FirstTableau.{as_most, by_column, width_of, zeros, slack_entries, x0_entry, right_of, any_negative, row_line, row_lines, cost_line, artificial_line, tableau_with, first_phase, first_tableau, first_state}
+use Rattle.written_method.specs.Basis.{IsShaped, HasCosts, AreFeasible}
+use Rattle.written_method.specs.Choices.{least_right_from}
+use Rattle.written_method.specs.FirstTableau.{as_most, by_column, width_of, slack_entries, right_of, any_negative, row_line, cost_line, artificial_line, tableau_with}
 use Rattle.written_method.specs.Lines.{Line, entry_of}
-use Rattle.written_method.specs.Meaning.{Values, excess, weighted, SolvesRows, IsCombination}
+use Rattle.written_method.specs.Meaning.{IsCombination}
 use Rattle.written_method.specs.Programs.{Inequality, LinearProgram}
-use Rattle.written_method.specs.Rounds.{State, Phase, Start, One, Two, Due, Pivot, NoColumn, NoRow, right_sides, due, after, deciding_line, x0_of}
-use Rattle.written_method.specs.Tableaus.{Tableau, line_of, basic_of, rows_of, no_line, pivoted, negated, negated_line, without_last, without_x0}
+use Rattle.written_method.specs.Rounds.{right_sides}
+use Rattle.written_method.specs.Tableaus.{Tableau, line_of, rows_of, no_line, pivoted, negated, without_last}
 use Rattle.written_method.proofs.BasisLaws.{IsBasicBeside, IsBasic-pivoted, IsShaped-pivoted, HasCosts-pivoted}
-use Rattle.written_method.proofs.ChosenLaws.{round_of, due-start, due-one, due-two, deciding-one, x0-one, IsRound, round-IsRound, IsRound-MayLeave}
-use Rattle.written_method.proofs.CombinedLaws.{IsCleared}
-use Rattle.written_method.proofs.DroppedLaws.{entry-negated, line_of-negated, line_of-negated_other, length-lines-negated, IsShaped-negated, HasCosts-negated, IsBasic-negated, SolvesRows-negated, IsCombination-negated, each-negated, entry-without_last, length-without_last, without, excess-without_last, length-lines-without, line_of-without}
-use Rattle.written_method.proofs.FirstLaws.{no_row, firsts_of, rows_of-first, line-row, line-cost, line-artificial, length-lines, length-tail, tail_lines, IsShaped-first, HasCosts-first, IsBasic-first, AreFeasible-first, row-IsCombination, cost-IsCombination, artificial-IsCombination, row_line-x0, artificial-other, artificial-x0, length-row_lines, get_or-row_lines, length-by_column, length-slack_entries, length-zeros}
-use Rattle.written_method.proofs.LeavingLaws.{Leads}
-use Rattle.written_method.proofs.PhaseLaws.{SolvesRows-before, x0_count, IsReachedFrom, IsReachedFrom-pivoted, HasArtificial, HasArtificial-pivoted, basic_apart}
-use Rattle.written_method.proofs.PivotLaws.{minus-is, same_or_not, length-pivoted, rows_of-pivoted, line_of-pivoted, line_of-other, basic_of-pivoted, basic_of-other, other-IsCleared, IsCombination-pivoted}
+use Rattle.written_method.proofs.DroppedLaws.{entry-negated, line_of-negated, line_of-negated_other, length-lines-negated, IsShaped-negated, HasCosts-negated, IsBasic-negated, SolvesRows-negated, IsCombination-negated}
+use Rattle.written_method.proofs.FirstLaws.{no_row, firsts_of, rows_of-first, line-row, line-cost, line-artificial, length-lines, length-tail, IsShaped-first, HasCosts-first, IsBasic-first, AreFeasible-first, row-IsCombination, cost-IsCombination, artificial-IsCombination, row_line-x0, artificial-other, artificial-x0}
+use Rattle.written_method.proofs.PhaseLaws.{SolvesRows-before, x0_count, IsReachedFrom, HasArtificial}
+use Rattle.written_method.proofs.PivotLaws.{same_or_not, length-pivoted, rows_of-pivoted, line_of-pivoted, basic_of-pivoted, other-IsCleared, IsCombination-pivoted}
 
 -- ---- the first state of phase 2
 

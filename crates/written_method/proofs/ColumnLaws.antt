@@ -1,5 +1,5 @@
 -- The column of a variable in the first lines, and multipliers as combinations of these.
-use Rattle.std.proofs.Common.{◌≡◌, ◌≢◌, ℕ, zero, suc, ◌+◌, ◌<◌, ◌≤◌, ℤ, pos, negsuc, neg_ℤ, ◌+ℤ◌, ◌-ℤ◌, ◌*ℤ◌, Bool, true, false, List, [], ◌∷◌, ◌++◌, length, get_or, arith, refl, sym, ap, ap₂, ◌∙◌, subst, ◌⊎◌, inl, inr, if◌then◌else◌}
+use Rattle.std.proofs.Common.{◌≡◌, ℕ, suc, ◌<◌, ℤ, pos, negsuc, neg_ℤ, ◌+ℤ◌, ◌*ℤ◌, Bool, true, false, List, [], ◌∷◌, ◌++◌, get_or, arith, refl, sym, ap, ap₂, ◌∙◌, subst, inl, inr, if◌then◌else◌}
 use Rattle.std.specs.Prelude.{◌<ℤ◌, ◌≤ℤ◌}
 use Rattle.std.proofs.lemmas.Int.{ints}
 use Rattle.exact_num.specs.Rational.{Rational, lowest}
@@ -18,7 +18,6 @@ use Rattle.written_method.specs.Lines.{Line, entry_of}
 use Rattle.written_method.specs.Programs.{Inequality, is_split}
 use Rattle.written_method.specs.Ready.{IsAmong}
 use Rattle.written_method.specs.Values.{multipliers_from}
-use Rattle.written_method.proofs.PivotLaws.{minus-is}
 
 -- ---- the column of a variable
 

@@ -1,14 +1,14 @@
 -- A small model, eliminated by computation: an activity x, a capacity n, the total capacity t that is n, and the cost c of both.
-use Rattle.std.proofs.Common.{◌≡◌, ℕ, pos, negsuc, List, [], ◌∷◌, true, false, refl}
-use Rattle.std.specs.Prelude.{Option, None, Some}
+use Rattle.std.proofs.Common.{◌≡◌, ℕ, pos, negsuc, [], ◌∷◌, true, false, refl}
+use Rattle.std.specs.Prelude.{None, Some}
 use Rattle.exact_num.specs.Gcd.{gcd_of, gcd_within}
 use Rattle.exact_num.specs.Rational.{whole, lowest, times}
 use Rattle.row_core.specs.declared.Sense.TheVariants.{Least, Most}
 use Rattle.row_core.specs.declared.Var.{Var}
 use Rattle.row_core.specs.declared.RowName.{RowName}
 use Rattle.row_core.specs.Forms.{Form}
-use Rattle.written_method.specs.Eliminated.{ReducedRow, unscaled, is_kept, is_column, cost_variable, cost_form, cost_row, other_entries}
-use Rattle.written_method.specs.Expanded.{Scaled, expanded}
+use Rattle.written_method.specs.Eliminated.{unscaled, is_kept, is_column, cost_variable, cost_form, cost_row, other_entries}
+use Rattle.written_method.specs.Expanded.{expanded}
 
 -- the variable of this kind whose first subscript is r
 abbrev variable : ℕ → ℕ → Var

@@ -1,22 +1,20 @@
 -- The first tableau: its shape, its basis of slacks, and its lines as combinations of themselves.
-use Rattle.std.proofs.Common.{◌≡◌, ◌≢◌, ℕ, zero, suc, ◌+◌, ◌<◌, ◌≤◌, ℤ, pos, negsuc, neg_ℤ, ◌+ℤ◌, ◌-ℤ◌, ◌*ℤ◌, Bool, true, false, List, [], ◌∷◌, ◌++◌, length, get_or, map, take, arith, refl, sym, ap, ap₂, ◌∙◌, subst, ◌⊎◌, inl, inr, if◌then◌else◌}
+use Rattle.std.proofs.Common.{◌≡◌, ◌≢◌, ℕ, zero, suc, ◌+◌, ◌<◌, ◌≤◌, ℤ, pos, negsuc, neg_ℤ, ◌+ℤ◌, ◌*ℤ◌, Bool, true, false, List, [], ◌∷◌, ◌++◌, length, get_or, arith, refl, sym, ap, ap₂, ◌∙◌, subst, ◌⊎◌, inl, inr, if◌then◌else◌}
 use Rattle.std.specs.Prelude.{◌<ℤ◌, ◌≤ℤ◌, int_lt, ◌||◌}
 use Rattle.std.proofs.Math.ListN.{get_or-append}
 use Rattle.std.proofs.lemmas.Bool.{cases_lt}
 use Rattle.std.proofs.lemmas.Int.{ints}
 use Rattle.std.proofs.lemmas.List.{get_or-append-add, length-append}
-use Rattle.exact_num.proofs.Ring.{ring, zero-*ℤ, *ℤ-zero, one-*ℤ}
+use Rattle.exact_num.proofs.Ring.{zero-*ℤ, *ℤ-zero, one-*ℤ}
 use Rattle.row_core.specs.declared.Sense.TheVariants.{Most}
 use Rattle.row_core.specs.declared.Var.{Var}
 use Rattle.row_core.specs.Rows.{number_at}
 use Rattle.written_method.specs.Basis.{IsShaped, HasCosts, IsBasic, AreFeasible}
-use Rattle.written_method.specs.Choices.{least_right_from}
 use Rattle.written_method.specs.FirstTableau.{as_most, by_column, width_of, zeros, slack_entries, x0_entry, right_of, any_negative, row_line, row_lines, cost_line, artificial_line, counted_from, tableau_with}
 use Rattle.written_method.specs.Lines.{Line, entry_of}
 use Rattle.written_method.specs.Meaning.{Values, excess, weighted, IsCombination}
 use Rattle.written_method.specs.Programs.{Inequality, LinearProgram, is_split}
-use Rattle.written_method.specs.Rounds.{right_sides}
-use Rattle.written_method.specs.Tableaus.{Tableau, line_of, basic_of, rows_of, no_line}
+use Rattle.written_method.specs.Tableaus.{line_of, basic_of, rows_of, no_line}
 
 -- ---- lengths
 
@@ -264,9 +262,9 @@ IsBasic-first p there = record {
       let within : k < length p.rows = omega (arith, rows_of-first p there) in
       ap (λ c. entry_of (line_of (tableau_with p there) i) c) (basic_of-first p there k within)
       ∙ each_line p there (λ j line. j ≢ k → entry_of line (width_of p.columns + k) ≡ pos 0)
-          (λ j m apart. row_line-slack p.columns there (length p.rows) j (get_or p.rows j no_row) k within ∙ slack-other (length p.rows) j k (λ e. apart (sym e)))
-          (λ j m apart. tail-slack p there j k m within)
-          i h n;
+      (λ j m apart. row_line-slack p.columns there (length p.rows) j (get_or p.rows j no_row) k within ∙ slack-other (length p.rows) j k (λ e. apart (sym e)))
+      (λ j m apart. tail-slack p there j k m within)
+      i h n;
 }
 
 -- ---- combinations

@@ -1,10 +1,10 @@
 -- Values of columns that solve the first lines meet the rows of the linear program, and an optimal plan costs its bound.
-use Rattle.std.proofs.Common.{◌≡◌, ◌≢◌, ℕ, zero, suc, ◌+◌, ◌<◌, ◌≤◌, ℤ, pos, negsuc, neg_ℤ, ◌+ℤ◌, ◌-ℤ◌, ◌*ℤ◌, Bool, true, false, List, [], ◌∷◌, ◌++◌, length, get_or, arith, refl, sym, ap, ap₂, ◌∙◌, subst, ◌⊎◌, inl, inr, if◌then◌else◌}
+use Rattle.std.proofs.Common.{◌≡◌, ◌≢◌, ℕ, zero, suc, ◌+◌, ◌<◌, ℤ, pos, neg_ℤ, ◌+ℤ◌, ◌-ℤ◌, ◌*ℤ◌, Bool, true, false, List, [], ◌∷◌, ◌++◌, length, get_or, arith, refl, sym, ap, ap₂, ◌∙◌, subst, ◌⊎◌, inl, inr, if◌then◌else◌}
 use Rattle.std.specs.Prelude.{◌<ℤ◌, ◌≤ℤ◌}
 use Rattle.std.proofs.lemmas.Int.{ints}
 use Rattle.exact_num.specs.Rational.{Rational, minus}
-use Rattle.exact_num.proofs.Integers.{*ℤ_cancel, nonzero_of_pos, ≤ℤ_cancel, *ℤ_nonnegative}
-use Rattle.exact_num.proofs.Ring.{ring, zero-*ℤ, *ℤ-zero, one-*ℤ}
+use Rattle.exact_num.proofs.Integers.{≤ℤ_cancel, *ℤ_nonnegative}
+use Rattle.exact_num.proofs.Ring.{ring, zero-*ℤ, one-*ℤ}
 use Rattle.row_core.specs.declared.Sense.{Sense}
 use Rattle.row_core.specs.declared.Sense.TheVariants.{Least, Equal, Most}
 use Rattle.row_core.specs.declared.Var.{Var}
@@ -14,22 +14,18 @@ use Rattle.row_core.specs.Rows.{number_at, row_sum}
 use Rattle.row_core.specs.Statements.{Stands}
 use Rattle.row_core.specs.Values.{IsOver}
 use Rattle.row_core.proofs.SumLaws.{IsOver-agree}
-use Rattle.written_method.specs.Certificates.{right_sum, AreOverFrom, ValuesAreOver, MeetRows, Meets, HasBoundAsCost}
-use Rattle.written_method.specs.Ends.{AreOfBasis, weighted_right}
-use Rattle.written_method.specs.FirstTableau.{as_most, by_column, width_of, zeros, slack_entries, x0_entry, right_of, row_line, cost_line, tableau_with}
-use Rattle.written_method.specs.Lines.{Line, entry_of}
-use Rattle.written_method.specs.Meaning.{Values, sum_from, excess, weighted, SolvesRows}
+use Rattle.written_method.specs.Certificates.{ValuesAreOver, MeetRows, Meets}
+use Rattle.written_method.specs.FirstTableau.{as_most, by_column, width_of, zeros, slack_entries, right_of, row_line, tableau_with}
+use Rattle.written_method.specs.Meaning.{Values, sum_from, excess, SolvesRows}
 use Rattle.written_method.specs.Programs.{Inequality, LinearProgram, is_split}
 use Rattle.written_method.specs.Ready.{IsAmong, AreAmong, ArePosed, IsPosed}
-use Rattle.written_method.specs.Solved.{values_of, optimal_multipliers}
-use Rattle.written_method.specs.Tableaus.{Tableau, line_of, rows_of}
+use Rattle.written_method.specs.Solved.{values_of}
+use Rattle.written_method.specs.Tableaus.{Tableau}
 use Rattle.written_method.specs.Values.{by_variable, column_value}
-use Rattle.written_method.proofs.ColumnLaws.{right_sum-is}
-use Rattle.written_method.proofs.EndLaws.{of_basis-rows, of_basis-cost, combination-right}
+use Rattle.written_method.proofs.EndLaws.{of_basis-rows}
 use Rattle.written_method.proofs.EndValueLaws.{AreValues, values-of}
-use Rattle.written_method.proofs.FirstLaws.{no_row, firsts_of, rows_of-first, line-row, get_or-zeros, get_or-row_lines, length-row_lines}
+use Rattle.written_method.proofs.FirstLaws.{no_row, rows_of-first, line-row}
 use Rattle.written_method.proofs.PhaseLaws.{IsReachedFrom}
-use Rattle.written_method.proofs.PivotLaws.{minus-is}
 use Rattle.written_method.proofs.VariableLaws.{variable_sum, variable_sum-negated, variable_sum-entries, sum_from-columns}
 
 -- ---- one row

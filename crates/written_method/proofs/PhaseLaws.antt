@@ -1,6 +1,6 @@
 -- What holds between two pivots in either phase, against the first tableau; and that a pivot keeps it.
-use Rattle.std.proofs.Common.{◌≡◌, ◌≢◌, ℕ, zero, suc, ◌+◌, ◌-◌, ◌<◌, ◌≤◌, ℤ, pos, negsuc, ◌+ℤ◌, ◌-ℤ◌, ◌*ℤ◌, neg_ℤ, Bool, true, false, Option, Some, None, List, [], ◌∷◌, length, get_or, map, take, arith, refl, sym, ap, ap₂, ◌∙◌, subst, ◌⊎◌, inl, inr, if◌then◌else◌}
-use Rattle.std.specs.Prelude.{◌<ℤ◌, ◌≤ℤ◌, ◌==◌, int_lt, ◌||◌}
+use Rattle.std.proofs.Common.{◌≡◌, ◌≢◌, ℕ, suc, ◌+◌, ◌-◌, ◌<◌, ◌≤◌, ℤ, pos, ◌-ℤ◌, ◌*ℤ◌, Bool, true, false, Some, length, arith, sym, ap, ap₂, ◌∙◌, subst, inl, inr, if◌then◌else◌}
+use Rattle.std.specs.Prelude.{◌<ℤ◌, ◌≤ℤ◌, ◌==◌}
 use Rattle.std.proofs.lemmas.Bool.Decides.{nat_tests}
 use Rattle.std.proofs.lemmas.Int.{ints}
 use Rattle.exact_num.proofs.Integers.{*ℤ_cancel, nonzero_of_pos, *ℤ_pos, ≤ℤ_or_<ℤ, ≤ℤ-*ℤ}
@@ -10,14 +10,13 @@ use Rattle.written_method.specs.Choices.{rank_of}
 use Rattle.written_method.specs.FirstTableau.{width_of, cost_line, artificial_line, tableau_with}
 use Rattle.written_method.specs.Lines.{Line, entry_of}
 use Rattle.written_method.specs.Meaning.{Values, excess, SolvesRows, IsCombination}
-use Rattle.written_method.specs.Programs.{Inequality, LinearProgram}
+use Rattle.written_method.specs.Programs.{LinearProgram}
 use Rattle.written_method.specs.Tableaus.{Tableau, line_of, basic_of, rows_of, pivoted}
 use Rattle.written_method.proofs.BasisLaws.{IsBasic-beside, IsBasic-pivoted, AreFeasible-pivoted, IsShaped-pivoted, HasCosts-pivoted}
-use Rattle.written_method.proofs.CombinedLaws.{IsCleared}
 use Rattle.written_method.proofs.EndLaws.{positive-kept}
 use Rattle.written_method.proofs.FirstLaws.{firsts_of}
 use Rattle.written_method.proofs.LeavingLaws.{Leads}
-use Rattle.written_method.proofs.PivotLaws.{minus-is, same_or_not, length-pivoted, rows_of-pivoted, line_of-pivoted, line_of-other, basic_of-pivoted, basic_of-other, other-IsCleared, IsCombination-pivoted}
+use Rattle.written_method.proofs.PivotLaws.{minus-is, same_or_not, length-pivoted, rows_of-pivoted, line_of-pivoted, basic_of-other, other-IsCleared, IsCombination-pivoted}
 
 -- ---- the rows' solutions
 
@@ -136,16 +135,16 @@ HasArtificial-pivoted p t r c w u m apart enters leads =
     let home_clear = other-IsCleared t r c w.home u.shaped row m.positive (omega (arith, w.home_row)) home_apart in
     let last_clear = other-IsCleared t r c (rows_of t + 1) u.shaped row m.positive last (λ e. omega arith) in
     let not_x0 : c ≢ t.columns - 1 = λ e.
-        let none : entry_of (line_of t (rows_of t + 1)) c ≡ pos 0 = ap (λ d. entry_of (line_of t (rows_of t + 1)) d) (e ∙ sym w.home_basic) ∙ u.basic.others (rows_of t + 1) w.home last w.home_row (λ q. omega (arith, w.home_row)) in
-        omega (arith, ints) in
+    let none : entry_of (line_of t (rows_of t + 1)) c ≡ pos 0 = ap (λ d. entry_of (line_of t (rows_of t + 1)) d) (e ∙ sym w.home_basic) ∙ u.basic.others (rows_of t + 1) w.home last w.home_row (λ q. omega (arith, w.home_row)) in
+    omega (arith, ints) in
     let rank_r : rank_of (Some (t.columns - 1)) (basic_of t r) ≡ suc (basic_of t r) = rank-other (t.columns - 1) (basic_of t r) (λ e. basic_apart t r w.home u.shaped u.basic row w.home_row apart (e ∙ sym w.home_basic)) in
     let rank_h : rank_of (Some (t.columns - 1)) (basic_of t w.home) ≡ 0 = rank-x0 (t.columns - 1) (basic_of t w.home) w.home_basic in
     let strict : pos 0 <ℤ entry_of (line_of t w.home) c → ((line_of t r).right *ℤ entry_of (line_of t w.home) c) <ℤ ((line_of t w.home).right *ℤ entry_of (line_of t r) c) =
     λ positive.
-        let l = leads positive in
-        let below : ((line_of t r).right *ℤ entry_of (line_of t w.home) c) ≤ℤ ((line_of t w.home).right *ℤ entry_of (line_of t r) c) = l.least in
-        let no_tie : (line_of t r).right *ℤ entry_of (line_of t w.home) c ≡ (line_of t w.home).right *ℤ entry_of (line_of t r) c → ⊥ = λ e. omega (arith, l.ties e, rank_r, rank_h) in
-        strictly ((line_of t r).right *ℤ entry_of (line_of t w.home) c) ((line_of t w.home).right *ℤ entry_of (line_of t r) c) below no_tie in
+    let l = leads positive in
+    let below : ((line_of t r).right *ℤ entry_of (line_of t w.home) c) ≤ℤ ((line_of t w.home).right *ℤ entry_of (line_of t r) c) = l.least in
+    let no_tie : (line_of t r).right *ℤ entry_of (line_of t w.home) c ≡ (line_of t w.home).right *ℤ entry_of (line_of t r) c → ⊥ = λ e. omega (arith, l.ties e, rank_r, rank_h) in
+    strictly ((line_of t r).right *ℤ entry_of (line_of t w.home) c) ((line_of t w.home).right *ℤ entry_of (line_of t r) c) below no_tie in
     record {
       home = w.home;
       home_row = omega (arith, w.home_row, count);
@@ -176,8 +175,8 @@ pub artificial-entry : (p : LinearProgram) (t : Tableau) (c : ℕ) (w : HasArtif
 artificial-entry p t c w u enters =
     let last : rows_of t + 1 < length t.lines = omega (arith, u.lines, u.rows) in
     let not_x0 : c ≢ t.columns - 1 = λ e.
-        let none : entry_of (line_of t (rows_of t + 1)) c ≡ pos 0 = ap (λ d. entry_of (line_of t (rows_of t + 1)) d) (e ∙ sym w.home_basic) ∙ u.basic.others (rows_of t + 1) w.home last w.home_row (λ q. omega (arith, w.home_row)) in
-        omega (arith, ints) in
+    let none : entry_of (line_of t (rows_of t + 1)) c ≡ pos 0 = ap (λ d. entry_of (line_of t (rows_of t + 1)) d) (e ∙ sym w.home_basic) ∙ u.basic.others (rows_of t + 1) w.home last w.home_row (λ q. omega (arith, w.home_row)) in
+    omega (arith, ints) in
     let whole : pos 0 <ℤ (w.times *ℤ entry_of (line_of t (rows_of t + 1)) c) = *ℤ_pos w.times (entry_of (line_of t (rows_of t + 1)) c) w.times_pos enters in
     factor_pos w.over (entry_of (line_of t w.home) c) w.over_pos (subst (λ z. pos 0 <ℤ z) (w.like c not_x0) whole)
   where

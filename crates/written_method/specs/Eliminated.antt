@@ -1,8 +1,8 @@
 -- The elimination: the definitions are expanded one after another, then the rows that define nothing, and the row of the cost last.
-use Rattle.std.specs.Prelude.{ℕ, ℤ, pos, negsuc, Bool, true, false, not, ◌&&◌, ◌||◌, ◌==◌, nat_lt, List, [], ◌∷◌, ◌++◌, map, filter, flat_map, Option, Some, None, if◌then◌else◌}
+use Rattle.std.specs.Prelude.{ℤ, pos, negsuc, Bool, true, false, not, ◌&&◌, ◌||◌, ◌==◌, nat_lt, List, [], ◌∷◌, ◌++◌, map, filter, flat_map, Option, Some, None, if◌then◌else◌}
 use Rattle.std.specs.Ordering.{is_eq}
 use Rattle.std.specs.declared.cmp.Ordering.TheVariants.{Less, Equal as Alike, Greater}
-use Rattle.exact_num.specs.Rational.{Rational, whole}
+use Rattle.exact_num.specs.Rational.{whole}
 use Rattle.exact_num.specs.Steps.{Step}
 use Rattle.row_core.specs.declared.Row.{Row}
 use Rattle.row_core.specs.declared.RowName.{RowName}
@@ -14,7 +14,6 @@ use Rattle.row_core.specs.declared.place.Place.TheVariants.{Expand, CostRow}
 use Rattle.row_core.specs.Forms.{Form, form_of}
 use Rattle.row_core.specs.Numbers.{variables_of}
 use Rattle.row_core.specs.Order.{var_cmp}
-use Rattle.row_core.specs.Rows.{number_at}
 use Rattle.row_core.specs.Statements.{stands}
 use Rattle.written_method.specs.Definitions.{Definition, definitions_of, others_of}
 use Rattle.written_method.specs.Expanded.{Scaled, expanded, expanded_formed}

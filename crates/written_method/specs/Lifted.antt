@@ -1,6 +1,5 @@
 -- Values of the columns carried to the defined variables.
-use Rattle.std.specs.Prelude.{ℤ, pos, List, [], ◌∷◌, ◌++◌, if◌then◌else◌}
-use Rattle.std.specs.Ordering.{is_eq}
+use Rattle.std.specs.Prelude.{ℤ, pos, List, [], ◌∷◌, ◌++◌}
 use Rattle.exact_num.specs.Formed.{difference_formed, quotient_formed}
 use Rattle.exact_num.specs.Rational.{Rational, whole, minus, divided}
 use Rattle.exact_num.specs.Steps.{Step}

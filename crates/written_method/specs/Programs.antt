@@ -1,5 +1,5 @@
 -- A linear program: to minimise z over values of its variables under inequalities.
-use Rattle.std.specs.Prelude.{ℕ, ◌==◌, ℤ, Bool, List, map}
+use Rattle.std.specs.Prelude.{◌==◌, ℤ, Bool, List, map}
 use Rattle.row_core.specs.declared.Row.{Row}
 use Rattle.row_core.specs.declared.Sense.{Sense}
 use Rattle.row_core.specs.declared.Var.{Var}

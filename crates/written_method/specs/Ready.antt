@@ -1,5 +1,5 @@
 -- What a linear program has to be before it is solved.
-use Rattle.std.specs.Prelude.{◌≡◌, ◌≢◌, ℕ, ◌+◌, ◌<◌, ◌^◌, ◌⊎◌, ⊤, pos, ◌<ℤ◌, Bool, true, ℤ, List, [], ◌∷◌, length}
+use Rattle.std.specs.Prelude.{◌≡◌, ◌≢◌, ◌+◌, ◌<◌, ◌^◌, ◌⊎◌, ⊤, pos, ◌<ℤ◌, true, ℤ, List, [], ◌∷◌, length}
 use Rattle.exact_num.specs.Range.{InRange, all_fit}
 use Rattle.row_core.specs.declared.Row.{Row}
 use Rattle.row_core.specs.declared.Sense.TheVariants.{Equal}

@@ -1,5 +1,5 @@
 -- The method from the first tableau to the values and multipliers of its end.
-use Rattle.std.specs.Prelude.{ℕ, ◌+◌, ℤ, pos, List, [], ◌++◌, Option, Some, None}
+use Rattle.std.specs.Prelude.{ℕ, ◌+◌, pos, List, [], ◌++◌, Option, Some, None}
 use Rattle.exact_num.specs.Rational.{Rational}
 use Rattle.exact_num.specs.Steps.{Step, first_wide}
 use Rattle.row_core.specs.declared.Var.{Var}

@@ -1,9 +1,8 @@
 -- What the last tableau gives: values of the columns and of the variables, a direction, and multipliers of the rows.
-use Rattle.std.specs.Prelude.{ℕ, suc, ◌==◌, ℤ, pos, neg_ℤ, Bool, List, [], ◌∷◌, Option, Some, None, if◌then◌else◌}
+use Rattle.std.specs.Prelude.{ℕ, suc, ◌==◌, ℤ, pos, neg_ℤ, List, [], ◌∷◌, Option, Some, None, if◌then◌else◌}
 use Rattle.exact_num.specs.Formed.{difference_formed}
 use Rattle.exact_num.specs.Rational.{Rational, lowest, minus, whole}
 use Rattle.exact_num.specs.Steps.{Step}
-use Rattle.row_core.specs.declared.Sense.{Sense}
 use Rattle.row_core.specs.declared.Var.{Var}
 use Rattle.row_core.specs.declared.place.Place.{Place}
 use Rattle.written_method.specs.FirstTableau.{as_most}
