@@ -1,16 +1,12 @@
 -- The row of the cost at first keeps what a row keeps.
-use Rattle.std.proofs.Common.{◌≡◌, ℕ, ◌<◌, ◌≤◌, ℤ, pos, negsuc, Bool, true, false, List, [], ◌∷◌, ◌++◌, ◌&&◌, map, refl, sym, ap, ◌∙◌, subst, arith}
-use Rattle.std.specs.Prelude.{unsigned_abs, IsTrue, nat_lt}
+use Rattle.std.proofs.Common.{◌≡◌, ℕ, ◌<◌, ◌≤◌, ℤ, pos, true, List, [], ◌∷◌, ◌++◌, map, refl, sym, ap, ◌∙◌, arith}
 use Rattle.std.proofs.Common.{◌+◌, length, get_or, take}
 use Rattle.std.proofs.lemmas.List.{take_more}
-use Rattle.std.specs.Int.{◌∣◌}
 use Rattle.std.specs.Cmp.Derive.{both_true}
 use Rattle.std.specs.Ordering.{is_lt, nat_cmp, ordering_then}
-use Rattle.std.specs.declared.cmp.Ordering.TheVariants.{Less}
 use Rattle.std.proofs.lemmas.Nat.Gcd.{le_of_dvd}
 use Rattle.row_core.specs.declared.Var.{Var}
-use Rattle.row_core.specs.declared.kind_numbers.TheConstants.{TOTAL_DISCOUNTED_COST}
-use Rattle.row_core.specs.Numbers.{keys_of, variables_of, numbers_of, before_first, ascends, none_zero, all_in_range, all_zero, DividesAll, IsLowest}
+use Rattle.row_core.specs.Numbers.{keys_of, numbers_of, before_first, ascends, none_zero, all_in_range, IsLowest}
 use Rattle.row_core.specs.Order.{var_cmp, index_cmp}
 use Rattle.written_method.specs.Eliminated.{cost_variable, minus_one_at}
 use Rattle.variable_elimination.specs.CostRows.{AllAreCosts}

@@ -4,7 +4,7 @@ use Rattle.std.specs.Prelude.{Option, Some, None}
 use Rattle.std.proofs.lemmas.List.{drop_more, at_drop_all}
 use Rattle.row_core.specs.declared.Row.{Row}
 use Rattle.row_core.specs.declared.Var.{Var}
-use Rattle.written_method.specs.Definitions.{Definition, definitions_of, others_of}
+use Rattle.written_method.specs.Definitions.{definitions_of, others_of}
 
 module _ (rows : List Row) (defs : List (Option Var)) (i : ℕ) (r : Row) (o : Option Var) (h : i < length rows) (same : length defs ≡ length rows) (is : r ≡ get_or rows i r) where
   inside : i < length defs

@@ -1,5 +1,5 @@
 -- The parts of the elimination together.
-use Rattle.std.proofs.Common.{◌≡◌, ℤ, pos, Bool, true, false, List, [], ◌∷◌, ◌++◌, map, filter, refl, sym, ap, ap₂, ◌∙◌, subst}
+use Rattle.std.proofs.Common.{◌≡◌, ℤ, pos, true, false, List, [], ◌∷◌, ◌++◌, map, filter, refl, sym, ap, ap₂, ◌∙◌, subst}
 use Rattle.std.specs.Prelude.{Option, Some, None, ◌<ℤ◌}
 use Rattle.std.specs.Option.{option_or}
 use Rattle.std.specs.BTreeMap.{BTreeMap}
@@ -17,7 +17,7 @@ use Rattle.row_core.specs.declared.place.Stopped.TheVariants.{Width, Memory}
 use Rattle.row_core.specs.Forms.{Form, form_of}
 use Rattle.row_core.specs.Rows.{number_at}
 use Rattle.written_method.specs.Eliminated.{ReducedRow, at_first, reduced_row, is_kept, reduced_rows, row_steps, unscaled, cost_variable, cost_form, cost_row}
-use Rattle.written_method.specs.Expanded.{definition_among, expanded, expanded_formed}
+use Rattle.written_method.specs.Expanded.{expanded_formed}
 use Rattle.variable_elimination.specs.CostRows.{IsCostRow}
 use Rattle.variable_elimination.specs.Kept.{forms_in}
 use Rattle.variable_elimination.specs.SoFar.{IsFirst, HaveForms, HaveNone}

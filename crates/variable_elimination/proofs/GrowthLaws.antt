@@ -30,14 +30,14 @@ use Rattle.row_core.specs.declared.place.Stopped.TheVariants.{Width, Memory}
 use Rattle.row_core.specs.Forms.{Form, form_of}
 use Rattle.row_core.specs.Stops.{IsStop}
 use Rattle.row_core.proofs.Orders.{var_cmp_exact}
-use Rattle.written_method.specs.Eliminated.{unscaled, expanded_all, definition_steps}
+use Rattle.written_method.specs.Eliminated.{unscaled, definition_steps}
 use Rattle.written_method.specs.Expanded.{definition_among, expanded, expanded_formed}
 use Rattle.variable_elimination.specs.SoFar.{IsFirst}
 use Rattle.variable_elimination.proofs.LiftLaws.{alike}
 use Rattle.variable_elimination.proofs.LookUpLaws.{form_there, definition_among-get}
 use Rattle.variable_elimination.proofs.SameForms.{expanded-same, expanded_formed-same}
-use Rattle.written_method.specs.Definitions.{Definition, rows_of, defined, is_among, avoids, AreTriangular}
-use Rattle.variable_elimination.specs.Kept.{forms_in, AreDefinitions, AreReduced}
+use Rattle.written_method.specs.Definitions.{Definition, rows_of, defined, is_among, AreTriangular}
+use Rattle.variable_elimination.specs.Kept.{forms_in}
 use Rattle.variable_elimination.specs.SoFar.{HaveForms, HaveNone, IsPushed, IsSoFar}
 use Rattle.variable_elimination.proofs.VariableLaws.{itself, none_there, turned}
 use Rattle.variable_elimination.specs.Reductions.{multiples_of, IsReduced, IsReducedBy, IsReducedOne}

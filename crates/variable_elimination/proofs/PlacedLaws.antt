@@ -1,12 +1,11 @@
 -- A variable is put at its place among ascending ones.
-use Rattle.std.proofs.Common.{◌≡◌, ℕ, zero, suc, ◌+◌, ◌<◌, ◌≤◌, Bool, true, false, List, [], ◌∷◌, length, get_or, refl, sym, ap, ◌∙◌, subst, arith, if◌then◌else◌}
-use Rattle.std.specs.Prelude.{Option, Some, None}
+use Rattle.std.proofs.Common.{◌≡◌, ℕ, zero, suc, ◌<◌, ◌≤◌, true, false, List, [], ◌∷◌, length, get_or, refl, sym, ap, ◌∙◌, subst, arith}
 use Rattle.std.specs.Cmp.Derive.{both_true}
 use Rattle.std.specs.List.{insert}
 use Rattle.std.specs.List.Sorted.{IsNonDecreasingBy, IsSortedBy}
 use Rattle.std.proofs.lemmas.List.Sorted.{searchable_from_sorted}
 use Rattle.std.proofs.Common.{add-one}
-use Rattle.std.specs.Ordering.{is_lt, is_eq, ordering_index, ordering_reverse}
+use Rattle.std.specs.Ordering.{is_lt, ordering_index, ordering_reverse}
 use Rattle.std.specs.declared.cmp.Ordering.{Ordering}
 use Rattle.std.specs.declared.cmp.Ordering.TheVariants.{Less, Equal as Alike, Greater}
 use Rattle.row_core.specs.declared.Var.{Var}

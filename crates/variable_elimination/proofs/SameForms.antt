@@ -1,5 +1,5 @@
 -- Where two lists have the same form at each variable, rows are expanded alike.
-use Rattle.std.proofs.Common.{◌≡◌, ℤ, List, [], ◌∷◌, ◌++◌, refl, ap, ◌∙◌}
+use Rattle.std.proofs.Common.{◌≡◌, List, [], ◌∷◌, ◌++◌, refl, ap, ◌∙◌}
 use Rattle.row_core.specs.declared.Var.{Var}
 use Rattle.row_core.specs.Forms.{Form}
 use Rattle.row_core.specs.Numbers.{variables_of}

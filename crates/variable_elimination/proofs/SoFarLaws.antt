@@ -1,6 +1,6 @@
 -- Where no definition is left, all of them are expanded.
 use Rattle.std.proofs.Common.{◌≡◌, List, [], ◌∷◌, ◌++◌, refl, sym, ap, ◌∙◌, subst}
-use Rattle.std.specs.Prelude.{Option, Some, None}
+use Rattle.std.specs.Prelude.{None}
 use Rattle.std.specs.BTreeMap.{BTreeMap}
 use Rattle.exact_num.specs.Steps.{first_wide}
 use Rattle.exact_num.proofs.StepLaws.{first_wide-nil}

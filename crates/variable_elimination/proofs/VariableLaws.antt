@@ -1,5 +1,5 @@
 -- Variables, alike and apart.
-use Rattle.std.proofs.Common.{◌≡◌, ℤ, pos, ◌+ℤ◌, Bool, true, false, List, [], ◌∷◌, refl, sym, ap, ap₂, ◌∙◌, if◌then◌else◌}
+use Rattle.std.proofs.Common.{◌≡◌, ℤ, pos, ◌+ℤ◌, Bool, true, false, List, [], ◌∷◌, refl, ap, ap₂, ◌∙◌, if◌then◌else◌}
 use Rattle.std.specs.Ordering.{is_eq, ordering_reverse}
 use Rattle.std.specs.declared.cmp.Ordering.{Ordering}
 use Rattle.std.specs.declared.cmp.Ordering.TheVariants.{Less, Equal as Alike, Greater}
@@ -44,4 +44,3 @@ row_sum-zero (e ∷ es) = ap₂ (λ y z. y +ℤ z) (*ℤ-zero e.1) (row_sum-zero
 
 pub none_there : (vars : List Var) (v : Var) (es : List (Var × ℤ)) → avoids vars es ≡ true → is_among vars v ≡ true → row_sum (alone v) es ≡ pos 0
 none_there vars v es h k = row_sum-avoids (alone v) (λ w. pos 0) vars es h (λ w l. alone-apart vars v w k l) ∙ row_sum-zero es
-

@@ -1,5 +1,5 @@
 -- Expanded definitions as the code keeps them: rows by variable.
-use Rattle.std.specs.Prelude.{◌≡◌, ℤ, pos, ◌<ℤ◌, List, map, Option, IfSome}
+use Rattle.std.specs.Prelude.{◌≡◌, pos, ◌<ℤ◌, List, map, IfSome}
 use Rattle.std.specs.BTreeMap.{BTreeMap, get}
 use Rattle.row_core.specs.declared.Row.{Row}
 use Rattle.row_core.specs.declared.Sense.TheVariants.{Equal}

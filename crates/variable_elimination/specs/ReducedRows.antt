@@ -1,5 +1,5 @@
 -- The rows that define nothing, reduced one after another.
-use Rattle.std.specs.Prelude.{◌≡◌, ℤ, pos, Bool, not, ◌||◌, List, [], ◌∷◌, ◌++◌, map, Option, Some, None, ◌⊎◌, true, false, if◌then◌else◌}
+use Rattle.std.specs.Prelude.{◌≡◌, pos, Bool, not, ◌||◌, List, [], ◌∷◌, ◌++◌, map, Option, Some, ◌⊎◌, true, false, if◌then◌else◌}
 use Rattle.std.specs.BTreeMap.{BTreeMap}
 use Rattle.exact_num.specs.Rational.{Rational, IsLowest}
 use Rattle.exact_num.specs.Steps.{first_wide}

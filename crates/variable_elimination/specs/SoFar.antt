@@ -1,5 +1,5 @@
 -- Definitions are expanded one after another: what holds before those that are left.
-use Rattle.std.specs.Prelude.{◌≡◌, ℤ, pos, Bool, true, cond, List, [], ◌∷◌, ◌++◌, Option, Some, None, ⊤}
+use Rattle.std.specs.Prelude.{◌≡◌, pos, true, cond, List, [], ◌∷◌, ◌++◌, Option, Some, ⊤}
 use Rattle.std.specs.BTreeMap.{BTreeMap, get}
 use Rattle.std.specs.Ordering.{is_eq}
 use Rattle.exact_num.specs.Steps.{first_wide}

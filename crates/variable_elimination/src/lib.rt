@@ -1,4 +1,4 @@
-//! Defined variables are removed from rows, so that a linear program over the variables that a plan chooses freely is left.
+//! Removes the defined variables of rows, and of the row that says what the cost is.
 #![tactic(auto)]
 
 mod columns;

@@ -60,7 +60,13 @@ fn push_reduced(
     ensures fits { OnOk result (all_fit (expanded_formed (forms_in definitions.now) (at_first row.now)) ≡ true) }
     ensures stopped { IfErr result (IsStop (Expand row.now.name) (all_fit (expanded_formed (forms_in definitions.now) (at_first row.now)))) }
 {
-    let (made, scale) = expand(alloc, Place::Expand(row.name), row, Some(one()), definitions)?;
+    let (made, scale) = expand(
+        alloc,
+        Place::Expand(row.name),
+        row,
+        Some(one()),
+        definitions,
+    )?;
     let scale = match scale {
         Some(scale) => scale,
         None => unreachable!(),

@@ -11,7 +11,7 @@ pub struct Reduced {
     pub rows: Vec<Row>,
     /// The fraction by which the row of an equation was multiplied to give the row at the same place in `rows`.
     pub scales: Vec<Frac>,
-    /// The variables, strictly ascending. Every variable of a row and of `cost` is among them.
+    /// The variables, strictly ascending. To be solved, every variable of a row and of `cost` has to be among them.
     pub columns: Vec<Var>,
     /// The numbers of the cost, strictly ascending by variable.
     pub cost: Vec<(Var, i128)>,

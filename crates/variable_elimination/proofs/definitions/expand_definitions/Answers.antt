@@ -1,16 +1,12 @@
 -- One row after another.
-use Rattle.std.proofs.Common.{◌≡◌, ◌+◌, List, [], ◌∷◌, ◌++◌, drop, sym, ap, ◌∙◌, subst}
-use Rattle.std.specs.Prelude.{Option, Some, None}
-use Rattle.std.specs.BTreeMap.{BTreeMap}
+use Rattle.std.proofs.Common.{◌≡◌, ◌+◌, [], ◌∷◌, drop, sym, subst}
+use Rattle.std.specs.Prelude.{None}
 use Rattle.std.proofs.lemmas.Result.{err_from_is_err_and}
 use Rattle.exact_num.specs.Range.{all_fit}
 use Rattle.exact_num.specs.Steps.{first_wide}
-use Rattle.exact_num.proofs.StepLaws.{first_wide-nil}
-use Rattle.row_core.specs.declared.Row.{Row}
-use Rattle.row_core.specs.declared.Var.{Var}
 use Rattle.row_core.specs.declared.place.Place.TheVariants.{Expand}
 use Rattle.row_core.specs.Forms.{form_of}
-use Rattle.written_method.specs.Definitions.{Definition, definitions_of, rows_of}
+use Rattle.written_method.specs.Definitions.{definitions_of}
 use Rattle.written_method.specs.Eliminated.{unscaled, definition_steps}
 use Rattle.written_method.specs.Expanded.{expanded_formed}
 use Rattle.variable_elimination.specs.Kept.{forms_in}

@@ -1,6 +1,6 @@
 -- The parts together: the definitions, the other rows, the cost.
-use Rattle.std.proofs.Common.{◌≡◌, ℤ, pos, List, [], ◌∷◌, sym, ap, ◌∙◌, subst}
-use Rattle.std.specs.Prelude.{Option, Some, None, ◌<ℤ◌}
+use Rattle.std.proofs.Common.{◌≡◌, ℤ, pos, List, [], sym, ap, ◌∙◌, subst}
+use Rattle.std.specs.Prelude.{Option, None, ◌<ℤ◌}
 use Rattle.std.proofs.lemmas.Result.{err_from_is_err_and}
 use Rattle.exact_num.specs.Range.{all_fit}
 use Rattle.exact_num.specs.Steps.{Step, first_wide}
@@ -9,9 +9,9 @@ use Rattle.row_core.specs.declared.Row.{Row}
 use Rattle.row_core.specs.declared.Var.{Var}
 use Rattle.row_core.specs.declared.place.Place.{Place}
 use Rattle.row_core.specs.declared.place.Place.TheVariants.{CostRow}
-use Rattle.row_core.specs.Forms.{Form, form_of}
+use Rattle.row_core.specs.Forms.{Form}
 use Rattle.written_method.specs.Definitions.{definitions_of, others_of, rows_of}
-use Rattle.written_method.specs.Eliminated.{ReducedRow, unscaled, expanded_all, definition_steps, reduced_rows, row_steps, cost_form, cost_row}
+use Rattle.written_method.specs.Eliminated.{ReducedRow, unscaled, expanded_all, definition_steps, reduced_rows, row_steps, cost_form}
 use Rattle.written_method.specs.Expanded.{expanded_formed}
 use Rattle.variable_elimination.specs.Columns.{AreColumns}
 use Rattle.variable_elimination.specs.CostRows.{IsCostOf}

@@ -1,5 +1,5 @@
 -- Where no scale is kept nothing is formed.
-use Rattle.std.proofs.Common.{◌≡◌, true, ap, ◌∙◌, sym}
+use Rattle.std.proofs.Common.{◌≡◌, true}
 use Rattle.std.specs.Prelude.{Option, Some, None}
 use Rattle.exact_num.specs.Range.{all_fit}
 use Rattle.exact_num.specs.Rational.{Rational}

@@ -1,6 +1,6 @@
 -- The row is expanded, and kept where it has to stay.
 use Rattle.std.proofs.Common.{◌≡◌, pos, true, false, List, ◌++◌, [], ◌∷◌, sym, ap, ◌∙◌, subst, if◌then◌else◌}
-use Rattle.std.specs.Prelude.{Option, Some, None}
+use Rattle.std.specs.Prelude.{Option, Some}
 use Rattle.std.specs.BTreeMap.{BTreeMap}
 use Rattle.exact_num.specs.Rational.{Rational, whole}
 use Rattle.exact_num.specs.Value.{value_of}

@@ -1,6 +1,6 @@
 -- One row after another.
-use Rattle.std.proofs.Common.{◌≡◌, ◌+◌, List, [], ◌∷◌, drop, sym, ap, ap₂, ◌∙◌, subst, Vec, Global}
-use Rattle.std.specs.Prelude.{Option, Some, None}
+use Rattle.std.proofs.Common.{◌≡◌, ◌+◌, List, [], ◌∷◌, drop, sym, ap, subst, Vec, Global}
+use Rattle.std.specs.Prelude.{None}
 use Rattle.std.proofs.lemmas.Result.{err_from_is_err_and}
 use Rattle.exact_num.specs.Range.{all_fit}
 use Rattle.exact_num.specs.Steps.{first_wide}
