@@ -1,0 +1,14 @@
+pub mod LiftLaws
+pub mod ReductionLaws
+pub mod ExpandLaws
+pub mod LookUpLaws
+pub mod SameForms
+pub mod VariableLaws
+pub mod GrowthLaws
+pub mod DefinitionSteps
+pub mod SoFarLaws
+pub mod RowSteps
+pub mod PlacedLaws
+pub mod CostLaws
+pub mod ColumnsInOrder
+pub mod EliminationLaws

@@ -1,0 +1,11 @@
+//! Removes the defined variables of rows, and of the row that says what the cost is.
+#![tactic(auto)]
+
+mod columns;
+mod costing;
+mod definitions;
+mod eliminating;
+mod expanding;
+mod reducing;
+
+pub use eliminating::eliminate;
