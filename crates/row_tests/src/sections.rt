@@ -8,15 +8,10 @@ use std::alloc::{AllocError, Global};
 use std::process::Abort;
 use std::test::Fail;
 
-/// The blocks of a data section.
-fn blocks_of(rt: &impl Abort, alloc: Global, text: &str) -> Result<Blocks, Fail> {
-    assert!(rt; text.len() <= 1_000_000);
-    Ok(read_blocks(alloc, text.as_bytes())?)
-}
-
 /// What a data section says, as rows are made of it.
 pub(crate) fn model_of(rt: &impl Abort, alloc: Global, text: &str) -> Result<ModelData, Fail> {
-    let blocks = blocks_of(rt, alloc, text)?;
+    assert!(rt; text.len() <= 1_000_000);
+    let blocks = read_blocks(alloc, text.as_bytes())?;
     let sets = sets_of(alloc, &blocks)?;
     match build(alloc, &blocks, sets) {
         Ok(model) => Ok(model),
@@ -26,7 +21,8 @@ pub(crate) fn model_of(rt: &impl Abort, alloc: Global, text: &str) -> Result<Mod
 
 /// What a data section says, for the plain program.
 pub(crate) fn plain_of(rt: &impl Abort, alloc: Global, text: &str) -> Result<PlainData, Fail> {
-    let blocks = blocks_of(rt, alloc, text)?;
+    assert!(rt; text.len() <= 1_000_000);
+    let blocks = read_blocks(alloc, text.as_bytes())?;
     let sets = sets_of(alloc, &blocks)?;
     Ok(plain_data(alloc, &blocks, sets)?)
 }
