@@ -56,7 +56,7 @@ defaults_from param values = map (λ entry. default entry.0 entry.1) (enumerate_
 
 -- data with the base example's defaults, but for these values and defaults
 abbrev pub data_of : SetLists → List Given → List Default → Data
-data_of sets given defaults = record { sets = sets; given = given; defaults = defaults ++ defaults_from 1 base_values }
+data_of sets given defaults = record { sets = sets; given = given; defaults = defaults ++ defaults_from 1 base_values; second = false }
 
 -- the sets of the base example, with these years
 abbrev pub base_sets : List (List ℕ) → SetLists

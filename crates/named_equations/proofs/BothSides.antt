@@ -72,7 +72,7 @@ uneven_defaults =
     ∷ map (λ param. default param (hundredths (100 + param))) (range_with_len 1 USED_PARAM_COUNT)
 
 abbrev uneven : Data
-uneven = record { sets = uneven_sets; given = ratios; defaults = uneven_defaults }
+uneven = record { sets = uneven_sets; given = ratios; defaults = uneven_defaults; second = false }
 
 -- ---- plan
 
@@ -90,7 +90,7 @@ there = index 1 0 2 3 4 0 2 1
 
 -- what the equations of these numbers say of the plan over 7 at that index
 abbrev said : List ℕ → List Statement
-said numbers = map (λ eq. says uneven 7 spelled (name_at eq there)) numbers
+said numbers = map (λ eq. says 6 uneven 7 spelled (name_at eq there)) numbers
 
 equations_1_to_9 : said (range_with_len 1 9) ≡
     -- EQ_SpecifiedDemand

@@ -19,7 +19,7 @@ a also b = (a, b)
 
 -- the data with these values and defaults over the same sets
 abbrev pub with_values : Data → List Given → List Default → Data
-with_values d given defaults = record { sets = d.sets; given = given; defaults = defaults }
+with_values d given defaults = record { sets = d.sets; given = given; defaults = defaults; second = d.second }
 
 -- each used parameter has the same value at each of its indices
 pub record Agree (d : Data) (given : List Given) (defaults : List Default) : Type 0 where

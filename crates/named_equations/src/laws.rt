@@ -14,8 +14,8 @@ ghost use Rattle.named_equations.specs.Plans.{Feasible, cost, says};
 /// are feasible, and each costs the same.
 pub fn same_data_laws()
     ensures instances { (d e : Data) → AreSameData d e → instances d ≡ instances e }
-    ensures says { (d e : Data) → AreSameData d e → (q : ℕ) (x : Var → ℤ) (name : RowName) → is_instance d name ≡ true → says d q x name ≡ says e q x name }
+    ensures says { (d e : Data) → AreSameData d e → (places q : ℕ) (x : Var → ℤ) (name : RowName) → is_instance d name ≡ true → says places d q x name ≡ says places e q x name }
     ensures exists { (d e : Data) → AreSameData d e → (v : Var) → exists d v ≡ exists e v }
-    ensures feasible { (d e : Data) → AreSameData d e → (q : ℕ) (x : Var → ℤ) → Feasible d q x ↔ Feasible e q x }
+    ensures feasible { (d e : Data) → AreSameData d e → (places q : ℕ) (x : Var → ℤ) → Feasible places d q x ↔ Feasible places e q x }
     ensures cost { (d e : Data) → AreSameData d e → (x : Var → ℤ) → cost d x ≡ cost e x }
 {}
