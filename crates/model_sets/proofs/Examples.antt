@@ -2,13 +2,14 @@
 use Rattle.std.proofs.Common.{arith, ◌≡◌, ℕ, pos, List, [], ◌∷◌, true, false, Some, None, refl, map, length}
 use Rattle.std.specs.Prelude.{codes, ◌++◌}
 use Rattle.std.specs.Fmt.{digits}
-use Rattle.model_sets.specs.Data.{Data, value_at, indices_of, indices_over}
+use Rattle.model_sets.specs.Data.{AreSameData, Data, IsUsedParam, value_at, indices_of, indices_over}
+use Rattle.model_sets.specs.declared.params.Range.TheVariants.{AboveZero, ZeroToOne, Lifetime}
 use Rattle.model_sets.specs.Members.{SetLists, no_members, members, with_member, index_of, first_refusal, first_empty, years, first_year, last_year, KeepsRules}
 use Rattle.std.specs.List.{IsDistinct}
 use Rattle.model_sets.specs.Refusals.{IsDueTo}
 use Rattle.model_sets.specs.declared.fault.SetFail.TheVariants.{Fault, Memory}
 use Rattle.model_sets.specs.Names.{set_word, limit_of, set_words, limits}
-use Rattle.model_sets.specs.Params.{param_word, param_number, subscript_sets, subscript_count, param_words, used_params, unused_params}
+use Rattle.model_sets.specs.Params.{params, param_count, param_word, param_number, range_of, results_path, subscript_sets, subscript_count}
 use Rattle.model_sets.specs.Years.{IsYear, is_year, least, greatest}
 
 -- ---- years
@@ -123,21 +124,24 @@ no_year_there keeps = let e : false ≡ true = keeps.years refl 0 [] (omega arit
 
 -- ---- parameters
 
-counts : length used_params ∷ length unused_params ∷ length param_words ∷ [] ≡ 38 ∷ 16 ∷ 54 ∷ []
+counts : length params ∷ param_count ∷ [] ≡ 55 ∷ 55 ∷ []
 counts = refl
 
-by_number : param_word 1 ∷ param_word 18 ∷ param_word 38 ∷ param_word 39 ∷ param_word 54 ∷ [] ≡ codes "YearSplit" ∷ codes "CapacityOfOneTechnologyUnit" ∷ codes "ModelPeriodEmissionLimit" ∷ codes "Conversionls" ∷ codes "DiscountRateStorage" ∷ []
+by_number : param_word 1 ∷ param_word 18 ∷ param_word 38 ∷ param_word 39 ∷ param_word 54 ∷ param_word 55 ∷ [] ≡ codes "YearSplit" ∷ codes "CapacityOfOneTechnologyUnit" ∷ codes "ModelPeriodEmissionLimit" ∷ codes "Conversionls" ∷ codes "DiscountRateStorage" ∷ codes "DiscountRateIdv" ∷ []
 by_number = refl
 
-by_word : param_number (codes "YearSplit") ∷ param_number (codes "ResultsPath") ∷ param_number (codes "yearSplit") ∷ [] ≡ Some 1 ∷ Some 44 ∷ None ∷ []
+by_word : param_number (codes "YearSplit") ∷ param_number (codes "ResultsPath") ∷ param_number (codes "DiscountRateIdv") ∷ param_number (codes "yearSplit") ∷ [] ≡ Some 1 ∷ Some results_path ∷ Some 55 ∷ None ∷ []
 by_word = refl
 
 -- over the other subscripts: TradeRoute has the region twice
-subscripts : subscript_sets 1 ∷ subscript_sets 4 ∷ subscript_sets 13 ∷ [] ≡ (6 ∷ 7 ∷ []) ∷ (1 ∷ 1 ∷ 3 ∷ 7 ∷ []) ∷ (1 ∷ 2 ∷ 3 ∷ 5 ∷ 7 ∷ []) ∷ []
+subscripts : subscript_sets 1 ∷ subscript_sets 4 ∷ subscript_sets 13 ∷ subscript_sets 55 ∷ [] ≡ (6 ∷ 7 ∷ []) ∷ (1 ∷ 1 ∷ 3 ∷ 7 ∷ []) ∷ (1 ∷ 2 ∷ 3 ∷ 5 ∷ 7 ∷ []) ∷ (1 ∷ 2 ∷ []) ∷ []
 subscripts = refl
 
 how_many : subscript_count 1 ∷ subscript_count 13 ∷ subscript_count 44 ∷ subscript_count 45 ∷ [] ≡ 2 ∷ 5 ∷ 0 ∷ 4 ∷ []
 how_many = refl
+
+in_ranges : range_of 1 ∷ range_of 2 ∷ range_of 11 ∷ range_of 55 ∷ [] ≡ AboveZero ∷ ZeroToOne ∷ Lifetime ∷ ZeroToOne ∷ []
+in_ranges = refl
 
 -- ---- data
 
@@ -147,7 +151,46 @@ small = record {
   sets = two_each;
   given = record { param = 29; index = codes "A" ∷ codes "2020" ∷ []; value = pos 1200000000 } ∷ record { param = 2; index = codes "B" ∷ []; value = pos 50000000 } ∷ [];
   defaults = record { param = 29; value = pos 1000000000 } ∷ [];
+  second = false;
 }
+
+-- the same with a statement for DiscountRateIdv (55), which gives 0.1 in region A for technology T
+spread : Data
+spread = record {
+  sets = small.sets;
+  given = record { param = 55; index = codes "A" ∷ codes "T" ∷ []; value = pos 100000000 } ∷ small.given;
+  defaults = small.defaults;
+  second = true;
+}
+
+-- the parameters from 1 to 38 are used in all data, those from 39 to 54 in none
+always : IsUsedParam small 1 × IsUsedParam spread 1 × IsUsedParam small 38 × IsUsedParam spread 38
+unfolding small spread
+always = (((omega arith, omega arith), refl), ((omega arith, omega arith), refl), ((omega arith, omega arith), refl), ((omega arith, omega arith), refl))
+
+never : IsUsedParam spread 39 → ⊥
+never used = let e : false ≡ true = used.1 in absurd cc
+
+-- DiscountRateIdv is used where the text has a statement for it
+where_stated : IsUsedParam spread 55
+unfolding spread
+where_stated = ((omega arith, omega arith), refl)
+
+not_stated : IsUsedParam small 55 → ⊥
+unfolding small
+not_stated used = let e : false ≡ true = used.1 in absurd cc
+
+no_number : IsUsedParam spread 56 → ⊥
+no_number used = omega (arith, used.0.1)
+
+rate : value_at spread 55 (codes "A" ∷ codes "T" ∷ []) ∷ value_at spread 29 (codes "A" ∷ codes "2020" ∷ []) ∷ [] ≡ Some (pos 100000000) ∷ Some (pos 1200000000) ∷ []
+unfolding spread small
+rate = refl
+
+-- data that differ in whether they have the statement aren't the same, though the values of all parameters are
+other_use : AreSameData small (record { sets = small.sets; given = small.given; defaults = small.defaults; second = true }) → ⊥
+unfolding small
+other_use same = let e : false ≡ true = same.second in absurd cc
 
 given : (value_at small 29 (codes "A" ∷ codes "2020" ∷ [])) ∷ (value_at small 2 (codes "B" ∷ [])) ∷ [] ≡ Some (pos 1200000000) ∷ Some (pos 50000000) ∷ []
 unfolding small

@@ -10,6 +10,7 @@ mod laws;
 mod limits;
 mod member_list;
 pub mod param_numbers;
+pub mod params;
 pub mod set_numbers;
 mod sets;
 mod years;
