@@ -6,6 +6,7 @@ use Rattle.std.specs.List.{flat_map, list_any, list_all}
 use Rattle.std.proofs.lemmas.Bool.{and_parts}
 use Rattle.model_sets.specs.Data.{AreSameData, Data, Default, Given, indices_of}
 use Rattle.model_sets.specs.Members.{SetLists}
+use Rattle.model_sets.specs.Params.{is_used, param_at}
 use Rattle.row_core.specs.declared.Index.{Index}
 use Rattle.row_core.specs.declared.RowName.{RowName}
 use Rattle.row_core.specs.declared.Var.{Var}
@@ -132,7 +133,7 @@ pub back : {d e : Data} → AreSameData d e → AreSameData e d
 back {d = d} {e = e} same = record {
   sets = sym same.sets;
   second = sym same.second;
-  values = λ param used index has. sym (same.values param used index (subst (λ (sets : SetLists). Contains (indices_of sets param) index) (sym same.sets) has));
+  values = λ param used index has. sym (same.values param (used.0, subst (λ (second : Bool). is_used second (param_at param).used ≡ true) (sym same.second) used.1) index (subst (λ (sets : SetLists). Contains (indices_of sets param) index) (sym same.sets) has));
 }
 
 pub same-instances : (d e : Data) → AreSameData d e → instances d ≡ instances e

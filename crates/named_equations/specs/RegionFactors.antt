@@ -1,5 +1,5 @@
 -- The written factors that are made for a region, and how far they reach.
-use Rattle.std.specs.Prelude.{◌≡◌, ℕ, ◌<◌, ◌≤◌, List, length, Some, slice_get}
+use Rattle.std.specs.Prelude.{◌≡◌, ℕ, ◌<◌, ◌≤◌, List, [], ◌∷◌, length, Some, slice_get}
 use Rattle.discount_factors.specs.Known.{Discounting}
 use Rattle.model_sets.specs.Data.{Data}
 use Rattle.model_sets.specs.Names.{region, technology}
@@ -12,6 +12,11 @@ pub record AreFactorsOf (places : ℕ) (d : Data) (r : ℕ) (factors : Discounti
   pub rate : factors.rate ≡ rate_of d r
   pub span : years_in_all d ≤ factors.span
   pub lives : (t : ℕ) → t < count_of d technology → life_of d r t ≤ factors.lives
+
+-- how many decimal places they have, who all have as many as the first; 0 where there are none
+abbrev pub places_of : List Discounting → ℕ
+places_of [] = 0
+places_of (one ∷ others) = one.places
 
 -- one for each region, in the order of the regions
 pub record AreRegionFactors (places : ℕ) (d : Data) (factors : List Discounting) : Type 0 where
