@@ -4,7 +4,7 @@ use Rattle.std.specs.Prelude.{Some, slice_get}
 use Rattle.discount_factors.specs.Known.{Discounting}
 use Rattle.model_sets.specs.Names.{technology}
 use Rattle.named_equations.specs.Positions.{count_of}
-use Rattle.named_equations.specs.RegionFactors.{AreFactorsOf, AreRegionFactors}
+use Rattle.named_equations.specs.RegionFactors.{AreFactorsOf, AreRegionFactors, places_of}
 use Rattle.named_equations.specs.WrittenFactors.{life_of}
 use Rattle.named_equations.proofs.BaseFile.{base}
 
@@ -21,6 +21,10 @@ just_enough = record { places_are = refl; rate = refl; span = omega arith; lives
 
 more : AreFactorsOf 6 base 0 (made 0 30 40)
 more = record { places_are = refl; rate = refl; span = omega arith; lives = lives_of 40 (omega arith) }
+
+-- those of the other scale
+other_scale : AreFactorsOf 9 base 0 (made 0 1 1) → ⊥
+other_scale are = let same : 6 ≡ 9 = are.places_are in omega (arith, same)
 
 -- another rate, no year, no life
 another_rate : AreFactorsOf 6 base 0 (made 1 1 1) → ⊥
@@ -39,6 +43,10 @@ for_each (suc r) one at = absurd (cc at)
 
 one_region : AreRegionFactors 6 base (made 0 1 1 ∷ [])
 one_region = record { one_each = refl; each = for_each }
+
+-- they have six places
+six_places : places_of (made 0 1 1 ∷ []) ≡ 6
+six_places = refl
 
 -- none, and one too many
 none : AreRegionFactors 6 base [] → ⊥

@@ -138,7 +138,7 @@ salvage_fractions = refl
 -- ---- whole plans
 
 -- the same value in each of the three years
-abbrev each_year : ℤ → List ℤ
+abbrev pub each_year : ℤ → List ℤ
 each_year value = value ∷ value ∷ value ∷ []
 
 -- the best plan at the sinking fund: new capacity 10 in 2020, none in 2021 and 10 in 2025; by kind and year, in units of 10^-12
@@ -182,7 +182,7 @@ abbrev yearly : List (List ℤ) → Var → ℤ
 yearly table v = tabled (λ i. i.year) table v
 
 -- the data of the two plans
-abbrev sinking : Data
+abbrev pub sinking : Data
 sinking = with_gap (life 2 ∷ five_percent ∷ [])
 
 abbrev straight : Data
