@@ -1,4 +1,4 @@
--- The written factors computed on worked examples, and on near misses.
+-- The written factors of years computed on worked examples with 6 decimal places, and on near misses.
 use Rattle.std.proofs.Common.{◌≡◌, ◌+◌, ◌*◌, ◌^◌, refl}
 use Rattle.std.specs.Prelude.{nat_le, nat_lt, true, false}
 use Rattle.discount_factors.specs.Factors.{discounted, capital_factor, half_year_root, root_from, operating_factor, salvage_fraction}

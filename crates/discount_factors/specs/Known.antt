@@ -1,5 +1,5 @@
 -- What contracts see of the factors of one rate, and what they keep.
-use Rattle.std.specs.Prelude.{◌≡◌, ℕ, ◌+◌, max, List, length, slice_index, EachIndex}
+use Rattle.std.specs.Prelude.{◌≡◌, ℕ, ◌+◌, ◌^◌, ◌≤◌, max, List, length, slice_index, EachIndex}
 use Rattle.discount_factors.specs.Factors.{unit_of, IsPlaces, discounted, half_year_root}
 
 -- the factors at this rate in billionths, for so many years at most, for so long a life at most, and with so many decimal places

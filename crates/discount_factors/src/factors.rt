@@ -1,5 +1,5 @@
 // The factors of one rate.
-ghost use Rattle.std.specs.Prelude.{◌≡◌, ◌==◌, ◌&&◌, ◌*◌, ◌<◌, ◌≤◌, nat_lt, max, pos, ◌≤ℤ◌, unsigned_abs, IfOk};
+ghost use Rattle.std.specs.Prelude.{◌≡◌, ◌==◌, ◌&&◌, ◌*◌, ◌^◌, ◌<◌, ◌≤◌, nat_lt, max, pos, ◌≤ℤ◌, unsigned_abs, IfOk};
 ghost use Rattle.exact_num.specs.Range.{InRange};
 ghost use Rattle.discount_factors.specs.Factors.{unit_of, IsPlaces, discounted, capital_factor, operating_factor, salvage_fraction, annuity};
 
@@ -94,7 +94,8 @@ impl Factors {
     fn years_later(&self, n: u16) -> u64
         requires { n ≤ self.now.span }
         ensures exact { result ≡ capital_factor self.now.places self.now.rate n }
-        ensures places { IsPlaces self.now.places }
+        ensures most { result ≤ unit_of self.now.places }
+        ensures small { result ≤ 10 ^ 9 }
     {
         self.value(n) / (WHOLE / self.unit)
     }
@@ -114,7 +115,8 @@ impl Factors {
     fn half_year_later(&self, n: u16) -> u64
         requires { n ≤ self.now.span }
         ensures exact { result ≡ operating_factor self.now.places self.now.rate n }
-        ensures places { IsPlaces self.now.places }
+        ensures most { result ≤ unit_of self.now.places }
+        ensures small { result ≤ 10 ^ 9 }
     {
         let value = u128::from(self.value(n)) * u128::from(self.root);
         (value / (HALF_YEAR_WHOLE / u128::from(self.unit))) as u64
@@ -141,7 +143,8 @@ impl Factors {
         requires left { age < life }
         requires known { life ≤ self.now.lives }
         ensures exact { result ≡ salvage_fraction self.now.places method self.now.rate life age }
-        ensures places { IsPlaces self.now.places }
+        ensures most { result ≤ unit_of self.now.places }
+        ensures small { result ≤ 10 ^ 9 }
     {
         if self.goes_by_sinking_fund(method) {
             let left = WHOLE - self.value(life - age);
@@ -175,7 +178,8 @@ impl Factors {
     fn worth_of_years(&self, life: u16) -> u64
         requires { life ≤ self.now.lives }
         ensures exact { result ≡ annuity self.now.places self.now.rate life }
-        ensures places { IsPlaces self.now.places }
+        ensures most { life ≤ 200 → result ≤ unit_of self.now.places * 200 }
+        ensures small { result ≤ 10 ^ 14 }
     {
         if self.rate == 0 {
             return self.unit * u64::from(life);

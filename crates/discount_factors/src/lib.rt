@@ -7,9 +7,9 @@
 
 mod factors;
 mod laws;
-mod recovery;
+mod capital_recovery;
 mod values;
 
 pub use factors::Factors;
 pub use laws::{bound_laws, closeness_laws, level_laws, root_laws};
-pub use recovery::recovery;
+pub use capital_recovery::recovery;

@@ -1,15 +1,18 @@
-use Rattle.std.proofs.Common.{◌/◌, ◌^◌, ap}
-use Rattle.discount_factors.specs.Factors.{capital_factor}
+use Rattle.std.proofs.Common.{◌≡◌, ◌≤◌, ◌/◌, ◌^◌, ap, ap₂, sym, subst}
+use Rattle.discount_factors.specs.Known.{Discounting}
+use Rattle.discount_factors.specs.Factors.{unit_of, IsPlaces, capital_factor}
 use Rattle.discount_factors.proofs.FactorLaws.{capital_factor-le}
-use Rattle.discount_factors.proofs.LookUps.{factor_back, factor_most}
-use Rattle.discount_factors.proofs.factors.Factors.capital.Goals as goal
+use Rattle.discount_factors.proofs.KeptLaws.{kept_places, kept_unit, small_factor}
+use Rattle.discount_factors.proofs.factors.Factors.years_later.Goals as goal
 
-pub returns-clause-exact : goal.returns-clause-exact
+pub returns : goal.returns
 unfolding capital_factor
-returns-clause-exact c =
-    factor_back c.from.result (c.value.result / 10 ^ 12) (capital_factor c.args.self.now.rate c.args.n) c.from.ensures (ap (λ value. value / 10 ^ 12) c.value.ensures) (capital_factor-le c.args.self.now.rate c.args.n)
-
-pub returns-clause-most : goal.returns-clause-most
-unfolding capital_factor
-returns-clause-most c =
-    factor_most c.from.result (c.value.result / 10 ^ 12) (capital_factor c.args.self.now.rate c.args.n) c.from.ensures (ap (λ value. value / 10 ^ 12) c.value.ensures) (capital_factor-le c.args.self.now.rate c.args.n)
+returns c =
+    let rate = c.args.self.now.rate in
+    let places = c.args.self.now.places in
+    let same : c.self.inside.places ≡ places = ap (λ (d : Discounting). d.places) c.self.view_is in
+    let are : IsPlaces places = kept_places places c.self.invariant same in
+    let exact : c.value.result / (10 ^ 18 / c.self.inside.unit) ≡ capital_factor places rate c.args.n =
+    ap₂ (λ value unit. value / (10 ^ 18 / unit)) c.value.ensures (kept_unit places c.self.invariant same) in
+    let most : c.value.result / (10 ^ 18 / c.self.inside.unit) ≤ unit_of places = subst (λ k. k ≤ unit_of places) (sym exact) (capital_factor-le places rate c.args.n are) in
+    record { exact = exact; most = most; small = small_factor _ places are most }

@@ -1,5 +1,5 @@
 // The recovery factor, which goes by a technology's own rate, and so isn't one of the factors that are kept for a region.
-ghost use Rattle.std.specs.Prelude.{◌≡◌, ℕ, ◌<◌, ◌≤◌, pos, ◌≤ℤ◌, unsigned_abs};
+ghost use Rattle.std.specs.Prelude.{◌≡◌, ◌^◌, ◌<◌, ◌≤◌, pos, ◌≤ℤ◌, unsigned_abs};
 ghost use Rattle.exact_num.specs.Range.{InRange};
 ghost use Rattle.discount_factors.specs.Factors.{unit_of, IsPlaces, recovery_factor};
 
@@ -18,14 +18,18 @@ pub fn recovery(rate: i128, life: u16, places: u8) -> i128
     ensures most { result ≤ℤ pos (unit_of places) }
     ensures fits { InRange result }
 {
-    i128::from(part_due(rate as u64, life, unit_of(places)))
+    i128::from(part_due(rate as u64, life, places))
 }
 
-// The same, as a number of 64 bits, at the scale where 1 is `unit`.
-fn part_due(rate: u64, life: u16, unit: u64) -> u64
+// The same, as a number of 64 bits.
+fn part_due(rate: u64, life: u16, places: u8) -> u64
     requires begun { 0 < life }
-    ensures { (places : ℕ) → unit ≡ unit_of places → result ≡ recovery_factor places rate life }
+    requires places { IsPlaces places }
+    ensures exact { result ≡ recovery_factor places rate life }
+    ensures most { result ≤ unit_of places }
+    ensures small { result ≤ 10 ^ 9 }
 {
+    let unit = unit_of(places);
     if rate == 0 {
         unit / u64::from(life)
     } else {
