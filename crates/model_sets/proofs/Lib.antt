@@ -1,5 +1,7 @@
 pub mod EndLaws
 mod Examples
 pub mod NameLists
+pub mod ParamLaws
 pub mod SetLaws
+pub mod Tables
 pub mod YearLaws
