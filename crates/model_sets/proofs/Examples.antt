@@ -1,15 +1,13 @@
 -- The definitions computed on worked examples, and on near misses.
-use Rattle.std.proofs.Common.{arith, ◌≡◌, ℕ, pos, List, [], ◌∷◌, true, false, Some, None, refl, map, length}
+use Rattle.std.proofs.Common.{arith, ◌≡◌, ℕ, pos, List, [], ◌∷◌, true, false, Some, None, refl, map}
 use Rattle.std.specs.Prelude.{codes, ◌++◌}
 use Rattle.std.specs.Fmt.{digits}
 use Rattle.model_sets.specs.Data.{AreSameData, Data, IsUsedParam, value_at, indices_of, indices_over}
-use Rattle.model_sets.specs.declared.params.Range.TheVariants.{AboveZero, ZeroToOne, Lifetime}
 use Rattle.model_sets.specs.Members.{SetLists, no_members, members, with_member, index_of, first_refusal, first_empty, years, first_year, last_year, KeepsRules}
 use Rattle.std.specs.List.{IsDistinct}
 use Rattle.model_sets.specs.Refusals.{IsDueTo}
 use Rattle.model_sets.specs.declared.fault.SetFail.TheVariants.{Fault, Memory}
-use Rattle.model_sets.specs.Names.{set_word, limit_of, set_words, limits}
-use Rattle.model_sets.specs.Params.{params, param_count, param_word, param_number, range_of, results_path, subscript_sets, subscript_count}
+use Rattle.model_sets.specs.Names.{set_word, limit_of}
 use Rattle.model_sets.specs.Years.{IsYear, is_year, least, greatest}
 
 -- ---- years
@@ -37,9 +35,6 @@ words = refl
 
 most : limit_of 1 ∷ limit_of 2 ∷ limit_of 7 ∷ limit_of 8 ∷ [] ≡ 20 ∷ 500 ∷ 120 ∷ 1000 ∷ []
 most = refl
-
-eleven : length set_words ∷ length limits ∷ [] ≡ 11 ∷ 11 ∷ []
-eleven = refl
 
 -- the regions A and B, and the years 2030 and 2020
 two_each : SetLists
@@ -121,27 +116,6 @@ doubled keeps = let e : true ≡ false = keeps.distinct.0.0 in absurd cc
 no_year_there : KeepsRules 7 (codes "02020" ∷ []) → ⊥
 unfolding digits
 no_year_there keeps = let e : false ≡ true = keeps.years refl 0 [] (omega arith) in absurd cc
-
--- ---- parameters
-
-counts : length params ∷ param_count ∷ [] ≡ 55 ∷ 55 ∷ []
-counts = refl
-
-by_number : param_word 1 ∷ param_word 18 ∷ param_word 38 ∷ param_word 39 ∷ param_word 54 ∷ param_word 55 ∷ [] ≡ codes "YearSplit" ∷ codes "CapacityOfOneTechnologyUnit" ∷ codes "ModelPeriodEmissionLimit" ∷ codes "Conversionls" ∷ codes "DiscountRateStorage" ∷ codes "DiscountRateIdv" ∷ []
-by_number = refl
-
-by_word : param_number (codes "YearSplit") ∷ param_number (codes "ResultsPath") ∷ param_number (codes "DiscountRateIdv") ∷ param_number (codes "yearSplit") ∷ [] ≡ Some 1 ∷ Some results_path ∷ Some 55 ∷ None ∷ []
-by_word = refl
-
--- over the other subscripts: TradeRoute has the region twice
-subscripts : subscript_sets 1 ∷ subscript_sets 4 ∷ subscript_sets 13 ∷ subscript_sets 55 ∷ [] ≡ (6 ∷ 7 ∷ []) ∷ (1 ∷ 1 ∷ 3 ∷ 7 ∷ []) ∷ (1 ∷ 2 ∷ 3 ∷ 5 ∷ 7 ∷ []) ∷ (1 ∷ 2 ∷ []) ∷ []
-subscripts = refl
-
-how_many : subscript_count 1 ∷ subscript_count 13 ∷ subscript_count 44 ∷ subscript_count 45 ∷ [] ≡ 2 ∷ 5 ∷ 0 ∷ 4 ∷ []
-how_many = refl
-
-in_ranges : range_of 1 ∷ range_of 2 ∷ range_of 11 ∷ range_of 55 ∷ [] ≡ AboveZero ∷ ZeroToOne ∷ Lifetime ∷ ZeroToOne ∷ []
-in_ranges = refl
 
 -- ---- data
 
