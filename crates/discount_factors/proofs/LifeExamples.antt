@@ -1,5 +1,6 @@
 -- The recovery factor and the annuity computed on worked examples, and on near misses.
-use Rattle.std.proofs.Common.{◌≡◌, ◌≢◌, ◌-◌, ◌*◌, ◌/◌, ◌^◌, refl}
+use Rattle.std.proofs.Common.{◌≡◌, ◌-◌, ◌*◌, ◌/◌, ◌^◌, refl}
+use Rattle.std.specs.Prelude.{nat_eq, false}
 use Rattle.discount_factors.specs.Factors.{discounted, recovery_factor, annuity}
 
 -- ---- rate 0.05, 20 years: an investment of 1 is paid back by 0.076421 a year, and 1 a year is worth 13.08532
@@ -20,9 +21,9 @@ unfolding annuity discounted
 annuity_of_20_to_nine = refl
 
 -- what is due at the ends of the years is worth less: 12.46221
-not_at_the_ends : annuity 6 50000000 20 ≢ 10 ^ 6 * (10 ^ 18 - discounted 50000000 20) * 10 ^ 9 / (10 ^ 18 * 50000000)
+not_at_the_ends : nat_eq (annuity 6 50000000 20) (10 ^ 6 * (10 ^ 18 - discounted 50000000 20) * 10 ^ 9 / (10 ^ 18 * 50000000)) ≡ false
 unfolding annuity discounted
-not_at_the_ends ()
+not_at_the_ends = refl
 
 at_the_ends : 10 ^ 6 * (10 ^ 18 - discounted 50000000 20) * 10 ^ 9 / (10 ^ 18 * 50000000) ≡ 12462210
 unfolding discounted

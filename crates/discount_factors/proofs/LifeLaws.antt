@@ -1,5 +1,5 @@
 -- The salvage fraction and the recovery factor: which quotient each is, that neither is above 1, and what they are at rate 0.
-use Rattle.std.proofs.Common.{◌≡◌, ℕ, zero, suc, ◌+◌, ◌-◌, ◌*◌, ◌/◌, ◌^◌, ◌<◌, ◌≤◌, true, false, eqb, ltb, refl, subst, arith}
+use Rattle.std.proofs.Common.{◌≡◌, ℕ, ◌-◌, ◌*◌, ◌/◌, ◌^◌, ◌<◌, ◌≤◌, true, false, eqb, ltb, refl, arith}
 use Rattle.std.proofs.Math.Nat.{div-le_of_le-mul, div-le_self, mul-le-mul_left}
 use Rattle.std.proofs.lemmas.Bool.{cond_both, cond-true, cond-false, and_right}
 use Rattle.std.specs.Prelude.{◌&&◌}

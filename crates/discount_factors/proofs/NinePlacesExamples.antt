@@ -1,7 +1,7 @@
 -- The written factors computed with 9 decimal places, and near misses.
-use Rattle.std.proofs.Common.{◌≡◌, ◌≢◌, ◌+◌, ◌*◌, ◌^◌, refl}
-use Rattle.std.specs.Prelude.{nat_le, nat_lt, true, false}
-use Rattle.discount_factors.specs.Factors.{unit_of, discounted, capital_factor, half_year_root, root_from, operating_factor, salvage_fraction, recovery_factor, annuity}
+use Rattle.std.proofs.Common.{◌≡◌, ◌+◌, ◌*◌, ◌/◌, ◌^◌, refl}
+use Rattle.std.specs.Prelude.{nat_eq, nat_le, nat_lt, true, false}
+use Rattle.discount_factors.specs.Factors.{unit_of, discounted, capital_factor, half_year_root, root_from, operating_factor, salvage_fraction}
 
 -- ---- rate 0.05
 capital_of_5 : capital_factor 9 50000000 5 ≡ 783526166
@@ -33,13 +33,13 @@ unfolding salvage_fraction
 straight_line_of_7 = refl
 
 -- it isn't the factor of six places with three zeros, nor is the operating factor made from that
-not_by_millionths : capital_factor 9 50000000 5 ≢ capital_factor 6 50000000 5 * 1000
+not_by_millionths : nat_eq (capital_factor 9 50000000 5) (capital_factor 6 50000000 5 * 1000) ≡ false
 unfolding capital_factor discounted
-not_by_millionths ()
+not_by_millionths = refl
 
-not_from_millionths : operating_factor 9 50000000 5 ≢ capital_factor 6 50000000 5 * half_year_root 50000000 * 1000 / 10 ^ 12
+not_from_millionths : nat_eq (operating_factor 9 50000000 5) (capital_factor 6 50000000 5 * half_year_root 50000000 * 1000 / 10 ^ 12) ≡ false
 unfolding operating_factor capital_factor half_year_root root_from discounted
-not_from_millionths ()
+not_from_millionths = refl
 
 -- ---- rate 0: everything counts whole
 level_capital : capital_factor 9 0 200 ≡ 1000000000

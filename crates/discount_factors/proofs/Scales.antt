@@ -1,10 +1,10 @@
 -- The two scales of factors: what is true of both, each computed.
-use Rattle.std.proofs.Common.{◌≡◌, ℕ, ◌*◌, ◌/◌, ◌^◌, ◌<◌, ◌≤◌, refl, sym, subst, inl, inr, arith}
+use Rattle.std.proofs.Common.{◌≡◌, ℕ, ◌*◌, ◌/◌, ◌^◌, ◌≤◌, refl, sym, subst, inl, inr, arith}
 use Rattle.discount_factors.specs.Factors.{unit_of, IsPlaces}
 
 -- what is true at 6 and at 9 is true of the number of places
 pub at_places : (P : ℕ → Type 0) → P 6 → P 9 → (places : ℕ) → IsPlaces places → P places
-at_places P six nine places is = elim is [ | inl same ↦ subst P (sym same) six | inr same ↦ subst P (sym same) nine ]
+at_places P six nine places is = elim is [ inl same ↦ subst P (sym same) six | inr same ↦ subst P (sym same) nine ]
 
 -- ---- one of the last place is the whole of a scale over the unit, and the quotient is whole
 pub steps : (places : ℕ) → IsPlaces places → unit_of places * (10 ^ 18 / unit_of places) ≡ 10 ^ 18

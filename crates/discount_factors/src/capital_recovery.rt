@@ -33,6 +33,10 @@ fn part_due(rate: u64, life: u16, places: u8) -> u64
     if rate == 0 {
         unit / u64::from(life)
     } else {
-        part_of(unit, WHOLE - discounted_value(rate, 1), WHOLE - discounted_value(rate, life))
+        part_of(
+            unit,
+            WHOLE - discounted_value(rate, 1),
+            WHOLE - discounted_value(rate, life),
+        )
     }
 }

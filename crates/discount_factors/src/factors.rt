@@ -41,7 +41,13 @@ impl Model for Factors {
 impl Factors {
     /// The factors at a rate of 0 to 10^9 billionths, for up to `span` years and lives of up to `lives` years, with 6 decimal places
     /// or 9. Refuses for want of memory alone.
-    pub fn new(alloc: Global, rate: i128, span: u16, lives: u16, places: u8) -> Result<Factors, AllocError>
+    pub fn new(
+        alloc: Global,
+        rate: i128,
+        span: u16,
+        lives: u16,
+        places: u8,
+    ) -> Result<Factors, AllocError>
         requires least { pos 0 ≤ℤ rate }
         requires most { rate ≤ℤ pos 1000000000 }
         requires places { IsPlaces places }

@@ -5,11 +5,11 @@
 //! billionths.
 #![tactic(auto)]
 
+mod capital_recovery;
 mod factors;
 mod laws;
-mod capital_recovery;
 mod values;
 
+pub use capital_recovery::recovery;
 pub use factors::Factors;
 pub use laws::{bound_laws, closeness_laws, level_laws, root_laws};
-pub use capital_recovery::recovery;

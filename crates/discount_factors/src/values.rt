@@ -27,7 +27,11 @@ pub(crate) fn unit_of(places: u8) -> u64
     requires { IsPlaces places }
     ensures { result ≡ unit_of places }
 {
-    if places == NINE_PLACES { NINE_PLACES_UNIT } else { SIX_PLACES_UNIT }
+    if places == NINE_PLACES {
+        NINE_PLACES_UNIT
+    } else {
+        SIX_PLACES_UNIT
+    }
 }
 
 /// The value a year later: divided by 1 + d, and rounded down.
