@@ -10,6 +10,7 @@ pub mod EnergySigns
 pub mod EnergyTerms
 pub mod EntryVariables
 mod Examples
+mod InvestmentExamples
 pub mod GatheredLaws
 pub mod GivenValues
 pub mod InstanceRows
@@ -23,6 +24,7 @@ pub mod Numbers
 pub mod ParameterSigns
 pub mod Periods
 pub mod Places
+pub mod PlacesOfFactors
 pub mod Ranges
 pub mod RatioCells
 pub mod RatioIndices
