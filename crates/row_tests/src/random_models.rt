@@ -18,6 +18,9 @@ use std::test::Fail;
 /// twentieth and of the whole, and years with gaps.
 const MODELS: [u64; 6] = [1, 2, 4, 5, 10, 12];
 
+/// Some of these, for the other readings of the data.
+const SOME_MODELS: [u64; 3] = [1, 4, 10];
+
 /// The rows are those of all instances, in order.
 fn assert_names(
     rt: &impl Abort,
@@ -97,17 +100,17 @@ fn rows_say_what_the_plain_program_says(rt: HostRuntime) -> Result<(), Fail> {
 
 #[test]
 fn rows_of_nine_places_say_the_same(rt: HostRuntime) -> Result<(), Fail> {
-    assert_models(&rt, rt.alloc(), &MODELS, 9, false)
+    assert_models(&rt, rt.alloc(), &SOME_MODELS, 9, false)
 }
 
 #[test]
 fn rows_say_the_same_where_investments_are_spread(rt: HostRuntime) -> Result<(), Fail> {
-    assert_models(&rt, rt.alloc(), &MODELS, 6, true)
+    assert_models(&rt, rt.alloc(), &SOME_MODELS, 6, true)
 }
 
 #[test]
 fn rows_of_nine_places_say_the_same_where_investments_are_spread(
     rt: HostRuntime,
 ) -> Result<(), Fail> {
-    assert_models(&rt, rt.alloc(), &MODELS, 9, true)
+    assert_models(&rt, rt.alloc(), &SOME_MODELS, 9, true)
 }
