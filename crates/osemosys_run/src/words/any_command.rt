@@ -2,7 +2,7 @@
 ghost use Rattle.std.specs.Prelude.{◌≡◌, IfOk, map, option_map};
 ghost use Rattle.std.specs.String.{string_bytes};
 ghost use Rattle.osemosys_run.specs.CommandLine.{command_named, meant};
-ghost use Rattle.osemosys_run.specs.CommandLine.{MpsName, CheckName, SolveName, MakeName, check_of};
+ghost use Rattle.osemosys_run.specs.CommandLine.{MpsName, CheckName, SolveName, MakeName, check_of, mps_of};
 ghost use Rattle.osemosys_run.specs.Commands.{any_command_of_result, name_of};
 ghost use Rattle.osemosys_run.specs.WordReading.{given_of, command_by, command_given, is_allowed};
 
@@ -153,14 +153,18 @@ fn is_allowed(name: CommandName, given: &Given<'_>) -> bool
 fn mps_given<'a>(given: &Given<'a>) -> Result<AnyCommand<'a>, WordFault>
     ensures { any_command_of_result result ≡ command_given MpsName (given_of given.now) }
 {
-    let [file] = given.files.as_slice() else {
-        return Err(WordFault::BadForm);
-    };
-    match places_of(given.places) {
-        Some(places) => Ok(AnyCommand::Mps {
-            file: *file,
-            places,
-        }),
+    match given.files.as_slice() {
+        [file] => mps(*file, given.places),
+        _ => Err(WordFault::BadForm),
+    }
+}
+
+fn mps<'a>(file: &'a str, places: Option<&'a str>) -> Result<AnyCommand<'a>, WordFault>
+    ensures { any_command_of_result result
+        ≡ mps_of file.entry.now (option_map (λ value. value.now) places.entry) }
+{
+    match places_of(places) {
+        Some(places) => Ok(AnyCommand::Mps { file, places }),
         None => Err(WordFault::BadNumber),
     }
 }
