@@ -1,108 +1,108 @@
--- The written factors computed on worked examples, and on near misses.
+-- The written factors of years computed on worked examples with 6 decimal places, and on near misses.
 use Rattle.std.proofs.Common.{◌≡◌, ◌+◌, ◌*◌, ◌^◌, refl}
 use Rattle.std.specs.Prelude.{nat_le, nat_lt, true, false}
 use Rattle.discount_factors.specs.Factors.{discounted, capital_factor, half_year_root, root_from, operating_factor, salvage_fraction}
 
 -- ---- rate 0.05
-capital_of_0 : capital_factor 50000000 0 ≡ 1000000
+capital_of_0 : capital_factor 6 50000000 0 ≡ 1000000
 unfolding capital_factor discounted
 capital_of_0 = refl
 
-capital_of_1 : capital_factor 50000000 1 ≡ 952380
+capital_of_1 : capital_factor 6 50000000 1 ≡ 952380
 unfolding capital_factor discounted
 capital_of_1 = refl
 
-capital_of_2 : capital_factor 50000000 2 ≡ 907029
+capital_of_2 : capital_factor 6 50000000 2 ≡ 907029
 unfolding capital_factor discounted
 capital_of_2 = refl
 
-capital_of_5 : capital_factor 50000000 5 ≡ 783526
+capital_of_5 : capital_factor 6 50000000 5 ≡ 783526
 unfolding capital_factor discounted
 capital_of_5 = refl
 
-capital_of_6 : capital_factor 50000000 6 ≡ 746215
+capital_of_6 : capital_factor 6 50000000 6 ≡ 746215
 unfolding capital_factor discounted
 capital_of_6 = refl
 
-capital_of_200 : capital_factor 50000000 200 ≡ 57
+capital_of_200 : capital_factor 6 50000000 200 ≡ 57
 unfolding capital_factor discounted
 capital_of_200 = refl
 
-operating_of_0 : operating_factor 50000000 0 ≡ 975900
+operating_of_0 : operating_factor 6 50000000 0 ≡ 975900
 unfolding operating_factor half_year_root root_from discounted
 operating_of_0 = refl
 
-operating_of_1 : operating_factor 50000000 1 ≡ 929428
+operating_of_1 : operating_factor 6 50000000 1 ≡ 929428
 unfolding operating_factor half_year_root root_from discounted
 operating_of_1 = refl
 
-operating_of_5 : operating_factor 50000000 5 ≡ 764643
+operating_of_5 : operating_factor 6 50000000 5 ≡ 764643
 unfolding operating_factor half_year_root root_from discounted
 operating_of_5 = refl
 
-operating_of_200 : operating_factor 50000000 200 ≡ 56
+operating_of_200 : operating_factor 6 50000000 200 ≡ 56
 unfolding operating_factor half_year_root root_from discounted
 operating_of_200 = refl
 
-sinking_fund_of_2 : salvage_fraction 1 50000000 2 1 ≡ 512195
+sinking_fund_of_2 : salvage_fraction 6 1 50000000 2 1 ≡ 512195
 unfolding salvage_fraction discounted
 sinking_fund_of_2 = refl
 
-straight_line_of_2 : salvage_fraction 2 50000000 2 1 ≡ 500000
+straight_line_of_2 : salvage_fraction 6 2 50000000 2 1 ≡ 500000
 unfolding salvage_fraction discounted
 straight_line_of_2 = refl
 
 -- ---- rate 1: the factor halves each year, and is 0 from the twentieth on
-doubled_capital_of_1 : capital_factor 1000000000 1 ≡ 500000
+doubled_capital_of_1 : capital_factor 6 1000000000 1 ≡ 500000
 unfolding capital_factor discounted
 doubled_capital_of_1 = refl
 
-doubled_capital_of_19 : capital_factor 1000000000 19 ≡ 1
+doubled_capital_of_19 : capital_factor 6 1000000000 19 ≡ 1
 unfolding capital_factor discounted
 doubled_capital_of_19 = refl
 
-doubled_capital_of_20 : capital_factor 1000000000 20 ≡ 0
+doubled_capital_of_20 : capital_factor 6 1000000000 20 ≡ 0
 unfolding capital_factor discounted
 doubled_capital_of_20 = refl
 
-doubled_capital_of_119 : capital_factor 1000000000 119 ≡ 0
+doubled_capital_of_119 : capital_factor 6 1000000000 119 ≡ 0
 unfolding capital_factor discounted
 doubled_capital_of_119 = refl
 
-doubled_operating_of_0 : operating_factor 1000000000 0 ≡ 707106
+doubled_operating_of_0 : operating_factor 6 1000000000 0 ≡ 707106
 unfolding operating_factor half_year_root root_from discounted
 doubled_operating_of_0 = refl
 
 -- ---- rate 0: everything counts whole, and method 1 is the straight line
-level_capital_of_0 : capital_factor 0 0 ≡ 1000000
+level_capital_of_0 : capital_factor 6 0 0 ≡ 1000000
 unfolding capital_factor discounted
 level_capital_of_0 = refl
 
-level_capital_of_1 : capital_factor 0 1 ≡ 1000000
+level_capital_of_1 : capital_factor 6 0 1 ≡ 1000000
 unfolding capital_factor discounted
 level_capital_of_1 = refl
 
-level_capital_of_200 : capital_factor 0 200 ≡ 1000000
+level_capital_of_200 : capital_factor 6 0 200 ≡ 1000000
 unfolding capital_factor discounted
 level_capital_of_200 = refl
 
-level_operating_of_0 : operating_factor 0 0 ≡ 1000000
+level_operating_of_0 : operating_factor 6 0 0 ≡ 1000000
 unfolding operating_factor half_year_root root_from discounted
 level_operating_of_0 = refl
 
-level_operating_of_1 : operating_factor 0 1 ≡ 1000000
+level_operating_of_1 : operating_factor 6 0 1 ≡ 1000000
 unfolding operating_factor half_year_root root_from discounted
 level_operating_of_1 = refl
 
-level_operating_of_200 : operating_factor 0 200 ≡ 1000000
+level_operating_of_200 : operating_factor 6 0 200 ≡ 1000000
 unfolding operating_factor half_year_root root_from discounted
 level_operating_of_200 = refl
 
-level_method_1 : salvage_fraction 1 0 3 1 ≡ 666666
+level_method_1 : salvage_fraction 6 1 0 3 1 ≡ 666666
 unfolding salvage_fraction discounted
 level_method_1 = refl
 
-level_method_2 : salvage_fraction 2 0 3 1 ≡ 666666
+level_method_2 : salvage_fraction 6 2 0 3 1 ≡ 666666
 unfolding salvage_fraction discounted
 level_method_2 = refl
 

@@ -1,7 +1,12 @@
 mod Examples
+mod LifeExamples
+mod NinePlacesExamples
+pub mod AnnuityLaws
 pub mod ClosenessLaws
 pub mod FactorLaws
-pub mod LookUps
+pub mod KeptLaws
+pub mod LifeLaws
 pub mod RootLaws
+pub mod Scales
 pub mod Tables
 pub mod ValueLaws

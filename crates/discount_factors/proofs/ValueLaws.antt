@@ -1,6 +1,7 @@
 -- The discounted values: each is a rounded quotient of the one before, so they fall, and each year's rounding loses less than 1.
-use Rattle.std.proofs.Common.{◌≡◌, ℕ, zero, suc, ◌+◌, ◌-◌, ◌*◌, ◌/◌, ◌^◌, ◌<◌, ◌≤◌, refl, subst, arith}
+use Rattle.std.proofs.Common.{◌≡◌, ℕ, zero, suc, ◌+◌, ◌-◌, ◌*◌, ◌/◌, ◌^◌, ◌<◌, ◌≤◌, refl, subst, inl, inr, arith}
 use Rattle.std.proofs.Math.Nat.{pow-suc, pow-zero, div-mul-le_self, lt-div-mul-add, mul-le-mul_right, mul-le-mul_left, le_of_mul-le-mul_right}
+use Rattle.std.proofs.lemmas.Bool.{cases_lt}
 use Rattle.discount_factors.specs.Factors.{discounted}
 
 pub discounted-first : (rate : ℕ) → discounted rate 0 ≡ 10 ^ 18
@@ -72,3 +73,24 @@ discounted-above rate zero = rw discounted-first (rw pow-zero (omega arith))
 discounted-above rate (suc n) =
     let step = powers_above (discounted rate n) (discounted rate (suc n)) n (10 ^ 9 + rate) (10 ^ 9) ((10 ^ 9 + rate) ^ n) ((10 ^ 9) ^ n) (omega arith) (year_above rate n) (discounted-above rate n) in
     rw (pow-suc (10 ^ 9 + rate) n, pow-suc (10 ^ 9) n) step
+
+-- ---- every year from the first on is worth less than the whole, where the rate is above 0
+discounted-below_first : (rate n : ℕ) → 0 < rate → discounted rate (suc n) < 10 ^ 18
+discounted-below_first rate zero some =
+    elim (cases_lt (discounted rate 1) (10 ^ 18)) [
+      | inl less ↦ less
+      | inr whole ↦
+          let most : discounted rate 1 * (10 ^ 9 + rate) ≤ 10 ^ 18 * 10 ^ 9 = rw (discounted-first rate) at (year_below rate 0) in
+          let least : 10 ^ 18 * (10 ^ 9 + rate) ≤ discounted rate 1 * (10 ^ 9 + rate) = mul-le-mul_right (10 ^ 9 + rate) whole in
+          absurd (omega arith)
+    ]
+discounted-below_first rate (suc n) some = let before = discounted-below_first rate n some in let falls = discounted-falls rate (suc n) in omega arith
+
+pub discounted-below_whole : (rate n : ℕ) → 0 < rate → 0 < n → discounted rate n < 10 ^ 18
+discounted-below_whole rate zero some later = absurd (omega arith)
+discounted-below_whole rate (suc n) some later = discounted-below_first rate n some
+
+-- ---- rate 0
+pub discounted-level : (n : ℕ) → discounted 0 n ≡ 10 ^ 18
+discounted-level zero = discounted-first 0
+discounted-level (suc n) = rw (discounted-more 0 n, discounted-level n) refl

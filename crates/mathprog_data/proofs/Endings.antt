@@ -14,7 +14,7 @@ use Rattle.mathprog_data.specs.Lexemes.{Lexeme, Sign, Bare, Placed}
 use Rattle.mathprog_data.specs.MachineStates.{Seen, Open, Fresh, DataRead, Between, EndRead, Ended, SetRead, InSet, ParamRead, ParamNamed, DefaultRead, LeadingDefault, LeadingNumber, TabbingColon, TabbingNamed, InRecords, InPlain, PlaceDue, PlaceRead, ParenRead, TrRead, TrClosed, InColumns, InRows, InRow, Event, ValueGiven, DefaultGiven, Turn, Go, Emit}
 use Rattle.mathprog_data.specs.MachineSteps.{turn, number, row_left, records}
 use Rattle.mathprog_data.specs.NumberReading.{reading}
-use Rattle.mathprog_data.specs.Params.{results_path, subscript_count}
+use Rattle.model_sets.specs.Params.{results_path, subscript_count}
 use Rattle.mathprog_data.specs.Slices.{Slice, index_at, all_free}
 use Rattle.mathprog_data.specs.Statements.{Form, Listed}
 use Rattle.mathprog_data.specs.Symbols.{Name, Number}

@@ -6,7 +6,7 @@ use Rattle.mathprog_data.specs.declared.lexeme.Sign.TheVariants as signs
 use Rattle.mathprog_data.specs.declared.words.Word.TheVariants as words
 use Rattle.mathprog_data.specs.MachineStates.{Seen, SignSeen, SymbolSeen, Open, ParamNamed, InRecords, InPlain, Stop, Go, Emit, Event}
 use Rattle.mathprog_data.specs.MachineSteps.{number, plain, bracket, table}
-use Rattle.mathprog_data.specs.Params.{subscript_count, results_path}
+use Rattle.model_sets.specs.Params.{subscript_count, results_path}
 use Rattle.mathprog_data.specs.Slices.{Slice, free_count, all_free}
 use Rattle.mathprog_data.specs.Statements.{Form, Listed, Tabbing}
 use Rattle.mathprog_data.specs.Symbols.{Name, Number}

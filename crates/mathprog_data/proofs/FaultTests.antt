@@ -8,7 +8,8 @@ use Rattle.mathprog_data.specs.declared.words.Word.TheVariants as words
 use Rattle.mathprog_data.specs.Faults.{unknown_name, wrong_slice, row_too_short, bad_number, tabbing}
 use Rattle.mathprog_data.specs.MachineStates.{Seen, SignSeen, SymbolSeen, Open, Fresh, DataRead, Between, EndRead, Ended, SetRead, InSet, ParamRead, ParamNamed, DefaultRead, LeadingDefault, LeadingNumber, TabbingColon, TabbingNamed, InRecords, InPlain, PlaceDue, PlaceRead, ParenRead, TrRead, TrClosed, InColumns, InRows, InRow, Turn, Stop, Go, Emit}
 use Rattle.mathprog_data.specs.MachineSteps.{turn, set_name, param_name, tabbing_name}
-use Rattle.mathprog_data.specs.Params.{set_number, param_number, subscript_count}
+use Rattle.model_sets.specs.Names.{set_number}
+use Rattle.model_sets.specs.Params.{param_number, subscript_count}
 use Rattle.mathprog_data.specs.Statements.{Listed}
 use Rattle.mathprog_data.specs.Symbols.{Number}
 

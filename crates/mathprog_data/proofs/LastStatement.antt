@@ -9,7 +9,8 @@ use Rattle.mathprog_data.specs.declared.words.Word.TheVariants as words
 use Rattle.mathprog_data.specs.Lexemes.{Placed}
 use Rattle.mathprog_data.specs.MachineStates.{Seen, SignSeen, SymbolSeen, Open, Fresh, Between, Ended, ParamRead, ParamNamed, DefaultRead, InRecords, InPlain, PlaceDue, PlaceRead, ParenRead, TrRead, TrClosed, InColumns, InRows, InRow, Turn, Stop, Go, Emit, Event, Begins, seen_of}
 use Rattle.mathprog_data.specs.MachineSteps.{turn, param_name}
-use Rattle.mathprog_data.specs.Params.{set_number, param_number, subscript_count}
+use Rattle.model_sets.specs.Names.{set_number}
+use Rattle.model_sets.specs.Params.{param_number, subscript_count}
 use Rattle.mathprog_data.specs.StatementFaults.{LacksSubscripts, IsClosed, nothing, semicolon, HasNoSemicolon}
 use Rattle.mathprog_data.specs.Statements.{Listed, ParamBegun}
 use Rattle.mathprog_data.specs.Symbols.{Name, Number, IsSign, IsKeyword, IsSymbol}

@@ -15,7 +15,8 @@ use Rattle.mathprog_data.specs.Lexemes.{Placed}
 use Rattle.mathprog_data.specs.MachineStates.{Seen, SignSeen, SymbolSeen, Open, Fresh, DataRead, Between, EndRead, Ended, SetRead, InSet, ParamRead, ParamNamed, DefaultRead, LeadingDefault, LeadingNumber, TabbingColon, TabbingNamed, InRecords, InPlain, PlaceDue, PlaceRead, ParenRead, TrRead, TrClosed, InColumns, InRows, InRow, Event, Begins, DefaultGiven, ValueGiven, Turn, Stop, Go, Emit}
 use Rattle.mathprog_data.specs.MachineSteps.{turn, set_name, param_name, tabbing_name, comma, records, number, plain, bracket, table, columns_end, cell, row_left}
 use Rattle.mathprog_data.specs.Meaning.{Opening, Statements}
-use Rattle.mathprog_data.specs.Params.{set_number, param_number, subscript_count, results_path}
+use Rattle.model_sets.specs.Names.{set_number}
+use Rattle.model_sets.specs.Params.{param_number, subscript_count, results_path}
 use Rattle.mathprog_data.specs.Slices.{Slice, free_count, all_free, index_at}
 use Rattle.mathprog_data.specs.Statements.{Form, Listed, Tabbing, Begun, SetBegun, ParamBegun, TabbingBegun, Beginning, Default, Statement}
 use Rattle.mathprog_data.specs.Statements as trees

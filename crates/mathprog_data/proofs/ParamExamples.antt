@@ -2,7 +2,8 @@
 use Rattle.std.proofs.Common.{◌≡◌, [], ◌∷◌, Some, None, map, length, refl}
 use Rattle.std.specs.Prelude.{codes}
 use Rattle.std.specs.List.{range_with_len}
-use Rattle.mathprog_data.specs.Params.{params, param_words, set_words, set_word, set_number, param_word, param_number, subscript_count, set_count, param_count, results_path}
+use Rattle.model_sets.specs.Names.{set_words, set_word, set_number, set_count}
+use Rattle.model_sets.specs.Params.{params, param_words, param_word, param_number, subscript_count, param_count, results_path}
 
 -- there are as many of each as its list is long
 counts : length set_words ∷ length params ∷ [] ≡ set_count ∷ param_count ∷ []

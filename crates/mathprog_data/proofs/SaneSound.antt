@@ -4,7 +4,7 @@ use Rattle.std.proofs.lemmas.Bool.{eqb-true}
 use Rattle.mathprog_data.proofs.FaultTables.{Sound}
 use Rattle.mathprog_data.proofs.TurnLaws.{IsSane, Tabled}
 use Rattle.mathprog_data.specs.MachineStates.{Open, InRecords, InPlain, PlaceDue, PlaceRead, ParenRead, TrRead, TrClosed, InColumns, InRows, InRow}
-use Rattle.mathprog_data.specs.Params.{subscript_count}
+use Rattle.model_sets.specs.Params.{subscript_count}
 use Rattle.mathprog_data.specs.Slices.{Slice, free_count}
 
 free-within : (slice : Slice) → free_count slice ≤ length slice

@@ -13,7 +13,8 @@ use Rattle.mathprog_data.specs.MachineStates.{Seen, SignSeen, SymbolSeen, Open, 
 use Rattle.mathprog_data.specs.MachineSteps.{turn, comma, number, set_name, param_name, tabbing_name, records, in_records as records_turn, between as between_turn}
 use Rattle.mathprog_data.specs.Meaning.{Opening, Statements}
 use Rattle.mathprog_data.specs.Meaning as sections
-use Rattle.mathprog_data.specs.Params.{subscript_count, set_number, param_number}
+use Rattle.model_sets.specs.Names.{set_number}
+use Rattle.model_sets.specs.Params.{subscript_count, param_number}
 use Rattle.mathprog_data.specs.Slices.{all_free}
 use Rattle.mathprog_data.specs.Statements.{Listed, Tabbing, Default, NoDefault, SetBegun, ParamBegun, TabbingBegun}
 use Rattle.mathprog_data.specs.Statements as trees

@@ -13,7 +13,8 @@ use Rattle.mathprog_data.specs.MachineStates.{Seen, SignSeen, SymbolSeen, Open, 
 use Rattle.mathprog_data.specs.MachineSteps.{turn, may_end, set_name, param_name, tabbing_name}
 use Rattle.mathprog_data.specs.Meaning.{Opening, Statements, Closing, IsLoose}
 use Rattle.mathprog_data.specs.Meaning as sections
-use Rattle.mathprog_data.specs.Params.{subscript_count, set_number, param_number}
+use Rattle.model_sets.specs.Names.{set_number}
+use Rattle.model_sets.specs.Params.{subscript_count, param_number}
 use Rattle.mathprog_data.specs.Slices.{Slice, all_free}
 use Rattle.mathprog_data.specs.Statements.{Form, Listed, Tabbing, Records, NoDefault, Default, Begun, SetBegun, ParamBegun, TabbingBegun, Beginning, Statement, Set, Param, IsStatement}
 use Rattle.mathprog_data.specs.Statements as trees

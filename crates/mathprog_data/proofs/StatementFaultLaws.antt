@@ -10,7 +10,8 @@ use Rattle.mathprog_data.specs.declared.lexeme.Sign.TheVariants as signs
 use Rattle.mathprog_data.specs.Lexemes.{Lexeme, Sign, Bare, Placed}
 use Rattle.mathprog_data.specs.MachineStates.{Seen, SignSeen, EmptySeen, SymbolSeen, Open, Fresh, Event, Turn, Stop, Go, Emit, seen_of}
 use Rattle.mathprog_data.specs.MachineSteps.{turn}
-use Rattle.mathprog_data.specs.Params.{set_number, param_number}
+use Rattle.model_sets.specs.Names.{set_number}
+use Rattle.model_sets.specs.Params.{param_number}
 use Rattle.mathprog_data.specs.StatementFaults.{BeginsLoose, CouldStand, LacksSubscripts, IsUnknownName, IsWrongSlice, IsRowTooShort, IsBadNumber, IsTabbing}
 use Rattle.mathprog_data.specs.StatementFaults as faults
 use Rattle.mathprog_data.specs.Symbols.{IsSign}

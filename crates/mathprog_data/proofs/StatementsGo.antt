@@ -6,7 +6,8 @@ use Rattle.mathprog_data.specs.declared.lexeme.Sign.TheVariants as signs
 use Rattle.mathprog_data.specs.Lexemes.{Placed}
 use Rattle.mathprog_data.specs.MachineStates.{Open, Fresh, DataRead, Between, EndRead, Ended, SetRead, InSet, ParamRead, ParamNamed, DefaultRead, LeadingDefault, LeadingNumber, TabbingColon, TabbingNamed, InRecords, InPlain, PlaceDue, PlaceRead, ParenRead, TrRead, TrClosed, InColumns, InRows, InRow, Event, Begins, DefaultGiven, ValueGiven, SetClosed, ParamClosed, Turn, Stop, Go, Emit}
 use Rattle.mathprog_data.specs.Meaning.{Opening, Statements}
-use Rattle.mathprog_data.specs.Params.{subscript_count, set_number, param_number}
+use Rattle.model_sets.specs.Names.{set_number}
+use Rattle.model_sets.specs.Params.{subscript_count, param_number}
 use Rattle.mathprog_data.specs.Slices.{Slice, all_free, index_at, Places}
 use Rattle.mathprog_data.specs.Statements.{Form, Listed, Tabbing, Members, Subscripts, Records, Default, SetBegun, ParamBegun, TabbingBegun, Statement}
 use Rattle.mathprog_data.specs.Symbols.{Name, Number, IsSign, IsKeyword, IsSymbol, IsNumberToken, IsValue, Comma}

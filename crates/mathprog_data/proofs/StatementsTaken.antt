@@ -10,7 +10,7 @@ use Rattle.mathprog_data.specs.Lexemes.{Placed}
 use Rattle.mathprog_data.specs.MachineStates.{SignSeen, SymbolSeen, Open, Between, InSet, InRecords, InPlain, PlaceDue, PlaceRead, Event, ValueGiven, SetClosed, Turn, Emit}
 use Rattle.mathprog_data.specs.MachineSteps.{turn, bracket, plain_value, number}
 use Rattle.mathprog_data.specs.MachineSteps.{plain as plain_turn}
-use Rattle.mathprog_data.specs.Params.{subscript_count, results_path}
+use Rattle.model_sets.specs.Params.{subscript_count, results_path}
 use Rattle.mathprog_data.specs.Slices.{Slice, free_count, index_at, Places, IsPlace}
 use Rattle.mathprog_data.specs.Slices as slices
 use Rattle.mathprog_data.specs.Statements.{Form, Listed, Tabbing, Members, Subscripts, Plain, Records}

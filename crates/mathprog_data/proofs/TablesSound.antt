@@ -13,7 +13,7 @@ use Rattle.mathprog_data.specs.Lexemes.{Placed}
 use Rattle.mathprog_data.specs.MachineStates.{Seen, SignSeen, SymbolSeen, Open, InRecords, ParenRead, TrRead, TrClosed, InColumns, InRows, InRow, Event, ValueGiven, ParamClosed, Turn, Stop, Go, Emit}
 use Rattle.mathprog_data.specs.MachineSteps.{turn, comma, row_left, cell, number, in_records as records_turn}
 use Rattle.mathprog_data.specs.MachineSteps.{columns_end as end_turn}
-use Rattle.mathprog_data.specs.Params.{subscript_count}
+use Rattle.model_sets.specs.Params.{subscript_count}
 use Rattle.mathprog_data.specs.Slices.{Slice, free_count}
 use Rattle.mathprog_data.specs.Statements.{Form, Listed, Tabbing}
 use Rattle.mathprog_data.specs.Statements as statements

@@ -9,7 +9,7 @@ use Rattle.mathprog_data.specs.declared.words.Word.TheVariants.{Data, Set, Param
 use Rattle.mathprog_data.specs.Lexemes.{Lexeme, Sign, Bare, Quoted, Placed, bare_name}
 use Rattle.mathprog_data.specs.MachineStates.{Seen, SignSeen, SymbolSeen, seen_of}
 use Rattle.mathprog_data.specs.NumberReading.{reading}
-use Rattle.mathprog_data.specs.Params.{param_number}
+use Rattle.model_sets.specs.Params.{param_number}
 use Rattle.mathprog_data.specs.Symbols.{Name, Number, IsSign, IsKeyword, IsSymbol, IsNumberToken, symbol_name}
 use Rattle.mathprog_data.specs.Words.{word_of}
 

@@ -9,7 +9,8 @@ use Rattle.mathprog_data.specs.declared.words.Word.TheVariants as words
 use Rattle.mathprog_data.specs.Faults.{unexpected, unknown_name, wrong_slice, row_too_short, bad_number, tabbing}
 use Rattle.mathprog_data.specs.MachineStates.{Seen, SignSeen, SymbolSeen, Open, Fresh, DataRead, Between, EndRead, Ended, SetRead, InSet, ParamRead, ParamNamed, DefaultRead, LeadingDefault, LeadingNumber, TabbingColon, TabbingNamed, InRecords, InPlain, PlaceDue, PlaceRead, ParenRead, TrRead, TrClosed, InColumns, InRows, InRow, Event, DefaultGiven, ValueGiven, Turn, Stop, Go, Emit}
 use Rattle.mathprog_data.specs.MachineSteps.{turn, set_name, param_name, tabbing_name, comma, number, plain, bracket, columns_end, cell, row_left}
-use Rattle.mathprog_data.specs.Params.{set_number, param_number, subscript_count, results_path}
+use Rattle.model_sets.specs.Names.{set_number}
+use Rattle.model_sets.specs.Params.{param_number, subscript_count, results_path}
 use Rattle.mathprog_data.specs.Slices.{Slice, free_count, all_free, index_at}
 use Rattle.mathprog_data.specs.Statements.{Form, Listed, Tabbing}
 use Rattle.mathprog_data.specs.Symbols.{Name, Number}

@@ -15,7 +15,8 @@ use Rattle.mathprog_data.specs.declared.blocks.Mark.{Mark}
 use Rattle.mathprog_data.specs.Lexemes.{Placed}
 use Rattle.mathprog_data.specs.Meaning.{GivenValue, SetBlock, ParamBlock, Blocks, Item, SetItem, ParamItem, Opening, Statements, IsLoose, loose, NoNameTwice, Means, blocks_of, set_blocks, param_blocks, default_value, value_of, item_of, item_begun, same_item, is_named}
 use Rattle.mathprog_data.specs.Meaning as meaning
-use Rattle.mathprog_data.specs.Params.{IsSet, IsParam, set_words, param_words, set_number, param_number, subscript_count}
+use Rattle.model_sets.specs.Names.{IsSet, set_words, set_number}
+use Rattle.model_sets.specs.Params.{IsParam, param_words, param_number, subscript_count}
 use Rattle.mathprog_data.specs.Slices.{Slice, all_free, free_count, index_at, Places}
 use Rattle.mathprog_data.specs.Slices as slices
 use Rattle.mathprog_data.specs.Statements.{Subscripts, Plain, Form, Records, Default, Begun, SetBegun, ParamBegun, TabbingBegun, Beginning, Statement, Set, Param, IsStatement}

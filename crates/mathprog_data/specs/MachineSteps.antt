@@ -8,7 +8,8 @@ use Rattle.mathprog_data.specs.declared.words.Word.TheVariants as words
 use Rattle.mathprog_data.specs.Faults.{unexpected, unknown_name, given_twice, wrong_slice, row_too_short, bad_number, tabbing}
 use Rattle.mathprog_data.specs.Lexemes.{Lexeme}
 use Rattle.mathprog_data.specs.MachineStates.{Seen, SignSeen, SymbolSeen, seen_of, Open, Fresh, DataRead, Between, EndRead, Ended, SetRead, InSet, ParamRead, ParamNamed, DefaultRead, LeadingDefault, LeadingNumber, TabbingColon, TabbingNamed, InRecords, InPlain, PlaceDue, PlaceRead, ParenRead, TrRead, TrClosed, InColumns, InRows, InRow, Event, Begins, MemberNamed, DefaultGiven, ValueGiven, SetClosed, ParamClosed, Turn, Stop, Go, Emit, Draft, empty_draft, noted, Reader}
-use Rattle.mathprog_data.specs.Params.{set_number, param_number, subscript_count, results_path}
+use Rattle.model_sets.specs.Names.{set_number}
+use Rattle.model_sets.specs.Params.{param_number, subscript_count, results_path}
 use Rattle.mathprog_data.specs.Slices.{Slice, all_free, free_count, index_at}
 use Rattle.mathprog_data.specs.Statements.{Form, Listed, Tabbing, SetBegun, ParamBegun, TabbingBegun}
 use Rattle.mathprog_data.specs.Symbols.{Name, Number}

@@ -2,7 +2,7 @@
 use Rattle.std.specs.Prelude.{ℕ, List, map}
 use Rattle.std.specs.Borrow.{Bor}
 use Rattle.mathprog_data.specs.declared.params.Parameter.{Parameter}
-use Rattle.mathprog_data.specs.Params.{Param}
+use Rattle.model_sets.specs.Params.{Param}
 
 -- the parameter that an entry of the table describes
 abbrev pub described_param : Parameter → Param

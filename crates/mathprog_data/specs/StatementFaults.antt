@@ -5,7 +5,8 @@ use Rattle.mathprog_data.specs.declared.lexeme.Sign.TheVariants as signs
 use Rattle.mathprog_data.specs.Faults.{unexpected, unknown_name, given_twice, wrong_slice, row_too_short, bad_number, tabbing}
 use Rattle.mathprog_data.specs.Lexemes.{Lexeme, Sign, Bare, Placed}
 use Rattle.mathprog_data.specs.Meaning.{Blocks, IsLoose, NoNameTwice, Means}
-use Rattle.mathprog_data.specs.Params.{set_number, param_number, subscript_count}
+use Rattle.model_sets.specs.Names.{set_number}
+use Rattle.model_sets.specs.Params.{param_number, subscript_count}
 use Rattle.mathprog_data.specs.Statements.{Statement}
 use Rattle.mathprog_data.specs.Symbols.{Name, IsSign, IsKeyword, IsSymbol}
 use Rattle.mathprog_data.specs.Tables.{EndsTable}

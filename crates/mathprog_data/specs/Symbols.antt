@@ -4,7 +4,7 @@ use Rattle.scaled_decimals.specs.DecimalReading.{Reads}
 use Rattle.mathprog_data.specs.declared.lexeme.Sign.{Sign as TheSign}
 use Rattle.mathprog_data.specs.declared.lexeme.Sign.TheVariants as signs
 use Rattle.mathprog_data.specs.Lexemes.{Lexeme, Sign, Bare, Quoted, Placed, bare_name}
-use Rattle.mathprog_data.specs.Params.{results_path}
+use Rattle.model_sets.specs.Params.{results_path}
 
 -- the name of a member
 abbrev pub Name : Type 0

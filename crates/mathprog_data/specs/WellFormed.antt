@@ -2,7 +2,8 @@
 use Rattle.std.specs.Prelude.{◌≡◌, ℕ, ◌^◌, ◌≤◌, ℤ, List, length, map, nat_eq, IfSome, All, unsigned_abs}
 use Rattle.std.specs.List.{IsDistinct}
 use Rattle.mathprog_data.specs.Meaning.{GivenValue, ParamBlock, Blocks}
-use Rattle.mathprog_data.specs.Params.{IsParam, IsSet, subscript_count}
+use Rattle.model_sets.specs.Names.{IsSet}
+use Rattle.model_sets.specs.Params.{IsParam, subscript_count}
 
 -- the value, in billionths, is within the limit of a data section: 10^15, with either sign
 abbrev pub IsWithinLimit : ℤ → Type 0

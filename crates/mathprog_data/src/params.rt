@@ -1,7 +1,7 @@
 //! The parameters of the OSeMOSYS long code: their words and how many subscripts they have.
 
 ghost use Rattle.std.specs.Prelude.{◌≡◌, map};
-ghost use Rattle.mathprog_data.specs.Params.{IsParam, params, param_at, param_word, subscript_count, param_number};
+ghost use Rattle.model_sets.specs.Params.{IsParam, params, param_at, param_word, subscript_count, param_number};
 ghost use Rattle.mathprog_data.specs.ParamTables.{described_param};
 
 /// A parameter: its word, and how many subscripts it has.

@@ -2,7 +2,7 @@
 
 ghost use Rattle.std.specs.Prelude.{◌≡◌, position, Option};
 ghost use Rattle.std.specs.Str.{bytes_eq};
-ghost use Rattle.mathprog_data.specs.Params.{IsSet, set_words, set_word, set_number};
+ghost use Rattle.model_sets.specs.Names.{IsSet, set_words, set_word, set_number};
 ghost use Rattle.mathprog_data.specs.ParamTables.{texts_of};
 
 /// How many sets there are.

@@ -1,14 +1,13 @@
 -- The definitions computed on worked examples, and on near misses.
-use Rattle.std.proofs.Common.{arith, ◌≡◌, ℕ, pos, List, [], ◌∷◌, true, false, Some, None, refl, map, length}
+use Rattle.std.proofs.Common.{arith, ◌≡◌, ℕ, pos, List, [], ◌∷◌, true, false, Some, None, refl, map}
 use Rattle.std.specs.Prelude.{codes, ◌++◌}
 use Rattle.std.specs.Fmt.{digits}
-use Rattle.model_sets.specs.Data.{Data, value_at, indices_of, indices_over}
+use Rattle.model_sets.specs.Data.{AreSameData, Data, IsUsedParam, value_at, indices_of, indices_over}
 use Rattle.model_sets.specs.Members.{SetLists, no_members, members, with_member, index_of, first_refusal, first_empty, years, first_year, last_year, KeepsRules}
 use Rattle.std.specs.List.{IsDistinct}
 use Rattle.model_sets.specs.Refusals.{IsDueTo}
 use Rattle.model_sets.specs.declared.fault.SetFail.TheVariants.{Fault, Memory}
-use Rattle.model_sets.specs.Names.{set_word, limit_of, set_words, limits}
-use Rattle.model_sets.specs.Params.{param_word, param_number, subscript_sets, subscript_count, param_words, used_params, unused_params}
+use Rattle.model_sets.specs.Names.{set_word, limit_of}
 use Rattle.model_sets.specs.Years.{IsYear, is_year, least, greatest}
 
 -- ---- years
@@ -36,9 +35,6 @@ words = refl
 
 most : limit_of 1 ∷ limit_of 2 ∷ limit_of 7 ∷ limit_of 8 ∷ [] ≡ 20 ∷ 500 ∷ 120 ∷ 1000 ∷ []
 most = refl
-
-eleven : length set_words ∷ length limits ∷ [] ≡ 11 ∷ 11 ∷ []
-eleven = refl
 
 -- the regions A and B, and the years 2030 and 2020
 two_each : SetLists
@@ -121,24 +117,6 @@ no_year_there : KeepsRules 7 (codes "02020" ∷ []) → ⊥
 unfolding digits
 no_year_there keeps = let e : false ≡ true = keeps.years refl 0 [] (omega arith) in absurd cc
 
--- ---- parameters
-
-counts : length used_params ∷ length unused_params ∷ length param_words ∷ [] ≡ 38 ∷ 16 ∷ 54 ∷ []
-counts = refl
-
-by_number : param_word 1 ∷ param_word 18 ∷ param_word 38 ∷ param_word 39 ∷ param_word 54 ∷ [] ≡ codes "YearSplit" ∷ codes "CapacityOfOneTechnologyUnit" ∷ codes "ModelPeriodEmissionLimit" ∷ codes "Conversionls" ∷ codes "DiscountRateStorage" ∷ []
-by_number = refl
-
-by_word : param_number (codes "YearSplit") ∷ param_number (codes "ResultsPath") ∷ param_number (codes "yearSplit") ∷ [] ≡ Some 1 ∷ Some 44 ∷ None ∷ []
-by_word = refl
-
--- over the other subscripts: TradeRoute has the region twice
-subscripts : subscript_sets 1 ∷ subscript_sets 4 ∷ subscript_sets 13 ∷ [] ≡ (6 ∷ 7 ∷ []) ∷ (1 ∷ 1 ∷ 3 ∷ 7 ∷ []) ∷ (1 ∷ 2 ∷ 3 ∷ 5 ∷ 7 ∷ []) ∷ []
-subscripts = refl
-
-how_many : subscript_count 1 ∷ subscript_count 13 ∷ subscript_count 44 ∷ subscript_count 45 ∷ [] ≡ 2 ∷ 5 ∷ 0 ∷ 4 ∷ []
-how_many = refl
-
 -- ---- data
 
 -- ReserveMargin (29) is 1.2 in region A and year 2020, else 1; DiscountRate (2) is 0.05 in region B, with no default
@@ -147,7 +125,46 @@ small = record {
   sets = two_each;
   given = record { param = 29; index = codes "A" ∷ codes "2020" ∷ []; value = pos 1200000000 } ∷ record { param = 2; index = codes "B" ∷ []; value = pos 50000000 } ∷ [];
   defaults = record { param = 29; value = pos 1000000000 } ∷ [];
+  second = false;
 }
+
+-- the same with a statement for DiscountRateIdv (55), which gives 0.1 in region A for technology T
+spread : Data
+spread = record {
+  sets = small.sets;
+  given = record { param = 55; index = codes "A" ∷ codes "T" ∷ []; value = pos 100000000 } ∷ small.given;
+  defaults = small.defaults;
+  second = true;
+}
+
+-- the parameters from 1 to 38 are used in all data, those from 39 to 54 in none
+always : IsUsedParam small 1 × IsUsedParam spread 1 × IsUsedParam small 38 × IsUsedParam spread 38
+unfolding small spread
+always = (((omega arith, omega arith), refl), ((omega arith, omega arith), refl), ((omega arith, omega arith), refl), ((omega arith, omega arith), refl))
+
+never : IsUsedParam spread 39 → ⊥
+never used = let e : false ≡ true = used.1 in absurd cc
+
+-- DiscountRateIdv is used where the text has a statement for it
+where_stated : IsUsedParam spread 55
+unfolding spread
+where_stated = ((omega arith, omega arith), refl)
+
+not_stated : IsUsedParam small 55 → ⊥
+unfolding small
+not_stated used = let e : false ≡ true = used.1 in absurd cc
+
+no_number : IsUsedParam spread 56 → ⊥
+no_number used = omega (arith, used.0.1)
+
+rate : value_at spread 55 (codes "A" ∷ codes "T" ∷ []) ∷ value_at spread 29 (codes "A" ∷ codes "2020" ∷ []) ∷ [] ≡ Some (pos 100000000) ∷ Some (pos 1200000000) ∷ []
+unfolding spread small
+rate = refl
+
+-- data that differ in whether they have the statement aren't the same, though the values of all parameters are
+other_use : AreSameData small (record { sets = small.sets; given = small.given; defaults = small.defaults; second = true }) → ⊥
+unfolding small
+other_use same = let e : false ≡ true = same.second in absurd cc
 
 given : (value_at small 29 (codes "A" ∷ codes "2020" ∷ [])) ∷ (value_at small 2 (codes "B" ∷ [])) ∷ [] ≡ Some (pos 1200000000) ∷ Some (pos 50000000) ∷ []
 unfolding small

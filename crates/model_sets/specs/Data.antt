@@ -1,12 +1,12 @@
 -- What the data are: the sets as lists of names, and a value for each parameter and index, by a look-up in the list of the values given.
-use Rattle.std.specs.Prelude.{◌≡◌, ℕ, ℤ, pos, Bool, ◌&&◌, List, [], ◌∷◌, map, nat_eq, Option, None, Some, Contains, if◌then◌else◌}
+use Rattle.std.specs.Prelude.{◌≡◌, ℕ, ℤ, pos, Bool, true, ◌&&◌, List, [], ◌∷◌, map, nat_eq, Option, None, Some, Contains, if◌then◌else◌}
 use Rattle.std.specs.Cmp.Lexicographic.{pointwise}
 use Rattle.std.specs.List.{find, flat_map}
 use Rattle.std.specs.Option.{option_map, option_or}
 use Rattle.std.specs.Str.{bytes_eq}
 use Rattle.model_sets.specs.declared.param_numbers.TheConstants.{CAPACITY_OF_ONE_TECHNOLOGY_UNIT}
 use Rattle.model_sets.specs.Members.{SetLists, members}
-use Rattle.model_sets.specs.Params.{IsUsedParam, subscript_sets}
+use Rattle.model_sets.specs.Params.{IsParam, is_used, param_at, subscript_sets}
 
 -- a value that was given: the parameter's number, the names of the index in the order of its subscripts, and the value in billionths
 pub record Given : Type 0 where
@@ -19,11 +19,16 @@ pub record Default : Type 0 where
   pub param : ℕ
   pub value : ℤ
 
--- the data: the names of the members of every set, the values given, and the defaults given
+-- the data: the names of the members of every set, the values given, the defaults given, and whether the text has a statement for DiscountRateIdv, so that investments are spread by capital recovery
 pub record Data : Type 0 where
   pub sets : SetLists
   pub given : List Given
   pub defaults : List Default
+  pub second : Bool
+
+-- n is the number of a parameter that is used in the data: DiscountRateIdv only where the text has a statement for it
+abbrev pub IsUsedParam : Data → ℕ → Type 0
+IsUsedParam d n = IsParam n × (is_used d.second (param_at n).used ≡ true)
 
 -- whether the value was given for this parameter at this index
 abbrev pub is_given_at : ℕ → List (List ℕ) → Given → Bool
@@ -58,7 +63,8 @@ indices_over sets (k ∷ ks) = flat_map (λ name. map (λ rest. name ∷ rest) (
 abbrev pub indices_of : SetLists → ℕ → List (List (List ℕ))
 indices_of sets param = indices_over sets (subscript_sets param)
 
--- the same sets, and the same value of each used parameter at each of its indices
+-- the same sets, the same parameters used, and the same value of each used parameter at each of its indices
 pub record AreSameData (d e : Data) : Type 0 where
   pub sets : d.sets ≡ e.sets
-  pub values : (param : ℕ) → IsUsedParam param → (index : List (List ℕ)) → Contains (indices_of d.sets param) index → value_at d param index ≡ value_at e param index
+  pub second : d.second ≡ e.second
+  pub values : (param : ℕ) → IsUsedParam d param → (index : List (List ℕ)) → Contains (indices_of d.sets param) index → value_at d param index ≡ value_at e param index

@@ -1,3 +1,4 @@
+pub mod CodeTables
 pub mod Data
 pub mod Members
 pub mod Names

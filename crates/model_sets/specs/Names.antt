@@ -1,6 +1,10 @@
--- The sets of the OSeMOSYS long code: numbers from 1, words and limits.
+-- The sets of the OSeMOSYS long code: numbers from 1, words and limits, by the tables that the code has too.
 use Rattle.model_sets.specs.declared.set_numbers.TheConstants.{REGION, TECHNOLOGY, FUEL, EMISSION, MODE_OF_OPERATION, TIMESLICE, YEAR, SET_COUNT}
-use Rattle.std.specs.Prelude.{ℕ, ◌-◌, ◌≤◌, List, [], ◌∷◌, codes, slice_index_or}
+use Rattle.model_sets.specs.declared.set_words.TheConstants.{SET_WORDS}
+use Rattle.model_sets.specs.declared.limits.TheConstants.{LIMITS}
+use Rattle.std.specs.Prelude.{ℕ, ◌+◌, ◌-◌, ◌≤◌, List, [], ◌∷◌, map, Option, position, slice_index_or}
+use Rattle.std.specs.Option.{option_map}
+use Rattle.std.specs.Str.{bytes_eq}
 
 -- the number of REGION
 abbrev pub region : ℕ
@@ -32,23 +36,11 @@ year = YEAR
 
 -- the words of the sets, from number 1
 abbrev pub set_words : List (List ℕ)
-set_words =
-    codes "REGION"
-    ∷ codes "TECHNOLOGY"
-    ∷ codes "FUEL"
-    ∷ codes "EMISSION"
-    ∷ codes "MODE_OF_OPERATION"
-    ∷ codes "TIMESLICE"
-    ∷ codes "YEAR"
-    ∷ codes "STORAGE"
-    ∷ codes "SEASON"
-    ∷ codes "DAYTYPE"
-    ∷ codes "DAILYTIMEBRACKET"
-    ∷ []
+set_words = map (λ word. word.now) SET_WORDS
 
 -- how many members each set may have, from number 1
 abbrev pub limits : List ℕ
-limits = 20 ∷ 500 ∷ 200 ∷ 50 ∷ 20 ∷ 300 ∷ 120 ∷ 1000 ∷ 1000 ∷ 1000 ∷ 1000 ∷ []
+limits = LIMITS
 
 -- how many sets there are
 abbrev pub set_count : ℕ
@@ -61,6 +53,10 @@ IsSet k = (1 ≤ k) × (k ≤ set_count)
 -- the word of set k, of the numbers of sets alone (`IsSet k`): elsewhere the answer means nothing
 abbrev pub set_word : ℕ → List ℕ
 set_word k = slice_index_or set_words (k - 1) []
+
+-- the number of the set with this word, or none
+abbrev pub set_number : List ℕ → Option ℕ
+set_number word = option_map (λ i. i + 1) (position (bytes_eq word) set_words)
 
 -- how many members set k may have, of the numbers of sets alone (`IsSet k`)
 abbrev pub limit_of : ℕ → ℕ

@@ -10,10 +10,16 @@ mod laws;
 mod limits;
 mod member_list;
 pub mod param_numbers;
+pub mod params;
 pub mod set_numbers;
+mod set_words;
 mod sets;
 mod years;
 
 pub use fault::{SetFail, SetFault};
 pub use laws::year_laws;
+pub use params::{
+    Range, Use, is_used, param_number, param_word, range_of, subscript_count, subscript_sets,
+};
+pub use set_words::{set_number, set_word};
 pub use sets::Sets;

@@ -1,5 +1,5 @@
-//! The numbers of the parameters of the OSeMOSYS long code: first those that the equations use, then those that
-//! are read and not used.
+//! The numbers of the parameters of the OSeMOSYS long code: first those that the equations use in all data,
+//! then those that are read and not used, and last DiscountRateIdv, which is used where the text has a statement for it.
 
 /// The number of YearSplit.
 pub const YEAR_SPLIT: u8 = 1;
@@ -163,8 +163,11 @@ pub const RESIDUAL_STORAGE_CAPACITY: u8 = 53;
 /// The number of DiscountRateStorage.
 pub const DISCOUNT_RATE_STORAGE: u8 = 54;
 
-/// How many parameters the equations use: those from number 1.
+/// The number of DiscountRateIdv.
+pub const DISCOUNT_RATE_IDV: u8 = 55;
+
+/// How many parameters are used in all data: those from number 1.
 pub const USED_PARAM_COUNT: usize = 38;
 
 /// How many parameters there are.
-pub const PARAM_COUNT: usize = 54;
+pub const PARAM_COUNT: usize = 55;

@@ -1,5 +1,5 @@
 -- The base example: one region R, technology T, fuel F, mode of operation 1, timeslice D and year 2020, no emission, and defaults alone.
-use Rattle.std.specs.Prelude.{ℕ, ◌^◌, ◌*◌, ℤ, pos, neg_ℤ, List, [], ◌∷◌, ◌++◌, codes}
+use Rattle.std.specs.Prelude.{ℕ, ◌^◌, ◌*◌, ℤ, pos, neg_ℤ, Bool, true, false, List, [], ◌∷◌, ◌++◌, codes}
 use Rattle.std.specs.List.{enumerate_from}
 use Rattle.std.specs.Prelude.{map}
 use Rattle.model_sets.specs.Data.{Data, Default, Given}
@@ -54,9 +54,17 @@ base_values =
 abbrev pub defaults_from : ℕ → List ℤ → List Default
 defaults_from param values = map (λ entry. default entry.0 entry.1) (enumerate_from param values)
 
--- data with the base example's defaults, but for these values and defaults
+-- data with the base example's defaults, but for these values and defaults, under profile 2 where second is true
+abbrev profile_of : Bool → SetLists → List Given → List Default → Data
+profile_of second sets given defaults = record { sets = sets; given = given; defaults = defaults ++ defaults_from 1 base_values; second = second }
+
+-- under profile 1
 abbrev pub data_of : SetLists → List Given → List Default → Data
-data_of sets given defaults = record { sets = sets; given = given; defaults = defaults ++ defaults_from 1 base_values }
+data_of sets given defaults = profile_of false sets given defaults
+
+-- under profile 2, to which DiscountRateIdv belongs
+abbrev pub second_of : SetLists → List Given → List Default → Data
+second_of sets given defaults = profile_of true sets given defaults
 
 -- the sets of the base example, with these years
 abbrev pub base_sets : List (List ℕ) → SetLists

@@ -42,12 +42,12 @@ best_values =
 abbrev pub best : ℕ → Var → ℤ
 best q v = pos (slice_index_or best_values (v.kind - 1) 0 * q)
 
-pub best_meets_all : meets_all base 1 (best 1) ≡ true
+pub best_meets_all : meets_all 6 base 1 (best 1) ≡ true
 unfolding discounted capital_factor root_from half_year_root operating_factor salvage_fraction
 best_meets_all = refl
 
 -- the same plan in billionths
-best_meets_all_in_billionths : meets_all base (10 ^ 9) (best (10 ^ 9)) ≡ true
+best_meets_all_in_billionths : meets_all 6 base (10 ^ 9) (best (10 ^ 9)) ≡ true
 unfolding discounted capital_factor root_from half_year_root operating_factor salvage_fraction
 best_meets_all_in_billionths = refl
 
@@ -59,7 +59,7 @@ abbrev pub raised : ℕ → Var → ℤ
 raised kind v = if nat_eq v.kind kind then pos (slice_index_or best_values (v.kind - 1) 0 * 10 ^ 9 + 1) else best (10 ^ 9) v
 
 -- whichever value is raised, the first equation that breaks is the one that defines it; for RateOfActivity it is CAa3, and for NewCapacity CAa1
-near_misses : map (λ v. first_broken base (10 ^ 9) (raised v.kind)) (all_variables base) ≡ map Some
+near_misses : map (λ v. first_broken 6 base (10 ^ 9) (raised v.kind)) (all_variables base) ≡ map Some
     -- RateOfActivity, NewCapacity, Trade
     (4 ∷ 2 ∷ 16
     -- RateOfDemand, AccumulatedNewCapacity, TotalCapacityAnnual, RateOfTotalActivity

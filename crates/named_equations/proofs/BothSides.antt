@@ -1,6 +1,6 @@
 -- Both sides of each of the 64 equations at one index, over sets of seven sizes, so that a sum over another set, a lost factor or term, and a right side
 -- without the common denominator would show. The figures were worked out by a program of another kind, in exact fractions, from the published statements.
-use Rattle.std.proofs.Common.{◌≡◌, ℕ, ◌+◌, ◌*◌, ◌^◌, ℤ, pos, negsuc, List, [], ◌∷◌, map, refl}
+use Rattle.std.proofs.Common.{◌≡◌, ℕ, ◌+◌, ◌*◌, ◌^◌, ℤ, pos, negsuc, false, List, [], ◌∷◌, map, refl}
 use Rattle.std.specs.Prelude.{codes}
 use Rattle.std.specs.List.{range_with_len}
 use Rattle.model_sets.specs.declared.param_numbers.TheConstants.{DEPRECIATION_METHOD, DISCOUNT_RATE, EMISSION_ACTIVITY_RATIO, INPUT_ACTIVITY_RATIO, OPERATIONAL_LIFE, OUTPUT_ACTIVITY_RATIO, USED_PARAM_COUNT}
@@ -30,7 +30,7 @@ uneven_sets = sets_of
     (codes "2020" ∷ codes "2022" ∷ codes "2023" ∷ [])
 
 -- a value in hundredths
-abbrev hundredths : ℕ → ℤ
+abbrev pub hundredths : ℕ → ℤ
 hundredths n = pos (n * 10 ^ 7)
 
 -- what a technology of B makes of a fuel in a mode in 2022, or uses of it
@@ -45,7 +45,7 @@ abbrev emits : List ℕ → ℤ → Given
 emits m value = given EMISSION_ACTIVITY_RATIO (codes "B" ∷ codes "T3" ∷ codes "E0" ∷ m ∷ codes "2022" ∷ []) value
 
 -- three technologies make F4, T3 in two modes of five, and it makes two other fuels
-abbrev ratios : List Given
+abbrev pub ratios : List Given
 ratios =
     makes (codes "T0") (codes "F4") (codes "M1") 50
     ∷ makes (codes "T3") (codes "F4") (codes "M2") 70
@@ -65,19 +65,19 @@ ratios =
     ∷ []
 
 -- the default of a parameter: a ratio of 0, a rate of 5 hundredths, the sinking fund, a life of three years, and for every other parameter 100 hundredths and its number
-abbrev uneven_defaults : List Default
+abbrev pub uneven_defaults : List Default
 uneven_defaults =
     default INPUT_ACTIVITY_RATIO (pos 0) ∷ default OUTPUT_ACTIVITY_RATIO (pos 0) ∷ default EMISSION_ACTIVITY_RATIO (pos 0)
     ∷ default DISCOUNT_RATE (hundredths 5) ∷ default DEPRECIATION_METHOD (hundredths 100) ∷ default OPERATIONAL_LIFE (hundredths 300)
     ∷ map (λ param. default param (hundredths (100 + param))) (range_with_len 1 USED_PARAM_COUNT)
 
-abbrev uneven : Data
-uneven = record { sets = uneven_sets; given = ratios; defaults = uneven_defaults }
+abbrev pub uneven : Data
+uneven = record { sets = uneven_sets; given = ratios; defaults = uneven_defaults; second = false }
 
 -- ---- plan
 
 -- each variable has a number that spells it: its kind, and then a digit for each subscript
-abbrev spelled : Var → ℤ
+abbrev pub spelled : Var → ℤ
 spelled v =
     let i = v.index in
     pos (v.kind * 10 ^ 8 + i.region * 10 ^ 7 + i.other * 10 ^ 6 + i.slice * 10 ^ 5 + i.tech * 10 ^ 4 + i.fuel * 10 ^ 3 + i.emission * 10 ^ 2 + i.mode * 10 + i.year)
@@ -85,12 +85,12 @@ spelled v =
 -- ---- equations
 
 -- the second region with the first as the other one, the third timeslice, the fourth technology, the fifth fuel, the third mode, and 2022
-abbrev there : Index
+abbrev pub there : Index
 there = index 1 0 2 3 4 0 2 1
 
 -- what the equations of these numbers say of the plan over 7 at that index
 abbrev said : List ℕ → List Statement
-said numbers = map (λ eq. says uneven 7 spelled (name_at eq there)) numbers
+said numbers = map (λ eq. says 6 uneven 7 spelled (name_at eq there)) numbers
 
 equations_1_to_9 : said (range_with_len 1 9) ≡
     -- EQ_SpecifiedDemand

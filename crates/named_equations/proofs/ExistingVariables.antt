@@ -17,7 +17,7 @@ masked d x v = if exists d v then x v else pos 0
 
 -- what the instances of the equation say
 abbrev said_by : Data → (Var → ℤ) → ℕ → List Statement
-said_by d x eq = map (says d 1 x) (instances_of d eq)
+said_by d x eq = map (says 6 d 1 x) (instances_of d eq)
 
 -- the two say the same
 abbrev SaysOfExisting : Data → List ℕ → Type 0

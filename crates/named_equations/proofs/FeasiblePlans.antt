@@ -25,16 +25,16 @@ use Rattle.named_equations.proofs.Trades.{both_ways, meets_both_ways, regional, 
 
 -- ---- by tests
 
-met_each : (d : Data) (q : ℕ) (x : Var → ℤ) (names : List RowName) → list_all (meets d q x) names ≡ true → MeetsEach d q x names
-met_each d q x [] passes = tt
-met_each d q x (name ∷ names) passes =
-    let parts = and_parts (meets d q x name) (list_all (meets d q x) names) passes in
-    (holds_sound (says d q x name) parts.0, met_each d q x names parts.1)
+met_each : (places : ℕ) (d : Data) (q : ℕ) (x : Var → ℤ) (names : List RowName) → list_all (meets places d q x) names ≡ true → MeetsEach places d q x names
+met_each places d q x [] passes = tt
+met_each places d q x (name ∷ names) passes =
+    let parts = and_parts (meets places d q x name) (list_all (meets places d q x) names) passes in
+    (holds_sound (says places d q x name) parts.0, met_each places d q x names parts.1)
 
-each_met : (d : Data) (q : ℕ) (x : Var → ℤ) (names : List RowName) → MeetsEach d q x names → list_all (meets d q x) names ≡ true
-each_met d q x [] met = refl
-each_met d q x (name ∷ names) met =
-    ap (λ b. b && list_all (meets d q x) names) (holds_complete (says d q x name) met.0) ∙ each_met d q x names met.1
+each_met : (places : ℕ) (d : Data) (q : ℕ) (x : Var → ℤ) (names : List RowName) → MeetsEach places d q x names → list_all (meets places d q x) names ≡ true
+each_met places d q x [] met = refl
+each_met places d q x (name ∷ names) met =
+    ap (λ b. b && list_all (meets places d q x) names) (holds_complete (says places d q x name) met.0) ∙ each_met places d q x names met.1
 
 -- the variable is free, or at least 0
 abbrev keeps_sign : (Var → ℤ) → Var → Bool
@@ -49,10 +49,10 @@ sign_of : (free : Bool) (value : ℤ) → (free || int_le (pos 0) value) ≡ tru
 sign_of true value kept fixed = absurd (true≢false fixed)
 sign_of false value kept fixed = grind (arith, ints)
 
-feasible_by : (d : Data) (q : ℕ) (x : Var → ℤ) → 0 < q → meets_all d q x ≡ true → list_all (keeps_sign x) (all_variables d) ≡ true → Feasible d q x
-feasible_by d q x positive met signs = record {
+feasible_by : (places : ℕ) (d : Data) (q : ℕ) (x : Var → ℤ) → 0 < q → meets_all places d q x ≡ true → list_all (keeps_sign x) (all_variables d) ≡ true → Feasible places d q x
+feasible_by places d q x positive met signs = record {
   positive = positive;
-  equations = met_each d q x (instances d) met;
+  equations = met_each places d q x (instances d) met;
   signs = λ v is fixed. sign_of (kind_is_free v.kind) (x v) (all_at (keeps_sign x) (all_variables d) v signs ((Has-variables d v).1 is)) fixed;
 }
 
@@ -62,23 +62,23 @@ feasible_by d q x positive met signs = record {
 best_signs : list_all (keeps_sign (best 1)) (all_variables base) ≡ true
 best_signs = refl
 
-best_is_feasible : Feasible base 1 (best 1)
-best_is_feasible = feasible_by base 1 (best 1) (omega arith) best_meets_all best_signs
+best_is_feasible : Feasible 6 base 1 (best 1)
+best_is_feasible = feasible_by 6 base 1 (best 1) (omega arith) best_meets_all best_signs
 
 -- a trade below 0, which is free
 trade_signs : list_all (keeps_sign (regional both_ways)) (all_variables routes_both_ways) ≡ true
 trade_signs = refl
 
-trade_is_feasible : Feasible routes_both_ways 1 (regional both_ways)
-trade_is_feasible = feasible_by routes_both_ways 1 (regional both_ways) (omega arith) meets_both_ways trade_signs
+trade_is_feasible : Feasible 6 routes_both_ways 1 (regional both_ways)
+trade_is_feasible = feasible_by 6 routes_both_ways 1 (regional both_ways) (omega arith) meets_both_ways trade_signs
 
 -- ---- a plan over 0
 
-meets_over_zero : meets_all base 0 (best 0) ≡ true
+meets_over_zero : meets_all 6 base 0 (best 0) ≡ true
 unfolding discounted capital_factor root_from half_year_root operating_factor salvage_fraction
 meets_over_zero = refl
 
-not_over_zero : Feasible base 0 (best 0) → ⊥
+not_over_zero : Feasible 6 base 0 (best 0) → ⊥
 not_over_zero plan = omega (arith, plan.positive)
 
 -- ---- a capacity below 0
@@ -121,11 +121,11 @@ builds_less_than_none =
 abbrev yearly : List (List ℤ) → Var → ℤ
 yearly table v = tabled (λ i. i.year) table v
 
-meets_below_zero : meets_all two_years 1 (yearly builds_less_than_none) ≡ true
+meets_below_zero : meets_all 6 two_years 1 (yearly builds_less_than_none) ≡ true
 unfolding discounted capital_factor root_from half_year_root operating_factor salvage_fraction
 meets_below_zero = refl
 
-not_below_zero : Feasible two_years 1 (yearly builds_less_than_none) → ⊥
+not_below_zero : Feasible 6 two_years 1 (yearly builds_less_than_none) → ⊥
 not_below_zero plan = let sign : pos 0 ≤ℤ negsuc 3 = plan.signs (new_capacity 0 0 1) refl refl in absurd (omega (arith, ints, sign))
 
 -- ---- an equation that isn't met
@@ -134,9 +134,9 @@ not_below_zero plan = let sign : pos 0 ≤ℤ negsuc 3 = plan.signs (new_capacit
 abbrev too_little : Var → ℤ
 too_little v = if nat_eq v.kind RATE_OF_ACTIVITY then pos 9 else best 1 v
 
-breaks_one : meets_all base 1 too_little ≡ false
+breaks_one : meets_all 6 base 1 too_little ≡ false
 unfolding discounted capital_factor root_from half_year_root operating_factor salvage_fraction
 breaks_one = refl
 
-not_met : Feasible base 1 too_little → ⊥
-not_met plan = true≢false (sym (each_met base 1 too_little (instances base) plan.equations) ∙ breaks_one)
+not_met : Feasible 6 base 1 too_little → ⊥
+not_met plan = true≢false (sym (each_met 6 base 1 too_little (instances base) plan.equations) ∙ breaks_one)

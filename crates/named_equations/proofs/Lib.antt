@@ -2,14 +2,17 @@ mod BaseFile
 mod BaseInstances
 mod BasePlan
 mod BothSides
+mod CapitalRecovery
 mod ExistingVariables
 mod FeasiblePlans
+mod FactorsInStatements
 mod FractionPlans
 pub mod InstanceOrder
 pub mod InstanceTests
 mod LimitEdges
 mod MadeFile
 mod MadeInstances
+mod NineDecimalPlaces
 mod ParameterNames
 pub mod SortedLists
 mod RegionFactorExamples

@@ -1,5 +1,5 @@
 -- A realistic example: one region, six technologies, four fuels, four timeslices and some years, with a penalty on an emission.
-use Rattle.std.specs.Prelude.{ℕ, ◌+◌, ◌*◌, ℤ, pos, List, [], ◌∷◌, ◌++◌, codes, map, slice_index_or}
+use Rattle.std.specs.Prelude.{ℕ, ◌+◌, ◌*◌, ℤ, pos, false, List, [], ◌∷◌, ◌++◌, codes, map, slice_index_or}
 use Rattle.std.specs.List.{flat_map, range_with_len}
 use Rattle.model_sets.specs.Data.{Data, Given}
 use Rattle.named_equations.proofs.BaseFile.{whole, minus_one, given, sets_of, defaults_from}
@@ -153,4 +153,5 @@ made years = record {
       (mode_1 ∷ []) (s1 ∷ s2 ∷ s3 ∷ s4 ∷ []) (map (λ k. year_2020_and k) (range_with_len 0 years));
   given = flat_map values_of_year (range_with_len 0 years);
   defaults = defaults_from 1 made_values;
+  second = false;
 }

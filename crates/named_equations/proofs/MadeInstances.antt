@@ -107,7 +107,7 @@ differs Most = true
 
 -- whether the equation of this number is an inequality
 abbrev is_inequality : ℕ → Bool
-is_inequality eq = differs ((equation_of eq).says (made 5) 1 (λ v. pos 0) (index 0 0 0 0 0 0 0 0)).sign
+is_inequality eq = differs ((equation_of eq).says 6 (made 5) 1 (λ v. pos 0) (index 0 0 0 0 0 0 0 0)).sign
 
 -- of them CAa4, CAb1, EBa11, EBb4, TCC1, RM3 and RE4 have instances here: 120 + 30 + 80 + 20 + 5 + 20 + 5 are 280
 inequalities : filter is_inequality equation_numbers ≡ 5 ∷ 6 ∷ 17 ∷ 21 ∷ 43 ∷ 44 ∷ 45 ∷ 46 ∷ 48 ∷ 49 ∷ 51 ∷ 52 ∷ 55 ∷ 59 ∷ 63 ∷ 64 ∷ []

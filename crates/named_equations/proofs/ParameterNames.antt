@@ -1,10 +1,11 @@
 -- Each parameter takes the value that the data give under its name, at members of the sets of its subscripts in their order.
-use Rattle.std.proofs.Common.{◌≡◌, ℕ, ◌-◌, ℤ, pos, List, [], ◌∷◌, map, refl}
+use Rattle.std.proofs.Common.{◌≡◌, ℕ, ◌-◌, ℤ, pos, true, List, [], ◌∷◌, filter, map, refl}
 use Rattle.std.specs.Prelude.{codes, slice_index_or}
 use Rattle.std.specs.List.{range_with_len}
+use Rattle.model_sets.specs.declared.param_numbers.TheConstants.{PARAM_COUNT}
 use Rattle.model_sets.specs.Data.{Data, Given}
-use Rattle.model_sets.specs.Params.{used_count, param_word, subscript_sets}
-use Rattle.named_equations.specs.Parameters.{year_split, discount_rate, depreciation_method, trade_route, specified_annual_demand, specified_demand_profile, accumulated_annual_demand, capacity_to_activity_unit, capacity_factor, availability_factor, operational_life, residual_capacity, input_activity_ratio, output_activity_ratio, capital_cost, variable_cost, fixed_cost, capacity_of_one_technology_unit, total_annual_max_capacity, total_annual_min_capacity, total_annual_max_capacity_investment, total_annual_min_capacity_investment, total_technology_annual_activity_upper_limit, total_technology_annual_activity_lower_limit, total_technology_model_period_activity_upper_limit, total_technology_model_period_activity_lower_limit, reserve_margin_tag_technology, reserve_margin_tag_fuel, reserve_margin, re_tag_technology, re_tag_fuel, re_min_production_target, emission_activity_ratio, emissions_penalty, annual_exogenous_emission, annual_emission_limit, model_period_exogenous_emission, model_period_emission_limit}
+use Rattle.model_sets.specs.Params.{is_used, param_at, param_word, subscript_sets}
+use Rattle.named_equations.specs.Parameters.{year_split, discount_rate, depreciation_method, trade_route, specified_annual_demand, specified_demand_profile, accumulated_annual_demand, capacity_to_activity_unit, capacity_factor, availability_factor, operational_life, residual_capacity, input_activity_ratio, output_activity_ratio, capital_cost, variable_cost, fixed_cost, capacity_of_one_technology_unit, total_annual_max_capacity, total_annual_min_capacity, total_annual_max_capacity_investment, total_annual_min_capacity_investment, total_technology_annual_activity_upper_limit, total_technology_annual_activity_lower_limit, total_technology_model_period_activity_upper_limit, total_technology_model_period_activity_lower_limit, reserve_margin_tag_technology, reserve_margin_tag_fuel, reserve_margin, re_tag_technology, re_tag_fuel, re_min_production_target, emission_activity_ratio, emissions_penalty, annual_exogenous_emission, annual_emission_limit, model_period_exogenous_emission, model_period_emission_limit, discount_rate_idv}
 use Rattle.named_equations.proofs.BaseFile.{given, sets_of}
 
 -- the second member of each set, by the number of the set
@@ -15,13 +16,18 @@ second_members = codes "B" ∷ codes "U" ∷ codes "G" ∷ codes "CH4" ∷ codes
 abbrev numbered : ℕ → Given
 numbered param = given param (map (λ k. slice_index_or second_members (k - 1) []) (subscript_sets param)) (pos param)
 
--- two members of each set, and no values but these
+-- the numbers of the parameters that are used under profile 2
+abbrev used_numbers : List ℕ
+used_numbers = filter (λ n. is_used true (param_at n).used) (range_with_len 1 PARAM_COUNT)
+
+-- two members of each set, and no values but these, under profile 2
 abbrev two_of_each : Data
 two_of_each = record {
   sets = sets_of (codes "A" ∷ codes "B" ∷ []) (codes "T" ∷ codes "U" ∷ []) (codes "F" ∷ codes "G" ∷ []) (codes "CO2" ∷ codes "CH4" ∷ [])
       (codes "1" ∷ codes "2" ∷ []) (codes "D" ∷ codes "N" ∷ []) (codes "2020" ∷ codes "2021" ∷ []);
-  given = map numbered (range_with_len 1 used_count);
+  given = map numbered used_numbers;
   defaults = [];
+  second = true;
 }
 
 -- the parameters' names, each with its value where all subscripts are i
@@ -65,11 +71,12 @@ named i =
     ∷ (codes "AnnualEmissionLimit", annual_emission_limit two_of_each i i i)
     ∷ (codes "ModelPeriodExogenousEmission", model_period_exogenous_emission two_of_each i i)
     ∷ (codes "ModelPeriodEmissionLimit", model_period_emission_limit two_of_each i i)
+    ∷ (codes "DiscountRateIdv", discount_rate_idv two_of_each i i)
     ∷ []
 
-all_named : named 1 ≡ map (λ param. (param_word param, pos param)) (range_with_len 1 used_count)
+all_named : named 1 ≡ map (λ param. (param_word param, pos param)) used_numbers
 all_named = refl
 
 -- where nothing is given the value counts as 0
-none_given : named 0 ≡ map (λ param. (param_word param, pos 0)) (range_with_len 1 used_count)
+none_given : named 0 ≡ map (λ param. (param_word param, pos 0)) used_numbers
 none_given = refl

@@ -1,7 +1,7 @@
 -- Two data that are the same have the same conditions, members and written factors, at positions in the sets.
-use Rattle.std.proofs.Common.{◌≡◌, ℕ, ◌/◌, ◌+◌, pos, not, ◌&&◌, ◌||◌, List, nat_eq, nat_lt, ap, ap₂}
+use Rattle.std.proofs.Common.{◌≡◌, ℕ, ◌/◌, ◌+◌, pos, not, ◌&&◌, ◌||◌, List, nat_eq, nat_lt, true, ap, ap₂}
 use Rattle.std.specs.Prelude.{◌^◌, nat_le, unsigned_abs}
-use Rattle.discount_factors.specs.Factors.{capital_factor, operating_factor, salvage_fraction}
+use Rattle.discount_factors.specs.Factors.{annuity, capital_factor, operating_factor, recovery_factor, salvage_fraction}
 use Rattle.model_sets.specs.Data.{Data, Default, Given}
 use Rattle.model_sets.specs.Members.{last_year}
 use Rattle.model_sets.specs.Names.{technology, fuel, mode, year}
@@ -10,8 +10,8 @@ use Rattle.named_equations.specs.Positions.{count_of, number_of_year, years_left
 use Rattle.named_equations.specs.Salvage.{outlasts, by_sinking_fund, by_straight_line, has_sv1, has_sv2, has_sv3}
 use Rattle.named_equations.specs.Where.{is_not_zero, produces_in_mode, produces, producing_modes, producing_technologies, produced_fuels, uses_in_mode, uses, using_modes, using_technologies, emits_in_mode, emitting_modes}
 use Rattle.named_equations.specs.Within.{IsRegion, IsTechnology, IsFuel, IsEmission, IsMode, IsYear}
-use Rattle.named_equations.specs.WrittenFactors.{rate_of, method_of, life_of, capital_factor_of, operating_factor_of, salvage_fraction_of}
-use Rattle.named_equations.proofs.SameParameters.{discount_rate-same, depreciation_method-same, operational_life-same, input_activity_ratio-same, output_activity_ratio-same, emission_activity_ratio-same}
+use Rattle.named_equations.specs.WrittenFactors.{rate_of, method_of, life_of, annuity_of, capital_factor_of, operating_factor_of, recovery_factor_of, salvage_fraction_of}
+use Rattle.named_equations.proofs.SameParameters.{discount_rate-same, discount_rate_idv-same, depreciation_method-same, operational_life-same, input_activity_ratio-same, output_activity_ratio-same, emission_activity_ratio-same}
 use Rattle.named_equations.proofs.SameValues.{Agree, with_values, filter-same, any-same}
 
 module _ {d : Data} {given : List Given} {defaults : List Default} (same : Agree d given defaults) where
@@ -26,15 +26,22 @@ module _ {d : Data} {given : List Given} {defaults : List Default} (same : Agree
   pub life_of-same : (r t : ℕ) → IsRegion d r → IsTechnology d t → life_of d r t ≡ life_of (with_values d given defaults) r t
   life_of-same r t in_r in_t = ap (λ z. unsigned_abs z / 10 ^ 9) (operational_life-same same r t in_r in_t)
 
-  pub capital_factor_of-same : (r n : ℕ) → IsRegion d r → capital_factor_of d r n ≡ capital_factor_of (with_values d given defaults) r n
-  capital_factor_of-same r n in_r = ap (λ rate. pos (capital_factor rate n)) (rate_of-same r in_r)
+  pub capital_factor_of-same : (places r n : ℕ) → IsRegion d r → capital_factor_of places d r n ≡ capital_factor_of places (with_values d given defaults) r n
+  capital_factor_of-same places r n in_r = ap (λ rate. pos (capital_factor places rate n)) (rate_of-same r in_r)
 
-  pub operating_factor_of-same : (r n : ℕ) → IsRegion d r → operating_factor_of d r n ≡ operating_factor_of (with_values d given defaults) r n
-  operating_factor_of-same r n in_r = ap (λ rate. pos (operating_factor rate n)) (rate_of-same r in_r)
+  pub operating_factor_of-same : (places r n : ℕ) → IsRegion d r → operating_factor_of places d r n ≡ operating_factor_of places (with_values d given defaults) r n
+  operating_factor_of-same places r n in_r = ap (λ rate. pos (operating_factor places rate n)) (rate_of-same r in_r)
 
-  pub salvage_fraction_of-same : (method r t y : ℕ) → IsRegion d r → IsTechnology d t → salvage_fraction_of d method r t y ≡ salvage_fraction_of (with_values d given defaults) method r t y
-  salvage_fraction_of-same method r t y in_r in_t =
-      ap₂ (λ rate life. pos (salvage_fraction method rate life (years_left d y))) (rate_of-same r in_r) (life_of-same r t in_r in_t)
+  pub salvage_fraction_of-same : (places method r t y : ℕ) → IsRegion d r → IsTechnology d t → salvage_fraction_of places d method r t y ≡ salvage_fraction_of places (with_values d given defaults) method r t y
+  salvage_fraction_of-same places method r t y in_r in_t =
+      ap₂ (λ rate life. pos (salvage_fraction places method rate life (years_left d y))) (rate_of-same r in_r) (life_of-same r t in_r in_t)
+
+  pub recovery_factor_of-same : d.second ≡ true → (places r t : ℕ) → IsRegion d r → IsTechnology d t → recovery_factor_of places d r t ≡ recovery_factor_of places (with_values d given defaults) r t
+  recovery_factor_of-same second places r t in_r in_t =
+      ap₂ (λ rate life. pos (recovery_factor places rate life)) (ap unsigned_abs (discount_rate_idv-same same second r t in_r in_t)) (life_of-same r t in_r in_t)
+
+  pub annuity_of-same : (places r t : ℕ) → IsRegion d r → IsTechnology d t → annuity_of places d r t ≡ annuity_of places (with_values d given defaults) r t
+  annuity_of-same places r t in_r in_t = ap₂ (λ rate life. pos (annuity places rate life)) (rate_of-same r in_r) (life_of-same r t in_r in_t)
 
   -- ---- years
 

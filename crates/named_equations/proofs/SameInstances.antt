@@ -6,6 +6,7 @@ use Rattle.std.specs.List.{flat_map, list_any, list_all}
 use Rattle.std.proofs.lemmas.Bool.{and_parts}
 use Rattle.model_sets.specs.Data.{AreSameData, Data, Default, Given, indices_of}
 use Rattle.model_sets.specs.Members.{SetLists}
+use Rattle.model_sets.specs.Params.{is_used, param_at}
 use Rattle.row_core.specs.declared.Index.{Index}
 use Rattle.row_core.specs.declared.RowName.{RowName}
 use Rattle.row_core.specs.declared.Var.{Var}
@@ -75,12 +76,12 @@ module _ {d : Data} {given : List Given} {defaults : List Default} (same : Agree
       (filter-congr (stands_at d eq) (stands_at (with_values d given defaults) eq) (indices d (subscripts_of eq))
       (λ i among. at_number (StandsSame same i) 1 EQUATION_COUNT eq (all-stand same i) number.0 (omega (arith, number.1)) (are_in_sets d (subscripts_of eq) i (indices-pass d (subscripts_of eq) i among)))))
 
-  pub says-same : (q : ℕ) (x : Var → ℤ) (name : RowName) → is_instance d name ≡ true → says d q x name ≡ says (with_values d given defaults) q x name
-  says-same q x name is =
+  pub says-same : (places q : ℕ) (x : Var → ℤ) (name : RowName) → is_instance d name ≡ true → says places d q x name ≡ says places (with_values d given defaults) q x name
+  says-same places q x name is =
       let tests = and_parts (list_any (nat_eq name.eq) equation_numbers && is_index d (subscripts_of name.eq) name.index) (stands_at d name.eq name.index) is in
       let within = and_parts (list_any (nat_eq name.eq) equation_numbers) (is_index d (subscripts_of name.eq) name.index) tests.0 in
       let number = range_parts 1 EQUATION_COUNT name.eq (any_has equation_numbers name.eq within.0) in
-      at_number (SaysSame same q x name.index) 1 EQUATION_COUNT name.eq (all-say same q x name.index) number.0 (omega (arith, number.1)) (are_in_sets d (subscripts_of name.eq) name.index within.1)
+      at_number (SaysSame same places q x name.index) 1 EQUATION_COUNT name.eq (all-say same places q x name.index) number.0 (omega (arith, number.1)) (are_in_sets d (subscripts_of name.eq) name.index within.1)
 
   -- ---- variables
 
@@ -106,16 +107,16 @@ module _ {d : Data} {given : List Given} {defaults : List Default} (same : Agree
 
   -- ---- plans
 
-  meets_each : (q : ℕ) (x : Var → ℤ) (names : List RowName) → ((name : RowName) → Has names name → says d q x name ≡ says (with_values d given defaults) q x name)
-      → MeetsEach d q x names → MeetsEach (with_values d given defaults) q x names
-  meets_each q x [] say met = tt
-  meets_each q x (name ∷ names) say met = (subst Holds (say name (inl refl)) met.0, meets_each q x names (λ other has. say other (inr has)) met.1)
+  meets_each : (places q : ℕ) (x : Var → ℤ) (names : List RowName) → ((name : RowName) → Has names name → says places d q x name ≡ says places (with_values d given defaults) q x name)
+      → MeetsEach places d q x names → MeetsEach places (with_values d given defaults) q x names
+  meets_each places q x [] say met = tt
+  meets_each places q x (name ∷ names) say met = (subst Holds (say name (inl refl)) met.0, meets_each places q x names (λ other has. say other (inr has)) met.1)
 
-  pub feasible : (q : ℕ) (x : Var → ℤ) → Feasible d q x → Feasible (with_values d given defaults) q x
-  feasible q x plan = record {
+  pub feasible : (places q : ℕ) (x : Var → ℤ) → Feasible places d q x → Feasible places (with_values d given defaults) q x
+  feasible places q x plan = record {
     positive = plan.positive;
-    equations = subst (MeetsEach (with_values d given defaults) q x) instances-same
-        (meets_each q x (instances d) (λ name has. says-same q x name ((Has-instances d name).0 has)) plan.equations);
+    equations = subst (MeetsEach places (with_values d given defaults) q x) instances-same
+        (meets_each places q x (instances d) (λ name has. says-same places q x name ((Has-instances d name).0 has)) plan.equations);
     signs = λ v is fixed. plan.signs v (exists-same v ∙ is) fixed;
   }
 
@@ -126,19 +127,20 @@ agree same = record { values = same.values }
 
 -- the sets of the one are those of the other
 pub with_sets : {d e : Data} → AreSameData d e → with_values d e.given e.defaults ≡ e
-with_sets {e = e} same = ap (λ (sets : SetLists). record { sets = sets; given = e.given; defaults = e.defaults }) same.sets
+with_sets {e = e} same = ap₂ (λ (sets : SetLists) (second : Bool). record { sets = sets; given = e.given; defaults = e.defaults; second = second }) same.sets same.second
 
 pub back : {d e : Data} → AreSameData d e → AreSameData e d
 back {d = d} {e = e} same = record {
   sets = sym same.sets;
-  values = λ param used index has. sym (same.values param used index (subst (λ (sets : SetLists). Contains (indices_of sets param) index) (sym same.sets) has));
+  second = sym same.second;
+  values = λ param used index has. sym (same.values param (used.0, subst (λ (second : Bool). is_used second (param_at param).used ≡ true) (sym same.second) used.1) index (subst (λ (sets : SetLists). Contains (indices_of sets param) index) (sym same.sets) has));
 }
 
 pub same-instances : (d e : Data) → AreSameData d e → instances d ≡ instances e
 same-instances d e same = instances-same (agree same) ∙ ap instances (with_sets same)
 
-pub same-says : (d e : Data) → AreSameData d e → (q : ℕ) (x : Var → ℤ) (name : RowName) → is_instance d name ≡ true → says d q x name ≡ says e q x name
-same-says d e same q x name is = says-same (agree same) q x name is ∙ ap (λ (f : Data). says f q x name) (with_sets same)
+pub same-says : (d e : Data) → AreSameData d e → (places q : ℕ) (x : Var → ℤ) (name : RowName) → is_instance d name ≡ true → says places d q x name ≡ says places e q x name
+same-says d e same places q x name is = says-same (agree same) places q x name is ∙ ap (λ (f : Data). says places f q x name) (with_sets same)
 
 pub same-exists : (d e : Data) → AreSameData d e → (v : Var) → exists d v ≡ exists e v
 same-exists d e same v = exists-same (agree same) v ∙ ap (λ (f : Data). exists f v) (with_sets same)
@@ -146,8 +148,8 @@ same-exists d e same v = exists-same (agree same) v ∙ ap (λ (f : Data). exist
 pub same-cost : (d e : Data) → AreSameData d e → (x : Var → ℤ) → cost d x ≡ cost e x
 same-cost d e same x = ap (λ (f : Data). cost f x) (with_sets same)
 
-feasible-over : (d e : Data) → AreSameData d e → (q : ℕ) (x : Var → ℤ) → Feasible d q x → Feasible e q x
-feasible-over d e same q x plan = subst (λ (f : Data). Feasible f q x) (with_sets same) (feasible (agree same) q x plan)
+feasible-over : (d e : Data) → AreSameData d e → (places q : ℕ) (x : Var → ℤ) → Feasible places d q x → Feasible places e q x
+feasible-over d e same places q x plan = subst (λ (f : Data). Feasible places f q x) (with_sets same) (feasible (agree same) places q x plan)
 
-pub same-feasible : (d e : Data) → AreSameData d e → (q : ℕ) (x : Var → ℤ) → Feasible d q x ↔ Feasible e q x
-same-feasible d e same q x = (feasible-over d e same q x, feasible-over e d (back same) q x)
+pub same-feasible : (d e : Data) → AreSameData d e → (places q : ℕ) (x : Var → ℤ) → Feasible places d q x ↔ Feasible places e q x
+same-feasible d e same places q x = (feasible-over d e same places q x, feasible-over e d (back same) places q x)

@@ -3,9 +3,9 @@
 use Rattle.std.proofs.Common.{◌≡◌, ℕ, zero, suc, ◌+◌, ◌<◌, Bool, cond, pos, ◌+ℤ◌, List, [], ◌∷◌, map, filter, length, refl, ap, ap₂, ◌∙◌, arith, inl, inr}
 use Rattle.std.specs.Prelude.{ℤ, ◌||◌, ◌++◌, slice_index_or, unwrap_or, Contains}
 use Rattle.std.specs.List.{flat_map, list_any, range_with_len}
-use Rattle.model_sets.specs.Data.{Data, Default, Given, indices_of, indices_over, value_at}
+use Rattle.model_sets.specs.Data.{Data, Default, Given, IsUsedParam, indices_of, indices_over, value_at}
 use Rattle.model_sets.specs.Members.{SetLists, members}
-use Rattle.model_sets.specs.Params.{IsUsedParam, subscript_sets}
+use Rattle.model_sets.specs.Params.{subscript_sets}
 use Rattle.named_equations.specs.Notation.{sum_over}
 use Rattle.named_equations.specs.Parameters.{value_of}
 use Rattle.named_equations.proofs.InstanceTests.{Has, Has-flat_map, Has-map, Contains-from_Has}
@@ -17,13 +17,13 @@ a also b = (a, b)
 
 -- ---- values
 
--- the data with these values and defaults over the same sets
+-- the data with these values and defaults over the same sets, and of the same profile
 abbrev pub with_values : Data → List Given → List Default → Data
-with_values d given defaults = record { sets = d.sets; given = given; defaults = defaults }
+with_values d given defaults = record { sets = d.sets; given = given; defaults = defaults; second = d.second }
 
 -- each used parameter has the same value at each of its indices
 pub record Agree (d : Data) (given : List Given) (defaults : List Default) : Type 0 where
-  pub values : (param : ℕ) → IsUsedParam param → (index : List (List ℕ)) → Contains (indices_of d.sets param) index → value_at d param index ≡ value_at (with_values d given defaults) param index
+  pub values : (param : ℕ) → IsUsedParam d param → (index : List (List ℕ)) → Contains (indices_of d.sets param) index → value_at d param index ≡ value_at (with_values d given defaults) param index
 
 -- the positions are those of members, one of each of these sets
 abbrev pub AreWithin : SetLists → List ℕ → List ℕ → Type 0
@@ -55,7 +55,7 @@ among_indices sets (k ∷ ks) (i ∷ is) within =
     (Has-map (λ more. name ∷ more) (indices_over sets ks) rest (among_indices sets ks is within.1))
 
 -- the value of a used parameter at positions in its sets
-pub value-same : {d : Data} {given : List Given} {defaults : List Default} → Agree d given defaults → (param : ℕ) → IsUsedParam param → (is : List ℕ) → AreWithin d.sets (subscript_sets param) is
+pub value-same : {d : Data} {given : List Given} {defaults : List Default} → Agree d given defaults → (param : ℕ) → IsUsedParam d param → (is : List ℕ) → AreWithin d.sets (subscript_sets param) is
     → value_of d param (names_within d.sets (subscript_sets param) is) ≡ value_of (with_values d given defaults) param (names_within d.sets (subscript_sets param) is)
 value-same {d = d} {given = given} {defaults = defaults} same param used is within =
     let index : List (List ℕ) = names_within d.sets (subscript_sets param) is in

@@ -13,10 +13,10 @@ use Rattle.named_equations.specs.Plans.{meets}
 abbrev pub tabled : (Index → ℕ) → List (List ℤ) → Var → ℤ
 tabled place table v = slice_index_or (slice_index_or table (v.kind - 1) []) (place v.index) (pos 0)
 
--- the plan meets every equation
-abbrev pub meets_all : Data → ℕ → (Var → ℤ) → Bool
-meets_all d q x = list_all (meets d q x) (instances d)
+-- the plan meets every equation, with written factors of so many decimal places
+abbrev pub meets_all : ℕ → Data → ℕ → (Var → ℤ) → Bool
+meets_all places d q x = list_all (meets places d q x) (instances d)
 
 -- the number of the first equation that the plan doesn't meet
-abbrev pub first_broken : Data → ℕ → (Var → ℤ) → Option ℕ
-first_broken d q x = option_map (λ name. name.eq) (find (λ name. not (meets d q x name)) (instances d))
+abbrev pub first_broken : ℕ → Data → ℕ → (Var → ℤ) → Option ℕ
+first_broken places d q x = option_map (λ name. name.eq) (find (λ name. not (meets places d q x name)) (instances d))

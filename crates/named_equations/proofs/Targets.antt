@@ -54,14 +54,14 @@ without_margin =
     ∷ [] ∷ []
     ∷ []
 
-meets_margin : meets_all margin 1 (single with_margin) ≡ true
+meets_margin : meets_all 6 margin 1 (single with_margin) ≡ true
 unfolding discounted capital_factor root_from half_year_root operating_factor salvage_fraction
 meets_margin = refl
 
 costs_margin : cost margin (single with_margin) ≡ pos 92
 costs_margin = refl
 
-breaks_margin : first_broken margin 1 (single without_margin) ≡ Some 55
+breaks_margin : first_broken 6 margin 1 (single without_margin) ≡ Some 55
 unfolding discounted capital_factor root_from half_year_root operating_factor salvage_fraction
 breaks_margin = refl
 
@@ -114,14 +114,14 @@ less_renewable =
 abbrev by_technology : List (List ℤ) → Var → ℤ
 by_technology table v = tabled (λ i. i.tech) table v
 
-meets_target : meets_all target 1 (by_technology half_renewable) ≡ true
+meets_target : meets_all 6 target 1 (by_technology half_renewable) ≡ true
 unfolding discounted capital_factor root_from half_year_root operating_factor salvage_fraction
 meets_target = refl
 
 costs_target : cost target (by_technology half_renewable) ≡ pos 105
 costs_target = refl
 
-breaks_target : first_broken target 1 (by_technology less_renewable) ≡ Some 59
+breaks_target : first_broken 6 target 1 (by_technology less_renewable) ≡ Some 59
 unfolding discounted capital_factor root_from half_year_root operating_factor salvage_fraction
 breaks_target = refl
 
@@ -155,7 +155,7 @@ taking_up =
     ∷ []
 
 -- -10 is at most -5 - 5, and -6 at most -6
-meets_limits : meets_all (uptake (neg_ℤ (whole 5)) (neg_ℤ (whole 6))) 1 (single taking_up) ≡ true
+meets_limits : meets_all 6 (uptake (neg_ℤ (whole 5)) (neg_ℤ (whole 6))) 1 (single taking_up) ≡ true
 unfolding discounted capital_factor root_from half_year_root operating_factor salvage_fraction
 meets_limits = refl
 
@@ -163,21 +163,21 @@ costs_uptake : cost (uptake (neg_ℤ (whole 5)) (neg_ℤ (whole 6))) (single tak
 costs_uptake = refl
 
 -- limits that are less by one billionth
-breaks_annual_limit : first_broken (uptake (negsuc 5000000000) (neg_ℤ (whole 6))) 1 (single taking_up) ≡ Some 63
+breaks_annual_limit : first_broken 6 (uptake (negsuc 5000000000) (neg_ℤ (whole 6))) 1 (single taking_up) ≡ Some 63
 unfolding discounted capital_factor root_from half_year_root operating_factor salvage_fraction
 breaks_annual_limit = refl
 
-breaks_period_limit : first_broken (uptake (neg_ℤ (whole 5)) (negsuc 6000000000)) 1 (single taking_up) ≡ Some 64
+breaks_period_limit : first_broken 6 (uptake (neg_ℤ (whole 5)) (negsuc 6000000000)) 1 (single taking_up) ≡ Some 64
 unfolding discounted capital_factor root_from half_year_root operating_factor salvage_fraction
 breaks_period_limit = refl
 
 -- a limit of -1 is none, though -10 - 5 would be above -2
-no_limits : meets_all (uptake (neg_ℤ (whole 1)) (neg_ℤ (whole 1))) 1 (single taking_up) ≡ true
+no_limits : meets_all 6 (uptake (neg_ℤ (whole 1)) (neg_ℤ (whole 1))) 1 (single taking_up) ≡ true
 unfolding discounted capital_factor root_from half_year_root operating_factor salvage_fraction
 no_limits = refl
 
 -- the emissions of the model period without what is given off elsewhere
-without_exogenous : first_broken (uptake (neg_ℤ (whole 5)) (neg_ℤ (whole 6))) 1
+without_exogenous : first_broken 6 (uptake (neg_ℤ (whole 5)) (neg_ℤ (whole 6))) 1
     (λ v. if nat_eq v.kind 48 then neg_ℤ (pos 10) else single taking_up v) ≡ Some 62
 unfolding discounted capital_factor root_from half_year_root operating_factor salvage_fraction
 without_exogenous = refl

@@ -161,26 +161,26 @@ means-positive e statement row m w v h =
     (w.signs v m.scale (m.sum (alone v)) m.positive (IsSumOver-gathered m.scale (alone v) (coefficients_of e.terms) (m.sum (alone v)) (m.is_sum (alone v)))) h
 
 -- the terms of a named equation mean it, and its variable stands there with a positive coefficient
-pub record IsNamedEquation (d : Data) (name : RowName) (e : EquationTerms) : Type 0 where
-  pub means : MeansStatement e (λ q x. says d q x name)
+pub record IsNamedEquation (places : ℕ) (d : Data) (name : RowName) (e : EquationTerms) : Type 0 where
+  pub means : MeansStatement e (λ q x. says places d q x name)
   pub defines : (v : Var) → variable_of name ≡ Some v → pos 0 <ℤ means.sum (alone v)
 
 -- one that defines v
-pub definition_is : (d : Data) (name : RowName) (e : EquationTerms) (v : Var) (m : MeansStatement e (λ q x. says d q x name)) → variable_of name ≡ Some v → pos 0 <ℤ m.sum (alone v) → IsNamedEquation d name e
-definition_is d name e v m is h = record { means = m; defines = λ w k. subst (λ u. pos 0 <ℤ m.sum (alone u)) (one_variable v w (sym is ∙ k)) h }
+pub definition_is : (places : ℕ) (d : Data) (name : RowName) (e : EquationTerms) (v : Var) (m : MeansStatement e (λ q x. says places d q x name)) → variable_of name ≡ Some v → pos 0 <ℤ m.sum (alone v) → IsNamedEquation places d name e
+definition_is places d name e v m is h = record { means = m; defines = λ w k. subst (λ u. pos 0 <ℤ m.sum (alone u)) (one_variable v w (sym is ∙ k)) h }
   where
     one_variable : (v w : Var) → Some v ≡ Some w → v ≡ w
     one_variable v w h = cc
 
 -- one that defines nothing
-pub inequality_is : (d : Data) (name : RowName) (e : EquationTerms) → MeansStatement e (λ q x. says d q x name) → variable_of name ≡ None → IsNamedEquation d name e
-inequality_is d name e m none = record { means = m; defines = λ w k. absurd (cc (none, k)) }
+pub inequality_is : (places : ℕ) (d : Data) (name : RowName) (e : EquationTerms) → MeansStatement e (λ q x. says places d q x name) → variable_of name ≡ None → IsNamedEquation places d name e
+inequality_is places d name e m none = record { means = m; defines = λ w k. absurd (cc (none, k)) }
 
-pub named_row : (d : Data) (name : RowName) (e : EquationTerms) (row : Row) → IsNamedEquation d name e → IsRowOf name e row → SaysWhat e row → IsNamedRow d name e row
-named_row d name e row n written w = record {
+pub named_row : (places : ℕ) (d : Data) (name : RowName) (e : EquationTerms) (row : Row) → IsNamedEquation places d name e → IsRowOf name e row → SaysWhat e row → IsNamedRow places d name e row
+named_row places d name e row n written w = record {
   written = written;
-  says = means-says e (λ q x. says d q x name) row n.means w written.sense;
-  defines = λ v h. means-positive e (λ q x. says d q x name) row n.means w v (n.defines v h);
+  says = means-says e (λ q x. says places d q x name) row n.means w written.sense;
+  defines = λ v h. means-positive e (λ q x. says places d q x name) row n.means w v (n.defines v h);
 }
 
 -- a variable is another times a data value: EBa1, EBa4, EBa7 to EBa9, Acc1, Acc2 and their like

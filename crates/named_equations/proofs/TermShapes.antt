@@ -1,30 +1,43 @@
 -- How the terms of an equation mean its statement, for shapes that many equations share: a variable is what others make, another times a number, a sum of products, a sum of such sums; and a part that another variable covers.
-use Rattle.std.proofs.Common.{◌≡◌, ℕ, ℤ, pos, neg_ℤ, ◌+ℤ◌, ◌*ℤ◌, List, [], ◌∷◌, ◌++◌, refl, sym, ap, ◌∙◌, subst, arith}
+use Rattle.std.proofs.Common.{◌≡◌, ℕ, ◌≤◌, ℤ, pos, neg_ℤ, ◌+ℤ◌, ◌*ℤ◌, List, [], ◌∷◌, ◌++◌, refl, sym, ap, ◌∙◌, subst, arith}
 use Rattle.std.specs.Prelude.{◌^◌, ◌<ℤ◌}
 use Rattle.std.proofs.lemmas.Int.{ints}
+use Rattle.std.proofs.Math.Nat.{one-le-pow}
 use Rattle.exact_num.proofs.Ring.{zero-*ℤ, one-*ℤ, neg_ℤ-*ℤ, neg_ℤ-+ℤ, *ℤ_comm, +ℤ_assoc, zero-+ℤ, +ℤ-zero}
 use Rattle.row_core.specs.declared.Var.{Var}
-use Rattle.row_core.specs.Amounts.{Amount, Whole, Billionths, Millionths, Product, Negative, value_of_amount}
+use Rattle.row_core.specs.Amounts.{Amount, Whole, Billionths, Factor, Product, Negative, value_of_amount}
 use Rattle.row_core.specs.EquationTerms.{EquationTerms, less, coefficients_of}
 use Rattle.row_core.specs.Values.{IsOver, IsSumOver, alone}
 use Rattle.row_core.proofs.SumLaws.{IsOver-negated, IsOver-ratio, IsOver-times}
-use Rattle.named_equations.specs.Notation.{◌equals◌, ◌at_most◌, sum_over, scale_of, million}
+use Rattle.named_equations.specs.Notation.{◌equals◌, ◌at_most◌, sum_over, scale_of, factor_scale}
 use Rattle.named_equations.proofs.TermMeaning.{MeansStatement, sum_over-negated, sum_over-zero, over-one, over-minus_one, over-zero, over-data, sum-none, sum-term, sum-each, first_positive, alone-self}
 use Rattle.named_equations.specs.TermShapes.{is_covered, is_made_of, is_times, products_away, for_each}
 
 -- ---- numbers over a scale
 
+-- the scale of a written factor is above 0
+pub factor_scale-positive : (places : ℕ) → pos 0 <ℤ factor_scale places
+factor_scale-positive places = let some : 1 ≤ 10 ^ places = one-le-pow places 10 (omega arith) in omega (arith, ints, some)
+
 -- a written factor
-pub over-factor : (z : ℤ) → IsOver million (value_of_amount (Millionths z)) z
-over-factor z = IsOver-ratio z (pos (10 ^ 6)) (omega (arith, ints))
+pub over-factor : (places : ℕ) (z : ℤ) → IsOver (factor_scale places) (value_of_amount (Factor places z)) z
+over-factor places z = IsOver-ratio z (factor_scale places) (factor_scale-positive places)
 
 -- a product of two data values
 pub over-product : (z y : ℤ) → IsOver (scale_of 2) (value_of_amount (Product (Billionths z) (Billionths y))) (z *ℤ y)
 over-product z y = IsOver-times (scale_of 1) (scale_of 1) (value_of_amount (Billionths z)) (value_of_amount (Billionths y)) z y (over-data z) (over-data y)
 
 -- a product of a data value and a written factor
-pub over-value_factor : (z y : ℤ) → IsOver (scale_of 1 *ℤ million) (value_of_amount (Product (Billionths z) (Millionths y))) (z *ℤ y)
-over-value_factor z y = IsOver-times (scale_of 1) million (value_of_amount (Billionths z)) (value_of_amount (Millionths y)) z y (over-data z) (over-factor y)
+pub over-value_factor : (places : ℕ) (z f : ℤ) → IsOver (scale_of 1 *ℤ factor_scale places) (value_of_amount (Product (Billionths z) (Factor places f))) (z *ℤ f)
+over-value_factor places z f =
+    IsOver-times (scale_of 1) (factor_scale places) (value_of_amount (Billionths z)) (value_of_amount (Factor places f)) z f (over-data z) (over-factor places f)
+
+-- a product of a data value and two written factors
+pub over-value_factors : (places : ℕ) (z f g : ℤ)
+    → IsOver (scale_of 1 *ℤ factor_scale places *ℤ factor_scale places) (value_of_amount (Product (Product (Billionths z) (Factor places f)) (Factor places g))) (z *ℤ f *ℤ g)
+over-value_factors places z f g =
+    let s : ℤ = factor_scale places in
+    IsOver-times (scale_of 1 *ℤ s) s (value_of_amount (Product (Billionths z) (Factor places f))) (value_of_amount (Factor places g)) (z *ℤ f) g (over-value_factor places z f) (over-factor places g)
 
 -- ---- sums of terms over a scale
 

@@ -101,7 +101,7 @@ other_way =
 abbrev pub regional : List (List ℤ) → Var → ℤ
 regional table v = tabled (λ i. 2 * i.region + i.other) table v
 
-pub meets_both_ways : meets_all routes_both_ways 1 (regional both_ways) ≡ true
+pub meets_both_ways : meets_all 6 routes_both_ways 1 (regional both_ways) ≡ true
 unfolding discounted capital_factor root_from half_year_root operating_factor salvage_fraction
 meets_both_ways = refl
 
@@ -109,7 +109,7 @@ costs_both_ways : cost routes_both_ways (regional both_ways) ≡ pos 80
 costs_both_ways = refl
 
 -- a route in one direction gives A energy that B doesn't lose: so the equations say
-meets_one_way : meets_all route_one_way 1 (regional one_way) ≡ true
+meets_one_way : meets_all 6 route_one_way 1 (regional one_way) ≡ true
 unfolding discounted capital_factor root_from half_year_root operating_factor salvage_fraction
 meets_one_way = refl
 
@@ -117,6 +117,6 @@ costs_one_way : cost route_one_way (regional one_way) ≡ pos 0
 costs_one_way = refl
 
 -- a trade along the route out of A takes from A
-breaks_other_way : first_broken route_one_way 1 (regional other_way) ≡ Some 17
+breaks_other_way : first_broken 6 route_one_way 1 (regional other_way) ≡ Some 17
 unfolding discounted capital_factor root_from half_year_root operating_factor salvage_fraction
 breaks_other_way = refl

@@ -106,7 +106,7 @@ abbrev values_of : ℕ × List ℤ → List Given
 values_of numbered = map (λ at. given numbered.0 at.0 (at.1 *ℤ pos (10 ^ 8))) (zip (indices_of wide_sets numbered.0) numbered.1)
 
 abbrev pub wide : Data
-wide = record { sets = wide_sets; given = flat_map values_of (enumerate_from 1 tenths); defaults = [] }
+wide = record { sets = wide_sets; given = flat_map values_of (enumerate_from 1 tenths); defaults = []; second = false }
 
 -- ---- plan
 
@@ -229,11 +229,11 @@ x v =
 
 -- which instances of the equation it meets, in their order
 abbrev met : ℕ → List Bool
-met eq = map (meets wide q x) (instances_of wide eq)
+met eq = map (meets 6 wide q x) (instances_of wide eq)
 
 -- how many instances the equation has, all of which it meets
 abbrev all_met : ℕ → ℕ × Bool
-all_met eq = (length (instances_of wide eq), list_all (meets wide q x) (instances_of wide eq))
+all_met eq = (length (instances_of wide eq), list_all (meets 6 wide q x) (instances_of wide eq))
 
 definitions_1_to_4 : map all_met (1 ∷ 2 ∷ 3 ∷ 4 ∷ []) ≡ (16, true) ∷ (8, true) ∷ (8, true) ∷ (16, true) ∷ []
 unfolding discounted capital_factor root_from half_year_root operating_factor salvage_fraction

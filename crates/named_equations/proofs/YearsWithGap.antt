@@ -123,22 +123,22 @@ one_salvage_value = refl
 
 -- ---- written factors
 
-capital_factors : map (capital_factor_of (with_gap (five_percent ∷ [])) 0) (0 ∷ 1 ∷ 5 ∷ 6 ∷ []) ≡ pos 1000000 ∷ pos 952380 ∷ pos 783526 ∷ pos 746215 ∷ []
+capital_factors : map (capital_factor_of 6 (with_gap (five_percent ∷ [])) 0) (0 ∷ 1 ∷ 5 ∷ 6 ∷ []) ≡ pos 1000000 ∷ pos 952380 ∷ pos 783526 ∷ pos 746215 ∷ []
 unfolding discounted capital_factor root_from half_year_root operating_factor salvage_fraction
 capital_factors = refl
 
-operating_factors : map (operating_factor_of (with_gap (five_percent ∷ [])) 0) (0 ∷ 1 ∷ 5 ∷ []) ≡ pos 975900 ∷ pos 929428 ∷ pos 764643 ∷ []
+operating_factors : map (operating_factor_of 6 (with_gap (five_percent ∷ [])) 0) (0 ∷ 1 ∷ 5 ∷ []) ≡ pos 975900 ∷ pos 929428 ∷ pos 764643 ∷ []
 unfolding discounted capital_factor root_from half_year_root operating_factor salvage_fraction
 operating_factors = refl
 
-salvage_fractions : map (λ number. salvage_fraction_of (with_gap (life 2 ∷ five_percent ∷ [])) number 0 0 2) (1 ∷ 2 ∷ []) ≡ pos 512195 ∷ pos 500000 ∷ []
+salvage_fractions : map (λ number. salvage_fraction_of 6 (with_gap (life 2 ∷ five_percent ∷ [])) number 0 0 2) (1 ∷ 2 ∷ []) ≡ pos 512195 ∷ pos 500000 ∷ []
 unfolding discounted capital_factor root_from half_year_root operating_factor salvage_fraction
 salvage_fractions = refl
 
 -- ---- whole plans
 
 -- the same value in each of the three years
-abbrev each_year : ℤ → List ℤ
+abbrev pub each_year : ℤ → List ℤ
 each_year value = value ∷ value ∷ value ∷ []
 
 -- the best plan at the sinking fund: new capacity 10 in 2020, none in 2021 and 10 in 2025; by kind and year, in units of 10^-12
@@ -182,20 +182,20 @@ abbrev yearly : List (List ℤ) → Var → ℤ
 yearly table v = tabled (λ i. i.year) table v
 
 -- the data of the two plans
-abbrev sinking : Data
+abbrev pub sinking : Data
 sinking = with_gap (life 2 ∷ five_percent ∷ [])
 
 abbrev straight : Data
 straight = with_gap (life 2 ∷ five_percent ∷ method 2 ∷ [])
 
-meets_over_the_gap : meets_all sinking (10 ^ 12) (yearly over_the_gap) ≡ true
+meets_over_the_gap : meets_all 6 sinking (10 ^ 12) (yearly over_the_gap) ≡ true
 unfolding discounted capital_factor root_from half_year_root operating_factor salvage_fraction
 meets_over_the_gap = refl
 
 costs_over_the_gap : cost sinking (yearly over_the_gap) ≡ pos 150165050403750
 costs_over_the_gap = refl
 
-meets_by_the_straight_line : meets_all straight (10 ^ 12) (yearly by_the_straight_line) ≡ true
+meets_by_the_straight_line : meets_all 6 straight (10 ^ 12) (yearly by_the_straight_line) ≡ true
 unfolding discounted capital_factor root_from half_year_root operating_factor salvage_fraction
 meets_by_the_straight_line = refl
 
@@ -203,11 +203,11 @@ costs_by_the_straight_line : cost straight (yearly by_the_straight_line) ≡ pos
 costs_by_the_straight_line = refl
 
 -- each plan breaks the other's salvage value
-other_method : first_broken sinking (10 ^ 12) (yearly by_the_straight_line) ≡ Some 27
+other_method : first_broken 6 sinking (10 ^ 12) (yearly by_the_straight_line) ≡ Some 27
 unfolding discounted capital_factor root_from half_year_root operating_factor salvage_fraction
 other_method = refl
 
-other_method_again : first_broken straight (10 ^ 12) (yearly over_the_gap) ≡ Some 28
+other_method_again : first_broken 6 straight (10 ^ 12) (yearly over_the_gap) ≡ Some 28
 unfolding discounted capital_factor root_from half_year_root operating_factor salvage_fraction
 other_method_again = refl
 
@@ -216,21 +216,21 @@ abbrev but : ℕ → ℕ → ℤ → Var → ℤ
 but kind y value v = if nat_eq v.kind kind && nat_eq v.index.year y then value else yearly over_the_gap v
 
 -- without the half year, at which the operating cost of 2020 would be discounted by nothing
-without_half_year : first_broken sinking (10 ^ 12) (but 30 0 (pos 30000000000000)) ≡ Some 34
+without_half_year : first_broken 6 sinking (10 ^ 12) (but 30 0 (pos 30000000000000)) ≡ Some 34
 unfolding discounted capital_factor root_from half_year_root operating_factor salvage_fraction
 without_half_year = refl
 
 -- the investment of 2025 discounted by two places and not by five years
-places_for_years : first_broken sinking (10 ^ 12) (but 24 2 (pos 45351450000000)) ≡ Some 26
+places_for_years : first_broken 6 sinking (10 ^ 12) (but 24 2 (pos 45351450000000)) ≡ Some 26
 unfolding discounted capital_factor root_from half_year_root operating_factor salvage_fraction
 places_for_years = refl
 
 -- the salvage value discounted to the last year, and not past it
-one_year_less : first_broken sinking (10 ^ 12) (but 26 2 (pos 20065904978500)) ≡ Some 30
+one_year_less : first_broken 6 sinking (10 ^ 12) (but 26 2 (pos 20065904978500)) ≡ Some 30
 unfolding discounted capital_factor root_from half_year_root operating_factor salvage_fraction
 one_year_less = refl
 
 -- the capacity of 2020 counted in 2025 too
-counted_too_long : first_broken sinking (10 ^ 12) (but 5 2 (pos 20000000000000)) ≡ Some 2
+counted_too_long : first_broken 6 sinking (10 ^ 12) (but 5 2 (pos 20000000000000)) ≡ Some 2
 unfolding discounted capital_factor root_from half_year_root operating_factor salvage_fraction
 counted_too_long = refl

@@ -3,7 +3,7 @@ use Rattle.std.specs.Prelude.{ℕ, ℤ, pos, ◌+ℤ◌, ◌-ℤ◌, ◌*ℤ◌,
 use Rattle.model_sets.specs.Data.{Data}
 use Rattle.row_core.specs.declared.Var.{Var}
 use Rattle.row_core.specs.Statements.{Statement}
-use Rattle.named_equations.specs.Notation.{◌equals◌, ◌at_most◌, sum_over, scale_of, million}
+use Rattle.named_equations.specs.Notation.{◌equals◌, ◌at_most◌, sum_over, scale_of, factor_scale}
 use Rattle.named_equations.specs.Parameters.{emission_activity_ratio, emissions_penalty, annual_exogenous_emission, annual_emission_limit, model_period_exogenous_emission, model_period_emission_limit}
 use Rattle.named_equations.specs.Positions.{technologies, emissions, all_years, years_since_first}
 use Rattle.named_equations.specs.Variables.{total_annual_technology_activity_by_mode, annual_technology_emission_by_mode, annual_technology_emission, annual_technology_emission_penalty_by_emission, annual_technology_emissions_penalty, discounted_technology_emissions_penalty, annual_emissions, model_period_emissions}
@@ -36,11 +36,11 @@ e4 d q x r t y =
     x (annual_technology_emissions_penalty r t y)
     equals sum_over (emissions d) (λ e. x (annual_technology_emission_penalty_by_emission r t e y))
 
--- E5_DiscountedEmissionsPenaltyByTechnology[r,t,y]: the discounted penalty is the penalty times the operating factor of the years since the first; times 10^6
-abbrev pub e5 : Data → ℕ → (Var → ℤ) → ℕ → ℕ → ℕ → Statement
-e5 d q x r t y =
-    million *ℤ x (discounted_technology_emissions_penalty r t y)
-    equals x (annual_technology_emissions_penalty r t y) *ℤ operating_factor_of d r (years_since_first d y)
+-- E5_DiscountedEmissionsPenaltyByTechnology[r,t,y]: the discounted penalty is the penalty times the operating factor of the years since the first; times the scale of a factor
+abbrev pub e5 : ℕ → Data → ℕ → (Var → ℤ) → ℕ → ℕ → ℕ → Statement
+e5 places d q x r t y =
+    factor_scale places *ℤ x (discounted_technology_emissions_penalty r t y)
+    equals x (annual_technology_emissions_penalty r t y) *ℤ operating_factor_of places d r (years_since_first d y)
 
 -- ---- emissions of regions, and their limits
 

@@ -1,5 +1,6 @@
 -- How the equations are written down: sums over a set, the three signs, and the powers of ten that make both sides whole.
 use Rattle.std.specs.Prelude.{ℕ, ◌*◌, ◌^◌, ℤ, pos, ◌+ℤ◌, List, [], ◌∷◌}
+use Rattle.discount_factors.specs.Factors.{unit_of}
 use Rattle.row_core.specs.declared.Sense.TheVariants.{Least, Equal, Most}
 use Rattle.row_core.specs.Statements.{Statement}
 
@@ -25,6 +26,6 @@ left at_least right = record { left = left; sign = Least; right = right }
 abbrev pub scale_of : ℕ → ℤ
 scale_of n = pos (10 ^ (9 * n))
 
--- the scale of a written factor, which is in millionths
-abbrev pub million : ℤ
-million = pos (10 ^ 6)
+-- the scale of a written factor of so many decimal places
+abbrev pub factor_scale : ℕ → ℤ
+factor_scale places = pos (unit_of places)

@@ -3,7 +3,7 @@ use Rattle.std.specs.Prelude.{ℕ, ℤ, ◌+ℤ◌, ◌*ℤ◌}
 use Rattle.model_sets.specs.Data.{Data}
 use Rattle.row_core.specs.declared.Var.{Var}
 use Rattle.row_core.specs.Statements.{Statement}
-use Rattle.named_equations.specs.Notation.{◌equals◌, sum_over, scale_of, million}
+use Rattle.named_equations.specs.Notation.{◌equals◌, sum_over, scale_of, factor_scale}
 use Rattle.named_equations.specs.Parameters.{variable_cost, fixed_cost}
 use Rattle.named_equations.specs.Positions.{modes, years_since_first}
 use Rattle.named_equations.specs.Variables.{total_capacity_annual, total_annual_technology_activity_by_mode, annual_variable_operating_cost, annual_fixed_operating_cost, operating_cost, discounted_operating_cost}
@@ -27,8 +27,8 @@ oc3 d q x r t y =
     x (operating_cost r t y)
     equals x (annual_variable_operating_cost r t y) +ℤ x (annual_fixed_operating_cost r t y)
 
--- OC4_DiscountedOperatingCostsTotalAnnual[r,t,y]: the discounted operating cost is the operating cost times the operating factor of the years since the first; times 10^6
-abbrev pub oc4 : Data → ℕ → (Var → ℤ) → ℕ → ℕ → ℕ → Statement
-oc4 d q x r t y =
-    million *ℤ x (discounted_operating_cost r t y)
-    equals x (operating_cost r t y) *ℤ operating_factor_of d r (years_since_first d y)
+-- OC4_DiscountedOperatingCostsTotalAnnual[r,t,y]: the discounted operating cost is the operating cost times the operating factor of the years since the first; times the scale of a factor
+abbrev pub oc4 : ℕ → Data → ℕ → (Var → ℤ) → ℕ → ℕ → ℕ → Statement
+oc4 places d q x r t y =
+    factor_scale places *ℤ x (discounted_operating_cost r t y)
+    equals x (operating_cost r t y) *ℤ operating_factor_of places d r (years_since_first d y)

@@ -16,27 +16,27 @@ use Rattle.named_equations.specs.Variables.{total_discounted_cost}
 
 -- ---- meeting the equations
 
--- what the equation says of the plan at the index
-abbrev pub says : Data → ℕ → (Var → ℤ) → RowName → Statement
-says d q x name = (equation_of name.eq).says d q x name.index
+-- what the equation says of the plan at the index, with written factors of so many decimal places
+abbrev pub says : ℕ → Data → ℕ → (Var → ℤ) → RowName → Statement
+says places d q x name = (equation_of name.eq).says places d q x name.index
 
 -- the plan meets the equation at the index
-abbrev pub Meets : Data → ℕ → (Var → ℤ) → RowName → Type 0
-Meets d q x name = Holds (says d q x name)
+abbrev pub Meets : ℕ → Data → ℕ → (Var → ℤ) → RowName → Type 0
+Meets places d q x name = Holds (says places d q x name)
 
 -- the test whether it does
-abbrev pub meets : Data → ℕ → (Var → ℤ) → RowName → Bool
-meets d q x name = holds (says d q x name)
+abbrev pub meets : ℕ → Data → ℕ → (Var → ℤ) → RowName → Bool
+meets places d q x name = holds (says places d q x name)
 
 -- the plan meets each of these
-abbrev pub MeetsEach : Data → ℕ → (Var → ℤ) → List RowName → Type 0
-MeetsEach d q x [] = Unit {0}
-MeetsEach d q x (name ∷ names) = Meets d q x name × MeetsEach d q x names
+abbrev pub MeetsEach : ℕ → Data → ℕ → (Var → ℤ) → List RowName → Type 0
+MeetsEach places d q x [] = Unit {0}
+MeetsEach places d q x (name ∷ names) = Meets places d q x name × MeetsEach places d q x names
 
 -- the plan meets every named equation at every index at which the data have it, and every variable that exists is at least 0 where its kind isn't free
-pub record Feasible (d : Data) (q : ℕ) (x : Var → ℤ) : Type 0 where
+pub record Feasible (places : ℕ) (d : Data) (q : ℕ) (x : Var → ℤ) : Type 0 where
   pub positive : 0 < q
-  pub equations : MeetsEach d q x (instances d)
+  pub equations : MeetsEach places d q x (instances d)
   pub signs : (v : Var) → exists d v ≡ true → kind_is_free v.kind ≡ false → pos 0 ≤ℤ x v
 
 -- ---- cost

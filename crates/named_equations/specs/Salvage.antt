@@ -4,7 +4,7 @@ use Rattle.model_sets.specs.Data.{Data}
 use Rattle.model_sets.specs.Members.{last_year}
 use Rattle.row_core.specs.declared.Var.{Var}
 use Rattle.row_core.specs.Statements.{Statement}
-use Rattle.named_equations.specs.Notation.{◌equals◌, scale_of, million}
+use Rattle.named_equations.specs.Notation.{◌equals◌, scale_of, factor_scale}
 use Rattle.named_equations.specs.Parameters.{capital_cost}
 use Rattle.named_equations.specs.Positions.{number_of_year, years_in_all}
 use Rattle.named_equations.specs.Variables.{new_capacity, salvage_value, discounted_salvage_value}
@@ -34,24 +34,24 @@ has_sv2 d r t y = outlasts d r t y && by_straight_line d r
 abbrev pub has_sv3 : Data → ℕ → ℕ → ℕ → Bool
 has_sv3 d r t y = not (has_sv1 d r t y) && not (has_sv2 d r t y)
 
--- SV1_SalvageValueAtEndOfPeriod1[r,t,y]: the salvage value is the part of the investment that the sinking fund leaves; times 10^15
-abbrev pub sv1 : Data → ℕ → (Var → ℤ) → ℕ → ℕ → ℕ → Statement
-sv1 d q x r t y =
-    scale_of 1 *ℤ million *ℤ x (salvage_value r t y)
-    equals capital_cost d r t y *ℤ x (new_capacity r t y) *ℤ salvage_fraction_of d 1 r t y
+-- SV1_SalvageValueAtEndOfPeriod1[r,t,y]: the salvage value is the part of the investment that the sinking fund leaves; times 10^9 and the scale of a factor
+abbrev pub sv1 : ℕ → Data → ℕ → (Var → ℤ) → ℕ → ℕ → ℕ → Statement
+sv1 places d q x r t y =
+    scale_of 1 *ℤ factor_scale places *ℤ x (salvage_value r t y)
+    equals capital_cost d r t y *ℤ x (new_capacity r t y) *ℤ salvage_fraction_of places d 1 r t y
 
--- SV2_SalvageValueAtEndOfPeriod2[r,t,y]: the salvage value is the part of the investment that the straight line leaves; times 10^15
-abbrev pub sv2 : Data → ℕ → (Var → ℤ) → ℕ → ℕ → ℕ → Statement
-sv2 d q x r t y =
-    scale_of 1 *ℤ million *ℤ x (salvage_value r t y)
-    equals capital_cost d r t y *ℤ x (new_capacity r t y) *ℤ salvage_fraction_of d 2 r t y
+-- SV2_SalvageValueAtEndOfPeriod2[r,t,y]: the salvage value is the part of the investment that the straight line leaves; times 10^9 and the scale of a factor
+abbrev pub sv2 : ℕ → Data → ℕ → (Var → ℤ) → ℕ → ℕ → ℕ → Statement
+sv2 places d q x r t y =
+    scale_of 1 *ℤ factor_scale places *ℤ x (salvage_value r t y)
+    equals capital_cost d r t y *ℤ x (new_capacity r t y) *ℤ salvage_fraction_of places d 2 r t y
 
 -- SV3_SalvageValueAtEndOfPeriod3[r,t,y]: nothing is left
 abbrev pub sv3 : Data → ℕ → (Var → ℤ) → ℕ → ℕ → ℕ → Statement
 sv3 d q x r t y = x (salvage_value r t y) equals pos 0
 
--- SV4_SalvageValueDiscountedToStartYear[r,t,y]: the discounted salvage value is due when the last year is over; times 10^6
-abbrev pub sv4 : Data → ℕ → (Var → ℤ) → ℕ → ℕ → ℕ → Statement
-sv4 d q x r t y =
-    million *ℤ x (discounted_salvage_value r t y)
-    equals x (salvage_value r t y) *ℤ capital_factor_of d r (years_in_all d)
+-- SV4_SalvageValueDiscountedToStartYear[r,t,y]: the discounted salvage value is due when the last year is over; times the scale of a factor
+abbrev pub sv4 : ℕ → Data → ℕ → (Var → ℤ) → ℕ → ℕ → ℕ → Statement
+sv4 places d q x r t y =
+    factor_scale places *ℤ x (discounted_salvage_value r t y)
+    equals x (salvage_value r t y) *ℤ capital_factor_of places d r (years_in_all d)

@@ -21,24 +21,28 @@ use Rattle.named_equations.specs.Indices.{by_r, by_re, by_rey, by_rfy, by_rlfy, 
 use Rattle.named_equations.specs.Variables.{trade, rate_of_demand, accumulated_new_capacity, total_capacity_annual, rate_of_total_activity, rate_of_production_by_technology_by_mode, rate_of_production_by_technology, rate_of_production, rate_of_use_by_technology_by_mode, rate_of_use_by_technology, rate_of_use, production, use_of_fuel, demand, production_annual, use_annual, trade_annual, production_by_technology, use_by_technology, total_annual_technology_activity_by_mode, capital_investment, discounted_capital_investment, salvage_value, discounted_salvage_value, annual_variable_operating_cost, annual_fixed_operating_cost, operating_cost, discounted_operating_cost, annual_technology_emission_by_mode, annual_technology_emission, annual_technology_emission_penalty_by_emission, annual_technology_emissions_penalty, discounted_technology_emissions_penalty, total_discounted_cost_by_technology, total_discounted_cost, model_period_cost_by_region, total_technology_annual_activity, total_technology_model_period_activity, total_capacity_in_reserve_margin, demand_needing_reserve_margin, production_by_technology_annual, total_re_production_annual, re_total_production_of_target_fuel_annual, use_by_technology_annual, annual_emissions, model_period_emissions}
 use Rattle.named_equations.specs.Where.{emits_in_mode, produces, produces_in_mode, uses, uses_in_mode}
 
--- a named equation: whether the data have an instance of it at an index, what it says there of the plan whose variables have the values x v over q,
--- and the variable that it defines there
+-- a named equation: whether the data have an instance of it at an index, what it says there, with written factors of so many decimal places, of the
+-- plan whose variables have the values x v over q, and the variable that it defines there
 pub record NamedEquation : Type 0 where
   pub stands : Data → Index → Bool
-  pub says : Data → ℕ → (Var → ℤ) → Index → Statement
+  pub says : ℕ → Data → ℕ → (Var → ℤ) → Index → Statement
   pub defines : Index → Option Var
 
 -- it stands at every index
 abbrev pub everywhere : Data → Index → Bool
 everywhere d i = true
 
--- an equation that stands here, says this, and defines this variable
+-- an equation that stands here, says this with the written factors of the places, and defines this variable
+abbrev pub definition_with_factors : (Data → Index → Bool) → (ℕ → Data → ℕ → (Var → ℤ) → Index → Statement) → (Index → Var) → NamedEquation
+definition_with_factors stands says variable = record { stands = stands; says = says; defines = λ i. Some (variable i) }
+
+-- one without written factors
 abbrev pub definition : (Data → Index → Bool) → (Data → ℕ → (Var → ℤ) → Index → Statement) → (Index → Var) → NamedEquation
-definition stands says variable = record { stands = stands; says = says; defines = λ i. Some (variable i) }
+definition stands says variable = definition_with_factors stands (λ places. says) variable
 
 -- one that defines nothing
 abbrev pub inequality : (Data → Index → Bool) → (Data → ℕ → (Var → ℤ) → Index → Statement) → NamedEquation
-inequality stands says = record { stands = stands; says = says; defines = λ i. None }
+inequality stands says = record { stands = stands; says = λ places. says; defines = λ i. None }
 
 -- Trade[rr,r,l,f,y], where r is before rr or is rr: of each pair of regions one order defines, and the other defines nothing
 abbrev pub other_trade : Index → Option Var
@@ -46,7 +50,7 @@ other_trade i = if nat_le i.region i.other then Some (trade i.other i.region i.s
 
 -- one that ties each trade to the trade of the other direction
 abbrev pub exchange : (Data → Index → Bool) → (Data → ℕ → (Var → ℤ) → Index → Statement) → NamedEquation
-exchange stands says = record { stands = stands; says = says; defines = other_trade }
+exchange stands says = record { stands = stands; says = λ places. says; defines = other_trade }
 
 -- the named equations, from number 1
 abbrev pub named_equations : List NamedEquation
@@ -100,17 +104,17 @@ named_equations =
     -- 24 Acc3
     ∷ definition everywhere (λ d q x. by_rtmy (acc3 d q x)) (by_rtmy total_annual_technology_activity_by_mode)
     -- 25 CC1
-    ∷ definition everywhere (λ d q x. by_rty (cc1 d q x)) (by_rty capital_investment)
+    ∷ definition_with_factors everywhere (λ places d q x. by_rty (cc1 places d q x)) (by_rty capital_investment)
     -- 26 CC2
-    ∷ definition everywhere (λ d q x. by_rty (cc2 d q x)) (by_rty discounted_capital_investment)
+    ∷ definition_with_factors everywhere (λ places d q x. by_rty (cc2 places d q x)) (by_rty discounted_capital_investment)
     -- 27 SV1
-    ∷ definition (λ d. by_rty (has_sv1 d)) (λ d q x. by_rty (sv1 d q x)) (by_rty salvage_value)
+    ∷ definition_with_factors (λ d. by_rty (has_sv1 d)) (λ places d q x. by_rty (sv1 places d q x)) (by_rty salvage_value)
     -- 28 SV2
-    ∷ definition (λ d. by_rty (has_sv2 d)) (λ d q x. by_rty (sv2 d q x)) (by_rty salvage_value)
+    ∷ definition_with_factors (λ d. by_rty (has_sv2 d)) (λ places d q x. by_rty (sv2 places d q x)) (by_rty salvage_value)
     -- 29 SV3
     ∷ definition (λ d. by_rty (has_sv3 d)) (λ d q x. by_rty (sv3 d q x)) (by_rty salvage_value)
     -- 30 SV4
-    ∷ definition everywhere (λ d q x. by_rty (sv4 d q x)) (by_rty discounted_salvage_value)
+    ∷ definition_with_factors everywhere (λ places d q x. by_rty (sv4 places d q x)) (by_rty discounted_salvage_value)
     -- 31 OC1
     ∷ definition everywhere (λ d q x. by_rty (oc1 d q x)) (by_rty annual_variable_operating_cost)
     -- 32 OC2
@@ -118,7 +122,7 @@ named_equations =
     -- 33 OC3
     ∷ definition everywhere (λ d q x. by_rty (oc3 d q x)) (by_rty operating_cost)
     -- 34 OC4
-    ∷ definition everywhere (λ d q x. by_rty (oc4 d q x)) (by_rty discounted_operating_cost)
+    ∷ definition_with_factors everywhere (λ places d q x. by_rty (oc4 places d q x)) (by_rty discounted_operating_cost)
     -- 35 E1
     ∷ definition (λ d. by_rtemy (emits_in_mode d)) (λ d q x. by_rtemy (e1 d q x)) (by_rtemy annual_technology_emission_by_mode)
     -- 36 E2
@@ -128,7 +132,7 @@ named_equations =
     -- 38 E4
     ∷ definition everywhere (λ d q x. by_rty (e4 d q x)) (by_rty annual_technology_emissions_penalty)
     -- 39 E5
-    ∷ definition everywhere (λ d q x. by_rty (e5 d q x)) (by_rty discounted_technology_emissions_penalty)
+    ∷ definition_with_factors everywhere (λ places d q x. by_rty (e5 places d q x)) (by_rty discounted_technology_emissions_penalty)
     -- 40 TDC1
     ∷ definition everywhere (λ d q x. by_rty (tdc1 d q x)) (by_rty total_discounted_cost_by_technology)
     -- 41 TDC2

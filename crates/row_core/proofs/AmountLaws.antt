@@ -12,7 +12,7 @@ use Rattle.row_core.specs.declared.place.Stopped.{Stopped}
 use Rattle.row_core.specs.Stops.{IsStop}
 use Rattle.row_core.specs.declared.Sense.{Sense}
 use Rattle.row_core.specs.declared.Var.{Var}
-use Rattle.row_core.specs.Amounts.{Amount, Whole, Billionths, Millionths, Product, Total, Negative, value_of_amount, amount_formed}
+use Rattle.row_core.specs.Amounts.{Amount, Whole, Billionths, Factor, Product, Total, Negative, value_of_amount, amount_formed}
 use Rattle.row_core.specs.Calculated.{only_if, product_of, total_of, negative_of, number_of, terms_with, Side, no_terms, with_number, with_amounts, can_be_written}
 use Rattle.row_core.specs.EquationTerms.{EquationTerms, coefficients_of, coefficients_formed, terms_of, right_of, equation_formed, IsWritten}
 use Rattle.row_core.specs.Terms.{with_term, term_formed, gathered_onto, gathered_formed_onto, gathered_formed}
@@ -48,7 +48,7 @@ negative-made false x = refl
 pub number_of-made : (a : Amount) → number_of a ≡ only_if (all_fit (amount_formed a)) (value_of_amount a)
 number_of-made (Whole n) = ap (λ b. only_if b (value_of_amount (Whole n))) (sym all_fit-nil)
 number_of-made (Billionths n) = ap (λ b. only_if b (value_of_amount (Billionths n))) (sym all_fit-nil)
-number_of-made (Millionths n) = ap (λ b. only_if b (value_of_amount (Millionths n))) (sym all_fit-nil)
+number_of-made (Factor places n) = ap (λ b. only_if b (value_of_amount (Factor places n))) (sym all_fit-nil)
 number_of-made (Product a b) =
     let x : Rational = value_of_amount a in
     let y : Rational = value_of_amount b in

@@ -3,11 +3,11 @@ use Rattle.std.specs.Prelude.{ℕ, ◌^◌, ℤ, pos, List, [], ◌∷◌, ◌++
 use Rattle.exact_num.specs.Formed.{product_formed, sum_formed}
 use Rattle.exact_num.specs.Rational.{Rational, lowest, plus, times, negated, whole}
 
--- a number that an equation makes: a whole number, a data value in billionths, a written factor in millionths, a product, a sum, or a negative
+-- a number that an equation makes: a whole number, a data value in billionths, a written factor of so many decimal places, a product, a sum, or a negative
 pub data Amount : Type 0 where
   Whole : (n : ℤ) → Amount
   Billionths : (n : ℤ) → Amount
-  Millionths : (n : ℤ) → Amount
+  Factor : (places : ℕ) (n : ℤ) → Amount
   Product : (a b : Amount) → Amount
   Total : (a b : Amount) → Amount
   Negative : (a : Amount) → Amount
@@ -16,7 +16,7 @@ pub data Amount : Type 0 where
 abbrev pub value_of_amount : Amount → Rational
 value_of_amount (Whole n) = whole n
 value_of_amount (Billionths n) = lowest n (pos (10 ^ 9))
-value_of_amount (Millionths n) = lowest n (pos (10 ^ 6))
+value_of_amount (Factor places n) = lowest n (pos (10 ^ places))
 value_of_amount (Product a b) = times (value_of_amount a) (value_of_amount b)
 value_of_amount (Total a b) = plus (value_of_amount a) (value_of_amount b)
 value_of_amount (Negative a) = negated (value_of_amount a)
@@ -25,7 +25,7 @@ value_of_amount (Negative a) = negated (value_of_amount a)
 abbrev pub amount_formed : Amount → List ℤ
 amount_formed (Whole n) = []
 amount_formed (Billionths n) = []
-amount_formed (Millionths n) = []
+amount_formed (Factor places n) = []
 amount_formed (Product a b) = amount_formed a ++ (amount_formed b ++ product_formed (value_of_amount a) (value_of_amount b))
 amount_formed (Total a b) = amount_formed a ++ (amount_formed b ++ sum_formed (value_of_amount a) (value_of_amount b))
 amount_formed (Negative a) = amount_formed a

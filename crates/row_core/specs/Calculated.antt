@@ -9,7 +9,7 @@ use Rattle.exact_num.specs.declared.fraction.Frac.{Frac}
 use Rattle.row_core.specs.declared.RowName.{RowName}
 use Rattle.row_core.specs.declared.Var.{Var}
 use Rattle.row_core.specs.Amounts.{Amount}
-use Rattle.row_core.specs.Amounts.{Whole, Billionths, Millionths, Product, Total, Negative}
+use Rattle.row_core.specs.Amounts.{Whole, Billionths, Factor, Product, Total, Negative}
 use Rattle.row_core.specs.Terms.{with_term, term_formed}
 use Rattle.row_core.specs.Written.{written_formed}
 
@@ -41,7 +41,7 @@ negative_of x = option_map negated x
 abbrev pub number_of : Amount → Option Rational
 number_of (Whole n) = Some (whole n)
 number_of (Billionths n) = Some (lowest n (pos (10 ^ 9)))
-number_of (Millionths n) = Some (lowest n (pos (10 ^ 6)))
+number_of (Factor places n) = Some (lowest n (pos (10 ^ places)))
 number_of (Product a b) = product_of (number_of a) (number_of b)
 number_of (Total a b) = total_of (number_of a) (number_of b)
 number_of (Negative a) = negative_of (number_of a)

@@ -5,7 +5,8 @@ ghost use Rattle.mathprog_data.specs.MachineStates.{Emit, Begins, InRecords, Par
 ghost use Rattle.mathprog_data.specs.DraftViews.{draft_view};
 ghost use Rattle.mathprog_data.specs.MachineViews.{Turned, form_view, reader_view};
 ghost use Rattle.mathprog_data.specs.MachineSteps.{in_records, param_name, param_read, param_named, default_read, leading_default, leading_number, tabbing_colon, tabbing_named, reader};
-ghost use Rattle.mathprog_data.specs.Params.{subscript_count, set_number, param_number};
+ghost use Rattle.model_sets.specs.Names.{set_number};
+ghost use Rattle.model_sets.specs.Params.{subscript_count, param_number};
 ghost use Rattle.mathprog_data.specs.Slices.{all_free};
 ghost use Rattle.mathprog_data.specs.Statements.{Listed, ParamBegun, TabbingBegun};
 ghost use Rattle.mathprog_data.specs.SymbolViews.{seen_view, name_in};

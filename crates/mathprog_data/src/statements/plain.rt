@@ -2,7 +2,7 @@
 
 ghost use Rattle.std.specs.Prelude.{◌≡◌, ◌+◌, ◌<◌, ◌^◌, IfOk, Some, pos, false, nat_eq, if◌then◌else◌};
 ghost use Rattle.mathprog_data.specs.MachineStates.{SignSeen};
-ghost use Rattle.mathprog_data.specs.Params.{results_path};
+ghost use Rattle.model_sets.specs.Params.{results_path};
 ghost use Rattle.mathprog_data.specs.Statements.{Listed};
 ghost use Rattle.mathprog_data.specs.MachineSteps.{in_records, in_plain, plain, plain_value};
 ghost use Rattle.mathprog_data.specs.MachineViews.{Turned, form_view};

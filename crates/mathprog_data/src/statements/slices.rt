@@ -4,7 +4,7 @@ ghost use Rattle.std.specs.Prelude.{◌≡◌, IfOk, [], ◌∷◌};
 ghost use Rattle.mathprog_data.specs.MachineStates.{SignSeen};
 ghost use Rattle.mathprog_data.specs.MachineSteps.{bracket, place_due, place_read};
 ghost use Rattle.mathprog_data.specs.MachineViews.{Turned};
-ghost use Rattle.mathprog_data.specs.Params.{subscript_count};
+ghost use Rattle.model_sets.specs.Params.{subscript_count};
 ghost use Rattle.mathprog_data.specs.Slices.{all_free, free_count, index_at};
 ghost use Rattle.mathprog_data.specs.SymbolViews.{seen_view};
 

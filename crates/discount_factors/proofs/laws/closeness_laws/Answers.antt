@@ -4,6 +4,6 @@ use Rattle.discount_factors.proofs.laws.closeness_laws.Goals as goal
 
 pub returns : goal.returns
 returns c = record {
-  capital = λ rate n few. record { at_most = capital-below rate n; near = capital-near rate n (omega arith) };
-  operating = λ rate n few. record { at_most = operating-below rate n; near = operating-near rate n (omega arith) };
+  capital = λ places rate n is few. record { at_most = capital-below places rate n is; near = capital-near places rate n is (omega arith) };
+  operating = λ places rate n is few. record { at_most = operating-below places rate n is; near = operating-near places rate n is (omega arith) };
 }

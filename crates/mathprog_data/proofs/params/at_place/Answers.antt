@@ -1,7 +1,7 @@
 use Rattle.std.proofs.Common.{◌≡◌, ◌<◌, ◌≤◌, ◌-◌, [], length, get_or, ap, sym, ◌∙◌, arith}
 use Rattle.std.proofs.lemmas.List.{get_or_past}
 use Rattle.mathprog_data.specs.ParamTables.{described_param}
-use Rattle.mathprog_data.specs.Params.{Param, named, params}
+use Rattle.model_sets.specs.Params.{Param, named, params}
 use Rattle.mathprog_data.proofs.Tables.{described_entry, described_length}
 use Rattle.mathprog_data.proofs.params.at_place.Goals as goal
 

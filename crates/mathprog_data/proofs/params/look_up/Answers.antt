@@ -1,6 +1,6 @@
 use Rattle.std.proofs.Common.{◌-◌, [], arith}
 use Rattle.mathprog_data.specs.ParamTables.{described_param}
-use Rattle.mathprog_data.specs.Params.{params, named}
+use Rattle.model_sets.specs.Params.{params, named}
 use Rattle.mathprog_data.proofs.Tables.{described_entry}
 use Rattle.mathprog_data.proofs.params.look_up.Goals as goal
 

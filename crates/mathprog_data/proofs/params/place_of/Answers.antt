@@ -2,7 +2,7 @@ use Rattle.std.proofs.Common.{◌≡◌, ◌<◌, [], length, get_or, ap, sym, �
 use Rattle.std.specs.Str.{bytes_eq}
 use Rattle.std.proofs.lemmas.List.{get_or-map}
 use Rattle.mathprog_data.specs.ParamTables.{described_param}
-use Rattle.mathprog_data.specs.Params.{Param, named, params, param_words}
+use Rattle.model_sets.specs.Params.{Param, named, params, param_words}
 use Rattle.mathprog_data.proofs.Tables.{described_entry, described_length, found_here, passed_more, passed_all, passed_none}
 use Rattle.mathprog_data.proofs.params.place_of.Goals as goal
 

@@ -1,5 +1,5 @@
 use Rattle.std.specs.Str.{bytes_eq}
-use Rattle.mathprog_data.specs.Params.{param_words}
+use Rattle.model_sets.specs.Params.{param_words}
 use Rattle.mathprog_data.proofs.Tables.{Passed}
 use Rattle.mathprog_data.proofs.params.place_of.Given as goal
 

@@ -1,6 +1,6 @@
 use Rattle.std.proofs.Common.{◌-◌, ℕ, List, [], arith}
 use Rattle.std.specs.Borrow.{Bor}
-use Rattle.mathprog_data.specs.Params.{set_words}
+use Rattle.model_sets.specs.Names.{set_words}
 use Rattle.mathprog_data.proofs.Tables.{described_entry}
 use Rattle.mathprog_data.proofs.sets.look_up.Goals as goal
 

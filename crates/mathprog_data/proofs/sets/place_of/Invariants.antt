@@ -1,5 +1,5 @@
 use Rattle.std.specs.Str.{bytes_eq}
-use Rattle.mathprog_data.specs.Params.{set_words}
+use Rattle.model_sets.specs.Names.{set_words}
 use Rattle.mathprog_data.proofs.Tables.{Passed}
 use Rattle.mathprog_data.proofs.sets.place_of.Given as goal
 
