@@ -27,7 +27,6 @@ pub mod NamesGo
 pub mod NamesOnce
 pub mod NumberReadingLaws
 pub mod OptionalCommas
-mod ParamExamples
 pub mod ReadingLaws
 pub mod ReadingLemmas
 pub mod RoundedCounts
@@ -44,7 +43,6 @@ pub mod StatementsGo
 pub mod StatementsSound
 pub mod StatementsTaken
 pub mod SymbolLemmas
-pub mod Tables
 pub mod TablesSound
 pub mod TablesTaken
 mod TextExamples

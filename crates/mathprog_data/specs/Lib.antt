@@ -15,8 +15,6 @@ pub mod MachineViews
 pub mod Meaning
 pub mod NameView
 pub mod NumberReading
-pub mod ParamTables
-pub mod Params
 pub mod Places
 pub mod ReadingRuns
 pub mod Slices

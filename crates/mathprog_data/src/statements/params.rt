@@ -17,9 +17,9 @@ use super::{State, StatementReader};
 use crate::blocks::Mark;
 use crate::fault::{BAD_NUMBER, GIVEN_TWICE, TABBING, UNEXPECTED, UNKNOWN_NAME};
 use crate::lexeme::Sign;
-use crate::params::{param_number, subscripts_of};
-use crate::sets::set_number;
+use crate::subscripts::subscripts_of;
 use crate::words::Word;
+use model_sets::{param_number, set_number};
 use std::alloc::AllocError;
 
 impl StatementReader {

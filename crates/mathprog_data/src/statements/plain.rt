@@ -14,7 +14,7 @@ use super::{State, StatementReader};
 use crate::blocks::Mark;
 use crate::fault::{BAD_NUMBER, UNEXPECTED};
 use crate::lexeme::Sign;
-use crate::params::RESULTS_PATH;
+use model_sets::param_numbers::RESULTS_PATH;
 use std::alloc::AllocError;
 use std::mem;
 

@@ -11,8 +11,7 @@ use super::seen::Seen;
 use super::{State, StatementReader};
 use crate::fault::{GIVEN_TWICE, UNEXPECTED, UNKNOWN_NAME};
 use crate::lexeme::Sign;
-use crate::params::param_number;
-use crate::sets::set_number;
+use model_sets::{param_number, set_number};
 use std::alloc::AllocError;
 
 impl StatementReader {

@@ -13,7 +13,7 @@ use super::{State, StatementReader};
 use crate::blocks::Name;
 use crate::fault::{UNEXPECTED, WRONG_SLICE};
 use crate::lexeme::Sign;
-use crate::params::subscripts_of;
+use crate::subscripts::subscripts_of;
 use std::alloc::{AllocError, Global};
 
 /// The slice in which these many subscripts are free.
