@@ -31,8 +31,8 @@ use Rattle.balance_rows.specs.Rows.{IsBalanceEquation, terms_at}
 added_nothing : (a r : ℤ) → (a +ℤ pos 0) +ℤ r ≡ a +ℤ r
 added_nothing a r = omega (arith, ints)
 
-pub demand-means : (d : Data) (i : Index) → MeansStatement (eq_specified_demand d i.region i.slice i.fuel i.year) (λ q x. says d q x (name_at EQ_SPECIFIED_DEMAND i))
-demand-means d i =
+pub demand-means : (places : ℕ) (d : Data) (i : Index) → MeansStatement (eq_specified_demand d i.region i.slice i.fuel i.year) (λ q x. says places d q x (name_at EQ_SPECIFIED_DEMAND i))
+demand-means places d i =
     let rate = rate_of_demand i.region i.slice i.fuel i.year in
     let split : ℤ = year_split d i.slice i.year in
     let annual : ℤ = specified_annual_demand d i.region i.fuel i.year in
@@ -51,9 +51,9 @@ demand-means d i =
       balance = λ q x. added_nothing ((scale_of 1 *ℤ split) *ℤ x rate) ((annual *ℤ profile) *ℤ pos q);
     }
 
-demand-defines : (d : Data) (i : Index) → pos 0 <ℤ year_split d i.slice i.year → pos 0 <ℤ (demand-means d i).sum (alone (rate_of_demand i.region i.slice i.fuel i.year))
+demand-defines : (places : ℕ) (d : Data) (i : Index) → pos 0 <ℤ year_split d i.slice i.year → pos 0 <ℤ (demand-means places d i).sum (alone (rate_of_demand i.region i.slice i.fuel i.year))
 unfolding demand-means
-demand-defines d i h =
+demand-defines places d i h =
     let rate = rate_of_demand i.region i.slice i.fuel i.year in
     let split : ℤ = year_split d i.slice i.year in
     first_positive (scale_of 1 *ℤ split) (alone rate rate) (pos 0) (*ℤ_pos (scale_of 1) split (omega (arith, ints)) h) (alone-self rate) refl
@@ -64,8 +64,8 @@ exchanged : (a b q : ℤ) → ((pos 1 *ℤ a) +ℤ ((pos 1 *ℤ b) +ℤ pos 0)) 
 exchanged a b q =
     ap₂ (λ y z. (y +ℤ (z +ℤ pos 0)) +ℤ pos 0) (one-*ℤ a) (one-*ℤ b) ∙ omega (arith, ints) ∙ ap (λ z. (a +ℤ b) +ℤ z) (sym (zero-*ℤ q))
 
-pub exchange-means : (d : Data) (i : Index) → MeansStatement (eba10 d i.region i.other i.slice i.fuel i.year) (λ q x. says d q x (name_at EBA10 i))
-exchange-means d i =
+pub exchange-means : (places : ℕ) (d : Data) (i : Index) → MeansStatement (eba10 d i.region i.other i.slice i.fuel i.year) (λ q x. says places d q x (name_at EBA10 i))
+exchange-means places d i =
     let there = trade i.region i.other i.slice i.fuel i.year in
     let back = trade i.other i.region i.slice i.fuel i.year in
     record {
@@ -90,9 +90,9 @@ alone_nonnegative v w =
 both_positive : (a b : ℤ) → pos 0 ≤ℤ a → b ≡ pos 1 → pos 0 <ℤ ((pos 1 *ℤ a) +ℤ ((pos 1 *ℤ b) +ℤ pos 0))
 both_positive a b h one = subst (λ z. pos 0 <ℤ z) (sym (ap₂ (λ y z. y +ℤ (z +ℤ pos 0)) (one-*ℤ a) (one-*ℤ b ∙ one))) (omega (arith, ints, h))
 
-exchange-defines : (d : Data) (i : Index) (v : Var) → variable_of (name_at EBA10 i) ≡ Some v → pos 0 <ℤ (exchange-means d i).sum (alone v)
+exchange-defines : (places : ℕ) (d : Data) (i : Index) (v : Var) → variable_of (name_at EBA10 i) ≡ Some v → pos 0 <ℤ (exchange-means places d i).sum (alone v)
 unfolding exchange-means
-exchange-defines d i v h =
+exchange-defines places d i v h =
     let there = trade i.region i.other i.slice i.fuel i.year in
     let back = trade i.other i.region i.slice i.fuel i.year in
     let Sum : Var → Type 0 = λ w. pos 0 <ℤ ((pos 1 *ℤ alone w there) +ℤ ((pos 1 *ℤ alone w back) +ℤ pos 0)) in
@@ -110,8 +110,8 @@ cover_slice s p b c n q =
     ∙ omega (arith, ints)
     ∙ ap (λ y. (s *ℤ p) +ℤ y) (sym (zero-*ℤ q))
 
-pub cover-means : (d : Data) (i : Index) → MeansStatement (eba11 d i.region i.slice i.fuel i.year) (λ q x. says d q x (name_at EBA11 i))
-cover-means d i =
+pub cover-means : (places : ℕ) (d : Data) (i : Index) → MeansStatement (eba11 d i.region i.slice i.fuel i.year) (λ q x. says places d q x (name_at EBA11 i))
+cover-means places d i =
     let made = production i.region i.slice i.fuel i.year in
     let due = demand i.region i.slice i.fuel i.year in
     let used = use_of_fuel i.region i.slice i.fuel i.year in
@@ -141,8 +141,8 @@ cover-means d i =
 cover_year : (s p b n r : ℤ) → ((s *ℤ p) +ℤ ((neg_ℤ s *ℤ b) +ℤ neg_ℤ n)) +ℤ (((s *ℤ b) +ℤ n) +ℤ r) ≡ (s *ℤ p) +ℤ r
 cover_year s p b n r = ap (λ y. ((s *ℤ p) +ℤ (y +ℤ neg_ℤ n)) +ℤ (((s *ℤ b) +ℤ n) +ℤ r)) (neg_ℤ-*ℤ s b) ∙ omega (arith, ints)
 
-pub cover_year-means : (d : Data) (i : Index) → MeansStatement (ebb4 d i.region i.fuel i.year) (λ q x. says d q x (name_at EBB4 i))
-cover_year-means d i =
+pub cover_year-means : (places : ℕ) (d : Data) (i : Index) → MeansStatement (ebb4 d i.region i.fuel i.year) (λ q x. says places d q x (name_at EBB4 i))
+cover_year-means places d i =
     let made = production_annual i.region i.fuel i.year in
     let used = use_annual i.region i.fuel i.year in
     let out : ℕ → Var = λ rr. trade_annual i.region rr i.fuel i.year in
@@ -171,146 +171,146 @@ cover_year-means d i =
 -- ---- by number
 
 -- the equation of number n
-abbrev pub IsNamed : Data → Index → ℕ → Type 0
-IsNamed d i n = IsNamedEquation d (name_at n i) (terms_at d (name_at n i))
+abbrev pub IsNamed : ℕ → Data → Index → ℕ → Type 0
+IsNamed places d i n = IsNamedEquation places d (name_at n i) (terms_at d (name_at n i))
 
 -- that its terms mean it
-abbrev pub Means : Data → Index → ℕ → Type 0
-Means d i n = MeansStatement (terms_at d (name_at n i)) (λ q x. says d q x (name_at n i))
+abbrev pub Means : ℕ → Data → Index → ℕ → Type 0
+Means places d i n = MeansStatement (terms_at d (name_at n i)) (λ q x. says places d q x (name_at n i))
 
-definition : (d : Data) (i : Index) (n : ℕ) (v : Var) (m : Means d i n) → variable_of (name_at n i) ≡ Some v → pos 0 <ℤ m.sum (alone v) → IsNamed d i n
-definition d i n v m is h = definition_is d (name_at n i) (terms_at d (name_at n i)) v m is h
+definition : (places : ℕ) (d : Data) (i : Index) (n : ℕ) (v : Var) (m : Means places d i n) → variable_of (name_at n i) ≡ Some v → pos 0 <ℤ m.sum (alone v) → IsNamed places d i n
+definition places d i n v m is h = definition_is places d (name_at n i) (terms_at d (name_at n i)) v m is h
 
-inequality : (d : Data) (i : Index) (n : ℕ) → Means d i n → variable_of (name_at n i) ≡ None → IsNamed d i n
-inequality d i n m none = inequality_is d (name_at n i) (terms_at d (name_at n i)) m none
+inequality : (places : ℕ) (d : Data) (i : Index) (n : ℕ) → Means places d i n → variable_of (name_at n i) ≡ None → IsNamed places d i n
+inequality places d i n m none = inequality_is places d (name_at n i) (terms_at d (name_at n i)) m none
 
-eba1-named : (d : Data) (i : Index) → IsNamed d i EBA1
-eba1-named d i =
+eba1-named : (places : ℕ) (d : Data) (i : Index) → IsNamed places d i EBA1
+eba1-named places d i =
     let v = rate_of_production_by_technology_by_mode i.region i.slice i.tech i.fuel i.mode i.year in
     let w = rate_of_activity i.region i.slice i.tech i.mode i.year in
     let z : ℤ = output_activity_ratio d i.region i.tech i.fuel i.mode i.year in
-    definition d i EBA1 v (scaled_other v w z) refl (scaled_other-defines v w z refl)
+    definition places d i EBA1 v (scaled_other v w z) refl (scaled_other-defines v w z refl)
 
-eba2-named : (d : Data) (i : Index) → IsNamed d i EBA2
-eba2-named d i =
+eba2-named : (places : ℕ) (d : Data) (i : Index) → IsNamed places d i EBA2
+eba2-named places d i =
     let v = rate_of_production_by_technology i.region i.slice i.tech i.fuel i.year in
     let is : List ℕ = producing_modes d i.region i.tech i.fuel i.year in
     let w : ℕ → Var = λ m. rate_of_production_by_technology_by_mode i.region i.slice i.tech i.fuel m i.year in
-    definition d i EBA2 v (sum_of_others v is w) refl (sum_of_others-defines v is w (λ m. refl))
+    definition places d i EBA2 v (sum_of_others v is w) refl (sum_of_others-defines v is w (λ m. refl))
 
-eba3-named : (d : Data) (i : Index) → IsNamed d i EBA3
-eba3-named d i =
+eba3-named : (places : ℕ) (d : Data) (i : Index) → IsNamed places d i EBA3
+eba3-named places d i =
     let v = rate_of_production i.region i.slice i.fuel i.year in
     let is : List ℕ = producing_technologies d i.region i.fuel i.year in
     let w : ℕ → Var = λ t. rate_of_production_by_technology i.region i.slice t i.fuel i.year in
-    definition d i EBA3 v (sum_of_others v is w) refl (sum_of_others-defines v is w (λ t. refl))
+    definition places d i EBA3 v (sum_of_others v is w) refl (sum_of_others-defines v is w (λ t. refl))
 
-eba4-named : (d : Data) (i : Index) → IsNamed d i EBA4
-eba4-named d i =
+eba4-named : (places : ℕ) (d : Data) (i : Index) → IsNamed places d i EBA4
+eba4-named places d i =
     let v = rate_of_use_by_technology_by_mode i.region i.slice i.tech i.fuel i.mode i.year in
     let w = rate_of_activity i.region i.slice i.tech i.mode i.year in
     let z : ℤ = input_activity_ratio d i.region i.tech i.fuel i.mode i.year in
-    definition d i EBA4 v (scaled_other v w z) refl (scaled_other-defines v w z refl)
+    definition places d i EBA4 v (scaled_other v w z) refl (scaled_other-defines v w z refl)
 
-eba5-named : (d : Data) (i : Index) → IsNamed d i EBA5
-eba5-named d i =
+eba5-named : (places : ℕ) (d : Data) (i : Index) → IsNamed places d i EBA5
+eba5-named places d i =
     let v = rate_of_use_by_technology i.region i.slice i.tech i.fuel i.year in
     let is : List ℕ = using_modes d i.region i.tech i.fuel i.year in
     let w : ℕ → Var = λ m. rate_of_use_by_technology_by_mode i.region i.slice i.tech i.fuel m i.year in
-    definition d i EBA5 v (sum_of_others v is w) refl (sum_of_others-defines v is w (λ m. refl))
+    definition places d i EBA5 v (sum_of_others v is w) refl (sum_of_others-defines v is w (λ m. refl))
 
-eba6-named : (d : Data) (i : Index) → IsNamed d i EBA6
-eba6-named d i =
+eba6-named : (places : ℕ) (d : Data) (i : Index) → IsNamed places d i EBA6
+eba6-named places d i =
     let v = rate_of_use i.region i.slice i.fuel i.year in
     let is : List ℕ = using_technologies d i.region i.fuel i.year in
     let w : ℕ → Var = λ t. rate_of_use_by_technology i.region i.slice t i.fuel i.year in
-    definition d i EBA6 v (sum_of_others v is w) refl (sum_of_others-defines v is w (λ t. refl))
+    definition places d i EBA6 v (sum_of_others v is w) refl (sum_of_others-defines v is w (λ t. refl))
 
-eba7-named : (d : Data) (i : Index) → IsNamed d i EBA7
-eba7-named d i =
+eba7-named : (places : ℕ) (d : Data) (i : Index) → IsNamed places d i EBA7
+eba7-named places d i =
     let v = production i.region i.slice i.fuel i.year in
     let w = rate_of_production i.region i.slice i.fuel i.year in
     let z : ℤ = year_split d i.slice i.year in
-    definition d i EBA7 v (scaled_other v w z) refl (scaled_other-defines v w z refl)
+    definition places d i EBA7 v (scaled_other v w z) refl (scaled_other-defines v w z refl)
 
-eba8-named : (d : Data) (i : Index) → IsNamed d i EBA8
-eba8-named d i =
+eba8-named : (places : ℕ) (d : Data) (i : Index) → IsNamed places d i EBA8
+eba8-named places d i =
     let v = use_of_fuel i.region i.slice i.fuel i.year in
     let w = rate_of_use i.region i.slice i.fuel i.year in
     let z : ℤ = year_split d i.slice i.year in
-    definition d i EBA8 v (scaled_other v w z) refl (scaled_other-defines v w z refl)
+    definition places d i EBA8 v (scaled_other v w z) refl (scaled_other-defines v w z refl)
 
-eba9-named : (d : Data) (i : Index) → IsNamed d i EBA9
-eba9-named d i =
+eba9-named : (places : ℕ) (d : Data) (i : Index) → IsNamed places d i EBA9
+eba9-named places d i =
     let v = demand i.region i.slice i.fuel i.year in
     let w = rate_of_demand i.region i.slice i.fuel i.year in
     let z : ℤ = year_split d i.slice i.year in
-    definition d i EBA9 v (scaled_other v w z) refl (scaled_other-defines v w z refl)
+    definition places d i EBA9 v (scaled_other v w z) refl (scaled_other-defines v w z refl)
 
-ebb1-named : (d : Data) (i : Index) → IsNamed d i EBB1
-ebb1-named d i =
+ebb1-named : (places : ℕ) (d : Data) (i : Index) → IsNamed places d i EBB1
+ebb1-named places d i =
     let v = production_annual i.region i.fuel i.year in
     let is : List ℕ = timeslices d in
     let w : ℕ → Var = λ l. production i.region l i.fuel i.year in
-    definition d i EBB1 v (sum_of_others v is w) refl (sum_of_others-defines v is w (λ l. refl))
+    definition places d i EBB1 v (sum_of_others v is w) refl (sum_of_others-defines v is w (λ l. refl))
 
-ebb2-named : (d : Data) (i : Index) → IsNamed d i EBB2
-ebb2-named d i =
+ebb2-named : (places : ℕ) (d : Data) (i : Index) → IsNamed places d i EBB2
+ebb2-named places d i =
     let v = use_annual i.region i.fuel i.year in
     let is : List ℕ = timeslices d in
     let w : ℕ → Var = λ l. use_of_fuel i.region l i.fuel i.year in
-    definition d i EBB2 v (sum_of_others v is w) refl (sum_of_others-defines v is w (λ l. refl))
+    definition places d i EBB2 v (sum_of_others v is w) refl (sum_of_others-defines v is w (λ l. refl))
 
-ebb3-named : (d : Data) (i : Index) → IsNamed d i EBB3
-ebb3-named d i =
+ebb3-named : (places : ℕ) (d : Data) (i : Index) → IsNamed places d i EBB3
+ebb3-named places d i =
     let v = trade_annual i.region i.other i.fuel i.year in
     let is : List ℕ = timeslices d in
     let w : ℕ → Var = λ l. trade i.region i.other l i.fuel i.year in
-    definition d i EBB3 v (sum_of_others v is w) refl (sum_of_others-defines v is w (λ l. refl))
+    definition places d i EBB3 v (sum_of_others v is w) refl (sum_of_others-defines v is w (λ l. refl))
 
-acc1-named : (d : Data) (i : Index) → IsNamed d i ACC1
-acc1-named d i =
+acc1-named : (places : ℕ) (d : Data) (i : Index) → IsNamed places d i ACC1
+acc1-named places d i =
     let v = production_by_technology i.region i.slice i.tech i.fuel i.year in
     let w = rate_of_production_by_technology i.region i.slice i.tech i.fuel i.year in
     let z : ℤ = year_split d i.slice i.year in
-    definition d i ACC1 v (scaled_other v w z) refl (scaled_other-defines v w z refl)
+    definition places d i ACC1 v (scaled_other v w z) refl (scaled_other-defines v w z refl)
 
-acc2-named : (d : Data) (i : Index) → IsNamed d i ACC2
-acc2-named d i =
+acc2-named : (places : ℕ) (d : Data) (i : Index) → IsNamed places d i ACC2
+acc2-named places d i =
     let v = use_by_technology i.region i.slice i.tech i.fuel i.year in
     let w = rate_of_use_by_technology i.region i.slice i.tech i.fuel i.year in
     let z : ℤ = year_split d i.slice i.year in
-    definition d i ACC2 v (scaled_other v w z) refl (scaled_other-defines v w z refl)
+    definition places d i ACC2 v (scaled_other v w z) refl (scaled_other-defines v w z refl)
 
-acc3-named : (d : Data) (i : Index) → IsNamed d i ACC3
-acc3-named d i =
+acc3-named : (places : ℕ) (d : Data) (i : Index) → IsNamed places d i ACC3
+acc3-named places d i =
     let v = total_annual_technology_activity_by_mode i.region i.tech i.mode i.year in
     let is : List ℕ = timeslices d in
     let w : ℕ → Var = λ l. rate_of_activity i.region l i.tech i.mode i.year in
     let z : ℕ → ℤ = λ l. year_split d l i.year in
-    definition d i ACC3 v (weighted_sum v is w z) refl (weighted_sum-defines v is w z (λ l. refl))
+    definition places d i ACC3 v (weighted_sum v is w z) refl (weighted_sum-defines v is w z (λ l. refl))
 
-demand-named : (d : Data) (i : Index) → pos 0 <ℤ year_split d i.slice i.year → IsNamed d i EQ_SPECIFIED_DEMAND
-demand-named d i p = definition d i EQ_SPECIFIED_DEMAND (rate_of_demand i.region i.slice i.fuel i.year) (demand-means d i) refl (demand-defines d i p)
+demand-named : (places : ℕ) (d : Data) (i : Index) → pos 0 <ℤ year_split d i.slice i.year → IsNamed places d i EQ_SPECIFIED_DEMAND
+demand-named places d i p = definition places d i EQ_SPECIFIED_DEMAND (rate_of_demand i.region i.slice i.fuel i.year) (demand-means places d i) refl (demand-defines places d i p)
 
-exchange-named : (d : Data) (i : Index) → IsNamed d i EBA10
-exchange-named d i = record { means = exchange-means d i; defines = exchange-defines d i }
+exchange-named : (places : ℕ) (d : Data) (i : Index) → IsNamed places d i EBA10
+exchange-named places d i = record { means = exchange-means places d i; defines = exchange-defines places d i }
 
-cover-named : (d : Data) (i : Index) → IsNamed d i EBA11
-cover-named d i = inequality d i EBA11 (cover-means d i) refl
+cover-named : (places : ℕ) (d : Data) (i : Index) → IsNamed places d i EBA11
+cover-named places d i = inequality places d i EBA11 (cover-means places d i) refl
 
-cover_year-named : (d : Data) (i : Index) → IsNamed d i EBB4
-cover_year-named d i = inequality d i EBB4 (cover_year-means d i) refl
+cover_year-named : (places : ℕ) (d : Data) (i : Index) → IsNamed places d i EBB4
+cover_year-named places d i = inequality places d i EBB4 (cover_year-means places d i) refl
 
-from_seven : (d : Data) (i : Index) → EachFrom (IsNamed d i) EBA1 18
-from_seven d i =
-    (eba1-named d i, (eba2-named d i, (eba3-named d i, (eba4-named d i, (eba5-named d i, (eba6-named d i, (eba7-named d i, (eba8-named d i, (eba9-named d i, (exchange-named d i, (cover-named d i, (ebb1-named d i, (ebb2-named d i, (ebb3-named d i, (cover_year-named d i, (acc1-named d i, (acc2-named d i, (acc3-named d i, tt))))))))))))))))))
+from_seven : (places : ℕ) (d : Data) (i : Index) → EachFrom (IsNamed places d i) EBA1 18
+from_seven places d i =
+    (eba1-named places d i, (eba2-named places d i, (eba3-named places d i, (eba4-named places d i, (eba5-named places d i, (eba6-named places d i, (eba7-named places d i, (eba8-named places d i, (eba9-named places d i, (exchange-named places d i, (cover-named places d i, (ebb1-named places d i, (ebb2-named places d i, (ebb3-named places d i, (cover_year-named places d i, (acc1-named places d i, (acc2-named places d i, (acc3-named places d i, tt))))))))))))))))))
 
-pub named : (d : Data) (n : ℕ) (i : Index) → IsBalanceEquation n → (n ≡ EQ_SPECIFIED_DEMAND → pos 0 <ℤ year_split d i.slice i.year) → IsNamed d i n
-named d n i h p =
+pub named : (places : ℕ) (d : Data) (n : ℕ) (i : Index) → IsBalanceEquation n → (n ≡ EQ_SPECIFIED_DEMAND → pos 0 <ℤ year_split d i.slice i.year) → IsNamed places d i n
+named places d n i h p =
     elim h [
-      | inl one ↦ subst (IsNamed d i) (sym one) (demand-named d i (p one))
-      | inr more ↦ at_number (IsNamed d i) EBA1 18 n (from_seven d i) more.0 (omega (arith, more.1))
+      | inl one ↦ subst (IsNamed places d i) (sym one) (demand-named places d i (p one))
+      | inr more ↦ at_number (IsNamed places d i) EBA1 18 n (from_seven places d i) more.0 (omega (arith, more.1))
     ]
 
 pub terms-at : (d : Data) (name : RowName) (n : ℕ) → name.eq ≡ n → terms_at d name ≡ terms_at d (name_at n name.index)

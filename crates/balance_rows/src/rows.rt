@@ -39,7 +39,7 @@ pub fn rows_of(alloc: Global, model: &ModelData, eq: u8, at: Index) -> Result<Op
     requires equation { IsBalanceEquation eq }
     requires index { is_index model.now.facts (subscripts_of eq) at ≡ true }
     ensures instance { IfOk result (λ found. is_some found ≡ stands_at model.now.facts eq at) }
-    ensures row { IfOk result (λ found. IfSome found (IsNamedRow model.now.facts (name_at eq at) (terms_at model.now.facts (name_at eq at)))) }
+    ensures row { (places : ℕ) → IfOk result (λ found. IfSome found (IsNamedRow places model.now.facts (name_at eq at) (terms_at model.now.facts (name_at eq at)))) }
     ensures fits { IfOk result (λ found. IfSome found (λ row. all_fit (equation_formed (terms_at model.now.facts (name_at eq at))) ≡ true)) }
     ensures stopped { IfErr result (IsStop (Place.Row (name_at eq at)) (not (stands_at model.now.facts eq at) || all_fit (equation_formed (terms_at model.now.facts (name_at eq at))))) }
 {

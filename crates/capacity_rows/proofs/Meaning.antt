@@ -26,8 +26,8 @@ use Rattle.capacity_rows.specs.Capacity.{caa2, caa4, cab1, slices_capacity, year
 caa2-sides : (s t a r : ℤ) → ((s *ℤ t) +ℤ ((neg_ℤ s *ℤ a) +ℤ pos 0)) +ℤ ((s *ℤ a) +ℤ r) ≡ (s *ℤ t) +ℤ r
 caa2-sides s t a r = ap (λ z. ((s *ℤ t) +ℤ (z +ℤ pos 0)) +ℤ ((s *ℤ a) +ℤ r)) (neg_ℤ-*ℤ s a) ∙ omega (arith, ints)
 
-pub caa2-means : (d : Data) (i : Index) → MeansStatement (caa2 d i.region i.tech i.year) (λ q x. says d q x (name_at CAA2 i))
-caa2-means d i =
+pub caa2-means : (places : ℕ) (d : Data) (i : Index) → MeansStatement (caa2 d i.region i.tech i.year) (λ q x. says places d q x (name_at CAA2 i))
+caa2-means places d i =
     let total = total_capacity_annual i.region i.tech i.year in
     let built = accumulated_new_capacity i.region i.tech i.year in
     let s : ℤ = scale_of 1 in
@@ -47,8 +47,8 @@ caa4-sides : (s b p t q : ℤ) → ((s *ℤ b) +ℤ ((neg_ℤ p *ℤ t) +ℤ pos
 caa4-sides s b p t q =
     ap₂ (λ y z. ((s *ℤ b) +ℤ (y +ℤ pos 0)) +ℤ z) (neg_ℤ-*ℤ p t) (*ℤ_comm t p) ∙ omega (arith, ints) ∙ ap (λ z. (s *ℤ b) +ℤ z) (sym (zero-*ℤ q))
 
-pub caa4-means : (d : Data) (i : Index) → MeansStatement (caa4 d i.region i.slice i.tech i.year) (λ q x. says d q x (name_at CAA4 i))
-caa4-means d i =
+pub caa4-means : (places : ℕ) (d : Data) (i : Index) → MeansStatement (caa4 d i.region i.slice i.tech i.year) (λ q x. says places d q x (name_at CAA4 i))
+caa4-means places d i =
     let rate = rate_of_total_activity i.region i.slice i.tech i.year in
     let total = total_capacity_annual i.region i.tech i.year in
     let factor : ℤ = capacity_factor d i.region i.tech i.slice i.year in
@@ -76,8 +76,8 @@ turned k a b = simp products
 cab1-sides : (c t n q : ℤ) → ((neg_ℤ c *ℤ t) +ℤ n) +ℤ (t *ℤ c) ≡ n +ℤ (pos 0 *ℤ q)
 cab1-sides c t n q = ap₂ (λ y z. (y +ℤ n) +ℤ z) (neg_ℤ-*ℤ c t) (*ℤ_comm t c) ∙ omega (arith, ints) ∙ ap (λ z. n +ℤ z) (sym (zero-*ℤ q))
 
-pub cab1-means : (d : Data) (i : Index) → MeansStatement (cab1 d i.region i.tech i.year) (λ q x. says d q x (name_at CAB1 i))
-cab1-means d i =
+pub cab1-means : (places : ℕ) (d : Data) (i : Index) → MeansStatement (cab1 d i.region i.tech i.year) (λ q x. says places d q x (name_at CAB1 i))
+cab1-means places d i =
     let r = i.region in
     let t = i.tech in
     let y = i.year in
@@ -119,52 +119,52 @@ cab1-means d i =
 
 -- ---- the variable of each definition stands in its row with a positive entry
 
-caa2-defines : (d : Data) (i : Index) → pos 0 <ℤ (caa2-means d i).sum (alone (total_capacity_annual i.region i.tech i.year))
+caa2-defines : (places : ℕ) (d : Data) (i : Index) → pos 0 <ℤ (caa2-means places d i).sum (alone (total_capacity_annual i.region i.tech i.year))
 unfolding caa2-means
-caa2-defines d i =
+caa2-defines places d i =
     let total = total_capacity_annual i.region i.tech i.year in
     first_positive (scale_of 1) (alone total total) ((neg_ℤ (scale_of 1) *ℤ pos 0) +ℤ pos 0) (omega (arith, ints)) (alone-self total) (omega (arith, ints))
 
 -- ---- by number
 
 -- the equation of number n
-abbrev pub IsNamed : Data → Index → ℕ → Type 0
-IsNamed d i n = IsNamedEquation d (name_at n i) (terms_at d (name_at n i))
+abbrev pub IsNamed : ℕ → Data → Index → ℕ → Type 0
+IsNamed places d i n = IsNamedEquation places d (name_at n i) (terms_at d (name_at n i))
 
 -- that its terms mean it
-abbrev pub Means : Data → Index → ℕ → Type 0
-Means d i n = MeansStatement (terms_at d (name_at n i)) (λ q x. says d q x (name_at n i))
+abbrev pub Means : ℕ → Data → Index → ℕ → Type 0
+Means places d i n = MeansStatement (terms_at d (name_at n i)) (λ q x. says places d q x (name_at n i))
 
-definition : (d : Data) (i : Index) (n : ℕ) (v : Var) (m : Means d i n) → variable_of (name_at n i) ≡ Some v → pos 0 <ℤ m.sum (alone v) → IsNamed d i n
-definition d i n v m is h = definition_is d (name_at n i) (terms_at d (name_at n i)) v m is h
+definition : (places : ℕ) (d : Data) (i : Index) (n : ℕ) (v : Var) (m : Means places d i n) → variable_of (name_at n i) ≡ Some v → pos 0 <ℤ m.sum (alone v) → IsNamed places d i n
+definition places d i n v m is h = definition_is places d (name_at n i) (terms_at d (name_at n i)) v m is h
 
-inequality : (d : Data) (i : Index) (n : ℕ) → Means d i n → variable_of (name_at n i) ≡ None → IsNamed d i n
-inequality d i n m none = inequality_is d (name_at n i) (terms_at d (name_at n i)) m none
+inequality : (places : ℕ) (d : Data) (i : Index) (n : ℕ) → Means places d i n → variable_of (name_at n i) ≡ None → IsNamed places d i n
+inequality places d i n m none = inequality_is places d (name_at n i) (terms_at d (name_at n i)) m none
 
-caa1-named : (d : Data) (i : Index) → IsNamed d i CAA1
-caa1-named d i =
+caa1-named : (places : ℕ) (d : Data) (i : Index) → IsNamed places d i CAA1
+caa1-named places d i =
     let v = accumulated_new_capacity i.region i.tech i.year in
     let is : List ℕ = years_counting d i.region i.tech i.year in
     let w : ℕ → Var = λ yy. new_capacity i.region i.tech yy in
-    definition d i CAA1 v (sum_of_others v is w) refl (sum_of_others-defines v is w (λ yy. refl))
+    definition places d i CAA1 v (sum_of_others v is w) refl (sum_of_others-defines v is w (λ yy. refl))
 
-caa3-named : (d : Data) (i : Index) → IsNamed d i CAA3
-caa3-named d i =
+caa3-named : (places : ℕ) (d : Data) (i : Index) → IsNamed places d i CAA3
+caa3-named places d i =
     let v = rate_of_total_activity i.region i.slice i.tech i.year in
     let w : ℕ → Var = λ m. rate_of_activity i.region i.slice i.tech m i.year in
-    definition d i CAA3 v (sum_of_others v (modes d) w) refl (sum_of_others-defines v (modes d) w (λ m. refl))
+    definition places d i CAA3 v (sum_of_others v (modes d) w) refl (sum_of_others-defines v (modes d) w (λ m. refl))
 
-equations : (d : Data) (i : Index) → EachFrom (IsNamed d i) CAA1 5
-equations d i = (
-  caa1-named d i,
+equations : (places : ℕ) (d : Data) (i : Index) → EachFrom (IsNamed places d i) CAA1 5
+equations places d i = (
+  caa1-named places d i,
   (
-    definition d i CAA2 (total_capacity_annual i.region i.tech i.year) (caa2-means d i) refl (caa2-defines d i),
-    (caa3-named d i, (inequality d i CAA4 (caa4-means d i) refl, (inequality d i CAB1 (cab1-means d i) refl, tt))),
+    definition places d i CAA2 (total_capacity_annual i.region i.tech i.year) (caa2-means places d i) refl (caa2-defines places d i),
+    (caa3-named places d i, (inequality places d i CAA4 (caa4-means places d i) refl, (inequality places d i CAB1 (cab1-means places d i) refl, tt))),
   ),
 )
 
-pub named : (d : Data) (n : ℕ) (i : Index) → IsCapacityEquation n → IsNamed d i n
-named d n i h = at_number (IsNamed d i) CAA1 5 n (equations d i) h.0 (omega (arith, h.1))
+pub named : (places : ℕ) (d : Data) (n : ℕ) (i : Index) → IsCapacityEquation n → IsNamed places d i n
+named places d n i h = at_number (IsNamed places d i) CAA1 5 n (equations places d i) h.0 (omega (arith, h.1))
 
 pub always : (d : Data) (n : ℕ) (i : Index) → IsCapacityEquation n → true ≡ stands_at d n i
 always d n i h = at_number (λ n. true ≡ stands_at d n i) CAA1 5 n (refl, (refl, (refl, (refl, (refl, tt))))) h.0 (omega (arith, h.1))

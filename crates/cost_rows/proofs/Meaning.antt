@@ -1,67 +1,92 @@
 -- The terms of each equation of investment, salvage value, operating cost and total cost mean it.
-use Rattle.std.proofs.Common.{◌≡◌, ◌≢◌, true, ℕ, ℤ, pos, neg_ℤ, ◌+ℤ◌, ◌*ℤ◌, List, [], ◌∷◌, Some, inl, inr, refl, ap, ◌∙◌, subst, arith}
-use Rattle.std.specs.Prelude.{◌<ℤ◌, ◌-ℤ◌}
+use Rattle.std.proofs.Common.{◌≡◌, ◌≢◌, Bool, true, false, ℕ, ℤ, pos, neg_ℤ, ◌+ℤ◌, ◌*ℤ◌, List, [], ◌∷◌, Some, inl, inr, refl, ap, ◌∙◌, subst, arith}
+use Rattle.std.specs.Prelude.{◌<ℤ◌, ◌-ℤ◌, if◌then◌else◌}
 use Rattle.std.proofs.lemmas.Int.{ints}
+use Rattle.exact_num.proofs.Integers.{*ℤ_pos}
 use Rattle.exact_num.proofs.Ring.{one-*ℤ, neg_ℤ-*ℤ, *ℤ_comm, *ℤ_assoc}
 use Rattle.model_sets.specs.Data.{Data}
 use Rattle.row_core.specs.declared.equation_numbers.TheConstants.{CC1, CC2, SV1, SV2, SV3, SV4, OC1, OC2, OC3, OC4, TDC1, TDC2, ACC4}
 use Rattle.row_core.specs.declared.Index.{Index}
 use Rattle.row_core.specs.declared.RowName.{RowName}
 use Rattle.row_core.specs.declared.Var.{Var}
-use Rattle.row_core.specs.Amounts.{Amount, Billionths, Millionths, Product}
+use Rattle.row_core.specs.Amounts.{Amount, Billionths, Factor, Product}
 use Rattle.row_core.specs.EquationTerms.{once, less, coefficients_of}
 use Rattle.row_core.specs.Values.{IsSumOver, alone}
 use Rattle.named_equations.specs.Instances.{name_at, stands_at, variable_of}
-use Rattle.named_equations.specs.Notation.{◌equals◌, scale_of, million}
+use Rattle.named_equations.specs.Notation.{◌equals◌, scale_of, factor_scale}
 use Rattle.named_equations.specs.Parameters.{capital_cost, variable_cost, fixed_cost}
 use Rattle.named_equations.specs.Positions.{technologies, modes, all_years, years_since_first, years_in_all}
 use Rattle.named_equations.specs.Plans.{says}
 use Rattle.named_equations.specs.TermShapes.{is_times}
 use Rattle.named_equations.specs.Variables.{new_capacity, total_capacity_annual, total_annual_technology_activity_by_mode, capital_investment, discounted_capital_investment, salvage_value, discounted_salvage_value, annual_variable_operating_cost, annual_fixed_operating_cost, operating_cost, discounted_operating_cost, discounted_technology_emissions_penalty, total_discounted_cost_by_technology, total_discounted_cost, model_period_cost_by_region}
-use Rattle.named_equations.specs.WrittenFactors.{capital_factor_of, operating_factor_of, salvage_fraction_of}
+use Rattle.named_equations.specs.WrittenFactors.{annuity_of, capital_factor_of, operating_factor_of, recovery_factor_of, salvage_fraction_of}
 use Rattle.named_equations.proofs.TermMeaning.{MeansStatement, IsNamedEquation, EachFrom, at_number, definition_is, sum_of_others, sum_of_others-defines, weighted_sum, weighted_sum-defines, scaled_other, scaled_other-defines, over-one, over-minus_one, over-data, sum-none, sum-term}
-use Rattle.named_equations.proofs.TermShapes.{made_of_others, made_of_others-defines, times_number, times_number-defines, over-factor, over-value_factor}
+use Rattle.named_equations.proofs.TermShapes.{made_of_others, made_of_others-defines, times_number, times_number-defines, factor_scale-positive, over-factor, over-value_factor, over-value_factors}
 use Rattle.cost_rows.specs.Rows.{IsCostEquation, terms_at}
 
 -- the equation of number n
-abbrev pub IsNamed : Data → Index → ℕ → Type 0
-IsNamed d i n = IsNamedEquation d (name_at n i) (terms_at d (name_at n i))
+abbrev pub IsNamed : ℕ → Data → Index → ℕ → Type 0
+IsNamed places d i n = IsNamedEquation places d (name_at n i) (terms_at places d (name_at n i))
 
 -- that its terms mean it
-abbrev pub Means : Data → Index → ℕ → Type 0
-Means d i n = MeansStatement (terms_at d (name_at n i)) (λ q x. says d q x (name_at n i))
+abbrev pub Means : ℕ → Data → Index → ℕ → Type 0
+Means places d i n = MeansStatement (terms_at places d (name_at n i)) (λ q x. says places d q x (name_at n i))
 
-definition : (d : Data) (i : Index) (n : ℕ) (v : Var) (m : Means d i n) → variable_of (name_at n i) ≡ Some v → pos 0 <ℤ m.sum (alone v) → IsNamed d i n
-definition d i n v m is h = definition_is d (name_at n i) (terms_at d (name_at n i)) v m is h
+definition : (places : ℕ) (d : Data) (i : Index) (n : ℕ) (v : Var) (m : Means places d i n) → variable_of (name_at n i) ≡ Some v → pos 0 <ℤ m.sum (alone v) → IsNamed places d i n
+definition places d i n v m is h = definition_is places d (name_at n i) (terms_at places d (name_at n i)) v m is h
 
 -- ---- shapes
 
-one_million : pos 0 <ℤ million
-one_million = omega (arith, ints)
-
 -- a variable is another times a written factor: CC2, SV4, OC4
-factored : (v w : Var) (z : ℤ) → MeansStatement (is_times v w (Millionths z)) (λ q x. million *ℤ x v equals x w *ℤ z)
-factored v w z = times_number million one_million v w (Millionths z) z (over-factor z) (λ x. x w *ℤ z) (λ x. refl)
+factored : (places : ℕ) (v w : Var) (z : ℤ) → MeansStatement (is_times v w (Factor places z)) (λ q x. factor_scale places *ℤ x v equals x w *ℤ z)
+factored places v w z = times_number (factor_scale places) (factor_scale-positive places) v w (Factor places z) z (over-factor places z) (λ x. x w *ℤ z) (λ x. refl)
 
-factored-defines : (v w : Var) (z : ℤ) → alone v w ≡ pos 0 → pos 0 <ℤ (factored v w z).sum (alone v)
+factored-defines : (places : ℕ) (v w : Var) (z : ℤ) → alone v w ≡ pos 0 → pos 0 <ℤ (factored places v w z).sum (alone v)
 unfolding factored
-factored-defines v w z none = times_number-defines million one_million v w (Millionths z) z (over-factor z) (λ x. x w *ℤ z) (λ x. refl) none
+factored-defines places v w z none =
+    times_number-defines (factor_scale places) (factor_scale-positive places) v w (Factor places z) z (over-factor places z) (λ x. x w *ℤ z) (λ x. refl) none
 
 value_of_part : (z y f : ℤ) → (z *ℤ y) *ℤ f ≡ y *ℤ (z *ℤ f)
 value_of_part z y f = ap (λ n. n *ℤ f) (*ℤ_comm z y) ∙ *ℤ_assoc y z f
 
-million_values : pos 0 <ℤ (scale_of 1 *ℤ million)
-million_values = omega (arith, ints)
+one_value : pos 0 <ℤ scale_of 1
+one_value = omega (arith, ints)
+
+value_and_factor : (places : ℕ) → pos 0 <ℤ (scale_of 1 *ℤ factor_scale places)
+value_and_factor places = *ℤ_pos (scale_of 1) (factor_scale places) one_value (factor_scale-positive places)
 
 -- a variable is another times a data value and a written factor: SV1, SV2
-valued : (v w : Var) (z f : ℤ) → MeansStatement (is_times v w (Product (Billionths z) (Millionths f))) (λ q x. scale_of 1 *ℤ million *ℤ x v equals z *ℤ x w *ℤ f)
-valued v w z f =
-    times_number (scale_of 1 *ℤ million) million_values v w (Product (Billionths z) (Millionths f)) (z *ℤ f) (over-value_factor z f) (λ x. z *ℤ x w *ℤ f) (λ x. value_of_part z (x w) f)
+valued : (places : ℕ) (v w : Var) (z f : ℤ)
+    → MeansStatement (is_times v w (Product (Billionths z) (Factor places f))) (λ q x. scale_of 1 *ℤ factor_scale places *ℤ x v equals z *ℤ x w *ℤ f)
+valued places v w z f =
+    times_number (scale_of 1 *ℤ factor_scale places) (value_and_factor places) v w (Product (Billionths z) (Factor places f)) (z *ℤ f) (over-value_factor places z f)
+    (λ x. z *ℤ x w *ℤ f) (λ x. value_of_part z (x w) f)
 
-valued-defines : (v w : Var) (z f : ℤ) → alone v w ≡ pos 0 → pos 0 <ℤ (valued v w z f).sum (alone v)
+valued-defines : (places : ℕ) (v w : Var) (z f : ℤ) → alone v w ≡ pos 0 → pos 0 <ℤ (valued places v w z f).sum (alone v)
 unfolding valued
-valued-defines v w z f none =
-    times_number-defines (scale_of 1 *ℤ million) million_values v w (Product (Billionths z) (Millionths f)) (z *ℤ f) (over-value_factor z f) (λ x. z *ℤ x w *ℤ f) (λ x. value_of_part z (x w) f) none
+valued-defines places v w z f none =
+    times_number-defines (scale_of 1 *ℤ factor_scale places) (value_and_factor places) v w (Product (Billionths z) (Factor places f)) (z *ℤ f) (over-value_factor places z f)
+    (λ x. z *ℤ x w *ℤ f) (λ x. value_of_part z (x w) f) none
+
+value_and_factors : (places : ℕ) → pos 0 <ℤ (scale_of 1 *ℤ factor_scale places *ℤ factor_scale places)
+value_and_factors places = *ℤ_pos (scale_of 1 *ℤ factor_scale places) (factor_scale places) (value_and_factor places) (factor_scale-positive places)
+
+-- a variable is another times a data value, and where this is true times two written factors: CC1
+invested : (places : ℕ) (v w : Var) (z f g : ℤ) (second : Bool)
+    → MeansStatement (is_times v w (if second then Product (Product (Billionths z) (Factor places f)) (Factor places g) else Billionths z))
+      (λ q x. if second then scale_of 1 *ℤ factor_scale places *ℤ factor_scale places *ℤ x v equals z *ℤ f *ℤ g *ℤ x w else scale_of 1 *ℤ x v equals z *ℤ x w)
+invested places v w z f g true =
+    times_number (scale_of 1 *ℤ factor_scale places *ℤ factor_scale places) (value_and_factors places) v w (Product (Product (Billionths z) (Factor places f)) (Factor places g)) (z *ℤ f *ℤ g)
+    (over-value_factors places z f g) (λ x. z *ℤ f *ℤ g *ℤ x w) (λ x. *ℤ_comm (z *ℤ f *ℤ g) (x w))
+invested places v w z f g false = times_number (scale_of 1) one_value v w (Billionths z) z (over-data z) (λ x. z *ℤ x w) (λ x. *ℤ_comm z (x w))
+
+invested-defines : (places : ℕ) (v w : Var) (z f g : ℤ) (second : Bool) → alone v w ≡ pos 0 → pos 0 <ℤ (invested places v w z f g second).sum (alone v)
+unfolding invested
+invested-defines places v w z f g true none =
+    times_number-defines (scale_of 1 *ℤ factor_scale places *ℤ factor_scale places) (value_and_factors places) v w (Product (Product (Billionths z) (Factor places f)) (Factor places g)) (z *ℤ f *ℤ g)
+    (over-value_factors places z f g) (λ x. z *ℤ f *ℤ g *ℤ x w) (λ x. *ℤ_comm (z *ℤ f *ℤ g) (x w)) none
+invested-defines places v w z f g false none =
+    times_number-defines (scale_of 1) one_value v w (Billionths z) z (over-data z) (λ x. z *ℤ x w) (λ x. *ℤ_comm z (x w)) none
 
 minus_one_times : (y : ℤ) → neg_ℤ (pos 1) *ℤ y ≡ neg_ℤ y
 minus_one_times y = neg_ℤ-*ℤ (pos 1) y ∙ ap neg_ℤ (one-*ℤ y)
@@ -80,77 +105,75 @@ sum-once x w terms n is =
 
 -- ---- investment
 
-cc1-named : (d : Data) (i : Index) → IsNamed d i CC1
-cc1-named d i =
+cc1-named : (places : ℕ) (d : Data) (i : Index) → IsNamed places d i CC1
+cc1-named places d i =
     let v = capital_investment i.region i.tech i.year in
     let w = new_capacity i.region i.tech i.year in
     let z = capital_cost d i.region i.tech i.year in
-    let s : ℤ = scale_of 1 in
-    let h : pos 0 <ℤ s = omega (arith, ints) in
-    let n : (Var → ℤ) → ℤ = λ x. z *ℤ x w in
-    let same : (x : Var → ℤ) → n x ≡ x w *ℤ z = λ x. *ℤ_comm z (x w) in
-    definition d i CC1 v (times_number s h v w (Billionths z) z (over-data z) n same) refl (times_number-defines s h v w (Billionths z) z (over-data z) n same refl)
+    let f = recovery_factor_of places d i.region i.tech in
+    let g = annuity_of places d i.region i.tech in
+    definition places d i CC1 v (invested places v w z f g d.second) refl (invested-defines places v w z f g d.second refl)
 
-cc2-named : (d : Data) (i : Index) → IsNamed d i CC2
-cc2-named d i =
+cc2-named : (places : ℕ) (d : Data) (i : Index) → IsNamed places d i CC2
+cc2-named places d i =
     let v = discounted_capital_investment i.region i.tech i.year in
     let w = capital_investment i.region i.tech i.year in
-    let z = capital_factor_of d i.region (years_since_first d i.year) in
-    definition d i CC2 v (factored v w z) refl (factored-defines v w z refl)
+    let z = capital_factor_of places d i.region (years_since_first d i.year) in
+    definition places d i CC2 v (factored places v w z) refl (factored-defines places v w z refl)
 
 -- ---- salvage value
 
-sv1-named : (d : Data) (i : Index) → IsNamed d i SV1
-sv1-named d i =
+sv1-named : (places : ℕ) (d : Data) (i : Index) → IsNamed places d i SV1
+sv1-named places d i =
     let v = salvage_value i.region i.tech i.year in
     let w = new_capacity i.region i.tech i.year in
     let z = capital_cost d i.region i.tech i.year in
-    let f = salvage_fraction_of d 1 i.region i.tech i.year in
-    definition d i SV1 v (valued v w z f) refl (valued-defines v w z f refl)
+    let f = salvage_fraction_of places d 1 i.region i.tech i.year in
+    definition places d i SV1 v (valued places v w z f) refl (valued-defines places v w z f refl)
 
-sv2-named : (d : Data) (i : Index) → IsNamed d i SV2
-sv2-named d i =
+sv2-named : (places : ℕ) (d : Data) (i : Index) → IsNamed places d i SV2
+sv2-named places d i =
     let v = salvage_value i.region i.tech i.year in
     let w = new_capacity i.region i.tech i.year in
     let z = capital_cost d i.region i.tech i.year in
-    let f = salvage_fraction_of d 2 i.region i.tech i.year in
-    definition d i SV2 v (valued v w z f) refl (valued-defines v w z f refl)
+    let f = salvage_fraction_of places d 2 i.region i.tech i.year in
+    definition places d i SV2 v (valued places v w z f) refl (valued-defines places v w z f refl)
 
-sv3-named : (d : Data) (i : Index) → IsNamed d i SV3
-sv3-named d i =
+sv3-named : (places : ℕ) (d : Data) (i : Index) → IsNamed places d i SV3
+sv3-named places d i =
     let v = salvage_value i.region i.tech i.year in
     let none : (Var → ℤ) → ℤ = λ x. pos 0 in
     let is : (x : Var → ℤ) → IsSumOver (pos 1) x (coefficients_of []) (neg_ℤ (none x)) = λ x. sum-none (pos 1) x in
-    definition d i SV3 v (made_of_others v [] none is) refl (made_of_others-defines v [] none is refl)
+    definition places d i SV3 v (made_of_others v [] none is) refl (made_of_others-defines v [] none is refl)
 
-sv4-named : (d : Data) (i : Index) → IsNamed d i SV4
-sv4-named d i =
+sv4-named : (places : ℕ) (d : Data) (i : Index) → IsNamed places d i SV4
+sv4-named places d i =
     let v = discounted_salvage_value i.region i.tech i.year in
     let w = salvage_value i.region i.tech i.year in
-    let z = capital_factor_of d i.region (years_in_all d) in
-    definition d i SV4 v (factored v w z) refl (factored-defines v w z refl)
+    let z = capital_factor_of places d i.region (years_in_all d) in
+    definition places d i SV4 v (factored places v w z) refl (factored-defines places v w z refl)
 
 -- ---- operating cost
 
-oc1-named : (d : Data) (i : Index) → IsNamed d i OC1
-oc1-named d i =
+oc1-named : (places : ℕ) (d : Data) (i : Index) → IsNamed places d i OC1
+oc1-named places d i =
     let v = annual_variable_operating_cost i.region i.tech i.year in
     let w : ℕ → Var = λ m. total_annual_technology_activity_by_mode i.region i.tech m i.year in
     let z : ℕ → ℤ = λ m. variable_cost d i.region i.tech m i.year in
-    definition d i OC1 v (weighted_sum v (modes d) w z) refl (weighted_sum-defines v (modes d) w z (λ m. refl))
+    definition places d i OC1 v (weighted_sum v (modes d) w z) refl (weighted_sum-defines v (modes d) w z (λ m. refl))
 
-oc2-named : (d : Data) (i : Index) → IsNamed d i OC2
-oc2-named d i =
+oc2-named : (places : ℕ) (d : Data) (i : Index) → IsNamed places d i OC2
+oc2-named places d i =
     let v = annual_fixed_operating_cost i.region i.tech i.year in
     let w = total_capacity_annual i.region i.tech i.year in
     let z = fixed_cost d i.region i.tech i.year in
-    definition d i OC2 v (scaled_other v w z) refl (scaled_other-defines v w z refl)
+    definition places d i OC2 v (scaled_other v w z) refl (scaled_other-defines v w z refl)
 
 two_away : (a b : ℤ) → neg_ℤ a +ℤ (neg_ℤ b +ℤ pos 0) ≡ neg_ℤ (a +ℤ b)
 two_away a b = omega (arith, ints)
 
-oc3-named : (d : Data) (i : Index) → IsNamed d i OC3
-oc3-named d i =
+oc3-named : (places : ℕ) (d : Data) (i : Index) → IsNamed places d i OC3
+oc3-named places d i =
     let v = operating_cost i.region i.tech i.year in
     let a = annual_variable_operating_cost i.region i.tech i.year in
     let b = annual_fixed_operating_cost i.region i.tech i.year in
@@ -159,22 +182,22 @@ oc3-named d i =
     let is : (x : Var → ℤ) → IsSumOver (pos 1) x (coefficients_of others) (neg_ℤ (n x)) = λ x.
     subst (IsSumOver (pos 1) x (coefficients_of others)) (two_away (x a) (x b))
     (sum-less x a (less b ∷ []) (neg_ℤ (x b) +ℤ pos 0) (sum-less x b [] (pos 0) (sum-none (pos 1) x))) in
-    definition d i OC3 v (made_of_others v others n is) refl (made_of_others-defines v others n is refl)
+    definition places d i OC3 v (made_of_others v others n is) refl (made_of_others-defines v others n is refl)
 
-oc4-named : (d : Data) (i : Index) → IsNamed d i OC4
-oc4-named d i =
+oc4-named : (places : ℕ) (d : Data) (i : Index) → IsNamed places d i OC4
+oc4-named places d i =
     let v = discounted_operating_cost i.region i.tech i.year in
     let w = operating_cost i.region i.tech i.year in
-    let z = operating_factor_of d i.region (years_since_first d i.year) in
-    definition d i OC4 v (factored v w z) refl (factored-defines v w z refl)
+    let z = operating_factor_of places d i.region (years_since_first d i.year) in
+    definition places d i OC4 v (factored places v w z) refl (factored-defines places v w z refl)
 
 -- ---- total cost
 
 three_away_and_one : (a b c s : ℤ) → neg_ℤ a +ℤ (neg_ℤ b +ℤ (neg_ℤ c +ℤ (s +ℤ pos 0))) ≡ neg_ℤ (((a +ℤ b) +ℤ c) -ℤ s)
 three_away_and_one a b c s = omega (arith, ints)
 
-tdc1-named : (d : Data) (i : Index) → IsNamed d i TDC1
-tdc1-named d i =
+tdc1-named : (places : ℕ) (d : Data) (i : Index) → IsNamed places d i TDC1
+tdc1-named places d i =
     let v = total_discounted_cost_by_technology i.region i.tech i.year in
     let a = discounted_operating_cost i.region i.tech i.year in
     let b = discounted_capital_investment i.region i.tech i.year in
@@ -188,34 +211,34 @@ tdc1-named d i =
     (sum-less x b (less c ∷ once s ∷ []) (neg_ℤ (x c) +ℤ (x s +ℤ pos 0))
     (sum-less x c (once s ∷ []) (x s +ℤ pos 0)
     (sum-once x s [] (pos 0) (sum-none (pos 1) x))))) in
-    definition d i TDC1 v (made_of_others v others n is) refl (made_of_others-defines v others n is refl)
+    definition places d i TDC1 v (made_of_others v others n is) refl (made_of_others-defines v others n is refl)
 
-tdc2-named : (d : Data) (i : Index) → IsNamed d i TDC2
-tdc2-named d i =
+tdc2-named : (places : ℕ) (d : Data) (i : Index) → IsNamed places d i TDC2
+tdc2-named places d i =
     let v = total_discounted_cost i.region i.year in
     let w : ℕ → Var = λ t. total_discounted_cost_by_technology i.region t i.year in
-    definition d i TDC2 v (sum_of_others v (technologies d) w) refl (sum_of_others-defines v (technologies d) w (λ t. refl))
+    definition places d i TDC2 v (sum_of_others v (technologies d) w) refl (sum_of_others-defines v (technologies d) w (λ t. refl))
 
-acc4-named : (d : Data) (i : Index) → IsNamed d i ACC4
-acc4-named d i =
+acc4-named : (places : ℕ) (d : Data) (i : Index) → IsNamed places d i ACC4
+acc4-named places d i =
     let v = model_period_cost_by_region i.region in
     let w : ℕ → Var = λ y. total_discounted_cost i.region y in
-    definition d i ACC4 v (sum_of_others v (all_years d) w) refl (sum_of_others-defines v (all_years d) w (λ y. refl))
+    definition places d i ACC4 v (sum_of_others v (all_years d) w) refl (sum_of_others-defines v (all_years d) w (λ y. refl))
 
 -- ---- by number
 
-parts-named : (d : Data) (i : Index) → EachFrom (IsNamed d i) CC1 10
-parts-named d i = (cc1-named d i, (cc2-named d i, (sv1-named d i, (sv2-named d i, (sv3-named d i, (sv4-named d i, (oc1-named d i, (oc2-named d i, (oc3-named d i, (oc4-named d i, tt))))))))))
+parts-named : (places : ℕ) (d : Data) (i : Index) → EachFrom (IsNamed places d i) CC1 10
+parts-named places d i = (cc1-named places d i, (cc2-named places d i, (sv1-named places d i, (sv2-named places d i, (sv3-named places d i, (sv4-named places d i, (oc1-named places d i, (oc2-named places d i, (oc3-named places d i, (oc4-named places d i, tt))))))))))
 
-totals-named : (d : Data) (i : Index) → EachFrom (IsNamed d i) TDC1 3
-totals-named d i = (tdc1-named d i, (tdc2-named d i, (acc4-named d i, tt)))
+totals-named : (places : ℕ) (d : Data) (i : Index) → EachFrom (IsNamed places d i) TDC1 3
+totals-named places d i = (tdc1-named places d i, (tdc2-named places d i, (acc4-named places d i, tt)))
 
-pub named : (d : Data) (n : ℕ) (i : Index) → IsCostEquation n → IsNamed d i n
-named d n i (inl h) = at_number (IsNamed d i) CC1 10 n (parts-named d i) h.0 (omega (arith, h.1))
-named d n i (inr h) = at_number (IsNamed d i) TDC1 3 n (totals-named d i) h.0 (omega (arith, h.1))
+pub named : (places : ℕ) (d : Data) (n : ℕ) (i : Index) → IsCostEquation n → IsNamed places d i n
+named places d n i (inl h) = at_number (IsNamed places d i) CC1 10 n (parts-named places d i) h.0 (omega (arith, h.1))
+named places d n i (inr h) = at_number (IsNamed places d i) TDC1 3 n (totals-named places d i) h.0 (omega (arith, h.1))
 
-pub terms-at : (d : Data) (name : RowName) (n : ℕ) → name.eq ≡ n → terms_at d name ≡ terms_at d (name_at n name.index)
-terms-at d name n h = ap (λ m. terms_at d (name_at m name.index)) h
+pub terms-at : (places : ℕ) (d : Data) (name : RowName) (n : ℕ) → name.eq ≡ n → terms_at places d name ≡ terms_at places d (name_at n name.index)
+terms-at places d name n h = ap (λ m. terms_at places d (name_at m name.index)) h
 
 -- where no condition is asked, the equation stands everywhere
 abbrev pub Stands : Data → Index → ℕ → Type 0

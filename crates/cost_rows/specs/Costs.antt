@@ -1,45 +1,54 @@
 -- The costs of the OSeMOSYS long code as terms: the rows of CC1 and CC2, SV1 to SV4, OC1 to OC4, TDC1 and TDC2, and Acc4.
-use Rattle.std.specs.Prelude.{ℕ, [], ◌∷◌}
+use Rattle.std.specs.Prelude.{ℕ, [], ◌∷◌, if◌then◌else◌}
 use Rattle.model_sets.specs.Data.{Data}
-use Rattle.row_core.specs.Amounts.{Amount, Billionths, Millionths, Product}
+use Rattle.row_core.specs.Amounts.{Amount, Billionths, Factor, Product}
 use Rattle.row_core.specs.EquationTerms.{EquationTerms, once, less}
 use Rattle.named_equations.specs.Parameters.{capital_cost, variable_cost, fixed_cost}
 use Rattle.named_equations.specs.Positions.{technologies, modes, all_years, years_since_first, years_in_all}
 use Rattle.named_equations.specs.TermShapes.{is_made_of, is_times, sum_away, products_away}
 use Rattle.named_equations.specs.Variables.{new_capacity, total_capacity_annual, total_annual_technology_activity_by_mode, capital_investment, discounted_capital_investment, salvage_value, discounted_salvage_value, annual_variable_operating_cost, annual_fixed_operating_cost, operating_cost, discounted_operating_cost, discounted_technology_emissions_penalty, total_discounted_cost_by_technology, total_discounted_cost, model_period_cost_by_region}
-use Rattle.named_equations.specs.WrittenFactors.{capital_factor_of, operating_factor_of, salvage_fraction_of}
+use Rattle.named_equations.specs.WrittenFactors.{annuity_of, capital_factor_of, operating_factor_of, recovery_factor_of, salvage_fraction_of}
 
 -- ---- investment
 
--- CC1[r,t,y]: CapitalInvestment - NewCapacity * CapitalCost = 0
-abbrev pub cc1 : Data → ℕ → ℕ → ℕ → EquationTerms
-cc1 d r t y = is_times (capital_investment r t y) (new_capacity r t y) (Billionths (capital_cost d r t y))
+-- CapitalCost * c * g, c being the recovery factor and g the annuity of the technology's life
+abbrev pub recovered_cost : ℕ → Data → ℕ → ℕ → ℕ → Amount
+recovered_cost places d r t y =
+    Product (Product (Billionths (capital_cost d r t y)) (Factor places (recovery_factor_of places d r t))) (Factor places (annuity_of places d r t))
+
+-- the investment in a unit of capacity that is built in the year: CapitalCost under profile 1, and under profile 2 what is recovered of it
+abbrev pub investment_in_unit : ℕ → Data → ℕ → ℕ → ℕ → Amount
+investment_in_unit places d r t y = if d.second then recovered_cost places d r t y else Billionths (capital_cost d r t y)
+
+-- CC1[r,t,y]: CapitalInvestment - NewCapacity * the investment in a unit = 0
+abbrev pub cc1 : ℕ → Data → ℕ → ℕ → ℕ → EquationTerms
+cc1 places d r t y = is_times (capital_investment r t y) (new_capacity r t y) (investment_in_unit places d r t y)
 
 -- CC2[r,t,y]: DiscountedCapitalInvestment - CapitalInvestment * f = 0, f being the capital factor of the years since the first
-abbrev pub cc2 : Data → ℕ → ℕ → ℕ → EquationTerms
-cc2 d r t y = is_times (discounted_capital_investment r t y) (capital_investment r t y) (Millionths (capital_factor_of d r (years_since_first d y)))
+abbrev pub cc2 : ℕ → Data → ℕ → ℕ → ℕ → EquationTerms
+cc2 places d r t y = is_times (discounted_capital_investment r t y) (capital_investment r t y) (Factor places (capital_factor_of places d r (years_since_first d y)))
 
 -- ---- salvage value
 
 -- the salvage value of a unit of capacity that is built in the year, by this method: CapitalCost * s
-abbrev pub salvage_value_of_unit : Data → ℕ → ℕ → ℕ → ℕ → Amount
-salvage_value_of_unit d method r t y = Product (Billionths (capital_cost d r t y)) (Millionths (salvage_fraction_of d method r t y))
+abbrev pub salvage_value_of_unit : ℕ → Data → ℕ → ℕ → ℕ → ℕ → Amount
+salvage_value_of_unit places d method r t y = Product (Billionths (capital_cost d r t y)) (Factor places (salvage_fraction_of places d method r t y))
 
 -- SV1[r,t,y]: SalvageValue - NewCapacity * (CapitalCost * s) = 0, s being the fraction of the sinking fund
-abbrev pub sv1 : Data → ℕ → ℕ → ℕ → EquationTerms
-sv1 d r t y = is_times (salvage_value r t y) (new_capacity r t y) (salvage_value_of_unit d 1 r t y)
+abbrev pub sv1 : ℕ → Data → ℕ → ℕ → ℕ → EquationTerms
+sv1 places d r t y = is_times (salvage_value r t y) (new_capacity r t y) (salvage_value_of_unit places d 1 r t y)
 
 -- SV2[r,t,y]: SalvageValue - NewCapacity * (CapitalCost * s) = 0, s being the fraction of the straight line
-abbrev pub sv2 : Data → ℕ → ℕ → ℕ → EquationTerms
-sv2 d r t y = is_times (salvage_value r t y) (new_capacity r t y) (salvage_value_of_unit d 2 r t y)
+abbrev pub sv2 : ℕ → Data → ℕ → ℕ → ℕ → EquationTerms
+sv2 places d r t y = is_times (salvage_value r t y) (new_capacity r t y) (salvage_value_of_unit places d 2 r t y)
 
 -- SV3[r,t,y]: SalvageValue = 0
 abbrev pub sv3 : Data → ℕ → ℕ → ℕ → EquationTerms
 sv3 d r t y = is_made_of (salvage_value r t y) []
 
 -- SV4[r,t,y]: DiscountedSalvageValue - SalvageValue * f = 0, f being the capital factor of all years of the model period
-abbrev pub sv4 : Data → ℕ → ℕ → ℕ → EquationTerms
-sv4 d r t y = is_times (discounted_salvage_value r t y) (salvage_value r t y) (Millionths (capital_factor_of d r (years_in_all d)))
+abbrev pub sv4 : ℕ → Data → ℕ → ℕ → ℕ → EquationTerms
+sv4 places d r t y = is_times (discounted_salvage_value r t y) (salvage_value r t y) (Factor places (capital_factor_of places d r (years_in_all d)))
 
 -- ---- operating cost
 
@@ -57,8 +66,8 @@ abbrev pub oc3 : Data → ℕ → ℕ → ℕ → EquationTerms
 oc3 d r t y = is_made_of (operating_cost r t y) (less (annual_variable_operating_cost r t y) ∷ less (annual_fixed_operating_cost r t y) ∷ [])
 
 -- OC4[r,t,y]: DiscountedOperatingCost - OperatingCost * o = 0, o being the operating factor of the years since the first
-abbrev pub oc4 : Data → ℕ → ℕ → ℕ → EquationTerms
-oc4 d r t y = is_times (discounted_operating_cost r t y) (operating_cost r t y) (Millionths (operating_factor_of d r (years_since_first d y)))
+abbrev pub oc4 : ℕ → Data → ℕ → ℕ → ℕ → EquationTerms
+oc4 places d r t y = is_times (discounted_operating_cost r t y) (operating_cost r t y) (Factor places (operating_factor_of places d r (years_since_first d y)))
 
 -- ---- total cost
 

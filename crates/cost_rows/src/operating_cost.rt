@@ -5,7 +5,7 @@ ghost use Rattle.row_core.specs.EquationTerms.{IsWritten};
 ghost use Rattle.row_core.specs.Repeated.{IsTerm};
 ghost use Rattle.named_equations.specs.Indices.{by_rty};
 ghost use Rattle.named_equations.specs.Parameters.{variable_cost};
-ghost use Rattle.named_equations.specs.RegionFactors.{AreRegionFactors};
+ghost use Rattle.named_equations.specs.RegionFactors.{AreRegionFactors, places_of};
 ghost use Rattle.named_equations.specs.Variables.{total_annual_technology_activity_by_mode};
 ghost use Rattle.named_equations.specs.Within.{IsRegion, IsTechnology, IsMode, IsYear};
 ghost use Rattle.cost_rows.specs.Costs.{oc1, oc2, oc3, oc4};
@@ -102,10 +102,10 @@ pub(crate) fn oc4(
     factors: &[Factors],
     name: RowName,
 ) -> Result<Row, Stopped>
-    requires factors { AreRegionFactors model.now.facts factors.now }
+    requires factors { AreRegionFactors (places_of factors.now) model.now.facts factors.now }
     requires region { IsRegion model.now.facts name.index.region }
     requires year { IsYear model.now.facts name.index.year }
-    ensures { IsWritten name (by_rty (oc4 model.now.facts) name.index) result }
+    ensures { IsWritten name (by_rty (oc4 (places_of factors.now) model.now.facts) name.index) result }
 {
     let Index {
         region: r,

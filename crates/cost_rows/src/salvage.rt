@@ -4,7 +4,7 @@ ghost use Rattle.std.specs.Prelude.{◌≡◌, ◌≤◌, true};
 ghost use Rattle.row_core.specs.Calculated.{known, number_of};
 ghost use Rattle.row_core.specs.EquationTerms.{IsWritten};
 ghost use Rattle.named_equations.specs.Indices.{by_rty};
-ghost use Rattle.named_equations.specs.RegionFactors.{AreRegionFactors};
+ghost use Rattle.named_equations.specs.RegionFactors.{AreRegionFactors, places_of};
 ghost use Rattle.named_equations.specs.Salvage.{outlasts};
 ghost use Rattle.named_equations.specs.Within.{IsRegion, IsTechnology, IsYear};
 ghost use Rattle.cost_rows.specs.Costs.{salvage_value_of_unit, sv1, sv2, sv3, sv4};
@@ -29,14 +29,14 @@ fn salvage_value_of_unit(
     t: u16,
     y: u16,
 ) -> Option<Frac>
-    requires factors { AreRegionFactors model.now.facts factors.now }
+    requires factors { AreRegionFactors (places_of factors.now) model.now.facts factors.now }
     requires method_least { 1 ≤ method }
     requires method_most { method ≤ 2 }
     requires region { IsRegion model.now.facts r }
     requires technology { IsTechnology model.now.facts t }
     requires year { IsYear model.now.facts y }
     requires outlasts { outlasts model.now.facts r t y ≡ true }
-    ensures { known result ≡ number_of (salvage_value_of_unit model.now.facts method r t y) }
+    ensures { known result ≡ number_of (salvage_value_of_unit (places_of factors.now) model.now.facts method r t y) }
 {
     times(
         capital_cost(model, r, t, y),
@@ -51,12 +51,12 @@ pub(crate) fn sv1(
     factors: &[Factors],
     name: RowName,
 ) -> Result<Row, Stopped>
-    requires factors { AreRegionFactors model.now.facts factors.now }
+    requires factors { AreRegionFactors (places_of factors.now) model.now.facts factors.now }
     requires region { IsRegion model.now.facts name.index.region }
     requires technology { IsTechnology model.now.facts name.index.tech }
     requires year { IsYear model.now.facts name.index.year }
     requires outlasts { by_rty (outlasts model.now.facts) name.index ≡ true }
-    ensures { IsWritten name (by_rty (sv1 model.now.facts) name.index) result }
+    ensures { IsWritten name (by_rty (sv1 (places_of factors.now) model.now.facts) name.index) result }
 {
     let Index {
         region: r,
@@ -80,12 +80,12 @@ pub(crate) fn sv2(
     factors: &[Factors],
     name: RowName,
 ) -> Result<Row, Stopped>
-    requires factors { AreRegionFactors model.now.facts factors.now }
+    requires factors { AreRegionFactors (places_of factors.now) model.now.facts factors.now }
     requires region { IsRegion model.now.facts name.index.region }
     requires technology { IsTechnology model.now.facts name.index.tech }
     requires year { IsYear model.now.facts name.index.year }
     requires outlasts { by_rty (outlasts model.now.facts) name.index ≡ true }
-    ensures { IsWritten name (by_rty (sv2 model.now.facts) name.index) result }
+    ensures { IsWritten name (by_rty (sv2 (places_of factors.now) model.now.facts) name.index) result }
 {
     let Index {
         region: r,
@@ -124,10 +124,10 @@ pub(crate) fn sv4(
     factors: &[Factors],
     name: RowName,
 ) -> Result<Row, Stopped>
-    requires factors { AreRegionFactors model.now.facts factors.now }
+    requires factors { AreRegionFactors (places_of factors.now) model.now.facts factors.now }
     requires region { IsRegion model.now.facts name.index.region }
     requires year { IsYear model.now.facts name.index.year }
-    ensures { IsWritten name (by_rty (sv4 model.now.facts) name.index) result }
+    ensures { IsWritten name (by_rty (sv4 (places_of factors.now) model.now.facts) name.index) result }
 {
     let Index {
         region: r,

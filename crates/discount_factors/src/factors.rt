@@ -77,6 +77,14 @@ impl Factors {
         i128::from(self.unit)
     }
 
+    /// How many decimal places the factors have, 6 or 9.
+    pub fn places(&self) -> u8
+        ensures exact { result ≡ self.now.places }
+        ensures places { IsPlaces self.now.places }
+    {
+        self.places
+    }
+
     // The discounted value of `n` years.
     fn value(&self, n: u16) -> u64
         requires { n ≤ max self.now.span self.now.lives }

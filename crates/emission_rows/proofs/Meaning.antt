@@ -9,12 +9,12 @@ use Rattle.row_core.specs.declared.Index.{Index}
 use Rattle.row_core.specs.declared.RowName.{RowName}
 use Rattle.row_core.specs.declared.Sense.TheVariants.{Most}
 use Rattle.row_core.specs.declared.Var.{Var}
-use Rattle.row_core.specs.Amounts.{Billionths, Millionths, Negative, Whole, value_of_amount}
+use Rattle.row_core.specs.Amounts.{Billionths, Factor, Negative, Whole, value_of_amount}
 use Rattle.row_core.specs.EquationTerms.{each, less}
 use Rattle.row_core.specs.Values.{alone}
 use Rattle.row_core.proofs.SumLaws.{IsOver-plus, IsOver-negated}
 use Rattle.named_equations.specs.Instances.{name_at, stands_at, variable_of}
-use Rattle.named_equations.specs.Notation.{sum_over, scale_of, million}
+use Rattle.named_equations.specs.Notation.{sum_over, scale_of, factor_scale}
 use Rattle.named_equations.specs.Parameters.{emission_activity_ratio, emissions_penalty, annual_exogenous_emission, annual_emission_limit, model_period_exogenous_emission, model_period_emission_limit}
 use Rattle.named_equations.specs.Plans.{says}
 use Rattle.named_equations.specs.Positions.{technologies, emissions, all_years, years_since_first}
@@ -22,28 +22,28 @@ use Rattle.named_equations.specs.Variables.{total_annual_technology_activity_by_
 use Rattle.named_equations.specs.Where.{emitting_modes}
 use Rattle.named_equations.specs.WrittenFactors.{operating_factor_of}
 use Rattle.named_equations.proofs.TermMeaning.{MeansStatement, IsNamedEquation, EachFrom, at_number, definition_is, inequality_is, limit, scaled_other, scaled_other-defines, sum_of_others, sum_of_others-defines, sum_over-times, sum_over-zero, first_positive, alone-self, over-one, over-minus_one, over-data, sum-none, sum-term, sum-each}
-use Rattle.named_equations.proofs.TermShapes.{times_number, times_number-defines, over-factor}
+use Rattle.named_equations.proofs.TermShapes.{times_number, times_number-defines, factor_scale-positive, over-factor}
 use Rattle.emission_rows.specs.Emissions.{e7, e8}
 use Rattle.emission_rows.specs.Rows.{IsEmissionEquation, terms_at}
 
 -- the equation of number n
-abbrev pub IsNamed : Data → Index → ℕ → Type 0
-IsNamed d i n = IsNamedEquation d (name_at n i) (terms_at d (name_at n i))
+abbrev pub IsNamed : ℕ → Data → Index → ℕ → Type 0
+IsNamed places d i n = IsNamedEquation places d (name_at n i) (terms_at places d (name_at n i))
 
 -- that its terms mean it
-abbrev pub Means : Data → Index → ℕ → Type 0
-Means d i n = MeansStatement (terms_at d (name_at n i)) (λ q x. says d q x (name_at n i))
+abbrev pub Means : ℕ → Data → Index → ℕ → Type 0
+Means places d i n = MeansStatement (terms_at places d (name_at n i)) (λ q x. says places d q x (name_at n i))
 
-definition : (d : Data) (i : Index) (n : ℕ) (v : Var) (m : Means d i n) → variable_of (name_at n i) ≡ Some v → pos 0 <ℤ m.sum (alone v) → IsNamed d i n
-definition d i n v m is h = definition_is d (name_at n i) (terms_at d (name_at n i)) v m is h
+definition : (places : ℕ) (d : Data) (i : Index) (n : ℕ) (v : Var) (m : Means places d i n) → variable_of (name_at n i) ≡ Some v → pos 0 <ℤ m.sum (alone v) → IsNamed places d i n
+definition places d i n v m is h = definition_is places d (name_at n i) (terms_at places d (name_at n i)) v m is h
 
-inequality : (d : Data) (i : Index) (n : ℕ) → Means d i n → variable_of (name_at n i) ≡ None → IsNamed d i n
-inequality d i n m none = inequality_is d (name_at n i) (terms_at d (name_at n i)) m none
+inequality : (places : ℕ) (d : Data) (i : Index) (n : ℕ) → Means places d i n → variable_of (name_at n i) ≡ None → IsNamed places d i n
+inequality places d i n m none = inequality_is places d (name_at n i) (terms_at places d (name_at n i)) m none
 
 -- ---- technologies
 
-e1-named : (d : Data) (i : Index) → IsNamed d i E1
-e1-named d i =
+e1-named : (places : ℕ) (d : Data) (i : Index) → IsNamed places d i E1
+e1-named places d i =
     let v = annual_technology_emission_by_mode i.region i.tech i.emission i.mode i.year in
     let w = total_annual_technology_activity_by_mode i.region i.tech i.mode i.year in
     let z : ℤ = emission_activity_ratio d i.region i.tech i.emission i.mode i.year in
@@ -51,51 +51,52 @@ e1-named d i =
     let h : pos 0 <ℤ s = omega (arith, ints) in
     let n : (Var → ℤ) → ℤ = λ x. z *ℤ x w in
     let same : (x : Var → ℤ) → n x ≡ x w *ℤ z = λ x. *ℤ_comm z (x w) in
-    definition d i E1 v (times_number s h v w (Billionths z) z (over-data z) n same) refl (times_number-defines s h v w (Billionths z) z (over-data z) n same refl)
+    definition places d i E1 v (times_number s h v w (Billionths z) z (over-data z) n same) refl (times_number-defines s h v w (Billionths z) z (over-data z) n same refl)
 
-e2-named : (d : Data) (i : Index) → IsNamed d i E2
-e2-named d i =
+e2-named : (places : ℕ) (d : Data) (i : Index) → IsNamed places d i E2
+e2-named places d i =
     let v = annual_technology_emission i.region i.tech i.emission i.year in
     let is : List ℕ = emitting_modes d i.region i.tech i.emission i.year in
     let w : ℕ → Var = λ m. annual_technology_emission_by_mode i.region i.tech i.emission m i.year in
-    definition d i E2 v (sum_of_others v is w) refl (sum_of_others-defines v is w (λ m. refl))
+    definition places d i E2 v (sum_of_others v is w) refl (sum_of_others-defines v is w (λ m. refl))
 
-e3-named : (d : Data) (i : Index) → IsNamed d i E3
-e3-named d i =
+e3-named : (places : ℕ) (d : Data) (i : Index) → IsNamed places d i E3
+e3-named places d i =
     let v = annual_technology_emission_penalty_by_emission i.region i.tech i.emission i.year in
     let w = annual_technology_emission i.region i.tech i.emission i.year in
     let z : ℤ = emissions_penalty d i.region i.emission i.year in
-    definition d i E3 v (scaled_other v w z) refl (scaled_other-defines v w z refl)
+    definition places d i E3 v (scaled_other v w z) refl (scaled_other-defines v w z refl)
 
-e4-named : (d : Data) (i : Index) → IsNamed d i E4
-e4-named d i =
+e4-named : (places : ℕ) (d : Data) (i : Index) → IsNamed places d i E4
+e4-named places d i =
     let v = annual_technology_emissions_penalty i.region i.tech i.year in
     let w : ℕ → Var = λ e. annual_technology_emission_penalty_by_emission i.region i.tech e i.year in
-    definition d i E4 v (sum_of_others v (emissions d) w) refl (sum_of_others-defines v (emissions d) w (λ e. refl))
+    definition places d i E4 v (sum_of_others v (emissions d) w) refl (sum_of_others-defines v (emissions d) w (λ e. refl))
 
-e5-named : (d : Data) (i : Index) → IsNamed d i E5
-e5-named d i =
+e5-named : (places : ℕ) (d : Data) (i : Index) → IsNamed places d i E5
+e5-named places d i =
     let v = discounted_technology_emissions_penalty i.region i.tech i.year in
     let w = annual_technology_emissions_penalty i.region i.tech i.year in
-    let z : ℤ = operating_factor_of d i.region (years_since_first d i.year) in
-    let h : pos 0 <ℤ million = omega (arith, ints) in
+    let z : ℤ = operating_factor_of places d i.region (years_since_first d i.year) in
+    let s : ℤ = factor_scale places in
+    let h : pos 0 <ℤ s = factor_scale-positive places in
     let n : (Var → ℤ) → ℤ = λ x. x w *ℤ z in
     let same : (x : Var → ℤ) → n x ≡ x w *ℤ z = λ x. refl in
-    definition d i E5 v (times_number million h v w (Millionths z) z (over-factor z) n same) refl (times_number-defines million h v w (Millionths z) z (over-factor z) n same refl)
+    definition places d i E5 v (times_number s h v w (Factor places z) z (over-factor places z) n same) refl (times_number-defines s h v w (Factor places z) z (over-factor places z) n same refl)
 
 -- ---- regions
 
-e6-named : (d : Data) (i : Index) → IsNamed d i E6
-e6-named d i =
+e6-named : (places : ℕ) (d : Data) (i : Index) → IsNamed places d i E6
+e6-named places d i =
     let v = annual_emissions i.region i.emission i.year in
     let w : ℕ → Var = λ t. annual_technology_emission i.region t i.emission i.year in
-    definition d i E6 v (sum_of_others v (technologies d) w) refl (sum_of_others-defines v (technologies d) w (λ t. refl))
+    definition places d i E6 v (sum_of_others v (technologies d) w) refl (sum_of_others-defines v (technologies d) w (λ t. refl))
 
 period_balanced : (s p n r : ℤ) → ((s *ℤ p) +ℤ (neg_ℤ s *ℤ n)) +ℤ ((s *ℤ n) +ℤ r) ≡ (s *ℤ p) +ℤ r
 period_balanced s p n r = ap (λ y. ((s *ℤ p) +ℤ y) +ℤ ((s *ℤ n) +ℤ r)) (neg_ℤ-*ℤ s n) ∙ omega (arith, ints)
 
-pub period-means : (d : Data) (i : Index) → MeansStatement (e7 d i.region i.emission) (λ q x. says d q x (name_at E7 i))
-period-means d i =
+pub period-means : (places : ℕ) (d : Data) (i : Index) → MeansStatement (e7 d i.region i.emission) (λ q x. says places d q x (name_at E7 i))
+period-means places d i =
     let v = model_period_emissions i.region i.emission in
     let w : ℕ → Var = λ y. annual_emissions i.region i.emission y in
     let exogenous : ℤ = model_period_exogenous_emission d i.region i.emission in
@@ -116,23 +117,23 @@ period-means d i =
           ∙ period_balanced s (x v) n (exogenous *ℤ pos q);
     }
 
-period-defines : (d : Data) (i : Index) → pos 0 <ℤ (period-means d i).sum (alone (model_period_emissions i.region i.emission))
+period-defines : (places : ℕ) (d : Data) (i : Index) → pos 0 <ℤ (period-means places d i).sum (alone (model_period_emissions i.region i.emission))
 unfolding period-means
-period-defines d i =
+period-defines places d i =
     let v = model_period_emissions i.region i.emission in
     let w : ℕ → Var = λ y. annual_emissions i.region i.emission y in
     let s : ℤ = scale_of 1 in
     first_positive s (alone v v) (sum_over (all_years d) (λ y. neg_ℤ s *ℤ alone v (w y))) (omega (arith, ints)) (alone-self v)
     (sum_over-zero (all_years d) (λ y. neg_ℤ s *ℤ alone v (w y)) (λ y. refl))
 
-e7-named : (d : Data) (i : Index) → IsNamed d i E7
-e7-named d i = definition d i E7 (model_period_emissions i.region i.emission) (period-means d i) refl (period-defines d i)
+e7-named : (places : ℕ) (d : Data) (i : Index) → IsNamed places d i E7
+e7-named places d i = definition places d i E7 (model_period_emissions i.region i.emission) (period-means places d i) refl (period-defines places d i)
 
 year_balanced : (a r : ℤ) → (a +ℤ pos 0) +ℤ r ≡ a +ℤ r
 year_balanced a r = omega (arith, ints)
 
-pub year-means : (d : Data) (i : Index) → MeansStatement (e8 d i.region i.emission i.year) (λ q x. says d q x (name_at E8 i))
-year-means d i =
+pub year-means : (places : ℕ) (d : Data) (i : Index) → MeansStatement (e8 d i.region i.emission i.year) (λ q x. says places d q x (name_at E8 i))
+year-means places d i =
     let v = annual_emissions i.region i.emission i.year in
     let most : ℤ = annual_emission_limit d i.region i.emission i.year in
     let exogenous : ℤ = annual_exogenous_emission d i.region i.emission i.year in
@@ -150,29 +151,29 @@ year-means d i =
       balance = λ q x. year_balanced (s *ℤ x v) ((most -ℤ exogenous) *ℤ pos q);
     }
 
-e8-named : (d : Data) (i : Index) → IsNamed d i E8
-e8-named d i = inequality d i E8 (year-means d i) refl
+e8-named : (places : ℕ) (d : Data) (i : Index) → IsNamed places d i E8
+e8-named places d i = inequality places d i E8 (year-means places d i) refl
 
-e9-named : (d : Data) (i : Index) → IsNamed d i E9
-e9-named d i = inequality d i E9 (limit Most (model_period_emissions i.region i.emission) (model_period_emission_limit d i.region i.emission)) refl
+e9-named : (places : ℕ) (d : Data) (i : Index) → IsNamed places d i E9
+e9-named places d i = inequality places d i E9 (limit Most (model_period_emissions i.region i.emission) (model_period_emission_limit d i.region i.emission)) refl
 
 -- ---- by number
 
-of_technologies : (d : Data) (i : Index) → EachFrom (IsNamed d i) E1 5
-of_technologies d i = (e1-named d i, (e2-named d i, (e3-named d i, (e4-named d i, (e5-named d i, tt)))))
+of_technologies : (places : ℕ) (d : Data) (i : Index) → EachFrom (IsNamed places d i) E1 5
+of_technologies places d i = (e1-named places d i, (e2-named places d i, (e3-named places d i, (e4-named places d i, (e5-named places d i, tt)))))
 
-of_regions : (d : Data) (i : Index) → EachFrom (IsNamed d i) E6 4
-of_regions d i = (e6-named d i, (e7-named d i, (e8-named d i, (e9-named d i, tt))))
+of_regions : (places : ℕ) (d : Data) (i : Index) → EachFrom (IsNamed places d i) E6 4
+of_regions places d i = (e6-named places d i, (e7-named places d i, (e8-named places d i, (e9-named places d i, tt))))
 
-pub named : (d : Data) (n : ℕ) (i : Index) → IsEmissionEquation n → IsNamed d i n
-named d n i h =
+pub named : (places : ℕ) (d : Data) (n : ℕ) (i : Index) → IsEmissionEquation n → IsNamed places d i n
+named places d n i h =
     elim h [
-      | inl first ↦ at_number (IsNamed d i) E1 5 n (of_technologies d i) first.0 (omega (arith, first.1))
-      | inr second ↦ at_number (IsNamed d i) E6 4 n (of_regions d i) second.0 (omega (arith, second.1))
+      | inl first ↦ at_number (IsNamed places d i) E1 5 n (of_technologies places d i) first.0 (omega (arith, first.1))
+      | inr second ↦ at_number (IsNamed places d i) E6 4 n (of_regions places d i) second.0 (omega (arith, second.1))
     ]
 
-pub terms-at : (d : Data) (name : RowName) (n : ℕ) → name.eq ≡ n → terms_at d name ≡ terms_at d (name_at n name.index)
-terms-at d name n h = ap (λ m. terms_at d (name_at m name.index)) h
+pub terms-at : (places : ℕ) (d : Data) (name : RowName) (n : ℕ) → name.eq ≡ n → terms_at places d name ≡ terms_at places d (name_at n name.index)
+terms-at places d name n h = ap (λ m. terms_at places d (name_at m name.index)) h
 
 -- where no condition is asked, the equation stands everywhere
 abbrev pub Stands : Data → Index → ℕ → Type 0

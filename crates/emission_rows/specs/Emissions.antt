@@ -2,7 +2,7 @@
 use Rattle.std.specs.Prelude.{ℕ, [], ◌∷◌}
 use Rattle.model_sets.specs.Data.{Data}
 use Rattle.row_core.specs.declared.Sense.TheVariants.{Equal, Most}
-use Rattle.row_core.specs.Amounts.{Billionths, Millionths, Negative, Total}
+use Rattle.row_core.specs.Amounts.{Billionths, Factor, Negative, Total}
 use Rattle.row_core.specs.EquationTerms.{EquationTerms, once}
 use Rattle.named_equations.specs.Parameters.{emission_activity_ratio, emissions_penalty, annual_exogenous_emission, annual_emission_limit, model_period_exogenous_emission, model_period_emission_limit}
 use Rattle.named_equations.specs.Positions.{technologies, emissions, all_years, years_since_first}
@@ -32,9 +32,9 @@ abbrev pub e4 : Data → ℕ → ℕ → ℕ → EquationTerms
 e4 d r t y = is_made_of (annual_technology_emissions_penalty r t y) (sum_away (emissions d) (λ e. annual_technology_emission_penalty_by_emission r t e y))
 
 -- E5[r,t,y]: DiscountedTechnologyEmissionsPenalty - AnnualTechnologyEmissionsPenalty * o = 0, o being the operating factor of the years since the first
-abbrev pub e5 : Data → ℕ → ℕ → ℕ → EquationTerms
-e5 d r t y =
-    is_times (discounted_technology_emissions_penalty r t y) (annual_technology_emissions_penalty r t y) (Millionths (operating_factor_of d r (years_since_first d y)))
+abbrev pub e5 : ℕ → Data → ℕ → ℕ → ℕ → EquationTerms
+e5 places d r t y =
+    is_times (discounted_technology_emissions_penalty r t y) (annual_technology_emissions_penalty r t y) (Factor places (operating_factor_of places d r (years_since_first d y)))
 
 -- ---- emissions of regions, and their limits
 

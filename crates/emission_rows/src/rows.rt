@@ -6,7 +6,7 @@ ghost use Rattle.row_core.specs.declared.place.Place.{Place};
 ghost use Rattle.row_core.specs.EquationTerms.{IsWritten, equation_formed};
 ghost use Rattle.row_core.specs.Stops.{IsStop};
 ghost use Rattle.named_equations.specs.Instances.{is_index, name_at, stands_at, subscripts_of};
-ghost use Rattle.named_equations.specs.RegionFactors.{AreRegionFactors};
+ghost use Rattle.named_equations.specs.RegionFactors.{AreRegionFactors, places_of};
 ghost use Rattle.named_equations.specs.RowMeaning.{IsNamedRow};
 ghost use Rattle.emission_rows.specs.Rows.{IsEmissionEquation, terms_at};
 
@@ -40,12 +40,12 @@ pub fn rows_of(
     at: Index,
 ) -> Result<Option<Row>, Stopped>
     requires equation { IsEmissionEquation eq }
-    requires factors { AreRegionFactors model.now.facts factors.now }
+    requires factors { AreRegionFactors (places_of factors.now) model.now.facts factors.now }
     requires index { is_index model.now.facts (subscripts_of eq) at ≡ true }
     ensures instance { IfOk result (λ found. is_some found ≡ stands_at model.now.facts eq at) }
-    ensures row { IfOk result (λ found. IfSome found (IsNamedRow model.now.facts (name_at eq at) (terms_at model.now.facts (name_at eq at)))) }
-    ensures fits { IfOk result (λ found. IfSome found (λ row. all_fit (equation_formed (terms_at model.now.facts (name_at eq at))) ≡ true)) }
-    ensures stopped { IfErr result (IsStop (Place.Row (name_at eq at)) (not (stands_at model.now.facts eq at) || all_fit (equation_formed (terms_at model.now.facts (name_at eq at))))) }
+    ensures row { IfOk result (λ found. IfSome found (IsNamedRow (places_of factors.now) model.now.facts (name_at eq at) (terms_at (places_of factors.now) model.now.facts (name_at eq at)))) }
+    ensures fits { IfOk result (λ found. IfSome found (λ row. all_fit (equation_formed (terms_at (places_of factors.now) model.now.facts (name_at eq at))) ≡ true)) }
+    ensures stopped { IfErr result (IsStop (Place.Row (name_at eq at)) (not (stands_at model.now.facts eq at) || all_fit (equation_formed (terms_at (places_of factors.now) model.now.facts (name_at eq at))))) }
 {
     if !stands(model, eq, at) {
         return Ok(None);
@@ -86,9 +86,9 @@ fn row_of(
     name: RowName,
 ) -> Result<Row, Stopped>
     requires equation { IsEmissionEquation name.eq }
-    requires factors { AreRegionFactors model.now.facts factors.now }
+    requires factors { AreRegionFactors (places_of factors.now) model.now.facts factors.now }
     requires index { is_index model.now.facts (subscripts_of name.eq) name.index ≡ true }
-    ensures { IsWritten name (terms_at model.now.facts name) result }
+    ensures { IsWritten name (terms_at (places_of factors.now) model.now.facts name) result }
 {
     match name.eq {
         E1 => e1(alloc, model, name),

@@ -2,7 +2,7 @@
 
 ghost use Rattle.row_core.specs.EquationTerms.{IsWritten};
 ghost use Rattle.named_equations.specs.Indices.{by_rtemy, by_rtey, by_rty};
-ghost use Rattle.named_equations.specs.RegionFactors.{AreRegionFactors};
+ghost use Rattle.named_equations.specs.RegionFactors.{AreRegionFactors, places_of};
 ghost use Rattle.named_equations.specs.Within.{IsRegion, IsTechnology, IsEmission, IsMode, IsYear};
 ghost use Rattle.emission_rows.specs.Emissions.{e1, e2, e3, e4, e5};
 
@@ -122,10 +122,10 @@ pub(crate) fn e5(
     factors: &[Factors],
     name: RowName,
 ) -> Result<Row, Stopped>
-    requires factors { AreRegionFactors model.now.facts factors.now }
+    requires factors { AreRegionFactors (places_of factors.now) model.now.facts factors.now }
     requires region { IsRegion model.now.facts name.index.region }
     requires year { IsYear model.now.facts name.index.year }
-    ensures { IsWritten name (by_rty (e5 model.now.facts) name.index) result }
+    ensures { IsWritten name (by_rty (e5 (places_of factors.now) model.now.facts) name.index) result }
 {
     let Index {
         region: r,

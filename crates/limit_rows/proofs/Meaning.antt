@@ -25,66 +25,66 @@ use Rattle.named_equations.proofs.SumExchange.{sum_over-exchanged}
 use Rattle.named_equations.proofs.TermShapes.{means_equal, means_equal-defines, over-product, sum_of_products, sum_of_products-defines, sum_of_sums, sum_of_sums-defines, covered, covered_after}
 
 -- the equation of number n
-abbrev pub IsNamed : Data → Index → ℕ → Type 0
-IsNamed d i n = IsNamedEquation d (name_at n i) (terms_at d (name_at n i))
+abbrev pub IsNamed : ℕ → Data → Index → ℕ → Type 0
+IsNamed places d i n = IsNamedEquation places d (name_at n i) (terms_at d (name_at n i))
 
 -- that its terms mean it
-abbrev pub Means : Data → Index → ℕ → Type 0
-Means d i n = MeansStatement (terms_at d (name_at n i)) (λ q x. says d q x (name_at n i))
+abbrev pub Means : ℕ → Data → Index → ℕ → Type 0
+Means places d i n = MeansStatement (terms_at d (name_at n i)) (λ q x. says places d q x (name_at n i))
 
-definition : (d : Data) (i : Index) (n : ℕ) (v : Var) (m : Means d i n) → variable_of (name_at n i) ≡ Some v → pos 0 <ℤ m.sum (alone v) → IsNamed d i n
-definition d i n v m is h = definition_is d (name_at n i) (terms_at d (name_at n i)) v m is h
+definition : (places : ℕ) (d : Data) (i : Index) (n : ℕ) (v : Var) (m : Means places d i n) → variable_of (name_at n i) ≡ Some v → pos 0 <ℤ m.sum (alone v) → IsNamed places d i n
+definition places d i n v m is h = definition_is places d (name_at n i) (terms_at d (name_at n i)) v m is h
 
-inequality : (d : Data) (i : Index) (n : ℕ) → Means d i n → variable_of (name_at n i) ≡ None → IsNamed d i n
-inequality d i n m none = inequality_is d (name_at n i) (terms_at d (name_at n i)) m none
+inequality : (places : ℕ) (d : Data) (i : Index) (n : ℕ) → Means places d i n → variable_of (name_at n i) ≡ None → IsNamed places d i n
+inequality places d i n m none = inequality_is places d (name_at n i) (terms_at d (name_at n i)) m none
 
 -- ---- total capacity
 
-tcc1-named : (d : Data) (i : Index) → IsNamed d i TCC1
-tcc1-named d i = inequality d i TCC1 (limit Most (total_capacity_annual i.region i.tech i.year) (total_annual_max_capacity d i.region i.tech i.year)) refl
+tcc1-named : (places : ℕ) (d : Data) (i : Index) → IsNamed places d i TCC1
+tcc1-named places d i = inequality places d i TCC1 (limit Most (total_capacity_annual i.region i.tech i.year) (total_annual_max_capacity d i.region i.tech i.year)) refl
 
-tcc2-named : (d : Data) (i : Index) → IsNamed d i TCC2
-tcc2-named d i = inequality d i TCC2 (limit Least (total_capacity_annual i.region i.tech i.year) (total_annual_min_capacity d i.region i.tech i.year)) refl
+tcc2-named : (places : ℕ) (d : Data) (i : Index) → IsNamed places d i TCC2
+tcc2-named places d i = inequality places d i TCC2 (limit Least (total_capacity_annual i.region i.tech i.year) (total_annual_min_capacity d i.region i.tech i.year)) refl
 
 -- ---- new capacity
 
-ncc1-named : (d : Data) (i : Index) → IsNamed d i NCC1
-ncc1-named d i = inequality d i NCC1 (limit Most (new_capacity i.region i.tech i.year) (total_annual_max_capacity_investment d i.region i.tech i.year)) refl
+ncc1-named : (places : ℕ) (d : Data) (i : Index) → IsNamed places d i NCC1
+ncc1-named places d i = inequality places d i NCC1 (limit Most (new_capacity i.region i.tech i.year) (total_annual_max_capacity_investment d i.region i.tech i.year)) refl
 
-ncc2-named : (d : Data) (i : Index) → IsNamed d i NCC2
-ncc2-named d i = inequality d i NCC2 (limit Least (new_capacity i.region i.tech i.year) (total_annual_min_capacity_investment d i.region i.tech i.year)) refl
+ncc2-named : (places : ℕ) (d : Data) (i : Index) → IsNamed places d i NCC2
+ncc2-named places d i = inequality places d i NCC2 (limit Least (new_capacity i.region i.tech i.year) (total_annual_min_capacity_investment d i.region i.tech i.year)) refl
 
 -- ---- activity
 
-aac1-named : (d : Data) (i : Index) → IsNamed d i AAC1
-aac1-named d i =
+aac1-named : (places : ℕ) (d : Data) (i : Index) → IsNamed places d i AAC1
+aac1-named places d i =
     let v = total_technology_annual_activity i.region i.tech i.year in
     let w : ℕ → Var = λ l. rate_of_total_activity i.region l i.tech i.year in
     let z : ℕ → ℤ = λ l. year_split d l i.year in
-    definition d i AAC1 v (weighted_sum v (timeslices d) w z) refl (weighted_sum-defines v (timeslices d) w z (λ l. refl))
+    definition places d i AAC1 v (weighted_sum v (timeslices d) w z) refl (weighted_sum-defines v (timeslices d) w z (λ l. refl))
 
-aac2-named : (d : Data) (i : Index) → IsNamed d i AAC2
-aac2-named d i = inequality d i AAC2 (limit Most (total_technology_annual_activity i.region i.tech i.year) (total_technology_annual_activity_upper_limit d i.region i.tech i.year)) refl
+aac2-named : (places : ℕ) (d : Data) (i : Index) → IsNamed places d i AAC2
+aac2-named places d i = inequality places d i AAC2 (limit Most (total_technology_annual_activity i.region i.tech i.year) (total_technology_annual_activity_upper_limit d i.region i.tech i.year)) refl
 
-aac3-named : (d : Data) (i : Index) → IsNamed d i AAC3
-aac3-named d i = inequality d i AAC3 (limit Least (total_technology_annual_activity i.region i.tech i.year) (total_technology_annual_activity_lower_limit d i.region i.tech i.year)) refl
+aac3-named : (places : ℕ) (d : Data) (i : Index) → IsNamed places d i AAC3
+aac3-named places d i = inequality places d i AAC3 (limit Least (total_technology_annual_activity i.region i.tech i.year) (total_technology_annual_activity_lower_limit d i.region i.tech i.year)) refl
 
-tac1-named : (d : Data) (i : Index) → IsNamed d i TAC1
-tac1-named d i =
+tac1-named : (places : ℕ) (d : Data) (i : Index) → IsNamed places d i TAC1
+tac1-named places d i =
     let v = total_technology_model_period_activity i.region i.tech in
     let w : ℕ → Var = λ y. total_technology_annual_activity i.region i.tech y in
-    definition d i TAC1 v (sum_of_others v (all_years d) w) refl (sum_of_others-defines v (all_years d) w (λ y. refl))
+    definition places d i TAC1 v (sum_of_others v (all_years d) w) refl (sum_of_others-defines v (all_years d) w (λ y. refl))
 
-tac2-named : (d : Data) (i : Index) → IsNamed d i TAC2
-tac2-named d i = inequality d i TAC2 (limit Most (total_technology_model_period_activity i.region i.tech) (total_technology_model_period_activity_upper_limit d i.region i.tech)) refl
+tac2-named : (places : ℕ) (d : Data) (i : Index) → IsNamed places d i TAC2
+tac2-named places d i = inequality places d i TAC2 (limit Most (total_technology_model_period_activity i.region i.tech) (total_technology_model_period_activity_upper_limit d i.region i.tech)) refl
 
-tac3-named : (d : Data) (i : Index) → IsNamed d i TAC3
-tac3-named d i = inequality d i TAC3 (limit Least (total_technology_model_period_activity i.region i.tech) (total_technology_model_period_activity_lower_limit d i.region i.tech)) refl
+tac3-named : (places : ℕ) (d : Data) (i : Index) → IsNamed places d i TAC3
+tac3-named places d i = inequality places d i TAC3 (limit Least (total_technology_model_period_activity i.region i.tech) (total_technology_model_period_activity_lower_limit d i.region i.tech)) refl
 
 -- ---- reserve margin
 
-rm1-named : (d : Data) (i : Index) → IsNamed d i RM1
-rm1-named d i =
+rm1-named : (places : ℕ) (d : Data) (i : Index) → IsNamed places d i RM1
+rm1-named places d i =
     let v = total_capacity_in_reserve_margin i.region i.year in
     let w : ℕ → Var = λ t. total_capacity_annual i.region t i.year in
     let tag : ℕ → ℤ = λ t. reserve_margin_tag_technology d i.region t i.year in
@@ -93,30 +93,30 @@ rm1-named d i =
     let s : ℤ = scale_of 2 in
     let h : pos 0 <ℤ s = omega (arith, ints) in
     let over : (t : ℕ) → IsOver s (value_of_amount (a t)) (tag t *ℤ unit t) = λ t. over-product (tag t) (unit t) in
-    definition d i RM1 v (sum_of_products s h v (technologies d) w a (λ t. tag t *ℤ unit t) over) refl
+    definition places d i RM1 v (sum_of_products s h v (technologies d) w a (λ t. tag t *ℤ unit t) over) refl
     (sum_of_products-defines s h v (technologies d) w a (λ t. tag t *ℤ unit t) over (λ t. refl))
 
-rm2-named : (d : Data) (i : Index) → IsNamed d i RM2
-rm2-named d i =
+rm2-named : (places : ℕ) (d : Data) (i : Index) → IsNamed places d i RM2
+rm2-named places d i =
     let v = demand_needing_reserve_margin i.region i.slice i.year in
     let w : ℕ → Var = λ f. rate_of_production i.region i.slice f i.year in
     let z : ℕ → ℤ = λ f. reserve_margin_tag_fuel d i.region f i.year in
-    definition d i RM2 v (weighted_sum v (fuels d) w z) refl (weighted_sum-defines v (fuels d) w z (λ f. refl))
+    definition places d i RM2 v (weighted_sum v (fuels d) w z) refl (weighted_sum-defines v (fuels d) w z (λ f. refl))
 
-rm3-named : (d : Data) (i : Index) → IsNamed d i RM3
-rm3-named d i =
-    inequality d i RM3 (covered_after (demand_needing_reserve_margin i.region i.slice i.year) (reserve_margin d i.region i.year) (total_capacity_in_reserve_margin i.region i.year)) refl
+rm3-named : (places : ℕ) (d : Data) (i : Index) → IsNamed places d i RM3
+rm3-named places d i =
+    inequality places d i RM3 (covered_after (demand_needing_reserve_margin i.region i.slice i.year) (reserve_margin d i.region i.year) (total_capacity_in_reserve_margin i.region i.year)) refl
 
 -- ---- renewable target
 
-re1-named : (d : Data) (i : Index) → IsNamed d i RE1
-re1-named d i =
+re1-named : (places : ℕ) (d : Data) (i : Index) → IsNamed places d i RE1
+re1-named places d i =
     let v = production_by_technology_annual i.region i.tech i.fuel i.year in
     let w : ℕ → Var = λ l. production_by_technology i.region l i.tech i.fuel i.year in
-    definition d i RE1 v (sum_of_others v (timeslices d) w) refl (sum_of_others-defines v (timeslices d) w (λ l. refl))
+    definition places d i RE1 v (sum_of_others v (timeslices d) w) refl (sum_of_others-defines v (timeslices d) w (λ l. refl))
 
-re2-named : (d : Data) (i : Index) → IsNamed d i RE2
-re2-named d i =
+re2-named : (places : ℕ) (d : Data) (i : Index) → IsNamed places d i RE2
+re2-named places d i =
     let r = i.region in
     let y = i.year in
     let v = total_re_production_annual r y in
@@ -132,11 +132,11 @@ re2-named d i =
     let same : (x : Var → ℤ) → by_technology x ≡ by_fuel x =
     λ x. sum_over-exchanged (technologies d) (fuels d) (λ t f. produces d r t f y) (λ t f. x (w f t) *ℤ tag f t) in
     let each = sum_of_sums s h v (fuels d) makers w a tag over in
-    definition d i RE2 v (means_equal s v (re2 d r y) by_fuel by_technology same each) refl
+    definition places d i RE2 v (means_equal s v (re2 d r y) by_fuel by_technology same each) refl
     (means_equal-defines s v (re2 d r y) by_fuel by_technology same each (sum_of_sums-defines s h v (fuels d) makers w a tag over (λ f t. refl)))
 
-re3-named : (d : Data) (i : Index) → IsNamed d i RE3
-re3-named d i =
+re3-named : (places : ℕ) (d : Data) (i : Index) → IsNamed places d i RE3
+re3-named places d i =
     let v = re_total_production_of_target_fuel_annual i.region i.year in
     let w : ℕ → ℕ → Var = λ l f. rate_of_production i.region l f i.year in
     let split : ℕ → ℤ = λ l. year_split d l i.year in
@@ -146,26 +146,26 @@ re3-named d i =
     let s : ℤ = scale_of 2 in
     let h : pos 0 <ℤ s = omega (arith, ints) in
     let over : (l f : ℕ) → IsOver s (value_of_amount (a l f)) (z l f) = λ l f. over-product (split l) (tag f) in
-    definition d i RE3 v (sum_of_sums s h v (timeslices d) (λ l. fuels d) w a z over) refl (sum_of_sums-defines s h v (timeslices d) (λ l. fuels d) w a z over (λ l f. refl))
+    definition places d i RE3 v (sum_of_sums s h v (timeslices d) (λ l. fuels d) w a z over) refl (sum_of_sums-defines s h v (timeslices d) (λ l. fuels d) w a z over (λ l f. refl))
 
-re4-named : (d : Data) (i : Index) → IsNamed d i RE4
-re4-named d i =
-    inequality d i RE4 (covered (re_total_production_of_target_fuel_annual i.region i.year) (re_min_production_target d i.region i.year) (total_re_production_annual i.region i.year)) refl
+re4-named : (places : ℕ) (d : Data) (i : Index) → IsNamed places d i RE4
+re4-named places d i =
+    inequality places d i RE4 (covered (re_total_production_of_target_fuel_annual i.region i.year) (re_min_production_target d i.region i.year) (total_re_production_annual i.region i.year)) refl
 
-re5-named : (d : Data) (i : Index) → IsNamed d i RE5
-re5-named d i =
+re5-named : (places : ℕ) (d : Data) (i : Index) → IsNamed places d i RE5
+re5-named places d i =
     let v = use_by_technology_annual i.region i.tech i.fuel i.year in
     let w : ℕ → Var = λ l. use_by_technology i.region l i.tech i.fuel i.year in
-    definition d i RE5 v (sum_of_others v (timeslices d) w) refl (sum_of_others-defines v (timeslices d) w (λ l. refl))
+    definition places d i RE5 v (sum_of_others v (timeslices d) w) refl (sum_of_others-defines v (timeslices d) w (λ l. refl))
 
 -- ---- by number
 
-from_first : (d : Data) (i : Index) → EachFrom (IsNamed d i) TCC1 18
-from_first d i =
-    (tcc1-named d i, (tcc2-named d i, (ncc1-named d i, (ncc2-named d i, (aac1-named d i, (aac2-named d i, (aac3-named d i, (tac1-named d i, (tac2-named d i, (tac3-named d i, (rm1-named d i, (rm2-named d i, (rm3-named d i, (re1-named d i, (re2-named d i, (re3-named d i, (re4-named d i, (re5-named d i, tt))))))))))))))))))
+from_first : (places : ℕ) (d : Data) (i : Index) → EachFrom (IsNamed places d i) TCC1 18
+from_first places d i =
+    (tcc1-named places d i, (tcc2-named places d i, (ncc1-named places d i, (ncc2-named places d i, (aac1-named places d i, (aac2-named places d i, (aac3-named places d i, (tac1-named places d i, (tac2-named places d i, (tac3-named places d i, (rm1-named places d i, (rm2-named places d i, (rm3-named places d i, (re1-named places d i, (re2-named places d i, (re3-named places d i, (re4-named places d i, (re5-named places d i, tt))))))))))))))))))
 
-pub named : (d : Data) (n : ℕ) (i : Index) → IsLimitEquation n → IsNamed d i n
-named d n i h = at_number (IsNamed d i) TCC1 18 n (from_first d i) h.0 (omega (arith, h.1))
+pub named : (places : ℕ) (d : Data) (n : ℕ) (i : Index) → IsLimitEquation n → IsNamed places d i n
+named places d n i h = at_number (IsNamed places d i) TCC1 18 n (from_first places d i) h.0 (omega (arith, h.1))
 
 pub terms-at : (d : Data) (name : RowName) (n : ℕ) → name.eq ≡ n → terms_at d name ≡ terms_at d (name_at n name.index)
 terms-at d name n h = ap (λ m. terms_at d (name_at m name.index)) h

@@ -6,7 +6,7 @@ use Rattle.balance_rows.proofs.Meaning.{named}
 use Rattle.balance_rows.proofs.rows.rows_of.Goals as goal
 
 pub returns-in-Ok-clause-row : goal.returns-in-Ok-clause-row
-returns-in-Ok-clause-row c =
+returns-in-Ok-clause-row c places =
     let d = c.args.model.now.facts in
     let name = name_at c.args.eq c.args.at in
-    named_row d name (terms_at d name) c.in-Ok.row (named d c.args.eq c.args.at c.requires.equation c.row_of.ensures.positive) c.in-Ok.ensures.written.0 c.in-Ok.ensures.written.1
+    named_row places d name (terms_at d name) c.in-Ok.row (named places d c.args.eq c.args.at c.requires.equation c.row_of.ensures.positive) c.in-Ok.ensures.written.0 c.in-Ok.ensures.written.1

@@ -6,10 +6,10 @@ use Rattle.capacity_rows.proofs.Meaning.{named, always}
 use Rattle.capacity_rows.proofs.rows.rows_of.Goals as goal
 
 pub returns-in-Ok-clause-row : goal.returns-in-Ok-clause-row
-returns-in-Ok-clause-row c =
+returns-in-Ok-clause-row c places =
     let d = c.args.model.now.facts in
     let name = name_at c.args.eq c.args.at in
-    named_row d name (terms_at d name) c.in-Ok.row (named d c.args.eq c.args.at c.requires.equation) c.in-Ok.ensures.0 c.in-Ok.ensures.1
+    named_row places d name (terms_at d name) c.in-Ok.row (named places d c.args.eq c.args.at c.requires.equation) c.in-Ok.ensures.0 c.in-Ok.ensures.1
 
 pub returns-in-Ok-clause-instance : goal.returns-in-Ok-clause-instance
 returns-in-Ok-clause-instance c = always c.args.model.now.facts c.args.eq c.args.at c.requires.equation

@@ -1,5 +1,7 @@
 -- The row is that of the named equation.
+use Rattle.std.proofs.Common.{ℕ}
 use Rattle.named_equations.specs.Instances.{name_at}
+use Rattle.named_equations.specs.RegionFactors.{places_of}
 use Rattle.named_equations.proofs.TermMeaning.{named_row}
 use Rattle.cost_rows.specs.Rows.{terms_at}
 use Rattle.cost_rows.proofs.Meaning.{named}
@@ -7,6 +9,7 @@ use Rattle.cost_rows.proofs.rows.rows_of.Goals as goal
 
 pub returns-in-Ok-clause-row : goal.returns-in-Ok-clause-row
 returns-in-Ok-clause-row c =
+    let places : ℕ = places_of c.args.factors.now in
     let d = c.args.model.now.facts in
     let name = name_at c.args.eq c.args.at in
-    named_row d name (terms_at d name) c.in-Ok.row (named d c.args.eq c.args.at c.requires.equation) c.in-Ok.ensures.0 c.in-Ok.ensures.1
+    named_row places d name (terms_at places d name) c.in-Ok.row (named places d c.args.eq c.args.at c.requires.equation) c.in-Ok.ensures.0 c.in-Ok.ensures.1

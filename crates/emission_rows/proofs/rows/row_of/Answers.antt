@@ -2,6 +2,7 @@
 use Rattle.std.proofs.Common.{◌≡◌, sym, subst, refl, rules}
 use Rattle.row_core.specs.declared.equation_numbers.TheConstants.{E1, E2, E3, E4, E5, E6, E7, E8, E9}
 use Rattle.row_core.specs.EquationTerms.{IsWritten}
+use Rattle.named_equations.specs.RegionFactors.{places_of}
 use Rattle.named_equations.proofs.PositionsInSets.{of_number}
 use Rattle.emission_rows.proofs.Meaning.{terms-at}
 use Rattle.emission_rows.proofs.rows.row_of.Goals as goal
@@ -12,7 +13,7 @@ e1-requires c =
     record { region = at.region refl; technology = at.technology refl; emission = at.emission refl; mode = at.mode refl; year = at.year refl }
 
 pub returns-in-35 : goal.returns-in-35
-returns-in-35 c = subst (λ e. IsWritten c.args.name e c.e1.result) (sym (terms-at c.args.model.now.facts c.args.name E1 c.in-35.is)) c.e1.ensures
+returns-in-35 c = subst (λ e. IsWritten c.args.name e c.e1.result) (sym (terms-at (places_of c.args.factors.now) c.args.model.now.facts c.args.name E1 c.in-35.is)) c.e1.ensures
 
 pub e2-requires : goal.e2-requires
 e2-requires c =
@@ -20,7 +21,7 @@ e2-requires c =
     record { region = at.region refl; technology = at.technology refl; emission = at.emission refl; year = at.year refl }
 
 pub returns-in-36 : goal.returns-in-36
-returns-in-36 c = subst (λ e. IsWritten c.args.name e c.e2.result) (sym (terms-at c.args.model.now.facts c.args.name E2 c.in-36.is)) c.e2.ensures
+returns-in-36 c = subst (λ e. IsWritten c.args.name e c.e2.result) (sym (terms-at (places_of c.args.factors.now) c.args.model.now.facts c.args.name E2 c.in-36.is)) c.e2.ensures
 
 pub e3-requires : goal.e3-requires
 e3-requires c =
@@ -28,10 +29,10 @@ e3-requires c =
     record { region = at.region refl; emission = at.emission refl; year = at.year refl }
 
 pub returns-in-37 : goal.returns-in-37
-returns-in-37 c = subst (λ e. IsWritten c.args.name e c.e3.result) (sym (terms-at c.args.model.now.facts c.args.name E3 c.in-37.is)) c.e3.ensures
+returns-in-37 c = subst (λ e. IsWritten c.args.name e c.e3.result) (sym (terms-at (places_of c.args.factors.now) c.args.model.now.facts c.args.name E3 c.in-37.is)) c.e3.ensures
 
 pub returns-in-38 : goal.returns-in-38
-returns-in-38 c = subst (λ e. IsWritten c.args.name e c.e4.result) (sym (terms-at c.args.model.now.facts c.args.name E4 c.in-38.is)) c.e4.ensures
+returns-in-38 c = subst (λ e. IsWritten c.args.name e c.e4.result) (sym (terms-at (places_of c.args.factors.now) c.args.model.now.facts c.args.name E4 c.in-38.is)) c.e4.ensures
 
 pub e5-requires : goal.e5-requires
 e5-requires c =
@@ -39,10 +40,10 @@ e5-requires c =
     record { factors = c.requires.factors; region = at.region refl; year = at.year refl }
 
 pub returns-in-39 : goal.returns-in-39
-returns-in-39 c = subst (λ e. IsWritten c.args.name e c.e5.result) (sym (terms-at c.args.model.now.facts c.args.name E5 c.in-39.is)) c.e5.ensures
+returns-in-39 c = subst (λ e. IsWritten c.args.name e c.e5.result) (sym (terms-at (places_of c.args.factors.now) c.args.model.now.facts c.args.name E5 c.in-39.is)) c.e5.ensures
 
 pub returns-in-61 : goal.returns-in-61
-returns-in-61 c = subst (λ e. IsWritten c.args.name e c.e6.result) (sym (terms-at c.args.model.now.facts c.args.name E6 c.in-61.is)) c.e6.ensures
+returns-in-61 c = subst (λ e. IsWritten c.args.name e c.e6.result) (sym (terms-at (places_of c.args.factors.now) c.args.model.now.facts c.args.name E6 c.in-61.is)) c.e6.ensures
 
 pub e7-requires : goal.e7-requires
 e7-requires c =
@@ -50,7 +51,7 @@ e7-requires c =
     record { region = at.region refl; emission = at.emission refl }
 
 pub returns-in-62 : goal.returns-in-62
-returns-in-62 c = subst (λ e. IsWritten c.args.name e c.e7.result) (sym (terms-at c.args.model.now.facts c.args.name E7 c.in-62.is)) c.e7.ensures
+returns-in-62 c = subst (λ e. IsWritten c.args.name e c.e7.result) (sym (terms-at (places_of c.args.factors.now) c.args.model.now.facts c.args.name E7 c.in-62.is)) c.e7.ensures
 
 pub e8-requires : goal.e8-requires
 e8-requires c =
@@ -58,7 +59,7 @@ e8-requires c =
     record { region = at.region refl; emission = at.emission refl; year = at.year refl }
 
 pub returns-in-63 : goal.returns-in-63
-returns-in-63 c = subst (λ e. IsWritten c.args.name e c.e8.result) (sym (terms-at c.args.model.now.facts c.args.name E8 c.in-63.is)) c.e8.ensures
+returns-in-63 c = subst (λ e. IsWritten c.args.name e c.e8.result) (sym (terms-at (places_of c.args.factors.now) c.args.model.now.facts c.args.name E8 c.in-63.is)) c.e8.ensures
 
 pub e9-requires : goal.e9-requires
 e9-requires c =
@@ -69,4 +70,4 @@ e9-requires c =
 pub returns-in_default : goal.returns-in_default
 returns-in_default c =
     let is : c.args.name.eq ≡ E9 = search rules in
-    subst (λ e. IsWritten c.args.name e c.e9.result) (sym (terms-at c.args.model.now.facts c.args.name E9 is)) c.e9.ensures
+    subst (λ e. IsWritten c.args.name e c.e9.result) (sym (terms-at (places_of c.args.factors.now) c.args.model.now.facts c.args.name E9 is)) c.e9.ensures
