@@ -1,12 +1,12 @@
 -- What the data are: the sets as lists of names, and a value for each parameter and index, by a look-up in the list of the values given.
-use Rattle.std.specs.Prelude.{◌≡◌, ℕ, ℤ, pos, Bool, true, ◌&&◌, List, [], ◌∷◌, map, nat_eq, Option, None, Some, Contains, if◌then◌else◌}
+use Rattle.std.specs.Prelude.{◌≡◌, ℕ, ℤ, pos, Bool, true, ◌&&◌, List, [], ◌∷◌, map, filter, nat_eq, Option, None, Some, Contains, if◌then◌else◌}
 use Rattle.std.specs.Cmp.Lexicographic.{pointwise}
-use Rattle.std.specs.List.{find, flat_map}
+use Rattle.std.specs.List.{find, flat_map, range_with_len}
 use Rattle.std.specs.Option.{option_map, option_or}
 use Rattle.std.specs.Str.{bytes_eq}
 use Rattle.model_sets.specs.declared.param_numbers.TheConstants.{CAPACITY_OF_ONE_TECHNOLOGY_UNIT}
 use Rattle.model_sets.specs.Members.{SetLists, members}
-use Rattle.model_sets.specs.Params.{IsParam, is_used, param_at, subscript_sets}
+use Rattle.model_sets.specs.Params.{IsParam, is_used, param_at, param_count, subscript_sets}
 
 -- a value that was given: the parameter's number, the names of the index in the order of its subscripts, and the value in billionths
 pub record Given : Type 0 where
@@ -29,6 +29,10 @@ pub record Data : Type 0 where
 -- n is the number of a parameter that is used in the data: DiscountRateIdv only where the text has a statement for it
 abbrev pub IsUsedParam : Data → ℕ → Type 0
 IsUsedParam d n = IsParam n × (is_used d.second (param_at n).used ≡ true)
+
+-- the numbers of the parameters that are used in the data, in their order
+abbrev pub used_params : Data → List ℕ
+used_params d = filter (λ n. is_used d.second (param_at n).used) (range_with_len 1 param_count)
 
 -- whether the value was given for this parameter at this index
 abbrev pub is_given_at : ℕ → List (List ℕ) → Given → Bool
