@@ -34,12 +34,11 @@ fn investment_in_unit(
     ensures { known result ≡ number_of (investment_in_unit (places_of factors.now) model.now.facts r t y) }
 {
     let cost = capital_cost(model, r, t, y);
-    if model.second() {
-        let yearly = times(cost, recovery_factor(model, factors, r, t));
-        times(yearly, annuity(model, factors, r, t))
-    } else {
-        cost
+    if !model.second() {
+        return cost;
     }
+    let yearly = times(cost, recovery_factor(model, factors, r, t));
+    times(yearly, annuity(model, factors, r, t))
 }
 
 /// CC1: the investment is what is built times the investment in a unit.

@@ -22,14 +22,15 @@ use row_core::{Index, Row, RowName, Stopped};
 use std::alloc::Global;
 
 /// The row of a cost with this number (25 CC1 to 30 SV4, 31 OC1 to 34 OC4, 40 TDC1, 41 TDC2, 42 Acc4) at the index: what
-/// its equation says, written with whole numbers and without common divisor, its variable with a positive entry.
+/// its equation says, written with whole numbers and without common divisor, its variable with a positive entry. CC1 is
+/// that of the profile of the data.
 /// `None` comes exactly where the equation has no instance. Of SV1, SV2 and SV3 one stands: SV1 where what is built lasts
 /// past the last year and the region depreciates by the sinking fund at a rate above 0, SV2 where it lasts past the last
 /// year and the region depreciates by the straight line or has the rate 0, and else SV3.
 ///
 /// `factors` has one entry for each region, in their order: made at the region's DiscountRate in billionths, for at
 /// least the years from the first to the last, both included, and for lives of at least the longest OperationalLife
-/// there.
+/// there, and all with the same number of decimal places, 6 or 9, which are then those of the row's factors.
 ///
 /// Coefficients are made by multiplying and adding from left to right, those of one variable are added, and
 /// denominators are cleared. `Width` with the row's name comes exactly where there is an instance and a number

@@ -26,7 +26,7 @@ use std::alloc::Global;
 ///
 /// `factors` has one entry for each region, in their order: made at the region's DiscountRate in billionths, for at
 /// least the years from the first to the last, both included, and for lives of at least the longest OperationalLife
-/// there.
+/// there, and all with the same number of decimal places, 6 or 9, which are then those of the row's factors.
 ///
 /// Coefficients are made by multiplying and adding from left to right, those of one variable are added, and
 /// denominators are cleared. `Width` with the row's name comes exactly where there is an instance and a number

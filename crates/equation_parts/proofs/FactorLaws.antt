@@ -8,6 +8,7 @@ use Rattle.named_equations.specs.Positions.{count_of}
 use Rattle.named_equations.specs.RegionFactors.{AreFactorsOf, AreRegionFactors}
 use Rattle.named_equations.specs.Within.{IsRegion}
 
-pub factors-of : (d : Data) (factors : List Discounting) (r i : ℕ) (one : Discounting) → AreRegionFactors d factors → IsRegion d r → i ≡ r → one ≡ get_or factors i one → AreFactorsOf d r one
-factors-of d factors r i one all h same is =
+pub factors-of : (places : ℕ) (d : Data) (factors : List Discounting) (r i : ℕ) (one : Discounting) → AreRegionFactors places d factors → IsRegion d r → i ≡ r → one ≡ get_or factors i one
+    → AreFactorsOf places d r one
+factors-of places d factors r i one all h same is =
     all.each r one (slice_get_read factors (count_of d region) r one (sym all.one_each) h (subst (λ n. one ≡ get_or factors n one) same is))

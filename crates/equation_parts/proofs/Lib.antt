@@ -1,4 +1,5 @@
 pub mod FactorLaws
+pub mod Rates
 pub mod Splits
 pub mod ValueLaws
 pub mod WholeNumbers

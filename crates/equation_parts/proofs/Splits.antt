@@ -3,7 +3,7 @@ use Rattle.std.proofs.Common.{ℤ, pos, Option, Some, None}
 use Rattle.std.specs.Prelude.{◌<ℤ◌, unwrap_or, IsSomeAnd}
 use Rattle.model_sets.specs.declared.param_numbers.TheConstants.{YEAR_SPLIT}
 use Rattle.param_tables.specs.Built.{IsValueIn}
-use Rattle.param_tables.specs.RangeTable.{range_of}
+use Rattle.model_sets.specs.Params.{range_of}
 
 pub above_zero : (given : Option ℤ) → IsSomeAnd given (IsValueIn (range_of YEAR_SPLIT)) → pos 0 <ℤ unwrap_or given (pos 0)
 above_zero None h = absurd h

@@ -12,14 +12,15 @@ use Rattle.exact_num.proofs.Ring.{*ℤ-one}
 use Rattle.model_sets.specs.declared.param_numbers.TheConstants.{DISCOUNT_RATE, DEPRECIATION_METHOD, OPERATIONAL_LIFE}
 use Rattle.param_tables.specs.Built.{IsValueIn}
 use Rattle.param_tables.specs.Ranges.{billion}
-use Rattle.param_tables.specs.RangeTable.{range_of}
+use Rattle.model_sets.specs.Params.{range_of}
 use Rattle.equation_parts.proofs.ValueLaws.{positive-coded}
 
 -- ---- whole numbers
 
--- the value z is a whole number up to the greatest, and x is its fraction
+-- the value z is a whole number from 1 up to the greatest, and x is its fraction
 pub record IsWholeUpTo (greatest : ℕ) (z : ℤ) (x : Rational) : Type 0 where
   pub number : ℕ
+  pub some : 1 ≤ number
   pub top : x.top ≡ pos number
   pub short : number ≤ greatest
   pub is : number ≡ unsigned_abs z / 10 ^ 9
@@ -27,12 +28,13 @@ pub record IsWholeUpTo (greatest : ℕ) (z : ℤ) (x : Rational) : Type 0 where
 divided_again : (n : ℕ) → n ≡ n * billion / 10 ^ 9
 divided_again n = sym (mul-div_cancel n (omega arith))
 
-whole-is : (greatest n : ℕ) (z : ℤ) (x : Rational) → x ≡ lowest z (pos billion) → z ≡ pos (n * billion) → n ≤ greatest → IsWholeUpTo greatest z x
-whole-is greatest n z x e is to =
+whole-is : (greatest n : ℕ) (z : ℤ) (x : Rational) → x ≡ lowest z (pos billion) → z ≡ pos (n * billion) → 1 ≤ n → n ≤ greatest → IsWholeUpTo greatest z x
+whole-is greatest n z x e is from to =
     let nonzero = nonzero_of_pos (pos billion) (omega (arith, ints)) in
     let same : whole (pos n) ≡ lowest z (pos billion) = lowest_is z (pos billion) (whole (pos n)) nonzero (whole-IsLowest (pos n)) (sym is ∙ sym (*ℤ-one z)) in
     record {
       number = n;
+      some = from;
       top = ap (λ y. y.top) (e ∙ sym same);
       short = to;
       is = divided_again n ∙ ap (λ y. unsigned_abs y / 10 ^ 9) (sym is);
@@ -41,12 +43,12 @@ whole-is greatest n z x e is to =
 -- a life that data give
 pub life-given : (given : Option ℤ) (x : Rational) → x ≡ lowest (unwrap_or given (pos 0)) (pos billion) → IsSomeAnd given (IsValueIn (range_of OPERATIONAL_LIFE)) → IsWholeUpTo 200 (unwrap_or given (pos 0)) x
 life-given None x e h = absurd h
-life-given (Some z) x e h = let (n, is, from, to) = h.within in whole-is 200 n z x e is to
+life-given (Some z) x e h = let (n, is, from, to) = h.within in whole-is 200 n z x e is from to
 
 -- a method that data give
 pub method-given : (given : Option ℤ) (x : Rational) → x ≡ lowest (unwrap_or given (pos 0)) (pos billion) → IsSomeAnd given (IsValueIn (range_of DEPRECIATION_METHOD)) → IsWholeUpTo 2 (unwrap_or given (pos 0)) x
 method-given None x e h = absurd h
-method-given (Some z) x e h = elim h.within [ inl one ↦ whole-is 2 1 z x e one (omega arith) | inr two ↦ whole-is 2 2 z x e two (omega arith) ]
+method-given (Some z) x e h = elim h.within [ inl one ↦ whole-is 2 1 z x e one (omega arith) (omega arith) | inr two ↦ whole-is 2 2 z x e two (omega arith) (omega arith) ]
 
 -- ---- rates
 

@@ -3,6 +3,7 @@
 ghost use Rattle.std.specs.Prelude.{◌≡◌, ◌<◌, ◌≤ℤ◌, nat_lt, pos, true, unsigned_abs, unwrap_or};
 ghost use Rattle.model_sets.specs.Data.{IsUsedParam, value_at};
 ghost use Rattle.model_sets.specs.Params.{range_of};
+ghost use Rattle.model_sets.specs.declared.params.Range.TheVariants.{ZeroToOne};
 ghost use Rattle.named_equations.specs.WrittenFactors.{life_of, method_of, own_rate_of, rate_of};
 ghost use Rattle.param_tables.specs.Positions.{IsIndexOf, names_at};
 ghost use Rattle.named_equations.specs.Within.{IsRegion, IsTechnology};
@@ -42,7 +43,7 @@ pub fn has_rate(model: &ModelData, r: u16) -> bool
 }
 
 /// DiscountRate[r], in billionths, from 0 to 10^9.
-pub fn rate(model: &ModelData, r: u16) -> i128
+pub fn discount_rate(model: &ModelData, r: u16) -> i128
     requires region { IsRegion model.now.facts r }
     ensures least { pos 0 ≤ℤ result }
     ensures most { result ≤ℤ pos 1000000000 }

@@ -147,10 +147,10 @@ entry_of_sum v own w is j name row is_row other has same =
 abbrev Stands : List Row → Var → Type 0
 Stands rows v = Has (entry_variables rows) v
 
-stands_in : (d : Data) (rows : List Row) (name : RowName) (v : Var) → AreRowsOf d (instances d) rows → IsInstance d name
-    → ((row : Row) → IsNamedRow d name (terms_at d name) row → Has (variables_of row.entries.items) v) → Stands rows v
-stands_in d rows name v are instance entry =
-    let found = row-of d (instances d) rows name are (Has-instance d name instance) in
+stands_in : (places : ℕ) (d : Data) (rows : List Row) (name : RowName) (v : Var) → AreRowsOf places d (instances d) rows → IsInstance d name
+    → ((row : Row) → IsNamedRow places d name (terms_at places d name) row → Has (variables_of row.entries.items) v) → Stands rows v
+stands_in places d rows name v are instance entry =
+    let found = row-of places d (instances d) rows name are (Has-instance d name instance) in
     Has-part (λ (row : Row). variables_of row.entries.items) rows found.0 v found.1.0 (entry found.0 found.1.1)
 
 position_in : (d : Data) (k i : ℕ) → In d k i → i < count_of d k
@@ -160,13 +160,13 @@ other_kind : (v w : Var) → v.kind ≢ w.kind → v ≢ w
 other_kind v w other same = other (ap (λ (u : Var). u.kind) same)
 
 -- RateOfActivity, in the sum over the modes
-activity_stands : (d : Data) (rows : List Row) (r l t m y : ℕ) → AreRowsOf d (instances d) rows → In d sets.region r → In d sets.timeslice l → In d sets.technology t → In d sets.mode m → In d sets.year y
+activity_stands : (places : ℕ) (d : Data) (rows : List Row) (r l t m y : ℕ) → AreRowsOf places d (instances d) rows → In d sets.region r → In d sets.timeslice l → In d sets.technology t → In d sets.mode m → In d sets.year y
     → Stands rows (rate_of_activity r l t m y)
-activity_stands d rows r l t m y are in_r in_l in_t in_m in_y =
+activity_stands places d rows r l t m y are in_r in_l in_t in_m in_y =
     let v = rate_of_activity r l t m y in
     let name = name_at 4 (at_rlty r l t y) in
     let inside = position_in d sets.mode m in_m in
-    stands_in d rows name v are
+    stands_in places d rows name v are
     (record { equation = (omega arith, omega arith); within = index-from_values d (subscripts_of 4) (at_rlty r l t y) (values-rlty d r l t y in_r in_l in_t in_y); stands = refl })
     (λ row is.
     entry_of_sum v (rate_of_total_activity r l t y) (λ i. rate_of_activity r l t i y) (modes d) m name row is.written (other_kind (rate_of_total_activity r l t y) v (omega arith))
@@ -176,21 +176,21 @@ activity_stands d rows r l t m y are in_r in_l in_t in_m in_y =
 counts_itself : (d : Data) (r t y : ℕ) → 1 ≤ life_of d r t → still_counts d r t y y ≡ true
 counts_itself d r t y life = both_true (le-leb (number_of_year d y) (number_of_year d y) (omega arith)) (lt-ltb (number_of_year d y) (number_of_year d y + life_of d r t) (omega (arith, life)))
 
-capacity_stands : (d : Data) (rows : List Row) (r t y : ℕ) → AreComplete d → AreRowsOf d (instances d) rows → In d sets.region r → In d sets.technology t → In d sets.year y → Stands rows (new_capacity r t y)
-capacity_stands d rows r t y complete are in_r in_t in_y =
+capacity_stands : (places : ℕ) (d : Data) (rows : List Row) (r t y : ℕ) → AreComplete d → AreRowsOf places d (instances d) rows → In d sets.region r → In d sets.technology t → In d sets.year y → Stands rows (new_capacity r t y)
+capacity_stands places d rows r t y complete are in_r in_t in_y =
     let v = new_capacity r t y in
     let name = name_at 2 (at_rty r t y) in
     let inside = position_in d sets.year y in_y in
-    stands_in d rows name v are
+    stands_in places d rows name v are
     (record { equation = (omega arith, omega arith); within = index-from_values d (subscripts_of 2) (at_rty r t y) (values-rty d r t y in_r in_t in_y); stands = refl })
     (λ row is.
     entry_of_sum v (accumulated_new_capacity r t y) (λ i. new_capacity r t i) (years_counting d r t y) y name row is.written (other_kind (accumulated_new_capacity r t y) v (omega arith))
     (Has-filter (still_counts d r t y) (all_years d) y (Has-range 0 (count_of d sets.year) y (omega arith) (omega (arith, inside))) (counts_itself d r t y (life-at_least d r t complete in_r in_t))) refl)
 
 -- Trade, in the exchange of its two regions
-trade_stands : (d : Data) (rows : List Row) (r rr l f y : ℕ) → AreRowsOf d (instances d) rows → In d sets.region r → In d sets.region rr → In d sets.timeslice l → In d sets.fuel f → In d sets.year y
+trade_stands : (places : ℕ) (d : Data) (rows : List Row) (r rr l f y : ℕ) → AreRowsOf places d (instances d) rows → In d sets.region r → In d sets.region rr → In d sets.timeslice l → In d sets.fuel f → In d sets.year y
     → Stands rows (trade r rr l f y)
-trade_stands d rows r rr l f y are in_r in_rr in_l in_f in_y =
+trade_stands places d rows r rr l f y are in_r in_rr in_l in_f in_y =
     let v = trade r rr l f y in
     let name = name_at 16 (at_rrrlfy r rr l f y) in
     let one : alone v v ≡ pos 1 = alone-self v in
@@ -198,10 +198,10 @@ trade_stands d rows r rr l f y are in_r in_rr in_l in_f in_y =
     let last : ℤ = (pos 1 *ℤ alone v (trade rr r l f y)) +ℤ pos 0 in
     let n : ℤ = (pos 1 *ℤ alone v v) +ℤ last in
     let more : pos 0 <ℤ n = omega (arith, ints, one, other) in
-    stands_in d rows name v are
+    stands_in places d rows name v are
     (record { equation = (omega arith, omega arith); within = index-from_values d (subscripts_of 16) (at_rrrlfy r rr l f y) (values-rrrlfy d r rr l f y in_r in_rr in_l in_f in_y); stands = refl })
     (λ row is.
-    entry-from_sum v name (terms_at d name) row n is.written (pos 1, last, over_one (pos 1), (pos 1, pos 0, over_one (pos 1), refl, refl), refl)
+    entry-from_sum v name (terms_at places d name) row n is.written (pos 1, last, over_one (pos 1), (pos 1, pos 0, over_one (pos 1), refl, refl), refl)
     (never_greater (int_cmp n (pos 0)) (int_cmp-greater n (pos 0) more)))
 
 -- ---- the whole
@@ -210,31 +210,31 @@ never_zero : (z : ℤ) → pos 0 <ℤ z → z ≢ pos 0
 never_zero z positive none = absurd (omega (arith, ints, positive, none))
 
 -- the variable of a definition
-defined_stands : (d : Data) (rows : List Row) (name : RowName) (v : Var) → AreRowsOf d (instances d) rows → IsInstance d name → variable_of name ≡ Some v → Stands rows v
-defined_stands d rows name v are instance defines =
-    stands_in d rows name v are instance
+defined_stands : (places : ℕ) (d : Data) (rows : List Row) (name : RowName) (v : Var) → AreRowsOf places d (instances d) rows → IsInstance d name → variable_of name ≡ Some v → Stands rows v
+defined_stands places d rows name v are instance defines =
+    stands_in places d rows name v are instance
     (λ row is. has-entry row.entries.items v (never_zero (number_at row.entries.items v) (is.defines v defines)))
 
-chosen_stands : (d : Data) (rows : List Row) (v : Var) → AreComplete d → AreRowsOf d (instances d) rows → AreValues d (subscripts_of_kind v.kind) v.index → IsChosen v → Stands rows v
-chosen_stands d rows v complete are at (inl activity) =
+chosen_stands : (places : ℕ) (d : Data) (rows : List Row) (v : Var) → AreComplete d → AreRowsOf places d (instances d) rows → AreValues d (subscripts_of_kind v.kind) v.index → IsChosen v → Stands rows v
+chosen_stands places d rows v complete are at (inl activity) =
     let i = v.index in
     let one = subst (λ k. AreValues d (subscripts_of_kind k) i) activity at in
     let same : v ≡ rate_of_activity i.region i.slice i.tech i.mode i.year = ap (λ k. variable k i) activity ∙ ap (variable 1) (index-tidied d (subscripts_of_kind 1) i one) in
-    subst (Stands rows) (sym same) (activity_stands d rows i.region i.slice i.tech i.mode i.year are one.region one.slice one.tech one.mode one.year)
-chosen_stands d rows v complete are at (inr (inl capacity)) =
+    subst (Stands rows) (sym same) (activity_stands places d rows i.region i.slice i.tech i.mode i.year are one.region one.slice one.tech one.mode one.year)
+chosen_stands places d rows v complete are at (inr (inl capacity)) =
     let i = v.index in
     let two = subst (λ k. AreValues d (subscripts_of_kind k) i) capacity at in
     let same : v ≡ new_capacity i.region i.tech i.year = ap (λ k. variable k i) capacity ∙ ap (variable 2) (index-tidied d (subscripts_of_kind 2) i two) in
-    subst (Stands rows) (sym same) (capacity_stands d rows i.region i.tech i.year complete are two.region two.tech two.year)
-chosen_stands d rows v complete are at (inr (inr trades)) =
+    subst (Stands rows) (sym same) (capacity_stands places d rows i.region i.tech i.year complete are two.region two.tech two.year)
+chosen_stands places d rows v complete are at (inr (inr trades)) =
     let i = v.index in
     let three = subst (λ k. AreValues d (subscripts_of_kind k) i) trades.0 at in
     let same : v ≡ trade i.region i.other i.slice i.fuel i.year = ap (λ k. variable k i) trades.0 ∙ ap (variable 3) (index-tidied d (subscripts_of_kind 3) i three) in
-    subst (Stands rows) (sym same) (trade_stands d rows i.region i.other i.slice i.fuel i.year are three.region three.other three.slice three.fuel three.year)
+    subst (Stands rows) (sym same) (trade_stands places d rows i.region i.other i.slice i.fuel i.year are three.region three.other three.slice three.fuel three.year)
 
-pub all-stand : (d : Data) (rows : List Row) (v : Var) → AreComplete d → AreRowsOf d (instances d) rows → exists d v ≡ true → Has (entry_variables rows) v
-all-stand d rows v complete are there =
+pub all-stand : (places : ℕ) (d : Data) (rows : List Row) (v : Var) → AreComplete d → AreRowsOf places d (instances d) rows → exists d v ≡ true → Has (entry_variables rows) v
+all-stand places d rows v complete are there =
     elim (is-found d v there) [
-      | inl chosen ↦ chosen_stands d rows v complete are (values-from_index d (subscripts_of_kind v.kind) v.index (exists-within d v there)) chosen
-      | inr found ↦ defined_stands d rows found.name v are found.instance found.defines
+      | inl chosen ↦ chosen_stands places d rows v complete are (values-from_index d (subscripts_of_kind v.kind) v.index (exists-within d v there)) chosen
+      | inr found ↦ defined_stands places d rows found.name v are found.instance found.defines
     ]

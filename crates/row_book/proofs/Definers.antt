@@ -207,24 +207,24 @@ equal_where Equal e = refl
 equal_where Most e = absurd (cc e)
 
 -- the rows of the definitions are equations, and no others
-equality-each : (d : Data) (i : Index) → EachFrom (λ n. is_equality (terms_at d (name_at n i)).sense ≡ not (nat_eq (kind_of n) 0)) 1 64
-equality-each d i = (refl, (refl, (refl, (refl, (refl, (refl, (refl, (refl, (refl, (refl, (refl, (refl, (refl, (refl, (refl, (refl, (refl, (refl, (refl, (refl, (refl, (refl, (refl, (refl, (refl, (refl, (refl, (refl, (refl, (refl, (refl, (refl, (refl, (refl, (refl, (refl, (refl, (refl, (refl, (refl, (refl, (refl, (refl, (refl, (refl, (refl, (refl, (refl, (refl, (refl, (refl, (refl, (refl, (refl, (refl, (refl, (refl, (refl, (refl, (refl, (refl, (refl, (refl, (refl, tt))))))))))))))))))))))))))))))))))))))))))))))))))))))))))))))))
+equality-each : (places : ℕ) (d : Data) (i : Index) → EachFrom (λ n. is_equality (terms_at places d (name_at n i)).sense ≡ not (nat_eq (kind_of n) 0)) 1 64
+equality-each places d i = (refl, (refl, (refl, (refl, (refl, (refl, (refl, (refl, (refl, (refl, (refl, (refl, (refl, (refl, (refl, (refl, (refl, (refl, (refl, (refl, (refl, (refl, (refl, (refl, (refl, (refl, (refl, (refl, (refl, (refl, (refl, (refl, (refl, (refl, (refl, (refl, (refl, (refl, (refl, (refl, (refl, (refl, (refl, (refl, (refl, (refl, (refl, (refl, (refl, (refl, (refl, (refl, (refl, (refl, (refl, (refl, (refl, (refl, (refl, (refl, (refl, (refl, (refl, (refl, tt))))))))))))))))))))))))))))))))))))))))))))))))))))))))))))))))
 
-equality-at : (d : Data) (name : RowName) → IsInstance d name → is_equality (terms_at d name).sense ≡ not (nat_eq (kind_of name.eq) 0)
-equality-at d name instance =
-    at_number (λ n. is_equality (terms_at d (name_at n name.index)).sense ≡ not (nat_eq (kind_of n) 0)) 1 64 name.eq (equality-each d name.index)
+equality-at : (places : ℕ) (d : Data) (name : RowName) → IsInstance d name → is_equality (terms_at places d name).sense ≡ not (nat_eq (kind_of name.eq) 0)
+equality-at places d name instance =
+    at_number (λ n. is_equality (terms_at places d (name_at n name.index)).sense ≡ not (nat_eq (kind_of n) 0)) 1 64 name.eq (equality-each places d name.index)
     instance.equation.0 (omega (arith, instance.equation.1))
 
-pub definer-equation : (d : Data) (name : RowName) (v : Var) → IsInstance d name → variable_of name ≡ Some v → (terms_at d name).sense ≡ Equal
-definer-equation d name v instance defines =
-    equal_where (terms_at d name).sense
-    (equality-at d name instance ∙ ap not (ne_eqb (kind_of name.eq) 0 (is-definer d name v instance defines).some))
+pub definer-equation : (places : ℕ) (d : Data) (name : RowName) (v : Var) → IsInstance d name → variable_of name ≡ Some v → (terms_at places d name).sense ≡ Equal
+definer-equation places d name v instance defines =
+    equal_where (terms_at places d name).sense
+    (equality-at places d name instance ∙ ap not (ne_eqb (kind_of name.eq) 0 (is-definer d name v instance defines).some))
 
 -- an equation that defines nothing is an exchange from a later region to an earlier one
-pub is-exchange : (d : Data) (name : RowName) → IsInstance d name → variable_of name ≡ None → (terms_at d name).sense ≡ Equal
+pub is-exchange : (places : ℕ) (d : Data) (name : RowName) → IsInstance d name → variable_of name ≡ None → (terms_at places d name).sense ≡ Equal
     → (name.eq ≡ 16) × (nat_le name.index.region name.index.other ≡ false)
-is-exchange d name instance none equal =
-    by_test (nat_eq (kind_of name.eq) 0) (nat_eq (kind_of name.eq) 3) refl (sym (equality-at d name instance) ∙ ap is_equality equal) (sym (defined-by_kind name instance.equation) ∙ none)
+is-exchange places d name instance none equal =
+    by_test (nat_eq (kind_of name.eq) 0) (nat_eq (kind_of name.eq) 3) refl (sym (equality-at places d name instance) ∙ ap is_equality equal) (sym (defined-by_kind name instance.equation) ∙ none)
   where
     by_test : (b c : Bool) → nat_eq (kind_of name.eq) 3 ≡ c → not b ≡ true
         → (if b then None else if c then other_trade name.index else Some (variable (kind_of name.eq) (tidied (subscripts_of name.eq) name.index))) ≡ None

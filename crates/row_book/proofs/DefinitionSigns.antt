@@ -51,25 +51,25 @@ none_bounded d name v instance defines bounded test =
 
 -- ---- all equations
 
-pub definition-parts : (d : Data) (name : RowName) (v : Var) → AreComplete d → IsInstance d name → variable_of name ≡ Some v → IsBounded v → MakesOfParts v (terms_at d name)
-definition-parts d name v complete instance defines bounded =
+pub definition-parts : (places : ℕ) (d : Data) (name : RowName) (v : Var) → AreComplete d → IsInstance d name → variable_of name ≡ Some v → IsBounded v → MakesOfParts v (terms_at places d name)
+definition-parts places d name v complete instance defines bounded =
     let at = values-from_index d (subscripts_of name.eq) name.index instance.within in
     elim (cases_lt name.eq 25) [
-      | inl below ↦ at_number (SignsAt d name.index) 1 24 name.eq (energy-signs d name.index) instance.equation.0 below complete at v defines bounded
+      | inl below ↦ at_number (SignsAt places d name.index) 1 24 name.eq (energy-signs places d name.index) instance.equation.0 below complete at v defines bounded
       | inr from ↦
           elim (cases_lt name.eq 47) [
             | inl below ↦ absurd (none_bounded d name v instance defines bounded (passes-at defines_no_bounded 25 22 name.eq costs-free from below))
             | inr past ↦
                 elim (cases_lt name.eq 61) [
-                  | inl below ↦ at_number (SignsAt d name.index) 47 14 name.eq (limit-signs d name.index) past below complete at v defines bounded
+                  | inl below ↦ at_number (SignsAt places d name.index) 47 14 name.eq (limit-signs places d name.index) past below complete at v defines bounded
                   | inr last ↦ absurd (none_bounded d name v instance defines bounded (passes-at defines_no_bounded 61 4 name.eq emissions-free last (omega (arith, instance.equation.1))))
                 ]
           ]
     ]
 
-pub all-signs : (d : Data) (rows : List Row) → AreComplete d → AreRowsOf d (instances d) rows → HaveSigns rows
-all-signs d rows complete are i row v at defines bounded =
+pub all-signs : (places : ℕ) (d : Data) (rows : List Row) → AreComplete d → AreRowsOf places d (instances d) rows → HaveSigns rows
+all-signs places d rows complete are i row v at defines bounded =
     let names = instances d in
-    let a = row-at d names rows i row are at in
-    row-parts v a.name (terms_at d a.name) row a.is.written
-    (definition-parts d a.name v complete (all-at (IsInstance d) names i a.name (all-instances d) a.at) (ap variable_of (sym a.is.written.named) ∙ defines) bounded)
+    let a = row-at places d names rows i row are at in
+    row-parts v a.name (terms_at places d a.name) row a.is.written
+    (definition-parts places d a.name v complete (all-at (IsInstance d) names i a.name (all-instances d) a.at) (ap variable_of (sym a.is.written.named) ∙ defines) bounded)

@@ -46,6 +46,7 @@ data_of regions unit = record {
   sets = regions ∷ (codes "T" ∷ []) ∷ (codes "F" ∷ []) ∷ [] ∷ (codes "1" ∷ []) ∷ (codes "D" ∷ []) ∷ (codes "2020" ∷ []) ∷ [] ∷ [] ∷ [] ∷ [] ∷ [];
   given = [];
   defaults = defaults unit;
+  second = false;
 }
 
 abbrev base : Data
@@ -76,16 +77,16 @@ twice : ascends row_name_cmp (at_zeros 2 ∷ at_zeros 2 ∷ []) ≡ false
 twice = refl
 
 -- a row too few, and one too many
-too_few : (name : RowName) → AreRowsOf base (name ∷ []) [] → ⊥
+too_few : (name : RowName) → AreRowsOf 6 base (name ∷ []) [] → ⊥
 too_few name are = are
 
-too_many : (row : Row) → AreRowsOf base [] (row ∷ []) → ⊥
+too_many : (row : Row) → AreRowsOf 6 base [] (row ∷ []) → ⊥
 too_many row are = are
 
 -- ---- entries
 
 -- eight entries in the rows of CAa1, EBa10, EBa11 and TAC1 together
-some_entries : entries_in base (map at_zeros (2 ∷ 16 ∷ 17 ∷ 50 ∷ [])) ≡ 8
+some_entries : entries_in 6 base (map at_zeros (2 ∷ 16 ∷ 17 ∷ 50 ∷ [])) ≡ 8
 unfolding lowest times plus gcd_of gcd_within
 some_entries = refl
 
@@ -102,10 +103,10 @@ past_costs : is_from 25 34 35 ≡ false
 past_costs = refl
 
 -- AAC2, whose row is one of a limit, and E8, of emissions
-upper_limit : (terms_at base (at_zeros 48)).sense ≡ Most
+upper_limit : (terms_at 6 base (at_zeros 48)).sense ≡ Most
 upper_limit = refl
 
-emission_limit : (terms_at base (at_zeros 63)).right ≡ Total (Billionths minus_one) (Negative (Billionths (pos 0)))
+emission_limit : (terms_at 6 base (at_zeros 63)).right ≡ Total (Billionths minus_one) (Negative (Billionths (pos 0)))
 emission_limit = refl
 
 -- ---- where they are asked
@@ -129,11 +130,11 @@ no_instance : instance_at base 10 (index 0 0 0 0 0 0 0 0) ≡ []
 no_instance = refl
 
 -- the two entries of CAa1 keep the limit, and with one more before them they don't
-at_the_limit : CanBeMade base 3999998 (at_zeros 2 ∷ [])
+at_the_limit : CanBeMade 6 base 3999998 (at_zeros 2 ∷ [])
 unfolding all_fit in_range gcd_of gcd_within
 at_the_limit = record { fit = refl; few = omega arith }
 
-past_the_limit : HasTooMany base 3999999 (at_zeros 2 ∷ []) (at_zeros 2)
+past_the_limit : HasTooMany 6 base 3999999 (at_zeros 2 ∷ []) (at_zeros 2)
 unfolding all_fit in_range gcd_of gcd_within
 past_the_limit = record {
   stops = record { earlier = []; later = []; split = refl; made = record { fit = refl; few = omega arith } };
@@ -142,16 +143,16 @@ past_the_limit = record {
 }
 
 -- with a capacity of 2^127 units of activity a row isn't written
-wide : row_fits (data_of (codes "R" ∷ []) (whole (2 ^ 127))) (at_zeros 6) ≡ false
+wide : row_fits 6 (data_of (codes "R" ∷ []) (whole (2 ^ 127))) (at_zeros 6) ≡ false
 unfolding all_fit in_range product_formed sum_formed lowest times plus gcd_of gcd_within
 wide = refl
 
 -- a row that fits isn't too wide, whatever stands around it
-not_wide : (before : ℕ) (names : List RowName) → IsTooWide base before names (at_zeros 6) → ⊥
+not_wide : (before : ℕ) (names : List RowName) → IsTooWide 6 base before names (at_zeros 6) → ⊥
 unfolding all_fit in_range product_formed sum_formed lowest times plus gcd_of gcd_within
 not_wide before names too_wide =
-    let fits : row_fits base (at_zeros 6) ≡ true = refl in
-    let fails : row_fits base (at_zeros 6) ≡ false = too_wide.wide in
+    let fits : row_fits 6 base (at_zeros 6) ≡ true = refl in
+    let fails : row_fits 6 base (at_zeros 6) ≡ false = too_wide.wide in
     cc
 
 -- ---- variables

@@ -9,12 +9,14 @@ use Rattle.exact_num.specs.Rational.{IsLowest, Rational, plus}
 use Rattle.exact_num.proofs.Integers.{nonzero_of_pos}
 use Rattle.exact_num.proofs.RationalLaws.{lowest-IsLowest, negated-IsLowest, plus-IsLowest, times-IsLowest, whole-IsLowest}
 use Rattle.row_core.specs.declared.Var.{Var}
-use Rattle.row_core.specs.Amounts.{Amount, Billionths, Millionths, Negative, Product, Total, Whole, value_of_amount}
+use Rattle.row_core.specs.Amounts.{Amount, Billionths, Factor, Negative, Product, Total, Whole, value_of_amount}
 use Rattle.row_core.specs.EquationTerms.{EquationTerms, coefficients_of, terms_of}
 use Rattle.row_core.specs.Order.{var_cmp}
 use Rattle.row_core.specs.Terms.{gathered_onto, with_term}
 use Rattle.row_core.proofs.DivisionLaws.{ArePositive}
 use Rattle.row_core.proofs.Orders.{var_cmp_exact}
+use Rattle.named_equations.specs.Notation.{factor_scale}
+use Rattle.named_equations.proofs.TermShapes.{factor_scale-positive}
 
 -- ---- terms by variable
 
@@ -43,7 +45,7 @@ gathered-keep P merge terms (new ∷ more) of_terms of_more = gathered-keep P me
 pub value_of_amount-IsLowest : (a : Amount) → IsLowest (value_of_amount a)
 value_of_amount-IsLowest (Whole n) = whole-IsLowest n
 value_of_amount-IsLowest (Billionths n) = lowest-IsLowest n (pos 1000000000) (nonzero_of_pos (pos 1000000000) (omega (arith, ints)))
-value_of_amount-IsLowest (Millionths n) = lowest-IsLowest n (pos 1000000) (nonzero_of_pos (pos 1000000) (omega (arith, ints)))
+value_of_amount-IsLowest (Factor places n) = lowest-IsLowest n (factor_scale places) (nonzero_of_pos (factor_scale places) (factor_scale-positive places))
 value_of_amount-IsLowest (Product a b) = times-IsLowest (value_of_amount a) (value_of_amount b) (value_of_amount-IsLowest a) (value_of_amount-IsLowest b)
 value_of_amount-IsLowest (Total a b) = plus-IsLowest (value_of_amount a) (value_of_amount b) (value_of_amount-IsLowest a) (value_of_amount-IsLowest b)
 value_of_amount-IsLowest (Negative a) = negated-IsLowest (value_of_amount a) (value_of_amount-IsLowest a)

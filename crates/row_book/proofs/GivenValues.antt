@@ -4,19 +4,18 @@ use Rattle.std.specs.List.{flat_map}
 use Rattle.std.specs.Prelude.{◌≤ℤ◌, IsSomeAnd, ⊤, slice_index_or, unsigned_abs, unwrap_or}
 use Rattle.std.proofs.lemmas.Int.{ints}
 use Rattle.std.proofs.Math.Nat.{mul-div_cancel}
-use Rattle.model_sets.specs.Data.{Data, indices_over, value_at}
+use Rattle.model_sets.specs.Data.{Data, IsUsedParam, indices_over, value_at}
 use Rattle.model_sets.specs.Members.{SetLists, members}
 use Rattle.model_sets.specs.Names as sets
 use Rattle.model_sets.specs.declared.param_numbers.TheConstants.{OPERATIONAL_LIFE}
-use Rattle.model_sets.specs.Params.{IsUsedParam, subscript_sets}
+use Rattle.model_sets.specs.Params.{range_of, subscript_sets}
 use Rattle.named_equations.specs.Parameters.{region_name, technology_name, value_of}
 use Rattle.named_equations.specs.WrittenFactors.{life_of}
 use Rattle.named_equations.proofs.InstanceTests.{Contains-from_Has, Has}
 use Rattle.param_tables.specs.Built.{AreComplete, IsValueIn}
-use Rattle.param_tables.specs.RangeTable.{range_of}
 use Rattle.param_tables.specs.Ranges.{IsInRange, billion}
-use Rattle.param_tables.specs.declared.ranges.Range.{Range}
-use Rattle.param_tables.specs.declared.ranges.Range.TheVariants.{Any, AtLeastZero, AboveZero, ZeroToOne, OneOrTwo, Lifetime, ZeroOnly, MinusOneOrAtLeastZero}
+use Rattle.model_sets.specs.declared.params.Range.{Range}
+use Rattle.model_sets.specs.declared.params.Range.TheVariants.{Any, AtLeastZero, AboveZero, ZeroToOne, OneOrTwo, Lifetime, ZeroOnly, MinusOneOrAtLeastZero}
 use Rattle.row_book.proofs.Elements.{Has-map}
 use Rattle.row_book.proofs.Subscripts.{In}
 
@@ -68,7 +67,7 @@ given None P h = absurd h
 given (Some z) P h = h
 
 -- the value lies in the range of its parameter
-pub value-in_range : (d : Data) (p : ℕ) (names : List (List ℕ)) → AreComplete d → IsUsedParam p → AreNames d.sets (subscript_sets p) names → IsInRange (range_of p) (value_of d p names)
+pub value-in_range : (d : Data) (p : ℕ) (names : List (List ℕ)) → AreComplete d → IsUsedParam d p → AreNames d.sets (subscript_sets p) names → IsInRange (range_of p) (value_of d p names)
 value-in_range d p names complete used are =
     (given (value_at d p names) (IsValueIn (range_of p))
     (complete.values p used names (Contains-from_Has (indices_over d.sets (subscript_sets p)) names (has-names d.sets (subscript_sets p) names are)))).within
@@ -95,7 +94,7 @@ from_zero Lifetime v test (n, is, least, most) = subst (λ z. pos 0 ≤ℤ z) (s
 from_zero ZeroOnly v test within = omega (arith, ints, within)
 from_zero MinusOneOrAtLeastZero v test within = absurd (cc test)
 
-pub value-at_least : (d : Data) (p : ℕ) (names : List (List ℕ)) → AreComplete d → IsUsedParam p → is_from_zero (range_of p) ≡ true → AreNames d.sets (subscript_sets p) names → pos 0 ≤ℤ value_of d p names
+pub value-at_least : (d : Data) (p : ℕ) (names : List (List ℕ)) → AreComplete d → IsUsedParam d p → is_from_zero (range_of p) ≡ true → AreNames d.sets (subscript_sets p) names → pos 0 ≤ℤ value_of d p names
 value-at_least d p names complete used from are = from_zero (range_of p) (value_of d p names) from (value-in_range d p names complete used are)
 
 -- ---- lives
@@ -109,4 +108,4 @@ years_of v (n, is, least, most) =
 pub life-at_least : (d : Data) (r t : ℕ) → AreComplete d → In d sets.region r → In d sets.technology t → 1 ≤ life_of d r t
 life-at_least d r t complete in_r in_t =
     years_of (value_of d OPERATIONAL_LIFE (region_name d r ∷ technology_name d t ∷ []))
-    (value-in_range d OPERATIONAL_LIFE (region_name d r ∷ technology_name d t ∷ []) complete (omega arith, omega arith) (Has-member d sets.region r in_r, (Has-member d sets.technology t in_t, tt)))
+    (value-in_range d OPERATIONAL_LIFE (region_name d r ∷ technology_name d t ∷ []) complete ((omega arith, omega arith), refl) (Has-member d sets.region r in_r, (Has-member d sets.technology t in_t, tt)))

@@ -17,12 +17,12 @@ capacity-stands : (d : Data) (name : RowName) → 2 ≤ name.eq → name.eq ≤ 
 capacity-stands d name from to =
     at_number (λ n. stands_at d n name.index ≡ true) 2 5 name.eq (refl, (refl, (refl, (refl, (refl, tt))))) from (omega (arith, to))
 
-capacity-terms : (d : Data) (name : RowName) → 2 ≤ name.eq → name.eq ≤ 6 → terms_at d name ≡ capacity.terms_at d name
-capacity-terms d name from to =
-    at_number (λ n. terms_at d (name_at n name.index) ≡ capacity.terms_at d (name_at n name.index)) 2 5 name.eq (refl, (refl, (refl, (refl, (refl, tt))))) from (omega (arith, to))
+capacity-terms : (places : ℕ) (d : Data) (name : RowName) → 2 ≤ name.eq → name.eq ≤ 6 → terms_at places d name ≡ capacity.terms_at d name
+capacity-terms places d name from to =
+    at_number (λ n. terms_at places d (name_at n name.index) ≡ capacity.terms_at d (name_at n name.index)) 2 5 name.eq (refl, (refl, (refl, (refl, (refl, tt))))) from (omega (arith, to))
 
-pub capacity-stops : (d : Data) (name : RowName) (stopped : Stopped) → 2 ≤ name.eq → name.eq ≤ 6
-    → IsStop (Place.Row name) (all_fit (equation_formed (capacity.terms_at d name))) stopped → IsStop (Place.Row name) (not (stands_at d name.eq name.index) || row_fits d name) stopped
-capacity-stops d name stopped from to stops =
+pub capacity-stops : (places : ℕ) (d : Data) (name : RowName) (stopped : Stopped) → 2 ≤ name.eq → name.eq ≤ 6
+    → IsStop (Place.Row name) (all_fit (equation_formed (capacity.terms_at d name))) stopped → IsStop (Place.Row name) (not (stands_at d name.eq name.index) || row_fits places d name) stopped
+capacity-stops places d name stopped from to stops =
     subst (λ b. IsStop (Place.Row name) b stopped)
-    (sym (ap (λ b. not b || row_fits d name) (capacity-stands d name from to) ∙ ap (λ e. all_fit (equation_formed e)) (capacity-terms d name from to))) stops
+    (sym (ap (λ b. not b || row_fits places d name) (capacity-stands d name from to) ∙ ap (λ e. all_fit (equation_formed e)) (capacity-terms places d name from to))) stops

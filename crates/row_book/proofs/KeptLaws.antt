@@ -17,12 +17,12 @@ use Rattle.row_book.proofs.Triangles.{triangular}
 use Rattle.row_book.proofs.Within.{names-of_rows}
 
 -- the rows of all instances, and their variables
-pub made-book : (d : Data) (rows : List Row) (vars : List Var) → AreComplete d → AreRowsOf d (instances d) rows → AreVariablesOf rows vars → IsBook rows vars
-made-book d rows vars complete are listed = record {
-  ascending = ap (ascends row_name_cmp) (names-of_rows d (instances d) rows are) ∙ instances-ascend d;
+pub made-book : (places : ℕ) (d : Data) (rows : List Row) (vars : List Var) → AreComplete d → AreRowsOf places d (instances d) rows → AreVariablesOf rows vars → IsBook rows vars
+made-book places d rows vars complete are listed = record {
+  ascending = ap (ascends row_name_cmp) (names-of_rows places d (instances d) rows are) ∙ instances-ascend d;
   variables = listed;
-  definitions = triangular d rows are;
-  signs = all-signs d rows complete are;
+  definitions = triangular places d rows are;
+  signs = all-signs places d rows complete are;
 }
 
 same_row : (rows : List Row) (i : ℕ) (row other : Row) → IsAt rows i row → IsAt rows i other → row ≡ other

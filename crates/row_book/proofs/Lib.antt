@@ -23,6 +23,7 @@ pub mod Numbers
 pub mod ParameterSigns
 pub mod Periods
 pub mod Places
+pub mod PlacesOfFactors
 pub mod Ranges
 pub mod RatioCells
 pub mod RatioIndices

@@ -19,34 +19,34 @@ use Rattle.row_book.proofs.SignShapes.{SignsAt, made-signs, never_defined, produ
 use Rattle.row_book.proofs.Subscripts.{In, positions-in}
 use Rattle.row_book.proofs.TermVariables.{◌and◌}
 
-aac1-signs : (d : Data) (i : Index) → SignsAt d i 47
-aac1-signs d i complete at v defines bounded =
+aac1-signs : (places : ℕ) (d : Data) (i : Index) → SignsAt places d i 47
+aac1-signs places d i complete at v defines bounded =
     products-signs v (total_technology_annual_activity i.region i.tech i.year) (In d sets.timeslice) (timeslices d) (λ j. rate_of_total_activity i.region j i.tech i.year) (λ j. Billionths (year_split d j i.year)) refl defines (λ j. refl)
     (λ j h. at_least-year_split d j i.year complete h at.year)
     (positions-in d sets.timeslice)
 
-tac1-signs : (d : Data) (i : Index) → SignsAt d i 50
-tac1-signs d i complete at v defines bounded =
+tac1-signs : (places : ℕ) (d : Data) (i : Index) → SignsAt places d i 50
+tac1-signs places d i complete at v defines bounded =
     sum-signs v (total_technology_model_period_activity i.region i.tech) (all_years d) (λ j. total_technology_annual_activity i.region i.tech j) refl defines (λ j. refl)
 
-rm1-signs : (d : Data) (i : Index) → SignsAt d i 53
-rm1-signs d i complete at v defines bounded =
+rm1-signs : (places : ℕ) (d : Data) (i : Index) → SignsAt places d i 53
+rm1-signs places d i complete at v defines bounded =
     products-signs v (total_capacity_in_reserve_margin i.region i.year) (In d sets.technology) (technologies d) (λ j. total_capacity_annual i.region j i.year) (λ j. unit_in_margin d i.region j i.year) refl defines (λ j. refl)
     (λ j h. at_least_zero-product (Billionths (reserve_margin_tag_technology d i.region j i.year)) (Billionths (capacity_to_activity_unit d i.region j)) (at_least-reserve_margin_tag_technology d i.region j i.year complete at.region h at.year) (at_least-capacity_to_activity_unit d i.region j complete at.region h))
     (positions-in d sets.technology)
 
-rm2-signs : (d : Data) (i : Index) → SignsAt d i 54
-rm2-signs d i complete at v defines bounded =
+rm2-signs : (places : ℕ) (d : Data) (i : Index) → SignsAt places d i 54
+rm2-signs places d i complete at v defines bounded =
     products-signs v (demand_needing_reserve_margin i.region i.slice i.year) (In d sets.fuel) (fuels d) (λ j. rate_of_production i.region i.slice j i.year) (λ j. Billionths (reserve_margin_tag_fuel d i.region j i.year)) refl defines (λ j. refl)
     (λ j h. at_least-reserve_margin_tag_fuel d i.region j i.year complete at.region h at.year)
     (positions-in d sets.fuel)
 
-re1-signs : (d : Data) (i : Index) → SignsAt d i 56
-re1-signs d i complete at v defines bounded =
+re1-signs : (places : ℕ) (d : Data) (i : Index) → SignsAt places d i 56
+re1-signs places d i complete at v defines bounded =
     sum-signs v (production_by_technology_annual i.region i.tech i.fuel i.year) (timeslices d) (λ j. production_by_technology i.region j i.tech i.fuel i.year) refl defines (λ j. refl)
 
-re2-signs : (d : Data) (i : Index) → SignsAt d i 57
-re2-signs d i complete at v defines bounded =
+re2-signs : (places : ℕ) (d : Data) (i : Index) → SignsAt places d i 57
+re2-signs places d i complete at v defines bounded =
     made-signs v (total_re_production_annual i.region i.year) (for_each (fuels d) (λ f. renewable_production d i.region f i.year)) refl defines
     (AllByRecursion-flat_map (IsPart v) (λ f. renewable_production d i.region f i.year)
     (λ f.
@@ -56,8 +56,8 @@ re2-signs d i complete at v defines bounded =
     (AllByRecursion-filter (In d sets.technology) (λ t. produces d i.region t f i.year) (technologies d) (positions-in d sets.technology)))
     (fuels d))
 
-re3-signs : (d : Data) (i : Index) → SignsAt d i 58
-re3-signs d i complete at v defines bounded =
+re3-signs : (places : ℕ) (d : Data) (i : Index) → SignsAt places d i 58
+re3-signs places d i complete at v defines bounded =
     made-signs v (re_total_production_of_target_fuel_annual i.region i.year) (for_each (timeslices d) (λ l. target_production d i.region l i.year)) refl defines
     (AllByRecursion-parts_of (IsPart v) (In d sets.timeslice) (λ l. target_production d i.region l i.year) (timeslices d)
     (λ l in_l.
@@ -68,24 +68,24 @@ re3-signs d i complete at v defines bounded =
     (positions-in d sets.fuel))
     (positions-in d sets.timeslice))
 
-re5-signs : (d : Data) (i : Index) → SignsAt d i 60
-re5-signs d i complete at v defines bounded =
+re5-signs : (places : ℕ) (d : Data) (i : Index) → SignsAt places d i 60
+re5-signs places d i complete at v defines bounded =
     sum-signs v (use_by_technology_annual i.region i.tech i.fuel i.year) (timeslices d) (λ j. use_by_technology i.region j i.tech i.fuel i.year) refl defines (λ j. refl)
 
 -- by number
-pub limit-signs : (d : Data) (i : Index) → EachFrom (SignsAt d i) 47 14
-limit-signs d i =
-    aac1-signs d i and
+pub limit-signs : (places : ℕ) (d : Data) (i : Index) → EachFrom (SignsAt places d i) 47 14
+limit-signs places d i =
+    aac1-signs places d i and
     (λ complete at v defines bounded. absurd (never_defined v defines)) and
     (λ complete at v defines bounded. absurd (never_defined v defines)) and
-    tac1-signs d i and
+    tac1-signs places d i and
     (λ complete at v defines bounded. absurd (never_defined v defines)) and
     (λ complete at v defines bounded. absurd (never_defined v defines)) and
-    rm1-signs d i and
-    rm2-signs d i and
+    rm1-signs places d i and
+    rm2-signs places d i and
     (λ complete at v defines bounded. absurd (never_defined v defines)) and
-    re1-signs d i and
-    re2-signs d i and
-    re3-signs d i and
+    re1-signs places d i and
+    re2-signs places d i and
+    re3-signs places d i and
     (λ complete at v defines bounded. absurd (never_defined v defines)) and
-    re5-signs d i and tt
+    re5-signs places d i and tt

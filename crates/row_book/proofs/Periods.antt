@@ -1,4 +1,4 @@
--- The years of the model period, the rates and the lives of a region, as numbers.
+-- The years of the model period and the lives of a region, as numbers.
 use Rattle.std.proofs.Common.{◌≡◌, ℕ, ◌*◌, ◌/◌, ◌<◌, ◌≤◌, ◌&&◌, ◌⊎◌, inl, inr, true, cond, zero, suc, length, List, [], ◌∷◌, ◌++◌, map, refl, nat_le, ℤ, pos, Option, Some, None, leb-true, ap, ap₂, sym, to_z, of_z, ◌∙◌, subst, arith}
 use Rattle.std.specs.List.{AllByRecursion}
 use Rattle.std.specs.Int.Signed.{quot_z}
@@ -37,64 +37,6 @@ year_short (name ∷ names) n are (inr has) = year_short names n are.1 has
 
 pub year-short : (names : List (List ℕ)) (n : ℕ) → All (λ name. is_year name ≡ true) names → Contains (map number_of names) n → n ≤ 9999
 year-short names n are has = year_short names n (recursion_from_All (λ name. is_year name ≡ true) names are) (Has-from_Contains (map number_of names) n has)
-
--- ---- rates
-
--- the number of billionths, had by multiplying the numerator
-pub record IsRate (z num den : ℤ) : Type 0 where
-  pub scale : ℕ
-  pub quotient : quot_z (pos billion) den ≡ pos scale
-  pub few : scale ≤ billion
-  pub product : num *ℤ pos scale ≡ z
-  pub least : pos 0 ≤ℤ z
-  pub most : z ≤ℤ pos billion
-
-divided_back : (b g : ℕ) → 0 < b → b * g ≡ billion → billion / b ≡ g
-divided_back b g positive whole = ap (λ n. n / b) (sym whole) ∙ mul-div_cancel_left g positive
-
-rate_is : (z num den : ℤ) → pair num den ≡ lowest z (pos billion) → pos 0 <ℤ den → IsInRange ZeroToOne z → IsRate z num den
-rate_is z num den e positive range =
-    let g : ℕ = gcd_of (unsigned_abs z) billion in
-    let b : ℕ = unsigned_abs den in
-    let den_is : den ≡ pos b = omega (arith, ints, positive) in
-    let whole : den *ℤ pos g ≡ pos billion = ap (λ x. x.bottom *ℤ pos g) e ∙ lowest-bottom z (pos billion) in
-    let parts : pos (b * g) ≡ pos billion = ap (λ d. d *ℤ pos g) (sym den_is) ∙ whole in
-    let product : b * g ≡ billion = ap unsigned_abs parts in
-    let above : 0 < b = omega (arith, ints, positive, den_is) in
-    record {
-      scale = g;
-      quotient = ap (quot_z (pos billion)) den_is ∙ ap (λ n. pos n) (divided_back b g above product);
-      few = gcd_of-le_right (unsigned_abs z) billion (omega arith);
-      product = ap (λ x. x.top *ℤ pos g) e ∙ lowest-top z (pos billion);
-      least = range.0;
-      most = range.1;
-    }
-
--- the same of a value that data give
-pub rate-given : (given : Option ℤ) (num den : ℤ) → pair num den ≡ lowest (unwrap_or given (pos 0)) (pos billion) → pos 0 <ℤ den → IsSomeAnd given (IsValueIn ZeroToOne)
-    → IsRate (unwrap_or given (pos 0)) num den
-rate-given None num den e positive h = absurd h
-rate-given (Some z) num den e positive h = rate_is z num den e positive h.within
-
--- ---- read back from their bits
-
-in_range : (z : ℤ) → pos 0 ≤ℤ z → z ≤ℤ pos billion → InRange z
-in_range z least most = omega (arith, ints, least, most)
-
-pub rate-fits : (z num den : ℤ) → IsRate z num den → InRange z
-rate-fits z num den rate = in_range z rate.least rate.most
-
-pub rate-back : (z num den : ℤ) → IsRate z num den → to_z w128 (of_z w128 z) ≡ z
-rate-back z num den rate = back_in_range z (in_range z rate.least rate.most)
-
-pub rate-computed : (z num den : ℤ) → InRange num → InRange den → IsRate z num den
-    → to_z w128 (of_z w128 num) *ℤ to_z w128 (of_z w128 (quot_z (pos billion) (to_z w128 (of_z w128 den)))) ≡ z
-rate-computed z num den num_fits den_fits rate =
-    ap₂ (λ a b. a *ℤ b) (back_in_range num num_fits)
-    (ap (λ e. to_z w128 (of_z w128 (quot_z (pos billion) e))) (back_in_range den den_fits)
-    ∙ ap (λ q. to_z w128 (of_z w128 q)) rate.quotient
-    ∙ back_in_range (pos rate.scale) (let few : rate.scale ≤ billion = rate.few in omega (arith, few)))
-    ∙ rate.product
 
 -- ---- the longest life
 

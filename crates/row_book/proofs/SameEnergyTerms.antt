@@ -15,23 +15,23 @@ use Rattle.named_equations.proofs.SameValues.{Agree, map-same, with_values, ◌a
 use Rattle.named_equations.proofs.TermMeaning.{EachFrom}
 use Rattle.row_book.proofs.SameTerms.{TermsSame, total-same}
 
-module _ {d : Data} {given : List Given} {defaults : List Default} (same : Agree d given defaults) where
-  eq_specified_demand-same : (i : Index) → TermsSame d given defaults i EQ_SPECIFIED_DEMAND
+module _ {d : Data} {given : List Given} {defaults : List Default} (same : Agree d given defaults) (places : ℕ) where
+  eq_specified_demand-same : (i : Index) → TermsSame places d given defaults i EQ_SPECIFIED_DEMAND
   eq_specified_demand-same i at = cc (year_split-same same i.slice i.year (at.slice refl) (at.year refl), specified_annual_demand-same same i.region i.fuel i.year (at.region refl) (at.fuel refl) (at.year refl), specified_demand_profile-same same i.region i.fuel i.slice i.year (at.region refl) (at.fuel refl) (at.slice refl) (at.year refl))
 
-  caa1-same : (i : Index) → TermsSame d given defaults i CAA1
+  caa1-same : (i : Index) → TermsSame places d given defaults i CAA1
   caa1-same i at = cc (years_counting-same same i.region i.tech i.year (at.region refl) (at.technology refl))
 
-  caa2-same : (i : Index) → TermsSame d given defaults i CAA2
+  caa2-same : (i : Index) → TermsSame places d given defaults i CAA2
   caa2-same i at = cc (residual_capacity-same same i.region i.tech i.year (at.region refl) (at.technology refl) (at.year refl))
 
-  caa3-same : (i : Index) → TermsSame d given defaults i CAA3
+  caa3-same : (i : Index) → TermsSame places d given defaults i CAA3
   caa3-same i at = refl
 
-  caa4-same : (i : Index) → TermsSame d given defaults i CAA4
+  caa4-same : (i : Index) → TermsSame places d given defaults i CAA4
   caa4-same i at = cc (capacity_factor-same same i.region i.tech i.slice i.year (at.region refl) (at.technology refl) (at.slice refl) (at.year refl), capacity_to_activity_unit-same same i.region i.tech (at.region refl) (at.technology refl))
 
-  cab1-same : (i : Index) → TermsSame d given defaults i CAB1
+  cab1-same : (i : Index) → TermsSame places d given defaults i CAB1
   cab1-same i at =
       let use_of : Data → ℕ → Var × Amount = λ e l. (rate_of_total_activity i.region l i.tech i.year, Billionths (year_split e l i.year)) in
       let part : Data → ℕ → Amount = λ e l. Product (Billionths (capacity_factor e i.region i.tech l i.year)) (Billionths (year_split e l i.year)) in
@@ -42,67 +42,67 @@ module _ {d : Data} {given : List Given} {defaults : List Default} (same : Agree
         total-same (count_of d sets.timeslice) (part d) (part (with_values d given defaults)) (λ l in_l. cc (capacity_factor-same same i.region i.tech l i.year (at.region refl) (at.technology refl) in_l (at.year refl), year_split-same same l i.year in_l (at.year refl))),
       )
 
-  eba1-same : (i : Index) → TermsSame d given defaults i EBA1
+  eba1-same : (i : Index) → TermsSame places d given defaults i EBA1
   eba1-same i at = cc (output_activity_ratio-same same i.region i.tech i.fuel i.mode i.year (at.region refl) (at.technology refl) (at.fuel refl) (at.mode refl) (at.year refl))
 
-  eba2-same : (i : Index) → TermsSame d given defaults i EBA2
+  eba2-same : (i : Index) → TermsSame places d given defaults i EBA2
   eba2-same i at = cc (producing_modes-same same i.region i.tech i.fuel i.year (at.region refl) (at.technology refl) (at.fuel refl) (at.year refl))
 
-  eba3-same : (i : Index) → TermsSame d given defaults i EBA3
+  eba3-same : (i : Index) → TermsSame places d given defaults i EBA3
   eba3-same i at = cc (producing_technologies-same same i.region i.fuel i.year (at.region refl) (at.fuel refl) (at.year refl))
 
-  eba4-same : (i : Index) → TermsSame d given defaults i EBA4
+  eba4-same : (i : Index) → TermsSame places d given defaults i EBA4
   eba4-same i at = cc (input_activity_ratio-same same i.region i.tech i.fuel i.mode i.year (at.region refl) (at.technology refl) (at.fuel refl) (at.mode refl) (at.year refl))
 
-  eba5-same : (i : Index) → TermsSame d given defaults i EBA5
+  eba5-same : (i : Index) → TermsSame places d given defaults i EBA5
   eba5-same i at = cc (using_modes-same same i.region i.tech i.fuel i.year (at.region refl) (at.technology refl) (at.fuel refl) (at.year refl))
 
-  eba6-same : (i : Index) → TermsSame d given defaults i EBA6
+  eba6-same : (i : Index) → TermsSame places d given defaults i EBA6
   eba6-same i at = cc (using_technologies-same same i.region i.fuel i.year (at.region refl) (at.fuel refl) (at.year refl))
 
-  eba7-same : (i : Index) → TermsSame d given defaults i EBA7
+  eba7-same : (i : Index) → TermsSame places d given defaults i EBA7
   eba7-same i at = cc (year_split-same same i.slice i.year (at.slice refl) (at.year refl))
 
-  eba8-same : (i : Index) → TermsSame d given defaults i EBA8
+  eba8-same : (i : Index) → TermsSame places d given defaults i EBA8
   eba8-same i at = cc (year_split-same same i.slice i.year (at.slice refl) (at.year refl))
 
-  eba9-same : (i : Index) → TermsSame d given defaults i EBA9
+  eba9-same : (i : Index) → TermsSame places d given defaults i EBA9
   eba9-same i at = cc (year_split-same same i.slice i.year (at.slice refl) (at.year refl))
 
-  eba10-same : (i : Index) → TermsSame d given defaults i EBA10
+  eba10-same : (i : Index) → TermsSame places d given defaults i EBA10
   eba10-same i at = refl
 
-  eba11-same : (i : Index) → TermsSame d given defaults i EBA11
+  eba11-same : (i : Index) → TermsSame places d given defaults i EBA11
   eba11-same i at =
       let part : Data → ℕ → Var × Amount = λ e rr. (trade i.region rr i.slice i.fuel i.year, Negative (Billionths (trade_route e i.region rr i.fuel i.year))) in
       cc (map-same (count_of d sets.region) (part d) (part (with_values d given defaults)) (λ rr in_rr. cc (trade_route-same same i.region rr i.fuel i.year (at.region refl) in_rr (at.fuel refl) (at.year refl))))
 
-  ebb1-same : (i : Index) → TermsSame d given defaults i EBB1
+  ebb1-same : (i : Index) → TermsSame places d given defaults i EBB1
   ebb1-same i at = refl
 
-  ebb2-same : (i : Index) → TermsSame d given defaults i EBB2
+  ebb2-same : (i : Index) → TermsSame places d given defaults i EBB2
   ebb2-same i at = refl
 
-  ebb3-same : (i : Index) → TermsSame d given defaults i EBB3
+  ebb3-same : (i : Index) → TermsSame places d given defaults i EBB3
   ebb3-same i at = refl
 
-  ebb4-same : (i : Index) → TermsSame d given defaults i EBB4
+  ebb4-same : (i : Index) → TermsSame places d given defaults i EBB4
   ebb4-same i at =
       let part : Data → ℕ → Var × Amount = λ e rr. (trade_annual i.region rr i.fuel i.year, Negative (Billionths (trade_route e i.region rr i.fuel i.year))) in
       cc (accumulated_annual_demand-same same i.region i.fuel i.year (at.region refl) (at.fuel refl) (at.year refl), map-same (count_of d sets.region) (part d) (part (with_values d given defaults)) (λ rr in_rr. cc (trade_route-same same i.region rr i.fuel i.year (at.region refl) in_rr (at.fuel refl) (at.year refl))))
 
-  acc1-same : (i : Index) → TermsSame d given defaults i ACC1
+  acc1-same : (i : Index) → TermsSame places d given defaults i ACC1
   acc1-same i at = cc (year_split-same same i.slice i.year (at.slice refl) (at.year refl))
 
-  acc2-same : (i : Index) → TermsSame d given defaults i ACC2
+  acc2-same : (i : Index) → TermsSame places d given defaults i ACC2
   acc2-same i at = cc (year_split-same same i.slice i.year (at.slice refl) (at.year refl))
 
-  acc3-same : (i : Index) → TermsSame d given defaults i ACC3
+  acc3-same : (i : Index) → TermsSame places d given defaults i ACC3
   acc3-same i at =
       let part : Data → ℕ → Var × Amount = λ e l. (rate_of_activity i.region l i.tech i.mode i.year, Negative (Billionths (year_split e l i.year))) in
       cc (map-same (count_of d sets.timeslice) (part d) (part (with_values d given defaults)) (λ l in_l. cc (year_split-same same l i.year in_l (at.year refl))))
 
-  pub energy-same : (i : Index) → EachFrom (TermsSame d given defaults i) 1 24
+  pub energy-same : (i : Index) → EachFrom (TermsSame places d given defaults i) 1 24
   energy-same i =
       eq_specified_demand-same i also caa1-same i also caa2-same i also caa3-same i also caa4-same i also cab1-same i also eba1-same i also
       eba2-same i also eba3-same i also eba4-same i also eba5-same i also eba6-same i also eba7-same i also eba8-same i also

@@ -11,8 +11,8 @@ use Rattle.named_equations.proofs.SameValues.{with_values}
 use Rattle.row_book.specs.EquationRows.{terms_at}
 
 -- where its subscripts lie in their sets, the equation of this number has the same terms at the index
-abbrev pub TermsSame : Data → List Given → List Default → Index → ℕ → Type 0
-TermsSame d given defaults i eq = AreInSets d (subscripts_of eq) i → terms_at d (name_at eq i) ≡ terms_at (with_values d given defaults) (name_at eq i)
+abbrev pub TermsSame : ℕ → Data → List Given → List Default → Index → ℕ → Type 0
+TermsSame places d given defaults i eq = AreInSets d (subscripts_of eq) i → terms_at places d (name_at eq i) ≡ terms_at places (with_values d given defaults) (name_at eq i)
 
 total_from-same : (sum : Amount) (a n : ℕ) (f g : ℕ → Amount) → ((i : ℕ) → i < a + n → f i ≡ g i) → total_from sum (range_with_len a n) f ≡ total_from sum (range_with_len a n) g
 total_from-same sum a zero f g same = refl

@@ -18,8 +18,8 @@ use Rattle.row_book.proofs.Subscripts.{AreValues}
 use Rattle.row_book.proofs.TermVariables.{same_some}
 
 -- what the equation of this number makes at the index, where that isn't free
-abbrev pub SignsAt : Data → Index → ℕ → Type 0
-SignsAt d i n = AreComplete d → AreValues d (subscripts_of n) i → (v : Var) → variable_of (name_at n i) ≡ Some v → IsBounded v → MakesOfParts v (terms_at d (name_at n i))
+abbrev pub SignsAt : ℕ → Data → Index → ℕ → Type 0
+SignsAt places d i n = AreComplete d → AreValues d (subscripts_of n) i → (v : Var) → variable_of (name_at n i) ≡ Some v → IsBounded v → MakesOfParts v (terms_at places d (name_at n i))
 
 -- ---- parts
 

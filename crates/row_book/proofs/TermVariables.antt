@@ -32,8 +32,8 @@ pub record IsTermOf (d : Data) (name : RowName) (v : Var) : Type 0 where
   pub order : IsInOrder name v
 
 -- so is each variable of its terms
-abbrev pub HasTerms : Data → RowName → Type 0
-HasTerms d name = AllByRecursion (λ (term : Var × Amount). IsTermOf d name term.0) (terms_at d name).terms
+abbrev pub HasTerms : ℕ → Data → RowName → Type 0
+HasTerms places d name = AllByRecursion (λ (term : Var × Amount). IsTermOf d name term.0) (terms_at places d name).terms
 
 pub same_some : (v w : Var) → Some v ≡ Some w → w ≡ v
 same_some v w e = cc
@@ -63,8 +63,8 @@ each-terms P Q term is of_each of_is =
 -- ---- by number
 
 -- what the terms of the equation of this number are
-abbrev pub AtNumber : Data → Index → ℕ → Type 0
-AtNumber d i n = AreValues d (subscripts_of n) i → stands_at d n i ≡ true → HasTerms d (name_at n i)
+abbrev pub AtNumber : ℕ → Data → Index → ℕ → Type 0
+AtNumber places d i n = AreValues d (subscripts_of n) i → stands_at d n i ≡ true → HasTerms places d (name_at n i)
 
 infixr 4 ◌and◌
 -- something, and what follows

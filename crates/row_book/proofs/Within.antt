@@ -81,25 +81,25 @@ name-within d name instance = (
       (passes-at (λ n. list_all (is_place (subscripts_of n)) (subscripts_of n)) 1 64 name.eq equation-places instance.equation.0 (omega (arith, instance.equation.1))),
 )
 
-names_within : (d : Data) (names : List RowName) (rows : List Row) → AllByRecursion (IsInstance d) names → AreRowsOf d names rows → AllByRecursion (HasNameWithin d.sets) rows
-names_within d [] [] instances are = tt
-names_within d [] (r ∷ rows) instances are = absurd are
-names_within d (n ∷ names) [] instances are = absurd are
-names_within d (n ∷ names) (r ∷ rows) instances are = (
+names_within : (places : ℕ) (d : Data) (names : List RowName) (rows : List Row) → AllByRecursion (IsInstance d) names → AreRowsOf places d names rows → AllByRecursion (HasNameWithin d.sets) rows
+names_within places d [] [] instances are = tt
+names_within places d [] (r ∷ rows) instances are = absurd are
+names_within places d (n ∷ names) [] instances are = absurd are
+names_within places d (n ∷ names) (r ∷ rows) instances are = (
   subst (λ m. IsEquation m.eq × RowNameIsWithin d.sets m) (sym are.0.written.named) (name-within d n instances.0),
-  names_within d names rows instances.1 are.1,
+  names_within places d names rows instances.1 are.1,
 )
 
-pub rows-within : (d : Data) (rows : List Row) → AreRowsOf d (instances d) rows → AllByRecursion (HasNameWithin d.sets) rows
-rows-within d rows are = names_within d (instances d) rows (all-instances d) are
+pub rows-within : (places : ℕ) (d : Data) (rows : List Row) → AreRowsOf places d (instances d) rows → AllByRecursion (HasNameWithin d.sets) rows
+rows-within places d rows are = names_within places d (instances d) rows (all-instances d) are
 
 -- the names of the rows are those of the instances
-pub names-of_rows : (d : Data) (names : List RowName) (rows : List Row) → AreRowsOf d names rows → names_of rows ≡ names
-names-of_rows d [] [] are = refl
-names-of_rows d [] (r ∷ rows) are = absurd are
-names-of_rows d (n ∷ names) [] are = absurd are
-names-of_rows d (n ∷ names) (r ∷ rows) are =
-    ap (λ m. m ∷ names_of rows) are.0.written.named ∙ ap (λ rest. n ∷ rest) (names-of_rows d names rows are.1)
+pub names-of_rows : (places : ℕ) (d : Data) (names : List RowName) (rows : List Row) → AreRowsOf places d names rows → names_of rows ≡ names
+names-of_rows places d [] [] are = refl
+names-of_rows places d [] (r ∷ rows) are = absurd are
+names-of_rows places d (n ∷ names) [] are = absurd are
+names-of_rows places d (n ∷ names) (r ∷ rows) are =
+    ap (λ m. m ∷ names_of rows) are.0.written.named ∙ ap (λ rest. n ∷ rest) (names-of_rows places d names rows are.1)
 
 -- ---- variables
 
@@ -117,15 +117,15 @@ variable-within d v there =
     )
 
 -- each of the listed variables is one of an entry, and so it exists
-listed_there : (d : Data) (rows : List Row) (vars : List Var) (v : Var) → AreRowsOf d (instances d) rows → AreVariablesOf rows vars → Has vars v → IsThere d v
-listed_there d rows vars v are listed has =
-    all-has (IsThere d) (entry_variables rows) v (all-there d rows are) (Has-from_Contains (entry_variables rows) v ((listed.each v).0 (Contains-from_Has vars v has)))
+listed_there : (places : ℕ) (d : Data) (rows : List Row) (vars : List Var) (v : Var) → AreRowsOf places d (instances d) rows → AreVariablesOf rows vars → Has vars v → IsThere d v
+listed_there places d rows vars v are listed has =
+    all-has (IsThere d) (entry_variables rows) v (all-there places d rows are) (Has-from_Contains (entry_variables rows) v ((listed.each v).0 (Contains-from_Has vars v has)))
 
-pub variables-within : (d : Data) (rows : List Row) (vars : List Var) → AreRowsOf d (instances d) rows → AreVariablesOf rows vars → AllByRecursion (IsWithinSets d.sets) vars
-variables-within d rows vars are listed = all-from (IsWithinSets d.sets) vars (λ v has. variable-within d v (listed_there d rows vars v are listed has))
+pub variables-within : (places : ℕ) (d : Data) (rows : List Row) (vars : List Var) → AreRowsOf places d (instances d) rows → AreVariablesOf rows vars → AllByRecursion (IsWithinSets d.sets) vars
+variables-within places d rows vars are listed = all-from (IsWithinSets d.sets) vars (λ v has. variable-within d v (listed_there places d rows vars v are listed has))
 
-pub variables-exist : (d : Data) (rows : List Row) (vars : List Var) → AreRowsOf d (instances d) rows → AreVariablesOf rows vars → AllByRecursion (λ v. exists d v ≡ true) vars
-variables-exist d rows vars are listed = all-from (λ v. exists d v ≡ true) vars (λ v has. listed_there d rows vars v are listed has)
+pub variables-exist : (places : ℕ) (d : Data) (rows : List Row) (vars : List Var) → AreRowsOf places d (instances d) rows → AreVariablesOf rows vars → AllByRecursion (λ v. exists d v ≡ true) vars
+variables-exist places d rows vars are listed = all-from (λ v. exists d v ≡ true) vars (λ v has. listed_there places d rows vars v are listed has)
 
 -- ---- the row that can't be made
 
@@ -133,9 +133,9 @@ at-split : (P : RowName → Type 0) (earlier later : List RowName) (name : RowNa
 at-split P [] later name all = all.0
 at-split P (n ∷ earlier) later name all = at-split P earlier later name all.1
 
-pub stopped-within : (d : Data) (fail : BookFail) → HasStopped d 0 (instances d) fail → NamesRowWithin d.sets fail
-stopped-within d (Width place) (name, is, wide) =
+pub stopped-within : (places : ℕ) (d : Data) (fail : BookFail) → HasStopped places d 0 (instances d) fail → NamesRowWithin d.sets fail
+stopped-within places d (Width place) (name, is, wide) =
     subst (λ (p : Place). NamesRowWithin d.sets (Width p)) (sym is)
     (name-within d name (at-split (IsInstance d) wide.stops.earlier wide.stops.later name (subst (AllByRecursion (IsInstance d)) wide.stops.split (all-instances d))))
-stopped-within d TooManyEntries stopped = tt
-stopped-within d Memory stopped = tt
+stopped-within places d TooManyEntries stopped = tt
+stopped-within places d Memory stopped = tt

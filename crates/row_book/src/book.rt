@@ -4,6 +4,7 @@ ghost use Rattle.std.specs.Prelude.{◌≡◌, ◌<◌, true, length, Contains, 
 ghost use Rattle.std.specs.List.{AllByRecursion};
 ghost use Rattle.row_core.specs.Numbers.{ascends};
 ghost use Rattle.row_core.specs.Order.{row_name_cmp};
+ghost use Rattle.discount_factors.specs.Factors.{IsPlaces};
 ghost use Rattle.named_equations.specs.Existence.{exists};
 ghost use Rattle.named_equations.specs.Instances.{instances, variable_of};
 ghost use Rattle.row_core.specs.declared.Row.{Row};
@@ -14,7 +15,6 @@ ghost use Rattle.row_book.specs.Kept.{IsBook, IsDefinedAt};
 ghost use Rattle.row_book.specs.Signs.{HaveSigns};
 
 use crate::defined::defined_variable;
-use crate::factors::region_factors;
 use crate::fail::BookFail;
 use crate::rows::all_rows;
 use crate::variables::variables_of_rows;
@@ -44,13 +44,14 @@ impl Model for RowBook {
 
 impl RowBook {
     /// The row of each instance of the named equations, by the equation's number and then by subscripts, and
-    /// the variables of all entries.
+    /// the variables of all entries. Written factors have `places` decimal places, 6 or 9.
     ///
     /// The first row that can't be made is refused: with `Width` and its name where a number that is formed
     /// for it doesn't fit, and else with `TooManyEntries`, where the entries of the rows up to and with it
     /// are more than 4,000,000. `Memory` comes where memory ran out.
-    pub fn new(alloc: Global, model: &ModelData) -> Result<RowBook, BookFail>
-        ensures rows { IfOk result (λ book. AreRowsOf model.now.facts (instances model.now.facts) book.rows) }
+    pub fn new(alloc: Global, model: &ModelData, places: u8) -> Result<RowBook, BookFail>
+        requires places { IsPlaces places }
+        ensures rows { IfOk result (λ book. AreRowsOf places model.now.facts (instances model.now.facts) book.rows) }
         ensures ascending { IfOk result (λ book. ascends row_name_cmp (names_of book.rows) ≡ true) }
         ensures variables { IfOk result (λ book. AreVariablesOf book.rows book.vars) }
         ensures definitions { IfOk result (λ book. AreTriangular book.rows) }
@@ -64,12 +65,11 @@ impl RowBook {
         ensures whole { IfOk result (λ book. (v : Var) → exists model.now.facts v ≡ true → Contains book.vars v) }
 
         // When there is a book, and why there is none.
-        ensures made { OnOk result (CanBeMade model.now.facts 0 (instances model.now.facts)) }
-        ensures stopped { IfErr result (HasStopped model.now.facts 0 (instances model.now.facts)) }
+        ensures made { OnOk result (CanBeMade places model.now.facts 0 (instances model.now.facts)) }
+        ensures stopped { IfErr result (HasStopped places model.now.facts 0 (instances model.now.facts)) }
         ensures place { IfErr result (NamesRowWithin model.now.facts.sets) }
     {
-        let factors = region_factors(alloc, model)?;
-        let rows = match all_rows(alloc, model, &factors) {
+        let rows = match all_rows(alloc, model, places) {
             Ok(rows) => rows,
             Err(fail) => return Err(fail),
         };

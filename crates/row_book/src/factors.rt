@@ -1,56 +1,54 @@
-//! The written factors of the regions: what 1 of a later year is worth, and what is left of an investment.
+//! The written factors of the regions: what 1 of a later year is worth, what is left of an investment, and what is due of it
+//! each year.
 
-ghost use Rattle.std.specs.Prelude.{◌≡◌, ℕ, ◌≤◌, pos, ◌≤ℤ◌, IfOk, unsigned_abs};
+ghost use Rattle.std.specs.Prelude.{◌≡◌, ℕ, ◌≤◌, IfOk};
+ghost use Rattle.discount_factors.specs.Factors.{IsPlaces};
 ghost use Rattle.named_equations.specs.Positions.{years_in_all};
 ghost use Rattle.named_equations.specs.RegionFactors.{AreFactorsOf, AreRegionFactors};
 ghost use Rattle.named_equations.specs.Within.{IsRegion, IsTechnology};
-ghost use Rattle.named_equations.specs.WrittenFactors.{life_of, rate_of};
+ghost use Rattle.named_equations.specs.WrittenFactors.{life_of};
 ghost use Rattle.param_tables.specs.Built.{AreComplete};
 
 use discount_factors::Factors;
-use equation_parts::whole_numbers::operational_life;
-use model_sets::param_numbers::DISCOUNT_RATE;
+use equation_parts::whole_numbers::{discount_rate, operational_life};
 use model_sets::set_numbers::{REGION, TECHNOLOGY, YEAR};
 use param_tables::ModelData;
 use std::alloc::{AllocError, Global};
 
-/// One, in billionths.
-const BILLION: i128 = 1_000_000_000;
-
-/// The factors of each region, in order: they are those of its DiscountRate, for the years of the model period
-/// and for the lives of its technologies. Fails only where memory runs out.
-pub(crate) fn region_factors(alloc: Global, model: &ModelData) -> Result<Vec<Factors>, AllocError>
-    ensures factors { IfOk result (λ factors. AreRegionFactors model.now.facts factors.items) }
+/// The factors of each region, in order, with 6 or 9 decimal places: they are those of its DiscountRate, for the
+/// years of the model period and for the lives of its technologies. Fails only where memory runs out.
+pub(crate) fn region_factors(
+    alloc: Global,
+    model: &ModelData,
+    places: u8,
+) -> Result<Vec<Factors>, AllocError>
+    requires places { IsPlaces places }
+    ensures factors { IfOk result (λ factors. AreRegionFactors places model.now.facts factors.items) }
     ensures complete { AreComplete model.now.facts }
 {
     let mut factors = Vec::new(alloc);
     for region in 0..model.sets().count(REGION) {
-        let one = factors_of(alloc, model, region)?;
+        let one = factors_of(alloc, model, region, places)?;
         factors.push(one)?;
     }
     Ok(factors)
 }
 
 /// The factors of a region.
-fn factors_of(alloc: Global, model: &ModelData, region: u16) -> Result<Factors, AllocError>
-    requires { IsRegion model.now.facts region }
-    ensures { IfOk result (λ factors. AreFactorsOf model.now.facts region factors) }
+fn factors_of(
+    alloc: Global,
+    model: &ModelData,
+    region: u16,
+    places: u8,
+) -> Result<Factors, AllocError>
+    requires region { IsRegion model.now.facts region }
+    requires places { IsPlaces places }
+    ensures { IfOk result (λ factors. AreFactorsOf places model.now.facts region factors) }
 {
-    let rate = rate_of(model, region);
+    let rate = discount_rate(model, region);
     let span = years_in_all(model);
     let lives = longest_life(model, region);
-    Factors::new(alloc, rate, span, lives)
-}
-
-/// DiscountRate of a region, in billionths.
-fn rate_of(model: &ModelData, region: u16) -> i128
-    requires { IsRegion model.now.facts region }
-    ensures least { pos 0 ≤ℤ result }
-    ensures most { result ≤ℤ pos 1000000000 }
-    ensures rate { unsigned_abs result ≡ rate_of model.now.facts region }
-{
-    let rate = model.at(DISCOUNT_RATE, &[region]);
-    rate.num * (BILLION / rate.den)
+    Factors::new(alloc, rate, span, lives, places)
 }
 
 /// How many years the model period has, from the first year to the last, gaps included; 1 where there is no

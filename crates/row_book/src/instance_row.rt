@@ -5,7 +5,7 @@ ghost use Rattle.row_core.specs.Equations.{IsEquation};
 ghost use Rattle.row_core.specs.Stops.{IsStop};
 ghost use Rattle.row_core.specs.declared.place.Place.{Place};
 ghost use Rattle.named_equations.specs.Instances.{is_index, stands_at, subscripts_of};
-ghost use Rattle.named_equations.specs.RegionFactors.{AreRegionFactors};
+ghost use Rattle.named_equations.specs.RegionFactors.{AreRegionFactors, places_of};
 ghost use Rattle.named_equations.specs.RowMeaning.{IsNamedRow};
 ghost use Rattle.row_book.specs.Books.{row_fits};
 ghost use Rattle.row_book.specs.EquationRows.{terms_at};
@@ -24,12 +24,12 @@ pub(crate) fn row_of(
     name: RowName,
 ) -> Result<Option<Row>, Stopped>
     requires equation { IsEquation name.eq }
-    requires factors { AreRegionFactors model.now.facts factors.now }
+    requires factors { AreRegionFactors (places_of factors.now) model.now.facts factors.now }
     requires index { is_index model.now.facts (subscripts_of name.eq) name.index ≡ true }
     ensures instance { IfOk result (λ found. is_some found ≡ stands_at model.now.facts name.eq name.index) }
-    ensures row { IfOk result (λ found. IfSome found (IsNamedRow model.now.facts name (terms_at model.now.facts name))) }
-    ensures fits { IfOk result (λ found. IfSome found (λ row. row_fits model.now.facts name ≡ true)) }
-    ensures stopped { IfErr result (IsStop (Place.Row name) (not (stands_at model.now.facts name.eq name.index) || row_fits model.now.facts name)) }
+    ensures row { IfOk result (λ found. IfSome found (IsNamedRow (places_of factors.now) model.now.facts name (terms_at (places_of factors.now) model.now.facts name))) }
+    ensures fits { IfOk result (λ found. IfSome found (λ row. row_fits (places_of factors.now) model.now.facts name ≡ true)) }
+    ensures stopped { IfErr result (IsStop (Place.Row name) (not (stands_at model.now.facts name.eq name.index) || row_fits (places_of factors.now) model.now.facts name)) }
 {
     match name.eq {
         CAA1..=CAB1 => capacity_rows::rows_of(alloc, model, name.eq, name.index),

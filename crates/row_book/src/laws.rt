@@ -13,17 +13,18 @@ ghost use Rattle.row_book.specs.declared.fail.BookFail.TheVariants.{Memory};
 /// Of some instances after rows with so many entries either all rows can be made, and then nothing stops but
 /// that memory runs out, or one thing stops them beside that.
 pub fn stop_laws()
-    ensures made { (d : Data) (before : ℕ) (names : List RowName) (fail : BookFail) → CanBeMade d before names → HasStopped d before names fail → fail ≡ Memory }
-    ensures one { (d : Data) (before : ℕ) (names : List RowName) (fail other : BookFail) → fail ≢ Memory → other ≢ Memory → HasStopped d before names fail → HasStopped d before names other → fail ≡ other }
+    ensures made { (places : ℕ) (d : Data) (before : ℕ) (names : List RowName) (fail : BookFail) → CanBeMade places d before names → HasStopped places d before names fail → fail ≡ Memory }
+    ensures one { (places : ℕ) (d : Data) (before : ℕ) (names : List RowName) (fail other : BookFail) → fail ≢ Memory → other ≢ Memory → HasStopped places d before names fail → HasStopped places d before names other → fail ≡ other }
 {}
 
-/// The rows depend on nothing of the data but the sets and the value of each used parameter at each of its
-/// indices: of two data that are the same in these, each instance has the same terms, the same rows are
-/// theirs, and they can be made of both, or of neither and then stop at the same instance for one reason.
+/// The rows depend on nothing of the data but the sets, the profile, and the value of each used parameter at
+/// each of its indices: of two data that are the same in these, with written factors of any number of decimal
+/// places, each instance has the same terms, the same rows are theirs, and they can be made of both, or of
+/// neither and then stop at the same instance for one reason.
 pub fn same_data_laws()
-    ensures terms { (d e : Data) → AreSameData d e → (name : RowName) → is_instance d name ≡ true → terms_at d name ≡ terms_at e name }
-    ensures rows { (d e : Data) → AreSameData d e → (rows : List Row) → AreRowsOf d (instances d) rows ↔ AreRowsOf e (instances e) rows }
-    ensures made { (d e : Data) → AreSameData d e → (before : ℕ) → CanBeMade d before (instances d) ↔ CanBeMade e before (instances e) }
-    ensures wide { (d e : Data) → AreSameData d e → (before : ℕ) (name : RowName) → IsTooWide d before (instances d) name ↔ IsTooWide e before (instances e) name }
-    ensures many { (d e : Data) → AreSameData d e → (before : ℕ) (name : RowName) → HasTooMany d before (instances d) name ↔ HasTooMany e before (instances e) name }
+    ensures terms { (places : ℕ) (d e : Data) → AreSameData d e → (name : RowName) → is_instance d name ≡ true → terms_at places d name ≡ terms_at places e name }
+    ensures rows { (places : ℕ) (d e : Data) → AreSameData d e → (rows : List Row) → AreRowsOf places d (instances d) rows ↔ AreRowsOf places e (instances e) rows }
+    ensures made { (places : ℕ) (d e : Data) → AreSameData d e → (before : ℕ) → CanBeMade places d before (instances d) ↔ CanBeMade places e before (instances e) }
+    ensures wide { (places : ℕ) (d e : Data) → AreSameData d e → (before : ℕ) (name : RowName) → IsTooWide places d before (instances d) name ↔ IsTooWide places e before (instances e) name }
+    ensures many { (places : ℕ) (d e : Data) → AreSameData d e → (before : ℕ) (name : RowName) → HasTooMany places d before (instances d) name ↔ HasTooMany places e before (instances e) name }
 {}

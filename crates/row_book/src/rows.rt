@@ -2,16 +2,19 @@
 
 ghost use Rattle.std.specs.Prelude.{◌≡◌, ◌<◌, true, IfErr, IfOk, OnOk};
 ghost use Rattle.std.specs.List.{AllByRecursion};
+ghost use Rattle.discount_factors.specs.Factors.{IsPlaces};
 ghost use Rattle.model_sets.specs.Names as sets;
 ghost use Rattle.row_core.specs.Equations.{IsEquation};
 ghost use Rattle.named_equations.specs.Instances.{instances, instances_of, is_index, subscripts_of};
 ghost use Rattle.named_equations.specs.Positions.{count_of};
-ghost use Rattle.named_equations.specs.RegionFactors.{AreRegionFactors};
+ghost use Rattle.named_equations.specs.RegionFactors.{AreRegionFactors, places_of};
+ghost use Rattle.param_tables.specs.Built.{AreComplete};
 ghost use Rattle.row_book.specs.Books.{AreRowsOf, CanBeMade, HasStopped};
 ghost use Rattle.row_book.specs.RowsAdded.{AddsRows};
 ghost use Rattle.row_book.specs.Walks.{instance_at, instances_in, instances_with, joined};
 
 use crate::cells::{cells_of, outers_of};
+use crate::factors::region_factors;
 use crate::fail::BookFail;
 use crate::instance_row::row_of;
 use crate::made_rows::MadeRows;
@@ -29,10 +32,10 @@ impl MadeRows {
     /// Adds the row of an equation at an index, if there is an instance.
     fn add(&mut self, model: &ModelData, factors: &[Factors], name: RowName) -> Result<(), BookFail>
         requires equation { IsEquation name.eq }
-        requires factors { AreRegionFactors model.now.facts factors.now }
+        requires factors { AreRegionFactors (places_of factors.now) model.now.facts factors.now }
         requires index { is_index model.now.facts (subscripts_of name.eq) name.index ≡ true }
-        ensures added { OnOk result (AddsRows model.now.facts (instance_at model.now.facts name.eq name.index) self.old self.new) }
-        ensures stopped { IfErr result (HasStopped model.now.facts self.old.entries (instance_at model.now.facts name.eq name.index)) }
+        ensures added { OnOk result (AddsRows (places_of factors.now) model.now.facts (instance_at model.now.facts name.eq name.index) self.old self.new) }
+        ensures stopped { IfErr result (HasStopped (places_of factors.now) model.now.facts self.old.entries (instance_at model.now.facts name.eq name.index)) }
     {
         let row = match row_of(self.alloc, model, factors, name) {
             Ok(Some(row)) => row,
@@ -59,10 +62,10 @@ impl MadeRows {
         outer: Index,
     ) -> Result<(), BookFail>
         requires equation { IsEquation eq }
-        requires factors { AreRegionFactors model.now.facts factors.now }
+        requires factors { AreRegionFactors (places_of factors.now) model.now.facts factors.now }
         requires indices { AllByRecursion (λ cell. is_index model.now.facts (subscripts_of eq) (joined outer cell) ≡ true) cells.now }
-        ensures added { OnOk result (AddsRows model.now.facts (instances_with model.now.facts eq cells.now outer) self.old self.new) }
-        ensures stopped { IfErr result (HasStopped model.now.facts self.old.entries (instances_with model.now.facts eq cells.now outer)) }
+        ensures added { OnOk result (AddsRows (places_of factors.now) model.now.facts (instances_with model.now.facts eq cells.now outer) self.old self.new) }
+        ensures stopped { IfErr result (HasStopped (places_of factors.now) model.now.facts self.old.entries (instances_with model.now.facts eq cells.now outer)) }
     {
         for cell in cells {
             let index = Index {
@@ -87,10 +90,10 @@ impl MadeRows {
         region: u16,
     ) -> Result<(), BookFail>
         requires equation { IsEquation eq }
-        requires factors { AreRegionFactors model.now.facts factors.now }
+        requires factors { AreRegionFactors (places_of factors.now) model.now.facts factors.now }
         requires region { region < count_of model.now.facts sets.region }
-        ensures added { OnOk result (AddsRows model.now.facts (instances_in model.now.facts eq region) self.old self.new) }
-        ensures stopped { IfErr result (HasStopped model.now.facts self.old.entries (instances_in model.now.facts eq region)) }
+        ensures added { OnOk result (AddsRows (places_of factors.now) model.now.facts (instances_in model.now.facts eq region) self.old self.new) }
+        ensures stopped { IfErr result (HasStopped (places_of factors.now) model.now.facts self.old.entries (instances_in model.now.facts eq region)) }
     {
         let cells = cells_of(self.alloc, model, eq, region)?;
         let outers = outers_of(self.alloc, model, eq, region)?;
@@ -111,9 +114,9 @@ impl MadeRows {
         eq: u8,
     ) -> Result<(), BookFail>
         requires equation { IsEquation eq }
-        requires factors { AreRegionFactors model.now.facts factors.now }
-        ensures added { OnOk result (AddsRows model.now.facts (instances_of model.now.facts eq) self.old self.new) }
-        ensures stopped { IfErr result (HasStopped model.now.facts self.old.entries (instances_of model.now.facts eq)) }
+        requires factors { AreRegionFactors (places_of factors.now) model.now.facts factors.now }
+        ensures added { OnOk result (AddsRows (places_of factors.now) model.now.facts (instances_of model.now.facts eq) self.old self.new) }
+        ensures stopped { IfErr result (HasStopped (places_of factors.now) model.now.facts self.old.entries (instances_of model.now.facts eq)) }
     {
         for region in 0..model.sets().count(REGION) {
             match self.add_region(model, factors, eq, region) {
@@ -126,9 +129,9 @@ impl MadeRows {
 
     /// Adds the rows of all equations.
     fn add_equations(&mut self, model: &ModelData, factors: &[Factors]) -> Result<(), BookFail>
-        requires { AreRegionFactors model.now.facts factors.now }
-        ensures added { OnOk result (AddsRows model.now.facts (instances model.now.facts) self.old self.new) }
-        ensures stopped { IfErr result (HasStopped model.now.facts self.old.entries (instances model.now.facts)) }
+        requires { AreRegionFactors (places_of factors.now) model.now.facts factors.now }
+        ensures added { OnOk result (AddsRows (places_of factors.now) model.now.facts (instances model.now.facts) self.old self.new) }
+        ensures stopped { IfErr result (HasStopped (places_of factors.now) model.now.facts self.old.entries (instances model.now.facts)) }
     {
         for eq in 1..EQUATION_COUNT as u8 + 1 {
             match self.add_equation(model, factors, eq) {
@@ -140,23 +143,25 @@ impl MadeRows {
     }
 }
 
-/// The row of each instance, in order.
+/// The row of each instance, in order, with written factors of 6 or 9 decimal places.
 pub(crate) fn all_rows(
     alloc: Global,
     model: &ModelData,
-    factors: &[Factors],
+    places: u8,
 ) -> Result<Vec<Row>, BookFail>
-    requires { AreRegionFactors model.now.facts factors.now }
-    ensures rows { IfOk result (λ rows. AreRowsOf model.now.facts (instances model.now.facts) rows.items) }
-    ensures made { OnOk result (CanBeMade model.now.facts 0 (instances model.now.facts)) }
-    ensures stopped { IfErr result (HasStopped model.now.facts 0 (instances model.now.facts)) }
+    requires places { IsPlaces places }
+    ensures rows { IfOk result (λ rows. AreRowsOf places model.now.facts (instances model.now.facts) rows.items) }
+    ensures made { OnOk result (CanBeMade places model.now.facts 0 (instances model.now.facts)) }
+    ensures stopped { IfErr result (HasStopped places model.now.facts 0 (instances model.now.facts)) }
+    ensures complete { AreComplete model.now.facts }
 {
+    let factors = region_factors(alloc, model, places)?;
     let mut rows = MadeRows {
         alloc,
         rows: Vec::new(alloc),
         entries: 0,
     };
-    match rows.add_equations(model, factors) {
+    match rows.add_equations(model, &factors) {
         Ok(()) => Ok(rows.rows),
         Err(fail) => Err(fail),
     }

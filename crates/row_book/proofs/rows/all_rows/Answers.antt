@@ -1,10 +1,7 @@
+use Rattle.std.proofs.Common.{List, subst}
+use Rattle.discount_factors.specs.Known.{Discounting}
 use Rattle.named_equations.specs.Instances.{instances}
+use Rattle.named_equations.specs.RegionFactors.{AreRegionFactors, places_of}
+use Rattle.row_book.proofs.PlacesOfFactors.{made-by_places, rows-by_places, stopped-by_places}
 use Rattle.row_book.proofs.RowsAddedLaws.{adds-made, alone}
 use Rattle.row_book.proofs.rows.all_rows.Goals as goal
-
-pub returns-in-Ok-clause-rows : goal.returns-in-Ok-clause-rows
-returns-in-Ok-clause-rows c =
-    alone c.args.model.now.facts (instances c.args.model.now.facts) _ c.add_equations.new.self c.new.ensures.items c.in-Ok.ensures.added
-
-pub returns-in-Ok-clause-made : goal.returns-in-Ok-clause-made
-returns-in-Ok-clause-made c = adds-made c.args.model.now.facts (instances c.args.model.now.facts) _ c.add_equations.new.self c.in-Ok.ensures.added

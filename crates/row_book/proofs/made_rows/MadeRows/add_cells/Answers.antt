@@ -1,4 +1,5 @@
 use Rattle.row_core.specs.declared.Index.{Index}
+use Rattle.named_equations.specs.RegionFactors.{places_of}
 use Rattle.row_book.specs.Walks.{instance_at, joined}
 use Rattle.row_book.proofs.Places.{all-at_place}
 use Rattle.row_book.proofs.Regions.{IsIndex}
@@ -11,15 +12,15 @@ add-requires-clause-index c =
 
 pub returns-in-Err-clause-stopped : goal.returns-in-Err-clause-stopped
 returns-in-Err-clause-stopped c =
-    loop-stops c.args.model.now.facts (λ (cell : Index). instance_at c.args.model.now.facts c.args.eq (joined c.args.outer cell)) c.args.cells.now c.loop-cell.cell-index _ c.args.self.now c.loop-cell.self c.in-Err.fail
+    loop-stops (places_of c.args.factors.now) c.args.model.now.facts (λ (cell : Index). instance_at c.args.model.now.facts c.args.eq (joined c.args.outer cell)) c.args.cells.now c.loop-cell.cell-index _ c.args.self.now c.loop-cell.self c.in-Err.fail
     c.loop-cell-test.true c.loop-cell.invariant c.in-Err.ensures.stopped
 
 pub loop-cell-preserved : goal.loop-cell-preserved
 loop-cell-preserved c =
-    loop-adds c.args.model.now.facts (λ (cell : Index). instance_at c.args.model.now.facts c.args.eq (joined c.args.outer cell)) c.args.cells.now c.loop-cell.cell-index _ c.args.self.now c.loop-cell.self c.add.new.self
+    loop-adds (places_of c.args.factors.now) c.args.model.now.facts (λ (cell : Index). instance_at c.args.model.now.facts c.args.eq (joined c.args.outer cell)) c.args.cells.now c.loop-cell.cell-index _ c.args.self.now c.loop-cell.self c.add.new.self
     c.loop-cell-test.true c.loop-cell.invariant c.in-Ok.ensures.added
 
 pub returns-clause-added : goal.returns-clause-added
 returns-clause-added c =
-    loop-ends c.args.model.now.facts (λ (cell : Index). instance_at c.args.model.now.facts c.args.eq (joined c.args.outer cell)) c.args.cells.now c.loop-cell.cell-index c.args.self.now c.loop-cell.self
+    loop-ends (places_of c.args.factors.now) c.args.model.now.facts (λ (cell : Index). instance_at c.args.model.now.facts c.args.eq (joined c.args.outer cell)) c.args.cells.now c.loop-cell.cell-index c.args.self.now c.loop-cell.self
     c.loop-cell-test.false c.loop-cell.invariant

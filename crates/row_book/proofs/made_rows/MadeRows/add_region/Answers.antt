@@ -2,6 +2,7 @@ use Rattle.std.proofs.Common.{◌∙◌, suc, drop, take, get_or, sym, subst}
 use Rattle.std.specs.List.{flat_map}
 use Rattle.row_core.specs.declared.Index.{Index}
 use Rattle.named_equations.specs.Indices.{at_r}
+use Rattle.named_equations.specs.RegionFactors.{places_of}
 use Rattle.row_book.specs.Books.{HasStopped}
 use Rattle.row_book.specs.RowsAdded.{AddsRows}
 use Rattle.row_book.specs.Walks.{AreAsked, inners_of, instances_with}
@@ -11,7 +12,7 @@ use Rattle.row_book.proofs.RowsAddedLaws.{adds-nothing, loop-adds, loop-ends, lo
 use Rattle.row_book.proofs.made_rows.MadeRows.add_region.Goals as goal
 
 pub loop-outer-init : goal.loop-outer-init
-loop-outer-init c = (c.deref-outer-items.ensures.value ∙ c.in_ok-outers.ensures, adds-nothing c.args.model.now.facts c.args.self.now)
+loop-outer-init c = (c.deref-outer-items.ensures.value ∙ c.in_ok-outers.ensures, adds-nothing (places_of c.args.factors.now) c.args.model.now.facts c.args.self.now)
 
 pub add_cells-requires-clause-indices : goal.add_cells-requires-clause-indices
 add_cells-requires-clause-indices c =
@@ -30,10 +31,10 @@ returns-in-Err-clause-stopped c =
     let outers = c.deref-outer-items.result.now in
     let outer : Index = get_or outers c.loop-outer.outer-index (at_r 0) in
     let asked : AreAsked d eq c.args.region c.deref.result.now = subst (AreAsked d eq c.args.region) (sym c.deref.ensures.value) c.in_ok-cells.ensures in
-    subst (λ is. HasStopped d c.args.self.now.entries (flat_map (instances_with d eq (inners_of d eq c.args.region)) is) c.in-Err.fail) c.loop-outer.invariant.0
-    (loop-stops d (instances_with d eq (inners_of d eq c.args.region)) outers c.loop-outer.outer-index (at_r 0) c.args.self.now c.loop-outer.self c.in-Err.fail
+    subst (λ is. HasStopped (places_of c.args.factors.now) d c.args.self.now.entries (flat_map (instances_with d eq (inners_of d eq c.args.region)) is) c.in-Err.fail) c.loop-outer.invariant.0
+    (loop-stops (places_of c.args.factors.now) d (instances_with d eq (inners_of d eq c.args.region)) outers c.loop-outer.outer-index (at_r 0) c.args.self.now c.loop-outer.self c.in-Err.fail
     c.loop-outer-test.true c.loop-outer.invariant.1
-    (subst (λ names. HasStopped d c.loop-outer.self.entries names c.in-Err.fail) (instances-asked d eq c.args.region c.deref.result.now asked outer) c.in-Err.ensures.stopped))
+    (subst (λ names. HasStopped (places_of c.args.factors.now) d c.loop-outer.self.entries names c.in-Err.fail) (instances-asked d eq c.args.region c.deref.result.now asked outer) c.in-Err.ensures.stopped))
 
 pub loop-outer-preserved : goal.loop-outer-preserved
 loop-outer-preserved c =
@@ -43,14 +44,14 @@ loop-outer-preserved c =
     let outer : Index = get_or outers c.loop-outer.outer-index (at_r 0) in
     let asked : AreAsked d eq c.args.region c.deref.result.now = subst (AreAsked d eq c.args.region) (sym c.deref.ensures.value) c.in_ok-cells.ensures in (
       c.loop-outer.invariant.0,
-      loop-adds d (instances_with d eq (inners_of d eq c.args.region)) outers c.loop-outer.outer-index (at_r 0) c.args.self.now c.loop-outer.self c.add_cells.new.self
+      loop-adds (places_of c.args.factors.now) d (instances_with d eq (inners_of d eq c.args.region)) outers c.loop-outer.outer-index (at_r 0) c.args.self.now c.loop-outer.self c.add_cells.new.self
           c.loop-outer-test.true c.loop-outer.invariant.1
-          (subst (λ names. AddsRows d names c.loop-outer.self c.add_cells.new.self) (instances-asked d eq c.args.region c.deref.result.now asked outer) c.in-Ok.ensures.added),
+          (subst (λ names. AddsRows (places_of c.args.factors.now) d names c.loop-outer.self c.add_cells.new.self) (instances-asked d eq c.args.region c.deref.result.now asked outer) c.in-Ok.ensures.added),
     )
 
 pub returns-clause-added : goal.returns-clause-added
 returns-clause-added c =
     let d = c.args.model.now.facts in
     let eq = c.args.eq in
-    subst (λ is. AddsRows d (flat_map (instances_with d eq (inners_of d eq c.args.region)) is) c.args.self.now c.loop-outer.self) c.loop-outer.invariant.0
-    (loop-ends d (instances_with d eq (inners_of d eq c.args.region)) c.deref-outer-items.result.now c.loop-outer.outer-index c.args.self.now c.loop-outer.self c.loop-outer-test.false c.loop-outer.invariant.1)
+    subst (λ is. AddsRows (places_of c.args.factors.now) d (flat_map (instances_with d eq (inners_of d eq c.args.region)) is) c.args.self.now c.loop-outer.self) c.loop-outer.invariant.0
+    (loop-ends (places_of c.args.factors.now) d (instances_with d eq (inners_of d eq c.args.region)) c.deref-outer-items.result.now c.loop-outer.outer-index c.args.self.now c.loop-outer.self c.loop-outer-test.false c.loop-outer.invariant.1)

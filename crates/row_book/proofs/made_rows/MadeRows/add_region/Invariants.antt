@@ -1,5 +1,6 @@
 use Rattle.std.proofs.Common.{◌≡◌, take}
 use Rattle.std.specs.List.{flat_map}
+use Rattle.named_equations.specs.RegionFactors.{places_of}
 use Rattle.row_book.specs.RowsAdded.{AddsRows}
 use Rattle.row_book.specs.Walks.{inners_of, instances_with, outers_of}
 use Rattle.row_book.proofs.made_rows.MadeRows.add_region.Given as goal
@@ -8,4 +9,4 @@ use Rattle.row_book.proofs.made_rows.MadeRows.add_region.Given as goal
 abbrev pub invariant-loop-outer : goal.invariant-loop-outer
 invariant-loop-outer l =
     (l.outer-items ≡ outers_of l.model.facts l.eq l.region)
-    × AddsRows l.model.facts (flat_map (instances_with l.model.facts l.eq (inners_of l.model.facts l.eq l.region)) (take l.outer-index l.outer-items)) l.fn.self l.self
+    × AddsRows (places_of l.factors) l.model.facts (flat_map (instances_with l.model.facts l.eq (inners_of l.model.facts l.eq l.region)) (take l.outer-index l.outer-items)) l.fn.self l.self

@@ -1,0 +1,52 @@
+-- The numerator times what the denominator lacks to a billion is the number of billionths.
+use Rattle.std.proofs.Common.{ℤ, pos, Option, ap, ◌∙◌, sym, subst, FitsSigned, to_z, of_z}
+use Rattle.std.specs.Int.{w128}
+use Rattle.std.specs.Prelude.{◌≤ℤ◌, unwrap_or}
+use Rattle.exact_num.proofs.RangeLaws.{FitsSigned-from_InRange}
+use Rattle.model_sets.specs.Data.{value_at}
+use Rattle.model_sets.specs.Params.{range_of}
+use Rattle.param_tables.specs.Positions.{names_at}
+use Rattle.equation_parts.proofs.Rates.{rate-back, rate-computed, rate-fits, rate-of_given}
+use Rattle.equation_parts.proofs.whole_numbers.billionths.Goals as goal
+
+pub overflow_mul-result : goal.overflow_mul-result
+overflow_mul-result c =
+    let d = c.args.model.now.facts in
+    let given : Option ℤ = value_at d c.args.param (names_at d.sets c.args.param c.args.index.now) in
+    let num = c.at-value.result.num in
+    let den = c.at-value.result.den in
+    let rate = rate-of_given given num den (range_of c.args.param) c.at-value.ensures.amount c.at-value.result.positive c.requires.range c.at-value.ensures.given in
+    let z : ℤ = unwrap_or given (pos 0) in
+    subst (λ n. FitsSigned w128 n) (sym (rate-computed z num den c.at-value.result.num_fits c.at-value.result.den_fits rate)) (FitsSigned-from_InRange _ (rate-fits z num den rate))
+
+pub returns-clause-least : goal.returns-clause-least
+returns-clause-least c =
+    let d = c.args.model.now.facts in
+    let given : Option ℤ = value_at d c.args.param (names_at d.sets c.args.param c.args.index.now) in
+    let num = c.at-value.result.num in
+    let den = c.at-value.result.den in
+    let rate = rate-of_given given num den (range_of c.args.param) c.at-value.ensures.amount c.at-value.result.positive c.requires.range c.at-value.ensures.given in
+    let z : ℤ = unwrap_or given (pos 0) in
+    subst (λ n. pos 0 ≤ℤ n)
+    (sym (ap (λ n. to_z w128 (of_z w128 n)) (rate-computed z num den c.at-value.result.num_fits c.at-value.result.den_fits rate) ∙ rate-back z num den rate)) rate.least
+
+pub returns-clause-most : goal.returns-clause-most
+returns-clause-most c =
+    let d = c.args.model.now.facts in
+    let given : Option ℤ = value_at d c.args.param (names_at d.sets c.args.param c.args.index.now) in
+    let num = c.at-value.result.num in
+    let den = c.at-value.result.den in
+    let rate = rate-of_given given num den (range_of c.args.param) c.at-value.ensures.amount c.at-value.result.positive c.requires.range c.at-value.ensures.given in
+    let z : ℤ = unwrap_or given (pos 0) in
+    subst (λ n. n ≤ℤ pos 1000000000)
+    (sym (ap (λ n. to_z w128 (of_z w128 n)) (rate-computed z num den c.at-value.result.num_fits c.at-value.result.den_fits rate) ∙ rate-back z num den rate)) rate.most
+
+pub returns-clause-exact : goal.returns-clause-exact
+returns-clause-exact c =
+    let d = c.args.model.now.facts in
+    let given : Option ℤ = value_at d c.args.param (names_at d.sets c.args.param c.args.index.now) in
+    let num = c.at-value.result.num in
+    let den = c.at-value.result.den in
+    let rate = rate-of_given given num den (range_of c.args.param) c.at-value.ensures.amount c.at-value.result.positive c.requires.range c.at-value.ensures.given in
+    let z : ℤ = unwrap_or given (pos 0) in
+    ap (λ n. to_z w128 (of_z w128 n)) (rate-computed z num den c.at-value.result.num_fits c.at-value.result.den_fits rate) ∙ rate-back z num den rate
