@@ -190,3 +190,26 @@ loop_halts condition all xs i d x halt h is so_far halts =
 pub loop_done : {A : Type 0} (condition : A → Condition) (all : List Condition) (xs : List A) (i : ℕ) → length xs ≤ i → Continues all (map condition (drop i xs)) → AllPass all
 loop_done condition all xs i h so_far =
     Continues-done all (subst (Continues all) (at_drop_all (map condition) xs i h) so_far)
+
+-- ---- three lists of conditions one after another
+
+module _ (first second third : List Condition) where
+  abbrev all_three : List Condition
+  all_three = first ++ (second ++ third)
+
+  pub halts_in_first : (h : Halt) → IsHalt first h → IsHalt all_three h
+  halts_in_first h halts = halts_before first (second ++ third) h halts
+
+  pub halts_in_second : (h : Halt) → AllPass first → IsHalt second h → IsHalt all_three h
+  halts_in_second h passed halts =
+      halts_all all_three (second ++ third) h (passed_first first (second ++ third) passed) (halts_before second third h halts)
+
+  both_passed_first : AllPass first → AllPass second → Continues all_three third
+  both_passed_first passed passed' =
+      Continues-trans all_three (second ++ third) third (passed_first first (second ++ third) passed) (passed_first second third passed')
+
+  pub halts_in_third : (h : Halt) → AllPass first → AllPass second → IsHalt third h → IsHalt all_three h
+  halts_in_third h passed passed' halts = halts_all all_three third h (both_passed_first passed passed') halts
+
+  pub pass_all_three : AllPass first → AllPass second → AllPass third → AllPass all_three
+  pass_all_three passed passed' last = passes_all all_three third (both_passed_first passed passed') last

@@ -10,15 +10,16 @@ use Rattle.exact_num.proofs.StepLaws.{first_wide-fits, first_wide-stops, first_w
 use Rattle.row_core.specs.declared.Row.{Row}
 use Rattle.row_core.specs.declared.Var.{Var}
 use Rattle.row_core.specs.declared.place.Place.{Place}
-use Rattle.row_core.specs.declared.place.Place.TheVariants.{Check}
+use Rattle.row_core.specs.declared.place.Place.TheVariants.{Check, SumCost}
 use Rattle.row_core.specs.Evaluated.{evaluated, evaluated_formed}
 use Rattle.row_core.specs.Kinds.{kind_is_free}
 use Rattle.row_core.specs.Statements.{stands}
 use Rattle.certificate_checker.specs.declared.values.Subject.{Subject}
-use Rattle.certificate_checker.specs.Conditions.{Condition, formed_at, FailsFor, IsWideAt}
-use Rattle.certificate_checker.specs.PlanChecks.{absolute, right_of, row_condition, sign_condition}
-use Rattle.certificate_checker.specs.Reasons.{row_missed, below_zero}
-use Rattle.certificate_checker.proofs.ConditionLaws.{Passes, stopped_at, nothing_more}
+use Rattle.certificate_checker.specs.Conditions.{Condition, formed_at, AllPass, FailsFor, IsWideAt}
+use Rattle.certificate_checker.specs.Costs.{cost_entries, cost_value, total_formed}
+use Rattle.certificate_checker.specs.PlanChecks.{absolute, right_of, cost_passes, row_condition, sign_condition, cost_condition}
+use Rattle.certificate_checker.specs.Reasons.{row_missed, below_zero, cost_not_negative}
+use Rattle.certificate_checker.proofs.ConditionLaws.{Passes, Passes-alone, stopped_at, nothing_more}
 
 -- ---- numbers that are formed at one place
 
@@ -85,3 +86,22 @@ pub sign_fails : (value : Var → Rational) (v : Var) → kind_is_free v.kind �
 sign_fails value v bounded negative =
     fails_plainly (sign_condition value v) refl first_wide-nil
     (ap₂ (λ a b. a || b) bounded (le_from_lt_test (value v).top true negative))
+
+-- ---- the cost
+
+pub cost_wide : (subject : Subject) (cost : Var → ℤ) (vars : List Var) (value : Var → Rational) → all_fit (total_formed value (cost_entries cost vars)) ≡ false → IsWideAt (cost_condition subject cost vars value ∷ []) SumCost
+cost_wide subject cost vars value wide =
+    stops_at (cost_condition subject cost vars value) SumCost (formed_wide SumCost (total_formed value (cost_entries cost vars)) wide)
+
+pub cost_is_passed : (subject : Subject) (cost : Var → ℤ) (vars : List Var) (value : Var → Rational) (found : Rational) → found ≡ cost_value cost vars value
+    → all_fit (total_formed value (cost_entries cost vars)) ≡ true → cost_passes subject found.top ≡ true → AllPass (cost_condition subject cost vars value ∷ [])
+cost_is_passed subject cost vars value found is fit passes = Passes-alone (cost_condition subject cost vars value) (record {
+  fits = formed_fit SumCost (total_formed value (cost_entries cost vars)) fit;
+  is = ap (λ (r : Rational). cost_passes subject r.top) (sym is) ∙ passes;
+})
+
+pub cost_fails : (subject : Subject) (cost : Var → ℤ) (vars : List Var) (value : Var → Rational) (found : Rational) → found ≡ cost_value cost vars value
+    → all_fit (total_formed value (cost_entries cost vars)) ≡ true → cost_passes subject found.top ≡ false → FailsFor (cost_condition subject cost vars value ∷ []) cost_not_negative
+cost_fails subject cost vars value found is fit fails =
+    fails_plainly (cost_condition subject cost vars value) refl (formed_fit SumCost (total_formed value (cost_entries cost vars)) fit)
+    (ap (λ (r : Rational). cost_passes subject r.top) (sym is) ∙ fails)

@@ -27,6 +27,10 @@ total value es = sum_from value (whole (pos 0)) es
 abbrev pub total_formed : {K : Type 0} → (K → Rational) → List (K × ℤ) → List ℤ
 total_formed value es = sum_from_formed value (whole (pos 0)) es
 
+-- the cost of values
+abbrev pub cost_value : (Var → ℤ) → List Var → (Var → Rational) → Rational
+cost_value cost vars value = total value (cost_entries cost vars)
+
 -- the cost of whole numbers x
 abbrev pub cost_of : (Var → ℤ) → List Var → (Var → ℤ) → ℤ
 cost_of cost vars x = sum_over vars (λ v. cost v *ℤ x v)

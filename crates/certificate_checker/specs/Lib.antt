@@ -9,3 +9,4 @@ pub mod Certificates
 pub mod Reasons
 pub mod Verdicts
 pub mod Halts
+pub mod CostNumbers

@@ -10,7 +10,7 @@ use Rattle.row_core.specs.Statements.{stands}
 use Rattle.certificate_checker.specs.declared.values.Subject.{Subject}
 use Rattle.certificate_checker.specs.declared.values.Subject.TheVariants.{Plan, Direction}
 use Rattle.certificate_checker.specs.Conditions.{Condition, formed_at}
-use Rattle.certificate_checker.specs.Costs.{cost_entries, total, total_formed}
+use Rattle.certificate_checker.specs.Costs.{cost_entries, cost_value, total_formed}
 use Rattle.certificate_checker.specs.Reasons.{row_missed, below_zero, cost_not_negative}
 
 -- the absolute value
@@ -44,10 +44,6 @@ sign_condition value v = record {
   reason = below_zero v;
   amount = [];
 }
-
--- what the values cost
-abbrev pub cost_value : (Var → ℤ) → List Var → (Var → Rational) → Rational
-cost_value cost vars value = total value (cost_entries cost vars)
 
 abbrev pub cost_condition : Subject → (Var → ℤ) → List Var → (Var → Rational) → Condition
 cost_condition subject cost vars value = record {

@@ -4,6 +4,7 @@
 //! linear programming duality.
 #![tactic(auto)]
 
+mod costs;
 mod multipliers;
 mod numbers;
 mod values;
