@@ -6,3 +6,4 @@ pub mod SoFar
 pub mod ReducedRows
 pub mod CostRows
 pub mod Columns
+pub mod Left
