@@ -30,7 +30,7 @@ pub use amounts::{minus_one, negative, one, plus, times, zero};
 pub use combining::combine;
 pub use dividing::{divide_all, divisor_of, quotient};
 pub use equations::{row_has, row_word};
-pub use evaluating::eval;
+pub use evaluating::{add_term, eval, eval_against};
 pub use kinds::{is_free, var_has, var_word};
 pub use left_side::LeftSide;
 pub use names::{push_row_name, push_var};
