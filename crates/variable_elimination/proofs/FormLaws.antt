@@ -1,5 +1,5 @@
 -- A form without a variable: its variables ascend, and it has no number at the variable, nor where neither of the two has one.
-use Rattle.std.proofs.Common.{◌≡◌, ◌≢◌, ℕ, ◌<◌, ℤ, pos, ◌*ℤ◌, Bool, true, false, List, [], ◌∷◌, ◌++◌, refl, sym, ap, ap₂, ◌∙◌, arith, if◌then◌else◌}
+use Rattle.std.proofs.Common.{◌≡◌, ℕ, ◌<◌, ℤ, pos, ◌*ℤ◌, Bool, true, false, List, [], ◌∷◌, ◌++◌, sym, ap, ap₂, ◌∙◌, arith, if◌then◌else◌}
 use Rattle.std.specs.Prelude.{unsigned_abs, ⊤}
 use Rattle.std.specs.declared.cmp.Ordering.{Ordering}
 use Rattle.std.specs.declared.cmp.Ordering.TheVariants.{Less, Equal, Greater}
@@ -10,11 +10,11 @@ use Rattle.exact_num.proofs.GcdLaws.{gcd_of-dvd_left, gcd_of-dvd_right}
 use Rattle.exact_num.proofs.Integers.{int_div-mul, *ℤ_cancel, nonzero_of_pos}
 use Rattle.exact_num.proofs.Ring.{products, zero-*ℤ, *ℤ-zero}
 use Rattle.row_core.specs.declared.Var.{Var}
-use Rattle.row_core.specs.Combined.{Beside, left_only, right_only, all_right_only, first_beside, beside, less, entry_unless_zero, lessened, undivided_entries, undivided_right, divisor_by, row_factor, def_factor, combined}
+use Rattle.row_core.specs.Combined.{Beside, left_only, right_only, all_right_only, first_beside, beside, less, lessened, undivided_entries, undivided_right, divisor_by, row_factor, def_factor, combined}
 use Rattle.row_core.specs.Forms.{Form}
 use Rattle.row_core.specs.Numbers.{is_zero, numbers_of, variables_of, ascends}
 use Rattle.row_core.specs.Order.{var_cmp}
-use Rattle.row_core.specs.Rows.{number_at, row_sum}
+use Rattle.row_core.specs.Rows.{number_at}
 use Rattle.row_core.specs.Values.{alone}
 use Rattle.row_core.specs.Written.{entries_divided}
 use Rattle.row_core.proofs.LessenedLaws.{row_sum-lessened, ascends-beside, ascends-lessened}

@@ -15,3 +15,5 @@ pub mod EliminationLaws
 pub mod FormLaws
 pub mod LeftLaws
 pub mod ReadyLaws
+pub mod LiftedLaws
+pub mod LiftingSteps

@@ -7,3 +7,5 @@ pub mod ReducedRows
 pub mod CostRows
 pub mod Columns
 pub mod Left
+pub mod Lifting
+pub mod Lifts

@@ -4,7 +4,6 @@ ghost use Rattle.std.specs.Prelude.{◌≡◌, [], pos, ◌<ℤ◌, ◌+◌, ◌
 ghost use Rattle.exact_num.specs.Steps.{first_wide};
 ghost use Rattle.row_core.specs.declared.place.Stopped.TheVariants.{Memory};
 ghost use Rattle.row_core.specs.Forms.{form_of};
-ghost use Rattle.row_core.specs.Rows.{number_at};
 ghost use Rattle.written_method.specs.Definitions.{definitions_of, others_of, rows_of, defined, AreTriangular};
 ghost use Rattle.written_method.specs.Eliminated.{expanded_all, reduced_rows, cost_variable, cost_row, other_entries, elimination_steps};
 ghost use Rattle.written_method.specs.Ready.{IsReady};
@@ -19,7 +18,7 @@ use crate::costing::{COST_VARIABLE, cost_row};
 use crate::definitions::expand_definitions;
 use crate::reducing::reduce_rows;
 use exact_num::Frac;
-use row_core::{Row, Stopped, Var, look_up};
+use row_core::{Row, Stopped, Var, number_of};
 use std::alloc::{AllocError, Global};
 use written_method::Reduced;
 
@@ -82,7 +81,7 @@ fn with_cost(
         columns,
         cost: entries,
         cost_rhs: cost.rhs,
-        cost_own: own_number(cost),
+        cost_own: number_of(&cost.entries, COST_VARIABLE),
     })
 }
 
@@ -101,14 +100,4 @@ fn other_entries(
         }
     }
     Ok(others)
-}
-
-/// The number of the cost in its row, 0 where it has none.
-fn own_number(cost: &Row) -> i128
-    ensures { result ≡ number_at cost.now.entries.items cost_variable }
-{
-    match look_up(&cost.entries, COST_VARIABLE) {
-        Some(number) => number,
-        None => 0,
-    }
 }
