@@ -59,7 +59,7 @@ pub fn add_term(sum: Frac, number: i128, value: Frac) -> Result<Frac, TooWide>
 }
 
 /// A whole number as a fraction.
-pub(crate) fn fraction(n: i128) -> Frac
+pub fn fraction(n: i128) -> Frac
     requires { InRange n }
     ensures { value_of result ≡ whole n }
 {

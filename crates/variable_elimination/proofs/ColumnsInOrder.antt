@@ -22,7 +22,7 @@ first_passes v [] first = refl
 first_passes v (w ∷ vs) first = ap is_lt first.0
 
 -- a strictly sorted list ascends
-ascends-from_sorted : (vs : List Var) → IsStrictlySortedBy var_cmp vs → ascends var_cmp vs ≡ true
+pub ascends-from_sorted : (vs : List Var) → IsStrictlySortedBy var_cmp vs → ascends var_cmp vs ≡ true
 unfolding IsStrictlySortedBy
 ascends-from_sorted [] sorted = refl
 ascends-from_sorted (v ∷ vs) sorted = ap (λ b. b && ascends var_cmp vs) (first_passes v vs sorted.0) ∙ ascends-from_sorted vs sorted.1

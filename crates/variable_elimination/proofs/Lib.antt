@@ -12,3 +12,8 @@ pub mod PlacedLaws
 pub mod CostLaws
 pub mod ColumnsInOrder
 pub mod EliminationLaws
+pub mod FormLaws
+pub mod LeftLaws
+pub mod ReadyLaws
+pub mod LiftedLaws
+pub mod LiftingSteps

@@ -6,3 +6,6 @@ pub mod SoFar
 pub mod ReducedRows
 pub mod CostRows
 pub mod Columns
+pub mod Left
+pub mod Lifting
+pub mod Lifts

@@ -6,6 +6,8 @@ mod costing;
 mod definitions;
 mod eliminating;
 mod expanding;
+mod lifting;
 mod reducing;
 
 pub use eliminating::eliminate;
+pub use lifting::{lift_direction, lift_plan};
