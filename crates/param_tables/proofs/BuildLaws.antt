@@ -1,11 +1,10 @@
 -- The first refusal among those of STORAGE, of the values and of the parameters.
 use Rattle.std.proofs.Common.{◌≡◌, ◌<◌, ◌≤◌, List, [], ◌∷◌, ◌++◌, Some, length, sym, ap, ◌∙◌, subst}
 use Rattle.std.specs.Prelude.{if◌then◌else◌}
-use Rattle.std.specs.List.{flat_map, range_with_len}
+use Rattle.std.specs.List.{flat_map}
 use Rattle.std.proofs.lemmas.Bool.{lt-ltb, le-ltb}
-use Rattle.model_sets.specs.Data.{Data}
+use Rattle.model_sets.specs.Data.{Data, used_params}
 use Rattle.model_sets.specs.Members.{SetLists, members}
-use Rattle.model_sets.specs.Params.{used_count}
 use Rattle.param_tables.specs.BlockData.{data_of, data_told, set_lists}
 use Rattle.param_tables.specs.InTurn.{first_of}
 use Rattle.param_tables.specs.Refusals.{Refusal, StorageMember, first_refusal, param_refusals, storage, storage_refusals, value_refusals}
@@ -15,7 +14,7 @@ use Rattle.param_tables.specs.declared.param_table.ParamTable.{ParamTable}
 use Rattle.param_tables.proofs.TurnLaws.{first_of-found}
 
 in_order : SetLists → Data → List ParamBlock → List Refusal
-in_order sets d params = storage_refusals sets ++ flat_map (value_refusals sets) params ++ flat_map (param_refusals d) (range_with_len 1 used_count)
+in_order sets d params = storage_refusals sets ++ flat_map (value_refusals sets) params ++ flat_map (param_refusals d) (used_params d)
 
 no_storage : (sets : SetLists) → length (members sets storage) ≤ 0 → storage_refusals sets ≡ []
 no_storage sets none = ap (λ b. if b then StorageMember ∷ [] else []) (le-ltb 0 (length (members sets storage)) none)
@@ -27,21 +26,21 @@ module _ (s : Blocks) (sets : SetLists) (same : sets ≡ set_lists s) where
 
   pub storage_first : 0 < length (members sets storage) → first_refusal s ≡ Some StorageMember
   unfolding in_order
-  storage_first some = by_parts ∙ ap (λ b. first_of ((if b then StorageMember ∷ [] else []) ++ flat_map (value_refusals sets) s.params ++ flat_map (param_refusals (data_told s)) (range_with_len 1 used_count))) (lt-ltb 0 (length (members sets storage)) some)
+  storage_first some = by_parts ∙ ap (λ b. first_of ((if b then StorageMember ∷ [] else []) ++ flat_map (value_refusals sets) s.params ++ flat_map (param_refusals (data_told s)) (used_params (data_told s)))) (lt-ltb 0 (length (members sets storage)) some)
 
   pub value_first : (r : Refusal) → length (members sets storage) ≤ 0 → first_of (flat_map (value_refusals sets) s.params) ≡ Some r → first_refusal s ≡ Some r
   unfolding in_order
   value_first r none found =
       by_parts
-      ∙ ap (λ rs. first_of (rs ++ flat_map (value_refusals sets) s.params ++ flat_map (param_refusals (data_told s)) (range_with_len 1 used_count))) (no_storage sets none)
-      ∙ first_of-found (flat_map (value_refusals sets) s.params) (flat_map (param_refusals (data_told s)) (range_with_len 1 used_count)) r found
+      ∙ ap (λ rs. first_of (rs ++ flat_map (value_refusals sets) s.params ++ flat_map (param_refusals (data_told s)) (used_params (data_told s)))) (no_storage sets none)
+      ∙ first_of-found (flat_map (value_refusals sets) s.params) (flat_map (param_refusals (data_told s)) (used_params (data_told s))) r found
 
-  pub params_left : length (members sets storage) ≤ 0 → flat_map (value_refusals sets) s.params ≡ [] → first_refusal s ≡ first_of (flat_map (param_refusals (data_told s)) (range_with_len 1 used_count))
+  pub params_left : length (members sets storage) ≤ 0 → flat_map (value_refusals sets) s.params ≡ [] → first_refusal s ≡ first_of (flat_map (param_refusals (data_told s)) (used_params (data_told s)))
   unfolding in_order
   params_left none free =
       by_parts
-      ∙ ap (λ rs. first_of (rs ++ flat_map (value_refusals sets) s.params ++ flat_map (param_refusals (data_told s)) (range_with_len 1 used_count))) (no_storage sets none)
-      ∙ ap (λ rs. first_of (rs ++ flat_map (param_refusals (data_told s)) (range_with_len 1 used_count))) free
+      ∙ ap (λ rs. first_of (rs ++ flat_map (value_refusals sets) s.params ++ flat_map (param_refusals (data_told s)) (used_params (data_told s)))) (no_storage sets none)
+      ∙ ap (λ rs. first_of (rs ++ flat_map (param_refusals (data_told s)) (used_params (data_told s)))) free
 
   -- the data over these sets are those of the statements
   pub tables_told : (tables : List ParamTable) → AreTablesFor (data_of sets s.params) tables → AreTablesFor (data_told s) tables

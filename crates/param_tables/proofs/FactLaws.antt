@@ -12,16 +12,16 @@ use Rattle.std.proofs.lemmas.Map.Keys.{IsDistinct-from_apart}
 use Rattle.mathprog_data.specs.declared.blocks.Mark.{Mark}
 use Rattle.model_sets.specs.Data.{indices_of, value_at}
 use Rattle.model_sets.specs.Members.{SetLists, AreSets}
-use Rattle.model_sets.specs.Params.{IsUsedParam, subscript_sets, used_count}
+use Rattle.model_sets.specs.Params.{IsParam, param_count, subscript_sets}
 use Rattle.param_tables.specs.BlockData.{data_of, given_of, givens_of, stated_default}
 use Rattle.mathprog_data.specs.Meaning.{ParamBlock, GivenValue}
-use Rattle.param_tables.specs.Tables.{AreTablesFor, HaveShapes, IsTable, IsTableFor, entries_of, given_among, given_in, table_value, value_else}
+use Rattle.param_tables.specs.Tables.{AreTablesFor, HaveShapes, IsUsable, IsTable, IsTableFor, entries_of, given_among, given_in, table_value, value_else}
 use Rattle.param_tables.specs.View.{default_by, facts_of, given_by}
 use Rattle.param_tables.specs.declared.param_table.ParamTable.{ParamTable}
 use Rattle.param_tables.proofs.DataLaws.{value_of_statement}
 use Rattle.param_tables.proofs.GivenLaws.{names_same}
 use Rattle.param_tables.proofs.IndexLaws.{HaveApart, indices_apart, names_apart_from}
-use Rattle.param_tables.proofs.TableLaws.{subscripts_are_sets}
+use Rattle.model_sets.proofs.ParamLaws.{subscripts_are_sets}
 
 nowhere : Mark
 nowhere = record { line = 0; column = 0 }
@@ -52,8 +52,11 @@ unfolding statements_by statement_by
 same_defaults sets n [] = refl
 same_defaults sets n (t ∷ ts) = ap (cons_option (default_by n t)) (same_defaults sets (n + 1) ts)
 
-same_facts : (sets : SetLists) (tables : List ParamTable) → facts_of sets tables ≡ data_of sets (statements_by sets 1 tables)
-same_facts sets tables = ap (λ given. record { sets = sets; given = given; defaults = filter_map (λ (param, table). default_by param table) (enumerate_from 1 tables) }) (same_given sets 1 tables) ∙ ap (λ defaults. record { sets = sets; given = flat_map givens_of (statements_by sets 1 tables); defaults = defaults }) (same_defaults sets 1 tables)
+-- but for the statement on DiscountRateIdv
+same_values : (sets : SetLists) (tables : List ParamTable) (second : Bool) (p : ℕ) (index : List (List ℕ)) → value_at (facts_of sets tables second) p index ≡ value_at (data_of sets (statements_by sets 1 tables)) p index
+same_values sets tables second p index =
+    ap (λ given. value_at (record { sets = sets; given = given; defaults = filter_map (λ (param, table). default_by param table) (enumerate_from 1 tables); second = second }) p index) (same_given sets 1 tables)
+    ∙ ap (λ defaults. value_at (record { sets = sets; given = flat_map givens_of (statements_by sets 1 tables); defaults = defaults; second = second }) p index) (same_defaults sets 1 tables)
 
 -- ---- one statement for each parameter
 
@@ -71,11 +74,11 @@ numbers_apart a n = IsDistinct-from_apart nat_eq (range_with_len a n) (λ i j d 
 
 -- ---- the look-up by names is that by places
 
-module _ (sets : SetLists) (apart : HaveApart sets) (p : ℕ) (used : IsUsedParam p) where
+module _ (sets : SetLists) (apart : HaveApart sets) (p : ℕ) (listed : IsParam p) where
   place_test : (q j : ℕ) → q < length (indices_of sets p) → j < length (indices_of sets p) → pointwise bytes_eq (get_or (indices_of sets p) q []) (get_or (indices_of sets p) j []) ≡ nat_eq j q
   place_test q j bq bj = elim (cases_eq j q) [
     | inl same ↦ (names_same (get_or (indices_of sets p) q []) (get_or (indices_of sets p) j [])).1 (ap (λ n. get_or (indices_of sets p) n []) (sym same)) ∙ sym (eq-eqb j q same)
-    | inr other ↦ false_from (pointwise bytes_eq (get_or (indices_of sets p) q []) (get_or (indices_of sets p) j [])) (λ t. other (sym (indices_apart sets apart (subscript_sets p) q j (subscripts_are_sets p used) bq bj ((names_same (get_or (indices_of sets p) q []) (get_or (indices_of sets p) j [])).0 t)))) ∙ sym (ne_eqb j q other)
+    | inr other ↦ false_from (pointwise bytes_eq (get_or (indices_of sets p) q []) (get_or (indices_of sets p) j [])) (λ t. other (sym (indices_apart sets apart (subscript_sets p) q j (subscripts_are_sets p listed) bq bj ((names_same (get_or (indices_of sets p) q []) (get_or (indices_of sets p) j [])).0 t)))) ∙ sym (ne_eqb j q other)
   ]
     where
       false_from : (b : Bool) → ((b ≡ true) → ⊥) → b ≡ false
@@ -95,9 +98,9 @@ module _ (sets : SetLists) (apart : HaveApart sets) (p : ℕ) (used : IsUsedPara
       of_cond false e = e
 
 -- tables with the shapes of the parameters are those of the data that they mean
-pub tables_for_facts : (sets : SetLists) (tables : List ParamTable) → AreSets sets → HaveShapes sets tables → AreTablesFor (facts_of sets tables) tables
+pub tables_for_facts : (sets : SetLists) (tables : List ParamTable) (second : Bool) → AreSets sets → HaveShapes sets tables → AreTablesFor (facts_of sets tables second) tables
 unfolding statements_by statement_by
-tables_for_facts sets tables are shapes = record { all = shapes.all; each = each }
+tables_for_facts sets tables second are shapes = record { all = shapes.all; each = each }
   where
     all : List ParamBlock
     all = statements_by sets 1 tables
@@ -105,14 +108,14 @@ tables_for_facts sets tables are shapes = record { all = shapes.all; each = each
     distinct : IsDistinct nat_eq (map (λ s. s.param) all)
     distinct = subst (IsDistinct nat_eq) (sym (params_by sets 1 tables)) (numbers_apart 1 (length tables))
 
-    each : (p : ℕ) → IsUsedParam p → (e : ParamTable) → IsTableFor (facts_of sets tables) p (get_or tables (p - 1) e)
+    each : (p : ℕ) → IsUsable p → (e : ParamTable) → IsTableFor (facts_of sets tables second) p (get_or tables (p - 1) e)
     each p used e = record { shape = shape; values = values }
       where
         low : 1 ≤ p
-        low = used.0
+        low = used.0.0
 
-        high : p ≤ used_count
-        high = used.1
+        high : p ≤ param_count
+        high = used.0.1
 
         table : ParamTable
         table = get_or tables (p - 1) e
@@ -137,8 +140,8 @@ tables_for_facts sets tables are shapes = record { all = shapes.all; each = each
             ∙ ap (λ x. statement_by sets x.0 x.1) (get_or-enumerate_from 1 tables (p - 1) (p, e) short)
             ∙ ap (λ n. statement_by sets n table) number
 
-        values : (place : ℕ) → place < length (indices_of sets p) → value_at (facts_of sets tables) p (get_or (indices_of sets p) place []) ≡ table_value p (get_or tables (p - 1) e) place
+        values : (place : ℕ) → place < length (indices_of sets p) → value_at (facts_of sets tables second) p (get_or (indices_of sets p) place []) ≡ table_value p (get_or tables (p - 1) e) place
         values place below =
-            ap (λ d. value_at d p (get_or (indices_of sets p) place [])) (same_facts sets tables)
+            same_values sets tables second p (get_or (indices_of sets p) place [])
             ∙ value_of_statement sets all distinct (p - 1) s inside at (get_or (indices_of sets p) place [])
-            ∙ ap (λ o. option_or o (value_else p table.default)) (given_by_place sets (names_apart_from sets are) p used table.places.items table.values.items place shape.below below)
+            ∙ ap (λ o. option_or o (value_else p table.default)) (given_by_place sets (names_apart_from sets are) p used.0 table.places.items table.values.items place shape.below below)

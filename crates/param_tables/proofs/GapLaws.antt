@@ -10,7 +10,7 @@ use Rattle.param_tables.specs.Ranges.{range_fault}
 use Rattle.param_tables.specs.Tables.{IsFirstFault, fault_before, given_in, place_fault}
 use Rattle.param_tables.specs.declared.fault.CellFault.{CellFault}
 use Rattle.param_tables.specs.declared.first_fault.PlaceFault.{PlaceFault}
-use Rattle.param_tables.specs.declared.ranges.Range.{Range}
+use Rattle.model_sets.specs.declared.params.Range.{Range}
 use Rattle.param_tables.proofs.EntryLaws.{given_none, given_at_place, rising_all}
 
 -- what a fault before an end says

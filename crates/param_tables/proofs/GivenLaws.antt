@@ -12,13 +12,13 @@ use Rattle.std.proofs.lemmas.List.Folds.{find-append}
 use Rattle.std.proofs.lemmas.Slice.Eq.{bytes_eq-Decides}
 use Rattle.model_sets.specs.Data.{indices_of}
 use Rattle.model_sets.specs.Members.{SetLists}
-use Rattle.model_sets.specs.Params.{IsUsedParam, subscript_sets}
+use Rattle.model_sets.specs.Params.{IsParam, subscript_sets}
 use Rattle.param_tables.specs.Places.{IsPlaceOf}
 use Rattle.param_tables.specs.Refusals.{Refusal, UnknownName, GivenBefore, is_given_among, names_members, value_refusal}
 use Rattle.mathprog_data.specs.Meaning.{GivenValue}
 use Rattle.param_tables.specs.Tables.{AreGiven, given_among}
 use Rattle.param_tables.proofs.IndexLaws.{HaveApart, indices_apart}
-use Rattle.param_tables.proofs.TableLaws.{subscripts_are_sets}
+use Rattle.model_sets.proofs.ParamLaws.{subscripts_are_sets}
 
 -- two indices are one
 pub names_same : (xs ys : List (List ℕ)) → Decides (pointwise bytes_eq xs ys) (xs ≡ ys)
@@ -76,7 +76,7 @@ option_or-none (Some x) = refl
 pub given_none_yet : (sets : SetLists) (param : ℕ) (found : ℕ → Option ℤ) → ((place : ℕ) → found place ≡ None) → AreGiven sets param [] found
 given_none_yet sets param found none = record { inside = λ place below. none place; outside = λ place above. none place }
 
-module _ (sets : SetLists) (apart : HaveApart sets) (param : ℕ) (used : IsUsedParam param) (values : List GivenValue) (i : ℕ) (v : GivenValue) (below : i < length values) (is : v ≡ get_or values i v) (place : ℕ) (at : IsPlaceOf sets (subscript_sets param) v.index place) (found : ℕ → Option ℤ) (so_far : AreGiven sets param (take i values) found) where
+module _ (sets : SetLists) (apart : HaveApart sets) (param : ℕ) (listed : IsParam param) (values : List GivenValue) (i : ℕ) (v : GivenValue) (below : i < length values) (is : v ≡ get_or values i v) (place : ℕ) (at : IsPlaceOf sets (subscript_sets param) v.index place) (found : ℕ → Option ℤ) (so_far : AreGiven sets param (take i values) found) where
   -- the look-up at the value's place finds what was given at its index
   pub found_here : found place ≡ given_among (take i values) v.index
   found_here = so_far.inside place at.below ∙ ap (given_among (take i values)) at.at
@@ -102,7 +102,7 @@ module _ (sets : SetLists) (apart : HaveApart sets) (param : ℕ) (used : IsUsed
 
       there : (q : ℕ) → q < length (indices_of sets param) → (q ≢ place) → next q ≡ given_among (take (i + 1) values) (get_or (indices_of sets param) q [])
       there q inside other =
-          let apart_here : pointwise bytes_eq v.index (get_or (indices_of sets param) q []) ≡ false = false_from (pointwise bytes_eq v.index (get_or (indices_of sets param) q [])) (λ t. other (indices_apart sets apart (subscript_sets param) q place (subscripts_are_sets param used) inside at.below (sym ((names_same v.index (get_or (indices_of sets param) q [])).0 t) ∙ sym at.at))) in
+          let apart_here : pointwise bytes_eq v.index (get_or (indices_of sets param) q []) ≡ false = false_from (pointwise bytes_eq v.index (get_or (indices_of sets param) q [])) (λ t. other (indices_apart sets apart (subscript_sets param) q place (subscripts_are_sets param listed) inside at.below (sym ((names_same v.index (get_or (indices_of sets param) q [])).0 t) ∙ sym at.at))) in
           step q ∙ ap (λ b. if b then Some v.value else found q) (ne_eqb q place other)
           ∙ so_far.inside q inside
           ∙ sym

@@ -6,21 +6,22 @@ use Rattle.std.specs.Option.{option_map, option_or}
 use Rattle.std.proofs.lemmas.List.{get_or_default}
 use Rattle.std.proofs.lemmas.List.FromFn.{get_or-range_with_len, length-range_with_len}
 use Rattle.std.proofs.lemmas.List.Folds.{find-append}
-use Rattle.model_sets.specs.Data.{Data, Default, Given, default_of, given_at, indices_of, is_given_at, unit_capacity, value_at, value_of_none}
+use Rattle.model_sets.specs.Data.{Data, Default, Given, IsUsedParam, used_params, default_of, given_at, indices_of, is_given_at, unit_capacity, value_at, value_of_none}
 use Rattle.model_sets.specs.Members.{SetLists, AreSets}
-use Rattle.model_sets.specs.Params.{IsUsedParam, used_count}
-use Rattle.param_tables.specs.BlockData.{data_of, given_of, givens_of, stated_default}
+use Rattle.model_sets.specs.Params.{param_count, range_of}
+use Rattle.param_tables.specs.BlockData.{data_of, given_of, givens_of, has_second, stated_default}
 use Rattle.param_tables.specs.Built.{AreComplete, AreSameData, IsValueIn}
-use Rattle.param_tables.specs.RangeTable.{range_of}
 use Rattle.param_tables.specs.Refusals.{AtIndex, TooManyIndices, fault_at, index_refusals, most_indices, param_refusals, value_fault}
 use Rattle.mathprog_data.specs.Meaning.{ParamBlock, GivenValue}
 use Rattle.param_tables.specs.Tables.{AreTablesFor, HaveShapes}
 use Rattle.param_tables.specs.View.{AreKept, facts_of}
 use Rattle.mathprog_data.specs.WellFormed.{IsWithinLimit, IsParamBlock}
 use Rattle.param_tables.specs.declared.param_table.ParamTable.{ParamTable}
-use Rattle.param_tables.specs.declared.ranges.Range.{Range}
+use Rattle.model_sets.specs.declared.params.Range.{Range}
 use Rattle.param_tables.proofs.FactLaws.{tables_for_facts}
+use Rattle.param_tables.proofs.ParamLaws.{if_used, refusals_if_used, used_each}
 use Rattle.param_tables.proofs.RangeRules.{in_range_from}
+use Rattle.param_tables.proofs.ViewLaws.{usable}
 
 -- tables of some data have the shapes of the parameters
 pub shapes_of : (d : Data) (tables : List ParamTable) → AreTablesFor d tables → HaveShapes d.sets tables
@@ -29,17 +30,19 @@ shapes_of d tables for = record { all = for.all; each = λ p used e. (for.each p
 -- ---- the same values
 
 -- two data with the same tables are the same
-pub same_tables : (d e : Data) (tables : List ParamTable) → d.sets ≡ e.sets → AreTablesFor d tables → AreTablesFor e tables → AreSameData d e
-same_tables d e [] same ford fore = absurd (omega (arith, ford.all))
-same_tables d e (table ∷ tables) same ford fore = record {
+pub same_tables : (d e : Data) (tables : List ParamTable) → d.sets ≡ e.sets → d.second ≡ e.second → AreTablesFor d tables → AreTablesFor e tables → AreSameData d e
+same_tables d e [] same use_same ford fore = absurd (omega (arith, ford.all))
+same_tables d e (table ∷ tables) same use_same ford fore = record {
   sets = same;
+  second = use_same;
   values = λ p used index has.
+      let kept = usable d p used in
       let place = has.0 in
       let below : place < length (indices_of d.sets p) = has.1 in
       let name : get_or (indices_of d.sets p) place [] ≡ index = get_or_default (indices_of d.sets p) place [] index below ∙ has.2 in
       let there : place < length (indices_of e.sets p) = let P : SetLists → Type 0 = λ sets. place < length (indices_of sets p) in subst P same below in
       let name_there : get_or (indices_of e.sets p) place [] ≡ index = ap (λ sets. get_or (indices_of sets p) place []) (sym same) ∙ name in
-      ap (value_at d p) (sym name) ∙ (ford.each p used table).values place below ∙ sym ((fore.each p used table).values place there) ∙ ap (value_at e p) name_there;
+      ap (value_at d p) (sym name) ∙ (ford.each p kept table).values place below ∙ sym ((fore.each p kept table).values place there) ∙ ap (value_at e p) name_there;
 }
 
 -- ---- numbers
@@ -124,17 +127,19 @@ value_in range None e number = absurd cc
 value_in range (Some v) e number = record { within = in_range_from range v e; number = number }
 
 -- data of which nothing is refused, and whose values are numbers, are complete
-pub complete_of : (d : Data) → AreSets d.sets → flat_map (param_refusals d) (range_with_len 1 used_count) ≡ [] → ((p : ℕ) → IsUsedParam p → (index : List (List ℕ)) → Contains (indices_of d.sets p) index → IfSome (value_at d p index) IsWithinLimit) → AreComplete d
+pub complete_of : (d : Data) → AreSets d.sets → flat_map (param_refusals d) (used_params d) ≡ [] → ((p : ℕ) → IsUsedParam d p → (index : List (List ℕ)) → Contains (indices_of d.sets p) index → IfSome (value_at d p index) IsWithinLimit) → AreComplete d
 complete_of d are free numbers = record { sets = are; values = values }
   where
-    none_of_param : (p : ℕ) → IsUsedParam p → param_refusals d p ≡ []
+    none_of_param : (p : ℕ) → IsUsedParam d p → param_refusals d p ≡ []
     none_of_param p used =
-        let low = used.0 in
-        let high = used.1 in
-        let at : get_or (range_with_len 1 used_count) (p - 1) 0 ≡ p = get_or-range_with_len 1 used_count (p - 1) 0 (omega arith) ∙ omega arith in
-        ap (param_refusals d) (sym at) ∙ each_empty (param_refusals d) (range_with_len 1 used_count) (p - 1) 0 free (omega (arith, length-range_with_len 1 used_count))
+        let low = used.0.0 in
+        let high = used.0.1 in
+        let at : get_or (range_with_len 1 param_count) (p - 1) 0 ≡ p = get_or-range_with_len 1 param_count (p - 1) 0 (omega arith) ∙ omega arith in
+        let inside : p - 1 < length (range_with_len 1 param_count) = omega (arith, length-range_with_len 1 param_count) in
+        let free_each : flat_map (refusals_if_used d) (range_with_len 1 param_count) ≡ [] = sym (used_each d) ∙ free in
+        if_used d p used.1 ∙ ap (refusals_if_used d) (sym at) ∙ each_empty (refusals_if_used d) (range_with_len 1 param_count) (p - 1) 0 free_each inside
 
-    values : (p : ℕ) → IsUsedParam p → (index : List (List ℕ)) → Contains (indices_of d.sets p) index → IsSomeAnd (value_at d p index) (IsValueIn (range_of p))
+    values : (p : ℕ) → IsUsedParam d p → (index : List (List ℕ)) → Contains (indices_of d.sets p) index → IsSomeAnd (value_at d p index) (IsValueIn (range_of p))
     values p used index has =
         let place = has.0 in
         let below : place < length (indices_of d.sets p) = has.1 in
@@ -145,14 +150,14 @@ complete_of d are free numbers = record { sets = are; values = values }
         value_in (range_of p) (value_at d p index) free_here (numbers p used index has)
 
 -- tables that no check refuses are kept, and are those of the statements
-pub same_facts_told : (sets : SetLists) (params : List ParamBlock) (tables : List ParamTable) → AreSets sets → AreTablesFor (data_of sets params) tables → AreSameData (facts_of sets tables) (data_of sets params)
-same_facts_told sets params tables are for = same_tables (facts_of sets tables) (data_of sets params) tables refl (tables_for_facts sets tables are (shapes_of (data_of sets params) tables for)) for
+pub same_facts_told : (sets : SetLists) (params : List ParamBlock) (tables : List ParamTable) (second : Bool) → second ≡ has_second params → AreSets sets → AreTablesFor (data_of sets params) tables → AreSameData (facts_of sets tables second) (data_of sets params)
+same_facts_told sets params tables second told are for = same_tables (facts_of sets tables second) (data_of sets params) tables refl told (tables_for_facts sets tables second are (shapes_of (data_of sets params) tables for)) for
 
-pub kept_of : (sets : SetLists) (params : List ParamBlock) (tables : List ParamTable) → AreSets sets → AreTablesFor (data_of sets params) tables → All IsParamBlock params → flat_map (param_refusals (facts_of sets tables)) (range_with_len 1 used_count) ≡ [] → AreKept sets tables
-kept_of sets params tables are for every free =
-    let tabled = tables_for_facts sets tables are (shapes_of (data_of sets params) tables for) in
-    let same = same_facts_told sets params tables are for in
+pub kept_of : (sets : SetLists) (params : List ParamBlock) (tables : List ParamTable) (second : Bool) → second ≡ has_second params → AreSets sets → AreTablesFor (data_of sets params) tables → All IsParamBlock params → flat_map (param_refusals (facts_of sets tables second)) (used_params (facts_of sets tables second)) ≡ [] → AreKept sets tables second
+kept_of sets params tables second told are for every free =
+    let tabled = tables_for_facts sets tables second are (shapes_of (data_of sets params) tables for) in
+    let same = same_facts_told sets params tables second told are for in
     record {
       tabled = tabled;
-      complete = complete_of (facts_of sets tables) are free (λ p used index has. subst (λ o. IfSome o IsWithinLimit) (sym (same.values p used index has)) (values_are_numbers sets params p index every));
+      complete = complete_of (facts_of sets tables second) are free (λ p used index has. subst (λ o. IfSome o IsWithinLimit) (sym (same.values p used index has)) (values_are_numbers sets params p index every));
     }

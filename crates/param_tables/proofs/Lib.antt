@@ -9,7 +9,6 @@ pub mod GivenLaws
 pub mod IndexLaws
 pub mod KeptLaws
 pub mod NonzeroLaws
-mod NumberExamples
 pub mod ParamLaws
 pub mod PlaceLaws
 mod RangeExamples
@@ -21,7 +20,6 @@ pub mod RatioPlaceLaws
 pub mod RefusalLaws
 pub mod SearchLaws
 pub mod SetLaws
-pub mod TableLaws
 pub mod TableOfLaws
 pub mod TurnLaws
 pub mod ViewLaws

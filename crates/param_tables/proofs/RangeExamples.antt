@@ -2,10 +2,10 @@
 use Rattle.std.proofs.Common.{◌≡◌, ◌∷◌, [], Some, None, refl, map, replicate, pos, negsuc}
 use Rattle.std.specs.Prelude.{ℤ}
 use Rattle.model_sets.specs.declared.param_numbers.TheConstants.{YEAR_SPLIT, DISCOUNT_RATE, DEPRECIATION_METHOD, TRADE_ROUTE, SPECIFIED_ANNUAL_DEMAND, SPECIFIED_DEMAND_PROFILE, ACCUMULATED_ANNUAL_DEMAND, CAPACITY_TO_ACTIVITY_UNIT, CAPACITY_FACTOR, AVAILABILITY_FACTOR, OPERATIONAL_LIFE, RESIDUAL_CAPACITY, INPUT_ACTIVITY_RATIO, OUTPUT_ACTIVITY_RATIO, CAPITAL_COST, VARIABLE_COST, FIXED_COST, CAPACITY_OF_ONE_TECHNOLOGY_UNIT, TOTAL_ANNUAL_MAX_CAPACITY, TOTAL_ANNUAL_MIN_CAPACITY, TOTAL_ANNUAL_MAX_CAPACITY_INVESTMENT, TOTAL_ANNUAL_MIN_CAPACITY_INVESTMENT, TOTAL_TECHNOLOGY_ANNUAL_ACTIVITY_UPPER_LIMIT, TOTAL_TECHNOLOGY_ANNUAL_ACTIVITY_LOWER_LIMIT, TOTAL_TECHNOLOGY_MODEL_PERIOD_ACTIVITY_UPPER_LIMIT, TOTAL_TECHNOLOGY_MODEL_PERIOD_ACTIVITY_LOWER_LIMIT, RESERVE_MARGIN_TAG_TECHNOLOGY, RESERVE_MARGIN_TAG_FUEL, RESERVE_MARGIN, RE_TAG_TECHNOLOGY, RE_TAG_FUEL, RE_MIN_PRODUCTION_TARGET, EMISSION_ACTIVITY_RATIO, EMISSIONS_PENALTY, ANNUAL_EXOGENOUS_EMISSION, ANNUAL_EMISSION_LIMIT, MODEL_PERIOD_EXOGENOUS_EMISSION, MODEL_PERIOD_EMISSION_LIMIT}
-use Rattle.param_tables.specs.RangeTable.{range_of}
+use Rattle.model_sets.specs.Params.{range_of}
 use Rattle.param_tables.specs.Ranges.{range_fault, whole}
 use Rattle.param_tables.specs.declared.fault.CellFault.TheVariants.{Negative, NotPositive, NotWhole, OutOfRange, WholeUnits}
-use Rattle.param_tables.specs.declared.ranges.Range.TheVariants.{Any, AtLeastZero, AboveZero, ZeroToOne, OneOrTwo, Lifetime, ZeroOnly, MinusOneOrAtLeastZero}
+use Rattle.model_sets.specs.declared.params.Range.TheVariants.{Any, AtLeastZero, AboveZero, ZeroToOne, OneOrTwo, Lifetime, ZeroOnly, MinusOneOrAtLeastZero}
 
 -- ---- which values lie in a range
 

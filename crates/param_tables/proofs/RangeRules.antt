@@ -7,8 +7,8 @@ use Rattle.std.proofs.lemmas.Bool.{eq-eqb, eqb-true, false≢true, leb-true, le-
 use Rattle.param_tables.specs.Ranges.{IsInRange, RangesAreTold, is_whole, life_fault, minus_one, range_fault, unless, whole}
 use Rattle.param_tables.specs.declared.fault.CellFault.{CellFault}
 use Rattle.param_tables.specs.declared.fault.CellFault.TheVariants.{Negative, NotPositive, NotWhole, OutOfRange, WholeUnits}
-use Rattle.param_tables.specs.declared.ranges.Range.{Range}
-use Rattle.param_tables.specs.declared.ranges.Range.TheVariants.{Any, AtLeastZero, AboveZero, ZeroToOne, OneOrTwo, Lifetime, ZeroOnly, MinusOneOrAtLeastZero}
+use Rattle.model_sets.specs.declared.params.Range.{Range}
+use Rattle.model_sets.specs.declared.params.Range.TheVariants.{Any, AtLeastZero, AboveZero, ZeroToOne, OneOrTwo, Lifetime, ZeroOnly, MinusOneOrAtLeastZero}
 
 true_so : (t : Bool) → T t → t ≡ true
 true_so true h = refl

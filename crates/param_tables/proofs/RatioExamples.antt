@@ -1,5 +1,5 @@
 -- The definitions of where ratios aren't 0, computed on a worked example: one region, two technologies, one fuel, two modes and two years.
-use Rattle.std.proofs.Common.{◌≡◌, ℕ, ◌∷◌, [], List, refl, pos}
+use Rattle.std.proofs.Common.{false, ◌≡◌, ℕ, ◌∷◌, [], List, refl, pos}
 use Rattle.std.specs.Prelude.{codes, ℤ}
 use Rattle.model_sets.specs.Data.{Data, Given}
 use Rattle.model_sets.specs.Members.{SetLists}
@@ -31,7 +31,7 @@ given : List Given
 given = makes (codes "T") (codes "1") (codes "2020") (whole 1) ∷ makes (codes "T") (codes "2") (codes "2020") (pos 0) ∷ makes (codes "U") (codes "2") (codes "2021") (pos 500000000) ∷ []
 
 with_default : ℤ → Data
-with_default v = record { sets = two_each; given = given; defaults = record { param = 14; value = v } ∷ [] }
+with_default v = record { sets = two_each; given = given; defaults = record { param = 14; value = v } ∷ []; second = false }
 
 -- ---- where the default is 0
 

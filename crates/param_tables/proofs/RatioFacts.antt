@@ -10,13 +10,12 @@ use Rattle.std.proofs.lemmas.List.Elements.{Contains-get_or}
 use Rattle.std.proofs.lemmas.List.Folds.{Any-from_list_any, list_any_at}
 use Rattle.std.proofs.lemmas.List.FromFn.{get_or-range_with_len, length-range_with_len}
 use Rattle.std.proofs.lemmas.List.Kept.{IsStrictlyIncreasing-filter}
-use Rattle.model_sets.specs.Data.{Data, unit_capacity, value_of_none}
+use Rattle.model_sets.specs.Data.{Data, IsUsedParam, unit_capacity, value_of_none}
 use Rattle.model_sets.specs.Members.{SetLists}
-use Rattle.model_sets.specs.Params.{IsUsedParam}
 use Rattle.param_tables.specs.Positions.{names_at}
 use Rattle.param_tables.specs.RatioPlaces.{AreBlocks, AreIndicesAt, AreKeptWith, ArePlacesOf, IsPartBetween, IsWithin, group_of, group_size, index_at_offset, is_given_nonzero, is_nonzero_value, places_of, ratio_place, ratio_sizes, region_size}
 use Rattle.param_tables.specs.Ratios.{AreMembersFor, IsRegion, IsTechnology, has_nonzero_mode, is_nonzero_in, is_ratio_nonzero, nonzero_indices, nonzero_modes, nonzero_technologies, ratio_param}
-use Rattle.param_tables.specs.Tables.{IsTableFor, entries_of, given_in, value_else}
+use Rattle.param_tables.specs.Tables.{IsTableFor, IsUsable, entries_of, given_in, value_else}
 use Rattle.param_tables.specs.View.{facts_of}
 use Rattle.param_tables.specs.declared.param_table.ParamTable.{ParamTable}
 use Rattle.param_tables.specs.declared.ratio_places.AllRatioPlaces.{AllRatioPlaces}
@@ -46,10 +45,16 @@ nonzero_if_given p (Some v) default zero_by_default = refl
 nonzero_if_given p None (Some v) zero_by_default = zero_by_default
 nonzero_if_given p None None zero_by_default = none_is_zero p
 
-pub ratio_is_used : (ratio : ActivityRatio) → IsUsedParam (ratio_param ratio)
-ratio_is_used Input = (omega arith, omega arith)
-ratio_is_used Output = (omega arith, omega arith)
-ratio_is_used Emission = (omega arith, omega arith)
+-- the ratios are used in all data
+pub ratio_is_used : (d : Data) (ratio : ActivityRatio) → IsUsedParam d (ratio_param ratio)
+ratio_is_used d Input = ((omega arith, omega arith), refl)
+ratio_is_used d Output = ((omega arith, omega arith), refl)
+ratio_is_used d Emission = ((omega arith, omega arith), refl)
+
+pub ratio_is_usable : (ratio : ActivityRatio) → IsUsable (ratio_param ratio)
+ratio_is_usable Input = ((omega arith, omega arith), refl)
+ratio_is_usable Output = ((omega arith, omega arith), refl)
+ratio_is_usable Emission = ((omega arith, omega arith), refl)
 
 -- ---- a test that some number below n passes
 
@@ -76,23 +81,23 @@ none_below p n fail = by (list_any p (range_with_len 0 n)) refl
 
 -- ---- kept data
 
-module _ (sets : SetLists) (tables : List ParamTable) (all : AllRatioPlaces) (kept : AreKeptWith sets tables all) (ratio : ActivityRatio) (table : ParamTable) (is : table ≡ get_or tables (ratio_param ratio - 1) table) where
+module _ (sets : SetLists) (tables : List ParamTable) (second : Bool) (all : AllRatioPlaces) (kept : AreKeptWith sets tables second all) (ratio : ActivityRatio) (table : ParamTable) (is : table ≡ get_or tables (ratio_param ratio - 1) table) where
   pub places_kept : ArePlacesOf (ratio_sizes sets ratio) table (places_of all ratio)
   places_kept = subst (λ t. ArePlacesOf (ratio_sizes sets ratio) t (places_of all ratio)) (sym is) (kept.places ratio table)
 
-  table_kept : IsTableFor (facts_of sets tables) (ratio_param ratio) table
-  table_kept = subst (IsTableFor (facts_of sets tables) (ratio_param ratio)) (sym is) (kept.kept.tabled.each (ratio_param ratio) (ratio_is_used ratio) table)
+  table_kept : IsTableFor (facts_of sets tables second) (ratio_param ratio) table
+  table_kept = subst (IsTableFor (facts_of sets tables second) (ratio_param ratio)) (sym is) (kept.kept.tabled.each (ratio_param ratio) (ratio_is_usable ratio) table)
 
   -- the places of indices ascend
   pub in_order_rises : IsStrictlyIncreasing (places_of all ratio).in_order.items
   in_order_rises = subst IsStrictlyIncreasing (sym places_kept.in_order) (IsStrictlyIncreasing-filter (is_given_nonzero (entries_of table)) table.places.items (table_kept.shape).ascending)
 
   module _ (zero_by_default : is_nonzero_value table.default ≡ false) where
-    nonzero_kept : (r t c m y : ℕ) → IsRegion sets r → IsWithin (ratio_sizes sets ratio) t c m y → is_ratio_nonzero (facts_of sets tables) ratio r t c m y ≡ is_given_nonzero (entries_of table) (ratio_place (ratio_sizes sets ratio) r t c m y)
+    nonzero_kept : (r t c m y : ℕ) → IsRegion sets r → IsWithin (ratio_sizes sets ratio) t c m y → is_ratio_nonzero (facts_of sets tables second) ratio r t c m y ≡ is_given_nonzero (entries_of table) (ratio_place (ratio_sizes sets ratio) r t c m y)
     nonzero_kept r t c m y region within =
         let p = ratio_param ratio in
         let place = ratio_place (ratio_sizes sets ratio) r t c m y in
-        ap is_nonzero_value (value_kept sets tables kept.kept p (ratio_is_used ratio) (names_at sets p (r ∷ t ∷ c ∷ m ∷ y ∷ [])) place (place_of_ratio sets ratio r t c m y region within) table is)
+        ap is_nonzero_value (value_kept sets tables second kept.kept p (ratio_is_used (facts_of sets tables second) ratio) (names_at sets p (r ∷ t ∷ c ∷ m ∷ y ∷ [])) place (place_of_ratio sets ratio r t c m y region within) table is)
         ∙ nonzero_if_given p (given_in (entries_of table) place) table.default zero_by_default
 
     -- the places of the grouped indices of a region, commodity and year
@@ -107,18 +112,18 @@ module _ (sets : SetLists) (tables : List ParamTable) (all : AllRatioPlaces) (ke
       within_all t m technology mode = record { technology = technology; commodity = members.commodity; mode = mode; year = members.year }
 
       -- such an index is among them exactly where the ratio isn't 0
-      nonzero_from_place : (t m : ℕ) → t < sizes.technologies → m < sizes.modes → Contains (places_of all ratio).grouped.items (first + (t * sizes.modes + m)) → is_ratio_nonzero (facts_of sets tables) ratio r t c m y ≡ true
+      nonzero_from_place : (t m : ℕ) → t < sizes.technologies → m < sizes.modes → Contains (places_of all ratio).grouped.items (first + (t * sizes.modes + m)) → is_ratio_nonzero (facts_of sets tables second) ratio r t c m y ≡ true
       nonzero_from_place t m technology mode has =
           let within = within_all t m technology mode in
           nonzero_kept r t c m y members.region within ∙ (places_kept.grouped r t c m y within).0 has
 
-      place_from_nonzero : (t m : ℕ) → t < sizes.technologies → m < sizes.modes → is_ratio_nonzero (facts_of sets tables) ratio r t c m y ≡ true → Contains (places_of all ratio).grouped.items (first + (t * sizes.modes + m))
+      place_from_nonzero : (t m : ℕ) → t < sizes.technologies → m < sizes.modes → is_ratio_nonzero (facts_of sets tables second) ratio r t c m y ≡ true → Contains (places_of all ratio).grouped.items (first + (t * sizes.modes + m))
       place_from_nonzero t m technology mode nonzero =
           let within = within_all t m technology mode in
           (places_kept.grouped r t c m y within).1 (sym (nonzero_kept r t c m y members.region within) ∙ nonzero)
 
-      pub modes_listed : (t : ℕ) (modes : List ℕ) → IsTechnology sets t → AreBlocks (places_of all ratio).grouped.items (first + t * sizes.modes) 1 sizes.modes modes → modes ≡ nonzero_modes (facts_of sets tables) ratio r t c y
-      modes_listed t modes technology are = ascending_filter (λ m. is_ratio_nonzero (facts_of sets tables) ratio r t c m y) sizes.modes modes are.rising
+      pub modes_listed : (t : ℕ) (modes : List ℕ) → IsTechnology sets t → AreBlocks (places_of all ratio).grouped.items (first + t * sizes.modes) 1 sizes.modes modes → modes ≡ nonzero_modes (facts_of sets tables second) ratio r t c y
+      modes_listed t modes technology are = ascending_filter (λ m. is_ratio_nonzero (facts_of sets tables second) ratio r t c m y) sizes.modes modes are.rising
           (λ m has.
           let found = are.inside m has in
           let i = found.1.0 in
@@ -129,14 +134,14 @@ module _ (sets : SetLists) (tables : List ParamTable) (all : AllRatioPlaces) (ke
           let at : first + (t * sizes.modes + m) ≡ first + t * sizes.modes + (m * 1 + 0) = omega arith in
           are.all m 0 below (omega arith) (subst (Contains (places_of all ratio).grouped.items) at (place_from_nonzero t m technology below nonzero)))
 
-      pub technologies_listed : (technologies : List ℕ) → AreBlocks (places_of all ratio).grouped.items first sizes.modes sizes.technologies technologies → technologies ≡ nonzero_technologies (facts_of sets tables) ratio r c y
-      technologies_listed technologies are = ascending_filter (λ t. has_nonzero_mode (facts_of sets tables) ratio r t c y) sizes.technologies technologies are.rising
+      pub technologies_listed : (technologies : List ℕ) → AreBlocks (places_of all ratio).grouped.items first sizes.modes sizes.technologies technologies → technologies ≡ nonzero_technologies (facts_of sets tables second) ratio r c y
+      technologies_listed technologies are = ascending_filter (λ t. has_nonzero_mode (facts_of sets tables second) ratio r t c y) sizes.technologies technologies are.rising
           (λ t has.
           let found = are.inside t has in
           let m = found.1.0 in
-          (found.0, any_from_below (λ n. is_ratio_nonzero (facts_of sets tables) ratio r t c n y) sizes.modes m found.1.1 (nonzero_from_place t m found.0 found.1.1 found.1.2)))
+          (found.0, any_from_below (λ n. is_ratio_nonzero (facts_of sets tables second) ratio r t c n y) sizes.modes m found.1.1 (nonzero_from_place t m found.0 found.1.1 found.1.2)))
           (λ t below nonzero.
-          let found = any_below (λ n. is_ratio_nonzero (facts_of sets tables) ratio r t c n y) sizes.modes nonzero in
+          let found = any_below (λ n. is_ratio_nonzero (facts_of sets tables second) ratio r t c n y) sizes.modes nonzero in
           are.all t found.0 below found.1 (place_from_nonzero t found.0 below found.1 found.2))
 
     -- the places of the indices of a region
@@ -151,7 +156,7 @@ module _ (sets : SetLists) (tables : List ParamTable) (all : AllRatioPlaces) (ke
       in_order = (places_of all ratio).in_order.items
 
       abbrev nonzero_at : ℕ → Bool
-      nonzero_at offset = is_nonzero_in (facts_of sets tables) ratio r (index_at_offset s offset)
+      nonzero_at offset = is_nonzero_in (facts_of sets tables second) ratio r (index_at_offset s offset)
 
       place_at : (offset : ℕ) → offset < region_size s → nonzero_at offset ≡ is_given_nonzero (entries_of table) (start + offset)
       place_at offset below =
@@ -189,17 +194,17 @@ module _ (sets : SetLists) (tables : List ParamTable) (all : AllRatioPlaces) (ke
           let back : start + offset - start ≡ offset = omega arith in
           subst (Contains (map (λ p. p - start) part)) back (contains_map (λ p. p - start) part (start + offset) in_part))
 
-      pub indices_listed : (indices : List RatioIndex) → AreIndicesAt s in_order start indices → indices ≡ nonzero_indices (facts_of sets tables) ratio r
+      pub indices_listed : (indices : List RatioIndex) → AreIndicesAt s in_order start indices → indices ≡ nonzero_indices (facts_of sets tables second) ratio r
       indices_listed indices are =
           are.listed
           ∙ sym (map-map (index_at_offset s) (λ p. p - start) are.part)
           ∙ ap (map (index_at_offset s)) (offsets_are are.part are.between)
-          ∙ sym (filter-map (is_nonzero_in (facts_of sets tables) ratio r) (index_at_offset s) (range_with_len 0 (region_size s)))
-          ∙ ap (filter (is_nonzero_in (facts_of sets tables) ratio r)) (sym (indices_by_place sets ratio))
+          ∙ sym (filter-map (is_nonzero_in (facts_of sets tables second) ratio r) (index_at_offset s) (range_with_len 0 (region_size s)))
+          ∙ ap (filter (is_nonzero_in (facts_of sets tables second) ratio r)) (sym (indices_by_place sets ratio))
 
 -- ---- the same, of data that are seen as these sets and tables
 
-module _ (sets : SetLists) (tables : List ParamTable) (all : AllRatioPlaces) (kept : AreKeptWith sets tables all) (ratio : ActivityRatio) (table : ParamTable) (is : table ≡ get_or tables (ratio_param ratio - 1) table) (zero_by_default : is_nonzero_value table.default ≡ false) (d : Data) (seen : facts_of sets tables ≡ d) (s : RatioSizes) (sizes_are : s ≡ ratio_sizes sets ratio) where
+module _ (sets : SetLists) (tables : List ParamTable) (second : Bool) (all : AllRatioPlaces) (kept : AreKeptWith sets tables second all) (ratio : ActivityRatio) (table : ParamTable) (is : table ≡ get_or tables (ratio_param ratio - 1) table) (zero_by_default : is_nonzero_value table.default ≡ false) (d : Data) (seen : facts_of sets tables second ≡ d) (s : RatioSizes) (sizes_are : s ≡ ratio_sizes sets ratio) where
   pub modes_found : (r t c y group : ℕ) (grouped modes : List ℕ) → AreMembersFor d.sets ratio r c y → IsTechnology d.sets t → grouped ≡ (places_of all ratio).grouped.items → group ≡ group_of s r c y → AreBlocks grouped (group * group_size s + t * s.modes) 1 s.modes modes → modes ≡ nonzero_modes d ratio r t c y
   modes_found r t c y group grouped modes members technology places_are group_is blocks =
       let at : (h : List ℕ) (n : ℕ) (z : RatioSizes) → Type 0 = λ (h : List ℕ) (n : ℕ) (z : RatioSizes). AreBlocks h (n * group_size z + t * z.modes) 1 z.modes modes in
@@ -209,7 +214,7 @@ module _ (sets : SetLists) (tables : List ParamTable) (all : AllRatioPlaces) (ke
       let own : SetLists → Type 0 = λ all_sets. AreMembersFor all_sets ratio r c y in
       let m : AreMembersFor sets ratio r c y = subst own (ap (λ e. e.sets) (sym seen)) members in
       let i : IsTechnology sets t = subst (λ all_sets. IsTechnology all_sets t) (ap (λ e. e.sets) (sym seen)) technology in
-      modes_listed sets tables all kept ratio table is zero_by_default r c y m t modes i b3 ∙ ap (λ e. nonzero_modes e ratio r t c y) seen
+      modes_listed sets tables second all kept ratio table is zero_by_default r c y m t modes i b3 ∙ ap (λ e. nonzero_modes e ratio r t c y) seen
 
   pub technologies_found : (r c y group : ℕ) (grouped technologies : List ℕ) → AreMembersFor d.sets ratio r c y → grouped ≡ (places_of all ratio).grouped.items → group ≡ group_of s r c y → AreBlocks grouped (group * group_size s) s.modes s.technologies technologies → technologies ≡ nonzero_technologies d ratio r c y
   technologies_found r c y group grouped technologies members places_are group_is blocks =
@@ -219,7 +224,7 @@ module _ (sets : SetLists) (tables : List ParamTable) (all : AllRatioPlaces) (ke
       let b3 : at (places_of all ratio).grouped.items (group_of (ratio_sizes sets ratio) r c y) (ratio_sizes sets ratio) = subst (λ z. at (places_of all ratio).grouped.items (group_of z r c y) z) sizes_are b2 in
       let own : SetLists → Type 0 = λ all_sets. AreMembersFor all_sets ratio r c y in
       let m : AreMembersFor sets ratio r c y = subst own (ap (λ e. e.sets) (sym seen)) members in
-      technologies_listed sets tables all kept ratio table is zero_by_default r c y m technologies b3 ∙ ap (λ e. nonzero_technologies e ratio r c y) seen
+      technologies_listed sets tables second all kept ratio table is zero_by_default r c y m technologies b3 ∙ ap (λ e. nonzero_technologies e ratio r c y) seen
 
   pub indices_found : (r : ℕ) (listed_places : List ℕ) (indices : List RatioIndex) → IsRegion d.sets r → listed_places ≡ (places_of all ratio).in_order.items → AreIndicesAt s listed_places (r * region_size s) indices → indices ≡ nonzero_indices d ratio r
   indices_found r listed_places indices region places_are listed =
@@ -227,4 +232,4 @@ module _ (sets : SetLists) (tables : List ParamTable) (all : AllRatioPlaces) (ke
       let b1 : at (places_of all ratio).in_order.items s = subst (λ h. at h s) places_are listed in
       let b2 : at (places_of all ratio).in_order.items (ratio_sizes sets ratio) = subst (λ z. at (places_of all ratio).in_order.items z) sizes_are b1 in
       let i : IsRegion sets r = subst (λ all_sets. IsRegion all_sets r) (ap (λ e. e.sets) (sym seen)) region in
-      indices_listed sets tables all kept ratio table is zero_by_default r i indices b2 ∙ ap (λ e. nonzero_indices e ratio r) seen
+      indices_listed sets tables second all kept ratio table is zero_by_default r i indices b2 ∙ ap (λ e. nonzero_indices e ratio r) seen

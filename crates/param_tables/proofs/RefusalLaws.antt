@@ -6,13 +6,13 @@ use Rattle.std.specs.Option.{option_map, option_or}
 use Rattle.std.proofs.lemmas.Bool.{lt-ltb, le-ltb}
 use Rattle.model_sets.specs.Data.{Data, indices_of}
 use Rattle.param_tables.specs.InTurn.{first_of}
-use Rattle.param_tables.specs.RangeTable.{range_of}
+use Rattle.model_sets.specs.Params.{range_of}
 use Rattle.param_tables.specs.Refusals.{Refusal, TooManyIndices, AtIndex, fault_at, index_refusals, param_refusals, most_indices, value_fault}
 use Rattle.param_tables.specs.Tables.{IsFirstFault, IsTableFor, entries_of, given_in, place_fault, value_else}
 use Rattle.param_tables.specs.declared.fault.CellFault.{CellFault}
 use Rattle.param_tables.specs.declared.first_fault.PlaceFault.{PlaceFault}
 use Rattle.param_tables.specs.declared.param_table.ParamTable.{ParamTable}
-use Rattle.param_tables.specs.declared.ranges.Range.{Range}
+use Rattle.model_sets.specs.declared.params.Range.{Range}
 
 -- ---- the first of what is kept of a list
 

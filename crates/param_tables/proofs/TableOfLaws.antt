@@ -1,20 +1,20 @@
 -- The table of a statement, and the tables of all parameters, statement by statement.
-use Rattle.std.proofs.Common.{◌≡◌, ◌≢◌, ℕ, ◌+◌, ◌-◌, ◌<◌, ◌≤◌, List, [], ◌∷◌, ◌++◌, Option, None, Some, length, map, nat_eq, get_or, set, take, refl, sym, ap, ◌∙◌, subst, inl, inr, arith, All}
-use Rattle.std.specs.Prelude.{ℤ, pos, if◌then◌else◌}
+use Rattle.std.proofs.Common.{◌≡◌, ◌≢◌, ℕ, true, false, ◌+◌, ◌-◌, ◌<◌, ◌≤◌, List, [], ◌∷◌, ◌++◌, Option, None, Some, length, map, nat_eq, get_or, set, take, refl, sym, ap, ◌∙◌, subst, inl, inr, arith, All}
+use Rattle.std.specs.Prelude.{ℤ, pos, Result, Err, IfErr, if◌then◌else◌}
 use Rattle.std.specs.List.{IsDistinct, zip}
 use Rattle.std.specs.List.Sorted.{IsStrictlyIncreasing}
 use Rattle.std.specs.Option.{option_or}
-use Rattle.std.proofs.lemmas.Bool.{cases_eq, cases_lt, le-leb, lt-leb}
+use Rattle.std.proofs.lemmas.Bool.{cases_eq, cases_lt, false≢true}
 use Rattle.std.proofs.lemmas.List.{get_or_default, get_or-set_same, get_or-set_other, length-set, take_more}
 use Rattle.std.proofs.lemmas.Option.{slice_get-get_or}
 use Rattle.model_sets.specs.Data.{default_of, given_at, indices_of, value_of_none}
 use Rattle.model_sets.specs.Members.{SetLists}
-use Rattle.model_sets.specs.Params.{IsUsedParam, used_count}
+use Rattle.model_sets.specs.Params.{is_used, param_at, param_count}
 use Rattle.param_tables.specs.BlockData.{data_of}
 use Rattle.param_tables.specs.InTurn.{in_turn}
 use Rattle.param_tables.specs.Refusals.{Refusal, value_refusal, value_refusals}
 use Rattle.mathprog_data.specs.Meaning.{ParamBlock}
-use Rattle.param_tables.specs.Tables.{AreGiven, AreTablesFor, IsTableFor, IsTableOf, entries_of, given_in, value_else}
+use Rattle.param_tables.specs.Tables.{AreGiven, AreTablesFor, IsUsable, IsTableFor, IsTableOf, entries_of, given_in, value_else}
 use Rattle.param_tables.specs.Stops.{IsStopDue}
 use Rattle.param_tables.specs.Told.{refusal_told}
 use Rattle.param_tables.specs.declared.fault.Stop.{Stop}
@@ -28,11 +28,11 @@ some_none v e = cc
 
 -- ---- one statement
 
-pub used_refusals : (sets : SetLists) (s : ParamBlock) → s.param ≤ used_count → value_refusals sets s ≡ in_turn (value_refusal sets s.param) s.values
-used_refusals sets s used = ap (λ b. if b then in_turn (value_refusal sets s.param) s.values else []) (le-leb s.param used_count used)
+pub used_refusals : (sets : SetLists) (s : ParamBlock) → is_used true (param_at s.param).used ≡ true → value_refusals sets s ≡ in_turn (value_refusal sets s.param) s.values
+used_refusals sets s used = ap (λ b. if b then in_turn (value_refusal sets s.param) s.values else []) used
 
-pub unused_refusals : (sets : SetLists) (s : ParamBlock) → used_count < s.param → value_refusals sets s ≡ []
-unused_refusals sets s beyond = ap (λ b. if b then in_turn (value_refusal sets s.param) s.values else []) (lt-leb s.param used_count beyond)
+pub unused_refusals : (sets : SetLists) (s : ParamBlock) → is_used true (param_at s.param).used ≡ false → value_refusals sets s ≡ []
+unused_refusals sets s unused = ap (λ b. if b then in_turn (value_refusal sets s.param) s.values else []) unused
 
 pub table_of_given : (sets : SetLists) (s : ParamBlock) (table : ParamTable) (found : ℕ → Option ℤ) → table.default ≡ s.default → IsStrictlyIncreasing table.places.items × (length table.values.items ≡ length table.places.items) → ((place : ℕ) → given_in (entries_of table) place ≡ found place) → AreGiven sets s.param s.values found → IsTableOf sets s table
 table_of_given sets s table found same parts finds given = record {
@@ -80,31 +80,31 @@ module _ (sets : SetLists) where
     next : take (i + 1) all ≡ take i all ++ s ∷ []
     next = take_more all i s below ∙ ap (λ t. take i all ++ t ∷ []) at
 
-    pub tables_unused : used_count < s.param → AreTablesFor (data_of sets (take (i + 1) all)) tables
-    tables_unused beyond = subst (λ xs. AreTablesFor (data_of sets xs) tables) (sym next) (record {
+    pub tables_unused : is_used true (param_at s.param).used ≡ false → AreTablesFor (data_of sets (take (i + 1) all)) tables
+    tables_unused unused = subst (λ xs. AreTablesFor (data_of sets xs) tables) (sym next) (record {
       all = so_far.all;
-      each = λ p used e. let most = used.1 in table_stays (take i all) s p (get_or tables (p - 1) e) (λ same. omega arith) (so_far.each p used e);
+      each = λ p used e. table_stays (take i all) s p (get_or tables (p - 1) e) (λ same. false≢true (sym unused ∙ ap (λ n. is_used true (param_at n).used) same ∙ used.1)) (so_far.each p used e);
     })
 
-    pub tables_more : IsDistinct nat_eq (map (λ t. t.param) all) → IsUsedParam s.param → (table : ParamTable) → IsTableOf sets s table → AreTablesFor (data_of sets (take (i + 1) all)) (set tables (s.param - 1) table)
+    pub tables_more : IsDistinct nat_eq (map (λ t. t.param) all) → IsUsable s.param → (table : ParamTable) → IsTableOf sets s table → AreTablesFor (data_of sets (take (i + 1) all)) (set tables (s.param - 1) table)
     tables_more distinct used table of = subst (λ xs. AreTablesFor (data_of sets xs) (set tables (s.param - 1) table)) (sym next) (record {
       all = length-set tables (s.param - 1) table ∙ so_far.all;
       each = each;
     })
       where
         low : 1 ≤ s.param
-        low = used.0
+        low = used.0.0
 
-        high : s.param ≤ used_count
-        high = used.1
+        high : s.param ≤ param_count
+        high = used.0.1
 
-        long : length tables ≡ used_count
+        long : length tables ≡ param_count
         long = so_far.all
 
         inside : s.param - 1 < length tables
         inside = let a = low in let b = high in let c = long in omega arith
 
-        each : (p : ℕ) → IsUsedParam p → (e : ParamTable) → IsTableFor (data_of sets (take i all ++ s ∷ [])) p (get_or (set tables (s.param - 1) table) (p - 1) e)
+        each : (p : ℕ) → IsUsable p → (e : ParamTable) → IsTableFor (data_of sets (take i all ++ s ∷ [])) p (get_or (set tables (s.param - 1) table) (p - 1) e)
         each p is e = elim (cases_eq s.param p) [
           | inl same ↦
               let now : get_or (set tables (s.param - 1) table) (s.param - 1) e ≡ table = get_or-set_same tables (s.param - 1) table e inside in
@@ -112,7 +112,7 @@ module _ (sets : SetLists) where
               subst (λ q. IsTableFor (data_of sets (take i all ++ s ∷ [])) q (get_or (set tables (s.param - 1) table) (q - 1) e)) same (subst (IsTableFor (data_of sets (take i all ++ s ∷ [])) s.param) (sym now) here)
           | inr other ↦
               let a = low in
-              let first = is.0 in
+              let first = is.0.0 in
               let apart : (p - 1) ≢ (s.param - 1) = λ h. other (omega arith) in
               subst (IsTableFor (data_of sets (take i all ++ s ∷ [])) p) (sym (get_or-set_other tables (s.param - 1) (p - 1) table e apart)) (table_stays (take i all) s p (get_or tables (p - 1) e) other (so_far.each p is e))
         ]
@@ -137,11 +137,15 @@ table_of_nothing sets p table empty = record {
       ∙ ap (λ o. option_or o (value_else p table.default)) (sym (ap (λ ps. given_in (zip ps table.values.items) place) empty.places));
 }
 
-pub tables_of_nothing : (sets : SetLists) (tables : List ParamTable) → length tables ≡ used_count → ((j : ℕ) → j < used_count → (e : ParamTable) → IsEmptyTable (get_or tables j e)) → AreTablesFor (data_of sets []) tables
+pub tables_of_nothing : (sets : SetLists) (tables : List ParamTable) → length tables ≡ param_count → ((j : ℕ) → j < param_count → (e : ParamTable) → IsEmptyTable (get_or tables j e)) → AreTablesFor (data_of sets []) tables
 tables_of_nothing sets tables all empty = record {
   all = all;
-  each = λ p used e. let low = used.0 in let high = used.1 in table_of_nothing sets p (get_or tables (p - 1) e) (empty (p - 1) (omega arith) e);
+  each = λ p used e. let low = used.0.0 in let high = used.0.1 in table_of_nothing sets p (get_or tables (p - 1) e) (empty (p - 1) (omega arith) e);
 }
+
+-- what is said of the stop of a `?` is said of the error that it hands on
+pub stop_handed : (r : Result (Unit {0}) Stop) (y why : Stop) (P : Stop → Type 0) → r ≡ Err y → y ≡ why → P why → IfErr r P
+stop_handed r y why P e f p = subst (λ s. IfErr s P) (sym e) (subst P (sym f) p)
 
 -- a stop that the values of one statement are the cause of
 pub stop_first : (o p : Option Refusal) (sets : SetLists) (why : Stop) → ((r : Refusal) → o ≡ Some r → p ≡ Some r) → IsStopDue o sets why → IsStopDue p sets why

@@ -1,7 +1,8 @@
 -- The data that statements give: the sets, the values given, and the defaults.
-use Rattle.std.specs.Prelude.{ℕ, List, [], map, nat_eq, Option}
-use Rattle.std.specs.List.{find, flat_map, filter_map, range_with_len}
+use Rattle.std.specs.Prelude.{ℕ, Bool, List, [], map, nat_eq, Option}
+use Rattle.std.specs.List.{find, flat_map, filter_map, list_any, range_with_len}
 use Rattle.std.specs.Option.{option_map, option_map_or}
+use Rattle.model_sets.specs.declared.param_numbers.TheConstants.{DISCOUNT_RATE_IDV}
 use Rattle.model_sets.specs.Data.{Given, Default, Data}
 use Rattle.model_sets.specs.Members.{SetLists}
 use Rattle.model_sets.specs.Names.{set_count}
@@ -33,9 +34,13 @@ stated_default statement = option_map (λ value. record { param = statement.para
 abbrev pub givens_of : ParamBlock → List Given
 givens_of statement = map (given_of statement.param) statement.values
 
+-- whether one of the statements is on DiscountRateIdv, if only one without values
+abbrev pub has_second : List ParamBlock → Bool
+has_second params = list_any (λ s. nat_eq s.param DISCOUNT_RATE_IDV) params
+
 -- the data of these sets and these statements on parameters
 abbrev pub data_of : SetLists → List ParamBlock → Data
-data_of sets params = record { sets = sets; given = flat_map givens_of params; defaults = filter_map stated_default params }
+data_of sets params = record { sets = sets; given = flat_map givens_of params; defaults = filter_map stated_default params; second = has_second params }
 
 -- the data that the statements give
 abbrev pub data_told : Blocks → Data

@@ -2,16 +2,15 @@
 use Rattle.std.specs.Prelude.{◌≡◌, ℕ, ℤ, pos, List, unwrap_or, Contains, IsSomeAnd}
 use Rattle.exact_num.specs.Rational.{Rational, lowest}
 pub use Rattle.model_sets.specs.Data.{AreSameData}
-use Rattle.model_sets.specs.Data.{Data, indices_of, value_at}
+use Rattle.model_sets.specs.Data.{Data, IsUsedParam, indices_of, value_at}
 use Rattle.model_sets.specs.Members.{AreSets}
-use Rattle.model_sets.specs.Params.{IsUsedParam}
 use Rattle.param_tables.specs.BlockData.{data_told}
 use Rattle.param_tables.specs.Positions.{names_at}
-use Rattle.param_tables.specs.RangeTable.{range_of}
+use Rattle.model_sets.specs.Params.{range_of}
 use Rattle.param_tables.specs.Ranges.{IsInRange, billion}
 use Rattle.mathprog_data.specs.Meaning.{Blocks}
 use Rattle.mathprog_data.specs.WellFormed.{IsWithinLimit}
-use Rattle.param_tables.specs.declared.ranges.Range.{Range}
+use Rattle.model_sets.specs.declared.params.Range.{Range}
 
 -- the data, and how many numbers of the text were rounded
 pub record Built : Type 0 where
@@ -31,7 +30,7 @@ pub record IsValueIn (range : Range) (v : ℤ) : Type 0 where
 -- what the data keep: the sets by their rules, and a value in its range for each used parameter at each of its indices
 pub record AreComplete (d : Data) : Type 0 where
   pub sets : AreSets d.sets
-  pub values : (param : ℕ) → IsUsedParam param → (index : List (List ℕ)) → Contains (indices_of d.sets param) index → IsSomeAnd (value_at d param index) (IsValueIn (range_of param))
+  pub values : (param : ℕ) → IsUsedParam d param → (index : List (List ℕ)) → Contains (indices_of d.sets param) index → IsSomeAnd (value_at d param index) (IsValueIn (range_of param))
 
 -- the value of the parameter at the index, by the positions of its members, as a fraction in lowest terms
 abbrev pub amount_at : Data → ℕ → List ℕ → Rational

@@ -3,14 +3,12 @@ pub mod Built
 pub mod InTurn
 pub mod Places
 pub mod Positions
-pub mod RangeTable
 pub mod Ranges
 pub mod RatioPlaces
 pub mod Ratios
 pub mod Refusals
 pub mod SetRefusals
 pub mod Stops
-pub mod Subscripts
 pub mod Tables
 pub mod Told
 pub mod View

@@ -1,8 +1,8 @@
 -- The ranges of the values that a parameter may have, and the fault of a value outside. All values are in billionths.
 use Rattle.std.specs.Prelude.{◌≡◌, ℕ, ◌*◌, ◌%◌, ◌≤◌, ℤ, pos, negsuc, ◌<ℤ◌, ◌≤ℤ◌, ◌⊎◌, ◌↔◌, Bool, ◌&&◌, ◌||◌, nat_eq, int_lt, int_le, unsigned_abs, Option, None, Some, if◌then◌else◌}
 use Rattle.std.specs.Ordering.{int_eq}
-use Rattle.param_tables.specs.declared.ranges.Range.{Range}
-use Rattle.param_tables.specs.declared.ranges.Range.TheVariants.{Any, AtLeastZero, AboveZero, ZeroToOne, OneOrTwo, Lifetime, ZeroOnly, MinusOneOrAtLeastZero}
+use Rattle.model_sets.specs.declared.params.Range.{Range}
+use Rattle.model_sets.specs.declared.params.Range.TheVariants.{Any, AtLeastZero, AboveZero, ZeroToOne, OneOrTwo, Lifetime, ZeroOnly, MinusOneOrAtLeastZero}
 use Rattle.param_tables.specs.declared.fault.CellFault.{CellFault}
 use Rattle.param_tables.specs.declared.fault.CellFault.TheVariants.{Negative, NotPositive, NotWhole, OutOfRange, WholeUnits}
 

@@ -122,8 +122,8 @@ abbrev pub AreAllPlaces : SetLists → List ParamTable → AllRatioPlaces → Ty
 AreAllPlaces sets tables all = (ratio : ActivityRatio) (e : ParamTable) → ArePlacesOf (ratio_sizes sets ratio) (slice_index_or tables (ratio_param ratio - 1) e) (places_of all ratio)
 
 -- the tables mean complete data, and the places are theirs
-pub record AreKeptWith (sets : SetLists) (tables : List ParamTable) (all : AllRatioPlaces) : Type 0 where
-  pub kept : AreKept sets tables
+pub record AreKeptWith (sets : SetLists) (tables : List ParamTable) (second : Bool) (all : AllRatioPlaces) : Type 0 where
+  pub kept : AreKept sets tables second
   pub places : AreAllPlaces sets tables all
 
 -- ---- what is found

@@ -1,23 +1,22 @@
 -- Why the parameters that statements give are refused: every refusal, in the order in which they are looked for.
-use Rattle.std.specs.Prelude.{ℕ, ℤ, Bool, not, List, [], ◌∷◌, ◌++◌, length, nat_le, nat_lt, Option, None, Some, if◌then◌else◌}
+use Rattle.std.specs.Prelude.{ℕ, ℤ, Bool, true, not, List, [], ◌∷◌, ◌++◌, length, nat_lt, Option, None, Some, if◌then◌else◌}
 use Rattle.std.specs.Cmp.Lexicographic.{pointwise}
-use Rattle.std.specs.List.{filter_map, flat_map, list_any, range_with_len}
+use Rattle.std.specs.List.{filter_map, flat_map, list_any}
 use Rattle.std.specs.Option.{option_map}
 use Rattle.std.specs.Str.{bytes_eq}
 use Rattle.mathprog_data.specs.declared.blocks.Mark.{Mark}
 use Rattle.model_sets.specs.declared.set_numbers.TheConstants.{STORAGE}
-use Rattle.model_sets.specs.Data.{Data, indices_of, value_at}
+use Rattle.model_sets.specs.Data.{Data, indices_of, used_params, value_at}
 use Rattle.model_sets.specs.Members.{SetLists, members}
-use Rattle.model_sets.specs.Params.{subscript_sets, used_count}
+use Rattle.model_sets.specs.Params.{is_used, param_at, range_of, subscript_sets}
 use Rattle.param_tables.specs.BlockData.{data_told}
 use Rattle.param_tables.specs.Places.{are_members}
-use Rattle.param_tables.specs.RangeTable.{range_of}
 use Rattle.param_tables.specs.Ranges.{range_fault}
 use Rattle.param_tables.specs.InTurn.{first_of, in_turn}
 use Rattle.mathprog_data.specs.Meaning.{GivenValue, ParamBlock, Blocks}
 use Rattle.param_tables.specs.declared.fault.CellFault.{CellFault}
 use Rattle.param_tables.specs.declared.fault.CellFault.TheVariants.{NoValue}
-use Rattle.param_tables.specs.declared.ranges.Range.{Range}
+use Rattle.model_sets.specs.declared.params.Range.{Range}
 
 -- why data are refused
 pub data Refusal : Type 0 where
@@ -59,9 +58,9 @@ value_refusal sets param before value =
     else if is_given_among before value.index then Some (GivenBefore value.at)
     else None
 
--- whether the statement is on a used parameter; its number is a parameter's, from 1 (`AreWellFormed`), and the used ones are the first
+-- whether the statement is on a used parameter: one that is used in all data, or that is used where there is a statement for it, as this one
 abbrev pub is_on_used : ParamBlock → Bool
-is_on_used statement = nat_le statement.param used_count
+is_on_used statement = is_used true (param_at statement.param).used
 
 -- the refusals of the values of a statement on a used parameter, value by value in the order of the text; nobody looks at the values of the others
 abbrev pub value_refusals : SetLists → ParamBlock → List Refusal
@@ -90,7 +89,7 @@ refusals statements =
     let d = data_told statements in
     storage_refusals d.sets
     ++ flat_map (value_refusals d.sets) statements.params
-    ++ flat_map (param_refusals d) (range_with_len 1 used_count)
+    ++ flat_map (param_refusals d) (used_params d)
 
 -- the first refusal
 abbrev pub first_refusal : Blocks → Option Refusal

@@ -1,5 +1,5 @@
 -- What the table of a parameter says. Private functions alone cite these definitions.
-use Rattle.std.specs.Prelude.{◌≡◌, ℕ, ◌-◌, ◌<◌, ◌≤◌, ℤ, List, [], length, nat_eq, nat_lt, Option, None, Some, MatchOption, All, slice_index_or, if◌then◌else◌}
+use Rattle.std.specs.Prelude.{◌≡◌, ℕ, true, ◌-◌, ◌<◌, ◌≤◌, ℤ, List, [], length, nat_eq, nat_lt, Option, None, Some, MatchOption, All, slice_index_or, if◌then◌else◌}
 use Rattle.std.specs.List.{zip, find}
 use Rattle.std.specs.List.Sorted.{IsStrictlyIncreasing}
 use Rattle.std.specs.Map.{lookup}
@@ -8,13 +8,13 @@ use Rattle.std.specs.Cmp.Lexicographic.{pointwise}
 use Rattle.std.specs.Str.{bytes_eq}
 use Rattle.model_sets.specs.Data.{Data, indices_of, value_at, value_of_none}
 use Rattle.model_sets.specs.Members.{SetLists}
-use Rattle.model_sets.specs.Params.{IsUsedParam, used_count}
+use Rattle.model_sets.specs.Params.{IsParam, is_used, param_at, param_count}
 use Rattle.param_tables.specs.Ranges.{range_fault}
 use Rattle.mathprog_data.specs.Meaning.{ParamBlock, GivenValue}
 use Rattle.param_tables.specs.declared.fault.CellFault.{CellFault}
 use Rattle.param_tables.specs.declared.first_fault.PlaceFault.{PlaceFault}
 use Rattle.param_tables.specs.declared.param_table.ParamTable.{ParamTable}
-use Rattle.param_tables.specs.declared.ranges.Range.{Range}
+use Rattle.model_sets.specs.declared.params.Range.{Range}
 
 -- the value that is given at the index
 abbrev pub given_among : List GivenValue → List (List ℕ) → Option ℤ
@@ -58,15 +58,19 @@ pub record IsTableOf (sets : SetLists) (statement : ParamBlock) (table : ParamTa
   pub default : table.default ≡ statement.default
   pub given : (place : ℕ) → place < length (indices_of sets statement.param) → given_in (entries_of table) place ≡ given_among statement.values (slice_index_or (indices_of sets statement.param) place [])
 
--- there is a table for each used parameter, from number 1, and it says the parameter's values
-pub record AreTablesFor (d : Data) (tables : List ParamTable) : Type 0 where
-  pub all : length tables ≡ used_count
-  pub each : (param : ℕ) → IsUsedParam param → (e : ParamTable) → IsTableFor d param (slice_index_or tables (param - 1) e)
+-- n is the number of a parameter that is used in some data
+abbrev pub IsUsable : ℕ → Type 0
+IsUsable n = IsParam n × (is_used true (param_at n).used ≡ true)
 
--- there is a table for each used parameter, from number 1, with places and values of its indices
+-- there is a table for each parameter, from number 1, and it says the parameter's values where some data use it; the others are empty
+pub record AreTablesFor (d : Data) (tables : List ParamTable) : Type 0 where
+  pub all : length tables ≡ param_count
+  pub each : (param : ℕ) → IsUsable param → (e : ParamTable) → IsTableFor d param (slice_index_or tables (param - 1) e)
+
+-- there is a table for each parameter, from number 1, where some data use it with places and values of its indices
 pub record HaveShapes (sets : SetLists) (tables : List ParamTable) : Type 0 where
-  pub all : length tables ≡ used_count
-  pub each : (param : ℕ) → IsUsedParam param → (e : ParamTable) → IsTable (length (indices_of sets param)) (slice_index_or tables (param - 1) e)
+  pub all : length tables ≡ param_count
+  pub each : (param : ℕ) → IsUsable param → (e : ParamTable) → IsTable (length (indices_of sets param)) (slice_index_or tables (param - 1) e)
 
 -- the fault of a value that is given, or else that of a missing one
 abbrev pub place_fault : Range → Option CellFault → Option ℤ → Option CellFault

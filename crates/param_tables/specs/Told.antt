@@ -1,7 +1,7 @@
 -- What the answers on refused data mean.
 use Rattle.std.specs.Prelude.{◌≡◌, Option, Some}
 use Rattle.model_sets.specs.Members.{SetLists}
-use Rattle.model_sets.specs.Params.{IsUsedParam}
+use Rattle.model_sets.specs.Params.{IsParam}
 use Rattle.param_tables.specs.Positions.{IsIndexOf, names_at}
 use Rattle.param_tables.specs.Refusals.{Refusal, StorageMember, UnknownName, GivenBefore, TooManyIndices, AtIndex}
 use Rattle.param_tables.specs.declared.fault.BuildFail.{BuildFail}
@@ -29,9 +29,9 @@ refusal_told sets Storage = StorageMember
 refusal_told sets (WholeUnits cell) = at sets at_cell.WholeUnits cell
 refusal_told sets (TooManyCells param) = TooManyIndices param
 
--- the cell is one of a used parameter, with an index of its own
+-- the cell is one of a parameter, with an index of its own
 abbrev pub IsCell : SetLists → Cell → Type 0
-IsCell sets cell = IsUsedParam cell.param × IsIndexOf sets cell.param cell.index.items
+IsCell sets cell = IsParam cell.param × IsIndexOf sets cell.param cell.index.items
 
 -- whatever the answer names is there
 abbrev pub NamesCell : SetLists → BuildFault → Type 0
@@ -44,7 +44,7 @@ NamesCell sets (NotWhole cell) = IsCell sets cell
 NamesCell sets (OutOfRange cell) = IsCell sets cell
 NamesCell sets Storage = Unit {0}
 NamesCell sets (WholeUnits cell) = IsCell sets cell
-NamesCell sets (TooManyCells param) = IsUsedParam param
+NamesCell sets (TooManyCells param) = IsParam param
 
 -- the failure is due, where this refusal is the first: it tells the refusal, and hands these sets back; it may run out of memory at any time
 abbrev pub IsBuildFailDue : Option Refusal → SetLists → BuildFail → Type 0

@@ -1,5 +1,5 @@
 -- What the sets and tables in memory mean. Private functions alone cite these definitions.
-use Rattle.std.specs.Prelude.{ℕ, ℤ, List, [], map, Option, slice_index_or}
+use Rattle.std.specs.Prelude.{ℕ, ℤ, Bool, List, [], map, Option, slice_index_or}
 use Rattle.std.specs.List.{enumerate_from, filter_map, flat_map}
 use Rattle.std.specs.Option.{option_map}
 use Rattle.model_sets.specs.Data.{Data, Default, Given, indices_of}
@@ -16,15 +16,16 @@ given_by sets param entry = record { param = param; index = slice_index_or (indi
 abbrev pub default_by : ℕ → ParamTable → Option Default
 default_by param table = option_map (λ value. record { param = param; value = value }) table.default
 
--- the data of these sets and these tables, from parameter 1
-abbrev pub facts_of : SetLists → List ParamTable → Data
-facts_of sets tables = record {
+-- the data of these sets and these tables, from parameter 1, with a statement for DiscountRateIdv or without
+abbrev pub facts_of : SetLists → List ParamTable → Bool → Data
+facts_of sets tables second = record {
   sets = sets;
   given = flat_map (λ (param, table). map (given_by sets param) (entries_of table)) (enumerate_from 1 tables);
   defaults = filter_map (λ (param, table). default_by param table) (enumerate_from 1 tables);
+  second = second;
 }
 
 -- the tables are those of the data that they mean, and these are complete
-pub record AreKept (sets : SetLists) (tables : List ParamTable) : Type 0 where
-  pub tabled : AreTablesFor (facts_of sets tables) tables
-  pub complete : AreComplete (facts_of sets tables)
+pub record AreKept (sets : SetLists) (tables : List ParamTable) (second : Bool) : Type 0 where
+  pub tabled : AreTablesFor (facts_of sets tables second) tables
+  pub complete : AreComplete (facts_of sets tables second)

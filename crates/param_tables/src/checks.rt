@@ -2,9 +2,8 @@
 
 ghost use Rattle.std.specs.Prelude.{◌≡◌, [], length, IfErr, OnOk};
 ghost use Rattle.model_sets.specs.Data.{Data, indices_of};
-ghost use Rattle.model_sets.specs.Params.{IsUsedParam};
+ghost use Rattle.model_sets.specs.Params.{IsParam, range_of};
 ghost use Rattle.param_tables.specs.InTurn.{first_of};
-ghost use Rattle.param_tables.specs.RangeTable.{range_of};
 ghost use Rattle.param_tables.specs.Refusals.{param_refusals, value_fault};
 ghost use Rattle.param_tables.specs.Tables.{IsTable, IsTableFor, value_else};
 ghost use Rattle.param_tables.specs.Stops.{IsStopDue};
@@ -13,9 +12,8 @@ use crate::fault::{BuildFault, Cell, CellFault, Stop, refusal_at};
 use crate::first_fault::first_fault;
 use crate::indices::{index_at, index_count};
 use crate::param_table::{ParamTable, value_else};
-use crate::ranges::{range_fault, range_of};
-use crate::subscripts::subscript_sets;
-use model_sets::Sets;
+use crate::ranges::range_fault;
+use model_sets::{Sets, range_of, subscript_sets};
 use std::alloc::Global;
 
 /// How many indices a parameter may have.
@@ -23,7 +21,7 @@ const MOST_INDICES: u64 = 4_000_000;
 
 /// The fault of the parameter at an index at which no value is given.
 fn missing_fault(param: u8, default: Option<i128>) -> Option<CellFault>
-    requires { IsUsedParam param }
+    requires { IsParam param }
     ensures { result ≡ value_fault (range_of param) (value_else param default) }
 {
     match value_else(param, default) {
@@ -41,7 +39,7 @@ pub(crate) fn check_param(
     param: u8,
     table: &ParamTable,
 ) -> Result<(), Stop>
-    requires used { IsUsedParam param }
+    requires listed { IsParam param }
     requires shape { IsTable (length (indices_of sets.now param)) table.now }
     ensures accepted { OnOk result ((d : Data) → d.sets ≡ sets.now → IsTableFor d param table.now → param_refusals d param ≡ []) }
     ensures refused { IfErr result (λ stop. (d : Data) → d.sets ≡ sets.now → IsTableFor d param table.now → IsStopDue (first_of (param_refusals d param)) sets.now stop) }

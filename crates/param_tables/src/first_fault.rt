@@ -6,7 +6,8 @@ ghost use Rattle.param_tables.specs.Ranges.{range_fault};
 
 use crate::fault::CellFault;
 use crate::param_table::ParamTable;
-use crate::ranges::{Range, range_fault};
+use crate::ranges::range_fault;
+use model_sets::Range;
 
 /// A fault of a parameter at the place of an index.
 #[derive(Clone, Copy, PartialEq, Eq, Debug)]

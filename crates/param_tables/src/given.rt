@@ -4,7 +4,7 @@ ghost use Rattle.std.specs.Prelude.{◌≡◌, ℕ, [], None, Some, nat_eq, IfEr
 ghost use Rattle.std.specs.BTreeMap.{get};
 ghost use Rattle.std.specs.Ordering.{nat_cmp};
 ghost use Rattle.model_sets.specs.Members.{AreSets};
-ghost use Rattle.model_sets.specs.Params.{IsUsedParam};
+ghost use Rattle.model_sets.specs.Params.{IsParam};
 ghost use Rattle.param_tables.specs.InTurn.{first_of, in_turn};
 ghost use Rattle.param_tables.specs.Refusals.{value_refusal};
 ghost use Rattle.param_tables.specs.BlockData.{values_told};
@@ -14,9 +14,8 @@ ghost use Rattle.mathprog_data.specs.WellFormed.{IsValueOf};
 
 use crate::fault::{BuildFault, Stop};
 use crate::indices::place_of_names;
-use crate::subscripts::subscript_sets;
 use mathprog_data::Given;
-use model_sets::Sets;
+use model_sets::{Sets, subscript_sets};
 use std::alloc::{AllocError, Global};
 use std::collections::BTreeMap;
 
@@ -28,7 +27,7 @@ fn keep(values: &mut BTreeMap<u64, i128>, place: u64, value: &i128) -> Result<()
     Ok(())
 }
 
-/// The values, in billionths, by the places of their indices among those of the used parameter. Refuses the
+/// The values, in billionths, by the places of their indices among those of the parameter. Refuses the
 /// first value, in the order of the text, whose index has a name that is no member, or whose index was
 /// given before. It may run out of memory.
 pub(crate) fn placed_values(
@@ -38,7 +37,7 @@ pub(crate) fn placed_values(
     given: &[Given],
 ) -> Result<BTreeMap<u64, i128>, Stop>
     requires sets { AreSets sets.now }
-    requires used { IsUsedParam param }
+    requires listed { IsParam param }
     requires indices { All (IsValueOf param) (values_told given.now) }
     ensures values { IfOk result (λ values. AreGiven sets.now param (values_told given.now) (get nat_cmp values)) }
     ensures accepted { OnOk result (in_turn (value_refusal sets.now param) (values_told given.now) ≡ []) }

@@ -18,15 +18,12 @@ mod ratio_places;
 mod ratio_sizes;
 mod ratios;
 mod set_members;
-mod subscripts;
 mod tables;
 mod tried;
 
 pub use building::build;
 pub use fault::{BuildFail, BuildFault, Cell, CellFault};
-pub use laws::{range_laws, table_laws};
+pub use laws::range_laws;
 pub use model_data::ModelData;
-pub use ranges::Range;
 pub use ratios::{ActivityRatio, RatioIndex};
 pub use set_members::sets_of;
-pub use subscripts::subscript_sets;

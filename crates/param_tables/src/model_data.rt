@@ -3,11 +3,10 @@
 ghost use Rattle.std.specs.Prelude.{◌≡◌, ◌≤◌, ◌^◌, None, unsigned_abs, unwrap_or, pos, IfOk, IfSome, IsSomeAnd};
 ghost use Rattle.exact_num.specs.Rational.{lowest};
 ghost use Rattle.exact_num.specs.Value.{value_of};
-ghost use Rattle.model_sets.specs.Data.{value_at};
-ghost use Rattle.model_sets.specs.Params.{IsUsedParam};
+ghost use Rattle.model_sets.specs.Data.{IsUsedParam, value_at};
+ghost use Rattle.model_sets.specs.Params.{range_of};
 ghost use Rattle.param_tables.specs.Built.{AreComplete, IsValueIn, amount_at};
 ghost use Rattle.param_tables.specs.Positions.{IsIndexOf, names_at};
-ghost use Rattle.param_tables.specs.RangeTable.{range_of};
 ghost use Rattle.param_tables.specs.Ranges.{billion};
 ghost use Rattle.param_tables.specs.RatioPlaces.{AreKeptWith, IsWithin, ratio_sizes};
 ghost use Rattle.param_tables.specs.Ratios.{AreMembersFor, IsRegion, IsTechnology, is_nonzero_in, nonzero_indices, nonzero_modes, nonzero_technologies};
@@ -20,10 +19,9 @@ use crate::param_table::{ParamTable, is_nonzero};
 use crate::ratio_places::AllRatioPlaces;
 use crate::ratio_sizes::RatioSizes;
 use crate::ratios::{ActivityRatio, RatioIndex};
-use crate::subscripts::subscript_sets;
 use crate::tried::{tried_indices, tried_modes, tried_technologies};
 use exact_num::{Frac, ratio};
-use model_sets::Sets;
+use model_sets::{Sets, subscript_sets};
 use std::alloc::{AllocError, Global};
 use std::marker::Model;
 
@@ -36,6 +34,7 @@ const BILLION: i128 = 1_000_000_000;
 pub struct ModelData {
     sets: Sets,
     tables: Vec<ParamTable>,
+    second: bool,
     ratios: AllRatioPlaces,
     rounded: u64,
 }
@@ -47,9 +46,9 @@ impl Model for ModelData {
 
     ghost Value = { Built };
 
-    ghost view = { λ model. record { facts = facts_of model.sets model.tables.items; rounded = model.rounded } };
+    ghost view = { λ model. record { facts = facts_of model.sets model.tables.items model.second; rounded = model.rounded } };
 
-    ghost invariant = { λ model. AreKeptWith model.sets model.tables.items model.ratios };
+    ghost invariant = { λ model. AreKeptWith model.sets model.tables.items model.second model.ratios };
 }
 
 /// The value, which is given in billionths.
@@ -61,20 +60,23 @@ fn amount(value: Option<i128>) -> Frac
 }
 
 impl ModelData {
-    /// The data of these sets and these tables, with the places at which their ratios aren't 0.
+    /// The data of these sets and these tables, with the places at which their ratios aren't 0, and whether
+    /// the text has a statement for DiscountRateIdv.
     pub(crate) fn new(
         sets: Sets,
         tables: Vec<ParamTable>,
+        second: bool,
         ratios: AllRatioPlaces,
         rounded: u64,
     ) -> ModelData
-        requires { AreKeptWith sets tables.items ratios }
-        ensures facts { result.facts ≡ facts_of sets tables.items }
+        requires { AreKeptWith sets tables.items second ratios }
+        ensures facts { result.facts ≡ facts_of sets tables.items second }
         ensures rounded { result.rounded ≡ rounded }
     {
         ModelData {
             sets,
             tables,
+            second,
             ratios,
             rounded,
         }
@@ -82,7 +84,7 @@ impl ModelData {
 
     /// The value of the used parameter at the index, in billionths.
     fn value(&self, param: u8, index: &[u16]) -> Option<i128>
-        requires used { IsUsedParam param }
+        requires used { IsUsedParam self.now.facts param }
         requires index { IsIndexOf self.now.facts.sets param index.now }
         ensures value { result ≡ value_at self.now.facts param (names_at self.now.facts.sets param index.now) }
         ensures given { IsSomeAnd result (IsValueIn (range_of param)) }
@@ -94,7 +96,7 @@ impl ModelData {
     /// The value of the used parameter at the index, which has one position for each
     /// subscript, below the number of members of its set. The value is a fraction in lowest terms.
     pub fn at(&self, param: u8, index: &[u16]) -> Frac
-        requires used { IsUsedParam param }
+        requires used { IsUsedParam self.now.facts param }
         requires index { IsIndexOf self.now.facts.sets param index.now }
         ensures amount { value_of result ≡ amount_at self.now.facts param index.now }
         ensures given { IsSomeAnd (value_at self.now.facts param (names_at self.now.facts.sets param index.now)) (IsValueIn (range_of param)) }
@@ -198,6 +200,14 @@ impl ModelData {
         ensures complete { AreComplete self.now.facts }
     {
         &self.sets
+    }
+
+    /// Whether the text has a statement for DiscountRateIdv, if only one without values, so that investments
+    /// are spread by capital recovery. Where it has none, DiscountRateIdv is no parameter of the data.
+    pub fn second(&self) -> bool
+        ensures { result ≡ self.now.facts.second }
+    {
+        self.second
     }
 
     /// How many numbers of the text were rounded to billionths.

@@ -5,7 +5,8 @@ ghost use Rattle.std.specs.List.Sorted.{IsStrictlyIncreasing};
 ghost use Rattle.param_tables.specs.RatioPlaces.{AreAllPlaces, AreGrouped, ArePlacesOf, AreSmall, is_given_nonzero, places_of, ratio_sizes, region_size};
 ghost use Rattle.param_tables.specs.Ratios.{ratio_param};
 ghost use Rattle.param_tables.specs.Tables.{entries_of};
-ghost use Rattle.param_tables.specs.View.{AreKept};
+ghost use Rattle.model_sets.specs.Members.{AreSets};
+ghost use Rattle.param_tables.specs.Tables.{HaveShapes};
 ghost use Rattle.param_tables.specs.declared.param_table.ParamTable.{ParamTable as TableFacts};
 
 use crate::param_table::{ParamTable, is_nonzero};
@@ -83,7 +84,8 @@ fn places_in(
     tables: &[ParamTable],
     ratio: ActivityRatio,
 ) -> Result<RatioPlaces, AllocError>
-    requires { AreKept sets.now tables.now }
+    requires sets { AreSets sets.now }
+    requires shapes { HaveShapes sets.now tables.now }
     ensures { IfOk result (λ places. (e : TableFacts) → ArePlacesOf (ratio_sizes sets.now ratio) (slice_index_or tables.now (ratio_param ratio - 1) e) places) }
 {
     let sizes = RatioSizes::new(sets, ratio);
@@ -97,7 +99,8 @@ impl AllRatioPlaces {
         sets: &Sets,
         tables: &[ParamTable],
     ) -> Result<AllRatioPlaces, AllocError>
-        requires { AreKept sets.now tables.now }
+        requires sets { AreSets sets.now }
+        requires shapes { HaveShapes sets.now tables.now }
         ensures { IfOk result (AreAllPlaces sets.now tables.now) }
     {
         let input = places_in(alloc, sets, tables, ActivityRatio::Input)?;

@@ -2,7 +2,7 @@
 
 ghost use Rattle.std.specs.Prelude.{◌≡◌};
 ghost use Rattle.model_sets.specs.Names.{IsSet};
-ghost use Rattle.model_sets.specs.Params.{IsUsedParam};
+ghost use Rattle.model_sets.specs.Data.{Data, IsUsedParam};
 ghost use Rattle.param_tables.specs.Ratios.{commodity, ratio_param};
 
 use model_sets::param_numbers::{
@@ -34,7 +34,7 @@ impl ActivityRatio {
     /// The number of the parameter.
     pub fn param(self) -> u8
         ensures number { result ≡ ratio_param self }
-        ensures used { IsUsedParam result }
+        ensures used { (d : Data) → IsUsedParam d result }
     {
         match self {
             ActivityRatio::Input => INPUT_ACTIVITY_RATIO,

@@ -1,14 +1,13 @@
-//! The tables of all used parameters.
+//! The tables of all parameters.
 
 ghost use Rattle.std.specs.Prelude.{◌≡◌, [], length, IfErr, IfOk, OnOk};
 ghost use Rattle.std.specs.List.{flat_map};
 ghost use Rattle.model_sets.specs.Members.{AreSets};
-ghost use Rattle.model_sets.specs.Params.{IsUsedParam};
 ghost use Rattle.param_tables.specs.BlockData.{data_of};
 ghost use Rattle.param_tables.specs.InTurn.{first_of};
 ghost use Rattle.param_tables.specs.Refusals.{value_refusals};
 ghost use Rattle.mathprog_data.specs.BlocksView.{param_told, params_told};
-ghost use Rattle.param_tables.specs.Tables.{AreTablesFor, IsTableOf};
+ghost use Rattle.param_tables.specs.Tables.{AreTablesFor, IsTableOf, IsUsable};
 ghost use Rattle.param_tables.specs.Stops.{IsStopDue};
 ghost use Rattle.mathprog_data.specs.WellFormed.{AreParamBlocks, IsParamBlock};
 
@@ -16,17 +15,14 @@ use crate::fault::Stop;
 use crate::given::placed_values;
 use crate::param_table::ParamTable;
 use mathprog_data::ParamBlock;
-use model_sets::Sets;
-use model_sets::param_numbers::USED_PARAM_COUNT;
+use model_sets::param_numbers::PARAM_COUNT;
+use model_sets::{Sets, is_used};
 use std::alloc::{AllocError, Global};
-
-/// The number of the last parameter that is used. Those with greater numbers are read and not looked at.
-pub(crate) const LAST_USED_PARAM: u8 = USED_PARAM_COUNT as u8;
 
 /// The table of a statement on a used parameter. Refuses its first refused value.
 fn table_of(alloc: Global, sets: &Sets, block: &ParamBlock) -> Result<ParamTable, Stop>
     requires sets { AreSets sets.now }
-    requires used { IsUsedParam block.now.param }
+    requires used { IsUsable block.now.param }
     requires statement { IsParamBlock (param_told block.now) }
     ensures table { IfOk result (IsTableOf sets.now (param_told block.now)) }
     ensures accepted { OnOk result (value_refusals sets.now (param_told block.now) ≡ []) }
@@ -40,15 +36,15 @@ fn table_of(alloc: Global, sets: &Sets, block: &ParamBlock) -> Result<ParamTable
 fn empty_tables(alloc: Global, sets: &Sets) -> Result<Vec<ParamTable>, AllocError>
     ensures { IfOk result (λ tables. AreTablesFor (data_of sets.now []) tables.items) }
 {
-    let mut tables = Vec::with_capacity(alloc, USED_PARAM_COUNT)?;
-    for _ in 0..USED_PARAM_COUNT {
+    let mut tables = Vec::with_capacity(alloc, PARAM_COUNT)?;
+    for _ in 0..PARAM_COUNT {
         tables.push(ParamTable::empty(alloc))?;
     }
     Ok(tables)
 }
 
-/// The tables of the used parameters, from number 1. Refuses the first refused value, in the order of the
-/// text. It may run out of memory.
+/// The tables of the parameters, from number 1; those of the parameters that are read and not used are empty.
+/// Refuses the first refused value of a used parameter, in the order of the text. It may run out of memory.
 pub(crate) fn tables_of(
     alloc: Global,
     sets: &Sets,
@@ -62,7 +58,8 @@ pub(crate) fn tables_of(
 {
     let mut tables = empty_tables(alloc, sets)?;
     for block in blocks {
-        if block.param <= LAST_USED_PARAM {
+        // A parameter that is used where it has a statement has one: this.
+        if is_used(block.param, true) {
             tables[usize::from(block.param - 1)] = table_of(alloc, sets, block)?;
         }
     }

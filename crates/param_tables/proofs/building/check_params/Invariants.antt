@@ -5,4 +5,4 @@ use Rattle.param_tables.proofs.ParamLaws.{AreFreeUpTo}
 use Rattle.param_tables.proofs.building.check_params.Given as goal
 
 abbrev pub invariant-loop-param : goal.invariant-loop-param
-invariant-loop-param l = (d : Data) → d.sets ≡ l.sets → AreTablesFor d l.tables → AreFreeUpTo d (l.param - 1)
+invariant-loop-param l = (d : Data) → d.sets ≡ l.sets → d.second ≡ l.second → AreTablesFor d l.tables → AreFreeUpTo d (l.param - 1)

@@ -46,7 +46,7 @@ returns-in_err-check_params-clause-refused c =
     let blocks : c.as_slice.result.now ≡ c.args.blocks.now.params.items = c.as_slice.ensures.value in
     let free : flat_map (value_refusals sets) s.params ≡ [] = ap (λ bs. flat_map (value_refusals sets) (params_told bs)) (sym blocks) ∙ c.in_ok-tables.ensures.accepted in
     let for : AreTablesFor (data_of sets s.params) tables = subst (λ bs. AreTablesFor (data_of sets (params_told bs)) tables) blocks c.in_ok-tables.ensures.tables in
-    let due = c.in_err-check_params.ensures.refused d (sym c.requires.sets) (same_slice d c.as_slice-2.result.now tables c.as_slice-2.ensures.value (tables_told s sets c.requires.sets tables for)) in
+    let due = c.in_err-check_params.ensures.refused d (sym c.requires.sets) (sym c.requires.second) (same_slice d c.as_slice-2.result.now tables c.as_slice-2.ensures.value (tables_told s sets c.requires.sets tables for)) in
     let p = err_from_is_err_and c.from_residual-in_err-check_params.result c.from_residual-in_err-check_params.ensures.1 in
     rw (p.1, p.2) (subst (λ first. IsStopDue first sets why) (sym (params_left s sets c.requires.sets none free)) due)
 
@@ -57,9 +57,9 @@ returns-clause-kept c =
     let tables = c.in_ok-tables.tables.items in
     let blocks : c.as_slice.result.now ≡ c.args.blocks.now.params.items = c.as_slice.ensures.value in
     let for : AreTablesFor (data_of sets s.params) tables = subst (λ bs. AreTablesFor (data_of sets (params_told bs)) tables) blocks c.in_ok-tables.ensures.tables in
-    let tabled = tables_for_facts sets tables c.count.ensures.rules (shapes_of (data_of sets s.params) tables for) in
-    kept_of sets s.params tables c.count.ensures.rules for c.requires.blocks.params.each
-    (c.in_ok-check_params.ensures.accepted (facts_of sets tables) refl (same_slice (facts_of sets tables) c.as_slice-2.result.now tables c.as_slice-2.ensures.value tabled))
+    let tabled = tables_for_facts sets tables c.args.second c.count.ensures.rules (shapes_of (data_of sets s.params) tables for) in
+    kept_of sets s.params tables c.args.second c.requires.second c.count.ensures.rules for c.requires.blocks.params.each
+    (c.in_ok-check_params.ensures.accepted (facts_of sets tables c.args.second) refl refl (same_slice (facts_of sets tables c.args.second) c.as_slice-2.result.now tables c.as_slice-2.ensures.value tabled))
 
 pub returns-clause-same : goal.returns-clause-same
 returns-clause-same c =
@@ -68,7 +68,7 @@ returns-clause-same c =
     let tables = c.in_ok-tables.tables.items in
     let blocks : c.as_slice.result.now ≡ c.args.blocks.now.params.items = c.as_slice.ensures.value in
     let for : AreTablesFor (data_of sets s.params) tables = subst (λ bs. AreTablesFor (data_of sets (params_told bs)) tables) blocks c.in_ok-tables.ensures.tables in
-    subst (λ all. AreSameData (facts_of sets tables) (data_of all s.params)) c.requires.sets (same_facts_told sets s.params tables c.count.ensures.rules for)
+    subst (λ all. AreSameData (facts_of sets tables c.args.second) (data_of all s.params)) c.requires.sets (same_facts_told sets s.params tables c.args.second c.requires.second c.count.ensures.rules for)
 
 pub returns-clause-accepted : goal.returns-clause-accepted
 returns-clause-accepted c =
@@ -80,4 +80,4 @@ returns-clause-accepted c =
     let blocks : c.as_slice.result.now ≡ c.args.blocks.now.params.items = c.as_slice.ensures.value in
     let free : flat_map (value_refusals sets) s.params ≡ [] = ap (λ bs. flat_map (value_refusals sets) (params_told bs)) (sym blocks) ∙ c.in_ok-tables.ensures.accepted in
     let for : AreTablesFor (data_of sets s.params) tables = subst (λ bs. AreTablesFor (data_of sets (params_told bs)) tables) blocks c.in_ok-tables.ensures.tables in
-    params_left s sets c.requires.sets none free ∙ ap first_of (c.in_ok-check_params.ensures.accepted d (sym c.requires.sets) (same_slice d c.as_slice-2.result.now tables c.as_slice-2.ensures.value (tables_told s sets c.requires.sets tables for)))
+    params_left s sets c.requires.sets none free ∙ ap first_of (c.in_ok-check_params.ensures.accepted d (sym c.requires.sets) (sym c.requires.second) (same_slice d c.as_slice-2.result.now tables c.as_slice-2.ensures.value (tables_told s sets c.requires.sets tables for)))

@@ -3,7 +3,7 @@ use Rattle.model_sets.specs.Data.{indices_of, indices_over}
 use Rattle.param_tables.specs.InTurn.{first_of}
 use Rattle.param_tables.specs.Places.{IsPlaceOf}
 use Rattle.param_tables.specs.Positions.{ArePositions, IsIndexOf, names_at, names_over}
-use Rattle.param_tables.specs.RangeTable.{range_of}
+use Rattle.model_sets.specs.Params.{range_of}
 use Rattle.param_tables.specs.Refusals.{AtIndex, most_indices, value_fault}
 use Rattle.param_tables.specs.Tables.{entries_of, value_else}
 use Rattle.param_tables.proofs.RefusalLaws.{index_refusals-none, index_refusals-first, few_indices, same_faults}
@@ -35,5 +35,5 @@ returns-clause-refused c d same for =
           ∙ ap (λ all. Some (AtIndex found.fault p (get_or (indices_of all p) found.place []))) same
           ∙ ap (λ names. Some (AtIndex found.fault p names)) at.at
           ∙ ap (λ r. Some r) (sym (c.refusal_at.ensures.told sets)),
-      c.refusal_at.ensures.cell sets (c.requires.used, within),
+      c.refusal_at.ensures.cell sets (c.requires.listed, within),
     )

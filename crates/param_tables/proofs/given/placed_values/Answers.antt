@@ -3,8 +3,7 @@ use Rattle.std.specs.Prelude.{is_some}
 use Rattle.std.specs.BTreeMap.{get}
 use Rattle.std.specs.Ordering.{nat_cmp}
 use Rattle.std.proofs.lemmas.List.{get_or-map, length-map}
-use Rattle.mathprog_data.specs.Params.{subscript_count}
-use Rattle.model_sets.specs.Params.{subscript_sets}
+use Rattle.model_sets.specs.Params.{subscript_count, subscript_sets}
 use Rattle.param_tables.specs.InTurn.{in_turn}
 use Rattle.param_tables.specs.Places.{IsPlaceOf, are_members}
 use Rattle.param_tables.specs.Refusals.{UnknownName, GivenBefore, is_given_among, value_refusal}
@@ -14,7 +13,6 @@ use Rattle.param_tables.specs.Tables.{given_among}
 use Rattle.param_tables.proofs.GivenLaws.{unknown_refused, twice_refused, value_free, is_some-given, given_more, found_here, none_from}
 use Rattle.param_tables.proofs.PlaceLaws.{same_members, same_place}
 use Rattle.param_tables.proofs.IndexLaws.{names_apart_from}
-use Rattle.param_tables.proofs.TableLaws.{subscript_count-is}
 use Rattle.param_tables.proofs.TurnLaws.{in_turn_free, in_turn_refused}
 use Rattle.param_tables.proofs.given.placed_values.Goals as goal
 
@@ -27,7 +25,7 @@ place_of_names-requires-clause-paired c =
     let below : i < length told = omega (arith, c.loop-value-test.true) in
     let is : v ≡ get_or told i v = ap value_told c.value-item.is ∙ sym (get_or-map value_told c.args.given.now i c.value-item.result v c.loop-value-test.true) in
     let counted : length v.index ≡ subscript_count c.args.param = subst (λ w. length w.index ≡ subscript_count c.args.param) (sym is) (c.requires.indices i v below).index in
-    ap length c.as_slice.ensures.value ∙ counted ∙ subscript_count-is c.args.param c.requires.used ∙ ap length (sym c.subscript_sets-subscripts.ensures.sets)
+    ap length c.as_slice.ensures.value ∙ counted ∙ ap length (sym c.subscript_sets-subscripts.ensures.sets)
 
 pub returns-in_default-clause-refused : goal.returns-in_default-clause-refused
 returns-in_default-clause-refused c =
@@ -58,7 +56,7 @@ returns-then-contains_key-clause-refused c =
     let ks : c.subscript_sets-subscripts.result.now ≡ subscript_sets p = c.subscript_sets-subscripts.ensures.sets in
     let known : are_members sets (subscript_sets p) v.index ≡ true = same_members sets (subscript_sets p) c.subscript_sets-subscripts.result.now v.index c.as_slice.result.now (sym ks) (sym c.as_slice.ensures.value) ∙ sym c.in-Some.ensures.found in
     let at : IsPlaceOf sets (subscript_sets p) v.index place = same_place sets c.subscript_sets-subscripts.result.now (subscript_sets p) c.as_slice.result.now v.index place ks c.as_slice.ensures.value c.in-Some.ensures.place in
-    let here : found place ≡ given_among (take i told) v.index = found_here sets (names_apart_from sets c.requires.sets) p c.requires.used told i v below is place at found c.loop-value.invariant.values in
+    let here : found place ≡ given_among (take i told) v.index = found_here sets (names_apart_from sets c.requires.sets) p c.requires.listed told i v below is place at found c.loop-value.invariant.values in
     let before : is_given_among (take i told) v.index ≡ true = sym (is_some-given (take i told) v.index) ∙ ap (λ o. is_some o) (sym here) ∙ sym c.if-contains_key.ensures in
     let refused : value_refusal sets p (take i told) (get_or told i v) ≡ Some (GivenBefore v.at) = ap (value_refusal sets p (take i told)) (sym is) ∙ twice_refused sets p (take i told) v known before in
     (in_turn_refused (value_refusal sets p) told i v (in_turn (value_refusal sets p) told) (GivenBefore v.at) below refused c.loop-value.invariant.refusals, tt)
@@ -78,11 +76,11 @@ loop-value-preserved c =
     let ks : c.subscript_sets-subscripts.result.now ≡ subscript_sets p = c.subscript_sets-subscripts.ensures.sets in
     let known : are_members sets (subscript_sets p) v.index ≡ true = same_members sets (subscript_sets p) c.subscript_sets-subscripts.result.now v.index c.as_slice.result.now (sym ks) (sym c.as_slice.ensures.value) ∙ sym c.in-Some.ensures.found in
     let at : IsPlaceOf sets (subscript_sets p) v.index place = same_place sets c.subscript_sets-subscripts.result.now (subscript_sets p) c.as_slice.result.now v.index place ks c.as_slice.ensures.value c.in-Some.ensures.place in
-    let here : found place ≡ given_among (take i told) v.index = found_here sets (names_apart_from sets c.requires.sets) p c.requires.used told i v below is place at found c.loop-value.invariant.values in
+    let here : found place ≡ given_among (take i told) v.index = found_here sets (names_apart_from sets c.requires.sets) p c.requires.listed told i v below is place at found c.loop-value.invariant.values in
     let absent : is_some (found place) ≡ false = sym c.if-contains_key.ensures in
     let before : is_given_among (take i told) v.index ≡ false = sym (is_some-given (take i told) v.index) ∙ ap (λ o. is_some o) (sym here) ∙ absent in
     let free : value_refusal sets p (take i told) (get_or told i v) ≡ None = ap (value_refusal sets p (take i told)) (sym is) ∙ value_free sets p (take i told) v known before in
     record {
-      values = given_more sets (names_apart_from sets c.requires.sets) p c.requires.used told i v below is place at found c.loop-value.invariant.values (get nat_cmp c.keep.new.values) (none_from (found place) absent) c.in_ok-keep.ensures;
+      values = given_more sets (names_apart_from sets c.requires.sets) p c.requires.listed told i v below is place at found c.loop-value.invariant.values (get nat_cmp c.keep.new.values) (none_from (found place) absent) c.in_ok-keep.ensures;
       refusals = in_turn_free (value_refusal sets p) told i v (in_turn (value_refusal sets p) told) below free c.loop-value.invariant.refusals;
     }

@@ -1,11 +1,11 @@
 use Rattle.std.proofs.Common.{◌≡◌, ◌-◌, ◌≤◌, length, get_or, sym, ap, ◌∙◌, subst, arith}
 use Rattle.model_sets.specs.Data.{indices_of}
 use Rattle.model_sets.specs.Names.{IsSet, region}
-use Rattle.model_sets.specs.Params.{IsUsedParam}
 use Rattle.param_tables.specs.RatioPlaces.{ratio_sizes, region_size}
 use Rattle.param_tables.specs.Ratios.{count_in, ratio_param}
 use Rattle.param_tables.specs.Tables.{IsTable}
 use Rattle.param_tables.proofs.PlaceLaws.{members-most}
+use Rattle.param_tables.proofs.RatioFacts.{ratio_is_usable}
 use Rattle.param_tables.proofs.RatioPlaceLaws.{places_below}
 use Rattle.param_tables.proofs.ratio_places.places_in.Goals as goal
 
@@ -18,9 +18,8 @@ new-requires-clause-below c k d below =
     let ratio = c.args.ratio in
     let table = c.index-tables-from.result in
     let n : c.from.result ≡ ratio_param ratio - 1 = c.from.ensures ∙ ap (λ p. p - 1) c.param.ensures.number in
-    let used : IsUsedParam (ratio_param ratio) = subst IsUsedParam c.param.ensures.number c.param.ensures.used in
     let at : table ≡ get_or c.args.tables.now (ratio_param ratio - 1) table = c.index-tables-from.is ∙ ap (λ n. get_or c.args.tables.now n table) n in
-    let shape : IsTable (length (indices_of sets (ratio_param ratio))) table = subst (IsTable (length (indices_of sets (ratio_param ratio)))) (sym at) (c.requires.tabled.each (ratio_param ratio) used table).shape in
-    let most : count_in sets region ≤ 1000 = members-most sets region c.requires.complete.sets is_region in
+    let shape : IsTable (length (indices_of sets (ratio_param ratio))) table = subst (IsTable (length (indices_of sets (ratio_param ratio)))) (sym at) (c.requires.shapes.each (ratio_param ratio) (ratio_is_usable ratio) table) in
+    let most : count_in sets region ≤ 1000 = members-most sets region c.requires.sets is_region in
     let size : region_size c.new-sizes.result ≡ region_size (ratio_sizes sets ratio) = ap region_size c.new-sizes.ensures.sizes in
     places_below sets ratio (region_size c.new-sizes.result) (get_or table.places.items k d) size most (shape.below k d below)

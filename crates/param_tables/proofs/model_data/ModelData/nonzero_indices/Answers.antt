@@ -13,7 +13,7 @@ listed_indices-requires-clause-rising c =
     let table = c.index.result.now in
     let is : table ≡ get_or c.self.inside.tables.items (ratio_param ratio - 1) table = c.index.ensures ∙ ap (λ n. get_or c.self.inside.tables.items n table) (c.from.ensures ∙ ap (λ p. p - 1) c.param.ensures.number) in
     let places : c.as_slice.result.now ≡ (places_of c.self.inside.ratios ratio).in_order.items = c.as_slice.ensures.value ∙ ap (λ p. p.in_order.items) c.of-places.ensures in
-    subst IsStrictlyIncreasing (sym places) (in_order_rises c.self.inside.sets c.self.inside.tables.items c.self.inside.ratios c.self.invariant ratio table is)
+    subst IsStrictlyIncreasing (sym places) (in_order_rises c.self.inside.sets c.self.inside.tables.items c.self.inside.second c.self.inside.ratios c.self.invariant ratio table is)
 
 pub returns : goal.returns
 returns c =
@@ -28,5 +28,5 @@ returns c =
     IfOk-weaker c.listed_indices.result
     (λ found. AreIndicesAt s c.as_slice.result.now (r * region_size s) found.items)
     (λ found. found.items ≡ nonzero_indices d ratio r)
-    (λ found listed. indices_found c.self.inside.sets c.self.inside.tables.items c.self.inside.ratios c.self.invariant ratio table is zero_by_default d (ap (λ (b : Built). b.facts) c.self.view_is) s c.new-sizes.ensures.sizes r c.as_slice.result.now found.items c.requires places listed)
+    (λ found listed. indices_found c.self.inside.sets c.self.inside.tables.items c.self.inside.second c.self.inside.ratios c.self.invariant ratio table is zero_by_default d (ap (λ (b : Built). b.facts) c.self.view_is) s c.new-sizes.ensures.sizes r c.as_slice.result.now found.items c.requires places listed)
     c.listed_indices.ensures

@@ -23,5 +23,5 @@ returns c =
     IfOk-weaker c.listed_modes.result
     (λ modes. AreBlocks c.as_slice.result.now (c.group_of-group.result * group_size s + t * s.modes) 1 s.modes modes.items)
     (λ modes. modes.items ≡ nonzero_modes d ratio r t k y)
-    (λ modes blocks. modes_found c.self.inside.sets c.self.inside.tables.items c.self.inside.ratios c.self.invariant ratio table is zero_by_default d (ap (λ (b : Built). b.facts) c.self.view_is) s c.new-sizes.ensures.sizes r t k y c.group_of-group.result c.as_slice.result.now modes.items c.requires.members c.requires.technology places group blocks)
+    (λ modes blocks. modes_found c.self.inside.sets c.self.inside.tables.items c.self.inside.second c.self.inside.ratios c.self.invariant ratio table is zero_by_default d (ap (λ (b : Built). b.facts) c.self.view_is) s c.new-sizes.ensures.sizes r t k y c.group_of-group.result c.as_slice.result.now modes.items c.requires.members c.requires.technology places group blocks)
     c.listed_modes.ensures

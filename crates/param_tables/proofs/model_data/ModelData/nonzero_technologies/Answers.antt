@@ -22,5 +22,5 @@ returns c =
     IfOk-weaker c.listed_technologies.result
     (λ found. AreBlocks c.as_slice.result.now (c.group_of-group.result * group_size s) s.modes s.technologies found.items)
     (λ found. found.items ≡ nonzero_technologies d ratio r k y)
-    (λ found blocks. technologies_found c.self.inside.sets c.self.inside.tables.items c.self.inside.ratios c.self.invariant ratio table is zero_by_default d (ap (λ (b : Built). b.facts) c.self.view_is) s c.new-sizes.ensures.sizes r k y c.group_of-group.result c.as_slice.result.now found.items c.requires places group blocks)
+    (λ found blocks. technologies_found c.self.inside.sets c.self.inside.tables.items c.self.inside.second c.self.inside.ratios c.self.invariant ratio table is zero_by_default d (ap (λ (b : Built). b.facts) c.self.view_is) s c.new-sizes.ensures.sizes r k y c.group_of-group.result c.as_slice.result.now found.items c.requires places group blocks)
     c.listed_technologies.ensures
