@@ -1,5 +1,5 @@
 -- The variables of each instance's terms exist, and those beside its own are defined by earlier equations, if at all.
-use Rattle.std.proofs.Common.{inl, inr, arith}
+use Rattle.std.proofs.Common.{ℕ, inl, inr, arith}
 use Rattle.std.proofs.lemmas.Bool.{cases_lt}
 use Rattle.model_sets.specs.Data.{Data}
 use Rattle.row_core.specs.declared.RowName.{RowName}

@@ -1,5 +1,5 @@
 -- The terms of costs and of the emissions of technologies: equations 25 to 42.
-use Rattle.std.proofs.Common.{◌≡◌, negsuc, Bool, true, false, not, ◌&&◌, ◌||◌, refl}
+use Rattle.std.proofs.Common.{◌≡◌, ℕ, negsuc, Bool, true, false, not, ◌&&◌, ◌||◌, refl}
 use Rattle.model_sets.specs.Data.{Data}
 use Rattle.model_sets.specs.Names as sets
 use Rattle.row_core.specs.declared.Index.{Index}

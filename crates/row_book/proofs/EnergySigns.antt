@@ -1,5 +1,5 @@
 -- The signs of demand, of capacity adequacy, of the energy balance and of accounting: equations 1 to 24.
-use Rattle.std.proofs.Common.{pos, nat_le, refl, sym}
+use Rattle.std.proofs.Common.{ℕ, pos, nat_le, refl, sym}
 use Rattle.model_sets.specs.Data.{Data}
 use Rattle.model_sets.specs.Names as sets
 use Rattle.row_core.specs.declared.Index.{Index}

@@ -1,5 +1,5 @@
 -- The terms of demand, of capacity adequacy, of the energy balance and of accounting: equations 1 to 24.
-use Rattle.std.proofs.Common.{◌≡◌, negsuc, Bool, true, false, inl, inr, Some, None, cond, nat_le, refl}
+use Rattle.std.proofs.Common.{◌≡◌, ℕ, negsuc, Bool, true, false, inl, inr, Some, None, cond, nat_le, refl}
 use Rattle.model_sets.specs.Data.{Data}
 use Rattle.model_sets.specs.Names as sets
 use Rattle.row_core.specs.declared.Index.{Index}

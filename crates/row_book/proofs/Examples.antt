@@ -26,14 +26,14 @@ use Rattle.row_book.specs.Walks.{instance_at, instances_in}
 
 -- ---- the data
 
-abbrev whole : ℕ → ℤ
+abbrev pub whole : ℕ → ℤ
 whole n = pos (n * 10 ^ 9)
 
 abbrev minus_one : ℤ
 minus_one = neg_ℤ (whole 1)
 
 -- the defaults of the used parameters, from number 1, with this CapacityToActivityUnit
-abbrev defaults : ℤ → List Default
+abbrev pub defaults : ℤ → List Default
 defaults unit =
     map (λ entry. record { param = entry.0; value = entry.1 })
     (enumerate_from 1
@@ -49,13 +49,13 @@ data_of regions unit = record {
   second = false;
 }
 
-abbrev base : Data
+abbrev pub base : Data
 base = data_of (codes "R" ∷ []) (whole 1)
 
 abbrev two_regions : Data
 two_regions = data_of (codes "A" ∷ codes "B" ∷ []) (whole 1)
 
-abbrev at_zeros : ℕ → RowName
+abbrev pub at_zeros : ℕ → RowName
 at_zeros eq = name_at eq (index 0 0 0 0 0 0 0 0)
 
 -- ---- instances

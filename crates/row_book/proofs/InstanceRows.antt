@@ -1,5 +1,5 @@
 -- The equations of capacity adequacy stand everywhere, and so their rows stop only where a number doesn't fit.
-use Rattle.std.proofs.Common.{◌≡◌, ◌≤◌, true, not, ◌||◌, refl, ap, sym, ◌∙◌, subst, arith}
+use Rattle.std.proofs.Common.{◌≡◌, ℕ, ◌≤◌, true, not, ◌||◌, refl, ap, sym, ◌∙◌, subst, arith}
 use Rattle.exact_num.specs.Range.{all_fit}
 use Rattle.model_sets.specs.Data.{Data}
 use Rattle.row_core.specs.declared.RowName.{RowName}

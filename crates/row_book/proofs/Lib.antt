@@ -10,6 +10,7 @@ pub mod EnergySigns
 pub mod EnergyTerms
 pub mod EntryVariables
 mod Examples
+mod InvestmentExamples
 pub mod GatheredLaws
 pub mod GivenValues
 pub mod InstanceRows

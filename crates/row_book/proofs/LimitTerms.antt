@@ -1,5 +1,5 @@
 -- The terms of limits, of the reserve margin, of the renewable target and of the emissions of regions: equations 43 to 64.
-use Rattle.std.proofs.Common.{◌≡◌, negsuc, true, refl}
+use Rattle.std.proofs.Common.{◌≡◌, ℕ, negsuc, true, refl}
 use Rattle.model_sets.specs.Data.{Data}
 use Rattle.model_sets.specs.Names as sets
 use Rattle.row_core.specs.declared.Index.{Index}

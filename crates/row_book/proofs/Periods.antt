@@ -1,29 +1,17 @@
 -- The years of the model period and the lives of a region, as numbers.
 use Rattle.std.proofs.Common.{◌≡◌, ℕ, ◌*◌, ◌/◌, ◌<◌, ◌≤◌, ◌&&◌, ◌⊎◌, inl, inr, true, cond, zero, suc, length, List, [], ◌∷◌, ◌++◌, map, refl, nat_le, ℤ, pos, Option, Some, None, leb-true, ap, ap₂, sym, to_z, of_z, ◌∙◌, subst, arith}
 use Rattle.std.specs.List.{AllByRecursion}
-use Rattle.std.specs.Int.Signed.{quot_z}
-use Rattle.std.specs.Int.{w128}
 use Rattle.std.specs.Prelude.{All, Contains, IsSomeAnd, slice_get, ◌≤ℤ◌, ◌<ℤ◌, ◌*ℤ◌, unsigned_abs, unwrap_or}
 use Rattle.std.specs.Str.{bytes_eq}
 use Rattle.std.specs.Fmt.{decimal}
 use Rattle.std.proofs.lemmas.Bool.{and_parts}
 use Rattle.std.proofs.lemmas.Int.{ints}
 use Rattle.std.proofs.lemmas.List.Elements.{recursion_from_All}
-use Rattle.std.proofs.Math.Nat.{mul-div_cancel_left}
-use Rattle.exact_num.specs.Gcd.{gcd_of}
-use Rattle.exact_num.specs.Range.{InRange}
-use Rattle.exact_num.specs.Rational.{lowest, pair}
-use Rattle.exact_num.proofs.GcdLaws.{gcd_of-le_right}
 use Rattle.std.specs.Ordering.{is_lt, nat_cmp, ord_max}
 use Rattle.std.proofs.lemmas.Bool.{cases_order}
 use Rattle.exact_num.proofs.OrderLaws.{nat_cmp-equal, nat_cmp-greater, nat_cmp-less}
-use Rattle.exact_num.proofs.RangeLaws.{back_in_range}
-use Rattle.exact_num.proofs.RationalLaws.{lowest-bottom, lowest-top}
 use Rattle.model_sets.specs.Years.{is_year, number_of}
 use Rattle.named_equations.proofs.InstanceTests.{Has, Has-from_Contains}
-use Rattle.param_tables.specs.Built.{IsValueIn}
-use Rattle.param_tables.specs.Ranges.{IsInRange, billion}
-use Rattle.param_tables.specs.declared.ranges.Range.TheVariants.{ZeroToOne}
 
 -- ---- years
 

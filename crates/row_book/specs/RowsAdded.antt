@@ -1,5 +1,5 @@
 -- Rows that are made for instances after others. Only private functions cite this.
-use Rattle.std.specs.Prelude.{◌≡◌, ◌+◌, true, List, ◌++◌}
+use Rattle.std.specs.Prelude.{◌≡◌, ℕ, ◌+◌, true, List, ◌++◌}
 use Rattle.std.specs.List.{list_all}
 use Rattle.model_sets.specs.Data.{Data}
 use Rattle.row_core.specs.declared.Row.{Row}

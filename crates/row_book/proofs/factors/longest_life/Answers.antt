@@ -21,7 +21,7 @@ loop-technology-preserved c t among =
           omega (arith, so_far, both.0, longest)
       | inr from ↦
           let same : t ≡ c.loop-technology.technology = omega (arith, among, from) in
-          let this : life_of c.args.model.now.facts c.args.region t ≡ c.operational_life.result = ap (life_of c.args.model.now.facts c.args.region) same ∙ sym c.operational_life.ensures in
+          let this : life_of c.args.model.now.facts c.args.region t ≡ c.operational_life.result = ap (life_of c.args.model.now.facts c.args.region) same ∙ sym c.operational_life.ensures.exact in
           omega (arith, this, both.1, longest)
     ]
 

@@ -20,7 +20,7 @@ loop-region-preserved c =
       λ r one at.
           elim (place-of_more before this one r (sym (ap (λ (factors : List Discounting). slice_get factors r) are) ∙ at)) [
             | inl so_far ↦ c.loop-region.invariant.1 r one so_far
-            | inr last ↦ subst (AreFactorsOf d r) last.1 (subst (λ n. AreFactorsOf d n this) (sym (last.0 ∙ counted)) c.in_ok-one.ensures)
+            | inr last ↦ subst (AreFactorsOf c.args.places d r) last.1 (subst (λ n. AreFactorsOf c.args.places d n this) (sym (last.0 ∙ counted)) c.in_ok-one.ensures)
           ],
     )
 

@@ -8,4 +8,4 @@ use Rattle.row_book.proofs.factors.region_factors.Given as goal
 abbrev pub invariant-loop-region : goal.invariant-loop-region
 invariant-loop-region l =
     (length l.factors.items ≡ l.region)
-    × ((r : ℕ) (one : Discounting) → slice_get l.factors.items r ≡ Some one → AreFactorsOf l.model.facts r one)
+    × ((r : ℕ) (one : Discounting) → slice_get l.factors.items r ≡ Some one → AreFactorsOf l.places l.model.facts r one)

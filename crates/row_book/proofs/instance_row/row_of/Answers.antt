@@ -1,5 +1,6 @@
 use Rattle.std.proofs.Common.{◌≤◌, arith}
 use Rattle.std.proofs.lemmas.Result.{IfErr-weaker}
+use Rattle.named_equations.specs.RegionFactors.{places_of}
 use Rattle.row_book.proofs.InstanceRows.{capacity-stops}
 use Rattle.row_book.proofs.instance_row.row_of.Goals as goal
 
@@ -7,4 +8,4 @@ pub returns-in-2-to-6-clause-stopped : goal.returns-in-2-to-6-clause-stopped
 returns-in-2-to-6-clause-stopped c =
     let from : 2 ≤ c.args.name.eq = omega arith in
     let to : c.args.name.eq ≤ 6 = omega arith in
-    IfErr-weaker c.rows_of.result _ _ (λ stopped stops. capacity-stops c.args.model.now.facts c.args.name stopped from to stops) c.rows_of.ensures.stopped
+    IfErr-weaker c.rows_of.result _ _ (λ stopped stops. capacity-stops (places_of c.args.factors.now) c.args.model.now.facts c.args.name stopped from to stops) c.rows_of.ensures.stopped

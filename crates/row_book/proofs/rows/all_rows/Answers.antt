@@ -1,4 +1,4 @@
-use Rattle.std.proofs.Common.{List, subst}
+use Rattle.std.proofs.Common.{sym, subst}
 use Rattle.discount_factors.specs.Known.{Discounting}
 use Rattle.named_equations.specs.Instances.{instances}
 use Rattle.named_equations.specs.RegionFactors.{AreRegionFactors, places_of}
