@@ -77,15 +77,13 @@ impl PlainData {
         if !PlainData::is_made(rate, life) {
             return Err(PlainFail::NoFactor);
         }
-        Ok(
-            factors::salvage_fraction(
-                places,
-                method,
-                rate as u64,
-                life as u32,
-                self.years_left(point),
-            ) as i128,
-        )
+        Ok(factors::salvage_fraction(
+            places,
+            method,
+            rate as u64,
+            life as u32,
+            self.years_left(point),
+        ) as i128)
     }
 
     /// The part of an investment in the technology that is due each year of its life, at its own rate.

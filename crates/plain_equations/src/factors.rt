@@ -22,7 +22,11 @@ pub(crate) fn unit_of(places: u8) -> u64
     ensures some { 0 < result }
     ensures most { result ≤ 10 ^ 9 }
 {
-    if places == 9 { 1_000_000_000 } else { 1_000_000 }
+    if places == 9 {
+        1_000_000_000
+    } else {
+        1_000_000
+    }
 }
 
 /// The value a year later: divided by 1 + d, and rounded down.

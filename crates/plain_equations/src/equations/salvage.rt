@@ -7,7 +7,9 @@ use crate::expressions::Condition::{Always, NoSalvage, SinkingFund, StraightLine
 use crate::expressions::Count::One;
 use crate::expressions::Defines::LeftVariable;
 use crate::expressions::Equation;
-use crate::expressions::Expr::{CapitalFactor, FactorScale, Product, SalvageFraction, Values, Zero};
+use crate::expressions::Expr::{
+    CapitalFactor, FactorScale, Product, SalvageFraction, Values, Zero,
+};
 use crate::expressions::Years::InAll;
 use crate::names::{CAPITAL_COST, DISCOUNTED_SALVAGE_VALUE, NEW_CAPACITY, SALVAGE_VALUE};
 use crate::tables::look_up;
