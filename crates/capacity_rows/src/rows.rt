@@ -1,6 +1,6 @@
 //! The row of an equation at an index.
 
-ghost use Rattle.std.specs.Prelude.{◌≡◌, true, is_some, IfOk, IfErr, IfSome};
+ghost use Rattle.std.specs.Prelude.{◌≡◌, ℕ, true, is_some, IfOk, IfErr, IfSome};
 ghost use Rattle.exact_num.specs.Range.{all_fit};
 ghost use Rattle.row_core.specs.declared.place.Place.{Place};
 ghost use Rattle.row_core.specs.EquationTerms.{IsWritten, equation_formed};

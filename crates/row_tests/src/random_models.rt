@@ -1,4 +1,7 @@
-//! Random models, of which each row says of plans what the plain program says of its equation.
+//! Random models, of which each row says of plans what the plain program says of its equation, under both profiles and with
+//! written factors of 6 decimal places and of 9.
+
+ghost use Rattle.discount_factors.specs.Factors.{IsPlaces};
 
 use crate::plans::{holds, part_for, random_plan, test_near_plans, zero_plan};
 use crate::printed::book_of;
@@ -6,6 +9,7 @@ use crate::random::{Random, random_section};
 use crate::sections::{model_of, plain_of};
 use plain_equations::PlainData;
 use row_book::RowBook;
+use row_core::equation_numbers::CC1;
 use std::alloc::Global;
 use std::process::Abort;
 use std::test::Fail;
@@ -29,27 +33,53 @@ fn assert_names(
     Ok(())
 }
 
-/// The rows of the model of this number say what their equations say.
-fn assert_model(rt: &impl Abort, alloc: Global, seed: u64) -> Result<(), Fail> {
+/// The decimal places of written factors, and whether profile 2 holds.
+const READINGS: [(u8, bool); 4] = [(6, false), (9, false), (6, true), (9, true)];
+
+/// The rows of the model of this number say what their equations say. Gives the number of rows of investments that were tested with
+/// plans at which both sides are equal.
+fn assert_model(
+    rt: &impl Abort,
+    alloc: Global,
+    seed: u64,
+    places: u8,
+    second: bool,
+) -> Result<usize, Fail>
+    requires { IsPlaces places }
+{
     let mut random = Random::new(seed);
-    let text = random_section(rt, alloc, &mut random)?;
+    let text = random_section(rt, alloc, &mut random, second)?;
     let plain = plain_of(rt, alloc, text.as_str())?;
     let model = model_of(rt, alloc, text.as_str())?;
-    let book = book_of(alloc, &model)?;
+    let book = book_of(alloc, &model, places)?;
     assert_names(rt, alloc, &book, &plain)?;
     let plan = random_plan(alloc, &mut random, book.vars())?;
+    let mut investments: usize = 0;
     for row in book.rows() {
-        holds(rt, &plain, row, &zero_plan(alloc))?;
-        holds(rt, &plain, row, &plan)?;
-        test_near_plans(rt, alloc, &plain, row, &part_for(alloc, &plan, row)?)?;
+        assert!(rt; holds(rt, &plain, places, row, &zero_plan(alloc))?.is_some());
+        assert!(rt; holds(rt, &plain, places, row, &plan)?.is_some());
+        let part = part_for(alloc, &plan, row)?;
+        let tested = test_near_plans(rt, alloc, &plain, places, row, &part)?;
+        let is_investment = row.name.eq == CC1;
+        // Three factors of nine places make the numbers of some investments too long.
+        assert!(rt; tested || is_investment && second && places == 9, "{:?}", row.name);
+        if tested && is_investment {
+            investments = investments.wrapping_add(1);
+        }
     }
-    Ok(())
+    Ok(investments)
 }
 
 #[test]
 fn rows_say_what_the_plain_program_says(rt: HostRuntime) -> Result<(), Fail> {
-    for seed in MODELS.iter() {
-        assert_model(&rt, rt.alloc(), *seed)?;
+    for (places, second) in READINGS.iter() {
+        assert!(&rt; *places == 6 || *places == 9);
+        let mut investments: usize = 0;
+        for seed in MODELS.iter() {
+            let tested = assert_model(&rt, rt.alloc(), *seed, *places, *second)?;
+            investments = investments.wrapping_add(tested);
+        }
+        assert!(&rt; investments > 10, "places {places} profile {second}: {investments}");
     }
     Ok(())
 }
