@@ -1,6 +1,6 @@
 -- The map has the entries so far.
 use Rattle.std.proofs.Common.{◌≡◌, take}
-use Rattle.variable_elimination.proofs.lifting.by_variable.Given as goal
+use Rattle.variable_elimination.proofs.values.by_key.Given as goal
 
-abbrev pub invariant-loop-variable : goal.invariant-loop-variable
-invariant-loop-variable l = l.values.entries ≡ take l.variable-index l.variable-items
+abbrev pub invariant-loop-key : goal.invariant-loop-key
+invariant-loop-key g l = l.values.entries ≡ take l.key-index l.entries

@@ -1,66 +1,69 @@
--- Entry by entry, without the variable's own.
-use Rattle.std.proofs.Common.{◌≡◌, ℤ, true, false, ◌+◌, drop, get_or, rules, sym, ap, ap₂, ◌∙◌, subst}
+-- Number by number, without the key's own.
+use Rattle.std.proofs.Common.{◌≡◌, ◌+◌, true, false, drop, rules, sym, ap, ap₂, ◌∙◌, subst}
 use Rattle.std.specs.Ordering.{is_eq}
 use Rattle.exact_num.specs.Range.{InRange, all_fit}
-use Rattle.exact_num.specs.Rational.{Rational, whole, plus, times}
+use Rattle.exact_num.specs.Rational.{whole, plus, times}
 use Rattle.exact_num.specs.Value.{value_of}
 use Rattle.exact_num.proofs.RangeLaws.{back_in_range, is_ok-false}
-use Rattle.row_core.specs.declared.Var.{Var}
 use Rattle.row_core.specs.Evaluated.{term_formed}
-use Rattle.row_core.specs.Order.{var_cmp}
 use Rattle.row_core.specs.Plans.{value_in}
-use Rattle.row_core.proofs.WritingSteps.{entries_fit-at, no_entry}
-use Rattle.variable_elimination.specs.Lifting.{values_in}
-use Rattle.variable_elimination.proofs.LiftingSteps.{sum_left, formed_left, skip-sum, skip-formed, take-sum, take-formed, stop-formed, end-formed}
-use Rattle.variable_elimination.proofs.lifting.other_sum.Goals as goal
-use Rattle.variable_elimination.proofs.lifting.other_sum.Goals.{then-ne+in_ok-sum, else-ne}
+use Rattle.row_core.proofs.WritingSteps.{item_fits}
+use Rattle.variable_elimination.specs.Valued.{values_in}
+use Rattle.variable_elimination.proofs.ValueSteps.{next_entry, not_alike, sum_left, formed_left, skip-sum, skip-formed, take-sum, take-formed, stop-formed, end-formed}
+use Rattle.variable_elimination.proofs.values.other_sum.Goals as goal
+use Rattle.variable_elimination.proofs.values.other_sum.Goals.{in-Equal, in_default+in_ok-sum-in_default}
 
 pub add_term-requires : goal.add_term-requires
-add_term-requires c =
-    let n : ℤ = (get_or c.args.entries.now c.loop-entry.entry-index no_entry).1 in
-    let fits : InRange n = entries_fit-at c.args.entries.now c.loop-entry.entry-index no_entry c.requires c.loop-entry-test.true in
-    subst InRange (sym (back_in_range n fits)) fits
+add_term-requires g c =
+    let e = c.entry-item.result in
+    let fits : InRange e.1 = item_fits c.args.numbers.now c.loop-entry.entry-index e c.requires c.loop-entry-test.true c.entry-item.is in
+    subst InRange (sym (back_in_range e.1 fits)) fits
 
-pub returns-in_err-sum-clause-refused : goal.returns-in_err-sum-clause-refused
-returns-in_err-sum-clause-refused c =
-    let es = c.args.entries.now in
-    let v = c.args.variable in
-    let value : Var → Rational = value_in var_cmp (values_in c.args.values.now) in
+pub returns-in_err-sum-in_default : goal.returns-in_err-sum-in_default
+returns-in_err-sum-in_default g c =
+    let cmp = g.K.Ord.cmp in
+    let es = c.args.numbers.now in
     let i = c.loop-entry.entry-index in
+    let value = value_in cmp (values_in c.args.values.now) in
     let s = value_of c.loop-entry.sum in
-    let e : Var × ℤ = get_or es i no_entry in
-    let number = back_in_range e.1 (entries_fit-at es i no_entry c.requires c.loop-entry-test.true) in
-    let wide : all_fit (term_formed s e.1 (value e.0)) ≡ false = ap₂ (λ n r. all_fit (term_formed s n r)) (sym number) (sym c.value_there.ensures) ∙ sym c.in_err-sum.ensures.refused in
-    let apart : is_eq (var_cmp e.0 v) ≡ false = search rules in
-    is_ok-false c.from_residual.result c.from_residual.ensures.0 ∙ sym (c.loop-entry.invariant.formed ∙ stop-formed value v es i no_entry s c.loop-entry-test.true apart wide)
+    let e = c.entry-item.result in
+    let number = back_in_range e.1 (item_fits es i e c.requires c.loop-entry-test.true c.entry-item.is) in
+    let wide : all_fit (term_formed s e.1 (value e.0)) ≡ false = ap₂ (λ n r. all_fit (term_formed s n r)) (sym number) (sym c.value_there.ensures) ∙ sym c.in_err-sum-in_default.ensures.refused in
+    let apart : is_eq (cmp e.0 c.args.key) ≡ false = ap is_eq (sym c.cmp.ensures) ∙ not_alike c.cmp.result c.in_default.not-Equal in
+    record {
+      refused = is_ok-false c.from_residual.result c.from_residual.ensures.0
+          ∙ sym (c.loop-entry.invariant.formed ∙ stop-formed cmp value c.args.key (drop i es) (drop (i + 1) es) e s (next_entry es i e c.loop-entry-test.true c.entry-item.is) apart wide);
+      value = search rules;
+    }
 
 pub loop-entry-preserved : goal.loop-entry-preserved
-loop-entry-preserved c =
-    let es = c.args.entries.now in
-    let v = c.args.variable in
-    let value : Var → Rational = value_in var_cmp (values_in c.args.values.now) in
+loop-entry-preserved g c =
+    let cmp = g.K.Ord.cmp in
+    let es = c.args.numbers.now in
+    let key = c.args.key in
     let i = c.loop-entry.entry-index in
+    let value = value_in cmp (values_in c.args.values.now) in
     let s = value_of c.loop-entry.sum in
-    let e : Var × ℤ = get_or es i no_entry in
-    let number = back_in_range e.1 (entries_fit-at es i no_entry c.requires c.loop-entry-test.true) in
-    elim c.if-ne.branch [
-      | then-ne+in_ok-sum w ↦
-          let apart : is_eq (var_cmp e.0 v) ≡ false = search rules in
-          let next : value_of c.if-ne.sum ≡ plus s (times (whole e.1) (value e.0)) = ap value_of w.sum-is ∙ w.in_ok-sum.ensures.value ∙ ap₂ (λ n r. plus s (times (whole n) r)) number w.value_there.ensures in
-          let fit : all_fit (term_formed s e.1 (value e.0)) ≡ true = ap₂ (λ n r. all_fit (term_formed s n r)) (sym number) (sym w.value_there.ensures) ∙ sym w.in_ok-sum.ensures.refused in
+    let e = c.entry-item.result in
+    let number = back_in_range e.1 (item_fits es i e c.requires c.loop-entry-test.true c.entry-item.is) in
+    let is = next_entry es i e c.loop-entry-test.true c.entry-item.is in
+    elim c.match-cmp.branch [
+      | in-Equal w ↦
+          let same : is_eq (cmp e.0 key) ≡ true = ap is_eq (sym c.cmp.ensures ∙ w.in-Equal.is) in
           record {
-            sum = sym (take-sum value v es i no_entry s (value_of c.if-ne.sum) c.loop-entry-test.true apart next) ∙ c.loop-entry.invariant.sum;
-            formed = c.loop-entry.invariant.formed ∙ take-formed value v es i no_entry s (value_of c.if-ne.sum) c.loop-entry-test.true apart next fit;
+            sum = ap (λ r. sum_left cmp value key (value_of r) (drop (i + 1) es)) w.sum-is ∙ sym (skip-sum cmp value key (drop i es) (drop (i + 1) es) e s is same) ∙ c.loop-entry.invariant.sum;
+            formed = c.loop-entry.invariant.formed ∙ skip-formed cmp value key (drop i es) (drop (i + 1) es) e s is same ∙ ap (λ r. formed_left cmp value key (value_of r) (drop (i + 1) es)) (sym w.sum-is);
           }
-      | else-ne w ↦
-          let same : is_eq (var_cmp e.0 v) ≡ true = search rules in
+      | in_default+in_ok-sum-in_default w ↦
+          let apart : is_eq (cmp e.0 key) ≡ false = ap is_eq (sym c.cmp.ensures) ∙ not_alike c.cmp.result w.in_default.not-Equal in
+          let next : value_of c.match-cmp.sum ≡ plus s (times (whole e.1) (value e.0)) = ap value_of w.sum-is ∙ w.in_ok-sum-in_default.ensures.value ∙ ap₂ (λ n r. plus s (times (whole n) r)) number w.value_there.ensures in
+          let fit : all_fit (term_formed s e.1 (value e.0)) ≡ true = ap₂ (λ n r. all_fit (term_formed s n r)) (sym number) (sym w.value_there.ensures) ∙ sym w.in_ok-sum-in_default.ensures.refused in
           record {
-            sum = ap (λ r. sum_left value v (value_of r) (drop (i + 1) es)) w.sum-is ∙ sym (skip-sum value v es i no_entry s c.loop-entry-test.true same) ∙ c.loop-entry.invariant.sum;
-            formed = c.loop-entry.invariant.formed ∙ skip-formed value v es i no_entry s c.loop-entry-test.true same ∙ ap (λ r. formed_left value v (value_of r) (drop (i + 1) es)) (sym w.sum-is);
+            sum = sym (take-sum cmp value key (drop i es) (drop (i + 1) es) e s is (value_of c.match-cmp.sum) apart next) ∙ c.loop-entry.invariant.sum;
+            formed = c.loop-entry.invariant.formed ∙ take-formed cmp value key (drop i es) (drop (i + 1) es) e s is (value_of c.match-cmp.sum) apart next fit;
           }
     ]
 
 pub returns-clause-refused : goal.returns-clause-refused
-returns-clause-refused c =
-    let value : Var → Rational = value_in var_cmp (values_in c.args.values.now) in
-    sym (c.loop-entry.invariant.formed ∙ end-formed value c.args.variable c.args.entries.now c.loop-entry.entry-index (value_of c.loop-entry.sum) c.loop-entry-test.false)
+returns-clause-refused g c =
+    sym (c.loop-entry.invariant.formed ∙ end-formed g.K.Ord.cmp (value_in g.K.Ord.cmp (values_in c.args.values.now)) c.args.key c.args.numbers.now c.loop-entry.entry-index (value_of c.loop-entry.sum) c.loop-entry-test.false)
