@@ -15,5 +15,7 @@ pub mod EliminationLaws
 pub mod FormLaws
 pub mod LeftLaws
 pub mod ReadyLaws
+pub mod SolvedLaws
 pub mod LiftedLaws
+pub mod ValueSteps
 pub mod LiftingSteps

@@ -1,33 +1,29 @@
 -- Values that are carried back meet the definitions, over whatever number they are written, and then all named rows.
-use Rattle.std.proofs.Common.{◌≡◌, ℕ, ◌<◌, ℤ, pos, neg_ℤ, ◌+ℤ◌, ◌-ℤ◌, ◌*ℤ◌, Bool, true, false, not, List, [], ◌∷◌, inl, inr, length, refl, sym, ap, ap₂, ◌∙◌, subst, arith, if◌then◌else◌}
+use Rattle.std.proofs.Common.{◌≡◌, ℕ, ◌<◌, ℤ, pos, ◌+ℤ◌, ◌*ℤ◌, true, false, not, List, [], ◌∷◌, inl, inr, length, refl, sym, ap, ap₂, ◌∙◌, subst, arith, if◌then◌else◌}
 use Rattle.std.specs.Prelude.{Option, Some, None, ⊤, ◌<ℤ◌, ◌≤ℤ◌, int_le}
 use Rattle.std.specs.BTreeMap.{insert_entry}
-use Rattle.std.specs.Ordering.{is_eq, int_eq, match_ordering}
-use Rattle.std.specs.declared.cmp.Ordering.{Ordering}
-use Rattle.std.specs.declared.cmp.Ordering.TheVariants.{Less, Equal as Alike, Greater}
+use Rattle.std.specs.Ordering.{is_eq, int_eq}
 use Rattle.std.proofs.lemmas.Int.{ints}
 use Rattle.std.proofs.lemmas.Bool.Decides.{nat_tests}
-use Rattle.exact_num.specs.Rational.{Rational, whole, plus, minus, times, negated, divided}
+use Rattle.exact_num.specs.Rational.{Rational}
 use Rattle.exact_num.specs.Value.{value_of}
 use Rattle.exact_num.specs.declared.fraction.Frac.{Frac}
-use Rattle.exact_num.proofs.Integers.{*ℤ_pos, *ℤ_nonnegative, *ℤ_cancel, nonzero_of_pos}
-use Rattle.exact_num.proofs.RationalLaws.{minus-is_plus}
-use Rattle.exact_num.proofs.Ring.{ring, products, zero-+ℤ, zero-*ℤ, *ℤ-zero, *ℤ_comm}
+use Rattle.exact_num.proofs.Integers.{*ℤ_nonnegative}
+use Rattle.exact_num.proofs.Ring.{zero-*ℤ, *ℤ-zero, *ℤ_comm}
 use Rattle.row_core.specs.declared.Row.{Row}
 use Rattle.row_core.specs.declared.Sense.{Sense}
 use Rattle.row_core.specs.declared.Sense.TheVariants.{Least, Equal, Most}
 use Rattle.row_core.specs.declared.Var.{Var}
-use Rattle.row_core.specs.Evaluated.{sum_from, AreOver}
-use Rattle.row_core.specs.LookUps.{value_at}
+use Rattle.row_core.specs.Evaluated.{AreOver}
 use Rattle.row_core.specs.Order.{var_cmp}
-use Rattle.row_core.specs.Plans.{or_zero, value_in}
+use Rattle.row_core.specs.Plans.{value_in}
 use Rattle.row_core.specs.Rows.{row_sum, RowHolds}
 use Rattle.row_core.specs.Statements.{Stands, stands}
 use Rattle.row_core.specs.Values.{IsOver, alone}
 use Rattle.row_core.proofs.AscendingLaws.{both_passed}
 use Rattle.row_core.proofs.MeaningLaws.{row_sum-alone, Stands-times}
-use Rattle.row_core.proofs.Orders.{var_cmp_exact}
-use Rattle.row_core.proofs.SumLaws.{IsOver-agree, IsOver-lowest, IsOver-plus, IsOver-times, IsOver-negated, IsOver-own, IsOver-whole, IsOver-zero}
+use Rattle.row_core.proofs.Orders.{var_cmp_exact, var_cmp_total}
+use Rattle.row_core.proofs.SumLaws.{IsOver-agree}
 use Rattle.written_method.specs.Definitions.{Definition, definitions_of, others_of, rows_of, defined, is_among, own_of, avoids, AreTriangular}
 use Rattle.written_method.specs.Eliminated.{other_entries, has_entries}
 use Rattle.written_method.specs.Lifted.{lifted_value, lifted, right_side, no_right_side}
@@ -35,44 +31,13 @@ use Rattle.variable_elimination.specs.Left.{AvoidAll}
 use Rattle.variable_elimination.specs.Lifts.{AllStand, right_times, right_zero, KeepsOthers, CarriesPlan, CarriesDirection, MakesRight}
 use Rattle.variable_elimination.specs.Meaning.{excess, AreMet, KeepSigns}
 use Rattle.variable_elimination.specs.ReducedRows.{AreReductions}
+use Rattle.variable_elimination.proofs.SolvedLaws.{sum_of, row_sum-is, AreOverAt, split_at, solved-meets}
+use Rattle.variable_elimination.proofs.ValueSteps.{value_in-insert}
 use Rattle.variable_elimination.proofs.LiftLaws.{alike, from_not, neither, row_sum-avoids, row_sum-times, at_most, product_down, lifted_signs}
 use Rattle.variable_elimination.proofs.ReductionLaws.{reduced_says, lifted_holds}
-use Rattle.variable_elimination.proofs.VariableLaws.{itself, turned}
+use Rattle.variable_elimination.proofs.VariableLaws.{itself}
 
--- ---- one value more
-
--- the value that was put in is found at its variable, and any other at its own
-pub value_in-insert : (values : List (Var × Rational)) (v : Var) (r : Rational) (w : Var) → value_in var_cmp (insert_entry var_cmp values v r) w ≡ (if is_eq (var_cmp w v) then r else value_in var_cmp values w)
-value_in-insert [] v r w = cases (is_eq (var_cmp v w)) (turned v w)
-  where
-    cases : (t : Bool) → t ≡ is_eq (var_cmp w v) → or_zero (if t then Some r else None) ≡ (if is_eq (var_cmp w v) then r else whole (pos 0))
-    cases true is = ap (λ t. if t then r else whole (pos 0)) is
-    cases false is = ap (λ t. if t then r else whole (pos 0)) is
-value_in-insert (e ∷ es) v r w = cases (var_cmp v e.0) refl (value_in-insert es v r w)
-  where
-    front : (t u : Bool) → t ≡ u → or_zero (if t then Some r else value_at var_cmp (e ∷ es) w) ≡ (if u then r else value_in var_cmp (e ∷ es) w)
-    front true u is = ap (λ t. if t then r else value_in var_cmp (e ∷ es) w) is
-    front false u is = ap (λ t. if t then r else value_in var_cmp (e ∷ es) w) is
-
-    same : (t : Bool) → or_zero (if t then Some r else value_at var_cmp es w) ≡ (if t then r else or_zero (if t then Some e.1 else value_at var_cmp es w))
-    same true = refl
-    same false = refl
-
-    behind : (t : Bool) → is_eq (var_cmp e.0 w) ≡ t → var_cmp v e.0 ≡ Greater → value_in var_cmp (insert_entry var_cmp es v r) w ≡ (if is_eq (var_cmp w v) then r else value_in var_cmp es w)
-        → or_zero (if t then Some e.1 else value_at var_cmp (insert_entry var_cmp es v r) w) ≡ (if is_eq (var_cmp w v) then r else or_zero (if t then Some e.1 else value_at var_cmp es w))
-    behind true is k rest =
-        let there : e.0 ≡ w = var_cmp_exact e.0 w (alike (var_cmp e.0 w) is) in
-        let apart : is_eq (var_cmp w v) ≡ false = turned w v ∙ ap (λ u. is_eq (var_cmp v u)) (sym there) ∙ ap is_eq k in
-        sym (ap (λ t. if t then r else e.1) apart)
-    behind false is k rest = rest
-
-    cases : (o : Ordering) → var_cmp v e.0 ≡ o → value_in var_cmp (insert_entry var_cmp es v r) w ≡ (if is_eq (var_cmp w v) then r else value_in var_cmp es w)
-        → value_in var_cmp (match_ordering o ((v, r) ∷ e ∷ es) ((e.0, r) ∷ es) (e ∷ insert_entry var_cmp es v r)) w ≡ (if is_eq (var_cmp w v) then r else value_in var_cmp (e ∷ es) w)
-    cases Less is rest = front (is_eq (var_cmp v w)) (is_eq (var_cmp w v)) (turned v w)
-    cases Alike is rest =
-        let there : v ≡ e.0 = var_cmp_exact v e.0 is in
-        same (is_eq (var_cmp e.0 w)) ∙ ap (λ t. if t then r else value_in var_cmp (e ∷ es) w) (ap (λ u. is_eq (var_cmp u w)) (sym there) ∙ turned v w)
-    cases Greater is rest = behind (is_eq (var_cmp e.0 w)) refl is rest
+-- ---- values of other variables
 
 -- variables that aren't defined keep their values
 pub lifted-others : (right : Definition → ℤ) (ds : List Definition) (values : List (Var × Rational)) → KeepsOthers (defined ds) values (lifted right ds values)
@@ -80,96 +45,31 @@ lifted-others right [] values w h = refl
 lifted-others right (d ∷ ds) values w h =
     let parts = neither (is_eq (var_cmp w d.variable)) (is_among (defined ds) w) h in
     lifted-others right ds (insert_entry var_cmp values d.variable (lifted_value right (value_in var_cmp values) d)) w parts.1
-    ∙ value_in-insert values d.variable (lifted_value right (value_in var_cmp values) d) w
+    ∙ value_in-insert var_cmp var_cmp_total values d.variable (lifted_value right (value_in var_cmp values) d) w
     ∙ ap (λ t. if t then lifted_value right (value_in var_cmp values) d else value_in var_cmp values w) parts.0
 
 -- ---- one definition
 
+exactly : (v w : Var) → is_eq (var_cmp v w) ≡ true → v ≡ w
+exactly v w h = var_cmp_exact v w (alike (var_cmp v w) h)
+
 -- a row's sum is the variable's part and the others
-pub split : (z : Var → ℤ) (v : Var) (es : List (Var × ℤ)) → row_sum z es ≡ (row_sum (alone v) es *ℤ z v) +ℤ row_sum z (other_entries v es)
-split z v [] = omega (arith, ints)
-split z v (e ∷ es) = cases (split z v es) (is_eq (var_cmp e.0 v)) refl
-  where
-    here : (n a y r : ℤ) → (n *ℤ y) +ℤ ((a *ℤ y) +ℤ r) ≡ (((n *ℤ pos 1) +ℤ a) *ℤ y) +ℤ r
-    here n a y r = simp ring
+pub split : (z : Var → ℤ) (v : Var) (es : List (Var × ℤ)) → row_sum z es ≡ (row_sum (alone v) es *ℤ z v) +ℤ row_sum z (other_entries var_cmp v es)
+split z v es = row_sum-is z es ∙ split_at var_cmp exactly z v es ∙ ap₂ (λ a b. (a *ℤ z v) +ℤ b) (sym (row_sum-is (alone v) es)) (sym (row_sum-is z (other_entries var_cmp v es)))
 
-    there : (n x a y r : ℤ) → (n *ℤ x) +ℤ ((a *ℤ y) +ℤ r) ≡ (((n *ℤ pos 0) +ℤ a) *ℤ y) +ℤ ((n *ℤ x) +ℤ r)
-    there n x a y r = simp ring
-
-    cases : row_sum z es ≡ (row_sum (alone v) es *ℤ z v) +ℤ row_sum z (other_entries v es) → (t : Bool) → is_eq (var_cmp e.0 v) ≡ t
-        → (e.1 *ℤ z e.0) +ℤ row_sum z es ≡ (((e.1 *ℤ (if t then pos 1 else pos 0)) +ℤ row_sum (alone v) es) *ℤ z v) +ℤ row_sum z (if t then other_entries v es else (e ∷ other_entries v es))
-    cases rest true is = ap₂ (λ w s. (e.1 *ℤ z w) +ℤ s) (var_cmp_exact e.0 v (alike (var_cmp e.0 v) is)) rest ∙ here e.1 (row_sum (alone v) es) (z v) (row_sum z (other_entries v es))
-    cases rest false is = ap (λ s. (e.1 *ℤ z e.0) +ℤ s) rest ∙ there e.1 (z e.0) (row_sum (alone v) es) (z v) (row_sum z (other_entries v es))
-
-term-IsOver : (q n : ℤ) (z : ℤ) (r : Rational) → IsOver q r z → IsOver q (times (whole n) r) (n *ℤ z)
-term-IsOver q n z r h = subst (λ s. IsOver s (times (whole n) r) (n *ℤ z)) (one q) (IsOver-times (pos 1) q (whole n) r n z (IsOver-own (whole n) (omega (arith, ints))) h)
-  where
-    one : (q : ℤ) → pos 1 *ℤ q ≡ q
-    one q = simp ring
-
--- the sum of the others, over the plan's number
-others-IsOver : (q : ℤ) (z : Var → ℤ) (value : Var → Rational) (later : List Var) (v : Var) (s : Rational) (t : ℤ) (es : List (Var × ℤ)) → avoids later es ≡ true
-    → ((w : Var) → is_among later w ≡ false → is_eq (var_cmp w v) ≡ false → IsOver q (value w) (z w)) → IsOver q s t → IsOver q (sum_from value s (other_entries v es)) (t +ℤ row_sum z (other_entries v es))
-others-IsOver q z value later v s t [] h over k = subst (λ y. IsOver q s y) (plus_zero t) k
-  where
-    plus_zero : (y : ℤ) → y ≡ y +ℤ pos 0
-    plus_zero y = omega (arith, ints)
-others-IsOver q z value later v s t (e ∷ es) h over k =
-    cases
-    (others-IsOver q z value later v s t es parts.1 over k)
-    (λ first. others-IsOver q z value later v (plus s (times (whole e.1) (value e.0))) (t +ℤ (e.1 *ℤ z e.0)) es parts.1 over (IsOver-plus q s (times (whole e.1) (value e.0)) t (e.1 *ℤ z e.0) k (term-IsOver q e.1 (z e.0) (value e.0) first)))
-    (is_eq (var_cmp e.0 v)) refl
-  where
-    parts : (not (is_among later e.0) ≡ true) × (avoids later es ≡ true)
-    parts = both_passed (not (is_among later e.0)) (avoids later es) h
-
-    assoc : (a b c : ℤ) → (a +ℤ b) +ℤ c ≡ a +ℤ (b +ℤ c)
-    assoc a b c = omega (arith, ints)
-
-    cases : IsOver q (sum_from value s (other_entries v es)) (t +ℤ row_sum z (other_entries v es))
-        → (IsOver q (value e.0) (z e.0) → IsOver q (sum_from value (plus s (times (whole e.1) (value e.0))) (other_entries v es)) ((t +ℤ (e.1 *ℤ z e.0)) +ℤ row_sum z (other_entries v es)))
-        → (b : Bool) → is_eq (var_cmp e.0 v) ≡ b → IsOver q (sum_from value s (if b then other_entries v es else (e ∷ other_entries v es))) (t +ℤ row_sum z (if b then other_entries v es else (e ∷ other_entries v es)))
-    cases skipped more true is = skipped
-    cases skipped more false is =
-        subst (λ y. IsOver q (sum_from value (plus s (times (whole e.1) (value e.0))) (other_entries v es)) y) (assoc t (e.1 *ℤ z e.0) (row_sum z (other_entries v es)))
-        (more (over e.0 (from_not (is_among later e.0) parts.0) is))
-
-plus-less : (a b : ℤ) → a +ℤ neg_ℤ b ≡ a -ℤ b
-plus-less a b = omega (arith, ints)
-
--- a quotient by a positive whole number, over the plan's number times that one
-divided-IsOver : (q own : ℤ) (a : Rational) (y : ℤ) → pos 0 <ℤ own → IsOver q a y → IsOver (q *ℤ own) (divided a (whole own)) y
-unfolding divided
-divided-IsOver q own a y h k =
-    IsOver-lowest (q *ℤ own) (a.top *ℤ pos 1) (a.bottom *ℤ own) y (*ℤ_pos a.bottom own k.positive h) (first y a.bottom own ∙ ap (λ z. z *ℤ own) k.cross ∙ second a.top q own)
-  where
-    first : (y b own : ℤ) → y *ℤ (b *ℤ own) ≡ (y *ℤ b) *ℤ own
-    first y b own = simp products
-
-    second : (t q own : ℤ) → (t *ℤ q) *ℤ own ≡ (t *ℤ pos 1) *ℤ (q *ℤ own)
-    second t q own = simp ring
+over_at : (q : ℤ) (value : Var → Rational) (z : Var → ℤ) (later : List Var) (v : Var) (es : List (Var × ℤ)) → avoids later es ≡ true → ((w : Var) → is_among later w ≡ false → is_eq (var_cmp w v) ≡ false → IsOver q (value w) (z w)) → AreOverAt var_cmp q value z v es
+over_at q value z later v [] h over = tt
+over_at q value z later v (e ∷ es) h over =
+    let parts = both_passed (not (is_among later e.0)) (avoids later es) h in
+    (over e.0 (from_not (is_among later e.0) parts.0), over_at q value z later v es parts.1 over)
 
 -- the definition is met where its variable has the value that it gives
 value-meets : (right : ℤ) (d : Definition) (later : List Var) (value : Var → Rational) (p : ℤ) (z : Var → ℤ) → pos 0 <ℤ p → pos 0 <ℤ own_of d → avoids later d.row.entries.items ≡ true
     → ((w : Var) → is_among later w ≡ false → is_eq (var_cmp w d.variable) ≡ false → IsOver p (value w) (z w)) → IsOver p (lifted_value (λ e. right) value d) (z d.variable) → row_sum z d.row.entries.items ≡ right *ℤ p
 value-meets right d later value p z hp hown apart over here =
     let es = d.row.entries.items in
-    let v = d.variable in
-    let own : ℤ = own_of d in
-    let rest : ℤ = row_sum z (other_entries v es) in
-    let s : Rational = sum_from value (whole (pos 0)) (other_entries v es) in
-    let sum : IsOver p s rest = subst (λ y. IsOver p s y) (zero-+ℤ rest) (others-IsOver p z value later v (whole (pos 0)) (pos 0) es apart over (IsOver-zero p)) in
-    let left : IsOver p (minus (whole right) s) ((right *ℤ p) -ℤ rest) =
-    subst (λ r. IsOver p r ((right *ℤ p) -ℤ rest)) (sym (minus-is_plus (whole right) s))
-    (subst (λ y. IsOver p (plus (whole right) (negated s)) y) (plus-less (right *ℤ p) rest) (IsOver-plus p (whole right) (negated s) (right *ℤ p) (neg_ℤ rest) (IsOver-whole p right) (IsOver-negated p s rest sum))) in
-    let whole_own : IsOver (p *ℤ own) (lifted_value (λ e. right) value d) ((right *ℤ p) -ℤ rest) = divided-IsOver p own (minus (whole right) s) ((right *ℤ p) -ℤ rest) hown left in
-    let agree : ((right *ℤ p) -ℤ rest) *ℤ p ≡ z v *ℤ (p *ℤ own) = IsOver-agree (p *ℤ own) p (lifted_value (λ e. right) value d) ((right *ℤ p) -ℤ rest) (z v) whole_own here in
-    let same : (right *ℤ p) -ℤ rest ≡ own *ℤ z v = *ℤ_cancel ((right *ℤ p) -ℤ rest) (own *ℤ z v) p (nonzero_of_pos p hp) (agree ∙ turned_round (z v) p own) in
-    let parts : row_sum z es ≡ (own *ℤ z v) +ℤ rest = split z v es ∙ ap (λ y. (y *ℤ z v) +ℤ rest) (row_sum-alone v es d.row.ascending) in
-    omega (arith, ints)
-  where
-    turned_round : (y p own : ℤ) → y *ℤ (p *ℤ own) ≡ (own *ℤ y) *ℤ p
-    turned_round y p own = simp products
+    let own : own_of d ≡ sum_of (alone d.variable) es = sym (row_sum-alone d.variable es d.row.ascending) ∙ row_sum-is (alone d.variable) es in
+    row_sum-is z es ∙ solved-meets var_cmp exactly right p z value d.variable es (own_of d) hp hown own (over_at p value z later d.variable es apart over) here
 
 -- ---- all definitions
 
@@ -194,12 +94,12 @@ lifted_meet right (d ∷ ds) values p z hp h over = (
 
     elsewhere : (w : Var) → is_among (defined ds) w ≡ false → is_eq (var_cmp w d.variable) ≡ false → IsOver p (value_in var_cmp values w) (z w)
     elsewhere w k l =
-        subst (λ r. IsOver p r (z w)) (lifted-others right ds next w k ∙ value_in-insert values d.variable made w ∙ ap (λ t. if t then made else value_in var_cmp values w) l) (over w)
+        subst (λ r. IsOver p r (z w)) (lifted-others right ds next w k ∙ value_in-insert var_cmp var_cmp_total values d.variable made w ∙ ap (λ t. if t then made else value_in var_cmp values w) l) (over w)
 
     here : IsOver p made (z d.variable)
     here =
         subst (λ r. IsOver p r (z d.variable))
-        (lifted-others right ds next d.variable (from_not (is_among (defined ds) d.variable) h.2) ∙ value_in-insert values d.variable made d.variable
+        (lifted-others right ds next d.variable (from_not (is_among (defined ds) d.variable) h.2) ∙ value_in-insert var_cmp var_cmp_total values d.variable made d.variable
         ∙ ap (λ o. if is_eq o then made else value_in var_cmp values d.variable) (itself d.variable))
         (over d.variable)
 

@@ -235,55 +235,55 @@ cost_only columns rows defs same = (
 
 -- ---- the entries of the cost, without its own variable
 
-pub others_avoid : (vars : List Var) (v : Var) (es : List (Var × ℤ)) → avoids vars es ≡ true → avoids vars (other_entries v es) ≡ true
+pub others_avoid : (vars : List Var) (v : Var) (es : List (Var × ℤ)) → avoids vars es ≡ true → avoids vars (other_entries var_cmp v es) ≡ true
 others_avoid vars v [] h = refl
 others_avoid vars v (e ∷ es) h = cases (is_eq (var_cmp e.0 v)) (others_avoid vars v es parts.1)
   where
     parts : (not (is_among vars e.0) ≡ true) × (avoids vars es ≡ true)
     parts = both_passed (not (is_among vars e.0)) (avoids vars es) h
 
-    cases : (t : Bool) → avoids vars (other_entries v es) ≡ true → avoids vars (if t then other_entries v es else (e ∷ other_entries v es)) ≡ true
+    cases : (t : Bool) → avoids vars (other_entries var_cmp v es) ≡ true → avoids vars (if t then other_entries var_cmp v es else (e ∷ other_entries var_cmp v es)) ≡ true
     cases true rest = rest
     cases false rest = both_true parts.0 rest
 
-before_others : (w v : Var) (es : List (Var × ℤ)) → ascends var_cmp (w ∷ variables_of es) ≡ true → before_first var_cmp w (variables_of (other_entries v es)) ≡ true
+before_others : (w v : Var) (es : List (Var × ℤ)) → ascends var_cmp (w ∷ variables_of es) ≡ true → before_first var_cmp w (variables_of (other_entries var_cmp v es)) ≡ true
 before_others w v [] h = refl
 before_others w v (e ∷ es) h = cases (is_eq (var_cmp e.0 v)) (before_others w v es (ascends-skip var_cmp var_cmp_total w e.0 (variables_of es) h))
   where
-    cases : (t : Bool) → before_first var_cmp w (variables_of (other_entries v es)) ≡ true → before_first var_cmp w (variables_of (if t then other_entries v es else (e ∷ other_entries v es))) ≡ true
+    cases : (t : Bool) → before_first var_cmp w (variables_of (other_entries var_cmp v es)) ≡ true → before_first var_cmp w (variables_of (if t then other_entries var_cmp v es else (e ∷ other_entries var_cmp v es))) ≡ true
     cases true rest = rest
     cases false rest = (both_passed (is_lt (var_cmp w e.0)) (ascends var_cmp (e.0 ∷ variables_of es)) h).0
 
-pub others_ascend : (v : Var) (es : List (Var × ℤ)) → Ascends es → Ascends (other_entries v es)
+pub others_ascend : (v : Var) (es : List (Var × ℤ)) → Ascends es → Ascends (other_entries var_cmp v es)
 others_ascend v [] h = refl
 others_ascend v (e ∷ es) h = cases (is_eq (var_cmp e.0 v)) (others_ascend v es parts.1)
   where
     parts : (before_first var_cmp e.0 (variables_of es) ≡ true) × Ascends es
     parts = both_passed (before_first var_cmp e.0 (variables_of es)) (ascends var_cmp (variables_of es)) h
 
-    cases : (t : Bool) → Ascends (other_entries v es) → Ascends (if t then other_entries v es else (e ∷ other_entries v es))
+    cases : (t : Bool) → Ascends (other_entries var_cmp v es) → Ascends (if t then other_entries var_cmp v es else (e ∷ other_entries var_cmp v es))
     cases true rest = rest
     cases false rest = both_true (before_others e.0 v es h) rest
 
-pub others_fit : (v : Var) (es : List (Var × ℤ)) → all_fit (numbers_of es) ≡ true → all_fit (numbers_of (other_entries v es)) ≡ true
+pub others_fit : (v : Var) (es : List (Var × ℤ)) → all_fit (numbers_of es) ≡ true → all_fit (numbers_of (other_entries var_cmp v es)) ≡ true
 others_fit v [] h = h
 others_fit v (e ∷ es) h = cases (is_eq (var_cmp e.0 v)) (others_fit v es parts.1)
   where
     parts : (in_range e.1 ≡ true) × (all_fit (numbers_of es) ≡ true)
     parts = both_passed (in_range e.1) (all_fit (numbers_of es)) (sym (all_fit-cons e.1 (numbers_of es)) ∙ h)
 
-    cases : (t : Bool) → all_fit (numbers_of (other_entries v es)) ≡ true → all_fit (numbers_of (if t then other_entries v es else (e ∷ other_entries v es))) ≡ true
+    cases : (t : Bool) → all_fit (numbers_of (other_entries var_cmp v es)) ≡ true → all_fit (numbers_of (if t then other_entries var_cmp v es else (e ∷ other_entries var_cmp v es))) ≡ true
     cases true rest = rest
-    cases false rest = all_fit-cons e.1 (numbers_of (other_entries v es)) ∙ both_true parts.0 rest
+    cases false rest = all_fit-cons e.1 (numbers_of (other_entries var_cmp v es)) ∙ both_true parts.0 rest
 
-pub others_among : (vars columns : List Var) (es : List (Var × ℤ)) → avoids vars es ≡ true → HaveOnly (IsColumnOrCost vars columns) es → AreAmong columns (other_entries cost_variable es)
+pub others_among : (vars columns : List Var) (es : List (Var × ℤ)) → avoids vars es ≡ true → HaveOnly (IsColumnOrCost vars columns) es → AreAmong columns (other_entries var_cmp cost_variable es)
 others_among vars columns [] h k = tt
 others_among vars columns (e ∷ es) h k = cases (is_eq (var_cmp e.0 cost_variable)) refl (others_among vars columns es parts.1 k.1)
   where
     parts : (not (is_among vars e.0) ≡ true) × (avoids vars es ≡ true)
     parts = both_passed (not (is_among vars e.0)) (avoids vars es) h
 
-    cases : (t : Bool) → is_eq (var_cmp e.0 cost_variable) ≡ t → AreAmong columns (other_entries cost_variable es) → AreAmong columns (if t then other_entries cost_variable es else (e ∷ other_entries cost_variable es))
+    cases : (t : Bool) → is_eq (var_cmp e.0 cost_variable) ≡ t → AreAmong columns (other_entries var_cmp cost_variable es) → AreAmong columns (if t then other_entries var_cmp cost_variable es else (e ∷ other_entries var_cmp cost_variable es))
     cases true is rest = rest
     cases false is rest = (k.0 is (from_not (is_among vars e.0) parts.0), rest)
 

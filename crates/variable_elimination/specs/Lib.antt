@@ -7,5 +7,6 @@ pub mod ReducedRows
 pub mod CostRows
 pub mod Columns
 pub mod Left
+pub mod Valued
 pub mod Lifting
 pub mod Lifts

@@ -1,5 +1,5 @@
 -- Values as the code keeps them, and what holds before the definitions that are left.
-use Rattle.std.specs.Prelude.{◌≡◌, ℤ, List, map}
+use Rattle.std.specs.Prelude.{◌≡◌, ℤ, List}
 use Rattle.std.specs.BTreeMap.{BTreeMap}
 use Rattle.exact_num.specs.Rational.{Rational}
 use Rattle.exact_num.specs.Steps.{first_wide}
@@ -8,9 +8,9 @@ use Rattle.row_core.specs.declared.Row.{Row}
 use Rattle.row_core.specs.declared.Var.{Var}
 use Rattle.row_core.specs.declared.place.Place.{Place}
 use Rattle.row_core.specs.declared.place.Place.TheVariants.{LiftPlan, LiftDirection}
-use Rattle.row_core.specs.Plans.{valued}
 use Rattle.written_method.specs.Definitions.{Definition}
 use Rattle.written_method.specs.Lifted.{lifted, lifted_steps, right_side, no_right_side}
+use Rattle.variable_elimination.specs.Valued.{values_in}
 use Rattle.variable_elimination.specs.declared.lifting.Lift.{Lift}
 use Rattle.variable_elimination.specs.declared.lifting.Lift.TheVariants.{Plan, Direction}
 
@@ -25,10 +25,6 @@ place_by Direction = LiftDirection
 
 abbrev pub definition_by : Row → Var → Definition
 definition_by row v = record { row = row; variable = v }
-
--- the variables with the values of their fractions
-abbrev pub values_in : BTreeMap Var Frac → List (Var × Rational)
-values_in values = map valued values.entries
 
 -- what all definitions make and form is what those that are left make and form
 pub record IsLifting (goal : Lift) (all rest : List Definition) (values : List (Var × Rational)) (now : BTreeMap Var Frac) : Type 0 where

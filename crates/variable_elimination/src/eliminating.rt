@@ -4,6 +4,7 @@ ghost use Rattle.std.specs.Prelude.{◌≡◌, [], pos, ◌<ℤ◌, ◌+◌, ◌
 ghost use Rattle.exact_num.specs.Steps.{first_wide};
 ghost use Rattle.row_core.specs.declared.place.Stopped.TheVariants.{Memory};
 ghost use Rattle.row_core.specs.Forms.{form_of};
+ghost use Rattle.row_core.specs.Order.{var_cmp};
 ghost use Rattle.written_method.specs.Definitions.{definitions_of, others_of, rows_of, defined, AreTriangular};
 ghost use Rattle.written_method.specs.Eliminated.{expanded_all, reduced_rows, cost_variable, cost_row, other_entries, elimination_steps};
 ghost use Rattle.written_method.specs.Ready.{IsReady};
@@ -91,7 +92,7 @@ fn other_entries(
     entries: &[(Var, i128)],
     variable: Var,
 ) -> Result<Vec<(Var, i128)>, AllocError>
-    ensures { IfOk result (λ others. others.items ≡ other_entries variable entries.now) }
+    ensures { IfOk result (λ others. others.items ≡ other_entries var_cmp variable entries.now) }
 {
     let mut others = Vec::with_capacity(alloc, entries.len())?;
     for entry in entries {

@@ -8,6 +8,7 @@ mod eliminating;
 mod expanding;
 mod lifting;
 mod reducing;
+mod values;
 
 pub use eliminating::eliminate;
 pub use lifting::{lift_direction, lift_plan};

@@ -1,35 +1,32 @@
 //! Values of the columns carried back to the defined variables.
 
 ghost use Rattle.std.specs.Prelude.{◌≡◌, pos, ◌<ℤ◌, true, None, length, is_ok, List, IfOk, IfErr, OnOk};
-ghost use Rattle.std.specs.BTreeMap.{insert_entry, IsOrdered};
+ghost use Rattle.std.specs.BTreeMap.{insert_entry};
 ghost use Rattle.exact_num.specs.Range.{InRange, all_fit};
-ghost use Rattle.exact_num.specs.Rational.{whole};
 ghost use Rattle.exact_num.specs.Steps.{first_wide};
 ghost use Rattle.exact_num.specs.Value.{value_of};
 ghost use Rattle.exact_num.specs.declared.fraction.Frac.{Frac};
 ghost use Rattle.row_core.specs.declared.Row.{Row};
 ghost use Rattle.row_core.specs.declared.Var.{Var};
 ghost use Rattle.row_core.specs.declared.place.Place.TheVariants.{LiftPlan, LiftDirection};
-ghost use Rattle.row_core.specs.declared.place.Stopped.TheVariants.{Memory};
-ghost use Rattle.row_core.specs.Evaluated.{sum_from, sum_from_formed};
-ghost use Rattle.row_core.specs.Numbers.{numbers_of};
 ghost use Rattle.row_core.specs.Order.{var_cmp};
 ghost use Rattle.row_core.specs.Plans.{value_in};
 ghost use Rattle.row_core.specs.Rows.{number_at};
 ghost use Rattle.row_core.specs.Stops.{IsStop};
 ghost use Rattle.written_method.specs.Definitions.{Definition, definitions_of, others_of, rows_of, defined, is_among, AreTriangular};
-ghost use Rattle.written_method.specs.Eliminated.{other_entries};
 ghost use Rattle.written_method.specs.Lifted.{lifted, lifted_steps, lifted_value, lifted_formed, right_side, no_right_side};
 ghost use Rattle.variable_elimination.specs.Left.{AvoidAll};
-ghost use Rattle.variable_elimination.specs.Lifting.{right_by, place_by, values_in, definition_by};
+ghost use Rattle.variable_elimination.specs.Lifting.{right_by, place_by, definition_by};
+ghost use Rattle.variable_elimination.specs.Valued.{values_in};
 ghost use Rattle.variable_elimination.specs.Lifts.{CarriesPlan, CarriesDirection, KeepsOthers, MakesRight};
 ghost use Rattle.variable_elimination.specs.Meaning.{KeepSigns};
 ghost use Rattle.variable_elimination.specs.ReducedRows.{AreReductions};
 ghost use Rattle.variable_elimination.specs.SoFar.{IsFirst};
 
-use exact_num::{Frac, TooWide, div, sub};
-use row_core::{Place, Plan, Row, Stopped, Var, add_term, fraction, number_of};
-use std::alloc::{AllocError, Global};
+use crate::values::{by_key, entries_of, solved_for};
+use exact_num::{Frac, TooWide};
+use row_core::{Place, Plan, Row, Stopped, Var, number_of};
+use std::alloc::Global;
 use std::collections::BTreeMap;
 
 /// What is carried back.
@@ -100,14 +97,14 @@ fn lift_values(
     ensures fits { OnOk result (first_wide (lifted_steps (right_by goal) (place_by goal) (definitions_of rows.now defs.now) values.now) ≡ None) }
     ensures stopped { IfErr result (IsFirst (first_wide (lifted_steps (right_by goal) (place_by goal) (definitions_of rows.now defs.now) values.now))) }
 {
-    let mut lifted = by_variable(alloc, values)?;
+    let mut lifted = by_key(alloc, values.entries())?;
     for (i, row) in rows.iter().enumerate() {
         if let Some(variable) = defs[i] {
             push_value(row, variable, goal, &mut lifted)?;
         }
     }
-    let plan = plan_of(alloc, &lifted)?;
-    Ok(plan)
+    let entries = entries_of(alloc, &lifted)?;
+    Ok(Plan::of(entries))
 }
 
 /// Adds the value of a defined variable.
@@ -141,38 +138,8 @@ fn lifted_value(
     ensures refused { is_ok result ≡ all_fit (lifted_formed (right_by goal) (value_in var_cmp (values_in values.now)) (definition_by row.now variable)) }
     ensures value { IfOk result (λ value. value_of value ≡ lifted_value (right_by goal) (value_in var_cmp (values_in values.now)) (definition_by row.now variable)) }
 {
-    let sum = other_sum(&row.entries, variable, values)?;
-    let rest = sub(fraction(right_of(row, goal)), sum)?;
-    div(rest, fraction(number_of(&row.entries, variable)))
-}
-
-/// The sum of the entries but the variable's own, times their values.
-fn other_sum(
-    entries: &[(Var, i128)],
-    variable: Var,
-    values: &BTreeMap<Var, Frac>,
-) -> Result<Frac, TooWide>
-    requires { all_fit (numbers_of entries.now) ≡ true }
-    ensures refused { is_ok result ≡ all_fit (sum_from_formed (value_in var_cmp (values_in values.now)) (whole (pos 0)) (other_entries variable entries.now)) }
-    ensures value { IfOk result (λ sum. value_of sum ≡ sum_from (value_in var_cmp (values_in values.now)) (whole (pos 0)) (other_entries variable entries.now)) }
-{
-    let mut sum = fraction(0);
-    for entry in entries {
-        if entry.0 != variable {
-            sum = add_term(sum, entry.1, value_there(values, entry.0))?;
-        }
-    }
-    Ok(sum)
-}
-
-/// The value of a variable, 0 where it has none.
-fn value_there(values: &BTreeMap<Var, Frac>, variable: Var) -> Frac
-    ensures { value_of result ≡ value_in var_cmp (values_in values.now) variable }
-{
-    match values.get(&variable) {
-        Some(value) => *value,
-        None => fraction(0),
-    }
+    let own = number_of(&row.entries, variable);
+    solved_for(variable, &row.entries, right_of(row, goal), own, values)
 }
 
 /// The right side that a row has.
@@ -194,36 +161,4 @@ fn place_of(goal: Lift, variable: Var) -> Place
         Lift::Plan => Place::LiftPlan(variable),
         Lift::Direction => Place::LiftDirection(variable),
     }
-}
-
-/// The values of a plan by variable.
-fn by_variable(alloc: Global, plan: &Plan) -> Result<BTreeMap<Var, Frac>, Stopped>
-    ensures same { IfOk result (λ values. values_in values ≡ plan.now) }
-    ensures memory { IfErr result (λ e. e ≡ Memory) }
-{
-    let mut values = BTreeMap::new(alloc);
-    for (variable, value) in plan.entries() {
-        let _ = values.insert(*variable, *value)?;
-    }
-    Ok(values)
-}
-
-/// The plan of values by variable.
-fn plan_of(alloc: Global, values: &BTreeMap<Var, Frac>) -> Result<Plan, AllocError>
-    ensures { IfOk result (λ plan. plan ≡ values_in values.now) }
-{
-    let entries = entries_of(alloc, values)?;
-    Ok(Plan::of(entries))
-}
-
-/// The values in ascending order of variables.
-fn entries_of(alloc: Global, values: &BTreeMap<Var, Frac>) -> Result<Vec<(Var, Frac)>, AllocError>
-    ensures same { IfOk result (λ entries. entries.items ≡ values.now.entries) }
-    ensures ordered { IsOrdered var_cmp values.now }
-{
-    let mut entries = Vec::with_capacity(alloc, values.len())?;
-    for (variable, value) in values {
-        entries.push((*variable, *value))?;
-    }
-    Ok(entries)
 }

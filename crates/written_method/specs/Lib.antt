@@ -1,7 +1,9 @@
 pub mod Definitions
 pub mod Expanded
 pub mod Eliminated
+pub mod SolvedFor
 pub mod Lifted
+pub mod Multiplied
 pub mod Lines
 pub mod Tableaus
 pub mod Choices

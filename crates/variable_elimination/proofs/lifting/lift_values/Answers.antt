@@ -1,19 +1,32 @@
 -- One definition after another.
-use Rattle.std.proofs.Common.{◌≡◌, ◌+◌, ◌∷◌, drop, sym, subst, ◌∙◌}
+use Rattle.std.proofs.Common.{◌≡◌, ◌+◌, List, map, ap, ◌∷◌, drop, sym, subst, ◌∙◌}
 use Rattle.std.specs.Prelude.{None}
 use Rattle.std.proofs.lemmas.Result.{err_from_is_err_and}
 use Rattle.exact_num.specs.Range.{all_fit}
 use Rattle.exact_num.specs.Steps.{first_wide}
+use Rattle.exact_num.specs.declared.fraction.Frac.{Frac}
+use Rattle.row_core.specs.declared.Var.{Var}
 use Rattle.row_core.specs.Order.{var_cmp}
-use Rattle.row_core.specs.Plans.{value_in}
+use Rattle.row_core.specs.Plans.{valued, value_in}
 use Rattle.written_method.specs.Definitions.{definitions_of, AreTriangular}
-use Rattle.written_method.specs.Lifted.{lifted_steps, lifted_formed}
-use Rattle.variable_elimination.specs.Lifting.{right_by, place_by, values_in, definition_by, IsLifting}
+use Rattle.written_method.specs.Lifted.{lifted, lifted_steps, lifted_formed}
+use Rattle.variable_elimination.specs.Lifting.{right_by, place_by, definition_by, IsLifting}
+use Rattle.variable_elimination.specs.Valued.{values_in}
 use Rattle.variable_elimination.proofs.DefinitionSteps.{some-left, none-left, no_definition_left}
 use Rattle.variable_elimination.proofs.GrowthLaws.{IsFirst-from}
 use Rattle.variable_elimination.proofs.LiftingSteps.{IsLifting-next, IsLifting-stop, IsLifting-end}
 use Rattle.variable_elimination.proofs.lifting.lift_values.Goals as goal
 use Rattle.variable_elimination.proofs.lifting.lift_values.Goals.{in-Some+in_ok-push_value, in_default}
+
+pub loop-i-init : goal.loop-i-init
+loop-i-init c =
+    let g = c.args.goal in
+    let all = definitions_of c.args.rows.now c.args.defs.now in
+    let same : values_in c.in_ok-lifted.lifted ≡ c.args.values.now = ap (λ (es : List (Var × Frac)). map valued es) c.in_ok-lifted.ensures.same ∙ c.entries.ensures.values in
+    record {
+      so_far = record { made = ap (lifted (right_by g) all) same; steps = ap (λ vs. first_wide (lifted_steps (right_by g) (place_by g) all vs)) (sym same) };
+      triangular = c.requires.triangular;
+    }
 
 pub push_value-requires : goal.push_value-requires
 push_value-requires c =
@@ -77,6 +90,6 @@ returns-clause-fits c =
 
 pub returns-clause-made : goal.returns-clause-made
 returns-clause-made c =
-    c.in_ok-plan.ensures
+    c.of.ensures ∙ ap (λ (es : List (Var × Frac)). map valued es) c.in_ok-entries.ensures.same
     ∙ (IsLifting-end c.args.goal (definitions_of c.args.rows.now c.args.defs.now) (definitions_of (drop c.loop-i.i c.args.rows.now) (drop c.loop-i.i c.args.defs.now)) c.args.values.now c.loop-i.lifted
     (no_definition_left c.args.rows.now c.args.defs.now c.loop-i.i c.loop-i-test.false) c.loop-i.invariant.so_far).0
