@@ -27,4 +27,3 @@ pub mod Scaled
 pub mod Evaluated
 pub mod LookUps
 pub mod Plans
-pub mod Columns

@@ -18,3 +18,4 @@ pub mod Basis
 pub mod Ends
 pub mod Ready
 pub mod Certificates
+pub mod Columns
