@@ -18,6 +18,9 @@ use std::test::Fail;
 /// twentieth and of the whole, and years with gaps.
 const MODELS: [u64; 6] = [1, 2, 4, 5, 10, 12];
 
+/// Some of these, for the other readings of the data.
+const SOME_MODELS: [u64; 3] = [1, 4, 10];
+
 /// The rows are those of all instances, in order.
 fn assert_names(
     rt: &impl Abort,
@@ -32,9 +35,6 @@ fn assert_names(
     }
     Ok(())
 }
-
-/// The decimal places of written factors, and whether profile 2 holds.
-const READINGS: [(u8, bool); 4] = [(6, false), (9, false), (6, true), (9, true)];
 
 /// The rows of the model of this number say what their equations say. Gives the number of rows of investments that were tested with
 /// plans at which both sides are equal.
@@ -62,7 +62,11 @@ fn assert_model(
         let tested = test_near_plans(rt, alloc, &plain, places, row, &part)?;
         let is_investment = row.name.eq == CC1;
         // Three factors of nine places make the numbers of some investments too long.
-        assert!(rt; tested || is_investment && second && places == 9, "{:?}", row.name);
+        assert!(rt;
+            tested || is_investment && second && places == 9,
+            "{:?}",
+            row.name
+        );
         if tested && is_investment {
             investments = investments.wrapping_add(1);
         }
@@ -70,16 +74,43 @@ fn assert_model(
     Ok(investments)
 }
 
+/// The same of these models; more than two investments are tested so.
+fn assert_models(
+    rt: &impl Abort,
+    alloc: Global,
+    models: &[u64],
+    places: u8,
+    second: bool,
+) -> Result<(), Fail>
+    requires { IsPlaces places }
+{
+    let mut investments: usize = 0;
+    for seed in models {
+        let tested = assert_model(rt, alloc, *seed, places, second)?;
+        investments = investments.wrapping_add(tested);
+    }
+    assert!(rt; investments > 2);
+    Ok(())
+}
+
 #[test]
 fn rows_say_what_the_plain_program_says(rt: HostRuntime) -> Result<(), Fail> {
-    for (places, second) in READINGS.iter() {
-        assert!(&rt; *places == 6 || *places == 9);
-        let mut investments: usize = 0;
-        for seed in MODELS.iter() {
-            let tested = assert_model(&rt, rt.alloc(), *seed, *places, *second)?;
-            investments = investments.wrapping_add(tested);
-        }
-        assert!(&rt; investments > 10, "places {places} profile {second}: {investments}");
-    }
-    Ok(())
+    assert_models(&rt, rt.alloc(), &MODELS, 6, false)
+}
+
+#[test]
+fn rows_of_nine_places_say_the_same(rt: HostRuntime) -> Result<(), Fail> {
+    assert_models(&rt, rt.alloc(), &SOME_MODELS, 9, false)
+}
+
+#[test]
+fn rows_say_the_same_where_investments_are_spread(rt: HostRuntime) -> Result<(), Fail> {
+    assert_models(&rt, rt.alloc(), &SOME_MODELS, 6, true)
+}
+
+#[test]
+fn rows_of_nine_places_say_the_same_where_investments_are_spread(
+    rt: HostRuntime,
+) -> Result<(), Fail> {
+    assert_models(&rt, rt.alloc(), &SOME_MODELS, 9, true)
 }
