@@ -1,11 +1,10 @@
 //! Texts with what their statements say or their first fault, worked by hand from the rules.
 
 use crate::section;
-use mathprog_data::{
-    Blocks, DataFault, Mark, Name, ParamBlock, ReadFail, param_word, read_blocks, set_word,
-};
-use model_sets::param_numbers::{DISCOUNT_RATE_STORAGE, USED_PARAM_COUNT, YEAR_SPLIT};
+use mathprog_data::{Blocks, DataFault, Mark, Name, ParamBlock, ReadFail, read_blocks};
+use model_sets::param_numbers::{DISCOUNT_RATE_IDV, USED_PARAM_COUNT, YEAR_SPLIT};
 use model_sets::set_numbers::{DAILYTIMEBRACKET, REGION, SET_COUNT};
+use model_sets::{param_word, set_word};
 use std::alloc::{AllocError, Global};
 use std::test::Fail;
 
@@ -208,7 +207,7 @@ fn told(alloc: Global, blocks: &Blocks) -> Result<Vec<u8>, AllocError> {
         out.extend_from_slice(b"; ")?;
     }
     for block in &blocks.params {
-        if YEAR_SPLIT <= block.param && block.param <= DISCOUNT_RATE_STORAGE {
+        if YEAR_SPLIT <= block.param && block.param <= DISCOUNT_RATE_IDV {
             out.extend_from_slice(param_word(block.param).as_bytes())?;
         }
         push_param(alloc, &mut out, block)?;

@@ -1,17 +1,18 @@
 //! Small data sections.
 
-use mathprog_data::param_word;
 use model_sets::param_numbers::USED_PARAM_COUNT;
+use model_sets::param_word;
 use std::alloc::{AllocError, Global};
 
-/// A default for each used parameter, from number 1.
+/// A default for each parameter that is used in all data, from number 1.
 const DEFAULTS: [&str; USED_PARAM_COUNT] = [
     "1", "0", "1", "0", "10", "1", "0", "1", "1", "1", "1", "0", "0", "1", "5", "2", "1", "0",
     "-1", "0", "-1", "0", "-1", "0", "0", "0", "0", "0", "0", "0", "0", "0", "0", "0", "0", "-1",
     "0", "-1",
 ];
 
-/// The statements of the sets and of parameters, and a default for each used parameter that has none among them.
+/// The statements of the sets and of parameters, and a default for each parameter used in all data that has
+/// none among them.
 /// Refuses where memory runs out.
 pub fn section(alloc: Global, sets: &str, statements: &str) -> Result<String, AllocError> {
     let mut text = String::from_str(alloc, sets)?;

@@ -2,16 +2,14 @@
 
 use crate::section;
 use exact_num::Frac;
-use mathprog_data::{param_word, read_blocks};
-use model_sets::SetFail;
+use mathprog_data::read_blocks;
 use model_sets::param_numbers::{
-    CAPACITY_OF_ONE_TECHNOLOGY_UNIT, CAPITAL_COST, DISCOUNT_RATE, DISCOUNT_RATE_STORAGE,
+    CAPACITY_OF_ONE_TECHNOLOGY_UNIT, CAPITAL_COST, DISCOUNT_RATE, DISCOUNT_RATE_IDV,
     TOTAL_ANNUAL_MAX_CAPACITY, VARIABLE_COST, YEAR_SPLIT,
 };
 use model_sets::set_numbers::{FUEL, MODE_OF_OPERATION, REGION, TECHNOLOGY, YEAR};
-use param_tables::{
-    ActivityRatio, BuildFail, BuildFault, Cell, ModelData, build, sets_of, subscript_sets,
-};
+use model_sets::{SetFail, param_word, subscript_sets};
+use param_tables::{ActivityRatio, BuildFail, BuildFault, Cell, ModelData, build, sets_of};
 use std::alloc::{AllocError, Global};
 use std::process::Abort;
 use std::test::Fail;
@@ -45,7 +43,7 @@ fn cell_line(alloc: Global, word: &str, cell: &Cell) -> Result<String, AllocErro
 }
 
 fn param_word_of(param: u8) -> &'static str {
-    if YEAR_SPLIT <= param && param <= DISCOUNT_RATE_STORAGE {
+    if YEAR_SPLIT <= param && param <= DISCOUNT_RATE_IDV {
         param_word(param)
     } else {
         ""
@@ -193,6 +191,58 @@ fn the_first_refusal_of_parameters_is_told(rt: HostRuntime) -> Result<(), Fail> 
     Ok(())
 }
 
+/// Statements on DiscountRateIdv, and the line on their refusal, if any. It is used where there is one, and then
+/// last of all parameters.
+const STATEMENTS_ON_SECOND: [(&str, &str); 11] = [
+    ("param DiscountRateIdv default 0.1 := ;", ""),
+    ("param DiscountRateIdv default 1 := ;", ""),
+    ("param : DiscountRateIdv := R T 0 ;", ""),
+    (
+        "param DiscountRateIdv := ;",
+        "NoValue DiscountRateIdv [0, 0]",
+    ),
+    (
+        "param DiscountRateIdv default 1.5 := ;",
+        "OutOfRange DiscountRateIdv [0, 0]",
+    ),
+    (
+        "param DiscountRateIdv default -0.1 := ;",
+        "OutOfRange DiscountRateIdv [0, 0]",
+    ),
+    (
+        "param DiscountRateIdv :=\nR T 0.1\nR U 0.1 ;",
+        "UnknownMember 4 1",
+    ),
+    (
+        "param DiscountRateIdv :=\nR T 0.1\nR T 0.1 ;",
+        "ValueTwice 4 1",
+    ),
+    (
+        "param DiscountRateIdv := ;\nparam ModelPeriodEmissionLimit := ; set EMISSION := CO2 ;",
+        "NoValue ModelPeriodEmissionLimit [0, 0]",
+    ),
+    (
+        "param DiscountRateIdv := ;\nparam CapitalCost := R T 2021 5 ;",
+        "UnknownMember 3 22",
+    ),
+    ("param DiscountRateIdv default 2 := R T 1 ;", ""),
+];
+
+#[test]
+fn statements_on_the_discount_rate_of_investments_are_refused_last(
+    rt: HostRuntime,
+) -> Result<(), Fail> {
+    for (statement, expected) in STATEMENTS_ON_SECOND {
+        let text = section(rt.alloc(), SETS, statement)?;
+        assert_eq!(rt;
+            refusal(&rt, rt.alloc(), text.as_str())?.as_str(),
+            expected,
+            "{statement}"
+        );
+    }
+    Ok(())
+}
+
 /// Texts whose sets are refused, with the number of the set and of the fault.
 const REFUSED_SETS: [(&str, &str); 6] = [
     ("", "set 1 2"),
@@ -302,6 +352,34 @@ fn defaults_and_lowest_terms(rt: HostRuntime) -> Result<(), Fail> {
         subscript_sets(TOTAL_ANNUAL_MAX_CAPACITY),
         [REGION, TECHNOLOGY, YEAR].as_slice()
     );
+    Ok(())
+}
+
+#[test]
+fn the_discount_rate_of_investments_is_used_where_it_is_stated(
+    rt: HostRuntime,
+) -> Result<(), Fail> {
+    let text = section(rt.alloc(), SETS, "")?;
+    let Ending::Built(model) = outcome(&rt, rt.alloc(), text.as_str())? else {
+        assert!(rt; false, "refused");
+        return Ok(());
+    };
+    assert!(rt; !model.second());
+    let text = section(
+        rt.alloc(),
+        TWO_EACH,
+        "param DiscountRateIdv default 0.1 := R U 0.05 ;",
+    )?;
+    let Ending::Built(model) = outcome(&rt, rt.alloc(), text.as_str())? else {
+        assert!(rt; false, "refused");
+        return Ok(());
+    };
+    assert!(rt; model.second());
+    let sets = model.sets();
+    assert!(rt; sets.count(REGION) == 1);
+    assert!(rt; sets.count(TECHNOLOGY) == 2);
+    assert!(rt; is(model.at(DISCOUNT_RATE_IDV, &[0, 0]), 1, 10));
+    assert!(rt; is(model.at(DISCOUNT_RATE_IDV, &[0, 1]), 1, 20));
     Ok(())
 }
 

@@ -24,7 +24,7 @@ quotient_near k f n p q unit step steps few some rounded above =
     let all : unit * q * step < (f + 2) * p * step = omega arith in
     lt_of_mul-lt-mul_right step {m = unit * q} {n = (f + 2) * p} all
 
-power_pos : (a n : ℕ) → 0 < a → 0 < a ^ n
+pub power_pos : (a n : ℕ) → 0 < a → 0 < a ^ n
 power_pos a zero some = rw pow-zero (omega arith)
 power_pos a (suc n) some = let before = power_pos a n some in let more = mul-le-mul before some in rw (pow-suc a n) (omega arith)
 

@@ -1,5 +1,5 @@
 -- The definitions computed on worked examples, and on near misses.
-use Rattle.std.proofs.Common.{◌≡◌, ℕ, ◌∷◌, [], List, Some, None, Option, refl, map, pos, negsuc, set}
+use Rattle.std.proofs.Common.{◌≡◌, ℕ, true, false, ◌∷◌, ◌++◌, [], List, Some, None, Option, refl, map, pos, negsuc, set}
 use Rattle.std.specs.Prelude.{codes, ℤ, ◌-◌}
 use Rattle.std.specs.Fmt.{digits}
 use Rattle.mathprog_data.specs.declared.blocks.Mark.{Mark}
@@ -8,7 +8,11 @@ use Rattle.model_sets.specs.Data.{value_at}
 use Rattle.param_tables.specs.BlockData.{data_told, set_lists}
 use Rattle.param_tables.specs.Positions.{names_at}
 use Rattle.param_tables.specs.Ranges.{whole}
-use Rattle.param_tables.specs.Refusals.{Refusal, StorageMember, UnknownName, GivenBefore, AtIndex, first_refusal}
+use Rattle.model_sets.specs.Names.{set_word}
+use Rattle.model_sets.specs.Params.{param_word}
+use Rattle.param_tables.specs.Ratios.{commodity, ratio_param}
+use Rattle.param_tables.specs.declared.ratios.ActivityRatio.TheVariants.{Input, Output, Emission}
+use Rattle.param_tables.specs.Refusals.{Refusal, storage, StorageMember, UnknownName, GivenBefore, AtIndex, first_refusal}
 use Rattle.param_tables.specs.SetRefusals.{first_set_refusal}
 use Rattle.mathprog_data.specs.Meaning.{Blocks, SetBlock, ParamBlock, GivenValue}
 use Rattle.param_tables.specs.declared.fault.CellFault.TheVariants.{NoValue, Negative, NotWhole, OutOfRange, WholeUnits}
@@ -21,6 +25,17 @@ minus_half = negsuc 499999999
 
 minus_whole : ℤ
 minus_whole = negsuc 999999999
+
+-- ---- the numbers that the definitions name
+
+word_of_storage : set_word storage ≡ codes "STORAGE"
+word_of_storage = refl
+
+ratios : map (λ ratio. param_word (ratio_param ratio)) (Input ∷ Output ∷ Emission ∷ []) ≡ codes "InputActivityRatio" ∷ codes "OutputActivityRatio" ∷ codes "EmissionActivityRatio" ∷ []
+ratios = refl
+
+commodities : map (λ ratio. set_word (commodity ratio)) (Input ∷ Output ∷ Emission ∷ []) ≡ codes "FUEL" ∷ codes "FUEL" ∷ codes "EMISSION" ∷ []
+commodities = refl
 
 -- ---- a model of one region, technology, fuel, mode, timeslice and year, with defaults alone
 
@@ -283,3 +298,62 @@ twice_in_text_order = refl
 unused : first_refusal (of some_sets (by_values 39 (value (codes "X" ∷ codes "Y" ∷ []) (pos 0) (place 9 9) ∷ []) ∷ defaults)) ≡ None
 unfolding value place of some_sets defaults on_set by_values by_default
 unused = refl
+
+-- ---- DiscountRateIdv (55), which is used where the text has a statement for it
+
+-- the base with this statement on it as well
+with_second : ParamBlock → Blocks
+with_second statement = of some_sets (defaults ++ statement ∷ [])
+
+-- a value of it for T, and for U, which is no technology
+rate : ℤ → ℕ → GivenValue
+rate v line = value (codes "R" ∷ codes "T" ∷ []) v (place line 1)
+
+rate_of_none : ℤ → ℕ → GivenValue
+rate_of_none v line = value (codes "R" ∷ codes "U" ∷ []) v (place line 1)
+
+-- no statement, and it is no parameter of the data
+without_second : (data_told base).second ≡ false
+unfolding base of some_sets defaults on_set by_default
+without_second = refl
+
+-- a default of 0.1
+second_by_default : (first_refusal (with_second (by_default 55 (pos 100000000))) ≡ None) × ((data_told (with_second (by_default 55 (pos 100000000)))).second ≡ true) × (value_at (data_told (with_second (by_default 55 (pos 100000000)))) 55 (codes "R" ∷ codes "T" ∷ []) ≡ Some (pos 100000000))
+unfolding with_second of some_sets defaults on_set by_default
+second_by_default = (refl, refl, refl)
+
+-- a statement without values is one, and no value is found
+second_without_values : (data_told (with_second (by_values 55 []))).second ≡ true
+unfolding with_second of some_sets defaults on_set by_default by_values
+second_without_values = refl
+
+second_missing : first_refusal (with_second (by_values 55 [])) ≡ Some (AtIndex NoValue 55 (codes "R" ∷ codes "T" ∷ []))
+unfolding with_second of some_sets defaults on_set by_default by_values
+second_missing = refl
+
+-- 1 is in the range, 1.5 and -0.1 aren't
+second_whole : first_refusal (with_second (by_default 55 (whole 1))) ≡ None
+unfolding with_second of some_sets defaults on_set by_default
+second_whole = refl
+
+second_above : first_refusal (with_second (by_default 55 (pos 1500000000))) ≡ Some (AtIndex OutOfRange 55 (codes "R" ∷ codes "T" ∷ []))
+unfolding with_second of some_sets defaults on_set by_default
+second_above = refl
+
+second_below : first_refusal (with_second (by_values 55 (rate (negsuc 99999999) 1 ∷ []))) ≡ Some (AtIndex OutOfRange 55 (codes "R" ∷ codes "T" ∷ []))
+unfolding with_second rate value place of some_sets defaults on_set by_default by_values
+second_below = refl
+
+-- its values are asked as those of every used parameter
+second_unknown : first_refusal (with_second (by_values 55 (rate_of_none (pos 0) 3 ∷ []))) ≡ Some (UnknownName (place 3 1))
+unfolding with_second rate_of_none value place of some_sets defaults on_set by_default by_values
+second_unknown = refl
+
+second_twice : first_refusal (with_second (by_values 55 (rate (pos 0) 3 ∷ rate (pos 0) 4 ∷ []))) ≡ Some (GivenBefore (place 4 1))
+unfolding with_second rate value place of some_sets defaults on_set by_default by_values
+second_twice = refl
+
+-- it comes last: a missing value of another parameter goes before
+second_last : first_refusal (of some_sets (but (by_values 12 []) ++ by_values 55 [] ∷ [])) ≡ Some (AtIndex NoValue 12 (codes "R" ∷ codes "T" ∷ codes "2020" ∷ []))
+unfolding but of some_sets defaults on_set by_default by_values
+second_last = refl

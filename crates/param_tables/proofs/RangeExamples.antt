@@ -1,8 +1,6 @@
--- The ranges of the used parameters, and which values lie in them, with near misses.
-use Rattle.std.proofs.Common.{◌≡◌, ◌∷◌, [], Some, None, refl, map, replicate, pos, negsuc}
+-- Which values lie in a range, with near misses.
+use Rattle.std.proofs.Common.{◌≡◌, ◌∷◌, [], Some, None, refl, map, pos, negsuc}
 use Rattle.std.specs.Prelude.{ℤ}
-use Rattle.model_sets.specs.declared.param_numbers.TheConstants.{YEAR_SPLIT, DISCOUNT_RATE, DEPRECIATION_METHOD, TRADE_ROUTE, SPECIFIED_ANNUAL_DEMAND, SPECIFIED_DEMAND_PROFILE, ACCUMULATED_ANNUAL_DEMAND, CAPACITY_TO_ACTIVITY_UNIT, CAPACITY_FACTOR, AVAILABILITY_FACTOR, OPERATIONAL_LIFE, RESIDUAL_CAPACITY, INPUT_ACTIVITY_RATIO, OUTPUT_ACTIVITY_RATIO, CAPITAL_COST, VARIABLE_COST, FIXED_COST, CAPACITY_OF_ONE_TECHNOLOGY_UNIT, TOTAL_ANNUAL_MAX_CAPACITY, TOTAL_ANNUAL_MIN_CAPACITY, TOTAL_ANNUAL_MAX_CAPACITY_INVESTMENT, TOTAL_ANNUAL_MIN_CAPACITY_INVESTMENT, TOTAL_TECHNOLOGY_ANNUAL_ACTIVITY_UPPER_LIMIT, TOTAL_TECHNOLOGY_ANNUAL_ACTIVITY_LOWER_LIMIT, TOTAL_TECHNOLOGY_MODEL_PERIOD_ACTIVITY_UPPER_LIMIT, TOTAL_TECHNOLOGY_MODEL_PERIOD_ACTIVITY_LOWER_LIMIT, RESERVE_MARGIN_TAG_TECHNOLOGY, RESERVE_MARGIN_TAG_FUEL, RESERVE_MARGIN, RE_TAG_TECHNOLOGY, RE_TAG_FUEL, RE_MIN_PRODUCTION_TARGET, EMISSION_ACTIVITY_RATIO, EMISSIONS_PENALTY, ANNUAL_EXOGENOUS_EMISSION, ANNUAL_EMISSION_LIMIT, MODEL_PERIOD_EXOGENOUS_EMISSION, MODEL_PERIOD_EMISSION_LIMIT}
-use Rattle.model_sets.specs.Params.{range_of}
 use Rattle.param_tables.specs.Ranges.{range_fault, whole}
 use Rattle.param_tables.specs.declared.fault.CellFault.TheVariants.{Negative, NotPositive, NotWhole, OutOfRange, WholeUnits}
 use Rattle.model_sets.specs.declared.params.Range.TheVariants.{Any, AtLeastZero, AboveZero, ZeroToOne, OneOrTwo, Lifetime, ZeroOnly, MinusOneOrAtLeastZero}
@@ -47,27 +45,3 @@ whole_units = refl
 limits : map (range_fault MinusOneOrAtLeastZero) (minus_whole ∷ pos 0 ∷ half ∷ minus_half ∷ negsuc 1999999999 ∷ negsuc 999999998 ∷ []) ≡ None ∷ None ∷ None ∷ Some OutOfRange ∷ Some OutOfRange ∷ Some OutOfRange ∷ []
 unfolding half minus_half minus_whole
 limits = refl
-
--- ---- which range each of the 38 parameters has
-
-of_their_own : map range_of (YEAR_SPLIT ∷ DISCOUNT_RATE ∷ DEPRECIATION_METHOD ∷ OPERATIONAL_LIFE ∷ CAPACITY_OF_ONE_TECHNOLOGY_UNIT ∷ []) ≡ AboveZero ∷ ZeroToOne ∷ OneOrTwo ∷ Lifetime ∷ ZeroOnly ∷ []
-of_their_own = refl
-
--- the costs, and what emissions are made of, may be below 0
-of_any_number : map range_of (CAPITAL_COST ∷ VARIABLE_COST ∷ FIXED_COST ∷ EMISSION_ACTIVITY_RATIO ∷ EMISSIONS_PENALTY ∷ ANNUAL_EXOGENOUS_EMISSION ∷ ANNUAL_EMISSION_LIMIT ∷ MODEL_PERIOD_EXOGENOUS_EMISSION ∷ MODEL_PERIOD_EMISSION_LIMIT ∷ []) ≡ replicate 9 Any
-of_any_number = refl
-
-of_upper_limits : map range_of (TOTAL_ANNUAL_MAX_CAPACITY ∷ TOTAL_ANNUAL_MAX_CAPACITY_INVESTMENT ∷ TOTAL_TECHNOLOGY_ANNUAL_ACTIVITY_UPPER_LIMIT ∷ TOTAL_TECHNOLOGY_MODEL_PERIOD_ACTIVITY_UPPER_LIMIT ∷ []) ≡ replicate 4 MinusOneOrAtLeastZero
-of_upper_limits = refl
-
-of_lower_limits : map range_of (TOTAL_ANNUAL_MIN_CAPACITY ∷ TOTAL_ANNUAL_MIN_CAPACITY_INVESTMENT ∷ TOTAL_TECHNOLOGY_ANNUAL_ACTIVITY_LOWER_LIMIT ∷ TOTAL_TECHNOLOGY_MODEL_PERIOD_ACTIVITY_LOWER_LIMIT ∷ []) ≡ replicate 4 AtLeastZero
-of_lower_limits = refl
-
-of_demands : map range_of (TRADE_ROUTE ∷ SPECIFIED_ANNUAL_DEMAND ∷ SPECIFIED_DEMAND_PROFILE ∷ ACCUMULATED_ANNUAL_DEMAND ∷ []) ≡ replicate 4 AtLeastZero
-of_demands = refl
-
-of_technologies : map range_of (CAPACITY_TO_ACTIVITY_UNIT ∷ CAPACITY_FACTOR ∷ AVAILABILITY_FACTOR ∷ RESIDUAL_CAPACITY ∷ INPUT_ACTIVITY_RATIO ∷ OUTPUT_ACTIVITY_RATIO ∷ []) ≡ replicate 6 AtLeastZero
-of_technologies = refl
-
-of_targets : map range_of (RESERVE_MARGIN_TAG_TECHNOLOGY ∷ RESERVE_MARGIN_TAG_FUEL ∷ RESERVE_MARGIN ∷ RE_TAG_TECHNOLOGY ∷ RE_TAG_FUEL ∷ RE_MIN_PRODUCTION_TARGET ∷ []) ≡ replicate 6 AtLeastZero
-of_targets = refl

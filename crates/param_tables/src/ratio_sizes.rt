@@ -5,12 +5,7 @@ ghost use Rattle.param_tables.specs.RatioPlaces.{AreSmall, IsWithin, commodity_s
 
 use crate::ratios::{ActivityRatio, RatioIndex};
 use model_sets::Sets;
-
-const TECHNOLOGY: u8 = 2;
-
-const MODE: u8 = 5;
-
-const YEAR: u8 = 7;
+use model_sets::set_numbers::{MODE_OF_OPERATION, TECHNOLOGY, YEAR};
 
 /// How many members the sets of a ratio's index have, that of REGION aside.
 #[derive(Clone, Copy)]
@@ -30,7 +25,7 @@ impl RatioSizes {
         RatioSizes {
             technologies: sets.count(TECHNOLOGY),
             commodities: sets.count(ratio.commodity_set()),
-            modes: sets.count(MODE),
+            modes: sets.count(MODE_OF_OPERATION),
             years: sets.count(YEAR),
         }
     }

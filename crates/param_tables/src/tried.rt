@@ -6,13 +6,8 @@ ghost use Rattle.param_tables.specs.Ratios.{AreMembersFor, IsRegion, IsTechnolog
 use crate::model_data::ModelData;
 use crate::ratio_sizes::RatioSizes;
 use crate::ratios::{ActivityRatio, RatioIndex};
+use model_sets::set_numbers::{MODE_OF_OPERATION, TECHNOLOGY};
 use std::alloc::{AllocError, Global};
-
-/// The number of the set TECHNOLOGY.
-const TECHNOLOGY: u8 = 2;
-
-/// The number of the set MODE_OF_OPERATION.
-const MODE: u8 = 5;
 
 /// The modes of a technology.
 pub(crate) fn tried_modes(
@@ -29,7 +24,7 @@ pub(crate) fn tried_modes(
     ensures { IfOk result (λ modes. modes.items ≡ nonzero_modes model.now.facts ratio region technology commodity year) }
 {
     let mut modes = Vec::new(alloc);
-    for mode in 0..model.sets().count(MODE) {
+    for mode in 0..model.sets().count(MODE_OF_OPERATION) {
         let index = RatioIndex {
             technology,
             commodity,
@@ -56,7 +51,7 @@ fn has_nonzero_mode(
     requires technology { IsTechnology model.now.facts.sets technology }
     ensures { result ≡ has_nonzero_mode model.now.facts ratio region technology commodity year }
 {
-    for mode in 0..model.sets().count(MODE) {
+    for mode in 0..model.sets().count(MODE_OF_OPERATION) {
         let index = RatioIndex {
             technology,
             commodity,

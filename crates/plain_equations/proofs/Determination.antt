@@ -1,10 +1,12 @@
 -- A definition determines its variable from the others.
-use Rattle.std.proofs.Common.{◌≡◌, ◌≢◌, ℕ, ◌+◌, Bool, true, false, ℤ, pos, ◌+ℤ◌, ◌*ℤ◌, List, [], ◌∷◌, ap, ap₂, sym, ◌∙◌, refl, subst, true≢false, eqb-true, eq-eqb, cond, eq-or-lt_of_le, arith, ◌⊎◌, inl, inr}
+use Rattle.std.proofs.Common.{◌≡◌, ◌≢◌, ℕ, ◌+◌, ◌<◌, Bool, true, false, ℤ, pos, ◌+ℤ◌, ◌*ℤ◌, List, [], ◌∷◌, ap, ap₂, sym, ◌∙◌, refl, subst, true≢false, eqb-true, eq-eqb, cond, eq-or-lt_of_le, arith, ◌⊎◌, inl, inr}
 use Rattle.std.specs.Prelude.{◌-ℤ◌, not, nat_eq, nat_le, unsigned_abs, Some, None, unwrap_or, is_some}
-use Rattle.std.proofs.lemmas.Bool.{and_parts, cases_lt}
+use Rattle.std.proofs.lemmas.Bool.{and_parts, cases_lt, cond_both}
 use Rattle.std.proofs.lemmas.Int.{ints}
 use Rattle.exact_num.proofs.Integers.{*ℤ_cancel, *ℤ_nonzero}
 use Rattle.exact_num.proofs.Ring.{*ℤ_comm}
+use Rattle.discount_factors.specs.Factors.{unit_of}
+use Rattle.discount_factors.proofs.ClosenessLaws.{power_pos}
 use Rattle.model_sets.specs.Data.{Data}
 use Rattle.row_core.specs.declared.Index.{Index}
 use Rattle.row_core.specs.declared.Sense.{Sense}
@@ -12,7 +14,7 @@ use Rattle.row_core.specs.declared.Sense.TheVariants.{Least, Equal, Most}
 use Rattle.row_core.specs.declared.Var.{Var}
 use Rattle.row_core.specs.Statements.{Stands, Holds}
 use Rattle.named_equations.specs.Instances.{name_at, variable_of}
-use Rattle.named_equations.specs.Notation.{scale_of}
+use Rattle.named_equations.specs.Notation.{scale_of, factor_scale}
 use Rattle.named_equations.specs.Parameters.{year_split}
 use Rattle.named_equations.specs.Plans.{Meets}
 use Rattle.named_equations.specs.Table.{other_trade}
@@ -23,7 +25,7 @@ use Rattle.plain_equations.specs.declared.expressions.Defines.{Defines}
 use Rattle.plain_equations.specs.declared.expressions.Defines.TheVariants.{Nothing, LeftVariable, OtherTrade}
 use Rattle.plain_equations.specs.declared.expressions.Equation.{Equation}
 use Rattle.plain_equations.specs.declared.expressions.Expr.{Expr}
-use Rattle.plain_equations.specs.declared.expressions.Expr.TheVariants.{Zero, Whole, Values, Million, Plan, Given, CapitalFactor, OperatingFactor, SalvageFraction, Sum', Difference', Product', Over'}
+use Rattle.plain_equations.specs.declared.expressions.Expr.TheVariants.{Zero, Whole, Values, FactorScale, Plan, Given, CapitalFactor, OperatingFactor, SalvageFraction, RecoveryFactor, Annuity, Sum', Difference', Product', ByProfile', Over'}
 use Rattle.plain_equations.specs.declared.expressions.Letter.{Letter}
 use Rattle.plain_equations.specs.declared.expressions.Letter.TheVariants.{R, RR, L, T, F, E, M, Y, YY}
 use Rattle.plain_equations.specs.declared.points.Point.{Point}
@@ -44,48 +46,58 @@ not_true : (b : Bool) → not b ≡ true → b ≡ false
 not_true true e = sym e
 not_true false e = refl
 
-pub lacks-same : (d : Data) (q k : ℕ) (x y : Var → ℤ) → AgreeBut k x y → (e : Expr) (p : Point) → lacks k e ≡ true → meaning d q x e p ≡ meaning d q y e p
-lacks-same d q k x y agree Zero p is = refl
-lacks-same d q k x y agree Whole p is = refl
-lacks-same d q k x y agree (Values n) p is = refl
-lacks-same d q k x y agree Million p is = refl
-lacks-same d q k x y agree (Plan kind places) p is = agree (variable kind (index_at p places)) (not_true (nat_eq kind k) is)
-lacks-same d q k x y agree (Given param letters) p is = refl
-lacks-same d q k x y agree (CapitalFactor years) p is = refl
-lacks-same d q k x y agree OperatingFactor p is = refl
-lacks-same d q k x y agree (SalvageFraction method) p is = refl
-lacks-same d q k x y agree (Sum' _ a _ b) p is =
+pub lacks-same : (places : ℕ) (d : Data) (q k : ℕ) (x y : Var → ℤ) → AgreeBut k x y → (e : Expr) (p : Point) → lacks k e ≡ true → meaning places d q x e p ≡ meaning places d q y e p
+lacks-same places d q k x y agree Zero p is = refl
+lacks-same places d q k x y agree Whole p is = refl
+lacks-same places d q k x y agree (Values n) p is = refl
+lacks-same places d q k x y agree FactorScale p is = refl
+lacks-same places d q k x y agree (Plan kind subscripts) p is = agree (variable kind (index_at p subscripts)) (not_true (nat_eq kind k) is)
+lacks-same places d q k x y agree (Given param letters) p is = refl
+lacks-same places d q k x y agree (CapitalFactor years) p is = refl
+lacks-same places d q k x y agree OperatingFactor p is = refl
+lacks-same places d q k x y agree (SalvageFraction method) p is = refl
+lacks-same places d q k x y agree RecoveryFactor p is = refl
+lacks-same places d q k x y agree Annuity p is = refl
+lacks-same places d q k x y agree (Sum' _ a _ b) p is =
     let both = and_parts (lacks k a) (lacks k b) is in
-    ap₂ (λ m n. m +ℤ n) (lacks-same d q k x y agree a p both.0) (lacks-same d q k x y agree b p both.1)
-lacks-same d q k x y agree (Difference' _ a _ b) p is =
+    ap₂ (λ m n. m +ℤ n) (lacks-same places d q k x y agree a p both.0) (lacks-same places d q k x y agree b p both.1)
+lacks-same places d q k x y agree (Difference' _ a _ b) p is =
     let both = and_parts (lacks k a) (lacks k b) is in
-    ap₂ (λ m n. m -ℤ n) (lacks-same d q k x y agree a p both.0) (lacks-same d q k x y agree b p both.1)
-lacks-same d q k x y agree (Product' _ a _ b) p is =
+    ap₂ (λ m n. m -ℤ n) (lacks-same places d q k x y agree a p both.0) (lacks-same places d q k x y agree b p both.1)
+lacks-same places d q k x y agree (Product' _ a _ b) p is =
     let both = and_parts (lacks k a) (lacks k b) is in
-    ap₂ (λ m n. m *ℤ n) (lacks-same d q k x y agree a p both.0) (lacks-same d q k x y agree b p both.1)
-lacks-same d q k x y agree (Over' letter condition _ a) p is =
-    sum_over-same (λ i. meaning d q x a (moved p letter i)) (λ i. meaning d q y a (moved p letter i)) (chosen d p letter condition)
-    (λ i. lacks-same d q k x y agree a (moved p letter i) is)
+    ap₂ (λ m n. m *ℤ n) (lacks-same places d q k x y agree a p both.0) (lacks-same places d q k x y agree b p both.1)
+lacks-same places d q k x y agree (ByProfile' _ a _ b) p is =
+    let both = and_parts (lacks k a) (lacks k b) is in
+    ap₂ (λ m n. cond d.second n m) (lacks-same places d q k x y agree a p both.0) (lacks-same places d q k x y agree b p both.1)
+lacks-same places d q k x y agree (Over' letter condition _ a) p is =
+    sum_over-same (λ i. meaning places d q x a (moved p letter i)) (λ i. meaning places d q y a (moved p letter i)) (chosen d p letter condition)
+    (λ i. lacks-same places d q k x y agree a (moved p letter i) is)
 
 -- ---- scales
 
 -- a scale is the same for every plan
-pub scale-same : (d : Data) (q : ℕ) (x y : Var → ℤ) (e : Expr) (p : Point) → is_scale e ≡ true → meaning d q x e p ≡ meaning d q y e p
-scale-same d q x y Zero p is = refl
-scale-same d q x y Whole p is = refl
-scale-same d q x y (Values n) p is = refl
-scale-same d q x y Million p is = refl
-scale-same d q x y (Plan kind places) p is = absurd (true≢false (sym is))
-scale-same d q x y (Given param letters) p is = refl
-scale-same d q x y (CapitalFactor years) p is = refl
-scale-same d q x y OperatingFactor p is = refl
-scale-same d q x y (SalvageFraction method) p is = refl
-scale-same d q x y (Sum' _ a _ b) p is = absurd (true≢false (sym is))
-scale-same d q x y (Difference' _ a _ b) p is = absurd (true≢false (sym is))
-scale-same d q x y (Product' _ a _ b) p is =
+pub scale-same : (places : ℕ) (d : Data) (q : ℕ) (x y : Var → ℤ) (e : Expr) (p : Point) → is_scale e ≡ true → meaning places d q x e p ≡ meaning places d q y e p
+scale-same places d q x y Zero p is = refl
+scale-same places d q x y Whole p is = refl
+scale-same places d q x y (Values n) p is = refl
+scale-same places d q x y FactorScale p is = refl
+scale-same places d q x y (Plan kind subscripts) p is = absurd (true≢false (sym is))
+scale-same places d q x y (Given param letters) p is = refl
+scale-same places d q x y (CapitalFactor years) p is = refl
+scale-same places d q x y OperatingFactor p is = refl
+scale-same places d q x y (SalvageFraction method) p is = refl
+scale-same places d q x y RecoveryFactor p is = refl
+scale-same places d q x y Annuity p is = refl
+scale-same places d q x y (Sum' _ a _ b) p is = absurd (true≢false (sym is))
+scale-same places d q x y (Difference' _ a _ b) p is = absurd (true≢false (sym is))
+scale-same places d q x y (Product' _ a _ b) p is =
     let both = and_parts (is_scale a) (is_scale b) is in
-    ap₂ (λ m n. m *ℤ n) (scale-same d q x y a p both.0) (scale-same d q x y b p both.1)
-scale-same d q x y (Over' letter condition _ a) p is = absurd (true≢false (sym is))
+    ap₂ (λ m n. m *ℤ n) (scale-same places d q x y a p both.0) (scale-same places d q x y b p both.1)
+scale-same places d q x y (ByProfile' _ a _ b) p is =
+    let both = and_parts (is_scale a) (is_scale b) is in
+    ap₂ (λ m n. cond d.second n m) (scale-same places d q x y a p both.0) (scale-same places d q x y b p both.1)
+scale-same places d q x y (Over' letter condition _ a) p is = absurd (true≢false (sym is))
 
 above_zero : (n : ℕ) → pos (n + 1) ≢ pos 0
 above_zero n e = absurd (omega (arith, ap unsigned_abs e))
@@ -94,6 +106,9 @@ values-nonzero : (n : Count) → scale_of (number_of n) ≢ pos 0
 values-nonzero One = above_zero 999999999
 values-nonzero Two = above_zero 999999999999999999
 values-nonzero Three = above_zero 999999999999999999999999999
+
+unit-nonzero : (places : ℕ) → factor_scale places ≢ pos 0
+unit-nonzero places e = let some : 0 < unit_of places = power_pos 10 places (omega arith) in absurd (omega (arith, ap unsigned_abs e))
 
 -- the letters are l and y
 y_alone : (letter : Letter) (letters : List Letter) → is_y letter letters ≡ true → letter ∷ letters ≡ Y ∷ []
@@ -125,25 +140,31 @@ l_and_y (Y ∷ letters) is = absurd (true≢false (sym is))
 l_and_y (YY ∷ letters) is = absurd (true≢false (sym is))
 
 -- where YearSplit isn't 0, no scale is
-pub scale-nonzero : (d : Data) (q : ℕ) (x : Var → ℤ) (e : Expr) (p : Point) → is_scale e ≡ true → year_split d p.index.slice p.index.year ≢ pos 0
-    → meaning d q x e p ≢ pos 0
-scale-nonzero d q x Zero p is some = absurd (true≢false (sym is))
-scale-nonzero d q x Whole p is some = absurd (true≢false (sym is))
-scale-nonzero d q x (Values n) p is some = values-nonzero n
-scale-nonzero d q x Million p is some = above_zero 999999
-scale-nonzero d q x (Plan kind places) p is some = absurd (true≢false (sym is))
-scale-nonzero d q x (Given param letters) p is some =
+pub scale-nonzero : (places : ℕ) (d : Data) (q : ℕ) (x : Var → ℤ) (e : Expr) (p : Point) → is_scale e ≡ true → year_split d p.index.slice p.index.year ≢ pos 0
+    → meaning places d q x e p ≢ pos 0
+scale-nonzero places d q x Zero p is some = absurd (true≢false (sym is))
+scale-nonzero places d q x Whole p is some = absurd (true≢false (sym is))
+scale-nonzero places d q x (Values n) p is some = values-nonzero n
+scale-nonzero places d q x FactorScale p is some = unit-nonzero places
+scale-nonzero places d q x (Plan kind subscripts) p is some = absurd (true≢false (sym is))
+scale-nonzero places d q x (Given param letters) p is some =
     let both = and_parts (nat_eq param 1) (is_l_y letters.now) is in
     subst (λ z. z ≢ pos 0) (sym (ap₂ (value_at_point d p) (eqb-true param 1 both.0) (l_and_y letters.now both.1))) some
-scale-nonzero d q x (CapitalFactor years) p is some = absurd (true≢false (sym is))
-scale-nonzero d q x OperatingFactor p is some = absurd (true≢false (sym is))
-scale-nonzero d q x (SalvageFraction method) p is some = absurd (true≢false (sym is))
-scale-nonzero d q x (Sum' _ a _ b) p is some = absurd (true≢false (sym is))
-scale-nonzero d q x (Difference' _ a _ b) p is some = absurd (true≢false (sym is))
-scale-nonzero d q x (Product' _ a _ b) p is some =
+scale-nonzero places d q x (CapitalFactor years) p is some = absurd (true≢false (sym is))
+scale-nonzero places d q x OperatingFactor p is some = absurd (true≢false (sym is))
+scale-nonzero places d q x (SalvageFraction method) p is some = absurd (true≢false (sym is))
+scale-nonzero places d q x RecoveryFactor p is some = absurd (true≢false (sym is))
+scale-nonzero places d q x Annuity p is some = absurd (true≢false (sym is))
+scale-nonzero places d q x (Sum' _ a _ b) p is some = absurd (true≢false (sym is))
+scale-nonzero places d q x (Difference' _ a _ b) p is some = absurd (true≢false (sym is))
+scale-nonzero places d q x (Product' _ a _ b) p is some =
     let both = and_parts (is_scale a) (is_scale b) is in
-    *ℤ_nonzero (meaning d q x a p) (meaning d q x b p) (scale-nonzero d q x a p both.0 some) (scale-nonzero d q x b p both.1 some)
-scale-nonzero d q x (Over' letter condition _ a) p is some = absurd (true≢false (sym is))
+    *ℤ_nonzero (meaning places d q x a p) (meaning places d q x b p) (scale-nonzero places d q x a p both.0 some) (scale-nonzero places d q x b p both.1 some)
+scale-nonzero places d q x (ByProfile' _ a _ b) p is some =
+    let both = and_parts (is_scale a) (is_scale b) is in
+    cond_both d.second (meaning places d q x b p) (meaning places d q x a p) (λ z. z ≢ pos 0)
+    (λ _. scale-nonzero places d q x b p both.1 some) (λ _. scale-nonzero places d q x a p both.0 some)
+scale-nonzero places d q x (Over' letter condition _ a) p is some = absurd (true≢false (sym is))
 
 -- ---- solved equations
 
@@ -170,52 +191,58 @@ agree_but : (v w : Var) (k : ℕ) (x y : Var → ℤ) → w ≡ v → w.kind ≡
 agree_but v w k x y is kind agree u other =
     agree u (λ e. true≢false (sym (eq-eqb u.kind k (ap (λ (t : Var). t.kind) (e ∙ sym is) ∙ kind)) ∙ other))
 
-by_factor : (d : Data) (q : ℕ) (x y : Var → ℤ) (v : Var) (a b right : Expr) (p : Point)
+by_factor : (places : ℕ) (d : Data) (q : ℕ) (x y : Var → ℤ) (v : Var) (a b right : Expr) (p : Point)
     → is_scale a ≡ true → is_apart b right ≡ true → year_split d p.index.slice p.index.year ≢ pos 0 → plan_variable b p ≡ Some v
     → ((u : Var) → u ≢ v → x u ≡ y u)
-    → meaning d q x a p *ℤ meaning d q x b p ≡ meaning d q x right p → meaning d q y a p *ℤ meaning d q y b p ≡ meaning d q y right p → x v ≡ y v
-by_factor d q x y v a (Plan kind places) right p scale apart some defines agree of_x of_y =
-    let w : Var = variable kind (index_at p places) in
+    → meaning places d q x a p *ℤ meaning places d q x b p ≡ meaning places d q x right p → meaning places d q y a p *ℤ meaning places d q y b p ≡ meaning places d q y right p → x v ≡ y v
+by_factor places d q x y v a (Plan kind subscripts) right p scale apart some defines agree of_x of_y =
+    let w : Var = variable kind (index_at p subscripts) in
     let is : w ≡ v = same_value w v defines in
-    scaled_left v w x y (meaning d q x a p) (meaning d q y a p) (meaning d q x right p) (meaning d q y right p) is
-    (scale-same d q x y a p scale) (scale-nonzero d q x a p scale some)
-    (lacks-same d q kind x y (agree_but v w kind x y is refl agree) right p apart) of_x of_y
-by_factor d q x y v a Zero right p scale apart some defines agree of_x of_y = absurd (true≢false (sym apart))
-by_factor d q x y v a Whole right p scale apart some defines agree of_x of_y = absurd (true≢false (sym apart))
-by_factor d q x y v a (Values n) right p scale apart some defines agree of_x of_y = absurd (true≢false (sym apart))
-by_factor d q x y v a Million right p scale apart some defines agree of_x of_y = absurd (true≢false (sym apart))
-by_factor d q x y v a (Given param letters) right p scale apart some defines agree of_x of_y = absurd (true≢false (sym apart))
-by_factor d q x y v a (CapitalFactor years) right p scale apart some defines agree of_x of_y = absurd (true≢false (sym apart))
-by_factor d q x y v a OperatingFactor right p scale apart some defines agree of_x of_y = absurd (true≢false (sym apart))
-by_factor d q x y v a (SalvageFraction method) right p scale apart some defines agree of_x of_y = absurd (true≢false (sym apart))
-by_factor d q x y v a (Sum' _ b _ c) right p scale apart some defines agree of_x of_y = absurd (true≢false (sym apart))
-by_factor d q x y v a (Difference' _ b _ c) right p scale apart some defines agree of_x of_y = absurd (true≢false (sym apart))
-by_factor d q x y v a (Product' _ b _ c) right p scale apart some defines agree of_x of_y = absurd (true≢false (sym apart))
-by_factor d q x y v a (Over' letter condition _ b) right p scale apart some defines agree of_x of_y = absurd (true≢false (sym apart))
+    scaled_left v w x y (meaning places d q x a p) (meaning places d q y a p) (meaning places d q x right p) (meaning places d q y right p) is
+    (scale-same places d q x y a p scale) (scale-nonzero places d q x a p scale some)
+    (lacks-same places d q kind x y (agree_but v w kind x y is refl agree) right p apart) of_x of_y
+by_factor places d q x y v a Zero right p scale apart some defines agree of_x of_y = absurd (true≢false (sym apart))
+by_factor places d q x y v a Whole right p scale apart some defines agree of_x of_y = absurd (true≢false (sym apart))
+by_factor places d q x y v a (Values n) right p scale apart some defines agree of_x of_y = absurd (true≢false (sym apart))
+by_factor places d q x y v a FactorScale right p scale apart some defines agree of_x of_y = absurd (true≢false (sym apart))
+by_factor places d q x y v a (Given param letters) right p scale apart some defines agree of_x of_y = absurd (true≢false (sym apart))
+by_factor places d q x y v a (CapitalFactor years) right p scale apart some defines agree of_x of_y = absurd (true≢false (sym apart))
+by_factor places d q x y v a OperatingFactor right p scale apart some defines agree of_x of_y = absurd (true≢false (sym apart))
+by_factor places d q x y v a (SalvageFraction method) right p scale apart some defines agree of_x of_y = absurd (true≢false (sym apart))
+by_factor places d q x y v a RecoveryFactor right p scale apart some defines agree of_x of_y = absurd (true≢false (sym apart))
+by_factor places d q x y v a Annuity right p scale apart some defines agree of_x of_y = absurd (true≢false (sym apart))
+by_factor places d q x y v a (Sum' _ b _ c) right p scale apart some defines agree of_x of_y = absurd (true≢false (sym apart))
+by_factor places d q x y v a (Difference' _ b _ c) right p scale apart some defines agree of_x of_y = absurd (true≢false (sym apart))
+by_factor places d q x y v a (Product' _ b _ c) right p scale apart some defines agree of_x of_y = absurd (true≢false (sym apart))
+by_factor places d q x y v a (ByProfile' _ b _ c) right p scale apart some defines agree of_x of_y = absurd (true≢false (sym apart))
+by_factor places d q x y v a (Over' letter condition _ b) right p scale apart some defines agree of_x of_y = absurd (true≢false (sym apart))
 
-by_left : (d : Data) (q : ℕ) (x y : Var → ℤ) (v : Var) (left right : Expr) (p : Point)
+by_left : (places : ℕ) (d : Data) (q : ℕ) (x y : Var → ℤ) (v : Var) (left right : Expr) (p : Point)
     → is_solved_for left right ≡ true → year_split d p.index.slice p.index.year ≢ pos 0 → left_variable left p ≡ Some v
     → ((u : Var) → u ≢ v → x u ≡ y u)
-    → meaning d q x left p ≡ meaning d q x right p → meaning d q y left p ≡ meaning d q y right p → x v ≡ y v
-by_left d q x y v (Plan kind places) right p solved some defines agree of_x of_y =
-    let w : Var = variable kind (index_at p places) in
+    → meaning places d q x left p ≡ meaning places d q x right p → meaning places d q y left p ≡ meaning places d q y right p → x v ≡ y v
+by_left places d q x y v (Plan kind subscripts) right p solved some defines agree of_x of_y =
+    let w : Var = variable kind (index_at p subscripts) in
     let is : w ≡ v = same_value w v defines in
-    plain_left v w x y (meaning d q x right p) (meaning d q y right p) is
-    (lacks-same d q kind x y (agree_but v w kind x y is refl agree) right p solved) of_x of_y
-by_left d q x y v (Product' _ a _ b) right p solved some defines agree of_x of_y =
+    plain_left v w x y (meaning places d q x right p) (meaning places d q y right p) is
+    (lacks-same places d q kind x y (agree_but v w kind x y is refl agree) right p solved) of_x of_y
+by_left places d q x y v (Product' _ a _ b) right p solved some defines agree of_x of_y =
     let both = and_parts (is_scale a) (is_apart b right) solved in
-    by_factor d q x y v a b right p both.0 both.1 some defines agree of_x of_y
-by_left d q x y v Zero right p solved some defines agree of_x of_y = absurd (true≢false (sym solved))
-by_left d q x y v Whole right p solved some defines agree of_x of_y = absurd (true≢false (sym solved))
-by_left d q x y v (Values n) right p solved some defines agree of_x of_y = absurd (true≢false (sym solved))
-by_left d q x y v Million right p solved some defines agree of_x of_y = absurd (true≢false (sym solved))
-by_left d q x y v (Given param letters) right p solved some defines agree of_x of_y = absurd (true≢false (sym solved))
-by_left d q x y v (CapitalFactor years) right p solved some defines agree of_x of_y = absurd (true≢false (sym solved))
-by_left d q x y v OperatingFactor right p solved some defines agree of_x of_y = absurd (true≢false (sym solved))
-by_left d q x y v (SalvageFraction method) right p solved some defines agree of_x of_y = absurd (true≢false (sym solved))
-by_left d q x y v (Sum' _ a _ b) right p solved some defines agree of_x of_y = absurd (true≢false (sym solved))
-by_left d q x y v (Difference' _ a _ b) right p solved some defines agree of_x of_y = absurd (true≢false (sym solved))
-by_left d q x y v (Over' letter condition _ a) right p solved some defines agree of_x of_y = absurd (true≢false (sym solved))
+    by_factor places d q x y v a b right p both.0 both.1 some defines agree of_x of_y
+by_left places d q x y v Zero right p solved some defines agree of_x of_y = absurd (true≢false (sym solved))
+by_left places d q x y v Whole right p solved some defines agree of_x of_y = absurd (true≢false (sym solved))
+by_left places d q x y v (Values n) right p solved some defines agree of_x of_y = absurd (true≢false (sym solved))
+by_left places d q x y v FactorScale right p solved some defines agree of_x of_y = absurd (true≢false (sym solved))
+by_left places d q x y v (Given param letters) right p solved some defines agree of_x of_y = absurd (true≢false (sym solved))
+by_left places d q x y v (CapitalFactor years) right p solved some defines agree of_x of_y = absurd (true≢false (sym solved))
+by_left places d q x y v OperatingFactor right p solved some defines agree of_x of_y = absurd (true≢false (sym solved))
+by_left places d q x y v (SalvageFraction method) right p solved some defines agree of_x of_y = absurd (true≢false (sym solved))
+by_left places d q x y v RecoveryFactor right p solved some defines agree of_x of_y = absurd (true≢false (sym solved))
+by_left places d q x y v Annuity right p solved some defines agree of_x of_y = absurd (true≢false (sym solved))
+by_left places d q x y v (Sum' _ a _ b) right p solved some defines agree of_x of_y = absurd (true≢false (sym solved))
+by_left places d q x y v (Difference' _ a _ b) right p solved some defines agree of_x of_y = absurd (true≢false (sym solved))
+by_left places d q x y v (ByProfile' _ a _ b) right p solved some defines agree of_x of_y = absurd (true≢false (sym solved))
+by_left places d q x y v (Over' letter condition _ a) right p solved some defines agree of_x of_y = absurd (true≢false (sym solved))
 
 -- ---- the exchange of two regions
 
@@ -259,34 +286,34 @@ by_sense Least a b is stands = absurd (true≢false (sym is))
 by_sense Equal a b is stands = stands
 by_sense Most a b is stands = absurd (true≢false (sym is))
 
-by_defines : (d : Data) (q : ℕ) (x y : Var → ℤ) (v : Var) (i : Index) (defines : Defines) (sense : Sense) (left right : Expr)
+by_defines : (places : ℕ) (d : Data) (q : ℕ) (x y : Var → ℤ) (v : Var) (i : Index) (defines : Defines) (sense : Sense) (left right : Expr)
     → has_solved_form defines sense left right ≡ true → is_exchange defines ≡ false → year_split d i.slice i.year ≢ pos 0
     → defined_at defines left i ≡ Some v → ((u : Var) → u ≢ v → x u ≡ y u)
-    → Stands sense (meaning d q x left (point_at i)) (meaning d q x right (point_at i))
-    → Stands sense (meaning d q y left (point_at i)) (meaning d q y right (point_at i)) → x v ≡ y v
-by_defines d q x y v i Nothing sense left right solved apart some defined agree of_x of_y = absurd (none_is_some v defined)
-by_defines d q x y v i OtherTrade sense left right solved apart some defined agree of_x of_y = absurd (true≢false apart)
-by_defines d q x y v i LeftVariable sense left right solved apart some defined agree of_x of_y =
+    → Stands sense (meaning places d q x left (point_at i)) (meaning places d q x right (point_at i))
+    → Stands sense (meaning places d q y left (point_at i)) (meaning places d q y right (point_at i)) → x v ≡ y v
+by_defines places d q x y v i Nothing sense left right solved apart some defined agree of_x of_y = absurd (none_is_some v defined)
+by_defines places d q x y v i OtherTrade sense left right solved apart some defined agree of_x of_y = absurd (true≢false apart)
+by_defines places d q x y v i LeftVariable sense left right solved apart some defined agree of_x of_y =
     let both = and_parts (is_equality sense) (is_solved_for left right) solved in
-    by_left d q x y v left right (point_at i) both.1 some defined agree
-    (by_sense sense (meaning d q x left (point_at i)) (meaning d q x right (point_at i)) both.0 of_x)
-    (by_sense sense (meaning d q y left (point_at i)) (meaning d q y right (point_at i)) both.0 of_y)
+    by_left places d q x y v left right (point_at i) both.1 some defined agree
+    (by_sense sense (meaning places d q x left (point_at i)) (meaning places d q x right (point_at i)) both.0 of_x)
+    (by_sense sense (meaning places d q y left (point_at i)) (meaning places d q y right (point_at i)) both.0 of_y)
 
 -- whether the equation is the exchange or not
-by_number : (d : Data) (q : ℕ) (x y : Var → ℤ) (e : Equation) (eq : ℕ) (i : Index) (v : Var) (b : Bool) → nat_eq eq 16 ≡ b → described e ≡ expected eq
+by_number : (places : ℕ) (d : Data) (q : ℕ) (x y : Var → ℤ) (e : Equation) (eq : ℕ) (i : Index) (v : Var) (b : Bool) → nat_eq eq 16 ≡ b → described e ≡ expected eq
     → variable_of (name_at eq i) ≡ Some v → year_split d i.slice i.year ≢ pos 0 → ((u : Var) → u ≢ v → x u ≡ y u)
-    → Meets d q x (name_at eq i) → Meets d q y (name_at eq i) → x v ≡ y v
-by_number d q x y e eq i v true is known defines some agree of_x of_y =
-    let P : ℕ → Type 0 = λ n. variable_of (name_at n i) ≡ Some v → Meets d q x (name_at n i) → Meets d q y (name_at n i) → x v ≡ y v in
+    → Meets places d q x (name_at eq i) → Meets places d q y (name_at eq i) → x v ≡ y v
+by_number places d q x y e eq i v true is known defines some agree of_x of_y =
+    let P : ℕ → Type 0 = λ n. variable_of (name_at n i) ≡ Some v → Meets places d q x (name_at n i) → Meets places d q y (name_at n i) → x v ≡ y v in
     subst P (sym (eqb-true eq 16 is)) (λ defined x_meets y_meets. exchanged x y i v defined agree x_meets y_meets) defines of_x of_y
-by_number d q x y e eq i v false is known defines some agree of_x of_y =
+by_number places d q x y e eq i v false is known defines some agree of_x of_y =
     let means : said e ≡ named eq = ap (λ (k : Description). k.meaning) known in
-    by_defines d q x y v i e.defines e.sense e.left e.right (ap (λ (k : Description). k.solved) known) (ap (λ (k : Description). k.exchange) known ∙ is) some
+    by_defines places d q x y v i e.defines e.sense e.left e.right (ap (λ (k : Description). k.solved) known) (ap (λ (k : Description). k.exchange) known ∙ is) some
     (ap (λ (s : Said). s.defines i) means ∙ defines) agree
-    (subst (λ (s : Said). Holds (s.says d q x i)) (sym means) of_x) (subst (λ (s : Said). Holds (s.says d q y i)) (sym means) of_y)
+    (subst (λ (s : Said). Holds (s.says places d q x i)) (sym means) of_x) (subst (λ (s : Said). Holds (s.says places d q y i)) (sym means) of_y)
 
 -- two plans that meet a definition and agree on all variables but the one that it defines agree on that one too
-pub determined : (d : Data) (q : ℕ) (x y : Var → ℤ) (e : Equation) (eq : ℕ) (i : Index) (v : Var) → described e ≡ expected eq
+pub determined : (places : ℕ) (d : Data) (q : ℕ) (x y : Var → ℤ) (e : Equation) (eq : ℕ) (i : Index) (v : Var) → described e ≡ expected eq
     → variable_of (name_at eq i) ≡ Some v → year_split d i.slice i.year ≢ pos 0 → ((u : Var) → u ≢ v → x u ≡ y u)
-    → Meets d q x (name_at eq i) → Meets d q y (name_at eq i) → x v ≡ y v
-determined d q x y e eq i v known defines some agree of_x of_y = by_number d q x y e eq i v (nat_eq eq 16) refl known defines some agree of_x of_y
+    → Meets places d q x (name_at eq i) → Meets places d q y (name_at eq i) → x v ≡ y v
+determined places d q x y e eq i v known defines some agree of_x of_y = by_number places d q x y e eq i v (nat_eq eq 16) refl known defines some agree of_x of_y

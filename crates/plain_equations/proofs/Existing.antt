@@ -2,7 +2,7 @@
 use Rattle.std.proofs.Common.{◌≡◌, ℕ, zero, suc, ◌+◌, ◌<◌, Bool, true, false, cond, List, [], ◌∷◌, ◌++◌, filter, ap, ap₂, sym, ◌∙◌, refl, subst, arith, true≢false, lt-ltb, eqb-true, inl, inr}
 use Rattle.std.specs.Prelude.{◌&&◌, ◌||◌, not, nat_eq, nat_lt, Option, Some, None}
 use Rattle.std.specs.List.{flat_map, list_any, list_all, range_with_len}
-use Rattle.std.proofs.lemmas.Bool.{and_parts, and_from, or_cases}
+use Rattle.std.proofs.lemmas.Bool.{and_parts, and_from, or_cases, cond_both}
 use Rattle.std.proofs.lemmas.List.Folds.{list_all-append}
 use Rattle.model_sets.specs.Data.{Data}
 use Rattle.model_sets.specs.Names.{region, technology, fuel, emission, mode, timeslice, year}
@@ -17,7 +17,7 @@ use Rattle.named_equations.specs.Where.{is_not_zero}
 use Rattle.plain_equations.specs.declared.expressions.Condition.{Condition}
 use Rattle.plain_equations.specs.declared.expressions.Condition.TheVariants.{Always, NotZero, SomeMode, Limit, Positive, StillCounts, SinkingFund, StraightLine, NoSalvage}
 use Rattle.plain_equations.specs.declared.expressions.Expr.{Expr}
-use Rattle.plain_equations.specs.declared.expressions.Expr.TheVariants.{Zero, Whole, Values, Million, Plan, Given, CapitalFactor, OperatingFactor, SalvageFraction, Sum', Difference', Product', Over'}
+use Rattle.plain_equations.specs.declared.expressions.Expr.TheVariants.{Zero, Whole, Values, FactorScale, Plan, Given, CapitalFactor, OperatingFactor, SalvageFraction, RecoveryFactor, Annuity, Sum', Difference', Product', ByProfile', Over'}
 use Rattle.plain_equations.specs.declared.expressions.Letter.{Letter}
 use Rattle.plain_equations.specs.declared.expressions.Letter.TheVariants.{M}
 use Rattle.plain_equations.specs.declared.expressions.Places.{Places}
@@ -218,13 +218,15 @@ pub all-exist : (d : Data) (e : Expr) (p : Point) (within : Letter → Bool) (fa
 all-exist d Zero p within facts known true_facts is = refl
 all-exist d Whole p within facts known true_facts is = refl
 all-exist d (Values n) p within facts known true_facts is = refl
-all-exist d Million p within facts known true_facts is = refl
+all-exist d FactorScale p within facts known true_facts is = refl
 all-exist d (Plan kind places) p within facts known true_facts is =
     and_from (exists d (variable kind (index_at p places))) true (variable-exists d p within facts known true_facts kind places is) refl
 all-exist d (Given param letters) p within facts known true_facts is = refl
 all-exist d (CapitalFactor years) p within facts known true_facts is = refl
 all-exist d OperatingFactor p within facts known true_facts is = refl
 all-exist d (SalvageFraction method) p within facts known true_facts is = refl
+all-exist d RecoveryFactor p within facts known true_facts is = refl
+all-exist d Annuity p within facts known true_facts is = refl
 all-exist d (Sum' _ a _ b) p within facts known true_facts is =
     let both = and_parts (names_existing within facts a) (names_existing within facts b) is in
     both_exist d (variables_in d a p) (variables_in d b p) (all-exist d a p within facts known true_facts both.0) (all-exist d b p within facts known true_facts both.1)
@@ -234,6 +236,10 @@ all-exist d (Difference' _ a _ b) p within facts known true_facts is =
 all-exist d (Product' _ a _ b) p within facts known true_facts is =
     let both = and_parts (names_existing within facts a) (names_existing within facts b) is in
     both_exist d (variables_in d a p) (variables_in d b p) (all-exist d a p within facts known true_facts both.0) (all-exist d b p within facts known true_facts both.1)
+all-exist d (ByProfile' _ a _ b) p within facts known true_facts is =
+    let both = and_parts (names_existing within facts a) (names_existing within facts b) is in
+    cond_both d.second (variables_in d b p) (variables_in d a p) (λ vs. list_all (exists d) vs ≡ true)
+    (λ _. all-exist d b p within facts known true_facts both.1) (λ _. all-exist d a p within facts known true_facts both.0)
 all-exist d (Over' letter condition _ a) p within facts known true_facts is =
     let vars : ℕ → List Var = λ i. variables_in d a (moved p letter i) in
     let passes : ℕ → Bool = λ i. is_true_at d condition (moved p letter i) in

@@ -139,6 +139,7 @@ two_technologies = record {
   sets = (codes "R" ∷ []) ∷ (codes "T" ∷ codes "U" ∷ []) ∷ (codes "F" ∷ []) ∷ [] ∷ (codes "1" ∷ []) ∷ (codes "D" ∷ []) ∷ (codes "2020" ∷ []) ∷ [] ∷ [] ∷ [] ∷ [] ∷ [];
   given = record { param = 14; index = codes "R" ∷ codes "T" ∷ codes "F" ∷ codes "1" ∷ codes "2020" ∷ []; value = pos (10 ^ 9) } ∷ [];
   defaults = [];
+  second = false;
 }
 
 -- T's production exists, U's doesn't, nor does T's use

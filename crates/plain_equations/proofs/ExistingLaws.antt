@@ -19,7 +19,7 @@ use Rattle.plain_equations.specs.declared.expressions.Defines.{Defines}
 use Rattle.plain_equations.specs.declared.expressions.Defines.TheVariants.{Nothing, LeftVariable, OtherTrade}
 use Rattle.plain_equations.specs.declared.expressions.Equation.{Equation}
 use Rattle.plain_equations.specs.declared.expressions.Expr.{Expr}
-use Rattle.plain_equations.specs.declared.expressions.Expr.TheVariants.{Zero, Whole, Values, Million, Plan, Given, CapitalFactor, OperatingFactor, SalvageFraction, Sum', Difference', Product', Over'}
+use Rattle.plain_equations.specs.declared.expressions.Expr.TheVariants.{Zero, Whole, Values, FactorScale, Plan, Given, CapitalFactor, OperatingFactor, SalvageFraction, RecoveryFactor, Annuity, Sum', Difference', Product', ByProfile', Over'}
 use Rattle.plain_equations.specs.declared.expressions.Letter.{Letter}
 use Rattle.plain_equations.specs.declared.expressions.Letter.TheVariants.{R, RR, L, T, F, E, M, Y, YY}
 use Rattle.plain_equations.specs.declared.points.Point.{Point}
@@ -111,11 +111,11 @@ occurring-exist d e eq i known instance =
     (ap (λ s. is_index d s i) subscripts ∙ tests.0) (ap (λ (s : Said). s.stands d i) means ∙ tests.1)
 
 -- of two plans that agree on the variables that exist the equation says the same
-pub says-same : (d : Data) (q : ℕ) (x y : Var → ℤ) (e : Equation) (eq : ℕ) (i : Index) → described e ≡ expected eq → is_instance d (name_at eq i) ≡ true
-    → AgreeOnExisting d x y → says d q x (name_at eq i) ≡ says d q y (name_at eq i)
-says-same d q x y e eq i known instance agree =
-    subst (λ (s : Said). s.says d q x i ≡ s.says d q y i) (ap (λ (k : Description). k.meaning) known)
-    (said-same d q x y (exists d) agree e i (occurring-exist d e eq i known instance))
+pub says-same : (places : ℕ) (d : Data) (q : ℕ) (x y : Var → ℤ) (e : Equation) (eq : ℕ) (i : Index) → described e ≡ expected eq → is_instance d (name_at eq i) ≡ true
+    → AgreeOnExisting d x y → says places d q x (name_at eq i) ≡ says places d q y (name_at eq i)
+says-same places d q x y e eq i known instance agree =
+    subst (λ (s : Said). s.says places d q x i ≡ s.says places d q y i) (ap (λ (k : Description). k.meaning) known)
+    (said-same places d q x y (exists d) agree e i (occurring-exist d e eq i known instance))
 
 -- ---- the variable that is defined
 
@@ -132,14 +132,17 @@ plan_exists d v (Plan kind places) p is all =
 plan_exists d v Zero p is all = absurd (none_is_some v is)
 plan_exists d v Whole p is all = absurd (none_is_some v is)
 plan_exists d v (Values n) p is all = absurd (none_is_some v is)
-plan_exists d v Million p is all = absurd (none_is_some v is)
+plan_exists d v FactorScale p is all = absurd (none_is_some v is)
 plan_exists d v (Given param letters) p is all = absurd (none_is_some v is)
 plan_exists d v (CapitalFactor years) p is all = absurd (none_is_some v is)
 plan_exists d v OperatingFactor p is all = absurd (none_is_some v is)
 plan_exists d v (SalvageFraction method) p is all = absurd (none_is_some v is)
+plan_exists d v RecoveryFactor p is all = absurd (none_is_some v is)
+plan_exists d v Annuity p is all = absurd (none_is_some v is)
 plan_exists d v (Sum' _ a _ b) p is all = absurd (none_is_some v is)
 plan_exists d v (Difference' _ a _ b) p is all = absurd (none_is_some v is)
 plan_exists d v (Product' _ a _ b) p is all = absurd (none_is_some v is)
+plan_exists d v (ByProfile' _ a _ b) p is all = absurd (none_is_some v is)
 plan_exists d v (Over' letter condition _ a) p is all = absurd (none_is_some v is)
 
 left_exists : (d : Data) (v : Var) (e : Expr) (p : Point) → left_variable e p ≡ Some v → list_all (exists d) (variables_in d e p) ≡ true → exists d v ≡ true
@@ -148,13 +151,16 @@ left_exists d v (Product' _ a _ b) p is all = plan_exists d v b p is (all_parts 
 left_exists d v Zero p is all = absurd (none_is_some v is)
 left_exists d v Whole p is all = absurd (none_is_some v is)
 left_exists d v (Values n) p is all = absurd (none_is_some v is)
-left_exists d v Million p is all = absurd (none_is_some v is)
+left_exists d v FactorScale p is all = absurd (none_is_some v is)
 left_exists d v (Given param letters) p is all = absurd (none_is_some v is)
 left_exists d v (CapitalFactor years) p is all = absurd (none_is_some v is)
 left_exists d v OperatingFactor p is all = absurd (none_is_some v is)
 left_exists d v (SalvageFraction method) p is all = absurd (none_is_some v is)
+left_exists d v RecoveryFactor p is all = absurd (none_is_some v is)
+left_exists d v Annuity p is all = absurd (none_is_some v is)
 left_exists d v (Sum' _ a _ b) p is all = absurd (none_is_some v is)
 left_exists d v (Difference' _ a _ b) p is all = absurd (none_is_some v is)
+left_exists d v (ByProfile' _ a _ b) p is all = absurd (none_is_some v is)
 left_exists d v (Over' letter condition _ a) p is all = absurd (none_is_some v is)
 
 chosen_exists : (d : Data) (b : Bool) (w v : Var) → exists d w ≡ true → cond b (Some w) None ≡ Some v → exists d v ≡ true

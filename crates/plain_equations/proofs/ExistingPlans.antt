@@ -21,7 +21,7 @@ use Rattle.plain_equations.specs.Occurrences.{AgreeOnExisting}
 -- at its instances the equation says the same of two plans that agree on the variables that exist
 abbrev pub NamesExisting : ℕ → Type 0
 NamesExisting eq =
-    (d : Data) (q : ℕ) (x y : Var → ℤ) (i : Index) → is_instance d (name_at eq i) ≡ true → AgreeOnExisting d x y → says d q x (name_at eq i) ≡ says d q y (name_at eq i)
+    (places : ℕ) (d : Data) (q : ℕ) (x y : Var → ℤ) (i : Index) → is_instance d (name_at eq i) ≡ true → AgreeOnExisting d x y → says places d q x (name_at eq i) ≡ says places d q y (name_at eq i)
 
 -- so do all equations
 abbrev pub AllNameExisting : Type 0
@@ -38,33 +38,33 @@ number_lies from (suc len) eq is =
       | inr later ↦ let rest = number_lies (from + 1) len eq later in (omega (arith, rest.0), omega (arith, rest.1))
     ]
 
-instance_same : AllNameExisting → (d : Data) (q : ℕ) (x y : Var → ℤ) (name : RowName) → AgreeOnExisting d x y → is_instance d name ≡ true → says d q x name ≡ says d q y name
-instance_same all d q x y name agree instance =
+instance_same : AllNameExisting → (places : ℕ) (d : Data) (q : ℕ) (x y : Var → ℤ) (name : RowName) → AgreeOnExisting d x y → is_instance d name ≡ true → says places d q x name ≡ says places d q y name
+instance_same all places d q x y name agree instance =
     let first = and_parts (list_any (nat_eq name.eq) equation_numbers && is_index d (subscripts_of name.eq) name.index) (stands_at d name.eq name.index) instance in
     let number = and_parts (list_any (nat_eq name.eq) equation_numbers) (is_index d (subscripts_of name.eq) name.index) first.0 in
     let lies = number_lies 1 64 name.eq number.0 in
-    all name.eq lies.0 lies.1 d q x y name.index instance agree
+    all name.eq lies.0 lies.1 places d q x y name.index instance agree
 
-each_met : AllNameExisting → (d : Data) (q : ℕ) (x y : Var → ℤ) → AgreeOnExisting d x y → (names : List RowName) → ((name : RowName) → Has names name → is_instance d name ≡ true)
-    → MeetsEach d q x names → MeetsEach d q y names
-each_met all d q x y agree [] are met = tt
-each_met all d q x y agree (name ∷ names) are met = (
-  subst Holds (instance_same all d q x y name agree (are name (inl refl))) met.0,
-  each_met all d q x y agree names (λ other in_names. are other (inr in_names)) met.1,
+each_met : AllNameExisting → (places : ℕ) (d : Data) (q : ℕ) (x y : Var → ℤ) → AgreeOnExisting d x y → (names : List RowName) → ((name : RowName) → Has names name → is_instance d name ≡ true)
+    → MeetsEach places d q x names → MeetsEach places d q y names
+each_met all places d q x y agree [] are met = tt
+each_met all places d q x y agree (name ∷ names) are met = (
+  subst Holds (instance_same all places d q x y name agree (are name (inl refl))) met.0,
+  each_met all places d q x y agree names (λ other in_names. are other (inr in_names)) met.1,
 )
 
 -- ---- plans
 
-feasible_too : AllNameExisting → (d : Data) (q : ℕ) (x y : Var → ℤ) → AgreeOnExisting d x y → Feasible d q x → Feasible d q y
-feasible_too all d q x y agree feasible = record {
+feasible_too : AllNameExisting → (places : ℕ) (d : Data) (q : ℕ) (x y : Var → ℤ) → AgreeOnExisting d x y → Feasible places d q x → Feasible places d q y
+feasible_too all places d q x y agree feasible = record {
   positive = feasible.positive;
-  equations = each_met all d q x y agree (instances d) (λ name. (Has-instances d name).0) feasible.equations;
+  equations = each_met all places d q x y agree (instances d) (λ name. (Has-instances d name).0) feasible.equations;
   signs = λ v is free. subst (λ z. pos 0 ≤ℤ z) (agree v is) (feasible.signs v is free);
 }
 
 -- one is feasible exactly where the other is
-pub same-feasible : AllNameExisting → (d : Data) (q : ℕ) (x y : Var → ℤ) → AgreeOnExisting d x y → Feasible d q x ↔ Feasible d q y
-same-feasible all d q x y agree = (feasible_too all d q x y agree, feasible_too all d q y x (λ v is. sym (agree v is)))
+pub same-feasible : AllNameExisting → (places : ℕ) (d : Data) (q : ℕ) (x y : Var → ℤ) → AgreeOnExisting d x y → Feasible places d q x ↔ Feasible places d q y
+same-feasible all places d q x y agree = (feasible_too all places d q x y agree, feasible_too all places d q y x (λ v is. sym (agree v is)))
 
 -- ---- cost
 

@@ -13,18 +13,18 @@ use Rattle.named_equations.specs.Instances.{name_at}
 use Rattle.named_equations.specs.Plans.{meets, cost}
 use Rattle.named_equations.specs.Positions.{positions, regions, all_years, years_since_first}
 use Rattle.named_equations.specs.Variables.{total_discounted_cost}
-use Rattle.named_equations.specs.WrittenFactors.{rate_of, life_of, capital_factor_of, operating_factor_of, salvage_fraction_of}
+use Rattle.named_equations.specs.WrittenFactors.{rate_of, own_rate_of, life_of, annuity_of, capital_factor_of, operating_factor_of, recovery_factor_of, salvage_fraction_of}
 use Rattle.plain_equations.specs.declared.expressions.Condition.{Condition}
 use Rattle.plain_equations.specs.declared.expressions.Condition.TheVariants.{Always, NotZero, SomeMode, Limit, Positive, StillCounts, SinkingFund, StraightLine, NoSalvage}
 use Rattle.plain_equations.specs.declared.expressions.Equation.{Equation}
 use Rattle.plain_equations.specs.declared.expressions.Expr.{Expr}
-use Rattle.plain_equations.specs.declared.expressions.Expr.TheVariants.{Zero, Whole, Values, Million, Plan, Given, CapitalFactor, OperatingFactor, SalvageFraction, Sum', Difference', Product', Over'}
+use Rattle.plain_equations.specs.declared.expressions.Expr.TheVariants.{Zero, Whole, Values, FactorScale, Plan, Given, CapitalFactor, OperatingFactor, SalvageFraction, RecoveryFactor, Annuity, Sum', Difference', Product', ByProfile', Over'}
 use Rattle.plain_equations.specs.declared.expressions.Letter.{Letter}
 use Rattle.plain_equations.specs.declared.fail.PlainFail.{PlainFail}
 use Rattle.plain_equations.specs.declared.fail.PlainFail.TheVariants.{TooWide, NoFactor}
 use Rattle.plain_equations.specs.declared.points.Point.{Point}
 use Rattle.plain_equations.specs.Answers.{compared, meets_answer, cost_answer}
-use Rattle.plain_equations.specs.Checked.{is_made, one_more, sum_from, checked}
+use Rattle.plain_equations.specs.Checked.{is_made, is_annuity_made, one_more, sum_from, checked}
 use Rattle.plain_equations.specs.Meaning.{is_true_at, chosen, years_at, meaning, Said, said}
 use Rattle.plain_equations.specs.Named.{named}
 use Rattle.plain_equations.specs.Points.{point_at, moved, set_of}
@@ -45,6 +45,11 @@ answers-both f g same (Ok c) (Ok d) a b is_a is_b =
     subst (λ z. Answers (fitting (f c d)) z) (same c d ∙ ap₂ g is_a is_b) (answers-value_or (in_range (f c d)) (f c d) TooWide)
 answers-both f g same (Ok c) (Err fail) a b is_a is_b = tt
 answers-both f g same (Err fail) rb a b is_a is_b = tt
+
+-- one of two values
+answers-choice : (choice : Bool) (ra rb : Result ℤ PlainFail) (a b : ℤ) → Answers ra a → Answers rb b → Answers (cond choice ra rb) (cond choice a b)
+answers-choice true ra rb a b is_a is_b = is_a
+answers-choice false ra rb a b is_a is_b = is_b
 
 -- ---- sums
 
@@ -100,37 +105,45 @@ chosen-is d p letter NoSalvage = refl
 -- ---- expressions
 
 -- what is answered is the number for which the expression stands
-pub answers-meaning : (d : Data) (q : ℕ) (x : Var → ℤ) (e : Expr) (p : Point) → Answers (checked d q x e p) (meaning d q x e p)
-answers-meaning d q x Zero p = refl
-answers-meaning d q x Whole p = refl
-answers-meaning d q x (Values n) p = refl
-answers-meaning d q x Million p = refl
-answers-meaning d q x (Plan kind places) p = refl
-answers-meaning d q x (Given param letters) p = refl
-answers-meaning d q x (CapitalFactor years) p =
-    answers-value_or (is_made (rate_of d p.index.region) (years_at d p years)) (capital_factor_of d p.index.region (years_at d p years)) NoFactor
-answers-meaning d q x OperatingFactor p =
-    answers-value_or (is_made (rate_of d p.index.region) (years_since_first d p.index.year)) (operating_factor_of d p.index.region (years_since_first d p.index.year)) NoFactor
-answers-meaning d q x (SalvageFraction method) p =
+pub answers-meaning : (places : ℕ) (d : Data) (q : ℕ) (x : Var → ℤ) (e : Expr) (p : Point) → Answers (checked places d q x e p) (meaning places d q x e p)
+answers-meaning places d q x Zero p = refl
+answers-meaning places d q x Whole p = refl
+answers-meaning places d q x (Values n) p = refl
+answers-meaning places d q x FactorScale p = refl
+answers-meaning places d q x (Plan kind subscripts) p = refl
+answers-meaning places d q x (Given param letters) p = refl
+answers-meaning places d q x (CapitalFactor years) p =
+    answers-value_or (is_made (rate_of d p.index.region) (years_at d p years)) (capital_factor_of places d p.index.region (years_at d p years)) NoFactor
+answers-meaning places d q x OperatingFactor p =
+    answers-value_or (is_made (rate_of d p.index.region) (years_since_first d p.index.year)) (operating_factor_of places d p.index.region (years_since_first d p.index.year)) NoFactor
+answers-meaning places d q x (SalvageFraction method) p =
     answers-value_or (is_made (rate_of d p.index.region) (life_of d p.index.region p.index.tech))
-    (salvage_fraction_of d method p.index.region p.index.tech p.index.year) NoFactor
-answers-meaning d q x (Sum' _ a _ b) p =
-    answers-both (λ c e. c +ℤ e) (λ c e. c +ℤ e) (λ c e. refl) (checked d q x a p) (checked d q x b p) (meaning d q x a p) (meaning d q x b p)
-    (answers-meaning d q x a p) (answers-meaning d q x b p)
-answers-meaning d q x (Difference' _ a _ b) p =
-    answers-both (λ c e. c -ℤ e) (λ c e. c -ℤ e) (λ c e. refl) (checked d q x a p) (checked d q x b p) (meaning d q x a p) (meaning d q x b p)
-    (answers-meaning d q x a p) (answers-meaning d q x b p)
-answers-meaning d q x (Product' _ a _ b) p =
-    answers-both (λ c e. c *ℤ e) (λ c e. c *ℤ e) (λ c e. refl) (checked d q x a p) (checked d q x b p) (meaning d q x a p) (meaning d q x b p)
-    (answers-meaning d q x a p) (answers-meaning d q x b p)
-answers-meaning d q x (Over' letter condition _ a) p =
+    (salvage_fraction_of places d method p.index.region p.index.tech p.index.year) NoFactor
+answers-meaning places d q x RecoveryFactor p =
+    answers-value_or (is_made (own_rate_of d p.index.region p.index.tech) (life_of d p.index.region p.index.tech))
+    (recovery_factor_of places d p.index.region p.index.tech) NoFactor
+answers-meaning places d q x Annuity p =
+    answers-value_or (is_annuity_made (rate_of d p.index.region) (life_of d p.index.region p.index.tech)) (annuity_of places d p.index.region p.index.tech) NoFactor
+answers-meaning places d q x (Sum' _ a _ b) p =
+    answers-both (λ c e. c +ℤ e) (λ c e. c +ℤ e) (λ c e. refl) (checked places d q x a p) (checked places d q x b p) (meaning places d q x a p) (meaning places d q x b p)
+    (answers-meaning places d q x a p) (answers-meaning places d q x b p)
+answers-meaning places d q x (Difference' _ a _ b) p =
+    answers-both (λ c e. c -ℤ e) (λ c e. c -ℤ e) (λ c e. refl) (checked places d q x a p) (checked places d q x b p) (meaning places d q x a p) (meaning places d q x b p)
+    (answers-meaning places d q x a p) (answers-meaning places d q x b p)
+answers-meaning places d q x (Product' _ a _ b) p =
+    answers-both (λ c e. c *ℤ e) (λ c e. c *ℤ e) (λ c e. refl) (checked places d q x a p) (checked places d q x b p) (meaning places d q x a p) (meaning places d q x b p)
+    (answers-meaning places d q x a p) (answers-meaning places d q x b p)
+answers-meaning places d q x (ByProfile' _ a _ b) p =
+    answers-choice d.second (checked places d q x b p) (checked places d q x a p) (meaning places d q x b p) (meaning places d q x a p)
+    (answers-meaning places d q x b p) (answers-meaning places d q x a p)
+answers-meaning places d q x (Over' letter condition _ a) p =
     let counts : ℕ → Bool = λ i. is_true_at d condition (moved p letter i) in
-    let f : ℕ → Result ℤ PlainFail = λ i. checked d q x a (moved p letter i) in
-    let g : ℕ → ℤ = λ i. meaning d q x a (moved p letter i) in
+    let f : ℕ → Result ℤ PlainFail = λ i. checked places d q x a (moved p letter i) in
+    let g : ℕ → ℤ = λ i. meaning places d q x a (moved p letter i) in
     let same : pos 0 +ℤ sum_over (filter counts (positions d (set_of letter))) g ≡ sum_over (chosen d p letter condition) g =
     zero-+ℤ (sum_over (filter counts (positions d (set_of letter))) g) ∙ ap (λ is. sum_over is g) (chosen-is d p letter condition) in
     subst (λ w. Answers (sum_from counts f (positions d (set_of letter)) (pos 0)) w) same
-    (answers-sum counts f g (λ i. answers-meaning d q x a (moved p letter i)) (positions d (set_of letter)) (pos 0))
+    (answers-sum counts f g (λ i. answers-meaning places d q x a (moved p letter i)) (positions d (set_of letter)) (pos 0))
 
 -- the comparison of two sides answers how the numbers stand to each other
 pub answers-compared : (sense : Sense) (ra rb : Result ℤ PlainFail) (a b : ℤ) → Answers ra a → Answers rb b
@@ -156,10 +169,10 @@ answers-cost d x =
     (regions d)
 
 -- what is answered on an equation as data is what the named equation says, where the two mean the same
-pub answers-named : (d : Data) (q : ℕ) (x : Var → ℤ) (equation : Equation) (eq : ℕ) (i : Index) → said equation ≡ named eq
-    → IfOk (meets_answer d q x equation i) (λ met. met ≡ meets d q x (name_at eq i))
-answers-named d q x equation eq i same =
-    subst (λ (s : Said). IfOk (meets_answer d q x equation i) (λ met. met ≡ holds (s.says d q x i))) same
-    (answers-compared equation.sense (checked d q x equation.left (point_at i)) (checked d q x equation.right (point_at i))
-    (meaning d q x equation.left (point_at i)) (meaning d q x equation.right (point_at i))
-    (answers-meaning d q x equation.left (point_at i)) (answers-meaning d q x equation.right (point_at i)))
+pub answers-named : (places : ℕ) (d : Data) (q : ℕ) (x : Var → ℤ) (equation : Equation) (eq : ℕ) (i : Index) → said equation ≡ named eq
+    → IfOk (meets_answer places d q x equation i) (λ met. met ≡ meets places d q x (name_at eq i))
+answers-named places d q x equation eq i same =
+    subst (λ (s : Said). IfOk (meets_answer places d q x equation i) (λ met. met ≡ holds (s.says places d q x i))) same
+    (answers-compared equation.sense (checked places d q x equation.left (point_at i)) (checked places d q x equation.right (point_at i))
+    (meaning places d q x equation.left (point_at i)) (meaning places d q x equation.right (point_at i))
+    (answers-meaning places d q x equation.left (point_at i)) (answers-meaning places d q x equation.right (point_at i)))

@@ -18,10 +18,10 @@ compared sense (Ok left) (Ok right) = Ok (stands sense left right)
 compared sense (Ok left) (Err fail) = Err fail
 compared sense (Err fail) right = Err fail
 
--- whether the plan meets the equation at the index, or why that can't be told
-abbrev pub meets_answer : Data → ℕ → (Var → ℤ) → Equation → Index → Result Bool PlainFail
-meets_answer d q x equation i =
-    compared equation.sense (checked d q x equation.left (point_at i)) (checked d q x equation.right (point_at i))
+-- whether the plan meets the equation at the index, with written factors of so many decimal places, or why that can't be told
+abbrev pub meets_answer : ℕ → Data → ℕ → (Var → ℤ) → Equation → Index → Result Bool PlainFail
+meets_answer places d q x equation i =
+    compared equation.sense (checked places d q x equation.left (point_at i)) (checked places d q x equation.right (point_at i))
 
 -- the cost of the plan times its denominator, or that a sum doesn't fit
 abbrev pub cost_answer : Data → (Var → ℤ) → Result ℤ PlainFail

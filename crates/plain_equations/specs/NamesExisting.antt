@@ -10,7 +10,7 @@ use Rattle.plain_equations.specs.declared.expressions.Condition.{Condition}
 use Rattle.plain_equations.specs.declared.expressions.Condition.TheVariants.{Always, NotZero, SomeMode, Limit, Positive, StillCounts, SinkingFund, StraightLine, NoSalvage}
 use Rattle.plain_equations.specs.declared.expressions.Equation.{Equation}
 use Rattle.plain_equations.specs.declared.expressions.Expr.{Expr}
-use Rattle.plain_equations.specs.declared.expressions.Expr.TheVariants.{Zero, Whole, Values, Million, Plan, Given, CapitalFactor, OperatingFactor, SalvageFraction, Sum', Difference', Product', Over'}
+use Rattle.plain_equations.specs.declared.expressions.Expr.TheVariants.{Zero, Whole, Values, FactorScale, Plan, Given, CapitalFactor, OperatingFactor, SalvageFraction, RecoveryFactor, Annuity, Sum', Difference', Product', ByProfile', Over'}
 use Rattle.plain_equations.specs.declared.expressions.Letter.{Letter}
 use Rattle.plain_equations.specs.declared.expressions.Letter.TheVariants.{R, RR, L, T, F, E, M, Y, YY}
 use Rattle.plain_equations.specs.declared.expressions.Places.{Places}
@@ -71,15 +71,18 @@ abbrev pub has_free : Letter → Expr → Bool
 has_free letter Zero = false
 has_free letter Whole = false
 has_free letter (Values n) = false
-has_free letter Million = false
+has_free letter FactorScale = false
 has_free letter (Plan kind places) = is_somewhere places letter
 has_free letter (Given param letters) = false
 has_free letter (CapitalFactor years) = false
 has_free letter OperatingFactor = false
 has_free letter (SalvageFraction method) = false
+has_free letter RecoveryFactor = false
+has_free letter Annuity = false
 has_free letter (Sum' _ a _ b) = has_free letter a || has_free letter b
 has_free letter (Difference' _ a _ b) = has_free letter a || has_free letter b
 has_free letter (Product' _ a _ b) = has_free letter a || has_free letter b
+has_free letter (ByProfile' _ a _ b) = has_free letter a || has_free letter b
 has_free letter (Over' other condition _ a) = not (is_same other letter) && has_free letter a
 
 -- the subscripts of the equation: those that its variables have with no sum over them
@@ -157,15 +160,18 @@ abbrev pub names_existing : (Letter → Bool) → List Condition → Expr → Bo
 names_existing within facts Zero = true
 names_existing within facts Whole = true
 names_existing within facts (Values n) = true
-names_existing within facts Million = true
+names_existing within facts FactorScale = true
 names_existing within facts (Plan kind places) = is_existing within facts kind places
 names_existing within facts (Given param letters) = true
 names_existing within facts (CapitalFactor years) = true
 names_existing within facts OperatingFactor = true
 names_existing within facts (SalvageFraction method) = true
+names_existing within facts RecoveryFactor = true
+names_existing within facts Annuity = true
 names_existing within facts (Sum' _ a _ b) = names_existing within facts a && names_existing within facts b
 names_existing within facts (Difference' _ a _ b) = names_existing within facts a && names_existing within facts b
 names_existing within facts (Product' _ a _ b) = names_existing within facts a && names_existing within facts b
+names_existing within facts (ByProfile' _ a _ b) = names_existing within facts a && names_existing within facts b
 names_existing within facts (Over' letter condition _ a) = names_existing (also letter within) (condition ∷ apart_from letter facts) a
 
 -- each variable of the equation passes, at indices with these subscripts at which the equation stands

@@ -6,7 +6,7 @@ use Rattle.row_core.specs.declared.Sense.TheVariants.{Least, Equal, Most}
 use Rattle.plain_equations.specs.declared.expressions.Defines.{Defines}
 use Rattle.plain_equations.specs.declared.expressions.Defines.TheVariants.{Nothing, LeftVariable, OtherTrade}
 use Rattle.plain_equations.specs.declared.expressions.Expr.{Expr}
-use Rattle.plain_equations.specs.declared.expressions.Expr.TheVariants.{Zero, Whole, Values, Million, Plan, Given, CapitalFactor, OperatingFactor, SalvageFraction, Sum', Difference', Product', Over'}
+use Rattle.plain_equations.specs.declared.expressions.Expr.TheVariants.{Zero, Whole, Values, FactorScale, Plan, Given, CapitalFactor, OperatingFactor, SalvageFraction, RecoveryFactor, Annuity, Sum', Difference', Product', ByProfile', Over'}
 use Rattle.plain_equations.specs.declared.expressions.Letter.{Letter}
 use Rattle.plain_equations.specs.declared.expressions.Letter.TheVariants.{L, Y}
 
@@ -15,15 +15,18 @@ abbrev pub lacks : ℕ → Expr → Bool
 lacks k Zero = true
 lacks k Whole = true
 lacks k (Values n) = true
-lacks k Million = true
+lacks k FactorScale = true
 lacks k (Plan kind places) = not (nat_eq kind k)
 lacks k (Given param letters) = true
 lacks k (CapitalFactor years) = true
 lacks k OperatingFactor = true
 lacks k (SalvageFraction method) = true
+lacks k RecoveryFactor = true
+lacks k Annuity = true
 lacks k (Sum' _ a _ b) = lacks k a && lacks k b
 lacks k (Difference' _ a _ b) = lacks k a && lacks k b
 lacks k (Product' _ a _ b) = lacks k a && lacks k b
+lacks k (ByProfile' _ a _ b) = lacks k a && lacks k b
 lacks k (Over' letter condition _ a) = lacks k a
 
 -- the subscripts are l and y
@@ -41,12 +44,13 @@ is_l_y [] = false
 is_l_y (L ∷ letters) = after_l letters
 is_l_y (_ ∷ letters) = false
 
--- the expression is a power of ten, or YearSplit[l,y], or a product of these
+-- the expression is a power of ten, or YearSplit[l,y], or a product of these, or one of two such by the profile
 abbrev pub is_scale : Expr → Bool
 is_scale (Values n) = true
-is_scale Million = true
+is_scale FactorScale = true
 is_scale (Given param letters) = nat_eq param YEAR_SPLIT && is_l_y letters.now
 is_scale (Product' _ a _ b) = is_scale a && is_scale b
+is_scale (ByProfile' _ a _ b) = is_scale a && is_scale b
 is_scale _ = false
 
 -- the expression is a variable, of a kind that the other one lacks

@@ -7,7 +7,7 @@ ghost use Rattle.named_equations.specs.Capacity.{still_counts};
 ghost use Rattle.named_equations.specs.Positions.{positions, years_since_first, years_left};
 ghost use Rattle.named_equations.specs.Salvage.{outlasts, by_sinking_fund, by_straight_line};
 ghost use Rattle.named_equations.specs.Where.{is_not_zero};
-ghost use Rattle.named_equations.specs.WrittenFactors.{rate_of, method_of, life_of};
+ghost use Rattle.named_equations.specs.WrittenFactors.{rate_of, own_rate_of, method_of, life_of};
 ghost use Rattle.plain_equations.specs.Meaning.{is_true_at, years_at, value_at_point};
 ghost use Rattle.plain_equations.specs.Points.{moved};
 ghost use Rattle.plain_equations.specs.declared.expressions.Letter.TheVariants.{M};
@@ -16,7 +16,9 @@ use crate::data::PlainData;
 use crate::expressions::Letter::{M, R, T};
 use crate::expressions::{Condition, Letter, Years};
 use crate::points::{Point, set_of};
-use model_sets::param_numbers::{DEPRECIATION_METHOD, DISCOUNT_RATE, OPERATIONAL_LIFE};
+use model_sets::param_numbers::{
+    DEPRECIATION_METHOD, DISCOUNT_RATE, DISCOUNT_RATE_IDV, OPERATIONAL_LIFE,
+};
 
 /// The scale of data values: 1 is 10^9.
 const BILLION: u128 = 1_000_000_000;
@@ -27,6 +29,14 @@ impl PlainData {
         ensures { result ≡ rate_of self.now point.index.region }
     {
         self.value_at(point, DISCOUNT_RATE, &[R]).unsigned_abs()
+    }
+
+    /// The technology's own rate of discount, in billionths.
+    pub(crate) fn own_rate(&self, point: Point) -> u128
+        ensures { result ≡ own_rate_of self.now point.index.region point.index.tech }
+    {
+        self.value_at(point, DISCOUNT_RATE_IDV, &[R, T])
+            .unsigned_abs()
     }
 
     /// The number of the method of depreciation.

@@ -34,13 +34,15 @@ pub struct PlainDefault {
     pub value: i128,
 }
 
-/// The sets of a model, the values given and the defaults given. Of two values given at one index, or of
-/// two defaults of one parameter, the first counts. Where there is neither, the value is 0.
+/// The sets of a model, the values given, the defaults given, and whether profile 2 holds, under which an
+/// investment is spread over the life of its technology. Of two values given at one index, or of two defaults
+/// of one parameter, the first counts. Where there is neither, the value is 0.
 #[derive(Drop)]
 pub struct PlainData {
     sets: Sets,
     given: Vec<PlainValue>,
     defaults: Vec<PlainDefault>,
+    second: bool,
 }
 
 impl Model for PlainData {
@@ -50,19 +52,32 @@ impl Model for PlainData {
 
     ghost Value = { Data };
 
-    ghost view = { λ plain. record { sets = plain.sets; given = map given_of plain.given.items; defaults = map default_of_parameter plain.defaults.items } };
+    ghost view = { λ plain. record { sets = plain.sets; given = map given_of plain.given.items; defaults = map default_of_parameter plain.defaults.items; second = plain.second } };
 }
 
 impl PlainData {
-    /// The data of these sets, values and defaults.
-    pub fn new(sets: Sets, given: Vec<PlainValue>, defaults: Vec<PlainDefault>) -> PlainData
-        ensures { result ≡ record { sets = sets; given = map given_of given.items; defaults = map default_of_parameter defaults.items } }
+    /// The data of these sets, values and defaults, under profile 2 or under profile 1.
+    pub fn new(
+        sets: Sets,
+        given: Vec<PlainValue>,
+        defaults: Vec<PlainDefault>,
+        second: bool,
+    ) -> PlainData
+        ensures { result ≡ record { sets = sets; given = map given_of given.items; defaults = map default_of_parameter defaults.items; second = second } }
     {
         PlainData {
             sets,
             given,
             defaults,
+            second,
         }
+    }
+
+    /// Whether profile 2 holds.
+    pub(crate) fn second(&self) -> bool
+        ensures { result ≡ self.now.second }
+    {
+        self.second
     }
 
     /// How many members the set has.

@@ -69,28 +69,36 @@ pub enum Condition {
     NoSalvage,
 }
 
-/// A whole number that a plan and the data give at subscripts.
+/// A whole number that a plan and the data give at subscripts. Written factors are whole numbers of so many
+/// decimal places.
 pub enum Expr {
     Zero,
     /// The common denominator of the plan's values.
     Whole,
     /// The scale of so many data values.
     Values(Count),
-    /// The scale of a written factor.
-    Million,
+    /// The scale of a written factor: 10 to the number of its decimal places.
+    FactorScale,
     /// The value of the variable of this kind.
     Plan(u8, Places),
     /// The value of the parameter of this number, in billionths.
     Given(u8, &'static [Letter]),
-    /// What 1 is worth so many years earlier, at the beginning of a year, in millionths.
+    /// What 1 is worth so many years earlier, at the beginning of a year.
     CapitalFactor(Years),
     /// The same from the middle of year `y` to the first year.
     OperatingFactor,
-    /// The part of an investment of year `y` that is left, by this method, in millionths.
+    /// The part of an investment of year `y` that is left, by this method.
     SalvageFraction(u8),
+    /// The part of an investment in the technology that is due each year of its life, at its own rate.
+    RecoveryFactor,
+    /// What 1 in each year of the technology's life is worth when it begins.
+    Annuity,
     Sum(&'static Expr, &'static Expr),
     Difference(&'static Expr, &'static Expr),
     Product(&'static Expr, &'static Expr),
+    /// The first under profile 1, where an investment is paid at once, and the second under profile 2, where it is
+    /// spread over the life of the technology.
+    ByProfile(&'static Expr, &'static Expr),
     /// The sum over the members of the subscript's set for which the condition is true.
     Over(Letter, Condition, &'static Expr),
 }

@@ -8,7 +8,8 @@ ghost use Rattle.plain_equations.specs.Refused.{sum_of, difference_of, product_o
 pub enum PlainFail {
     /// A number is formed that doesn't lie from `-(2^127 - 1)` to `2^127 - 1`.
     TooWide,
-    /// A written factor is asked for a rate of 2^64 billionths or more, or for 2^16 years or more.
+    /// A written factor is asked for a rate of 2^64 billionths or more, an annuity for one of 2^38 or more, or any
+    /// of them for 2^16 years or more.
     NoFactor,
 }
 

@@ -24,7 +24,7 @@ use row_core::equation_numbers::{E9, EQ_SPECIFIED_DEMAND};
 /// same for the plan whose numbers, the denominator among them, are all multiplied by a positive number.
 pub fn scaling_law(eq: u8)
     requires { IsEquation eq }
-    ensures { (d : Data) (k q : ℕ) (x : Var → ℤ) (i : Index) → 0 < k → Meets d q x (name_at eq i) ↔ Meets d (k * q) (λ v. pos k *ℤ x v) (name_at eq i) }
+    ensures { (places : ℕ) (d : Data) (k q : ℕ) (x : Var → ℤ) (i : Index) → 0 < k → Meets places d q x (name_at eq i) ↔ Meets places d (k * q) (λ v. pos k *ℤ x v) (name_at eq i) }
 {
     entry(eq);
 }
@@ -33,7 +33,7 @@ pub fn scaling_law(eq: u8)
 /// the one that it defines there, agree on that one too. Of the data it asks that YearSplit isn't 0 at the index.
 pub fn determination_law(eq: u8)
     requires { IsEquation eq }
-    ensures { (d : Data) (q : ℕ) (x y : Var → ℤ) (i : Index) (v : Var) → variable_of (name_at eq i) ≡ Some v → year_split d i.slice i.year ≢ pos 0 → ((u : Var) → u ≢ v → x u ≡ y u) → Meets d q x (name_at eq i) → Meets d q y (name_at eq i) → x v ≡ y v }
+    ensures { (places : ℕ) (d : Data) (q : ℕ) (x y : Var → ℤ) (i : Index) (v : Var) → variable_of (name_at eq i) ≡ Some v → year_split d i.slice i.year ≢ pos 0 → ((u : Var) → u ≢ v → x u ≡ y u) → Meets places d q x (name_at eq i) → Meets places d q y (name_at eq i) → x v ≡ y v }
 {
     entry(eq);
 }
@@ -59,7 +59,7 @@ pub fn variable_laws()
 /// clause `existing` of `equation`.
 pub fn existence_law(eq: u8)
     requires { IsEquation eq }
-    ensures agreeing { (d : Data) (q : ℕ) (x y : Var → ℤ) (i : Index) → is_instance d (name_at eq i) ≡ true → AgreeOnExisting d x y → says d q x (name_at eq i) ≡ says d q y (name_at eq i) }
+    ensures agreeing { (places : ℕ) (d : Data) (q : ℕ) (x y : Var → ℤ) (i : Index) → is_instance d (name_at eq i) ≡ true → AgreeOnExisting d x y → says places d q x (name_at eq i) ≡ says places d q y (name_at eq i) }
     ensures defined { (d : Data) (i : Index) (v : Var) → is_instance d (name_at eq i) ≡ true → variable_of (name_at eq i) ≡ Some v → exists d v ≡ true }
 {
     entry(eq);
@@ -68,7 +68,7 @@ pub fn existence_law(eq: u8)
 /// A plan is its numbers at the variables that exist, and no others count: of two plans that agree on these, one is feasible
 /// exactly where the other is, and they cost the same.
 pub fn plan_laws()
-    ensures feasible { (d : Data) (q : ℕ) (x y : Var → ℤ) → AgreeOnExisting d x y → Feasible d q x ↔ Feasible d q y }
+    ensures feasible { (places : ℕ) (d : Data) (q : ℕ) (x y : Var → ℤ) → AgreeOnExisting d x y → Feasible places d q x ↔ Feasible places d q y }
     ensures cost { (d : Data) (x y : Var → ℤ) → AgreeOnExisting d x y → cost d x ≡ cost d y }
 {
     for eq in EQ_SPECIFIED_DEMAND..E9 + 1 {

@@ -2,9 +2,9 @@
 
 use crate::{PlainData, PlainDefault, PlainFail, PlainPlan, PlainValue, equation};
 use model_sets::Sets;
-use model_sets::param_numbers::USED_PARAM_COUNT;
-use row_core::equation_numbers::E9;
-use row_core::kind_numbers::KIND_COUNT;
+use model_sets::param_numbers::{DISCOUNT_RATE_IDV, OPERATIONAL_LIFE, USED_PARAM_COUNT};
+use row_core::equation_numbers::{CC1, E9};
+use row_core::kind_numbers::{CAPITAL_INVESTMENT, KIND_COUNT, NEW_CAPACITY};
 use row_core::{Index, RowName, Var};
 use std::alloc::Global;
 use std::process::Abort;
@@ -120,8 +120,13 @@ const ZEROS: Index = Index {
     year: 0,
 };
 
-/// The base example, with these defaults before its own.
-fn base_with(rt: &impl Abort, alloc: Global, changed: &[PlainDefault]) -> Result<PlainData, Fail> {
+/// The base example, with these defaults before its own, under profile 2 or under profile 1.
+fn base_under(
+    rt: &impl Abort,
+    alloc: Global,
+    changed: &[PlainDefault],
+    second: bool,
+) -> Result<PlainData, Fail> {
     let mut sets = Sets::new(alloc)?;
     assert!(rt; sets.add(1, b"R").is_ok());
     assert!(rt; sets.add(2, b"T").is_ok());
@@ -139,7 +144,12 @@ fn base_with(rt: &impl Abort, alloc: Global, changed: &[PlainDefault]) -> Result
             value: *value,
         })?;
     }
-    Ok(PlainData::new(sets, Vec::new(alloc), defaults))
+    Ok(PlainData::new(sets, Vec::new(alloc), defaults, second))
+}
+
+/// The base example, with these defaults before its own.
+fn base_with(rt: &impl Abort, alloc: Global, changed: &[PlainDefault]) -> Result<PlainData, Fail> {
+    base_under(rt, alloc, changed, false)
 }
 
 /// The best plan over so many parts of a unit, with the value of this kind raised by one part.
@@ -163,7 +173,7 @@ fn raised(alloc: Global, whole: u64, kind: u8) -> Result<PlainPlan, Fail> {
 fn first_broken(rt: &impl Abort, data: &PlainData, plan: &PlainPlan, names: &[RowName]) -> u8 {
     for name in names.iter() {
         assert!(rt; name.eq >= 1 && name.eq <= E9);
-        if data.meets(plan, equation(name.eq), name.index) != Ok(true) {
+        if data.meets(6, plan, equation(name.eq), name.index) != Ok(true) {
             return name.eq;
         }
     }
@@ -192,10 +202,10 @@ fn best_plan_and_near_misses(rt: HostRuntime) -> Result<(), Fail> {
     // Over a thousand million parts the numbers of CAb1 don't fit any more.
     let fine = raised(rt.alloc(), 1_000_000_000, 0)?;
     assert_eq!(&rt;
-        data.meets(&fine, equation(6), ZEROS),
+        data.meets(6, &fine, equation(6), ZEROS),
         Err(PlainFail::TooWide)
     );
-    assert_eq!(&rt; data.meets(&fine, equation(5), ZEROS), Ok(true));
+    assert_eq!(&rt; data.meets(6, &fine, equation(5), ZEROS), Ok(true));
     for (kind, eq) in BROKEN.iter() {
         let plan = raised(rt.alloc(), 1, *kind)?;
         assert_eq!(&rt; first_broken(&rt, &data, &plan, &names), *eq, "kind {kind}");
@@ -216,11 +226,11 @@ fn numbers_that_do_not_fit(rt: HostRuntime) -> Result<(), Fail> {
     )?;
     // CAa2 adds 10^9 * 10 and the residual capacity.
     assert_eq!(&rt;
-        data.meets(&plan, equation(3), ZEROS),
+        data.meets(6, &plan, equation(3), ZEROS),
         Err(PlainFail::TooWide)
     );
     // OC2 doesn't ask for it.
-    assert_eq!(&rt; data.meets(&plan, equation(32), ZEROS), Ok(true));
+    assert_eq!(&rt; data.meets(6, &plan, equation(32), ZEROS), Ok(true));
     let data = base_with(
         &rt,
         rt.alloc(),
@@ -230,10 +240,10 @@ fn numbers_that_do_not_fit(rt: HostRuntime) -> Result<(), Fail> {
         }],
     )?;
     assert_eq!(&rt;
-        data.meets(&plan, equation(26), ZEROS),
+        data.meets(6, &plan, equation(26), ZEROS),
         Err(PlainFail::NoFactor)
     );
-    assert_eq!(&rt; data.meets(&plan, equation(25), ZEROS), Ok(true));
+    assert_eq!(&rt; data.meets(6, &plan, equation(25), ZEROS), Ok(true));
     Ok(())
 }
 
@@ -257,7 +267,7 @@ fn values_by_name(rt: HostRuntime) -> Result<(), Fail> {
         index,
         value: 3 * ONE,
     })?;
-    let data = PlainData::new(sets, given, Vec::new(rt.alloc()));
+    let data = PlainData::new(sets, given, Vec::new(rt.alloc()), false);
     let mut values = Vec::new(rt.alloc());
     values.push((
         Var {
@@ -268,10 +278,65 @@ fn values_by_name(rt: HostRuntime) -> Result<(), Fail> {
     ))?;
     let plan = PlainPlan { whole: 1, values };
     // TotalCapacityAnnual is 0 in 2020, and 3 in 2021, where the residual capacity is 3.
-    assert_eq!(&rt; data.meets(&plan, equation(3), ZEROS), Ok(true));
+    assert_eq!(&rt; data.meets(6, &plan, equation(3), ZEROS), Ok(true));
     assert_eq!(&rt;
-        data.meets(&plan, equation(3), Index { year: 1, ..ZEROS }),
+        data.meets(6, &plan, equation(3), Index { year: 1, ..ZEROS }),
         Ok(true)
     );
+    Ok(())
+}
+
+/// A plan that builds 10, over so many parts of a unit, and invests so many parts.
+fn invests(alloc: Global, whole: u64, parts: i128) -> Result<PlainPlan, Fail> {
+    let mut values = Vec::new(alloc);
+    for (kind, value) in [
+        (NEW_CAPACITY, i128::from(whole).wrapping_mul(10)),
+        (CAPITAL_INVESTMENT, parts),
+    ] {
+        values.push((Var { kind, index: ZEROS }, value))?;
+    }
+    Ok(PlainPlan { whole, values })
+}
+
+/// The decimal places, the profile, the parts of a unit, the parts invested, and whether that is what CC1 asks.
+/// A unit costs 5, its life is of 2 years, and its own rate is 0.1: each year 0.5238095.. of it is due, which is
+/// worth twice as much, 1.0476190.., at the region's rate of 0.
+const INVESTMENTS: [(u8, bool, u64, i128, bool); 10] = [
+    (6, true, 10_000, 523_809, true),
+    (6, true, 10_000, 523_810, false),
+    (6, true, 10_000, 500_000, false),
+    (6, false, 10_000, 500_000, true),
+    (6, false, 10_000, 523_809, false),
+    (9, true, 10_000_000, 523_809_523, true),
+    (9, true, 10_000_000, 523_809_524, false),
+    (9, true, 10_000_000, 523_809_000, false),
+    (9, false, 10_000_000, 500_000_000, true),
+    (6, true, 10_000_000, 523_809_523, false),
+];
+
+#[test]
+fn an_investment_is_spread_over_its_life_under_the_second_profile(
+    rt: HostRuntime,
+) -> Result<(), Fail> {
+    let changed = [
+        PlainDefault {
+            param: OPERATIONAL_LIFE,
+            value: 2 * ONE,
+        },
+        PlainDefault {
+            param: DISCOUNT_RATE_IDV,
+            value: ONE / 10,
+        },
+    ];
+    for (places, second, whole, parts, asked) in INVESTMENTS.iter() {
+        assert!(&rt; *places == 6 || *places == 9);
+        let data = base_under(&rt, rt.alloc(), &changed, *second)?;
+        let plan = invests(rt.alloc(), *whole, *parts)?;
+        assert_eq!(&rt;
+            data.meets(*places, &plan, equation(CC1), ZEROS),
+            Ok(*asked),
+            "places {places} profile {second} parts {parts} of {whole}"
+        );
+    }
     Ok(())
 }

@@ -76,7 +76,7 @@ fn the_base_example_has_its_printed_rows(rt: HostRuntime) -> Result<(), Fail> {
 fn the_total_discounted_cost_alone_is_minimised(rt: HostRuntime) -> Result<(), Fail> {
     let text = section(rt.alloc(), SETS, "")?;
     let model = model_of(&rt, rt.alloc(), text.as_str())?;
-    let book = book_of(rt.alloc(), &model)?;
+    let book = book_of(rt.alloc(), &model, 6)?;
     assert_eq!(rt; book.vars().len(), 39);
     let mut total = 0;
     for var in book.vars() {
@@ -111,7 +111,7 @@ fn trade(region: u16, other: u16) -> Var {
 fn the_exchange_back_defines_nothing(rt: HostRuntime) -> Result<(), Fail> {
     let text = section(rt.alloc(), TWO_REGIONS, "")?;
     let model = model_of(&rt, rt.alloc(), text.as_str())?;
-    let book = book_of(rt.alloc(), &model)?;
+    let book = book_of(rt.alloc(), &model, 6)?;
     assert_eq!(rt; book.rows().len(), 90);
     let mut defined = Vec::new(rt.alloc());
     for (i, row) in book.rows().iter().enumerate() {

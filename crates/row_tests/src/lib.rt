@@ -19,6 +19,8 @@ mod printed_cost;
 #[cfg(test)]
 mod printed_emission;
 #[cfg(test)]
+mod printed_factors;
+#[cfg(test)]
 mod printed_limit;
 #[cfg(test)]
 mod random;

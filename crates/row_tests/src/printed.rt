@@ -1,5 +1,7 @@
 //! Data sections with the rows that are printed for them.
 
+ghost use Rattle.discount_factors.specs.Factors.{IsPlaces};
+
 use crate::lines::push_row;
 use crate::sections::model_of;
 use data_tests::section;
@@ -21,9 +23,11 @@ pub(crate) struct Printed {
     pub(crate) rows: &'static str,
 }
 
-/// The book of a model.
-pub(crate) fn book_of(alloc: Global, model: &ModelData) -> Result<RowBook, Fail> {
-    match RowBook::new(alloc, model) {
+/// The book of a model, with written factors of so many decimal places.
+pub(crate) fn book_of(alloc: Global, model: &ModelData, places: u8) -> Result<RowBook, Fail>
+    requires { IsPlaces places }
+{
+    match RowBook::new(alloc, model, places) {
         Ok(book) => Ok(book),
         Err(_) => Err(Fail::from("no book")),
     }
@@ -34,9 +38,12 @@ fn lines_of(
     rt: &impl Abort,
     alloc: Global,
     model: &ModelData,
+    places: u8,
     equations: &[u8],
-) -> Result<String, Fail> {
-    let book = book_of(alloc, model)?;
+) -> Result<String, Fail>
+    requires { IsPlaces places }
+{
+    let book = book_of(alloc, model, places)?;
     let mut lines = String::new(alloc);
     for row in book.rows() {
         if equations.is_empty() || equations.contains(&row.name.eq) {
@@ -46,16 +53,28 @@ fn lines_of(
     Ok(lines)
 }
 
-/// Each data section is accepted, and its rows are the printed ones.
+/// Each data section is accepted, and its rows with 6 decimal places are the printed ones.
 pub(crate) fn assert_printed(
     rt: &impl Abort,
     alloc: Global,
     cases: &[Printed],
 ) -> Result<(), Fail> {
+    assert_printed_with(rt, alloc, 6, cases)
+}
+
+/// The same with so many decimal places.
+pub(crate) fn assert_printed_with(
+    rt: &impl Abort,
+    alloc: Global,
+    places: u8,
+    cases: &[Printed],
+) -> Result<(), Fail>
+    requires { IsPlaces places }
+{
     for case in cases {
         let text = section(alloc, case.sets, case.statements)?;
         let model = model_of(rt, alloc, text.as_str())?;
-        let lines = lines_of(rt, alloc, &model, case.equations)?;
+        let lines = lines_of(rt, alloc, &model, places, case.equations)?;
         assert_eq!(rt; lines.as_str(), case.rows);
     }
     Ok(())

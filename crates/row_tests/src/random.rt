@@ -1,25 +1,25 @@
 //! Random data sections.
 
-ghost use Rattle.model_sets.specs.Params.{IsUsedParam};
+ghost use Rattle.model_sets.specs.Params.{IsParam};
 
 use data_tests::section;
-use mathprog_data::{param_word, set_word};
 use model_sets::param_numbers::{
     ACCUMULATED_ANNUAL_DEMAND, ANNUAL_EMISSION_LIMIT, ANNUAL_EXOGENOUS_EMISSION,
     AVAILABILITY_FACTOR, CAPACITY_FACTOR, CAPACITY_TO_ACTIVITY_UNIT, CAPITAL_COST,
-    DEPRECIATION_METHOD, DISCOUNT_RATE, EMISSION_ACTIVITY_RATIO, EMISSIONS_PENALTY, FIXED_COST,
-    INPUT_ACTIVITY_RATIO, MODEL_PERIOD_EMISSION_LIMIT, MODEL_PERIOD_EXOGENOUS_EMISSION,
-    OPERATIONAL_LIFE, OUTPUT_ACTIVITY_RATIO, RE_MIN_PRODUCTION_TARGET, RE_TAG_FUEL,
-    RE_TAG_TECHNOLOGY, RESERVE_MARGIN, RESERVE_MARGIN_TAG_FUEL, RESERVE_MARGIN_TAG_TECHNOLOGY,
-    RESIDUAL_CAPACITY, SPECIFIED_ANNUAL_DEMAND, SPECIFIED_DEMAND_PROFILE,
-    TOTAL_ANNUAL_MAX_CAPACITY, TOTAL_ANNUAL_MAX_CAPACITY_INVESTMENT, TOTAL_ANNUAL_MIN_CAPACITY,
+    DEPRECIATION_METHOD, DISCOUNT_RATE, DISCOUNT_RATE_IDV, EMISSION_ACTIVITY_RATIO,
+    EMISSIONS_PENALTY, FIXED_COST, INPUT_ACTIVITY_RATIO, MODEL_PERIOD_EMISSION_LIMIT,
+    MODEL_PERIOD_EXOGENOUS_EMISSION, OPERATIONAL_LIFE, OUTPUT_ACTIVITY_RATIO,
+    RE_MIN_PRODUCTION_TARGET, RE_TAG_FUEL, RE_TAG_TECHNOLOGY, RESERVE_MARGIN,
+    RESERVE_MARGIN_TAG_FUEL, RESERVE_MARGIN_TAG_TECHNOLOGY, RESIDUAL_CAPACITY,
+    SPECIFIED_ANNUAL_DEMAND, SPECIFIED_DEMAND_PROFILE, TOTAL_ANNUAL_MAX_CAPACITY,
+    TOTAL_ANNUAL_MAX_CAPACITY_INVESTMENT, TOTAL_ANNUAL_MIN_CAPACITY,
     TOTAL_ANNUAL_MIN_CAPACITY_INVESTMENT, TOTAL_TECHNOLOGY_ANNUAL_ACTIVITY_LOWER_LIMIT,
     TOTAL_TECHNOLOGY_ANNUAL_ACTIVITY_UPPER_LIMIT,
     TOTAL_TECHNOLOGY_MODEL_PERIOD_ACTIVITY_LOWER_LIMIT,
     TOTAL_TECHNOLOGY_MODEL_PERIOD_ACTIVITY_UPPER_LIMIT, TRADE_ROUTE, VARIABLE_COST, YEAR_SPLIT,
 };
 use model_sets::set_numbers::{REGION, YEAR};
-use param_tables::subscript_sets;
+use model_sets::{param_word, set_word, subscript_sets};
 use std::alloc::{AllocError, Global};
 use std::process::Abort;
 
@@ -43,7 +43,7 @@ static YEARS: [Members; 3] = [
     &["2030"],
 ];
 
-/// The used parameters by number, and the values from which theirs are taken: limits that aren't set, that are 0 and
+/// The parameters that every model uses, by number, and the values from which theirs are taken: limits that aren't set, that are 0 and
 /// above; rates of nothing, of a twentieth and of the whole; lives within the model period and beyond it.
 static VALUES: [(u8, &[&str]); 37] = [
     (YEAR_SPLIT, &["0.25", "0.5", "1"]),
@@ -96,6 +96,9 @@ static VALUES: [(u8, &[&str]); 37] = [
     (MODEL_PERIOD_EXOGENOUS_EMISSION, &["0", "4", "-1"]),
     (MODEL_PERIOD_EMISSION_LIMIT, &["-1", "0", "15", "-2"]),
 ];
+
+/// Rates of technologies of their own, of nothing, of a tenth and of the whole.
+const OWN_RATES: [&str; 3] = ["0", "0.1", "1"];
 
 /// Random numbers by a linear congruence.
 #[derive(Drop)]
@@ -165,7 +168,7 @@ fn members_of(members: &[Members], set: u8) -> Members {
 
 /// The members over which the subscripts of the parameter run.
 fn lists_of(alloc: Global, members: &[Members], param: u8) -> Result<Vec<Members>, AllocError>
-    requires { IsUsedParam param }
+    requires { IsParam param }
 {
     let mut lists = Vec::new(alloc);
     for set in subscript_sets(param) {
@@ -196,7 +199,7 @@ fn push_param(
     param: u8,
     values: &[&'static str],
 ) -> Result<(), AllocError> {
-    assert!(rt; YEAR_SPLIT <= param && param <= MODEL_PERIOD_EMISSION_LIMIT);
+    assert!(rt; YEAR_SPLIT <= param && param <= DISCOUNT_RATE_IDV);
     let lists = lists_of(alloc, members, param)?;
     let mut count: usize = 1;
     for list in lists.iter() {
@@ -217,11 +220,12 @@ fn push_param(
     out.push_str(";\n")
 }
 
-/// A data section with random sets and values.
+/// A data section with random sets and values, and under profile 2 with rates of the technologies.
 pub(crate) fn random_section(
     rt: &impl Abort,
     alloc: Global,
     random: &mut Random,
+    second: bool,
 ) -> Result<String, AllocError> {
     let members = random.members(alloc)?;
     let mut sets = String::new(alloc);
@@ -231,6 +235,17 @@ pub(crate) fn random_section(
     let mut statements = String::new(alloc);
     for (param, values) in VALUES.iter() {
         push_param(rt, alloc, &mut statements, random, &members, *param, values)?;
+    }
+    if second {
+        push_param(
+            rt,
+            alloc,
+            &mut statements,
+            random,
+            &members,
+            DISCOUNT_RATE_IDV,
+            &OWN_RATES,
+        )?;
     }
     section(alloc, sets.as_str(), statements.as_str())
 }

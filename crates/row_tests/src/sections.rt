@@ -2,6 +2,7 @@
 
 use mathprog_data::{Blocks, Name, read_blocks};
 use model_sets::Sets;
+use model_sets::param_numbers::DISCOUNT_RATE_IDV;
 use param_tables::{ModelData, build, sets_of};
 use plain_equations::{PlainData, PlainDefault, PlainValue};
 use std::alloc::{AllocError, Global};
@@ -27,8 +28,12 @@ pub(crate) fn plain_of(rt: &impl Abort, alloc: Global, text: &str) -> Result<Pla
     Ok(plain_data(alloc, &blocks, sets)?)
 }
 
-/// The data of blocks for the plain program.
+/// The data of blocks for the plain program: profile 2 holds where there is a statement for DiscountRateIdv.
 fn plain_data(alloc: Global, blocks: &Blocks, sets: Sets) -> Result<PlainData, AllocError> {
+    let second = blocks
+        .params
+        .iter()
+        .any(|block| block.param == DISCOUNT_RATE_IDV);
     let mut given = Vec::new(alloc);
     let mut defaults = Vec::new(alloc);
     for block in blocks.params.iter() {
@@ -44,7 +49,7 @@ fn plain_data(alloc: Global, blocks: &Blocks, sets: Sets) -> Result<PlainData, A
             })?;
         }
     }
-    Ok(PlainData::new(sets, given, defaults))
+    Ok(PlainData::new(sets, given, defaults, second))
 }
 
 /// The bytes of the names.

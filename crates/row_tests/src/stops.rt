@@ -46,7 +46,7 @@ fn a_number_outside_128_bits_stops_with_the_name_of_its_row(rt: HostRuntime) -> 
         let model = model_of(&rt, rt.alloc(), text.as_str())?;
         let name = RowName { eq: *eq, index };
         assert_eq!(rt;
-            RowBook::new(rt.alloc(), &model).err(),
+            RowBook::new(rt.alloc(), &model, 6).err(),
             Some(BookFail::Width(Place::Row(name)))
         );
     }

@@ -7,7 +7,9 @@ use crate::expressions::Condition::Always;
 use crate::expressions::Count::One;
 use crate::expressions::Defines::LeftVariable;
 use crate::expressions::Equation;
-use crate::expressions::Expr::{CapitalFactor, Million, Product, Values};
+use crate::expressions::Expr::{
+    Annuity, ByProfile, CapitalFactor, FactorScale, Product, RecoveryFactor, Values,
+};
 use crate::expressions::Years::SinceFirst;
 use crate::names::{CAPITAL_COST, CAPITAL_INVESTMENT, DISCOUNTED_CAPITAL_INVESTMENT, NEW_CAPACITY};
 use crate::tables::look_up;
@@ -19,15 +21,27 @@ static EQUATIONS: [Equation; 2] = [
     Equation {
         stands: Always,
         defines: LeftVariable,
-        left: Product(&Values(One), &CAPITAL_INVESTMENT),
+        left: Product(
+            &ByProfile(
+                &Values(One),
+                &Product(&Product(&Values(One), &FactorScale), &FactorScale),
+            ),
+            &CAPITAL_INVESTMENT,
+        ),
         sense: Equal,
-        right: Product(&CAPITAL_COST, &NEW_CAPACITY),
+        right: Product(
+            &ByProfile(
+                &CAPITAL_COST,
+                &Product(&Product(&CAPITAL_COST, &RecoveryFactor), &Annuity),
+            ),
+            &NEW_CAPACITY,
+        ),
     },
     // CC2
     Equation {
         stands: Always,
         defines: LeftVariable,
-        left: Product(&Million, &DISCOUNTED_CAPITAL_INVESTMENT),
+        left: Product(&FactorScale, &DISCOUNTED_CAPITAL_INVESTMENT),
         sense: Equal,
         right: Product(&CAPITAL_INVESTMENT, &CapitalFactor(SinceFirst)),
     },

@@ -7,7 +7,7 @@ use crate::expressions::Condition::Always;
 use crate::expressions::Count::One;
 use crate::expressions::Defines::LeftVariable;
 use crate::expressions::Equation;
-use crate::expressions::Expr::{Million, OperatingFactor, Over, Product, Sum, Values};
+use crate::expressions::Expr::{FactorScale, OperatingFactor, Over, Product, Sum, Values};
 use crate::expressions::Letter::M;
 use crate::names::{
     ANNUAL_FIXED_OPERATING_COST, ANNUAL_VARIABLE_OPERATING_COST, DISCOUNTED_OPERATING_COST,
@@ -54,7 +54,7 @@ static EQUATIONS: [Equation; 4] = [
     Equation {
         stands: Always,
         defines: LeftVariable,
-        left: Product(&Million, &DISCOUNTED_OPERATING_COST),
+        left: Product(&FactorScale, &DISCOUNTED_OPERATING_COST),
         sense: Equal,
         right: Product(&OPERATING_COST, &OperatingFactor),
     },

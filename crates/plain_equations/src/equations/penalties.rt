@@ -7,7 +7,7 @@ use crate::expressions::Condition::Always;
 use crate::expressions::Count::One;
 use crate::expressions::Defines::LeftVariable;
 use crate::expressions::Equation;
-use crate::expressions::Expr::{Million, OperatingFactor, Over, Product, Values};
+use crate::expressions::Expr::{FactorScale, OperatingFactor, Over, Product, Values};
 use crate::expressions::Letter::{E, M};
 use crate::names::{
     ANNUAL_TECHNOLOGY_EMISSION, ANNUAL_TECHNOLOGY_EMISSION_BY_MODE,
@@ -62,7 +62,7 @@ static EQUATIONS: [Equation; 5] = [
     Equation {
         stands: Always,
         defines: LeftVariable,
-        left: Product(&Million, &DISCOUNTED_TECHNOLOGY_EMISSIONS_PENALTY),
+        left: Product(&FactorScale, &DISCOUNTED_TECHNOLOGY_EMISSIONS_PENALTY),
         sense: Equal,
         right: Product(&ANNUAL_TECHNOLOGY_EMISSIONS_PENALTY, &OperatingFactor),
     },

@@ -7,7 +7,9 @@ use crate::expressions::Condition::{Always, NoSalvage, SinkingFund, StraightLine
 use crate::expressions::Count::One;
 use crate::expressions::Defines::LeftVariable;
 use crate::expressions::Equation;
-use crate::expressions::Expr::{CapitalFactor, Million, Product, SalvageFraction, Values, Zero};
+use crate::expressions::Expr::{
+    CapitalFactor, FactorScale, Product, SalvageFraction, Values, Zero,
+};
 use crate::expressions::Years::InAll;
 use crate::names::{CAPITAL_COST, DISCOUNTED_SALVAGE_VALUE, NEW_CAPACITY, SALVAGE_VALUE};
 use crate::tables::look_up;
@@ -19,7 +21,7 @@ static EQUATIONS: [Equation; 4] = [
     Equation {
         stands: SinkingFund,
         defines: LeftVariable,
-        left: Product(&Product(&Values(One), &Million), &SALVAGE_VALUE),
+        left: Product(&Product(&Values(One), &FactorScale), &SALVAGE_VALUE),
         sense: Equal,
         right: Product(&Product(&CAPITAL_COST, &NEW_CAPACITY), &SalvageFraction(1)),
     },
@@ -27,7 +29,7 @@ static EQUATIONS: [Equation; 4] = [
     Equation {
         stands: StraightLine,
         defines: LeftVariable,
-        left: Product(&Product(&Values(One), &Million), &SALVAGE_VALUE),
+        left: Product(&Product(&Values(One), &FactorScale), &SALVAGE_VALUE),
         sense: Equal,
         right: Product(&Product(&CAPITAL_COST, &NEW_CAPACITY), &SalvageFraction(2)),
     },
@@ -43,7 +45,7 @@ static EQUATIONS: [Equation; 4] = [
     Equation {
         stands: Always,
         defines: LeftVariable,
-        left: Product(&Million, &DISCOUNTED_SALVAGE_VALUE),
+        left: Product(&FactorScale, &DISCOUNTED_SALVAGE_VALUE),
         sense: Equal,
         right: Product(&SALVAGE_VALUE, &CapitalFactor(InAll)),
     },

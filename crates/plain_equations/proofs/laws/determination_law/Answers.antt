@@ -3,4 +3,4 @@ use Rattle.plain_equations.proofs.Determination.{determined}
 use Rattle.plain_equations.proofs.laws.determination_law.Goals as goal
 
 pub returns : goal.returns
-returns c d q x y i v = determined d q x y c.entry.result.now c.args.eq i v c.entry.ensures
+returns c places d q x y i v = determined places d q x y c.entry.result.now c.args.eq i v c.entry.ensures

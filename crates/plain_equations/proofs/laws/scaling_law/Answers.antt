@@ -5,5 +5,5 @@ use Rattle.plain_equations.proofs.Scaling.{named-scaled}
 use Rattle.plain_equations.proofs.laws.scaling_law.Goals as goal
 
 pub returns : goal.returns
-returns c d k q x i some =
-    named-scaled d k q x c.entry.result.now c.args.eq i (ap (λ (e : Description). e.meaning) c.entry.ensures) (ap (λ (e : Description). e.linear) c.entry.ensures) some
+returns c places d k q x i some =
+    named-scaled places d k q x c.entry.result.now c.args.eq i (ap (λ (e : Description). e.meaning) c.entry.ensures) (ap (λ (e : Description). e.linear) c.entry.ensures) some

@@ -16,7 +16,7 @@ use Rattle.plain_equations.proofs.data.PlainData.+value.Goals.{then-is_true_at, 
 pub loop-position-preserved : goal.loop-position-preserved
 loop-position-preserved t c =
     let true_at : Point → Bool = is_true_at c.args.self.now c.in-Over.condition in
-    let value_at : Point → Result ℤ PlainFail = checked c.args.self.now c.args.plan.now.whole (number_at c.args.plan.now.values.items) c.in-Over.body.now in
+    let value_at : Point → Result ℤ PlainFail = checked c.args.places c.args.self.now c.args.plan.now.whole (number_at c.args.plan.now.values.items) c.in-Over.body.now in
     let counts : ℕ → Bool = λ i. true_at (moved c.args.point c.in-Over.letter i) in
     let f : ℕ → Result ℤ PlainFail = λ i. value_at (moved c.args.point c.in-Over.letter i) in
     let i = c.loop-position.position in

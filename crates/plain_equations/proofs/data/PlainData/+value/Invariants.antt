@@ -12,8 +12,8 @@ use Rattle.plain_equations.proofs.data.PlainData.+value.Given as goal
 abbrev pub invariant-loop-position : goal.invariant-loop-position
 invariant-loop-position l =
     sum_from (λ i. is_true_at l.self l.condition (moved l.point l.letter i))
-    (λ i. checked l.self l.plan.whole (number_at l.plan.values.items) l.body.now (moved l.point l.letter i))
+    (λ i. checked l.places l.self l.plan.whole (number_at l.plan.values.items) l.body.now (moved l.point l.letter i))
     (positions l.self (set_of l.letter)) (pos 0)
     ≡ sum_left (λ i. is_true_at l.self l.condition (moved l.point l.letter i))
-    (λ i. checked l.self l.plan.whole (number_at l.plan.values.items) l.body.now (moved l.point l.letter i))
+    (λ i. checked l.places l.self l.plan.whole (number_at l.plan.values.items) l.body.now (moved l.point l.letter i))
     (range_with_len l.position (l.position-end - l.position)) l.sum
