@@ -2,6 +2,7 @@
 
 ghost use Rattle.std.specs.Prelude.{◌≡◌, ℕ, true, is_some, IfOk, IfErr, IfSome, ◌<ℤ◌, pos, not, ◌||◌};
 ghost use Rattle.exact_num.specs.Range.{all_fit};
+ghost use Rattle.row_core.specs.declared.equation_numbers.TheConstants.{EQ_SPECIFIED_DEMAND};
 ghost use Rattle.row_core.specs.declared.place.Place.{Place};
 ghost use Rattle.row_core.specs.EquationTerms.{IsWritten, equation_formed};
 ghost use Rattle.row_core.specs.Stops.{IsStop};
@@ -81,7 +82,7 @@ fn row_of(alloc: Global, model: &ModelData, name: RowName) -> Result<Row, Stoppe
     requires equation { IsBalanceEquation name.eq }
     requires index { is_index model.now.facts (subscripts_of name.eq) name.index ≡ true }
     ensures written { IsWritten name (terms_at model.now.facts name) result }
-    ensures positive { name.eq ≡ 1 → pos 0 <ℤ year_split model.now.facts name.index.slice name.index.year }
+    ensures positive { name.eq ≡ EQ_SPECIFIED_DEMAND → pos 0 <ℤ year_split model.now.facts name.index.slice name.index.year }
 {
     match name.eq {
         EQ_SPECIFIED_DEMAND => eq_specified_demand(alloc, model, name),

@@ -74,7 +74,7 @@ value_and_factors places = *ℤ_pos (scale_of 1 *ℤ factor_scale places) (facto
 -- a variable is another times a data value, and where this is true times two written factors: CC1
 invested : (places : ℕ) (v w : Var) (z f g : ℤ) (second : Bool)
     → MeansStatement (is_times v w (if second then Product (Product (Billionths z) (Factor places f)) (Factor places g) else Billionths z))
-      (λ q x. if second then (scale_of 1 *ℤ factor_scale places *ℤ factor_scale places *ℤ x v equals z *ℤ f *ℤ g *ℤ x w) else (scale_of 1 *ℤ x v equals z *ℤ x w))
+    (λ q x. if second then (scale_of 1 *ℤ factor_scale places *ℤ factor_scale places *ℤ x v equals z *ℤ f *ℤ g *ℤ x w) else (scale_of 1 *ℤ x v equals z *ℤ x w))
 invested places v w z f g true =
     times_number (scale_of 1 *ℤ factor_scale places *ℤ factor_scale places) (value_and_factors places) v w (Product (Product (Billionths z) (Factor places f)) (Factor places g)) (z *ℤ f *ℤ g)
     (over-value_factors places z f g) (λ x. z *ℤ f *ℤ g *ℤ x w) (λ x. *ℤ_comm (z *ℤ f *ℤ g) (x w))

@@ -5,6 +5,7 @@ use Rattle.std.specs.List.{flat_map, enumerate_from, list_any}
 use Rattle.std.specs.Fmt.{decimal, signed_decimal}
 use Rattle.std.specs.Ordering.{is_eq}
 use Rattle.model_sets.specs.Members.{SetLists}
+use Rattle.row_core.specs.declared.kind_numbers.TheConstants.{TOTAL_DISCOUNTED_COST}
 use Rattle.row_core.specs.declared.Var.{Var}
 use Rattle.row_core.specs.declared.Row.{Row}
 use Rattle.row_core.specs.declared.Sense.{Sense}
@@ -58,9 +59,9 @@ entry_line j i n = line (codes " " ++ column_label j ++ codes " " ++ row_label i
 abbrev pub entry_lines : ℕ → Var → ℕ × Row → List ℕ
 entry_lines j v r = flat_map (λ e. if is_same_variable e.0 v then entry_line j r.0 e.1 else []) r.1.entries.items
 
--- the cost is the sum of the variables TotalDiscountedCost, the kind of number 37
+-- the cost is the sum of the variables TotalDiscountedCost
 abbrev pub cost_line : ℕ → Var → List ℕ
-cost_line j v = if v.kind == 37 then line (codes " " ++ column_label j ++ codes " COST 1") else []
+cost_line j v = if v.kind == TOTAL_DISCOUNTED_COST then line (codes " " ++ column_label j ++ codes " COST 1") else []
 
 -- what stands before a column's entries: its variable's name as a comment, and its cost where it has one
 abbrev pub column_head : SetLists → ℕ × Var → List ℕ

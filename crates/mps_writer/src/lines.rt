@@ -6,11 +6,9 @@ ghost use Rattle.mps_writer.specs.MpsText.{IsNamedRow, IsNamedVariable, bound_li
 use crate::entries::Entry;
 use itoa::Buffer;
 use model_sets::Sets;
+use row_core::kind_numbers::TOTAL_DISCOUNTED_COST;
 use row_core::{Row, Sense, Var, is_free, push_row_name, push_var};
 use std::alloc::AllocError;
-
-/// The kind of TotalDiscountedCost, whose sum is the cost.
-const TOTAL_DISCOUNTED_COST: u8 = 37;
 
 /// Appends a row's name as a comment, and its sense.
 pub fn push_row(out: &mut Vec<u8>, number: u64, row: &Row, sets: &Sets) -> Result<(), AllocError>

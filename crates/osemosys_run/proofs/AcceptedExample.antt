@@ -1,6 +1,6 @@
 -- A file that must be written: the text of a whole small model is accepted, for it says its blocks, and neither their sets nor their data
 -- are refused; and each row over its data can be made.
-use Rattle.std.proofs.Common.{[], ◌∷◌, ◌++◌, map, refl, arith}
+use Rattle.std.proofs.Common.{[], ◌∷◌, ◌++◌, map, false, refl, arith}
 use Rattle.std.specs.Fmt.{digits}
 use Rattle.std.specs.List.{enumerate_from}
 use Rattle.std.specs.Prelude.{codes}
@@ -22,6 +22,7 @@ use Rattle.osemosys_run.specs.Complete.{CanBeWritten}
 abbrev model : Data
 model = record {
   sets = members ++ [] ∷ [] ∷ [] ∷ [] ∷ [];
+  second = false;
   given = [];
   defaults = map (λ entry. record { param = entry.0; value = entry.1 }) (enumerate_from 1 values);
 }
@@ -32,10 +33,10 @@ accepted = record { blocks = blocks; short = omega arith; says = says; sets_acce
 
 -- ---- its rows
 
-made : CanBeMade model 0 (instances model)
+made : CanBeMade 6 model 0 (instances model)
 unfolding lowest plus minus times divided sum_formed difference_formed product_formed quotient_formed gcd_of gcd_within in_range all_fit product_of total_of negative_of with_number discounted capital_factor root_from half_year_root operating_factor salvage_fraction
 made = record { fit = refl; few = omega arith }
 
 -- the words `mps FILE` over it, and another file
 must_be_written : CanBeWritten (codes "mps" ∷ codes "FILE" ∷ []) ((codes "other", []) ∷ (codes "FILE", text) ∷ [])
-must_be_written = record { name = codes "FILE"; bytes = text; d = model; asks = refl; there = refl; accepted = accepted; made = made }
+must_be_written = record { name = codes "FILE"; places = 6; bytes = text; d = model; asks = refl; there = refl; accepted = accepted; made = made }

@@ -6,7 +6,8 @@ use Rattle.scaled_decimals.specs.DecimalReading.{numerator, denominator}
 use Rattle.scaled_decimals.specs.Digits.{number_of}
 use Rattle.mathprog_data.specs.Meaning.{Blocks}
 use Rattle.mathprog_data.specs.NumberReading.{reading}
-use Rattle.mathprog_data.specs.Params.{param_word, set_word}
+use Rattle.model_sets.specs.Names.{set_word}
+use Rattle.model_sets.specs.Params.{param_word}
 use Rattle.mathprog_data.specs.Verdicts.{Says}
 use Rattle.osemosys_run.proofs.DefaultTexts.{Line, SetLine, DefaultLine, AreFit, AreNew, IsSection, section_says}
 

@@ -13,7 +13,7 @@ use Rattle.clap.specs.Faults.{default_fault, defaults_fault, fault_of, walk_faul
 use Rattle.clap.proofs.FaultLemmas.{leaf_fault}
 use Rattle.osemosys_run.specs.ClapWords.{app, clap_rows, is_fault}
 use Rattle.osemosys_run.specs.CommandLine.{files_in, values_in}
-use Rattle.osemosys_run.specs.WordParts.{OptionName, Gap, Pivots, Show, Part, File, Chosen, parts_from, parts_of}
+use Rattle.osemosys_run.specs.WordParts.{OptionName, Gap, Pivots, Places, Show, Part, File, Chosen, parts_from, parts_of}
 use Rattle.osemosys_run.specs.WordReading.{Given, given_by}
 use Rattle.osemosys_run.proofs.ClapTurns.{at, chosen, file, id_of, rules, settling, shape}
 use Rattle.osemosys_run.proofs.ClapOptions.{or_else_nil}
@@ -33,13 +33,14 @@ all_values o value parts = earlier value ++ values_in o parts
 abbrev is_one : List Text → Bool
 is_one values = nat_le (length values) 1
 
-abbrev together : List Text → Option Text → Option Text → Option Text → List Part → Option Given
-together files gap pivots show parts =
-    cond (is_one (all_values Gap gap parts) && is_one (all_values Pivots pivots parts) && is_one (all_values Show show parts))
+abbrev together : List Text → Option Text → Option Text → Option Text → Option Text → List Part → Option Given
+together files gap pivots places show parts =
+    cond (is_one (all_values Gap gap parts) && is_one (all_values Pivots pivots parts) && is_one (all_values Places places parts) && is_one (all_values Show show parts))
     (Some (record {
       files = files ++ files_in parts;
       gap = slice_get (all_values Gap gap parts) 0;
       pivots = slice_get (all_values Pivots pivots parts) 0;
+      places = slice_get (all_values Places places parts) 0;
       show = slice_get (all_values Show show parts) 0;
     })) None
 
@@ -50,32 +51,47 @@ second_false : (a : Bool) → (a && false) ≡ false
 second_false true = refl
 second_false false = refl
 
-gathered_is : (parts : List Part) (files : List Text) (gap pivots show : Option Text)
-    → gathered (record { files = files; gap = gap; pivots = pivots; show = show }) parts ≡ together files gap pivots show parts
-gathered_is [] files None None None = rw (append-nil files) refl
-gathered_is [] files None None (Some c) = rw (append-nil files) refl
-gathered_is [] files None (Some b) None = rw (append-nil files) refl
-gathered_is [] files None (Some b) (Some c) = rw (append-nil files) refl
-gathered_is [] files (Some a) None None = rw (append-nil files) refl
-gathered_is [] files (Some a) None (Some c) = rw (append-nil files) refl
-gathered_is [] files (Some a) (Some b) None = rw (append-nil files) refl
-gathered_is [] files (Some a) (Some b) (Some c) = rw (append-nil files) refl
-gathered_is (File name ∷ parts) files gap pivots show =
-    gathered_is parts (files ++ name ∷ []) gap pivots show
-    ∙ ap (λ all. cond (is_one (all_values Gap gap parts) && is_one (all_values Pivots pivots parts) && is_one (all_values Show show parts))
-    (Some (record { files = all; gap = slice_get (all_values Gap gap parts) 0; pivots = slice_get (all_values Pivots pivots parts) 0; show = slice_get (all_values Show show parts) 0 })) None)
+-- no more parts: each option was given once at most
+gathered_all : (files : List Text) (gap pivots places show : Option Text) → Some (record { files = files; gap = gap; pivots = pivots; places = places; show = show }) ≡ together files gap pivots places show []
+gathered_all files None None None None = rw (append-nil files) refl
+gathered_all files None None None (Some d) = rw (append-nil files) refl
+gathered_all files None None (Some c) None = rw (append-nil files) refl
+gathered_all files None None (Some c) (Some d) = rw (append-nil files) refl
+gathered_all files None (Some b) None None = rw (append-nil files) refl
+gathered_all files None (Some b) None (Some d) = rw (append-nil files) refl
+gathered_all files None (Some b) (Some c) None = rw (append-nil files) refl
+gathered_all files None (Some b) (Some c) (Some d) = rw (append-nil files) refl
+gathered_all files (Some a) None None None = rw (append-nil files) refl
+gathered_all files (Some a) None None (Some d) = rw (append-nil files) refl
+gathered_all files (Some a) None (Some c) None = rw (append-nil files) refl
+gathered_all files (Some a) None (Some c) (Some d) = rw (append-nil files) refl
+gathered_all files (Some a) (Some b) None None = rw (append-nil files) refl
+gathered_all files (Some a) (Some b) None (Some d) = rw (append-nil files) refl
+gathered_all files (Some a) (Some b) (Some c) None = rw (append-nil files) refl
+gathered_all files (Some a) (Some b) (Some c) (Some d) = rw (append-nil files) refl
+
+gathered_is : (parts : List Part) (files : List Text) (gap pivots places show : Option Text)
+    → gathered (record { files = files; gap = gap; pivots = pivots; places = places; show = show }) parts ≡ together files gap pivots places show parts
+gathered_is [] files gap pivots places show = gathered_all files gap pivots places show
+gathered_is (File name ∷ parts) files gap pivots places show =
+    gathered_is parts (files ++ name ∷ []) gap pivots places show
+    ∙ ap (λ all. cond (is_one (all_values Gap gap parts) && is_one (all_values Pivots pivots parts) && is_one (all_values Places places parts) && is_one (all_values Show show parts))
+    (Some (record { files = all; gap = slice_get (all_values Gap gap parts) 0; pivots = slice_get (all_values Pivots pivots parts) 0; places = slice_get (all_values Places places parts) 0; show = slice_get (all_values Show show parts) 0 })) None)
     (append_assoc files (name ∷ []) (files_in parts))
-gathered_is (Chosen Gap value ∷ parts) files None pivots show = gathered_is parts files (Some value) pivots show
-gathered_is (Chosen Gap value ∷ parts) files (Some a) pivots show = rw (two_are_not_one a value (values_in Gap parts)) refl
-gathered_is (Chosen Pivots value ∷ parts) files gap None show = gathered_is parts files gap (Some value) show
-gathered_is (Chosen Pivots value ∷ parts) files gap (Some b) show = rw (two_are_not_one b value (values_in Pivots parts), second_false (is_one (all_values Gap gap parts))) refl
-gathered_is (Chosen Show value ∷ parts) files gap pivots None = gathered_is parts files gap pivots (Some value)
-gathered_is (Chosen Show value ∷ parts) files gap pivots (Some c) =
-    rw (two_are_not_one c value (values_in Show parts), second_false (is_one (all_values Gap gap parts) && is_one (all_values Pivots pivots parts))) refl
+gathered_is (Chosen Gap value ∷ parts) files None pivots places show = gathered_is parts files (Some value) pivots places show
+gathered_is (Chosen Gap value ∷ parts) files (Some a) pivots places show = rw (two_are_not_one a value (values_in Gap parts)) refl
+gathered_is (Chosen Pivots value ∷ parts) files gap None places show = gathered_is parts files gap (Some value) places show
+gathered_is (Chosen Pivots value ∷ parts) files gap (Some b) places show = rw (two_are_not_one b value (values_in Pivots parts), second_false (is_one (all_values Gap gap parts))) refl
+gathered_is (Chosen Places value ∷ parts) files gap pivots None show = gathered_is parts files gap pivots (Some value) show
+gathered_is (Chosen Places value ∷ parts) files gap pivots (Some c) show =
+    rw (two_are_not_one c value (values_in Places parts), second_false (is_one (all_values Gap gap parts) && is_one (all_values Pivots pivots parts))) refl
+gathered_is (Chosen Show value ∷ parts) files gap pivots places None = gathered_is parts files gap pivots places (Some value)
+gathered_is (Chosen Show value ∷ parts) files gap pivots places (Some d) =
+    rw (two_are_not_one d value (values_in Show parts), second_false (is_one (all_values Gap gap parts) && is_one (all_values Pivots pivots parts) && is_one (all_values Places places parts))) refl
 
 gathers_is : (parts : Option (List Part)) → gathers nothing_given parts ≡ given_by parts
 gathers_is None = refl
-gathers_is (Some parts) = gathered_is parts [] None None None
+gathers_is (Some parts) = gathered_is parts [] None None None None
 
 -- ---- what clap's rows give
 
@@ -84,6 +100,7 @@ given_rows rows = record {
   files = unwrap_or (all_of (codes "file") rows) [];
   gap = first_of (codes "gap") rows;
   pivots = first_of (codes "pivots") rows;
+  places = first_of (codes "places") rows;
   show = first_of (codes "show") rows;
 }
 
@@ -95,7 +112,7 @@ first_is id rows = go (find (λ r. bytes_eq r.id id) rows)
     go (Some r) = refl
 
 says_is : (rows : List Row) (g : Given) → Says rows g → given_rows rows ≡ g
-says_is rows g s = λ i. record { files = files i; gap = value Gap i; pivots = value Pivots i; show = value Show i }
+says_is rows g s = λ i. record { files = files i; gap = value Gap i; pivots = value Pivots i; places = value Places i; show = value Show i }
   where
     unlisted : (xs : List Text) → unwrap_or (listed xs) [] ≡ xs
     unlisted [] = refl
@@ -128,6 +145,7 @@ no_default rows = (rw (either (has_row (codes "file") rows)) refl, of)
     of : (o : OptionName) → default_fault rows (chosen o) ≡ []
     of Gap = rw (either (has_row (codes "gap") rows)) refl
     of Pivots = rw (either (has_row (codes "pivots") rows)) refl
+    of Places = rw (either (has_row (codes "places") rows)) refl
     of Show = rw (either (has_row (codes "show") rows)) refl
 
 no_defaults : (rows : List Row) → defaults_fault rows rules ≡ []
@@ -136,14 +154,16 @@ no_defaults rows =
     let after_file = with_default rows file in
     let after_gap = with_default after_file (chosen Gap) in
     let after_pivots = with_default after_gap (chosen Pivots) in
+    let after_places = with_default after_pivots (chosen Places) in
     ap₂ or_else (no_default rows).0
-    (ap₂ or_else ((no_default after_file).1 Gap) (ap₂ or_else ((no_default after_gap).1 Pivots) (ap₂ or_else ((no_default after_pivots).1 Show) refl)))
+    (ap₂ or_else ((no_default after_file).1 Gap) (ap₂ or_else ((no_default after_gap).1 Pivots) (ap₂ or_else ((no_default after_pivots).1 Places) (ap₂ or_else ((no_default after_places).1 Show) refl))))
 
 kept : (rows : List Row) → fold with_default rows rules ≡ rows
 kept rows =
-    ap (λ r. with_default (with_default (with_default r (chosen Gap)) (chosen Pivots)) (chosen Show)) (both_same (has_row (codes "file") rows) rows)
-    ∙ ap (λ r. with_default (with_default r (chosen Pivots)) (chosen Show)) (both_same (has_row (codes "gap") rows) rows)
-    ∙ ap (λ r. with_default r (chosen Show)) (both_same (has_row (codes "pivots") rows) rows)
+    ap (λ r. with_default (with_default (with_default (with_default r (chosen Gap)) (chosen Pivots)) (chosen Places)) (chosen Show)) (both_same (has_row (codes "file") rows) rows)
+    ∙ ap (λ r. with_default (with_default (with_default r (chosen Pivots)) (chosen Places)) (chosen Show)) (both_same (has_row (codes "gap") rows) rows)
+    ∙ ap (λ r. with_default (with_default r (chosen Places)) (chosen Show)) (both_same (has_row (codes "pivots") rows) rows)
+    ∙ ap (λ r. with_default r (chosen Show)) (both_same (has_row (codes "places") rows) rows)
     ∙ both_same (has_row (codes "show") rows) rows
 
 fault_is : (words : List Text) → fault_of app words ≡ faults (at nothing_held idle) words

@@ -4,7 +4,7 @@ use Rattle.std.specs.Prelude.{codes, unwrap_or}
 use Rattle.std.specs.Str.{bytes_eq}
 use Rattle.clap.specs.Walk.{Held, Row, Text, all_of, has_row, nothing_held, reading_by, settled, used, with_values}
 use Rattle.clap.specs.declared.parser.matches.ValueSource.TheVariants.{CommandLine}
-use Rattle.osemosys_run.specs.WordParts.{OptionName, Gap, Pivots, Show}
+use Rattle.osemosys_run.specs.WordParts.{OptionName, Gap, Pivots, Places, Show}
 use Rattle.osemosys_run.specs.WordReading.{Given}
 use Rattle.osemosys_run.proofs.ClapRows.{added_here, added_elsewhere, has_row_is, without_none}
 use Rattle.osemosys_run.proofs.ClapTurns.{chosen, file, id_of, rules, settling, with_due, with_file, with_joined, with_value}
@@ -13,12 +13,13 @@ use Rattle.osemosys_run.proofs.ClapOptions.{Fails, using}
 -- ---- what was given so far
 
 abbrev pub nothing_given : Given
-nothing_given = record { files = []; gap = None; pivots = None; show = None }
+nothing_given = record { files = []; gap = None; pivots = None; places = None; show = None }
 
 -- the value of an option
 abbrev pub value_of : OptionName → Given → Option Text
 value_of Gap g = g.gap
 value_of Pivots g = g.pivots
+value_of Places g = g.places
 value_of Show g = g.show
 
 -- with one more file
@@ -29,6 +30,7 @@ file_added name g = record g { files = g.files ++ name ∷ [] }
 abbrev pub value_added : OptionName → Text → Given → Given
 value_added Gap value g = record g { gap = Some value }
 value_added Pivots value g = record g { pivots = Some value }
+value_added Places value g = record g { places = Some value }
 value_added Show value g = record g { show = Some value }
 
 -- ---- clap's rows
@@ -50,16 +52,19 @@ listed_more (y ∷ ys) x = refl
 same_id : (o : OptionName) → bytes_eq (id_of o) (id_of o) ≡ true
 same_id Gap = refl
 same_id Pivots = refl
+same_id Places = refl
 same_id Show = refl
 
 file_apart : (o : OptionName) → bytes_eq (codes "file") (id_of o) ≡ false
 file_apart Gap = refl
 file_apart Pivots = refl
+file_apart Places = refl
 file_apart Show = refl
 
 apart_file : (o : OptionName) → bytes_eq (id_of o) (codes "file") ≡ false
 apart_file Gap = refl
 apart_file Pivots = refl
+apart_file Places = refl
 apart_file Show = refl
 
 -- after one more file
@@ -72,6 +77,7 @@ says_file rows g name s = record {
     stays : (o : OptionName) → option_map (λ value. value ∷ []) (value_of o g) ≡ option_map (λ value. value ∷ []) (value_of o (file_added name g))
     stays Gap = refl
     stays Pivots = refl
+    stays Places = refl
     stays Show = refl
 
 -- an option that wasn't given has no row
@@ -82,6 +88,7 @@ no_row rows g o s none = has_row_is (id_of o) rows ∙ ap is_some (s.options o �
 pub first_value : (rows : List Row) (g : Given) (o : OptionName) (value : Text) → Says rows g → value_of o g ≡ None → using o value rows ≡ []
 first_value rows g Gap value s none = rw (no_row rows g Gap s none) refl
 first_value rows g Pivots value s none = rw (no_row rows g Pivots s none) refl
+first_value rows g Places value s none = rw (no_row rows g Places s none) refl
 first_value rows g Show value s none = rw (no_row rows g Show s none) refl
 
 -- and a second one is
@@ -94,6 +101,7 @@ second_value rows g o value first s given = go o given
     go : (o : OptionName) → value_of o g ≡ Some first → Fails (using o value rows)
     go Gap given = rw (row Gap given) refl
     go Pivots given = rw (row Pivots given) refl
+    go Places given = rw (row Places given) refl
     go Show given = rw (row Show given) refl
 
 module _ (rows : List Row) (g : Given) (value : Text) (s : Says rows g) where
@@ -116,18 +124,26 @@ module _ (rows : List Row) (g : Given) (value : Text) (s : Says rows g) where
       files : (o : OptionName) → value_of o g ≡ None → all_of (codes "file") (used (chosen o) (value ∷ []) rows) ≡ listed (value_added o value g).files
       files Gap none = other_row Gap (codes "file") none refl ∙ s.files
       files Pivots none = other_row Pivots (codes "file") none refl ∙ s.files
+      files Places none = other_row Places (codes "file") none refl ∙ s.files
       files Show none = other_row Show (codes "file") none refl ∙ s.files
 
       options : (o : OptionName) → value_of o g ≡ None → (other : OptionName)
           → all_of (id_of other) (used (chosen o) (value ∷ []) rows) ≡ option_map (λ value. value ∷ []) (value_of other (value_added o value g))
       options Gap none Gap = own_row Gap none
       options Gap none Pivots = other_row Gap (id_of Pivots) none refl ∙ s.options Pivots
+      options Gap none Places = other_row Gap (id_of Places) none refl ∙ s.options Places
       options Gap none Show = other_row Gap (id_of Show) none refl ∙ s.options Show
       options Pivots none Gap = other_row Pivots (id_of Gap) none refl ∙ s.options Gap
       options Pivots none Pivots = own_row Pivots none
+      options Pivots none Places = other_row Pivots (id_of Places) none refl ∙ s.options Places
       options Pivots none Show = other_row Pivots (id_of Show) none refl ∙ s.options Show
+      options Places none Gap = other_row Places (id_of Gap) none refl ∙ s.options Gap
+      options Places none Pivots = other_row Places (id_of Pivots) none refl ∙ s.options Pivots
+      options Places none Places = own_row Places none
+      options Places none Show = other_row Places (id_of Show) none refl ∙ s.options Show
       options Show none Gap = other_row Show (id_of Gap) none refl ∙ s.options Gap
       options Show none Pivots = other_row Show (id_of Pivots) none refl ∙ s.options Pivots
+      options Show none Places = other_row Show (id_of Places) none refl ∙ s.options Places
       options Show none Show = own_row Show none
 
 -- ---- what is held
@@ -147,11 +163,13 @@ fine_joined h g o value fine none = record { skip = fine.skip; settles = refl; s
 pub settle_value : (h : Held) (o : OptionName) (value : Text) → settling (with_value o value h) ≡ using o value (settled rules h).rows
 settle_value h Gap value = refl
 settle_value h Pivots value = refl
+settle_value h Places value = refl
 settle_value h Show value = refl
 
 settled_value : (h : Held) (o : OptionName) (value : Text) → (settled rules (with_value o value h)).rows ≡ used (chosen o) (value ∷ []) (settled rules h).rows
 settled_value h Gap value = refl
 settled_value h Pivots value = refl
+settled_value h Places value = refl
 settled_value h Show value = refl
 
 pub fine_value : (h : Held) (g : Given) (o : OptionName) (value : Text) → IsFine h g → value_of o g ≡ None → IsFine (with_value o value h) (value_added o value g)
@@ -165,6 +183,7 @@ fine_value h g o value fine none = record {
 pub due_fails : (h : Held) (o : OptionName) → Fails (settling (with_due o h))
 due_fails h Gap = refl
 due_fails h Pivots = refl
+due_fails h Places = refl
 due_fails h Show = refl
 
 pub fine_start : IsFine nothing_held nothing_given
@@ -173,4 +192,5 @@ fine_start = record { skip = refl; settles = refl; says = record { files = refl;
     none : (o : OptionName) → None ≡ option_map (λ value. value ∷ []) (value_of o nothing_given)
     none Gap = refl
     none Pivots = refl
+    none Places = refl
     none Show = refl

@@ -9,7 +9,7 @@ use Rattle.clap.specs.Kinds.{Kinds}
 use Rattle.clap.specs.Faults.{settle_fault, turn_fault}
 use Rattle.clap.specs.declared.builder.value_parser.ValueParser.TheVariants as vp
 use Rattle.osemosys_run.specs.ClapWords.{app, file_rule, option_rule}
-use Rattle.osemosys_run.specs.WordParts.{OptionName, Gap, Pivots, Show, is_option}
+use Rattle.osemosys_run.specs.WordParts.{OptionName, Gap, Pivots, Places, Show, is_option}
 
 -- what building makes of an argument: one value a use
 abbrev filled_with : Rule → Option ℕ → Rule
@@ -22,13 +22,14 @@ file = filled_with file_rule (Some 1)
 abbrev pub id_of : OptionName → Text
 id_of Gap = codes "gap"
 id_of Pivots = codes "pivots"
+id_of Places = codes "places"
 id_of Show = codes "show"
 
 abbrev pub chosen : OptionName → Rule
 chosen o = filled_with (option_rule (id_of o)) None
 
 abbrev pub rules : List Rule
-rules = file ∷ chosen Gap ∷ chosen Pivots ∷ chosen Show ∷ []
+rules = file ∷ chosen Gap ∷ chosen Pivots ∷ chosen Places ∷ chosen Show ∷ []
 
 abbrev pub shape : Shape
 shape = record (built app).top { rules = rules }
@@ -140,10 +141,12 @@ due o h = at (with_due o h) (option (id_of o))
 pub value_turn : (o : OptionName) (word : Text) (h : Held) → is_option word ≡ false → turn (due o h) word ≡ []
 value_turn Gap word h e = let p = is_plain word e in rw (p.no_end, p.no_long, p.no_short) refl
 value_turn Pivots word h e = let p = is_plain word e in rw (p.no_end, p.no_long, p.no_short) refl
+value_turn Places word h e = let p = is_plain word e in rw (p.no_end, p.no_long, p.no_short) refl
 value_turn Show word h e = let p = is_plain word e in rw (p.no_end, p.no_long, p.no_short) refl
 
 pub value_next : (o : OptionName) (word : Text) (h : Held) → is_option word ≡ false → next (due o h) word ≡ at (with_value o word h) idle
 unfolding walked
 value_next Gap word h e = let p = is_plain word e in rw (p.no_end, p.no_long, p.no_short) refl
 value_next Pivots word h e = let p = is_plain word e in rw (p.no_end, p.no_long, p.no_short) refl
+value_next Places word h e = let p = is_plain word e in rw (p.no_end, p.no_long, p.no_short) refl
 value_next Show word h e = let p = is_plain word e in rw (p.no_end, p.no_long, p.no_short) refl

@@ -26,7 +26,7 @@ use Rattle.osemosys_run.specs.Words.{Request}
 pub record Laws : Type 0 where
   pub one_data : (text : List ℕ) (d e : Data) → Accepted text d → Accepted text e → d ≡ e
   pub not_both : (text : List ℕ) (d : Data) (status : Status) (line : List ℕ) → Accepted text d → DueWhereNotAccepted text status line → ⊥
-  pub made : (d : Data) (before : ℕ) (names : List RowName) (fail : BookFail) → CanBeMade d before names → HasStopped d before names fail → fail ≡ book.Memory
+  pub made : (places : ℕ) (d : Data) (before : ℕ) (names : List RowName) (fail : BookFail) → CanBeMade places d before names → HasStopped places d before names fail → fail ≡ book.Memory
 
 width_or_memory : (place : Place) → book.Width place ≡ book.Memory → ⊥
 width_or_memory place e = cc e
@@ -34,11 +34,11 @@ width_or_memory place e = cc e
 many_or_memory : book.TooManyEntries ≡ book.Memory → ⊥
 many_or_memory e = cc e
 
-equations_done : Laws → (d : Data) (status : Status) (text : List ℕ) → CanBeMade d 0 (instances d) → DueForEquations d status text → status ≡ Done
-equations_done laws d status text can (inl written) = written.status_is
-equations_done laws d status text can (inr (inl wide)) =
-    absurd (width_or_memory (Place.Row wide.name) (laws.made d 0 (instances d) (book.Width (Place.Row wide.name)) can (wide.name, refl, wide.wide)))
-equations_done laws d status text can (inr (inr many)) = absurd (many_or_memory (laws.made d 0 (instances d) book.TooManyEntries can (many.name, many.many)))
+equations_done : Laws → (places : ℕ) (d : Data) (status : Status) (text : List ℕ) → CanBeMade places d 0 (instances d) → DueForEquations places d status text → status ≡ Done
+equations_done laws places d status text can (inl written) = written.status_is
+equations_done laws places d status text can (inr (inl wide)) =
+    absurd (width_or_memory (Place.Row wide.name) (laws.made places d 0 (instances d) (book.Width (Place.Row wide.name)) can (wide.name, refl, wide.wide)))
+equations_done laws places d status text can (inr (inr many)) = absurd (many_or_memory (laws.made places d 0 (instances d) book.TooManyEntries can (many.name, many.many)))
 
 -- over an accepted text nothing else is due than over its data
 over_accepted : Laws → (Over : Data → Status → List ℕ → Type 0) (bytes : List ℕ) (d : Data) (status : Status) (text : List ℕ) → Accepted bytes d
@@ -50,11 +50,11 @@ over_accepted laws Over bytes d status text accepted (inr said) =
 done_from_due : Laws → (words : List (List ℕ)) (files : List (List ℕ × List ℕ)) (status : Status) (text : List ℕ) → Due words files status text → CanBeWritten words files → status ≡ Done
 done_from_due laws words files status text due can =
     let for_file = subst (λ (request : Result Request WordFault). DueForRequest request files status text) can.asks due in
-    let for_bytes = subst (λ (file : Option (List ℕ)). DueForFile (DueForText DueForEquations) 1 file status text) can.there for_file in
+    let for_bytes = subst (λ (file : Option (List ℕ)). DueForFile (DueForText (DueForEquations can.places)) 1 file status text) can.there for_file in
     let not_long : nat_lt most_bytes (length can.bytes) ≡ false = le-ltb most_bytes (length can.bytes) can.accepted.short in
     let for_text =
-    subst (λ (b : Bool). MatchBool b ((status ≡ Refused (refusals.TooLong 1)) × (text ≡ too_long_line 1)) (DueForText DueForEquations can.bytes status text)) not_long for_bytes in
-    equations_done laws can.d status text can.made (over_accepted laws DueForEquations can.bytes can.d status text can.accepted for_text)
+    subst (λ (b : Bool). MatchBool b ((status ≡ Refused (refusals.TooLong 1)) × (text ≡ too_long_line 1)) (DueForText (DueForEquations can.places) can.bytes status text)) not_long for_bytes in
+    equations_done laws can.places can.d status text can.made (over_accepted laws (DueForEquations can.places) can.bytes can.d status text can.accepted for_text)
 
 -- over a sink without a fault what is delivered is that
 pub completes : Laws → (words : List (List ℕ)) (files : List (List ℕ × List ℕ)) (status : Status) (before after : Option (List ℕ)) (f f' : ℕ)

@@ -19,7 +19,8 @@ use Rattle.mathprog_data.specs.MachineStates.{Open, Event, empty_draft}
 use Rattle.mathprog_data.specs.Meaning.{Blocks, Means, IsLoose, blocks_of}
 use Rattle.mathprog_data.specs.Meaning as sections
 use Rattle.mathprog_data.specs.NumberReading.{reading}
-use Rattle.mathprog_data.specs.Params.{set_number, param_number}
+use Rattle.model_sets.specs.Names.{set_number}
+use Rattle.model_sets.specs.Params.{param_number}
 use Rattle.mathprog_data.specs.Statements.{Listed, Members, Statement, Set, Param, IsStatement}
 use Rattle.mathprog_data.specs.Statements as trees
 use Rattle.mathprog_data.specs.Symbols.{Name, Number}

@@ -36,19 +36,19 @@ Comes (ReadFault stop) = ⊥
 Comes WriteFault = ⊥
 Comes Memory = ⊥
 
-comes_of_equations : (d : Data) (status : Status) (text : List ℕ) → DueForEquations d status text → Comes status
-comes_of_equations d status text (inl written) = subst Comes (sym written.status_is) tt
-comes_of_equations d status text (inr (inl wide)) = subst Comes (sym wide.status_is) tt
-comes_of_equations d status text (inr (inr many)) = subst Comes (sym many.status_is) tt
+comes_of_equations : (places : ℕ) (d : Data) (status : Status) (text : List ℕ) → DueForEquations places d status text → Comes status
+comes_of_equations places d status text (inl written) = subst Comes (sym written.status_is) tt
+comes_of_equations places d status text (inr (inl wide)) = subst Comes (sym wide.status_is) tt
+comes_of_equations places d status text (inr (inr many)) = subst Comes (sym many.status_is) tt
 
 comes_of_refusal : (bytes : List ℕ) (status : Status) (text : List ℕ) → DueWhereNotAccepted bytes status text → Comes status
 comes_of_refusal bytes status text (inl refused) = subst Comes (sym refused.status_is) tt
 comes_of_refusal bytes status text (inr (blocks, says, inl refused)) = subst Comes (sym refused.status_is) tt
 comes_of_refusal bytes status text (inr (blocks, says, inr refused)) = subst Comes (sym refused.status_is) tt
 
-comes_of : (bytes : List ℕ) (status : Status) (text : List ℕ) → DueForText DueForEquations bytes status text → Comes status
-comes_of bytes status text (inl refused) = comes_of_refusal bytes status text refused
-comes_of bytes status text (inr said) = comes_of_equations said.0 status text said.2
+comes_of : (places : ℕ) (bytes : List ℕ) (status : Status) (text : List ℕ) → DueForText (DueForEquations places) bytes status text → Comes status
+comes_of places bytes status text (inl refused) = comes_of_refusal bytes status text refused
+comes_of places bytes status text (inr said) = comes_of_equations places said.0 status text said.2
 
 -- ---- what is due
 
@@ -78,14 +78,14 @@ other_fault : (line : List ℕ) → Due (codes "mps" ∷ []) (with_file []) (Wor
 other_fault line h = cc h.0
 
 -- a file of 64 MiB and a byte is too long, and one of 64 MiB isn't
-too_long_due : (bytes : List ℕ) → length bytes ≡ 67108865 → DueForFile (DueForText DueForEquations) 1 (Some bytes) (Refused (refusals.TooLong 1)) (codes "refused too long file 1\n")
+too_long_due : (bytes : List ℕ) → length bytes ≡ 67108865 → DueForFile (DueForText (DueForEquations 6)) 1 (Some bytes) (Refused (refusals.TooLong 1)) (codes "refused too long file 1\n")
 unfolding digits
 too_long_due bytes e =
     let longer : nat_lt most_bytes (length bytes) ≡ true = ap (nat_lt most_bytes) e in
-    subst (λ (b : Bool). MatchBool b ((Refused (refusals.TooLong 1) ≡ Refused (refusals.TooLong 1)) × (codes "refused too long file 1\n" ≡ too_long_line 1)) (DueForText DueForEquations bytes (Refused (refusals.TooLong 1)) (codes "refused too long file 1\n")))
+    subst (λ (b : Bool). MatchBool b ((Refused (refusals.TooLong 1) ≡ Refused (refusals.TooLong 1)) × (codes "refused too long file 1\n" ≡ too_long_line 1)) (DueForText (DueForEquations 6) bytes (Refused (refusals.TooLong 1)) (codes "refused too long file 1\n")))
     (sym longer) (refl, refl)
 
-not_too_long : (bytes line : List ℕ) → length bytes ≡ 67108864 → DueForFile (DueForText DueForEquations) 1 (Some bytes) (Refused (refusals.TooLong 1)) line → DueForText DueForEquations bytes (Refused (refusals.TooLong 1)) line
+not_too_long : (bytes line : List ℕ) → length bytes ≡ 67108864 → DueForFile (DueForText (DueForEquations 6)) 1 (Some bytes) (Refused (refusals.TooLong 1)) line → DueForText (DueForEquations 6) bytes (Refused (refusals.TooLong 1)) line
 not_too_long bytes line e h = rw e at h
 
 -- ---- what a call may leave
@@ -159,11 +159,11 @@ failed_at_last = inr (record { files = refl; begins = refl; faults = omega arith
 
 -- the file that was read, or at which the work stopped, as `mps` has it
 abbrev ByFile : List ℕ → Sight → Sight → Status → List ℕ → Type 0
-ByFile name before after status line = CausedByFile (FollowsFromText after status line) 1 name before after status line
+ByFile name before after status line = CausedByFile (FollowsFromText (DueForEquations 6) after status line) 1 name before after status line
 
 -- no read fault where it didn't
 rose_at_failure : (name line : List ℕ) (before after : Sight) → ByFile name before after (ReadFault (stops.Failed 1)) line → Rose before.faults after.faults
-rose_at_failure name line before after (inl whole) = absurd (comes_of whole.1 (ReadFault (stops.Failed 1)) line whole.4.1)
+rose_at_failure name line before after (inl whole) = absurd (comes_of 6 whole.1 (ReadFault (stops.Failed 1)) line whole.4.1)
 rose_at_failure name line before after (inr (one, inl h)) = let same : ReadFault (stops.Failed 1) ≡ Refused (refusals.TooLong 1) = h.0 in absurd (cc same)
 rose_at_failure name line before after (inr (one, inr (inl h))) = let same : ReadFault (stops.Failed 1) ≡ ReadFault (stops.NoFile 1) = h.0 in absurd (cc same)
 rose_at_failure name line before after (inr (one, inr (inr h))) = h.2
@@ -175,7 +175,7 @@ failed_for_nothing line h =
 
 -- no read fault without a call of `begin`, or with two
 begun_at_failure : (name line : List ℕ) (before after : Sight) → ByFile name before after (ReadFault (stops.Failed 1)) line → BeganOne before after
-begun_at_failure name line before after (inl whole) = absurd (comes_of whole.1 (ReadFault (stops.Failed 1)) line whole.4.1)
+begun_at_failure name line before after (inl whole) = absurd (comes_of 6 whole.1 (ReadFault (stops.Failed 1)) line whole.4.1)
 begun_at_failure name line before after (inr c) = c.0
 
 failed_unbegun : (line : List ℕ) → Caused mps_file (counts 0 0 0) (counts 1 0 0) (ReadFault (stops.Failed 1)) line → ⊥
@@ -190,7 +190,7 @@ failed_begun_twice line h =
 
 -- a shelf that doesn't tell its files has no missing file
 lacks_at_missing : (name line : List ℕ) (before after : Sight) → ByFile name before after (ReadFault (stops.NoFile 1)) line → Lacks before.files name
-lacks_at_missing name line before after (inl whole) = absurd (comes_of whole.1 (ReadFault (stops.NoFile 1)) line whole.4.1)
+lacks_at_missing name line before after (inl whole) = absurd (comes_of 6 whole.1 (ReadFault (stops.NoFile 1)) line whole.4.1)
 lacks_at_missing name line before after (inr (one, inl h)) = let same : ReadFault (stops.NoFile 1) ≡ Refused (refusals.TooLong 1) = h.0 in absurd (cc same)
 lacks_at_missing name line before after (inr (one, inr (inl h))) = h.2
 lacks_at_missing name line before after (inr (one, inr (inr h))) = let same : ReadFault (stops.NoFile 1) ≡ ReadFault (stops.Failed 1) = h.0 in absurd (cc same)
@@ -206,7 +206,7 @@ too_long_caused taken more within =
 
 -- and no fewer
 many_at_too_long : (name line : List ℕ) (before after : Sight) → ByFile name before after (Refused (refusals.TooLong 1)) line → IsTooLong before.files name after.taken
-many_at_too_long name line before after (inl whole) = absurd (comes_of whole.1 (Refused (refusals.TooLong 1)) line whole.4.1)
+many_at_too_long name line before after (inl whole) = absurd (comes_of 6 whole.1 (Refused (refusals.TooLong 1)) line whole.4.1)
 many_at_too_long name line before after (inr (one, inl h)) = h.2
 many_at_too_long name line before after (inr (one, inr (inl h))) = let same : Refused (refusals.TooLong 1) ≡ ReadFault (stops.NoFile 1) = h.0 in absurd (cc same)
 many_at_too_long name line before after (inr (one, inr (inr h))) = let same : Refused (refusals.TooLong 1) ≡ ReadFault (stops.Failed 1) = h.0 in absurd (cc same)

@@ -58,8 +58,8 @@ read_to_end words before after status text other caused = by_request (asked word
 
     by_request : (request : Result Request WordFault) → CausedByRequest request before after status text → IsReadToEnd words before after status
     by_request (Err fault) c = at (Words fault) c.0 tt
-    by_request (Ok (Mps name)) (inl whole) = none_left words before after status other (left_alone before whole.0 after whole.3.none_left whole.4.0)
-    by_request (Ok (Mps name)) (inr c) = stopped name c.1
+    by_request (Ok (Mps name places)) (inl whole) = none_left words before after status other (left_alone before whole.0 after whole.3.none_left whole.4.0)
+    by_request (Ok (Mps name places)) (inr c) = stopped name c.1
 
 -- where the text of such an answer met a failed write
 pub read_at_write_fault : (words : List (List ℕ)) (before after : Sight) (status : Status) (text : List ℕ) → Caused words before after status text → IsReadAtWriteFault words before after
@@ -74,5 +74,5 @@ read_at_write_fault words before after status text caused = by_request (asked wo
     by_request : (request : Result Request WordFault) → CausedByRequest request before after status text
         → HasNothingLeft before after ⊎ IsErr request ⊎ Rose before.faults after.faults ⊎ (most_bytes < after.taken)
     by_request (Err fault) c = inr (inl refl)
-    by_request (Ok (Mps name)) (inl whole) = inl (left_alone before whole.0 after whole.3.none_left whole.4.0)
-    by_request (Ok (Mps name)) (inr c) = stopped (Ok (Mps name)) name c.1
+    by_request (Ok (Mps name places)) (inl whole) = inl (left_alone before whole.0 after whole.3.none_left whole.4.0)
+    by_request (Ok (Mps name places)) (inr c) = stopped (Ok (Mps name places)) name c.1

@@ -13,7 +13,7 @@ use Rattle.osemosys_run.specs.Lines.{words_line, stop_line, too_long_line}
 no_words : asked [] ≡ Err NoCommand
 no_words = refl
 
-one_file : asked (codes "mps" ∷ codes "FILE" ∷ []) ≡ Ok (Mps (codes "FILE"))
+one_file : asked (codes "mps" ∷ codes "FILE" ∷ []) ≡ Ok (Mps (codes "FILE") 6)
 one_file = refl
 
 unknown_command : asked (codes "mpz" ∷ codes "FILE" ∷ []) ≡ Err BadCommand
@@ -55,26 +55,26 @@ named_like_an_option = refl
 two_dashes : asked (codes "mps" ∷ codes "--" ∷ []) ≡ Err BadForm
 two_dashes = refl
 
-file_after_two_dashes : asked (codes "mps" ∷ codes "--" ∷ codes "FILE" ∷ []) ≡ Ok (Mps (codes "FILE"))
+file_after_two_dashes : asked (codes "mps" ∷ codes "--" ∷ codes "FILE" ∷ []) ≡ Ok (Mps (codes "FILE") 6)
 file_after_two_dashes = refl
 
 option_after_file : asked (codes "mps" ∷ codes "FILE" ∷ codes "--gap" ∷ codes "5" ∷ []) ≡ Err BadForm
 option_after_file = refl
 
 -- '-' alone is the name of a file
-one_dash : asked (codes "mps" ∷ codes "-" ∷ []) ≡ Ok (Mps (codes "-"))
+one_dash : asked (codes "mps" ∷ codes "-" ∷ []) ≡ Ok (Mps (codes "-") 6)
 one_dash = refl
 
 -- and so is a word of no bytes
-empty_name : asked (codes "mps" ∷ [] ∷ []) ≡ Ok (Mps [])
+empty_name : asked (codes "mps" ∷ [] ∷ []) ≡ Ok (Mps [] 6)
 empty_name = refl
 
 -- a '-' further on makes no option
-dash_inside : asked (codes "mps" ∷ codes "a-b" ∷ []) ≡ Ok (Mps (codes "a-b"))
+dash_inside : asked (codes "mps" ∷ codes "a-b" ∷ []) ≡ Ok (Mps (codes "a-b") 6)
 dash_inside = refl
 
 -- the command may be the name of a file too
-command_twice : asked (codes "mps" ∷ codes "mps" ∷ []) ≡ Ok (Mps (codes "mps"))
+command_twice : asked (codes "mps" ∷ codes "mps" ∷ []) ≡ Ok (Mps (codes "mps") 6)
 command_twice = refl
 
 blank_before_dash : is_option (codes " -x") ≡ false

@@ -62,8 +62,8 @@ due_from_cause words before after files status text told calm caused = by_reques
   where
     by_request : (request : Result Request WordFault) → CausedByRequest request before after status text → DueForRequest request files status text
     by_request (Err fault) c = (c.0, c.1)
-    by_request (Ok (Mps name)) c =
-        due_for_file (FollowsFromText after status text) (DueForText DueForEquations) 1 name before after files status text told calm (λ there bytes follows. follows.1) c
+    by_request (Ok (Mps name places)) c =
+        due_for_file (FollowsFromText (DueForEquations places) after status text) (DueForText (DueForEquations places)) 1 name before after files status text told calm (λ there bytes follows. follows.1) c
 
 -- ---- which statuses an answer has
 
@@ -77,10 +77,10 @@ is_other status s cut memory e = (λ h. cut (sym e ∙ h), λ h. memory (sym e �
 refused_is : (status : Status) (refusal : Refusal) → status ≡ Refused refusal → IsAnswer status
 refused_is status refusal e = is_other status (Refused refusal) (λ h. cc) (λ h. cc) e
 
-equations_are : (d : Data) (status : Status) (text : List ℕ) → DueForEquations d status text → IsAnswer status
-equations_are d status text (inl written) = is_other status Done (λ h. cc) (λ h. cc) written.status_is
-equations_are d status text (inr (inl wide)) = is_other status (Uncertified (Stop.Width (Place.Row wide.name))) (λ h. cc) (λ h. cc) wide.status_is
-equations_are d status text (inr (inr many)) = refused_is status refusals.TooManyEntries many.status_is
+equations_are : (places : ℕ) (d : Data) (status : Status) (text : List ℕ) → DueForEquations places d status text → IsAnswer status
+equations_are places d status text (inl written) = is_other status Done (λ h. cc) (λ h. cc) written.status_is
+equations_are places d status text (inr (inl wide)) = is_other status (Uncertified (Stop.Width (Place.Row wide.name))) (λ h. cc) (λ h. cc) wide.status_is
+equations_are places d status text (inr (inr many)) = refused_is status refusals.TooManyEntries many.status_is
 
 not_accepted_is : (bytes : List ℕ) (status : Status) (text : List ℕ) → DueWhereNotAccepted bytes status text → IsAnswer status
 not_accepted_is bytes status text (inl refused) = refused_is status (refusals.Text refused.fault) refused.status_is
@@ -104,8 +104,8 @@ is_answer words before after status text caused = by_request (asked words) cause
   where
     by_request : (request : Result Request WordFault) → CausedByRequest request before after status text → IsAnswer status
     by_request (Err fault) c = is_other status (Words fault) (λ h. cc) (λ h. cc) c.0
-    by_request (Ok (Mps name)) (inl whole) = text_is DueForEquations equations_are whole.1 status text whole.4.1
-    by_request (Ok (Mps name)) (inr stopped) = stop_is 1 name before after status text stopped.1
+    by_request (Ok (Mps name places)) (inl whole) = text_is (DueForEquations places) (equations_are places) whole.1 status text whole.4.1
+    by_request (Ok (Mps name places)) (inr stopped) = stop_is 1 name before after status text stopped.1
 
 -- ---- what is delivered
 

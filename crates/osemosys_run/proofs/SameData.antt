@@ -15,15 +15,15 @@ use Rattle.osemosys_run.specs.Lines.{uncertified_line}
 use Rattle.osemosys_run.specs.Mps.{DueForEquations, WritesEquations}
 
 -- what the laws of the book say of two data that are the same
-pub record SameLaws (d e : Data) : Type 0 where
-  pub rows : (rows : List Row) → AreRowsOf d (instances d) rows ↔ AreRowsOf e (instances e) rows
-  pub made : (before : ℕ) → CanBeMade d before (instances d) ↔ CanBeMade e before (instances e)
-  pub wide : (before : ℕ) (name : RowName) → IsTooWide d before (instances d) name ↔ IsTooWide e before (instances e) name
-  pub many : (before : ℕ) (name : RowName) → HasTooMany d before (instances d) name ↔ HasTooMany e before (instances e) name
+pub record SameLaws (places : ℕ) (d e : Data) : Type 0 where
+  pub rows : (rows : List Row) → AreRowsOf places d (instances d) rows ↔ AreRowsOf places e (instances e) rows
+  pub made : (before : ℕ) → CanBeMade places d before (instances d) ↔ CanBeMade places e before (instances e)
+  pub wide : (before : ℕ) (name : RowName) → IsTooWide places d before (instances d) name ↔ IsTooWide places e before (instances e) name
+  pub many : (before : ℕ) (name : RowName) → HasTooMany places d before (instances d) name ↔ HasTooMany places e before (instances e) name
 
 -- the equations of one are those of the other
-writes_carry : (d e : Data) (text : List ℕ) → AreSameData d e → SameLaws d e → WritesEquations d text → WritesEquations e text
-writes_carry d e text same laws writes = record {
+writes_carry : (places : ℕ) (d e : Data) (text : List ℕ) → AreSameData d e → SameLaws places d e → WritesEquations places d text → WritesEquations places e text
+writes_carry places d e text same laws writes = record {
   rows = writes.rows;
   columns = writes.columns;
   are_rows = (laws.rows writes.rows).0 writes.are_rows;
@@ -31,15 +31,15 @@ writes_carry d e text same laws writes = record {
   is = writes.is ∙ ap (λ (sets : SetLists). mps_text sets writes.rows writes.columns) same.sets;
 }
 
-pub equations_carry : (d e : Data) (status : Status) (text : List ℕ) → AreSameData d e → SameLaws d e → DueForEquations d status text → DueForEquations e status text
-equations_carry d e status text same laws (inl written) =
-    inl (record { made = (laws.made 0).0 written.made; status_is = written.status_is; writes = writes_carry d e text same laws written.writes })
-equations_carry d e status text same laws (inr (inl wide)) =
+pub equations_carry : (places : ℕ) (d e : Data) (status : Status) (text : List ℕ) → AreSameData d e → SameLaws places d e → DueForEquations places d status text → DueForEquations places e status text
+equations_carry places d e status text same laws (inl written) =
+    inl (record { made = (laws.made 0).0 written.made; status_is = written.status_is; writes = writes_carry places d e text same laws written.writes })
+equations_carry places d e status text same laws (inr (inl wide)) =
     inr (inl (record {
       name = wide.name;
       wide = (laws.wide 0 wide.name).0 wide.wide;
       status_is = wide.status_is;
       line_is = wide.line_is ∙ ap (λ (sets : SetLists). uncertified_line sets (Stop.Width (Place.Row wide.name))) same.sets;
     }))
-equations_carry d e status text same laws (inr (inr many)) =
+equations_carry places d e status text same laws (inr (inr many)) =
     inr (inr (record { name = many.name; many = (laws.many 0 many.name).0 many.many; status_is = many.status_is; line_is = many.line_is }))

@@ -5,7 +5,7 @@ use Rattle.osemosys_run.specs.declared.status.WordFault.TheVariants.{NoCommand, 
 use Rattle.osemosys_run.specs.declared.words.any_command.SolveShow.TheVariants.{Report, Plan, Multipliers}
 use Rattle.osemosys_run.specs.declared.words.any_command.MakeShow.TheVariants.{File, Summary}
 use Rattle.osemosys_run.specs.CommandLine.{meant, Mps, Check, Solve, Make}
-use Rattle.osemosys_run.specs.WordParts.{parts_of, Gap, Pivots, Show, Chosen, Spells, Name, Apart, Joined}
+use Rattle.osemosys_run.specs.WordParts.{parts_of, Gap, Pivots, Places, Show, Chosen, Spells, Name, Apart, Joined}
 use Rattle.osemosys_run.specs.WordParts as parts
 
 -- ---- the command
@@ -29,26 +29,26 @@ unknown_before_form = refl
 
 -- ---- each command with what it takes
 
-mps_of_a_file : meant (codes "mps" ∷ codes "f" ∷ []) ≡ Ok (Mps (codes "f"))
+mps_of_a_file : meant (codes "mps" ∷ codes "f" ∷ []) ≡ Ok (Mps (codes "f") 6)
 mps_of_a_file = refl
 
-check_with_defaults : meant (codes "check" ∷ codes "f" ∷ codes "p" ∷ []) ≡ Ok (Check (codes "f") (codes "p") None 0)
+check_with_defaults : meant (codes "check" ∷ codes "f" ∷ codes "p" ∷ []) ≡ Ok (Check (codes "f") (codes "p") None 0 6)
 check_with_defaults = refl
 
-check_with_multipliers : meant (codes "check" ∷ codes "f" ∷ codes "p" ∷ codes "m" ∷ []) ≡ Ok (Check (codes "f") (codes "p") (Some (codes "m")) 0)
+check_with_multipliers : meant (codes "check" ∷ codes "f" ∷ codes "p" ∷ codes "m" ∷ []) ≡ Ok (Check (codes "f") (codes "p") (Some (codes "m")) 0 6)
 check_with_multipliers = refl
 
-check_with_gap : meant (codes "check" ∷ codes "f" ∷ codes "p" ∷ codes "m" ∷ codes "--gap" ∷ codes "5" ∷ []) ≡ Ok (Check (codes "f") (codes "p") (Some (codes "m")) 5)
+check_with_gap : meant (codes "check" ∷ codes "f" ∷ codes "p" ∷ codes "m" ∷ codes "--gap" ∷ codes "5" ∷ []) ≡ Ok (Check (codes "f") (codes "p") (Some (codes "m")) 5 6)
 check_with_gap = refl
 
-solve_with_defaults : meant (codes "solve" ∷ codes "f" ∷ []) ≡ Ok (Solve (codes "f") 0 20000 Report)
+solve_with_defaults : meant (codes "solve" ∷ codes "f" ∷ []) ≡ Ok (Solve (codes "f") 0 20000 6 Report)
 solve_with_defaults = refl
 
 -- options stand anywhere, in two words or one
-solve_with_all : meant (codes "solve" ∷ codes "--pivots" ∷ codes "7" ∷ codes "--show=plan" ∷ codes "f" ∷ codes "--gap=1000000" ∷ []) ≡ Ok (Solve (codes "f") 1000000 7 Plan)
+solve_with_all : meant (codes "solve" ∷ codes "--pivots" ∷ codes "7" ∷ codes "--show=plan" ∷ codes "f" ∷ codes "--gap=1000000" ∷ []) ≡ Ok (Solve (codes "f") 1000000 7 6 Plan)
 solve_with_all = refl
 
-solve_for_multipliers : meant (codes "solve" ∷ codes "f" ∷ codes "--show" ∷ codes "multipliers" ∷ []) ≡ Ok (Solve (codes "f") 0 20000 Multipliers)
+solve_for_multipliers : meant (codes "solve" ∷ codes "f" ∷ codes "--show" ∷ codes "multipliers" ∷ []) ≡ Ok (Solve (codes "f") 0 20000 6 Multipliers)
 solve_for_multipliers = refl
 
 make_with_defaults : meant (codes "make" ∷ codes "7" ∷ []) ≡ Ok (Make 7 File)
@@ -114,18 +114,18 @@ form_before_number = refl
 
 -- ---- `--` and `-`
 
-file_after_end : meant (codes "mps" ∷ codes "--" ∷ codes "-f" ∷ []) ≡ Ok (Mps (codes "-f"))
+file_after_end : meant (codes "mps" ∷ codes "--" ∷ codes "-f" ∷ []) ≡ Ok (Mps (codes "-f") 6)
 file_after_end = refl
 
 -- no word is an option there
-option_after_end : meant (codes "check" ∷ codes "f" ∷ codes "p" ∷ codes "--" ∷ codes "--gap" ∷ []) ≡ Ok (Check (codes "f") (codes "p") (Some (codes "--gap")) 0)
+option_after_end : meant (codes "check" ∷ codes "f" ∷ codes "p" ∷ codes "--" ∷ codes "--gap" ∷ []) ≡ Ok (Check (codes "f") (codes "p") (Some (codes "--gap")) 0 6)
 option_after_end = refl
 
 -- a second `--` is a file
-second_end : meant (codes "mps" ∷ codes "--" ∷ codes "--" ∷ []) ≡ Ok (Mps (codes "--"))
+second_end : meant (codes "mps" ∷ codes "--" ∷ codes "--" ∷ []) ≡ Ok (Mps (codes "--") 6)
 second_end = refl
 
-end_at_the_end : meant (codes "mps" ∷ codes "f" ∷ codes "--" ∷ []) ≡ Ok (Mps (codes "f"))
+end_at_the_end : meant (codes "mps" ∷ codes "f" ∷ codes "--" ∷ []) ≡ Ok (Mps (codes "f") 6)
 end_at_the_end = refl
 
 end_alone : meant (codes "mps" ∷ codes "--" ∷ []) ≡ Err BadForm
@@ -135,13 +135,13 @@ end_with_equals : meant (codes "mps" ∷ codes "f" ∷ codes "--=5" ∷ []) ≡ 
 end_with_equals = refl
 
 -- `-` is the name of a file
-dash_alone : meant (codes "mps" ∷ codes "-" ∷ []) ≡ Ok (Mps (codes "-"))
+dash_alone : meant (codes "mps" ∷ codes "-" ∷ []) ≡ Ok (Mps (codes "-") 6)
 dash_alone = refl
 
 dash_for_a_value : meant (codes "solve" ∷ codes "f" ∷ codes "--gap" ∷ codes "-" ∷ []) ≡ Err BadNumber
 dash_for_a_value = refl
 
-file_without_a_name : meant (codes "mps" ∷ [] ∷ []) ≡ Ok (Mps [])
+file_without_a_name : meant (codes "mps" ∷ [] ∷ []) ≡ Ok (Mps [] 6)
 file_without_a_name = refl
 
 -- ---- numbers
@@ -166,22 +166,22 @@ number_with_exponent = refl
 second_equals : meant (codes "solve" ∷ codes "f" ∷ codes "--gap=5=5" ∷ []) ≡ Err BadNumber
 second_equals = refl
 
-greatest_gap : meant (codes "solve" ∷ codes "f" ∷ codes "--gap" ∷ codes "1000000" ∷ []) ≡ Ok (Solve (codes "f") 1000000 20000 Report)
+greatest_gap : meant (codes "solve" ∷ codes "f" ∷ codes "--gap" ∷ codes "1000000" ∷ []) ≡ Ok (Solve (codes "f") 1000000 20000 6 Report)
 greatest_gap = refl
 
 gap_too_great : meant (codes "solve" ∷ codes "f" ∷ codes "--gap" ∷ codes "1000001" ∷ []) ≡ Err BadNumber
 gap_too_great = refl
 
-seven_digits : meant (codes "solve" ∷ codes "f" ∷ codes "--gap" ∷ codes "0000001" ∷ []) ≡ Ok (Solve (codes "f") 1 20000 Report)
+seven_digits : meant (codes "solve" ∷ codes "f" ∷ codes "--gap" ∷ codes "0000001" ∷ []) ≡ Ok (Solve (codes "f") 1 20000 6 Report)
 seven_digits = refl
 
 eight_digits : meant (codes "solve" ∷ codes "f" ∷ codes "--gap" ∷ codes "00000001" ∷ []) ≡ Err BadNumber
 eight_digits = refl
 
-no_pivots : meant (codes "solve" ∷ codes "f" ∷ codes "--pivots" ∷ codes "0" ∷ []) ≡ Ok (Solve (codes "f") 0 0 Report)
+no_pivots : meant (codes "solve" ∷ codes "f" ∷ codes "--pivots" ∷ codes "0" ∷ []) ≡ Ok (Solve (codes "f") 0 0 6 Report)
 no_pivots = refl
 
-most_pivots : meant (codes "solve" ∷ codes "f" ∷ codes "--pivots" ∷ codes "1000000" ∷ []) ≡ Ok (Solve (codes "f") 0 1000000 Report)
+most_pivots : meant (codes "solve" ∷ codes "f" ∷ codes "--pivots" ∷ codes "1000000" ∷ []) ≡ Ok (Solve (codes "f") 0 1000000 6 Report)
 most_pivots = refl
 
 too_many_pivots : meant (codes "solve" ∷ codes "f" ∷ codes "--pivots" ∷ codes "1000001" ∷ []) ≡ Err BadNumber
@@ -204,6 +204,38 @@ number_before_show = refl
 
 pivots_before_show : meant (codes "solve" ∷ codes "f" ∷ codes "--show" ∷ codes "all" ∷ codes "--pivots" ∷ codes "x" ∷ []) ≡ Err BadNumber
 pivots_before_show = refl
+
+-- ---- the decimal places of written factors: 6 or 9
+
+nine_places : meant (codes "mps" ∷ codes "--places" ∷ codes "9" ∷ codes "f" ∷ []) ≡ Ok (Mps (codes "f") 9)
+nine_places = refl
+
+six_places : meant (codes "mps" ∷ codes "f" ∷ codes "--places=6" ∷ []) ≡ Ok (Mps (codes "f") 6)
+six_places = refl
+
+seven_places : meant (codes "mps" ∷ codes "f" ∷ codes "--places" ∷ codes "7" ∷ []) ≡ Err BadNumber
+seven_places = refl
+
+places_with_zero : meant (codes "mps" ∷ codes "f" ∷ codes "--places" ∷ codes "09" ∷ []) ≡ Err BadNumber
+places_with_zero = refl
+
+places_twice : meant (codes "mps" ∷ codes "f" ∷ codes "--places" ∷ codes "9" ∷ codes "--places" ∷ codes "9" ∷ []) ≡ Err BadForm
+places_twice = refl
+
+places_to_check : meant (codes "check" ∷ codes "f" ∷ codes "p" ∷ codes "--places" ∷ codes "9" ∷ []) ≡ Ok (Check (codes "f") (codes "p") None 0 9)
+places_to_check = refl
+
+places_to_solve : meant (codes "solve" ∷ codes "f" ∷ codes "--places=9" ∷ codes "--pivots=7" ∷ []) ≡ Ok (Solve (codes "f") 0 7 9 Report)
+places_to_solve = refl
+
+places_to_make : meant (codes "make" ∷ codes "7" ∷ codes "--places" ∷ codes "9" ∷ []) ≡ Err BadForm
+places_to_make = refl
+
+places_before_show : meant (codes "solve" ∷ codes "f" ∷ codes "--show" ∷ codes "all" ∷ codes "--places" ∷ codes "7" ∷ []) ≡ Err BadNumber
+places_before_show = refl
+
+places_before_gap_alone : meant (codes "check" ∷ codes "f" ∷ codes "p" ∷ codes "--gap" ∷ codes "5" ∷ codes "--places" ∷ codes "7" ∷ []) ≡ Err BadNumber
+places_before_gap_alone = refl
 
 -- ---- words after `--show`, and a gap alone
 

@@ -2,6 +2,7 @@
 use Rattle.std.specs.Prelude.{◌≡◌, ℕ, List, ◌⊎◌, Result, Ok, Err}
 use Rattle.io_edges.specs.Count.{Rose}
 use Rattle.io_edges.specs.Edges.{Lacks}
+use Rattle.model_sets.specs.Data.{Data}
 use Rattle.osemosys_run.specs.declared.status.Status.{Status}
 use Rattle.osemosys_run.specs.declared.status.Status.TheVariants.{Refused, Words, ReadFault}
 use Rattle.osemosys_run.specs.declared.status.Refusal.TheVariants.{TooLong}
@@ -28,14 +29,14 @@ CausedByFile Then number name before after status text =
     × IsWholeFile before.files name bytes before.rest there.rest there.taken × Then there bytes)
     ⊎ (BeganOne before after × StopsAtFile number name before after status text)
 
--- the shelf was left as it was, and the status and the text are due over the bytes
-abbrev pub FollowsFromText : Sight → Status → List ℕ → Sight → List ℕ → Type 0
-FollowsFromText after status text there bytes = (after ≡ there) × DueForText DueForEquations bytes status text
+-- the shelf was left as it was, and the status and the text are due over the bytes, by what `Over` has over their data
+abbrev pub FollowsFromText : (Data → Status → List ℕ → Type 0) → Sight → Status → List ℕ → Sight → List ℕ → Type 0
+FollowsFromText Over after status text there bytes = (after ≡ there) × DueForText Over bytes status text
 
 -- for a request its file was begun, and for a fault of the words the shelf stays as it is
 abbrev pub CausedByRequest : Result Request WordFault → Sight → Sight → Status → List ℕ → Type 0
 CausedByRequest (Err fault) before after status text = (status ≡ Words fault) × (text ≡ words_line fault) × (after ≡ before)
-CausedByRequest (Ok (Mps name)) before after status text = CausedByFile (FollowsFromText after status text) 1 name before after status text
+CausedByRequest (Ok (Mps name places)) before after status text = CausedByFile (FollowsFromText (DueForEquations places) after status text) 1 name before after status text
 
 -- The cause that the status and the text have: the words, a fault of the shelf that it counted, or the bytes that were read.
 abbrev pub Caused : List (List ℕ) → Sight → Sight → Status → List ℕ → Type 0

@@ -14,11 +14,13 @@ file_rule = record (new_rule (codes "file")) { action = Some Append }
 abbrev pub option_rule : Text → Rule
 option_rule name = record (new_rule name) { long = Some name; action = Some Set }
 
--- no program's name stands before the words, and there is no help
+-- files in any number; no program's name stands before the words, and there is no help
+abbrev pub files_only : App
+files_only = with_rule (on_top (λ top. record top { no_binary_name = true; disable_help_flag = true }) (new_app (codes "osemosys"))) file_rule
+
+-- files, and the options of all commands
 abbrev pub app : App
-app = with_rule (with_rule (with_rule (with_rule
-    (on_top (λ top. record top { no_binary_name = true; disable_help_flag = true }) (new_app (codes "osemosys")))
-    file_rule) (option_rule (codes "gap"))) (option_rule (codes "pivots"))) (option_rule (codes "show"))
+app = with_rule (with_rule (with_rule (with_rule files_only (option_rule (codes "gap"))) (option_rule (codes "pivots"))) (option_rule (codes "places"))) (option_rule (codes "show"))
 
 -- some kind of error comes
 abbrev pub is_fault : Kinds → Bool

@@ -5,14 +5,14 @@ use Rattle.osemosys_run.specs.declared.status.WordFault.{WordFault}
 use Rattle.osemosys_run.specs.declared.status.WordFault.TheVariants.{NoCommand, BadCommand, BadForm, BadNumber, BadShow, GapAlone}
 use Rattle.osemosys_run.specs.declared.words.any_command.SolveShow.{SolveShow}
 use Rattle.osemosys_run.specs.declared.words.any_command.MakeShow.{MakeShow}
-use Rattle.osemosys_run.specs.WordParts.{OptionName, Gap, Pivots, Show, Part, File, Chosen, parts_of}
-use Rattle.osemosys_run.specs.WordValues.{gap_of, pivots_of, size_of, solve_show_of, make_show_of}
+use Rattle.osemosys_run.specs.WordParts.{OptionName, Gap, Pivots, Places, Show, Part, File, Chosen, parts_of}
+use Rattle.osemosys_run.specs.WordValues.{gap_of, pivots_of, places_of, size_of, solve_show_of, make_show_of}
 
--- a command with its files and the values of its options: gaps in millionths, and the most pivots
+-- a command with its files and the values of its options: gaps in millionths, the most pivots, and the decimal places of written factors
 pub data AnyCommand : Type 0 where
-  Mps : (file : List ℕ) → AnyCommand
-  Check : (file plan : List ℕ) (multipliers : Option (List ℕ)) (gap : ℕ) → AnyCommand
-  Solve : (file : List ℕ) (gap pivots : ℕ) (show : SolveShow) → AnyCommand
+  Mps : (file : List ℕ) (places : ℕ) → AnyCommand
+  Check : (file plan : List ℕ) (multipliers : Option (List ℕ)) (gap places : ℕ) → AnyCommand
+  Solve : (file : List ℕ) (gap pivots places : ℕ) (show : SolveShow) → AnyCommand
   Make : (size : ℕ) (show : MakeShow) → AnyCommand
 
 -- ---- commands and their options
@@ -35,7 +35,9 @@ command_named word =
 
 -- the options that a command has
 abbrev pub has_option : CommandName → OptionName → Bool
+has_option MpsName Places = true
 has_option CheckName Gap = true
+has_option CheckName Places = true
 has_option SolveName o = true
 has_option MakeName Show = true
 has_option command o = false
@@ -52,6 +54,7 @@ files_in (Chosen o value ∷ parts) = files_in parts
 abbrev pub is_same : OptionName → OptionName → Bool
 is_same Gap Gap = true
 is_same Pivots Pivots = true
+is_same Places Places = true
 is_same Show Show = true
 is_same o other = false
 
@@ -70,7 +73,7 @@ abbrev pub allows : CommandName → List Part → OptionName → Bool
 allows command parts o = nat_le (length (values_in o parts)) (if has_option command o then 1 else 0)
 
 abbrev pub allows_all : CommandName → List Part → Bool
-allows_all command parts = allows command parts Gap && allows command parts Pivots && allows command parts Show
+allows_all command parts = allows command parts Gap && allows command parts Pivots && allows command parts Places && allows command parts Show
 
 -- ---- commands with their values
 
@@ -79,39 +82,44 @@ abbrev pub or_fault : {A : Type 0} → WordFault → Option A → (A → Result 
 or_fault fault None make = Err fault
 or_fault fault (Some value) make = make value
 
--- `check` of a plan without multipliers has no bound, so a gap is refused there, also the gap 0
-abbrev pub check_of : List ℕ → List ℕ → Option (List ℕ) → Option (List ℕ) → Result AnyCommand WordFault
-check_of file plan multipliers gap =
-    or_fault BadNumber (gap_of gap) (λ ppm.
-    if is_some gap && not (is_some multipliers) then Err GapAlone
-    else Ok (Check file plan multipliers ppm))
+abbrev pub mps_of : List ℕ → Option (List ℕ) → Result AnyCommand WordFault
+mps_of file places = or_fault BadNumber (places_of places) (λ decimals. Ok (Mps file decimals))
 
-abbrev pub solve_of : List ℕ → Option (List ℕ) → Option (List ℕ) → Option (List ℕ) → Result AnyCommand WordFault
-solve_of file gap pivots show =
+-- `check` of a plan without multipliers has no bound, so a gap is refused there, also the gap 0
+abbrev pub check_of : List ℕ → List ℕ → Option (List ℕ) → Option (List ℕ) → Option (List ℕ) → Result AnyCommand WordFault
+check_of file plan multipliers gap places =
+    or_fault BadNumber (gap_of gap) (λ ppm.
+    or_fault BadNumber (places_of places) (λ decimals.
+    if is_some gap && not (is_some multipliers) then Err GapAlone
+    else Ok (Check file plan multipliers ppm decimals)))
+
+abbrev pub solve_of : List ℕ → Option (List ℕ) → Option (List ℕ) → Option (List ℕ) → Option (List ℕ) → Result AnyCommand WordFault
+solve_of file gap pivots places show =
     or_fault BadNumber (gap_of gap) (λ ppm.
     or_fault BadNumber (pivots_of pivots) (λ most.
-    or_fault BadShow (solve_show_of show) (λ shown. Ok (Solve file ppm most shown))))
+    or_fault BadNumber (places_of places) (λ decimals.
+    or_fault BadShow (solve_show_of show) (λ shown. Ok (Solve file ppm most decimals shown)))))
 
 abbrev pub make_of : List ℕ → Option (List ℕ) → Result AnyCommand WordFault
 make_of size show =
     or_fault BadNumber (size_of size) (λ n.
     or_fault BadShow (make_show_of show) (λ shown. Ok (Make n shown)))
 
--- the command with these files and these values of `--gap`, `--pivots` and `--show`: a file that is missing or too many is a fault of form
-abbrev pub command_of : CommandName → List (List ℕ) → Option (List ℕ) → Option (List ℕ) → Option (List ℕ) → Result AnyCommand WordFault
-command_of MpsName (file ∷ []) gap pivots show = Ok (Mps file)
-command_of CheckName (file ∷ plan ∷ []) gap pivots show = check_of file plan None gap
-command_of CheckName (file ∷ plan ∷ multipliers ∷ []) gap pivots show = check_of file plan (Some multipliers) gap
-command_of SolveName (file ∷ []) gap pivots show = solve_of file gap pivots show
-command_of MakeName (size ∷ []) gap pivots show = make_of size show
-command_of command files gap pivots show = Err BadForm
+-- the command with these files and these values of `--gap`, `--pivots`, `--places` and `--show`: a file that is missing or too many is a fault of form
+abbrev pub command_of : CommandName → List (List ℕ) → Option (List ℕ) → Option (List ℕ) → Option (List ℕ) → Option (List ℕ) → Result AnyCommand WordFault
+command_of MpsName (file ∷ []) gap pivots places show = mps_of file places
+command_of CheckName (file ∷ plan ∷ []) gap pivots places show = check_of file plan None gap places
+command_of CheckName (file ∷ plan ∷ multipliers ∷ []) gap pivots places show = check_of file plan (Some multipliers) gap places
+command_of SolveName (file ∷ []) gap pivots places show = solve_of file gap pivots places show
+command_of MakeName (size ∷ []) gap pivots places show = make_of size show
+command_of command files gap pivots places show = Err BadForm
 
 -- the command with the parts of the words after it
 abbrev pub command_with : CommandName → Option (List Part) → Result AnyCommand WordFault
 command_with command None = Err BadForm
 command_with command (Some parts) =
     if allows_all command parts
-    then command_of command (files_in parts) (value_in Gap parts) (value_in Pivots parts) (value_in Show parts)
+    then command_of command (files_in parts) (value_in Gap parts) (value_in Pivots parts) (value_in Places parts) (value_in Show parts)
     else Err BadForm
 
 -- the command of a first word, with the words after it

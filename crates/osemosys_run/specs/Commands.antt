@@ -13,7 +13,7 @@ use Rattle.osemosys_run.specs.Words.{Request, Mps}
 
 -- the request of a command
 abbrev pub request_of : Command → Request
-request_of (commands.Mps file) = Mps file.now
+request_of (commands.Mps file places) = Mps file.now places
 
 -- the same where the words may be at fault
 abbrev pub request_of_result : Result Command WordFault → Result Request WordFault
@@ -22,9 +22,9 @@ request_of_result (Err fault) = Err fault
 
 -- any command without where its files' names lie in memory
 abbrev pub any_command_of : SlicedCommand → AnyCommand
-any_command_of (sliced.Mps file) = all.Mps file.now
-any_command_of (sliced.Check file plan multipliers gap) = all.Check file.now plan.now (option_map (λ name. name.now) multipliers) gap
-any_command_of (sliced.Solve file gap pivots show) = all.Solve file.now gap pivots show
+any_command_of (sliced.Mps file places) = all.Mps file.now places
+any_command_of (sliced.Check file plan multipliers gap places) = all.Check file.now plan.now (option_map (λ name. name.now) multipliers) gap places
+any_command_of (sliced.Solve file gap pivots places show) = all.Solve file.now gap pivots places show
 any_command_of (sliced.Make size show) = all.Make size show
 
 -- the same where the words may be at fault

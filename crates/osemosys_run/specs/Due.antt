@@ -29,7 +29,7 @@ DueForFile Due number (Some bytes) status text =
 -- for a request over its file, and for a fault of the words
 abbrev pub DueForRequest : Result Request WordFault → List (List ℕ × List ℕ) → Status → List ℕ → Type 0
 DueForRequest (Err fault) files status text = (status ≡ Words fault) × (text ≡ words_line fault)
-DueForRequest (Ok (Mps name)) files status text = DueForFile (DueForText DueForEquations) 1 (file_named files name) status text
+DueForRequest (Ok (Mps name places)) files status text = DueForFile (DueForText (DueForEquations places)) 1 (file_named files name) status text
 
 -- The status and the text that are due for these words over these files.
 abbrev pub Due : List (List ℕ) → List (List ℕ × List ℕ) → Status → List ℕ → Type 0

@@ -26,4 +26,4 @@ IsReadToEnd words before after status = HasNothingLeft before after
 -- a file that is there and isn't too long was read to its end, unless memory ran out; over a shelf that tells its files and had no fault
 abbrev pub ReadsWhole : List (List ℕ) → List (List ℕ × List ℕ) → Status → Option (List ℕ) → Type 0
 ReadsWhole words files status rest =
-    (name bytes : List ℕ) → asked words ≡ Ok (Mps name) → file_named files name ≡ Some bytes → length bytes ≤ most_bytes → status ≢ Memory → rest ≡ Some []
+    (name bytes : List ℕ) (places : ℕ) → asked words ≡ Ok (Mps name places) → file_named files name ≡ Some bytes → length bytes ≤ most_bytes → status ≢ Memory → rest ≡ Some []

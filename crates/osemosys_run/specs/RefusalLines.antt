@@ -4,7 +4,7 @@ use Rattle.std.specs.Fmt.{decimal}
 use Rattle.std.specs.List.{join_with_byte}
 use Rattle.mathprog_data.specs.declared.blocks.Mark.{Mark}
 use Rattle.mathprog_data.specs.Faults.{bad_byte, open_string, open_comment, unexpected, end_too_soon, unknown_name, given_twice, wrong_slice, row_too_short, bad_number, tabbing}
-use Rattle.mathprog_data.specs.Params.{param_word}
+use Rattle.model_sets.specs.Params.{param_word}
 use Rattle.model_sets.specs.declared.fault.SetFault.{SetFault}
 use Rattle.model_sets.specs.Members.{twice_in_set, empty_set, bad_year, too_many}
 use Rattle.model_sets.specs.Names.{set_word}

@@ -19,12 +19,14 @@ options_end = codes "--"
 pub data OptionName : Type 0 where
   Gap : OptionName
   Pivots : OptionName
+  Places : OptionName
   Show : OptionName
 
 -- an option's word
 abbrev pub option_word : OptionName → List ℕ
 option_word Gap = codes "--gap"
 option_word Pivots = codes "--pivots"
+option_word Places = codes "--places"
 option_word Show = codes "--show"
 
 -- the option of this word, if it is one's
@@ -32,6 +34,7 @@ abbrev pub option_named : List ℕ → Option OptionName
 option_named word =
     if bytes_eq (option_word Gap) word then Some Gap
     else if bytes_eq (option_word Pivots) word then Some Pivots
+    else if bytes_eq (option_word Places) word then Some Places
     else if bytes_eq (option_word Show) word then Some Show
     else None
 

@@ -4,12 +4,13 @@ use Rattle.osemosys_run.specs.declared.status.WordFault.{WordFault}
 use Rattle.osemosys_run.specs.declared.status.WordFault.TheVariants.{BadForm}
 use Rattle.osemosys_run.specs.declared.words.parsing.Given.{Given as SlicedGiven}
 use Rattle.osemosys_run.specs.CommandLine.{AnyCommand, CommandName, command_of, files_in, has_option, values_in, value_in}
-use Rattle.osemosys_run.specs.WordParts.{OptionName, Gap, Pivots, Show, Part}
+use Rattle.osemosys_run.specs.WordParts.{OptionName, Gap, Pivots, Places, Show, Part}
 
 pub record Given : Type 0 where
   pub files : List (List ℕ)
   pub gap : Option (List ℕ)
   pub pivots : Option (List ℕ)
+  pub places : Option (List ℕ)
   pub show : Option (List ℕ)
 
 -- without where the words lie in memory
@@ -18,6 +19,7 @@ given_of given = record {
   files = map (λ file. file.now) given.files.items;
   gap = option_map (λ value. value.now) given.gap;
   pivots = option_map (λ value. value.now) given.pivots;
+  places = option_map (λ value. value.now) given.places;
   show = option_map (λ value. value.now) given.show;
 }
 
@@ -29,8 +31,8 @@ is_once parts o = nat_le (length (values_in o parts)) 1
 abbrev pub given_by : Option (List Part) → Option Given
 given_by None = None
 given_by (Some parts) =
-    if is_once parts Gap && is_once parts Pivots && is_once parts Show
-    then Some (record { files = files_in parts; gap = value_in Gap parts; pivots = value_in Pivots parts; show = value_in Show parts })
+    if is_once parts Gap && is_once parts Pivots && is_once parts Places && is_once parts Show
+    then Some (record { files = files_in parts; gap = value_in Gap parts; pivots = value_in Pivots parts; places = value_in Places parts; show = value_in Show parts })
     else None
 
 -- an option that is given is one of the command's
@@ -38,11 +40,11 @@ abbrev pub may_have : CommandName → OptionName → Option (List ℕ) → Bool
 may_have command o value = not (is_some value) || has_option command o
 
 abbrev pub is_allowed : CommandName → Given → Bool
-is_allowed command given = may_have command Gap given.gap && may_have command Pivots given.pivots && may_have command Show given.show
+is_allowed command given = may_have command Gap given.gap && may_have command Pivots given.pivots && may_have command Places given.places && may_have command Show given.show
 
 -- the command with these files and values
 abbrev pub command_given : CommandName → Given → Result AnyCommand WordFault
-command_given command given = command_of command given.files given.gap given.pivots given.show
+command_given command given = command_of command given.files given.gap given.pivots given.places given.show
 
 -- the same where something is given, and it is allowed
 abbrev pub command_by : CommandName → Option Given → Result AnyCommand WordFault

@@ -30,6 +30,17 @@ gap_of = with_default 0 (number_within 7 0 1000000)
 abbrev pub pivots_of : Option (List ℕ) → Option ℕ
 pivots_of = with_default 20000 (number_within 7 0 1000000)
 
+-- the number of decimal places of this word
+abbrev pub places_named : List ℕ → Option ℕ
+places_named text =
+    if bytes_eq text (codes "6") then Some 6
+    else if bytes_eq text (codes "9") then Some 9
+    else None
+
+-- how many decimal places written factors have: 6 or 9, and 6 where it is left out
+abbrev pub places_of : Option (List ℕ) → Option ℕ
+places_of = with_default 6 places_named
+
 -- the size of a made file: 1 to 3 digits, 3 to 122
 abbrev pub size_of : List ℕ → Option ℕ
 size_of = number_within 3 3 122

@@ -5,9 +5,9 @@ use Rattle.osemosys_run.specs.declared.status.WordFault.TheVariants.{NoCommand, 
 use Rattle.osemosys_run.specs.CommandLine.{AnyCommand, CommandName, MpsName, command_named, command_after}
 use Rattle.osemosys_run.specs.CommandLine as all
 
--- a command that is built, with its files: `mps` with the name of a data file
+-- a command that is built, with its files and options: `mps` with the name of a data file and the decimal places of written factors
 pub data Request : Type 0 where
-  Mps : List ℕ → Request
+  Mps : (file : List ℕ) (places : ℕ) → Request
 
 -- the command where it is built
 abbrev pub built : Option CommandName → Option CommandName
@@ -16,7 +16,7 @@ built command = None
 
 -- a built command of all commands
 abbrev pub request_of_any : Result AnyCommand WordFault → Result Request WordFault
-request_of_any (Ok (all.Mps file)) = Ok (Mps file)
+request_of_any (Ok (all.Mps file places)) = Ok (Mps file places)
 request_of_any (Ok command) = Err BadCommand
 request_of_any (Err fault) = Err fault
 

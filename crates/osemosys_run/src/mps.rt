@@ -1,14 +1,15 @@
 // What `mps` answers over accepted data: its equations, or the line for the first row that can't be made.
 ghost use Rattle.std.specs.Prelude.{◌≡◌, IfOk};
 ghost use Rattle.std.specs.List.{AllByRecursion};
+ghost use Rattle.discount_factors.specs.Factors.{IsPlaces};
 ghost use Rattle.model_sets.specs.Data.{AreSameData, Data};
-ghost use Rattle.named_equations.specs.Instances.{instances};
-ghost use Rattle.row_book.specs.Books.{AreRowsOf, AreVariablesOf, CanBeMade, HasNameWithin, IsWithinSets, NamesRowWithin};
+ghost use Rattle.mps_writer.specs.MpsText.{mps_text};
+ghost use Rattle.row_book.specs.Books.{HasNameWithin, IsWithinSets, NamesRowWithin};
 ghost use Rattle.row_book.specs.declared.fail.BookFail.{BookFail};
 ghost use Rattle.row_core.specs.Equations.{IsEquation};
 ghost use Rattle.row_core.specs.NameTexts.{RowNameIsWithin};
 ghost use Rattle.osemosys_run.specs.Lines.{entries_line, uncertified_line};
-ghost use Rattle.osemosys_run.specs.Mps.{DueForEquations, IsWritten};
+ghost use Rattle.osemosys_run.specs.Mps.{DueForEquations};
 
 use crate::answer::Answer;
 use crate::lines::{entries_line, width_line};
@@ -20,21 +21,23 @@ use row_book::{BookFail, RowBook, same_data_laws};
 use row_core::{Place, RowName};
 use std::alloc::{AllocError, Global};
 
-/// The MPS text of the equations of a model, or the line for the first row that can't be made. It is what is due
-/// over any data that have the model's sets and values.
-pub fn answer_mps(alloc: Global, model: &ModelData) -> Result<Answer, AllocError>
+/// The MPS text of the equations of a model, with written factors of 6 or 9 decimal places, or the line for the first
+/// row that can't be made. It is what is due over any data that have the model's sets and values.
+pub fn answer_mps(alloc: Global, model: &ModelData, places: u8) -> Result<Answer, AllocError>
+    requires { IsPlaces places }
     ensures { IfOk result (λ answer. (d : Data) → AreSameData model.now.facts d
-        → DueForEquations d answer.status answer.text.items) }
+        → DueForEquations places d answer.status answer.text.items) }
 {
     same_data_laws();
-    answer_equations(alloc, model)
+    answer_equations(alloc, model, places)
 }
 
 // The same over the model's own data.
-fn answer_equations(alloc: Global, model: &ModelData) -> Result<Answer, AllocError>
-    ensures { IfOk result (λ answer. DueForEquations model.now.facts answer.status answer.text.items) }
+fn answer_equations(alloc: Global, model: &ModelData, places: u8) -> Result<Answer, AllocError>
+    requires { IsPlaces places }
+    ensures { IfOk result (λ answer. DueForEquations places model.now.facts answer.status answer.text.items) }
 {
-    match RowBook::new(alloc, model) {
+    match RowBook::new(alloc, model, places) {
         Ok(book) => write_book(alloc, model, &book),
         Err(BookFail::Width(place)) => stop_at(alloc, place, model.sets()),
         Err(BookFail::TooManyEntries) => refuse_entries(alloc),
@@ -44,12 +47,10 @@ fn answer_equations(alloc: Global, model: &ModelData) -> Result<Answer, AllocErr
 
 // The text of the rows of a book.
 fn write_book(alloc: Global, model: &ModelData, book: &RowBook) -> Result<Answer, AllocError>
-    requires rows { AreRowsOf model.now.facts (instances model.now.facts) book.now.rows }
-    requires variables { AreVariablesOf book.now.rows book.now.vars }
     requires named { AllByRecursion (HasNameWithin model.now.facts.sets) book.now.rows }
     requires within { AllByRecursion (IsWithinSets model.now.facts.sets) book.now.vars }
-    requires made { CanBeMade model.now.facts 0 (instances model.now.facts) }
-    ensures { IfOk result (λ answer. IsWritten model.now.facts answer.status answer.text.items) }
+    ensures { IfOk result (λ answer. (answer.status ≡ Status.Done)
+        × (answer.text.items ≡ mps_text model.now.facts.sets book.now.rows book.now.vars)) }
 {
     let text = mps_text(alloc, book.rows(), book.vars(), model.sets())?;
     let status = Status::Done;

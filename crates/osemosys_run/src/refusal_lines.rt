@@ -3,16 +3,16 @@
 ghost use Rattle.std.specs.Prelude.{◌≡◌, ◌++◌, [], codes, if◌then◌else◌, IfOk, OnOk};
 ghost use Rattle.std.specs.List.{join_with_byte};
 ghost use Rattle.model_sets.specs.Names.{IsSet};
-ghost use Rattle.model_sets.specs.Params.{IsUsedParam};
+ghost use Rattle.model_sets.specs.Params.{IsParam};
 ghost use Rattle.param_tables.specs.Positions.{names_at};
 ghost use Rattle.param_tables.specs.Refusals.{TooManyIndices};
 ghost use Rattle.param_tables.specs.Told.{IsCell, NamesCell, refusal_told};
 ghost use Rattle.osemosys_run.specs.RefusalLines.{cell_line, data_line, place_line, set_fault_word, set_line, text_fault_word, text_line};
 
 use itoa::Buffer;
-use mathprog_data::{DataFault, Mark, param_word, set_word};
-use model_sets::{SetFault, Sets};
-use param_tables::{BuildFault, Cell, subscript_sets};
+use mathprog_data::{DataFault, Mark};
+use model_sets::{SetFault, Sets, param_word, set_word, subscript_sets};
+use param_tables::{BuildFault, Cell};
 use std::alloc::{AllocError, Global};
 
 /// The line for a fault of the text.
@@ -70,7 +70,7 @@ fn place_line(alloc: Global, at: Mark, fault: &str) -> Result<Vec<u8>, AllocErro
 
 // The line for a parameter with too many indices.
 fn too_many_line(alloc: Global, param: u8) -> Result<Vec<u8>, AllocError>
-    requires { IsUsedParam param }
+    requires { IsParam param }
     ensures { IfOk result (λ line. line.items ≡ data_line (TooManyIndices param)) }
 {
     let mut out = Vec::from_slice(alloc, b"refused TooManyCells ")?;

@@ -1,6 +1,7 @@
 // The top call: words, reading, accepting, answering, sending.
 ghost use Rattle.std.specs.Prelude.{◌≡◌, ◌≤◌, ◌⊎◌, List, ℕ, IfOk, map, length};
 ghost use Rattle.std.specs.String.{string_bytes};
+ghost use Rattle.discount_factors.specs.Factors.{IsPlaces};
 ghost use Rattle.io_edges.specs.Count.{Rose};
 ghost use Rattle.io_edges.specs.Told.{WhereTold};
 ghost use Rattle.mathprog_data.specs.Meaning.{Blocks};
@@ -37,7 +38,8 @@ const DATA_FILE: u8 = 1;
 /// Runs the program on the words after its name: reads the files that they name from the shelf, and
 /// writes the text that is due into the sink.
 ///
-/// `mps FILE` writes the named equations of a data file of GNU MathProg as free MPS. Where the
+/// `mps FILE [--places P]` writes the named equations of a data file of GNU MathProg as free MPS, with
+/// written factors of 6 or 9 decimal places. Where the
 /// words, the file or what it says is refused, a number of a row leaves 128 bits, or the rows have too many
 /// entries, one line says why.
 /// Memory may run out anywhere; then nothing is written.
@@ -129,17 +131,23 @@ fn perform<S: Shelf>(alloc: Global, words: &[String], shelf: &mut S) -> Result<A
     ensures faults { S.faults shelf.old ≤ S.faults shelf.new }
 {
     match read_command(alloc, words)? {
-        Ok(Command::Mps { file }) => perform_mps(alloc, file, shelf),
+        Ok(Command::Mps { file, places }) => perform_mps(alloc, file, places, shelf),
         Err(fault) => refuse_words(alloc, fault),
     }
 }
 
 // The answer of `mps` over the file of this name.
-fn perform_mps<S: Shelf>(alloc: Global, file: &str, shelf: &mut S) -> Result<Answer, AllocError>
+fn perform_mps<S: Shelf>(
+    alloc: Global,
+    file: &str,
+    places: u8,
+    shelf: &mut S,
+) -> Result<Answer, AllocError>
+    requires { IsPlaces places }
     ensures caused { IfOk result (λ answer.
         let after = sight (S.files shelf.new) (S.rest shelf.new)
         (S.faults shelf.new) (S.begins shelf.new) (S.taken shelf.new) in
-        CausedByFile (FollowsFromText after answer.status answer.text.items) DATA_FILE file.now
+        CausedByFile (FollowsFromText (DueForEquations places) after answer.status answer.text.items) DATA_FILE file.now
         (sight (S.files shelf.old) (S.rest shelf.old)
         (S.faults shelf.old) (S.begins shelf.old) (S.taken shelf.old))
         after answer.status answer.text.items) }
@@ -147,18 +155,19 @@ fn perform_mps<S: Shelf>(alloc: Global, file: &str, shelf: &mut S) -> Result<Ans
     ensures faults { S.faults shelf.old ≤ S.faults shelf.new }
 {
     match read_file(alloc, file, shelf) {
-        Ok(bytes) => answer_text(alloc, bytes),
+        Ok(bytes) => answer_text(alloc, bytes, places),
         Err(end) => refuse_file(alloc, DATA_FILE, end),
     }
 }
 
 // The answer of `mps` over the text of its file. The text is gone before the first row is made.
-fn answer_text(alloc: Global, text: Vec<u8>) -> Result<Answer, AllocError>
-    requires { length text.items ≤ most_bytes }
-    ensures { IfOk result (λ answer. DueForText DueForEquations text.items answer.status answer.text.items) }
+fn answer_text(alloc: Global, text: Vec<u8>, places: u8) -> Result<Answer, AllocError>
+    requires short { length text.items ≤ most_bytes }
+    requires places { IsPlaces places }
+    ensures { IfOk result (λ answer. DueForText (DueForEquations places) text.items answer.status answer.text.items) }
 {
     match accept(alloc, text)? {
-        Ok(model) => answer_mps(alloc, &model),
+        Ok(model) => answer_mps(alloc, &model, places),
         Err(answer) => Ok(answer),
     }
 }

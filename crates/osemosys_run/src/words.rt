@@ -13,16 +13,17 @@ use crate::words::any_command::{AnyCommand, read_any_command};
 pub use crate::words::parsing::spelled_parts;
 use std::alloc::{AllocError, Global};
 
-/// A command that is built, with its files.
+/// A command that is built, with its files and options.
 #[derive(Clone, Copy, Debug, PartialEq, Eq)]
 pub enum Command<'a> {
-    /// Writes the named equations of a data file.
-    Mps { file: &'a str },
+    /// Writes the named equations of a data file, with written factors of so many decimal places, 6 or 9.
+    Mps { file: &'a str, places: u8 },
 }
 
 /// Reads the words. The first fault is answered: no word is `NoCommand`, another first word than `mps`
-/// is `BadCommand`, also one of a command that isn't built, and anything but one file after it is
-/// `BadForm`. A word that begins with `-` and is longer is no file, unless `--` stands before it.
+/// is `BadCommand`, also one of a command that isn't built, anything after it but one file and
+/// `--places` with a value is `BadForm`, and a value other than `6` and `9` is `BadNumber`. A word that
+/// begins with `-` and is longer is no file, unless `--` stands before it.
 pub fn read_command<'a>(
     alloc: Global,
     words: &'a [String],
@@ -36,7 +37,7 @@ pub fn read_command<'a>(
         }
     }
     let answer = match read_any_command(alloc, words)? {
-        Ok(AnyCommand::Mps { file }) => Ok(Command::Mps { file }),
+        Ok(AnyCommand::Mps { file, places }) => Ok(Command::Mps { file, places }),
         Ok(_) => Err(WordFault::BadCommand),
         Err(fault) => Err(fault),
     };

@@ -1,11 +1,10 @@
 -- The years of the model period and the lives of a region, as numbers.
-use Rattle.std.proofs.Common.{◌≡◌, ℕ, ◌*◌, ◌/◌, ◌<◌, ◌≤◌, ◌&&◌, ◌⊎◌, inl, inr, true, cond, zero, suc, length, List, [], ◌∷◌, ◌++◌, map, refl, nat_le, ℤ, pos, Option, Some, None, leb-true, ap, ap₂, sym, to_z, of_z, ◌∙◌, subst, arith}
+use Rattle.std.proofs.Common.{◌≡◌, ℕ, ◌≤◌, ◌&&◌, ◌⊎◌, inl, inr, true, cond, zero, suc, length, List, [], ◌∷◌, ◌++◌, map, refl, nat_le, Some, leb-true, ap, sym, subst, arith}
 use Rattle.std.specs.List.{AllByRecursion}
-use Rattle.std.specs.Prelude.{All, Contains, IsSomeAnd, slice_get, ◌≤ℤ◌, ◌<ℤ◌, ◌*ℤ◌, unsigned_abs, unwrap_or}
+use Rattle.std.specs.Prelude.{All, Contains, slice_get}
 use Rattle.std.specs.Str.{bytes_eq}
 use Rattle.std.specs.Fmt.{decimal}
 use Rattle.std.proofs.lemmas.Bool.{and_parts}
-use Rattle.std.proofs.lemmas.Int.{ints}
 use Rattle.std.proofs.lemmas.List.Elements.{recursion_from_All}
 use Rattle.std.specs.Ordering.{is_lt, nat_cmp, ord_max}
 use Rattle.std.proofs.lemmas.Bool.{cases_order}

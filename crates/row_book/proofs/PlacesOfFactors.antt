@@ -7,10 +7,9 @@ use Rattle.model_sets.specs.Names as sets
 use Rattle.row_core.specs.declared.Row.{Row}
 use Rattle.row_core.specs.declared.RowName.{RowName}
 use Rattle.row_core.specs.declared.equation_numbers.TheConstants.{EQUATION_COUNT}
-use Rattle.named_equations.specs.Instances.{equation_numbers, instances, instances_of}
+use Rattle.named_equations.specs.Instances.{instances, instances_of}
 use Rattle.named_equations.specs.Positions.{count_of}
 use Rattle.named_equations.specs.RegionFactors.{AreRegionFactors, places_of}
-use Rattle.named_equations.proofs.InstanceTests.{Has}
 use Rattle.row_book.specs.Books.{AreRowsOf, CanBeMade, HasStopped}
 use Rattle.row_book.specs.Walks.{instances_in}
 use Rattle.row_book.specs.declared.fail.BookFail.{BookFail}
@@ -66,3 +65,8 @@ pub stopped-by_places : (places : ℕ) (d : Data) (factors : List Discounting) (
     → HasStopped (places_of factors) d before (instances d) fail → HasStopped places d before (instances d) fail
 stopped-by_places places d factors before fail are is =
     by_places places d factors are (λ n names. HasStopped n d before names fail) (λ other stops. none_stops places other d before fail stops) is
+
+-- the factors are those of their own places
+pub factors-by_places : (places : ℕ) (d : Data) (factors : List Discounting) → AreRegionFactors places d factors → AreRegionFactors (places_of factors) d factors
+factors-by_places places d [] are = record { one_each = are.one_each; each = λ r one at. absurd (cc at) }
+factors-by_places places d (one ∷ others) are = subst (λ n. AreRegionFactors n d (one ∷ others)) (sym (are.each 0 one refl).places_are) are

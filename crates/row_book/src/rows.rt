@@ -144,11 +144,7 @@ impl MadeRows {
 }
 
 /// The row of each instance, in order, with written factors of 6 or 9 decimal places.
-pub(crate) fn all_rows(
-    alloc: Global,
-    model: &ModelData,
-    places: u8,
-) -> Result<Vec<Row>, BookFail>
+pub(crate) fn all_rows(alloc: Global, model: &ModelData, places: u8) -> Result<Vec<Row>, BookFail>
     requires places { IsPlaces places }
     ensures rows { IfOk result (λ rows. AreRowsOf places model.now.facts (instances model.now.facts) rows.items) }
     ensures made { OnOk result (CanBeMade places model.now.facts 0 (instances model.now.facts)) }

@@ -15,40 +15,40 @@ use Rattle.row_core.specs.Evaluated.{sum_from, term_formed, sum_from_formed, eva
 
 -- ---- one entry further, over the list that the code reads
 
-pub sum-next : (value : Var → Rational) (xs es : List (Var × ℤ)) (i : ℕ) (d : Var × ℤ) (s next all : Rational) → xs ≡ es → i < length xs → next ≡ plus s (times (whole (get_or xs i d).1) (value (get_or xs i d).0))
+pub sum-next : {K : Type 0} (value : K → Rational) (xs es : List (K × ℤ)) (i : ℕ) (d : K × ℤ) (s next all : Rational) → xs ≡ es → i < length xs → next ≡ plus s (times (whole (get_or xs i d).1) (value (get_or xs i d).0))
     → sum_from value s (drop i es) ≡ all → sum_from value next (drop (i + 1) es) ≡ all
-sum-next value xs es i d s next all e h is =
-    subst (λ (ys : List (Var × ℤ)). sum_from value s (drop i ys) ≡ all → sum_from value next (drop (i + 1) ys) ≡ all) e
+sum-next {K} value xs es i d s next all e h is =
+    subst (λ (ys : List (K × ℤ)). sum_from value s (drop i ys) ≡ all → sum_from value next (drop (i + 1) ys) ≡ all) e
     (λ so_far. ap (λ t. sum_from value t (drop (i + 1) xs)) is ∙ sym (ap (sum_from value s) (drop_more xs i d h)) ∙ so_far)
 
-formed-parts : (value : Var → Rational) (xs : List (Var × ℤ)) (i : ℕ) (d : Var × ℤ) (s : Rational) → i < length xs
+formed-parts : {K : Type 0} (value : K → Rational) (xs : List (K × ℤ)) (i : ℕ) (d : K × ℤ) (s : Rational) → i < length xs
     → all_fit (sum_from_formed value s (drop i xs)) ≡ (all_fit (term_formed s (get_or xs i d).1 (value (get_or xs i d).0)) && all_fit (sum_from_formed value (plus s (times (whole (get_or xs i d).1) (value (get_or xs i d).0))) (drop (i + 1) xs)))
 formed-parts value xs i d s h =
     ap (λ ys. all_fit (sum_from_formed value s ys)) (drop_more xs i d h)
     ∙ all_fit-append (term_formed s (get_or xs i d).1 (value (get_or xs i d).0)) (sum_from_formed value (plus s (times (whole (get_or xs i d).1) (value (get_or xs i d).0))) (drop (i + 1) xs))
 
-pub formed-next : (value : Var → Rational) (xs es : List (Var × ℤ)) (i : ℕ) (d : Var × ℤ) (s next : Rational) (all : Bool) → xs ≡ es → i < length xs → next ≡ plus s (times (whole (get_or xs i d).1) (value (get_or xs i d).0))
+pub formed-next : {K : Type 0} (value : K → Rational) (xs es : List (K × ℤ)) (i : ℕ) (d : K × ℤ) (s next : Rational) (all : Bool) → xs ≡ es → i < length xs → next ≡ plus s (times (whole (get_or xs i d).1) (value (get_or xs i d).0))
     → all_fit (term_formed s (get_or xs i d).1 (value (get_or xs i d).0)) ≡ true
     → all ≡ all_fit (sum_from_formed value s (drop i es)) → all ≡ all_fit (sum_from_formed value next (drop (i + 1) es))
-formed-next value xs es i d s next all e h is fit =
-    subst (λ (ys : List (Var × ℤ)). all ≡ all_fit (sum_from_formed value s (drop i ys)) → all ≡ all_fit (sum_from_formed value next (drop (i + 1) ys))) e
+formed-next {K} value xs es i d s next all e h is fit =
+    subst (λ (ys : List (K × ℤ)). all ≡ all_fit (sum_from_formed value s (drop i ys)) → all ≡ all_fit (sum_from_formed value next (drop (i + 1) ys))) e
     (λ so_far. so_far ∙ formed-parts value xs i d s h
     ∙ ap (λ t. t && all_fit (sum_from_formed value (plus s (times (whole (get_or xs i d).1) (value (get_or xs i d).0))) (drop (i + 1) xs))) fit
     ∙ ap (λ t. all_fit (sum_from_formed value t (drop (i + 1) xs))) (sym is))
 
-pub formed-stop : (value : Var → Rational) (xs es : List (Var × ℤ)) (i : ℕ) (d : Var × ℤ) (s : Rational) (all : Bool) → xs ≡ es → i < length xs
+pub formed-stop : {K : Type 0} (value : K → Rational) (xs es : List (K × ℤ)) (i : ℕ) (d : K × ℤ) (s : Rational) (all : Bool) → xs ≡ es → i < length xs
     → all_fit (term_formed s (get_or xs i d).1 (value (get_or xs i d).0)) ≡ false → all ≡ all_fit (sum_from_formed value s (drop i es)) → all ≡ false
-formed-stop value xs es i d s all e h wide so_far =
-    so_far ∙ ap (λ (ys : List (Var × ℤ)). all_fit (sum_from_formed value s (drop i ys))) (sym e) ∙ formed-parts value xs i d s h
+formed-stop {K} value xs es i d s all e h wide so_far =
+    so_far ∙ ap (λ (ys : List (K × ℤ)). all_fit (sum_from_formed value s (drop i ys))) (sym e) ∙ formed-parts value xs i d s h
     ∙ ap (λ t. t && all_fit (sum_from_formed value (plus s (times (whole (get_or xs i d).1) (value (get_or xs i d).0))) (drop (i + 1) xs))) wide
 
-pub sum-done : (value : Var → Rational) (xs es : List (Var × ℤ)) (i : ℕ) (s all : Rational) → xs ≡ es → length xs ≤ i → sum_from value s (drop i es) ≡ all → s ≡ all
-sum-done value xs es i s all e h so_far =
-    sym (ap (λ (ys : List (Var × ℤ)). sum_from value s (drop i ys)) (sym e) ∙ at_drop_all (sum_from value s) xs i h) ∙ so_far
+pub sum-done : {K : Type 0} (value : K → Rational) (xs es : List (K × ℤ)) (i : ℕ) (s all : Rational) → xs ≡ es → length xs ≤ i → sum_from value s (drop i es) ≡ all → s ≡ all
+sum-done {K} value xs es i s all e h so_far =
+    sym (ap (λ (ys : List (K × ℤ)). sum_from value s (drop i ys)) (sym e) ∙ at_drop_all (sum_from value s) xs i h) ∙ so_far
 
-pub formed-done : (value : Var → Rational) (xs es : List (Var × ℤ)) (i : ℕ) (s : Rational) (all : Bool) → xs ≡ es → length xs ≤ i → all ≡ all_fit (sum_from_formed value s (drop i es)) → all ≡ true
-formed-done value xs es i s all e h so_far =
-    so_far ∙ ap (λ (ys : List (Var × ℤ)). all_fit (sum_from_formed value s (drop i ys))) (sym e) ∙ at_drop_all (λ ys. all_fit (sum_from_formed value s ys)) xs i h ∙ all_fit-nil
+pub formed-done : {K : Type 0} (value : K → Rational) (xs es : List (K × ℤ)) (i : ℕ) (s : Rational) (all : Bool) → xs ≡ es → length xs ≤ i → all ≡ all_fit (sum_from_formed value s (drop i es)) → all ≡ true
+formed-done {K} value xs es i s all e h so_far =
+    so_far ∙ ap (λ (ys : List (K × ℤ)). all_fit (sum_from_formed value s (drop i ys))) (sym e) ∙ at_drop_all (λ ys. all_fit (sum_from_formed value s ys)) xs i h ∙ all_fit-nil
 
 -- ---- what the sum is over the plan's q
 

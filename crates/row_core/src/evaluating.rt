@@ -24,6 +24,17 @@ pub fn eval(row: &Row, plan: &Plan, place: Place) -> Result<Frac, Place>
     ensures stopped { IfErr result (λ at. (at ≡ place) × (all_fit (evaluated_formed (value_in var_cmp plan.now) row.now.entries.items row.now.rhs) ≡ false)) }
     ensures means { (q : ℤ) (x : Var → ℤ) → AreOver q x (value_in var_cmp plan.now) → IfOk result (λ rest. IsOver q (value_of rest) (row_sum x row.now.entries.items -ℤ (row.now.rhs *ℤ q))) }
 {
+    eval_against(row, row.rhs, plan, place)
+}
+
+/// The same with another right side in place of the row's.
+pub fn eval_against(row: &Row, right: i128, plan: &Plan, place: Place) -> Result<Frac, Place>
+    requires { InRange right }
+    ensures value { IfOk result (λ rest. value_of rest ≡ evaluated (value_in var_cmp plan.now) row.now.entries.items right) }
+    ensures fits { OnOk result (all_fit (evaluated_formed (value_in var_cmp plan.now) row.now.entries.items right) ≡ true) }
+    ensures stopped { IfErr result (λ at. (at ≡ place) × (all_fit (evaluated_formed (value_in var_cmp plan.now) row.now.entries.items right) ≡ false)) }
+    ensures means { (q : ℤ) (x : Var → ℤ) → AreOver q x (value_in var_cmp plan.now) → IfOk result (λ rest. IsOver q (value_of rest) (row_sum x row.now.entries.items -ℤ (right *ℤ q))) }
+{
     let mut sum = fraction(0);
     for entry in &row.entries {
         let Ok(next) = add_term(sum, entry.1, plan.value(entry.0)) else {
@@ -31,14 +42,14 @@ pub fn eval(row: &Row, plan: &Plan, place: Place) -> Result<Frac, Place>
         };
         sum = next;
     }
-    let Ok(rest) = sub(sum, fraction(row.rhs)) else {
+    let Ok(rest) = sub(sum, fraction(right)) else {
         return Err(place);
     };
     Ok(rest)
 }
 
-/// A sum, and a number times a value.
-fn add_term(sum: Frac, number: i128, value: Frac) -> Result<Frac, TooWide>
+/// A sum, and a number times a value. `TooWide` comes exactly where the product or the sum forms a number that doesn't fit.
+pub fn add_term(sum: Frac, number: i128, value: Frac) -> Result<Frac, TooWide>
     requires { InRange number }
     ensures refused { is_ok result ≡ all_fit (term_formed (value_of sum) number (value_of value)) }
     ensures value { IfOk result (λ total. value_of total ≡ plus (value_of sum) (times (whole number) (value_of value))) }
@@ -48,7 +59,7 @@ fn add_term(sum: Frac, number: i128, value: Frac) -> Result<Frac, TooWide>
 }
 
 /// A whole number as a fraction.
-pub(crate) fn fraction(n: i128) -> Frac
+pub fn fraction(n: i128) -> Frac
     requires { InRange n }
     ensures { value_of result ≡ whole n }
 {

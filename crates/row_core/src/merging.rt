@@ -34,7 +34,7 @@ pub(crate) fn less(a: i128, b: i128, x: i128, y: i128) -> Result<i128, TooWide>
 }
 
 /// The number that entries have at a variable, 0 where they have none.
-pub(crate) fn number_of(entries: &[(Var, i128)], variable: Var) -> i128
+pub fn number_of(entries: &[(Var, i128)], variable: Var) -> i128
     requires ascending { IsTrue (ascends var_cmp (keys_of entries.now)) }
     requires fits { all_fit (numbers_of entries.now) ≡ true }
     ensures value { result ≡ number_at entries.now variable }

@@ -2,6 +2,7 @@
 
 ghost use Rattle.std.specs.Prelude.{◌≡◌, ◌++◌, [], ◌≤◌, OnOk, OnErr, map, codes, slice_index_or, if◌then◌else◌};
 ghost use Rattle.std.specs.List.{AllByRecursion, join_with_byte};
+ghost use Rattle.model_sets.specs.Names.{IsSet};
 ghost use Rattle.row_core.specs.Kinds.{IsKind};
 ghost use Rattle.row_core.specs.Equations.{IsEquation};
 ghost use Rattle.row_core.specs.NameTexts.{Extends, IsWithin, RowNameIsWithin, VariableIsWithin, full_name, member, position_at, row_name, set_of, variable_name};
@@ -10,13 +11,22 @@ use crate::equations::{row_subscripts, row_word};
 use crate::kinds::{var_subscripts, var_word};
 use crate::{Index, RowName, Var};
 use model_sets::Sets;
+use model_sets::set_numbers::{
+    EMISSION, FUEL, MODE_OF_OPERATION, REGION, TECHNOLOGY, TIMESLICE, YEAR,
+};
 use std::alloc::AllocError;
 
 /// The numbers of the sets over which the subscripts run, in the order of the fields of `Index`.
-const SUBSCRIPT_SETS: [u8; 8] = [1, 1, 6, 2, 3, 4, 5, 7];
-
-/// The number of YEAR.
-const YEAR: u8 = 7;
+const SUBSCRIPT_SETS: [u8; 8] = [
+    REGION,
+    REGION,
+    TIMESLICE,
+    TECHNOLOGY,
+    FUEL,
+    EMISSION,
+    MODE_OF_OPERATION,
+    YEAR,
+];
 
 /// Appends a variable's name, as `NewCapacity[R,T,2020]`: the word of its kind, and in brackets the
 /// members that its subscripts stand for, in the order of the fields of `Index`, with commas between them.
@@ -123,8 +133,7 @@ fn name_at<'a>(index: Index, place: u8, sets: &'a Sets) -> &'a [u8]
 // The number of the set over which the subscript at a place runs.
 fn set_of(place: u8) -> u8
     ensures set { result ≡ set_of place }
-    ensures low { 1 ≤ result }
-    ensures high { result ≤ 11 }
+    ensures listed { IsSet result }
 {
     match SUBSCRIPT_SETS.get(usize::from(place)) {
         Some(set) => *set,

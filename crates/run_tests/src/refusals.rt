@@ -6,7 +6,7 @@ use osemosys_run::{Status, WordFault};
 use std::test::Fail;
 
 /// Words that ask for nothing, with their fault and its line.
-static WORDS: [(&[&str], WordFault, &str); 10] = [
+static WORDS: [(&[&str], WordFault, &str); 12] = [
     (&[], WordFault::NoCommand, "words refused NoCommand\n"),
     (&[""], WordFault::BadCommand, "words refused BadCommand\n"),
     (
@@ -44,6 +44,16 @@ static WORDS: [(&[&str], WordFault, &str); 10] = [
         &["mps", "model.dat", "--gap=5"],
         WordFault::BadForm,
         "words refused BadForm\n",
+    ),
+    (
+        &["mps", "model.dat", "--places", "6", "--places", "9"],
+        WordFault::BadForm,
+        "words refused BadForm\n",
+    ),
+    (
+        &["mps", "model.dat", "--places", "7"],
+        WordFault::BadNumber,
+        "words refused BadNumber\n",
     ),
 ];
 
@@ -100,7 +110,7 @@ static SETS_REFUSED: [(&str, &str, &str); 8] = [
 ];
 
 /// The same over the sets of the base example: the line on the first refusal of the data.
-static DATA_REFUSED: [(&str, &str, &str); 12] = [
+static DATA_REFUSED: [(&str, &str, &str); 14] = [
     (SETS, "set STORAGE := DAM;", "refused Storage\n"),
     (
         SETS,
@@ -141,6 +151,16 @@ static DATA_REFUSED: [(&str, &str, &str); 12] = [
         SETS,
         "param DiscountRate default 1.000000001 := ;",
         "refused OutOfRange DiscountRate[R]\n",
+    ),
+    (
+        SETS,
+        "param DiscountRateIdv := ;",
+        "refused NoValue DiscountRateIdv[R,T]\n",
+    ),
+    (
+        SETS,
+        "param DiscountRateIdv default 1.5 := ;",
+        "refused OutOfRange DiscountRateIdv[R,T]\n",
     ),
     (
         SETS,

@@ -56,6 +56,35 @@ fn a_capacity_of_a_half_gives_whole_numbers_in_lowest_terms(rt: HostRuntime) -> 
     Ok(())
 }
 
+/// Words with either number of decimal places, and the entries of CC1.
+static RECOVERED: [(&[&str], [&str; 2]); 2] = [
+    (MPS, ["\n C2 R22 -523809\n", "\n C20 R22 100000\n"]),
+    (
+        &["mps", "--places", "9", "model.dat"],
+        ["\n C2 R22 -523809523\n", "\n C20 R22 100000000\n"],
+    ),
+];
+
+// CapitalInvestment = 5 * 0.523809 * 2 * NewCapacity: at a rate of 0.1 and a life of 2 years the recovery factor is 0.523809523 and
+// on, rounded down; at a discount rate of 0 the annuity is 2.
+#[test]
+fn an_investment_is_recovered_by_factors_of_6_or_9_places(rt: HostRuntime) -> Result<(), Fail> {
+    let text = section(
+        rt.alloc(),
+        SETS,
+        "param OperationalLife default 2 := ; param DiscountRateIdv default 0.1 := ;",
+    )?;
+    for (words, entries) in RECOVERED.iter() {
+        let (status, out) = call(rt.alloc(), *words, text.as_bytes())?;
+        assert_eq!(rt; status.code(), 0);
+        let written = std::str::from_utf8(out.bytes()).unwrap_or("");
+        for entry in entries.iter() {
+            assert!(rt; written.contains(*entry), "{entry}");
+        }
+    }
+    Ok(())
+}
+
 // The product of the four numbers of CAb1 leaves 128 bits; those of the rows before it don't.
 #[test]
 fn a_number_that_leaves_128_bits_is_told_by_its_row(rt: HostRuntime) -> Result<(), Fail> {

@@ -1,31 +1,22 @@
 -- The freely chosen variables of rows, sorted and without those that repeat, ascend strictly and are the same variables.
-use Rattle.std.proofs.Common.{◌≡◌, true, List, [], ◌∷◌, Bool, ◌&&◌, refl, ap, sym, ◌∙◌, subst}
+use Rattle.std.proofs.Common.{◌≡◌, true, List, Bool, refl, ap, sym, ◌∙◌, subst}
 use Rattle.std.specs.Cmp.{IsEquivalence}
 use Rattle.std.specs.declared.cmp.Ordering.{Ordering}
 use Rattle.std.specs.declared.cmp.Ordering.TheVariants.{Less, Equal, Greater}
-use Rattle.std.specs.List.{AllByRecursion, Contains, dedup}
-use Rattle.std.specs.List.Sorted.{IsPermutation, IsSorted, IsStrictlySortedBy}
-use Rattle.std.specs.Ordering.{eq_by_cmp, is_eq, is_lt}
+use Rattle.std.specs.List.{Contains, dedup}
+use Rattle.std.specs.List.Sorted.{IsPermutation, IsSorted}
+use Rattle.std.specs.Ordering.{eq_by_cmp, is_eq}
 use Rattle.std.proofs.lemmas.List.Kept.{Contains-dedup, Contains-from_dedup, IsStrictlySortedBy-dedup}
 use Rattle.std.proofs.lemmas.List.Sorted.{Contains-permutation, IsPermutation-sym}
 use Rattle.std.proofs.lemmas.Cmp.{eq_by_cmp_equiv}
 use Rattle.row_core.specs.declared.Row.{Row}
 use Rattle.row_core.specs.declared.Var.{Var}
-use Rattle.row_core.specs.Numbers.{ascends, before_first}
+use Rattle.row_core.specs.Numbers.{ascends}
 use Rattle.row_core.specs.Order.{var_cmp}
 use Rattle.row_core.proofs.Orders.{var_cmp_exact, var_cmp_total}
 use Rattle.written_method.specs.Eliminated.{column_entries}
 use Rattle.variable_elimination.specs.Columns.{AreColumns}
-
-first_passes : (v : Var) (vs : List Var) → AllByRecursion (λ w. var_cmp v w ≡ Less) vs → before_first var_cmp v vs ≡ true
-first_passes v [] first = refl
-first_passes v (w ∷ vs) first = ap is_lt first.0
-
--- a strictly sorted list ascends
-ascends-from_sorted : (vs : List Var) → IsStrictlySortedBy var_cmp vs → ascends var_cmp vs ≡ true
-unfolding IsStrictlySortedBy
-ascends-from_sorted [] sorted = refl
-ascends-from_sorted (v ∷ vs) sorted = ap (λ b. b && ascends var_cmp vs) (first_passes v vs sorted.0) ∙ ascends-from_sorted vs sorted.1
+use Rattle.variable_elimination.proofs.ValueSteps.{ascends-from_sorted}
 
 -- a test that is true just of variables that the order doesn't tell apart
 same-equivalence : (same : Var → Var → Bool) → ((v w : Var) → same v w ≡ eq_by_cmp var_cmp v w) → IsEquivalence same
@@ -45,7 +36,7 @@ alike Greater h = absurd (cc h)
 pub columns-are : (same : Var → Var → Bool) → ((v w : Var) → same v w ≡ eq_by_cmp var_cmp v w) → (rows : List Row) (all sorted vars : List Var) → all ≡ column_entries rows
     → IsPermutation all sorted → IsSorted var_cmp sorted → vars ≡ dedup same sorted → AreColumns rows vars
 columns-are same ties rows all sorted vars of_rows permutation in_order distinct = record {
-  ascending = ap (ascends var_cmp) distinct ∙ ascends-from_sorted (dedup same sorted) (IsStrictlySortedBy-dedup var_cmp_total ties sorted in_order);
+  ascending = ap (ascends var_cmp) distinct ∙ ascends-from_sorted var_cmp var_cmp_total (dedup same sorted) (IsStrictlySortedBy-dedup var_cmp_total ties sorted in_order);
   each = λ v. (
     λ h.
         subst (λ vs. Contains vs v) of_rows

@@ -11,7 +11,7 @@ use Rattle.row_core.specs.Order.{var_cmp, index_cmp}
 use Rattle.written_method.specs.Eliminated.{cost_variable, minus_one_at}
 use Rattle.variable_elimination.specs.CostRows.{AllAreCosts}
 
-keys-minus : (vs : List Var) → keys_of (map minus_one_at vs) ≡ vs
+pub keys-minus : (vs : List Var) → keys_of (map minus_one_at vs) ≡ vs
 keys-minus [] = refl
 keys-minus (v ∷ vs) = ap {B = List Var} (λ ws. v ∷ ws) (keys-minus vs)
 

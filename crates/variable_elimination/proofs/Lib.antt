@@ -12,3 +12,10 @@ pub mod PlacedLaws
 pub mod CostLaws
 pub mod ColumnsInOrder
 pub mod EliminationLaws
+pub mod FormLaws
+pub mod LeftLaws
+pub mod ReadyLaws
+pub mod SolvedLaws
+pub mod LiftedLaws
+pub mod ValueSteps
+pub mod LiftingSteps

@@ -146,10 +146,10 @@ either_passed : (a b : Bool) → (a || b) ≡ true → a ≡ false → b ≡ tru
 either_passed true b h k = absurd (cc k)
 either_passed false b h k = h
 
-at_most : (z : ℤ) → int_le z (pos 0) ≡ true → z ≤ℤ pos 0
+pub at_most : (z : ℤ) → int_le z (pos 0) ≡ true → z ≤ℤ pos 0
 at_most z h = grind (arith, ints, nat_tests)
 
-product_down : (n x : ℤ) → n ≤ℤ pos 0 → pos 0 ≤ℤ x → (n *ℤ x) ≤ℤ pos 0
+pub product_down : (n x : ℤ) → n ≤ℤ pos 0 → pos 0 ≤ℤ x → (n *ℤ x) ≤ℤ pos 0
 product_down n x h k = subst (λ z. (n *ℤ x) ≤ℤ z) (zero-*ℤ x) (*ℤ-≤ℤ n (pos 0) x k h)
 
 -- the entries together are at most the variable's own

@@ -4,6 +4,7 @@ use Rattle.row_core.specs.declared.Row.{Row}
 use Rattle.row_core.specs.declared.Var.{Var}
 use Rattle.row_core.specs.declared.kind_numbers.TheConstants.{TOTAL_DISCOUNTED_COST}
 use Rattle.row_core.specs.Forms.{Form, form_of}
+use Rattle.row_core.specs.Order.{var_cmp}
 use Rattle.row_core.specs.Rows.{number_at}
 use Rattle.written_method.specs.declared.reduced.Reduced.{Reduced}
 use Rattle.written_method.specs.Eliminated.{cost_form, cost_variable, other_entries}
@@ -28,6 +29,6 @@ pub record IsCostReduced (definitions : List Row) (defs : List (Option Var)) (fo
 
 -- the cost is that of the form, with the number of the cost's own variable apart
 pub record IsCostOf (form : Form) (made : Reduced) : Type 0 where
-  pub cost : made.cost.items ≡ other_entries cost_variable form.entries
+  pub cost : made.cost.items ≡ other_entries var_cmp cost_variable form.entries
   pub right_side : made.cost_rhs ≡ form.right
   pub own : made.cost_own ≡ number_at form.entries cost_variable

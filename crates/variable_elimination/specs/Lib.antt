@@ -6,3 +6,7 @@ pub mod SoFar
 pub mod ReducedRows
 pub mod CostRows
 pub mod Columns
+pub mod Left
+pub mod Valued
+pub mod Lifting
+pub mod Lifts

@@ -6,6 +6,9 @@ mod costing;
 mod definitions;
 mod eliminating;
 mod expanding;
+mod lifting;
 mod reducing;
+mod values;
 
 pub use eliminating::eliminate;
+pub use lifting::{lift_direction, lift_plan};

@@ -2,9 +2,7 @@
 
 ghost use Rattle.std.specs.Prelude.{◌≡◌, None, List, true, length, IfOk, IfErr, OnOk, pos};
 ghost use Rattle.exact_num.specs.Range.{all_fit};
-ghost use Rattle.exact_num.specs.Rational.{whole};
 ghost use Rattle.exact_num.specs.Steps.{first_wide};
-ghost use Rattle.exact_num.specs.Value.{value_of};
 ghost use Rattle.row_core.specs.declared.Row.{Row};
 ghost use Rattle.row_core.specs.declared.place.Place.TheVariants.{Expand};
 ghost use Rattle.row_core.specs.Stops.{IsStop};
@@ -17,7 +15,7 @@ ghost use Rattle.variable_elimination.specs.SoFar.{IsFirst};
 
 use crate::expanding::{Definitions, expand};
 use exact_num::Frac;
-use row_core::{Place, Row, Sense, Stopped, Var};
+use row_core::{Place, Row, Sense, Stopped, Var, fraction};
 use std::alloc::Global;
 
 /// The rows that define nothing, without the defined variables, and for each the fraction by which its named row was
@@ -64,7 +62,7 @@ fn push_reduced(
         alloc,
         Place::Expand(row.name),
         row,
-        Some(one()),
+        Some(fraction(1)),
         definitions,
     )?;
     let scale = match scale {
@@ -91,11 +89,4 @@ fn has_to_stay(row: &Row) -> bool
         Sense::Most => row.rhs >= 0,
     };
     !holds
-}
-
-/// The fraction 1.
-fn one() -> Frac
-    ensures { value_of result ≡ whole (pos 1) }
-{
-    Frac { num: 1, den: 1 }
 }

@@ -7,6 +7,7 @@ use Rattle.row_core.specs.declared.Sense.TheVariants.{Least, Most}
 use Rattle.row_core.specs.declared.Var.{Var}
 use Rattle.row_core.specs.declared.RowName.{RowName}
 use Rattle.row_core.specs.Forms.{Form}
+use Rattle.row_core.specs.Order.{var_cmp}
 use Rattle.written_method.specs.Eliminated.{unscaled, is_kept, is_column, cost_variable, cost_form, cost_row, other_entries}
 use Rattle.written_method.specs.Expanded.{expanded}
 
@@ -60,7 +61,7 @@ cost_is : cost_row ((c, of_cost) ∷ (t, total) ∷ []) (None ∷ Some t ∷ Som
 unfolding gcd_of gcd_within lowest
 cost_is = refl
 
-cost_apart : other_entries cost_variable ((cost_variable, pos 1) ∷ (x, negsuc 1) ∷ (n, negsuc 5) ∷ []) ≡ (x, negsuc 1) ∷ (n, negsuc 5) ∷ []
+cost_apart : other_entries var_cmp cost_variable ((cost_variable, pos 1) ∷ (x, negsuc 1) ∷ (n, negsuc 5) ∷ []) ≡ (x, negsuc 1) ∷ (n, negsuc 5) ∷ []
 cost_apart = refl
 
 -- costs that are given in any order are taken in their order, each once

@@ -1,4 +1,5 @@
 mod EliminationExamples
+mod LiftedExamples
 pub mod RunLaws
 mod Examples
 pub mod CombinedLaws

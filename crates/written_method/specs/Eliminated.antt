@@ -1,6 +1,7 @@
 -- The elimination: the definitions are expanded one after another, then the rows that define nothing, and the row of the cost last.
 use Rattle.std.specs.Prelude.{ℤ, pos, negsuc, Bool, true, false, not, ◌&&◌, ◌||◌, ◌==◌, nat_lt, List, [], ◌∷◌, ◌++◌, map, filter, flat_map, Option, Some, None, if◌then◌else◌}
 use Rattle.std.specs.Ordering.{is_eq}
+use Rattle.std.specs.declared.cmp.Ordering.{Ordering}
 use Rattle.std.specs.declared.cmp.Ordering.TheVariants.{Less, Equal as Alike, Greater}
 use Rattle.exact_num.specs.Rational.{whole}
 use Rattle.exact_num.specs.Steps.{Step}
@@ -113,10 +114,10 @@ cost_form defs = record { entries = (cost_variable, pos 1) ∷ map minus_one_at 
 abbrev pub cost_row : List (Var × Form) → List (Option Var) → Form
 cost_row forms defs = (expanded forms (unscaled (cost_form defs))).form
 
--- the entries but that of a variable
-abbrev pub other_entries : Var → List (Var × ℤ) → List (Var × ℤ)
-other_entries v [] = []
-other_entries v (e ∷ es) = if is_eq (var_cmp e.0 v) then other_entries v es else (e ∷ other_entries v es)
+-- the entries but that of a key
+abbrev pub other_entries : {K : Type 0} → (K → K → Ordering) → K → List (K × ℤ) → List (K × ℤ)
+other_entries cmp key [] = []
+other_entries cmp key (e ∷ es) = if is_eq (cmp e.0 key) then other_entries cmp key es else (e ∷ other_entries cmp key es)
 
 -- ---- all steps
 

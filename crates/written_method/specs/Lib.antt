@@ -1,7 +1,9 @@
 pub mod Definitions
 pub mod Expanded
 pub mod Eliminated
+pub mod SolvedFor
 pub mod Lifted
+pub mod Multiplied
 pub mod Lines
 pub mod Tableaus
 pub mod Choices
@@ -16,3 +18,4 @@ pub mod Basis
 pub mod Ends
 pub mod Ready
 pub mod Certificates
+pub mod Columns

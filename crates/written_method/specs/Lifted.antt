@@ -1,31 +1,21 @@
 -- Values of the columns carried to the defined variables.
-use Rattle.std.specs.Prelude.{ℤ, pos, List, [], ◌∷◌, ◌++◌}
-use Rattle.exact_num.specs.Formed.{difference_formed, quotient_formed}
-use Rattle.exact_num.specs.Rational.{Rational, whole, minus, divided}
+use Rattle.std.specs.Prelude.{ℤ, pos, List, [], ◌∷◌}
+use Rattle.std.specs.BTreeMap.{insert_entry}
+use Rattle.exact_num.specs.Rational.{Rational}
 use Rattle.exact_num.specs.Steps.{Step}
 use Rattle.row_core.specs.declared.Var.{Var}
 use Rattle.row_core.specs.declared.place.Place.{Place}
-use Rattle.row_core.specs.Evaluated.{sum_from, sum_from_formed}
 use Rattle.row_core.specs.Order.{var_cmp}
 use Rattle.row_core.specs.Plans.{value_in}
-use Rattle.std.specs.BTreeMap.{insert_entry}
 use Rattle.written_method.specs.Definitions.{Definition, own_of}
-use Rattle.written_method.specs.Eliminated.{other_entries}
+use Rattle.written_method.specs.SolvedFor.{solved_for, solved_formed}
 
--- the sum of the entries but that of the definition's variable, times their values
-abbrev pub other_sum : (Var → Rational) → Definition → Rational
-other_sum value d = sum_from value (whole (pos 0)) (other_entries d.variable d.row.entries.items)
-
--- the right side less that sum, divided by the entry of the variable
+-- what the row gives its variable: the right side less the sum of the other entries times their values, divided by its entry
 abbrev pub lifted_value : (Definition → ℤ) → (Var → Rational) → Definition → Rational
-lifted_value right value d = divided (minus (whole (right d)) (other_sum value d)) (whole (own_of d))
+lifted_value right value d = solved_for var_cmp value d.variable d.row.entries.items (right d) (own_of d)
 
--- each product, each sum, the difference and the quotient
 abbrev pub lifted_formed : (Definition → ℤ) → (Var → Rational) → Definition → List ℤ
-lifted_formed right value d =
-    sum_from_formed value (whole (pos 0)) (other_entries d.variable d.row.entries.items)
-    ++ (difference_formed (whole (right d)) (other_sum value d)
-    ++ quotient_formed (minus (whole (right d)) (other_sum value d)) (whole (own_of d)))
+lifted_formed right value d = solved_formed var_cmp value d.variable d.row.entries.items (right d) (own_of d)
 
 -- the value of each defined variable in turn, in the order of rows
 abbrev pub lifted : (Definition → ℤ) → List Definition → List (Var × Rational) → List (Var × Rational)

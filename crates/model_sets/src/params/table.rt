@@ -9,8 +9,7 @@ use crate::set_numbers::{
 
 /// The parameters, from number 1: the word of each, the numbers of the sets over which its subscripts run in
 /// their order, the range of its values, and in which data it is used (the OSeMOSYS long code, Howells et al.,
-/// Energy Policy 2011; DiscountRateIdv is of its later editions). Of a parameter that is never used only the word
-/// and the number of its subscripts matter.
+/// Energy Policy 2011; DiscountRateIdv is of its later editions).
 pub const PARAMETERS: [(&str, &[u8], Range, Use); PARAM_COUNT] = [
     (
         "YearSplit",

@@ -2,36 +2,39 @@
 ghost use Rattle.std.specs.Prelude.{◌≡◌, IfOk, map, option_map};
 ghost use Rattle.std.specs.String.{string_bytes};
 ghost use Rattle.osemosys_run.specs.CommandLine.{command_named, meant};
-ghost use Rattle.osemosys_run.specs.CommandLine.{MpsName, CheckName, SolveName, MakeName, check_of};
+ghost use Rattle.osemosys_run.specs.CommandLine.{MpsName, CheckName, SolveName, MakeName, check_of, mps_of};
 ghost use Rattle.osemosys_run.specs.Commands.{any_command_of_result, name_of};
 ghost use Rattle.osemosys_run.specs.WordReading.{given_of, command_by, command_given, is_allowed};
 
 use crate::status::WordFault;
 use crate::words::parsing::{Given, read_given};
-use crate::words::values::{gap_of, make_show_of, pivots_of, size_of, solve_show_of};
+use crate::words::values::{gap_of, make_show_of, pivots_of, places_of, size_of, solve_show_of};
 use std::alloc::{AllocError, Global};
 
-/// Any command with its files and options.
+/// Any command with its files and options. `places` is how many decimal places written factors have: 6 or 9.
 #[derive(Clone, Copy, Debug, PartialEq, Eq)]
 pub enum AnyCommand<'a> {
-    /// `mps FILE`: writes the named equations of a data file.
+    /// `mps FILE [--places P]`: writes the named equations of a data file.
     Mps {
         file: &'a str,
+        places: u8,
     },
-    /// `check FILE PLAN [MULTIPLIERS] [--gap PPM]`: checks a plan, and a bound where multipliers are
-    /// given. `gap` is in millionths of the bound.
+    /// `check FILE PLAN [MULTIPLIERS] [--gap PPM] [--places P]`: checks a plan, and a bound where
+    /// multipliers are given. `gap` is in millionths of the bound.
     Check {
         file: &'a str,
         plan: &'a str,
         multipliers: Option<&'a str>,
         gap: u32,
+        places: u8,
     },
-    /// `solve FILE [--gap PPM] [--pivots N] [--show report|plan|multipliers]`: solves. `gap` is in
-    /// millionths of the bound, `pivots` is the most pivots that may be made.
+    /// `solve FILE [--gap PPM] [--pivots N] [--places P] [--show report|plan|multipliers]`: solves.
+    /// `gap` is in millionths of the bound, `pivots` is the most pivots that may be made.
     Solve {
         file: &'a str,
         gap: u32,
         pivots: u32,
+        places: u8,
         show: SolveShow,
     },
     /// `make N [--show file|summary]`: writes a made data file of this size, or solves it and writes
@@ -141,7 +144,9 @@ fn is_allowed(name: CommandName, given: &Given<'_>) -> bool
         CommandName::Mps => given.gap.is_none() && given.pivots.is_none() && given.show.is_none(),
         CommandName::Check => given.pivots.is_none() && given.show.is_none(),
         CommandName::Solve => true,
-        CommandName::Make => given.gap.is_none() && given.pivots.is_none(),
+        CommandName::Make => {
+            given.gap.is_none() && given.pivots.is_none() && given.places.is_none()
+        }
     }
 }
 
@@ -149,8 +154,18 @@ fn mps_given<'a>(given: &Given<'a>) -> Result<AnyCommand<'a>, WordFault>
     ensures { any_command_of_result result ≡ command_given MpsName (given_of given.now) }
 {
     match given.files.as_slice() {
-        [file] => Ok(AnyCommand::Mps { file: *file }),
+        [file] => mps(*file, given.places),
         _ => Err(WordFault::BadForm),
+    }
+}
+
+fn mps<'a>(file: &'a str, places: Option<&'a str>) -> Result<AnyCommand<'a>, WordFault>
+    ensures { any_command_of_result result
+        ≡ mps_of file.entry.now (option_map (λ value. value.now) places.entry) }
+{
+    match places_of(places) {
+        Some(places) => Ok(AnyCommand::Mps { file, places }),
+        None => Err(WordFault::BadNumber),
     }
 }
 
@@ -158,8 +173,10 @@ fn check_given<'a>(given: &Given<'a>) -> Result<AnyCommand<'a>, WordFault>
     ensures { any_command_of_result result ≡ command_given CheckName (given_of given.now) }
 {
     match given.files.as_slice() {
-        [file, plan] => check(*file, *plan, None, given.gap),
-        [file, plan, multipliers] => check(*file, *plan, Some(*multipliers), given.gap),
+        [file, plan] => check(*file, *plan, None, given.gap, given.places),
+        [file, plan, multipliers] => {
+            check(*file, *plan, Some(*multipliers), given.gap, given.places)
+        }
         _ => Err(WordFault::BadForm),
     }
 }
@@ -169,12 +186,14 @@ fn check<'a>(
     plan: &'a str,
     multipliers: Option<&'a str>,
     gap: Option<&'a str>,
+    places: Option<&'a str>,
 ) -> Result<AnyCommand<'a>, WordFault>
     ensures { any_command_of_result result
         ≡ check_of file.entry.now plan.entry.now
-        (option_map (λ name. name.now) multipliers.entry) (option_map (λ value. value.now) gap.entry) }
+        (option_map (λ name. name.now) multipliers.entry) (option_map (λ value. value.now) gap.entry)
+        (option_map (λ value. value.now) places.entry) }
 {
-    let Some(ppm) = gap_of(gap) else {
+    let (Some(ppm), Some(places)) = (gap_of(gap), places_of(places)) else {
         return Err(WordFault::BadNumber);
     };
     if gap.is_some() && multipliers.is_none() {
@@ -185,6 +204,7 @@ fn check<'a>(
         plan,
         multipliers,
         gap: ppm,
+        places,
     })
 }
 
@@ -194,7 +214,11 @@ fn solve_given<'a>(given: &Given<'a>) -> Result<AnyCommand<'a>, WordFault>
     let [file] = given.files.as_slice() else {
         return Err(WordFault::BadForm);
     };
-    let (Some(gap), Some(pivots)) = (gap_of(given.gap), pivots_of(given.pivots)) else {
+    let (Some(gap), Some(pivots), Some(places)) = (
+        gap_of(given.gap),
+        pivots_of(given.pivots),
+        places_of(given.places),
+    ) else {
         return Err(WordFault::BadNumber);
     };
     let Some(show) = solve_show_of(given.show) else {
@@ -204,6 +228,7 @@ fn solve_given<'a>(given: &Given<'a>) -> Result<AnyCommand<'a>, WordFault>
         file: *file,
         gap,
         pivots,
+        places,
         show,
     })
 }

@@ -1,8 +1,8 @@
 // The words after a command, read by `clap` as one simple command with all options of all commands.
 ghost use Rattle.std.specs.Prelude.{◌≡◌, ℕ, List, IfOk, [], codes, map, option_map, unwrap_or};
 ghost use Rattle.std.specs.String.{string_bytes};
-ghost use Rattle.clap.specs.Words.{all_of, app_of, found_of, rows_of};
-ghost use Rattle.osemosys_run.specs.ClapWords.{app, clap_rows};
+ghost use Rattle.clap.specs.Words.{all_of, app_of, found_of, rows_of, with_rule};
+ghost use Rattle.osemosys_run.specs.ClapWords.{app, clap_rows, files_only, option_rule};
 ghost use Rattle.osemosys_run.specs.WordParts.{HasSpelledParts, Part, parts_of};
 ghost use Rattle.osemosys_run.specs.WordReading.{given_by, given_of};
 
@@ -16,6 +16,7 @@ pub struct Given<'a> {
     pub files: Vec<&'a str>,
     pub gap: Option<&'a str>,
     pub pivots: Option<&'a str>,
+    pub places: Option<&'a str>,
     pub show: Option<&'a str>,
 }
 
@@ -31,6 +32,7 @@ pub fn read_given<'a>(alloc: Global, words: &'a [String]) -> Result<Option<Given
         files: files_of(alloc, &matches)?,
         gap: matches.get_str("gap"),
         pivots: matches.get_str("pivots"),
+        places: matches.get_str("places"),
         show: matches.get_str("show"),
     };
     Ok(Some(given))
@@ -66,19 +68,32 @@ fn parse<'a>(alloc: Global, words: &'a [String]) -> Result<Option<ArgMatches<'a>
 fn any_options<'a>(alloc: Global) -> Result<Command<'a>, AllocError>
     ensures { IfOk result (λ command. app_of command ≡ app) }
 {
+    let command = with_option(alloc, with_files(alloc)?, "gap")?;
+    let command = with_option(alloc, command, "pivots")?;
+    let command = with_option(alloc, command, "places")?;
+    with_option(alloc, command, "show")
+}
+
+// Files in any number, wherever they stand. No program's name stands before the words, and there is no help.
+fn with_files<'a>(alloc: Global) -> Result<Command<'a>, AllocError>
+    ensures { IfOk result (λ command. app_of command ≡ files_only) }
+{
     let file = Arg::new(alloc, "file").action(ArgAction::Append);
-    let gap = Arg::new(alloc, "gap").long("gap").action(ArgAction::Set);
-    let pivots = Arg::new(alloc, "pivots")
-        .long("pivots")
-        .action(ArgAction::Set);
-    let show = Arg::new(alloc, "show").long("show").action(ArgAction::Set);
     Command::new(alloc, "osemosys")
         .no_binary_name(true)
         .disable_help_flag(true)
-        .arg(file)?
-        .arg(gap)?
-        .arg(pivots)?
-        .arg(show)
+        .arg(file)
+}
+
+// The command with one more option, which has one value.
+fn with_option<'a>(
+    alloc: Global,
+    command: Command<'a>,
+    name: &'a str,
+) -> Result<Command<'a>, AllocError>
+    ensures { IfOk result (λ more. app_of more ≡ with_rule (app_of command.entry) (option_rule name.entry.now)) }
+{
+    command.arg(Arg::new(alloc, name).long(name).action(ArgAction::Set))
 }
 
 /// The parts of words are those that are spelled so.

@@ -2,7 +2,7 @@
 ghost use Rattle.std.specs.Prelude.{◌≡◌, ◌≤◌, option_map};
 ghost use Rattle.std.specs.Char.{is_ascii_digit};
 ghost use Rattle.std.specs.List.{list_all};
-ghost use Rattle.osemosys_run.specs.WordValues.{number_within, gap_of, pivots_of, size_of, solve_show_of, make_show_of};
+ghost use Rattle.osemosys_run.specs.WordValues.{number_within, gap_of, pivots_of, places_of, size_of, solve_show_of, make_show_of};
 
 use crate::words::any_command::{MakeShow, SolveShow};
 
@@ -23,6 +23,22 @@ pub fn pivots_of(text: Option<&str>) -> Option<u32>
     match text {
         Some(text) => number_within(text, 7, 0, 1_000_000),
         None => Some(20_000),
+    }
+}
+
+/// How many decimal places written factors have: 6 or 9, and 6 where it is left out.
+pub fn places_of(text: Option<&str>) -> Option<u8>
+    ensures { result ≡ places_of (option_map (λ text. text.now) text.entry) }
+{
+    let Some(text) = text else {
+        return Some(6);
+    };
+    if text == "6" {
+        Some(6)
+    } else if text == "9" {
+        Some(9)
+    } else {
+        None
     }
 }
 

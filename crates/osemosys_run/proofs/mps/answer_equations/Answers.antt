@@ -15,9 +15,9 @@ use Rattle.osemosys_run.specs.Mps.{DueForEquations}
 use Rattle.osemosys_run.proofs.mps.answer_equations.Goals as goal
 
 -- the row that the book names is the one that is told
-width_told : (d : Data) (place : Place) (sets : SetLists) (status : Status) (text : List ℕ) → HasStopped d 0 (instances d) (Width place) → sets ≡ d.sets
-    → status ≡ Uncertified (Stop.Width place) → text ≡ uncertified_line sets (Stop.Width place) → DueForEquations d status text
-width_told d place sets status text stopped same told line =
+width_told : (places : ℕ) (d : Data) (place : Place) (sets : SetLists) (status : Status) (text : List ℕ) → HasStopped places d 0 (instances d) (Width place) → sets ≡ d.sets
+    → status ≡ Uncertified (Stop.Width place) → text ≡ uncertified_line sets (Stop.Width place) → DueForEquations places d status text
+width_told places d place sets status text stopped same told line =
     inr (inl (record {
       name = stopped.0;
       wide = stopped.2;
@@ -27,15 +27,17 @@ width_told d place sets status text stopped same told line =
 
 pub returns-in-Err-Width : goal.returns-in-Err-Width
 returns-in-Err-Width c =
+    let places = c.args.places in
     let d = c.args.model.now.facts in
-    let stopped = subst (HasStopped d 0 (instances d)) c.in-Err-Width.field-0-is c.in-Err-Width.ensures.stopped in
+    let stopped = subst (HasStopped places d 0 (instances d)) c.in-Err-Width.field-0-is c.in-Err-Width.ensures.stopped in
     IfOk-weaker c.stop_at.result _ _
-    (λ answer told. width_told d c.in-Err-Width.place c.sets.result.now answer.status answer.text.items stopped c.sets.ensures.sets told.0 told.1)
+    (λ answer told. width_told places d c.in-Err-Width.place c.sets.result.now answer.status answer.text.items stopped c.sets.ensures.sets told.0 told.1)
     c.stop_at.ensures
 
 pub returns-in-Err-TooManyEntries : goal.returns-in-Err-TooManyEntries
 returns-in-Err-TooManyEntries c =
+    let places = c.args.places in
     let d = c.args.model.now.facts in
-    let stopped = subst (HasStopped d 0 (instances d)) c.in-Err-TooManyEntries.field-0-is c.in-Err-TooManyEntries.ensures.stopped in
+    let stopped = subst (HasStopped places d 0 (instances d)) c.in-Err-TooManyEntries.field-0-is c.in-Err-TooManyEntries.ensures.stopped in
     IfOk-weaker c.refuse_entries.result _ _
     (λ answer told. inr (inr (record { name = stopped.0; many = stopped.1; status_is = told.0; line_is = told.1 }))) c.refuse_entries.ensures

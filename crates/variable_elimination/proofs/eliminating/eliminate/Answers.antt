@@ -1,5 +1,5 @@
 -- The parts together: the definitions, the other rows, the cost.
-use Rattle.std.proofs.Common.{◌≡◌, ℤ, pos, List, [], sym, ap, ◌∙◌, subst}
+use Rattle.std.proofs.Common.{◌≡◌, ◌+◌, ◌<◌, ◌^◌, length, arith, ℤ, pos, List, [], sym, ap, ◌∙◌, subst}
 use Rattle.std.specs.Prelude.{Option, None, ◌<ℤ◌}
 use Rattle.std.proofs.lemmas.Result.{err_from_is_err_and}
 use Rattle.exact_num.specs.Range.{all_fit}
@@ -10,8 +10,8 @@ use Rattle.row_core.specs.declared.Var.{Var}
 use Rattle.row_core.specs.declared.place.Place.{Place}
 use Rattle.row_core.specs.declared.place.Place.TheVariants.{CostRow}
 use Rattle.row_core.specs.Forms.{Form}
-use Rattle.written_method.specs.Definitions.{definitions_of, others_of, rows_of}
-use Rattle.written_method.specs.Eliminated.{ReducedRow, unscaled, expanded_all, definition_steps, reduced_rows, row_steps, cost_form}
+use Rattle.written_method.specs.Definitions.{definitions_of, others_of, rows_of, defined, avoids}
+use Rattle.written_method.specs.Eliminated.{ReducedRow, unscaled, cost_variable, expanded_all, definition_steps, reduced_rows, row_steps, cost_form}
 use Rattle.written_method.specs.Expanded.{expanded_formed}
 use Rattle.variable_elimination.specs.Columns.{AreColumns}
 use Rattle.variable_elimination.specs.CostRows.{IsCostOf}
@@ -19,6 +19,7 @@ use Rattle.variable_elimination.specs.Kept.{forms_in}
 use Rattle.variable_elimination.specs.ReducedRows.{AreThese, AreReductions}
 use Rattle.variable_elimination.proofs.EliminationLaws.{rows-same, steps-same, cost-same, cost_formed-same, three, three-fit, three-first, three-second, three-last, IsFirst-more, cost-positive, first_of_memory}
 use Rattle.variable_elimination.proofs.GrowthLaws.{IsFirst-from}
+use Rattle.variable_elimination.proofs.ReadyLaws.{IsColumnBeyond, all_ready, all_rows_done, cost_done, cost_avoids, others_avoid, rows_avoid}
 use Rattle.variable_elimination.proofs.eliminating.eliminate.Goals as goal
 
 abbrev forms_of : List Row → List (Option Var) → List (Var × Form)
@@ -129,3 +130,46 @@ returns-in_err-made-clause-stopped c =
     let stop = first_of_memory (three (first_part rows defs) (second_part rows defs) CostRow (last_part rows defs)) c.in_err-made.field-0.0 c.in_err-made.ensures.memory in
     let p = err_from_is_err_and c.from_residual-in_err-made.result c.from_residual-in_err-made.ensures.1 in
     rw (p.1, p.2) stop
+
+-- ---- what is left
+
+pub returns-clause-without : goal.returns-clause-without
+returns-clause-without c =
+    let rows = c.args.rows.now in
+    let defs = c.args.defs.now in
+    let made = c.in_ok-made.made in
+    let columns = c.in_ok-columns.columns.items in
+    let m = c.in_ok-definitions.definitions in
+    let cost = c.in_ok-cost.cost in
+    let named = rows_of (definitions_of rows defs) in
+    let forms = forms_of rows defs in
+    let have = c.in_ok-definitions.ensures.made in
+    let is = c.in_ok-cost.ensures.reduced named c.in_ok-definitions.ensures.reduced in
+    let these = returns-clause-rows c in
+    let done = cost_done rows defs columns c.requires.same c.requires.triangular c.requires.known c.in_ok-columns.ensures is.first cost is.form (c.in_ok-cost.ensures.form ∙ cost-same m forms have defs) in
+    record {
+      rows = rows_avoid (defined (definitions_of rows defs)) (IsColumnBeyond (defined (definitions_of rows defs)) columns) made.rows.items (all_rows_done rows defs columns c.requires.same c.requires.triangular c.requires.known c.in_ok-columns.ensures made.rows.items these.rows_are);
+      cost = ap (avoids (defined (definitions_of rows defs))) c.in_ok-made.ensures.cost.cost ∙ others_avoid (defined (definitions_of rows defs)) cost_variable cost.entries.items (cost_avoids rows defs columns c.requires.same c.requires.triangular c.requires.known c.in_ok-columns.ensures cost done);
+    }
+
+pub returns-clause-ready : goal.returns-clause-ready
+returns-clause-ready c =
+    let rows = c.args.rows.now in
+    let defs = c.args.defs.now in
+    let made = c.in_ok-made.made in
+    let columns = c.in_ok-columns.columns.items in
+    let m = c.in_ok-definitions.definitions in
+    let cost = c.in_ok-cost.cost in
+    let named = rows_of (definitions_of rows defs) in
+    let forms = forms_of rows defs in
+    let have = c.in_ok-definitions.ensures.made in
+    let is = c.in_ok-cost.ensures.reduced named c.in_ok-definitions.ensures.reduced in
+    let these = returns-clause-rows c in
+    let done = cost_done rows defs columns c.requires.same c.requires.triangular c.requires.known c.in_ok-columns.ensures is.first cost is.form (c.in_ok-cost.ensures.form ∙ cost-same m forms have defs) in
+    let width : length made.columns.items ≡ length c.deref.result.now = ap length c.in_ok-made.ensures.columns ∙ ap length (sym c.deref.ensures.value) in
+    let height : length made.rows.items ≡ length c.deref-2.result.now = ap length c.in_ok-made.ensures.rows ∙ ap length (sym c.deref-2.ensures.value) in
+    let counted : length c.deref.result.now + length c.deref.result.now + length c.deref-2.result.now + 1 < 2 ^ 64 = c.can_be_counted.ensures in
+    let few : length made.columns.items + length made.columns.items + length made.rows.items + 1 < 2 ^ 64 = omega arith in
+    all_ready rows defs columns c.requires.same c.requires.triangular c.requires.known c.in_ok-columns.ensures made cost c.in_ok-made.ensures.columns
+    (all_rows_done rows defs columns c.requires.same c.requires.triangular c.requires.known c.in_ok-columns.ensures made.rows.items these.rows_are)
+    c.in_ok-made.ensures.cost done (returns-clause-own c) few

@@ -46,7 +46,7 @@ pub unreachable-requires : goal.unreachable-requires
 unreachable-requires c =
     let row = c.args.row.now in
     let m = c.args.definitions.now in
-    let s : Scaled = scaled_of row (Some c.one.result) in
+    let s : Scaled = scaled_of row (Some c.fraction.result) in
     let e : scale_value c.in_ok-made.scale ≡ (expanded (forms_in m) s).scale = ap (λ (t : Scaled). t.scale) c.in_ok-made.ensures.made.scaled in
     subst HasScale (sym e ∙ ap scale_value c.in-None.is) (all-scale (forms_in m) (variables_of row.entries.items) s tt)
 
@@ -56,7 +56,7 @@ returns-in_ok-push-2-clause-pushed c =
     let scales = c.args.scales.now.items in
     let made = c.in_ok-made.made in
     let stay : stays made ≡ true = sym c.has_to_stay.ensures ∙ c.if-has_to_stay.true in
-    next_row c.args.definitions.now c.args.row.now made c.one.result c.in-Some.scale c.in_ok-made.scale kept c.push.new.self.items scales c.push-then-has_to_stay.new.self.items c.one.ensures c.in-Some.is c.in_ok-made.ensures.made c.in_ok-made.ensures.reduced
+    next_row c.args.definitions.now c.args.row.now made c.fraction.result c.in-Some.scale c.in_ok-made.scale kept c.push.new.self.items scales c.push-then-has_to_stay.new.self.items c.fraction.ensures c.in-Some.is c.in_ok-made.ensures.made c.in_ok-made.ensures.reduced
     (c.in_ok-push.ensures.items ∙ sym (ap (λ b. if b then kept ++ made ∷ [] else kept) stay))
     (c.in_ok-push-2.ensures.items ∙ sym (ap (λ b. if b then scales ++ c.in-Some.scale ∷ [] else scales) stay))
 
@@ -66,6 +66,6 @@ returns-else-has_to_stay-clause-pushed c =
     let scales = c.args.scales.now.items in
     let made = c.in_ok-made.made in
     let go : stays made ≡ false = sym c.has_to_stay.ensures ∙ c.if-has_to_stay.false in
-    next_row c.args.definitions.now c.args.row.now made c.one.result c.in-Some.scale c.in_ok-made.scale kept kept scales scales c.one.ensures c.in-Some.is c.in_ok-made.ensures.made c.in_ok-made.ensures.reduced
+    next_row c.args.definitions.now c.args.row.now made c.fraction.result c.in-Some.scale c.in_ok-made.scale kept kept scales scales c.fraction.ensures c.in-Some.is c.in_ok-made.ensures.made c.in_ok-made.ensures.reduced
     (sym (ap (λ b. if b then kept ++ made ∷ [] else kept) go))
     (sym (ap (λ b. if b then scales ++ c.in-Some.scale ∷ [] else scales) go))

@@ -1,24 +1,13 @@
-use Rattle.std.proofs.Common.{◌≡◌, ◌∙◌, ap, ap₂, rules, true, codes}
+use Rattle.std.proofs.Common.{◌≡◌, ◌∙◌, ℕ, List, ap, codes}
 use Rattle.std.proofs.lemmas.Result.{IfOk-weaker}
-use Rattle.clap.specs.Words.{App, app_of, new_app, rule_of, with_rule}
-use Rattle.clap.specs.Simple.{app_of_fields, on_top}
-use Rattle.osemosys_run.specs.ClapWords.{file_rule, option_rule}
+use Rattle.clap.specs.Words.{App, with_rule}
+use Rattle.osemosys_run.specs.ClapWords.{option_rule}
 use Rattle.osemosys_run.proofs.words.parsing.any_options.Goals as goal
-
-abbrev bare : App
-bare = on_top (λ top. record top { no_binary_name = true; disable_help_flag = true }) (new_app (codes "osemosys"))
 
 pub returns : goal.returns
 returns c =
-    let file_is : rule_of c.action-file.result ≡ file_rule = search rules in
-    let gap_is : rule_of c.action-gap.result ≡ option_rule (codes "gap") = search rules in
-    let pivots_is : rule_of c.action-pivots.result ≡ option_rule (codes "pivots") = search rules in
-    let show_is : rule_of c.action-show.result ≡ option_rule (codes "show") = search rules in
-    let bare_is : app_of c.disable_help_flag.result ≡ bare =
-    ap app_of_fields c.disable_help_flag.ensures
-    ∙ ap (λ fields. app_of_fields (record fields { disable_help_flag = true })) c.no_binary_name.ensures
-    ∙ ap (on_top (λ top. record top { no_binary_name = true; disable_help_flag = true })) c.new-5.ensures.app in
-    let three_is = c.in_ok-arg-3.ensures.shape (search rules)
-    ∙ ap₂ with_rule (c.in_ok-arg-2.ensures.shape (search rules)
-    ∙ ap₂ with_rule (c.in_ok-arg.ensures.shape (search rules) ∙ ap₂ with_rule bare_is file_is) gap_is) pivots_is in
-    IfOk-weaker c.arg-4.result _ _ (λ command added. added.shape (search rules) ∙ ap₂ with_rule three_is show_is) c.arg-4.ensures
+    let more = λ (name : List ℕ) (app : App). with_rule app (option_rule name) in
+    let gap = c.in_ok-command.ensures ∙ ap (more (codes "gap")) c.in_ok-with_files.ensures in
+    let pivots = c.in_ok-command-2.ensures ∙ ap (more (codes "pivots")) gap in
+    let places = c.in_ok-command-3.ensures ∙ ap (more (codes "places")) pivots in
+    IfOk-weaker c.with_option-4.result _ _ (λ command added. added ∙ ap (more (codes "show")) places) c.with_option-4.ensures

@@ -6,7 +6,7 @@ use Rattle.exact_num.specs.Value.{value_of}
 use Rattle.row_core.specs.Order.{var_cmp}
 use Rattle.row_core.specs.Plans.{value_in}
 use Rattle.row_core.specs.Evaluated.{sum_from, sum_from_formed}
-use Rattle.row_core.proofs.evaluating.eval.Given as goal
+use Rattle.row_core.proofs.evaluating.eval_against.Given as goal
 
 abbrev pub invariant-loop-entry : goal.invariant-loop-entry
 invariant-loop-entry l = record {

@@ -1,0 +1,12 @@
+-- Why a check stops before its end.
+use Rattle.std.specs.Prelude.{List}
+use Rattle.row_core.specs.declared.place.Place.{Place}
+use Rattle.certificate_checker.specs.declared.verdicts.Halt.{Halt}
+use Rattle.certificate_checker.specs.declared.verdicts.Halt.TheVariants.{No, Width}
+use Rattle.certificate_checker.specs.Conditions.{Condition, FailsFor, IsWideAt}
+use Rattle.certificate_checker.specs.Reasons.{reason_of}
+
+-- at the first condition that fails, or at the first number that doesn't fit
+abbrev pub IsHalt : List Condition → Halt → Type 0
+IsHalt cs (No rejection) = FailsFor cs (reason_of rejection)
+IsHalt cs (Width place) = IsWideAt cs place

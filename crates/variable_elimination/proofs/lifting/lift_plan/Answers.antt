@@ -1,0 +1,30 @@
+-- What the lifted values say.
+use Rattle.std.proofs.Common.{◌≡◌, sym, subst}
+use Rattle.std.proofs.lemmas.Result.{IfOk-weaker}
+use Rattle.written_method.specs.Definitions.{definitions_of, defined}
+use Rattle.written_method.specs.Lifted.{lifted, right_side}
+use Rattle.variable_elimination.specs.Lifts.{KeepsOthers, CarriesPlan, MakesRight}
+use Rattle.variable_elimination.proofs.LiftedLaws.{lifted-others, carries_plan, plan_right}
+use Rattle.variable_elimination.proofs.lifting.lift_plan.Goals as goal
+
+pub returns-clause-others : goal.returns-clause-others
+returns-clause-others c =
+    let ds = definitions_of c.args.rows.now c.args.defs.now in
+    let values = c.args.values.now in
+    IfOk-weaker c.lift_values.result (λ plan. plan ≡ lifted right_side ds values) (KeepsOthers (defined ds) values)
+    (λ plan is. subst (KeepsOthers (defined ds) values) (sym is) (lifted-others right_side ds values)) c.lift_values.ensures.made
+
+pub returns-clause-holds : goal.returns-clause-holds
+returns-clause-holds c reduced scales r apart =
+    let rows = c.args.rows.now in
+    let defs = c.args.defs.now in
+    let values = c.args.values.now in
+    IfOk-weaker c.lift_values.result (λ plan. plan ≡ lifted right_side (definitions_of rows defs) values) (CarriesPlan rows reduced values)
+    (λ plan is. subst (CarriesPlan rows reduced values) (sym is) (carries_plan rows defs values c.requires.same c.requires.triangular reduced scales r apart)) c.lift_values.ensures.made
+
+pub returns-clause-signs : goal.returns-clause-signs
+returns-clause-signs c keep =
+    let ds = definitions_of c.args.rows.now c.args.defs.now in
+    let values = c.args.values.now in
+    IfOk-weaker c.lift_values.result (λ plan. plan ≡ lifted right_side ds values) (MakesRight (defined ds))
+    (λ plan is. subst (MakesRight (defined ds)) (sym is) (plan_right ds values c.requires.triangular keep)) c.lift_values.ensures.made

@@ -1,0 +1,11 @@
+-- What holds before the definitions among the rows that are left.
+use Rattle.std.proofs.Common.{drop}
+use Rattle.written_method.specs.Definitions.{definitions_of, AreTriangular}
+use Rattle.variable_elimination.specs.Lifting.{IsLifting}
+use Rattle.variable_elimination.proofs.lifting.lift_values.Given as goal
+
+abbrev pub invariant-loop-i : goal.invariant-loop-i
+invariant-loop-i l = record {
+  so_far : IsLifting l.goal (definitions_of l.rows l.defs) (definitions_of (drop l.i l.rows) (drop l.i l.defs)) l.values l.lifted;
+  triangular : AreTriangular (definitions_of (drop l.i l.rows) (drop l.i l.defs));
+}
