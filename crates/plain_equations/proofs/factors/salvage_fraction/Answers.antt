@@ -1,6 +1,6 @@
 -- By the sinking fund, and by the straight line.
-use Rattle.std.proofs.Common.{◌-◌, ◌*◌, ◌/◌, ◌^◌, sym, ap, ap₂, ◌∙◌}
-use Rattle.discount_factors.specs.Factors.{unit_of, discounted}
+use Rattle.std.proofs.Common.{◌≡◌, ◌-◌, ◌*◌, ◌/◌, ◌^◌, sym, ap, ap₂, ◌∙◌}
+use Rattle.discount_factors.specs.Factors.{unit_of, discounted, salvage_fraction}
 use Rattle.discount_factors.proofs.LifeLaws.{salvage-sinking, salvage-straight}
 use Rattle.plain_equations.proofs.factors.salvage_fraction.Goals as goal
 
