@@ -25,6 +25,16 @@ width_told places d place sets status text stopped same told line =
       line_is = line ∙ ap (λ p. uncertified_line sets (Stop.Width p)) stopped.1 ∙ ap (λ s. uncertified_line s (Stop.Width (Place.Row stopped.0))) same;
     }))
 
+pub returns-in-Ok : goal.returns-in-Ok
+returns-in-Ok c =
+    IfOk-weaker c.write_book.result _ _
+    (λ answer told. inl (record {
+      made = c.in-Ok.ensures.made;
+      status_is = told.0;
+      writes = record { rows = c.in-Ok.book.rows; columns = c.in-Ok.book.vars; are_rows = c.in-Ok.ensures.rows; are_columns = c.in-Ok.ensures.variables; is = told.1 };
+    }))
+    c.write_book.ensures
+
 pub returns-in-Err-Width : goal.returns-in-Err-Width
 returns-in-Err-Width c =
     let places = c.args.places in

@@ -1,0 +1,17 @@
+-- The sum so far and the variables that are left give the sum of all; and form what is left of what all form.
+use Rattle.std.proofs.Common.{◌≡◌, pos, drop}
+use Rattle.exact_num.specs.Range.{all_fit}
+use Rattle.exact_num.specs.Rational.{whole}
+use Rattle.exact_num.specs.Value.{value_of}
+use Rattle.row_core.specs.Order.{var_cmp}
+use Rattle.row_core.specs.Plans.{value_in}
+use Rattle.row_core.specs.Evaluated.{sum_from, sum_from_formed}
+use Rattle.certificate_checker.specs.Costs.{cost_entries}
+use Rattle.certificate_checker.specs.CostNumbers.{number_of}
+use Rattle.certificate_checker.proofs.costs.cost_of.Given as goal
+
+abbrev pub invariant-loop-variable : goal.invariant-loop-variable
+invariant-loop-variable l = record {
+  so_far : sum_from (value_in var_cmp l.plan) (value_of l.sum) (cost_entries (number_of l.cost) (drop l.variable-index l.vars)) ≡ sum_from (value_in var_cmp l.plan) (whole (pos 0)) (cost_entries (number_of l.cost) l.vars);
+  formed : all_fit (sum_from_formed (value_in var_cmp l.plan) (whole (pos 0)) (cost_entries (number_of l.cost) l.vars)) ≡ all_fit (sum_from_formed (value_in var_cmp l.plan) (value_of l.sum) (cost_entries (number_of l.cost) (drop l.variable-index l.vars)));
+}

@@ -1,0 +1,14 @@
+pub mod Conditions
+pub mod Costs
+pub mod PlanChecks
+pub mod MultiplierChecks
+pub mod Gaps
+pub mod Sums
+pub mod Plans
+pub mod Certificates
+pub mod Reasons
+pub mod Verdicts
+pub mod Halts
+pub mod CostNumbers
+pub mod ColumnSums
+pub mod Denominators
