@@ -1,7 +1,6 @@
 -- What a command of the code stands for.
 use Rattle.std.specs.Prelude.{Result, Ok, Err, option_map}
 use Rattle.osemosys_run.specs.declared.words.Command.{Command}
-use Rattle.osemosys_run.specs.declared.words.Command.TheVariants as commands
 use Rattle.osemosys_run.specs.declared.words.any_command.AnyCommand.{AnyCommand as SlicedCommand}
 use Rattle.osemosys_run.specs.declared.words.any_command.AnyCommand.TheVariants as sliced
 use Rattle.osemosys_run.specs.declared.words.any_command.CommandName.{CommandName as CodeName}
@@ -13,7 +12,7 @@ use Rattle.osemosys_run.specs.Words.{Request, Mps}
 
 -- the request of a command
 abbrev pub request_of : Command → Request
-request_of (commands.Mps file places) = Mps file.now places
+request_of command = Mps command.file.now command.places
 
 -- the same where the words may be at fault
 abbrev pub request_of_result : Result Command WordFault → Result Request WordFault

@@ -26,7 +26,7 @@ use crate::mps::answer_mps;
 use crate::reading::read_file;
 use crate::sending::send;
 use crate::status::Status;
-use crate::words::{Command, read_command, spelled_parts};
+use crate::words::{read_command, spelled_parts};
 use io_edges::{Shelf, Sink};
 use mathprog_data::verdict_laws;
 use row_book::stop_laws;
@@ -131,7 +131,7 @@ fn perform<S: Shelf>(alloc: Global, words: &[String], shelf: &mut S) -> Result<A
     ensures faults { S.faults shelf.old ≤ S.faults shelf.new }
 {
     match read_command(alloc, words)? {
-        Ok(Command::Mps { file, places }) => perform_mps(alloc, file, places, shelf),
+        Ok(command) => perform_mps(alloc, command.file, command.places, shelf),
         Err(fault) => refuse_words(alloc, fault),
     }
 }

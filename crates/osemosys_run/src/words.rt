@@ -13,11 +13,13 @@ use crate::words::any_command::{AnyCommand, read_any_command};
 pub use crate::words::parsing::spelled_parts;
 use std::alloc::{AllocError, Global};
 
-/// A command that is built, with its files and options.
+/// What the words ask for, of the one command that is built: to write the named equations of a data file.
 #[derive(Clone, Copy, Debug, PartialEq, Eq)]
-pub enum Command<'a> {
-    /// Writes the named equations of a data file, with written factors of so many decimal places, 6 or 9.
-    Mps { file: &'a str, places: u8 },
+pub struct Command<'a> {
+    /// The name of the data file.
+    pub file: &'a str,
+    /// How many decimal places written factors have: 6 or 9.
+    pub places: u8,
 }
 
 /// Reads the words. The first fault is answered: no word is `NoCommand`, another first word than `mps`
@@ -37,7 +39,7 @@ pub fn read_command<'a>(
         }
     }
     let answer = match read_any_command(alloc, words)? {
-        Ok(AnyCommand::Mps { file, places }) => Ok(Command::Mps { file, places }),
+        Ok(AnyCommand::Mps { file, places }) => Ok(Command { file, places }),
         Ok(_) => Err(WordFault::BadCommand),
         Err(fault) => Err(fault),
     };
