@@ -22,7 +22,7 @@ use Rattle.row_core.specs.Order.{var_cmp}
 use Rattle.row_core.proofs.AscendingLaws.{both_passed, ascends-first}
 use Rattle.row_core.proofs.Orders.{var_cmp_total, var_cmp_exact}
 use Rattle.certificate_checker.specs.ColumnSums.{seen, with_term, continued, column_partial, entries_at, variable_at, sum_at, AreColumnSums}
-use Rattle.certificate_checker.specs.MultiplierChecks.{row_in_column, column_of}
+use Rattle.row_core.specs.Columns.{row_in_column, column_of}
 use Rattle.certificate_checker.proofs.SumSteps.{sum_from-append, sum_fits-append}
 
 abbrev pub none : Var

@@ -124,7 +124,7 @@ passes_all all rest so_far h = record { fit = so_far.wide ∙ h.fit; hold = so_f
 
 -- ---- one list of conditions after another
 
--- behind conditions that all pass the others are left
+-- after conditions that all pass the others are left
 pub passed_first : (cs ds : List Condition) → AllPass cs → Continues (cs ++ ds) ds
 passed_first [] ds h = Continues-itself ds
 passed_first (c ∷ cs) ds h = cases (λ all. passed_first cs ds all) c.holds refl h.fit h.hold
@@ -136,8 +136,8 @@ passed_first (c ∷ cs) ds h = cases (λ all. passed_first cs ds all) c.holds re
         (later (record { fit = none_after c.seen (steps cs) fit; hold = hold }))
     cases later false is fit hold = absurd (cc hold)
 
--- what stops conditions stops them with others behind
-fails_before : (cs ds : List Condition) (reason : Reason) → first_failing cs ≡ Some reason → (steps (cs ++ ds) ≡ steps cs) × (first_failing (cs ++ ds) ≡ Some reason)
+-- what stops conditions stops them with others after them
+pub fails_before : (cs ds : List Condition) (reason : Reason) → first_failing cs ≡ Some reason → (steps (cs ++ ds) ≡ steps cs) × (first_failing (cs ++ ds) ≡ Some reason)
 fails_before [] ds reason h = absurd (cc h)
 fails_before (c ∷ cs) ds reason h = cases c.holds (fails_before cs ds reason) h
   where
@@ -147,7 +147,7 @@ fails_before (c ∷ cs) ds reason h = cases c.holds (fails_before cs ds reason) 
     cases true later h = (ap (λ ss. c.seen ++ ss) (later h).0, (later h).1)
     cases false later h = (refl, h)
 
-wide_before : (cs ds : List Condition) (place : Place) → first_wide (steps cs) ≡ Some place → first_wide (steps (cs ++ ds)) ≡ Some place
+pub wide_before : (cs ds : List Condition) (place : Place) → first_wide (steps cs) ≡ Some place → first_wide (steps (cs ++ ds)) ≡ Some place
 wide_before [] ds place h = absurd (nothing_wide h)
   where
     nothing_wide : first_wide {P = Place} [] ≡ Some place → ⊥

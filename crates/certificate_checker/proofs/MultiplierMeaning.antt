@@ -28,7 +28,8 @@ use Rattle.certificate_checker.specs.declared.multipliers.Aim.TheVariants.{Bound
 use Rattle.certificate_checker.specs.Certificates.{IsSigned, AreSigned, IsWithin, AreWithin, bound_of, Proves}
 use Rattle.certificate_checker.specs.Conditions.{Condition, first_failing}
 use Rattle.certificate_checker.specs.Costs.{total}
-use Rattle.certificate_checker.specs.MultiplierChecks.{is_signed, multiplier_condition, row_in_column, column_of, is_within, column_condition, right_sides, bound_value, bound_condition, multiplier_conditions}
+use Rattle.row_core.specs.Columns.{row_in_column, column_of}
+use Rattle.certificate_checker.specs.MultiplierChecks.{is_signed, multiplier_condition, is_within, column_condition, right_sides, bound_value, bound_condition, multiplier_conditions}
 use Rattle.certificate_checker.specs.Sums.{weighted, column_sum}
 use Rattle.certificate_checker.proofs.FailingLaws.{first_holds, rest_hold, hold_both, hold_parts, hold_joined}
 use Rattle.certificate_checker.proofs.OverLaws.{over_nonnegative, over_nonpositive, over_order, equal_from, most_from, most_to}

@@ -18,7 +18,8 @@ use Rattle.certificate_checker.specs.declared.multipliers.Aim.{Aim}
 use Rattle.certificate_checker.specs.ColumnSums.{column_partial}
 use Rattle.certificate_checker.specs.Conditions.{Condition, AllPass, FailsFor, IsWideAt}
 use Rattle.certificate_checker.specs.Costs.{total, total_formed}
-use Rattle.certificate_checker.specs.MultiplierChecks.{is_signed, multiplier_condition, column_of, is_within, column_condition, right_sides, bound_value, bound_passes, bound_condition}
+use Rattle.row_core.specs.Columns.{column_of}
+use Rattle.certificate_checker.specs.MultiplierChecks.{is_signed, multiplier_condition, is_within, column_condition, right_sides, bound_value, bound_passes, bound_condition}
 use Rattle.certificate_checker.specs.PlanChecks.{absolute}
 use Rattle.certificate_checker.specs.Reasons.{wrongly_signed, column_off, sum_not_positive}
 use Rattle.certificate_checker.proofs.ConditionLaws.{Passes, Passes-alone, passed_over}

@@ -10,7 +10,7 @@ use Rattle.row_core.specs.declared.RowName.{RowName}
 use Rattle.row_core.specs.declared.Var.{Var}
 use Rattle.row_core.specs.Evaluated.{sum_from, term_formed, sum_from_formed}
 use Rattle.row_core.specs.Order.{var_cmp}
-use Rattle.certificate_checker.specs.MultiplierChecks.{column_of}
+use Rattle.row_core.specs.Columns.{column_of}
 
 -- the value, if there is one
 abbrev pub seen : Option Frac → Option Rational

@@ -1,6 +1,5 @@
 -- What is looked at of multipliers, with values for the names of rows.
-use Rattle.std.specs.Prelude.{ℤ, pos, Bool, true, false, int_le, int_lt, List, [], ◌∷◌, ◌++◌, map, filter}
-use Rattle.std.specs.List.{flat_map}
+use Rattle.std.specs.Prelude.{ℤ, pos, Bool, true, false, int_le, int_lt, List, [], ◌∷◌, ◌++◌, map}
 use Rattle.std.specs.Ordering.{is_eq, is_le}
 use Rattle.std.specs.declared.cmp.Ordering.{Ordering}
 use Rattle.exact_num.specs.Formed.{difference_formed}
@@ -11,8 +10,9 @@ use Rattle.row_core.specs.declared.Sense.{Sense}
 use Rattle.row_core.specs.declared.Sense.TheVariants.{Least, Equal, Most}
 use Rattle.row_core.specs.declared.Var.{Var}
 use Rattle.row_core.specs.declared.place.Place.TheVariants.{Column, SumBound}
+use Rattle.row_core.specs.Columns.{column_of}
 use Rattle.row_core.specs.Kinds.{kind_is_free}
-use Rattle.row_core.specs.Order.{var_cmp, row_name_cmp}
+use Rattle.row_core.specs.Order.{row_name_cmp}
 use Rattle.row_core.specs.Plans.{value_in}
 use Rattle.certificate_checker.specs.declared.multipliers.Aim.{Aim}
 use Rattle.certificate_checker.specs.declared.multipliers.Aim.TheVariants.{Bound, Infeasible}
@@ -38,14 +38,6 @@ multiplier_condition value row = record {
 }
 
 -- ---- columns
-
--- the number that a row has at a variable, if it has one, with the row's name
-abbrev pub row_in_column : Var → Row → List (RowName × ℤ)
-row_in_column v row = map (λ e. (row.name, e.1)) (filter (λ e. is_eq (var_cmp e.0 v)) row.entries.items)
-
--- the numbers at a variable, in the order of rows
-abbrev pub column_of : List Row → Var → List (RowName × ℤ)
-column_of rows v = flat_map (row_in_column v) rows
 
 -- the column's sum is the cost's number for a variable that may be negative, and at most that for another
 abbrev pub is_within : Bool → Ordering → Bool

@@ -40,7 +40,7 @@ impl Model for Factors {
 
 impl Factors {
     /// The factors at a rate of 0 to 10^9 billionths, for up to `span` years and lives of up to `lives` years, with 6 decimal places
-    /// or 9. Refuses for want of memory alone.
+    /// or 9. Fails only where memory ran out.
     pub fn new(
         alloc: Global,
         rate: i128,

@@ -27,3 +27,4 @@ pub mod Scaled
 pub mod Evaluated
 pub mod LookUps
 pub mod Plans
+pub mod Columns

@@ -33,7 +33,7 @@ pub use equations::{row_has, row_word};
 pub use evaluating::{add_term, eval, eval_against, fraction};
 pub use kinds::{is_free, var_has, var_word};
 pub use left_side::LeftSide;
-pub use merging::number_of;
+pub use merging::{less, number_of};
 pub use names::{push_row_name, push_var};
 pub use place::{Place, Stopped};
 pub use plans::{Multipliers, Plan};

@@ -17,9 +17,9 @@ use exact_num::{TooWide, difference, product};
 use std::alloc::Global;
 use std::cmp::Ordering;
 
-/// `a * x - b * y`.
+/// `a * x - b * y`. `TooWide` where a product or the difference, formed in this order, leaves 128 bits.
 #[tactic(auto, using(exact_num::proofs::RangeLaws::ranges))]
-pub(crate) fn less(a: i128, b: i128, x: i128, y: i128) -> Result<i128, TooWide>
+pub fn less(a: i128, b: i128, x: i128, y: i128) -> Result<i128, TooWide>
     requires a { InRange a }
     requires b { InRange b }
     requires x { InRange x }

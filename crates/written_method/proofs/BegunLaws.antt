@@ -93,7 +93,7 @@ some-negative (row ∷ rows) d h = pick (some-negative rows d) (int_lt (right_of
     pick ih false true e f g = let w = ih f in (suc w.0, omega (arith, w.1), w.2)
     pick ih false false e f g = absurd (cc g)
 
-right_sides-at : (t : Tableau) (i : ℕ) → rows_of t < length t.lines → i < rows_of t → get_or (right_sides t) i (pos 0) ≡ (line_of t i).right
+pub right_sides-at : (t : Tableau) (i : ℕ) → rows_of t < length t.lines → i < rows_of t → get_or (right_sides t) i (pos 0) ≡ (line_of t i).right
 right_sides-at t i h k =
     get_or-map (λ (l : Line). l.right) (take (rows_of t) t.lines) i no_line (pos 0) (omega (arith, taken t.lines (rows_of t) (omega arith)))
     ∙ ap (λ (l : Line). l.right) (get_or-take (rows_of t) t.lines i no_line k)
@@ -104,7 +104,7 @@ right_sides-at t i h k =
     taken (x ∷ ls) zero l = refl
     taken (x ∷ ls) (suc n) l = ap suc (taken ls n (omega arith))
 
-length-right_sides : (t : Tableau) → rows_of t < length t.lines → length (right_sides t) ≡ rows_of t
+pub length-right_sides : (t : Tableau) → rows_of t < length t.lines → length (right_sides t) ≡ rows_of t
 length-right_sides t h = mapped (take (rows_of t) t.lines) ∙ taken t.lines (rows_of t) (omega arith)
   where
     mapped : (ls : List Line) → length (map (λ (l : Line). l.right) ls) ≡ length ls
@@ -191,7 +191,7 @@ prepared-is p r positive h =
 abbrev pub begun : LinearProgram → ℕ → Tableau
 begun p r = pivoted r (width_of p.columns + length p.rows) (negated r (tableau_with p true))
 
-prepared-positive : (p : LinearProgram) (r : ℕ) → IsPrepared p r → pos 0 <ℤ entry_of (line_of (negated r (tableau_with p true)) r) (width_of p.columns + length p.rows)
+pub prepared-positive : (p : LinearProgram) (r : ℕ) → IsPrepared p r → pos 0 <ℤ entry_of (line_of (negated r (tableau_with p true)) r) (width_of p.columns + length p.rows)
 prepared-positive p r w = subst (λ z. pos 0 <ℤ z) (sym w.entry_row) (omega (arith, ints))
 
 begun-feasible : (p : LinearProgram) (r : ℕ) → IsPrepared p r → IsLowestRow p r → AreFeasible (begun p r)

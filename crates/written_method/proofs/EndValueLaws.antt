@@ -96,14 +96,14 @@ shared (suc n) own right h = one_more (shared n own right (λ r k. h r (omega ar
 -- ---- values of the columns
 
 -- numbers by the row in which a column is basic
-by_row : Tableau → (ℕ → ℤ) → ℕ → ℤ
+pub by_row : Tableau → (ℕ → ℤ) → ℕ → ℤ
 by_row t z c = elim (row_of_basic c 0 t.basics) [ None ↦ pos 0 | Some r ↦ z r ]
 
-by_row-own : (t : Tableau) (z : ℕ → ℤ) (r : ℕ) → IsShaped t → IsBasic t → r < rows_of t → by_row t z (basic_of t r) ≡ z r
+pub by_row-own : (t : Tableau) (z : ℕ → ℤ) (r : ℕ) → IsShaped t → IsBasic t → r < rows_of t → by_row t z (basic_of t r) ≡ z r
 unfolding by_row
 by_row-own t z r s b h = ap (λ o. elim o as (λ _. ℤ) [ None ↦ pos 0 | Some k ↦ z k ]) (row_of-own t r s b h)
 
-by_row-none : (t : Tableau) (z : ℕ → ℤ) (c : ℕ) → ((r : ℕ) → r < rows_of t → basic_of t r ≢ c) → by_row t z c ≡ pos 0
+pub by_row-none : (t : Tableau) (z : ℕ → ℤ) (c : ℕ) → ((r : ℕ) → r < rows_of t → basic_of t r ≢ c) → by_row t z c ≡ pos 0
 unfolding by_row
 by_row-none t z c h = pick (row_of_basic c 0 t.basics) refl
   where
@@ -113,7 +113,7 @@ by_row-none t z c h = pick (row_of_basic c 0 t.basics) refl
         let w = row_of-some c 0 t.basics k e in
         absurd (h w.0 w.1 w.3)
 
-by_row-nonnegative : (t : Tableau) (z : ℕ → ℤ) (c : ℕ) → ((r : ℕ) → r < rows_of t → pos 0 ≤ℤ z r) → pos 0 ≤ℤ by_row t z c
+pub by_row-nonnegative : (t : Tableau) (z : ℕ → ℤ) (c : ℕ) → ((r : ℕ) → r < rows_of t → pos 0 ≤ℤ z r) → pos 0 ≤ℤ by_row t z c
 unfolding by_row
 by_row-nonnegative t z c h = pick (row_of_basic c 0 t.basics) refl
   where
@@ -125,7 +125,7 @@ by_row-nonnegative t z c h = pick (row_of_basic c 0 t.basics) refl
         h k (subst (λ j. j < rows_of t) at w.1)
 
 -- what own * z = right * q makes of a sign
-share_nonnegative : (o z a q : ℤ) → pos 0 <ℤ o → pos 0 ≤ℤ a → pos 0 <ℤ q → o *ℤ z ≡ a *ℤ q → pos 0 ≤ℤ z
+pub share_nonnegative : (o z a q : ℤ) → pos 0 <ℤ o → pos 0 ≤ℤ a → pos 0 <ℤ q → o *ℤ z ≡ a *ℤ q → pos 0 ≤ℤ z
 share_nonnegative o z a q p h r e =
     let product : pos 0 ≤ℤ (a *ℤ q) = *ℤ_nonnegative a q h (omega (arith, ints)) in
     ≤ℤ_cancel (pos 0) z o p (subst (λ y. y ≤ℤ (z *ℤ o)) (sym (zero-*ℤ o)) (subst (λ y. pos 0 ≤ℤ y) (sym e ∙ swap o z) product))

@@ -19,3 +19,4 @@ pub mod CertificateLaws
 pub mod VariableLaws
 pub mod EndValueLaws
 pub mod MeetsLaws
+pub mod CostLaws

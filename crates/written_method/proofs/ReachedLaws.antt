@@ -41,11 +41,11 @@ IsReached-first p positive = pick (any_negative p.rows) refl
 in_phase : State → Phase → State
 in_phase s phase = record { tableau = s.tableau; phase = phase; pivots = s.pivots; degenerate = s.degenerate }
 
-tableau-start : (s : State) (r c : ℕ) → s.phase ≡ Start → (after s r c).tableau ≡ pivoted r c (negated r s.tableau)
+pub tableau-start : (s : State) (r c : ℕ) → s.phase ≡ Start → (after s r c).tableau ≡ pivoted r c (negated r s.tableau)
 unfolding in_phase
 tableau-start s r c h = ap (λ p. (after (in_phase s p) r c).tableau) h
 
-phase-start : (s : State) (r c : ℕ) → s.phase ≡ Start → (after s r c).phase ≡ One
+pub phase-start : (s : State) (r c : ℕ) → s.phase ≡ Start → (after s r c).phase ≡ One
 unfolding in_phase
 phase-start s r c h = ap (λ p. (after (in_phase s p) r c).phase) h
 
@@ -55,33 +55,33 @@ eq_yes a b h = grind (arith, nat_tests)
 eq_no : (a b : ℕ) → a ≢ b → (a == b) ≡ false
 eq_no a b h = grind (arith, nat_tests)
 
-tableau-stays : (s : State) (r c : ℕ) → s.phase ≡ One → basic_of s.tableau r ≢ s.tableau.columns - 1 → (after s r c).tableau ≡ pivoted r c s.tableau
+pub tableau-stays : (s : State) (r c : ℕ) → s.phase ≡ One → basic_of s.tableau r ≢ s.tableau.columns - 1 → (after s r c).tableau ≡ pivoted r c s.tableau
 unfolding in_phase
 tableau-stays s r c h n =
     ap (λ p. (after (in_phase s p) r c).tableau) h
     ∙ ap (λ b. if b then without_x0 (pivoted r c s.tableau) else pivoted r c s.tableau) (eq_no (basic_of s.tableau r) (s.tableau.columns - 1) n)
 
-phase-stays : (s : State) (r c : ℕ) → s.phase ≡ One → basic_of s.tableau r ≢ s.tableau.columns - 1 → (after s r c).phase ≡ One
+pub phase-stays : (s : State) (r c : ℕ) → s.phase ≡ One → basic_of s.tableau r ≢ s.tableau.columns - 1 → (after s r c).phase ≡ One
 unfolding in_phase
 phase-stays s r c h n =
     ap (λ p. (after (in_phase s p) r c).phase) h ∙ ap (λ b. if b then Two else One) (eq_no (basic_of s.tableau r) (s.tableau.columns - 1) n)
 
-tableau-leaves : (s : State) (r c : ℕ) → s.phase ≡ One → basic_of s.tableau r ≡ s.tableau.columns - 1 → (after s r c).tableau ≡ without_x0 (pivoted r c s.tableau)
+pub tableau-leaves : (s : State) (r c : ℕ) → s.phase ≡ One → basic_of s.tableau r ≡ s.tableau.columns - 1 → (after s r c).tableau ≡ without_x0 (pivoted r c s.tableau)
 unfolding in_phase
 tableau-leaves s r c h e =
     ap (λ p. (after (in_phase s p) r c).tableau) h
     ∙ ap (λ b. if b then without_x0 (pivoted r c s.tableau) else pivoted r c s.tableau) (eq_yes (basic_of s.tableau r) (s.tableau.columns - 1) e)
 
-phase-leaves : (s : State) (r c : ℕ) → s.phase ≡ One → basic_of s.tableau r ≡ s.tableau.columns - 1 → (after s r c).phase ≡ Two
+pub phase-leaves : (s : State) (r c : ℕ) → s.phase ≡ One → basic_of s.tableau r ≡ s.tableau.columns - 1 → (after s r c).phase ≡ Two
 unfolding in_phase
 phase-leaves s r c h e =
     ap (λ p. (after (in_phase s p) r c).phase) h ∙ ap (λ b. if b then Two else One) (eq_yes (basic_of s.tableau r) (s.tableau.columns - 1) e)
 
-tableau-two : (s : State) (r c : ℕ) → s.phase ≡ Two → (after s r c).tableau ≡ pivoted r c s.tableau
+pub tableau-two : (s : State) (r c : ℕ) → s.phase ≡ Two → (after s r c).tableau ≡ pivoted r c s.tableau
 unfolding in_phase
 tableau-two s r c h = ap (λ p. (after (in_phase s p) r c).tableau) h
 
-phase-two : (s : State) (r c : ℕ) → s.phase ≡ Two → (after s r c).phase ≡ Two
+pub phase-two : (s : State) (r c : ℕ) → s.phase ≡ Two → (after s r c).phase ≡ Two
 unfolding in_phase
 phase-two s r c h = ap (λ p. (after (in_phase s p) r c).phase) h
 
@@ -105,7 +105,7 @@ enters-below p t c u w within enters = elim (same_or_not c (t.columns - 1)) [
 ]
 
 -- the entry in the line of w is that of the deciding line
-enters-one : (s : State) (r c : ℕ) → s.phase ≡ One → IsRound s r c → pos 0 <ℤ entry_of (line_of s.tableau (rows_of s.tableau + 1)) c
+pub enters-one : (s : State) (r c : ℕ) → s.phase ≡ One → IsRound s r c → pos 0 <ℤ entry_of (line_of s.tableau (rows_of s.tableau + 1)) c
 enters-one s r c h m = subst (λ (l : Line). pos 0 <ℤ entry_of l c) (deciding-one s h) m.entering
 
 reached-start : (p : LinearProgram) (s : State) (r c : ℕ) → pos 0 <ℤ p.cost_own → due s ≡ Pivot r c → IsReached p s → s.phase ≡ Start → IsReached p (after s r c)

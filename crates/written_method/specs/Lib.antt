@@ -18,4 +18,3 @@ pub mod Basis
 pub mod Ends
 pub mod Ready
 pub mod Certificates
-pub mod Columns

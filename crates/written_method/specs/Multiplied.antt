@@ -10,7 +10,7 @@ use Rattle.row_core.specs.declared.Var.{Var}
 use Rattle.row_core.specs.declared.kind_numbers.TheConstants.{TOTAL_DISCOUNTED_COST}
 use Rattle.row_core.specs.declared.place.Place.{Place}
 use Rattle.row_core.specs.declared.place.Place.TheVariants.{LiftMultiplier}
-use Rattle.written_method.specs.Columns.{column_of}
+use Rattle.row_core.specs.Columns.{column_of}
 use Rattle.row_core.specs.Order.{row_name_cmp}
 use Rattle.row_core.specs.Plans.{value_in}
 use Rattle.written_method.specs.Definitions.{Definition, own_of}
