@@ -1,12 +1,12 @@
 -- Lists of numbers that ascend, and what they contain.
-use Rattle.std.proofs.Common.{◌≡◌, ℕ, zero, suc, ◌+◌, ◌<◌, ◌≤◌, Bool, true, false, cond, List, [], ◌∷◌, ◌++◌, length, map, get_or, refl, sym, ap, ◌∙◌, inl, inr, arith}
+use Rattle.std.proofs.Common.{◌≡◌, ℕ, zero, suc, ◌+◌, ◌<◌, ◌≤◌, Bool, true, false, cond, List, [], ◌∷◌, ◌++◌, length, map, get_or, take, drop, refl, sym, ap, ◌∙◌, inl, inr, arith}
 use Rattle.std.specs.Prelude.{◌⊎◌, Contains, filter}
 use Rattle.std.specs.List.{range_with_len}
 use Rattle.std.specs.List.Sorted.{IsStrictlyIncreasing}
 use Rattle.std.proofs.lemmas.Bool.{cases_eq, false≢true}
-use Rattle.std.proofs.lemmas.List.{append-nil, get_or-map, get_or_default, length-map, map-id}
+use Rattle.std.proofs.lemmas.List.{append-nil, get_or-map, get_or_default, length-map, map-id, take-append-drop, take_at}
 use Rattle.std.proofs.lemmas.List.Elements.{filter-append}
-use Rattle.std.proofs.lemmas.List.FromFn.{filter_of_map_range_with_len_more, map-range_with_len_more}
+use Rattle.std.proofs.lemmas.List.FromFn.{filter_of_map_range_with_len_more, map-range_with_len_more, take-map-range_with_len}
 use Rattle.param_tables.proofs.EntryLaws.{first_below, later}
 
 -- ---- members
@@ -159,3 +159,12 @@ module _ {X : Type 0} (p : X → Bool) (f : ℕ → X) where
 
   pub mapped_left : (n : ℕ) (so_far : List X) → p (f n) ≡ false → so_far ≡ filter p (map f (range_with_len 0 n)) → so_far ≡ filter p (map f (range_with_len 0 (n + 1)))
   mapped_left n so_far fails is = is ∙ sym (filter_of_map_range_with_len_more p f 0 n n (omega arith) ∙ ap (λ b. filter p (map f (range_with_len 0 n)) ++ cond b (f n ∷ []) []) fails ∙ append-nil (filter p (map f (range_with_len 0 n))))
+
+  -- where so many are found, they are the first of all
+  pub mapped_first : (n end most : ℕ) (so_far : List X) → n ≤ end → length so_far ≡ most → so_far ≡ filter p (map f (range_with_len 0 n)) → so_far ≡ take most (filter p (map f (range_with_len 0 end)))
+  mapped_first n end most so_far low long is =
+      let xs : List X = map f (range_with_len 0 end) in
+      let found : filter p (take n xs) ≡ so_far = ap (filter p) (take-map-range_with_len f 0 end n low) ∙ sym is in
+      let whole : filter p xs ≡ so_far ++ filter p (drop n xs) =
+      ap (filter p) (sym (take-append-drop n xs)) ∙ filter-append p (take n xs) (drop n xs) ∙ ap (λ earlier. earlier ++ filter p (drop n xs)) found in
+      sym (ap (take most) whole ∙ take_at so_far (filter p (drop n xs)) most long)

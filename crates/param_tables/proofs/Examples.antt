@@ -265,6 +265,39 @@ member_order : costs (by_values 20 (cost (codes "2021") minus_whole 1 ∷ cost (
 unfolding costs cost value place but of two_years some_sets defaults on_set by_default by_values minus_whole minus_half
 member_order = refl
 
+-- ---- three years, of which 2020 and 2022 have a value
+
+three_years : List SetBlock
+three_years = set some_sets 5 (on_set 7 (codes "2020" ∷ codes "2021" ∷ codes "2022" ∷ []))
+
+at_ends : ℤ → ℤ → List GivenValue
+at_ends first last = cost (codes "2022") last 1 ∷ cost (codes "2020") first 2 ∷ []
+
+least : Option ℤ → List GivenValue → Option Refusal
+least default values = first_refusal (of three_years (but (record { param = 20; default = default; values = values })))
+
+-- the gap between them goes before the value of 2022 that is out of range
+gap_between : least None (at_ends (whole 5) minus_whole) ≡ Some (AtIndex NoValue 20 (codes "R" ∷ codes "T" ∷ codes "2021" ∷ []))
+unfolding least at_ends cost value place but of three_years some_sets defaults on_set by_default minus_whole
+gap_between = refl
+
+-- and the value of 2020 goes before the gap
+before_the_gap : least None (at_ends minus_whole (whole 5)) ≡ Some (AtIndex Negative 20 (codes "R" ∷ codes "T" ∷ codes "2020" ∷ []))
+unfolding least at_ends cost value place but of three_years some_sets defaults on_set by_default minus_whole
+before_the_gap = refl
+
+-- a default out of its range is refused at the first index that has no value of its own
+default_in_the_gap : least (Some minus_half) (at_ends (whole 5) minus_whole) ≡ Some (AtIndex Negative 20 (codes "R" ∷ codes "T" ∷ codes "2021" ∷ []))
+unfolding least at_ends cost value place but of three_years some_sets defaults on_set by_default minus_whole minus_half
+default_in_the_gap = refl
+
+-- and nowhere, where each index has one
+default_of_none : least (Some minus_half) (cost (codes "2021") (whole 5) 3 ∷ at_ends (whole 5) (whole 5)) ≡ None
+unfolding least at_ends cost value place but of three_years some_sets defaults on_set by_default minus_half
+default_of_none = refl
+
+-- ---- places of the text
+
 -- the first place that is refused: an unknown name at line 2 goes before a value given twice at line 3, and the other way round
 unknown_first : costs (by_values 15 (cost (codes "2020") (whole 5) 1 ∷ cost (codes "2022") (whole 5) 2 ∷ cost (codes "2020") (whole 5) 3 ∷ [])) ≡ Some (UnknownName (place 2 1))
 unfolding costs cost value place but of two_years some_sets defaults on_set by_default by_values

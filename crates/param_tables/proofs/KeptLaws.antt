@@ -1,6 +1,6 @@
 -- Tables that no check refuses are complete data, the same that the statements give.
 use Rattle.std.proofs.Common.{◌≡◌, ℕ, zero, suc, ◌-◌, ◌<◌, Bool, true, false, cond, List, [], ◌∷◌, ◌++◌, Option, None, Some, pos, length, map, nat_eq, get_or, refl, sym, ap, ◌∙◌, subst, arith, All}
-use Rattle.std.specs.Prelude.{ℤ, nat_lt, Contains, IfSome, IsSomeAnd, if◌then◌else◌}
+use Rattle.std.specs.Prelude.{ℤ, Contains, IfSome, IsSomeAnd, if◌then◌else◌}
 use Rattle.std.specs.List.{cons_option, filter_map, find, flat_map, range_with_len}
 use Rattle.std.specs.Option.{option_map, option_or}
 use Rattle.std.proofs.lemmas.List.{get_or_default}
@@ -11,7 +11,7 @@ use Rattle.model_sets.specs.Members.{SetLists, AreSets}
 use Rattle.model_sets.specs.Params.{param_count, range_of}
 use Rattle.param_tables.specs.BlockData.{data_of, given_of, givens_of, has_second, stated_default}
 use Rattle.param_tables.specs.Built.{AreComplete, AreSameData, IsValueIn}
-use Rattle.param_tables.specs.Refusals.{AtIndex, TooManyIndices, fault_at, index_refusals, most_indices, param_refusals, value_fault}
+use Rattle.param_tables.specs.Refusals.{AtIndex, fault_at, param_refusals, value_fault}
 use Rattle.mathprog_data.specs.Meaning.{ParamBlock, GivenValue}
 use Rattle.param_tables.specs.Tables.{AreTablesFor, HaveShapes}
 use Rattle.param_tables.specs.View.{AreKept, facts_of}
@@ -144,8 +144,7 @@ complete_of d are free numbers = record { sets = are; values = values }
         let place = has.0 in
         let below : place < length (indices_of d.sets p) = has.1 in
         let name : get_or (indices_of d.sets p) place [] ≡ index = get_or_default (indices_of d.sets p) place [] index below ∙ has.2 in
-        let none : index_refusals d p ≡ [] = empty_right (if nat_lt most_indices (length (indices_of d.sets p)) then TooManyIndices p ∷ [] else []) (index_refusals d p) (none_of_param p used) in
-        let free_there = unmapped (λ fault. AtIndex fault p (get_or (indices_of d.sets p) place [])) (fault_at d p (get_or (indices_of d.sets p) place [])) (none_kept (λ i. option_map (λ fault. AtIndex fault p i) (fault_at d p i)) (indices_of d.sets p) place [] none below) in
+        let free_there = unmapped (λ fault. AtIndex fault p (get_or (indices_of d.sets p) place [])) (fault_at d p (get_or (indices_of d.sets p) place [])) (none_kept (λ i. option_map (λ fault. AtIndex fault p i) (fault_at d p i)) (indices_of d.sets p) place [] (none_of_param p used) below) in
         let free_here : fault_at d p index ≡ None = ap (fault_at d p) (sym name) ∙ free_there in
         value_in (range_of p) (value_at d p index) free_here (numbers p used index has)
 

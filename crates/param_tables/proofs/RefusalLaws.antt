@@ -1,13 +1,12 @@
 -- The refusals of a parameter, by its table.
-use Rattle.std.proofs.Common.{◌≡◌, ℕ, zero, suc, ◌<◌, ◌≤◌, List, [], ◌∷◌, ◌++◌, Option, None, Some, length, get_or, refl, ap, ◌∙◌, subst, arith}
-use Rattle.std.specs.Prelude.{ℤ, if◌then◌else◌}
+use Rattle.std.proofs.Common.{◌≡◌, ℕ, zero, suc, ◌<◌, List, [], ◌∷◌, Option, None, Some, length, get_or, refl, ap, ◌∙◌, subst, arith}
+use Rattle.std.specs.Prelude.{ℤ}
 use Rattle.std.specs.List.{cons_option, filter_map}
 use Rattle.std.specs.Option.{option_map, option_or}
-use Rattle.std.proofs.lemmas.Bool.{lt-ltb, le-ltb}
 use Rattle.model_sets.specs.Data.{Data, indices_of}
 use Rattle.param_tables.specs.InTurn.{first_of}
 use Rattle.model_sets.specs.Params.{range_of}
-use Rattle.param_tables.specs.Refusals.{Refusal, TooManyIndices, AtIndex, fault_at, index_refusals, param_refusals, most_indices, value_fault}
+use Rattle.param_tables.specs.Refusals.{Refusal, AtIndex, fault_at, param_refusals, value_fault}
 use Rattle.param_tables.specs.Tables.{IsFirstFault, IsTableFor, entries_of, given_in, place_fault, value_else}
 use Rattle.param_tables.specs.declared.fault.CellFault.{CellFault}
 use Rattle.param_tables.specs.declared.first_fault.PlaceFault.{PlaceFault}
@@ -43,26 +42,18 @@ module _ (d : Data) (param : ℕ) (table : ParamTable) (for : IsTableFor d param
   refusal_of : List (List ℕ) → Option Refusal
   refusal_of index = option_map (λ fault. AtIndex fault param index) (fault_at d param index)
 
-  pub index_refusals-none : IsFirstFault table_fault (length (indices_of d.sets param)) None → index_refusals d param ≡ []
+  pub param_refusals-none : IsFirstFault table_fault (length (indices_of d.sets param)) None → param_refusals d param ≡ []
   unfolding refusal_of
-  index_refusals-none none = filter_map_none refusal_of (indices_of d.sets param) [] (λ j below. ap (option_map (λ fault. AtIndex fault param (get_or (indices_of d.sets param) j []))) (fault_at-place j below ∙ none j below))
+  param_refusals-none none = filter_map_none refusal_of (indices_of d.sets param) [] (λ j below. ap (option_map (λ fault. AtIndex fault param (get_or (indices_of d.sets param) j []))) (fault_at-place j below ∙ none j below))
 
-  pub index_refusals-first : (found : PlaceFault) → IsFirstFault table_fault (length (indices_of d.sets param)) (Some found) → first_of (index_refusals d param) ≡ Some (AtIndex found.fault param (get_or (indices_of d.sets param) found.place []))
+  pub param_refusals-first : (found : PlaceFault) → IsFirstFault table_fault (length (indices_of d.sets param)) (Some found) → first_of (param_refusals d param) ≡ Some (AtIndex found.fault param (get_or (indices_of d.sets param) found.place []))
   unfolding refusal_of
-  index_refusals-first found first =
+  param_refusals-first found first =
       let all = indices_of d.sets param in
       let below : found.place < length all = first.0 in
       first_of-filter_map refusal_of all [] found.place (AtIndex found.fault param (get_or all found.place [])) below
       (ap (option_map (λ fault. AtIndex fault param (get_or all found.place []))) (fault_at-place found.place below ∙ first.1))
       (λ j less. ap (option_map (λ fault. AtIndex fault param (get_or all j []))) (fault_at-place j (omega arith) ∙ first.2 j less))
-
--- ---- the number of indices
-
-pub few_indices : (d : Data) (param : ℕ) → length (indices_of d.sets param) ≤ most_indices → param_refusals d param ≡ index_refusals d param
-few_indices d param few = ap (λ b. (if b then TooManyIndices param ∷ [] else []) ++ index_refusals d param) (le-ltb most_indices (length (indices_of d.sets param)) few)
-
-pub many_indices : (d : Data) (param : ℕ) → most_indices < length (indices_of d.sets param) → first_of (param_refusals d param) ≡ Some (TooManyIndices param)
-many_indices d param many = ap (λ b. first_of ((if b then TooManyIndices param ∷ [] else []) ++ index_refusals d param)) (lt-ltb most_indices (length (indices_of d.sets param)) many)
 
 pub same_faults : (range other_range : Range) (missing other : Option CellFault) (size other_size : ℕ) (entries : List (ℕ × ℤ)) (found : Option PlaceFault) → range ≡ other_range → missing ≡ other → size ≡ other_size → IsFirstFault (λ place. place_fault range missing (given_in entries place)) size found → IsFirstFault (λ place. place_fault other_range other (given_in entries place)) other_size found
 same_faults range other_range missing other size other_size entries found er em es first =

@@ -26,18 +26,12 @@ pub data Refusal : Type 0 where
   UnknownName : (at : Mark) → Refusal
   -- the index of the value at this place of the text was given before
   GivenBefore : (at : Mark) → Refusal
-  -- the parameter has too many indices
-  TooManyIndices : (param : ℕ) → Refusal
   -- the parameter has this fault at this index
   AtIndex : CellFault → (param : ℕ) → (index : List (List ℕ)) → Refusal
 
 -- the number of the set STORAGE
 abbrev pub storage : ℕ
 storage = STORAGE
-
--- how many indices a parameter may have
-abbrev pub most_indices : ℕ
-most_indices = 4000000
 
 -- the storage equations aren't part of the model, so STORAGE may have no member
 abbrev pub storage_refusals : SetLists → List Refusal
@@ -75,13 +69,9 @@ value_fault range (Some v) = range_fault range v
 abbrev pub fault_at : Data → ℕ → List (List ℕ) → Option CellFault
 fault_at d param index = value_fault (range_of param) (value_at d param index)
 
--- the refusals of the parameter at its indices, index by index in the order of the members, the last subscript running fastest
-abbrev pub index_refusals : Data → ℕ → List Refusal
-index_refusals d param = filter_map (λ index. option_map (λ fault. AtIndex fault param index) (fault_at d param index)) (indices_of d.sets param)
-
--- the refusals of the parameter: too many indices, and then those at its indices
+-- the refusals of the parameter, index by index in the order of the members, the last subscript running fastest
 abbrev pub param_refusals : Data → ℕ → List Refusal
-param_refusals d param = (if nat_lt most_indices (length (indices_of d.sets param)) then TooManyIndices param ∷ [] else []) ++ index_refusals d param
+param_refusals d param = filter_map (λ index. option_map (λ fault. AtIndex fault param index) (fault_at d param index)) (indices_of d.sets param)
 
 -- every refusal of what the statements give: a member of STORAGE; the values of the used parameters, in the order of the text; the used parameters, in the order of their numbers
 abbrev pub refusals : Blocks → List Refusal

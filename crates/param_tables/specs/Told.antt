@@ -3,11 +3,11 @@ use Rattle.std.specs.Prelude.{◌≡◌, Option, Some}
 use Rattle.model_sets.specs.Members.{SetLists}
 use Rattle.model_sets.specs.Params.{IsParam}
 use Rattle.param_tables.specs.Positions.{IsIndexOf, names_at}
-use Rattle.param_tables.specs.Refusals.{Refusal, StorageMember, UnknownName, GivenBefore, TooManyIndices, AtIndex}
+use Rattle.param_tables.specs.Refusals.{Refusal, StorageMember, UnknownName, GivenBefore, AtIndex}
 use Rattle.param_tables.specs.declared.fault.BuildFail.{BuildFail}
 use Rattle.param_tables.specs.declared.fault.BuildFail.TheVariants.{Fault, Memory}
 use Rattle.param_tables.specs.declared.fault.BuildFault.{BuildFault}
-use Rattle.param_tables.specs.declared.fault.BuildFault.TheVariants.{UnknownMember, ValueTwice, NoValue, Negative, NotPositive, NotWhole, OutOfRange, Storage, WholeUnits, TooManyCells}
+use Rattle.param_tables.specs.declared.fault.BuildFault.TheVariants.{UnknownMember, ValueTwice, NoValue, Negative, NotPositive, NotWhole, OutOfRange, Storage, WholeUnits}
 use Rattle.param_tables.specs.declared.fault.Cell.{Cell}
 use Rattle.param_tables.specs.declared.fault.CellFault.{CellFault}
 use Rattle.param_tables.specs.declared.fault.CellFault.TheVariants as at_cell
@@ -27,7 +27,6 @@ refusal_told sets (NotWhole cell) = at sets at_cell.NotWhole cell
 refusal_told sets (OutOfRange cell) = at sets at_cell.OutOfRange cell
 refusal_told sets Storage = StorageMember
 refusal_told sets (WholeUnits cell) = at sets at_cell.WholeUnits cell
-refusal_told sets (TooManyCells param) = TooManyIndices param
 
 -- the cell is one of a parameter, with an index of its own
 abbrev pub IsCell : SetLists → Cell → Type 0
@@ -44,7 +43,6 @@ NamesCell sets (NotWhole cell) = IsCell sets cell
 NamesCell sets (OutOfRange cell) = IsCell sets cell
 NamesCell sets Storage = Unit {0}
 NamesCell sets (WholeUnits cell) = IsCell sets cell
-NamesCell sets (TooManyCells param) = IsParam param
 
 -- the failure is due, where this refusal is the first: it tells the refusal, and hands these sets back; it may run out of memory at any time
 abbrev pub IsBuildFailDue : Option Refusal → SetLists → BuildFail → Type 0

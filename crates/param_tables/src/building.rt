@@ -115,12 +115,14 @@ fn checked_parts(
 /// Refuses the first of these, and hands the sets back: a member of STORAGE (`Storage`); of the values of
 /// used parameters, in the order of the text, one whose index has a name that is no member
 /// of its set (`UnknownMember`) or was given before (`ValueTwice`), each with its place in the text; and
-/// then, parameter by parameter in the order of their numbers, more than 4,000,000 indices
-/// (`TooManyCells`), or else the first index, in the order of the members with the last subscript running
-/// fastest, that has neither a value nor a default (`NoValue`) or whose value lies outside the parameter's
-/// range (the other faults), with the parameter and the index. DiscountRateIdv is used, and then last, where
-/// the text has a statement for it, if only one without values. Nobody looks at the members and values of
-/// the parameters that are read and not used. It may run out of memory at any time.
+/// then, parameter by parameter in the order of their numbers, the first index, in the order of the members
+/// with the last subscript running fastest, that has neither a value nor a default (`NoValue`) or whose value
+/// lies outside the parameter's range (the other faults), with the parameter and the index. DiscountRateIdv is
+/// used, and then last, where the text has a statement for it, if only one without values. Nobody looks at the
+/// members and values of the parameters that are read and not used. It may run out of memory at any time.
+///
+/// Only the values given are kept, and looked at: time and memory are in proportion to what is given, a sort
+/// of it apart, however many indices the parameters have.
 pub fn build(alloc: Global, blocks: &Blocks, sets: Sets) -> Result<ModelData, BuildFail>
     requires blocks { AreWellFormed (blocks_told blocks.now) }
     requires sets { sets ≡ set_lists (blocks_told blocks.now) }

@@ -8,16 +8,13 @@ ghost use Rattle.param_tables.specs.Refusals.{param_refusals, value_fault};
 ghost use Rattle.param_tables.specs.Tables.{IsTable, IsTableFor, value_else};
 ghost use Rattle.param_tables.specs.Stops.{IsStopDue};
 
-use crate::fault::{BuildFault, Cell, CellFault, Stop, refusal_at};
+use crate::fault::{Cell, CellFault, Stop, refusal_at};
 use crate::first_fault::first_fault;
 use crate::indices::{index_at, index_count};
 use crate::param_table::{ParamTable, value_else};
 use crate::ranges::range_fault;
 use model_sets::{Sets, range_of, subscript_sets};
 use std::alloc::Global;
-
-/// How many indices a parameter may have.
-const MOST_INDICES: u64 = 4_000_000;
 
 /// The fault of the parameter at an index at which no value is given.
 fn missing_fault(param: u8, default: Option<i128>) -> Option<CellFault>
@@ -30,9 +27,8 @@ fn missing_fault(param: u8, default: Option<i128>) -> Option<CellFault>
     }
 }
 
-/// Whether the parameter has at most 4,000,000 indices, and at each of them a value in its range. Refuses
-/// too many indices, and else the first index, in the order of the members, that has no value or one out
-/// of its range. It may run out of memory.
+/// Whether the parameter has a value in its range at each of its indices. Refuses the first index, in the
+/// order of the members, that has no value or one out of its range. It may run out of memory.
 pub(crate) fn check_param(
     alloc: Global,
     sets: &Sets,
@@ -46,9 +42,6 @@ pub(crate) fn check_param(
 {
     let subscripts = subscript_sets(param);
     let size = index_count(sets, subscripts);
-    if size > MOST_INDICES {
-        return Err(Stop::Fault(BuildFault::TooManyCells(param)));
-    }
     let missing = missing_fault(param, table.default);
     let Some(found) = first_fault(table, range_of(param), missing, size) else {
         return Ok(());

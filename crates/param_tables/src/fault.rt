@@ -40,8 +40,6 @@ pub enum BuildFault {
     Storage,
     /// CapacityOfOneTechnologyUnit isn't 0: capacities in whole units aren't part of the model.
     WholeUnits(Cell),
-    /// The parameter of this number has more than 4,000,000 indices.
-    TooManyCells(u8),
 }
 
 /// Why no data were built.

@@ -1,6 +1,6 @@
 //! The checked data of a model.
 
-ghost use Rattle.std.specs.Prelude.{◌≡◌, ◌≤◌, ◌^◌, None, unsigned_abs, unwrap_or, pos, IfOk, IfSome, IsSomeAnd};
+ghost use Rattle.std.specs.Prelude.{◌≡◌, ◌≤◌, ◌^◌, None, unsigned_abs, unwrap_or, pos, take, IfOk, IfSome, IsSomeAnd};
 ghost use Rattle.exact_num.specs.Rational.{lowest};
 ghost use Rattle.exact_num.specs.Value.{value_of};
 ghost use Rattle.model_sets.specs.Data.{IsUsedParam, value_at};
@@ -29,7 +29,8 @@ use std::marker::Model;
 const BILLION: i128 = 1_000_000_000;
 
 /// The data of a model: the members of its sets, and a value in its range for each used parameter at each
-/// of its indices: the value given, else the default, else 0 for CapacityOfOneTechnologyUnit.
+/// of its indices: the value given, else the default, else 0 for CapacityOfOneTechnologyUnit. Of each parameter
+/// the default is kept and the values given, in the order of the members.
 #[derive(Drop)]
 pub struct ModelData {
     sets: Sets,
@@ -186,12 +187,29 @@ impl ModelData {
         requires { IsRegion self.now.facts.sets region }
         ensures { IfOk result (λ indices. indices.items ≡ nonzero_indices self.now.facts ratio region) }
     {
+        self.first_nonzero_indices(alloc, ratio, region, usize::MAX)
+    }
+
+    /// The first `most` of them, or all where there are fewer. Where the ratio's default is 0, all that are given
+    /// in the region are listed on the way; else indices are tried until `most` are found.
+    pub fn first_nonzero_indices(
+        &self,
+        alloc: Global,
+        ratio: ActivityRatio,
+        region: u16,
+        most: usize,
+    ) -> Result<Vec<RatioIndex>, AllocError>
+        requires { IsRegion self.now.facts.sets region }
+        ensures { IfOk result (λ indices. indices.items ≡ take most (nonzero_indices self.now.facts ratio region)) }
+    {
         if is_nonzero(self.tables[usize::from(ratio.param() - 1)].default) {
-            return tried_indices(alloc, self, ratio, region);
+            return tried_indices(alloc, self, ratio, region, most);
         }
         let sizes = RatioSizes::new(&self.sets, ratio);
         let places = self.ratios.of(ratio);
-        listed_indices(alloc, sizes, places.in_order.as_slice(), region)
+        let mut indices = listed_indices(alloc, sizes, places.in_order.as_slice(), region)?;
+        indices.truncate(most);
+        Ok(indices)
     }
 
     /// The sets.

@@ -1,6 +1,6 @@
 //! The modes, technologies and indices at which a ratio isn't 0, found by trying each.
 
-ghost use Rattle.std.specs.Prelude.{◌≡◌, IfOk};
+ghost use Rattle.std.specs.Prelude.{◌≡◌, IfOk, take};
 ghost use Rattle.param_tables.specs.Ratios.{AreMembersFor, IsRegion, IsTechnology, has_nonzero_mode, nonzero_indices, nonzero_modes, nonzero_technologies};
 
 use crate::model_data::ModelData;
@@ -86,19 +86,23 @@ pub(crate) fn tried_technologies(
     Ok(technologies)
 }
 
-/// The indices of a region.
+/// The first indices of a region, at most `most` of them. No more are looked for.
 pub(crate) fn tried_indices(
     alloc: Global,
     model: &ModelData,
     ratio: ActivityRatio,
     region: u16,
+    most: usize,
 ) -> Result<Vec<RatioIndex>, AllocError>
     requires { IsRegion model.now.facts.sets region }
-    ensures { IfOk result (λ indices. indices.items ≡ nonzero_indices model.now.facts ratio region) }
+    ensures { IfOk result (λ indices. indices.items ≡ take most (nonzero_indices model.now.facts ratio region)) }
 {
     let sizes = RatioSizes::new(model.sets(), ratio);
     let mut indices = Vec::new(alloc);
     for offset in 0..sizes.region_size() {
+        if indices.len() == most {
+            return Ok(indices);
+        }
         let index = sizes.index_at(offset);
         if model.is_ratio_nonzero(ratio, region, index) {
             indices.push(index)?;

@@ -1,5 +1,5 @@
 -- The definitions on the base example of one region, technology, fuel, timeslice, mode and year, and near misses.
-use Rattle.std.proofs.Common.{◌≡◌, ℕ, ◌*◌, ◌^◌, true, false, List, [], ◌∷◌, map, pos, neg_ℤ, Some, None, inr, refl, arith}
+use Rattle.std.proofs.Common.{◌≡◌, ℕ, ◌*◌, ◌^◌, true, false, cond, List, [], ◌∷◌, map, pos, neg_ℤ, Some, None, inl, inr, refl, ap, sym, ◌∙◌, arith}
 use Rattle.std.specs.List.{enumerate_from}
 use Rattle.std.specs.Prelude.{ℤ, codes}
 use Rattle.exact_num.specs.Formed.{product_formed, sum_formed}
@@ -8,6 +8,7 @@ use Rattle.exact_num.specs.Range.{all_fit, in_range}
 use Rattle.exact_num.specs.Rational.{lowest, plus, times}
 use Rattle.model_sets.specs.Data.{Data, Default}
 use Rattle.param_tables.specs.declared.ratios.ActivityRatio.TheVariants.{Input, Output, Emission}
+use Rattle.row_core.specs.declared.Index.{Index}
 use Rattle.row_core.specs.declared.Row.{Row}
 use Rattle.row_core.specs.declared.RowName.{RowName}
 use Rattle.row_core.specs.declared.Sense.TheVariants.{Most}
@@ -15,14 +16,14 @@ use Rattle.row_core.specs.declared.Var.{Var}
 use Rattle.row_core.specs.Amounts.{Billionths, Negative, Total}
 use Rattle.row_core.specs.Numbers.{ascends}
 use Rattle.row_core.specs.Order.{row_name_cmp, var_cmp}
-use Rattle.named_equations.specs.Indices.{at_rrrlfy, index}
+use Rattle.named_equations.specs.Indices.{at_rrrlfy, by_rltfmy, index}
 use Rattle.named_equations.specs.Instances.{instances, name_at, variable_of}
-use Rattle.named_equations.specs.Variables.{new_capacity, trade, variable}
+use Rattle.named_equations.specs.Variables.{new_capacity, rate_of_production_by_technology_by_mode, trade, variable}
 use Rattle.row_book.specs.Books.{AreRowsOf, AreVariablesOf, CanBeMade, HasTooMany, IsTooWide, entries_in, row_fits}
 use Rattle.row_book.specs.Definitions.{AreTriangular, Defines, IsChosen, cost_of}
 use Rattle.row_book.specs.EquationRows.{is_from, terms_at}
 use Rattle.row_book.specs.Ratios.{cells_of_ratio, cells_of_some_mode}
-use Rattle.row_book.specs.Walks.{instance_at, instances_in}
+use Rattle.row_book.specs.Walks.{AreFirstAsked, instance_at, instances_in}
 
 -- ---- the data
 
@@ -121,6 +122,23 @@ taken = refl
 -- there is no emission
 given_off : cells_of_ratio base Emission 0 ≡ []
 given_off = refl
+
+-- of the one index of EBa1 none is listed where none is asked for, and it is where one is
+none_listed : AreFirstAsked base 7 0 0 []
+none_listed = record {
+  rest = index 0 0 0 0 0 0 0 0 ∷ [];
+  asked = record { asked = λ cell. true; are = refl; every = λ outer cell stands. refl };
+  enough = inr (omega arith, record { stand = λ outer. tt; define = λ i. (by_rltfmy rate_of_production_by_technology_by_mode i, refl) });
+}
+
+one_left : AreFirstAsked base 7 0 1 [] → ⊥
+one_left first =
+    let only : Index = index 0 0 0 0 0 0 0 0 in
+    let all : first.rest ≡ only ∷ [] = first.asked.are ∙ ap (λ b. cond b (only ∷ []) []) (first.asked.every only only refl) in
+    elim first.enough [
+      | inl none ↦ let nothing : [] ≡ only ∷ [] = sym none ∙ all in absurd (cc nothing)
+      | inr many ↦ absurd (omega (arith, many.0))
+    ]
 
 -- CAa3 has an instance, and EBa4 none
 one_instance : instances_in base 4 0 ≡ at_zeros 4 ∷ []

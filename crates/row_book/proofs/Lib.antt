@@ -30,6 +30,7 @@ pub mod RatioCells
 pub mod RatioIndices
 pub mod Regions
 pub mod RowsAddedLaws
+pub mod RowsOfCells
 pub mod SameCostTerms
 pub mod SameEnergyTerms
 pub mod SameLimitTerms

@@ -149,7 +149,7 @@ listed_where : (stands : Bool) (name : RowName) → stands ≡ true → (if stan
 listed_where true name e = refl
 listed_where false name e = absurd (cc e)
 
-instance-listed : (d : Data) (name : RowName) → stands_at d name.eq name.index ≡ true → instance_at d name.eq name.index ≡ name ∷ []
+pub instance-listed : (d : Data) (name : RowName) → stands_at d name.eq name.index ≡ true → instance_at d name.eq name.index ≡ name ∷ []
 instance-listed d name stands = listed_where (stands_at d name.eq name.index) name stands
 
 none_where : (stands : Bool) (name : RowName) → stands ≡ false → (if stands then name ∷ [] else []) ≡ []
@@ -159,7 +159,7 @@ none_where false name e = refl
 pub nothing-listed : (places : ℕ) (d : Data) (name : RowName) (old : MadeRows) → stands_at d name.eq name.index ≡ false → AddsRows places d (instance_at d name.eq name.index) old old
 nothing-listed places d name old none = subst (λ names. AddsRows places d names old old) (sym (none_where (stands_at d name.eq name.index) name none)) (adds-nothing places d old)
 
-entries-counted : (places : ℕ) (d : Data) (name : RowName) (row : Row) → IsNamedRow places d name (terms_at places d name) row → length row.entries.items ≡ entry_count places d name
+pub entries-counted : (places : ℕ) (d : Data) (name : RowName) (row : Row) → IsNamedRow places d name (terms_at places d name) row → length row.entries.items ≡ entry_count places d name
 entries-counted places d name row is = ap length is.written.entries
 
 -- a row after others

@@ -1,13 +1,14 @@
 -- Walking through the subscripts of an equation, and its instances region by region. Only private functions cite these.
-use Rattle.std.specs.Prelude.{◌≡◌, ℕ, Bool, true, List, [], ◌∷◌, filter, if◌then◌else◌}
-use Rattle.std.specs.List.{flat_map}
+use Rattle.std.specs.Prelude.{◌≡◌, ℕ, ◌≤◌, ◌⊎◌, Bool, true, List, [], ◌∷◌, ◌++◌, length, filter, Some, if◌then◌else◌}
+use Rattle.std.specs.List.{AllByRecursion, flat_map}
 use Rattle.model_sets.specs.Data.{Data}
 use Rattle.model_sets.specs.Names as sets
 use Rattle.row_core.specs.declared.Index.{Index}
 use Rattle.row_core.specs.declared.RowName.{RowName}
+use Rattle.row_core.specs.declared.Var.{Var}
 use Rattle.row_core.specs.Subscripts as place
 use Rattle.named_equations.specs.Indices.{at_r}
-use Rattle.named_equations.specs.Instances.{values_at, subscripts_of, stands_at, name_at}
+use Rattle.named_equations.specs.Instances.{values_at, subscripts_of, stands_at, name_at, variable_of}
 use Rattle.row_book.specs.declared.walk.Subscript.{Subscript}
 use Rattle.row_book.specs.declared.walk.Subscript.TheVariants.{Region, Other, Slice, Tech, Fuel, Emission, Mode, Year}
 
@@ -90,3 +91,14 @@ pub record AreAsked (d : Data) (eq r : ℕ) (cells : List Index) : Type 0 where
   pub asked : Index → Bool
   pub are : cells ≡ filter asked (inners_of d eq r)
   pub every : (outer cell : Index) → stands_at d eq (joined outer cell) ≡ true → asked cell ≡ true
+
+-- with each of the inner subscripts, whatever the outer ones, the equation has an instance, and each of its instances defines a variable
+pub record HaveRows (d : Data) (eq : ℕ) (cells : List Index) : Type 0 where
+  pub stand : (outer : Index) → AllByRecursion (λ cell. stands_at d eq (joined outer cell) ≡ true) cells
+  pub define : (i : Index) → (v : Var) × (variable_of (name_at eq i) ≡ Some v)
+
+-- the inner subscripts are the first of those that are asked: all of them, or as many as this, of which each has rows
+pub record AreFirstAsked (d : Data) (eq r most : ℕ) (cells : List Index) : Type 0 where
+  pub rest : List Index
+  pub asked : AreAsked d eq r (cells ++ rest)
+  pub enough : (rest ≡ []) ⊎ ((most ≤ length cells) × HaveRows d eq cells)

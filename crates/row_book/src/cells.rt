@@ -5,9 +5,9 @@ ghost use Rattle.std.specs.Prelude.{◌≡◌, ◌<◌, IfOk};
 ghost use Rattle.model_sets.specs.Names as sets;
 ghost use Rattle.row_core.specs.Equations.{IsEquation};
 ghost use Rattle.named_equations.specs.Positions.{count_of};
-ghost use Rattle.row_book.specs.Walks.{AreAsked, outers_of};
+ghost use Rattle.row_book.specs.Walks.{AreFirstAsked, outers_of};
 
-use crate::ratios::{cells_of_ratio, cells_of_some_mode};
+use crate::ratios::{cells_of_some_mode, first_cells_of_ratio};
 use crate::walk::{INNER, OUTER, in_region, walked};
 use param_tables::{ActivityRatio, ModelData};
 use row_core::Index;
@@ -29,20 +29,25 @@ pub(crate) fn outers_of(
 
 /// The other subscripts with which it may have instances, in order. Where it stands by a ratio, these are the
 /// ones of which the ratio isn't 0, and no others are looked at.
+///
+/// A ratio whose default isn't 0 may stand at hundreds of millions of indices, so of the subscripts with a mode only
+/// the first `most` are listed. With each of them the equation has a row, which has an entry. The equations without
+/// a mode come after those with one, and so after a row for each of the indices that they go by.
 pub(crate) fn cells_of(
     alloc: Global,
     model: &ModelData,
     eq: u8,
     region: u16,
+    most: usize,
 ) -> Result<Vec<Index>, AllocError>
     requires equation { IsEquation eq }
     requires region { region < count_of model.now.facts sets.region }
-    ensures { IfOk result (λ cells. AreAsked model.now.facts eq region cells.items) }
+    ensures { IfOk result (λ cells. AreFirstAsked model.now.facts eq region most cells.items) }
 {
     match eq {
-        EBA1 => cells_of_ratio(alloc, model, ActivityRatio::Output, region),
-        EBA4 => cells_of_ratio(alloc, model, ActivityRatio::Input, region),
-        E1 => cells_of_ratio(alloc, model, ActivityRatio::Emission, region),
+        EBA1 => first_cells_of_ratio(alloc, model, ActivityRatio::Output, region, most),
+        EBA4 => first_cells_of_ratio(alloc, model, ActivityRatio::Input, region, most),
+        E1 => first_cells_of_ratio(alloc, model, ActivityRatio::Emission, region, most),
         EBA2 | ACC1 | RE1 => cells_of_some_mode(alloc, model, ActivityRatio::Output, region),
         EBA5 | ACC2 | RE5 => cells_of_some_mode(alloc, model, ActivityRatio::Input, region),
         _ => walked(alloc, model, eq, &INNER, in_region(region)),

@@ -1,6 +1,6 @@
 //! Where the ratios of input, of output and of emission aren't 0.
 
-ghost use Rattle.std.specs.Prelude.{◌≡◌, ◌<◌, IfOk, map};
+ghost use Rattle.std.specs.Prelude.{◌≡◌, ◌<◌, IfOk, map, take};
 ghost use Rattle.model_sets.specs.Names as sets;
 ghost use Rattle.named_equations.specs.Positions.{count_of};
 ghost use Rattle.row_book.specs.Ratios.{cell_at, cells_of_ratio, cells_of_some_mode, with_mode};
@@ -20,6 +20,22 @@ pub(crate) fn cells_of_ratio(
     ensures { IfOk result (λ cells. cells.items ≡ cells_of_ratio model.now.facts ratio region) }
 {
     let indices = model.nonzero_indices(alloc, ratio, region)?;
+    let cells = cells_at(alloc, ratio, region, &indices)?;
+    Ok(cells)
+}
+
+/// The first `most` of them, or all where there are fewer.
+pub(crate) fn first_cells_of_ratio(
+    alloc: Global,
+    model: &ModelData,
+    ratio: ActivityRatio,
+    region: u16,
+    most: usize,
+) -> Result<Vec<Index>, AllocError>
+    requires { region < count_of model.now.facts sets.region }
+    ensures { IfOk result (λ cells. cells.items ≡ take most (cells_of_ratio model.now.facts ratio region)) }
+{
+    let indices = model.first_nonzero_indices(alloc, ratio, region, most)?;
     let cells = cells_at(alloc, ratio, region, &indices)?;
     Ok(cells)
 }

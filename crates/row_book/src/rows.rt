@@ -1,6 +1,6 @@
 //! The rows of all instances, in order.
 
-ghost use Rattle.std.specs.Prelude.{◌≡◌, ◌<◌, true, IfErr, IfOk, OnOk};
+ghost use Rattle.std.specs.Prelude.{◌≡◌, ◌+◌, ◌<◌, true, IfErr, IfOk, OnOk};
 ghost use Rattle.std.specs.List.{AllByRecursion};
 ghost use Rattle.discount_factors.specs.Factors.{IsPlaces};
 ghost use Rattle.model_sets.specs.Names as sets;
@@ -9,7 +9,7 @@ ghost use Rattle.named_equations.specs.Instances.{instances, instances_of, is_in
 ghost use Rattle.named_equations.specs.Positions.{count_of};
 ghost use Rattle.named_equations.specs.RegionFactors.{AreRegionFactors, places_of};
 ghost use Rattle.param_tables.specs.Built.{AreComplete};
-ghost use Rattle.row_book.specs.Books.{AreRowsOf, CanBeMade, HasStopped};
+ghost use Rattle.row_book.specs.Books.{AreRowsOf, CanBeMade, HasStopped, entry_limit};
 ghost use Rattle.row_book.specs.RowsAdded.{AddsRows};
 ghost use Rattle.row_book.specs.Walks.{instance_at, instances_in, instances_with, joined};
 
@@ -81,6 +81,13 @@ impl MadeRows {
         Ok(())
     }
 
+    /// With how many more entries the limit is passed: one more than are left.
+    fn entries_to_pass(&self) -> usize
+        ensures { self.now.entries + result ≡ entry_limit + 1 }
+    {
+        ENTRY_LIMIT - self.entries + 1
+    }
+
     /// Adds the rows of an equation in a region.
     fn add_region(
         &mut self,
@@ -95,7 +102,9 @@ impl MadeRows {
         ensures added { OnOk result (AddsRows (places_of factors.now) model.now.facts (instances_in model.now.facts eq region) self.old self.new) }
         ensures stopped { IfErr result (HasStopped (places_of factors.now) model.now.facts self.old.entries (instances_in model.now.facts eq region)) }
     {
-        let cells = cells_of(self.alloc, model, eq, region)?;
+        // With so many cells the rows of the first outer subscripts pass the limit.
+        let most = self.entries_to_pass();
+        let cells = cells_of(self.alloc, model, eq, region, most)?;
         let outers = outers_of(self.alloc, model, eq, region)?;
         for outer in &outers {
             match self.add_cells(model, factors, eq, &cells, *outer) {

@@ -1,32 +1,22 @@
-use Rattle.std.proofs.Common.{◌≡◌, ◌-◌, ◌*◌, false, get_or, sym, ap, ◌∙◌, subst}
-use Rattle.std.specs.List.Sorted.{IsStrictlyIncreasing}
+-- No list is as long as the greatest number of indices that can be asked for.
+use Rattle.std.proofs.Common.{◌≡◌, ◌<◌, ℕ, List, length, take, inl, inr, ap, ◌∙◌, arith}
+use Rattle.std.proofs.lemmas.Bool.{cases_lt}
+use Rattle.std.proofs.lemmas.List.{length-take-le, take_all}
 use Rattle.std.proofs.lemmas.Result.{IfOk-weaker}
-use Rattle.param_tables.specs.Built.{Built}
-use Rattle.param_tables.specs.RatioPlaces.{AreIndicesAt, is_nonzero_value, places_of, region_size}
-use Rattle.param_tables.specs.Ratios.{nonzero_indices, ratio_param}
-use Rattle.param_tables.proofs.RatioFacts.{in_order_rises, indices_found}
+use Rattle.param_tables.specs.Ratios.{nonzero_indices}
+use Rattle.param_tables.specs.declared.ratios.RatioIndex.{RatioIndex}
 use Rattle.param_tables.proofs.model_data.ModelData.nonzero_indices.Goals as goal
 
-pub listed_indices-requires-clause-rising : goal.listed_indices-requires-clause-rising
-listed_indices-requires-clause-rising c =
-    let ratio = c.args.ratio in
-    let table = c.index.result.now in
-    let is : table ≡ get_or c.self.inside.tables.items (ratio_param ratio - 1) table = c.index.ensures ∙ ap (λ n. get_or c.self.inside.tables.items n table) (c.from.ensures ∙ ap (λ p. p - 1) c.param.ensures.number) in
-    let places : c.as_slice.result.now ≡ (places_of c.self.inside.ratios ratio).in_order.items = c.as_slice.ensures.value ∙ ap (λ p. p.in_order.items) c.of-places.ensures in
-    subst IsStrictlyIncreasing (sym places) (in_order_rises c.self.inside.sets c.self.inside.tables.items c.self.inside.second c.self.inside.ratios c.self.invariant ratio table is)
+-- fewer first ones than were asked for are all
+all-from_fewer : (most : ℕ) (xs ys : List RatioIndex) → ys ≡ take most xs → length ys < most → ys ≡ xs
+all-from_fewer most xs ys first fewer =
+    elim (cases_lt (length xs) most) [
+      | inl less ↦ first ∙ take_all most xs (omega (arith, less))
+      | inr from ↦ absurd (let long : length ys ≡ most = ap length first ∙ length-take-le most xs from in omega (arith, long, fewer))
+    ]
 
 pub returns : goal.returns
 returns c =
-    let ratio = c.args.ratio in
-    let s = c.new-sizes.result in
-    let table = c.index.result.now in
-    let is : table ≡ get_or c.self.inside.tables.items (ratio_param ratio - 1) table = c.index.ensures ∙ ap (λ n. get_or c.self.inside.tables.items n table) (c.from.ensures ∙ ap (λ p. p - 1) c.param.ensures.number) in
-    let zero_by_default : is_nonzero_value table.default ≡ false = sym c.is_nonzero.ensures ∙ c.if-is_nonzero.false in
-    let places : c.as_slice.result.now ≡ (places_of c.self.inside.ratios ratio).in_order.items = c.as_slice.ensures.value ∙ ap (λ p. p.in_order.items) c.of-places.ensures in
-    let r = c.args.region in
-    let d = c.args.self.now.facts in
-    IfOk-weaker c.listed_indices.result
-    (λ found. AreIndicesAt s c.as_slice.result.now (r * region_size s) found.items)
-    (λ found. found.items ≡ nonzero_indices d ratio r)
-    (λ found listed. indices_found c.self.inside.sets c.self.inside.tables.items c.self.inside.second c.self.inside.ratios c.self.invariant ratio table is zero_by_default d (ap (λ (b : Built). b.facts) c.self.view_is) s c.new-sizes.ensures.sizes r c.as_slice.result.now found.items c.requires places listed)
-    c.listed_indices.ensures
+    IfOk-weaker c.first_nonzero_indices.result _ _
+    (λ found first. all-from_fewer _ (nonzero_indices c.args.self.now.facts c.args.ratio c.args.region) found.items first (let fewer : length found.items < 18446744073709551615 = omega (arith, found.ok.0, found.small) in fewer))
+    c.first_nonzero_indices.ensures

@@ -1,14 +1,14 @@
-use Rattle.std.proofs.Common.{◌∙◌, suc, drop, take, get_or, sym, subst}
+use Rattle.std.proofs.Common.{◌∙◌, ◌+◌, ◌<◌, suc, drop, take, get_or, sym, subst, arith}
 use Rattle.std.specs.List.{flat_map}
 use Rattle.row_core.specs.declared.Index.{Index}
 use Rattle.named_equations.specs.Indices.{at_r}
 use Rattle.named_equations.specs.RegionFactors.{places_of}
-use Rattle.row_book.specs.Books.{HasStopped}
+use Rattle.row_book.specs.Books.{HasStopped, entry_limit}
 use Rattle.row_book.specs.RowsAdded.{AddsRows}
-use Rattle.row_book.specs.Walks.{AreAsked, inners_of, instances_with}
+use Rattle.row_book.specs.Walks.{AreFirstAsked, inners_of, instances_with}
 use Rattle.row_book.proofs.Places.{list-middle}
-use Rattle.row_book.proofs.Regions.{asked-within, instances-asked}
 use Rattle.row_book.proofs.RowsAddedLaws.{adds-nothing, loop-adds, loop-ends, loop-stops}
+use Rattle.row_book.proofs.RowsOfCells.{first-adds, first-stops, first-within}
 use Rattle.row_book.proofs.made_rows.MadeRows.add_region.Goals as goal
 
 pub loop-outer-init : goal.loop-outer-init
@@ -18,35 +18,39 @@ pub add_cells-requires-clause-indices : goal.add_cells-requires-clause-indices
 add_cells-requires-clause-indices c =
     let d = c.args.model.now.facts in
     let eq = c.args.eq in
+    let most = c.entries_to_pass-most.result in
     let outers = c.deref-outer-items.result.now in
     let i = c.loop-outer.outer-index in
-    let asked : AreAsked d eq c.args.region c.deref.result.now = subst (AreAsked d eq c.args.region) (sym c.deref.ensures.value) c.in_ok-cells.ensures in
-    asked-within d eq c.args.region c.deref.result.now (take i outers) (get_or outers i (at_r 0)) (drop (suc i) outers) c.requires.equation c.requires.region asked
+    let first : AreFirstAsked d eq c.args.region most c.deref.result.now = subst (AreFirstAsked d eq c.args.region most) (sym c.deref.ensures.value) c.in_ok-cells.ensures in
+    first-within d eq c.args.region most c.deref.result.now (take i outers) (get_or outers i (at_r 0)) (drop (suc i) outers) c.requires.equation c.requires.region first
     (sym c.loop-outer.invariant.0 ∙ list-middle outers i (at_r 0) c.loop-outer-test.true)
 
 pub returns-in-Err-clause-stopped : goal.returns-in-Err-clause-stopped
 returns-in-Err-clause-stopped c =
     let d = c.args.model.now.facts in
     let eq = c.args.eq in
+    let most = c.entries_to_pass-most.result in
     let outers = c.deref-outer-items.result.now in
     let outer : Index = get_or outers c.loop-outer.outer-index (at_r 0) in
-    let asked : AreAsked d eq c.args.region c.deref.result.now = subst (AreAsked d eq c.args.region) (sym c.deref.ensures.value) c.in_ok-cells.ensures in
+    let first : AreFirstAsked d eq c.args.region most c.deref.result.now = subst (AreFirstAsked d eq c.args.region most) (sym c.deref.ensures.value) c.in_ok-cells.ensures in
     subst (λ is. HasStopped (places_of c.args.factors.now) d c.args.self.now.entries (flat_map (instances_with d eq (inners_of d eq c.args.region)) is) c.in-Err.fail) c.loop-outer.invariant.0
     (loop-stops (places_of c.args.factors.now) d (instances_with d eq (inners_of d eq c.args.region)) outers c.loop-outer.outer-index (at_r 0) c.args.self.now c.loop-outer.self c.in-Err.fail
     c.loop-outer-test.true c.loop-outer.invariant.1
-    (subst (λ names. HasStopped (places_of c.args.factors.now) d c.loop-outer.self.entries names c.in-Err.fail) (instances-asked d eq c.args.region c.deref.result.now asked outer) c.in-Err.ensures.stopped))
+    (first-stops (places_of c.args.factors.now) d eq c.args.region most c.deref.result.now outer c.loop-outer.self.entries c.in-Err.fail first c.in-Err.ensures.stopped))
 
 pub loop-outer-preserved : goal.loop-outer-preserved
 loop-outer-preserved c =
     let d = c.args.model.now.facts in
     let eq = c.args.eq in
+    let most = c.entries_to_pass-most.result in
     let outers = c.deref-outer-items.result.now in
     let outer : Index = get_or outers c.loop-outer.outer-index (at_r 0) in
-    let asked : AreAsked d eq c.args.region c.deref.result.now = subst (AreAsked d eq c.args.region) (sym c.deref.ensures.value) c.in_ok-cells.ensures in (
+    let first : AreFirstAsked d eq c.args.region most c.deref.result.now = subst (AreFirstAsked d eq c.args.region most) (sym c.deref.ensures.value) c.in_ok-cells.ensures in
+    let past : entry_limit < c.loop-outer.self.entries + most = omega (arith, c.loop-outer.invariant.1.counted, c.entries_to_pass-most.ensures) in (
       c.loop-outer.invariant.0,
       loop-adds (places_of c.args.factors.now) d (instances_with d eq (inners_of d eq c.args.region)) outers c.loop-outer.outer-index (at_r 0) c.args.self.now c.loop-outer.self c.add_cells.new.self
           c.loop-outer-test.true c.loop-outer.invariant.1
-          (subst (λ names. AddsRows (places_of c.args.factors.now) d names c.loop-outer.self c.add_cells.new.self) (instances-asked d eq c.args.region c.deref.result.now asked outer) c.in-Ok.ensures.added),
+          (first-adds (places_of c.args.factors.now) d eq c.args.region most c.deref.result.now outer c.loop-outer.self c.add_cells.new.self first past c.in-Ok.ensures.added),
     )
 
 pub returns-clause-added : goal.returns-clause-added
