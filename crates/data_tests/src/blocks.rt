@@ -26,9 +26,9 @@ const BAD_NUMBER: u8 = 10;
 const TABBING: u8 = 11;
 
 /// A text of one line, and the number and column of its fault.
-type Faulty<'a> = (&'a [u8], u8, u32);
+pub(crate) type Faulty<'a> = (&'a [u8], u8, u32);
 
-const FAULTS: [Faulty<'static>; 40] = [
+pub(crate) const FAULTS: [Faulty<'static>; 40] = [
     (b"param ResultsPath default 5, [ ] := x ;", WRONG_SLICE, 30),
     (b"param ResultsPath := a, 'b' ( tr", WRONG_SLICE, 29),
     (b"param ResultsPath default x ;", BAD_NUMBER, 27),
@@ -111,9 +111,9 @@ fn the_first_token_that_no_data_section_could_have_carries_its_fault(
 }
 
 /// A text of one line, and what it says, value by value in billionths, with columns.
-type Meant<'a> = (&'a [u8], &'a [u8]);
+pub(crate) type Meant<'a> = (&'a [u8], &'a [u8]);
 
-const MEANT: [Meant<'static>; 15] = [
+pub(crate) const MEANT: [Meant<'static>; 15] = [
     (b"end ; @ [", b"rounded 0"),
     (
         b"param CapitalCost 'default' 5 T 7 ;",
@@ -194,7 +194,7 @@ fn push_param(alloc: Global, out: &mut Vec<u8>, block: &ParamBlock) -> Result<()
 }
 
 /// What the blocks say, sets first.
-fn told(alloc: Global, blocks: &Blocks) -> Result<Vec<u8>, AllocError> {
+pub(crate) fn told(alloc: Global, blocks: &Blocks) -> Result<Vec<u8>, AllocError> {
     let mut out = Vec::new(alloc);
     for block in &blocks.sets {
         if REGION <= block.set && block.set <= DAILYTIMEBRACKET {
@@ -229,7 +229,7 @@ fn texts_mean_what_their_statements_say(rt: HostRuntime) -> Result<(), Fail> {
 }
 
 /// The statements of the sets of the base file.
-const SETS: &str =
+pub(crate) const SETS: &str =
     "data; set REGION := R; set TECHNOLOGY := T; set FUEL := F; set EMISSION := ; set MODE_OF_OPERATION := 1; set TIMESLICE := D; set YEAR := 2020; set STORAGE := ; set SEASON := ; set DAYTYPE := ; set DAILYTIMEBRACKET := ;";
 
 #[test]

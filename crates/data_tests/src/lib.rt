@@ -4,6 +4,8 @@
 
 #[cfg(test)]
 mod blocks;
+#[cfg(test)]
+mod pieces;
 mod sections;
 #[cfg(test)]
 mod tokens;

@@ -64,10 +64,10 @@ fn texts_have_these_tokens(rt: HostRuntime) -> Result<(), Fail> {
 }
 
 /// A text, and the number, the line and the column of its first lexical fault.
-type Faulty<'a> = (&'a [u8], u8, u32, u32);
+pub(crate) type Faulty<'a> = (&'a [u8], u8, u32, u32);
 
 /// Texts with their first lexical fault: 1 for a bad byte, 2 for an open string, 3 for an open comment.
-const FAULTS: [Faulty<'static>; 15] = [
+pub(crate) const FAULTS: [Faulty<'static>; 15] = [
     (b"a @", 1, 1, 3),
     (b"a\n\t@", 1, 2, 2),
     (b"/*\n\xC8*/ \xC8", 1, 2, 5),

@@ -9,7 +9,9 @@ use model_sets::param_numbers::{
 };
 use model_sets::set_numbers::{FUEL, MODE_OF_OPERATION, REGION, TECHNOLOGY, YEAR};
 use model_sets::{SetFail, param_word, subscript_sets};
-use param_tables::{ActivityRatio, BuildFail, BuildFault, Cell, ModelData, build, sets_of};
+use param_tables::{
+    ActivityRatio, BuildFail, BuildFault, Cell, ModelData, RatioIndex, build, sets_of,
+};
 use std::alloc::{AllocError, Global};
 use std::process::Abort;
 use std::test::Fail;
@@ -65,10 +67,6 @@ fn line(alloc: Global, fault: &BuildFault) -> Result<String, AllocError> {
         BuildFault::OutOfRange(cell) => cell_line(alloc, "OutOfRange", cell),
         BuildFault::Storage => String::from_str(alloc, "Storage"),
         BuildFault::WholeUnits(cell) => cell_line(alloc, "WholeUnits", cell),
-        BuildFault::TooManyCells(param) => format!(in alloc;
-            "TooManyCells {}",
-            param_word_of(*param)
-        ),
     }
 }
 
@@ -271,30 +269,62 @@ fn sets_are_refused_first(rt: HostRuntime) -> Result<(), Fail> {
     Ok(())
 }
 
+/// Sets that are as long as they may be: the word, what each member begins with, the number of the first member, and
+/// one more than that of the last.
+const WIDE: [(&str, &str, u32, u32); 5] = [
+    ("REGION", "A", 1, 21),
+    ("TECHNOLOGY", "T", 1, 501),
+    ("FUEL", "F", 1, 201),
+    ("MODE_OF_OPERATION", "", 1, 21),
+    ("YEAR", "", 2020, 2140),
+];
+
+/// Statements of these sets, over which TradeRoute has 9,600,000 indices and OutputActivityRatio 4,800,000,000.
+fn wide_sets(alloc: Global) -> Result<String, AllocError> {
+    let mut sets = String::from_str(alloc, "set TIMESLICE := D;\n")?;
+    for (set, letter, first, end) in WIDE {
+        sets.push_str(format!(in alloc; "set {set} :=")?.as_str())?;
+        for i in first..end {
+            sets.push_str(format!(in alloc; " {letter}{i}")?.as_str())?;
+        }
+        sets.push_str(";\n")?;
+    }
+    Ok(sets)
+}
+
+/// Statements on TradeRoute over these sets, and the line on their refusal, if any: the first missing value is
+/// the first gap between the values given.
+const TRADE_ROUTES: [(&str, &str); 5] = [
+    ("", ""),
+    (
+        "param TradeRoute := A1 A1 F1 2020 0 A20 A20 F200 2139 -1 ;",
+        "NoValue TradeRoute [0, 0, 0, 1]",
+    ),
+    (
+        "param TradeRoute := A20 A20 F200 2139 0 A1 A1 F1 2020 -1 ;",
+        "Negative TradeRoute [0, 0, 0, 0]",
+    ),
+    (
+        "param TradeRoute default 0 := A20 A20 F200 2139 -1 ;",
+        "Negative TradeRoute [19, 19, 199, 119]",
+    ),
+    (
+        "param TradeRoute default -1 := A1 A1 F1 2020 0 A1 A1 F1 2022 0 ;",
+        "Negative TradeRoute [0, 0, 0, 1]",
+    ),
+];
+
 #[test]
-fn more_than_4_000_000_indices_are_refused(rt: HostRuntime) -> Result<(), Fail> {
-    let alloc = rt.alloc();
-    let mut sets = String::from_str(
-        alloc,
-        "set TECHNOLOGY := T; set TIMESLICE := D; set MODE_OF_OPERATION := 1;\nset REGION := ",
-    )?;
-    for i in 1..21u32 {
-        sets.push_str(format!(in alloc; " A{i}")?.as_str())?;
+fn a_parameter_may_have_millions_of_indices(rt: HostRuntime) -> Result<(), Fail> {
+    let sets = wide_sets(rt.alloc())?;
+    for (statement, expected) in TRADE_ROUTES {
+        let text = section(rt.alloc(), sets.as_str(), statement)?;
+        assert_eq!(rt;
+            refusal(&rt, rt.alloc(), text.as_str())?.as_str(),
+            expected,
+            "{statement}"
+        );
     }
-    sets.push_str("; set FUEL := ")?;
-    for i in 1..201u32 {
-        sets.push_str(format!(in alloc; " F{i}")?.as_str())?;
-    }
-    sets.push_str("; set YEAR := ")?;
-    for i in 2020..2140u32 {
-        sets.push_str(format!(in alloc; " {i}")?.as_str())?;
-    }
-    sets.push_str(";\n")?;
-    let text = section(alloc, sets.as_str(), "")?;
-    assert_eq!(rt;
-        refusal(&rt, rt.alloc(), text.as_str())?.as_str(),
-        "TooManyCells TradeRoute"
-    );
     Ok(())
 }
 
@@ -383,8 +413,21 @@ fn the_discount_rate_of_investments_is_used_where_it_is_stated(
     Ok(())
 }
 
-/// Where OutputActivityRatio isn't 0: the modes of T in 2020, the technologies in 2020 and in 2021, and all
-/// indices by technology, fuel, mode and year.
+/// Appends indices of a ratio: technology, fuel, mode and year.
+fn push_indices(
+    alloc: Global,
+    line: &mut String,
+    indices: &[RatioIndex],
+) -> Result<(), AllocError> {
+    for i in indices {
+        let index = format!(in alloc; " {}{}{}{}", i.technology, i.commodity, i.mode, i.year)?;
+        line.push_str(index.as_str())?;
+    }
+    Ok(())
+}
+
+/// Where OutputActivityRatio isn't 0: the modes of T in 2020, the technologies in 2020 and in 2021, all indices,
+/// and the first three.
 fn nonzero_line(rt: &impl Abort, alloc: Global, model: &ModelData) -> Result<String, AllocError> {
     let sets = model.sets();
     assert!(rt; sets.count(REGION) == 1);
@@ -395,10 +438,11 @@ fn nonzero_line(rt: &impl Abort, alloc: Global, model: &ModelData) -> Result<Str
     let first = model.nonzero_technologies(alloc, ActivityRatio::Output, 0, 0, 0)?;
     let last = model.nonzero_technologies(alloc, ActivityRatio::Output, 0, 0, 1)?;
     let mut line = format!(in alloc; "{modes:?} {first:?} {last:?}")?;
-    for i in &model.nonzero_indices(alloc, ActivityRatio::Output, 0)? {
-        let index = format!(in alloc; " {}{}{}{}", i.technology, i.commodity, i.mode, i.year)?;
-        line.push_str(index.as_str())?;
-    }
+    let all = model.nonzero_indices(alloc, ActivityRatio::Output, 0)?;
+    push_indices(alloc, &mut line, &all)?;
+    line.push_str(" first")?;
+    let begun = model.first_nonzero_indices(alloc, ActivityRatio::Output, 0, 3)?;
+    push_indices(alloc, &mut line, &begun)?;
     let taken = model.nonzero_indices(alloc, ActivityRatio::Input, 0)?;
     assert!(rt; taken.is_empty());
     Ok(line)
@@ -408,11 +452,11 @@ fn nonzero_line(rt: &impl Abort, alloc: Global, model: &ModelData) -> Result<Str
 const RATIOS: [(&str, &str); 2] = [
     (
         "param OutputActivityRatio default 0 := R T F 1 2020 1 R T F 2 2020 0 R U F 2 2021 0.5 ;",
-        "[0] [0] [1] 0000 1011",
+        "[0] [0] [1] 0000 1011 first 0000 1011",
     ),
     (
         "param OutputActivityRatio default 1 := R T F 1 2020 1 R T F 2 2020 0 R U F 2 2021 0.5 ;",
-        "[0] [0, 1] [0, 1] 0000 0001 0011 1000 1001 1010 1011",
+        "[0] [0, 1] [0, 1] 0000 0001 0011 1000 1001 1010 1011 first 0000 0001 0011",
     ),
 ];
 
@@ -427,5 +471,22 @@ fn where_a_ratio_isnt_0(rt: HostRuntime) -> Result<(), Fail> {
         let line = nonzero_line(&rt, rt.alloc(), &model)?;
         assert_eq!(rt; line.as_str(), expected, "{statement}");
     }
+    Ok(())
+}
+
+#[test]
+fn the_first_indices_of_a_ratio_are_found_among_millions(rt: HostRuntime) -> Result<(), Fail> {
+    let sets = wide_sets(rt.alloc())?;
+    let statement = "param OutputActivityRatio default 1 := A2 T1 F1 1 2021 0 ;";
+    let text = section(rt.alloc(), sets.as_str(), statement)?;
+    let Ending::Built(model) = outcome(&rt, rt.alloc(), text.as_str())? else {
+        assert!(rt; false, "refused: {statement}");
+        return Ok(());
+    };
+    assert!(rt; model.sets().count(REGION) == 20);
+    let mut line = String::new(rt.alloc());
+    let first = model.first_nonzero_indices(rt.alloc(), ActivityRatio::Output, 1, 3)?;
+    push_indices(rt.alloc(), &mut line, &first)?;
+    assert_eq!(rt; line.as_str(), " 0000 0002 0003");
     Ok(())
 }

@@ -34,22 +34,22 @@ one_passed s byte n e =
 abbrev count : List ℕ → ℕ
 count bytes = prefix_len is_symbol_byte bytes
 
-run_by : (b : Bool) (byte : ℕ) (bytes : List ℕ) (s : State) → s.pending ≡ pendings.Bare → is_symbol_byte byte ≡ b
-    → ((s : State) → s.pending ≡ pendings.Bare → run s bytes ≡ run (symbols_passed s (count bytes)) (drop (count bytes) bytes))
-    → run s (byte ∷ bytes) ≡ run (symbols_passed s (cond b (1 + count bytes) 0)) (drop (cond b (1 + count bytes) 0) (byte ∷ bytes))
-run_by true byte bytes s bare e later =
-    let more : suc (count bytes) ≡ 1 + count bytes = omega arith in
-    run_symbol s byte bytes bare e
+run_by : (b : Bool) (byte : ℕ) (bytes more : List ℕ) (s : State) → s.pending ≡ pendings.Bare → is_symbol_byte byte ≡ b
+    → ((s : State) → s.pending ≡ pendings.Bare → run s (bytes ++ more) ≡ run (symbols_passed s (count bytes)) (drop (count bytes) bytes ++ more))
+    → run s (byte ∷ (bytes ++ more)) ≡ run (symbols_passed s (cond b (1 + count bytes) 0)) (drop (cond b (1 + count bytes) 0) (byte ∷ bytes) ++ more)
+run_by true byte bytes more s bare e later =
+    let one_more : suc (count bytes) ≡ 1 + count bytes = omega arith in
+    run_symbol s byte (bytes ++ more) bare e
     ∙ later (passed s byte s.pending) bare
-    ∙ ap (λ q. run q (drop (count bytes) bytes)) (one_passed s byte (count bytes) (symbol_is_no_line_feed byte e))
-    ∙ ap (λ n. run (symbols_passed s (1 + count bytes)) (drop n (byte ∷ bytes))) more
-run_by false byte bytes s bare e later = ap (λ q. run q (byte ∷ bytes)) (sym (none_passed s))
+    ∙ ap (λ q. run q (drop (count bytes) bytes ++ more)) (one_passed s byte (count bytes) (symbol_is_no_line_feed byte e))
+    ∙ ap (λ n. run (symbols_passed s (1 + count bytes)) (drop n (byte ∷ bytes) ++ more)) one_more
+run_by false byte bytes more s bare e later = ap (λ q. run q (byte ∷ (bytes ++ more))) (sym (none_passed s))
 
--- past the bytes with which a bare symbol goes on, what is seen is what is seen of the rest
-pub run_symbols : (bytes : List ℕ) (s : State) → s.pending ≡ pendings.Bare
-    → run s bytes ≡ run (symbols_passed s (prefix_len is_symbol_byte bytes)) (drop (prefix_len is_symbol_byte bytes) bytes)
-run_symbols [] s bare = ap (λ q. run q []) (sym (none_passed s))
-run_symbols (byte ∷ bytes) s bare = run_by (is_symbol_byte byte) byte bytes s bare refl (λ s bare. run_symbols bytes s bare)
+-- past the bytes in front with which a bare symbol goes on, what is seen is what is seen of the rest and of more bytes
+pub run_symbols : (bytes more : List ℕ) (s : State) → s.pending ≡ pendings.Bare
+    → run s (bytes ++ more) ≡ run (symbols_passed s (prefix_len is_symbol_byte bytes)) (drop (prefix_len is_symbol_byte bytes) bytes ++ more)
+run_symbols [] more s bare = ap (λ q. run q more) (sym (none_passed s))
+run_symbols (byte ∷ bytes) more s bare = run_by (is_symbol_byte byte) byte bytes more s bare refl (λ s bare. run_symbols bytes more s bare)
 
 -- so many columns further
 abbrev pub further : Mark → ℕ → Mark

@@ -27,6 +27,10 @@ pub mod NamesGo
 pub mod NamesOnce
 pub mod NumberReadingLaws
 pub mod OptionalCommas
+mod PieceExamples
+pub mod PieceLaws
+pub mod PieceLemmas
+pub mod PieceSteps
 pub mod ReadingLaws
 pub mod ReadingLemmas
 pub mod RoundedCounts

@@ -16,14 +16,14 @@ use Rattle.mathprog_data.proofs.StatementLawsHold.{statement_laws}
 use Rattle.mathprog_data.proofs.VerdictLaws.{says_reads, fault_refuses}
 use Rattle.mathprog_data.proofs.WellFormedLaws.{Means-well_formed}
 
-abbrev Answer : Type 0
+abbrev pub Answer : Type 0
 Answer = Result KeptBlocks ReadFail
 
 -- the answer is what is made of the text, unless it is out of memory
-abbrev ReadsExactly : List ℕ → Answer → Type 0
+abbrev pub ReadsExactly : List ℕ → Answer → Type 0
 ReadsExactly text r = IfOk r (λ blocks. outcome_of text ≡ Reads (blocks_told blocks))
 
-abbrev RefusesExactly : List ℕ → Answer → Type 0
+abbrev pub RefusesExactly : List ℕ → Answer → Type 0
 RefusesExactly text r = (fault : DataFault) → r ≡ Err (Fault fault) → outcome_of text ≡ Refuses fault.no fault.at
 
 pub says_well : (text : List ℕ) (blocks : Blocks) → Says text blocks → AreWellFormed blocks

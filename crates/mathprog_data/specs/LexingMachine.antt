@@ -1,6 +1,6 @@
 -- The lexer as a function of its state, a byte at a time. Private functions alone cite it: that it computes the lexing of a
 -- text as `Lexes` says it is proved (proofs/LexingLaws.antt).
-use Rattle.std.specs.Prelude.{ℕ, ◌+◌, Bool, true, not, ◌||◌, ◌==◌, Option, None, Some, is_some, if◌then◌else◌, ◌≤◌, ⊤}
+use Rattle.std.specs.Prelude.{◌≡◌, ℕ, ◌+◌, Bool, true, false, not, ◌||◌, ◌==◌, Option, None, Some, IfSome, is_some, if◌then◌else◌, ◌<◌, ◌≤◌, ⊤}
 use Rattle.mathprog_data.specs.declared.blocks.Mark.{Mark}
 use Rattle.mathprog_data.specs.declared.lexeme.Sign.{Sign as TheSign}
 use Rattle.mathprog_data.specs.declared.lexeme.Sign.TheVariants as signs
@@ -192,7 +192,23 @@ abbrev pub least_span : Kind → ℕ
 least_span (Quoted quote) = 2
 least_span _ = 0
 
--- a token that is seen stands within so many bytes
-abbrev pub IsWithin : ℕ → Seen → Type 0
-IsWithin size (Token span) = (span.from + least_span span.kind ≤ span.to) × (span.to ≤ size)
-IsWithin size _ = ⊤
+-- a token that is seen ends after so many bytes at least and so many at most
+abbrev pub IsWithin : (least most : ℕ) → Seen → Type 0
+IsWithin least most (Token span) = (span.from + least_span span.kind ≤ span.to) × (least ≤ span.to) × (span.to ≤ most)
+IsWithin least most _ = ⊤
+
+-- a token is pending
+abbrev pub is_token : Pending → Bool
+is_token pendings.Colon = true
+is_token pendings.Bare = true
+is_token (pendings.Quoted quote) = true
+is_token (pendings.Quote quote) = true
+is_token _ = false
+
+-- how many bytes stand before the token that is pending, if one is
+abbrev pub token_from : State → Option ℕ
+token_from s = if is_token s.pending then Some s.from else None
+
+-- the token that is pending then, if one is, was pending before, or it begins here at the earliest
+abbrev pub GoesOn : (s next : State) → Type 0
+GoesOn s next = IfSome (token_from next) (λ from. from < s.place → token_from s ≡ Some from)

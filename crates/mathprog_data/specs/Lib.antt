@@ -15,6 +15,9 @@ pub mod MachineViews
 pub mod Meaning
 pub mod NameView
 pub mod NumberReading
+pub mod PieceRuns
+pub mod PieceStages
+pub mod Pieces
 pub mod Places
 pub mod ReadingRuns
 pub mod Slices

@@ -72,6 +72,17 @@ impl Name {
         Ok(Name(Kept::Long(long)))
     }
 
+    /// The name of these bytes. Where they are many it takes them over, so that they aren't in memory twice.
+    pub(crate) fn from_vec(alloc: Global, bytes: Vec<u8>) -> Result<Name, AllocError>
+        ensures { IfOk result (λ name. name ≡ bytes.items) }
+    {
+        if bytes.len() <= SHORT {
+            return Ok(Name(Kept::Short(short_name(bytes.as_slice()))));
+        }
+        let long = Box::new(alloc, bytes)?;
+        Ok(Name(Kept::Long(long)))
+    }
+
     /// A second name of the same bytes.
     pub(crate) fn copy(&self, alloc: Global) -> Result<Name, AllocError>
         ensures { IfOk result (λ name. name ≡ self.now) }

@@ -3,11 +3,11 @@
 mod bytes;
 mod pending;
 
-ghost use Rattle.std.specs.Prelude.{◌≡◌, ◌+◌, ◌<◌, ◌≤◌, ◌∷◌, ◌++◌, ℕ, List, length, drop, take, true, false};
+ghost use Rattle.std.specs.Prelude.{◌≡◌, ◌+◌, ◌<◌, ◌≤◌, ◌∷◌, ◌++◌, ℕ, List, length, drop, take, true, false, IfSome};
 ghost use Rattle.std.specs.List.{prefix_len};
 ghost use Rattle.mathprog_data.specs.LexingRuns.{run};
 ghost use Rattle.mathprog_data.specs.LexingBytes.{is_symbol_byte};
-ghost use Rattle.mathprog_data.specs.LexingMachine.{least_length, least_span, IsWithin, next_mark};
+ghost use Rattle.mathprog_data.specs.LexingMachine.{least_length, least_span, IsWithin, GoesOn, token_from, next_mark};
 ghost use Rattle.mathprog_data.specs.Places.{place_after};
 
 use crate::blocks::Mark;
@@ -98,10 +98,27 @@ impl Lexer {
         self.mark
     }
 
+    /// How many bytes stand before the token that is pending, if one is.
+    pub(crate) fn token_from(&self) -> Option<u32>
+        ensures value { result ≡ token_from self.now }
+        ensures within { IfSome result (λ from. from ≤ self.now.place) }
+    {
+        match self.pending {
+            Pending::Colon | Pending::Bare | Pending::Quoted(_) | Pending::Quote(_) => {
+                Some(self.from)
+            }
+            Pending::Gap
+            | Pending::Slash
+            | Pending::LineComment
+            | Pending::BlockComment
+            | Pending::Star => None,
+        }
+    }
+
     /// What the end of the text ends.
     pub(crate) fn end(&self) -> Seen
         ensures seen { result ≡ ended self.now self.now.pending }
-        ensures within { IsWithin self.now.place result }
+        ensures within { IsWithin self.now.place self.now.place result }
     {
         match self.pending {
             Pending::Gap | Pending::LineComment => Seen::Nothing,
@@ -120,6 +137,7 @@ impl Lexer {
     pub(crate) fn pass_over(&mut self, byte: u8) -> bool
         requires { self.old.place < 67108864 }
         ensures passes { result ≡ true → (bytes : List ℕ) → run self.old (byte ∷ bytes) ≡ run self.new bytes }
+        ensures goes_on { result ≡ true → GoesOn self.old self.new }
         ensures place { result ≡ true → self.new.place ≡ self.old.place + 1 }
         ensures mark { result ≡ true → self.new.mark ≡ next_mark self.old.mark byte }
         ensures kept { result ≡ false → self.new ≡ self.old }
@@ -137,6 +155,7 @@ impl Lexer {
     fn pass_quiet(&mut self, byte: u8) -> bool
         requires { self.old.place < 67108864 }
         ensures passes { result ≡ true → (bytes : List ℕ) → run self.old (byte ∷ bytes) ≡ run self.new bytes }
+        ensures goes_on { result ≡ true → GoesOn self.old self.new }
         ensures place { result ≡ true → self.new.place ≡ self.old.place + 1 }
         ensures mark { result ≡ true → self.new.mark ≡ next_mark self.old.mark byte }
         ensures kept { result ≡ false → self.new ≡ self.old }
@@ -172,7 +191,8 @@ impl Lexer {
     pub(crate) fn pass_symbol(&mut self, rest: &[u8]) -> usize
         requires { self.old.place + length rest.now ≤ 67108864 }
         ensures count { result ≤ length rest.now }
-        ensures passes { run self.old rest.now ≡ run self.new (drop result rest.now) }
+        ensures passes { (more : List ℕ) → run self.old (rest.now ++ more) ≡ run self.new (drop result rest.now ++ more) }
+        ensures goes_on { token_from self.new ≡ token_from self.old }
         ensures place { self.new.place ≡ self.old.place + result }
         ensures mark { (front : List ℕ) → self.old.mark ≡ place_after front → self.new.mark ≡ place_after (front ++ take result rest.now) }
     {
@@ -203,7 +223,7 @@ impl Lexer {
         ensures place { self.new.place ≡ self.old.place }
         ensures mark { self.new.mark ≡ self.old.mark }
         ensures seen { result ≡ (before self.old byte).seen }
-        ensures within { IsWithin self.old.place result }
+        ensures within { IsWithin self.old.place self.old.place result }
     {
         if self.pending.continues(byte) {
             return Seen::Nothing;
@@ -221,7 +241,7 @@ impl Lexer {
         ensures place { self.new.place ≡ self.old.place + 1 }
         ensures mark { self.new.mark ≡ next_mark self.old.mark byte }
         ensures seen { result ≡ (taken self.old byte).seen }
-        ensures within { IsWithin (self.old.place + 1) result }
+        ensures within { IsWithin (self.old.place + 1) (self.old.place + 1) result }
     {
         match self.pending {
             Pending::Gap => return self.open(byte),
@@ -248,7 +268,7 @@ impl Lexer {
         ensures place { self.new.place ≡ self.old.place + 1 }
         ensures mark { self.new.mark ≡ next_mark self.old.mark byte }
         ensures seen { result ≡ (opened self.old byte).seen }
-        ensures within { IsWithin (self.old.place + 1) result }
+        ensures within { IsWithin (self.old.place + 1) (self.old.place + 1) result }
     {
         if is_symbol_byte(byte) {
             self.begin(byte, Pending::Bare);
@@ -276,7 +296,7 @@ impl Lexer {
         ensures place { self.new.place ≡ self.old.place + 1 }
         ensures mark { self.new.mark ≡ next_mark self.old.mark byte }
         ensures seen { result ≡ (sign_taken self.old byte (sign_of byte)).seen }
-        ensures within { IsWithin (self.old.place + 1) result }
+        ensures within { IsWithin (self.old.place + 1) (self.old.place + 1) result }
     {
         match sign_of(byte) {
             Some(sign) => {
@@ -345,7 +365,7 @@ impl Lexer {
     fn token(&self, kind: Kind) -> Seen
         requires { self.now.from + least_span kind ≤ self.now.place }
         ensures seen { result ≡ token_of self.now kind }
-        ensures within { IsWithin self.now.place result }
+        ensures within { IsWithin self.now.place self.now.place result }
     {
         Seen::Token(Span {
             kind,
@@ -359,7 +379,7 @@ impl Lexer {
     fn closed(&self, quote: u8) -> Seen
         requires { self.now.from + 2 ≤ self.now.place }
         ensures seen { result ≡ closed self.now quote self.now.bad }
-        ensures within { IsWithin self.now.place result }
+        ensures within { IsWithin self.now.place self.now.place result }
     {
         match self.bad {
             None => self.token(Kind::Quoted(quote)),

@@ -6,20 +6,25 @@
 #![tactic(auto)]
 
 mod blocks;
+mod byte_reader;
 mod closing;
 mod fault;
 mod lexeme;
 mod lexer;
+mod pieces;
 mod reading;
+mod span_reader;
 mod spans;
 mod statements;
 mod subscripts;
 mod token;
 mod token_list;
+mod token_reader;
 mod words;
 
 pub use blocks::{Blocks, Given, Mark, Name, ParamBlock, SetBlock};
 pub use fault::{DataFault, ReadFail};
+pub use pieces::PieceReader;
 pub use reading::{read_blocks, verdict_laws};
 pub use token::Token;
 pub use token_list::{lexing_laws, tokens};

@@ -16,9 +16,17 @@ pub(crate) fn lexeme_at<'a>(text: &'a [u8], span: &Span) -> Lexeme<'a>
     requires within { span.now.to ≤ length text.now }
     ensures { lexeme_of result ≡ lexeme_at text.now span.now.kind span.now.from span.now.to }
 {
-    let from = span.from as usize;
-    let to = span.to as usize;
-    match span.kind {
+    lexeme_between(text, span.kind, span.from as usize, span.to as usize)
+}
+
+/// The lexeme of this kind whose bytes are those from the one place up to the other.
+#[inline]
+pub(crate) fn lexeme_between(text: &[u8], kind: Kind, from: usize, to: usize) -> Lexeme<'_>
+    requires order { from + least_span kind ≤ to }
+    requires within { to ≤ length text.now }
+    ensures { lexeme_of result ≡ lexeme_at text.now kind from to }
+{
+    match kind {
         Kind::Sign(sign) => Lexeme::Sign(sign),
         Kind::Bare => Lexeme::Bare(&text[from..to]),
         Kind::Quoted(quote) => Lexeme::Quoted {

@@ -26,7 +26,7 @@ fn add_seen<'a>(
     closing: &mut Closing,
     found: &mut Vec<Token<'a>>,
 ) -> Result<bool, ReadFail>
-    requires { IsWithin (length text.now) seen }
+    requires { IsWithin 0 (length text.now) seen }
     ensures open { result ≡ Ok false → (run : Run) →
         preceded_by found.old.items (slices_of text.now (lexed_run text.now closing.old (and_then seen run)))
         ≡ preceded_by found.new.items (slices_of text.now (lexed_run text.now closing.new run)) }

@@ -129,10 +129,7 @@ impl Symbol<'_> {
     {
         match self.quote {
             None => Name::from_slice(alloc, bare_name(self.bytes)),
-            Some(quote) => {
-                let bytes = undoubled(alloc, quote, self.bytes)?;
-                Name::from_slice(alloc, bytes.as_slice())
-            }
+            Some(quote) => Name::from_vec(alloc, undoubled(alloc, quote, self.bytes)?),
         }
     }
 

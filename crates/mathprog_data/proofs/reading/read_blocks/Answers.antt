@@ -1,31 +1,23 @@
-use Rattle.std.proofs.Common.{◌≡◌}
-use Rattle.std.proofs.lemmas.Result.{IfOk-weaker}
-use Rattle.mathprog_data.specs.BlocksView.{blocks_told}
-use Rattle.mathprog_data.specs.ReadingRuns.{Reads, outcome_of}
-use Rattle.mathprog_data.specs.Verdicts.{Says}
-use Rattle.mathprog_data.specs.WellFormed.{AreWellFormed}
-use Rattle.mathprog_data.proofs.StatementLawsHold.{statement_laws}
-use Rattle.mathprog_data.proofs.VerdictLaws.{reads_says, refuses_fault}
-use Rattle.mathprog_data.proofs.ReadingLaws.{says_well, refuses_no_blocks, refuses_each_fault}
+use Rattle.std.proofs.Common.{[]}
+use Rattle.mathprog_data.specs.Pieces.{StandsFor}
 use Rattle.mathprog_data.proofs.reading.read_blocks.Goals as goal
+use Rattle.mathprog_data.proofs.reading.read_blocks.Goals.{After-finish}
+
+-- the reader stands for the text when it ends
+stands : (c : After-finish) → StandsFor c.feed.new.self c.args.text.now
+stands c = c.feed.ensures.stands [] c.in_ok-reader.ensures.stands
 
 pub returns-clause-says : goal.returns-clause-says
-returns-clause-says c =
-    let text = c.args.text.now in
-    IfOk-weaker c.read.result (λ blocks. outcome_of text ≡ Reads (blocks_told blocks)) (λ blocks. Says text (blocks_told blocks))
-    (λ blocks. reads_says statement_laws text (blocks_told blocks)) c.read.ensures.blocks
+returns-clause-says c = c.finish.ensures.says c.args.text.now (stands (goal.at.returns-clause-says c).After-finish)
 
 pub returns-clause-fault : goal.returns-clause-fault
-returns-clause-fault c fault r = refuses_fault statement_laws c.args.text.now fault.no fault.at (c.read.ensures.fault fault r)
+returns-clause-fault c = c.finish.ensures.fault c.args.text.now (stands (goal.at.returns-clause-fault c).After-finish)
 
 pub returns-clause-refuses_no_blocks : goal.returns-clause-refuses_no_blocks
-returns-clause-refuses_no_blocks c = refuses_no_blocks c.args.text.now c.read.result c.read.ensures.fault
+returns-clause-refuses_no_blocks c = c.finish.ensures.refuses_no_blocks c.args.text.now (stands (goal.at.returns-clause-refuses_no_blocks c).After-finish)
 
 pub returns-clause-refuses_each_fault : goal.returns-clause-refuses_each_fault
-returns-clause-refuses_each_fault c = refuses_each_fault c.args.text.now c.read.result c.read.ensures.blocks c.read.ensures.fault
+returns-clause-refuses_each_fault c = c.finish.ensures.refuses_each_fault c.args.text.now (stands (goal.at.returns-clause-refuses_each_fault c).After-finish)
 
 pub returns-clause-well_formed : goal.returns-clause-well_formed
-returns-clause-well_formed c =
-    let text = c.args.text.now in
-    IfOk-weaker c.read.result (λ blocks. outcome_of text ≡ Reads (blocks_told blocks)) (λ blocks. AreWellFormed (blocks_told blocks))
-    (λ blocks e. says_well text (blocks_told blocks) (reads_says statement_laws text (blocks_told blocks) e)) c.read.ensures.blocks
+returns-clause-well_formed c = c.finish.ensures.well_formed c.args.text.now (stands (goal.at.returns-clause-well_formed c).After-finish)
