@@ -19,3 +19,14 @@ pub mod SolvedLaws
 pub mod LiftedLaws
 pub mod ValueSteps
 pub mod LiftingSteps
+pub mod LinearLaws
+pub mod RowNameLaws
+pub mod DefinedColumns
+pub mod CarriedLaws
+pub mod MatchedLaws
+pub mod CostSums
+pub mod KeptLaws
+pub mod ProvenLaws
+pub mod CellSteps
+pub mod MultiplyingSteps
+pub mod AmongLaws

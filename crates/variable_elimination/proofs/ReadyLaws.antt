@@ -35,12 +35,12 @@ use Rattle.variable_elimination.proofs.VariableLaws.{itself}
 
 -- ---- lists of variables
 
-among-from_contains : (vs : List Var) (v : Var) → Contains vs v → IsAmong v vs
+pub among-from_contains : (vs : List Var) (v : Var) → Contains vs v → IsAmong v vs
 among-from_contains [] v (k, h, e) = absurd (omega arith)
 among-from_contains (w ∷ vs) v (zero, h, e) = inl (sym e)
 among-from_contains (w ∷ vs) v (suc k, h, e) = inr (among-from_contains vs v (k, omega arith, e))
 
-contains-from_among : (vs : List Var) (v : Var) → IsAmong v vs → Contains vs v
+pub contains-from_among : (vs : List Var) (v : Var) → IsAmong v vs → Contains vs v
 contains-from_among [] v h = absurd h
 contains-from_among (w ∷ vs) v (inl e) = (0, omega arith, sym e)
 contains-from_among (w ∷ vs) v (inr h) = later (contains-from_among vs v h)

@@ -10,3 +10,8 @@ pub mod Left
 pub mod Valued
 pub mod Lifting
 pub mod Lifts
+pub mod RowNames
+pub mod Eliminations
+pub mod Certified
+pub mod Cells
+pub mod Multiplying

@@ -10,6 +10,7 @@ ghost use Rattle.written_method.specs.Eliminated.{expanded_all, reduced_rows, co
 ghost use Rattle.written_method.specs.Ready.{IsReady};
 ghost use Rattle.variable_elimination.specs.Columns.{AreColumns};
 ghost use Rattle.variable_elimination.specs.CostRows.{IsCostReduced, IsCostOf};
+ghost use Rattle.variable_elimination.specs.Eliminations.{IsWhole};
 ghost use Rattle.variable_elimination.specs.Left.{AreKnown, IsWithout};
 ghost use Rattle.variable_elimination.specs.ReducedRows.{AreThese, AreReductions};
 ghost use Rattle.variable_elimination.specs.SoFar.{IsFirst, HaveNone};
@@ -43,6 +44,7 @@ pub fn eliminate(alloc: Global, rows: &[Row], defs: &[Option<Var>]) -> Result<Re
     ensures cost_reduced { OnOk result (IsCostReduced (rows_of (definitions_of rows.now defs.now)) defs.now (cost_row (expanded_all [] (definitions_of rows.now defs.now)) defs.now)) }
     ensures reductions { IfOk result (λ made. AreReductions (rows_of (definitions_of rows.now defs.now)) (others_of rows.now defs.now) made.rows.items made.scales.items) }
     ensures without { IfOk result (IsWithout (defined (definitions_of rows.now defs.now))) }
+    ensures whole { IfOk result (IsWhole rows.now defs.now) }
     ensures ready { IfOk result IsReady }
     ensures fits { OnOk result (first_wide (elimination_steps rows.now defs.now) ≡ None) }
     ensures stopped { IfErr result (IsFirst (first_wide (elimination_steps rows.now defs.now))) }

@@ -11,12 +11,13 @@ use Rattle.row_core.specs.declared.place.Place.{Place}
 use Rattle.row_core.specs.declared.place.Place.TheVariants.{CostRow}
 use Rattle.row_core.specs.Forms.{Form}
 use Rattle.written_method.specs.Definitions.{definitions_of, others_of, rows_of, defined, avoids}
-use Rattle.written_method.specs.Eliminated.{ReducedRow, unscaled, cost_variable, expanded_all, definition_steps, reduced_rows, row_steps, cost_form}
+use Rattle.written_method.specs.Eliminated.{ReducedRow, unscaled, cost_variable, expanded_all, definition_steps, reduced_rows, row_steps, cost_form, cost_row}
 use Rattle.written_method.specs.Expanded.{expanded_formed}
 use Rattle.variable_elimination.specs.Columns.{AreColumns}
 use Rattle.variable_elimination.specs.CostRows.{IsCostOf}
 use Rattle.variable_elimination.specs.Kept.{forms_in}
 use Rattle.variable_elimination.specs.ReducedRows.{AreThese, AreReductions}
+use Rattle.variable_elimination.proofs.AmongLaws.{among-all}
 use Rattle.variable_elimination.proofs.EliminationLaws.{rows-same, steps-same, cost-same, cost_formed-same, three, three-fit, three-first, three-second, three-last, IsFirst-more, cost-positive, first_of_memory}
 use Rattle.variable_elimination.proofs.GrowthLaws.{IsFirst-from}
 use Rattle.variable_elimination.proofs.ReadyLaws.{IsColumnBeyond, all_ready, all_rows_done, cost_done, cost_avoids, others_avoid, rows_avoid}
@@ -173,3 +174,22 @@ returns-clause-ready c =
     all_ready rows defs columns c.requires.same c.requires.triangular c.requires.known c.in_ok-columns.ensures made cost c.in_ok-made.ensures.columns
     (all_rows_done rows defs columns c.requires.same c.requires.triangular c.requires.known c.in_ok-columns.ensures made.rows.items these.rows_are)
     c.in_ok-made.ensures.cost done (returns-clause-own c) few
+
+pub returns-clause-whole : goal.returns-clause-whole
+returns-clause-whole c =
+    let rows = c.args.rows.now in
+    let defs = c.args.defs.now in
+    let made = c.in_ok-made.made in
+    let without = returns-clause-without c in
+    record {
+      part = record {
+        reductions = among-all (rows_of (definitions_of rows defs)) (others_of rows defs) made.rows.items made.scales.items (returns-clause-reductions c);
+        without = without.rows;
+      };
+      plain = c.requires.plain;
+      form = cost_row (forms_of rows defs) defs;
+      reduced_cost = returns-clause-cost_reduced c;
+      cost = returns-clause-cost c;
+      without = without.cost;
+      own = returns-clause-own c;
+    }

@@ -1,0 +1,4 @@
+pub mod PositionLaws
+pub mod BookLaws
+pub mod CarriedWords
+pub mod PosedLaws

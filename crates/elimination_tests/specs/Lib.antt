@@ -1,0 +1,2 @@
+pub mod BookPrograms
+pub mod CarriedBack
