@@ -1,0 +1,10 @@
+pub mod EntryLaws
+pub mod MergeLaws
+pub mod DivisionLaws
+pub mod LineLaws
+pub mod ListLaws
+pub mod TableauLaws
+pub mod SolutionLaws
+pub mod PlaceLaws
+pub mod StartLaws
+pub mod LoopLaws

@@ -1,0 +1,11 @@
+-- The lines so far, and those of the rows that are left.
+use Rattle.std.proofs.Common.{◌≡◌, ◌++◌, map, drop}
+use Rattle.row_core.specs.Numbers.{keys_of}
+use Rattle.written_method.specs.FirstTableau.{row_lines}
+use Rattle.written_method.specs.Programs.{inequality_of}
+use Rattle.int_tableau.proofs.starting.push_row_lines.Given as goal
+
+abbrev pub invariant-loop-position : goal.invariant-loop-position
+invariant-loop-position l =
+    l.fn.lines.items ++ row_lines (keys_of l.layout.places.items) l.layout.artificial l.layout.rows 0 (map inequality_of l.rows)
+    ≡ l.lines.items ++ row_lines (keys_of l.layout.places.items) l.layout.artificial l.layout.rows l.position (map inequality_of (drop l.position l.rows))

@@ -1,0 +1,15 @@
+//! The tableau of the simplex method over whole numbers of 128 bits, with only its entries other than 0.
+//!
+//! A tableau counts its pivots. Its rows are those that the written method has (`written_method`), number by number.
+#![tactic(auto)]
+
+mod entries;
+mod line;
+mod merging;
+mod numbers;
+mod refused;
+mod starting;
+mod tableau;
+
+pub use starting::{as_most, column_after, is_split};
+pub use tableau::Tableau;

@@ -1,0 +1,4 @@
+pub mod ChoiceLaws
+pub mod StepLaws
+pub mod ValueLaws
+pub mod OutcomeLaws

@@ -1,0 +1,86 @@
+-- Each end is that of what is left.
+use Rattle.std.proofs.Common.{◌≡◌, ◌≢◌, ℕ, suc, ◌+◌, ◌-◌, ◌≤◌, sym, ap, ap₂, ◌∙◌, subst, arith}
+use Rattle.std.proofs.lemmas.Result.{err_from_is_err_and}
+use Rattle.exact_num.specs.Range.{all_fit}
+use Rattle.written_method.specs.FirstTableau.{first_state}
+use Rattle.written_method.specs.Programs.{LinearProgram, program_of}
+use Rattle.written_method.specs.Rounds.{State, after, step_of}
+use Rattle.written_method.specs.Runs.{Ended, answer}
+use Rattle.written_method.proofs.ReachedLaws.{IsReached, IsReached-after, IsReached-first}
+use Rattle.written_method.proofs.RunLaws.{answer-due, answer-no_column, answer-no_row, answer-pivot, answer-wide}
+use Rattle.simplex_core.specs.Views.{state_seen}
+use Rattle.simplex_core.proofs.StepLaws.{IsRanOut-from, degenerate-bound, reached-IsMove}
+use Rattle.simplex_core.proofs.running.run.Goals as goal
+
+pub rounds-init : goal.rounds-init
+rounds-init c =
+    let p : LinearProgram = program_of c.args.reduced.now in
+    let first : state_seen c.in_ok-last.last ≡ first_state p = c.in_ok-last.ensures in
+    let whole : c.args.pivots ≡ c.args.pivots - 0 = omega arith in
+    record {
+      agrees = ap₂ answer whole (sym first);
+      reached = subst (IsReached p) (sym first) (IsReached-first p c.requires.own_positive);
+      counted = ap (λ (s : State). s.pivots) first;
+      degenerate = omega (arith, ap (λ (s : State). s.degenerate) first);
+      within = omega arith;
+    }
+
+pub returns-in-NoColumn-clause-answered : goal.returns-in-NoColumn-clause-answered
+returns-in-NoColumn-clause-answered c =
+    let s : State = state_seen c.rounds.last in
+    c.rounds.invariant.agrees
+    ∙ answer-no_column (c.args.pivots - c.rounds.made) s (sym c.in-NoColumn.ensures)
+    ∙ ap (λ e. Ended e s) (sym c.no_column-finish.ensures)
+
+pub returns-in-NoRow-clause-answered : goal.returns-in-NoRow-clause-answered
+returns-in-NoRow-clause-answered c =
+    c.rounds.invariant.agrees ∙ answer-no_row (c.args.pivots - c.rounds.made) (state_seen c.rounds.last) c.in-NoRow.column (sym c.in-NoRow.ensures)
+
+pub returns-then-made-pivots-clause-answered : goal.returns-then-made-pivots-clause-answered
+returns-then-made-pivots-clause-answered c =
+    let s : State = state_seen c.rounds.last in
+    let none : c.args.pivots - c.rounds.made ≡ 0 = omega (arith, c.if-made-pivots.true) in
+    c.rounds.invariant.agrees ∙ ap (λ n. answer n s) none ∙ answer-due s c.in-Pivot.row c.in-Pivot.column (sym c.in-Pivot.ensures)
+
+pub after-requires-clause-movable : goal.after-requires-clause-movable
+after-requires-clause-movable c =
+    reached-IsMove (program_of c.args.reduced.now) (state_seen c.rounds.last) c.in-Pivot.row c.in-Pivot.column c.requires.own_positive c.rounds.invariant.reached (sym c.in-Pivot.ensures)
+
+pub returns-in_err-last-in-Pivot-clause-stopped : goal.returns-in_err-last-in-Pivot-clause-stopped
+returns-in_err-last-in-Pivot-clause-stopped c =
+    let p : LinearProgram = program_of c.args.reduced.now in
+    let s : State = state_seen c.rounds.last in
+    let row = c.in-Pivot.row in
+    let column = c.in-Pivot.column in
+    let more : c.rounds.made ≢ c.args.pivots = c.if-made-pivots.false in
+    let n : ℕ = c.args.pivots - (c.rounds.made + 1) in
+    let within : c.rounds.made ≤ c.args.pivots = c.rounds.invariant.within in
+    let left : c.args.pivots - c.rounds.made ≡ suc n = omega arith in
+    let stop = IsRanOut-from (answer c.args.pivots (first_state p)) (step_of s row column).place (all_fit (step_of s row column).formed) c.in_err-last-in-Pivot.field-0.0
+    (λ w. c.rounds.invariant.agrees ∙ ap (λ k. answer k s) left ∙ answer-wide n s row column (sym c.in-Pivot.ensures) w)
+    c.in_err-last-in-Pivot.ensures.stopped in
+    let q = err_from_is_err_and c.from_residual-in_err-last-in-Pivot.result c.from_residual-in_err-last-in-Pivot.ensures.1 in
+    rw (q.1, q.2) stop
+
+pub rounds-preserved : goal.rounds-preserved
+rounds-preserved c =
+    let p : LinearProgram = program_of c.args.reduced.now in
+    let s : State = state_seen c.rounds.last in
+    let row = c.in-Pivot.row in
+    let column = c.in-Pivot.column in
+    let more : c.rounds.made ≢ c.args.pivots = c.if-made-pivots.false in
+    let n : ℕ = c.args.pivots - (c.rounds.made + 1) in
+    let within : c.rounds.made ≤ c.args.pivots = c.rounds.invariant.within in
+    let left : c.args.pivots - c.rounds.made ≡ suc n = omega arith in
+    let value : state_seen c.in_ok-last-in-Pivot.last ≡ after s row column = c.in_ok-last-in-Pivot.ensures.value in
+    record {
+      agrees =
+          c.rounds.invariant.agrees
+          ∙ ap (λ k. answer k s) left
+          ∙ answer-pivot n s row column (sym c.in-Pivot.ensures) c.in_ok-last-in-Pivot.ensures.fits
+          ∙ ap (answer n) (sym value);
+      reached = subst (IsReached p) (sym value) (IsReached-after p s row column c.requires.own_positive (sym c.in-Pivot.ensures) c.rounds.invariant.reached);
+      counted = omega (arith, ap (λ (u : State). u.pivots) value, c.rounds.invariant.counted);
+      degenerate = omega (arith, ap (λ (u : State). u.degenerate) value, degenerate-bound s row, c.rounds.invariant.degenerate);
+      within = omega arith;
+    }

@@ -1,0 +1,13 @@
+-- No number is formed that could not fit.
+use Rattle.std.proofs.Common.{refl, sym, ap₂, ◌∙◌}
+use Rattle.written_method.specs.Programs.{LinearProgram, program_of}
+use Rattle.written_method.specs.Runs as runs
+use Rattle.written_method.specs.Solved.{IsInfeasible}
+use Rattle.simplex_core.specs.Views.{state_seen}
+use Rattle.simplex_core.proofs.OutcomeLaws.{outcome-none}
+use Rattle.simplex_core.proofs.solving.infeasible.Goals as goal
+
+pub returns-clause-end : goal.returns-clause-end
+returns-clause-end c =
+    let p : LinearProgram = program_of c.args.reduced.now in
+    ap₂ IsInfeasible c.in_ok-lambda.ensures c.pivots.ensures ∙ sym (outcome-none p runs.Infeasible (state_seen c.args.last.now) refl)

@@ -1,0 +1,20 @@
+//! The simplex method over the tableau, exact, with its cause at every end.
+//!
+//! The method is that of `written_method`, and the tableau that of `int_tableau`. What an end means is said of the linear program
+//! alone: a plan, multipliers that bound its cost or refute its rows, a direction along which the cost falls.
+#![tactic(auto)]
+
+mod candidate;
+mod choice;
+mod columns;
+mod ends;
+mod multipliers;
+mod pivoting;
+mod plans;
+mod progress;
+mod rounds;
+mod running;
+mod solving;
+
+pub use ends::{End, Halt, Lambda};
+pub use solving::solve;

@@ -1,0 +1,50 @@
+//! Data files to the end of the simplex.
+
+use crate::answers::bound_of;
+use crate::books::solve_book;
+use crate::seven_years::SEVEN_YEARS;
+use elimination_tests::eliminate_book;
+use mathprog_data::read_blocks;
+use param_tables::{build, sets_of};
+use row_book::RowBook;
+use simplex_core::End;
+use std::alloc::Global;
+use std::process::Abort;
+use std::test::Fail;
+
+/// The book of a data file.
+fn book_of(rt: &impl Abort, alloc: Global, text: &str) -> Result<RowBook, Fail> {
+    assert!(rt; text.len() <= 1_000_000);
+    let blocks = read_blocks(alloc, text.as_bytes())?;
+    let sets = sets_of(alloc, &blocks)?;
+    let Ok(model) = build(alloc, &blocks, sets) else {
+        return Err(Fail::from("the data are refused"));
+    };
+    match RowBook::new(alloc, &model, 6) {
+        Ok(book) => Ok(book),
+        Err(_) => Err(Fail::from("no book")),
+    }
+}
+
+#[test]
+fn seven_years_cost_what_another_solver_says(rt: HostRuntime) -> Result<(), Fail> {
+    let book = book_of(&rt, rt.alloc(), SEVEN_YEARS)?;
+    let Ok(program) = eliminate_book(rt.alloc(), &book) else {
+        return Err(Fail::from("stopped"));
+    };
+    assert_eq!(rt; program.reduced.rows.len(), 255);
+    assert_eq!(rt; program.reduced.columns.len(), 150);
+    let Ok(end) = solve_book(rt.alloc(), &book, &program, 1000) else {
+        return Err(Fail::from("no end"));
+    };
+    let End::Optimal { lambda, pivots, .. } = end else {
+        return Err(Fail::from("not optimal"));
+    };
+    assert_eq!(rt; pivots, 273);
+    let Some(bound) = bound_of(&program.reduced, &lambda) else {
+        return Err(Fail::from("the bound doesn't fit"));
+    };
+    assert_eq!(rt; bound.num, 431_377_048_525_887);
+    assert_eq!(rt; bound.den, 125_000_000_000);
+    Ok(())
+}
