@@ -1,0 +1,10 @@
+-- The field that is there, or nothing.
+use Rattle.csv.specs.Records.{fields_of}
+use Rattle.plan_files.proofs.FieldLaws.{field_there, field_nowhere}
+use Rattle.plan_files.proofs.fields.field_at.Goals as goal
+
+pub returns-in-Some : goal.returns-in-Some
+returns-in-Some c = field_there (fields_of c.args.fields.now) c.args.place c.in-Some.field.now c.in-Some.ensures.value
+
+pub returns-in-None : goal.returns-in-None
+returns-in-None c = field_nowhere (fields_of c.args.fields.now) c.args.place c.in-None.ensures.value

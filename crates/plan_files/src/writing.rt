@@ -1,0 +1,188 @@
+//! Plans and multipliers as text.
+
+ghost use Rattle.std.specs.Prelude.{◌≡◌, IfOk, OnOk, map, ◌++◌, ◌∷◌, []};
+ghost use Rattle.std.specs.List.{AllByRecursion};
+ghost use Rattle.exact_num.specs.Value.{value_of};
+ghost use Rattle.row_core.specs.Equations.{IsEquation};
+ghost use Rattle.row_core.specs.Kinds.{IsKind};
+ghost use Rattle.row_core.specs.NameTexts.{RowNameIsWithin, VariableIsWithin};
+ghost use Rattle.row_core.specs.Numbers.{is_zero};
+ghost use Rattle.scaled_decimals.specs.PrintedFraction.{fraction_text};
+ghost use Rattle.csv.specs.Records.{fields_of, partial_of};
+ghost use Rattle.csv.specs.Writing.{default_writer, row_text};
+ghost use Rattle.plan_files.specs.Records.{has_at, header, HasSubscriptsWithin, multiplier_records, plan_records, row_record, subscript_fields, variable_record};
+ghost use Rattle.plan_files.specs.Texts.{records_text};
+
+use crate::fields::{member_field, places_of_equation, places_of_kind};
+use crate::header::HEADER;
+use csv::{ByteRecord, Error, WriterBuilder};
+use exact_num::Frac;
+use model_sets::Sets;
+use model_sets::set_numbers::{
+    EMISSION, FUEL, MODE_OF_OPERATION, REGION, TECHNOLOGY, TIMESLICE, YEAR,
+};
+use row_core::{Index, Multipliers, Plan, RowName, Var, row_word, var_word};
+use scaled_decimals::push_frac;
+use std::alloc::{AllocError, Global};
+
+/// A plan as CSV text: the header, and a record for each of its variables in order, with the members of its subscripts and
+/// its value as a fraction. Refuses where memory runs out.
+pub fn plan_text(alloc: Global, plan: &Plan, sets: &Sets) -> Result<Vec<u8>, AllocError>
+    requires { AllByRecursion (λ e. IsKind e.0.kind × VariableIsWithin sets.now e.0) plan.now }
+    ensures { IfOk result (λ text. text.items ≡ records_text (plan_records sets.now plan.now)) }
+{
+    let mut out = header_text(alloc)?;
+    let entries = plan.entries();
+    for (variable, value) in entries {
+        push_variable(alloc, &mut out, sets, *variable, *value)?;
+    }
+    Ok(out)
+}
+
+/// Multipliers as CSV text: the header, and a record for each row in order whose multiplier isn't 0, with the members of its
+/// subscripts and its multiplier as a fraction. Refuses where memory runs out.
+pub fn multiplier_text(
+    alloc: Global,
+    multipliers: &Multipliers,
+    sets: &Sets,
+) -> Result<Vec<u8>, AllocError>
+    requires { AllByRecursion (λ e. IsEquation e.0.eq × RowNameIsWithin sets.now e.0) multipliers.now }
+    ensures { IfOk result (λ text. text.items ≡ records_text (multiplier_records sets.now multipliers.now)) }
+{
+    let mut out = header_text(alloc)?;
+    let entries = multipliers.entries();
+    for (name, value) in entries {
+        if !is_zero(*value) {
+            push_row(alloc, &mut out, sets, *name, *value)?;
+        }
+    }
+    Ok(out)
+}
+
+/// The first record.
+fn header_text(alloc: Global) -> Result<Vec<u8>, AllocError>
+    ensures { IfOk result (λ text. text.items ≡ row_text default_writer header) }
+{
+    let mut fields = ByteRecord::new(alloc);
+    for name in &HEADER {
+        push_field(&mut fields, name)?;
+    }
+    let mut out = Vec::new(alloc);
+    push_record(alloc, &mut out, &fields)?;
+    Ok(out)
+}
+
+/// Appends the record of a variable.
+fn push_variable(
+    alloc: Global,
+    out: &mut Vec<u8>,
+    sets: &Sets,
+    variable: Var,
+    value: Frac,
+) -> Result<(), AllocError>
+    requires listed { IsKind variable.kind }
+    requires within { VariableIsWithin sets.now variable }
+    ensures { OnOk result (out.new.items ≡ out.old.items ++ row_text default_writer (variable_record sets.now (variable, value_of value))) }
+{
+    let mut fields = ByteRecord::new(alloc);
+    push_field(&mut fields, var_word(variable.kind).as_bytes())?;
+    push_subscripts(
+        &mut fields,
+        sets,
+        &places_of_kind(variable.kind),
+        variable.index,
+    )?;
+    push_field(&mut fields, &value_text(alloc, value)?)?;
+    push_record(alloc, out, &fields)
+}
+
+/// Appends the record of a row.
+fn push_row(
+    alloc: Global,
+    out: &mut Vec<u8>,
+    sets: &Sets,
+    name: RowName,
+    value: Frac,
+) -> Result<(), AllocError>
+    requires listed { IsEquation name.eq }
+    requires within { RowNameIsWithin sets.now name }
+    ensures { OnOk result (out.new.items ≡ out.old.items ++ row_text default_writer (row_record sets.now (name, value_of value))) }
+{
+    let mut fields = ByteRecord::new(alloc);
+    push_field(&mut fields, row_word(name.eq).as_bytes())?;
+    push_subscripts(&mut fields, sets, &places_of_equation(name.eq), name.index)?;
+    push_field(&mut fields, &value_text(alloc, value)?)?;
+    push_record(alloc, out, &fields)
+}
+
+/// Appends the fields of the subscripts, where there are those at the places that `has` says.
+fn push_subscripts(
+    fields: &mut ByteRecord,
+    sets: &Sets,
+    has: &[bool; 8],
+    at: Index,
+) -> Result<(), AllocError>
+    requires whole { partial_of fields.old ≡ [] }
+    requires within { HasSubscriptsWithin sets.now (has_at has.now) at }
+    ensures fields { OnOk result (fields_of fields.new ≡ fields_of fields.old ++ subscript_fields sets.now (has_at has.now) at) }
+    ensures whole { OnOk result (partial_of fields.new ≡ []) }
+{
+    push_field(fields, member_field(sets, REGION, has[0], at.region))?;
+    push_field(fields, member_field(sets, REGION, has[1], at.other))?;
+    push_field(fields, member_field(sets, TIMESLICE, has[2], at.slice))?;
+    push_field(fields, member_field(sets, TECHNOLOGY, has[3], at.tech))?;
+    push_field(fields, member_field(sets, FUEL, has[4], at.fuel))?;
+    push_field(fields, member_field(sets, EMISSION, has[5], at.emission))?;
+    push_field(
+        fields,
+        member_field(sets, MODE_OF_OPERATION, has[6], at.mode),
+    )?;
+    push_field(fields, member_field(sets, YEAR, has[7], at.year))
+}
+
+/// Appends a field.
+fn push_field(fields: &mut ByteRecord, field: &[u8]) -> Result<(), AllocError>
+    requires { partial_of fields.old ≡ [] }
+    ensures fields { OnOk result (fields_of fields.new ≡ fields_of fields.old ++ field.now ∷ []) }
+    ensures whole { OnOk result (partial_of fields.new ≡ []) }
+{
+    fields.push_field(field)
+}
+
+/// Whether a value is 0.
+fn is_zero(value: Frac) -> bool
+    ensures { result ≡ is_zero (value_of value).top }
+{
+    value.num == 0
+}
+
+/// A value as a fraction.
+fn value_text(alloc: Global, value: Frac) -> Result<Vec<u8>, AllocError>
+    ensures { IfOk result (λ text. text.items ≡ fraction_text (value_of value)) }
+{
+    let mut text = Vec::new(alloc);
+    push_frac(&mut text, value)?;
+    Ok(text)
+}
+
+/// Appends a record.
+fn push_record(alloc: Global, out: &mut Vec<u8>, fields: &ByteRecord) -> Result<(), AllocError>
+    ensures { OnOk result (out.new.items ≡ out.old.items ++ row_text default_writer (fields_of fields.now)) }
+{
+    let Ok(line) = record_text(alloc, fields) else {
+        return Err(AllocError);
+    };
+    out.extend_from_slice(&line)
+}
+
+/// A record as text.
+fn record_text(alloc: Global, fields: &ByteRecord) -> Result<Vec<u8>, Error>
+    ensures { IfOk result (λ line. line.items ≡ row_text default_writer (fields_of fields.now)) }
+{
+    let mut writer = WriterBuilder::new().from_writer(Vec::new(alloc));
+    writer.write_byte_record(fields)?;
+    match writer.into_inner() {
+        Ok(line) => Ok(line),
+        Err(error) => Err(error.into_error()),
+    }
+}
