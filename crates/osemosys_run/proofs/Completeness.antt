@@ -1,31 +1,62 @@
--- A file that can be written is: what is due for it is its equations.
-use Rattle.std.proofs.Common.{◌≡◌, ℕ, inl, inr, List, length, Option, Result, false, refl, subst, MatchBool, nat_lt, Bool, le-ltb}
+-- A file that can be written is, and a plan that can be accepted is: what is due for them is that.
+use Rattle.std.proofs.Common.{◌≡◌, ◌⊎◌, ◌≤◌, ◌<◌, ◌<ℤ◌, ◌++◌, ℕ, ℤ, pos, inl, inr, List, length, Option, Some, None, Result, false, refl, ap, sym, ◌∙◌, subst, MatchBool, nat_lt, Bool, le-ltb, arith}
+use Rattle.std.proofs.lemmas.Int.{ints}
+use Rattle.std.proofs.lemmas.Option.{same_Some}
+use Rattle.exact_num.specs.Rational.{Rational, whole}
+use Rattle.exact_num.specs.Steps.{first_wide}
 use Rattle.model_sets.specs.Data.{Data}
+use Rattle.model_sets.specs.Members.{SetLists}
+use Rattle.row_core.specs.declared.Row.{Row}
+use Rattle.row_core.specs.declared.Var.{Var}
+use Rattle.row_core.specs.Order.{row_name_cmp, var_cmp}
+use Rattle.row_core.specs.Plans.{value_in}
+use Rattle.row_core.proofs.EvaluatedLaws.{sum-IsOver}
+use Rattle.named_equations.specs.Existence.{all_variables}
+use Rattle.named_equations.specs.Plans.{Feasible}
+use Rattle.certificate_checker.specs.declared.verdicts.Verdict.TheVariants as verdicts
+use Rattle.certificate_checker.specs.Conditions.{steps}
+use Rattle.certificate_checker.specs.Costs.{cost_entries, model_cost}
+use Rattle.certificate_checker.specs.Plans.{AreValuesOver}
+use Rattle.certificate_checker.specs.Reasons.{reason_of}
+use Rattle.certificate_checker.proofs.CertificateMeaning.{bound_no}
+use Rattle.certificate_checker.proofs.GapLaws.{gap_no}
+use Rattle.certificate_checker.proofs.MultiplierMeaning.{bound-over}
+use Rattle.row_core.proofs.SumLaws.{IsOver-zero}
+use Rattle.plan_files.specs.declared.faults.PlanFault.{PlanFault}
+use Rattle.plan_files.specs.Answers.{AreMultipliers, IsMultiplierFault, IsPlan, IsPlanFault}
+use Rattle.plan_files.specs.Files.{Fields, records_of}
+use Rattle.io_edges.specs.Files.{file_named}
 use Rattle.named_equations.specs.Instances.{instances}
 use Rattle.row_core.specs.declared.RowName.{RowName}
 use Rattle.row_core.specs.declared.place.Place.{Place}
-use Rattle.row_book.specs.Books.{CanBeMade, HasStopped}
+use Rattle.row_book.specs.Books.{AreRowsOf, CanBeMade, HasStopped}
 use Rattle.row_book.specs.declared.fail.BookFail.{BookFail}
 use Rattle.row_book.specs.declared.fail.BookFail.TheVariants as book
 use Rattle.io_edges.specs.Count.{Rose}
 use Rattle.osemosys_run.specs.declared.status.Status.{Status}
-use Rattle.osemosys_run.specs.declared.status.Status.TheVariants.{Done, Uncertified, Refused, Words, ReadFault, WriteFault, Memory}
+use Rattle.osemosys_run.specs.declared.status.Status.TheVariants.{Done, Uncertified, Refused, Words, ReadFault, WriteFault, Memory, Rejected}
 use Rattle.osemosys_run.specs.declared.status.Refusal.TheVariants as refusals
 use Rattle.osemosys_run.specs.declared.status.WordFault.{WordFault}
 use Rattle.osemosys_run.specs.Accepted.{Accepted}
-use Rattle.osemosys_run.specs.Complete.{CanBeWritten, Completes}
-use Rattle.osemosys_run.specs.Due.{Due, DueForFile, DueForRequest, DueForText}
+use Rattle.osemosys_run.specs.Complete.{AreInGap, AreThereIfNamed, CanBeAccepted, CanBeWritten, Completes}
+use Rattle.osemosys_run.specs.Due.{Due, DueForFile, DueForOptionalFile, DueForRequest, DueForText}
+use Rattle.osemosys_run.specs.Check.{DueForCheck, DueForMultiplierFile, DueForPlan, DueForPlanFile, IsRejected, TellsMultipliers, check_conditions, multiplier_bound, plan_cost}
 use Rattle.osemosys_run.specs.Lines.{too_long_line}
 use Rattle.osemosys_run.specs.Mps.{DueForEquations}
 use Rattle.osemosys_run.specs.NotAccepted.{DueWhereNotAccepted}
 use Rattle.osemosys_run.specs.Reading.{most_bytes}
 use Rattle.osemosys_run.specs.Sending.{Delivers}
 use Rattle.osemosys_run.specs.Words.{Request}
+use Rattle.osemosys_run.proofs.OutcomeLaws.{fails-parts, of_bound, of_gap, of_plan}
 
--- what the laws of acceptance and of the book say
+-- what the laws of acceptance, of plan files and of the book say
 pub record Laws : Type 0 where
   pub one_data : (text : List ℕ) (d e : Data) → Accepted text d → Accepted text e → d ≡ e
   pub not_both : (text : List ℕ) (d : Data) (status : Status) (line : List ℕ) → Accepted text d → DueWhereNotAccepted text status line → ⊥
+  pub one_plan : (sets : SetLists) (vars : List Var) (all : List Fields) (p q : List (Var × Rational)) → IsPlan sets vars all p → IsPlan sets vars all q → p ≡ q
+  pub one_multipliers : (sets : SetLists) (names : List RowName) (all : List Fields) (p q : List (RowName × Rational)) → AreMultipliers sets names all p → AreMultipliers sets names all q → p ≡ q
+  pub plan_or_fault : (sets : SetLists) (vars : List Var) (all : List Fields) (p : List (Var × Rational)) (fault : PlanFault) → IsPlan sets vars all p → ¬ (IsPlanFault sets vars all fault)
+  pub multipliers_or_fault : (sets : SetLists) (names : List RowName) (all : List Fields) (p : List (RowName × Rational)) (fault : PlanFault) → AreMultipliers sets names all p → ¬ (IsMultiplierFault sets names all fault)
   pub made : (places : ℕ) (d : Data) (before : ℕ) (names : List RowName) (fail : BookFail) → CanBeMade places d before names → HasStopped places d before names fail → fail ≡ book.Memory
 
 width_or_memory : (place : Place) → book.Width place ≡ book.Memory → ⊥
@@ -47,14 +78,116 @@ over_accepted laws Over bytes d status text accepted (inl refused) = absurd (law
 over_accepted laws Over bytes d status text accepted (inr said) =
     subst (λ (e : Data). Over e status text) (laws.one_data bytes said.0 d said.1 accepted) said.2
 
-done_from_due : Laws → (words : List (List ℕ)) (files : List (List ℕ × List ℕ)) (status : Status) (text : List ℕ) → Due words files status text → CanBeWritten words files → status ≡ Done
-done_from_due laws words files status text due can =
+-- over a file that isn't too long what is due is what is due over its bytes
+over_short : (Over : List ℕ → Status → List ℕ → Type 0) (number : ℕ) (bytes : List ℕ) (status : Status) (text : List ℕ) → length bytes ≤ most_bytes → DueForFile Over number (Some bytes) status text → Over bytes status text
+over_short Over number bytes status text short due =
+    let not_long : nat_lt most_bytes (length bytes) ≡ false = le-ltb most_bytes (length bytes) short in
+    subst (λ (b : Bool). MatchBool b ((status ≡ Refused (refusals.TooLong number)) × (text ≡ too_long_line number)) (Over bytes status text)) not_long due
+
+-- ---- checking
+
+-- multipliers are told once, and where they are told their file isn't refused
+one_told : Laws → (d : Data) (bytes : Option (List ℕ)) (m n : Option (List (RowName × Rational))) → TellsMultipliers d bytes m → TellsMultipliers d bytes n → m ≡ n
+one_told laws d None m n h k = h ∙ sym k
+one_told laws d (Some bytes) m n h k = h.1 ∙ ap Some (laws.one_multipliers d.sets (instances d) (records_of bytes) h.0 k.0 h.2 k.2) ∙ sym k.1
+
+none_refused : Laws → (d : Data) (file : Option (List ℕ)) (multipliers : Option (List (RowName × Rational))) (bytes : List ℕ) (fault : PlanFault) → file ≡ Some bytes → TellsMultipliers d file multipliers
+    → IsMultiplierFault d.sets (instances d) (records_of bytes) fault → ⊥
+none_refused laws d None multipliers bytes fault is told first = cc is
+none_refused laws d (Some found) multipliers bytes fault is told first =
+    laws.multipliers_or_fault d.sets (instances d) (records_of found) told.0 fault told.2
+    (subst (λ (b : List ℕ). IsMultiplierFault d.sets (instances d) (records_of b) fault) (sym (same_Some found bytes is)) first)
+
+positive_of : (s : ℕ) → 0 < s → pos 0 <ℤ pos s
+positive_of s h = omega (arith, ints)
+
+module _ (places : ℕ) (d : Data) (rows : List Row) (are_rows : AreRowsOf places d (instances d) rows) (plan : List (Var × Rational))
+    (feasible : (q : ℕ) × (x : Var → ℤ) × AreValuesOver q x plan × Feasible places d q x) where
+  over : AreValuesOver feasible.0 feasible.1 plan
+  over = feasible.2
+
+  cost-positive : pos 0 <ℤ (plan_cost d plan).bottom
+  cost-positive =
+      (sum-IsOver (pos feasible.0) feasible.1 (value_in var_cmp plan) (whole (pos 0)) (pos 0) (cost_entries model_cost (all_variables d)) over.1
+      (IsOver-zero (pos feasible.0))).positive
+
+  -- nothing is rejected of a feasible plan, and of multipliers that prove their bound and keep the gap
+  nothing-rejected : (multipliers : Option (List (RowName × Rational))) (gap : ℕ) (status : Status) (text : List ℕ) → AreInGap d rows plan multipliers gap
+      → IsRejected places d rows plan multipliers gap status text → ⊥
+  nothing-rejected None gap status text kept rejected = rejected.infeasible rejected.fails feasible.0 feasible.1 feasible.2 feasible.3
+  nothing-rejected (Some multipliers) gap status text kept rejected =
+      let reason = reason_of rejected.rejection in
+      elim (fails-parts (of_plan d rows plan) (of_bound d rows multipliers ++ of_gap d rows plan multipliers gap) reason rejected.fails) [
+        | inl fails ↦ rejected.infeasible fails feasible.0 feasible.1 feasible.2 feasible.3
+        | inr later ↦ elim (fails-parts (of_bound d rows multipliers) (of_gap d rows plan multipliers gap) reason later.1) [
+          | inl fails ↦ bound_no rows (all_variables d) multipliers kept.0.0 kept.0.1 kept.0.2 model_cost (verdicts.No rejected.rejection) fails kept.0.3
+          | inr last ↦ gap_no (plan_cost d plan) (multiplier_bound rows multipliers) gap cost-positive (bound-over kept.0.0 kept.0.1 (value_in row_name_cmp multipliers) (positive_of kept.0.0 kept.0.2.0) kept.0.2.1 rows).positive (verdicts.No rejected.rejection) last.1 kept.1
+        ]
+      ]
+
+  plan_done : (multipliers : Option (List (RowName × Rational))) (gap : ℕ) (status : Status) (text : List ℕ) → AreInGap d rows plan multipliers gap
+      → first_wide (steps (check_conditions d rows plan multipliers gap)) ≡ None → DueForPlan places d rows plan multipliers gap status text → status ≡ Done
+  plan_done multipliers gap status text kept fit (inl accepted) = accepted.status_is
+  plan_done multipliers gap status text kept fit (inr (inl rejected)) = absurd (nothing-rejected multipliers gap status text kept rejected)
+  plan_done multipliers gap status text kept fit (inr (inr wide)) = absurd (cc (sym fit ∙ wide.wide))
+
+written_from_due : Laws → (words : List (List ℕ)) (files : List (List ℕ × List ℕ)) (status : Status) (text : List ℕ) → Due words files status text → CanBeWritten words files → status ≡ Done
+written_from_due laws words files status text due can =
     let for_file = subst (λ (request : Result Request WordFault). DueForRequest request files status text) can.asks due in
     let for_bytes = subst (λ (file : Option (List ℕ)). DueForFile (DueForText (DueForEquations can.places)) 1 file status text) can.there for_file in
-    let not_long : nat_lt most_bytes (length can.bytes) ≡ false = le-ltb most_bytes (length can.bytes) can.accepted.short in
-    let for_text =
-    subst (λ (b : Bool). MatchBool b ((status ≡ Refused (refusals.TooLong 1)) × (text ≡ too_long_line 1)) (DueForText (DueForEquations can.places) can.bytes status text)) not_long for_bytes in
+    let for_text = over_short (DueForText (DueForEquations can.places)) 1 can.bytes status text can.accepted.short for_bytes in
     equations_done laws can.places can.d status text can.made (over_accepted laws (DueForEquations can.places) can.bytes can.d status text can.accepted for_text)
+
+-- over the file of multipliers, if one is named
+over_named : (Over : Option (List ℕ) → Status → List ℕ → Type 0) (files : List (List ℕ × List ℕ)) (name bytes : Option (List ℕ)) (status : Status) (text : List ℕ)
+    → AreThereIfNamed files name bytes → DueForOptionalFile Over 3 files name status text → Over bytes status text
+over_named Over files None bytes status text there due = subst (λ (b : Option (List ℕ)). Over b status text) (sym there) due
+over_named Over files (Some name) bytes status text there due =
+    subst (λ (b : Option (List ℕ)). Over b status text) (sym there.1)
+    (over_short (λ found. Over (Some found)) 3 there.0 status text there.3
+    (subst (λ (file : Option (List ℕ)). DueForFile (λ found. Over (Some found)) 3 file status text) there.2 due))
+
+-- over data of which the rows can be made, with a feasible plan
+module _ (laws : Laws) (words : List (List ℕ)) (files : List (List ℕ × List ℕ)) (status : Status) (text : List ℕ) (can : CanBeAccepted words files) where
+  plan_accepted : (rows : List Row) → AreRowsOf can.places can.d (instances can.d) rows → (multipliers : Option (List (RowName × Rational))) → TellsMultipliers can.d can.multiplier_bytes multipliers
+      → DueForPlan can.places can.d rows can.plan multipliers can.gap status text → status ≡ Done
+  plan_accepted rows are multipliers told due =
+      let same : multipliers ≡ can.multipliers = one_told laws can.d can.multiplier_bytes multipliers can.multipliers told can.multipliers_told in
+      plan_done can.places can.d rows are can.plan can.feasible can.multipliers can.gap status text (can.in_gap rows are) (can.fit rows are)
+      (subst (λ (m : Option (List (RowName × Rational))). DueForPlan can.places can.d rows can.plan m can.gap status text) same due)
+
+  multipliers_accepted : (rows : List Row) → AreRowsOf can.places can.d (instances can.d) rows → DueForMultiplierFile can.places can.d rows can.plan can.multiplier_bytes can.gap status text → status ≡ Done
+  multipliers_accepted rows are (inl refused) =
+      absurd (none_refused laws can.d can.multiplier_bytes can.multipliers refused.0 refused.2.fault refused.1 can.multipliers_told refused.2.first)
+  multipliers_accepted rows are (inr read) = plan_accepted rows are read.0 read.1 read.2
+
+  files_accepted : (rows : List Row) → AreRowsOf can.places can.d (instances can.d) rows → DueForPlanFile can.places can.d rows can.plan_bytes can.multiplier_bytes can.gap status text → status ≡ Done
+  files_accepted rows are (inl refused) = absurd (laws.plan_or_fault can.d.sets (all_variables can.d) (records_of can.plan_bytes) can.plan refused.fault can.plan_told refused.first)
+  files_accepted rows are (inr read) =
+      multipliers_accepted rows are
+      (subst (λ (p : List (Var × Rational)). DueForMultiplierFile can.places can.d rows p can.multiplier_bytes can.gap status text)
+      (laws.one_plan can.d.sets (all_variables can.d) (records_of can.plan_bytes) read.0 can.plan read.1 can.plan_told) read.2)
+
+  data_accepted : DueForCheck can.places can.plan_bytes can.multiplier_bytes can.gap can.d status text → status ≡ Done
+  data_accepted (inl made) = files_accepted made.rows made.are_rows made.due
+  data_accepted (inr (inl wide)) = equations_done laws can.places can.d status text can.made (inr (inl wide))
+  data_accepted (inr (inr many)) = equations_done laws can.places can.d status text can.made (inr (inr many))
+
+accepted_from_due : Laws → (words : List (List ℕ)) (files : List (List ℕ × List ℕ)) (status : Status) (text : List ℕ) → Due words files status text → CanBeAccepted words files → status ≡ Done
+accepted_from_due laws words files status text due can =
+    let third : List ℕ → List ℕ → Option (List ℕ) → Status → List ℕ → Type 0 = λ bytes plan_bytes multiplier_bytes. DueForText (DueForCheck can.places plan_bytes multiplier_bytes can.gap) bytes in
+    let second : List ℕ → List ℕ → Status → List ℕ → Type 0 = λ bytes plan_bytes. DueForOptionalFile (third bytes plan_bytes) 3 files can.multiplier_name in
+    let first : List ℕ → Status → List ℕ → Type 0 = λ bytes. DueForFile (second bytes) 2 (file_named files can.plan_name) in
+    let for_files = subst (λ (request : Result Request WordFault). DueForRequest request files status text) can.asks due in
+    let for_bytes = over_short first 1 can.bytes status text can.accepted.short (subst (λ (file : Option (List ℕ)). DueForFile first 1 file status text) can.there for_files) in
+    let for_plan = over_short (second can.bytes) 2 can.plan_bytes status text can.plan_short (subst (λ (file : Option (List ℕ)). DueForFile (second can.bytes) 2 file status text) can.plan_there for_bytes) in
+    let for_text = over_named (third can.bytes can.plan_bytes) files can.multiplier_name can.multiplier_bytes status text can.multipliers_there for_plan in
+    data_accepted laws words files status text can
+    (over_accepted laws (DueForCheck can.places can.plan_bytes can.multiplier_bytes can.gap) can.bytes can.d status text can.accepted for_text)
+
+done_from_due : Laws → (words : List (List ℕ)) (files : List (List ℕ × List ℕ)) (status : Status) (text : List ℕ) → Due words files status text → CanBeWritten words files ⊎ CanBeAccepted words files → status ≡ Done
+done_from_due laws words files status text due (inl can) = written_from_due laws words files status text due can
+done_from_due laws words files status text due (inr can) = accepted_from_due laws words files status text due can
 
 -- over a sink without a fault what is delivered is that
 pub completes : Laws → (words : List (List ℕ)) (files : List (List ℕ × List ℕ)) (status : Status) (before after : Option (List ℕ)) (f f' : ℕ)
@@ -65,4 +198,5 @@ completes laws words files (Refused refusal) before after f f' d calm can = inl 
 completes laws words files (Words fault) before after f f' d calm can = inl (done_from_due laws words files (Words fault) d.0 d.1 can)
 completes laws words files (ReadFault stop) before after f f' d calm can = inl (done_from_due laws words files (ReadFault stop) d.0 d.1 can)
 completes laws words files WriteFault before after f f' d calm can = absurd (calm d.0)
+completes laws words files (Rejected rejection) before after f f' d calm can = inl (done_from_due laws words files (Rejected rejection) d.0 d.1 can)
 completes laws words files Memory before after f f' d calm can = inr refl

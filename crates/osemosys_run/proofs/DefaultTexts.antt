@@ -1,5 +1,5 @@
 -- Texts of a data section that name the members of sets and the defaults of parameters, a line each: they say just that.
-use Rattle.std.proofs.Common.{◌≡◌, ◌≢◌, ℕ, ℤ, Bool, true, false, ◌&&◌, inr, List, [], ◌∷◌, ◌++◌, map, codes, Option, Some, None, refl, sym, ap, ◌∙◌}
+use Rattle.std.proofs.Common.{◌≡◌, ◌≢◌, ℕ, ℤ, Bool, true, false, inr, List, [], ◌∷◌, ◌++◌, map, codes, Option, Some, None, refl, ap}
 use Rattle.std.specs.List.{list_all}
 use Rattle.mathprog_data.proofs.NamesOnce.{new-names}
 use Rattle.mathprog_data.proofs.NumberReadingLaws.{reading-Reads}

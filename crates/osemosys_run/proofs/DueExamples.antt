@@ -3,15 +3,16 @@ use Rattle.std.proofs.Common.{◌≡◌, ℕ, ◌<◌, ◌≤◌, ◌-◌, ◌^�
 use Rattle.std.specs.Prelude.{codes, Option, Some, None, ⊤}
 use Rattle.std.specs.Fmt.{digits}
 use Rattle.model_sets.specs.Data.{Data}
+use Rattle.mathprog_data.specs.declared.fault.DataFault.{DataFault}
 use Rattle.osemosys_run.specs.declared.status.Status.{Status}
-use Rattle.osemosys_run.specs.declared.status.Status.TheVariants.{Done, Uncertified, Refused, Words, ReadFault, WriteFault, Memory}
+use Rattle.osemosys_run.specs.declared.status.Status.TheVariants.{Done, Uncertified, Refused, Words, ReadFault, WriteFault, Memory, Rejected}
 use Rattle.osemosys_run.specs.declared.status.Refusal.TheVariants as refusals
 use Rattle.osemosys_run.specs.declared.status.WordFault.TheVariants as faults
 use Rattle.osemosys_run.specs.declared.status.ReadStop.TheVariants as stops
 use Rattle.io_edges.specs.Count.{Rose}
 use Rattle.io_edges.specs.Edges.{Lacks}
 use Rattle.osemosys_run.specs.Causes.{Caused, CausedByFile, FollowsFromText}
-use Rattle.osemosys_run.specs.Complete.{CanBeWritten, Completes}
+use Rattle.osemosys_run.specs.Complete.{CanBeAccepted, CanBeWritten, Completes}
 use Rattle.osemosys_run.specs.Due.{Due, DueForFile, DueForText}
 use Rattle.osemosys_run.specs.Lines.{too_long_line}
 use Rattle.osemosys_run.specs.Mps.{DueForEquations}
@@ -30,11 +31,14 @@ Comes (Refused (refusals.Text fault)) = ⊤
 Comes (Refused (refusals.Sets fault)) = ⊤
 Comes (Refused (refusals.Build fault)) = ⊤
 Comes (Refused refusals.TooManyEntries) = ⊤
+Comes (Refused (refusals.PlanFile fault)) = ⊥
+Comes (Refused (refusals.MultiplierFile fault)) = ⊥
 Comes (Refused (refusals.TooLong file)) = ⊥
 Comes (Words fault) = ⊥
 Comes (ReadFault stop) = ⊥
 Comes WriteFault = ⊥
 Comes Memory = ⊥
+Comes (Rejected rejection) = ⊥
 
 comes_of_equations : (places : ℕ) (d : Data) (status : Status) (text : List ℕ) → DueForEquations places d status text → Comes status
 comes_of_equations places d status text (inl written) = subst Comes (sym written.status_is) tt
@@ -87,6 +91,31 @@ too_long_due bytes e =
 
 not_too_long : (bytes line : List ℕ) → length bytes ≡ 67108864 → DueForFile (DueForText (DueForEquations 6)) 1 (Some bytes) (Refused (refusals.TooLong 1)) line → DueForText (DueForEquations 6) bytes (Refused (refusals.TooLong 1)) line
 not_too_long bytes line e h = rw e at h
+
+-- ---- what is due of several files
+
+-- the words `check FILE PLAN` and `check FILE PLAN BOUND`
+abbrev check_plan : List (List ℕ)
+check_plan = codes "check" ∷ codes "FILE" ∷ codes "PLAN" ∷ []
+
+abbrev check_bound : List (List ℕ)
+check_bound = codes "check" ∷ codes "FILE" ∷ codes "PLAN" ∷ codes "BOUND" ∷ []
+
+-- the files are looked at in order, and all of them before what the first one says
+first_of_two : Due check_plan [] (ReadFault (stops.NoFile 1)) (codes "no such file 1\n")
+unfolding digits
+first_of_two = (refl, refl)
+
+second_before_the_text : Due check_plan (with_file (codes "no data")) (ReadFault (stops.NoFile 2)) (codes "no such file 2\n")
+unfolding digits
+second_before_the_text = (refl, refl)
+
+text_not_before_the_second : (fault : DataFault) (line : List ℕ) → Due check_plan (with_file (codes "no data")) (Refused (refusals.Text fault)) line → ⊥
+text_not_before_the_second fault line h = cc h.0
+
+third_before_the_plan : Due check_bound ((codes "FILE", codes "no data") ∷ (codes "PLAN", codes "no plan") ∷ []) (ReadFault (stops.NoFile 3)) (codes "no such file 3\n")
+unfolding digits
+third_before_the_plan = (refl, refl)
 
 -- ---- what a call may leave
 
@@ -261,14 +290,18 @@ cut_for_nothing (inr (inr (inr h))) = let many : 67108864 < 9 = h in omega (arit
 nothing_asked : (files : List (List ℕ × List ℕ)) → CanBeWritten [] files → ⊥
 nothing_asked files can = cc can.asks
 
+nothing_to_check : (files : List (List ℕ × List ℕ)) → CanBeAccepted [] files → ⊥
+nothing_to_check files can = cc can.asks
+
 -- a file that isn't there, and one of another name
 not_there : CanBeWritten mps_file [] → ⊥
 not_there can = cc can.there
 
 -- a file that can't be written may have any status; one that can has no refusal
 no_claim : (status : Status) → Completes [] [] status
-no_claim status can = absurd (nothing_asked [] can)
+no_claim status (inl can) = absurd (nothing_asked [] can)
+no_claim status (inr can) = absurd (nothing_to_check [] can)
 
 not_refused : (words : List (List ℕ)) (files : List (List ℕ × List ℕ)) → CanBeWritten words files → Completes words files (Refused refusals.TooManyEntries) → ⊥
 not_refused words files can completes =
-    elim (completes can) [ inl done ↦ let same : Refused refusals.TooManyEntries ≡ Done = done in cc same | inr memory ↦ let same : Refused refusals.TooManyEntries ≡ Memory = memory in cc same ]
+    elim (completes (inl can)) [ inl done ↦ let same : Refused refusals.TooManyEntries ≡ Done = done in cc same | inr memory ↦ let same : Refused refusals.TooManyEntries ≡ Memory = memory in cc same ]

@@ -4,10 +4,14 @@ use Rattle.std.specs.Prelude.{codes}
 use Rattle.std.specs.Fmt.{digits}
 use Rattle.model_sets.specs.Members.{SetLists}
 use Rattle.row_core.specs.Names.{caa2}
-use Rattle.param_tables.specs.Refusals.{StorageMember, UnknownName, GivenBefore, TooManyIndices, AtIndex}
+use Rattle.param_tables.specs.Refusals.{StorageMember, UnknownName, GivenBefore, AtIndex}
 use Rattle.param_tables.specs.declared.fault.CellFault.TheVariants.{NoValue, OutOfRange, WholeUnits}
 use Rattle.row_core.specs.declared.place.Place.{Place}
 use Rattle.osemosys_run.specs.declared.status.Stop.TheVariants.{Width}
+use Rattle.certificate_checker.specs.declared.verdicts.Rejection.TheVariants.{WrongMultiplier, WrongSign}
+use Rattle.named_equations.specs.Variables.{new_capacity}
+use Rattle.plan_files.specs.declared.faults.PlanFault.TheVariants.{Missing}
+use Rattle.osemosys_run.specs.CheckLines.{plan_fault_line, rejected_line}
 use Rattle.osemosys_run.specs.Lines.{entries_line, uncertified_line}
 use Rattle.osemosys_run.specs.RefusalLines.{text_line, set_line, data_line}
 
@@ -36,9 +40,6 @@ value_twice : data_line (GivenBefore (record { line = 2; column = 10 })) ≡ cod
 unfolding digits
 value_twice = refl
 
-too_many : data_line (TooManyIndices 14) ≡ codes "refused TooManyCells OutputActivityRatio\n"
-too_many = refl
-
 -- the members stand in the parameter's own order of subscripts: region, fuel, timeslice, year
 no_value : data_line (AtIndex NoValue 6 (codes "R" ∷ codes "F" ∷ codes "D" ∷ codes "2020" ∷ [])) ≡ codes "refused NoValue SpecifiedDemandProfile[R,F,D,2020]\n"
 no_value = refl
@@ -57,6 +58,15 @@ two_regions =
 
 wide_row : uncertified_line two_regions (Width (Place.Row (caa2 1 0 0))) ≡ codes "uncertified width row CAa2[B,T,2020]\n"
 wide_row = refl
+
+wrong_sign : rejected_line two_regions (WrongSign (new_capacity 1 0 0)) ≡ codes "rejected sign NewCapacity[B,T,2020]\n"
+wrong_sign = refl
+
+wrong_multiplier : rejected_line two_regions (WrongMultiplier (caa2 1 0 0)) ≡ codes "rejected multiplier CAa2[B,T,2020]\n"
+wrong_multiplier = refl
+
+missing_variable : plan_fault_line two_regions (Missing (new_capacity 0 0 0)) ≡ codes "refused plan Missing NewCapacity[A,T,2020]\n"
+missing_variable = refl
 
 too_many_entries : entries_line ≡ codes "refused too many entries\n"
 too_many_entries = refl

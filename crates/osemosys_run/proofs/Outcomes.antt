@@ -1,45 +1,51 @@
 -- From the cause of an answer to what is due, and from the answer to what was delivered.
 use Rattle.std.proofs.Common.{◌≡◌, ◌≢◌, ℕ, inl, inr, List, ◌++◌, length, Option, Some, None, Result, Ok, Err, Bool, true, false, refl, sym, ◌∙◌, subst, MatchBool, nat_lt, le-ltb, lt-ltb}
 use Rattle.model_sets.specs.Data.{Data}
+use Rattle.exact_num.specs.Rational.{Rational}
+use Rattle.row_core.specs.declared.Row.{Row}
+use Rattle.row_core.specs.declared.RowName.{RowName}
+use Rattle.row_core.specs.declared.Var.{Var}
 use Rattle.row_core.specs.declared.place.Place.{Place}
 use Rattle.io_edges.specs.Count.{Rose}
 use Rattle.io_edges.specs.Edges.{Lacks}
 use Rattle.io_edges.specs.Files.{file_named}
 use Rattle.io_edges.specs.Told.{WhereTold}
 use Rattle.osemosys_run.specs.declared.status.Status.{Status}
-use Rattle.osemosys_run.specs.declared.status.Status.TheVariants.{Done, Uncertified, Refused, Words, ReadFault, WriteFault, Memory}
+use Rattle.osemosys_run.specs.declared.status.Status.TheVariants.{Done, Uncertified, Refused, Words, ReadFault, WriteFault, Memory, Rejected}
 use Rattle.osemosys_run.specs.declared.status.Refusal.{Refusal}
 use Rattle.osemosys_run.specs.declared.status.Refusal.TheVariants as refusals
 use Rattle.osemosys_run.specs.declared.status.Stop.{Stop}
 use Rattle.osemosys_run.specs.declared.status.ReadStop.TheVariants as stops
 use Rattle.osemosys_run.specs.declared.status.WordFault.{WordFault}
-use Rattle.osemosys_run.specs.Causes.{Caused, CausedByFile, CausedByRequest, FollowsFromText, StopsAtFile}
-use Rattle.osemosys_run.specs.Due.{Due, DueForFile, DueForRequest, DueForText}
+use Rattle.osemosys_run.specs.Causes.{Caused, CausedByFile, CausedByOptionalFile, CausedByRequest, FollowsFromText, StopsAtFile}
+use Rattle.osemosys_run.specs.Due.{Due, DueForFile, DueForOptionalFile, DueForRequest, DueForText}
+use Rattle.osemosys_run.specs.Check.{DueForCheck, DueForMultiplierFile, DueForPlan, DueForPlanFile}
 use Rattle.osemosys_run.specs.Lines.{too_long_line}
 use Rattle.osemosys_run.specs.Mps.{DueForEquations}
 use Rattle.osemosys_run.specs.NotAccepted.{DueWhereNotAccepted}
-use Rattle.osemosys_run.specs.Reading.{Sight, most_bytes, IsWholeFile}
+use Rattle.osemosys_run.specs.Reading.{BeganOne, Sight, most_bytes, IsWholeFile}
 use Rattle.osemosys_run.specs.Sending.{Delivers}
-use Rattle.osemosys_run.specs.Words.{Request, Mps, asked}
+use Rattle.osemosys_run.specs.Words.{Request, Check, Mps, asked}
+use Rattle.osemosys_run.proofs.FilesRead.{rose-since}
 
 -- ---- what is due
 
 -- where the file is known and the shelf had no fault, the answer with its cause is the one due
 pub due_for_file : (Then : Sight → List ℕ → Type 0) (Over : List ℕ → Status → List ℕ → Type 0) (number : ℕ) (name : List ℕ) (before after : Sight)
     (files : List (List ℕ × List ℕ)) (status : Status) (text : List ℕ) → before.files ≡ Some files → (Rose before.faults after.faults → ⊥)
-    → ((there : Sight) (bytes : List ℕ) → Then there bytes → Over bytes status text)
+    → ((there : Sight) (bytes : List ℕ) → BeganOne before there → Then there bytes → Over bytes status text)
     → CausedByFile Then number name before after status text → DueForFile Over number (file_named files name) status text
 due_for_file Then Over number name before after files status text told calm follows caused = by_cause caused
   where
     TooLong : Type 0
     TooLong = (status ≡ Refused (refusals.TooLong number)) × (text ≡ too_long_line number)
 
-    whole : (there : Sight) (bytes : List ℕ) → IsWholeFile before.files name bytes before.rest there.rest there.taken → Then there bytes
+    whole : (there : Sight) (bytes : List ℕ) → BeganOne before there → IsWholeFile before.files name bytes before.rest there.rest there.taken → Then there bytes
         → DueForFile Over number (file_named files name) status text
-    whole there bytes w next =
+    whole there bytes began w next =
         let not_long : nat_lt most_bytes (length bytes) ≡ false = le-ltb most_bytes (length bytes) w.short in
         subst (λ (o : Option (List ℕ)). DueForFile Over number o status text) (sym (w.named files told))
-        (subst (λ (b : Bool). MatchBool b ((status ≡ Refused (refusals.TooLong number)) × (text ≡ too_long_line number)) (Over bytes status text)) (sym not_long) (follows there bytes next))
+        (subst (λ (b : Bool). MatchBool b ((status ≡ Refused (refusals.TooLong number)) × (text ≡ too_long_line number)) (Over bytes status text)) (sym not_long) (follows there bytes began next))
 
     stopped : StopsAtFile number name before after status text → DueForFile Over number (file_named files name) status text
     stopped (inl (s, t, l)) =
@@ -53,8 +59,18 @@ due_for_file Then Over number name before after files status text told calm foll
     stopped (inr (inr (s, t, rose))) = absurd (calm rose)
 
     by_cause : CausedByFile Then number name before after status text → DueForFile Over number (file_named files name) status text
-    by_cause (inl c) = whole c.0 c.1 c.3 c.4
+    by_cause (inl c) = whole c.0 c.1 c.2 c.3 c.4
     by_cause (inr c) = stopped c.1
+
+-- the same of a file that may be named
+due_for_optional : (Then : Sight → Option (List ℕ) → Type 0) (Over : Option (List ℕ) → Status → List ℕ → Type 0) (number : ℕ) (name : Option (List ℕ)) (before after : Sight)
+    (files : List (List ℕ × List ℕ)) (status : Status) (text : List ℕ) → before.files ≡ Some files → (Rose before.faults after.faults → ⊥)
+    → ((there : Sight) (bytes : Option (List ℕ)) → Then there bytes → Over bytes status text)
+    → CausedByOptionalFile Then number name before after status text → DueForOptionalFile Over number files name status text
+due_for_optional Then Over number None before after files status text told calm follows c = follows before None c
+due_for_optional Then Over number (Some name) before after files status text told calm follows c =
+    due_for_file (λ there bytes. Then there (Some bytes)) (λ bytes. Over (Some bytes)) number name before after files status text told calm
+    (λ there bytes began then. follows there (Some bytes) then) c
 
 pub due_from_cause : (words : List (List ℕ)) (before after : Sight) (files : List (List ℕ × List ℕ)) (status : Status) (text : List ℕ)
     → before.files ≡ Some files → (Rose before.faults after.faults → ⊥) → Caused words before after status text → Due words files status text
@@ -63,7 +79,24 @@ due_from_cause words before after files status text told calm caused = by_reques
     by_request : (request : Result Request WordFault) → CausedByRequest request before after status text → DueForRequest request files status text
     by_request (Err fault) c = (c.0, c.1)
     by_request (Ok (Mps name places)) c =
-        due_for_file (FollowsFromText (DueForEquations places) after status text) (DueForText (DueForEquations places)) 1 name before after files status text told calm (λ there bytes follows. follows.1) c
+        due_for_file (FollowsFromText (DueForEquations places) after status text) (DueForText (DueForEquations places)) 1 name before after files status text told calm (λ there bytes began follows. follows.1) c
+    by_request (Ok (Check name plan multipliers gap places)) c =
+        let third : List ℕ → List ℕ → Sight → Option (List ℕ) → Type 0 =
+        λ bytes plan_bytes there multiplier_bytes. FollowsFromText (DueForCheck places plan_bytes multiplier_bytes gap) after status text there bytes in
+        let second_then : List ℕ → Sight → List ℕ → Type 0 = λ bytes second plan_bytes. CausedByOptionalFile (third bytes plan_bytes) 3 multipliers second after status text in
+        let first_then : Sight → List ℕ → Type 0 = λ first bytes. CausedByFile (second_then bytes) 2 plan first after status text in
+        let third_due : List ℕ → List ℕ → Option (List ℕ) → Status → List ℕ → Type 0 = λ bytes plan_bytes multiplier_bytes. DueForText (DueForCheck places plan_bytes multiplier_bytes gap) bytes in
+        let second_due : List ℕ → List ℕ → Status → List ℕ → Type 0 = λ bytes plan_bytes. DueForOptionalFile (third_due bytes plan_bytes) 3 files multipliers in
+        let first_due : List ℕ → Status → List ℕ → Type 0 = λ bytes. DueForFile (second_due bytes) 2 (file_named files plan) in
+        due_for_file first_then first_due 1 name before after files status text told calm
+        (λ first bytes first_began second_cause.
+        due_for_file (second_then bytes) (second_due bytes) 2 plan first after files status text (first_began.files ∙ told)
+        (λ rose. calm (rose-since before first after first_began.faults rose))
+        (λ second plan_bytes second_began third_cause.
+        due_for_optional (third bytes plan_bytes) (third_due bytes plan_bytes) 3 multipliers second after files status text (second_began.files ∙ (first_began.files ∙ told))
+        (λ rose. calm (rose-since before first after first_began.faults (rose-since first second after second_began.faults rose)))
+        (λ there multiplier_bytes follows. follows.1) third_cause)
+        second_cause) c
 
 -- ---- which statuses an answer has
 
@@ -81,6 +114,27 @@ equations_are : (places : ℕ) (d : Data) (status : Status) (text : List ℕ) �
 equations_are places d status text (inl written) = is_other status Done (λ h. cc) (λ h. cc) written.status_is
 equations_are places d status text (inr (inl wide)) = is_other status (Uncertified (Stop.Width (Place.Row wide.name))) (λ h. cc) (λ h. cc) wide.status_is
 equations_are places d status text (inr (inr many)) = refused_is status refusals.TooManyEntries many.status_is
+
+plan_is : (places : ℕ) (d : Data) (rows : List Row) (plan : List (Var × Rational)) (multipliers : Option (List (RowName × Rational))) (gap : ℕ) (status : Status) (text : List ℕ)
+    → DueForPlan places d rows plan multipliers gap status text → IsAnswer status
+plan_is places d rows plan multipliers gap status text (inl accepted) = is_other status Done (λ h. cc) (λ h. cc) accepted.status_is
+plan_is places d rows plan multipliers gap status text (inr (inl rejected)) = is_other status (Rejected rejected.rejection) (λ h. cc) (λ h. cc) rejected.status_is
+plan_is places d rows plan multipliers gap status text (inr (inr wide)) = is_other status (Uncertified (Stop.Width wide.place)) (λ h. cc) (λ h. cc) wide.status_is
+
+multiplier_file_is : (places : ℕ) (d : Data) (rows : List Row) (plan : List (Var × Rational)) (bytes : Option (List ℕ)) (gap : ℕ) (status : Status) (text : List ℕ)
+    → DueForMultiplierFile places d rows plan bytes gap status text → IsAnswer status
+multiplier_file_is places d rows plan bytes gap status text (inl refused) = refused_is status (refusals.MultiplierFile refused.2.fault) refused.2.status_is
+multiplier_file_is places d rows plan bytes gap status text (inr read) = plan_is places d rows plan read.0 gap status text read.2
+
+plan_file_is : (places : ℕ) (d : Data) (rows : List Row) (plan_bytes : List ℕ) (bytes : Option (List ℕ)) (gap : ℕ) (status : Status) (text : List ℕ)
+    → DueForPlanFile places d rows plan_bytes bytes gap status text → IsAnswer status
+plan_file_is places d rows plan_bytes bytes gap status text (inl refused) = refused_is status (refusals.PlanFile refused.fault) refused.status_is
+plan_file_is places d rows plan_bytes bytes gap status text (inr read) = multiplier_file_is places d rows read.0 bytes gap status text read.2
+
+check_is : (places : ℕ) (plan_bytes : List ℕ) (bytes : Option (List ℕ)) (gap : ℕ) (d : Data) (status : Status) (text : List ℕ) → DueForCheck places plan_bytes bytes gap d status text → IsAnswer status
+check_is places plan_bytes bytes gap d status text (inl made) = plan_file_is places d made.rows plan_bytes bytes gap status text made.due
+check_is places plan_bytes bytes gap d status text (inr (inl wide)) = is_other status (Uncertified (Stop.Width (Place.Row wide.name))) (λ h. cc) (λ h. cc) wide.status_is
+check_is places plan_bytes bytes gap d status text (inr (inr many)) = refused_is status refusals.TooManyEntries many.status_is
 
 not_accepted_is : (bytes : List ℕ) (status : Status) (text : List ℕ) → DueWhereNotAccepted bytes status text → IsAnswer status
 not_accepted_is bytes status text (inl refused) = refused_is status (refusals.Text refused.fault) refused.status_is
@@ -106,6 +160,14 @@ is_answer words before after status text caused = by_request (asked words) cause
     by_request (Err fault) c = is_other status (Words fault) (λ h. cc) (λ h. cc) c.0
     by_request (Ok (Mps name places)) (inl whole) = text_is (DueForEquations places) (equations_are places) whole.1 status text whole.4.1
     by_request (Ok (Mps name places)) (inr stopped) = stop_is 1 name before after status text stopped.1
+    by_request (Ok (Check name plan multipliers gap places)) (inr stopped) = stop_is 1 name before after status text stopped.1
+    by_request (Ok (Check name plan multipliers gap places)) (inl (first, bytes, began, whole, inr stopped)) = stop_is 2 plan first after status text stopped.1
+    by_request (Ok (Check name plan None gap places)) (inl (first, bytes, began, whole, inl (second, plan_bytes, second_began, second_whole, follows))) =
+        text_is (DueForCheck places plan_bytes None gap) (check_is places plan_bytes None gap) bytes status text follows.1
+    by_request (Ok (Check name plan (Some multipliers) gap places)) (inl (first, bytes, began, whole, inl (second, plan_bytes, second_began, second_whole, inr stopped))) =
+        stop_is 3 multipliers second after status text stopped.1
+    by_request (Ok (Check name plan (Some multipliers) gap places)) (inl (first, bytes, began, whole, inl (second, plan_bytes, second_began, second_whole, inl (third, multiplier_bytes, third_began, third_whole, follows)))) =
+        text_is (DueForCheck places plan_bytes (Some multiplier_bytes) gap) (check_is places plan_bytes (Some multiplier_bytes) gap) bytes status text follows.1
 
 -- ---- what is delivered
 
@@ -118,4 +180,5 @@ delivered due (Refused refusal) text before after f f' d answer written = (text,
 delivered due (Words fault) text before after f f' d answer written = (text, d, written)
 delivered due (ReadFault stop) text before after f f' d answer written = (text, d, written)
 delivered due WriteFault text before after f f' d answer written = absurd (answer.0 refl)
+delivered due (Rejected rejection) text before after f f' d answer written = (text, d, written)
 delivered due Memory text before after f f' d answer written = absurd (answer.1 refl)

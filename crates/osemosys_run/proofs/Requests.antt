@@ -1,45 +1,87 @@
--- Where the words ask for the equations of a file, they ask for written factors of 6 or 9 decimal places.
-use Rattle.std.proofs.Common.{◌≡◌, ℕ, inl, inr, List, [], ◌∷◌, Option, Some, None, Ok, Err, Bool, true, false, cond, refl, ap}
-use Rattle.std.specs.Prelude.{codes}
+-- The words ask for written factors of 6 or 9 decimal places.
+use Rattle.std.proofs.Common.{◌≡◌, ℕ, inl, inr, List, [], ◌∷◌, Option, Some, None, Result, Ok, Err, Bool, true, false, cond, ◌&&◌, is_some, not, refl, subst}
+use Rattle.std.specs.Prelude.{codes, ⊤}
 use Rattle.std.specs.Str.{bytes_eq}
 use Rattle.discount_factors.specs.Factors.{IsPlaces}
-use Rattle.osemosys_run.specs.declared.status.WordFault.TheVariants.{BadNumber, BadForm}
-use Rattle.osemosys_run.specs.CommandLine.{CommandName, MpsName, CheckName, SolveName, MakeName, allows_all, command_after, command_named, command_of, command_with, files_in, mps_of, or_fault, value_in}
+use Rattle.osemosys_run.specs.declared.status.WordFault.{WordFault}
+use Rattle.osemosys_run.specs.declared.status.WordFault.TheVariants.{BadNumber, BadForm, GapAlone}
+use Rattle.osemosys_run.specs.CommandLine.{CommandName, MpsName, CheckName, SolveName, MakeName, allows_all, check_of, command_after, command_named, command_of, command_with, files_in, mps_of, or_fault, value_in}
 use Rattle.osemosys_run.specs.CommandLine as all
 use Rattle.osemosys_run.specs.WordParts.{Gap, Pivots, Places, Show, Part, parts_of}
-use Rattle.osemosys_run.specs.Words.{Mps, asked, built, request_of_any}
+use Rattle.osemosys_run.specs.WordValues.{gap_of, places_of}
+use Rattle.osemosys_run.specs.Words.{Request, Check, Mps, asked, built, request_of_any}
 
-module _ (name : List ℕ) (places : ℕ) where
-  of_value : (file : List ℕ) (value : Option (List ℕ)) → request_of_any (mps_of file value) ≡ Ok (Mps name places) → IsPlaces places
-  of_value file None e = inl cc
-  of_value file (Some text) e = go (bytes_eq text (codes "6")) (bytes_eq text (codes "9")) e
-    where
-      go : (six nine : Bool) → request_of_any (or_fault BadNumber (cond six (Some 6) (cond nine (Some 9) None)) (λ decimals. Ok (all.Mps file decimals))) ≡ Ok (Mps name places) → IsPlaces places
-      go true nine e = inl cc
-      go false true e = inr cc
-      go false false e = absurd cc
+-- a request is for such factors, where there is one
+abbrev HasPlaces : Result Request WordFault → Type 0
+HasPlaces (Ok (Mps file places)) = IsPlaces places
+HasPlaces (Ok (Check file plan multipliers gap places)) = IsPlaces places
+HasPlaces (Err fault) = ⊤
 
-  of_files : (files : List (List ℕ)) (gap pivots value show : Option (List ℕ)) → request_of_any (command_of MpsName files gap pivots value show) ≡ Ok (Mps name places) → IsPlaces places
-  of_files [] gap pivots value show e = absurd cc
-  of_files (file ∷ []) gap pivots value show e = of_value file value e
-  of_files (file ∷ other ∷ files) gap pivots value show e = absurd cc
+-- what a value of `--places` is
+abbrev IsOne : Option ℕ → Type 0
+IsOne None = ⊤
+IsOne (Some places) = IsPlaces places
 
-  of_parts : (parts : Option (List Part)) → request_of_any (command_with MpsName parts) ≡ Ok (Mps name places) → IsPlaces places
-  of_parts None e = absurd cc
-  of_parts (Some parts) e = go (allows_all MpsName parts) e
-    where
-      go : (b : Bool) → request_of_any (cond b (command_of MpsName (files_in parts) (value_in Gap parts) (value_in Pivots parts) (value_in Places parts) (value_in Show parts)) (Err BadForm))
-          ≡ Ok (Mps name places) → IsPlaces places
-      go true e = of_files (files_in parts) (value_in Gap parts) (value_in Pivots parts) (value_in Places parts) (value_in Show parts) e
-      go false e = absurd cc
+places-one : (value : Option (List ℕ)) → IsOne (places_of value)
+places-one None = inl refl
+places-one (Some text) = go (bytes_eq text (codes "6")) (bytes_eq text (codes "9"))
+  where
+    go : (six nine : Bool) → IsOne (cond six (Some 6) (cond nine (Some 9) None))
+    go true nine = inl refl
+    go false true = inr refl
+    go false false = tt
 
-  of_command : (command : Option CommandName) (words : List (List ℕ)) → request_of_any (command_after (built command) words) ≡ Ok (Mps name places) → IsPlaces places
-  of_command None words e = absurd cc
-  of_command (Some MpsName) words e = of_parts (parts_of words) e
-  of_command (Some CheckName) words e = absurd cc
-  of_command (Some SolveName) words e = absurd cc
-  of_command (Some MakeName) words e = absurd cc
+of_mps : (file : List ℕ) (value : Option (List ℕ)) → HasPlaces (request_of_any (mps_of file value))
+of_mps file value = go (places_of value) (places-one value)
+  where
+    go : (found : Option ℕ) → IsOne found → HasPlaces (request_of_any (or_fault BadNumber found (λ decimals. Ok (all.Mps file decimals))))
+    go None one = tt
+    go (Some places) one = one
+
+of_check : (file plan : List ℕ) (multipliers gap value : Option (List ℕ)) → HasPlaces (request_of_any (check_of file plan multipliers gap value))
+of_check file plan multipliers gap value = go (gap_of gap) (places_of value) (is_some gap && not (is_some multipliers)) (places-one value)
+  where
+    go : (ppm found : Option ℕ) (alone : Bool) → IsOne found
+        → HasPlaces (request_of_any (or_fault BadNumber ppm (λ n. or_fault BadNumber found (λ decimals. cond alone (Err GapAlone) (Ok (all.Check file plan multipliers n decimals))))))
+    go None found alone one = tt
+    go (Some n) None alone one = tt
+    go (Some n) (Some places) true one = tt
+    go (Some n) (Some places) false one = one
+
+of_mps_files : (files : List (List ℕ)) (gap pivots value show : Option (List ℕ)) → HasPlaces (request_of_any (command_of MpsName files gap pivots value show))
+of_mps_files [] gap pivots value show = tt
+of_mps_files (file ∷ []) gap pivots value show = of_mps file value
+of_mps_files (file ∷ other ∷ files) gap pivots value show = tt
+
+of_check_files : (files : List (List ℕ)) (gap pivots value show : Option (List ℕ)) → HasPlaces (request_of_any (command_of CheckName files gap pivots value show))
+of_check_files [] gap pivots value show = tt
+of_check_files (file ∷ []) gap pivots value show = tt
+of_check_files (file ∷ plan ∷ []) gap pivots value show = of_check file plan None gap value
+of_check_files (file ∷ plan ∷ multipliers ∷ []) gap pivots value show = of_check file plan (Some multipliers) gap value
+of_check_files (file ∷ plan ∷ multipliers ∷ other ∷ files) gap pivots value show = tt
+
+of_parts : (name : CommandName) → ((files : List (List ℕ)) (gap pivots value show : Option (List ℕ)) → HasPlaces (request_of_any (command_of name files gap pivots value show)))
+    → (parts : Option (List Part)) → HasPlaces (request_of_any (command_with name parts))
+of_parts name of_files None = tt
+of_parts name of_files (Some parts) = go (allows_all name parts)
+  where
+    go : (b : Bool) → HasPlaces (request_of_any (cond b (command_of name (files_in parts) (value_in Gap parts) (value_in Pivots parts) (value_in Places parts) (value_in Show parts)) (Err BadForm)))
+    go true = of_files (files_in parts) (value_in Gap parts) (value_in Pivots parts) (value_in Places parts) (value_in Show parts)
+    go false = tt
+
+of_command : (command : Option CommandName) (words : List (List ℕ)) → HasPlaces (request_of_any (command_after (built command) words))
+of_command None words = tt
+of_command (Some MpsName) words = of_parts MpsName of_mps_files (parts_of words)
+of_command (Some CheckName) words = of_parts CheckName of_check_files (parts_of words)
+of_command (Some SolveName) words = tt
+of_command (Some MakeName) words = tt
+
+has_places : (words : List (List ℕ)) → HasPlaces (asked words)
+has_places [] = tt
+has_places (first ∷ words) = of_command (command_named first) words
 
 pub asked_places : (words : List (List ℕ)) (name : List ℕ) (places : ℕ) → asked words ≡ Ok (Mps name places) → IsPlaces places
-asked_places [] name places e = absurd cc
-asked_places (first ∷ words) name places e = of_command name places (command_named first) words e
+asked_places words name places e = subst HasPlaces e (has_places words)
+
+pub check_places : (words : List (List ℕ)) (file plan : List ℕ) (multipliers : Option (List ℕ)) (gap places : ℕ) → asked words ≡ Ok (Check file plan multipliers gap places) → IsPlaces places
+check_places words file plan multipliers gap places e = subst HasPlaces e (has_places words)

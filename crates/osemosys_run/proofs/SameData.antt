@@ -12,7 +12,7 @@ use Rattle.row_core.specs.declared.place.Place.{Place}
 use Rattle.osemosys_run.specs.declared.status.Status.{Status}
 use Rattle.osemosys_run.specs.declared.status.Stop.{Stop}
 use Rattle.osemosys_run.specs.Lines.{uncertified_line}
-use Rattle.osemosys_run.specs.Mps.{DueForEquations, WritesEquations}
+use Rattle.osemosys_run.specs.Mps.{DueForEquations, IsTooLarge, IsUncertified, WritesEquations}
 
 -- what the laws of the book say of two data that are the same
 pub record SameLaws (places : ℕ) (d e : Data) : Type 0 where
@@ -31,15 +31,19 @@ writes_carry places d e text same laws writes = record {
   is = writes.is ∙ ap (λ (sets : SetLists). mps_text sets writes.rows writes.columns) same.sets;
 }
 
+pub wide_carries : (places : ℕ) (d e : Data) (status : Status) (text : List ℕ) → AreSameData d e → SameLaws places d e → IsUncertified places d status text → IsUncertified places e status text
+wide_carries places d e status text same laws wide = record {
+  name = wide.name;
+  wide = (laws.wide 0 wide.name).0 wide.wide;
+  status_is = wide.status_is;
+  line_is = wide.line_is ∙ ap (λ (sets : SetLists). uncertified_line sets (Stop.Width (Place.Row wide.name))) same.sets;
+}
+
+pub many_carries : (places : ℕ) (d e : Data) (status : Status) (text : List ℕ) → SameLaws places d e → IsTooLarge places d status text → IsTooLarge places e status text
+many_carries places d e status text laws many = record { name = many.name; many = (laws.many 0 many.name).0 many.many; status_is = many.status_is; line_is = many.line_is }
+
 pub equations_carry : (places : ℕ) (d e : Data) (status : Status) (text : List ℕ) → AreSameData d e → SameLaws places d e → DueForEquations places d status text → DueForEquations places e status text
 equations_carry places d e status text same laws (inl written) =
     inl (record { made = (laws.made 0).0 written.made; status_is = written.status_is; writes = writes_carry places d e text same laws written.writes })
-equations_carry places d e status text same laws (inr (inl wide)) =
-    inr (inl (record {
-      name = wide.name;
-      wide = (laws.wide 0 wide.name).0 wide.wide;
-      status_is = wide.status_is;
-      line_is = wide.line_is ∙ ap (λ (sets : SetLists). uncertified_line sets (Stop.Width (Place.Row wide.name))) same.sets;
-    }))
-equations_carry places d e status text same laws (inr (inr many)) =
-    inr (inr (record { name = many.name; many = (laws.many 0 many.name).0 many.many; status_is = many.status_is; line_is = many.line_is }))
+equations_carry places d e status text same laws (inr (inl wide)) = inr (inl (wide_carries places d e status text same laws wide))
+equations_carry places d e status text same laws (inr (inr many)) = inr (inr (many_carries places d e status text laws many))

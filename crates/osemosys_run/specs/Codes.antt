@@ -1,7 +1,7 @@
--- The exit status of each end of a call. The numbers that are missing, 1, 2 and 9, belong to ends that solving and checking will add.
+-- The exit status of each end of a call. The numbers that are missing, 1 and 2, belong to ends that solving will add.
 use Rattle.std.specs.Prelude.{ℕ}
 use Rattle.osemosys_run.specs.declared.status.Status.{Status}
-use Rattle.osemosys_run.specs.declared.status.Status.TheVariants.{Done, Uncertified, Refused, Words, ReadFault, WriteFault, Memory}
+use Rattle.osemosys_run.specs.declared.status.Status.TheVariants.{Done, Uncertified, Refused, Words, ReadFault, WriteFault, Memory, Rejected}
 
 -- the exit status
 abbrev pub code_of : Status → ℕ
@@ -12,3 +12,4 @@ code_of (Words fault) = 5
 code_of (ReadFault stop) = 6
 code_of WriteFault = 7
 code_of Memory = 8
+code_of (Rejected rejection) = 9

@@ -1,6 +1,7 @@
 -- What a command of the code stands for.
 use Rattle.std.specs.Prelude.{Result, Ok, Err, option_map}
 use Rattle.osemosys_run.specs.declared.words.Command.{Command}
+use Rattle.osemosys_run.specs.declared.words.Command.TheVariants as code
 use Rattle.osemosys_run.specs.declared.words.any_command.AnyCommand.{AnyCommand as SlicedCommand}
 use Rattle.osemosys_run.specs.declared.words.any_command.AnyCommand.TheVariants as sliced
 use Rattle.osemosys_run.specs.declared.words.any_command.CommandName.{CommandName as CodeName}
@@ -8,11 +9,12 @@ use Rattle.osemosys_run.specs.declared.words.any_command.CommandName.TheVariants
 use Rattle.osemosys_run.specs.declared.status.WordFault.{WordFault}
 use Rattle.osemosys_run.specs.CommandLine.{AnyCommand, CommandName, MpsName, CheckName, SolveName, MakeName}
 use Rattle.osemosys_run.specs.CommandLine as all
-use Rattle.osemosys_run.specs.Words.{Request, Mps}
+use Rattle.osemosys_run.specs.Words.{Request, Check, Mps}
 
 -- the request of a command
 abbrev pub request_of : Command → Request
-request_of command = Mps command.file.now command.places
+request_of (code.Mps file places) = Mps file.now places
+request_of (code.Check file plan multipliers gap places) = Check file.now plan.now (option_map (λ name. name.now) multipliers) gap places
 
 -- the same where the words may be at fault
 abbrev pub request_of_result : Result Command WordFault → Result Request WordFault

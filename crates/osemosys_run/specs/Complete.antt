@@ -1,13 +1,29 @@
--- Which files `mps` must write out.
-use Rattle.std.specs.Prelude.{◌≡◌, ◌⊎◌, ℕ, List, Some, Ok}
+-- Which files `mps` must write out, and which plans `check` must accept.
+use Rattle.std.specs.Prelude.{◌≡◌, ◌⊎◌, ℕ, ℤ, ◌≤◌, List, length, Option, Some, None, Ok, ⊤}
+use Rattle.exact_num.specs.Rational.{Rational}
+use Rattle.exact_num.specs.Steps.{first_wide}
 use Rattle.model_sets.specs.Data.{Data}
+use Rattle.row_core.specs.declared.Row.{Row}
+use Rattle.row_core.specs.declared.RowName.{RowName}
+use Rattle.row_core.specs.declared.Var.{Var}
+use Rattle.named_equations.specs.Existence.{all_variables}
 use Rattle.named_equations.specs.Instances.{instances}
-use Rattle.row_book.specs.Books.{CanBeMade}
+use Rattle.named_equations.specs.Plans.{Feasible}
+use Rattle.row_book.specs.Books.{AreRowsOf, CanBeMade}
+use Rattle.certificate_checker.specs.Certificates.{AreMultipliersOver, Proves}
+use Rattle.certificate_checker.specs.Conditions.{steps}
+use Rattle.certificate_checker.specs.Costs.{model_cost}
+use Rattle.certificate_checker.specs.Gaps.{Within}
+use Rattle.certificate_checker.specs.Plans.{AreValuesOver}
+use Rattle.plan_files.specs.Answers.{IsPlan}
+use Rattle.plan_files.specs.Files.{records_of}
 use Rattle.io_edges.specs.Files.{file_named}
 use Rattle.osemosys_run.specs.declared.status.Status.{Status}
 use Rattle.osemosys_run.specs.declared.status.Status.TheVariants.{Done, Memory}
 use Rattle.osemosys_run.specs.Accepted.{Accepted}
-use Rattle.osemosys_run.specs.Words.{Mps, asked}
+use Rattle.osemosys_run.specs.Check.{TellsMultipliers, check_conditions, multiplier_bound, plan_cost}
+use Rattle.osemosys_run.specs.Reading.{most_bytes}
+use Rattle.osemosys_run.specs.Words.{Check, Mps, asked}
 
 -- the words ask for `mps` of a file that is there, with written factors of so many places; its text is accepted, and every row of the named equations over its data can be made
 pub record CanBeWritten (words : List (List ℕ)) (files : List (List ℕ × List ℕ)) : Type 0 where
@@ -20,6 +36,46 @@ pub record CanBeWritten (words : List (List ℕ)) (files : List (List ℕ × Lis
   pub accepted : Accepted bytes d
   pub made : CanBeMade places d 0 (instances d)
 
--- then its equations are written, unless memory ran out
+-- a file of multipliers that is named is there and isn't too long
+abbrev pub AreThereIfNamed : List (List ℕ × List ℕ) → Option (List ℕ) → Option (List ℕ) → Type 0
+AreThereIfNamed files None bytes = bytes ≡ None
+AreThereIfNamed files (Some name) bytes = (found : List ℕ) × (bytes ≡ Some found) × (file_named files name ≡ Some found) × (length found ≤ most_bytes)
+
+-- the multipliers prove their bound over the rows, and the cost of the plan is within the gap of it
+abbrev pub AreInGap : Data → List Row → List (Var × Rational) → Option (List (RowName × Rational)) → ℕ → Type 0
+AreInGap d rows plan None gap = ⊤
+AreInGap d rows plan (Some multipliers) gap =
+    ((s : ℕ) × (y : RowName → ℤ) × AreMultipliersOver s y multipliers × Proves model_cost rows (all_variables d) s y)
+    × Within (plan_cost d plan) (multiplier_bound rows multipliers) gap
+
+-- The words ask for `check` of files that are there; the text of the data file is accepted, and every row of the named equations over its data can be made;
+-- the plan's file is in form and tells a feasible plan; multipliers, if there are any, are in form, prove their bound and keep the gap; and every number
+-- that is formed for the conditions fits.
+pub record CanBeAccepted (words : List (List ℕ)) (files : List (List ℕ × List ℕ)) : Type 0 where
+  pub name : List ℕ
+  pub plan_name : List ℕ
+  pub multiplier_name : Option (List ℕ)
+  pub gap : ℕ
+  pub places : ℕ
+  pub bytes : List ℕ
+  pub plan_bytes : List ℕ
+  pub multiplier_bytes : Option (List ℕ)
+  pub d : Data
+  pub plan : List (Var × Rational)
+  pub multipliers : Option (List (RowName × Rational))
+  pub asks : asked words ≡ Ok (Check name plan_name multiplier_name gap places)
+  pub there : file_named files name ≡ Some bytes
+  pub accepted : Accepted bytes d
+  pub made : CanBeMade places d 0 (instances d)
+  pub plan_there : file_named files plan_name ≡ Some plan_bytes
+  pub plan_short : length plan_bytes ≤ most_bytes
+  pub plan_told : IsPlan d.sets (all_variables d) (records_of plan_bytes) plan
+  pub multipliers_there : AreThereIfNamed files multiplier_name multiplier_bytes
+  pub multipliers_told : TellsMultipliers d multiplier_bytes multipliers
+  pub feasible : (q : ℕ) × (x : Var → ℤ) × AreValuesOver q x plan × Feasible places d q x
+  pub in_gap : (rows : List Row) → AreRowsOf places d (instances d) rows → AreInGap d rows plan multipliers gap
+  pub fit : (rows : List Row) → AreRowsOf places d (instances d) rows → first_wide (steps (check_conditions d rows plan multipliers gap)) ≡ None
+
+-- then the equations are written, or the plan is accepted, unless memory ran out
 abbrev pub Completes : List (List ℕ) → List (List ℕ × List ℕ) → Status → Type 0
-Completes words files status = CanBeWritten words files → (status ≡ Done) ⊎ (status ≡ Memory)
+Completes words files status = CanBeWritten words files ⊎ CanBeAccepted words files → (status ≡ Done) ⊎ (status ≡ Memory)

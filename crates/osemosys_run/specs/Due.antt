@@ -8,11 +8,12 @@ use Rattle.osemosys_run.specs.declared.status.Refusal.TheVariants.{TooLong}
 use Rattle.osemosys_run.specs.declared.status.ReadStop.TheVariants.{NoFile}
 use Rattle.osemosys_run.specs.declared.status.WordFault.{WordFault}
 use Rattle.osemosys_run.specs.Accepted.{Accepted}
+use Rattle.osemosys_run.specs.Check.{DueForCheck}
 use Rattle.osemosys_run.specs.Lines.{stop_line, too_long_line, words_line}
 use Rattle.osemosys_run.specs.Mps.{DueForEquations}
 use Rattle.osemosys_run.specs.NotAccepted.{DueWhereNotAccepted}
 use Rattle.osemosys_run.specs.Reading.{most_bytes}
-use Rattle.osemosys_run.specs.Words.{Request, Mps, asked}
+use Rattle.osemosys_run.specs.Words.{Request, Check, Mps, asked}
 
 -- over the text of a data file: its first refusal, or what `Over` has over its data
 abbrev pub DueForText : (Data → Status → List ℕ → Type 0) → List ℕ → Status → List ℕ → Type 0
@@ -26,10 +27,19 @@ DueForFile Due number (Some bytes) status text =
     ((status ≡ Refused (TooLong number)) × (text ≡ too_long_line number))
     (Due bytes status text)
 
--- for a request over its file, and for a fault of the words
+-- over the file of this number, if one is named
+abbrev pub DueForOptionalFile : (Option (List ℕ) → Status → List ℕ → Type 0) → ℕ → List (List ℕ × List ℕ) → Option (List ℕ) → Status → List ℕ → Type 0
+DueForOptionalFile Due number files None status text = Due None status text
+DueForOptionalFile Due number files (Some name) status text = DueForFile (λ bytes. Due (Some bytes)) number (file_named files name) status text
+
+-- for a request over its files, each of which is looked at before what any of them says, and for a fault of the words
 abbrev pub DueForRequest : Result Request WordFault → List (List ℕ × List ℕ) → Status → List ℕ → Type 0
 DueForRequest (Err fault) files status text = (status ≡ Words fault) × (text ≡ words_line fault)
 DueForRequest (Ok (Mps name places)) files status text = DueForFile (DueForText (DueForEquations places)) 1 (file_named files name) status text
+DueForRequest (Ok (Check name plan multipliers gap places)) files status text =
+    DueForFile (λ bytes. DueForFile (λ plan_bytes. DueForOptionalFile (λ multiplier_bytes.
+    DueForText (DueForCheck places plan_bytes multiplier_bytes gap) bytes)
+    3 files multipliers) 2 (file_named files plan)) 1 (file_named files name) status text
 
 -- The status and the text that are due for these words over these files.
 abbrev pub Due : List (List ℕ) → List (List ℕ × List ℕ) → Status → List ℕ → Type 0

@@ -1,5 +1,10 @@
 pub mod Accepted
+pub mod BookFails
 pub mod Causes
+pub mod Check
+pub mod CheckLines
+pub mod CheckOutcomes
+pub mod CheckedPlans
 pub mod ClapWords
 pub mod Codes
 pub mod CommandLine
@@ -9,6 +14,7 @@ pub mod Due
 pub mod Lines
 pub mod Mps
 pub mod NotAccepted
+pub mod PlacesWithin
 pub mod ReadEnds
 pub mod ReadToEnd
 pub mod Reading

@@ -9,7 +9,7 @@ use Rattle.model_sets.specs.declared.fault.SetFault.{SetFault}
 use Rattle.model_sets.specs.Members.{twice_in_set, empty_set, bad_year, too_many}
 use Rattle.model_sets.specs.Names.{set_word}
 use Rattle.mps_writer.specs.MpsText.{line}
-use Rattle.param_tables.specs.Refusals.{Refusal, StorageMember, UnknownName, GivenBefore, TooManyIndices, AtIndex}
+use Rattle.param_tables.specs.Refusals.{Refusal, StorageMember, UnknownName, GivenBefore, AtIndex}
 use Rattle.param_tables.specs.declared.fault.CellFault.{CellFault}
 use Rattle.param_tables.specs.declared.fault.CellFault.TheVariants.{NoValue, Negative, NotPositive, NotWhole, OutOfRange, WholeUnits}
 
@@ -68,5 +68,4 @@ abbrev pub data_line : Refusal → List ℕ
 data_line StorageMember = line (codes "refused Storage")
 data_line (UnknownName at) = place_line at (codes "UnknownMember")
 data_line (GivenBefore at) = place_line at (codes "ValueTwice")
-data_line (TooManyIndices param) = line (codes "refused TooManyCells " ++ param_word param)
 data_line (AtIndex fault param index) = cell_line (cell_fault_word fault) param index

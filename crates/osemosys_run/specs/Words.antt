@@ -1,22 +1,25 @@
--- What the words of the command line ask for, of the commands that are built: `mps` with its file. A command that isn't built is none.
+-- What the words of the command line ask for, of the commands that are built: `mps` and `check`. A command that isn't built is none.
 use Rattle.std.specs.Prelude.{ℕ, List, [], ◌∷◌, Option, Some, None, Result, Ok, Err}
 use Rattle.osemosys_run.specs.declared.status.WordFault.{WordFault}
 use Rattle.osemosys_run.specs.declared.status.WordFault.TheVariants.{NoCommand, BadCommand}
-use Rattle.osemosys_run.specs.CommandLine.{AnyCommand, CommandName, MpsName, command_named, command_after}
+use Rattle.osemosys_run.specs.CommandLine.{AnyCommand, CommandName, CheckName, MpsName, command_named, command_after}
 use Rattle.osemosys_run.specs.CommandLine as all
 
--- a command that is built, with its files and options: `mps` with the name of a data file and the decimal places of written factors
+-- a command that is built, with the names of its files and its options: the decimal places of written factors, and a gap in millionths
 pub data Request : Type 0 where
   Mps : (file : List ℕ) (places : ℕ) → Request
+  Check : (file plan : List ℕ) (multipliers : Option (List ℕ)) (gap places : ℕ) → Request
 
 -- the command where it is built
 abbrev pub built : Option CommandName → Option CommandName
 built (Some MpsName) = Some MpsName
+built (Some CheckName) = Some CheckName
 built command = None
 
 -- a built command of all commands
 abbrev pub request_of_any : Result AnyCommand WordFault → Result Request WordFault
 request_of_any (Ok (all.Mps file places)) = Ok (Mps file places)
+request_of_any (Ok (all.Check file plan multipliers gap places)) = Ok (Check file plan multipliers gap places)
 request_of_any (Ok command) = Err BadCommand
 request_of_any (Err fault) = Err fault
 
@@ -24,3 +27,9 @@ request_of_any (Err fault) = Err fault
 abbrev pub asked : List (List ℕ) → Result Request WordFault
 asked [] = Err NoCommand
 asked (first ∷ words) = request_of_any (command_after (built (command_named first)) words)
+
+-- the names of a request's files, in the order in which they are read
+abbrev pub names_of : Request → List (List ℕ)
+names_of (Mps file places) = file ∷ []
+names_of (Check file plan None gap places) = file ∷ plan ∷ []
+names_of (Check file plan (Some multipliers) gap places) = file ∷ plan ∷ multipliers ∷ []

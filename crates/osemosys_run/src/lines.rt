@@ -1,14 +1,14 @@
 // The one-line texts.
 ghost use Rattle.std.specs.Prelude.{◌≡◌, ◌++◌, IfOk, decimal};
 ghost use Rattle.mps_writer.specs.MpsText.{line};
-ghost use Rattle.row_core.specs.Equations.{IsEquation};
-ghost use Rattle.row_core.specs.NameTexts.{RowNameIsWithin};
 ghost use Rattle.osemosys_run.specs.Lines.{entries_line, stop_line, too_long_line, uncertified_line, words_line};
+ghost use Rattle.osemosys_run.specs.PlacesWithin.{PlaceIsWithin};
 
+use crate::places::push_place;
 use crate::status::{ReadStop, Stop, WordFault};
 use itoa::Buffer;
 use model_sets::Sets;
-use row_core::{Place, RowName, push_row_name};
+use row_core::Place;
 use std::alloc::{AllocError, Global};
 
 /// The line for words that ask for nothing: `words refused FAULT`.
@@ -50,14 +50,13 @@ pub fn entries_line(alloc: Global) -> Result<Vec<u8>, AllocError>
     Vec::from_slice(alloc, b"refused too many entries\n")
 }
 
-/// The line for a row in which a number doesn't fit: `uncertified width row EQ`, with the row's full name.
-pub fn width_line(alloc: Global, name: RowName, sets: &Sets) -> Result<Vec<u8>, AllocError>
-    requires listed { IsEquation name.eq }
-    requires within { RowNameIsWithin sets.now name }
-    ensures { IfOk result (λ text. text.items ≡ uncertified_line sets.now (Stop.Width (Place.Row name))) }
+/// The line for a place at which a number doesn't fit: `uncertified width PLACE`, with the full names of rows and variables.
+pub fn width_line(alloc: Global, place: Place, sets: &Sets) -> Result<Vec<u8>, AllocError>
+    requires { PlaceIsWithin sets.now place }
+    ensures { IfOk result (λ text. text.items ≡ uncertified_line sets.now (Stop.Width place)) }
 {
-    let mut text = Vec::from_slice(alloc, b"uncertified width row ")?;
-    push_row_name(&mut text, name, sets)?;
+    let mut text = Vec::from_slice(alloc, b"uncertified width ")?;
+    push_place(&mut text, place, sets)?;
     text.extend_from_slice(b"\n")?;
     Ok(text)
 }

@@ -4,21 +4,16 @@ ghost use Rattle.std.specs.List.{AllByRecursion};
 ghost use Rattle.discount_factors.specs.Factors.{IsPlaces};
 ghost use Rattle.model_sets.specs.Data.{AreSameData, Data};
 ghost use Rattle.mps_writer.specs.MpsText.{mps_text};
-ghost use Rattle.row_book.specs.Books.{HasNameWithin, IsWithinSets, NamesRowWithin};
-ghost use Rattle.row_book.specs.declared.fail.BookFail.{BookFail};
-ghost use Rattle.row_core.specs.Equations.{IsEquation};
-ghost use Rattle.row_core.specs.NameTexts.{RowNameIsWithin};
-ghost use Rattle.osemosys_run.specs.Lines.{entries_line, uncertified_line};
+ghost use Rattle.row_book.specs.Books.{HasNameWithin, IsWithinSets};
 ghost use Rattle.osemosys_run.specs.Mps.{DueForEquations};
 
 use crate::answer::Answer;
-use crate::lines::{entries_line, width_line};
-use crate::status::{Refusal, Status, Stop};
+use crate::books::refuse_book;
+use crate::status::Status;
 use model_sets::Sets;
 use mps_writer::mps_text;
 use param_tables::ModelData;
-use row_book::{BookFail, RowBook, same_data_laws};
-use row_core::{Place, RowName};
+use row_book::{RowBook, same_data_laws};
 use std::alloc::{AllocError, Global};
 
 /// The MPS text of the equations of a model, with written factors of 6 or 9 decimal places, or the line for the first
@@ -39,9 +34,7 @@ fn answer_equations(alloc: Global, model: &ModelData, places: u8) -> Result<Answ
 {
     match RowBook::new(alloc, model, places) {
         Ok(book) => write_book(alloc, model, &book),
-        Err(BookFail::Width(place)) => stop_at(alloc, place, model.sets()),
-        Err(BookFail::TooManyEntries) => refuse_entries(alloc),
-        Err(BookFail::Memory) => Err(AllocError),
+        Err(fail) => refuse_book(alloc, fail, model.sets()),
     }
 }
 
@@ -54,39 +47,5 @@ fn write_book(alloc: Global, model: &ModelData, book: &RowBook) -> Result<Answer
 {
     let text = mps_text(alloc, book.rows(), book.vars(), model.sets())?;
     let status = Status::Done;
-    Ok(Answer { status, text })
-}
-
-// The answer where a number that is formed at this place doesn't fit.
-fn stop_at(alloc: Global, place: Place, sets: &Sets) -> Result<Answer, AllocError>
-    requires { NamesRowWithin sets.now (BookFail.Width place) }
-    ensures { IfOk result (λ answer. (answer.status ≡ Status.Uncertified (Stop.Width place))
-        × (answer.text.items ≡ uncertified_line sets.now (Stop.Width place))) }
-{
-    match place {
-        Place::Row(name) => stop_at_row(alloc, name, sets),
-        _ => unreachable!(),
-    }
-}
-
-// The answer where a number of this row doesn't fit.
-fn stop_at_row(alloc: Global, name: RowName, sets: &Sets) -> Result<Answer, AllocError>
-    requires listed { IsEquation name.eq }
-    requires within { RowNameIsWithin sets.now name }
-    ensures { IfOk result (λ answer. (answer.status ≡ Status.Uncertified (Stop.Width (Place.Row name)))
-        × (answer.text.items ≡ uncertified_line sets.now (Stop.Width (Place.Row name)))) }
-{
-    let text = width_line(alloc, name, sets)?;
-    let status = Status::Uncertified(Stop::Width(Place::Row(name)));
-    Ok(Answer { status, text })
-}
-
-// The answer where the rows have too many entries.
-fn refuse_entries(alloc: Global) -> Result<Answer, AllocError>
-    ensures { IfOk result (λ answer. (answer.status ≡ Status.Refused Refusal.TooManyEntries)
-        × (answer.text.items ≡ entries_line)) }
-{
-    let text = entries_line(alloc)?;
-    let status = Status::Refused(Refusal::TooManyEntries);
     Ok(Answer { status, text })
 }

@@ -3,9 +3,7 @@
 ghost use Rattle.std.specs.Prelude.{◌≡◌, ◌++◌, [], codes, if◌then◌else◌, IfOk, OnOk};
 ghost use Rattle.std.specs.List.{join_with_byte};
 ghost use Rattle.model_sets.specs.Names.{IsSet};
-ghost use Rattle.model_sets.specs.Params.{IsParam};
 ghost use Rattle.param_tables.specs.Positions.{names_at};
-ghost use Rattle.param_tables.specs.Refusals.{TooManyIndices};
 ghost use Rattle.param_tables.specs.Told.{IsCell, NamesCell, refusal_told};
 ghost use Rattle.osemosys_run.specs.RefusalLines.{cell_line, data_line, place_line, set_fault_word, set_line, text_fault_word, text_line};
 
@@ -44,7 +42,6 @@ pub fn data_line(alloc: Global, fault: &BuildFault, sets: &Sets) -> Result<Vec<u
         BuildFault::Storage => Vec::from_slice(alloc, b"refused Storage\n"),
         BuildFault::UnknownMember(at) => place_line(alloc, *at, "UnknownMember"),
         BuildFault::ValueTwice(at) => place_line(alloc, *at, "ValueTwice"),
-        BuildFault::TooManyCells(param) => too_many_line(alloc, *param),
         BuildFault::NoValue(cell) => cell_line(alloc, "NoValue", cell, sets),
         BuildFault::Negative(cell) => cell_line(alloc, "Negative", cell, sets),
         BuildFault::NotPositive(cell) => cell_line(alloc, "NotPositive", cell, sets),
@@ -64,17 +61,6 @@ fn place_line(alloc: Global, at: Mark, fault: &str) -> Result<Vec<u8>, AllocErro
     out.extend_from_slice(Buffer::new().format(at.column).as_bytes())?;
     out.extend_from_slice(b" ")?;
     out.extend_from_slice(fault.as_bytes())?;
-    out.extend_from_slice(b"\n")?;
-    Ok(out)
-}
-
-// The line for a parameter with too many indices.
-fn too_many_line(alloc: Global, param: u8) -> Result<Vec<u8>, AllocError>
-    requires { IsParam param }
-    ensures { IfOk result (λ line. line.items ≡ data_line (TooManyIndices param)) }
-{
-    let mut out = Vec::from_slice(alloc, b"refused TooManyCells ")?;
-    out.extend_from_slice(param_word(param).as_bytes())?;
     out.extend_from_slice(b"\n")?;
     Ok(out)
 }

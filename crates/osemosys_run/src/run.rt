@@ -22,13 +22,15 @@ ghost use Rattle.osemosys_run.specs.WordParts.{HasSpelledParts, Part};
 
 use crate::accepting::{accept, acceptance_laws};
 use crate::answer::{Answer, refuse_file, refuse_words};
+use crate::check_files::{Asked, perform_check};
 use crate::mps::answer_mps;
 use crate::reading::read_file;
 use crate::sending::send;
 use crate::status::Status;
-use crate::words::{read_command, spelled_parts};
+use crate::words::{Command, read_command, spelled_parts};
 use io_edges::{Shelf, Sink};
 use mathprog_data::verdict_laws;
+use plan_files::telling_laws;
 use row_book::stop_laws;
 use std::alloc::{AllocError, Global};
 
@@ -39,10 +41,15 @@ const DATA_FILE: u8 = 1;
 /// writes the text that is due into the sink.
 ///
 /// `mps FILE [--places P]` writes the named equations of a data file of GNU MathProg as free MPS, with
-/// written factors of 6 or 9 decimal places. Where the
-/// words, the file or what it says is refused, a number of a row leaves 128 bits, or the rows have too many
-/// entries, one line says why.
-/// Memory may run out anywhere; then nothing is written.
+/// written factors of 6 or 9 decimal places.
+///
+/// `check FILE PLAN [MULTIPLIERS] [--gap PPM] [--places P]` says whether the plan of PLAN meets every named equation of FILE
+/// with right signs, and what it costs; with MULTIPLIERS also whether these prove a bound on what every such plan costs, and
+/// whether the cost is at most PPM millionths of the bound above it. Status 0 where all this holds, and `Rejected` with the
+/// first condition that doesn't.
+///
+/// Where the words, a file or what it says is refused, a number of a row or of a condition leaves 128 bits, or the rows have
+/// too many entries, one line says why. Memory may run out anywhere; then nothing is written.
 pub fn osemosys<S: Shelf, K: Sink>(
     alloc: Global,
     words: &[String],
@@ -70,8 +77,9 @@ pub fn osemosys<S: Shelf, K: Sink>(
         (Rose (S.faults shelf.old) (S.faults shelf.new) → ⊥)
         → ReadsWhole (map string_bytes words.now) files result (S.rest shelf.new)) }
 
-    // A file that isn't refused, and whose rows can be made, is written out, unless memory runs out; over a shelf and
-    // a sink without a fault.
+    // A data file that isn't refused, and whose rows can be made, is written out; and a feasible plan with multipliers that
+    // prove their bound and keep the gap is accepted, where the files are in form and every number that is formed for the
+    // conditions fits; unless memory runs out, and over a shelf and a sink without a fault.
     ensures complete { WhereTold (S.files shelf.old) (λ files.
         (Rose (S.faults shelf.old) (S.faults shelf.new) → ⊥) → (Rose (K.faults out.old) (K.faults out.new) → ⊥)
         → Completes (map string_bytes words.now) files result) }
@@ -109,6 +117,7 @@ pub fn osemosys<S: Shelf, K: Sink>(
     verdict_laws();
     acceptance_laws();
     stop_laws();
+    telling_laws();
     spelled_parts();
     match perform(alloc, words, shelf) {
         Ok(Answer { status, text }) => match send(&text, out) {
@@ -131,7 +140,26 @@ fn perform<S: Shelf>(alloc: Global, words: &[String], shelf: &mut S) -> Result<A
     ensures faults { S.faults shelf.old ≤ S.faults shelf.new }
 {
     match read_command(alloc, words)? {
-        Ok(command) => perform_mps(alloc, command.file, command.places, shelf),
+        Ok(Command::Mps { file, places }) => perform_mps(alloc, file, places, shelf),
+        Ok(
+            Command::Check {
+                file,
+                plan,
+                multipliers,
+                gap,
+                places,
+            },
+        ) => perform_check(
+            alloc,
+            Asked {
+                file,
+                plan,
+                multipliers,
+                gap,
+                places,
+            },
+            shelf,
+        ),
         Err(fault) => refuse_words(alloc, fault),
     }
 }

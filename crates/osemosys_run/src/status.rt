@@ -2,9 +2,11 @@
 ghost use Rattle.std.specs.Prelude.{◌≡◌};
 ghost use Rattle.osemosys_run.specs.Codes.{code_of};
 
+use certificate_checker::Rejection;
 use mathprog_data::DataFault;
 use model_sets::SetFault;
 use param_tables::BuildFault;
+use plan_files::PlanFault;
 use row_core::Place;
 
 /// How a call ended. `code` gives the exit status.
@@ -24,6 +26,8 @@ pub enum Status {
     WriteFault,
     /// Memory ran out; nothing was written.
     Memory,
+    /// A condition on the plan, the multipliers or the gap fails: the first that does.
+    Rejected(Rejection),
 }
 
 /// Why a command didn't come to its end.
@@ -42,6 +46,10 @@ pub enum Refusal {
     Sets(SetFault),
     /// The data of the file have this fault first.
     Build(BuildFault),
+    /// The file of the plan breaks this rule first.
+    PlanFile(PlanFault),
+    /// The file of multipliers breaks this rule first.
+    MultiplierFile(PlanFault),
     /// The file of this number has more than 64 MiB.
     TooLong(u8),
     /// The rows of the equations have more than 4,000,000 entries.
@@ -75,7 +83,8 @@ pub enum ReadStop {
 }
 
 impl Status {
-    /// The exit status: 0 for `Done`, 3 `Uncertified`, 4 `Refused`, 5 `Words`, 6 `ReadFault`, 7 `WriteFault`, 8 `Memory`.
+    /// The exit status: 0 for `Done`, 3 `Uncertified`, 4 `Refused`, 5 `Words`, 6 `ReadFault`, 7 `WriteFault`, 8 `Memory`,
+    /// 9 `Rejected`.
     pub fn code(&self) -> u8
         ensures { result ≡ code_of self.now }
     {
@@ -87,6 +96,7 @@ impl Status {
             Status::ReadFault(_) => 6,
             Status::WriteFault => 7,
             Status::Memory => 8,
+            Status::Rejected(_) => 9,
         }
     }
 }

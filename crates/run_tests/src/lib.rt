@@ -4,9 +4,17 @@
 #[cfg(test)]
 mod base_text;
 #[cfg(test)]
+mod bounds;
+#[cfg(test)]
 mod calls;
 #[cfg(test)]
+mod check_files;
+#[cfg(test)]
 mod faults;
+#[cfg(test)]
+mod plan_records;
+#[cfg(test)]
+mod plans;
 #[cfg(test)]
 mod refusals;
 #[cfg(test)]

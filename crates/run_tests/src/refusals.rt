@@ -6,7 +6,7 @@ use osemosys_run::{Status, WordFault};
 use std::test::Fail;
 
 /// Words that ask for nothing, with their fault and its line.
-static WORDS: [(&[&str], WordFault, &str); 12] = [
+static WORDS: [(&[&str], WordFault, &str); 15] = [
     (&[], WordFault::NoCommand, "words refused NoCommand\n"),
     (&[""], WordFault::BadCommand, "words refused BadCommand\n"),
     (
@@ -54,6 +54,21 @@ static WORDS: [(&[&str], WordFault, &str); 12] = [
         &["mps", "model.dat", "--places", "7"],
         WordFault::BadNumber,
         "words refused BadNumber\n",
+    ),
+    (
+        &["check", "model.dat"],
+        WordFault::BadForm,
+        "words refused BadForm\n",
+    ),
+    (
+        &["check", "a", "b", "c", "--gap", "1000001"],
+        WordFault::BadNumber,
+        "words refused BadNumber\n",
+    ),
+    (
+        &["check", "a", "b", "--gap", "5"],
+        WordFault::GapAlone,
+        "words refused GapAlone\n",
     ),
 ];
 

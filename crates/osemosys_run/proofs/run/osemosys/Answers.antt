@@ -104,7 +104,15 @@ pub returns-in-Ok-send-clause-complete : goal.returns-in-Ok-send-clause-complete
 returns-in-Ok-send-clause-complete g c = λ files told calm unfailing.
     let sink = g.K.Sink in
     let laws : Laws =
-    record { one_data = c.acceptance_laws.ensures.one_data; not_both = c.acceptance_laws.ensures.not_both; made = c.stop_laws.ensures.made } in
+    record {
+      one_data = c.acceptance_laws.ensures.one_data;
+      not_both = c.acceptance_laws.ensures.not_both;
+      one_plan = c.telling_laws.ensures.plan;
+      one_multipliers = c.telling_laws.ensures.multipliers;
+      plan_or_fault = c.telling_laws.ensures.plan_or_fault;
+      multipliers_or_fault = c.telling_laws.ensures.multipliers_or_fault;
+      made = c.stop_laws.ensures.made;
+    } in
     completes laws (map string_bytes c.args.words.now) files c.in-Ok.field-0.status (sink.written c.args.out.now) (sink.written c.send.new.out) (sink.faults c.args.out.now) (sink.faults c.send.new.out)
     (returns-in-Ok-send-clause-due g c files told calm) unfailing
 

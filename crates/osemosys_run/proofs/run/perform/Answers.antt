@@ -1,20 +1,44 @@
-use Rattle.std.proofs.Common.{◌∙◌, ap, sym, subst, Result}
+use Rattle.std.proofs.Common.{◌∙◌, ap, sym, subst, Result, Ok, map, option_map}
 use Rattle.std.proofs.lemmas.Result.{IfOk-weaker}
+use Rattle.std.specs.String.{string_bytes}
 use Rattle.osemosys_run.specs.declared.status.WordFault.{WordFault}
 use Rattle.osemosys_run.specs.Causes.{CausedByRequest}
 use Rattle.osemosys_run.specs.Commands.{request_of_result}
 use Rattle.osemosys_run.specs.Reading.{Sight}
 use Rattle.osemosys_run.specs.Words.{Request}
+use Rattle.osemosys_run.proofs.Requests.{asked_places, check_places}
 use Rattle.osemosys_run.proofs.run.perform.Goals as goal
 
-pub returns-in-Ok-clause-caused : goal.returns-in-Ok-clause-caused
-returns-in-Ok-clause-caused g c =
+pub perform_mps-requires : goal.perform_mps-requires
+perform_mps-requires g c =
+    let request = ap request_of_result (sym (c.in-Ok-Mps.is ∙ ap Ok c.in-Ok-Mps.field-0-is)) ∙ c.in_ok-file.ensures in
+    asked_places (map string_bytes c.args.words.now) c.in-Ok-Mps.file.now c.in-Ok-Mps.places (sym request)
+
+pub perform_check-requires : goal.perform_check-requires
+perform_check-requires g c =
+    let request = ap request_of_result (sym (c.in-Ok-Check.is ∙ ap Ok c.in-Ok-Check.field-0-is)) ∙ c.in_ok-file.ensures in
+    check_places (map string_bytes c.args.words.now) c.in-Ok-Check.file.now c.in-Ok-Check.plan.now (option_map (λ name. name.now) c.in-Ok-Check.multipliers) c.in-Ok-Check.gap c.in-Ok-Check.places (sym request)
+
+pub returns-in-Ok-Mps-clause-caused : goal.returns-in-Ok-Mps-clause-caused
+returns-in-Ok-Mps-clause-caused g c =
     let shelf = g.S.Shelf in
     let old = c.args.shelf.now in
     let new = c.perform_mps.new.shelf in
     let before : Sight = record { files = shelf.files old; rest = shelf.rest old; faults = shelf.faults old; begins = shelf.begins old; taken = shelf.taken old } in
     let after : Sight = record { files = shelf.files new; rest = shelf.rest new; faults = shelf.faults new; begins = shelf.begins new; taken = shelf.taken new } in
-    let request = ap request_of_result (sym c.in-Ok.is) ∙ c.in_ok-command.ensures in
+    let request = ap request_of_result (sym (c.in-Ok-Mps.is ∙ ap Ok c.in-Ok-Mps.field-0-is)) ∙ c.in_ok-file.ensures in
     IfOk-weaker c.perform_mps.result _ _
     (λ answer caused. subst (λ (r : Result Request WordFault). CausedByRequest r before after answer.status answer.text.items) request caused)
     c.perform_mps.ensures.caused
+
+pub returns-in-Ok-Check-clause-caused : goal.returns-in-Ok-Check-clause-caused
+returns-in-Ok-Check-clause-caused g c =
+    let shelf = g.S.Shelf in
+    let old = c.args.shelf.now in
+    let new = c.perform_check.new.shelf in
+    let before : Sight = record { files = shelf.files old; rest = shelf.rest old; faults = shelf.faults old; begins = shelf.begins old; taken = shelf.taken old } in
+    let after : Sight = record { files = shelf.files new; rest = shelf.rest new; faults = shelf.faults new; begins = shelf.begins new; taken = shelf.taken new } in
+    let request = ap request_of_result (sym (c.in-Ok-Check.is ∙ ap Ok c.in-Ok-Check.field-0-is)) ∙ c.in_ok-file.ensures in
+    IfOk-weaker c.perform_check.result _ _
+    (λ answer caused. subst (λ (r : Result Request WordFault). CausedByRequest r before after answer.status answer.text.items) request caused)
+    c.perform_check.ensures.caused

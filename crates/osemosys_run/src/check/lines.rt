@@ -1,0 +1,136 @@
+// The texts of `check`.
+ghost use Rattle.std.specs.Prelude.{◌≡◌, ◌++◌, IfOk, OnOk, codes, option_map};
+ghost use Rattle.exact_num.specs.Value.{value_of};
+ghost use Rattle.mps_writer.specs.MpsText.{line};
+ghost use Rattle.scaled_decimals.specs.PrintedFraction.{fraction_text};
+ghost use Rattle.osemosys_run.specs.CheckLines.{accepted_text, fault_text, multiplier_fault_line, plan_fault_line, record_fault_text, rejected_line, rejection_text};
+ghost use Rattle.osemosys_run.specs.CheckOutcomes.{bound_values};
+ghost use Rattle.osemosys_run.specs.PlacesWithin.{FaultIsWithin, RejectionIsWithin};
+
+use crate::check::outcome::Bound;
+use crate::places::{push_with_number, push_with_row, push_with_var};
+use certificate_checker::Rejection;
+use exact_num::Frac;
+use model_sets::Sets;
+use plan_files::PlanFault;
+use scaled_decimals::push_frac;
+use std::alloc::{AllocError, Global};
+
+/// The text for a plan that passes: `accepted`, its cost, and with multipliers the bound and the gap.
+pub fn accepted_text(alloc: Global, cost: Frac, bound: Option<Bound>) -> Result<Vec<u8>, AllocError>
+    ensures { IfOk result (λ text. text.items ≡ accepted_text (value_of cost) (option_map bound_values bound)) }
+{
+    let mut text = Vec::from_slice(alloc, b"accepted\n")?;
+    push_amount(&mut text, b"cost ", cost)?;
+    if let Some(Bound { bound, gap }) = bound {
+        push_amount(&mut text, b"bound ", bound)?;
+        push_amount(&mut text, b"gap ", gap)?;
+    }
+    Ok(text)
+}
+
+/// The line for the first condition that fails: `rejected violates EQ by Q`, `rejected sign VAR`, `rejected multiplier EQ`,
+/// `rejected column VAR by Q` or `rejected gap Q`.
+pub fn rejected_line(
+    alloc: Global,
+    rejection: Rejection,
+    sets: &Sets,
+) -> Result<Vec<u8>, AllocError>
+    requires { RejectionIsWithin sets.now rejection }
+    ensures { IfOk result (λ text. text.items ≡ rejected_line sets.now rejection) }
+{
+    let mut text = Vec::from_slice(alloc, b"rejected ")?;
+    push_rejection(&mut text, rejection, sets)?;
+    text.extend_from_slice(b"\n")?;
+    Ok(text)
+}
+
+// Appends why a check says no.
+fn push_rejection(out: &mut Vec<u8>, rejection: Rejection, sets: &Sets) -> Result<(), AllocError>
+    requires { RejectionIsWithin sets.now rejection }
+    ensures { OnOk result (out.new.items ≡ out.old.items ++ rejection_text sets.now rejection) }
+{
+    match rejection {
+        Rejection::Violates(name, amount) => {
+            push_with_row(out, b"violates ", name, sets)?;
+            push_by(out, amount)
+        }
+        Rejection::WrongSign(var) => push_with_var(out, b"sign ", var, sets),
+        Rejection::WrongMultiplier(name) => push_with_row(out, b"multiplier ", name, sets),
+        Rejection::Column(var, amount) => {
+            push_with_var(out, b"column ", var, sets)?;
+            push_by(out, amount)
+        }
+        Rejection::GapPassed(amount) => {
+            out.extend_from_slice(b"gap ")?;
+            push_frac(out, amount)
+        }
+        Rejection::NotNegative | Rejection::NotPositive => Ok(()),
+    }
+}
+
+// Appends by how much something is off.
+fn push_by(out: &mut Vec<u8>, amount: Frac) -> Result<(), AllocError>
+    ensures { OnOk result (out.new.items ≡ out.old.items ++ codes " by " ++ fraction_text (value_of amount)) }
+{
+    out.extend_from_slice(b" by ")?;
+    push_frac(out, amount)
+}
+
+// Appends a line of a word and an amount.
+fn push_amount(out: &mut Vec<u8>, word: &[u8], amount: Frac) -> Result<(), AllocError>
+    ensures { OnOk result (out.new.items ≡ out.old.items ++ line (word.now ++ fraction_text (value_of amount))) }
+{
+    out.extend_from_slice(word)?;
+    push_frac(out, amount)?;
+    out.extend_from_slice(b"\n")
+}
+
+/// The line for a rule that a plan's file breaks: `refused plan record N FAULT` or `refused plan Missing VAR`.
+pub fn plan_fault_line(alloc: Global, fault: PlanFault, sets: &Sets) -> Result<Vec<u8>, AllocError>
+    requires { FaultIsWithin sets.now fault }
+    ensures { IfOk result (λ text. text.items ≡ plan_fault_line sets.now fault) }
+{
+    let mut text = Vec::from_slice(alloc, b"refused plan ")?;
+    push_fault(&mut text, fault, sets)?;
+    text.extend_from_slice(b"\n")?;
+    Ok(text)
+}
+
+/// The line for a rule that a file of multipliers breaks: `refused multipliers record N FAULT`.
+pub fn multiplier_fault_line(
+    alloc: Global,
+    fault: PlanFault,
+    sets: &Sets,
+) -> Result<Vec<u8>, AllocError>
+    requires { FaultIsWithin sets.now fault }
+    ensures { IfOk result (λ text. text.items ≡ multiplier_fault_line sets.now fault) }
+{
+    let mut text = Vec::from_slice(alloc, b"refused multipliers ")?;
+    push_fault(&mut text, fault, sets)?;
+    text.extend_from_slice(b"\n")?;
+    Ok(text)
+}
+
+// Appends the rule that a file breaks, with the record or the variable.
+fn push_fault(out: &mut Vec<u8>, fault: PlanFault, sets: &Sets) -> Result<(), AllocError>
+    requires { FaultIsWithin sets.now fault }
+    ensures { OnOk result (out.new.items ≡ out.old.items ++ fault_text sets.now fault) }
+{
+    match fault {
+        PlanFault::BadRecord(number) => push_record_fault(out, number, b"BadRecord"),
+        PlanFault::UnknownVar(number) => push_record_fault(out, number, b"UnknownVar"),
+        PlanFault::Twice(number) => push_record_fault(out, number, b"Twice"),
+        PlanFault::BadValue(number) => push_record_fault(out, number, b"BadValue"),
+        PlanFault::Missing(var) => push_with_var(out, b"Missing ", var, sets),
+    }
+}
+
+// Appends the rule that a record breaks.
+fn push_record_fault(out: &mut Vec<u8>, number: u64, fault: &[u8]) -> Result<(), AllocError>
+    ensures { OnOk result (out.new.items ≡ out.old.items ++ record_fault_text number fault.now) }
+{
+    push_with_number(out, b"record ", number)?;
+    out.extend_from_slice(b" ")?;
+    out.extend_from_slice(fault)
+}

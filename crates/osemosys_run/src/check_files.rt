@@ -1,0 +1,154 @@
+// The files of `check`, read whole one after another before any of them is looked at: the data file, the plan's, and that of
+// multipliers if one is named.
+ghost use Rattle.std.specs.Prelude.{◌≡◌, ◌≤◌, length, IfOk, option_map};
+ghost use Rattle.discount_factors.specs.Factors.{IsPlaces};
+ghost use Rattle.osemosys_run.specs.Causes.{CausedByFile, CausedByOptionalFile, FollowsFromText};
+ghost use Rattle.osemosys_run.specs.Check.{DueForCheck};
+ghost use Rattle.osemosys_run.specs.Due.{DueForText};
+ghost use Rattle.osemosys_run.specs.Reading.{most_bytes, sight};
+
+use crate::accepting::accept;
+use crate::answer::{Answer, refuse_file};
+use crate::check::{Claim, answer_check};
+use crate::reading::read_file;
+use io_edges::Shelf;
+use std::alloc::{AllocError, Global};
+
+/// The numbers of the files among those that the words name.
+const DATA_FILE: u8 = 1;
+
+const PLAN_FILE: u8 = 2;
+
+const MULTIPLIER_FILE: u8 = 3;
+
+/// What the words after `check` say: the names of its files, the gap in millionths of the bound, and how many decimal places
+/// written factors have.
+#[derive(Clone, Copy)]
+pub struct Asked<'a> {
+    pub file: &'a str,
+    pub plan: &'a str,
+    pub multipliers: Option<&'a str>,
+    pub gap: u32,
+    pub places: u8,
+}
+
+/// The answer of `check` over the files of these names.
+pub fn perform_check<S: Shelf>(
+    alloc: Global,
+    asked: Asked<'_>,
+    shelf: &mut S,
+) -> Result<Answer, AllocError>
+    requires { IsPlaces asked.places }
+    ensures caused { IfOk result (λ answer.
+        let after = sight (S.files shelf.new) (S.rest shelf.new)
+        (S.faults shelf.new) (S.begins shelf.new) (S.taken shelf.new) in
+        CausedByFile (λ first bytes. CausedByFile (λ second plan_bytes. CausedByOptionalFile (λ there multiplier_bytes.
+        FollowsFromText (DueForCheck asked.entry.places plan_bytes multiplier_bytes asked.entry.gap) after answer.status answer.text.items there bytes)
+        3 (option_map (λ name. name.now) asked.entry.multipliers) second after answer.status answer.text.items)
+        2 asked.entry.plan.now first after answer.status answer.text.items)
+        1 asked.entry.file.now
+        (sight (S.files shelf.old) (S.rest shelf.old)
+        (S.faults shelf.old) (S.begins shelf.old) (S.taken shelf.old))
+        after answer.status answer.text.items) }
+    ensures files { S.files shelf.new ≡ S.files shelf.old }
+    ensures faults { S.faults shelf.old ≤ S.faults shelf.new }
+{
+    match read_file(alloc, asked.file, shelf) {
+        Ok(text) => check_plan_file(alloc, text, asked, shelf),
+        Err(end) => refuse_file(alloc, DATA_FILE, end),
+    }
+}
+
+// The same where the data file was read.
+fn check_plan_file<S: Shelf>(
+    alloc: Global,
+    text: Vec<u8>,
+    asked: Asked<'_>,
+    shelf: &mut S,
+) -> Result<Answer, AllocError>
+    requires short { length text.items ≤ most_bytes }
+    requires places { IsPlaces asked.places }
+    ensures caused { IfOk result (λ answer.
+        let after = sight (S.files shelf.new) (S.rest shelf.new)
+        (S.faults shelf.new) (S.begins shelf.new) (S.taken shelf.new) in
+        CausedByFile (λ second plan_bytes. CausedByOptionalFile (λ there multiplier_bytes.
+        FollowsFromText (DueForCheck asked.entry.places plan_bytes multiplier_bytes asked.entry.gap) after answer.status answer.text.items there text.items)
+        3 (option_map (λ name. name.now) asked.entry.multipliers) second after answer.status answer.text.items)
+        2 asked.entry.plan.now
+        (sight (S.files shelf.old) (S.rest shelf.old)
+        (S.faults shelf.old) (S.begins shelf.old) (S.taken shelf.old))
+        after answer.status answer.text.items) }
+    ensures files { S.files shelf.new ≡ S.files shelf.old }
+    ensures faults { S.faults shelf.old ≤ S.faults shelf.new }
+{
+    match read_file(alloc, asked.plan, shelf) {
+        Ok(plan) => check_multiplier_file(alloc, text, &plan, asked, shelf),
+        Err(end) => refuse_file(alloc, PLAN_FILE, end),
+    }
+}
+
+// The same where the plan's file was read too.
+fn check_multiplier_file<S: Shelf>(
+    alloc: Global,
+    text: Vec<u8>,
+    plan: &[u8],
+    asked: Asked<'_>,
+    shelf: &mut S,
+) -> Result<Answer, AllocError>
+    requires short { length text.items ≤ most_bytes }
+    requires places { IsPlaces asked.places }
+    ensures caused { IfOk result (λ answer.
+        let after = sight (S.files shelf.new) (S.rest shelf.new)
+        (S.faults shelf.new) (S.begins shelf.new) (S.taken shelf.new) in
+        CausedByOptionalFile (λ there multiplier_bytes.
+        FollowsFromText (DueForCheck asked.entry.places plan.now multiplier_bytes asked.entry.gap) after answer.status answer.text.items there text.items)
+        3 (option_map (λ name. name.now) asked.entry.multipliers)
+        (sight (S.files shelf.old) (S.rest shelf.old)
+        (S.faults shelf.old) (S.begins shelf.old) (S.taken shelf.old))
+        after answer.status answer.text.items) }
+    ensures files { S.files shelf.new ≡ S.files shelf.old }
+    ensures faults { S.faults shelf.old ≤ S.faults shelf.new }
+{
+    let gap = asked.gap;
+    match asked.multipliers {
+        None => {
+            let multipliers = None;
+            let claim = Claim {
+                plan,
+                multipliers,
+                gap,
+            };
+            answer_text(alloc, text, asked.places, claim)
+        }
+        Some(name) => match read_file(alloc, name, shelf) {
+            Ok(bytes) => {
+                let multipliers = Some(bytes.as_slice());
+                let claim = Claim {
+                    plan,
+                    multipliers,
+                    gap,
+                };
+                answer_text(alloc, text, asked.places, claim)
+            }
+            Err(end) => refuse_file(alloc, MULTIPLIER_FILE, end),
+        },
+    }
+}
+
+// The answer where all files were read. The data file's text is gone before the first row is made.
+fn answer_text(
+    alloc: Global,
+    text: Vec<u8>,
+    places: u8,
+    claim: Claim<'_, '_>,
+) -> Result<Answer, AllocError>
+    requires short { length text.items ≤ most_bytes }
+    requires places { IsPlaces places }
+    ensures { IfOk result (λ answer.
+        DueForText (DueForCheck places claim.entry.plan.now (option_map (λ text. text.now) claim.entry.multipliers) claim.entry.gap) text.items answer.status answer.text.items) }
+{
+    match accept(alloc, text)? {
+        Ok(model) => answer_check(alloc, &model, places, claim),
+        Err(answer) => Ok(answer),
+    }
+}

@@ -1,0 +1,98 @@
+//! The files of `check`: which of them is missing, fails or is too long, and whose fault comes first.
+
+use crate::calls::{CHECK, CHECK_BOUND, assert_ends, call_check, call_over};
+use crate::plan_records::{CHAIN, ENERGY, PLAN, file_of};
+use io_edges::MemSink;
+use osemosys_run::{ReadStop, Status};
+use std::test::Fail;
+
+/// A byte more than 64 MiB.
+const TOO_LONG: usize = 67_108_865;
+
+/// Words with files that are missing, and the number of the first such file.
+static MISSING: [(&[&str], u8, &str); 4] = [
+    (&["check", "model.dat", "p"], 2, "no such file 2\n"),
+    (&["check", "model.dat", "p", "m"], 2, "no such file 2\n"),
+    (
+        &["check", "model.dat", "plan.csv", "m"],
+        3,
+        "no such file 3\n",
+    ),
+    (&["check", "d", "p", "m"], 1, "no such file 1\n"),
+];
+
+// The plan's file has no header, but no file is looked at before all are read.
+#[test]
+fn the_first_missing_file_is_told_before_what_any_says(rt: HostRuntime) -> Result<(), Fail> {
+    for (words, file, line) in MISSING.iter() {
+        let ending = call_check(rt.alloc(), *words, "", "", "", &[])?;
+        assert!(rt;
+            matches!(ending.0, Status::ReadFault(ReadStop::NoFile(number)) if number == *file)
+        );
+        assert_ends(&rt, &ending, 6, line);
+    }
+    Ok(())
+}
+
+/// The numbers of the shelf's calls for each file: begin, a read that takes the file, a read that ends it; and the line where one fails.
+static CALLS: [([u64; 3], &str); 3] = [
+    ([1, 2, 3], "read fault file 1\n"),
+    ([4, 5, 6], "read fault file 2\n"),
+    ([7, 8, 9], "read fault file 3\n"),
+];
+
+#[test]
+fn a_failing_call_is_told_by_its_file(rt: HostRuntime) -> Result<(), Fail> {
+    let plan = file_of(rt.alloc(), &[PLAN])?;
+    let multipliers = file_of(rt.alloc(), &[CHAIN, ENERGY])?;
+    for (numbers, line) in CALLS.iter() {
+        for number in numbers {
+            let failing = [*number];
+            let ending = call_check(rt.alloc(), CHECK_BOUND, "", &plan, &multipliers, &failing)?;
+            assert_ends(&rt, &ending, 6, line);
+        }
+    }
+    let ending = call_check(rt.alloc(), CHECK_BOUND, "", &plan, &multipliers, &[10])?;
+    assert_ends(&rt, &ending, 9, "rejected gap 10\n");
+    Ok(())
+}
+
+#[test]
+fn a_plan_of_more_than_64_mib_is_too_long(rt: HostRuntime) -> Result<(), Fail> {
+    let mut plan = Vec::new(rt.alloc());
+    plan.resize(TOO_LONG, b'"')?;
+    let files = [("model.dat", b"".as_slice()), ("plan.csv", plan.as_slice())];
+    let out = MemSink::new(rt.alloc(), 200, &[])?;
+    let ending = call_over(rt.alloc(), CHECK, &files, &[], out)?;
+    assert_ends(&rt, &ending, 4, "refused too long file 2\n");
+    Ok(())
+}
+
+/// Statements of the data, and the status and the line for them where the other files are empty: the data are refused first, then
+/// their rows, then the plan's file.
+static ORDER: [(&str, u8, &str); 3] = [
+    ("set STORAGE := DAM;", 4, "refused Storage\n"),
+    (
+        "param CapacityToActivityUnit default 999999999999999.999999999 := ;
+param YearSplit default 0.999999999 := ;
+param CapacityFactor default 0.999999999 := ;
+param AvailabilityFactor default 0.999999999 := ;",
+        3,
+        "uncertified width row CAb1[R,T,2020]\n",
+    ),
+    ("", 4, "refused plan record 1 BadRecord\n"),
+];
+
+#[test]
+fn the_data_are_refused_before_the_plan_and_it_before_multipliers(
+    rt: HostRuntime,
+) -> Result<(), Fail> {
+    for (statements, code, line) in ORDER.iter() {
+        let ending = call_check(rt.alloc(), CHECK_BOUND, statements, "", "", &[])?;
+        assert_ends(&rt, &ending, *code, line);
+    }
+    let plan = file_of(rt.alloc(), &[PLAN])?;
+    let ending = call_check(rt.alloc(), CHECK_BOUND, "", &plan, "", &[])?;
+    assert_ends(&rt, &ending, 4, "refused multipliers record 1 BadRecord\n");
+    Ok(())
+}
