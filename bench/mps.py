@@ -215,4 +215,5 @@ def main():
         print(f"{line}  {'yes' if is_read(output) else 'no'}, {same}", flush=True)
 
 
-main()
+if __name__ == "__main__":
+    main()

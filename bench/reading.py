@@ -104,7 +104,7 @@ def main():
         with open(path, "wb") as file:
             file.write(text)
         base = min(run(program, "nothing", path)[0] for _ in range(3))
-        for what in ("tokens", "blocks"):
+        for what in ("tokens", "blocks", "pieces"):
             took, most, answer = run(program, what, path)
             took = max(took - base, 1e-3)
             speed = len(text) / took / 1e6
