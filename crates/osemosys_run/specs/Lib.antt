@@ -5,10 +5,7 @@ pub mod Check
 pub mod CheckLines
 pub mod CheckOutcomes
 pub mod CheckedPlans
-pub mod ClapWords
 pub mod Codes
-pub mod CommandLine
-pub mod Commands
 pub mod Complete
 pub mod Due
 pub mod Lines
@@ -20,7 +17,3 @@ pub mod ReadToEnd
 pub mod Reading
 pub mod RefusalLines
 pub mod Sending
-pub mod WordParts
-pub mod WordReading
-pub mod WordValues
-pub mod Words

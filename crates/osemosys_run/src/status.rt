@@ -3,6 +3,7 @@ ghost use Rattle.std.specs.Prelude.{◌≡◌};
 ghost use Rattle.osemosys_run.specs.Codes.{code_of};
 
 use certificate_checker::Rejection;
+use command_words::WordFault;
 use mathprog_data::DataFault;
 use model_sets::SetFault;
 use param_tables::BuildFault;
@@ -54,23 +55,6 @@ pub enum Refusal {
     TooLong(u8),
     /// The rows of the equations have more than 4,000,000 entries.
     TooManyEntries,
-}
-
-/// What is wrong with the words.
-#[derive(Clone, Copy, Debug, PartialEq, Eq)]
-pub enum WordFault {
-    /// There is no word.
-    NoCommand,
-    /// The first word is no command, or one that isn't built.
-    BadCommand,
-    /// A file is missing or too many, an option is unknown or repeated, or it has no value.
-    BadForm,
-    /// A number isn't one of the digits and the range that its place allows.
-    BadNumber,
-    /// The value of `--show` is none of the command's.
-    BadShow,
-    /// `check` has a gap and no multipliers.
-    GapAlone,
 }
 
 /// Why a file couldn't be read. Files count from 1, in the order of the words.
