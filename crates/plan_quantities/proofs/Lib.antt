@@ -6,3 +6,5 @@ mod QuantityLaws
 mod ModelCost
 mod MovedRows
 mod PriceLaws
+mod SumExamples
+mod PriceExamples
