@@ -155,6 +155,7 @@ module _ (places : ℕ) (d : Data) (q : ℕ) (x : Var → ℤ) (plan : Feasible 
     where
       regrouped : (s g f v : ℤ) → s *ℤ (g *ℤ f) *ℤ v ≡ s *ℤ g *ℤ f *ℤ v
       regrouped s g f v = simp products
+
       exchanged : (c n p k : ℤ) → c *ℤ n *ℤ p *ℤ k ≡ n *ℤ c *ℤ p *ℤ k
       exchanged c n p k = simp products
 

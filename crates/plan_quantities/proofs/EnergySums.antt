@@ -49,28 +49,28 @@ module _ (d : Data) (s : ℤ) (ratio : ℕ → ℤ) (part : ℕ → ℤ) (rate b
     (of_slice : (l : ℕ) → In d sets.timeslice l → s *ℤ in_slice l ≡ by_technology l *ℤ part l)
     (of_modes : (l : ℕ) → In d sets.timeslice l → by_technology l ≡ sum_over (filter (λ m. is_not_zero (ratio m)) (modes d)) (λ m. by_mode l m))
     (of_mode : (l m : ℕ) → In d sets.timeslice l → In d sets.mode m → is_not_zero (ratio m) ≡ true → s *ℤ by_mode l m ≡ rate l m *ℤ ratio m)
-    where
-  technology-sum : (l : ℕ) → In d sets.timeslice l → s *ℤ by_technology l ≡ sum_over (modes d) (λ m. rate l m *ℤ ratio m)
-  technology-sum l in_l =
-      let does : ℕ → Bool = λ m. is_not_zero (ratio m) in
-      ap (λ z. s *ℤ z) (of_modes l in_l)
-      ∙ sum_over-times (filter does (modes d)) s (λ m. by_mode l m)
-      ∙ sum-same (λ m. In d sets.mode m × (does m ≡ true)) (filter does (modes d)) (λ m. s *ℤ by_mode l m) (λ m. rate l m *ℤ ratio m)
-      (all-filtered (In d sets.mode) does (modes d) (positions-in d sets.mode)) (λ m known. of_mode l m in_l known.0 known.1)
-      ∙ sum-filtered does (modes d) (λ m. rate l m *ℤ ratio m) (λ m none. zero-product (rate l m) (ratio m) (zero-ratio (ratio m) none))
+  where
+    technology-sum : (l : ℕ) → In d sets.timeslice l → s *ℤ by_technology l ≡ sum_over (modes d) (λ m. rate l m *ℤ ratio m)
+    technology-sum l in_l =
+        let does : ℕ → Bool = λ m. is_not_zero (ratio m) in
+        ap (λ z. s *ℤ z) (of_modes l in_l)
+        ∙ sum_over-times (filter does (modes d)) s (λ m. by_mode l m)
+        ∙ sum-same (λ m. In d sets.mode m × (does m ≡ true)) (filter does (modes d)) (λ m. s *ℤ by_mode l m) (λ m. rate l m *ℤ ratio m)
+        (all-filtered (In d sets.mode) does (modes d) (positions-in d sets.mode)) (λ m known. of_mode l m in_l known.0 known.1)
+        ∙ sum-filtered does (modes d) (λ m. rate l m *ℤ ratio m) (λ m none. zero-product (rate l m) (ratio m) (zero-ratio (ratio m) none))
 
-  slice-sum : (l : ℕ) → In d sets.timeslice l → s *ℤ s *ℤ in_slice l ≡ sum_over (modes d) (λ m. rate l m *ℤ part l *ℤ ratio m)
-  slice-sum l in_l =
-      chain s (in_slice l) (by_technology l) (part l) (of_slice l in_l)
-      ∙ ap (λ z. z *ℤ part l) (technology-sum l in_l)
-      ∙ sum-times (modes d) (λ m. rate l m *ℤ ratio m) (part l)
-      ∙ sum_over-same (modes d) (λ m. rate l m *ℤ ratio m *ℤ part l) (λ m. rate l m *ℤ part l *ℤ ratio m) (λ m. last_two (rate l m) (ratio m) (part l))
+    slice-sum : (l : ℕ) → In d sets.timeslice l → s *ℤ s *ℤ in_slice l ≡ sum_over (modes d) (λ m. rate l m *ℤ part l *ℤ ratio m)
+    slice-sum l in_l =
+        chain s (in_slice l) (by_technology l) (part l) (of_slice l in_l)
+        ∙ ap (λ z. z *ℤ part l) (technology-sum l in_l)
+        ∙ sum-times (modes d) (λ m. rate l m *ℤ ratio m) (part l)
+        ∙ sum_over-same (modes d) (λ m. rate l m *ℤ ratio m *ℤ part l) (λ m. rate l m *ℤ part l *ℤ ratio m) (λ m. last_two (rate l m) (ratio m) (part l))
 
-  pub by-ratios : s *ℤ s *ℤ annual ≡ sum_over (timeslices d) (λ l. sum_over (modes d) (λ m. rate l m *ℤ part l *ℤ ratio m))
-  by-ratios =
-      ap (λ z. s *ℤ s *ℤ z) of_year
-      ∙ sum_over-times (timeslices d) (s *ℤ s) in_slice
-      ∙ sum-same (In d sets.timeslice) (timeslices d) (λ l. s *ℤ s *ℤ in_slice l) (λ l. sum_over (modes d) (λ m. rate l m *ℤ part l *ℤ ratio m)) (positions-in d sets.timeslice) slice-sum
+    pub by-ratios : s *ℤ s *ℤ annual ≡ sum_over (timeslices d) (λ l. sum_over (modes d) (λ m. rate l m *ℤ part l *ℤ ratio m))
+    by-ratios =
+        ap (λ z. s *ℤ s *ℤ z) of_year
+        ∙ sum_over-times (timeslices d) (s *ℤ s) in_slice
+        ∙ sum-same (In d sets.timeslice) (timeslices d) (λ l. s *ℤ s *ℤ in_slice l) (λ l. sum_over (modes d) (λ m. rate l m *ℤ part l *ℤ ratio m)) (positions-in d sets.timeslice) slice-sum
 
 neither : (a b : Bool) → (a || b) ≡ false → (a ≡ false) × (b ≡ false)
 neither true b h = absurd (cc h)

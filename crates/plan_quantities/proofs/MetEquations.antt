@@ -37,6 +37,7 @@ recovered_apart s f v c a b n h = left ∙ h ∙ right
   where
     left : s *ℤ (f *ℤ f) *ℤ v ≡ s *ℤ f *ℤ f *ℤ v
     left = simp products
+
     right : c *ℤ a *ℤ b *ℤ n ≡ n *ℤ c *ℤ (a *ℤ b)
     right = simp products
 
@@ -45,6 +46,7 @@ paid_scaled s g v c n h = left ∙ ap (λ z. z *ℤ g) h ∙ right
   where
     left : s *ℤ g *ℤ v ≡ s *ℤ v *ℤ g
     left = simp products
+
     right : c *ℤ n *ℤ g ≡ n *ℤ c *ℤ g
     right = simp products
 

@@ -140,8 +140,10 @@ module _ (places : ℕ) (d : Data) (a : ℤ) (b q : ℕ) (x : Var → ℤ) (posi
       where
         balance : RowName
         balance = balance_at (at_rlfy r l f y)
+
         p : Var
         p = production r l f y
+
         by_test : (t : Bool) → is_eq (row_name_cmp row.name balance) ≡ t
             → Stands row.sense (row_sum wider row.entries.items) (row.rhs *ℤ pos (b * q) +ℤ (if t then entry_at p row *ℤ more_of a q else pos 0))
         by_test true same =
@@ -225,20 +227,27 @@ fractions s b q a c low lb top tb n p s_positive lb_positive tb_positive bound p
   where
     apart : (n lb p tb a b q : ℤ) → (lb *ℤ tb) *ℤ ((n *ℤ b +ℤ p *ℤ a) *ℤ q) ≡ ((n *ℤ lb) *ℤ tb *ℤ b +ℤ (p *ℤ tb) *ℤ a *ℤ lb) *ℤ q
     apart n lb p tb a b q = simp ring
+
     together : (low tb top lb a b q s : ℤ) → ((low *ℤ s) *ℤ tb *ℤ b +ℤ (top *ℤ s) *ℤ a *ℤ lb) *ℤ q ≡ ((low *ℤ tb *ℤ b +ℤ top *ℤ a *ℤ lb) *ℤ q) *ℤ s
     together low tb top lb a b q s = simp ring
+
     sorted : (lb tb s b c : ℤ) → (lb *ℤ tb) *ℤ (s *ℤ b *ℤ c) ≡ (lb *ℤ tb *ℤ b *ℤ c) *ℤ s
     sorted lb tb s b c = simp products
 
 pub promise-holds : (places : ℕ) (d : Data) (rows : List Row) (s : ℕ) (y : RowName → ℤ) (multipliers : List (RowName × Rational)) (bound : Rational) (row : Row) (index : Index)
     → AreRowsOf places d (instances d) rows → Proves model_cost rows (all_variables d) s y → AreMultipliersOver s y multipliers → IsOver (pos s) bound (bound_of y rows)
     → Contains rows row → row.name ≡ balance_at index → IsPromised places d index bound (price_of multipliers row)
-promise-holds places d rows s y multipliers bound row index are proves over bounds given named = λ a b q x positive plan.
+promise-holds places d rows s y multipliers bound row index are proves over bounds given named =
     let n = production_entry row in
     let price = IsOver-times (pos s) (pos 1) (value_in row_name_cmp multipliers row.name) (whole n) (y row.name) n (over.1 row.name) (whole-over n) in
-    fractions (pos s) (pos b) (pos q) a (cost d x) bound.top bound.bottom (price_of multipliers row).top (price_of multipliers row).bottom (bound_of y rows) (price_over y row)
-    (omega (arith, ints, over.0)) bounds.positive price.positive bounds.cross (price.cross ∙ ap (λ z. (price_of multipliers row).top *ℤ z) (*ℤ-one (pos s)))
-    (price-holds places d rows s y row index a b q x are proves given named positive plan)
+    record {
+      bound_positive = bounds.positive;
+      price_positive = price.positive;
+      costs = λ a b q x positive plan.
+          fractions (pos s) (pos b) (pos q) a (cost d x) bound.top bound.bottom (price_of multipliers row).top (price_of multipliers row).bottom (bound_of y rows) (price_over y row)
+          (omega (arith, ints, over.0)) bounds.positive price.positive bounds.cross (price.cross ∙ ap (λ z. (price_of multipliers row).top *ℤ z) (*ℤ-one (pos s)))
+          (price-holds places d rows s y row index a b q x are proves given named positive plan);
+    }
   where
     whole-over : (n : ℤ) → IsOver (pos 1) (whole n) n
     whole-over n = record { positive = omega (arith, ints); cross = refl }

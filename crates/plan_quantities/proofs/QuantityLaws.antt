@@ -15,6 +15,7 @@ use Rattle.named_equations.specs.Parameters.{input_activity_ratio, output_activi
 use Rattle.named_equations.specs.Plans.{Feasible}
 use Rattle.named_equations.specs.Variables.{new_capacity, variable}
 use Rattle.named_equations.specs.Where.{produces, uses}
+use Rattle.named_equations.proofs.SameValues.{◌also◌}
 use Rattle.plan_quantities.specs.Quantities.{AreQuantities, IsSum, Quantity}
 use Rattle.plan_quantities.specs.Sums.{activity_in}
 use Rattle.plan_quantities.proofs.CostSums.{cost-sum, emission-sum, investment-sum, operation-sum, penalty-sum, salvage-sum}
@@ -85,16 +86,18 @@ always b h = ap (λ c. c && true) h
 
 pub quantities-hold : (places : ℕ) (d : Data) (q : ℕ) (x : Var → ℤ) → Feasible places d q x → AreQuantities places d q x
 quantities-hold places d q x plan =
-  (λ i within. there-rty places d q x _ i within (always (is_index d (place.r ∷ place.t ∷ place.y ∷ []) i) within) (λ r t y in_r in_t in_y. one-*ℤ (x (new_capacity r t y))),
-  (λ i within. there-rty places d q x _ i within (always (is_index d (place.r ∷ place.t ∷ place.y ∷ []) i) within) (capacity-sum places d q x plan),
-  (λ i within. there-rty places d q x _ i within (always (is_index d (place.r ∷ place.t ∷ place.y ∷ []) i) within) (activity-sum places d q x plan),
-  (λ i within. where-rtfy places d q x (produces d) _ i within refl (production-sum places d q x plan) (none-sum d (λ l m. activity_in d x i.region l i.tech m i.year) (λ m. output_activity_ratio d i.region i.tech i.fuel m i.year)),
-  (λ i within. where-rtfy places d q x (uses d) _ i within refl (use-sum places d q x plan) (none-sum d (λ l m. activity_in d x i.region l i.tech m i.year) (λ m. input_activity_ratio d i.region i.tech i.fuel m i.year)),
-  (λ i within. there-rrrfy places d q x _ i within (always (is_index d (place.r ∷ place.rr ∷ place.f ∷ place.y ∷ []) i) within) (trade-sum places d q x plan),
-  (λ i within. there-rey places d q x _ i within (always (is_index d (place.r ∷ place.e ∷ place.y ∷ []) i) within) (emission-sum places d q x plan),
-  (λ i within. there-rty places d q x _ i within (always (is_index d (place.r ∷ place.t ∷ place.y ∷ []) i) within) (investment-sum places d q x plan),
-  (λ i within. there-rty places d q x _ i within (always (is_index d (place.r ∷ place.t ∷ place.y ∷ []) i) within) (operation-sum places d q x plan),
-  (λ i within. there-rty places d q x _ i within (always (is_index d (place.r ∷ place.t ∷ place.y ∷ []) i) within) (penalty-sum places d q x plan),
-  (λ i within. there-rty places d q x _ i within (always (is_index d (place.r ∷ place.t ∷ place.y ∷ []) i) within) (salvage-sum places d q x plan),
-  (λ i within. there-ry places d q x _ i within (always (is_index d (place.r ∷ place.y ∷ []) i) within) (cost-sum places d q x plan),
-  tt))))))))))))
+    (λ i within. there-rty places d q x _ i within (always (is_index d (place.r ∷ place.t ∷ place.y ∷ []) i) within) (λ r t y in_r in_t in_y. one-*ℤ (x (new_capacity r t y))))
+    also (λ i within. there-rty places d q x _ i within (always (is_index d (place.r ∷ place.t ∷ place.y ∷ []) i) within) (capacity-sum places d q x plan))
+    also (λ i within. there-rty places d q x _ i within (always (is_index d (place.r ∷ place.t ∷ place.y ∷ []) i) within) (activity-sum places d q x plan))
+    also (λ i within. where-rtfy places d q x (produces d) _ i within refl (production-sum places d q x plan)
+    (none-sum d (λ l m. activity_in d x i.region l i.tech m i.year) (λ m. output_activity_ratio d i.region i.tech i.fuel m i.year)))
+    also (λ i within. where-rtfy places d q x (uses d) _ i within refl (use-sum places d q x plan)
+    (none-sum d (λ l m. activity_in d x i.region l i.tech m i.year) (λ m. input_activity_ratio d i.region i.tech i.fuel m i.year)))
+    also (λ i within. there-rrrfy places d q x _ i within (always (is_index d (place.r ∷ place.rr ∷ place.f ∷ place.y ∷ []) i) within) (trade-sum places d q x plan))
+    also (λ i within. there-rey places d q x _ i within (always (is_index d (place.r ∷ place.e ∷ place.y ∷ []) i) within) (emission-sum places d q x plan))
+    also (λ i within. there-rty places d q x _ i within (always (is_index d (place.r ∷ place.t ∷ place.y ∷ []) i) within) (investment-sum places d q x plan))
+    also (λ i within. there-rty places d q x _ i within (always (is_index d (place.r ∷ place.t ∷ place.y ∷ []) i) within) (operation-sum places d q x plan))
+    also (λ i within. there-rty places d q x _ i within (always (is_index d (place.r ∷ place.t ∷ place.y ∷ []) i) within) (penalty-sum places d q x plan))
+    also (λ i within. there-rty places d q x _ i within (always (is_index d (place.r ∷ place.t ∷ place.y ∷ []) i) within) (salvage-sum places d q x plan))
+    also (λ i within. there-ry places d q x _ i within (always (is_index d (place.r ∷ place.y ∷ []) i) within) (cost-sum places d q x plan))
+    also tt

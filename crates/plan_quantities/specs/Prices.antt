@@ -1,5 +1,5 @@
 -- What more of a fuel costs. The price of a fuel at [r,l,f,y] is the multiplier of its balance, the row of EBa11, times that row's entry at Production.
-use Rattle.std.specs.Prelude.{◌≡◌, ◌≢◌, ℕ, ◌<◌, ℤ, pos, ◌+ℤ◌, ◌*ℤ◌, ◌≤ℤ◌, true, false, List}
+use Rattle.std.specs.Prelude.{◌≡◌, ◌≢◌, ℕ, ◌<◌, ℤ, pos, ◌+ℤ◌, ◌*ℤ◌, ◌<ℤ◌, ◌≤ℤ◌, true, false, List}
 use Rattle.exact_num.specs.Rational.{Rational, times, whole}
 use Rattle.model_sets.specs.Data.{Data}
 use Rattle.row_core.specs.declared.Index.{Index}
@@ -58,7 +58,8 @@ abbrev pub CostsAtLeast : Data → ℕ → (Var → ℤ) → Rational → Ration
 CostsAtLeast d q x bound price a b =
     ((bound.top *ℤ price.bottom *ℤ pos b +ℤ price.top *ℤ a *ℤ bound.bottom) *ℤ pos q) ≤ℤ (bound.bottom *ℤ price.bottom *ℤ pos b *ℤ cost d x)
 
--- what a price at the index promises: whatever a over b is, each plan that covers that much more of the fuel costs at least so much
-abbrev pub IsPromised : ℕ → Data → Index → Rational → Rational → Type 0
-IsPromised places d index bound price =
-    (a : ℤ) (b q : ℕ) (x : Var → ℤ) → 0 < b → FeasibleWithMore places d index a b q x → CostsAtLeast d q x bound price a b
+-- what a price at the index promises, over a bound: whatever a over b is, each plan that covers that much more of the fuel costs at least so much
+pub record IsPromised (places : ℕ) (d : Data) (index : Index) (bound price : Rational) : Type 0 where
+  pub bound_positive : pos 0 <ℤ bound.bottom
+  pub price_positive : pos 0 <ℤ price.bottom
+  pub costs : (a : ℤ) (b q : ℕ) (x : Var → ℤ) → 0 < b → FeasibleWithMore places d index a b q x → CostsAtLeast d q x bound price a b
