@@ -3,7 +3,7 @@ mod MetEquations
 mod EnergySums
 mod CostSums
 mod QuantityLaws
-mod ModelCost
+pub mod ModelCost
 mod MovedRows
 mod PriceLaws
 mod SumExamples

@@ -39,7 +39,7 @@ use Rattle.named_equations.specs.Positions.{all_years, regions}
 use Rattle.named_equations.specs.RowMeaning.{IsNamedRow}
 use Rattle.named_equations.specs.Variables.{demand, production, total_discounted_cost, trade, use_of_fuel, variable}
 use Rattle.named_equations.proofs.InstanceOrder.{instances-ascend, variables-ascend}
-use Rattle.named_equations.proofs.InstanceTests.{Contains-variables, Has, Has-from_Contains, Has-instances, Has-map, Has-variables}
+use Rattle.named_equations.proofs.InstanceTests.{Contains-from_Has, Contains-variables, Has, Has-from_Contains, Has-instances, Has-map, Has-variables}
 use Rattle.named_equations.proofs.TermMeaning.{alone-self, sum_over-same, sum_over-times}
 use Rattle.plan_quantities.specs.Prices.{FeasibleWithMore, IsPromised, balance_at, price_of, price_over, production_entry, says_more}
 use Rattle.plan_quantities.proofs.ModelCost.{cost-of_all}
@@ -49,7 +49,7 @@ use Rattle.row_book.specs.Books.{AreRowsOf, entry_variables}
 use Rattle.row_book.specs.EquationRows.{terms_at}
 use Rattle.row_book.proofs.Instances.{instance-parts}
 use Rattle.row_book.proofs.Lists.{all-has}
-use Rattle.row_book.proofs.Triangles.{IsThere, all-there}
+use Rattle.row_book.proofs.Triangles.{IsThere, all-there, row-of}
 use Rattle.row_book.proofs.Within.{names-of_rows}
 
 -- ---- the balance of the plan with less Production
@@ -211,6 +211,13 @@ price-holds places d rows s y row index a b q x are proves given named positive 
     let tidy = index-tidied d subscripts index (values-from_index d subscripts index (instance-parts d (balance_at index) instance).within) in
     let At : Index → Type 0 = λ i. row.name ≡ balance_at i → FeasibleWithMore places d i a b q x → ((bound_of y rows *ℤ pos b +ℤ price_over y row *ℤ a) *ℤ pos q) ≤ℤ (pos s *ℤ pos b *ℤ cost d x) in
     subst At (sym tidy) (λ is more. price-at places d a b q x positive index.region index.slice index.fuel index.year more rows s y row are proves has is) named plan
+
+-- each balance has a row
+pub balance-row : (places : ℕ) (d : Data) (rows : List Row) (index : Index) → AreRowsOf places d (instances d) rows → is_instance d (balance_at index) ≡ true
+    → (row : Row) × Contains rows row × (row.name ≡ balance_at index)
+balance-row places d rows index are instance =
+    let found = row-of places d (instances d) rows (balance_at index) are ((Has-instances d (balance_at index)).1 instance) in
+    (found.0, Contains-from_Has rows found.0 found.1.0, found.1.1.written.named)
 
 -- ---- in fractions
 

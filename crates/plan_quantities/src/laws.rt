@@ -1,6 +1,6 @@
 //! Laws of the quantities and prices of a report. Each is proved as the contract of a function that does nothing.
 
-ghost use Rattle.std.specs.Prelude.{◌≡◌, ◌<◌, ℕ, ℤ, pos, ◌+ℤ◌, ◌*ℤ◌, ◌≤ℤ◌, List, Contains};
+ghost use Rattle.std.specs.Prelude.{◌≡◌, ◌<◌, ℕ, ℤ, pos, ◌+ℤ◌, ◌*ℤ◌, ◌≤ℤ◌, true, List, Contains};
 ghost use Rattle.exact_num.specs.Rational.{Rational};
 ghost use Rattle.model_sets.specs.Data.{Data};
 ghost use Rattle.row_core.specs.declared.Index.{Index};
@@ -9,7 +9,7 @@ ghost use Rattle.row_core.specs.declared.RowName.{RowName};
 ghost use Rattle.row_core.specs.declared.Var.{Var};
 ghost use Rattle.row_core.specs.Values.{IsOver};
 ghost use Rattle.named_equations.specs.Existence.{all_variables};
-ghost use Rattle.named_equations.specs.Instances.{instances};
+ghost use Rattle.named_equations.specs.Instances.{instances, is_instance};
 ghost use Rattle.named_equations.specs.Notation.{scale_of, sum_over};
 ghost use Rattle.named_equations.specs.Plans.{Feasible, cost};
 ghost use Rattle.named_equations.specs.Positions.{all_years, regions};
@@ -28,8 +28,11 @@ pub fn quantity_laws()
 {}
 
 /// Multipliers that prove a bound price each fuel: a plan that covers a over b more of it, whatever the sign of a,
-/// costs at least the bound and the price times a over b. Once of whole numbers y over s, and once of fractions.
+/// costs at least the bound and the price times a over b. Once of whole numbers y over s, and once of fractions. Each
+/// balance has a row, and so a price.
 pub fn price_laws()
+    ensures row { (places : ℕ) (d : Data) (rows : List Row) (index : Index) → AreRowsOf places d (instances d) rows → is_instance d (balance_at index) ≡ true
+        → (row : Row) × Contains rows row × (row.name ≡ balance_at index) }
     ensures price { (places : ℕ) (d : Data) (rows : List Row) (s : ℕ) (y : RowName → ℤ) (row : Row) (index : Index) (a : ℤ) (b q : ℕ) (x : Var → ℤ)
         → AreRowsOf places d (instances d) rows → Proves model_cost rows (all_variables d) s y
         → Contains rows row → row.name ≡ balance_at index → 0 < b → FeasibleWithMore places d index a b q x
