@@ -1,6 +1,6 @@
 -- Emissions and costs of a feasible plan are their defining sums.
-use Rattle.std.proofs.Common.{◌≡◌, ℕ, ℤ, pos, ◌+ℤ◌, ◌-ℤ◌, ◌*ℤ◌, Bool, true, filter, refl, sym, ap, ap₂, ◌∙◌}
-use Rattle.exact_num.proofs.Ring.{products, ring, *ℤ_assoc, *ℤ-+ℤ, +ℤ-*ℤ}
+use Rattle.std.proofs.Common.{◌≡◌, ℕ, ℤ, ◌+ℤ◌, ◌-ℤ◌, ◌*ℤ◌, Bool, true, filter, sym, ap, ap₂, ◌∙◌}
+use Rattle.exact_num.proofs.Ring.{products, ring, *ℤ_assoc, *ℤ-+ℤ}
 use Rattle.model_sets.specs.Data.{Data}
 use Rattle.model_sets.specs.Names as sets
 use Rattle.row_core.specs.declared.Var.{Var}

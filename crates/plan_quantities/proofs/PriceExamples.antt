@@ -1,23 +1,21 @@
 -- One technology that makes a fuel, at an investment of 5 and running costs of 3 for each unit, and a demand of 10: the price of the fuel is 8.
 use Rattle.std.proofs.Common.{◌≡◌, ℕ, ◌-◌, ◌*◌, ◌^◌, ℤ, pos, neg_ℤ, ◌+ℤ◌, ◌*ℤ◌, Bool, true, false, List, [], ◌∷◌, map, refl}
 use Rattle.std.specs.List.{list_all}
-use Rattle.std.specs.Ordering.{int_eq, is_eq}
+use Rattle.std.specs.Ordering.{is_eq}
 use Rattle.std.specs.Prelude.{◌&&◌, ◌||◌, codes, if◌then◌else◌, int_le, nat_eq, slice_index_or}
 use Rattle.exact_num.specs.Rational.{Rational, whole}
 use Rattle.discount_factors.specs.Factors.{capital_factor, discounted, half_year_root, operating_factor, root_from, salvage_fraction}
 use Rattle.model_sets.specs.Data.{Data, Default}
 use Rattle.model_sets.specs.declared.param_numbers.TheConstants.{ANNUAL_EMISSION_LIMIT, AVAILABILITY_FACTOR, CAPACITY_FACTOR, CAPACITY_TO_ACTIVITY_UNIT, CAPITAL_COST, DEPRECIATION_METHOD, FIXED_COST, MODEL_PERIOD_EMISSION_LIMIT, OPERATIONAL_LIFE, OUTPUT_ACTIVITY_RATIO, SPECIFIED_ANNUAL_DEMAND, SPECIFIED_DEMAND_PROFILE, TOTAL_ANNUAL_MAX_CAPACITY, TOTAL_ANNUAL_MAX_CAPACITY_INVESTMENT, TOTAL_TECHNOLOGY_ANNUAL_ACTIVITY_UPPER_LIMIT, VARIABLE_COST, YEAR_SPLIT}
 use Rattle.row_core.specs.declared.Index.{Index}
-use Rattle.row_core.specs.declared.RowName.{RowName}
 use Rattle.row_core.specs.declared.Var.{Var}
 use Rattle.row_core.specs.declared.kind_numbers.TheConstants.{DEMAND, RATE_OF_DEMAND}
 use Rattle.row_core.specs.Order.{row_name_cmp}
 use Rattle.row_core.specs.Statements.{holds}
-use Rattle.named_equations.specs.Existence.{exists, subscripts_of_kind}
+use Rattle.named_equations.specs.Existence.{subscripts_of_kind}
 use Rattle.named_equations.specs.Indices.{at_rlfy}
 use Rattle.named_equations.specs.Instances.{indices, instances}
 use Rattle.named_equations.specs.Plans.{cost, meets}
-use Rattle.named_equations.specs.Variables.{variable}
 use Rattle.plan_quantities.specs.Prices.{balance_at, says_more}
 use Rattle.plan_quantities.specs.Quantities.{Quantity, quantities}
 

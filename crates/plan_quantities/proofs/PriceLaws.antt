@@ -20,7 +20,7 @@ use Rattle.row_core.specs.Plans.{value_in}
 use Rattle.row_core.specs.Rows.{number_at, row_sum}
 use Rattle.row_core.specs.Statements.{Holds, Stands}
 use Rattle.row_core.specs.Subscripts as place
-use Rattle.row_core.specs.Values.{IsOver, alone}
+use Rattle.row_core.specs.Values.{IsOver}
 use Rattle.row_core.proofs.MeaningLaws.{row_sum-alone}
 use Rattle.row_core.proofs.SumLaws.{IsOver-times}
 use Rattle.row_core.proofs.PlanLaws.{holds-scaled, row_sum-scaled}

@@ -10,15 +10,11 @@ use Rattle.model_sets.specs.Members.{SetLists}
 use Rattle.model_sets.specs.declared.param_numbers.TheConstants.{CAPITAL_COST, DEPRECIATION_METHOD, DISCOUNT_RATE, DISCOUNT_RATE_IDV, EMISSIONS_PENALTY, EMISSION_ACTIVITY_RATIO, FIXED_COST, INPUT_ACTIVITY_RATIO, OPERATIONAL_LIFE, OUTPUT_ACTIVITY_RATIO, RESIDUAL_CAPACITY, VARIABLE_COST, YEAR_SPLIT}
 use Rattle.row_core.specs.declared.Index.{Index}
 use Rattle.row_core.specs.declared.Var.{Var}
-use Rattle.row_core.specs.declared.kind_numbers.TheConstants.{NEW_CAPACITY, RATE_OF_ACTIVITY, TOTAL_DISCOUNTED_COST, TRADE, TRADE_ANNUAL}
+use Rattle.row_core.specs.declared.kind_numbers.TheConstants.{NEW_CAPACITY, RATE_OF_ACTIVITY, TRADE, TRADE_ANNUAL}
 use Rattle.named_equations.specs.Existence.{exists, subscripts_of_kind}
 use Rattle.named_equations.specs.Instances.{indices}
-use Rattle.named_equations.specs.Notation.{factor_scale, scale_of}
-use Rattle.named_equations.specs.Plans.{cost}
 use Rattle.named_equations.specs.Variables.{variable}
-use Rattle.plan_quantities.specs.CostSums.{cost_of_year, investment, operation, penalty, salvage, three_factors, two_factors}
 use Rattle.plan_quantities.specs.Quantities.{Quantity, quantities}
-use Rattle.plan_quantities.specs.Sums.{activity_of_year, capacity_in_all, emissions_of_year, production_of_year, trade_of_year, use_of_year}
 
 -- ---- data
 

@@ -12,7 +12,7 @@ use Rattle.named_equations.specs.Instances.{is_index}
 use Rattle.named_equations.specs.Notation.{scale_of, factor_scale}
 use Rattle.named_equations.specs.Variables.{variable}
 use Rattle.plan_quantities.specs.Sums.{capacity_built, capacity_in_all, activity_of_year, production_of_year, use_of_year, trade_of_year, emissions_of_year}
-use Rattle.plan_quantities.specs.CostSums.{data_scale, two_factors, three_factors, investment, operation, penalty, salvage, cost_of_year}
+use Rattle.plan_quantities.specs.CostSums.{two_factors, three_factors, investment, operation, penalty, salvage, cost_of_year}
 
 -- a kind of variable, and its defining sum at an index, with the scale at which that is stated, for written factors of so many decimal places
 pub record Quantity : Type 0 where
