@@ -12,7 +12,7 @@ use Rattle.named_equations.specs.Variables.{new_capacity, total_capacity_annual,
 use Rattle.named_equations.specs.Where.{emits_in_mode}
 use Rattle.named_equations.specs.WrittenFactors.{capital_factor_of, operating_factor_of}
 use Rattle.named_equations.proofs.TermMeaning.{sum_over-same, sum_over-times}
-use Rattle.plan_quantities.specs.CostSums.{cost_of_year, data_scale, investment, operation, paid_for_one, part_left, penalty, salvage, three_factors, two_factors}
+use Rattle.plan_quantities.specs.CostSums.{cost_of_year, investment, operation, paid_for_one, part_left, penalty, salvage, three_factors, two_factors}
 use Rattle.plan_quantities.specs.Sums.{activity_in, capacity_in_all, emissions_of_year, over_slices_and_modes}
 use Rattle.plan_quantities.proofs.EnergySums.{capacity-sum, zero-product, zero-ratio}
 use Rattle.plan_quantities.proofs.MetEquations.{acc3-met, cc1-met, cc2-met, e1-met, e2-met, e3-met, e4-met, e5-met, e6-met, oc1-met, oc2-met, oc3-met, oc4-met, sv-met, sv4-met, tdc1-met, tdc2-met}
@@ -162,7 +162,7 @@ module _ (places : ℕ) (d : Data) (q : ℕ) (x : Var → ℤ) (plan : Feasible 
   -- what a technology costs in a year, at the scale of the total
   technology-cost : (r t y : ℕ) → In d sets.region r → In d sets.technology t → In d sets.year y
       → scale_of 3 *ℤ three_factors places *ℤ x (total_discounted_cost_by_technology r t y)
-      ≡ data_scale *ℤ two_factors places *ℤ operation places d q x r t y +ℤ scale_of 2 *ℤ investment places d q x r t y
+      ≡ scale_of 1 *ℤ two_factors places *ℤ operation places d q x r t y +ℤ scale_of 2 *ℤ investment places d q x r t y
       +ℤ two_factors places *ℤ penalty places d q x r t y -ℤ scale_of 2 *ℤ factor_scale places *ℤ salvage places d q x r t y
   technology-cost r t y in_r in_t in_y =
       let o = x (discounted_operating_cost r t y) in
@@ -173,7 +173,7 @@ module _ (places : ℕ) (d : Data) (q : ℕ) (x : Var → ℤ) (plan : Feasible 
       ∙ at_one_scale (scale_of 1) (factor_scale places) o i p v
       ∙ ap₂ (λ a b. a -ℤ b)
       (ap₂ (λ a b. a +ℤ b)
-      (ap₂ (λ a b. a +ℤ b) (ap (λ z. data_scale *ℤ two_factors places *ℤ z) (operation-sum r t y in_r in_t in_y)) (ap (λ z. scale_of 2 *ℤ z) (investment-sum r t y in_r in_t in_y)))
+      (ap₂ (λ a b. a +ℤ b) (ap (λ z. scale_of 1 *ℤ two_factors places *ℤ z) (operation-sum r t y in_r in_t in_y)) (ap (λ z. scale_of 2 *ℤ z) (investment-sum r t y in_r in_t in_y)))
       (ap (λ z. two_factors places *ℤ z) (penalty-sum r t y in_r in_t in_y)))
       (ap (λ z. scale_of 2 *ℤ factor_scale places *ℤ z) (salvage-sum r t y in_r in_t in_y))
 
@@ -184,7 +184,7 @@ module _ (places : ℕ) (d : Data) (q : ℕ) (x : Var → ℤ) (plan : Feasible 
       ∙ sum_over-times (technologies d) k (λ t. x (total_discounted_cost_by_technology r t y))
       ∙ sum-same (In d sets.technology) (technologies d) (λ t. k *ℤ x (total_discounted_cost_by_technology r t y))
       (λ t.
-      data_scale *ℤ two_factors places *ℤ operation places d q x r t y +ℤ scale_of 2 *ℤ investment places d q x r t y
+      scale_of 1 *ℤ two_factors places *ℤ operation places d q x r t y +ℤ scale_of 2 *ℤ investment places d q x r t y
       +ℤ two_factors places *ℤ penalty places d q x r t y -ℤ scale_of 2 *ℤ factor_scale places *ℤ salvage places d q x r t y)
       (positions-in d sets.technology) (λ t in_t. technology-cost r t y in_r in_t in_y)
 

@@ -11,10 +11,7 @@ use Rattle.named_equations.specs.Variables.{new_capacity}
 use Rattle.named_equations.specs.WrittenFactors.{annuity_of, capital_factor_of, operating_factor_of, recovery_factor_of, salvage_fraction_of}
 use Rattle.plan_quantities.specs.Sums.{activity_in, over_slices_and_modes, capacity_in_all}
 
--- the scale of a data value, and that of so many written factors
-abbrev pub data_scale : ℤ
-data_scale = scale_of 1
-
+-- the scale of two written factors, and of three
 abbrev pub two_factors : ℕ → ℤ
 two_factors places = factor_scale places *ℤ factor_scale places
 
@@ -59,5 +56,5 @@ salvage places d q x r t y =
 abbrev pub cost_of_year : ℕ → Data → ℕ → (Var → ℤ) → ℕ → ℕ → ℤ
 cost_of_year places d q x r y =
     sum_over (technologies d) (λ t.
-    data_scale *ℤ two_factors places *ℤ operation places d q x r t y +ℤ scale_of 2 *ℤ investment places d q x r t y
+    scale_of 1 *ℤ two_factors places *ℤ operation places d q x r t y +ℤ scale_of 2 *ℤ investment places d q x r t y
     +ℤ two_factors places *ℤ penalty places d q x r t y -ℤ scale_of 2 *ℤ factor_scale places *ℤ salvage places d q x r t y)

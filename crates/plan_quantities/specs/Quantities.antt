@@ -21,28 +21,28 @@ pub record Quantity : Type 0 where
   pub sum : ℕ → Data → ℕ → (Var → ℤ) → Index → ℤ
 
 -- one without written factors, at this scale
-abbrev pub counted : ℕ → ℤ → (Data → ℕ → (Var → ℤ) → Index → ℤ) → Quantity
-counted kind scale sum = record { kind = kind; scale = λ places. scale; sum = λ places. sum }
+abbrev pub without_factors : ℕ → ℤ → (Data → ℕ → (Var → ℤ) → Index → ℤ) → Quantity
+without_factors kind scale sum = record { kind = kind; scale = λ places. scale; sum = λ places. sum }
 
--- one with them
-abbrev pub valued : ℕ → (ℕ → ℤ) → (ℕ → Data → ℕ → (Var → ℤ) → Index → ℤ) → Quantity
-valued kind scale sum = record { kind = kind; scale = scale; sum = sum }
+-- one with written factors
+abbrev pub with_factors : ℕ → (ℕ → ℤ) → (ℕ → Data → ℕ → (Var → ℤ) → Index → ℤ) → Quantity
+with_factors kind scale sum = record { kind = kind; scale = scale; sum = sum }
 
 -- the quantities, in the order of the report's tables
 abbrev pub quantities : List Quantity
 quantities =
-    counted NEW_CAPACITY (pos 1) (λ d q x. by_rty (capacity_built d q x))
-    ∷ counted TOTAL_CAPACITY_ANNUAL (scale_of 1) (λ d q x. by_rty (capacity_in_all d q x))
-    ∷ counted TOTAL_TECHNOLOGY_ANNUAL_ACTIVITY (scale_of 1) (λ d q x. by_rty (activity_of_year d q x))
-    ∷ counted PRODUCTION_BY_TECHNOLOGY_ANNUAL (scale_of 2) (λ d q x. by_rtfy (production_of_year d q x))
-    ∷ counted USE_BY_TECHNOLOGY_ANNUAL (scale_of 2) (λ d q x. by_rtfy (use_of_year d q x))
-    ∷ counted TRADE_ANNUAL (pos 1) (λ d q x. by_rrrfy (trade_of_year d q x))
-    ∷ counted ANNUAL_EMISSIONS (scale_of 2) (λ d q x. by_rey (emissions_of_year d q x))
-    ∷ valued DISCOUNTED_CAPITAL_INVESTMENT (λ places. scale_of 1 *ℤ three_factors places) (λ places d q x. by_rty (investment places d q x))
-    ∷ valued DISCOUNTED_OPERATING_COST (λ places. scale_of 2 *ℤ factor_scale places) (λ places d q x. by_rty (operation places d q x))
-    ∷ valued DISCOUNTED_TECHNOLOGY_EMISSIONS_PENALTY (λ places. scale_of 3 *ℤ factor_scale places) (λ places d q x. by_rty (penalty places d q x))
-    ∷ valued DISCOUNTED_SALVAGE_VALUE (λ places. scale_of 1 *ℤ two_factors places) (λ places d q x. by_rty (salvage places d q x))
-    ∷ valued TOTAL_DISCOUNTED_COST (λ places. scale_of 3 *ℤ three_factors places) (λ places d q x. by_ry (cost_of_year places d q x))
+    without_factors NEW_CAPACITY (pos 1) (λ d q x. by_rty (capacity_built d q x))
+    ∷ without_factors TOTAL_CAPACITY_ANNUAL (scale_of 1) (λ d q x. by_rty (capacity_in_all d q x))
+    ∷ without_factors TOTAL_TECHNOLOGY_ANNUAL_ACTIVITY (scale_of 1) (λ d q x. by_rty (activity_of_year d q x))
+    ∷ without_factors PRODUCTION_BY_TECHNOLOGY_ANNUAL (scale_of 2) (λ d q x. by_rtfy (production_of_year d q x))
+    ∷ without_factors USE_BY_TECHNOLOGY_ANNUAL (scale_of 2) (λ d q x. by_rtfy (use_of_year d q x))
+    ∷ without_factors TRADE_ANNUAL (pos 1) (λ d q x. by_rrrfy (trade_of_year d q x))
+    ∷ without_factors ANNUAL_EMISSIONS (scale_of 2) (λ d q x. by_rey (emissions_of_year d q x))
+    ∷ with_factors DISCOUNTED_CAPITAL_INVESTMENT (λ places. scale_of 1 *ℤ three_factors places) (λ places d q x. by_rty (investment places d q x))
+    ∷ with_factors DISCOUNTED_OPERATING_COST (λ places. scale_of 2 *ℤ factor_scale places) (λ places d q x. by_rty (operation places d q x))
+    ∷ with_factors DISCOUNTED_TECHNOLOGY_EMISSIONS_PENALTY (λ places. scale_of 3 *ℤ factor_scale places) (λ places d q x. by_rty (penalty places d q x))
+    ∷ with_factors DISCOUNTED_SALVAGE_VALUE (λ places. scale_of 1 *ℤ two_factors places) (λ places d q x. by_rty (salvage places d q x))
+    ∷ with_factors TOTAL_DISCOUNTED_COST (λ places. scale_of 3 *ℤ three_factors places) (λ places d q x. by_ry (cost_of_year places d q x))
     ∷ []
 
 -- At an index whose subscripts lie in their sets: a variable that exists is the defining sum, and where none exists the sum is 0, so that a table which
