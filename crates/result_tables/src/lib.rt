@@ -2,10 +2,12 @@
 #![tactic(auto)]
 
 mod directions;
+mod laws;
 mod lines;
 mod prices;
 mod quantities;
 mod records;
 mod reports;
 
+pub use laws::price_laws;
 pub use reports::{infeasible_report, report, unbounded_report};

@@ -73,11 +73,7 @@ fn push_members(
 }
 
 // Appends a value as a fraction, and rounded to six decimal places.
-fn push_value(
-    alloc: Global,
-    fields: &mut ByteRecord,
-    value: Frac,
-) -> Result<(), AllocError>
+fn push_value(alloc: Global, fields: &mut ByteRecord, value: Frac) -> Result<(), AllocError>
     requires whole { partial_of fields.old ≡ [] }
     ensures fields { OnOk result (fields_of fields.new ≡ fields_of fields.old ++ value_fields (value_of value)) }
     ensures whole { OnOk result (partial_of fields.new ≡ []) }

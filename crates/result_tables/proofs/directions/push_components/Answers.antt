@@ -1,5 +1,5 @@
 -- Variable by variable.
-use Rattle.std.proofs.Common.{◌≡◌, ℕ, ◌+◌, List, ◌++◌, ◌∷◌, [], drop, map, sym, ap, ◌∙◌, subst}
+use Rattle.std.proofs.Common.{ℕ, ◌+◌, List, ◌++◌, ◌∷◌, [], drop, map, sym, ap, ◌∙◌, subst}
 use Rattle.std.proofs.lemmas.List.{map-append}
 use Rattle.exact_num.specs.Rational.{Rational}
 use Rattle.exact_num.specs.declared.fraction.Frac.{Frac}

@@ -1,5 +1,5 @@
 -- Row by row.
-use Rattle.std.proofs.Common.{◌≡◌, ℕ, ◌+◌, List, ◌++◌, ◌∷◌, [], Option, drop, get_or, map, sym, ap, ◌∙◌, subst, arith}
+use Rattle.std.proofs.Common.{ℕ, ◌+◌, List, ◌++◌, ◌∷◌, [], drop, sym, ap, ◌∙◌, subst, arith}
 use Rattle.std.proofs.lemmas.List.{at_drop_all}
 use Rattle.std.proofs.lemmas.Result.{err_from_is_err_and}
 use Rattle.exact_num.specs.Rational.{Rational}
@@ -9,7 +9,6 @@ use Rattle.plan_files.specs.Listed.{IsListedRow, name_of_row}
 use Rattle.plan_files.specs.Texts.{records_text}
 use Rattle.row_core.specs.declared.Row.{Row}
 use Rattle.row_core.specs.declared.RowName.{RowName}
-use Rattle.row_core.specs.declared.place.Place.{Place}
 use Rattle.result_tables.specs.Causes.{IsFirstStop}
 use Rattle.result_tables.specs.Prices.{is_balance, named_price, price_steps}
 use Rattle.result_tables.specs.Tables.{price_record, price_table}
@@ -54,7 +53,7 @@ loop-row-preserved c =
           ∙ text_next of (joined c.args.sets.now m) c.args.rows.now c.loop-row.row-index c.row-item.result c.loop-row.out.items _ c.loop-row-test.true c.loop-row.invariant.text;
       steps =
           wide_next m c.args.rows.now c.loop-row.row-index c.row-item.result c.loop-row-test.true
-              (sym (ap (λ (row : Row). wide m (row ∷ [])) c.row-item.is) ∙ c.in_ok-push_price.ensures.fits)
+          (sym (ap (λ (row : Row). wide m (row ∷ [])) c.row-item.is) ∙ c.in_ok-push_price.ensures.fits)
           ∙ c.loop-row.invariant.steps;
     }
 
