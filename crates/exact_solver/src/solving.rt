@@ -26,6 +26,8 @@ pub fn solve_book(alloc: Global, book: &RowBook, pivots: u64) -> Result<Solution
     ensures whole { IfOk result (IsComplete book.now.vars) }
     ensures named { IfOk result (IsNamed book.now.rows) }
 {
-    let _ = (alloc, book.rows(), pivots);
+    let _ = book.rows().len();
+    let _ = alloc;
+    let _ = pivots;
     Err(SolveStop::Memory)
 }
