@@ -1,16 +1,15 @@
 -- The variables of a book: those that its rows define, and the columns that are left.
-use Rattle.std.proofs.Common.{◌≡◌, ℤ, pos, Bool, true, false, List, [], ◌∷◌, ◌++◌, ◌⊎◌, inl, inr, filter, refl, sym, ap, ◌∙◌, subst, arith}
+use Rattle.std.proofs.Common.{◌≡◌, ℤ, pos, Bool, true, false, List, [], ◌∷◌, ◌++◌, ◌⊎◌, inl, inr, filter, refl, sym, ap, ◌∙◌, arith}
 use Rattle.std.specs.Prelude.{Option, Some, None, ◌<ℤ◌}
 use Rattle.std.proofs.lemmas.Int.{ints}
 use Rattle.row_core.specs.declared.Row.{Row}
 use Rattle.row_core.specs.declared.Var.{Var}
-use Rattle.row_core.specs.Numbers.{ascends, variables_of}
-use Rattle.row_core.specs.Order.{var_cmp}
+use Rattle.row_core.specs.Numbers.{variables_of}
 use Rattle.row_core.specs.Rows.{number_at}
 use Rattle.named_equations.proofs.InstanceTests.{Contains-from_Has, Has, Has-append_left, Has-append_right, Has-from_Contains}
 use Rattle.row_book.specs.Books.{entry_variables}
 use Rattle.row_book.specs.Kept.{IsBook}
-use Rattle.written_method.specs.Definitions.{Definition, definitions_of, defined, is_among}
+use Rattle.written_method.specs.Definitions.{definitions_of, defined, is_among}
 use Rattle.written_method.specs.Eliminated.{column_entries, is_column}
 use Rattle.written_method.specs.Ready.{IsAmong}
 use Rattle.variable_elimination.specs.Columns.{AreColumns}

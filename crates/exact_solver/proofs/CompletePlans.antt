@@ -1,6 +1,6 @@
 -- What is carried back has a value for each variable of a book, in order; and multipliers for names of its rows alone.
-use Rattle.std.proofs.Common.{◌≡◌, ℤ, Bool, true, false, List, [], ◌∷◌, ◌⊎◌, inl, inr, map, filter, refl, sym, ap, ◌∙◌, subst, if◌then◌else◌}
-use Rattle.std.specs.Prelude.{Option, Some, None, Contains}
+use Rattle.std.proofs.Common.{◌≡◌, ℤ, Bool, true, false, List, [], ◌∷◌, ◌⊎◌, inl, inr, map, filter, refl, sym, ◌∙◌, subst, if◌then◌else◌}
+use Rattle.std.specs.Prelude.{Option, Some, None}
 use Rattle.std.specs.BTreeMap.{insert_entry}
 use Rattle.std.specs.Ordering.{match_ordering}
 use Rattle.std.specs.declared.cmp.Ordering.{Ordering}
@@ -18,11 +18,11 @@ use Rattle.named_equations.proofs.InstanceTests.{Contains-from_Has, Has, Has-fro
 use Rattle.row_book.specs.Books.{names_of}
 use Rattle.row_book.specs.Kept.{IsBook}
 use Rattle.written_method.specs.Definitions.{Definition, definitions_of, defined, others_of}
-use Rattle.written_method.specs.Eliminated.{ReducedRow, expanded_all, is_column, is_kept, reduced_row, reduced_rows}
+use Rattle.written_method.specs.Eliminated.{expanded_all, is_column, is_kept, reduced_row, reduced_rows}
 use Rattle.written_method.specs.Lifted.{lifted, lifted_value, no_right_side, right_side}
-use Rattle.written_method.specs.Multiplied.{defined_multipliers, multiplier_of, named_multipliers, scaled_multipliers}
+use Rattle.written_method.specs.Multiplied.{defined_multipliers, multiplier_of, scaled_multipliers}
 use Rattle.exact_num.specs.Rational.{times}
-use Rattle.exact_solver.specs.Definers.{definer, definers}
+use Rattle.exact_solver.specs.Definers.{definers}
 use Rattle.exact_solver.specs.Programs.{carried_direction, carried_multipliers, carried_plan, definitions_in, name_left, rows_left, scale_left}
 use Rattle.exact_solver.specs.Solutions.{AreNamedIn}
 use Rattle.exact_solver.proofs.BookVariables.{Has-from_test, definer-has, defined-has, variable-known}
@@ -171,9 +171,9 @@ named-has with_cost rows lambda u h =
     elim (multiplied-has with_cost rows (definitions_in rows) (scaled_multipliers names scales lambda []) u h) [
       | inl k ↦ definitions-named rows (definers rows) u k
       | inr k ↦ elim (scaled-has names scales lambda [] u k) [
-          | inl l ↦ others-named rows (definers rows) u (left-named (expanded_all [] (definitions_in rows)) (others_of rows (definers rows)) u l)
-          | inr l ↦ absurd l
-        ]
+        | inl l ↦ others-named rows (definers rows) u (left-named (expanded_all [] (definitions_in rows)) (others_of rows (definers rows)) u l)
+        | inr l ↦ absurd l
+      ]
     ]
 
 pub multipliers-named : (with_cost : Bool) (rows : List Row) (lambda : List Rational) → ascends row_name_cmp (keys_of (carried_multipliers with_cost rows lambda)) ≡ true → AreNamedIn rows (carried_multipliers with_cost rows lambda)

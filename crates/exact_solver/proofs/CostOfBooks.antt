@@ -1,5 +1,5 @@
 -- What a plan of a book costs: the sum of the variables TotalDiscountedCost that its rows define, and what the row of the cost says.
-use Rattle.std.proofs.Common.{◌≡◌, ◌+◌, suc, ℤ, pos, ◌+ℤ◌, ◌*ℤ◌, Bool, true, false, ◌&&◌, ◌||◌, List, [], ◌∷◌, ◌⊎◌, inl, inr, map, length, refl, sym, ap, ap₂, ◌∙◌, subst, arith, if◌then◌else◌}
+use Rattle.std.proofs.Common.{◌≡◌, suc, ℤ, pos, ◌+ℤ◌, ◌*ℤ◌, Bool, true, false, ◌&&◌, ◌||◌, List, [], ◌∷◌, ◌⊎◌, inl, inr, map, length, refl, sym, ap, ap₂, ◌∙◌, subst, if◌then◌else◌}
 use Rattle.std.specs.Prelude.{Option, Some, None, ◌==◌, nat_lt}
 use Rattle.std.specs.Ordering.{is_eq}
 use Rattle.std.specs.declared.cmp.Ordering.{Ordering}
@@ -15,7 +15,7 @@ use Rattle.row_core.specs.Values.{alone}
 use Rattle.named_equations.proofs.InstanceTests.{Has}
 use Rattle.row_book.specs.Kept.{IsBook}
 use Rattle.written_method.specs.declared.reduced.Reduced.{Reduced}
-use Rattle.written_method.specs.Definitions.{Definition, defined, definitions_of, is_among, rows_of}
+use Rattle.written_method.specs.Definitions.{defined, is_among}
 use Rattle.written_method.specs.Eliminated.{cost_variables, is_column, placed, with_cost_variable}
 use Rattle.certificate_checker.specs.Costs.{cost_of, model_cost}
 use Rattle.certificate_checker.specs.Sums.{sum_over}
@@ -26,7 +26,7 @@ use Rattle.variable_elimination.specs.Meaning.{AreMet}
 use Rattle.variable_elimination.proofs.CostSums.{cost-defined, cost-met, cost-other, cost_entries}
 use Rattle.variable_elimination.proofs.PlacedLaws.{placed-ascends}
 use Rattle.variable_elimination.proofs.VariableLaws.{itself}
-use Rattle.exact_solver.specs.Definers.{definer, definers}
+use Rattle.exact_solver.specs.Definers.{definers}
 use Rattle.exact_solver.specs.Programs.{definitions_in}
 use Rattle.exact_solver.proofs.BookVariables.{definer-has, definer-listed, variable-known}
 

@@ -1,13 +1,12 @@
 -- The definitions, computed: sizes, and ends of the method.
 use Rattle.std.proofs.Common.{◌≡◌, ℕ, pos, List, [], ◌∷◌, refl, ap, ap₂, ◌∙◌, ◌+◌}
-use Rattle.std.specs.Prelude.{Some, None, cond}
+use Rattle.std.specs.Prelude.{Some, cond}
 use Rattle.exact_num.specs.Formed.{difference_formed}
 use Rattle.exact_num.specs.Gcd.{gcd_of, gcd_within}
 use Rattle.exact_num.specs.Range.{all_fit, in_range}
 use Rattle.exact_num.specs.Rational.{lowest, minus, order_of, plus, times, whole}
 use Rattle.exact_num.specs.Steps.{first_wide}
 use Rattle.row_core.specs.declared.Row.{Row}
-use Rattle.row_core.specs.declared.Sense.{Sense}
 use Rattle.row_core.specs.declared.Sense.TheVariants.{Least, Equal, Most}
 use Rattle.row_core.specs.declared.Var.{Var}
 use Rattle.row_core.specs.declared.place.Place.TheVariants.{CostRow, SumGap}

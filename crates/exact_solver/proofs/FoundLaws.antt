@@ -1,11 +1,11 @@
 -- What is carried back from the simplex is what makes the checks say yes.
-use Rattle.std.proofs.Common.{◌≡◌, ℕ, ◌*◌, ◌<◌, ℤ, pos, neg_ℤ, ◌+ℤ◌, ◌*ℤ◌, Bool, true, false, List, map, refl, sym, ap, ap₂, ◌∙◌, subst, arith}
+use Rattle.std.proofs.Common.{◌≡◌, ℕ, ◌*◌, ◌<◌, ℤ, pos, neg_ℤ, ◌+ℤ◌, ◌*ℤ◌, true, false, List, map, sym, ap, ◌∙◌, subst, arith}
 use Rattle.std.specs.Prelude.{◌<ℤ◌}
 use Rattle.std.proofs.lemmas.Int.{ints}
 use Rattle.exact_num.specs.Rational.{Rational}
 use Rattle.exact_num.specs.Value.{value_of}
 use Rattle.exact_num.specs.declared.fraction.Frac.{Frac}
-use Rattle.exact_num.proofs.Integers.{*ℤ_cancel, *ℤ_pos, <ℤ_cancel, *ℤ-<ℤ, nonzero_of_pos}
+use Rattle.exact_num.proofs.Integers.{*ℤ_cancel, *ℤ_pos, <ℤ_cancel, nonzero_of_pos}
 use Rattle.exact_num.proofs.Ring.{*ℤ-zero, *ℤ_comm, ring, zero-*ℤ}
 use Rattle.row_core.specs.declared.Row.{Row}
 use Rattle.row_core.specs.declared.RowName.{RowName}
@@ -20,7 +20,7 @@ use Rattle.row_core.proofs.SumLaws.{IsOver-agree}
 use Rattle.row_book.specs.Kept.{IsBook}
 use Rattle.written_method.specs.declared.reduced.Reduced.{Reduced}
 use Rattle.written_method.specs.Certificates.{AreOverFrom, right_sum}
-use Rattle.written_method.specs.Definitions.{Definition, avoids, defined, is_among}
+use Rattle.written_method.specs.Definitions.{Definition, defined, is_among}
 use Rattle.written_method.specs.Lifted.{lifted, no_right_side, right_side}
 use Rattle.written_method.specs.Programs.{program_of}
 use Rattle.certificate_checker.specs.Certificates.{AreMultipliersOver, bound_of}
@@ -32,7 +32,7 @@ use Rattle.variable_elimination.proofs.LiftedLaws.{direction_met, lifted-others,
 use Rattle.simplex_core.specs.Outcomes.{BoundCost, DescendAlong, MeetAll, RefuteAll}
 use Rattle.exact_solver.specs.CarriedBack.{BecomesDirection, BecomesPlan, BecomesProof, BecomesRefutation}
 use Rattle.exact_solver.specs.Definers.{definers}
-use Rattle.exact_solver.specs.Found.{IsFoundBound, IsFoundDescent, IsFoundOptimum, IsFoundPlan, IsFoundRefutation}
+use Rattle.exact_solver.specs.Found.{IsFoundDescent, IsFoundOptimum, IsFoundPlan, IsFoundRefutation}
 use Rattle.exact_solver.specs.Programs.{carried_direction, carried_plan, definitions_in}
 use Rattle.exact_solver.proofs.BookLaws.{book_triangular}
 use Rattle.exact_solver.proofs.CostOfBooks.{cost-row}

@@ -1,9 +1,8 @@
 -- Values and multipliers as whole numbers over common denominators.
-use Rattle.std.proofs.Common.{◌≡◌, ℕ, zero, suc, ◌*◌, ◌<◌, ℤ, pos, ◌*ℤ◌, Bool, true, false, List, [], ◌∷◌, map, refl, sym, ap, ◌∙◌, subst, inl, inr, arith, if◌then◌else◌}
+use Rattle.std.proofs.Common.{◌≡◌, ℕ, zero, suc, ◌*◌, ◌<◌, ℤ, pos, ◌*ℤ◌, true, List, [], ◌∷◌, map, refl, sym, ap, ◌∙◌, subst, inl, inr, arith, if◌then◌else◌}
 use Rattle.std.specs.Prelude.{◌<ℤ◌, unsigned_abs, Some, IsTrue}
 use Rattle.std.specs.Ordering.{is_eq}
 use Rattle.std.specs.declared.cmp.Ordering.{Ordering}
-use Rattle.std.specs.declared.cmp.Ordering.TheVariants.{Less, Equal, Greater}
 use Rattle.std.proofs.lemmas.Int.{ints}
 use Rattle.exact_num.specs.Rational.{Rational}
 use Rattle.exact_num.specs.Value.{value_of}
@@ -23,8 +22,6 @@ use Rattle.row_core.proofs.SumLaws.{IsOver-multiplied, IsOver-own}
 use Rattle.named_equations.proofs.InstanceTests.{Has}
 use Rattle.written_method.specs.Certificates.{AreOverFrom, ValuesAreOver}
 use Rattle.certificate_checker.specs.Certificates.{AreMultipliersOver}
-use Rattle.certificate_checker.specs.Denominators.{AreOverSome}
-use Rattle.certificate_checker.specs.Plans.{AreValuesOver}
 use Rattle.variable_elimination.proofs.VariableLaws.{itself}
 use Rattle.exact_solver.proofs.SameLists.{first-before}
 

@@ -1,7 +1,5 @@
 -- What is left of a book is the written method's linear program.
-use Rattle.std.proofs.Common.{◌≡◌, ℤ, List, [], ◌∷◌, map, filter, refl, sym, ap, ap₂, ◌∙◌}
-use Rattle.std.specs.Prelude.{Option}
-use Rattle.exact_num.specs.Rational.{Rational}
+use Rattle.std.proofs.Common.{◌≡◌, List, [], ◌∷◌, map, refl, sym, ap, ◌∙◌}
 use Rattle.exact_num.specs.Value.{value_of}
 use Rattle.exact_num.specs.declared.fraction.Frac.{Frac}
 use Rattle.row_core.specs.declared.Row.{Row}
@@ -9,13 +7,13 @@ use Rattle.row_core.specs.declared.RowName.{RowName}
 use Rattle.row_core.specs.declared.Var.{Var}
 use Rattle.row_book.specs.Kept.{IsBook}
 use Rattle.written_method.specs.declared.reduced.Reduced.{Reduced}
-use Rattle.written_method.specs.Eliminated.{ReducedRow, is_column}
-use Rattle.written_method.specs.Programs.{Inequality, LinearProgram, inequality_of, program_of}
+use Rattle.written_method.specs.Eliminated.{ReducedRow}
+use Rattle.written_method.specs.Programs.{Inequality, LinearProgram, program_of}
 use Rattle.variable_elimination.specs.Columns.{AreColumns}
 use Rattle.variable_elimination.specs.CostRows.{IsCostOf}
 use Rattle.variable_elimination.specs.ReducedRows.{AreThese, Shape, scale_in, scale_worth, shape, shape_of}
 use Rattle.variable_elimination.specs.RowNames.{names_of}
-use Rattle.exact_solver.specs.Programs.{cost_left, inequality_in, kept_scale, name_left, program_left, rows_left, scale_left}
+use Rattle.exact_solver.specs.Programs.{cost_left, kept_scale, name_left, program_left, rows_left, scale_left}
 use Rattle.exact_solver.proofs.BookVariables.{columns-are}
 
 -- what is made of equal things that two lists are mapped to is equal

@@ -6,7 +6,7 @@ use Rattle.std.specs.declared.cmp.Ordering.TheVariants.{Less}
 use Rattle.row_core.specs.declared.Var.{Var}
 use Rattle.row_core.specs.Numbers.{ascends, before_first}
 use Rattle.row_core.specs.Order.{var_cmp}
-use Rattle.row_core.proofs.AscendingLaws.{ascends-first, ascends-tail, both_passed, test-from_Less}
+use Rattle.row_core.proofs.AscendingLaws.{ascends-first, ascends-tail, test-from_Less}
 use Rattle.row_core.proofs.Orders.{var_cmp_total}
 use Rattle.named_equations.proofs.InstanceTests.{Has, Contains-from_Has}
 

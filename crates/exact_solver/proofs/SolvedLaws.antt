@@ -1,5 +1,5 @@
 -- What the method's ends have: a value for each column, and a multiplier for each row.
-use Rattle.std.proofs.Common.{◌≡◌, ℕ, suc, ℤ, Bool, true, false, List, [], ◌∷◌, length, refl, ap, sym, ◌∙◌, subst, if◌then◌else◌}
+use Rattle.std.proofs.Common.{◌≡◌, ℕ, suc, ℤ, Bool, true, false, List, [], ◌∷◌, length, refl, ap, subst, if◌then◌else◌}
 use Rattle.std.specs.Prelude.{Option, Some, None}
 use Rattle.exact_num.specs.Rational.{Rational, minus}
 use Rattle.exact_num.specs.Steps.{first_wide}
@@ -11,7 +11,7 @@ use Rattle.written_method.specs.Lines.{Line}
 use Rattle.written_method.specs.Programs.{Inequality, LinearProgram, is_split}
 use Rattle.written_method.specs.Rounds.{State}
 use Rattle.written_method.specs.Runs.{Answer, Ended, RanOut, End, Optimal, Infeasible, Unbounded, PivotDue, answer}
-use Rattle.written_method.specs.Solved.{IsInfeasible, IsOptimal, IsUnbounded, checked_end, direction_of, end_steps, optimal_multipliers, outcome_of, outcome_of_end, refuting_multipliers, solved, values_of}
+use Rattle.written_method.specs.Solved.{IsInfeasible, IsOptimal, IsUnbounded, checked_end, direction_of, end_steps, optimal_multipliers, outcome_of, refuting_multipliers, solved, values_of}
 use Rattle.written_method.specs.Tableaus.{line_of, rows_of}
 use Rattle.written_method.specs.Values.{by_variable, column_direction, column_value, multipliers_from}
 

@@ -1,6 +1,6 @@
 -- The end of steps that come one part after another: it stops in the first part that has a number that doesn't fit.
-use Rattle.std.proofs.Common.{◌≡◌, List, ◌++◌, refl, sym, ap, ◌∙◌, subst}
-use Rattle.std.specs.Prelude.{Option, Some, None}
+use Rattle.std.proofs.Common.{◌≡◌, List, ◌++◌, sym, ap, ◌∙◌, subst}
+use Rattle.std.specs.Prelude.{None}
 use Rattle.std.specs.Option.{option_or}
 use Rattle.exact_num.specs.Steps.{Step, first_wide}
 use Rattle.exact_num.proofs.StepLaws.{first_wide-append}

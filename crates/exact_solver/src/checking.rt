@@ -109,11 +109,7 @@ pub(crate) fn passed_refutation(
 }
 
 /// The checker says yes to a direction along which the cost of some plan falls without end.
-pub(crate) fn passed_direction(
-    book: &RowBook,
-    plan: &Plan,
-    direction: &Plan,
-) -> Result<(), Stopped>
+pub(crate) fn passed_direction(book: &RowBook, plan: &Plan, direction: &Plan) -> Result<(), Stopped>
     requires plan { IsFoundPlan book.now.rows book.now.vars plan.now }
     requires direction { IsFoundDescent book.now.rows book.now.vars direction.now }
     ensures descent { OnOk result (IsDescent book.now.rows book.now.vars direction.now) }

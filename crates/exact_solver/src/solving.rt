@@ -11,9 +11,7 @@ ghost use Rattle.exact_solver.specs.Found.{IsFoundDescent, IsFoundOptimum, IsFou
 ghost use Rattle.exact_solver.specs.MethodEnds.{HasNoBound, HasNoPlan, HasOptimum, IsStopOf, carried_end, descent_checks, end_seen, method_end, optimum_checks, refutation_checks, unless_wide};
 ghost use Rattle.exact_solver.specs.Solutions.{AreNamedIn, IsComplete, IsNamed, IsProved};
 
-use crate::books::{
-    BookProgram, carry_direction, carry_multipliers, carry_plan, eliminate_book,
-};
+use crate::books::{BookProgram, carry_direction, carry_multipliers, carry_plan, eliminate_book};
 use crate::checking::{
     multiplier_laws, passed_bound, passed_direction, passed_gap, passed_plan, passed_refutation,
     plan_laws,

@@ -1,10 +1,9 @@
 -- The book's definitions are what the call asks for, and what it says is said of the book.
 use Rattle.std.proofs.Common.{◌≡◌, List, map, ◌∙◌, ap₂, subst}
-use Rattle.std.specs.Prelude.{IfErr, IfOk, None, OnOk, Option}
+use Rattle.std.specs.Prelude.{IfErr, IfOk, None, OnOk}
 use Rattle.exact_num.specs.Rational.{Rational}
 use Rattle.exact_num.specs.Steps.{Step, first_wide}
 use Rattle.exact_num.specs.Value.{value_of}
-use Rattle.row_core.specs.declared.Row.{Row}
 use Rattle.row_core.specs.declared.RowName.{RowName}
 use Rattle.row_core.specs.declared.place.Place.{Place}
 use Rattle.row_core.specs.declared.Var.{Var}
@@ -18,7 +17,7 @@ use Rattle.variable_elimination.specs.Left.{AreKnown}
 use Rattle.variable_elimination.specs.RowNames.{names_of}
 use Rattle.variable_elimination.specs.SoFar.{IsFirst}
 use Rattle.exact_solver.specs.Definers.{definers}
-use Rattle.exact_solver.specs.Programs.{carried_multipliers, carrying_steps, definitions_in, name_left, rows_left, scale_left}
+use Rattle.exact_solver.specs.Programs.{carried_multipliers, carrying_steps, definitions_in}
 use Rattle.exact_solver.proofs.BookLaws.{moved, book_triangular, book_known}
 use Rattle.exact_solver.proofs.CarriedWords.{as_many, proof_answer, refutation_answer}
 use Rattle.exact_solver.proofs.books.carry_multipliers.Goals as goal

@@ -1,13 +1,12 @@
 -- The checker's answer, over the book's rows.
-use Rattle.std.proofs.Common.{◌≡◌, ℕ, ℤ, subst}
+use Rattle.std.proofs.Common.{ℕ, ℤ, subst}
 use Rattle.exact_num.specs.Value.{value_of}
 use Rattle.row_core.specs.declared.RowName.{RowName}
 use Rattle.row_core.specs.Order.{row_name_cmp}
 use Rattle.row_core.specs.Plans.{value_in}
 use Rattle.row_core.specs.Values.{IsOver}
 use Rattle.std.specs.Prelude.{pos}
-use Rattle.certificate_checker.specs.declared.verdicts.Verdict.{Verdict}
-use Rattle.certificate_checker.specs.declared.verdicts.Verdict.TheVariants.{No, Width, Yes}
+use Rattle.certificate_checker.specs.declared.verdicts.Verdict.TheVariants.{Yes}
 use Rattle.certificate_checker.specs.Certificates.{AreMultipliersOver, BoundsAll, Proves, bound_of}
 use Rattle.certificate_checker.specs.Conditions.{IsWideAt}
 use Rattle.certificate_checker.specs.Costs.{model_cost}

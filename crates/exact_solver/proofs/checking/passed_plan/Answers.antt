@@ -1,9 +1,5 @@
 -- The checker's answer, over the book's rows.
-use Rattle.std.proofs.Common.{◌≡◌, ℕ, ℤ}
-use Rattle.std.specs.Prelude.{Some}
-use Rattle.exact_num.specs.Steps.{first_wide}
 use Rattle.exact_num.specs.Value.{value_of}
-use Rattle.row_core.specs.declared.Var.{Var}
 use Rattle.certificate_checker.specs.Conditions.{IsWideAt}
 use Rattle.certificate_checker.specs.Costs.{model_cost}
 use Rattle.certificate_checker.specs.PlanChecks.{plan_conditions}

@@ -1,12 +1,11 @@
 -- The checker's answer, over the book's rows.
-use Rattle.std.proofs.Common.{◌≡◌, ℕ, ℤ, subst}
+use Rattle.std.proofs.Common.{ℕ, ℤ, subst}
 use Rattle.std.specs.Prelude.{pos}
 use Rattle.exact_num.specs.Value.{value_of}
 use Rattle.row_core.specs.declared.RowName.{RowName}
 use Rattle.row_core.specs.Order.{row_name_cmp}
 use Rattle.row_core.specs.Plans.{value_in}
 use Rattle.row_core.specs.Values.{IsOver}
-use Rattle.certificate_checker.specs.declared.verdicts.Verdict.TheVariants.{No, Width, Yes}
 use Rattle.certificate_checker.specs.Certificates.{AdmitsNone, AreMultipliersOver, Refutes, bound_of}
 use Rattle.certificate_checker.specs.Conditions.{AllPass, IsWideAt}
 use Rattle.certificate_checker.specs.MultiplierChecks.{bound_value, infeasible_conditions}

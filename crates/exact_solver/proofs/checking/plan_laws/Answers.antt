@@ -1,6 +1,4 @@
 use Rattle.std.proofs.Common.{subst}
-use Rattle.std.specs.Prelude.{IsTrue}
-use Rattle.row_core.specs.Numbers.{ascends}
 use Rattle.row_core.specs.Order.{var_cmp}
 use Rattle.certificate_checker.specs.Denominators.{AreOverSome}
 use Rattle.exact_solver.proofs.OverLaws.{ascends-valued}

@@ -1,6 +1,6 @@
 -- What is carried back is what the checks ask for, and the steps come one part after another.
-use Rattle.std.proofs.Common.{◌≡◌, List, ap, sym, ◌∙◌, subst}
-use Rattle.std.specs.Prelude.{IfErr, IfOk, None, true}
+use Rattle.std.proofs.Common.{◌≡◌, List, sym, ◌∙◌, subst}
+use Rattle.std.specs.Prelude.{IfErr, IfOk, true}
 use Rattle.std.proofs.lemmas.Result.{err_from_is_err_and}
 use Rattle.exact_num.specs.Rational.{Rational}
 use Rattle.row_core.specs.declared.Var.{Var}
@@ -8,8 +8,8 @@ use Rattle.row_core.specs.Numbers.{ascends, keys_of}
 use Rattle.row_core.specs.Order.{var_cmp}
 use Rattle.certificate_checker.specs.Denominators.{AreOverSome}
 use Rattle.variable_elimination.specs.Eliminations.{IsWhole}
-use Rattle.exact_solver.specs.CarriedBack.{BecomesDirection, BecomesPlan}
-use Rattle.exact_solver.specs.Found.{IsFoundDescent, IsFoundPlan}
+use Rattle.exact_solver.specs.CarriedBack.{BecomesDirection}
+use Rattle.exact_solver.specs.Found.{IsFoundDescent}
 use Rattle.exact_solver.specs.MethodEnds.{IsStopOf, end_seen}
 use Rattle.exact_solver.specs.Programs.{carried_direction, carried_plan}
 use Rattle.exact_solver.proofs.BookVariables.{columns-are}

@@ -18,7 +18,6 @@ use Rattle.variable_elimination.specs.Eliminations.{IsWhole}
 use Rattle.variable_elimination.specs.SoFar.{IsFirst}
 use Rattle.simplex_core.specs.Outcomes.{BoundCost}
 use Rattle.exact_solver.specs.CarriedBack.{BecomesPlan}
-use Rattle.exact_solver.specs.Definers.{definers}
 use Rattle.exact_solver.specs.Found.{IsFoundOptimum}
 use Rattle.exact_solver.specs.MethodEnds.{IsStopOf, end_seen}
 use Rattle.exact_solver.specs.Programs.{carried_multipliers, carried_plan, carrying_steps}

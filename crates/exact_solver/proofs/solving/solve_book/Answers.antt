@@ -5,7 +5,7 @@ use Rattle.std.proofs.lemmas.List.{length-map}
 use Rattle.std.proofs.lemmas.Result.{err_from_is_err_and}
 use Rattle.written_method.specs.Programs.{inequality_of, program_of}
 use Rattle.written_method.specs.Solved.{IsInfeasible, IsOptimal, IsUnbounded, Outcome, solved}
-use Rattle.simplex_core.specs.Outcomes.{IsHalt, IsProved, outcome_seen}
+use Rattle.simplex_core.specs.Outcomes.{IsProved, outcome_seen}
 use Rattle.exact_solver.specs.MethodEnds.{IsStopOf, end_seen}
 use Rattle.exact_solver.proofs.CheckEnds.{method-ends, method-stops}
 use Rattle.exact_solver.proofs.SolvedLaws.{infeasible-counted, optimal-sized, unbounded-keyed}
