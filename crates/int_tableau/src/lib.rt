@@ -4,10 +4,15 @@
 #![tactic(auto)]
 
 mod entries;
+mod entry_list;
 mod line;
 mod merging;
+mod narrow;
+mod narrow_division;
+mod narrow_merging;
 mod numbers;
 mod refused;
+mod room;
 mod starting;
 mod tableau;
 
