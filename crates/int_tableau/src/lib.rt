@@ -16,5 +16,6 @@ mod room;
 mod starting;
 mod tableau;
 
+pub use narrow::is_narrow;
 pub use starting::{as_most, column_after, is_split};
 pub use tableau::Tableau;

@@ -8,8 +8,8 @@ ghost use Rattle.int_tableau.specs.Narrow.{AreNarrow};
 
 use std::alloc::{AllocError, Global};
 
-/// Whether the absolute value of a number is below 2^63.
-pub(crate) fn is_narrow(n: i128) -> bool
+/// Whether the absolute value of a number is below 2^63: then it has 64 bits, and a product with another such number 127.
+pub fn is_narrow(n: i128) -> bool
     ensures { IsTrue result ↔ (unsigned_abs n < 2 ^ 63) }
 {
     -(1 << 63) < n && n < 1 << 63
