@@ -7,12 +7,10 @@ ghost use Rattle.written_method.specs.Lines.{less, less_formed};
 ghost use Rattle.int_tableau.specs.Entries.{at, IsSparse, entries_negated, first_of};
 ghost use Rattle.int_tableau.specs.Narrow.{AreNarrow};
 
-use crate::entries;
-use crate::narrow;
 use crate::narrow::is_narrow;
 use crate::narrow_merging::combine;
-use crate::numbers;
 use crate::refused::Refused;
+use crate::{entries, narrow, numbers};
 use std::alloc::{AllocError, Global};
 use std::marker::Model;
 
@@ -132,7 +130,11 @@ impl EntryList {
     }
 
     /// Takes these entries in place of its own.
-    pub(crate) fn replace(&mut self, alloc: Global, entries: &[(usize, i64)]) -> Result<(), AllocError>
+    pub(crate) fn replace(
+        &mut self,
+        alloc: Global,
+        entries: &[(usize, i64)],
+    ) -> Result<(), AllocError>
         requires { AreNarrow entries.now }
         ensures value { OnOk result (self.new ≡ entries.now) }
         ensures memory { OnErr result ((n : ℕ) → IsSparse 0 n self.old → IsSparse 0 n self.new) }
@@ -165,7 +167,9 @@ impl EntryList {
         ensures fits { OnOk result ((c : ℕ) → all_fit (less_formed a b (at self.now c) (at other.now c)) ≡ true) }
     {
         match (&self.kept, &other.kept) {
-            (Kept::Narrow(line), Kept::Narrow(other)) if is_narrow(a) && is_narrow(b) => combine(out, a, b, line, other, columns),
+            (Kept::Narrow(line), Kept::Narrow(other)) if is_narrow(a) && is_narrow(b) => combine(
+                out, a, b, line, other, columns,
+            ),
             _ => Err(Refused::TooWide),
         }
     }

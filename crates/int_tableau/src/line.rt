@@ -149,7 +149,9 @@ impl SparseLine {
         ensures fits { IfOk result (λ done. done ≡ true → all_fit (all_less_formed a b (numbers_of self.old) (numbers_of other.now)) ≡ true) }
         ensures stays { IfOk result (λ done. done ≡ false → self.new ≡ self.old) }
     {
-        let combined = self.entries.combine(&mut room.narrow, a, b, &other.entries, self.columns);
+        let combined = self
+            .entries
+            .combine(&mut room.narrow, a, b, &other.entries, self.columns);
         let Ok(()) = combined else {
             return Ok(false);
         };

@@ -141,7 +141,11 @@ fn divide_all(entries: &mut Vec<(usize, i64)>, divisor: i64)
 /// Divides a line by the greatest common divisor of its numbers, and gives its right side and own entry; or leaves it, where the
 /// divisor of those two has more than 64 bits. The divisor is sought among those two first, and is mostly found to be 1 before many
 /// entries are read.
-pub(crate) fn divide(entries: &mut Vec<(usize, i64)>, right: i128, own: i128) -> Option<(i128, i128)>
+pub(crate) fn divide(
+    entries: &mut Vec<(usize, i64)>,
+    right: i128,
+    own: i128,
+) -> Option<(i128, i128)>
     requires narrow { AreNarrow entries.old.items }
     requires right_fits { InRange right }
     requires own_fits { InRange own }
@@ -157,5 +161,8 @@ pub(crate) fn divide(entries: &mut Vec<(usize, i64)>, right: i128, own: i128) ->
     }
     let divisor = divisor_of(first as i64, entries);
     divide_all(entries, divisor);
-    Some((quotient(right, divisor as i128), quotient(own, divisor as i128)))
+    Some((
+        quotient(right, divisor as i128),
+        quotient(own, divisor as i128),
+    ))
 }

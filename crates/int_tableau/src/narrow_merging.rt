@@ -12,11 +12,7 @@ use crate::narrow::{is_narrow, number_at};
 use crate::refused::Refused;
 
 /// Appends an entry, unless its number is 0. `TooWide` where it has more than 64 bits.
-fn push_unless_zero(
-    out: &mut Vec<(usize, i64)>,
-    column: usize,
-    number: i128,
-) -> Result<(), Refused>
+fn push_unless_zero(out: &mut Vec<(usize, i64)>, column: usize, number: i128) -> Result<(), Refused>
     requires { InRange number }
     ensures pushed { OnOk result (IsPushed column number out.old.items out.new.items) }
     ensures narrow { OnOk result (AreNarrow out.old.items → AreNarrow out.new.items) }

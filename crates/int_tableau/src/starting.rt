@@ -192,7 +192,13 @@ fn row_line(
     push_variables(&mut entries, layout, row.sense, &row.entries)?;
     entries.push((layout.width + position, 1))?;
     push_x0(&mut entries, layout)?;
-    SparseLine::new(alloc, layout.columns(), &entries, as_most(row.sense, row.rhs), 0)
+    SparseLine::new(
+        alloc,
+        layout.columns(),
+        &entries,
+        as_most(row.sense, row.rhs),
+        0,
+    )
 }
 
 /// Appends the lines of all rows.
