@@ -8,3 +8,5 @@ pub mod SolutionLaws
 pub mod PlaceLaws
 pub mod StartLaws
 pub mod LoopLaws
+pub mod NarrowLaws
+pub mod GuessLaws
