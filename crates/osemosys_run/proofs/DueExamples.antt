@@ -26,11 +26,14 @@ use Rattle.osemosys_run.specs.Sending.{Delivers}
 -- the statuses that `mps` has over the bytes of its file
 abbrev Comes : Status → Type 0
 Comes Done = ⊤
+Comes Infeasible = ⊥
+Comes Unbounded = ⊥
 Comes (Uncertified stop) = ⊤
 Comes (Refused (refusals.Text fault)) = ⊤
 Comes (Refused (refusals.Sets fault)) = ⊤
 Comes (Refused (refusals.Build fault)) = ⊤
 Comes (Refused refusals.TooManyEntries) = ⊤
+Comes (Refused (refusals.TooLarge rows columns)) = ⊥
 Comes (Refused (refusals.PlanFile fault)) = ⊥
 Comes (Refused (refusals.MultiplierFile fault)) = ⊥
 Comes (Refused (refusals.TooLong file)) = ⊥
@@ -50,7 +53,7 @@ comes_of_refusal bytes status text (inl refused) = subst Comes (sym refused.stat
 comes_of_refusal bytes status text (inr (blocks, says, inl refused)) = subst Comes (sym refused.status_is) tt
 comes_of_refusal bytes status text (inr (blocks, says, inr refused)) = subst Comes (sym refused.status_is) tt
 
-comes_of : (places : ℕ) (bytes : List ℕ) (status : Status) (text : List ℕ) → DueForText (DueForEquations places) bytes status text → Comes status
+comes_of : (places : ℕ) (bytes : List ℕ) (status : Status) (text : List ℕ) → DueForText (λ rounded. DueForEquations places) bytes status text → Comes status
 comes_of places bytes status text (inl refused) = comes_of_refusal bytes status text refused
 comes_of places bytes status text (inr said) = comes_of_equations places said.0 status text said.2
 
@@ -82,14 +85,14 @@ other_fault : (line : List ℕ) → Due (codes "mps" ∷ []) (with_file []) (Wor
 other_fault line h = cc h.0
 
 -- a file of 64 MiB and a byte is too long, and one of 64 MiB isn't
-too_long_due : (bytes : List ℕ) → length bytes ≡ 67108865 → DueForFile (DueForText (DueForEquations 6)) 1 (Some bytes) (Refused (refusals.TooLong 1)) (codes "refused too long file 1\n")
+too_long_due : (bytes : List ℕ) → length bytes ≡ 67108865 → DueForFile (DueForText (λ rounded. DueForEquations 6)) 1 (Some bytes) (Refused (refusals.TooLong 1)) (codes "refused too long file 1\n")
 unfolding digits
 too_long_due bytes e =
     let longer : nat_lt most_bytes (length bytes) ≡ true = ap (nat_lt most_bytes) e in
-    subst (λ (b : Bool). MatchBool b ((Refused (refusals.TooLong 1) ≡ Refused (refusals.TooLong 1)) × (codes "refused too long file 1\n" ≡ too_long_line 1)) (DueForText (DueForEquations 6) bytes (Refused (refusals.TooLong 1)) (codes "refused too long file 1\n")))
+    subst (λ (b : Bool). MatchBool b ((Refused (refusals.TooLong 1) ≡ Refused (refusals.TooLong 1)) × (codes "refused too long file 1\n" ≡ too_long_line 1)) (DueForText (λ rounded. DueForEquations 6) bytes (Refused (refusals.TooLong 1)) (codes "refused too long file 1\n")))
     (sym longer) (refl, refl)
 
-not_too_long : (bytes line : List ℕ) → length bytes ≡ 67108864 → DueForFile (DueForText (DueForEquations 6)) 1 (Some bytes) (Refused (refusals.TooLong 1)) line → DueForText (DueForEquations 6) bytes (Refused (refusals.TooLong 1)) line
+not_too_long : (bytes line : List ℕ) → length bytes ≡ 67108864 → DueForFile (DueForText (λ rounded. DueForEquations 6)) 1 (Some bytes) (Refused (refusals.TooLong 1)) line → DueForText (λ rounded. DueForEquations 6) bytes (Refused (refusals.TooLong 1)) line
 not_too_long bytes line e h = rw e at h
 
 -- ---- what is due of several files
@@ -188,7 +191,7 @@ failed_at_last = inr (record { files = refl; begins = refl; faults = omega arith
 
 -- the file that was read, or at which the work stopped, as `mps` has it
 abbrev ByFile : List ℕ → Sight → Sight → Status → List ℕ → Type 0
-ByFile name before after status line = CausedByFile (FollowsFromText (DueForEquations 6) after status line) 1 name before after status line
+ByFile name before after status line = CausedByFile (FollowsFromText (λ rounded. DueForEquations 6) after status line) 1 name before after status line
 
 -- no read fault where it didn't
 rose_at_failure : (name line : List ℕ) (before after : Sight) → ByFile name before after (ReadFault (stops.Failed 1)) line → Rose before.faults after.faults

@@ -175,7 +175,7 @@ fn perform_mps<S: Shelf>(
     ensures caused { IfOk result (λ answer.
         let after = sight (S.files shelf.new) (S.rest shelf.new)
         (S.faults shelf.new) (S.begins shelf.new) (S.taken shelf.new) in
-        CausedByFile (FollowsFromText (DueForEquations places) after answer.status answer.text.items) DATA_FILE file.now
+        CausedByFile (FollowsFromText (λ rounded. DueForEquations places) after answer.status answer.text.items) DATA_FILE file.now
         (sight (S.files shelf.old) (S.rest shelf.old)
         (S.faults shelf.old) (S.begins shelf.old) (S.taken shelf.old))
         after answer.status answer.text.items) }
@@ -192,7 +192,7 @@ fn perform_mps<S: Shelf>(
 fn answer_text(alloc: Global, text: Vec<u8>, places: u8) -> Result<Answer, AllocError>
     requires short { length text.items ≤ most_bytes }
     requires places { IsPlaces places }
-    ensures { IfOk result (λ answer. DueForText (DueForEquations places) text.items answer.status answer.text.items) }
+    ensures { IfOk result (λ answer. DueForText (λ rounded. DueForEquations places) text.items answer.status answer.text.items) }
 {
     match accept(alloc, text)? {
         Ok(model) => answer_mps(alloc, &model, places),

@@ -105,6 +105,7 @@ returns-in-Ok-send-clause-complete g c = λ files told calm unfailing.
     let sink = g.K.Sink in
     let laws : Laws =
     record {
+      one_reading = c.verdict_laws.ensures.one_meaning;
       one_data = c.acceptance_laws.ensures.one_data;
       not_both = c.acceptance_laws.ensures.not_both;
       one_plan = c.telling_laws.ensures.plan;
