@@ -20,6 +20,9 @@ pub mod ReadToEnd
 pub mod Reading
 pub mod RefusalLines
 pub mod Sending
+pub mod Solve
+pub mod SolveTexts
+pub mod SolvedPlans
 pub mod WordParts
 pub mod WordReading
 pub mod WordValues
