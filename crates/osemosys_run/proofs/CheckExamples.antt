@@ -5,12 +5,12 @@ use Rattle.std.specs.Fmt.{digits}
 use Rattle.exact_num.specs.Rational.{Rational, whole}
 use Rattle.row_core.specs.declared.place.Place.TheVariants.{SumCost}
 use Rattle.osemosys_run.specs.declared.status.Stop.TheVariants.{Width}
-use Rattle.osemosys_run.specs.declared.status.WordFault.TheVariants.{BadForm, BadNumber, GapAlone}
+use Rattle.command_words.specs.declared.fault.WordFault.TheVariants.{BadForm, BadNumber, GapAlone}
 use Rattle.plan_files.specs.declared.faults.PlanFault.TheVariants as faults
 use Rattle.scaled_decimals.specs.PrintedFraction.{fraction_text}
 use Rattle.osemosys_run.specs.CheckLines.{accepted_text, multiplier_fault_line, plan_fault_line}
 use Rattle.osemosys_run.specs.Lines.{uncertified_line}
-use Rattle.osemosys_run.specs.Words.{Check, asked, names_of}
+use Rattle.command_words.specs.Words.{Check, asked, names_of}
 
 -- ---- words
 

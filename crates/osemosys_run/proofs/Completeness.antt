@@ -38,7 +38,7 @@ use Rattle.io_edges.specs.Count.{Rose}
 use Rattle.osemosys_run.specs.declared.status.Status.{Status}
 use Rattle.osemosys_run.specs.declared.status.Status.TheVariants.{Done, Infeasible, Unbounded, Uncertified, Refused, Words, ReadFault, WriteFault, Memory, Rejected}
 use Rattle.osemosys_run.specs.declared.status.Refusal.TheVariants as refusals
-use Rattle.osemosys_run.specs.declared.status.WordFault.{WordFault}
+use Rattle.command_words.specs.declared.fault.WordFault.{WordFault}
 use Rattle.osemosys_run.specs.Accepted.{Accepted}
 use Rattle.osemosys_run.specs.Complete.{AreInGap, AreThereIfNamed, CanBeAccepted, CanBeWritten, Completes}
 use Rattle.osemosys_run.specs.Due.{Due, DueForFile, DueForOptionalFile, DueForRequest, DueForText}
@@ -48,7 +48,7 @@ use Rattle.osemosys_run.specs.Mps.{DueForEquations}
 use Rattle.osemosys_run.specs.NotAccepted.{DueWhereNotAccepted}
 use Rattle.osemosys_run.specs.Reading.{most_bytes}
 use Rattle.osemosys_run.specs.Sending.{Delivers}
-use Rattle.osemosys_run.specs.Words.{Request}
+use Rattle.command_words.specs.Words.{Request}
 use Rattle.osemosys_run.proofs.OutcomeLaws.{fails-parts, of_bound, of_gap, of_plan}
 
 -- what the laws of acceptance, of plan files and of the book say

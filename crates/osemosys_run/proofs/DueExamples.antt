@@ -7,7 +7,7 @@ use Rattle.mathprog_data.specs.declared.fault.DataFault.{DataFault}
 use Rattle.osemosys_run.specs.declared.status.Status.{Status}
 use Rattle.osemosys_run.specs.declared.status.Status.TheVariants.{Done, Uncertified, Refused, Words, ReadFault, WriteFault, Memory, Rejected}
 use Rattle.osemosys_run.specs.declared.status.Refusal.TheVariants as refusals
-use Rattle.osemosys_run.specs.declared.status.WordFault.TheVariants as faults
+use Rattle.command_words.specs.declared.fault.WordFault.TheVariants as faults
 use Rattle.osemosys_run.specs.declared.status.ReadStop.TheVariants as stops
 use Rattle.io_edges.specs.Count.{Rose}
 use Rattle.io_edges.specs.Edges.{Lacks}

@@ -9,14 +9,14 @@ use Rattle.osemosys_run.specs.declared.status.Status.{Status}
 use Rattle.osemosys_run.specs.declared.status.Status.TheVariants.{Done, Infeasible, Unbounded, Uncertified, Refused, Words, ReadFault, WriteFault, Memory, Rejected}
 use Rattle.osemosys_run.specs.declared.status.Refusal.TheVariants as refusals
 use Rattle.osemosys_run.specs.declared.status.ReadStop.TheVariants as stops
-use Rattle.osemosys_run.specs.declared.status.WordFault.{WordFault}
+use Rattle.command_words.specs.declared.fault.WordFault.{WordFault}
 use Rattle.osemosys_run.specs.Causes.{Caused, CausedByFile, CausedByOptionalFile, CausedByRequest, FollowsFromText, StopsAtFile}
 use Rattle.osemosys_run.specs.Check.{DueForCheck}
 use Rattle.osemosys_run.specs.Mps.{DueForEquations}
 use Rattle.osemosys_run.specs.ReadEnds.{TellsEnd}
 use Rattle.osemosys_run.specs.Reading.{Sight, HasNothingLeft, IsTooLong, most_bytes}
 use Rattle.osemosys_run.specs.ReadToEnd.{IsReadAtWriteFault, IsReadToEnd}
-use Rattle.osemosys_run.specs.Words.{Request, Check, Mps, asked}
+use Rattle.command_words.specs.Words.{Request, Check, Mps, asked}
 use Rattle.osemosys_run.proofs.FilesRead.{Reaches, Reaches-itself, by_file, by_optional_file, rose-since}
 
 -- where the reading of a file ends for a cause, the answer that tells it has that cause

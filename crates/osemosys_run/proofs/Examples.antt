@@ -2,10 +2,10 @@
 use Rattle.std.proofs.Common.{◌≡◌, false, [], ◌∷◌, refl}
 use Rattle.std.specs.Prelude.{codes, Ok, Err}
 use Rattle.std.specs.Fmt.{digits}
-use Rattle.osemosys_run.specs.declared.status.WordFault.TheVariants.{NoCommand, BadCommand, BadForm}
+use Rattle.command_words.specs.declared.fault.WordFault.TheVariants.{NoCommand, BadCommand, BadForm}
 use Rattle.osemosys_run.specs.declared.status.ReadStop.TheVariants as stops
-use Rattle.osemosys_run.specs.Words.{Mps, asked}
-use Rattle.osemosys_run.specs.WordParts.{is_option}
+use Rattle.command_words.specs.Words.{Mps, asked}
+use Rattle.command_words.specs.WordParts.{is_option}
 use Rattle.osemosys_run.specs.Lines.{words_line, stop_line, too_long_line}
 
 -- ---- words

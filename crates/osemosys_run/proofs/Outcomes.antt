@@ -16,7 +16,7 @@ use Rattle.osemosys_run.specs.declared.status.Refusal.{Refusal}
 use Rattle.osemosys_run.specs.declared.status.Refusal.TheVariants as refusals
 use Rattle.osemosys_run.specs.declared.status.Stop.{Stop}
 use Rattle.osemosys_run.specs.declared.status.ReadStop.TheVariants as stops
-use Rattle.osemosys_run.specs.declared.status.WordFault.{WordFault}
+use Rattle.command_words.specs.declared.fault.WordFault.{WordFault}
 use Rattle.osemosys_run.specs.Causes.{Caused, CausedByFile, CausedByOptionalFile, CausedByRequest, FollowsFromText, StopsAtFile}
 use Rattle.osemosys_run.specs.Due.{Due, DueForFile, DueForOptionalFile, DueForRequest, DueForText}
 use Rattle.osemosys_run.specs.Check.{DueForCheck, DueForMultiplierFile, DueForPlan, DueForPlanFile}
@@ -25,7 +25,7 @@ use Rattle.osemosys_run.specs.Mps.{DueForEquations}
 use Rattle.osemosys_run.specs.NotAccepted.{DueWhereNotAccepted}
 use Rattle.osemosys_run.specs.Reading.{BeganOne, Sight, most_bytes, IsWholeFile}
 use Rattle.osemosys_run.specs.Sending.{Delivers}
-use Rattle.osemosys_run.specs.Words.{Request, Check, Mps, asked}
+use Rattle.command_words.specs.Words.{Request, Check, Mps, asked}
 use Rattle.osemosys_run.proofs.FilesRead.{rose-since}
 
 -- ---- what is due

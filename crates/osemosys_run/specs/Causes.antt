@@ -7,13 +7,13 @@ use Rattle.osemosys_run.specs.declared.status.Status.{Status}
 use Rattle.osemosys_run.specs.declared.status.Status.TheVariants.{Refused, Words, ReadFault}
 use Rattle.osemosys_run.specs.declared.status.Refusal.TheVariants.{TooLong}
 use Rattle.osemosys_run.specs.declared.status.ReadStop.TheVariants.{NoFile, Failed}
-use Rattle.osemosys_run.specs.declared.status.WordFault.{WordFault}
+use Rattle.command_words.specs.declared.fault.WordFault.{WordFault}
 use Rattle.osemosys_run.specs.Check.{DueForCheck}
 use Rattle.osemosys_run.specs.Due.{DueForText}
 use Rattle.osemosys_run.specs.Lines.{stop_line, too_long_line, words_line}
 use Rattle.osemosys_run.specs.Mps.{DueForEquations}
 use Rattle.osemosys_run.specs.Reading.{Sight, BeganOne, HasNothingLeft, IsTooLong, IsWholeFile}
-use Rattle.osemosys_run.specs.Words.{Request, Check, Mps, asked}
+use Rattle.command_words.specs.Words.{Request, Check, Mps, asked}
 
 -- the file of this name and number is too long, or missing, or the shelf failed and counted it; and the status and the text say so
 abbrev pub StopsAtFile : ℕ → List ℕ → Sight → Sight → Status → List ℕ → Type 0

@@ -23,7 +23,7 @@ use Rattle.osemosys_run.specs.declared.status.Status.TheVariants.{Done, Memory}
 use Rattle.osemosys_run.specs.Accepted.{Accepted}
 use Rattle.osemosys_run.specs.Check.{TellsMultipliers, check_conditions, multiplier_bound, plan_cost}
 use Rattle.osemosys_run.specs.Reading.{most_bytes}
-use Rattle.osemosys_run.specs.Words.{Check, Mps, asked}
+use Rattle.command_words.specs.Words.{Check, Mps, asked}
 
 -- the words ask for `mps` of a file that is there, with written factors of so many places; its text is accepted, and every row of the named equations over its data can be made
 pub record CanBeWritten (words : List (List ℕ)) (files : List (List ℕ × List ℕ)) : Type 0 where

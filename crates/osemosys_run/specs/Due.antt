@@ -6,14 +6,14 @@ use Rattle.osemosys_run.specs.declared.status.Status.{Status}
 use Rattle.osemosys_run.specs.declared.status.Status.TheVariants.{Refused, Words, ReadFault}
 use Rattle.osemosys_run.specs.declared.status.Refusal.TheVariants.{TooLong}
 use Rattle.osemosys_run.specs.declared.status.ReadStop.TheVariants.{NoFile}
-use Rattle.osemosys_run.specs.declared.status.WordFault.{WordFault}
+use Rattle.command_words.specs.declared.fault.WordFault.{WordFault}
 use Rattle.osemosys_run.specs.Accepted.{Accepted}
 use Rattle.osemosys_run.specs.Check.{DueForCheck}
 use Rattle.osemosys_run.specs.Lines.{stop_line, too_long_line, words_line}
 use Rattle.osemosys_run.specs.Mps.{DueForEquations}
 use Rattle.osemosys_run.specs.NotAccepted.{DueWhereNotAccepted}
 use Rattle.osemosys_run.specs.Reading.{most_bytes}
-use Rattle.osemosys_run.specs.Words.{Request, Check, Mps, asked}
+use Rattle.command_words.specs.Words.{Request, Check, Mps, asked}
 
 -- over the text of a data file: its first refusal, or what `Over` has of the number of its rounded numbers and over its data
 abbrev pub DueForText : (ℕ → Data → Status → List ℕ → Type 0) → List ℕ → Status → List ℕ → Type 0

@@ -5,10 +5,7 @@ pub mod Check
 pub mod CheckLines
 pub mod CheckOutcomes
 pub mod CheckedPlans
-pub mod ClapWords
 pub mod Codes
-pub mod CommandLine
-pub mod Commands
 pub mod Complete
 pub mod Due
 pub mod Lines
@@ -23,7 +20,3 @@ pub mod Sending
 pub mod Solve
 pub mod SolveTexts
 pub mod SolvedPlans
-pub mod WordParts
-pub mod WordReading
-pub mod WordValues
-pub mod Words

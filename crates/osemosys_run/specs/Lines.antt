@@ -9,8 +9,8 @@ use Rattle.osemosys_run.specs.declared.status.ReadStop.{ReadStop}
 use Rattle.osemosys_run.specs.declared.status.ReadStop.TheVariants.{NoFile, Failed}
 use Rattle.osemosys_run.specs.declared.status.Stop.{Stop}
 use Rattle.osemosys_run.specs.declared.status.Stop.TheVariants.{Budget, Width}
-use Rattle.osemosys_run.specs.declared.status.WordFault.{WordFault}
-use Rattle.osemosys_run.specs.declared.status.WordFault.TheVariants.{NoCommand, BadCommand, BadForm, BadNumber, BadShow, GapAlone}
+use Rattle.command_words.specs.declared.fault.WordFault.{WordFault}
+use Rattle.command_words.specs.declared.fault.WordFault.TheVariants.{NoCommand, BadCommand, BadForm, BadNumber, BadShow, GapAlone}
 
 -- a fault of the words by its name
 abbrev pub fault_word : WordFault → List ℕ

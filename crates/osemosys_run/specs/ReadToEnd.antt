@@ -7,7 +7,7 @@ use Rattle.osemosys_run.specs.declared.status.Status.{Status}
 use Rattle.osemosys_run.specs.declared.status.Status.TheVariants.{Refused, Words, ReadFault, WriteFault, Memory}
 use Rattle.osemosys_run.specs.declared.status.Refusal.TheVariants.{TooLong}
 use Rattle.osemosys_run.specs.Reading.{Sight, HasNothingLeft, most_bytes}
-use Rattle.osemosys_run.specs.Words.{Request, asked, names_of}
+use Rattle.command_words.specs.Words.{Request, asked, names_of}
 
 -- where a write failed: nothing is left to read, or the words were refused, or the shelf counted a fault, or too many bytes were taken
 abbrev pub IsReadAtWriteFault : List (List ℕ) → Sight → Sight → Type 0

@@ -5,7 +5,8 @@ ghost use Rattle.osemosys_run.specs.ReadEnds.{TellsEnd};
 
 use crate::lines::{stop_line, too_long_line, words_line};
 use crate::reading::ReadEnd;
-use crate::status::{ReadStop, Refusal, Status, WordFault};
+use crate::status::{ReadStop, Refusal, Status};
+use command_words::WordFault;
 use std::alloc::{AllocError, Global};
 
 /// A status and the text that is due with it.

@@ -1,8 +1,9 @@
 //! The commands of the program, over any shelf of files and any sink for the text.
 //!
-//! A call does its work in this order, each step a module of its own: `words` (which command, over which files),
-//! `reading` (a whole file), `accepting` (from the file's text to its data, or to what refuses it), the command's own
-//! answer over the data (`mps`, `check`; where no rows can be made, `books`), and `sending` (the text into the sink). `run` puts them together.
+//! A call does its work in this order, and each step after the first is a module of its own: `command_words` says which command
+//! over which files; `reading` gives a whole file, and `accepting` the data of its text, or what refuses it; then comes the
+//! command's own answer over the data (`mps`, `check`; where no rows can be made, `books`), and `sending` puts the text into the
+//! sink. `run` puts them together.
 #![tactic(auto)]
 
 mod accepting;
@@ -18,7 +19,7 @@ mod refusal_lines;
 mod run;
 mod sending;
 mod status;
-mod words;
 
+pub use command_words::WordFault;
 pub use run::osemosys;
-pub use status::{ReadStop, Refusal, Status, Stop, WordFault};
+pub use status::{ReadStop, Refusal, Status, Stop};

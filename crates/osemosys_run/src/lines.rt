@@ -6,7 +6,8 @@ ghost use Rattle.osemosys_run.specs.Lines.{entries_line, stop_line, too_large_li
 ghost use Rattle.osemosys_run.specs.PlacesWithin.{PlaceIsWithin};
 
 use crate::places::{push_place, push_with_number};
-use crate::status::{ReadStop, Stop, WordFault};
+use crate::status::{ReadStop, Stop};
+use command_words::WordFault;
 use itoa::Buffer;
 use model_sets::Sets;
 use row_core::Place;

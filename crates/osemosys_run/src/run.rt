@@ -18,7 +18,7 @@ ghost use Rattle.osemosys_run.specs.NotAccepted.{DueWhereNotAccepted};
 ghost use Rattle.osemosys_run.specs.Reading.{most_bytes, sight};
 ghost use Rattle.osemosys_run.specs.ReadToEnd.{IsReadToEnd, ReadsWhole};
 ghost use Rattle.osemosys_run.specs.Sending.{Delivers};
-ghost use Rattle.osemosys_run.specs.WordParts.{HasSpelledParts, Part};
+ghost use Rattle.command_words.specs.WordParts.{HasSpelledParts, Part};
 
 use crate::accepting::{accept, acceptance_laws};
 use crate::answer::{Answer, refuse_file, refuse_words};
@@ -27,7 +27,7 @@ use crate::mps::answer_mps;
 use crate::reading::read_file;
 use crate::sending::send;
 use crate::status::Status;
-use crate::words::{Command, read_command, spelled_parts};
+use command_words::{Command, read_command, spelled_parts};
 use io_edges::{Shelf, Sink};
 use mathprog_data::verdict_laws;
 use plan_files::telling_laws;

@@ -3,6 +3,7 @@ ghost use Rattle.std.specs.Prelude.{◌≡◌};
 ghost use Rattle.osemosys_run.specs.Codes.{code_of};
 
 use certificate_checker::Rejection;
+use command_words::WordFault;
 use mathprog_data::DataFault;
 use model_sets::SetFault;
 use param_tables::BuildFault;
@@ -62,23 +63,6 @@ pub enum Refusal {
     TooManyEntries,
     /// The linear program has so many inequalities and so many columns: more than 20,000, or more than 40,000.
     TooLarge(u64, u64),
-}
-
-/// What is wrong with the words.
-#[derive(Clone, Copy, Debug, PartialEq, Eq)]
-pub enum WordFault {
-    /// There is no word.
-    NoCommand,
-    /// The first word is no command, or one that isn't built.
-    BadCommand,
-    /// A file is missing or too many, an option is unknown or repeated, or it has no value.
-    BadForm,
-    /// A number isn't one of the digits and the range that its place allows.
-    BadNumber,
-    /// The value of `--show` is none of the command's.
-    BadShow,
-    /// `check` has a gap and no multipliers.
-    GapAlone,
 }
 
 /// Why a file couldn't be read. Files count from 1, in the order of the words.

@@ -1,12 +1,12 @@
 use Rattle.std.proofs.Common.{◌∙◌, ap, sym, subst, Result, Ok, map, option_map}
 use Rattle.std.proofs.lemmas.Result.{IfOk-weaker}
 use Rattle.std.specs.String.{string_bytes}
-use Rattle.osemosys_run.specs.declared.status.WordFault.{WordFault}
+use Rattle.command_words.specs.declared.fault.WordFault.{WordFault}
 use Rattle.osemosys_run.specs.Causes.{CausedByRequest}
-use Rattle.osemosys_run.specs.Commands.{request_of_result}
+use Rattle.command_words.specs.Commands.{request_of_result}
 use Rattle.osemosys_run.specs.Reading.{Sight}
-use Rattle.osemosys_run.specs.Words.{Request}
-use Rattle.osemosys_run.proofs.Requests.{asked_places, check_places}
+use Rattle.command_words.specs.Words.{Request}
+use Rattle.command_words.proofs.Requests.{asked_places, check_places}
 use Rattle.osemosys_run.proofs.run.perform.Goals as goal
 
 pub perform_mps-requires : goal.perform_mps-requires

@@ -1,0 +1,262 @@
+-- What clap makes of one word that is an option, at the command that it is given here.
+use Rattle.std.proofs.Common.{◌≡◌, ◌∙◌, ◌||◌, ◌==◌, ◌+◌, arith, take, drop, ℕ, suc, List, [], ◌∷◌, Option, Some, None, Bool, true, false, cond, refl, ap, sym, true≢false, option_map, length, subst}
+use Rattle.std.specs.Prelude.{codes, slice_get}
+use Rattle.std.specs.List.{list_any, before_first, after_first, position_or_len}
+use Rattle.std.specs.Char.{encode_utf8}
+use Rattle.std.specs.Str.{bytes_eq, chars, encode_utf8_all, IsUtf8}
+use Rattle.std.proofs.lemmas.Str.{IsUtf8-past_char, encodes-chars}
+use Rattle.std.proofs.lemmas.Bool.Decides.{Decides-eqb}
+use Rattle.clap.specs.Lexer.{name_and_value}
+use Rattle.clap.specs.Walk.{Held, Row, Rule, Text, Waiting, Walk, after_flag, after_step, arg_by_long, idle, long_met, option, positional, settled, walked}
+use Rattle.clap.specs.Kinds.{Kinds, or_else}
+use Rattle.clap.specs.Faults.{flags_fault, long_fault, step_fault, use_fault}
+use Rattle.command_words.specs.ClapWords.{is_fault}
+use Rattle.command_words.specs.WordParts.{OptionName, Gap, Pivots, Places, Show, is_option, is_equals, option_in, joined_value, option_named, options_end}
+use Rattle.command_words.proofs.ClapTurns.{at, chosen, due, next, rules, settling, shape, turn, with_joined}
+
+pub or_else_nil : (kinds : Kinds) → or_else kinds [] ≡ kinds
+or_else_nil [] = refl
+or_else_nil (k ∷ ks) = refl
+
+-- what stands before and after the first '=' of a long option
+before_two : (bytes : Text) → before_first is_equals (45 ∷ 45 ∷ bytes) ≡ 45 ∷ 45 ∷ before_first is_equals bytes
+before_two bytes =
+    let n = position_or_len is_equals bytes in
+    let e : 1 + (1 + n) ≡ suc (suc n) = omega arith in
+    ap (λ k. take k (45 ∷ 45 ∷ bytes)) e
+
+after_two : (bytes : Text) → after_first is_equals (45 ∷ 45 ∷ bytes) ≡ after_first is_equals bytes
+after_two bytes =
+    let n = position_or_len is_equals bytes in
+    let e : 1 + (1 + n) + 1 ≡ suc (suc (n + 1)) = omega arith in
+    ap (λ k. drop k (45 ∷ 45 ∷ bytes)) e
+
+-- a long option names the same one to clap
+same_option : (bytes : Text) → arg_by_long rules (before_first is_equals bytes) ≡ option_map chosen (option_in (45 ∷ 45 ∷ bytes))
+same_option bytes =
+    let name = before_first is_equals bytes in
+    go (bytes_eq (codes "gap") name) (bytes_eq (codes "pivots") name) (bytes_eq (codes "places") name) (bytes_eq (codes "show") name) ∙ sym (ap (λ word. option_map chosen (option_named word)) (before_two bytes))
+  where
+    go : (a b c d : Bool) → cond (a || false) (Some (chosen Gap)) (cond (b || false) (Some (chosen Pivots)) (cond (c || false) (Some (chosen Places)) (cond (d || false) (Some (chosen Show)) None)))
+        ≡ option_map chosen (cond a (Some Gap) (cond b (Some Pivots) (cond c (Some Places) (cond d (Some Show) None))))
+    go true b c d = refl
+    go false true c d = refl
+    go false false true d = refl
+    go false false false true = refl
+    go false false false false = refl
+
+same_value : (bytes : Text) → (name_and_value bytes).1 ≡ joined_value (45 ∷ 45 ∷ bytes)
+same_value bytes = ap (λ value. cond (list_any is_equals bytes) (Some value) None) (sym (after_two bytes))
+
+-- some kind of error comes
+abbrev pub Fails : Kinds → Type 0
+Fails kinds = is_fault kinds ≡ true
+
+pub fails_first : (kinds more : Kinds) → Fails kinds → Fails (or_else kinds more)
+fails_first [] more h = absurd (true≢false (sym h))
+fails_first (k ∷ ks) more h = refl
+
+pub fails_then : (kinds more : Kinds) → Fails more → Fails (or_else kinds more)
+fails_then [] more h = h
+fails_then (k ∷ ks) more h = refl
+
+-- the kinds of a use of an option with these values
+abbrev pub using : OptionName → Text → List Row → Kinds
+using o value rows = use_fault false (chosen o) (value ∷ []) rows
+
+-- a word that names no option
+pub record IsUnknown (word : Text) : Type 0 where
+  pub name : option_in word ≡ None
+  pub fails : (h : Held) (waiting : Waiting) → h.skip ≡ 0 → Fails (turn (at h waiting) word)
+
+-- an option with its value
+pub record IsJoined (o : OptionName) (value word : Text) : Type 0 where
+  pub name : option_in word ≡ Some o
+  pub gives : joined_value word ≡ Some value
+  pub turns : (h : Held) (waiting : Waiting) → turn (at h waiting) word ≡ or_else (settling h) (using o value (settled rules h).rows)
+  pub goes : (h : Held) (waiting : Waiting) → next (at h waiting) word ≡ at (with_joined o value h) idle
+
+-- an option whose value is to come
+pub record IsApart (o : OptionName) (word : Text) : Type 0 where
+  pub name : option_in word ≡ Some o
+  pub gives : joined_value word ≡ None
+  pub turns : (h : Held) (waiting : Waiting) → turn (at h waiting) word ≡ settling h
+  pub goes : (h : Held) (waiting : Waiting) → next (at h waiting) word ≡ due o h
+
+pub data Kind (word : Text) : Type 0 where
+  unknown : IsUnknown word → Kind word
+  joined : (o : OptionName) (value : Text) → IsJoined o value word → Kind word
+  apart : (o : OptionName) → IsApart o word → Kind word
+
+-- the turn of a long option, by the argument that it names and its value
+abbrev long_turn : Option Rule → Option Text → Held → Waiting → Text → Text → Kinds
+long_turn rule value h waiting name word =
+    or_else (long_fault rules false rule value h)
+    (step_fault shape 1 (after_flag rules waiting word (long_met rules rule value h).0 (long_met rules rule value h).1).0 (after_flag rules waiting word (long_met rules rule value h).0 (long_met rules rule value h).1).1)
+
+abbrev long_next : Option Rule → Option Text → Held → Waiting → Text → Walk
+long_next rule value h waiting word =
+    after_step rules word (at h waiting) (after_flag rules waiting word (long_met rules rule value h).0 (long_met rules rule value h).1).0 (after_flag rules waiting word (long_met rules rule value h).0 (long_met rules rule value h).1).1
+
+module _ (x : ℕ) (xs : Text) where
+  abbrev word : Text
+  word = 45 ∷ 45 ∷ x ∷ xs
+
+  abbrev name : Text
+  name = before_first is_equals (x ∷ xs)
+
+  abbrev given : Option Text
+  given = (name_and_value (x ∷ xs)).1
+
+  turn_is : (h : Held) (waiting : Waiting) → turn (at h waiting) word ≡ long_turn (arg_by_long rules name) given h waiting name word
+  turn_is h idle = refl
+  turn_is h (option id) = refl
+  turn_is h positional = refl
+
+  next_is : (h : Held) (waiting : Waiting) → next (at h waiting) word ≡ long_next (arg_by_long rules name) given h waiting word
+  unfolding walked
+  next_is h idle = refl
+  next_is h (option id) = refl
+  next_is h positional = refl
+
+  by_turn : (o : Option OptionName) (value : Option Text) → option_in word ≡ o → joined_value word ≡ value → (h : Held) (waiting : Waiting)
+      → turn (at h waiting) word ≡ long_turn (option_map chosen o) value h waiting name word
+  by_turn o value names gives h waiting =
+      turn_is h waiting ∙ ap (λ rule. long_turn rule given h waiting name word) (same_option (x ∷ xs) ∙ ap (option_map chosen) names)
+      ∙ ap (λ v. long_turn (option_map chosen o) v h waiting name word) (same_value (x ∷ xs) ∙ gives)
+
+  by_next : (o : Option OptionName) (value : Option Text) → option_in word ≡ o → joined_value word ≡ value → (h : Held) (waiting : Waiting)
+      → next (at h waiting) word ≡ long_next (option_map chosen o) value h waiting word
+  by_next o value names gives h waiting =
+      next_is h waiting ∙ ap (λ rule. long_next rule given h waiting word) (same_option (x ∷ xs) ∙ ap (option_map chosen) names)
+      ∙ ap (λ v. long_next (option_map chosen o) v h waiting word) (same_value (x ∷ xs) ∙ gives)
+
+  joined_turn : (o : OptionName) (value : Text) (h : Held) (waiting : Waiting)
+      → long_turn (Some (chosen o)) (Some value) h waiting name word ≡ or_else (settling h) (using o value (settled rules h).rows)
+  joined_turn Gap value h waiting = or_else_nil _
+  joined_turn Pivots value h waiting = or_else_nil _
+  joined_turn Places value h waiting = or_else_nil _
+  joined_turn Show value h waiting = or_else_nil _
+
+  joined_next : (o : OptionName) (value : Text) (h : Held) (waiting : Waiting) → long_next (Some (chosen o)) (Some value) h waiting word ≡ at (with_joined o value h) idle
+  joined_next Gap value h waiting = refl
+  joined_next Pivots value h waiting = refl
+  joined_next Places value h waiting = refl
+  joined_next Show value h waiting = refl
+
+  apart_turn : (o : OptionName) (h : Held) (waiting : Waiting) → long_turn (Some (chosen o)) None h waiting name word ≡ settling h
+  apart_turn Gap h waiting = or_else_nil _
+  apart_turn Pivots h waiting = or_else_nil _
+  apart_turn Places h waiting = or_else_nil _
+  apart_turn Show h waiting = or_else_nil _
+
+  apart_next : (o : OptionName) (h : Held) (waiting : Waiting) → long_next (Some (chosen o)) None h waiting word ≡ due o h
+  apart_next Gap h waiting = refl
+  apart_next Pivots h waiting = refl
+  apart_next Places h waiting = refl
+  apart_next Show h waiting = refl
+
+  long_kind : Kind word
+  long_kind = go (option_in word) (joined_value word) refl refl
+    where
+      go : (o : Option OptionName) (value : Option Text) → option_in word ≡ o → joined_value word ≡ value → Kind word
+      go None value names gives = unknown (record { name = names; fails = λ h waiting skip. ap is_fault (by_turn None value names gives h waiting) })
+      go (Some o) (Some value) names gives = joined o value (record {
+        name = names;
+        gives = gives;
+        turns = λ h waiting. by_turn (Some o) (Some value) names gives h waiting ∙ joined_turn o value h waiting;
+        goes = λ h waiting. by_next (Some o) (Some value) names gives h waiting ∙ joined_next o value h waiting;
+      })
+      go (Some o) None names gives = apart o (record {
+        name = names;
+        gives = gives;
+        turns = λ h waiting. by_turn (Some o) None names gives h waiting ∙ apart_turn o h waiting;
+        goes = λ h waiting. by_next (Some o) None names gives h waiting ∙ apart_next o h waiting;
+      })
+
+-- ---- short options: there is none
+
+first_char : (b : ℕ) (bytes : Text) → IsUtf8 (b ∷ bytes) → (c : ℕ) × (slice_get (chars (b ∷ bytes)) 0 ≡ Some c)
+first_char b bytes utf8 = go (chars (b ∷ bytes)) (encodes-chars (b ∷ bytes) utf8)
+  where
+    go : (cs : List ℕ) → encode_utf8_all cs ≡ b ∷ bytes → (c : ℕ) × (slice_get cs 0 ≡ Some c)
+    go [] e = cc
+    go (c ∷ cs) e = (c, refl)
+
+after_dash : (bytes : Text) → IsUtf8 (45 ∷ bytes) → IsUtf8 bytes
+unfolding encode_utf8
+after_dash bytes utf8 = IsUtf8-past_char (45 ∷ bytes) bytes 45 utf8 refl
+
+no_short_option : (flags : Text) (c k : ℕ) (h : Held) → slice_get (chars flags) 0 ≡ Some c → Fails (flags_fault rules false (suc k) flags 0 h)
+unfolding flags_fault
+no_short_option flags c k h e = rw e refl
+
+module _ (c : ℕ) (xs : Text) (other : (c == 45) ≡ false) where
+  abbrev short : Text
+  short = 45 ∷ c ∷ xs
+
+  no_dash : (45 == c) ≡ false
+  no_dash = go (45 == c) refl
+    where
+      go : (b : Bool) → (45 == c) ≡ b → b ≡ false
+      go true e = let is : 45 ≡ c = (Decides-eqb 45 c).0 e in let dash : (c == 45) ≡ true = (Decides-eqb c 45).1 (sym is) in absurd (true≢false (sym dash ∙ other))
+      go false e = refl
+
+  no_name : option_in short ≡ None
+  no_name = go (is_equals c) refl
+    where
+      n : ℕ
+      n = position_or_len is_equals xs
+
+      go : (b : Bool) → is_equals c ≡ b → option_in short ≡ None
+      go true e = rw e refl
+      go false e =
+          let two : 1 + (1 + n) ≡ suc (suc n) = omega arith in
+          rw e (ap (λ k. option_named (take k short)) two ∙ rw no_dash refl)
+
+  short_fails : IsUtf8 short → (h : Held) (waiting : Waiting) → h.skip ≡ 0 → Fails (turn (at h waiting) short)
+  short_fails utf8 h waiting skip = go waiting
+    where
+      flags_fail : Fails (flags_fault rules false (length (c ∷ xs)) (c ∷ xs) h.skip (record h { skip = 0 }))
+      flags_fail =
+          let first = first_char c xs (after_dash (c ∷ xs) utf8) in
+          rw skip (no_short_option (c ∷ xs) first.0 (length xs) (record h { skip = 0 }) first.1)
+
+      go : (w : Waiting) → Fails (turn (at h w) short)
+      go idle = rw (other, other) (fails_first _ _ flags_fail)
+      go (option id) = rw (other, other) (fails_first _ _ flags_fail)
+      go positional = rw (other, other) (fails_first _ _ flags_fail)
+
+-- ---- any option
+
+-- a word that is an option and isn't '--' is unknown, or has its value, or waits for it
+pub kind_of_option : (word : Text) → IsUtf8 word → bytes_eq options_end word ≡ false → is_option word ≡ true → Kind word
+kind_of_option [] utf8 no_end e = absurd (true≢false (sym e))
+kind_of_option (b ∷ []) utf8 no_end e = absurd (true≢false (sym e))
+kind_of_option (b ∷ c ∷ bytes) utf8 no_end e = subst Kind (sym dash) (go (c == 45) refl)
+  where
+    is_dash : b ≡ 45
+    is_dash = (Decides-eqb b 45).0 e
+
+    dash : b ∷ c ∷ bytes ≡ 45 ∷ c ∷ bytes
+    dash = ap (λ x. x ∷ c ∷ bytes) is_dash
+
+    long : (rest : Text) → bytes_eq options_end (45 ∷ 45 ∷ rest) ≡ false → Kind (45 ∷ 45 ∷ rest)
+    long [] e = absurd (true≢false e)
+    long (x ∷ xs) e = long_kind x xs
+
+    go : (t : Bool) → (c == 45) ≡ t → Kind (45 ∷ c ∷ bytes)
+    go true two =
+        let second : 45 ∷ c ∷ bytes ≡ 45 ∷ 45 ∷ bytes = ap (λ x. 45 ∷ x ∷ bytes) ((Decides-eqb c 45).0 two) in
+        subst Kind (sym second) (long bytes (sym (ap (bytes_eq options_end) (dash ∙ second)) ∙ no_end))
+    go false one = unknown (record { name = no_name c bytes one; fails = short_fails c bytes one (subst IsUtf8 dash utf8) })
+
+-- it fails where what is held fails
+pub option_fails : (word : Text) (h : Held) (waiting : Waiting) → IsUtf8 word → bytes_eq options_end word ≡ false → is_option word ≡ true → h.skip ≡ 0 → Fails (settling h)
+    → Fails (turn (at h waiting) word)
+option_fails word h waiting utf8 no_end e skip fails = go (kind_of_option word utf8 no_end e)
+  where
+    go : Kind word → Fails (turn (at h waiting) word)
+    go (unknown k) = k.fails h waiting skip
+    go (joined o value k) = rw (k.turns h waiting) (fails_first (settling h) _ fails)
+    go (apart o k) = rw (k.turns h waiting) fails

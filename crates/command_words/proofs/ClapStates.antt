@@ -1,0 +1,196 @@
+-- What is held between two words, and what it says of the words so far.
+use Rattle.std.proofs.Common.{◌≡◌, ◌∙◌, List, [], ◌∷◌, ◌++◌, Option, Some, None, is_some, true, false, refl, ap, option_map}
+use Rattle.std.specs.Prelude.{codes, unwrap_or}
+use Rattle.std.specs.Str.{bytes_eq}
+use Rattle.clap.specs.Walk.{Held, Row, Text, all_of, has_row, nothing_held, reading_by, settled, used, with_values}
+use Rattle.clap.specs.declared.parser.matches.ValueSource.TheVariants.{CommandLine}
+use Rattle.command_words.specs.WordParts.{OptionName, Gap, Pivots, Places, Show}
+use Rattle.command_words.specs.WordReading.{Given}
+use Rattle.command_words.proofs.ClapRows.{added_here, added_elsewhere, has_row_is, without_none}
+use Rattle.command_words.proofs.ClapTurns.{chosen, file, id_of, rules, settling, with_due, with_file, with_joined, with_value}
+use Rattle.command_words.proofs.ClapOptions.{Fails, using}
+
+-- ---- what was given so far
+
+abbrev pub nothing_given : Given
+nothing_given = record { files = []; gap = None; pivots = None; places = None; show = None }
+
+-- the value of an option
+abbrev pub value_of : OptionName → Given → Option Text
+value_of Gap g = g.gap
+value_of Pivots g = g.pivots
+value_of Places g = g.places
+value_of Show g = g.show
+
+-- with one more file
+abbrev pub file_added : Text → Given → Given
+file_added name g = record g { files = g.files ++ name ∷ [] }
+
+-- with the value of an option
+abbrev pub value_added : OptionName → Text → Given → Given
+value_added Gap value g = record g { gap = Some value }
+value_added Pivots value g = record g { pivots = Some value }
+value_added Places value g = record g { places = Some value }
+value_added Show value g = record g { show = Some value }
+
+-- ---- clap's rows
+
+-- no values are no row
+abbrev pub listed : List Text → Option (List Text)
+listed [] = None
+listed (x ∷ xs) = Some (x ∷ xs)
+
+-- the rows say what was given
+pub record Says (rows : List Row) (g : Given) : Type 0 where
+  pub files : all_of (codes "file") rows ≡ listed g.files
+  pub options : (o : OptionName) → all_of (id_of o) rows ≡ option_map (λ value. value ∷ []) (value_of o g)
+
+listed_more : (xs : List Text) (x : Text) → Some (unwrap_or (listed xs) [] ++ x ∷ []) ≡ listed (xs ++ x ∷ [])
+listed_more [] x = refl
+listed_more (y ∷ ys) x = refl
+
+same_id : (o : OptionName) → bytes_eq (id_of o) (id_of o) ≡ true
+same_id Gap = refl
+same_id Pivots = refl
+same_id Places = refl
+same_id Show = refl
+
+file_apart : (o : OptionName) → bytes_eq (codes "file") (id_of o) ≡ false
+file_apart Gap = refl
+file_apart Pivots = refl
+file_apart Places = refl
+file_apart Show = refl
+
+apart_file : (o : OptionName) → bytes_eq (id_of o) (codes "file") ≡ false
+apart_file Gap = refl
+apart_file Pivots = refl
+apart_file Places = refl
+apart_file Show = refl
+
+-- after one more file
+pub says_file : (rows : List Row) (g : Given) (name : Text) → Says rows g → Says (used file (name ∷ []) rows) (file_added name g)
+says_file rows g name s = record {
+  files = added_here (codes "file") (reading_by file) name rows refl ∙ ap (λ found. Some (unwrap_or found [] ++ name ∷ [])) s.files ∙ listed_more g.files name;
+  options = λ o. added_elsewhere (codes "file") (reading_by file) name (id_of o) rows (file_apart o) ∙ s.options o ∙ stays o;
+}
+  where
+    stays : (o : OptionName) → option_map (λ value. value ∷ []) (value_of o g) ≡ option_map (λ value. value ∷ []) (value_of o (file_added name g))
+    stays Gap = refl
+    stays Pivots = refl
+    stays Places = refl
+    stays Show = refl
+
+-- an option that wasn't given has no row
+no_row : (rows : List Row) (g : Given) (o : OptionName) → Says rows g → value_of o g ≡ None → has_row (id_of o) rows ≡ false
+no_row rows g o s none = has_row_is (id_of o) rows ∙ ap is_some (s.options o ∙ ap (option_map (λ value. value ∷ [])) none)
+
+-- its first value is no fault
+pub first_value : (rows : List Row) (g : Given) (o : OptionName) (value : Text) → Says rows g → value_of o g ≡ None → using o value rows ≡ []
+first_value rows g Gap value s none = rw (no_row rows g Gap s none) refl
+first_value rows g Pivots value s none = rw (no_row rows g Pivots s none) refl
+first_value rows g Places value s none = rw (no_row rows g Places s none) refl
+first_value rows g Show value s none = rw (no_row rows g Show s none) refl
+
+-- and a second one is
+pub second_value : (rows : List Row) (g : Given) (o : OptionName) (value first : Text) → Says rows g → value_of o g ≡ Some first → Fails (using o value rows)
+second_value rows g o value first s given = go o given
+  where
+    row : (o : OptionName) → value_of o g ≡ Some first → has_row (id_of o) rows ≡ true
+    row o given = has_row_is (id_of o) rows ∙ ap is_some (s.options o ∙ ap (option_map (λ value. value ∷ [])) given)
+
+    go : (o : OptionName) → value_of o g ≡ Some first → Fails (using o value rows)
+    go Gap given = rw (row Gap given) refl
+    go Pivots given = rw (row Pivots given) refl
+    go Places given = rw (row Places given) refl
+    go Show given = rw (row Show given) refl
+
+module _ (rows : List Row) (g : Given) (value : Text) (s : Says rows g) where
+  -- the option's own row, and another one
+  own_row : (o : OptionName) → value_of o g ≡ None → all_of (id_of o) (used (chosen o) (value ∷ []) rows) ≡ Some (value ∷ [])
+  own_row o none =
+      ap (λ left. all_of (id_of o) (with_values (id_of o) (reading_by (chosen o)) CommandLine (value ∷ []) left)) (without_none (id_of o) rows (no_row rows g o s none))
+      ∙ added_here (id_of o) (reading_by (chosen o)) value rows (same_id o)
+      ∙ ap (λ found. Some (unwrap_or found [] ++ value ∷ [])) (s.options o ∙ ap (option_map (λ value. value ∷ [])) none)
+
+  other_row : (o : OptionName) (other : Text) → value_of o g ≡ None → bytes_eq (id_of o) other ≡ false → all_of other (used (chosen o) (value ∷ []) rows) ≡ all_of other rows
+  other_row o other none apart =
+      ap (λ left. all_of other (with_values (id_of o) (reading_by (chosen o)) CommandLine (value ∷ []) left)) (without_none (id_of o) rows (no_row rows g o s none))
+      ∙ added_elsewhere (id_of o) (reading_by (chosen o)) value other rows apart
+
+  -- after the first value of an option
+  pub says_value : (o : OptionName) → value_of o g ≡ None → Says (used (chosen o) (value ∷ []) rows) (value_added o value g)
+  says_value o none = record { files = files o none; options = options o none }
+    where
+      files : (o : OptionName) → value_of o g ≡ None → all_of (codes "file") (used (chosen o) (value ∷ []) rows) ≡ listed (value_added o value g).files
+      files Gap none = other_row Gap (codes "file") none refl ∙ s.files
+      files Pivots none = other_row Pivots (codes "file") none refl ∙ s.files
+      files Places none = other_row Places (codes "file") none refl ∙ s.files
+      files Show none = other_row Show (codes "file") none refl ∙ s.files
+
+      options : (o : OptionName) → value_of o g ≡ None → (other : OptionName)
+          → all_of (id_of other) (used (chosen o) (value ∷ []) rows) ≡ option_map (λ value. value ∷ []) (value_of other (value_added o value g))
+      options Gap none Gap = own_row Gap none
+      options Gap none Pivots = other_row Gap (id_of Pivots) none refl ∙ s.options Pivots
+      options Gap none Places = other_row Gap (id_of Places) none refl ∙ s.options Places
+      options Gap none Show = other_row Gap (id_of Show) none refl ∙ s.options Show
+      options Pivots none Gap = other_row Pivots (id_of Gap) none refl ∙ s.options Gap
+      options Pivots none Pivots = own_row Pivots none
+      options Pivots none Places = other_row Pivots (id_of Places) none refl ∙ s.options Places
+      options Pivots none Show = other_row Pivots (id_of Show) none refl ∙ s.options Show
+      options Places none Gap = other_row Places (id_of Gap) none refl ∙ s.options Gap
+      options Places none Pivots = other_row Places (id_of Pivots) none refl ∙ s.options Pivots
+      options Places none Places = own_row Places none
+      options Places none Show = other_row Places (id_of Show) none refl ∙ s.options Show
+      options Show none Gap = other_row Show (id_of Gap) none refl ∙ s.options Gap
+      options Show none Pivots = other_row Show (id_of Pivots) none refl ∙ s.options Pivots
+      options Show none Places = other_row Show (id_of Places) none refl ∙ s.options Places
+      options Show none Show = own_row Show none
+
+-- ---- what is held
+
+-- settled it says what was given, and settling it is no fault
+pub record IsFine (h : Held) (g : Given) : Type 0 where
+  pub skip : h.skip ≡ 0
+  pub settles : settling h ≡ []
+  pub says : Says (settled rules h).rows g
+
+pub fine_file : (h : Held) (g : Given) (name : Text) → IsFine h g → IsFine (with_file name h) (file_added name g)
+fine_file h g name fine = record { skip = fine.skip; settles = refl; says = says_file (settled rules h).rows g name fine.says }
+
+pub fine_joined : (h : Held) (g : Given) (o : OptionName) (value : Text) → IsFine h g → value_of o g ≡ None → IsFine (with_joined o value h) (value_added o value g)
+fine_joined h g o value fine none = record { skip = fine.skip; settles = refl; says = says_value (settled rules h).rows g value fine.says o none }
+
+pub settle_value : (h : Held) (o : OptionName) (value : Text) → settling (with_value o value h) ≡ using o value (settled rules h).rows
+settle_value h Gap value = refl
+settle_value h Pivots value = refl
+settle_value h Places value = refl
+settle_value h Show value = refl
+
+settled_value : (h : Held) (o : OptionName) (value : Text) → (settled rules (with_value o value h)).rows ≡ used (chosen o) (value ∷ []) (settled rules h).rows
+settled_value h Gap value = refl
+settled_value h Pivots value = refl
+settled_value h Places value = refl
+settled_value h Show value = refl
+
+pub fine_value : (h : Held) (g : Given) (o : OptionName) (value : Text) → IsFine h g → value_of o g ≡ None → IsFine (with_value o value h) (value_added o value g)
+fine_value h g o value fine none = record {
+  skip = fine.skip;
+  settles = settle_value h o value ∙ first_value (settled rules h).rows g o value fine.says none;
+  says = rw (settled_value h o value) (says_value (settled rules h).rows g value fine.says o none);
+}
+
+-- an option whose value doesn't come is a fault
+pub due_fails : (h : Held) (o : OptionName) → Fails (settling (with_due o h))
+due_fails h Gap = refl
+due_fails h Pivots = refl
+due_fails h Places = refl
+due_fails h Show = refl
+
+pub fine_start : IsFine nothing_held nothing_given
+fine_start = record { skip = refl; settles = refl; says = record { files = refl; options = none } }
+  where
+    none : (o : OptionName) → None ≡ option_map (λ value. value ∷ []) (value_of o nothing_given)
+    none Gap = refl
+    none Pivots = refl
+    none Places = refl
+    none Show = refl

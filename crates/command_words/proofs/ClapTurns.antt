@@ -1,0 +1,152 @@
+-- What clap makes of one word, at the command that it is given here: computed with what is held kept abstract.
+use Rattle.std.proofs.Common.{◌≡◌, ◌&&◌, ◌==◌, ℕ, List, [], ◌∷◌, Option, Some, None, Bool, true, false, cond, refl, ap}
+use Rattle.std.specs.Prelude.{codes, ⊤}
+use Rattle.std.specs.Str.{bytes_eq}
+use Rattle.clap.specs.Lexer.{long_of, short_of}
+use Rattle.clap.specs.Walk.{Held, Rule, Text, Waiting, Walk, idle, option, positional, pushed, reacted, settled, walked}
+use Rattle.clap.specs.Simple.{Shape, built}
+use Rattle.clap.specs.Kinds.{Kinds}
+use Rattle.clap.specs.Faults.{settle_fault, turn_fault}
+use Rattle.clap.specs.declared.builder.value_parser.ValueParser.TheVariants as vp
+use Rattle.command_words.specs.ClapWords.{app, file_rule, option_rule}
+use Rattle.command_words.specs.WordParts.{OptionName, Gap, Pivots, Places, Show, is_option}
+
+-- what building makes of an argument: one value a use
+abbrev filled_with : Rule → Option ℕ → Rule
+filled_with rule index = record rule { index = index; parser = Some vp.String; range = Some (record { start_inclusive = 1; end_inclusive = 1 }) }
+
+abbrev pub file : Rule
+file = filled_with file_rule (Some 1)
+
+-- an option's id, which is its name without dashes
+abbrev pub id_of : OptionName → Text
+id_of Gap = codes "gap"
+id_of Pivots = codes "pivots"
+id_of Places = codes "places"
+id_of Show = codes "show"
+
+abbrev pub chosen : OptionName → Rule
+chosen o = filled_with (option_rule (id_of o)) None
+
+abbrev pub rules : List Rule
+rules = file ∷ chosen Gap ∷ chosen Pivots ∷ chosen Places ∷ chosen Show ∷ []
+
+abbrev pub shape : Shape
+shape = record (built app).top { rules = rules }
+
+built_is : built app ≡ record { top = shape; subs = [] }
+built_is = refl
+
+-- ---- where clap stands between two words
+
+abbrev pub at : Held → Waiting → Walk
+at h waiting = record { held = h; waiting = waiting; position = 1; is_trailing = false; stopped = None }
+
+-- the same after `--`
+abbrev pub past_end : Held → Waiting → Walk
+past_end h waiting = record { held = h; waiting = waiting; position = 1; is_trailing = true; stopped = None }
+
+abbrev pub turn : Walk → Text → Kinds
+turn = turn_fault shape []
+
+abbrev pub next : Walk → Text → Walk
+next = walked rules []
+
+abbrev pub settling : Held → Kinds
+settling = settle_fault rules false
+
+-- held after a file
+abbrev pub with_file : Text → Held → Held
+with_file name h = record (settled rules h) { pending = Some (codes "file", name ∷ []) }
+
+-- held while the value of an option is due
+abbrev pub with_due : OptionName → Held → Held
+with_due o h = record (settled rules h) { pending = Some (id_of o, []) }
+
+-- held once it is there
+abbrev pub with_value : OptionName → Text → Held → Held
+with_value o value h = record (settled rules h) { pending = Some (id_of o, value ∷ []) }
+
+-- held after an option with its value joined to it
+abbrev pub with_joined : OptionName → Text → Held → Held
+with_joined o value h = reacted rules (chosen o) (value ∷ []) h
+
+and_false : (b : Bool) → (b && false) ≡ false
+and_false true = refl
+and_false false = refl
+
+-- ---- `--`
+
+pub end_turn : (h : Held) (waiting : Waiting) → turn (at h waiting) (codes "--") ≡ []
+end_turn h idle = refl
+end_turn h (option id) = refl
+end_turn h positional = refl
+
+pub end_next : (h : Held) (waiting : Waiting) → next (at h waiting) (codes "--") ≡ past_end h waiting
+unfolding walked
+end_next h idle = refl
+end_next h (option id) = refl
+end_next h positional = refl
+
+-- ---- a word that is no option
+
+-- neither '--', nor a long option, nor short ones
+pub record IsPlain (word : Text) : Type 0 where
+  pub no_end : bytes_eq word (codes "--") ≡ false
+  pub no_long : long_of word ≡ None
+  pub no_short : short_of word ≡ None
+
+is_plain : (word : Text) → is_option word ≡ false → IsPlain word
+is_plain [] e = record { no_end = refl; no_long = refl; no_short = refl }
+is_plain (b ∷ []) e = go (b == 45) refl
+  where
+    go : (t : Bool) → (b == 45) ≡ t → IsPlain (b ∷ [])
+    go true e = record { no_end = rw e refl; no_long = rw e refl; no_short = rw e refl }
+    go false e = record { no_end = rw e refl; no_long = rw e refl; no_short = rw e refl }
+is_plain (b ∷ c ∷ bytes) e = record { no_end = rw e refl; no_long = rw e refl; no_short = rw e refl }
+
+-- no value is due
+abbrev pub IsReady : Waiting → Type 0
+IsReady idle = ⊤
+IsReady (option id) = ⊥
+IsReady positional = ⊤
+
+pub file_turn : (word : Text) (h : Held) (waiting : Waiting) → IsReady waiting → is_option word ≡ false → turn (at h waiting) word ≡ settling h
+file_turn word h idle ready e = let p = is_plain word e in rw (p.no_end, p.no_long, p.no_short) (ap (λ b. cond b [] (settling h)) (and_false _))
+file_turn word h (option id) ready e = absurd ready
+file_turn word h positional ready e = let p = is_plain word e in rw (p.no_end, p.no_long, p.no_short) (ap (λ b. cond b [] (settling h)) (and_false _))
+
+-- held after a file, whether or not the one before it was a file
+abbrev file_pushed : Text → Held → Bool → Held
+file_pushed word h b = pushed (codes "file") word (cond b h (settled rules h))
+
+pub file_next : (word : Text) (h : Held) (waiting : Waiting) → IsReady waiting → is_option word ≡ false → next (at h waiting) word ≡ at (with_file word h) positional
+unfolding walked
+file_next word h idle ready e = let p = is_plain word e in rw (p.no_end, p.no_long, p.no_short) (ap (λ b. at (file_pushed word h b) positional) (and_false _))
+file_next word h (option id) ready e = absurd ready
+file_next word h positional ready e = let p = is_plain word e in rw (p.no_end, p.no_long, p.no_short) (ap (λ b. at (file_pushed word h b) positional) (and_false _))
+
+-- after `--` each word is a file
+pub past_turn : (word : Text) (h : Held) (waiting : Waiting) → turn (past_end h waiting) word ≡ settling h
+past_turn word h waiting = ap (λ b. cond b [] (settling h)) (and_false _)
+
+pub past_next : (word : Text) (h : Held) (waiting : Waiting) → next (past_end h waiting) word ≡ past_end (with_file word h) positional
+unfolding walked
+past_next word h waiting = ap (λ b. past_end (file_pushed word h b) positional) (and_false _)
+
+-- the value that is due
+abbrev pub due : OptionName → Held → Walk
+due o h = at (with_due o h) (option (id_of o))
+
+pub value_turn : (o : OptionName) (word : Text) (h : Held) → is_option word ≡ false → turn (due o h) word ≡ []
+value_turn Gap word h e = let p = is_plain word e in rw (p.no_end, p.no_long, p.no_short) refl
+value_turn Pivots word h e = let p = is_plain word e in rw (p.no_end, p.no_long, p.no_short) refl
+value_turn Places word h e = let p = is_plain word e in rw (p.no_end, p.no_long, p.no_short) refl
+value_turn Show word h e = let p = is_plain word e in rw (p.no_end, p.no_long, p.no_short) refl
+
+pub value_next : (o : OptionName) (word : Text) (h : Held) → is_option word ≡ false → next (due o h) word ≡ at (with_value o word h) idle
+unfolding walked
+value_next Gap word h e = let p = is_plain word e in rw (p.no_end, p.no_long, p.no_short) refl
+value_next Pivots word h e = let p = is_plain word e in rw (p.no_end, p.no_long, p.no_short) refl
+value_next Places word h e = let p = is_plain word e in rw (p.no_end, p.no_long, p.no_short) refl
+value_next Show word h e = let p = is_plain word e in rw (p.no_end, p.no_long, p.no_short) refl

@@ -1,0 +1,62 @@
+-- A command with its parts is the command with what the parts give.
+use Rattle.std.proofs.Common.{◌≡◌, ◌∙◌, ◌&&◌, ◌||◌, arith, ℕ, List, [], ◌∷◌, length, Option, Some, None, is_some, Bool, true, false, cond, refl, sym, true≢false, nat_le}
+use Rattle.std.specs.Prelude.{not, slice_get}
+use Rattle.command_words.specs.CommandLine.{CommandName, allows, command_with, has_option, values_in}
+use Rattle.command_words.specs.WordParts.{OptionName, Gap, Pivots, Places, Show, Part}
+use Rattle.command_words.specs.WordReading.{command_by, given_by, is_once}
+
+-- at most one value: the option is allowed where the command has it, or there is no value
+once_allows : (values : List (List ℕ)) (has : Bool) → nat_le (length values) 1 ≡ true → nat_le (length values) (cond has 1 0) ≡ (not (is_some (slice_get values 0)) || has)
+once_allows [] true once = refl
+once_allows [] false once = refl
+once_allows (x ∷ []) true once = refl
+once_allows (x ∷ []) false once = refl
+once_allows (x ∷ y ∷ values) has once = let two : nat_le (length (x ∷ y ∷ values)) 1 ≡ false = grind arith in absurd (true≢false (sym once ∙ two))
+
+-- more than one value are never allowed
+twice_allows : (values : List (List ℕ)) (has : Bool) → nat_le (length values) 1 ≡ false → nat_le (length values) (cond has 1 0) ≡ false
+twice_allows values true twice = twice
+twice_allows [] false twice = absurd (true≢false twice)
+twice_allows (x ∷ values) false twice = grind arith
+
+both_false : (a b d e : Bool) → (a ≡ false → d ≡ false) → (b ≡ false → e ≡ false) → (a && b) ≡ false → (d && e) ≡ false
+both_false true true d e x y h = absurd (true≢false h)
+both_false true false d e x y h = go d e (y refl)
+  where
+    go : (d e : Bool) → e ≡ false → (d && e) ≡ false
+    go true e none = none
+    go false e none = refl
+both_false false b d e x y h = go d e (x refl)
+  where
+    go : (d e : Bool) → d ≡ false → (d && e) ≡ false
+    go true e none = absurd (true≢false none)
+    go false e none = refl
+
+both_true : (a b : Bool) → (a && b) ≡ true → (a ≡ true) × (b ≡ true)
+both_true true true h = (refl, refl)
+both_true true false h = absurd (true≢false (sym h))
+both_true false b h = absurd (true≢false (sym h))
+
+pub given_is : (command : CommandName) (parts : Option (List Part)) → command_by command (given_by parts) ≡ command_with command parts
+given_is command None = refl
+given_is command (Some parts) = go (is_once parts Gap && is_once parts Pivots && is_once parts Places && is_once parts Show) refl
+  where
+    go : (b : Bool) → (is_once parts Gap && is_once parts Pivots && is_once parts Places && is_once parts Show) ≡ b → command_by command (given_by (Some parts)) ≡ command_with command (Some parts)
+    go true once =
+        let show = both_true (is_once parts Gap && is_once parts Pivots && is_once parts Places) (is_once parts Show) once in
+        let places = both_true (is_once parts Gap && is_once parts Pivots) (is_once parts Places) show.0 in
+        let pivots = both_true (is_once parts Gap) (is_once parts Pivots) places.0 in
+        rw (
+          once,
+          once_allows (values_in Gap parts) (has_option command Gap) pivots.0,
+          once_allows (values_in Pivots parts) (has_option command Pivots) pivots.1,
+          once_allows (values_in Places parts) (has_option command Places) places.1,
+          once_allows (values_in Show parts) (has_option command Show) show.1,
+        ) refl
+    go false once =
+        let twice = λ (o : OptionName). twice_allows (values_in o parts) (has_option command o) in
+        let none : (allows command parts Gap && allows command parts Pivots && allows command parts Places && allows command parts Show) ≡ false =
+        both_false (is_once parts Gap && is_once parts Pivots && is_once parts Places) (is_once parts Show) (allows command parts Gap && allows command parts Pivots && allows command parts Places) (allows command parts Show)
+        (both_false (is_once parts Gap && is_once parts Pivots) (is_once parts Places) (allows command parts Gap && allows command parts Pivots) (allows command parts Places)
+        (both_false (is_once parts Gap) (is_once parts Pivots) (allows command parts Gap) (allows command parts Pivots) (twice Gap) (twice Pivots)) (twice Places)) (twice Show) once in
+        rw (once, none) refl

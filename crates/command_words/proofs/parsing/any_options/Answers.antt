@@ -1,0 +1,13 @@
+use Rattle.std.proofs.Common.{◌∙◌, ℕ, List, ap, codes}
+use Rattle.std.proofs.lemmas.Result.{IfOk-weaker}
+use Rattle.clap.specs.Words.{App, with_rule}
+use Rattle.command_words.specs.ClapWords.{option_rule}
+use Rattle.command_words.proofs.parsing.any_options.Goals as goal
+
+pub returns : goal.returns
+returns c =
+    let more = λ (name : List ℕ) (app : App). with_rule app (option_rule name) in
+    let gap = c.in_ok-command.ensures ∙ ap (more (codes "gap")) c.in_ok-with_files.ensures in
+    let pivots = c.in_ok-command-2.ensures ∙ ap (more (codes "pivots")) gap in
+    let places = c.in_ok-command-3.ensures ∙ ap (more (codes "places")) pivots in
+    IfOk-weaker c.with_option-4.result _ _ (λ command added. added ∙ ap (more (codes "show")) places) c.with_option-4.ensures

@@ -1,0 +1,27 @@
+use Rattle.std.proofs.Common.{◌≡◌, ◌∙◌, ap, sym, map, option_map, None, Some, codes}
+use Rattle.std.specs.String.{string_bytes}
+use Rattle.clap.specs.Words.{found_of, rows_of}
+use Rattle.clap.proofs.WalkLemmas.{first_value-rows}
+use Rattle.command_words.specs.ClapWords.{clap_rows}
+use Rattle.command_words.specs.WordReading.{given_of}
+use Rattle.command_words.proofs.ClapReads.{clap_gives, given_rows, words_utf8}
+use Rattle.command_words.proofs.parsing.read_given.Goals as goal
+
+pub returns-in_default : goal.returns-in_default
+returns-in_default c =
+    let words = map string_bytes c.args.words.now in
+    let rows : None ≡ clap_rows words = ap (option_map (λ matches. rows_of (found_of matches))) (sym c.in_default.is) ∙ c.in_ok-matches.ensures in
+    ap (option_map given_rows) rows ∙ clap_gives words (words_utf8 c.args.words.now)
+
+pub returns : goal.returns
+returns c =
+    let words = map string_bytes c.args.words.now in
+    let found = found_of c.in-Some.matches in
+    let rows : Some (rows_of found) ≡ clap_rows words = ap (option_map (λ matches. rows_of (found_of matches))) (sym c.in-Some.is) ∙ c.in_ok-matches.ensures in
+    let gap = c.get_str.ensures ∙ first_value-rows found (codes "gap") in
+    let pivots = c.get_str-2.ensures ∙ first_value-rows found (codes "pivots") in
+    let places = c.get_str-3.ensures ∙ first_value-rows found (codes "places") in
+    let show = c.get_str-4.ensures ∙ first_value-rows found (codes "show") in
+    let given = given_of (record { files = c.in_ok-files_of.field-0; gap = c.get_str.result; pivots = c.get_str-2.result; places = c.get_str-3.result; show = c.get_str-4.result }) in
+    let same : given ≡ given_rows (rows_of found) = λ i. record { files = c.in_ok-files_of.ensures i; gap = gap i; pivots = pivots i; places = places i; show = show i } in
+    ap Some same ∙ ap (option_map given_rows) rows ∙ clap_gives words (words_utf8 c.args.words.now)

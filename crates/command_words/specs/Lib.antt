@@ -1,0 +1,7 @@
+pub mod ClapWords
+pub mod CommandLine
+pub mod Commands
+pub mod WordParts
+pub mod WordReading
+pub mod WordValues
+pub mod Words

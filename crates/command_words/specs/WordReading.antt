@@ -1,0 +1,52 @@
+-- What the parts of the words give a command: files, and at most one value for each option.
+use Rattle.std.specs.Prelude.{ℕ, Bool, not, ◌&&◌, ◌||◌, nat_le, List, map, length, Option, Some, None, option_map, is_some, Result, Err, if◌then◌else◌}
+use Rattle.command_words.specs.declared.fault.WordFault.{WordFault}
+use Rattle.command_words.specs.declared.fault.WordFault.TheVariants.{BadForm}
+use Rattle.command_words.specs.declared.parsing.Given.{Given as SlicedGiven}
+use Rattle.command_words.specs.CommandLine.{AnyCommand, CommandName, command_of, files_in, has_option, values_in, value_in}
+use Rattle.command_words.specs.WordParts.{OptionName, Gap, Pivots, Places, Show, Part}
+
+pub record Given : Type 0 where
+  pub files : List (List ℕ)
+  pub gap : Option (List ℕ)
+  pub pivots : Option (List ℕ)
+  pub places : Option (List ℕ)
+  pub show : Option (List ℕ)
+
+-- without where the words lie in memory
+abbrev pub given_of : SlicedGiven → Given
+given_of given = record {
+  files = map (λ file. file.now) given.files.items;
+  gap = option_map (λ value. value.now) given.gap;
+  pivots = option_map (λ value. value.now) given.pivots;
+  places = option_map (λ value. value.now) given.places;
+  show = option_map (λ value. value.now) given.show;
+}
+
+-- the option is given at most once
+abbrev pub is_once : List Part → OptionName → Bool
+is_once parts o = nat_le (length (values_in o parts)) 1
+
+-- what the parts give, where there are some and no option is repeated
+abbrev pub given_by : Option (List Part) → Option Given
+given_by None = None
+given_by (Some parts) =
+    if is_once parts Gap && is_once parts Pivots && is_once parts Places && is_once parts Show
+    then Some (record { files = files_in parts; gap = value_in Gap parts; pivots = value_in Pivots parts; places = value_in Places parts; show = value_in Show parts })
+    else None
+
+-- an option that is given is one of the command's
+abbrev pub may_have : CommandName → OptionName → Option (List ℕ) → Bool
+may_have command o value = not (is_some value) || has_option command o
+
+abbrev pub is_allowed : CommandName → Given → Bool
+is_allowed command given = may_have command Gap given.gap && may_have command Pivots given.pivots && may_have command Places given.places && may_have command Show given.show
+
+-- the command with these files and values
+abbrev pub command_given : CommandName → Given → Result AnyCommand WordFault
+command_given command given = command_of command given.files given.gap given.pivots given.places given.show
+
+-- the same where something is given, and it is allowed
+abbrev pub command_by : CommandName → Option Given → Result AnyCommand WordFault
+command_by command None = Err BadForm
+command_by command (Some given) = if is_allowed command given then command_given command given else Err BadForm
