@@ -12,7 +12,7 @@ use Rattle.osemosys_run.specs.declared.status.ReadStop.TheVariants as stops
 use Rattle.io_edges.specs.Count.{Rose}
 use Rattle.io_edges.specs.Edges.{Lacks}
 use Rattle.osemosys_run.specs.Causes.{Caused, CausedByFile, FollowsFromText}
-use Rattle.osemosys_run.specs.Complete.{CanBeAccepted, CanBeWritten, Completes}
+use Rattle.osemosys_run.specs.Complete.{CanBeAccepted, CanBeSolved, CanBeWritten, Completes}
 use Rattle.osemosys_run.specs.Due.{Due, DueForFile, DueForText}
 use Rattle.osemosys_run.specs.Lines.{too_long_line}
 use Rattle.osemosys_run.specs.Mps.{DueForEquations}
@@ -296,15 +296,20 @@ nothing_asked files can = cc can.asks
 nothing_to_check : (files : List (List ℕ × List ℕ)) → CanBeAccepted [] files → ⊥
 nothing_to_check files can = cc can.asks
 
+nothing_to_solve : (files : List (List ℕ × List ℕ)) → CanBeSolved [] files → ⊥
+nothing_to_solve files can = cc can.asks
+
 -- a file that isn't there, and one of another name
 not_there : CanBeWritten mps_file [] → ⊥
 not_there can = cc can.there
 
 -- a file that can't be written may have any status; one that can has no refusal
 no_claim : (status : Status) → Completes [] [] status
-no_claim status (inl can) = absurd (nothing_asked [] can)
-no_claim status (inr can) = absurd (nothing_to_check [] can)
+no_claim status = record {
+  done = λ can. elim can [ inl can ↦ absurd (nothing_asked [] can) | inr can ↦ absurd (nothing_to_check [] can) ];
+  ended = λ can. absurd (nothing_to_solve [] can);
+}
 
 not_refused : (words : List (List ℕ)) (files : List (List ℕ × List ℕ)) → CanBeWritten words files → Completes words files (Refused refusals.TooManyEntries) → ⊥
 not_refused words files can completes =
-    elim (completes (inl can)) [ inl done ↦ let same : Refused refusals.TooManyEntries ≡ Done = done in cc same | inr memory ↦ let same : Refused refusals.TooManyEntries ≡ Memory = memory in cc same ]
+    elim (completes.done (inl can)) [ inl done ↦ let same : Refused refusals.TooManyEntries ≡ Done = done in cc same | inr memory ↦ let same : Refused refusals.TooManyEntries ≡ Memory = memory in cc same ]

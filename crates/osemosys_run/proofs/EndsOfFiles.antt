@@ -16,7 +16,8 @@ use Rattle.osemosys_run.specs.Mps.{DueForEquations}
 use Rattle.osemosys_run.specs.ReadEnds.{TellsEnd}
 use Rattle.osemosys_run.specs.Reading.{Sight, HasNothingLeft, IsTooLong, most_bytes}
 use Rattle.osemosys_run.specs.ReadToEnd.{IsReadAtWriteFault, IsReadToEnd}
-use Rattle.command_words.specs.Words.{Request, Check, Mps, asked}
+use Rattle.osemosys_run.specs.Solve.{DueForSolve}
+use Rattle.command_words.specs.Words.{Request, Check, Mps, Solve, asked}
 use Rattle.osemosys_run.proofs.FilesRead.{Reaches, Reaches-itself, by_file, by_optional_file, rose-since}
 
 -- where the reading of a file ends for a cause, the answer that tells it has that cause
@@ -67,6 +68,11 @@ by_cause words before after status text Goal refused read stopped caused = by_re
         by_file before after status text (Goal (Ok (Mps name places))) (FollowsFromText (λ rounded. DueForEquations places) after status text) 1 name before (Reaches-itself before)
         (λ there bytes reached left follows. read (Mps name places) (left_alone before there after left follows.0))
         (stopped (Mps name places) 1 name before) c
+    by_request (Ok (Solve name gap pivots places show)) c =
+        let request = Solve name gap pivots places show in
+        by_file before after status text (Goal (Ok request)) (FollowsFromText (DueForSolve places gap pivots show) after status text) 1 name before (Reaches-itself before)
+        (λ there bytes reached left follows. read request (left_alone before there after left follows.0))
+        (stopped request 1 name before) c
     by_request (Ok (Check name plan multipliers gap places)) c =
         let request = Check name plan multipliers gap places in
         let third : List ℕ → List ℕ → Sight → Option (List ℕ) → Type 0 =

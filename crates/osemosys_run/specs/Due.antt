@@ -13,7 +13,8 @@ use Rattle.osemosys_run.specs.Lines.{stop_line, too_long_line, words_line}
 use Rattle.osemosys_run.specs.Mps.{DueForEquations}
 use Rattle.osemosys_run.specs.NotAccepted.{DueWhereNotAccepted}
 use Rattle.osemosys_run.specs.Reading.{most_bytes}
-use Rattle.command_words.specs.Words.{Request, Check, Mps, asked}
+use Rattle.osemosys_run.specs.Solve.{DueForSolve}
+use Rattle.command_words.specs.Words.{Request, Check, Mps, Solve, asked}
 
 -- over the text of a data file: its first refusal, or what `Over` has of the number of its rounded numbers and over its data
 abbrev pub DueForText : (ℕ → Data → Status → List ℕ → Type 0) → List ℕ → Status → List ℕ → Type 0
@@ -36,6 +37,7 @@ DueForOptionalFile Due number files (Some name) status text = DueForFile (λ byt
 abbrev pub DueForRequest : Result Request WordFault → List (List ℕ × List ℕ) → Status → List ℕ → Type 0
 DueForRequest (Err fault) files status text = (status ≡ Words fault) × (text ≡ words_line fault)
 DueForRequest (Ok (Mps name places)) files status text = DueForFile (DueForText (λ rounded. DueForEquations places)) 1 (file_named files name) status text
+DueForRequest (Ok (Solve name gap pivots places show)) files status text = DueForFile (DueForText (DueForSolve places gap pivots show)) 1 (file_named files name) status text
 DueForRequest (Ok (Check name plan multipliers gap places)) files status text =
     DueForFile (λ bytes. DueForFile (λ plan_bytes. DueForOptionalFile (λ multiplier_bytes.
     DueForText (λ rounded. DueForCheck places plan_bytes multiplier_bytes gap) bytes)

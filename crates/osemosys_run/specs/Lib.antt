@@ -18,5 +18,7 @@ pub mod Reading
 pub mod RefusalLines
 pub mod Sending
 pub mod Solve
+pub mod SolveOutcomes
 pub mod SolveTexts
 pub mod SolvedPlans
+pub mod Tasks

@@ -1,7 +1,6 @@
 // The top call: words, reading, accepting, answering, sending.
-ghost use Rattle.std.specs.Prelude.{◌≡◌, ◌≤◌, ◌⊎◌, List, ℕ, IfOk, map, length};
+ghost use Rattle.std.specs.Prelude.{◌≡◌, ◌≤◌, ◌⊎◌, List, ℕ, IfOk, map};
 ghost use Rattle.std.specs.String.{string_bytes};
-ghost use Rattle.discount_factors.specs.Factors.{IsPlaces};
 ghost use Rattle.io_edges.specs.Count.{Rose};
 ghost use Rattle.io_edges.specs.Told.{WhereTold};
 ghost use Rattle.mathprog_data.specs.Meaning.{Blocks};
@@ -10,22 +9,21 @@ ghost use Rattle.mathprog_data.specs.declared.blocks.Mark.{Mark};
 ghost use Rattle.model_sets.specs.Data.{Data};
 ghost use Rattle.osemosys_run.specs.declared.status.Status.{Status};
 ghost use Rattle.osemosys_run.specs.Accepted.{Accepted};
-ghost use Rattle.osemosys_run.specs.Causes.{Caused, CausedByFile, FollowsFromText};
+ghost use Rattle.osemosys_run.specs.Causes.{Caused};
 ghost use Rattle.osemosys_run.specs.Complete.{Completes};
-ghost use Rattle.osemosys_run.specs.Due.{Due, DueForText};
-ghost use Rattle.osemosys_run.specs.Mps.{DueForEquations};
+ghost use Rattle.osemosys_run.specs.Due.{Due};
 ghost use Rattle.osemosys_run.specs.NotAccepted.{DueWhereNotAccepted};
-ghost use Rattle.osemosys_run.specs.Reading.{most_bytes, sight};
+ghost use Rattle.osemosys_run.specs.Reading.{sight};
 ghost use Rattle.osemosys_run.specs.ReadToEnd.{IsReadToEnd, ReadsWhole};
 ghost use Rattle.osemosys_run.specs.Sending.{Delivers};
 ghost use Rattle.command_words.specs.WordParts.{HasSpelledParts, Part};
 
-use crate::accepting::{accept, acceptance_laws};
-use crate::answer::{Answer, refuse_file, refuse_words};
+use crate::accepting::acceptance_laws;
+use crate::answer::{Answer, refuse_words};
 use crate::check_files::{Asked, perform_check};
-use crate::mps::answer_mps;
-use crate::reading::read_file;
+use crate::one_file::{Task, perform_task};
 use crate::sending::send;
+use crate::solve::Wanted;
 use crate::status::Status;
 use command_words::{Command, read_command, spelled_parts};
 use io_edges::{Shelf, Sink};
@@ -33,9 +31,6 @@ use mathprog_data::verdict_laws;
 use plan_files::telling_laws;
 use row_book::stop_laws;
 use std::alloc::{AllocError, Global};
-
-/// The number of the data file among those that the words name.
-const DATA_FILE: u8 = 1;
 
 /// Runs the program on the words after its name: reads the files that they name from the shelf, and
 /// writes the text that is due into the sink.
@@ -140,7 +135,19 @@ fn perform<S: Shelf>(alloc: Global, words: &[String], shelf: &mut S) -> Result<A
     ensures faults { S.faults shelf.old ≤ S.faults shelf.new }
 {
     match read_command(alloc, words)? {
-        Ok(Command::Mps { file, places }) => perform_mps(alloc, file, places, shelf),
+        Ok(Command::Mps { file, places }) => perform_task(alloc, file, Task::Write, places, shelf),
+        Ok(
+            Command::Solve {
+                file,
+                gap,
+                pivots,
+                places,
+                show,
+            },
+        ) => {
+            let task = Task::Solve(Wanted { gap, pivots, show });
+            perform_task(alloc, file, task, places, shelf)
+        }
         Ok(
             Command::Check {
                 file,
@@ -161,41 +168,5 @@ fn perform<S: Shelf>(alloc: Global, words: &[String], shelf: &mut S) -> Result<A
             shelf,
         ),
         Err(fault) => refuse_words(alloc, fault),
-    }
-}
-
-// The answer of `mps` over the file of this name.
-fn perform_mps<S: Shelf>(
-    alloc: Global,
-    file: &str,
-    places: u8,
-    shelf: &mut S,
-) -> Result<Answer, AllocError>
-    requires { IsPlaces places }
-    ensures caused { IfOk result (λ answer.
-        let after = sight (S.files shelf.new) (S.rest shelf.new)
-        (S.faults shelf.new) (S.begins shelf.new) (S.taken shelf.new) in
-        CausedByFile (FollowsFromText (λ rounded. DueForEquations places) after answer.status answer.text.items) DATA_FILE file.now
-        (sight (S.files shelf.old) (S.rest shelf.old)
-        (S.faults shelf.old) (S.begins shelf.old) (S.taken shelf.old))
-        after answer.status answer.text.items) }
-    ensures files { S.files shelf.new ≡ S.files shelf.old }
-    ensures faults { S.faults shelf.old ≤ S.faults shelf.new }
-{
-    match read_file(alloc, file, shelf) {
-        Ok(bytes) => answer_text(alloc, bytes, places),
-        Err(end) => refuse_file(alloc, DATA_FILE, end),
-    }
-}
-
-// The answer of `mps` over the text of its file. The text is gone before the first row is made.
-fn answer_text(alloc: Global, text: Vec<u8>, places: u8) -> Result<Answer, AllocError>
-    requires short { length text.items ≤ most_bytes }
-    requires places { IsPlaces places }
-    ensures { IfOk result (λ answer. DueForText (λ rounded. DueForEquations places) text.items answer.status answer.text.items) }
-{
-    match accept(alloc, text)? {
-        Ok(model) => answer_mps(alloc, &model, places),
-        Err(answer) => Ok(answer),
     }
 }
