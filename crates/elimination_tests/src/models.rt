@@ -1,9 +1,9 @@
 //! Small models, and what is left of their rows.
 
 ghost use Rattle.std.specs.Prelude.{IfOk};
-ghost use Rattle.elimination_tests.specs.BookPrograms.{IsProgramOf};
+ghost use Rattle.exact_solver.specs.BookPrograms.{IsProgramOf};
 
-use crate::books::{BookProgram, eliminate_book};
+use exact_solver::{BookProgram, eliminate_book};
 use crate::lines::program_lines;
 use data_tests::section;
 use mathprog_data::read_blocks;

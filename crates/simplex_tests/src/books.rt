@@ -3,9 +3,9 @@
 ghost use Rattle.std.specs.Prelude.{◌≤◌, length, IfOk};
 ghost use Rattle.written_method.specs.Programs.{program_of};
 ghost use Rattle.simplex_core.specs.Outcomes.{IsProved};
-ghost use Rattle.elimination_tests.specs.BookPrograms.{IsProgramOf};
+ghost use Rattle.exact_solver.specs.BookPrograms.{IsProgramOf};
 
-use elimination_tests::BookProgram;
+use exact_solver::BookProgram;
 use row_book::RowBook;
 use simplex_core::{End, Halt, solve};
 use std::alloc::Global;

@@ -35,8 +35,8 @@ use Rattle.variable_elimination.proofs.LeftLaws.{avoids-from_none}
 use Rattle.variable_elimination.proofs.LiftLaws.{met_by_some, row_sum-avoids, row_sum-times}
 use Rattle.variable_elimination.proofs.ReductionLaws.{IsReduced-met}
 use Rattle.variable_elimination.proofs.VariableLaws.{itself}
-use Rattle.elimination_tests.specs.BookPrograms.{definer, definers}
-use Rattle.elimination_tests.proofs.BookLaws.{book_triangular, placed}
+use Rattle.exact_solver.specs.Definers.{definer, definers}
+use Rattle.exact_solver.proofs.BookLaws.{book_triangular, placed}
 
 -- ---- rows that say what a definition says
 

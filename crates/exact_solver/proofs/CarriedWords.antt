@@ -46,8 +46,8 @@ use Rattle.variable_elimination.proofs.LiftLaws.{neither}
 use Rattle.variable_elimination.proofs.ProvenLaws.{proves, refutes}
 use Rattle.variable_elimination.proofs.ReadyLaws.{IsColumnBeyond, RowsHaveOnly, known_columns}
 use Rattle.variable_elimination.proofs.VariableLaws.{turned}
-use Rattle.elimination_tests.specs.CarriedBack.{BecomesPlan, BecomesDirection, BecomesProof, BecomesRefutation}
-use Rattle.elimination_tests.proofs.BookLaws.{among-list}
+use Rattle.exact_solver.specs.CarriedBack.{BecomesPlan, BecomesDirection, BecomesProof, BecomesRefutation}
+use Rattle.exact_solver.proofs.BookLaws.{among-list}
 
 -- ---- plans
 

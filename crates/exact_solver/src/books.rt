@@ -4,8 +4,9 @@ ghost use Rattle.std.specs.Prelude.{◌≡◌, true, false, None, length, IfOk, 
 ghost use Rattle.exact_num.specs.Steps.{first_wide};
 ghost use Rattle.written_method.specs.Eliminated.{elimination_steps};
 ghost use Rattle.variable_elimination.specs.SoFar.{IsFirst};
-ghost use Rattle.elimination_tests.specs.BookPrograms.{definers, IsProgramOf};
-ghost use Rattle.elimination_tests.specs.CarriedBack.{BecomesPlan, BecomesDirection, BecomesProof, BecomesRefutation};
+ghost use Rattle.exact_solver.specs.BookPrograms.{IsProgramOf};
+ghost use Rattle.exact_solver.specs.Definers.{definers};
+ghost use Rattle.exact_solver.specs.CarriedBack.{BecomesPlan, BecomesDirection, BecomesProof, BecomesRefutation};
 
 use exact_num::Frac;
 use row_book::RowBook;

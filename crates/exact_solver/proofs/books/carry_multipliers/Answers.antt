@@ -8,10 +8,10 @@ use Rattle.written_method.specs.Definitions.{definitions_of, others_of, rows_of,
 use Rattle.variable_elimination.specs.Certified.{CarriesBound, CarriesSum}
 use Rattle.variable_elimination.specs.Eliminations.{IsPartOf, IsWhole}
 use Rattle.variable_elimination.specs.Left.{AreKnown}
-use Rattle.elimination_tests.specs.BookPrograms.{definers}
-use Rattle.elimination_tests.proofs.BookLaws.{moved, book_triangular, book_known}
-use Rattle.elimination_tests.proofs.CarriedWords.{as_many, proof_answer, refutation_answer}
-use Rattle.elimination_tests.proofs.books.carry_multipliers.Goals as goal
+use Rattle.exact_solver.specs.Definers.{definers}
+use Rattle.exact_solver.proofs.BookLaws.{moved, book_triangular, book_known}
+use Rattle.exact_solver.proofs.CarriedWords.{as_many, proof_answer, refutation_answer}
+use Rattle.exact_solver.proofs.books.carry_multipliers.Goals as goal
 
 pub lift_multipliers-requires-clause-triangular : goal.lift_multipliers-requires-clause-triangular
 lift_multipliers-requires-clause-triangular c =

@@ -7,10 +7,10 @@ use Rattle.variable_elimination.specs.Eliminations.{IsWhole}
 use Rattle.variable_elimination.specs.Left.{AreKnown, AvoidAll}
 use Rattle.variable_elimination.specs.ReducedRows.{AreReductions}
 use Rattle.variable_elimination.specs.SoFar.{HaveNone}
-use Rattle.elimination_tests.specs.BookPrograms.{definers}
-use Rattle.elimination_tests.proofs.BookLaws.{moved, book_triangular, book_plain, book_known}
-use Rattle.elimination_tests.proofs.PosedLaws.{posed}
-use Rattle.elimination_tests.proofs.books.eliminate_book.Goals as goal
+use Rattle.exact_solver.specs.Definers.{definers}
+use Rattle.exact_solver.proofs.BookLaws.{moved, book_triangular, book_plain, book_known}
+use Rattle.exact_solver.proofs.PosedLaws.{posed}
+use Rattle.exact_solver.proofs.books.eliminate_book.Goals as goal
 
 pub eliminate-requires-clause-triangular : goal.eliminate-requires-clause-triangular
 eliminate-requires-clause-triangular c =

@@ -3,16 +3,16 @@ use Rattle.std.proofs.Common.{◌≡◌, ◌∙◌, subst}
 use Rattle.std.specs.Prelude.{IfOk}
 use Rattle.written_method.specs.Definitions.{definitions_of, others_of, rows_of, defined, AreTriangular}
 use Rattle.variable_elimination.specs.Left.{AvoidAll}
-use Rattle.variable_elimination.specs.Lifts.{CarriesDirection}
+use Rattle.variable_elimination.specs.Lifts.{CarriesPlan}
 use Rattle.variable_elimination.specs.Meaning.{KeepSigns}
 use Rattle.variable_elimination.specs.ReducedRows.{AreReductions}
-use Rattle.elimination_tests.specs.BookPrograms.{definers}
-use Rattle.elimination_tests.proofs.BookLaws.{moved, book_triangular, book_signs}
-use Rattle.elimination_tests.proofs.CarriedWords.{direction_answer}
-use Rattle.elimination_tests.proofs.books.carry_direction.Goals as goal
+use Rattle.exact_solver.specs.Definers.{definers}
+use Rattle.exact_solver.proofs.BookLaws.{moved, book_triangular, book_signs}
+use Rattle.exact_solver.proofs.CarriedWords.{plan_answer}
+use Rattle.exact_solver.proofs.books.carry_plan.Goals as goal
 
-pub lift_direction-requires-clause-triangular : goal.lift_direction-requires-clause-triangular
-lift_direction-requires-clause-triangular c =
+pub lift_plan-requires-clause-triangular : goal.lift_plan-requires-clause-triangular
+lift_plan-requires-clause-triangular c =
     let rows = c.args.book.now.rows in
     moved (λ rs ds. AreTriangular (definitions_of rs ds)) c.rows.result.now rows c.deref.result.now (definers rows) c.rows.ensures.rows (c.deref.ensures.value ∙ c.requires.defs) (book_triangular rows c.args.book.now.vars c.rows.ensures.book)
 
@@ -27,11 +27,11 @@ returns c =
     let values = c.args.values.now in
     let same : found ≡ rows = c.rows.ensures.rows in
     let those : defs ≡ program.defs.items = c.deref.ensures.value in
-    let answer = c.lift_direction.result in
+    let answer = c.lift_plan.result in
     let others = defined (definitions_of found defs) in
     let reductions = moved (λ rs ds. AreReductions (rows_of (definitions_of rs ds)) (others_of rs ds) reduced.rows.items reduced.scales.items) found rows defs program.defs.items same those c.requires.reductions in
     let without = moved (λ rs ds. AvoidAll (defined (definitions_of rs ds)) reduced.rows.items) found rows defs program.defs.items same those c.requires.whole.part.without in
     let signs = moved (λ rs ds. KeepSigns (definitions_of rs ds)) found rows defs (definers rows) same (those ∙ c.requires.defs) (book_signs rows vars c.rows.ensures.book) in
-    let carries : IfOk answer (CarriesDirection rows reduced.rows.items values) =
-    subst (λ rs. IfOk answer (CarriesDirection rs reduced.rows.items values)) same (c.lift_direction.ensures.holds reduced.rows.items reduced.scales.items reductions without) in
-    direction_answer rows vars others reduced values answer c.lift_direction.ensures.others (c.lift_direction.ensures.signs signs) carries
+    let carries : IfOk answer (CarriesPlan rows reduced.rows.items values) =
+    subst (λ rs. IfOk answer (CarriesPlan rs reduced.rows.items values)) same (c.lift_plan.ensures.holds reduced.rows.items reduced.scales.items reductions without) in
+    plan_answer rows vars others reduced values answer c.lift_plan.ensures.others (c.lift_plan.ensures.signs signs) carries

@@ -1,8 +1,8 @@
 -- One row after another.
 use Rattle.std.proofs.Common.{◌<◌, List, length, ◌∙◌, subst}
 use Rattle.row_core.specs.declared.Row.{Row}
-use Rattle.elimination_tests.proofs.BookLaws.{definers-next}
-use Rattle.elimination_tests.proofs.books.definers.Goals as goal
+use Rattle.exact_solver.proofs.BookLaws.{definers-next}
+use Rattle.exact_solver.proofs.books.definers.Goals as goal
 
 pub loop-i-preserved : goal.loop-i-preserved
 loop-i-preserved c =

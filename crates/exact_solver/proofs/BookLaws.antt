@@ -34,8 +34,8 @@ use Rattle.variable_elimination.proofs.LeftLaws.{number_at-none}
 use Rattle.variable_elimination.proofs.LiftLaws.{alike}
 use Rattle.variable_elimination.proofs.ReadyLaws.{contains-from_among}
 use Rattle.row_core.proofs.Orders.{var_cmp_exact}
-use Rattle.elimination_tests.specs.BookPrograms.{definer, definers}
-use Rattle.elimination_tests.proofs.PositionLaws.{defined-at, known-at, signs-at, triangular-at}
+use Rattle.exact_solver.specs.Definers.{definer, definers}
+use Rattle.exact_solver.proofs.PositionLaws.{defined-at, known-at, signs-at, triangular-at}
 
 -- ---- rows at positions
 
@@ -150,7 +150,7 @@ module _ (rows : List Row) (vars : List Var) (book : IsBook rows vars) where
       Contains-from_Has (entry_variables rows) v
       (Has-flat_map (λ (r : Row). variables_of r.entries.items) rows row v h (Has-from_Contains (variables_of row.entries.items) v (contains-from_among (variables_of row.entries.items) v k)))
 
-  is_known : (v : Var) → IsChosen v ⊎ IsDefinedIn rows v → (is_among (defined (definitions_of rows (definers rows))) v ≡ true) ⊎ (is_column v ≡ true)
+  pub is_known : (v : Var) → IsChosen v ⊎ IsDefinedIn rows v → (is_among (defined (definitions_of rows (definers rows))) v ≡ true) ⊎ (is_column v ≡ true)
   is_known v (inl c) = inr (chosen-column v c)
   is_known v (inr d) = let p = placed rows d.row (Has-from_Contains rows d.row d.among) in inl (defined-at definer rows p.place d.row v p.at d.defines)
 
