@@ -1,0 +1,3 @@
+mod Examples
+pub mod PriceLaws
+pub mod TextLaws

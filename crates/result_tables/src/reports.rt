@@ -1,0 +1,70 @@
+//! The reports.
+
+ghost use Rattle.std.specs.Prelude.{◌≡◌, ℕ, IfErr, IfOk, None, OnOk, map};
+ghost use Rattle.std.specs.List.{AllByRecursion};
+ghost use Rattle.exact_num.specs.Steps.{first_wide};
+ghost use Rattle.exact_num.specs.Value.{value_of};
+ghost use Rattle.row_core.specs.Kinds.{IsKind};
+ghost use Rattle.row_core.specs.NameTexts.{VariableIsWithin};
+ghost use Rattle.plan_files.specs.Listed.{IsListedRow, IsListedVariable, name_of_row};
+ghost use Rattle.result_tables.specs.Causes.{IsFirstStop};
+ghost use Rattle.result_tables.specs.Prices.{price_steps};
+ghost use Rattle.result_tables.specs.Reports.{infeasible_text, report_text, unbounded_text};
+
+use exact_num::Frac;
+use model_sets::Sets;
+use row_core::{Multipliers, Plan, Row, Stopped, Var};
+use std::alloc::{AllocError, Global};
+
+/// The report of a solved model: the lines `status solved`, `cost` and `bound` (each as a fraction and rounded to six decimal
+/// places), `pivots` and `rounded`, then 13 tables, then `end`. A table is a line `table` with its name, and CSV records: of the first
+/// twelve tables one for each of `vars` of a kind, in order, whose value in the plan isn't 0, with the members of its subscripts and
+/// its value as a fraction and as a decimal; of the last one in the same way for each balance of a fuel, EBa11, whose price isn't 0.
+/// The price is the multiplier of the row times the number that the row has at Production.
+///
+/// `Err(Stopped::Width(Place::Price(name)))` comes exactly where this product forms a number that doesn't fit, at the first such row;
+/// `Err(Stopped::Memory)` where memory runs out.
+pub fn report(
+    alloc: Global,
+    rows: &[Row],
+    vars: &[Var],
+    plan: &Plan,
+    m: &Multipliers,
+    cost: Frac,
+    bound: Frac,
+    pivots: u64,
+    rounded: u64,
+    sets: &Sets,
+) -> Result<Vec<u8>, Stopped>
+    requires rows { AllByRecursion (IsListedRow sets.now) (map name_of_row rows.now) }
+    requires vars { AllByRecursion (IsListedVariable sets.now) vars.now }
+    ensures text { IfOk result (λ text. text.items ≡ report_text sets.now vars.now plan.now rows.now m.now (value_of cost) (value_of bound) pivots rounded) }
+    ensures fits { OnOk result (first_wide (price_steps rows.now m.now) ≡ None) }
+    ensures stopped { IfErr result (IsFirstStop (price_steps rows.now m.now)) }
+{
+    Err(Stopped::Memory)
+}
+
+/// The report of a model that has no plan: the lines `status infeasible`, `pivots`, `rounded` and `end`. Refuses where memory runs
+/// out.
+pub fn infeasible_report(alloc: Global, pivots: u64, rounded: u64) -> Result<Vec<u8>, AllocError>
+    ensures { IfOk result (λ text. text.items ≡ infeasible_text pivots rounded) }
+{
+    Err(AllocError)
+}
+
+/// The report of a model whose cost has no bound: the lines `status unbounded`, `pivots` and `rounded`, the table Direction, and
+/// `end`. The table has a record for each RateOfActivity, NewCapacity and Trade, in order, whose value in the direction isn't 0: its
+/// word, the members of its subscripts, and its value as a fraction and rounded to six decimal places. Refuses where memory runs out.
+pub fn unbounded_report(
+    alloc: Global,
+    direction: &Plan,
+    pivots: u64,
+    rounded: u64,
+    sets: &Sets,
+) -> Result<Vec<u8>, AllocError>
+    requires { AllByRecursion (λ e. IsKind e.0.kind × VariableIsWithin sets.now e.0) direction.now }
+    ensures { IfOk result (λ text. text.items ≡ unbounded_text sets.now direction.now pivots rounded) }
+{
+    Err(AllocError)
+}
