@@ -1,6 +1,8 @@
 //! Shelves and sinks: those in memory fail where they are told to, and those of the system read and write.
 
-use io_edges::{DiskShelf, Failed, MemShelf, MemSink, OpenFault, OutSink, Shelf, Sink};
+use io_edges::{
+    DiskShelf, Failed, MemShelf, MemSink, OpenFault, OutSink, Shelf, Sink, SureShelf, SureSink,
+};
 use std::fs::{File, OpenOptions};
 use std::io::Write;
 use std::process::Abort;
@@ -61,6 +63,43 @@ fn a_sink_in_memory_takes_what_fits(rt: HostRuntime) -> Result<(), Fail> {
     for (piece, taken) in [
         ("ab", Ok(2)),
         ("c", Err(Failed)),
+        ("cd", Ok(1)),
+        ("d", Err(Failed)),
+        ("", Ok(0)),
+    ] {
+        assert_eq!(rt; sink.write(piece.as_bytes()), taken, "writing {piece:?}");
+    }
+    assert_eq!(rt; sink.bytes(), b"abc".as_slice());
+    Ok(())
+}
+
+#[test]
+fn a_sure_shelf_fails_nowhere(rt: HostRuntime) -> Result<(), Fail> {
+    let mut shelf = SureShelf::new(rt.alloc())?;
+    shelf.put("a", b"first")?;
+    shelf.put("b", b"")?;
+    shelf.put("a", b"hello")?;
+    let steps = [
+        Step::Read(2, Ok("")),
+        Step::Begin("a", Ok(())),
+        Step::Read(4, Ok("hell")),
+        Step::Begin("b", Ok(())),
+        Step::Read(4, Ok("")),
+        Step::Begin("a", Ok(())),
+        Step::Read(0, Ok("")),
+        Step::Read(8, Ok("hello")),
+        Step::Begin("c", Err(OpenFault::NoFile)),
+        Step::Read(8, Ok("")),
+    ];
+    run(&rt, &mut shelf, &steps);
+    Ok(())
+}
+
+#[test]
+fn a_sure_sink_fails_without_room_alone(rt: HostRuntime) -> Result<(), Fail> {
+    let mut sink = SureSink::new(rt.alloc(), 3)?;
+    for (piece, taken) in [
+        ("ab", Ok(2)),
         ("cd", Ok(1)),
         ("d", Err(Failed)),
         ("", Ok(0)),

@@ -4,6 +4,7 @@ use Rattle.io_edges.specs.Count.{counted, counted_by, Rose}
 use Rattle.io_edges.specs.Files.{file_named, put_file}
 use Rattle.io_edges.specs.Edges.{Lacks}
 use Rattle.io_edges.specs.Memory.{ShelfState, SinkState, fails_next, begun, begin_failed, read_on, read_failed, written_on, write_failed}
+use Rattle.io_edges.specs.Sure.{SureShelfState, SureSinkState, sure_begun, sure_read, sure_refused, sure_written}
 
 -- a counter goes up by one until it stays
 one_more : counted 0 ≡ 1
@@ -113,3 +114,22 @@ takes_more = refl
 
 fails_to_write : write_failed sink ≡ record { room = 3; written = 1 ∷ []; failing = []; calls = 2; faults = 1 }
 fails_to_write = refl
+
+-- the same without a list of calls that fail
+abbrev sure_shelf : SureShelfState
+sure_shelf = record { files = []; rest = 5 ∷ 6 ∷ 7 ∷ []; begins = 3; taken = 2 }
+
+surely_takes_two : sure_read sure_shelf 2 ≡ record { files = []; rest = 7 ∷ []; begins = 3; taken = 4 }
+surely_takes_two = refl
+
+surely_begins : sure_begun sure_shelf (8 ∷ []) ≡ record { files = []; rest = 8 ∷ []; begins = 4; taken = 0 }
+surely_begins = refl
+
+abbrev sure_sink : SureSinkState
+sure_sink = record { room = 3; written = 1 ∷ []; faults = 0 }
+
+surely_takes_more : sure_written sure_sink (2 ∷ 3 ∷ []) ≡ record { room = 3; written = 1 ∷ 2 ∷ 3 ∷ []; faults = 0 }
+surely_takes_more = refl
+
+has_no_room : sure_refused (sure_written sure_sink (2 ∷ 3 ∷ [])) ≡ record { room = 3; written = 1 ∷ 2 ∷ 3 ∷ []; faults = 1 }
+has_no_room = refl

@@ -5,3 +5,4 @@ pub mod Edges
 pub mod Memory
 pub mod Named
 pub mod Disk
+pub mod Sure
