@@ -23,10 +23,14 @@ use Rattle.row_book.proofs.Lists.{AllByRecursion-filter, AllByRecursion-map, All
 use Rattle.exact_solver.specs.Definers.{definer}
 use Rattle.exact_solver.specs.MethodEnds.{IsWide, method_end}
 use Rattle.exact_solver.specs.Solutions.{AreNamedIn}
+use Rattle.exact_solver.specs.declared.solutions.Solution.{Solution}
+use Rattle.exact_solver.specs.declared.solutions.Solution.TheVariants as found
 use Rattle.exact_solver.proofs.BookLaws.{placed}
+use Rattle.command_words.specs.declared.any_command.SolveShow.{SolveShow}
 use Rattle.result_tables.specs.Prices.{balances, is_balance, price_step, price_steps}
 use Rattle.osemosys_run.specs.CheckedPlans.{IsListedBook}
 use Rattle.osemosys_run.specs.PlacesWithin.{IsRowOfSets, IsVariableOfSets, PlaceIsWithin}
+use Rattle.osemosys_run.specs.SolveOutcomes.{HasPriceWideAt}
 use Rattle.osemosys_run.proofs.EndPlaces.{EndIsWithin, end-within}
 use Rattle.osemosys_run.proofs.ListedBooks.{rows-named, vars-named}
 use Rattle.osemosys_run.proofs.MethodPlaces.{DefinesWithin}
@@ -71,6 +75,12 @@ module _ (sets : SetLists) (rows : List Row) (vars : List Var) (listed : IsListe
 
   pub price-within : (multipliers : List (RowName × Rational)) (place : Place) → first_wide (price_steps rows multipliers) ≡ Some place → PlaceIsWithin sets place
   price-within multipliers place wide = wide-within sets (price_steps rows multipliers) place (prices-within multipliers) wide
+
+  -- and that at which a solution isn't shown
+  pub shown-within : (show : SolveShow) (solution : Solution) (place : Place) → HasPriceWideAt show rows solution place → PlaceIsWithin sets place
+  shown-within show (found.Optimal plan multipliers cost bound made) place wide = price-within multipliers place wide.1
+  shown-within show (found.Infeasible multipliers made) place wide = absurd wide
+  shown-within show (found.Unbounded plan direction made) place wide = absurd wide
 
   -- ---- what a solution has
 
