@@ -1,27 +1,24 @@
 -- The definitions, computed on small models, and on near misses.
-use Rattle.std.proofs.Common.{◌≡◌, ◌^◌, ◌-◌, ℤ, pos, negsuc, true, false, List, [], ◌∷◌, Some, None, refl}
+use Rattle.std.proofs.Common.{◌≡◌, ◌^◌, ◌-◌, pos, negsuc, true, false, List, [], ◌∷◌, refl}
 use Rattle.std.specs.Prelude.{codes}
 use Rattle.std.specs.Fmt.{digits}
 use Rattle.csv.specs.Writing.{escaped, fields_text, is_blank}
 use Rattle.exact_num.specs.Formed.{product_formed}
 use Rattle.exact_num.specs.Gcd.{gcd_of, gcd_within}
 use Rattle.exact_num.specs.Range.{all_fit, in_range}
-use Rattle.exact_num.specs.Rational.{Rational, lowest, pair, times, whole}
-use Rattle.exact_num.specs.Steps.{first_wide}
+use Rattle.exact_num.specs.Rational.{lowest, pair, times, whole}
 use Rattle.model_sets.specs.Members.{SetLists}
 use Rattle.row_core.specs.declared.Index.{Index}
-use Rattle.row_core.specs.declared.Row.{Row}
 use Rattle.row_core.specs.declared.RowName.{RowName}
 use Rattle.row_core.specs.declared.Var.{Var}
 use Rattle.row_core.specs.declared.equation_numbers.TheConstants.{EBA11}
 use Rattle.row_core.specs.declared.kind_numbers.TheConstants.{DEMAND, NEW_CAPACITY, PRODUCTION, RATE_OF_ACTIVITY, TOTAL_DISCOUNTED_COST}
-use Rattle.row_core.specs.declared.place.Place.TheVariants.{Price}
 use Rattle.scaled_decimals.specs.PrintedFraction.{fraction_text}
 use Rattle.scaled_decimals.specs.PrintedPlaces.{millionths, millionths_text}
-use Rattle.result_tables.specs.Lines.{amount_line, count_line}
+use Rattle.result_tables.specs.Lines.{amount_line}
 use Rattle.result_tables.specs.Prices.{priced, production_of}
 use Rattle.result_tables.specs.Reports.{infeasible_text, report_text, unbounded_text}
-use Rattle.result_tables.specs.Tables.{direction_table, kind_table, members_of, price_record, table_text}
+use Rattle.result_tables.specs.Tables.{kind_table, table_text}
 use Rattle.row_core.specs.Rows.{number_at}
 
 -- ---- a model with one member in each set, the technology's with a comma
@@ -85,6 +82,14 @@ quoted = refl
 none_given : table_text (kind_table sets vars ((second, pair (negsuc 0) (pos 3)) ∷ []) NEW_CAPACITY) ≡ codes "table NewCapacity\nR,U,2020,-1/3,-0.333333\n"
 unfolding fields_text is_blank fraction_text millionths millionths_text digits
 none_given = refl
+
+-- ---- reports
+
+-- the cost before the bound, all tables in their order, and a kind without a table, which isn't shown
+whole_report : report_text sets (activity ∷ vars) ((activity, whole (pos 4)) ∷ (second, whole (pos 10)) ∷ (cost, whole (pos 80)) ∷ []) [] [] (whole (pos 80)) (whole (pos 79)) 3 1
+    ≡ codes "status solved\ncost 80 80.000000\nbound 79 79.000000\npivots 3\nrounded 1\ntable NewCapacity\nR,U,2020,10,10.000000\ntable TotalCapacityAnnual\ntable TotalTechnologyAnnualActivity\ntable ProductionByTechnologyAnnual\ntable UseByTechnologyAnnual\ntable TradeAnnual\ntable AnnualEmissions\ntable DiscountedCapitalInvestment\ntable DiscountedOperatingCost\ntable DiscountedTechnologyEmissionsPenalty\ntable DiscountedSalvageValue\ntable TotalDiscountedCost\nR,2020,80,80.000000\ntable FuelPrice\nend\n"
+unfolding escaped fields_text is_blank fraction_text millionths millionths_text digits
+whole_report = refl
 
 -- ---- directions
 

@@ -1,3 +1,4 @@
 mod Examples
+pub mod FoundLaws
 pub mod PriceLaws
 pub mod TextLaws

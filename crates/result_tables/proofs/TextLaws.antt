@@ -1,5 +1,6 @@
 -- What is written of a list is what is written of its elements, one after another.
-use Rattle.std.proofs.Common.{◌≡◌, ℕ, ◌+◌, ◌<◌, Bool, List, [], ◌∷◌, ◌++◌, length, map, filter, drop, get_or, sym, ap, ◌∙◌, append_assoc}
+use Rattle.std.proofs.Common.{◌≡◌, ℕ, zero, suc, ◌+◌, ◌<◌, Bool, List, [], ◌∷◌, ◌++◌, length, map, filter, drop, get_or, sym, ap, ◌∙◌, append_assoc, arith}
+use Rattle.std.specs.List.{AllByRecursion}
 use Rattle.std.proofs.lemmas.Grind.{flat_map-append}
 use Rattle.std.proofs.lemmas.List.{drop_more, map-append}
 use Rattle.std.proofs.lemmas.List.Elements.{filter-append}
@@ -12,6 +13,12 @@ use Rattle.result_tables.specs.Tables.{nonzero}
 -- the text of two lists, where it is one after the other
 abbrev pub IsJoined : {A : Type 0} → (List A → List ℕ) → Type 0
 IsJoined {A} text = (xs ys : List A) → text (xs ++ ys) ≡ text xs ++ text ys
+
+-- what holds of all that a function gives holds of what it gives at a place
+pub mapped_at : {A B : Type 0} (P : B → Type 0) (f : A → B) (xs : List A) (i : ℕ) (d : A) → AllByRecursion P (map f xs) → i < length xs → P (f (get_or xs i d))
+mapped_at P f [] i d all h = absurd (omega arith)
+mapped_at P f (x ∷ xs) zero d all h = all.0
+mapped_at P f (x ∷ xs) (suc i) d all h = mapped_at P f xs i d all.1 (omega arith)
 
 -- one element more
 pub text_next : {A : Type 0} (text : List A → List ℕ) → IsJoined text → (xs : List A) (i : ℕ) (d : A) (out all : List ℕ) → i < length xs → out ++ text (drop i xs) ≡ all

@@ -1,5 +1,5 @@
 -- Prices of fuels. The balance of a fuel is the row EBa11[r,l,f,y]. Its multiplier times the number that the row has at Production[r,l,f,y] is the price: what one unit more of demand adds to the bound, by linear programming duality.
-use Rattle.std.specs.Prelude.{ℤ, pos, Bool, List, [], ◌∷◌, map, filter, ◌==◌, if◌then◌else◌}
+use Rattle.std.specs.Prelude.{ℤ, Bool, List, [], ◌∷◌, map, filter, ◌==◌, if◌then◌else◌}
 use Rattle.std.specs.Ordering.{is_eq}
 use Rattle.exact_num.specs.Formed.{product_formed}
 use Rattle.exact_num.specs.Rational.{Rational, times, whole}

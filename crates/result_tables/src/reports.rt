@@ -1,6 +1,6 @@
 //! The reports.
 
-ghost use Rattle.std.specs.Prelude.{◌≡◌, ℕ, IfErr, IfOk, None, OnOk, map};
+ghost use Rattle.std.specs.Prelude.{◌≡◌, ◌++◌, IfErr, IfOk, None, OnOk, map};
 ghost use Rattle.std.specs.List.{AllByRecursion};
 ghost use Rattle.exact_num.specs.Steps.{first_wide};
 ghost use Rattle.exact_num.specs.Value.{value_of};
@@ -9,8 +9,12 @@ ghost use Rattle.row_core.specs.NameTexts.{VariableIsWithin};
 ghost use Rattle.plan_files.specs.Listed.{IsListedRow, IsListedVariable, name_of_row};
 ghost use Rattle.result_tables.specs.Causes.{IsFirstStop};
 ghost use Rattle.result_tables.specs.Prices.{price_steps};
-ghost use Rattle.result_tables.specs.Reports.{infeasible_text, report_text, unbounded_text};
+ghost use Rattle.result_tables.specs.Reports.{end_line, infeasible_text, report_text, summary_text, unbounded_text};
 
+use crate::directions::push_direction_table;
+use crate::lines::{push_amount, push_counts};
+use crate::prices::push_price_table;
+use crate::quantities::push_kind_tables;
 use exact_num::Frac;
 use model_sets::Sets;
 use row_core::{Multipliers, Plan, Row, Stopped, Var};
@@ -42,7 +46,12 @@ pub fn report(
     ensures fits { OnOk result (first_wide (price_steps rows.now m.now) ≡ None) }
     ensures stopped { IfErr result (IsFirstStop (price_steps rows.now m.now)) }
 {
-    Err(Stopped::Memory)
+    let mut out = Vec::new(alloc);
+    push_summary(&mut out, cost, bound, pivots, rounded)?;
+    push_kind_tables(alloc, &mut out, sets, vars, plan)?;
+    push_price_table(alloc, &mut out, sets, rows, m)?;
+    push_end(&mut out)?;
+    Ok(out)
 }
 
 /// The report of a model that has no plan: the lines `status infeasible`, `pivots`, `rounded` and `end`. Refuses where memory runs
@@ -50,7 +59,10 @@ pub fn report(
 pub fn infeasible_report(alloc: Global, pivots: u64, rounded: u64) -> Result<Vec<u8>, AllocError>
     ensures { IfOk result (λ text. text.items ≡ infeasible_text pivots rounded) }
 {
-    Err(AllocError)
+    let mut out = Vec::from_slice(alloc, b"status infeasible\n")?;
+    push_counts(&mut out, pivots, rounded)?;
+    push_end(&mut out)?;
+    Ok(out)
 }
 
 /// The report of a model whose cost has no bound: the lines `status unbounded`, `pivots` and `rounded`, the table Direction, and
@@ -66,5 +78,32 @@ pub fn unbounded_report(
     requires { AllByRecursion (λ e. IsKind e.0.kind × VariableIsWithin sets.now e.0) direction.now }
     ensures { IfOk result (λ text. text.items ≡ unbounded_text sets.now direction.now pivots rounded) }
 {
-    Err(AllocError)
+    let mut out = Vec::from_slice(alloc, b"status unbounded\n")?;
+    push_counts(&mut out, pivots, rounded)?;
+    push_direction_table(alloc, &mut out, sets, direction)?;
+    push_end(&mut out)?;
+    Ok(out)
+}
+
+// Appends the first lines of the report of a solved model.
+fn push_summary(
+    out: &mut Vec<u8>,
+    cost: Frac,
+    bound: Frac,
+    pivots: u64,
+    rounded: u64,
+) -> Result<(), AllocError>
+    ensures { OnOk result (out.new.items ≡ out.old.items ++ summary_text (value_of cost) (value_of bound) pivots rounded) }
+{
+    out.extend_from_slice(b"status solved\n")?;
+    push_amount(out, b"cost", cost)?;
+    push_amount(out, b"bound", bound)?;
+    push_counts(out, pivots, rounded)
+}
+
+// Appends the last line.
+fn push_end(out: &mut Vec<u8>) -> Result<(), AllocError>
+    ensures { OnOk result (out.new.items ≡ out.old.items ++ end_line) }
+{
+    out.extend_from_slice(b"end\n")
 }
