@@ -1,5 +1,5 @@
 //! Tests of the base crates, on which no crate stands: fractions, numbers as text, discount factors, files and output,
-//! sets, rows and their MPS text.
+//! sets, rows and their MPS text, made data files.
 #![tactic(auto)]
 
 #[cfg(test)]
@@ -8,6 +8,8 @@ mod edges;
 mod factors;
 #[cfg(test)]
 mod fractions;
+#[cfg(test)]
+mod made_files;
 #[cfg(test)]
 mod members;
 #[cfg(test)]

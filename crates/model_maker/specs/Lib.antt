@@ -1,0 +1,3 @@
+pub mod MadeModel
+pub mod MadeText
+pub mod Tables
