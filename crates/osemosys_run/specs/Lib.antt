@@ -12,6 +12,7 @@ pub mod Lines
 pub mod Mps
 pub mod NotAccepted
 pub mod PlacesWithin
+pub mod Promises
 pub mod ReadEnds
 pub mod ReadToEnd
 pub mod Reading

@@ -15,6 +15,7 @@ mod lines;
 mod mps;
 mod one_file;
 mod places;
+mod promises;
 mod reading;
 mod refusal_lines;
 mod run;
