@@ -13,8 +13,6 @@ use Rattle.row_core.specs.Order.{row_name_cmp, var_cmp}
 use Rattle.row_core.specs.Plans.{value_in}
 use Rattle.row_book.specs.Books.{HasNameWithin, IsWithinSets}
 use Rattle.row_book.proofs.Lists.{AllByRecursion-filter, AllByRecursion-map, AllByRecursion-weaker}
-use Rattle.certificate_checker.specs.declared.multipliers.Aim.TheVariants as aims
-use Rattle.certificate_checker.specs.declared.values.Subject.TheVariants as subjects
 use Rattle.certificate_checker.specs.Conditions.{steps}
 use Rattle.certificate_checker.specs.Costs.{model_cost, no_cost}
 use Rattle.certificate_checker.specs.Gaps.{gap_condition}
@@ -31,7 +29,7 @@ use Rattle.exact_solver.specs.MethodEnds.{HasNoBound, HasNoPlan, HasOptimum, IsP
 use Rattle.exact_solver.specs.Programs.{carried_direction, carried_multipliers, carried_plan, carrying_steps, definitions_in, direction_steps, name_left, plan_steps, program_left, rows_left, scale_left}
 use Rattle.osemosys_run.specs.PlacesWithin.{IsRowOfSets, IsVariableOfSets, PlaceIsWithin}
 use Rattle.osemosys_run.proofs.MethodPlaces.{DefinesWithin, IsDefinitionWithin, IsNamedWithin, OutcomeIsWithin, definitions-within, elimination-within, others-within, solved-within}
-use Rattle.osemosys_run.proofs.StepNames.{AreFormedWithin, AreStepsWithin, both-within, multipliers-formed, steps-within, values-formed, wide-within}
+use Rattle.osemosys_run.proofs.StepNames.{AreStepsWithin, both-within, bound-formed, direction-formed, plan-formed, refutation-formed, steps-within, wide-within}
 
 module _ (sets : SetLists) where
   -- ---- carrying back
@@ -87,19 +85,19 @@ module _ (sets : SetLists) where
     -- ---- the checks
 
     plan-checked : (plan : List (Var × Rational)) → AreStepsWithin sets (steps (plan_conditions model_cost rows vars plan))
-    plan-checked plan = steps-within sets (plan_conditions model_cost rows vars plan) (values-formed sets rows vars named listed subjects.Plan model_cost (value_in var_cmp plan))
+    plan-checked plan = steps-within sets (plan_conditions model_cost rows vars plan) (plan-formed sets rows vars named listed model_cost plan)
 
     direction-checked : (direction : List (Var × Rational)) → AreStepsWithin sets (steps (direction_conditions model_cost rows vars direction))
     direction-checked direction =
-        steps-within sets (direction_conditions model_cost rows vars direction) (values-formed sets rows vars named listed subjects.Direction model_cost (value_in var_cmp direction))
+        steps-within sets (direction_conditions model_cost rows vars direction) (direction-formed sets rows vars named listed model_cost direction)
 
     bound-checked : (multipliers : List (RowName × Rational)) → AreStepsWithin sets (steps (bound_conditions model_cost rows vars multipliers))
     bound-checked multipliers =
-        steps-within sets (bound_conditions model_cost rows vars multipliers) (multipliers-formed sets rows vars named listed aims.Bound model_cost (value_in row_name_cmp multipliers))
+        steps-within sets (bound_conditions model_cost rows vars multipliers) (bound-formed sets rows vars named listed model_cost multipliers)
 
     refutation-checked : (multipliers : List (RowName × Rational)) → AreStepsWithin sets (refutation_checks rows vars multipliers)
     refutation-checked multipliers =
-        steps-within sets (infeasible_conditions rows vars multipliers) (multipliers-formed sets rows vars named listed aims.Infeasible no_cost (value_in row_name_cmp multipliers))
+        steps-within sets (infeasible_conditions rows vars multipliers) (refutation-formed sets rows vars named listed multipliers)
 
     gap-checked : (cost bound : Rational) → AreStepsWithin sets (steps (gap_condition cost bound 0 ∷ []))
     gap-checked cost bound = steps-within sets (gap_condition cost bound 0 ∷ []) (((tt, tt), tt), tt)

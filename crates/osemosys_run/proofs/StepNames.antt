@@ -1,5 +1,5 @@
 -- The places of the steps that the checks take are those of rows and variables of the sets, so their names can be written.
-use Rattle.std.proofs.Common.{◌≡◌, Bool, true, false, if◌then◌else◌, List, [], ◌∷◌, ◌++◌, Option, Some, ℤ, subst}
+use Rattle.std.proofs.Common.{◌≡◌, Bool, true, false, if◌then◌else◌, List, [], ◌∷◌, ◌++◌, map, Option, Some, ℤ, subst}
 use Rattle.std.proofs.lemmas.Option.{same_Some}
 use Rattle.std.specs.List.{AllByRecursion}
 use Rattle.exact_num.specs.Range.{all_fit}
@@ -13,10 +13,8 @@ use Rattle.row_core.specs.declared.place.Place.{Place}
 use Rattle.row_book.specs.Books.{HasNameWithin, IsWithinSets}
 use Rattle.row_book.proofs.Lists.{AllByRecursion-append, AllByRecursion-map, AllByRecursion-weaker}
 use Rattle.certificate_checker.specs.Conditions.{Condition, steps}
-use Rattle.certificate_checker.specs.declared.multipliers.Aim.{Aim}
-use Rattle.certificate_checker.specs.declared.values.Subject.{Subject}
-use Rattle.certificate_checker.specs.MultiplierChecks.{column_condition, multiplier_condition, multiplier_conditions}
-use Rattle.certificate_checker.specs.PlanChecks.{row_condition, sign_condition, value_conditions}
+use Rattle.certificate_checker.specs.MultiplierChecks.{bound_conditions, infeasible_conditions}
+use Rattle.certificate_checker.specs.PlanChecks.{direction_conditions, plan_conditions}
 use Rattle.osemosys_run.specs.PlacesWithin.{PlaceIsWithin}
 
 module _ (sets : SetLists) where
@@ -52,24 +50,23 @@ module _ (sets : SetLists) where
       cases later false = within.0.1
 
   module _ (rows : List Row) (vars : List Var) (named : AllByRecursion (HasNameWithin sets) rows) (listed : AllByRecursion (IsWithinSets sets) vars) where
-    -- of values, a plan's or a direction's
-    pub values-formed : (subject : Subject) (cost : Var → ℤ) (value : Var → Rational) → AllByRecursion AreFormedWithin (value_conditions subject cost rows vars value)
-    values-formed subject cost value =
-        AllByRecursion-append AreFormedWithin _ _
-        (AllByRecursion-map AreFormedWithin (row_condition subject value) rows
-        (AllByRecursion-weaker (HasNameWithin sets) (λ row. AreFormedWithin (row_condition subject value row)) (λ row of. ((of, tt), tt)) rows named))
-        (AllByRecursion-append AreFormedWithin _ _
-        (AllByRecursion-map AreFormedWithin (sign_condition value) vars
-        (AllByRecursion-weaker (IsWithinSets sets) (λ v. AreFormedWithin (sign_condition value v)) (λ v of. (tt, tt)) vars listed))
-        (((tt, tt), tt), tt))
+    -- of the rows, then of the variables, and of a last one
+    three-formed : (f : Row → Condition) (g : Var → Condition) (last : Condition) → ((row : Row) → HasNameWithin sets row → AreFormedWithin (f row)) → ((v : Var) → IsWithinSets sets v → AreFormedWithin (g v))
+        → AreFormedWithin last → AllByRecursion AreFormedWithin (map f rows ++ (map g vars ++ last ∷ []))
+    three-formed f g last of_row of_var of_last =
+        AllByRecursion-append AreFormedWithin (map f rows) (map g vars ++ last ∷ [])
+        (AllByRecursion-map AreFormedWithin f rows (AllByRecursion-weaker (HasNameWithin sets) (λ row. AreFormedWithin (f row)) of_row rows named))
+        (AllByRecursion-append AreFormedWithin (map g vars) (last ∷ [])
+        (AllByRecursion-map AreFormedWithin g vars (AllByRecursion-weaker (IsWithinSets sets) (λ v. AreFormedWithin (g v)) of_var vars listed)) (of_last, tt))
 
-    -- of multipliers
-    pub multipliers-formed : (aim : Aim) (cost : Var → ℤ) (value : RowName → Rational) → AllByRecursion AreFormedWithin (multiplier_conditions aim cost rows vars value)
-    multipliers-formed aim cost value =
-        AllByRecursion-append AreFormedWithin _ _
-        (AllByRecursion-map AreFormedWithin (multiplier_condition value) rows
-        (AllByRecursion-weaker (HasNameWithin sets) (λ row. AreFormedWithin (multiplier_condition value row)) (λ row of. (tt, tt)) rows named))
-        (AllByRecursion-append AreFormedWithin _ _
-        (AllByRecursion-map AreFormedWithin (column_condition cost rows value) vars
-        (AllByRecursion-weaker (IsWithinSets sets) (λ v. AreFormedWithin (column_condition cost rows value v)) (λ v of. ((of, tt), (of, tt))) vars listed))
-        (((tt, tt), tt), tt))
+    pub plan-formed : (cost : Var → ℤ) (plan : List (Var × Rational)) → AllByRecursion AreFormedWithin (plan_conditions cost rows vars plan)
+    plan-formed cost plan = three-formed _ _ _ (λ row of. ((of, tt), tt)) (λ v of. (tt, tt)) ((tt, tt), tt)
+
+    pub direction-formed : (cost : Var → ℤ) (direction : List (Var × Rational)) → AllByRecursion AreFormedWithin (direction_conditions cost rows vars direction)
+    direction-formed cost direction = three-formed _ _ _ (λ row of. ((of, tt), tt)) (λ v of. (tt, tt)) ((tt, tt), tt)
+
+    pub bound-formed : (cost : Var → ℤ) (multipliers : List (RowName × Rational)) → AllByRecursion AreFormedWithin (bound_conditions cost rows vars multipliers)
+    bound-formed cost multipliers = three-formed _ _ _ (λ row of. (tt, tt)) (λ v of. ((of, tt), (of, tt))) ((tt, tt), tt)
+
+    pub refutation-formed : (multipliers : List (RowName × Rational)) → AllByRecursion AreFormedWithin (infeasible_conditions rows vars multipliers)
+    refutation-formed multipliers = three-formed _ _ _ (λ row of. (tt, tt)) (λ v of. ((of, tt), (of, tt))) ((tt, tt), tt)
