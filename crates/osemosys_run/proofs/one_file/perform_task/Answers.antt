@@ -2,7 +2,7 @@ use Rattle.std.proofs.Common.{inl, inr, refl, rules}
 use Rattle.std.proofs.lemmas.Result.{IfOk-weaker}
 use Rattle.osemosys_run.specs.Reading.{BeganOne, Sight}
 use Rattle.osemosys_run.proofs.EndsOfFiles.{stops_at_file}
-use Rattle.osemosys_run.proofs.run.perform_mps.Goals as goal
+use Rattle.osemosys_run.proofs.one_file.perform_task.Goals as goal
 
 pub returns-in-Ok-clause-caused : goal.returns-in-Ok-clause-caused
 returns-in-Ok-clause-caused g c =
