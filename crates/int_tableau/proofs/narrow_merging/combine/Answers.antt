@@ -1,16 +1,16 @@
 -- One column after another.
-use Rattle.std.proofs.Common.{◌≡◌, ℕ, ◌+◌, ◌<◌, ◌≤◌, ◌^◌, ℤ, pos, true, List, length, get_or, drop, refl, sym, ap, ap₂, ◌∙◌, subst, arith, to_z, of_z}
+use Rattle.std.proofs.Common.{◌≡◌, ℕ, ◌<◌, ◌≤◌, ◌^◌, ℤ, pos, true, List, get_or, drop, refl, sym, ap₂, ◌∙◌, subst, arith, to_z, of_z}
 use Rattle.std.specs.Int.{w64, w128}
 use Rattle.std.specs.Prelude.{unsigned_abs}
 use Rattle.exact_num.specs.Range.{InRange, all_fit}
 use Rattle.exact_num.proofs.RangeLaws.{back_in_range}
 use Rattle.written_method.specs.Lines.{less, less_formed}
-use Rattle.int_tableau.specs.Entries.{at, IsSparse, head_column}
+use Rattle.int_tableau.specs.Entries.{at, head_column}
 use Rattle.int_tableau.specs.Narrow.{AreNarrow}
 use Rattle.int_tableau.specs.Pushes.{IsPushed}
 use Rattle.int_tableau.proofs.DivisionLaws.{no_entry}
 use Rattle.int_tableau.proofs.EntryLaws.{head_column-below}
-use Rattle.int_tableau.proofs.HeadLaws.{IsMerging, IsMerging-none, IsMerging-both, IsMerging-left, IsMerging-right, IsMerging-sparse, IsMerging-value, IsMerging-fits, head_there}
+use Rattle.int_tableau.proofs.HeadLaws.{IsMerging-both, IsMerging-left, IsMerging-right, IsMerging-sparse, IsMerging-value, IsMerging-fits, head_there}
 use Rattle.int_tableau.proofs.NarrowLaws.{AreNarrow-at, back_narrow}
 use Rattle.int_tableau.proofs.narrow_merging.combine.Goals.{then-first-columns, else-first-columns+then-second-columns}
 use Rattle.int_tableau.proofs.narrow_merging.combine.Goals as goal
