@@ -1,5 +1,5 @@
 -- A quotient whose product with the divisor is the number.
-use Rattle.std.proofs.Common.{◌≡◌, ◌<◌, ◌*◌, ℕ, ℤ, pos, sym, ap, ap₂, ◌∙◌, subst, arith, ◌*ℤ◌}
+use Rattle.std.proofs.Common.{◌≡◌, ℤ, pos, sym, ap, ap₂, ◌∙◌, subst, arith, ◌*ℤ◌}
 use Rattle.std.specs.Int.{◌∣◌}
 use Rattle.std.specs.Prelude.{unsigned_abs, int_div, ◌<ℤ◌, ◌≤ℤ◌}
 use Rattle.std.proofs.Math.Nat.{dvd-mul_left}

@@ -10,3 +10,4 @@ pub mod StartLaws
 pub mod LoopLaws
 pub mod NarrowLaws
 pub mod GuessLaws
+pub mod HeadLaws

@@ -1,7 +1,7 @@
 -- Entries of 64 bits: what is read of them, and copies of them.
-use Rattle.std.proofs.Common.{◌≡◌, ◌<◌, ◌≤◌, ◌^◌, ◌+◌, ℕ, zero, suc, ℤ, pos, neg_ℤ, Bool, true, false, List, [], ◌∷◌, ◌++◌, length, get_or, take, drop, sym, ap, ◌∙◌, subst, arith, append-nil, to_z, of_z, lit<}
+use Rattle.std.proofs.Common.{◌≡◌, ◌<◌, ◌≤◌, ◌^◌, ◌+◌, ℕ, zero, suc, ℤ, Bool, true, false, List, [], ◌∷◌, ◌++◌, length, get_or, take, drop, sym, ap, ◌∙◌, subst, arith, append-nil, to_z, of_z, lit<}
 use Rattle.std.specs.Int.{w64, w128}
-use Rattle.std.specs.Prelude.{unsigned_abs, int_div, ◌==◌}
+use Rattle.std.specs.Prelude.{unsigned_abs, ◌==◌}
 use Rattle.std.proofs.lemmas.Int.{ints, to_z-of_z}
 use Rattle.std.proofs.lemmas.List.{append_assoc, at_drop_all, drop_more}
 use Rattle.exact_num.specs.Range.{InRange}

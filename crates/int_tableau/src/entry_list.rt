@@ -167,9 +167,9 @@ impl EntryList {
         ensures fits { OnOk result ((c : ℕ) → all_fit (less_formed a b (at self.now c) (at other.now c)) ≡ true) }
     {
         match (&self.kept, &other.kept) {
-            (Kept::Narrow(line), Kept::Narrow(other)) if is_narrow(a) && is_narrow(b) => combine(
-                out, a, b, line, other, columns,
-            ),
+            (Kept::Narrow(line), Kept::Narrow(other)) if is_narrow(a) && is_narrow(b) => {
+                combine(out, a as i64, b as i64, line, other, columns)
+            }
             _ => Err(Refused::TooWide),
         }
     }

@@ -10,9 +10,10 @@ ghost use Rattle.int_tableau.specs.LineView.{line_seen, IsFine};
 ghost use Rattle.int_tableau.specs.NextEntries.{IsNextEntry};
 
 use crate::entry_list::EntryList;
-use crate::merging::combine;
+use crate::merging::{combine, difference};
+use crate::narrow::is_narrow;
 use crate::narrow_division;
-use crate::numbers::{divide, factor, opposite};
+use crate::numbers::{divide, factors, opposite};
 use crate::refused::Refused;
 use crate::room::Room;
 use row_core::less;
@@ -155,10 +156,11 @@ impl SparseLine {
         let Ok(()) = combined else {
             return Ok(false);
         };
-        let Ok(right) = less(a, b, self.right, other.right) else {
+        let narrow = is_narrow(a) && is_narrow(b);
+        let Ok(right) = difference(narrow, a, b, self.right, other.right) else {
             return Ok(false);
         };
-        let Ok(own) = less(a, b, self.own, other.own) else {
+        let Ok(own) = difference(narrow, a, b, self.own, other.own) else {
             return Ok(false);
         };
         let Some((right, own)) = narrow_division::divide(&mut room.narrow, right, own) else {
@@ -238,10 +240,11 @@ impl SparseLine {
         ensures fits { OnOk result (all_fit (cleared_formed column pivot.now self.old) ≡ true) }
         ensures stopped { IfErr result (IsRefusal (all_fit (cleared_formed column pivot.now self.old))) }
     {
-        let p = pivot.entry(column);
         let q = self.entry(column);
         if q != 0 {
-            self.subtract(room, factor(p, q), factor(q, p), pivot)?;
+            let p = pivot.entry(column);
+            let (a, b) = factors(p, q);
+            self.subtract(room, a, b, pivot)?;
         }
         Ok(())
     }

@@ -29,7 +29,7 @@ pub(crate) fn narrow_less(a: i128, b: i128, x: i128, y: i128) -> i128
 
 /// `a * x - b * y`, or `TooWide` where a number that this forms leaves 128 bits. `narrow` says that `a` and `b` are below 2^63, which
 /// needn't be asked for each entry.
-fn difference(narrow: bool, a: i128, b: i128, x: i128, y: i128) -> Result<i128, TooWide>
+pub(crate) fn difference(narrow: bool, a: i128, b: i128, x: i128, y: i128) -> Result<i128, TooWide>
     requires narrow { IsTrue narrow → (unsigned_abs a < 2 ^ 63) × (unsigned_abs b < 2 ^ 63) }
     requires a { InRange a }
     requires b { InRange b }
@@ -47,7 +47,7 @@ fn difference(narrow: bool, a: i128, b: i128, x: i128, y: i128) -> Result<i128, 
 }
 
 /// The column of the entry at this position, or `columns` after the last.
-fn column_at<N: Copy>(entries: &[(usize, N)], position: usize, columns: usize) -> usize
+pub(crate) fn column_at<N: Copy>(entries: &[(usize, N)], position: usize, columns: usize) -> usize
     ensures { result ≡ head_column columns (drop position entries.now) }
 {
     if position < entries.len() {
@@ -58,11 +58,7 @@ fn column_at<N: Copy>(entries: &[(usize, N)], position: usize, columns: usize) -
 }
 
 /// The position after that entry.
-pub(crate) fn position_after<N: Copy>(
-    entries: &[(usize, N)],
-    position: usize,
-    column: usize,
-) -> usize
+fn position_after(entries: &[(usize, i128)], position: usize, column: usize) -> usize
     ensures { drop result entries.now ≡ taken_rest column (drop position entries.now) }
 {
     if position < entries.len() && entries[position].0 == column {
@@ -73,10 +69,10 @@ pub(crate) fn position_after<N: Copy>(
 }
 
 /// The next column in which one of the two lists has an entry, or `columns`.
-pub(crate) fn next_column<N: Copy>(
-    line: &[(usize, N)],
+fn next_column(
+    line: &[(usize, i128)],
     left: usize,
-    other: &[(usize, N)],
+    other: &[(usize, i128)],
     right: usize,
     columns: usize,
 ) -> usize

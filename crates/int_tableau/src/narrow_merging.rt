@@ -7,9 +7,22 @@ ghost use Rattle.int_tableau.specs.Entries.{at, IsSparse};
 ghost use Rattle.int_tableau.specs.Narrow.{AreNarrow};
 ghost use Rattle.int_tableau.specs.Pushes.{IsPushed};
 
-use crate::merging::{narrow_less, next_column, position_after};
-use crate::narrow::{is_narrow, number_at};
+use crate::merging::{column_at, narrow_less};
+use crate::narrow::is_narrow;
 use crate::refused::Refused;
+
+/// `a * x - b * y`.
+fn difference(a: i64, b: i64, x: i64, y: i64) -> i128
+    requires a { unsigned_abs a < 2 ^ 63 }
+    requires b { unsigned_abs b < 2 ^ 63 }
+    requires x { unsigned_abs x < 2 ^ 63 }
+    requires y { unsigned_abs y < 2 ^ 63 }
+    ensures value { result ≡ less a b x y }
+    ensures fits { all_fit (less_formed a b x y) ≡ true }
+    ensures range { InRange result }
+{
+    narrow_less(a as i128, b as i128, x as i128, y as i128)
+}
 
 /// Appends an entry, unless its number is 0. `TooWide` where it has more than 64 bits.
 fn push_unless_zero(out: &mut Vec<(usize, i64)>, column: usize, number: i128) -> Result<(), Refused>
@@ -31,8 +44,8 @@ fn push_unless_zero(out: &mut Vec<(usize, i64)>, column: usize, number: i128) ->
 /// comes out has more than 64 bits.
 pub(crate) fn combine(
     out: &mut Vec<(usize, i64)>,
-    a: i128,
-    b: i128,
+    a: i64,
+    b: i64,
     line: &[(usize, i64)],
     other: &[(usize, i64)],
     columns: usize,
@@ -51,14 +64,24 @@ pub(crate) fn combine(
     out.clear();
     let mut left = 0;
     let mut right = 0;
-    let mut column = next_column(line, 0, other, 0, columns);
-    while column < columns {
-        let entry = number_at(line, left, column) as i128;
-        let number = number_at(other, right, column) as i128;
-        left = position_after(line, left, column);
-        right = position_after(other, right, column);
-        push_unless_zero(out, column, narrow_less(a, b, entry, number))?;
-        column = next_column(line, left, other, right, columns);
+    let mut first = column_at(line, 0, columns);
+    let mut second = column_at(other, 0, columns);
+    while first < columns || second < columns {
+        if first < second {
+            push_unless_zero(out, first, difference(a, b, line[left].1, 0))?;
+            left += 1;
+            first = column_at(line, left, columns);
+        } else if second < first {
+            push_unless_zero(out, second, difference(a, b, 0, other[right].1))?;
+            right += 1;
+            second = column_at(other, right, columns);
+        } else {
+            push_unless_zero(out, first, difference(a, b, line[left].1, other[right].1))?;
+            left += 1;
+            right += 1;
+            first = column_at(line, left, columns);
+            second = column_at(other, right, columns);
+        }
     }
     Ok(())
 }

@@ -1,5 +1,5 @@
 -- Which column enters, after 0, 49, 50 and 51 degenerate pivots in a row.
-use Rattle.std.proofs.Common.{◌≡◌, ◌≢◌, ℕ, pos, negsuc, Some, None, List, [], ◌∷◌, refl}
+use Rattle.std.proofs.Common.{◌≡◌, pos, negsuc, Some, None, [], ◌∷◌, refl}
 use Rattle.written_method.specs.Tableaus.{Tableau}
 use Rattle.simplex_core.specs.Views.{entering_by}
 

@@ -1,5 +1,5 @@
 -- Quotients are compared by products.
-use Rattle.std.proofs.Common.{◌≡◌, ℤ, pos, ◌*ℤ◌, sym, ap, ap₂, ◌∙◌, subst}
+use Rattle.std.proofs.Common.{◌≡◌, ℤ, pos, ◌*ℤ◌, sym, ap, ap₂, ◌∙◌}
 use Rattle.std.specs.Prelude.{◌<ℤ◌}
 use Rattle.std.specs.Ordering.{int_cmp}
 use Rattle.exact_num.specs.Rational.{Rational, IsLowest, lowest, order_of}

@@ -1,6 +1,5 @@
 -- An entry that fits into 64 bits is copied.
-use Rattle.std.proofs.Common.{◌≡◌, ◌<◌, ◌^◌, ◌++◌, [], ◌∷◌, ℕ, ℤ, List, get_or, refl, sym, ap, ◌∙◌, subst, to_z, of_z}
-use Rattle.std.specs.Int.{w64, w128}
+use Rattle.std.proofs.Common.{◌≡◌, ◌<◌, ◌^◌, ◌++◌, [], ◌∷◌, ℕ, ℤ, List, get_or, refl, sym, ap, ◌∙◌, subst}
 use Rattle.std.specs.Prelude.{unsigned_abs}
 use Rattle.exact_num.specs.Range.{InRange}
 use Rattle.exact_num.proofs.RangeLaws.{back_in_range}

@@ -1,7 +1,7 @@
-use Rattle.std.proofs.Common.{◌≡◌, ◌<◌, ◌^◌, ℕ, ℤ, List, drop, sym, ◌∙◌, subst, arith}
+use Rattle.std.proofs.Common.{◌≡◌, ◌<◌, ◌^◌, drop, sym, ◌∙◌, subst, arith}
 use Rattle.std.specs.Prelude.{unsigned_abs}
 use Rattle.exact_num.specs.Range.{InRange}
-use Rattle.int_tableau.specs.Entries.{at, taken_number}
+use Rattle.int_tableau.specs.Entries.{at}
 use Rattle.int_tableau.proofs.EntryLaws.{taken_number-at}
 use Rattle.int_tableau.proofs.NarrowLaws.{narrow_fits, back_widened, AreNarrow-drop, taken_number-narrow}
 use Rattle.int_tableau.proofs.narrow.number_in.Goals as goal

@@ -1,6 +1,6 @@
 -- It has no more bits than the two numbers.
-use Rattle.std.proofs.Common.{◌≡◌, ◌<◌, ◌^◌, ℤ, pos, sym, ap, ap₂, ◌∙◌, subst, arith, to_z, of_z, FitsSigned}
-use Rattle.std.specs.Int.{w64, w128}
+use Rattle.std.proofs.Common.{◌≡◌, ◌<◌, ◌^◌, ℤ, pos, sym, ap₂, ◌∙◌, subst, arith, FitsSigned}
+use Rattle.std.specs.Int.{w64}
 use Rattle.std.specs.Prelude.{unsigned_abs}
 use Rattle.std.proofs.lemmas.Int.{ints}
 use Rattle.exact_num.specs.Gcd.{gcd_of}

@@ -2,7 +2,6 @@
 use Rattle.std.proofs.Common.{◌≡◌, ◌<◌, ◌^◌, ℕ, ℤ, pos, List, ◌++◌, length, get_or, set, take, drop, sym, ap, ap₂, ◌∙◌, subst, arith, to_z, of_z}
 use Rattle.std.specs.Int.{w64}
 use Rattle.std.specs.Prelude.{unsigned_abs, int_div}
-use Rattle.std.proofs.lemmas.Int.{ints}
 use Rattle.exact_num.proofs.Integers.{pos-unsigned_abs, unsigned_abs-int_div}
 use Rattle.row_core.specs.Written.{entries_divided}
 use Rattle.row_core.proofs.WrittenLaws.{entries_divided-one}

@@ -1,15 +1,17 @@
--- What is before the column is written, and what is from it on is left.
-use Rattle.std.proofs.Common.{◌-◌, ◌≤◌, drop}
-use Rattle.int_tableau.proofs.MergeLaws.{IsMerge}
+-- What is left begins with the two columns, and what is before them is written.
+use Rattle.std.proofs.Common.{◌≡◌, ◌+◌, ◌-◌, drop, length}
+use Rattle.int_tableau.proofs.HeadLaws.{IsMerging}
+use Rattle.int_tableau.specs.Entries.{head_column}
 use Rattle.int_tableau.specs.Narrow.{AreNarrow}
 use Rattle.int_tableau.proofs.narrow_merging.combine.Given as goal
 
-abbrev pub invariant-loop-column : goal.invariant-loop-column
-invariant-loop-column l = record {
-  merge : IsMerge l.columns l.a l.b l.line l.other l.column (drop l.left l.line) (drop l.right l.other) l.out.items;
+abbrev pub invariant-loop-first : goal.invariant-loop-first
+invariant-loop-first l = record {
+  merging : IsMerging l.columns l.a l.b l.line l.other (drop l.left l.line) (drop l.right l.other) l.out.items;
   narrow : AreNarrow l.out.items;
-  within : l.column ≤ l.columns;
+  first : l.first ≡ head_column l.columns (drop l.left l.line);
+  second : l.second ≡ head_column l.columns (drop l.right l.other);
 }
 
-abbrev pub decreases-loop-column : goal.decreases-loop-column
-decreases-loop-column l = l.columns - l.column
+abbrev pub decreases-loop-first : goal.decreases-loop-first
+decreases-loop-first l = (length l.line - l.left) + (length l.other - l.right)

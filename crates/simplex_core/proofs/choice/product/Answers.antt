@@ -1,5 +1,5 @@
 -- Numbers below 2^63 have a product below 2^126.
-use Rattle.std.proofs.Common.{◌≡◌, ◌*◌, ◌<◌, ◌^◌, ℤ, sym, subst, arith, ◌*ℤ◌}
+use Rattle.std.proofs.Common.{◌*◌, ◌<◌, ◌^◌, ℤ, sym, subst, arith, ◌*ℤ◌}
 use Rattle.std.specs.Prelude.{unsigned_abs}
 use Rattle.std.proofs.lemmas.Int.{unsigned_abs-mul}
 use Rattle.std.proofs.lemmas.Nat.{mul-lt}

@@ -1,5 +1,5 @@
 -- The entries, the right side and the own entry, each by the same rule.
-use Rattle.std.proofs.Common.{◌≡◌, ◌<◌, ℕ, ℤ, Bool, true, false, List, [], ◌++◌, length, sym, ap, ap₂, ◌∙◌, subst, to_z, of_z, zero-add}
+use Rattle.std.proofs.Common.{◌≡◌, ◌<◌, ℕ, ℤ, Bool, true, false, List, sym, ap, ap₂, ◌∙◌, subst, to_z, of_z, zero-add}
 use Rattle.std.specs.Int.{w128}
 use Rattle.std.proofs.lemmas.Result.{err_from_is_err_and}
 use Rattle.exact_num.specs.Range.{InRange, all_fit}
