@@ -35,7 +35,7 @@ cost: 1 -2 RateOfActivity.0.0.0.0.0 -6 NewCapacity.0.0.0 = 0
 ];
 
 /// A value for each variable, of a plan of 10 of everything.
-const PLAN: &str = "RateOfActivity.0.0.0.0.0 10
+pub(crate) const PLAN: &str = "RateOfActivity.0.0.0.0.0 10
 NewCapacity.0.0.0 10
 Trade.0.0.0.0.0 0
 RateOfDemand.0.0.0.0 10

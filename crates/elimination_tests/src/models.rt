@@ -48,7 +48,7 @@ pub(crate) fn answered<T>(answer: Result<T, Stopped>) -> Result<T, Fail> {
 
 /// What is left of the rows of a book.
 pub(crate) fn program_of(alloc: Global, book: &RowBook) -> Result<BookProgram, Fail>
-    ensures { IfOk result (IsProgramOf book.now.rows) }
+    ensures { IfOk result (IsProgramOf book.now.rows book.now.vars) }
 {
     match eliminate_book(alloc, book) {
         Ok(program) => Ok(program),

@@ -1,8 +1,9 @@
 pub mod Definers
-pub mod BookPrograms
-pub mod CarriedBack
 pub mod Sizes
 pub mod Programs
+pub mod BookPrograms
+pub mod CarriedBack
 pub mod MethodEnds
 pub mod Stops
 pub mod Solutions
+pub mod Found

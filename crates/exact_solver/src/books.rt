@@ -1,12 +1,14 @@
 //! The linear program of a book of rows, and what is carried back to the rows.
 
-ghost use Rattle.std.specs.Prelude.{◌≡◌, true, false, None, length, IfOk, IfErr, OnOk};
+ghost use Rattle.std.specs.Prelude.{◌≡◌, true, false, None, length, map, IfOk, IfErr, OnOk};
 ghost use Rattle.exact_num.specs.Steps.{first_wide};
+ghost use Rattle.exact_num.specs.Value.{value_of};
 ghost use Rattle.written_method.specs.Eliminated.{elimination_steps};
 ghost use Rattle.variable_elimination.specs.SoFar.{IsFirst};
 ghost use Rattle.exact_solver.specs.BookPrograms.{IsProgramOf};
 ghost use Rattle.exact_solver.specs.Definers.{definers};
 ghost use Rattle.exact_solver.specs.CarriedBack.{BecomesPlan, BecomesDirection, BecomesProof, BecomesRefutation};
+ghost use Rattle.exact_solver.specs.Programs.{carried_direction, carried_multipliers, carried_plan, carrying_steps, direction_steps, plan_steps};
 
 use exact_num::Frac;
 use row_book::RowBook;
@@ -29,7 +31,7 @@ pub struct BookProgram {
 /// `Width` comes exactly where a number that is formed doesn't fit, with the first place at which one doesn't; any other
 /// refusal means that memory ran out.
 pub fn eliminate_book(alloc: Global, book: &RowBook) -> Result<BookProgram, Stopped>
-    ensures program { IfOk result (IsProgramOf book.now.rows) }
+    ensures program { IfOk result (IsProgramOf book.now.rows book.now.vars) }
     ensures fits { OnOk result (first_wide (elimination_steps book.now.rows (definers book.now.rows)) ≡ None) }
     ensures stopped { IfErr result (IsFirst (first_wide (elimination_steps book.now.rows (definers book.now.rows)))) }
 {
@@ -58,8 +60,11 @@ pub fn carry_plan(
     program: &BookProgram,
     values: &Plan,
 ) -> Result<Plan, Stopped>
-    requires { IsProgramOf book.now.rows program.now }
-    ensures { IfOk result (BecomesPlan book.now.rows book.now.vars program.now.reduced values.now) }
+    requires { IsProgramOf book.now.rows book.now.vars program.now }
+    ensures values { IfOk result (λ plan. plan ≡ carried_plan book.now.rows values.now) }
+    ensures worth { IfOk result (BecomesPlan book.now.rows book.now.vars program.now.reduced values.now) }
+    ensures fits { OnOk result (first_wide (plan_steps book.now.rows values.now) ≡ None) }
+    ensures stopped { IfErr result (IsFirst (first_wide (plan_steps book.now.rows values.now))) }
 {
     lift_plan(alloc, book.rows(), &program.defs, values)
 }
@@ -71,8 +76,11 @@ pub fn carry_direction(
     program: &BookProgram,
     values: &Plan,
 ) -> Result<Plan, Stopped>
-    requires { IsProgramOf book.now.rows program.now }
-    ensures { IfOk result (BecomesDirection book.now.rows book.now.vars program.now.reduced values.now) }
+    requires { IsProgramOf book.now.rows book.now.vars program.now }
+    ensures values { IfOk result (λ direction. direction ≡ carried_direction book.now.rows values.now) }
+    ensures worth { IfOk result (BecomesDirection book.now.rows book.now.vars program.now.reduced values.now) }
+    ensures fits { OnOk result (first_wide (direction_steps book.now.rows values.now) ≡ None) }
+    ensures stopped { IfErr result (IsFirst (first_wide (direction_steps book.now.rows values.now))) }
 {
     lift_direction(alloc, book.rows(), &program.defs, values)
 }
@@ -87,10 +95,13 @@ pub fn carry_multipliers(
     lambda: &[Frac],
     with_cost: bool,
 ) -> Result<Multipliers, Stopped>
-    requires program { IsProgramOf book.now.rows program.now }
+    requires program { IsProgramOf book.now.rows book.now.vars program.now }
     requires counted { length lambda.now ≡ length program.now.reduced.rows.items }
+    ensures multipliers { IfOk result (λ made. made ≡ carried_multipliers with_cost book.now.rows (map value_of lambda.now)) }
     ensures proves { with_cost ≡ true → IfOk result (BecomesProof book.now.rows book.now.vars program.now.reduced lambda.now) }
     ensures refutes { with_cost ≡ false → IfOk result (BecomesRefutation book.now.rows book.now.vars program.now.reduced lambda.now) }
+    ensures fits { OnOk result (first_wide (carrying_steps with_cost book.now.rows (map value_of lambda.now)) ≡ None) }
+    ensures stopped { IfErr result (IsFirst (first_wide (carrying_steps with_cost book.now.rows (map value_of lambda.now)))) }
 {
     lift_multipliers(
         alloc,

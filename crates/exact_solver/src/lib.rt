@@ -2,6 +2,7 @@
 #![tactic(auto)]
 
 mod books;
+mod checking;
 mod sizes;
 mod solutions;
 mod solving;

@@ -18,7 +18,7 @@ pub fn solve_book(
     program: &BookProgram,
     pivots: u64,
 ) -> Result<End, Halt>
-    requires { IsProgramOf book.now.rows program.now }
+    requires { IsProgramOf book.now.rows book.now.vars program.now }
     ensures { IfOk result (IsProved (program_of program.now.reduced)) }
 {
     solve(alloc, &program.reduced, pivots)

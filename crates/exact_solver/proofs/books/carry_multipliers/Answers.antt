@@ -1,14 +1,23 @@
 -- The book's definitions are what the call asks for, and what it says is said of the book.
-use Rattle.std.proofs.Common.{◌≡◌, ◌∙◌, subst}
-use Rattle.std.specs.Prelude.{IfOk}
+use Rattle.std.proofs.Common.{◌≡◌, List, map, ◌∙◌, ap₂, subst}
+use Rattle.std.specs.Prelude.{IfErr, IfOk, None, OnOk}
+use Rattle.exact_num.specs.Rational.{Rational}
+use Rattle.exact_num.specs.Steps.{Step, first_wide}
+use Rattle.exact_num.specs.Value.{value_of}
+use Rattle.row_core.specs.declared.RowName.{RowName}
+use Rattle.row_core.specs.declared.place.Place.{Place}
 use Rattle.row_core.specs.declared.Var.{Var}
 use Rattle.named_equations.proofs.InstanceTests.{Contains-from_Has, Has, Has-from_Contains}
 use Rattle.row_book.specs.Books.{entry_variables}
 use Rattle.written_method.specs.Definitions.{definitions_of, others_of, rows_of, defined, AreTriangular}
+use Rattle.written_method.specs.Multiplied.{multiplier_steps, named_multipliers}
 use Rattle.variable_elimination.specs.Certified.{CarriesBound, CarriesSum}
 use Rattle.variable_elimination.specs.Eliminations.{IsPartOf, IsWhole}
 use Rattle.variable_elimination.specs.Left.{AreKnown}
+use Rattle.variable_elimination.specs.RowNames.{names_of}
+use Rattle.variable_elimination.specs.SoFar.{IsFirst}
 use Rattle.exact_solver.specs.Definers.{definers}
+use Rattle.exact_solver.specs.Programs.{carried_multipliers, carrying_steps, definitions_in}
 use Rattle.exact_solver.proofs.BookLaws.{moved, book_triangular, book_known}
 use Rattle.exact_solver.proofs.CarriedWords.{as_many, proof_answer, refutation_answer}
 use Rattle.exact_solver.proofs.books.carry_multipliers.Goals as goal
@@ -63,3 +72,33 @@ returns-clause-refutes c cost =
     let whole = moved (λ rs ds. IsPartOf rs ds reduced) found rows defs program.defs.items same those c.requires.program.whole.part in
     let carries : IfOk answer (CarriesSum rows others reduced lambda) = subst (λ rs. IfOk answer (CarriesSum rs others reduced lambda)) same (c.lift_multipliers.ensures.refutes cost whole) in
     refutation_answer rows vars others reduced known c.requires.program.columns listed lambda answer carries
+
+pub returns-clause-multipliers : goal.returns-clause-multipliers
+unfolding carried_multipliers
+returns-clause-multipliers c =
+    let rows = c.args.book.now.rows in
+    let reduced = c.args.program.now.reduced in
+    let lambda = map value_of c.args.lambda.now in
+    subst (λ (made : List (RowName × Rational)). IfOk c.lift_multipliers.result (λ m. m ≡ made))
+    (ap₂ (λ rs ds. named_multipliers c.args.with_cost rs (definitions_of rs ds) (names_of reduced.rows.items) (map value_of reduced.scales.items) lambda) c.rows.ensures.rows (c.deref.ensures.value ∙ c.requires.program.defs)
+    ∙ ap₂ (λ names scales. named_multipliers c.args.with_cost rows (definitions_in rows) names scales lambda) c.requires.program.names c.requires.program.scales) c.lift_multipliers.ensures.multipliers
+
+pub returns-clause-fits : goal.returns-clause-fits
+unfolding carrying_steps
+returns-clause-fits c =
+    let rows = c.args.book.now.rows in
+    let reduced = c.args.program.now.reduced in
+    let lambda = map value_of c.args.lambda.now in
+    subst (λ (ss : List (Step Place)). OnOk c.lift_multipliers.result (first_wide ss ≡ None))
+    (ap₂ (λ rs ds. multiplier_steps c.args.with_cost rs (definitions_of rs ds) (names_of reduced.rows.items) (map value_of reduced.scales.items) lambda) c.rows.ensures.rows (c.deref.ensures.value ∙ c.requires.program.defs)
+    ∙ ap₂ (λ names scales. multiplier_steps c.args.with_cost rows (definitions_in rows) names scales lambda) c.requires.program.names c.requires.program.scales) c.lift_multipliers.ensures.fits
+
+pub returns-clause-stopped : goal.returns-clause-stopped
+unfolding carrying_steps
+returns-clause-stopped c =
+    let rows = c.args.book.now.rows in
+    let reduced = c.args.program.now.reduced in
+    let lambda = map value_of c.args.lambda.now in
+    subst (λ (ss : List (Step Place)). IfErr c.lift_multipliers.result (IsFirst (first_wide ss)))
+    (ap₂ (λ rs ds. multiplier_steps c.args.with_cost rs (definitions_of rs ds) (names_of reduced.rows.items) (map value_of reduced.scales.items) lambda) c.rows.ensures.rows (c.deref.ensures.value ∙ c.requires.program.defs)
+    ∙ ap₂ (λ names scales. multiplier_steps c.args.with_cost rows (definitions_in rows) names scales lambda) c.requires.program.names c.requires.program.scales) c.lift_multipliers.ensures.stopped
