@@ -33,7 +33,7 @@ pub fn report(
     rows: &[Row],
     vars: &[Var],
     plan: &Plan,
-    m: &Multipliers,
+    multipliers: &Multipliers,
     cost: Frac,
     bound: Frac,
     pivots: u64,
@@ -42,14 +42,14 @@ pub fn report(
 ) -> Result<Vec<u8>, Stopped>
     requires rows { AllByRecursion (IsListedRow sets.now) (map name_of_row rows.now) }
     requires vars { AllByRecursion (IsListedVariable sets.now) vars.now }
-    ensures text { IfOk result (λ text. text.items ≡ report_text sets.now vars.now plan.now rows.now m.now (value_of cost) (value_of bound) pivots rounded) }
-    ensures fits { OnOk result (first_wide (price_steps rows.now m.now) ≡ None) }
-    ensures stopped { IfErr result (IsFirstStop (price_steps rows.now m.now)) }
+    ensures text { IfOk result (λ text. text.items ≡ report_text sets.now vars.now plan.now rows.now multipliers.now (value_of cost) (value_of bound) pivots rounded) }
+    ensures fits { OnOk result (first_wide (price_steps rows.now multipliers.now) ≡ None) }
+    ensures stopped { IfErr result (IsFirstStop (price_steps rows.now multipliers.now)) }
 {
     let mut out = Vec::new(alloc);
     push_summary(&mut out, cost, bound, pivots, rounded)?;
     push_kind_tables(alloc, &mut out, sets, vars, plan)?;
-    push_price_table(alloc, &mut out, sets, rows, m)?;
+    push_price_table(alloc, &mut out, sets, rows, multipliers)?;
     push_end(&mut out)?;
     Ok(out)
 }

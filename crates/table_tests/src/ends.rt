@@ -22,9 +22,11 @@ fn a_direction_is_shown_by_its_chosen_variables(rt: HostRuntime) -> Result<(), F
         assert!(&rt; false);
         return Ok(());
     };
-    let direction = Plan::of(
-        vec![in rt.alloc(); (ACTIVITY, whole(1)), (CAPACITY, ratio(1, 8)), (TOTAL_CAPACITY, ratio(1, 8))]?,
-    );
+    let direction = Plan::of(vec![in rt.alloc();
+        (ACTIVITY, whole(1)),
+        (CAPACITY, ratio(1, 8)),
+        (TOTAL_CAPACITY, ratio(1, 8)),
+    ]?);
     let text = unbounded_report(rt.alloc(), &direction, 3, 1, &sets)?;
     assert_eq!(&rt;
         text.as_slice(),

@@ -92,7 +92,7 @@ pub const BALANCE: RowName = RowName {
 };
 
 /// The sets, with a region and a technology of these names.
-pub fn sets(alloc: Global, region: &[u8], technology: &[u8]) -> Option<Sets>
+pub fn sets(alloc: Global, place: &[u8], plant: &[u8]) -> Option<Sets>
     ensures regions { IfSome result (λ sets. 0 < length (members sets region)) }
     ensures technologies { IfSome result (λ sets. 0 < length (members sets technology)) }
     ensures fuels { IfSome result (λ sets. 0 < length (members sets fuel)) }
@@ -101,9 +101,7 @@ pub fn sets(alloc: Global, region: &[u8], technology: &[u8]) -> Option<Sets>
     ensures slices { IfSome result (λ sets. 0 < length (members sets timeslice)) }
     ensures years { IfSome result (λ sets. 0 < length (members sets year)) }
 {
-    let members: [(u8, &[u8]); 7] = [
-        (REGION, region),
-        (TECHNOLOGY, technology),
+    let members: [(u8, &[u8]); 5] = [
         (FUEL, b"F"),
         (EMISSION, b"E"),
         (MODE_OF_OPERATION, b"1"),
@@ -111,6 +109,8 @@ pub fn sets(alloc: Global, region: &[u8], technology: &[u8]) -> Option<Sets>
         (YEAR, b"2020"),
     ];
     let mut sets = Sets::new(alloc).ok()?;
+    sets.add(REGION, place).ok()?;
+    sets.add(TECHNOLOGY, plant).ok()?;
     for (set, name) in members {
         if set < REGION || DAILYTIMEBRACKET < set {
             return None;
