@@ -1,5 +1,5 @@
 -- A row of a book defines variables of the book alone: so the place at which the exact method stops on it can be named, and so can what a solution has.
-use Rattle.std.proofs.Common.{◌≡◌, ◌≢◌, ℕ, ℤ, pos, ◌<ℤ◌, Bool, true, List, [], ◌∷◌, Some, inl, inr, refl, sym, subst}
+use Rattle.std.proofs.Common.{◌≡◌, ◌≢◌, ℕ, ℤ, pos, ◌<ℤ◌, Bool, true, List, [], ◌∷◌, Some, inl, inr, refl, sym, subst, arith}
 use Rattle.std.proofs.lemmas.Int.{ints}
 use Rattle.std.specs.Prelude.{Contains}
 use Rattle.std.specs.List.{AllByRecursion}
@@ -39,7 +39,7 @@ use Rattle.osemosys_run.proofs.StepNames.{AreStepsWithin, wide-within}
 -- ---- definitions
 
 not-zero : (z : ℤ) → pos 0 <ℤ z → z ≢ pos 0
-not-zero z positive is = let never : pos 0 <ℤ pos 0 = subst (λ w. pos 0 <ℤ w) is positive in omega (ints, never)
+not-zero z positive is = let never : pos 0 <ℤ pos 0 = subst (λ w. pos 0 <ℤ w) is positive in omega (arith, ints, never)
 
 module _ (sets : SetLists) (rows : List Row) (vars : List Var) (listed : IsListedBook sets rows vars) where
   defined-there : IsBook rows vars → (row : Row) (v : Var) → Has rows row → definer row ≡ Some v → Has vars v

@@ -1,5 +1,6 @@
 -- The places of the elimination and of the simplex method are those of rows and variables of the sets.
 use Rattle.std.proofs.Common.{◌≡◌, ℕ, zero, suc, Bool, true, false, if◌then◌else◌, List, [], ◌∷◌, Option, Some, None, refl, subst}
+use Rattle.std.specs.Prelude.{⊤}
 use Rattle.std.specs.List.{AllByRecursion}
 use Rattle.exact_num.specs.Rational.{Rational}
 use Rattle.exact_num.specs.Steps.{Step, first_wide}
@@ -38,19 +39,19 @@ module _ (sets : SetLists) where
 
   pub definitions-within : (rows : List Row) → AllByRecursion DefinesWithin rows → AllByRecursion IsDefinitionWithin (definitions_of rows (definers rows))
   definitions-within [] within = tt
-  definitions-within (row ∷ rows) within = cases (definer row) refl
+  definitions-within (row ∷ rows) within = cases (definer row) refl (definitions-within rows within.1)
     where
-      cases : (found : Option Var) → definer row ≡ found → AllByRecursion IsDefinitionWithin (definitions_of (row ∷ rows) (found ∷ definers rows))
-      cases None is = definitions-within rows within.1
-      cases (Some v) is = ((within.0.0, within.0.1 v is), definitions-within rows within.1)
+      cases : (found : Option Var) → definer row ≡ found → AllByRecursion IsDefinitionWithin (definitions_of rows (definers rows)) → AllByRecursion IsDefinitionWithin (definitions_of (row ∷ rows) (found ∷ definers rows))
+      cases None is later = later
+      cases (Some v) is later = ((within.0.0, within.0.1 v is), later)
 
   pub others-within : (rows : List Row) → AllByRecursion DefinesWithin rows → AllByRecursion IsNamedWithin (others_of rows (definers rows))
   others-within [] within = tt
-  others-within (row ∷ rows) within = cases (definer row)
+  others-within (row ∷ rows) within = cases (definer row) (others-within rows within.1)
     where
-      cases : (found : Option Var) → AllByRecursion IsNamedWithin (others_of (row ∷ rows) (found ∷ definers rows))
-      cases None = (within.0.0, others-within rows within.1)
-      cases (Some v) = others-within rows within.1
+      cases : (found : Option Var) → AllByRecursion IsNamedWithin (others_of rows (definers rows)) → AllByRecursion IsNamedWithin (others_of (row ∷ rows) (found ∷ definers rows))
+      cases None later = (within.0.0, later)
+      cases (Some v) later = later
 
   -- ---- the elimination
 
@@ -73,32 +74,37 @@ module _ (sets : SetLists) where
   unfolding run
   pivots-within zero s = cases (due s)
     where
-      cases : (d : Due) → AreStepsWithin sets (elim d [ Pivot r c ↦ ended PivotDue s | NoColumn ↦ ended (no_column s.phase) s | NoRow c ↦ ended (Unbounded c) s ]).steps
+      cases : (d : Due) → AreStepsWithin sets (elim d as (λ _. Run) [ Pivot r c ↦ ended PivotDue s | NoColumn ↦ ended (no_column s.phase) s | NoRow c ↦ ended (Unbounded c) s ]).steps
       cases (Pivot r c) = tt
       cases NoColumn = tt
       cases (NoRow c) = tt
-  pivots-within (suc n) s = cases (due s)
+  pivots-within (suc n) s = cases (due s) (λ r c. pivots-within n (after s r c))
     where
-      cases : (d : Due)
+      cases : (d : Due) → ((r c : ℕ) → AreStepsWithin sets (run n (after s r c)).steps)
           → AreStepsWithin sets
           (elim d as (λ _. Run) [
             | Pivot r c ↦ record { steps = step_of s r c ∷ (run n (after s r c)).steps; ending = (run n (after s r c)).ending; last = (run n (after s r c)).last }
             | NoColumn ↦ ended (no_column s.phase) s
             | NoRow c ↦ ended (Unbounded c) s
           ]).steps
-      cases (Pivot r c) = (tt, pivots-within n (after s r c))
-      cases NoColumn = tt
-      cases (NoRow c) = tt
+      cases (Pivot r c) later = (tt, later r c)
+      cases NoColumn later = tt
+      cases (NoRow c) later = tt
 
   by-variable-within : (place : Var → Place) (f : ℕ → Rational) (c : ℕ) (vs : List Var) → ((v : Var) → IsVariableOfSets sets v → PlaceIsWithin sets (place v)) → AllByRecursion (IsVariableOfSets sets) vs
       → AreStepsWithin sets (by_variable_steps place f c vs)
   by-variable-within place f c [] placed within = tt
   by-variable-within place f c (v ∷ vs) placed within =
-      cases (is_split v) (placed v within.0, by-variable-within place f (suc (suc c)) vs placed within.1) (by-variable-within place f (suc c) vs placed within.1)
+      cases _ _ (is_split v) (placed v within.0, by-variable-within place f (suc (suc c)) vs placed within.1) (by-variable-within place f (suc c) vs placed within.1)
     where
-      cases : {ss ts : List (Step Place)} (b : Bool) → AreStepsWithin sets ss → AreStepsWithin sets ts → AreStepsWithin sets (if b then ss else ts)
-      cases true s t = s
-      cases false s t = t
+      cases : (ss ts : List (Step Place)) (b : Bool) → AreStepsWithin sets ss → AreStepsWithin sets ts → AreStepsWithin sets (if b then ss else ts)
+      cases ss ts true s t = s
+      cases ss ts false s t = t
+
+  -- the place of an outcome that has one
+  abbrev pub OutcomeIsWithin : Outcome → Type 0
+  OutcomeIsWithin (IsTooWide place) = PlaceIsWithin sets place
+  OutcomeIsWithin outcome = ⊤
 
   module _ (p : LinearProgram) (columns : AllByRecursion (IsVariableOfSets sets) p.columns) where
     end-steps-within : (ending : End) (last : State) → AreStepsWithin sets (end_steps p ending last)
@@ -108,10 +114,6 @@ module _ (sets : SetLists) where
         both-within sets _ _ (by-variable-within LiftPlan (column_value last.tableau) 0 p.columns (λ v of. of) columns)
         (by-variable-within LiftDirection (column_direction last.tableau e) 0 p.columns (λ v of. of) columns)
     end-steps-within PivotDue last = tt
-
-    abbrev pub OutcomeIsWithin : Outcome → Type 0
-    OutcomeIsWithin (IsTooWide place) = PlaceIsWithin sets place
-    OutcomeIsWithin outcome = ⊤
 
     outcome-of-end-within : (ending : End) (last : State) → OutcomeIsWithin (outcome_of_end p ending last)
     outcome-of-end-within Optimal last = tt

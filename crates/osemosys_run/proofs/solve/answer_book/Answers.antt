@@ -1,20 +1,22 @@
-use Rattle.std.proofs.Common.{◌≡◌, ◌<◌, inl, inr, ap, ap₂, sym, ◌∙◌, subst, arith, ℕ}
+use Rattle.std.proofs.Common.{◌≡◌, ◌<◌, inl, inr, ap, ap₂, ◌∙◌, subst, ℕ}
 use Rattle.std.specs.Prelude.{◌⊎◌, ◌≤◌}
 use Rattle.std.proofs.lemmas.Result.{IfOk-weaker}
 use Rattle.named_equations.specs.Existence.{all_variables}
+use Rattle.exact_solver.specs.MethodEnds.{IsStopOf, end_seen, method_end}
 use Rattle.exact_solver.specs.Sizes.{column_count, inequality_count}
 use Rattle.osemosys_run.specs.declared.status.Status.TheVariants.{Refused}
 use Rattle.osemosys_run.specs.declared.status.Refusal.TheVariants.{TooLarge}
 use Rattle.osemosys_run.specs.Lines.{too_large_line}
 use Rattle.osemosys_run.specs.Solve.{IsWithinLimits, most_columns, most_rows}
+use Rattle.osemosys_run.specs.SolveOutcomes.{TellsStop}
 use Rattle.osemosys_run.proofs.OutcomeLaws.{vars-are}
 use Rattle.osemosys_run.proofs.SolvedEnds.{due-from_solution, due-from_stop}
 use Rattle.osemosys_run.proofs.solve.answer_book.Goals as goal
 use Rattle.osemosys_run.proofs.solve.answer_book.Goals.{then-size-gt-MOST_ROWS-via-then-size-gt-MOST_ROWS, then-size-gt-MOST_ROWS-via-else-size-gt-MOST_ROWS+then-size-gt-MOST_COLUMNS}
 
 -- counts that aren't above the limits are within them
-within-limits : (r c rows columns : ℕ) → r ≡ rows → c ≡ columns → (most_rows < r → ⊥) → (most_columns < c → ⊥) → (rows ≤ most_rows) × (columns ≤ most_columns)
-within-limits r c rows columns er ec few_rows few_columns = (subst (λ n. n ≤ most_rows) er (omega (arith, few_rows)), subst (λ n. n ≤ most_columns) ec (omega (arith, few_columns)))
+within-limits : (r c rows columns : ℕ) → r ≡ rows → c ≡ columns → r ≤ most_rows → c ≤ most_columns → (rows ≤ most_rows) × (columns ≤ most_columns)
+within-limits r c rows columns er ec few_rows few_columns = (subst (λ n. n ≤ most_rows) er few_rows, subst (λ n. n ≤ most_columns) ec few_columns)
 
 pub returns-then-size-gt-MOST_ROWS : goal.returns-then-size-gt-MOST_ROWS
 returns-then-size-gt-MOST_ROWS c = λ places d same book.
@@ -46,7 +48,7 @@ returns-in-Ok c = λ places d same book.
     (λ answer told. inr (
       subst (IsWithinLimits rows) (vars-are places d rows vars book) limits,
       due-from_solution places d rows vars book c.args.sets.now same wanted.gap wanted.pivots wanted.show c.args.rounded answer.status answer.text.items
-          c.in-Ok.solution c.in-Ok.ensures.end c.in-Ok.ensures.proved c.in-Ok.ensures.whole c.in-Ok.ensures.named told,
+          c.in-Ok.solution (subst (λ most. end_seen c.in-Ok.solution ≡ method_end rows vars most) c.from-pivots.ensures c.in-Ok.ensures.end) c.in-Ok.ensures.proved c.in-Ok.ensures.whole c.in-Ok.ensures.named told,
     ))
     c.answer_solution.ensures
 
@@ -62,6 +64,7 @@ returns-in-Err c = λ places d same book.
     (λ answer told. inr (
       subst (IsWithinLimits rows) (vars-are places d rows vars book) limits,
       due-from_stop places d rows vars book c.args.sets.now same wanted.gap wanted.pivots wanted.show c.args.rounded answer.status answer.text.items
-          c.in-Err.stop c.in-Err.ensures.stopped told,
+          c.in-Err.stop (subst (λ most. IsStopOf (method_end rows vars most) c.in-Err.stop) c.from-pivots.ensures c.in-Err.ensures.stopped)
+          (subst (λ most. TellsStop c.args.sets.now most c.in-Err.stop answer.status answer.text.items) c.from-pivots.ensures told),
     ))
     c.answer_stop.ensures
