@@ -1,10 +1,10 @@
 //! The smallest model: one region, technology, fuel, timeslice, mode and year, and defaults alone. Its plan of cost 80 and its
 //! multipliers of the bound 70 were worked out by hand.
 
-use exact_solver::{carry_direction, carry_multipliers, carry_plan};
 use crate::lines::{multiplier_lines, plan_lines};
 use crate::models::{Left, SETS, answered, assert_left, book_of, program_of};
 use exact_num::Frac;
+use exact_solver::{carry_direction, carry_multipliers, carry_plan};
 use row_core::kind_numbers::{NEW_CAPACITY, RATE_OF_ACTIVITY, TOTAL_DISCOUNTED_COST};
 use row_core::{Index, Plan, Var, fraction};
 use std::alloc::{AllocError, Global};

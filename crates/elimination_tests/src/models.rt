@@ -3,9 +3,9 @@
 ghost use Rattle.std.specs.Prelude.{IfOk};
 ghost use Rattle.exact_solver.specs.BookPrograms.{IsProgramOf};
 
-use exact_solver::{BookProgram, eliminate_book};
 use crate::lines::program_lines;
 use data_tests::section;
+use exact_solver::{BookProgram, eliminate_book};
 use mathprog_data::read_blocks;
 use param_tables::{build, sets_of};
 use row_book::RowBook;

@@ -1,8 +1,8 @@
 //! Models with trade, emissions, ratios and several slices. The rows that are left were computed by a program of another kind,
 //! which puts exact fractions in place of the variables that are defined.
 
-use exact_solver::carry_plan;
 use crate::models::{Left, answered, assert_left, book_of, program_of};
+use exact_solver::carry_plan;
 use row_core::kind_numbers::{NEW_CAPACITY, RATE_OF_ACTIVITY, TOTAL_DISCOUNTED_COST, TRADE};
 use row_core::{Index, Plan, Var, fraction};
 use std::test::Fail;

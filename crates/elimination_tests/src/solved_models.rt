@@ -43,13 +43,15 @@ fn the_smallest_model_costs_80(rt: HostRuntime) -> Result<(), Fail> {
     let book = book_of(&rt, rt.alloc(), SETS, "")?;
     let size = size_of(&book);
     assert!(rt; size.rows == 6 && size.columns == 2);
-    let Ok(Solution::Optimal {
-        plan,
-        multipliers,
-        cost,
-        bound,
-        pivots,
-    }) = solve_book(rt.alloc(), &book, 3)
+    let Ok(
+        Solution::Optimal {
+            plan,
+            multipliers,
+            cost,
+            bound,
+            pivots,
+        },
+    ) = solve_book(rt.alloc(), &book, 3)
     else {
         return Err(Fail::from("no optimum"));
     };
@@ -75,10 +77,12 @@ fn two_pivots_are_too_few(rt: HostRuntime) -> Result<(), Fail> {
 fn a_capacity_of_9_meets_no_demand_of_10(rt: HostRuntime) -> Result<(), Fail> {
     let limit = "param TotalAnnualMaxCapacity default 9 := ;";
     let book = book_of(&rt, rt.alloc(), SETS, limit)?;
-    let Ok(Solution::Infeasible {
-        multipliers,
-        pivots,
-    }) = solve_book(rt.alloc(), &book, 3)
+    let Ok(
+        Solution::Infeasible {
+            multipliers,
+            pivots,
+        },
+    ) = solve_book(rt.alloc(), &book, 3)
     else {
         return Err(Fail::from("not infeasible"));
     };
@@ -93,11 +97,13 @@ fn a_capacity_of_9_meets_no_demand_of_10(rt: HostRuntime) -> Result<(), Fail> {
 fn the_cost_falls_where_activity_earns(rt: HostRuntime) -> Result<(), Fail> {
     let earning = "param CapitalCost default 0 := ; param VariableCost default -2 := ;";
     let book = book_of(&rt, rt.alloc(), SETS, earning)?;
-    let Ok(Solution::Unbounded {
-        plan,
-        direction,
-        pivots,
-    }) = solve_book(rt.alloc(), &book, 3)
+    let Ok(
+        Solution::Unbounded {
+            plan,
+            direction,
+            pivots,
+        },
+    ) = solve_book(rt.alloc(), &book, 3)
     else {
         return Err(Fail::from("not unbounded"));
     };
@@ -116,9 +122,14 @@ fn the_cost_falls_where_activity_earns(rt: HostRuntime) -> Result<(), Fail> {
 fn one_region_sends_to_another(rt: HostRuntime) -> Result<(), Fail> {
     let book = book_of(&rt, rt.alloc(), REGIONS, ROUTES)?;
     assert_eq!(rt; size_of(&book).columns, 6);
-    let Ok(Solution::Optimal {
-        plan, cost, bound, ..
-    }) = solve_book(rt.alloc(), &book, 100)
+    let Ok(
+        Solution::Optimal {
+            plan,
+            cost,
+            bound,
+            ..
+        },
+    ) = solve_book(rt.alloc(), &book, 100)
     else {
         return Err(Fail::from("no optimum"));
     };

@@ -54,12 +54,14 @@ fn seven_years_are_solved_and_checked(rt: HostRuntime) -> Result<(), Fail> {
     let book = book_of(&rt, rt.alloc(), SEVEN_YEARS)?;
     let size = size_of(&book);
     assert!(rt; size.rows == 280 && size.columns == 150);
-    let Ok(Solution::Optimal {
-        cost,
-        bound,
-        pivots,
-        ..
-    }) = solve_book(rt.alloc(), &book, 1000)
+    let Ok(
+        Solution::Optimal {
+            cost,
+            bound,
+            pivots,
+            ..
+        },
+    ) = solve_book(rt.alloc(), &book, 1000)
     else {
         return Err(Fail::from("no optimum"));
     };
