@@ -25,10 +25,10 @@ use Rattle.osemosys_run.specs.SolveTexts.{multiplier_file, plan_file}
 
 -- ---- texts
 
-abbrev pub report_shown : SetLists → List Row → List Var → ℕ → Solution → List ℕ
-report_shown sets rows vars rounded (found.Optimal plan multipliers cost bound made) = report_text sets vars plan rows multipliers (value_of cost) (value_of bound) made rounded
-report_shown sets rows vars rounded (found.Infeasible multipliers made) = infeasible_text made rounded
-report_shown sets rows vars rounded (found.Unbounded plan direction made) = unbounded_text sets direction made rounded
+abbrev pub report_shown : SetLists → List Row → List Var → ℕ → ℕ → Solution → List ℕ
+report_shown sets rows vars rounded places (found.Optimal plan multipliers cost bound made) = report_text sets vars plan rows multipliers (value_of cost) (value_of bound) made rounded places
+report_shown sets rows vars rounded places (found.Infeasible multipliers made) = infeasible_text made rounded places
+report_shown sets rows vars rounded places (found.Unbounded plan direction made) = unbounded_text sets direction made rounded places
 
 abbrev pub plan_shown : SetLists → Solution → List ℕ
 plan_shown sets (found.Optimal plan multipliers cost bound made) = plan_file sets plan
@@ -40,10 +40,10 @@ multipliers_shown sets (found.Optimal plan multipliers cost bound made) = multip
 multipliers_shown sets (found.Infeasible multipliers made) = multiplier_file sets multipliers
 multipliers_shown sets (found.Unbounded plan direction made) = multiplier_file sets []
 
-abbrev pub solution_shown : SolveShow → SetLists → List Row → List Var → ℕ → Solution → List ℕ
-solution_shown Report sets rows vars rounded solution = report_shown sets rows vars rounded solution
-solution_shown Plan sets rows vars rounded solution = plan_shown sets solution
-solution_shown Multipliers sets rows vars rounded solution = multipliers_shown sets solution
+abbrev pub solution_shown : SolveShow → SetLists → List Row → List Var → ℕ → ℕ → Solution → List ℕ
+solution_shown Report sets rows vars rounded places solution = report_shown sets rows vars rounded places solution
+solution_shown Plan sets rows vars rounded places solution = plan_shown sets solution
+solution_shown Multipliers sets rows vars rounded places solution = multipliers_shown sets solution
 
 -- ---- prices
 
@@ -72,9 +72,9 @@ status_of (found.Infeasible multipliers made) = Infeasible
 status_of (found.Unbounded plan direction made) = Unbounded
 
 -- the status and the text tell the solution, or at which price a number doesn't fit
-abbrev pub TellsSolution : SetLists → List Row → List Var → SolveShow → ℕ → Solution → Status → List ℕ → Type 0
-TellsSolution sets rows vars show rounded solution status text =
-    (PricesFitIn show rows solution × (status ≡ status_of solution) × (text ≡ solution_shown show sets rows vars rounded solution))
+abbrev pub TellsSolution : SetLists → List Row → List Var → SolveShow → ℕ → ℕ → Solution → Status → List ℕ → Type 0
+TellsSolution sets rows vars show rounded places solution status text =
+    (PricesFitIn show rows solution × (status ≡ status_of solution) × (text ≡ solution_shown show sets rows vars rounded places solution))
     ⊎ ((place : Place) × HasPriceWideAt show rows solution place × (status ≡ Uncertified (Width place)) × (text ≡ uncertified_line sets (Width place)))
 
 -- they tell why the method stopped; none tell that memory ran out

@@ -19,19 +19,19 @@ abbrev pub multiplier_file : SetLists → List (RowName × Rational) → List �
 multiplier_file sets multipliers = records_text (multiplier_records sets multipliers)
 
 -- of a model that is solved
-abbrev pub solved_shown : SolveShow → SetLists → List Var → List (Var × Rational) → List Row → List (RowName × Rational) → Rational → Rational → ℕ → ℕ → List ℕ
-solved_shown Report sets vars plan rows multipliers cost bound made rounded = report_text sets vars plan rows multipliers cost bound made rounded
-solved_shown Plan sets vars plan rows multipliers cost bound made rounded = plan_file sets plan
-solved_shown Multipliers sets vars plan rows multipliers cost bound made rounded = multiplier_file sets multipliers
+abbrev pub solved_shown : SolveShow → SetLists → List Var → List (Var × Rational) → List Row → List (RowName × Rational) → Rational → Rational → ℕ → ℕ → ℕ → List ℕ
+solved_shown Report sets vars plan rows multipliers cost bound made rounded places = report_text sets vars plan rows multipliers cost bound made rounded places
+solved_shown Plan sets vars plan rows multipliers cost bound made rounded places = plan_file sets plan
+solved_shown Multipliers sets vars plan rows multipliers cost bound made rounded places = multiplier_file sets multipliers
 
 -- of one that has no plan
-abbrev pub infeasible_shown : SolveShow → SetLists → List (RowName × Rational) → ℕ → ℕ → List ℕ
-infeasible_shown Report sets multipliers made rounded = infeasible_text made rounded
-infeasible_shown Plan sets multipliers made rounded = plan_file sets []
-infeasible_shown Multipliers sets multipliers made rounded = multiplier_file sets multipliers
+abbrev pub infeasible_shown : SolveShow → SetLists → List (RowName × Rational) → ℕ → ℕ → ℕ → List ℕ
+infeasible_shown Report sets multipliers made rounded places = infeasible_text made rounded places
+infeasible_shown Plan sets multipliers made rounded places = plan_file sets []
+infeasible_shown Multipliers sets multipliers made rounded places = multiplier_file sets multipliers
 
 -- of one whose cost has no bound
-abbrev pub unbounded_shown : SolveShow → SetLists → List (Var × Rational) → List (Var × Rational) → ℕ → ℕ → List ℕ
-unbounded_shown Report sets plan direction made rounded = unbounded_text sets direction made rounded
-unbounded_shown Plan sets plan direction made rounded = plan_file sets plan
-unbounded_shown Multipliers sets plan direction made rounded = multiplier_file sets []
+abbrev pub unbounded_shown : SolveShow → SetLists → List (Var × Rational) → List (Var × Rational) → ℕ → ℕ → ℕ → List ℕ
+unbounded_shown Report sets plan direction made rounded places = unbounded_text sets direction made rounded places
+unbounded_shown Plan sets plan direction made rounded places = plan_file sets plan
+unbounded_shown Multipliers sets plan direction made rounded places = multiplier_file sets []

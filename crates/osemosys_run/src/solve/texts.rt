@@ -15,8 +15,8 @@ use row_book::RowBook;
 use row_core::{Multipliers, Plan, Stopped};
 use std::alloc::{AllocError, Global};
 
-/// The text of what is to be shown of a solution of a book, of data of which so many numbers were rounded. A file of a plan or of
-/// multipliers that there aren't is its header alone.
+/// The text of what is to be shown of a solution of a book, of data of which so many numbers were rounded, and with written factors
+/// of so many decimal places. A file of a plan or of multipliers that there aren't is its header alone.
 ///
 /// `Width` comes exactly where a report is to be shown and a number that is formed for a price doesn't fit.
 pub fn solution_text(
@@ -26,16 +26,17 @@ pub fn solution_text(
     solution: &Solution,
     show: SolveShow,
     rounded: u64,
+    places: u8,
 ) -> Result<Vec<u8>, Stopped>
     requires listed { IsListedBook sets.now book.now.rows book.now.vars }
     requires complete { IsComplete book.now.vars solution.now }
     requires named { IsNamed book.now.rows solution.now }
-    ensures text { IfOk result (λ text. text.items ≡ solution_shown show sets.now book.now.rows book.now.vars rounded solution.now) }
+    ensures text { IfOk result (λ text. text.items ≡ solution_shown show sets.now book.now.rows book.now.vars rounded places solution.now) }
     ensures fits { OnOk result (PricesFitIn show book.now.rows solution.now) }
     ensures stopped { IfErr result (PricesAreStopped show book.now.rows solution.now) }
 {
     match show {
-        SolveShow::Report => report_of(alloc, book, sets, solution, rounded),
+        SolveShow::Report => report_of(alloc, book, sets, solution, rounded, places),
         SolveShow::Plan => Ok(plan_of(alloc, book, sets, solution)?),
         SolveShow::Multipliers => Ok(multipliers_of(alloc, book, sets, solution)?),
     }
@@ -48,10 +49,11 @@ fn report_of(
     sets: &Sets,
     solution: &Solution,
     rounded: u64,
+    places: u8,
 ) -> Result<Vec<u8>, Stopped>
     requires listed { IsListedBook sets.now book.now.rows book.now.vars }
     requires complete { IsComplete book.now.vars solution.now }
-    ensures text { IfOk result (λ text. text.items ≡ report_shown sets.now book.now.rows book.now.vars rounded solution.now) }
+    ensures text { IfOk result (λ text. text.items ≡ report_shown sets.now book.now.rows book.now.vars rounded places solution.now) }
     ensures fits { OnOk result (PricesFitIn shows.Report book.now.rows solution.now) }
     ensures stopped { IfErr result (PricesAreStopped shows.Report book.now.rows solution.now) }
 {
@@ -72,14 +74,17 @@ fn report_of(
             *bound,
             *pivots,
             rounded,
+            places,
             sets,
         ),
-        Solution::Infeasible { pivots, .. } => Ok(infeasible_report(alloc, *pivots, rounded)?),
+        Solution::Infeasible { pivots, .. } => Ok(infeasible_report(
+            alloc, *pivots, rounded, places,
+        )?),
         Solution::Unbounded {
             direction,
             pivots,
             ..
-        } => Ok(unbounded_report(alloc, direction, *pivots, rounded, sets)?),
+        } => Ok(unbounded_report(alloc, direction, *pivots, rounded, places, sets)?),
     }
 }
 
