@@ -1,5 +1,5 @@
 -- A row of a book defines variables of the book alone: so the place at which the exact method stops on it can be named, and so can what a solution has.
-use Rattle.std.proofs.Common.{◌≡◌, ◌≢◌, ℕ, ℤ, pos, ◌<ℤ◌, Bool, true, List, [], ◌∷◌, Some, inl, inr, refl, sym, subst, arith}
+use Rattle.std.proofs.Common.{◌≡◌, ◌≢◌, ℕ, ℤ, pos, ◌<ℤ◌, true, List, [], ◌∷◌, Some, inl, inr, refl, sym, subst, arith}
 use Rattle.std.proofs.lemmas.Int.{ints}
 use Rattle.std.specs.Prelude.{Contains}
 use Rattle.std.specs.List.{AllByRecursion}
@@ -29,7 +29,7 @@ use Rattle.exact_solver.proofs.BookLaws.{placed}
 use Rattle.command_words.specs.declared.any_command.SolveShow.{SolveShow}
 use Rattle.result_tables.specs.Prices.{balances, is_balance, price_step, price_steps}
 use Rattle.osemosys_run.specs.CheckedPlans.{IsListedBook}
-use Rattle.osemosys_run.specs.PlacesWithin.{IsRowOfSets, IsVariableOfSets, PlaceIsWithin}
+use Rattle.osemosys_run.specs.PlacesWithin.{IsRowOfSets, PlaceIsWithin}
 use Rattle.osemosys_run.specs.SolveOutcomes.{HasPriceWideAt}
 use Rattle.osemosys_run.proofs.EndPlaces.{EndIsWithin, end-within}
 use Rattle.osemosys_run.proofs.ListedBooks.{rows-named, vars-named}

@@ -1,5 +1,5 @@
 -- The place at which the exact method stops is that of a row or a variable of the sets, so its name can be written.
-use Rattle.std.proofs.Common.{◌≡◌, ℕ, ℤ, Bool, true, false, List, [], ◌∷◌, ◌++◌, map, filter, Option, Some, None, refl}
+use Rattle.std.proofs.Common.{◌≡◌, ℕ, ℤ, Bool, true, false, List, [], ◌∷◌, map, filter, Option, Some, None, refl}
 use Rattle.std.specs.Prelude.{⊤}
 use Rattle.std.specs.List.{AllByRecursion}
 use Rattle.exact_num.specs.Rational.{Rational}
@@ -10,26 +10,26 @@ use Rattle.row_core.specs.declared.RowName.{RowName}
 use Rattle.row_core.specs.declared.Var.{Var}
 use Rattle.row_core.specs.declared.place.Place.{Place}
 use Rattle.row_core.specs.declared.place.Place.TheVariants.{LiftDirection, LiftPlan}
-use Rattle.row_core.specs.Order.{row_name_cmp, var_cmp}
+use Rattle.row_core.specs.Order.{var_cmp}
 use Rattle.row_core.specs.Plans.{value_in}
 use Rattle.row_book.specs.Books.{HasNameWithin, IsWithinSets}
 use Rattle.row_book.proofs.Lists.{AllByRecursion-filter, AllByRecursion-map, AllByRecursion-weaker}
 use Rattle.certificate_checker.specs.Conditions.{steps}
-use Rattle.certificate_checker.specs.Costs.{model_cost, no_cost}
+use Rattle.certificate_checker.specs.Costs.{model_cost}
 use Rattle.certificate_checker.specs.Gaps.{gap_condition}
 use Rattle.certificate_checker.specs.MultiplierChecks.{bound_conditions, infeasible_conditions}
 use Rattle.certificate_checker.specs.PlanChecks.{direction_conditions, plan_conditions}
 use Rattle.written_method.specs.Definitions.{Definition, definitions_of, others_of}
 use Rattle.written_method.specs.Eliminated.{ReducedRow, elimination_steps, expanded_all, is_column, is_kept, reduced_row}
 use Rattle.written_method.specs.Lifted.{lifted_steps, lifted_value, no_right_side, right_side}
-use Rattle.written_method.specs.Multiplied.{defined_multipliers, defined_steps, multiplier_formed, scaled_multipliers, scaled_steps}
+use Rattle.written_method.specs.Multiplied.{defined_steps, scaled_multipliers, scaled_steps}
 use Rattle.written_method.specs.Solved.{IsInfeasible, IsOptimal, IsOutOfPivots, IsTooWide, IsUnbounded, Outcome, solved}
 use Rattle.std.specs.BTreeMap.{insert_entry}
 use Rattle.exact_solver.specs.Definers.{definers}
-use Rattle.exact_solver.specs.MethodEnds.{HasNoBound, HasNoPlan, HasOptimum, IsPivotDue, IsWide, MethodEnd, carried_end, descent_checks, method_end, multiplier_bound, optimum_checks, plan_cost, refutation_checks, unless_wide}
-use Rattle.exact_solver.specs.Programs.{carried_direction, carried_multipliers, carried_plan, carrying_steps, definitions_in, direction_steps, name_left, plan_steps, program_left, rows_left, scale_left}
+use Rattle.exact_solver.specs.MethodEnds.{HasNoBound, HasNoPlan, HasOptimum, IsPivotDue, IsWide, MethodEnd, carried_end, method_end, multiplier_bound, plan_cost, refutation_checks, unless_wide}
+use Rattle.exact_solver.specs.Programs.{carried_direction, carried_multipliers, carried_plan, carrying_steps, direction_steps, name_left, plan_steps, program_left, rows_left, scale_left}
 use Rattle.osemosys_run.specs.PlacesWithin.{IsRowOfSets, IsVariableOfSets, PlaceIsWithin}
-use Rattle.osemosys_run.proofs.MethodPlaces.{DefinesWithin, IsDefinitionWithin, IsNamedWithin, OutcomeIsWithin, definitions-within, elimination-within, others-within, solved-within}
+use Rattle.osemosys_run.proofs.MethodPlaces.{DefinesWithin, IsDefinitionWithin, OutcomeIsWithin, definitions-within, elimination-within, others-within, solved-within}
 use Rattle.osemosys_run.proofs.StepNames.{AreStepsWithin, both-within, bound-formed, direction-formed, plan-formed, refutation-formed, steps-within, wide-within}
 
 module _ (sets : SetLists) where

@@ -28,7 +28,7 @@ use Rattle.osemosys_run.specs.Mps.{DueForEquations}
 use Rattle.osemosys_run.specs.NotAccepted.{DueWhereNotAccepted}
 use Rattle.osemosys_run.specs.Reading.{BeganOne, Sight, most_bytes, IsWholeFile}
 use Rattle.osemosys_run.specs.Sending.{Delivers}
-use Rattle.osemosys_run.specs.Solve.{DueForEnd, DueForRows, DueForSolve}
+use Rattle.osemosys_run.specs.Solve.{DueForEnd, DueForSolve}
 use Rattle.command_words.specs.Words.{Request, Check, Mps, Solve, asked}
 use Rattle.osemosys_run.proofs.FilesRead.{rose-since}
 

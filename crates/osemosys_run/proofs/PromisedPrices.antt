@@ -1,5 +1,5 @@
 -- The multipliers of an optimum promise each price of its report.
-use Rattle.std.proofs.Common.{◌≡◌, ℕ, ℤ, pos, ◌<◌, List, [], ◌∷◌, map, inl, inr, refl, ap, subst}
+use Rattle.std.proofs.Common.{◌≡◌, ℕ, ℤ, pos, List, [], ◌∷◌, map, inl, inr, refl, ap, subst}
 use Rattle.std.specs.Prelude.{Contains}
 use Rattle.exact_num.specs.Rational.{Rational}
 use Rattle.model_sets.specs.Data.{Data}

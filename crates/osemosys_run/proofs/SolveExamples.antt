@@ -1,20 +1,18 @@
 -- What is due of solving, on examples and near misses.
-use Rattle.std.proofs.Common.{◌≡◌, ℕ, ℤ, pos, ◌<◌, ◌≤◌, List, [], ◌∷◌, refl, arith, inl, inr}
+use Rattle.std.proofs.Common.{◌≡◌, ℕ, pos, [], ◌∷◌, refl, arith}
 use Rattle.std.specs.Prelude.{codes}
 use Rattle.std.specs.Fmt.{digits}
 use Rattle.model_sets.specs.Data.{Data}
-use Rattle.row_core.specs.declared.Row.{Row}
-use Rattle.row_core.specs.declared.Var.{Var}
 use Rattle.named_equations.specs.Variables.{new_capacity, rate_of_activity, trade}
 use Rattle.exact_solver.specs.MethodEnds.{HasNoPlan, IsPivotDue}
 use Rattle.exact_solver.specs.Sizes.{column_count}
-use Rattle.command_words.specs.declared.any_command.SolveShow.TheVariants.{Report, Plan}
+use Rattle.command_words.specs.declared.any_command.SolveShow.TheVariants.{Report}
 use Rattle.osemosys_run.specs.declared.status.Status.TheVariants.{Infeasible, Unbounded}
 use Rattle.osemosys_run.specs.declared.status.Stop.TheVariants.{Budget}
 use Rattle.osemosys_run.specs.Codes.{code_of}
 use Rattle.osemosys_run.specs.Complete.{ComesToEnd}
 use Rattle.osemosys_run.specs.Lines.{too_large_line, uncertified_line}
-use Rattle.osemosys_run.specs.Solve.{IsWithinLimits, most_columns, most_rows}
+use Rattle.osemosys_run.specs.Solve.{IsWithinLimits}
 use Rattle.osemosys_run.specs.SolvedPlans.{HasNoLeastCost, NoneIsFeasible}
 use Rattle.osemosys_run.proofs.LineExamples.{two_regions}
 

@@ -58,8 +58,13 @@ use std::alloc::{AllocError, Global};
 /// whether the cost is at most PPM millionths of the bound above it. Status 0 where all this holds, and `Rejected` with the
 /// first condition that doesn't.
 ///
-/// Where the words, a file or what it says is refused, a number of a row or of a condition leaves 128 bits, or the rows have
-/// too many entries, one line says why. Memory may run out anywhere; then nothing is written.
+/// `solve FILE [--gap PPM] [--pivots N] [--places P] [--show report|plan|multipliers]` finds a plan of FILE that meets every named
+/// equation with right signs, and a bound that no such plan undercuts, which is its cost; or shows that there is no such plan
+/// (`Infeasible`), or that there are plans of any lower cost (`Unbounded`). It makes N pivots at most, 20,000 where the option is
+/// left out, and writes a report with prices of fuels, the plan, or the multipliers that prove the bound.
+///
+/// Where the words, a file or what it says is refused, a number leaves 128 bits, a pivot is due after the last that may be made,
+/// the rows have too many entries, or the linear program is too large, one line says why. Memory may run out anywhere; then nothing is written.
 pub fn osemosys<S: Shelf, K: Sink>(
     alloc: Global,
     words: &[String],

@@ -1,4 +1,4 @@
-use Rattle.std.proofs.Common.{◌≡◌, inr, ap, sym, ◌∙◌, subst}
+use Rattle.std.proofs.Common.{◌≡◌, inr, sym, subst}
 use Rattle.std.proofs.lemmas.Result.{IfOk-weaker, MatchResult-at_ok}
 use Rattle.model_sets.specs.Data.{AreSameData, Data}
 use Rattle.osemosys_run.specs.declared.one_file.Task.TheVariants.{Solve}

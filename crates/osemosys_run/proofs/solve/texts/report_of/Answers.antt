@@ -1,4 +1,4 @@
-use Rattle.std.proofs.Common.{◌≡◌, ◌∙◌, ap, ap₂, sym, subst, IfOk, List}
+use Rattle.std.proofs.Common.{◌∙◌, ap, ap₂, sym, subst}
 use Rattle.std.proofs.lemmas.Result.{IfOk-weaker}
 use Rattle.exact_num.specs.Value.{value_of}
 use Rattle.exact_solver.specs.Solutions.{IsComplete}
