@@ -1,7 +1,7 @@
 //! The smallest model: one region, technology, fuel, timeslice, mode and year, and defaults alone. Its plan of cost 80 and its
 //! multipliers of the bound 70 were worked out by hand.
 
-use crate::books::{carry_direction, carry_multipliers, carry_plan};
+use exact_solver::{carry_direction, carry_multipliers, carry_plan};
 use crate::lines::{multiplier_lines, plan_lines};
 use crate::models::{Left, SETS, answered, assert_left, book_of, program_of};
 use exact_num::Frac;
@@ -35,7 +35,7 @@ cost: 1 -2 RateOfActivity.0.0.0.0.0 -6 NewCapacity.0.0.0 = 0
 ];
 
 /// A value for each variable, of a plan of 10 of everything.
-const PLAN: &str = "RateOfActivity.0.0.0.0.0 10
+pub(crate) const PLAN: &str = "RateOfActivity.0.0.0.0.0 10
 NewCapacity.0.0.0 10
 Trade.0.0.0.0.0 0
 RateOfDemand.0.0.0.0 10

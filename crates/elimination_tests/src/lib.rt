@@ -1,10 +1,6 @@
-//! The elimination over the rows of a model: every book of rows meets what the elimination and the calls that carry back
-//! ask for, and tests of these calls. No crate stands on this one.
+//! Tests of the elimination over the rows of a model, of the calls that carry back, and of the exact method on small models. No crate
+//! stands on this one.
 #![tactic(auto)]
-
-mod books;
-
-pub use books::{BookProgram, carry_direction, carry_multipliers, carry_plan, eliminate_book};
 
 #[cfg(test)]
 mod base_example;
@@ -14,5 +10,7 @@ mod lines;
 mod models;
 #[cfg(test)]
 mod other_models;
+#[cfg(test)]
+mod solved_models;
 #[cfg(test)]
 mod wide_numbers;

@@ -1,9 +1,9 @@
 //! Small models, and what is left of their rows.
 
 ghost use Rattle.std.specs.Prelude.{IfOk};
-ghost use Rattle.elimination_tests.specs.BookPrograms.{IsProgramOf};
+ghost use Rattle.exact_solver.specs.BookPrograms.{IsProgramOf};
 
-use crate::books::{BookProgram, eliminate_book};
+use exact_solver::{BookProgram, eliminate_book};
 use crate::lines::program_lines;
 use data_tests::section;
 use mathprog_data::read_blocks;
@@ -48,7 +48,7 @@ pub(crate) fn answered<T>(answer: Result<T, Stopped>) -> Result<T, Fail> {
 
 /// What is left of the rows of a book.
 pub(crate) fn program_of(alloc: Global, book: &RowBook) -> Result<BookProgram, Fail>
-    ensures { IfOk result (IsProgramOf book.now.rows) }
+    ensures { IfOk result (IsProgramOf book.now.rows book.now.vars) }
 {
     match eliminate_book(alloc, book) {
         Ok(program) => Ok(program),

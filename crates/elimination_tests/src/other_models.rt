@@ -1,7 +1,7 @@
 //! Models with trade, emissions, ratios and several slices. The rows that are left were computed by a program of another kind,
 //! which puts exact fractions in place of the variables that are defined.
 
-use crate::books::carry_plan;
+use exact_solver::carry_plan;
 use crate::models::{Left, answered, assert_left, book_of, program_of};
 use row_core::kind_numbers::{NEW_CAPACITY, RATE_OF_ACTIVITY, TOTAL_DISCOUNTED_COST, TRADE};
 use row_core::{Index, Plan, Var, fraction};

@@ -2,9 +2,7 @@
 use Rattle.std.proofs.Common.{◌≡◌, ◌⊎◌, ℕ, inl, inr, Bool, true, false, if◌then◌else◌, List, [], ◌∷◌, Some, refl, sym, ◌∙◌, subst}
 use Rattle.std.proofs.lemmas.Option.{same_Some}
 use Rattle.std.specs.List.{AllByRecursion}
-use Rattle.exact_num.specs.Range.{all_fit}
 use Rattle.exact_num.specs.Rational.{Rational}
-use Rattle.exact_num.specs.Steps.{Step, first_wide}
 use Rattle.model_sets.specs.Members.{SetLists}
 use Rattle.row_core.specs.declared.Row.{Row}
 use Rattle.row_core.specs.declared.RowName.{RowName}
@@ -22,36 +20,15 @@ use Rattle.certificate_checker.specs.MultiplierChecks.{bound_conditions, column_
 use Rattle.certificate_checker.specs.PlanChecks.{plan_conditions, sign_condition}
 use Rattle.certificate_checker.specs.Reasons.{Reason, reason_of}
 use Rattle.osemosys_run.specs.PlacesWithin.{PlaceIsWithin, ReasonIsWithin, RejectionIsWithin}
+use Rattle.osemosys_run.proofs.StepNames.{AreFormedWithin, steps-within, wide-within}
 
--- ---- steps and conditions
+-- ---- conditions
 
 module _ (sets : SetLists) where
-  abbrev pub AreStepsWithin : List (Step Place) → Type 0
-  AreStepsWithin ss = AllByRecursion (λ s. PlaceIsWithin sets s.place) ss
-
   -- what is computed is at places of the sets, and so is what is said where the condition can fail
   pub record IsConditionWithin (c : Condition) : Type 0 where
-    pub seen : AreStepsWithin c.seen
-    pub amount : AreStepsWithin c.amount
+    pub formed : AreFormedWithin sets c
     pub said : (c.holds ≡ true) ⊎ ReasonIsWithin sets c.reason
-
-  wide-within : (ss : List (Step Place)) (place : Place) → AreStepsWithin ss → first_wide ss ≡ Some place → PlaceIsWithin sets place
-  unfolding first_wide
-  wide-within [] place within wide = absurd (cc wide)
-  wide-within (s ∷ ss) place within wide = cases (wide-within ss place within.1) (all_fit s.formed) wide
-    where
-      cases : (first_wide ss ≡ Some place → PlaceIsWithin sets place) → (b : Bool) → (if b then first_wide ss else Some s.place) ≡ Some place → PlaceIsWithin sets place
-      cases later true h = later h
-      cases later false h = subst (PlaceIsWithin sets) (same_Some _ _ h) within.0
-
-  steps-within : (cs : List Condition) → AllByRecursion IsConditionWithin cs → AreStepsWithin (steps cs)
-  steps-within [] within = tt
-  steps-within (c ∷ cs) within =
-      AllByRecursion-append (λ (s : Step Place). PlaceIsWithin sets s.place) c.seen (if c.holds then steps cs else c.amount) within.0.seen (cases (steps-within cs within.1) c.holds)
-    where
-      cases : AreStepsWithin (steps cs) → (b : Bool) → AreStepsWithin (if b then steps cs else c.amount)
-      cases later true = later
-      cases later false = within.0.amount
 
   fails-within : (cs : List Condition) (reason : Reason) → AllByRecursion IsConditionWithin cs → first_failing cs ≡ Some reason → ReasonIsWithin sets reason
   fails-within [] reason within fails = absurd (cc fails)
@@ -71,24 +48,24 @@ module _ (sets : SetLists) where
     pub plan-within : (plan : List (Var × Rational)) → AllByRecursion IsConditionWithin (plan_conditions model_cost rows vars plan)
     plan-within plan =
         AllByRecursion-append IsConditionWithin _ _
-        (AllByRecursion-map IsConditionWithin _ rows (AllByRecursion-weaker (HasNameWithin sets) _ (λ row of. record { seen = (of, tt); amount = tt; said = inr of }) rows named))
+        (AllByRecursion-map IsConditionWithin _ rows (AllByRecursion-weaker (HasNameWithin sets) _ (λ row of. record { formed = ((of, tt), tt); said = inr of }) rows named))
         (AllByRecursion-append IsConditionWithin _ _
         (AllByRecursion-map IsConditionWithin (sign_condition (value_in var_cmp plan)) vars
-        (AllByRecursion-weaker (IsWithinSets sets) (λ v. IsConditionWithin (sign_condition (value_in var_cmp plan) v)) (λ v of. record { seen = tt; amount = tt; said = inr of }) vars listed))
-        (record { seen = (tt, tt); amount = tt; said = inl refl }, tt))
+        (AllByRecursion-weaker (IsWithinSets sets) (λ v. IsConditionWithin (sign_condition (value_in var_cmp plan) v)) (λ v of. record { formed = (tt, tt); said = inr of }) vars listed))
+        (record { formed = ((tt, tt), tt); said = inl refl }, tt))
 
     pub bound-within : (multipliers : List (RowName × Rational)) → AllByRecursion IsConditionWithin (bound_conditions model_cost rows vars multipliers)
     bound-within multipliers =
         AllByRecursion-append IsConditionWithin _ _
         (AllByRecursion-map IsConditionWithin (multiplier_condition (value_in row_name_cmp multipliers)) rows
-        (AllByRecursion-weaker (HasNameWithin sets) (λ row. IsConditionWithin (multiplier_condition (value_in row_name_cmp multipliers) row)) (λ row of. record { seen = tt; amount = tt; said = inr of }) rows named))
+        (AllByRecursion-weaker (HasNameWithin sets) (λ row. IsConditionWithin (multiplier_condition (value_in row_name_cmp multipliers) row)) (λ row of. record { formed = (tt, tt); said = inr of }) rows named))
         (AllByRecursion-append IsConditionWithin _ _
         (AllByRecursion-map IsConditionWithin (column_condition model_cost rows (value_in row_name_cmp multipliers)) vars
-        (AllByRecursion-weaker (IsWithinSets sets) (λ v. IsConditionWithin (column_condition model_cost rows (value_in row_name_cmp multipliers) v)) (λ v of. record { seen = (of, tt); amount = (of, tt); said = inr of }) vars listed))
-        (record { seen = (tt, tt); amount = tt; said = inl refl }, tt))
+        (AllByRecursion-weaker (IsWithinSets sets) (λ v. IsConditionWithin (column_condition model_cost rows (value_in row_name_cmp multipliers) v)) (λ v of. record { formed = ((of, tt), (of, tt)); said = inr of }) vars listed))
+        (record { formed = ((tt, tt), tt); said = inl refl }, tt))
 
   pub gap-within : (cost bound : Rational) (gap : ℕ) → AllByRecursion IsConditionWithin (gap_condition cost bound gap ∷ [])
-  gap-within cost bound gap = (record { seen = (tt, tt); amount = tt; said = inr tt }, tt)
+  gap-within cost bound gap = (record { formed = ((tt, tt), tt); said = inr tt }, tt)
 
   -- ---- what is said of them
 
@@ -96,4 +73,5 @@ module _ (sets : SetLists) where
   fails-named cs rejection within fails = fails-within cs (reason_of rejection) within fails.fails
 
   pub wide-named : (cs : List Condition) (place : Place) → AllByRecursion IsConditionWithin cs → IsWideAt cs place → PlaceIsWithin sets place
-  wide-named cs place within wide = wide-within (steps cs) place (steps-within cs within) wide
+  wide-named cs place within wide =
+      wide-within sets (steps cs) place (steps-within sets cs (AllByRecursion-weaker IsConditionWithin (AreFormedWithin sets) (λ c of. of.formed) cs within)) wide

@@ -6,14 +6,17 @@ use Rattle.row_core.specs.declared.Row.{Row}
 use Rattle.row_core.specs.declared.RowName.{RowName}
 use Rattle.row_core.specs.declared.Var.{Var}
 use Rattle.row_core.specs.Kinds.{kind_is_free}
+use Rattle.row_core.specs.Order.{var_cmp}
+use Rattle.row_core.specs.Values.{IsOver}
 use Rattle.named_equations.specs.Instances.{instances}
 use Rattle.named_equations.specs.Plans.{Feasible, MeetsEach, cost}
 use Rattle.named_equations.proofs.InstanceTests.{Has, Has-from_Contains, Contains-from_Has}
 use Rattle.row_book.specs.Books.{AreRowsOf}
 use Rattle.certificate_checker.specs.Certificates.{BoundsAll}
 use Rattle.certificate_checker.specs.Costs.{cost_of, model_cost}
-use Rattle.certificate_checker.specs.Plans.{AllStand, HaveRightSigns, IsRight, MeetsAll}
-use Rattle.osemosys_run.specs.CheckedPlans.{BoundsFeasible, IsBookOf}
+use Rattle.certificate_checker.specs.Denominators.{AreOverSome}
+use Rattle.certificate_checker.specs.Plans.{AllStand, AreValuesOver, HaveRightSigns, IsRight, MeetsAll}
+use Rattle.osemosys_run.specs.CheckedPlans.{AreFeasible, BoundsFeasible, IsBookOf}
 use Rattle.osemosys_run.proofs.PlanCosts.{cost-is}
 
 -- ---- rows and equations
@@ -74,3 +77,12 @@ module _ (places : ℕ) (d : Data) (rows : List Row) (vars : List Var) (book : I
   pub bounds-feasible : (bound : Rational) → BoundsAll model_cost rows vars bound → BoundsFeasible places d bound
   bounds-feasible bound bounds = λ q x feasible.
       subst (λ (z : ℤ). (bound.top *ℤ pos q) ≤ℤ (z *ℤ bound.bottom)) (costs-same x) (bounds q x (rows-from_feasible q x feasible))
+
+  -- values that meet all rows are a feasible plan, and cost what they do over the rows
+  pub are-feasible : (plan : List (Var × Rational)) (amount : Rational) → AreOverSome var_cmp plan
+      → ((q : ℕ) (x : Var → ℤ) → AreValuesOver q x plan → MeetsAll rows vars q x × IsOver (pos q) amount (cost_of model_cost vars x)) → AreFeasible places d plan amount
+  are-feasible plan amount some meets = record {
+    some = some;
+    feasible = λ q x over. feasible-from_rows q x (meets q x over).0;
+    costs = λ q x over. subst (λ (z : ℤ). IsOver (pos q) amount z) (costs-same x) (meets q x over).1;
+  }

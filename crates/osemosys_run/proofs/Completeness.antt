@@ -4,6 +4,8 @@ use Rattle.std.proofs.lemmas.Int.{ints}
 use Rattle.std.proofs.lemmas.Option.{same_Some}
 use Rattle.exact_num.specs.Rational.{Rational, whole}
 use Rattle.exact_num.specs.Steps.{first_wide}
+use Rattle.mathprog_data.specs.Meaning.{Blocks}
+use Rattle.mathprog_data.specs.Verdicts.{Says}
 use Rattle.model_sets.specs.Data.{Data}
 use Rattle.model_sets.specs.Members.{SetLists}
 use Rattle.row_core.specs.declared.Row.{Row}
@@ -32,25 +34,24 @@ use Rattle.row_core.specs.declared.place.Place.{Place}
 use Rattle.row_book.specs.Books.{AreRowsOf, CanBeMade, HasStopped}
 use Rattle.row_book.specs.declared.fail.BookFail.{BookFail}
 use Rattle.row_book.specs.declared.fail.BookFail.TheVariants as book
-use Rattle.io_edges.specs.Count.{Rose}
 use Rattle.osemosys_run.specs.declared.status.Status.{Status}
-use Rattle.osemosys_run.specs.declared.status.Status.TheVariants.{Done, Uncertified, Refused, Words, ReadFault, WriteFault, Memory, Rejected}
+use Rattle.osemosys_run.specs.declared.status.Status.TheVariants.{Done, Refused}
 use Rattle.osemosys_run.specs.declared.status.Refusal.TheVariants as refusals
 use Rattle.command_words.specs.declared.fault.WordFault.{WordFault}
 use Rattle.osemosys_run.specs.Accepted.{Accepted}
-use Rattle.osemosys_run.specs.Complete.{AreInGap, AreThereIfNamed, CanBeAccepted, CanBeWritten, Completes}
+use Rattle.osemosys_run.specs.Complete.{AreInGap, AreThereIfNamed, CanBeAccepted, CanBeWritten}
 use Rattle.osemosys_run.specs.Due.{Due, DueForFile, DueForOptionalFile, DueForRequest, DueForText}
 use Rattle.osemosys_run.specs.Check.{DueForCheck, DueForMultiplierFile, DueForPlan, DueForPlanFile, IsRejected, TellsMultipliers, check_conditions, multiplier_bound, plan_cost}
 use Rattle.osemosys_run.specs.Lines.{too_long_line}
 use Rattle.osemosys_run.specs.Mps.{DueForEquations}
 use Rattle.osemosys_run.specs.NotAccepted.{DueWhereNotAccepted}
 use Rattle.osemosys_run.specs.Reading.{most_bytes}
-use Rattle.osemosys_run.specs.Sending.{Delivers}
 use Rattle.command_words.specs.Words.{Request}
 use Rattle.osemosys_run.proofs.OutcomeLaws.{fails-parts, of_bound, of_gap, of_plan}
 
 -- what the laws of acceptance, of plan files and of the book say
 pub record Laws : Type 0 where
+  pub one_reading : (text : List ℕ) (blocks others : Blocks) → Says text blocks → Says text others → blocks ≡ others
   pub one_data : (text : List ℕ) (d e : Data) → Accepted text d → Accepted text e → d ≡ e
   pub not_both : (text : List ℕ) (d : Data) (status : Status) (line : List ℕ) → Accepted text d → DueWhereNotAccepted text status line → ⊥
   pub one_plan : (sets : SetLists) (vars : List Var) (all : List Fields) (p q : List (Var × Rational)) → IsPlan sets vars all p → IsPlan sets vars all q → p ≡ q
@@ -65,21 +66,22 @@ width_or_memory place e = cc e
 many_or_memory : book.TooManyEntries ≡ book.Memory → ⊥
 many_or_memory e = cc e
 
-equations_done : Laws → (places : ℕ) (d : Data) (status : Status) (text : List ℕ) → CanBeMade places d 0 (instances d) → DueForEquations places d status text → status ≡ Done
+pub equations_done : Laws → (places : ℕ) (d : Data) (status : Status) (text : List ℕ) → CanBeMade places d 0 (instances d) → DueForEquations places d status text → status ≡ Done
 equations_done laws places d status text can (inl written) = written.status_is
 equations_done laws places d status text can (inr (inl wide)) =
     absurd (width_or_memory (Place.Row wide.name) (laws.made places d 0 (instances d) (book.Width (Place.Row wide.name)) can (wide.name, refl, wide.wide)))
 equations_done laws places d status text can (inr (inr many)) = absurd (many_or_memory (laws.made places d 0 (instances d) book.TooManyEntries can (many.name, many.many)))
 
 -- over an accepted text nothing else is due than over its data
-over_accepted : Laws → (Over : Data → Status → List ℕ → Type 0) (bytes : List ℕ) (d : Data) (status : Status) (text : List ℕ) → Accepted bytes d
-    → DueForText Over bytes status text → Over d status text
+pub over_accepted : Laws → (Over : ℕ → Data → Status → List ℕ → Type 0) (bytes : List ℕ) (d : Data) (status : Status) (text : List ℕ) → (accepted : Accepted bytes d)
+    → DueForText Over bytes status text → Over accepted.blocks.rounded d status text
 over_accepted laws Over bytes d status text accepted (inl refused) = absurd (laws.not_both bytes d status text accepted refused)
 over_accepted laws Over bytes d status text accepted (inr said) =
-    subst (λ (e : Data). Over e status text) (laws.one_data bytes said.0 d said.1 accepted) said.2
+    subst (λ (e : Data). Over accepted.blocks.rounded e status text) (laws.one_data bytes said.0 d said.1 accepted)
+    (subst (λ (blocks : Blocks). Over blocks.rounded said.0 status text) (laws.one_reading bytes said.1.blocks accepted.blocks said.1.says accepted.says) said.2)
 
 -- over a file that isn't too long what is due is what is due over its bytes
-over_short : (Over : List ℕ → Status → List ℕ → Type 0) (number : ℕ) (bytes : List ℕ) (status : Status) (text : List ℕ) → length bytes ≤ most_bytes → DueForFile Over number (Some bytes) status text → Over bytes status text
+pub over_short : (Over : List ℕ → Status → List ℕ → Type 0) (number : ℕ) (bytes : List ℕ) (status : Status) (text : List ℕ) → length bytes ≤ most_bytes → DueForFile Over number (Some bytes) status text → Over bytes status text
 over_short Over number bytes status text short due =
     let not_long : nat_lt most_bytes (length bytes) ≡ false = le-ltb most_bytes (length bytes) short in
     subst (λ (b : Bool). MatchBool b ((status ≡ Refused (refusals.TooLong number)) × (text ≡ too_long_line number)) (Over bytes status text)) not_long due
@@ -134,9 +136,9 @@ module _ (places : ℕ) (d : Data) (rows : List Row) (are_rows : AreRowsOf place
 written_from_due : Laws → (words : List (List ℕ)) (files : List (List ℕ × List ℕ)) (status : Status) (text : List ℕ) → Due words files status text → CanBeWritten words files → status ≡ Done
 written_from_due laws words files status text due can =
     let for_file = subst (λ (request : Result Request WordFault). DueForRequest request files status text) can.asks due in
-    let for_bytes = subst (λ (file : Option (List ℕ)). DueForFile (DueForText (DueForEquations can.places)) 1 file status text) can.there for_file in
-    let for_text = over_short (DueForText (DueForEquations can.places)) 1 can.bytes status text can.accepted.short for_bytes in
-    equations_done laws can.places can.d status text can.made (over_accepted laws (DueForEquations can.places) can.bytes can.d status text can.accepted for_text)
+    let for_bytes = subst (λ (file : Option (List ℕ)). DueForFile (DueForText (λ rounded. DueForEquations can.places)) 1 file status text) can.there for_file in
+    let for_text = over_short (DueForText (λ rounded. DueForEquations can.places)) 1 can.bytes status text can.accepted.short for_bytes in
+    equations_done laws can.places can.d status text can.made (over_accepted laws (λ rounded. DueForEquations can.places) can.bytes can.d status text can.accepted for_text)
 
 -- over the file of multipliers, if one is named
 over_named : (Over : Option (List ℕ) → Status → List ℕ → Type 0) (files : List (List ℕ × List ℕ)) (name bytes : Option (List ℕ)) (status : Status) (text : List ℕ)
@@ -175,7 +177,7 @@ module _ (laws : Laws) (words : List (List ℕ)) (files : List (List ℕ × List
 
 accepted_from_due : Laws → (words : List (List ℕ)) (files : List (List ℕ × List ℕ)) (status : Status) (text : List ℕ) → Due words files status text → CanBeAccepted words files → status ≡ Done
 accepted_from_due laws words files status text due can =
-    let third : List ℕ → List ℕ → Option (List ℕ) → Status → List ℕ → Type 0 = λ bytes plan_bytes multiplier_bytes. DueForText (DueForCheck can.places plan_bytes multiplier_bytes can.gap) bytes in
+    let third : List ℕ → List ℕ → Option (List ℕ) → Status → List ℕ → Type 0 = λ bytes plan_bytes multiplier_bytes. DueForText (λ rounded. DueForCheck can.places plan_bytes multiplier_bytes can.gap) bytes in
     let second : List ℕ → List ℕ → Status → List ℕ → Type 0 = λ bytes plan_bytes. DueForOptionalFile (third bytes plan_bytes) 3 files can.multiplier_name in
     let first : List ℕ → Status → List ℕ → Type 0 = λ bytes. DueForFile (second bytes) 2 (file_named files can.plan_name) in
     let for_files = subst (λ (request : Result Request WordFault). DueForRequest request files status text) can.asks due in
@@ -183,20 +185,8 @@ accepted_from_due laws words files status text due can =
     let for_plan = over_short (second can.bytes) 2 can.plan_bytes status text can.plan_short (subst (λ (file : Option (List ℕ)). DueForFile (second can.bytes) 2 file status text) can.plan_there for_bytes) in
     let for_text = over_named (third can.bytes can.plan_bytes) files can.multiplier_name can.multiplier_bytes status text can.multipliers_there for_plan in
     data_accepted laws words files status text can
-    (over_accepted laws (DueForCheck can.places can.plan_bytes can.multiplier_bytes can.gap) can.bytes can.d status text can.accepted for_text)
+    (over_accepted laws (λ rounded. DueForCheck can.places can.plan_bytes can.multiplier_bytes can.gap) can.bytes can.d status text can.accepted for_text)
 
-done_from_due : Laws → (words : List (List ℕ)) (files : List (List ℕ × List ℕ)) (status : Status) (text : List ℕ) → Due words files status text → CanBeWritten words files ⊎ CanBeAccepted words files → status ≡ Done
+pub done_from_due : Laws → (words : List (List ℕ)) (files : List (List ℕ × List ℕ)) (status : Status) (text : List ℕ) → Due words files status text → CanBeWritten words files ⊎ CanBeAccepted words files → status ≡ Done
 done_from_due laws words files status text due (inl can) = written_from_due laws words files status text due can
 done_from_due laws words files status text due (inr can) = accepted_from_due laws words files status text due can
-
--- over a sink without a fault what is delivered is that
-pub completes : Laws → (words : List (List ℕ)) (files : List (List ℕ × List ℕ)) (status : Status) (before after : Option (List ℕ)) (f f' : ℕ)
-    → Delivers (Due words files) status before after f f' → (Rose f f' → ⊥) → Completes words files status
-completes laws words files Done before after f f' d calm can = inl refl
-completes laws words files (Uncertified stop) before after f f' d calm can = inl (done_from_due laws words files (Uncertified stop) d.0 d.1 can)
-completes laws words files (Refused refusal) before after f f' d calm can = inl (done_from_due laws words files (Refused refusal) d.0 d.1 can)
-completes laws words files (Words fault) before after f f' d calm can = inl (done_from_due laws words files (Words fault) d.0 d.1 can)
-completes laws words files (ReadFault stop) before after f f' d calm can = inl (done_from_due laws words files (ReadFault stop) d.0 d.1 can)
-completes laws words files WriteFault before after f f' d calm can = absurd (calm d.0)
-completes laws words files (Rejected rejection) before after f f' d calm can = inl (done_from_due laws words files (Rejected rejection) d.0 d.1 can)
-completes laws words files Memory before after f f' d calm can = inr refl

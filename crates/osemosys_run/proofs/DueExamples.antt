@@ -12,7 +12,7 @@ use Rattle.osemosys_run.specs.declared.status.ReadStop.TheVariants as stops
 use Rattle.io_edges.specs.Count.{Rose}
 use Rattle.io_edges.specs.Edges.{Lacks}
 use Rattle.osemosys_run.specs.Causes.{Caused, CausedByFile, FollowsFromText}
-use Rattle.osemosys_run.specs.Complete.{CanBeAccepted, CanBeWritten, Completes}
+use Rattle.osemosys_run.specs.Complete.{CanBeAccepted, CanBeSolved, CanBeWritten, Completes}
 use Rattle.osemosys_run.specs.Due.{Due, DueForFile, DueForText}
 use Rattle.osemosys_run.specs.Lines.{too_long_line}
 use Rattle.osemosys_run.specs.Mps.{DueForEquations}
@@ -26,11 +26,14 @@ use Rattle.osemosys_run.specs.Sending.{Delivers}
 -- the statuses that `mps` has over the bytes of its file
 abbrev Comes : Status → Type 0
 Comes Done = ⊤
+Comes Infeasible = ⊥
+Comes Unbounded = ⊥
 Comes (Uncertified stop) = ⊤
 Comes (Refused (refusals.Text fault)) = ⊤
 Comes (Refused (refusals.Sets fault)) = ⊤
 Comes (Refused (refusals.Build fault)) = ⊤
 Comes (Refused refusals.TooManyEntries) = ⊤
+Comes (Refused (refusals.TooLarge rows columns)) = ⊥
 Comes (Refused (refusals.PlanFile fault)) = ⊥
 Comes (Refused (refusals.MultiplierFile fault)) = ⊥
 Comes (Refused (refusals.TooLong file)) = ⊥
@@ -50,7 +53,7 @@ comes_of_refusal bytes status text (inl refused) = subst Comes (sym refused.stat
 comes_of_refusal bytes status text (inr (blocks, says, inl refused)) = subst Comes (sym refused.status_is) tt
 comes_of_refusal bytes status text (inr (blocks, says, inr refused)) = subst Comes (sym refused.status_is) tt
 
-comes_of : (places : ℕ) (bytes : List ℕ) (status : Status) (text : List ℕ) → DueForText (DueForEquations places) bytes status text → Comes status
+comes_of : (places : ℕ) (bytes : List ℕ) (status : Status) (text : List ℕ) → DueForText (λ rounded. DueForEquations places) bytes status text → Comes status
 comes_of places bytes status text (inl refused) = comes_of_refusal bytes status text refused
 comes_of places bytes status text (inr said) = comes_of_equations places said.0 status text said.2
 
@@ -82,14 +85,14 @@ other_fault : (line : List ℕ) → Due (codes "mps" ∷ []) (with_file []) (Wor
 other_fault line h = cc h.0
 
 -- a file of 64 MiB and a byte is too long, and one of 64 MiB isn't
-too_long_due : (bytes : List ℕ) → length bytes ≡ 67108865 → DueForFile (DueForText (DueForEquations 6)) 1 (Some bytes) (Refused (refusals.TooLong 1)) (codes "refused too long file 1\n")
+too_long_due : (bytes : List ℕ) → length bytes ≡ 67108865 → DueForFile (DueForText (λ rounded. DueForEquations 6)) 1 (Some bytes) (Refused (refusals.TooLong 1)) (codes "refused too long file 1\n")
 unfolding digits
 too_long_due bytes e =
     let longer : nat_lt most_bytes (length bytes) ≡ true = ap (nat_lt most_bytes) e in
-    subst (λ (b : Bool). MatchBool b ((Refused (refusals.TooLong 1) ≡ Refused (refusals.TooLong 1)) × (codes "refused too long file 1\n" ≡ too_long_line 1)) (DueForText (DueForEquations 6) bytes (Refused (refusals.TooLong 1)) (codes "refused too long file 1\n")))
+    subst (λ (b : Bool). MatchBool b ((Refused (refusals.TooLong 1) ≡ Refused (refusals.TooLong 1)) × (codes "refused too long file 1\n" ≡ too_long_line 1)) (DueForText (λ rounded. DueForEquations 6) bytes (Refused (refusals.TooLong 1)) (codes "refused too long file 1\n")))
     (sym longer) (refl, refl)
 
-not_too_long : (bytes line : List ℕ) → length bytes ≡ 67108864 → DueForFile (DueForText (DueForEquations 6)) 1 (Some bytes) (Refused (refusals.TooLong 1)) line → DueForText (DueForEquations 6) bytes (Refused (refusals.TooLong 1)) line
+not_too_long : (bytes line : List ℕ) → length bytes ≡ 67108864 → DueForFile (DueForText (λ rounded. DueForEquations 6)) 1 (Some bytes) (Refused (refusals.TooLong 1)) line → DueForText (λ rounded. DueForEquations 6) bytes (Refused (refusals.TooLong 1)) line
 not_too_long bytes line e h = rw e at h
 
 -- ---- what is due of several files
@@ -188,7 +191,7 @@ failed_at_last = inr (record { files = refl; begins = refl; faults = omega arith
 
 -- the file that was read, or at which the work stopped, as `mps` has it
 abbrev ByFile : List ℕ → Sight → Sight → Status → List ℕ → Type 0
-ByFile name before after status line = CausedByFile (FollowsFromText (DueForEquations 6) after status line) 1 name before after status line
+ByFile name before after status line = CausedByFile (FollowsFromText (λ rounded. DueForEquations 6) after status line) 1 name before after status line
 
 -- no read fault where it didn't
 rose_at_failure : (name line : List ℕ) (before after : Sight) → ByFile name before after (ReadFault (stops.Failed 1)) line → Rose before.faults after.faults
@@ -293,15 +296,20 @@ nothing_asked files can = cc can.asks
 nothing_to_check : (files : List (List ℕ × List ℕ)) → CanBeAccepted [] files → ⊥
 nothing_to_check files can = cc can.asks
 
+nothing_to_solve : (files : List (List ℕ × List ℕ)) → CanBeSolved [] files → ⊥
+nothing_to_solve files can = cc can.asks
+
 -- a file that isn't there, and one of another name
 not_there : CanBeWritten mps_file [] → ⊥
 not_there can = cc can.there
 
 -- a file that can't be written may have any status; one that can has no refusal
 no_claim : (status : Status) → Completes [] [] status
-no_claim status (inl can) = absurd (nothing_asked [] can)
-no_claim status (inr can) = absurd (nothing_to_check [] can)
+no_claim status = record {
+  done = λ can. elim can [ inl can ↦ absurd (nothing_asked [] can) | inr can ↦ absurd (nothing_to_check [] can) ];
+  ended = λ can. absurd (nothing_to_solve [] can);
+}
 
 not_refused : (words : List (List ℕ)) (files : List (List ℕ × List ℕ)) → CanBeWritten words files → Completes words files (Refused refusals.TooManyEntries) → ⊥
 not_refused words files can completes =
-    elim (completes (inl can)) [ inl done ↦ let same : Refused refusals.TooManyEntries ≡ Done = done in cc same | inr memory ↦ let same : Refused refusals.TooManyEntries ≡ Memory = memory in cc same ]
+    elim (completes.done (inl can)) [ inl done ↦ let same : Refused refusals.TooManyEntries ≡ Done = done in cc same | inr memory ↦ let same : Refused refusals.TooManyEntries ≡ Memory = memory in cc same ]

@@ -6,7 +6,7 @@ use Rattle.io_edges.specs.Edges.{Lacks}
 use Rattle.osemosys_run.specs.declared.reading.ReadEnd.{ReadEnd}
 use Rattle.osemosys_run.specs.declared.reading.ReadEnd.TheVariants as ends
 use Rattle.osemosys_run.specs.declared.status.Status.{Status}
-use Rattle.osemosys_run.specs.declared.status.Status.TheVariants.{Done, Uncertified, Refused, Words, ReadFault, WriteFault, Memory, Rejected}
+use Rattle.osemosys_run.specs.declared.status.Status.TheVariants.{Done, Infeasible, Unbounded, Uncertified, Refused, Words, ReadFault, WriteFault, Memory, Rejected}
 use Rattle.osemosys_run.specs.declared.status.Refusal.TheVariants as refusals
 use Rattle.osemosys_run.specs.declared.status.ReadStop.TheVariants as stops
 use Rattle.command_words.specs.declared.fault.WordFault.{WordFault}
@@ -16,7 +16,8 @@ use Rattle.osemosys_run.specs.Mps.{DueForEquations}
 use Rattle.osemosys_run.specs.ReadEnds.{TellsEnd}
 use Rattle.osemosys_run.specs.Reading.{Sight, HasNothingLeft, IsTooLong, most_bytes}
 use Rattle.osemosys_run.specs.ReadToEnd.{IsReadAtWriteFault, IsReadToEnd}
-use Rattle.command_words.specs.Words.{Request, Check, Mps, asked}
+use Rattle.osemosys_run.specs.Solve.{DueForSolve}
+use Rattle.command_words.specs.Words.{Request, Check, Mps, Solve, asked}
 use Rattle.osemosys_run.proofs.FilesRead.{Reaches, Reaches-itself, by_file, by_optional_file, rose-since}
 
 -- where the reading of a file ends for a cause, the answer that tells it has that cause
@@ -32,12 +33,15 @@ stops_at_file number name before after ends.Memory status text told lacks left r
 -- where nothing is left, the file was read to its end at any answer
 none_left : (words : List (List ℕ)) (before after : Sight) (status : Status) → status ≢ WriteFault → HasNothingLeft before after → IsReadToEnd words before after status
 none_left words before after Done other left = left
+none_left words before after Infeasible other left = left
+none_left words before after Unbounded other left = left
 none_left words before after (Uncertified stop) other left = left
 none_left words before after (Refused (refusals.Text fault)) other left = left
 none_left words before after (Refused (refusals.Sets fault)) other left = left
 none_left words before after (Refused (refusals.Build fault)) other left = left
 none_left words before after (Refused (refusals.TooLong number)) other left = tt
 none_left words before after (Refused refusals.TooManyEntries) other left = left
+none_left words before after (Refused (refusals.TooLarge rows columns)) other left = left
 none_left words before after (Refused (refusals.PlanFile fault)) other left = left
 none_left words before after (Refused (refusals.MultiplierFile fault)) other left = left
 none_left words before after (Words fault) other left = tt
@@ -61,13 +65,18 @@ by_cause words before after status text Goal refused read stopped caused = by_re
     by_request : (request : Result Request WordFault) → CausedByRequest request before after status text → Goal request
     by_request (Err fault) c = refused fault c.0
     by_request (Ok (Mps name places)) c =
-        by_file before after status text (Goal (Ok (Mps name places))) (FollowsFromText (DueForEquations places) after status text) 1 name before (Reaches-itself before)
+        by_file before after status text (Goal (Ok (Mps name places))) (FollowsFromText (λ rounded. DueForEquations places) after status text) 1 name before (Reaches-itself before)
         (λ there bytes reached left follows. read (Mps name places) (left_alone before there after left follows.0))
         (stopped (Mps name places) 1 name before) c
+    by_request (Ok (Solve name gap pivots places show)) c =
+        let request = Solve name gap pivots places show in
+        by_file before after status text (Goal (Ok request)) (FollowsFromText (DueForSolve places gap pivots show) after status text) 1 name before (Reaches-itself before)
+        (λ there bytes reached left follows. read request (left_alone before there after left follows.0))
+        (stopped request 1 name before) c
     by_request (Ok (Check name plan multipliers gap places)) c =
         let request = Check name plan multipliers gap places in
         let third : List ℕ → List ℕ → Sight → Option (List ℕ) → Type 0 =
-        λ bytes plan_bytes there multiplier_bytes. FollowsFromText (DueForCheck places plan_bytes multiplier_bytes gap) after status text there bytes in
+        λ bytes plan_bytes there multiplier_bytes. FollowsFromText (λ rounded. DueForCheck places plan_bytes multiplier_bytes gap) after status text there bytes in
         let second_then : List ℕ → Sight → List ℕ → Type 0 = λ bytes second plan_bytes. CausedByOptionalFile (third bytes plan_bytes) 3 multipliers second after status text in
         let first_then : Sight → List ℕ → Type 0 = λ first bytes. CausedByFile (second_then bytes) 2 plan first after status text in
         by_file before after status text (Goal (Ok request)) first_then 1 name before (Reaches-itself before)

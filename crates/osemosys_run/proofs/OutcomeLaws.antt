@@ -13,7 +13,6 @@ use Rattle.row_core.specs.Order.{var_cmp}
 use Rattle.row_core.specs.Plans.{value_in}
 use Rattle.row_core.specs.Values.{IsOver}
 use Rattle.named_equations.specs.Existence.{all_variables}
-use Rattle.named_equations.specs.Plans as equations
 use Rattle.certificate_checker.specs.declared.verdicts.Rejection.{Rejection}
 use Rattle.certificate_checker.specs.Certificates.{BoundsAll}
 use Rattle.certificate_checker.specs.Conditions.{Condition, AllPass, FailsFor, IsWideAt, first_failing, steps}
@@ -27,9 +26,9 @@ use Rattle.certificate_checker.specs.Reasons.{Reason, reason_of}
 use Rattle.certificate_checker.proofs.ConditionLaws.{fails_before, passed_first, passes_all, wide_before}
 use Rattle.osemosys_run.specs.declared.check.outcome.Outcome.TheVariants.{Accepted, Rejected, Wide}
 use Rattle.osemosys_run.specs.Check.{check_conditions, multiplier_bound, plan_cost}
-use Rattle.osemosys_run.specs.CheckedPlans.{AreNotFeasible, BoundsFeasible, IsBookOf}
+use Rattle.osemosys_run.specs.CheckedPlans.{AreFeasible, AreNotFeasible, BoundsFeasible, IsBookOf}
 use Rattle.osemosys_run.specs.CheckOutcomes.{IsCheckedBound, IsCheckedPlan, IsOutcome}
-use Rattle.osemosys_run.proofs.CheckedRows.{bounds-feasible, costs-same, feasible-from_rows, rows-from_feasible}
+use Rattle.osemosys_run.proofs.CheckedRows.{are-feasible, bounds-feasible, rows-from_feasible}
 use Rattle.osemosys_run.proofs.PlanCosts.{all-of}
 
 -- the same rows and variables are as much a book
@@ -51,11 +50,7 @@ module _ (places : ℕ) (d : Data) (rows : List Row) (vars : List Var) (book : I
       let cost_is : cost ≡ plan_cost d plan = is ∙ ap (λ vs. cost_value model_cost vs (value_in var_cmp plan)) vars-are in
       record {
         pass = subst (λ vs. AllPass (plan_conditions model_cost rows vs plan)) vars-are pass;
-        feasible = record {
-          some = some;
-          feasible = λ q x over. feasible-from_rows places d rows vars book q x (meets q x over).0;
-          costs = λ q x over. subst (λ (c : Rational). IsOver (pos q) c (equations.cost d x)) cost_is (subst (λ (z : ℤ). IsOver (pos q) cost z) (costs-same places d rows vars book x) (meets q x over).1);
-        };
+        feasible = subst (λ c. AreFeasible places d plan c) cost_is (are-feasible places d rows vars book plan cost some meets);
         cost_is = cost_is;
       }
 

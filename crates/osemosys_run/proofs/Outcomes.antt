@@ -6,12 +6,15 @@ use Rattle.row_core.specs.declared.Row.{Row}
 use Rattle.row_core.specs.declared.RowName.{RowName}
 use Rattle.row_core.specs.declared.Var.{Var}
 use Rattle.row_core.specs.declared.place.Place.{Place}
+use Rattle.named_equations.specs.Existence.{all_variables}
+use Rattle.exact_solver.specs.Sizes.{column_count, inequality_count}
+use Rattle.command_words.specs.declared.any_command.SolveShow.{SolveShow}
 use Rattle.io_edges.specs.Count.{Rose}
 use Rattle.io_edges.specs.Edges.{Lacks}
 use Rattle.io_edges.specs.Files.{file_named}
 use Rattle.io_edges.specs.Told.{WhereTold}
 use Rattle.osemosys_run.specs.declared.status.Status.{Status}
-use Rattle.osemosys_run.specs.declared.status.Status.TheVariants.{Done, Uncertified, Refused, Words, ReadFault, WriteFault, Memory, Rejected}
+use Rattle.osemosys_run.specs.declared.status.Status.TheVariants.{Done, Infeasible, Unbounded, Uncertified, Refused, Words, ReadFault, WriteFault, Memory, Rejected}
 use Rattle.osemosys_run.specs.declared.status.Refusal.{Refusal}
 use Rattle.osemosys_run.specs.declared.status.Refusal.TheVariants as refusals
 use Rattle.osemosys_run.specs.declared.status.Stop.{Stop}
@@ -25,7 +28,8 @@ use Rattle.osemosys_run.specs.Mps.{DueForEquations}
 use Rattle.osemosys_run.specs.NotAccepted.{DueWhereNotAccepted}
 use Rattle.osemosys_run.specs.Reading.{BeganOne, Sight, most_bytes, IsWholeFile}
 use Rattle.osemosys_run.specs.Sending.{Delivers}
-use Rattle.command_words.specs.Words.{Request, Check, Mps, asked}
+use Rattle.osemosys_run.specs.Solve.{DueForEnd, DueForRows, DueForSolve}
+use Rattle.command_words.specs.Words.{Request, Check, Mps, Solve, asked}
 use Rattle.osemosys_run.proofs.FilesRead.{rose-since}
 
 -- ---- what is due
@@ -79,13 +83,15 @@ due_from_cause words before after files status text told calm caused = by_reques
     by_request : (request : Result Request WordFault) → CausedByRequest request before after status text → DueForRequest request files status text
     by_request (Err fault) c = (c.0, c.1)
     by_request (Ok (Mps name places)) c =
-        due_for_file (FollowsFromText (DueForEquations places) after status text) (DueForText (DueForEquations places)) 1 name before after files status text told calm (λ there bytes began follows. follows.1) c
+        due_for_file (FollowsFromText (λ rounded. DueForEquations places) after status text) (DueForText (λ rounded. DueForEquations places)) 1 name before after files status text told calm (λ there bytes began follows. follows.1) c
+    by_request (Ok (Solve name gap pivots places show)) c =
+        due_for_file (FollowsFromText (DueForSolve places gap pivots show) after status text) (DueForText (DueForSolve places gap pivots show)) 1 name before after files status text told calm (λ there bytes began follows. follows.1) c
     by_request (Ok (Check name plan multipliers gap places)) c =
         let third : List ℕ → List ℕ → Sight → Option (List ℕ) → Type 0 =
-        λ bytes plan_bytes there multiplier_bytes. FollowsFromText (DueForCheck places plan_bytes multiplier_bytes gap) after status text there bytes in
+        λ bytes plan_bytes there multiplier_bytes. FollowsFromText (λ rounded. DueForCheck places plan_bytes multiplier_bytes gap) after status text there bytes in
         let second_then : List ℕ → Sight → List ℕ → Type 0 = λ bytes second plan_bytes. CausedByOptionalFile (third bytes plan_bytes) 3 multipliers second after status text in
         let first_then : Sight → List ℕ → Type 0 = λ first bytes. CausedByFile (second_then bytes) 2 plan first after status text in
-        let third_due : List ℕ → List ℕ → Option (List ℕ) → Status → List ℕ → Type 0 = λ bytes plan_bytes multiplier_bytes. DueForText (DueForCheck places plan_bytes multiplier_bytes gap) bytes in
+        let third_due : List ℕ → List ℕ → Option (List ℕ) → Status → List ℕ → Type 0 = λ bytes plan_bytes multiplier_bytes. DueForText (λ rounded. DueForCheck places plan_bytes multiplier_bytes gap) bytes in
         let second_due : List ℕ → List ℕ → Status → List ℕ → Type 0 = λ bytes plan_bytes. DueForOptionalFile (third_due bytes plan_bytes) 3 files multipliers in
         let first_due : List ℕ → Status → List ℕ → Type 0 = λ bytes. DueForFile (second_due bytes) 2 (file_named files plan) in
         due_for_file first_then first_due 1 name before after files status text told calm
@@ -131,6 +137,23 @@ plan_file_is : (places : ℕ) (d : Data) (rows : List Row) (plan_bytes : List �
 plan_file_is places d rows plan_bytes bytes gap status text (inl refused) = refused_is status (refusals.PlanFile refused.fault) refused.status_is
 plan_file_is places d rows plan_bytes bytes gap status text (inr read) = multiplier_file_is places d rows read.0 bytes gap status text read.2
 
+end_is : (places : ℕ) (d : Data) (rows : List Row) (gap pivots : ℕ) (show : SolveShow) (rounded : ℕ) (status : Status) (text : List ℕ)
+    → DueForEnd places d rows gap pivots show rounded status text → IsAnswer status
+end_is places d rows gap pivots show rounded status text (inl solved) = is_other status Done (λ h. cc) (λ h. cc) solved.status_is
+end_is places d rows gap pivots show rounded status text (inr (inl infeasible)) = is_other status Infeasible (λ h. cc) (λ h. cc) infeasible.status_is
+end_is places d rows gap pivots show rounded status text (inr (inr (inl unbounded))) = is_other status Unbounded (λ h. cc) (λ h. cc) unbounded.status_is
+end_is places d rows gap pivots show rounded status text (inr (inr (inr (inl out)))) = is_other status (Uncertified (Stop.Budget pivots)) (λ h. cc) (λ h. cc) out.status_is
+end_is places d rows gap pivots show rounded status text (inr (inr (inr (inr (inl wide))))) = is_other status (Uncertified (Stop.Width wide.place)) (λ h. cc) (λ h. cc) wide.status_is
+end_is places d rows gap pivots show rounded status text (inr (inr (inr (inr (inr wide))))) = is_other status (Uncertified (Stop.Width wide.place)) (λ h. cc) (λ h. cc) wide.status_is
+
+solve_is : (places gap pivots : ℕ) (show : SolveShow) (rounded : ℕ) (d : Data) (status : Status) (text : List ℕ) → DueForSolve places gap pivots show rounded d status text → IsAnswer status
+solve_is places gap pivots show rounded d status text (inl made) = elim made.due [
+  | inl large ↦ refused_is status (refusals.TooLarge (inequality_count made.rows) (column_count (all_variables d))) large.status_is
+  | inr ends ↦ end_is places d made.rows gap pivots show rounded status text ends.1
+]
+solve_is places gap pivots show rounded d status text (inr (inl wide)) = is_other status (Uncertified (Stop.Width (Place.Row wide.name))) (λ h. cc) (λ h. cc) wide.status_is
+solve_is places gap pivots show rounded d status text (inr (inr many)) = refused_is status refusals.TooManyEntries many.status_is
+
 check_is : (places : ℕ) (plan_bytes : List ℕ) (bytes : Option (List ℕ)) (gap : ℕ) (d : Data) (status : Status) (text : List ℕ) → DueForCheck places plan_bytes bytes gap d status text → IsAnswer status
 check_is places plan_bytes bytes gap d status text (inl made) = plan_file_is places d made.rows plan_bytes bytes gap status text made.due
 check_is places plan_bytes bytes gap d status text (inr (inl wide)) = is_other status (Uncertified (Stop.Width (Place.Row wide.name))) (λ h. cc) (λ h. cc) wide.status_is
@@ -141,10 +164,10 @@ not_accepted_is bytes status text (inl refused) = refused_is status (refusals.Te
 not_accepted_is bytes status text (inr (blocks, says, inl refused)) = refused_is status (refusals.Sets refused.fault) refused.status_is
 not_accepted_is bytes status text (inr (blocks, says, inr refused)) = refused_is status (refusals.Build refused.fault) refused.status_is
 
-text_is : (Over : Data → Status → List ℕ → Type 0) → ((d : Data) (status : Status) (text : List ℕ) → Over d status text → IsAnswer status)
+text_is : (Over : ℕ → Data → Status → List ℕ → Type 0) → ((rounded : ℕ) (d : Data) (status : Status) (text : List ℕ) → Over rounded d status text → IsAnswer status)
     → (bytes : List ℕ) (status : Status) (text : List ℕ) → DueForText Over bytes status text → IsAnswer status
 text_is Over over_is bytes status text (inl refused) = not_accepted_is bytes status text refused
-text_is Over over_is bytes status text (inr said) = over_is said.0 status text said.2
+text_is Over over_is bytes status text (inr said) = over_is said.1.blocks.rounded said.0 status text said.2
 
 stop_is : (number : ℕ) (name : List ℕ) (before after : Sight) (status : Status) (text : List ℕ) → StopsAtFile number name before after status text → IsAnswer status
 stop_is number name before after status text (inl long) = refused_is status (refusals.TooLong number) long.0
@@ -158,16 +181,18 @@ is_answer words before after status text caused = by_request (asked words) cause
   where
     by_request : (request : Result Request WordFault) → CausedByRequest request before after status text → IsAnswer status
     by_request (Err fault) c = is_other status (Words fault) (λ h. cc) (λ h. cc) c.0
-    by_request (Ok (Mps name places)) (inl whole) = text_is (DueForEquations places) (equations_are places) whole.1 status text whole.4.1
+    by_request (Ok (Mps name places)) (inl whole) = text_is (λ rounded. DueForEquations places) (λ rounded. equations_are places) whole.1 status text whole.4.1
     by_request (Ok (Mps name places)) (inr stopped) = stop_is 1 name before after status text stopped.1
+    by_request (Ok (Solve name gap pivots places show)) (inl whole) = text_is (DueForSolve places gap pivots show) (solve_is places gap pivots show) whole.1 status text whole.4.1
+    by_request (Ok (Solve name gap pivots places show)) (inr stopped) = stop_is 1 name before after status text stopped.1
     by_request (Ok (Check name plan multipliers gap places)) (inr stopped) = stop_is 1 name before after status text stopped.1
     by_request (Ok (Check name plan multipliers gap places)) (inl (first, bytes, began, whole, inr stopped)) = stop_is 2 plan first after status text stopped.1
     by_request (Ok (Check name plan None gap places)) (inl (first, bytes, began, whole, inl (second, plan_bytes, second_began, second_whole, follows))) =
-        text_is (DueForCheck places plan_bytes None gap) (check_is places plan_bytes None gap) bytes status text follows.1
+        text_is (λ rounded. DueForCheck places plan_bytes None gap) (λ rounded. check_is places plan_bytes None gap) bytes status text follows.1
     by_request (Ok (Check name plan (Some multipliers) gap places)) (inl (first, bytes, began, whole, inl (second, plan_bytes, second_began, second_whole, inr stopped))) =
         stop_is 3 multipliers second after status text stopped.1
     by_request (Ok (Check name plan (Some multipliers) gap places)) (inl (first, bytes, began, whole, inl (second, plan_bytes, second_began, second_whole, inl (third, multiplier_bytes, third_began, third_whole, follows)))) =
-        text_is (DueForCheck places plan_bytes (Some multiplier_bytes) gap) (check_is places plan_bytes (Some multiplier_bytes) gap) bytes status text follows.1
+        text_is (λ rounded. DueForCheck places plan_bytes (Some multiplier_bytes) gap) (λ rounded. check_is places plan_bytes (Some multiplier_bytes) gap) bytes status text follows.1
 
 -- ---- what is delivered
 
@@ -175,6 +200,8 @@ is_answer words before after status text caused = by_request (asked words) cause
 pub delivered : (due : Status → List ℕ → Type 0) (status : Status) (text : List ℕ) (before after : Option (List ℕ)) (f f' : ℕ) → due status text
     → (status ≢ WriteFault) × (status ≢ Memory) → WhereTold before (λ bytes. after ≡ Some (bytes ++ text)) → Delivers due status before after f f'
 delivered due Done text before after f f' d answer written = (text, d, written)
+delivered due Infeasible text before after f f' d answer written = (text, d, written)
+delivered due Unbounded text before after f f' d answer written = (text, d, written)
 delivered due (Uncertified stop) text before after f f' d answer written = (text, d, written)
 delivered due (Refused refusal) text before after f f' d answer written = (text, d, written)
 delivered due (Words fault) text before after f f' d answer written = (text, d, written)

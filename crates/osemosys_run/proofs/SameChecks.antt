@@ -1,5 +1,5 @@
 -- What is due for a plan over some data is due over any with the same sets and values.
-use Rattle.std.proofs.Common.{◌≡◌, ℕ, ℤ, pos, ◌*ℤ◌, ◌≤ℤ◌, inl, inr, List, [], ◌∷◌, ◌++◌, Option, Some, None, ap, sym, ◌∙◌, subst}
+use Rattle.std.proofs.Common.{◌≡◌, ℕ, inl, inr, List, [], ◌∷◌, ◌++◌, Option, Some, None, ap, sym, ◌∙◌, subst}
 use Rattle.std.specs.Option.{option_map}
 use Rattle.exact_num.specs.Rational.{Rational, minus}
 use Rattle.model_sets.specs.Data.{AreSameData, Data}
@@ -9,14 +9,9 @@ use Rattle.row_core.specs.declared.RowName.{RowName}
 use Rattle.row_core.specs.declared.Var.{Var}
 use Rattle.row_core.specs.Order.{var_cmp}
 use Rattle.row_core.specs.Plans.{value_in}
-use Rattle.row_core.specs.Values.{IsOver}
 use Rattle.named_equations.specs.Existence.{all_variables}
 use Rattle.named_equations.specs.Instances.{instances}
-use Rattle.named_equations.specs.Plans as equations
-use Rattle.named_equations.specs.Plans.{Feasible}
-use Rattle.named_equations.proofs.InstanceOrder.{variables-ascend}
-use Rattle.named_equations.proofs.InstanceTests.{Contains-variables}
-use Rattle.named_equations.proofs.SameInstances.{same-cost, same-exists, same-feasible, same-instances}
+use Rattle.named_equations.proofs.SameInstances.{same-instances}
 use Rattle.certificate_checker.specs.Conditions.{AllPass, FailsFor, IsWideAt}
 use Rattle.certificate_checker.specs.Costs.{cost_value, model_cost}
 use Rattle.certificate_checker.specs.Gaps.{Within, gap_condition}
@@ -28,48 +23,33 @@ use Rattle.plan_files.specs.Files.{records_of}
 use Rattle.osemosys_run.specs.declared.status.Status.{Status}
 use Rattle.osemosys_run.specs.declared.status.Stop.TheVariants.{Width}
 use Rattle.osemosys_run.specs.Check.{DueForCheck, DueForMultiplierFile, DueForPlan, DueForPlanFile, IsBounded, RefusesMultipliers, RefusesPlan, TellsMultipliers, check_conditions, multiplier_bound, plan_cost}
-use Rattle.osemosys_run.specs.CheckedPlans.{AreFeasible, AreNotFeasible}
+use Rattle.osemosys_run.specs.CheckedPlans.{AreFeasible}
 use Rattle.osemosys_run.specs.CheckLines.{accepted_text, multiplier_fault_line, plan_fault_line, rejected_line}
 use Rattle.osemosys_run.specs.Lines.{uncertified_line}
-use Rattle.osemosys_run.proofs.PlanCosts.{all-of}
+use Rattle.osemosys_run.proofs.SamePlans.{bound-carries, feasible-carries, not-feasible-carries, vars-same}
 use Rattle.osemosys_run.proofs.SameData.{SameLaws, many_carries, wide_carries}
 
 module _ (places : ℕ) (d e : Data) (same : AreSameData d e) where
-  -- the same variables exist
-  vars-same : all_variables d ≡ all_variables e
-  vars-same =
-      all-of e (all_variables d) (variables-ascend d)
-      (λ v h. sym (same-exists d e same v) ∙ (Contains-variables d v).0 h)
-      (λ v there. (Contains-variables d v).1 (same-exists d e same v ∙ there))
-
   cost-same : (plan : List (Var × Rational)) → plan_cost d plan ≡ plan_cost e plan
-  cost-same plan = ap (λ vs. cost_value model_cost vs (value_in var_cmp plan)) vars-same
+  cost-same plan = ap (λ vs. cost_value model_cost vs (value_in var_cmp plan)) (vars-same places d e same)
 
   conditions-same : (rows : List Row) (plan : List (Var × Rational)) (multipliers : Option (List (RowName × Rational))) (gap : ℕ)
       → check_conditions d rows plan multipliers gap ≡ check_conditions e rows plan multipliers gap
-  conditions-same rows plan None gap = ap (λ vs. plan_conditions model_cost rows vs plan) vars-same
+  conditions-same rows plan None gap = ap (λ vs. plan_conditions model_cost rows vs plan) (vars-same places d e same)
   conditions-same rows plan (Some multipliers) gap =
       ap (λ vs. plan_conditions model_cost rows vs plan ++ (bound_conditions model_cost rows vs multipliers
-      ++ gap_condition (cost_value model_cost vs (value_in var_cmp plan)) (multiplier_bound rows multipliers) gap ∷ [])) vars-same
+      ++ gap_condition (cost_value model_cost vs (value_in var_cmp plan)) (multiplier_bound rows multipliers) gap ∷ [])) (vars-same places d e same)
 
   -- ---- plans
 
-  feasible-carries : (plan : List (Var × Rational)) → AreFeasible places d plan (plan_cost d plan) → AreFeasible places e plan (plan_cost e plan)
-  feasible-carries plan f = record {
-    some = f.some;
-    feasible = λ q x over. (same-feasible d e same places q x).0 (f.feasible q x over);
-    costs = λ q x over.
-        subst (λ (c : Rational). IsOver (pos q) c (equations.cost e x)) (cost-same plan) (subst (λ (z : ℤ). IsOver (pos q) (plan_cost d plan) z) (same-cost d e same x) (f.costs q x over));
-  }
-
-  not-feasible-carries : (plan : List (Var × Rational)) → AreNotFeasible places d plan → AreNotFeasible places e plan
-  not-feasible-carries plan not = λ q x over feasible. not q x over ((same-feasible d e same places q x).1 feasible)
+  feasible-here : (plan : List (Var × Rational)) → AreFeasible places d plan (plan_cost d plan) → AreFeasible places e plan (plan_cost e plan)
+  feasible-here plan f = subst (λ (c : Rational). AreFeasible places e plan c) (cost-same plan) (feasible-carries places d e same plan (plan_cost d plan) f)
 
   bounded-carries : (rows : List Row) (plan : List (Var × Rational)) (multipliers : Option (List (RowName × Rational))) (gap : ℕ) → IsBounded places d rows plan multipliers gap → IsBounded places e rows plan multipliers gap
   bounded-carries rows plan None gap bounded = tt
   bounded-carries rows plan (Some multipliers) gap bounded =
       let bound = multiplier_bound rows multipliers in (
-        λ q x feasible. subst (λ (z : ℤ). (bound.top *ℤ pos q) ≤ℤ (z *ℤ bound.bottom)) (same-cost d e same x) (bounded.0 q x ((same-feasible d e same places q x).1 feasible)),
+        bound-carries places d e same bound bounded.0,
         subst (λ (c : Rational). Within c bound gap) (cost-same plan) bounded.1,
       )
 
@@ -78,7 +58,7 @@ module _ (places : ℕ) (d e : Data) (same : AreSameData d e) where
   plan-carries rows plan multipliers gap status text (inl accepted) =
       inl (record {
         pass = subst AllPass (conditions-same rows plan multipliers gap) accepted.pass;
-        feasible = feasible-carries plan accepted.feasible;
+        feasible = feasible-here plan accepted.feasible;
         bounded = bounded-carries rows plan multipliers gap accepted.bounded;
         status_is = accepted.status_is;
         text_is = accepted.text_is ∙ ap (λ c. accepted_text c (option_map (λ m. (multiplier_bound rows m, minus c (multiplier_bound rows m))) multipliers)) (cost-same plan);
@@ -88,7 +68,7 @@ module _ (places : ℕ) (d e : Data) (same : AreSameData d e) where
       inr (inl (record {
         rejection = rejected.rejection;
         fails = subst (λ cs. FailsFor cs reason) (conditions-same rows plan multipliers gap) rejected.fails;
-        infeasible = λ fails. not-feasible-carries plan (rejected.infeasible (subst (λ vs. FailsFor (plan_conditions model_cost rows vs plan) reason) (sym vars-same) fails));
+        infeasible = λ fails. not-feasible-carries places d e same plan (rejected.infeasible (subst (λ vs. FailsFor (plan_conditions model_cost rows vs plan) reason) (sym (vars-same places d e same)) fails));
         status_is = rejected.status_is;
         line_is = rejected.line_is ∙ ap (λ (sets : SetLists). rejected_line sets rejected.rejection) same.sets;
       }))
@@ -126,7 +106,7 @@ module _ (places : ℕ) (d e : Data) (same : AreSameData d e) where
     fault = refused.fault;
     first =
         subst (λ sets. IsPlanFault sets (all_variables e) (records_of bytes) refused.fault) same.sets
-        (subst (λ vars. IsPlanFault d.sets vars (records_of bytes) refused.fault) vars-same refused.first);
+        (subst (λ vars. IsPlanFault d.sets vars (records_of bytes) refused.fault) (vars-same places d e same) refused.first);
     status_is = refused.status_is;
     line_is = refused.line_is ∙ ap (λ (sets : SetLists). plan_fault_line sets refused.fault) same.sets;
   }
@@ -143,7 +123,7 @@ module _ (places : ℕ) (d e : Data) (same : AreSameData d e) where
       inr (
         read.0,
         subst (λ sets. IsPlan sets (all_variables e) (records_of plan_bytes) read.0) same.sets
-            (subst (λ vars. IsPlan d.sets vars (records_of plan_bytes) read.0) vars-same read.1),
+            (subst (λ vars. IsPlan d.sets vars (records_of plan_bytes) read.0) (vars-same places d e same) read.1),
         multiplier-file-carries rows read.0 bytes gap status text read.2,
       )
 

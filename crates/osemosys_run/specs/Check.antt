@@ -12,7 +12,6 @@ use Rattle.row_core.specs.Order.{var_cmp, row_name_cmp}
 use Rattle.row_core.specs.Plans.{value_in}
 use Rattle.named_equations.specs.Existence.{all_variables}
 use Rattle.named_equations.specs.Instances.{instances}
-use Rattle.row_book.specs.Books.{AreRowsOf, CanBeMade}
 use Rattle.certificate_checker.specs.declared.verdicts.Rejection.{Rejection}
 use Rattle.certificate_checker.specs.Conditions.{Condition, AllPass, FailsFor, IsWideAt}
 use Rattle.certificate_checker.specs.Costs.{cost_value, model_cost}
@@ -30,7 +29,7 @@ use Rattle.osemosys_run.specs.declared.status.Stop.TheVariants.{Width}
 use Rattle.osemosys_run.specs.CheckLines.{accepted_text, multiplier_fault_line, plan_fault_line, rejected_line}
 use Rattle.osemosys_run.specs.CheckedPlans.{AreFeasible, AreNotFeasible, BoundsFeasible}
 use Rattle.osemosys_run.specs.Lines.{uncertified_line}
-use Rattle.osemosys_run.specs.Mps.{IsUncertified, IsTooLarge}
+use Rattle.osemosys_run.specs.Mps.{IsMadeFor, IsTooLarge, IsUncertified}
 
 -- ---- what is looked at
 
@@ -123,13 +122,6 @@ abbrev pub DueForPlanFile : ℕ → Data → List Row → List ℕ → Option (L
 DueForPlanFile places d rows plan_bytes multiplier_bytes gap status text =
     RefusesPlan d plan_bytes status text
     ⊎ ((plan : List (Var × Rational)) × IsPlan d.sets (all_variables d) (records_of plan_bytes) plan × DueForMultiplierFile places d rows plan multiplier_bytes gap status text)
-
--- the rows can be made, and with them something is due
-pub record IsMadeFor (places : ℕ) (d : Data) (OverRows : List Row → Type 0) : Type 0 where
-  pub made : CanBeMade places d 0 (instances d)
-  pub rows : List Row
-  pub are_rows : AreRowsOf places d (instances d) rows
-  pub due : OverRows rows
 
 -- What is due over these data, for a plan's file, a file of multipliers if one is named, and a gap in millionths.
 abbrev pub DueForCheck : ℕ → List ℕ → Option (List ℕ) → ℕ → Data → Status → List ℕ → Type 0

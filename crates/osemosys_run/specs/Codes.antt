@@ -1,11 +1,13 @@
--- The exit status of each end of a call. The numbers that are missing, 1 and 2, belong to ends that solving will add.
+-- The exit status of each end of a call.
 use Rattle.std.specs.Prelude.{ℕ}
 use Rattle.osemosys_run.specs.declared.status.Status.{Status}
-use Rattle.osemosys_run.specs.declared.status.Status.TheVariants.{Done, Uncertified, Refused, Words, ReadFault, WriteFault, Memory, Rejected}
+use Rattle.osemosys_run.specs.declared.status.Status.TheVariants.{Done, Infeasible, Unbounded, Uncertified, Refused, Words, ReadFault, WriteFault, Memory, Rejected}
 
 -- the exit status
 abbrev pub code_of : Status → ℕ
 code_of Done = 0
+code_of Infeasible = 1
+code_of Unbounded = 2
 code_of (Uncertified stop) = 3
 code_of (Refused refusal) = 4
 code_of (Words fault) = 5

@@ -1,4 +1,4 @@
--- Which files `mps` must write out, and which plans `check` must accept.
+-- Which files `mps` must write out, which plans `check` must accept, and which models `solve` must bring to an end.
 use Rattle.std.specs.Prelude.{◌≡◌, ◌⊎◌, ℕ, ℤ, ◌≤◌, List, length, Option, Some, None, Ok, ⊤}
 use Rattle.exact_num.specs.Rational.{Rational}
 use Rattle.exact_num.specs.Steps.{first_wide}
@@ -17,13 +17,16 @@ use Rattle.certificate_checker.specs.Gaps.{Within}
 use Rattle.certificate_checker.specs.Plans.{AreValuesOver}
 use Rattle.plan_files.specs.Answers.{IsPlan}
 use Rattle.plan_files.specs.Files.{records_of}
+use Rattle.exact_solver.specs.MethodEnds.{HasNoBound, HasNoPlan, HasOptimum, IsPivotDue, IsWide, MethodEnd, method_end}
+use Rattle.command_words.specs.declared.any_command.SolveShow.{SolveShow}
 use Rattle.io_edges.specs.Files.{file_named}
 use Rattle.osemosys_run.specs.declared.status.Status.{Status}
-use Rattle.osemosys_run.specs.declared.status.Status.TheVariants.{Done, Memory}
+use Rattle.osemosys_run.specs.declared.status.Status.TheVariants.{Done, Infeasible, Unbounded, Memory}
 use Rattle.osemosys_run.specs.Accepted.{Accepted}
 use Rattle.osemosys_run.specs.Check.{TellsMultipliers, check_conditions, multiplier_bound, plan_cost}
 use Rattle.osemosys_run.specs.Reading.{most_bytes}
-use Rattle.command_words.specs.Words.{Check, Mps, asked}
+use Rattle.osemosys_run.specs.Solve.{IsWithinLimits, PricesFit}
+use Rattle.command_words.specs.Words.{Check, Mps, Solve, asked}
 
 -- the words ask for `mps` of a file that is there, with written factors of so many places; its text is accepted, and every row of the named equations over its data can be made
 pub record CanBeWritten (words : List (List ℕ)) (files : List (List ℕ × List ℕ)) : Type 0 where
@@ -76,6 +79,36 @@ pub record CanBeAccepted (words : List (List ℕ)) (files : List (List ℕ × Li
   pub in_gap : (rows : List Row) → AreRowsOf places d (instances d) rows → AreInGap d rows plan multipliers gap
   pub fit : (rows : List Row) → AreRowsOf places d (instances d) rows → first_wide (steps (check_conditions d rows plan multipliers gap)) ≡ None
 
--- then the equations are written, or the plan is accepted, unless memory ran out
-abbrev pub Completes : List (List ℕ) → List (List ℕ × List ℕ) → Status → Type 0
-Completes words files status = CanBeWritten words files ⊎ CanBeAccepted words files → (status ≡ Done) ⊎ (status ≡ Memory)
+-- The method comes to an end: to an optimum, where a report is to be shown with prices that fit, to no plan or to no bound.
+abbrev pub ComesToEnd : SolveShow → List Row → MethodEnd → Type 0
+ComesToEnd show rows (HasOptimum plan multipliers made) = PricesFit show rows multipliers
+ComesToEnd show rows (HasNoPlan multipliers made) = ⊤
+ComesToEnd show rows (HasNoBound plan direction made) = ⊤
+ComesToEnd show rows IsPivotDue = ⊥
+ComesToEnd show rows (IsWide place) = ⊥
+
+-- The words ask for `solve` of a file that is there; its text is accepted, and every row of the named equations over its data can be made; the linear
+-- program is within the limits; and the method comes to an end.
+pub record CanBeSolved (words : List (List ℕ)) (files : List (List ℕ × List ℕ)) : Type 0 where
+  pub name : List ℕ
+  pub gap : ℕ
+  pub pivots : ℕ
+  pub places : ℕ
+  pub show : SolveShow
+  pub bytes : List ℕ
+  pub d : Data
+  pub asks : asked words ≡ Ok (Solve name gap pivots places show)
+  pub there : file_named files name ≡ Some bytes
+  pub accepted : Accepted bytes d
+  pub made : CanBeMade places d 0 (instances d)
+  pub within : (rows : List Row) → AreRowsOf places d (instances d) rows → IsWithinLimits rows (all_variables d)
+  pub ends : (rows : List Row) → AreRowsOf places d (instances d) rows → ComesToEnd show rows (method_end rows (all_variables d) pivots)
+
+-- a model is solved, has no plan, or has no bound
+abbrev pub IsEnded : Status → Type 0
+IsEnded status = (status ≡ Done) ⊎ (status ≡ Infeasible) ⊎ (status ≡ Unbounded)
+
+-- then the equations are written, or the plan is accepted, or the model is brought to an end, unless memory ran out
+pub record Completes (words : List (List ℕ)) (files : List (List ℕ × List ℕ)) (status : Status) : Type 0 where
+  pub done : CanBeWritten words files ⊎ CanBeAccepted words files → (status ≡ Done) ⊎ (status ≡ Memory)
+  pub ended : CanBeSolved words files → IsEnded status ⊎ (status ≡ Memory)

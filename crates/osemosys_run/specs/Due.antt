@@ -13,11 +13,12 @@ use Rattle.osemosys_run.specs.Lines.{stop_line, too_long_line, words_line}
 use Rattle.osemosys_run.specs.Mps.{DueForEquations}
 use Rattle.osemosys_run.specs.NotAccepted.{DueWhereNotAccepted}
 use Rattle.osemosys_run.specs.Reading.{most_bytes}
-use Rattle.command_words.specs.Words.{Request, Check, Mps, asked}
+use Rattle.osemosys_run.specs.Solve.{DueForSolve}
+use Rattle.command_words.specs.Words.{Request, Check, Mps, Solve, asked}
 
--- over the text of a data file: its first refusal, or what `Over` has over its data
-abbrev pub DueForText : (Data → Status → List ℕ → Type 0) → List ℕ → Status → List ℕ → Type 0
-DueForText Over bytes status text = DueWhereNotAccepted bytes status text ⊎ ((d : Data) × Accepted bytes d × Over d status text)
+-- over the text of a data file: its first refusal, or what `Over` has of the number of its rounded numbers and over its data
+abbrev pub DueForText : (ℕ → Data → Status → List ℕ → Type 0) → List ℕ → Status → List ℕ → Type 0
+DueForText Over bytes status text = DueWhereNotAccepted bytes status text ⊎ ((d : Data) × (accepted : Accepted bytes d) × Over accepted.blocks.rounded d status text)
 
 -- over the file of this number, which may be missing or too long: that, or what `Due` has over its bytes
 abbrev pub DueForFile : (List ℕ → Status → List ℕ → Type 0) → ℕ → Option (List ℕ) → Status → List ℕ → Type 0
@@ -35,10 +36,11 @@ DueForOptionalFile Due number files (Some name) status text = DueForFile (λ byt
 -- for a request over its files, each of which is looked at before what any of them says, and for a fault of the words
 abbrev pub DueForRequest : Result Request WordFault → List (List ℕ × List ℕ) → Status → List ℕ → Type 0
 DueForRequest (Err fault) files status text = (status ≡ Words fault) × (text ≡ words_line fault)
-DueForRequest (Ok (Mps name places)) files status text = DueForFile (DueForText (DueForEquations places)) 1 (file_named files name) status text
+DueForRequest (Ok (Mps name places)) files status text = DueForFile (DueForText (λ rounded. DueForEquations places)) 1 (file_named files name) status text
+DueForRequest (Ok (Solve name gap pivots places show)) files status text = DueForFile (DueForText (DueForSolve places gap pivots show)) 1 (file_named files name) status text
 DueForRequest (Ok (Check name plan multipliers gap places)) files status text =
     DueForFile (λ bytes. DueForFile (λ plan_bytes. DueForOptionalFile (λ multiplier_bytes.
-    DueForText (DueForCheck places plan_bytes multiplier_bytes gap) bytes)
+    DueForText (λ rounded. DueForCheck places plan_bytes multiplier_bytes gap) bytes)
     3 files multipliers) 2 (file_named files plan)) 1 (file_named files name) status text
 
 -- The status and the text that are due for these words over these files.

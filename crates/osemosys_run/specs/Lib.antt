@@ -12,8 +12,14 @@ pub mod Lines
 pub mod Mps
 pub mod NotAccepted
 pub mod PlacesWithin
+pub mod Promises
 pub mod ReadEnds
 pub mod ReadToEnd
 pub mod Reading
 pub mod RefusalLines
 pub mod Sending
+pub mod Solve
+pub mod SolveOutcomes
+pub mod SolveTexts
+pub mod SolvedPlans
+pub mod Tasks

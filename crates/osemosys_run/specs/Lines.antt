@@ -8,7 +8,7 @@ use Rattle.row_core.specs.NameTexts.{row_name, variable_name}
 use Rattle.osemosys_run.specs.declared.status.ReadStop.{ReadStop}
 use Rattle.osemosys_run.specs.declared.status.ReadStop.TheVariants.{NoFile, Failed}
 use Rattle.osemosys_run.specs.declared.status.Stop.{Stop}
-use Rattle.osemosys_run.specs.declared.status.Stop.TheVariants.{Width}
+use Rattle.osemosys_run.specs.declared.status.Stop.TheVariants.{Budget, Width}
 use Rattle.command_words.specs.declared.fault.WordFault.{WordFault}
 use Rattle.command_words.specs.declared.fault.WordFault.TheVariants.{NoCommand, BadCommand, BadForm, BadNumber, BadShow, GapAlone}
 
@@ -38,6 +38,10 @@ too_long_line file = line (codes "refused too long file " ++ decimal file)
 abbrev pub entries_line : List ℕ
 entries_line = line (codes "refused too many entries")
 
+-- the line for a linear program that is too large for `solve`, with how many inequalities and how many columns it has
+abbrev pub too_large_line : ℕ → ℕ → List ℕ
+too_large_line rows columns = line (codes "refused too large " ++ decimal rows ++ codes " " ++ decimal columns)
+
 -- a place by its name
 abbrev pub place_text : SetLists → Place → List ℕ
 place_text sets (Place.Row name) = codes "row " ++ row_name sets name
@@ -54,6 +58,7 @@ place_text sets Place.SumBound = codes "sum bound"
 place_text sets Place.SumGap = codes "sum gap"
 place_text sets (Place.Price name) = codes "price " ++ row_name sets name
 
--- the line for a place at which a number doesn't fit
+-- the line where the method stopped: a pivot is due after the last that may be made, or a number doesn't fit at a place
 abbrev pub uncertified_line : SetLists → Stop → List ℕ
+uncertified_line sets (Budget pivots) = line (codes "uncertified budget " ++ decimal pivots)
 uncertified_line sets (Width place) = line (codes "uncertified width " ++ place_text sets place)

@@ -42,6 +42,13 @@ pub record IsTooLarge (places : ℕ) (d : Data) (status : Status) (text : List �
   pub status_is : status ≡ Refused TooManyEntries
   pub line_is : text ≡ entries_line
 
+-- the rows can be made, and with them something is due
+pub record IsMadeFor (places : ℕ) (d : Data) (OverRows : List Row → Type 0) : Type 0 where
+  pub made : CanBeMade places d 0 (instances d)
+  pub rows : List Row
+  pub are_rows : AreRowsOf places d (instances d) rows
+  pub due : OverRows rows
+
 -- What is due over these data.
 abbrev pub DueForEquations : ℕ → Data → Status → List ℕ → Type 0
 DueForEquations places d status text = IsWritten places d status text ⊎ IsUncertified places d status text ⊎ IsTooLarge places d status text

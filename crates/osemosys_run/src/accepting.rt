@@ -29,7 +29,7 @@ use std::alloc::{AllocError, Global};
 pub fn accept(alloc: Global, text: Vec<u8>) -> Result<Result<ModelData, Answer>, AllocError>
     requires { length text.items ≤ most_bytes }
     ensures { IfOk result (λ verdict. MatchResult verdict
-        (λ model. (d : Data) × Accepted text.items d × AreSameData model.facts d)
+        (λ model. (d : Data) × (accepted : Accepted text.items d) × AreSameData model.facts d × (model.rounded ≡ accepted.blocks.rounded))
         (λ answer. DueWhereNotAccepted text.items answer.status answer.text.items)) }
 {
     match read_text(alloc, text)? {
@@ -57,7 +57,7 @@ fn accept_blocks(alloc: Global, blocks: &Blocks) -> Result<Result<ModelData, Ans
     requires { AreWellFormed (blocks_told blocks.now) }
     ensures { IfOk result (λ verdict. MatchResult verdict
         (λ model. (first_set_refusal (blocks_told blocks.now) ≡ None) × (first_refusal (blocks_told blocks.now) ≡ None)
-        × AreSameData model.facts (data_told (blocks_told blocks.now)))
+        × AreSameData model.facts (data_told (blocks_told blocks.now)) × (model.rounded ≡ blocks.now.rounded))
         (λ answer. RefusesBlocks (blocks_told blocks.now) answer.status answer.text.items)) }
 {
     match sets_of(alloc, blocks) {
@@ -77,7 +77,7 @@ fn accept_data(
     requires sets { sets ≡ set_lists (blocks_told blocks.now) }
     requires accepted { first_set_refusal (blocks_told blocks.now) ≡ None }
     ensures { IfOk result (λ verdict. MatchResult verdict
-        (λ model. (first_refusal (blocks_told blocks.now) ≡ None) × AreSameData model.facts (data_told (blocks_told blocks.now)))
+        (λ model. (first_refusal (blocks_told blocks.now) ≡ None) × AreSameData model.facts (data_told (blocks_told blocks.now)) × (model.rounded ≡ blocks.now.rounded))
         (λ answer. RefusesData (blocks_told blocks.now) answer.status answer.text.items)) }
 {
     match build(alloc, blocks, sets) {

@@ -43,7 +43,7 @@ pub fn perform_check<S: Shelf>(
         let after = sight (S.files shelf.new) (S.rest shelf.new)
         (S.faults shelf.new) (S.begins shelf.new) (S.taken shelf.new) in
         CausedByFile (λ first bytes. CausedByFile (λ second plan_bytes. CausedByOptionalFile (λ there multiplier_bytes.
-        FollowsFromText (DueForCheck asked.entry.places plan_bytes multiplier_bytes asked.entry.gap) after answer.status answer.text.items there bytes)
+        FollowsFromText (λ rounded. DueForCheck asked.entry.places plan_bytes multiplier_bytes asked.entry.gap) after answer.status answer.text.items there bytes)
         3 (option_map (λ name. name.now) asked.entry.multipliers) second after answer.status answer.text.items)
         2 asked.entry.plan.now first after answer.status answer.text.items)
         1 asked.entry.file.now
@@ -72,7 +72,7 @@ fn check_plan_file<S: Shelf>(
         let after = sight (S.files shelf.new) (S.rest shelf.new)
         (S.faults shelf.new) (S.begins shelf.new) (S.taken shelf.new) in
         CausedByFile (λ second plan_bytes. CausedByOptionalFile (λ there multiplier_bytes.
-        FollowsFromText (DueForCheck asked.entry.places plan_bytes multiplier_bytes asked.entry.gap) after answer.status answer.text.items there text.items)
+        FollowsFromText (λ rounded. DueForCheck asked.entry.places plan_bytes multiplier_bytes asked.entry.gap) after answer.status answer.text.items there text.items)
         3 (option_map (λ name. name.now) asked.entry.multipliers) second after answer.status answer.text.items)
         2 asked.entry.plan.now
         (sight (S.files shelf.old) (S.rest shelf.old)
@@ -101,7 +101,7 @@ fn check_multiplier_file<S: Shelf>(
         let after = sight (S.files shelf.new) (S.rest shelf.new)
         (S.faults shelf.new) (S.begins shelf.new) (S.taken shelf.new) in
         CausedByOptionalFile (λ there multiplier_bytes.
-        FollowsFromText (DueForCheck asked.entry.places plan.now multiplier_bytes asked.entry.gap) after answer.status answer.text.items there text.items)
+        FollowsFromText (λ rounded. DueForCheck asked.entry.places plan.now multiplier_bytes asked.entry.gap) after answer.status answer.text.items there text.items)
         3 (option_map (λ name. name.now) asked.entry.multipliers)
         (sight (S.files shelf.old) (S.rest shelf.old)
         (S.faults shelf.old) (S.begins shelf.old) (S.taken shelf.old))
@@ -145,7 +145,7 @@ fn answer_text(
     requires short { length text.items ≤ most_bytes }
     requires places { IsPlaces places }
     ensures { IfOk result (λ answer.
-        DueForText (DueForCheck places claim.entry.plan.now (option_map (λ text. text.now) claim.entry.multipliers) claim.entry.gap) text.items answer.status answer.text.items) }
+        DueForText (λ rounded. DueForCheck places claim.entry.plan.now (option_map (λ text. text.now) claim.entry.multipliers) claim.entry.gap) text.items answer.status answer.text.items) }
 {
     match accept(alloc, text)? {
         Ok(model) => answer_check(alloc, &model, places, claim),

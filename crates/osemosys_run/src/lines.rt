@@ -1,10 +1,11 @@
 // The one-line texts.
 ghost use Rattle.std.specs.Prelude.{◌≡◌, ◌++◌, IfOk, decimal};
+ghost use Rattle.model_sets.specs.Members.{SetLists};
 ghost use Rattle.mps_writer.specs.MpsText.{line};
-ghost use Rattle.osemosys_run.specs.Lines.{entries_line, stop_line, too_long_line, uncertified_line, words_line};
+ghost use Rattle.osemosys_run.specs.Lines.{entries_line, stop_line, too_large_line, too_long_line, uncertified_line, words_line};
 ghost use Rattle.osemosys_run.specs.PlacesWithin.{PlaceIsWithin};
 
-use crate::places::push_place;
+use crate::places::{push_place, push_with_number};
 use crate::status::{ReadStop, Stop};
 use command_words::WordFault;
 use itoa::Buffer;
@@ -58,6 +59,27 @@ pub fn width_line(alloc: Global, place: Place, sets: &Sets) -> Result<Vec<u8>, A
 {
     let mut text = Vec::from_slice(alloc, b"uncertified width ")?;
     push_place(&mut text, place, sets)?;
+    text.extend_from_slice(b"\n")?;
+    Ok(text)
+}
+
+/// The line where a pivot is due after the last of so many: `uncertified budget N`.
+pub fn budget_line(alloc: Global, pivots: u64) -> Result<Vec<u8>, AllocError>
+    ensures { (sets : SetLists) → IfOk result (λ text. text.items ≡ uncertified_line sets (Stop.Budget pivots)) }
+{
+    let mut text = Vec::new(alloc);
+    push_with_number(&mut text, b"uncertified budget ", pivots)?;
+    text.extend_from_slice(b"\n")?;
+    Ok(text)
+}
+
+/// The line for a linear program that is too large: `refused too large ROWS COLUMNS`.
+pub fn too_large_line(alloc: Global, rows: u64, columns: u64) -> Result<Vec<u8>, AllocError>
+    ensures { IfOk result (λ text. text.items ≡ too_large_line rows columns) }
+{
+    let mut text = Vec::new(alloc);
+    push_with_number(&mut text, b"refused too large ", rows)?;
+    push_with_number(&mut text, b" ", columns)?;
     text.extend_from_slice(b"\n")?;
     Ok(text)
 }

@@ -1,41 +1,51 @@
 // The top call: words, reading, accepting, answering, sending.
-ghost use Rattle.std.specs.Prelude.{◌≡◌, ◌≤◌, ◌⊎◌, List, ℕ, IfOk, map, length};
+ghost use Rattle.std.specs.Prelude.{◌≡◌, ◌≤◌, ◌⊎◌, ◌*ℤ◌, List, ℕ, ℤ, IfOk, map};
 ghost use Rattle.std.specs.String.{string_bytes};
-ghost use Rattle.discount_factors.specs.Factors.{IsPlaces};
 ghost use Rattle.io_edges.specs.Count.{Rose};
 ghost use Rattle.io_edges.specs.Told.{WhereTold};
 ghost use Rattle.mathprog_data.specs.Meaning.{Blocks};
 ghost use Rattle.mathprog_data.specs.Verdicts.{FaultAt, Says};
 ghost use Rattle.mathprog_data.specs.declared.blocks.Mark.{Mark};
 ghost use Rattle.model_sets.specs.Data.{Data};
+ghost use Rattle.exact_num.specs.Rational.{Rational};
+ghost use Rattle.named_equations.specs.Instances.{instances};
+ghost use Rattle.named_equations.specs.Notation.{scale_of, sum_over};
+ghost use Rattle.named_equations.specs.Plans.{Feasible, cost};
+ghost use Rattle.named_equations.specs.Positions.{all_years, regions};
+ghost use Rattle.plan_quantities.specs.CostSums.{cost_of_year, three_factors};
+ghost use Rattle.plan_quantities.specs.Quantities.{AreQuantities};
+ghost use Rattle.row_book.specs.Books.{AreRowsOf};
+ghost use Rattle.row_core.specs.declared.Row.{Row};
+ghost use Rattle.row_core.specs.declared.RowName.{RowName};
+ghost use Rattle.row_core.specs.declared.Var.{Var};
 ghost use Rattle.osemosys_run.specs.declared.status.Status.{Status};
 ghost use Rattle.osemosys_run.specs.Accepted.{Accepted};
-ghost use Rattle.osemosys_run.specs.Causes.{Caused, CausedByFile, FollowsFromText};
+ghost use Rattle.osemosys_run.specs.Causes.{Caused};
 ghost use Rattle.osemosys_run.specs.Complete.{Completes};
-ghost use Rattle.osemosys_run.specs.Due.{Due, DueForText};
-ghost use Rattle.osemosys_run.specs.Mps.{DueForEquations};
+ghost use Rattle.osemosys_run.specs.Due.{Due};
 ghost use Rattle.osemosys_run.specs.NotAccepted.{DueWhereNotAccepted};
-ghost use Rattle.osemosys_run.specs.Reading.{most_bytes, sight};
+ghost use Rattle.osemosys_run.specs.Promises.{ArePromised};
+ghost use Rattle.osemosys_run.specs.Reading.{sight};
 ghost use Rattle.osemosys_run.specs.ReadToEnd.{IsReadToEnd, ReadsWhole};
 ghost use Rattle.osemosys_run.specs.Sending.{Delivers};
+ghost use Rattle.osemosys_run.specs.SolvedPlans.{IsOptimum};
 ghost use Rattle.command_words.specs.WordParts.{HasSpelledParts, Part};
 
-use crate::accepting::{accept, acceptance_laws};
-use crate::answer::{Answer, refuse_file, refuse_words};
+use crate::accepting::acceptance_laws;
+use crate::answer::{Answer, refuse_words};
 use crate::check_files::{Asked, perform_check};
-use crate::mps::answer_mps;
-use crate::reading::read_file;
+use crate::one_file::{Task, perform_task};
+use crate::promises::promise_laws;
 use crate::sending::send;
+use crate::solve::Wanted;
 use crate::status::Status;
 use command_words::{Command, read_command, spelled_parts};
 use io_edges::{Shelf, Sink};
 use mathprog_data::verdict_laws;
 use plan_files::telling_laws;
+use plan_quantities::laws::quantity_laws;
 use row_book::stop_laws;
 use std::alloc::{AllocError, Global};
-
-/// The number of the data file among those that the words name.
-const DATA_FILE: u8 = 1;
 
 /// Runs the program on the words after its name: reads the files that they name from the shelf, and
 /// writes the text that is due into the sink.
@@ -108,6 +118,16 @@ pub fn osemosys<S: Shelf, K: Sink>(
     // The parts that the words after a command say are those that are spelled so.
     ensures spelled_parts { (words : List (List ℕ)) (parts : List Part) → HasSpelledParts words parts }
 
+    // Every printed quantity of a plan that meets the equations is its defining sum over activity, new capacity and trade, and so
+    // is its cost.
+    ensures quantities { (places : ℕ) (d : Data) (q : ℕ) (x : Var → ℤ) → Feasible places d q x → AreQuantities places d q x }
+    ensures cost_sum { (places : ℕ) (d : Data) (q : ℕ) (x : Var → ℤ) → Feasible places d q x
+        → scale_of 3 *ℤ three_factors places *ℤ cost d x ≡ sum_over (regions d) (λ r. sum_over (all_years d) (λ y. cost_of_year places d q x r y)) }
+
+    // Every price of a report keeps what it promises.
+    ensures prices { (places : ℕ) (d : Data) (rows : List Row) (gap : ℕ) (plan : List (Var × Rational)) (multipliers : List (RowName × Rational)) (cost bound : Rational)
+        → AreRowsOf places d (instances d) rows → IsOptimum places d rows gap plan multipliers cost bound → ArePromised places d rows multipliers bound }
+
     // What stays, and what doesn't fall.
     ensures files { S.files shelf.new ≡ S.files shelf.old }
     ensures read_faults { S.faults shelf.old ≤ S.faults shelf.new }
@@ -119,6 +139,8 @@ pub fn osemosys<S: Shelf, K: Sink>(
     stop_laws();
     telling_laws();
     spelled_parts();
+    quantity_laws();
+    promise_laws();
     match perform(alloc, words, shelf) {
         Ok(Answer { status, text }) => match send(&text, out) {
             Ok(()) => status,
@@ -140,7 +162,19 @@ fn perform<S: Shelf>(alloc: Global, words: &[String], shelf: &mut S) -> Result<A
     ensures faults { S.faults shelf.old ≤ S.faults shelf.new }
 {
     match read_command(alloc, words)? {
-        Ok(Command::Mps { file, places }) => perform_mps(alloc, file, places, shelf),
+        Ok(Command::Mps { file, places }) => perform_task(alloc, file, Task::Write, places, shelf),
+        Ok(
+            Command::Solve {
+                file,
+                gap,
+                pivots,
+                places,
+                show,
+            },
+        ) => {
+            let task = Task::Solve(Wanted { gap, pivots, show });
+            perform_task(alloc, file, task, places, shelf)
+        }
         Ok(
             Command::Check {
                 file,
@@ -161,41 +195,5 @@ fn perform<S: Shelf>(alloc: Global, words: &[String], shelf: &mut S) -> Result<A
             shelf,
         ),
         Err(fault) => refuse_words(alloc, fault),
-    }
-}
-
-// The answer of `mps` over the file of this name.
-fn perform_mps<S: Shelf>(
-    alloc: Global,
-    file: &str,
-    places: u8,
-    shelf: &mut S,
-) -> Result<Answer, AllocError>
-    requires { IsPlaces places }
-    ensures caused { IfOk result (λ answer.
-        let after = sight (S.files shelf.new) (S.rest shelf.new)
-        (S.faults shelf.new) (S.begins shelf.new) (S.taken shelf.new) in
-        CausedByFile (FollowsFromText (DueForEquations places) after answer.status answer.text.items) DATA_FILE file.now
-        (sight (S.files shelf.old) (S.rest shelf.old)
-        (S.faults shelf.old) (S.begins shelf.old) (S.taken shelf.old))
-        after answer.status answer.text.items) }
-    ensures files { S.files shelf.new ≡ S.files shelf.old }
-    ensures faults { S.faults shelf.old ≤ S.faults shelf.new }
-{
-    match read_file(alloc, file, shelf) {
-        Ok(bytes) => answer_text(alloc, bytes, places),
-        Err(end) => refuse_file(alloc, DATA_FILE, end),
-    }
-}
-
-// The answer of `mps` over the text of its file. The text is gone before the first row is made.
-fn answer_text(alloc: Global, text: Vec<u8>, places: u8) -> Result<Answer, AllocError>
-    requires short { length text.items ≤ most_bytes }
-    requires places { IsPlaces places }
-    ensures { IfOk result (λ answer. DueForText (DueForEquations places) text.items answer.status answer.text.items) }
-{
-    match accept(alloc, text)? {
-        Ok(model) => answer_mps(alloc, &model, places),
-        Err(answer) => Ok(answer),
     }
 }

@@ -15,7 +15,11 @@ use row_core::Place;
 pub enum Status {
     /// The command did its work, and its text was written.
     Done,
-    /// A number left 128 bits, at this place.
+    /// No plan meets the named equations with right signs.
+    Infeasible,
+    /// Plans of any lower cost meet them.
+    Unbounded,
+    /// The pivots that may be made were used up, or a number left 128 bits.
     Uncertified(Stop),
     /// A named rule for the input failed.
     Refused(Refusal),
@@ -34,6 +38,8 @@ pub enum Status {
 /// Why a command didn't come to its end.
 #[derive(Clone, Copy, Debug, PartialEq, Eq)]
 pub enum Stop {
+    /// A pivot is due after the last that may be made, of which there are so many.
+    Budget(u64),
     /// A number that is formed at this place lies outside the range from `-(2^127 - 1)` to `2^127 - 1`.
     Width(Place),
 }
@@ -55,6 +61,8 @@ pub enum Refusal {
     TooLong(u8),
     /// The rows of the equations have more than 4,000,000 entries.
     TooManyEntries,
+    /// The linear program has so many inequalities and so many columns: more than 20,000, or more than 40,000.
+    TooLarge(u64, u64),
 }
 
 /// Why a file couldn't be read. Files count from 1, in the order of the words.
@@ -67,13 +75,15 @@ pub enum ReadStop {
 }
 
 impl Status {
-    /// The exit status: 0 for `Done`, 3 `Uncertified`, 4 `Refused`, 5 `Words`, 6 `ReadFault`, 7 `WriteFault`, 8 `Memory`,
+    /// The exit status: 0 for `Done`, 1 `Infeasible`, 2 `Unbounded`, 3 `Uncertified`, 4 `Refused`, 5 `Words`, 6 `ReadFault`, 7 `WriteFault`, 8 `Memory`,
     /// 9 `Rejected`.
     pub fn code(&self) -> u8
         ensures { result ≡ code_of self.now }
     {
         match self {
             Status::Done => 0,
+            Status::Infeasible => 1,
+            Status::Unbounded => 2,
             Status::Uncertified(_) => 3,
             Status::Refused(_) => 4,
             Status::Words(_) => 5,

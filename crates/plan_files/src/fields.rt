@@ -30,7 +30,7 @@ pub(crate) fn member_field<'a>(sets: &'a Sets, set: u8, has: bool, position: u16
 }
 
 /// Whether variables of this kind have the subscripts at the eight places, in their order.
-pub(crate) fn places_of_kind(kind: u8) -> [bool; 8]
+pub fn places_of_kind(kind: u8) -> [bool; 8]
     requires { IsKind kind }
     ensures { result ≡ map (kind_has kind) places }
 {
@@ -47,7 +47,7 @@ pub(crate) fn places_of_kind(kind: u8) -> [bool; 8]
 }
 
 /// Whether rows of this equation have the subscripts at the eight places, in their order.
-pub(crate) fn places_of_equation(eq: u8) -> [bool; 8]
+pub fn places_of_equation(eq: u8) -> [bool; 8]
     requires { IsEquation eq }
     ensures { result ≡ map (equation_has eq) places }
 {

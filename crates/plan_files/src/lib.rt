@@ -13,6 +13,7 @@ mod values;
 mod writing;
 
 pub use faults::{PlanFail, PlanFault};
+pub use fields::{places_of_equation, places_of_kind};
 pub use laws::{reading_laws, telling_laws};
 pub use reading::{read_multipliers, read_plan};
-pub use writing::{multiplier_text, plan_text};
+pub use writing::{multiplier_text, plan_text, push_field, push_record};

@@ -140,8 +140,8 @@ fn push_subscripts(
     push_field(fields, member_field(sets, YEAR, has[7], at.year))
 }
 
-/// Appends a field.
-fn push_field(fields: &mut ByteRecord, field: &[u8]) -> Result<(), AllocError>
+/// Appends a field to a record. Refuses where memory runs out.
+pub fn push_field(fields: &mut ByteRecord, field: &[u8]) -> Result<(), AllocError>
     requires { partial_of fields.old ≡ [] }
     ensures fields { OnOk result (fields_of fields.new ≡ fields_of fields.old ++ field.now ∷ []) }
     ensures whole { OnOk result (partial_of fields.new ≡ []) }
@@ -165,8 +165,8 @@ fn value_text(alloc: Global, value: Frac) -> Result<Vec<u8>, AllocError>
     Ok(text)
 }
 
-/// Appends a record.
-fn push_record(alloc: Global, out: &mut Vec<u8>, fields: &ByteRecord) -> Result<(), AllocError>
+/// Appends a record as a line of CSV text. Refuses where memory runs out.
+pub fn push_record(alloc: Global, out: &mut Vec<u8>, fields: &ByteRecord) -> Result<(), AllocError>
     ensures { OnOk result (out.new.items ≡ out.old.items ++ row_text default_writer (fields_of fields.now)) }
 {
     let Ok(line) = record_text(alloc, fields) else {

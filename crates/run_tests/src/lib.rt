@@ -18,4 +18,6 @@ mod plans;
 #[cfg(test)]
 mod refusals;
 #[cfg(test)]
+mod solves;
+#[cfg(test)]
 mod texts;

@@ -3,9 +3,9 @@
 ghost use Rattle.std.specs.Prelude.{◌≤◌, length, IfOk};
 ghost use Rattle.written_method.specs.Programs.{program_of};
 ghost use Rattle.simplex_core.specs.Outcomes.{IsProved};
-ghost use Rattle.elimination_tests.specs.BookPrograms.{IsProgramOf};
+ghost use Rattle.exact_solver.specs.BookPrograms.{IsProgramOf};
 
-use elimination_tests::BookProgram;
+use exact_solver::BookProgram;
 use row_book::RowBook;
 use simplex_core::{End, Halt, solve};
 use std::alloc::Global;
@@ -18,7 +18,7 @@ pub fn solve_book(
     program: &BookProgram,
     pivots: u64,
 ) -> Result<End, Halt>
-    requires { IsProgramOf book.now.rows program.now }
+    requires { IsProgramOf book.now.rows book.now.vars program.now }
     ensures { IfOk result (IsProved (program_of program.now.reduced)) }
 {
     solve(alloc, &program.reduced, pivots)

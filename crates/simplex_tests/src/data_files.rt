@@ -3,7 +3,7 @@
 use crate::answers::bound_of;
 use crate::books::solve_book;
 use crate::seven_years::SEVEN_YEARS;
-use elimination_tests::eliminate_book;
+use exact_solver::eliminate_book;
 use mathprog_data::read_blocks;
 use param_tables::{build, sets_of};
 use row_book::RowBook;

@@ -16,6 +16,7 @@ returns-in-Ok c =
       data_told blocks,
       record { blocks = blocks; short = c.requires; says = says; sets_accepted = same.0; data_accepted = same.1; told = refl },
       same.2,
+      same.3,
     ))
     (λ answer refused. inr (blocks, says, refused)))
     c.accept_blocks.ensures

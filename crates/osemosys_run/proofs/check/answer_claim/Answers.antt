@@ -1,32 +1,21 @@
-use Rattle.std.proofs.Common.{◌≡◌, true, inl, inr, sym, subst}
+use Rattle.std.proofs.Common.{inl, inr, sym, subst}
 use Rattle.std.proofs.lemmas.Result.{IfOk-weaker}
-use Rattle.named_equations.specs.Existence.{exists}
-use Rattle.named_equations.proofs.InstanceTests.{Has-from_Contains}
-use Rattle.row_book.proofs.Lists.{all-has}
-use Rattle.osemosys_run.specs.CheckedPlans.{IsBookOf, IsListedBook}
+use Rattle.osemosys_run.specs.CheckedPlans.{IsListedBook}
 use Rattle.osemosys_run.proofs.BookEnds.{refused_told}
-use Rattle.osemosys_run.proofs.ListedNames.{rows-listed, vars-listed}
+use Rattle.osemosys_run.proofs.MadeBooks.{listed-book, made-book}
 use Rattle.osemosys_run.proofs.check.answer_claim.Goals as goal
 
 pub answer_plan_file-requires : goal.answer_plan_file-requires
 answer_plan_file-requires c =
-    let d = c.args.model.now.facts in
     let made = c.in-Ok.ensures in
     subst (λ sets. IsListedBook sets c.in-Ok.book.rows c.in-Ok.book.vars) (sym c.sets.ensures.sets)
-    (record { rows_listed = rows-listed c.args.places d c.in-Ok.book.rows made.rows made.named; vars_listed = vars-listed d c.in-Ok.book.vars made.within made.exist })
+    (listed-book c.args.places c.args.model.now.facts c.in-Ok.book.rows c.in-Ok.book.vars made.rows made.exist made.named made.within)
 
 pub returns-in-Ok : goal.returns-in-Ok
 returns-in-Ok c =
     let d = c.args.model.now.facts in
     let made = c.in-Ok.ensures in
-    let vars = c.in-Ok.book.vars in
-    let book : IsBookOf c.args.places d c.in-Ok.book.rows vars =
-    record {
-      are_rows = made.rows;
-      ascending = made.variables.ascending;
-      exist = λ v there. all-has (λ w. exists d w ≡ true) vars v made.exist (Has-from_Contains vars v there);
-      whole = made.whole;
-    } in
+    let book = made-book c.args.places d c.in-Ok.book.rows c.in-Ok.book.vars made.rows made.exist made.variables.ascending made.whole in
     IfOk-weaker c.answer_plan_file.result _ _
     (λ answer due. inl (record { made = made.made; rows = c.in-Ok.book.rows; are_rows = made.rows; due = due }))
     (c.answer_plan_file.ensures c.args.places d c.sets.ensures.sets book)

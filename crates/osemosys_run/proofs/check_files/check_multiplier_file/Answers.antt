@@ -14,7 +14,7 @@ returns-in-None-clause-caused g c =
     let before : Sight = record { files = shelf.files old; rest = shelf.rest old; faults = shelf.faults old; begins = shelf.begins old; taken = shelf.taken old } in
     let asked = c.args.asked in
     let Then : Status → List ℕ → Sight → Option (List ℕ) → Type 0 =
-    λ status text there multiplier_bytes. FollowsFromText (DueForCheck asked.places c.args.plan.now multiplier_bytes asked.gap) before status text there c.args.text.items in
+    λ status text there multiplier_bytes. FollowsFromText (λ rounded. DueForCheck asked.places c.args.plan.now multiplier_bytes asked.gap) before status text there c.args.text.items in
     subst (λ name. IfOk c.answer_text.result (λ answer. CausedByOptionalFile (Then answer.status answer.text.items) 3 name before before answer.status answer.text.items))
     (sym (ap (option_map (λ name. name.now)) c.in-None.is))
     (IfOk-weaker c.answer_text.result _ _ (λ answer due. (refl, due)) c.answer_text.ensures)
@@ -29,7 +29,7 @@ returns-in-Ok-clause-caused g c =
     let began : BeganOne before one = record { files = c.read_file.ensures.files; begins = c.read_file.ensures.begins; faults = c.read_file.ensures.faults } in
     let asked = c.args.asked in
     let Then : Status → List ℕ → Sight → Option (List ℕ) → Type 0 =
-    λ status text there multiplier_bytes. FollowsFromText (DueForCheck asked.places c.args.plan.now multiplier_bytes asked.gap) one status text there c.args.text.items in
+    λ status text there multiplier_bytes. FollowsFromText (λ rounded. DueForCheck asked.places c.args.plan.now multiplier_bytes asked.gap) one status text there c.args.text.items in
     subst (λ name. IfOk c.answer_text-in-Ok.result (λ answer. CausedByOptionalFile (Then answer.status answer.text.items) 3 name before one answer.status answer.text.items))
     (sym (ap (option_map (λ name. name.now)) c.in-Some.is))
     (IfOk-weaker c.answer_text-in-Ok.result _ _
@@ -38,6 +38,6 @@ returns-in-Ok-clause-caused g c =
       c.in-Ok.bytes.items,
       began,
       c.in-Ok.ensures.whole,
-      (refl, subst (λ bytes. DueForText (DueForCheck asked.places c.args.plan.now (Some bytes) asked.gap) c.args.text.items answer.status answer.text.items) c.as_slice.ensures.value due),
+      (refl, subst (λ bytes. DueForText (λ rounded. DueForCheck asked.places c.args.plan.now (Some bytes) asked.gap) c.args.text.items answer.status answer.text.items) c.as_slice.ensures.value due),
     ))
     c.answer_text-in-Ok.ensures)

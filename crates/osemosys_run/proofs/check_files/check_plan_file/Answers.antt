@@ -19,7 +19,7 @@ returns-in-Ok-clause-caused g c =
     let after : Sight = record { files = shelf.files last; rest = shelf.rest last; faults = shelf.faults last; begins = shelf.begins last; taken = shelf.taken last } in
     let asked = c.args.asked in
     let Then : List ℕ → Status → List ℕ → Type 0 =
-    λ plan status text. CausedByOptionalFile (λ there multiplier_bytes. FollowsFromText (DueForCheck asked.places plan multiplier_bytes asked.gap) after status text there c.args.text.items)
+    λ plan status text. CausedByOptionalFile (λ there multiplier_bytes. FollowsFromText (λ rounded. DueForCheck asked.places plan multiplier_bytes asked.gap) after status text there c.args.text.items)
     3 (option_map (λ name. name.now) asked.multipliers) one after status text in
     IfOk-weaker c.check_multiplier_file.result _ _
     (λ answer caused. inl (one, c.in-Ok.plan.items, began, c.in-Ok.ensures.whole, subst (λ plan. Then plan answer.status answer.text.items) c.deref.ensures.value caused))

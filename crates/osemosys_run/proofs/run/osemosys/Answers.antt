@@ -5,9 +5,10 @@ use Rattle.osemosys_run.specs.Causes.{Caused}
 use Rattle.osemosys_run.specs.Due.{Due}
 use Rattle.osemosys_run.specs.Reading.{Sight}
 use Rattle.osemosys_run.specs.Sending.{HoldsPrefixOf}
-use Rattle.osemosys_run.proofs.Completeness.{Laws, completes}
+use Rattle.osemosys_run.proofs.Completeness.{Laws}
 use Rattle.osemosys_run.proofs.EndsOfFiles.{read_at_write_fault, read_to_end}
 use Rattle.osemosys_run.proofs.Outcomes.{due_from_cause, is_answer, delivered}
+use Rattle.osemosys_run.proofs.SolveCompleteness.{completes}
 use Rattle.osemosys_run.proofs.run.osemosys.Goals as goal
 
 pub returns-in-Ok-send-clause-due : goal.returns-in-Ok-send-clause-due
@@ -105,6 +106,7 @@ returns-in-Ok-send-clause-complete g c = λ files told calm unfailing.
     let sink = g.K.Sink in
     let laws : Laws =
     record {
+      one_reading = c.verdict_laws.ensures.one_meaning;
       one_data = c.acceptance_laws.ensures.one_data;
       not_both = c.acceptance_laws.ensures.not_both;
       one_plan = c.telling_laws.ensures.plan;

@@ -6,13 +6,18 @@ use Rattle.osemosys_run.specs.Causes.{CausedByRequest}
 use Rattle.command_words.specs.Commands.{request_of_result}
 use Rattle.osemosys_run.specs.Reading.{Sight}
 use Rattle.command_words.specs.Words.{Request}
-use Rattle.command_words.proofs.Requests.{asked_places, check_places}
+use Rattle.command_words.proofs.Requests.{asked_places, check_places, solve_places}
 use Rattle.osemosys_run.proofs.run.perform.Goals as goal
 
-pub perform_mps-requires : goal.perform_mps-requires
-perform_mps-requires g c =
+pub perform_task-requires : goal.perform_task-requires
+perform_task-requires g c =
     let request = ap request_of_result (sym (c.in-Ok-Mps.is ∙ ap Ok c.in-Ok-Mps.field-0-is)) ∙ c.in_ok-file.ensures in
     asked_places (map string_bytes c.args.words.now) c.in-Ok-Mps.file.now c.in-Ok-Mps.places (sym request)
+
+pub perform_task-in-Ok-Solve-requires : goal.perform_task-in-Ok-Solve-requires
+perform_task-in-Ok-Solve-requires g c =
+    let request = ap request_of_result (sym (c.in-Ok-Solve.is ∙ ap Ok c.in-Ok-Solve.field-0-is)) ∙ c.in_ok-file.ensures in
+    solve_places (map string_bytes c.args.words.now) c.in-Ok-Solve.file.now c.in-Ok-Solve.gap c.in-Ok-Solve.pivots c.in-Ok-Solve.places c.in-Ok-Solve.show (sym request)
 
 pub perform_check-requires : goal.perform_check-requires
 perform_check-requires g c =
@@ -23,13 +28,25 @@ pub returns-in-Ok-Mps-clause-caused : goal.returns-in-Ok-Mps-clause-caused
 returns-in-Ok-Mps-clause-caused g c =
     let shelf = g.S.Shelf in
     let old = c.args.shelf.now in
-    let new = c.perform_mps.new.shelf in
+    let new = c.perform_task.new.shelf in
     let before : Sight = record { files = shelf.files old; rest = shelf.rest old; faults = shelf.faults old; begins = shelf.begins old; taken = shelf.taken old } in
     let after : Sight = record { files = shelf.files new; rest = shelf.rest new; faults = shelf.faults new; begins = shelf.begins new; taken = shelf.taken new } in
     let request = ap request_of_result (sym (c.in-Ok-Mps.is ∙ ap Ok c.in-Ok-Mps.field-0-is)) ∙ c.in_ok-file.ensures in
-    IfOk-weaker c.perform_mps.result _ _
+    IfOk-weaker c.perform_task.result _ _
     (λ answer caused. subst (λ (r : Result Request WordFault). CausedByRequest r before after answer.status answer.text.items) request caused)
-    c.perform_mps.ensures.caused
+    c.perform_task.ensures.caused
+
+pub returns-in-Ok-Solve-clause-caused : goal.returns-in-Ok-Solve-clause-caused
+returns-in-Ok-Solve-clause-caused g c =
+    let shelf = g.S.Shelf in
+    let old = c.args.shelf.now in
+    let new = c.perform_task-in-Ok-Solve.new.shelf in
+    let before : Sight = record { files = shelf.files old; rest = shelf.rest old; faults = shelf.faults old; begins = shelf.begins old; taken = shelf.taken old } in
+    let after : Sight = record { files = shelf.files new; rest = shelf.rest new; faults = shelf.faults new; begins = shelf.begins new; taken = shelf.taken new } in
+    let request = ap request_of_result (sym (c.in-Ok-Solve.is ∙ ap Ok c.in-Ok-Solve.field-0-is)) ∙ c.in_ok-file.ensures in
+    IfOk-weaker c.perform_task-in-Ok-Solve.result _ _
+    (λ answer caused. subst (λ (r : Result Request WordFault). CausedByRequest r before after answer.status answer.text.items) request caused)
+    c.perform_task-in-Ok-Solve.ensures.caused
 
 pub returns-in-Ok-Check-clause-caused : goal.returns-in-Ok-Check-clause-caused
 returns-in-Ok-Check-clause-caused g c =

@@ -1,4 +1,0 @@
-pub mod PositionLaws
-pub mod BookLaws
-pub mod CarriedWords
-pub mod PosedLaws

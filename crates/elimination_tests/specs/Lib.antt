@@ -1,2 +1,0 @@
-pub mod BookPrograms
-pub mod CarriedBack

@@ -1,0 +1,183 @@
+-- What is carried back has a value for each variable of a book, in order; and multipliers for names of its rows alone.
+use Rattle.std.proofs.Common.{◌≡◌, ℤ, Bool, true, false, List, [], ◌∷◌, ◌⊎◌, inl, inr, map, filter, refl, sym, ◌∙◌, subst, if◌then◌else◌}
+use Rattle.std.specs.Prelude.{Option, Some, None}
+use Rattle.std.specs.BTreeMap.{insert_entry}
+use Rattle.std.specs.Ordering.{match_ordering}
+use Rattle.std.specs.declared.cmp.Ordering.{Ordering}
+use Rattle.std.specs.declared.cmp.Ordering.TheVariants.{Less, Equal as Alike, Greater}
+use Rattle.exact_num.specs.Rational.{Rational}
+use Rattle.row_core.specs.declared.Row.{Row}
+use Rattle.row_core.specs.declared.RowName.{RowName}
+use Rattle.row_core.specs.declared.Var.{Var}
+use Rattle.row_core.specs.Forms.{Form}
+use Rattle.row_core.specs.Numbers.{ascends, keys_of}
+use Rattle.row_core.specs.Order.{row_name_cmp, var_cmp}
+use Rattle.row_core.specs.Plans.{value_in}
+use Rattle.row_core.proofs.Orders.{var_cmp_exact}
+use Rattle.named_equations.proofs.InstanceTests.{Contains-from_Has, Has, Has-from_Contains}
+use Rattle.row_book.specs.Books.{names_of}
+use Rattle.row_book.specs.Kept.{IsBook}
+use Rattle.written_method.specs.Definitions.{Definition, definitions_of, defined, others_of}
+use Rattle.written_method.specs.Eliminated.{expanded_all, is_column, is_kept, reduced_row, reduced_rows}
+use Rattle.written_method.specs.Lifted.{lifted, lifted_value, no_right_side, right_side}
+use Rattle.written_method.specs.Multiplied.{defined_multipliers, multiplier_of, scaled_multipliers}
+use Rattle.exact_num.specs.Rational.{times}
+use Rattle.exact_solver.specs.Definers.{definers}
+use Rattle.exact_solver.specs.Programs.{carried_direction, carried_multipliers, carried_plan, definitions_in, name_left, rows_left, scale_left}
+use Rattle.exact_solver.specs.Solutions.{AreNamedIn}
+use Rattle.exact_solver.proofs.BookVariables.{Has-from_test, definer-has, defined-has, variable-known}
+use Rattle.exact_solver.proofs.SameLists.{Has-filter_from, Has-filter_to, same-list}
+
+-- ---- one key more
+
+pub insert-has : {K : Type 0} (cmp : K → K → Ordering) (es : List (K × Rational)) (k : K) (r : Rational) (u : K) → Has (keys_of (insert_entry cmp es k r)) u → (k ≡ u) ⊎ Has (keys_of es) u
+insert-has cmp [] k r u (inl e) = inl e
+insert-has cmp [] k r u (inr h) = absurd h
+insert-has {K} cmp (e ∷ es) k r u h = cases (cmp k e.0) h (insert-has cmp es k r u)
+  where
+    later : (k ≡ u) ⊎ Has (keys_of es) u → (k ≡ u) ⊎ Has (keys_of (e ∷ es)) u
+    later (inl a) = inl a
+    later (inr b) = inr (inr b)
+
+    cases : (o : Ordering) → Has (keys_of (match_ordering o ((k, r) ∷ e ∷ es) ((e.0, r) ∷ es) (e ∷ insert_entry cmp es k r))) u → (Has (keys_of (insert_entry cmp es k r)) u → (k ≡ u) ⊎ Has (keys_of es) u) → (k ≡ u) ⊎ Has (keys_of (e ∷ es)) u
+    cases Less (inl a) rest = inl a
+    cases Less (inr b) rest = inr b
+    cases Alike a rest = inr a
+    cases Greater (inl a) rest = inr (inl a)
+    cases Greater (inr b) rest = later (rest b)
+
+pub has-insert : (es : List (Var × Rational)) (k : Var) (r : Rational) (u : Var) → (k ≡ u) ⊎ Has (keys_of es) u → Has (keys_of (insert_entry var_cmp es k r)) u
+has-insert [] k r u (inl e) = inl e
+has-insert [] k r u (inr h) = absurd h
+has-insert (e ∷ es) k r u h = cases (var_cmp k e.0) refl h (has-insert es k r u)
+  where
+    cases : (o : Ordering) → var_cmp k e.0 ≡ o → (k ≡ u) ⊎ Has (keys_of (e ∷ es)) u → ((k ≡ u) ⊎ Has (keys_of es) u → Has (keys_of (insert_entry var_cmp es k r)) u)
+        → Has (keys_of (match_ordering o ((k, r) ∷ e ∷ es) ((e.0, r) ∷ es) (e ∷ insert_entry var_cmp es k r))) u
+    cases Less is (inl a) rest = inl a
+    cases Less is (inr b) rest = inr b
+    cases Alike is (inl a) rest = inl (sym (var_cmp_exact k e.0 is) ∙ a)
+    cases Alike is (inr b) rest = b
+    cases Greater is (inl a) rest = inr (rest (inl a))
+    cases Greater is (inr (inl b)) rest = inl b
+    cases Greater is (inr (inr b)) rest = inr (rest (inr b))
+
+-- ---- values
+
+lifted-has : (right : Definition → ℤ) (ds : List Definition) (values : List (Var × Rational)) (u : Var) → Has (keys_of (lifted right ds values)) u → Has (defined ds) u ⊎ Has (keys_of values) u
+lifted-has right [] values u h = inr h
+lifted-has right (d ∷ ds) values u h =
+    let r = lifted_value right (value_in var_cmp values) d in
+    cases (lifted-has right ds (insert_entry var_cmp values d.variable r) u h) (insert-has var_cmp values d.variable r u)
+  where
+    cases : {A B C D : Type 0} → A ⊎ B → (B → C ⊎ D) → (C ⊎ A) ⊎ D
+    cases (inl a) f = inl (inr a)
+    cases (inr b) f = elim (f b) [ inl c ↦ inl (inl c) | inr d ↦ inr d ]
+
+has-lifted : (right : Definition → ℤ) (ds : List Definition) (values : List (Var × Rational)) (u : Var) → Has (defined ds) u ⊎ Has (keys_of values) u → Has (keys_of (lifted right ds values)) u
+has-lifted right [] values u (inl h) = absurd h
+has-lifted right [] values u (inr h) = h
+has-lifted right (d ∷ ds) values u h =
+    let r = lifted_value right (value_in var_cmp values) d in
+    let next = insert_entry var_cmp values d.variable r in
+    let put = has-insert values d.variable r u in
+    has-lifted right ds next u (cases h put)
+  where
+    cases : {N : Type 0} → Has (defined (d ∷ ds)) u ⊎ Has (keys_of values) u → ((d.variable ≡ u) ⊎ Has (keys_of values) u → N) → Has (defined ds) u ⊎ N
+    cases (inl (inl e)) put = inr (put (inl e))
+    cases (inl (inr k)) put = inl k
+    cases (inr k) put = inr (put (inr k))
+
+module _ (rows : List Row) (vars : List Var) (book : IsBook rows vars) (values : List (Var × Rational)) (keyed : keys_of values ≡ filter is_column vars) where
+  complete : (right : Definition → ℤ) → ascends var_cmp (keys_of (lifted right (definitions_in rows) values)) ≡ true → keys_of (lifted right (definitions_in rows) values) ≡ vars
+  complete right up = same-list (keys_of (lifted right (definitions_in rows) values)) vars up book.variables.ascending to back
+    where
+      to : (u : Var) → Has (keys_of (lifted right (definitions_in rows) values)) u → Has vars u
+      to u h = elim (lifted-has right (definitions_in rows) values u h) [
+        | inl k ↦ definer-has rows vars book u (defined-has rows u k)
+        | inr k ↦ (Has-filter_to is_column vars u (subst (λ ks. Has ks u) keyed k)).0
+      ]
+
+      back : (u : Var) → Has vars u → Has (keys_of (lifted right (definitions_in rows) values)) u
+      back u h =
+          has-lifted right (definitions_in rows) values u (elim (variable-known rows vars book u h) [
+            | inl k ↦ inl (Has-from_test (defined (definitions_in rows)) u k)
+            | inr k ↦ inr (subst (λ ks. Has ks u) (sym keyed) (Has-filter_from is_column vars u h k))
+          ])
+
+  pub plan-complete : ascends var_cmp (keys_of (carried_plan rows values)) ≡ true → keys_of (carried_plan rows values) ≡ vars
+  unfolding carried_plan
+  plan-complete up = complete right_side up
+
+  pub direction-complete : ascends var_cmp (keys_of (carried_direction rows values)) ≡ true → keys_of (carried_direction rows values) ≡ vars
+  unfolding carried_direction
+  direction-complete up = complete no_right_side up
+
+-- ---- multipliers
+
+scaled-has : (names : List RowName) (scales multipliers : List Rational) (made : List (RowName × Rational)) (u : RowName) → Has (keys_of (scaled_multipliers names scales multipliers made)) u → Has names u ⊎ Has (keys_of made) u
+scaled-has [] scales multipliers made u h = inr h
+scaled-has (name ∷ names) [] multipliers made u h = inr h
+scaled-has (name ∷ names) (scale ∷ scales) [] made u h = inr h
+scaled-has (name ∷ names) (scale ∷ scales) (multiplier ∷ multipliers) made u h =
+    cases (scaled-has names scales multipliers (insert_entry row_name_cmp made name (times multiplier scale)) u h) (insert-has row_name_cmp made name (times multiplier scale) u)
+  where
+    cases : {A B C D : Type 0} → A ⊎ B → (B → C ⊎ D) → (C ⊎ A) ⊎ D
+    cases (inl a) f = inl (inr a)
+    cases (inr b) f = elim (f b) [ inl c ↦ inl (inl c) | inr d ↦ inr d ]
+
+others-named : (rows : List Row) (defs : List (Option Var)) (u : RowName) → Has (names_of (others_of rows defs)) u → Has (names_of rows) u
+others-named [] defs u h = absurd h
+others-named (row ∷ rows) [] u h = absurd h
+others-named (row ∷ rows) (None ∷ defs) u (inl e) = inl e
+others-named (row ∷ rows) (None ∷ defs) u (inr h) = inr (others-named rows defs u h)
+others-named (row ∷ rows) (Some v ∷ defs) u h = inr (others-named rows defs u h)
+
+left-named : (forms : List (Var × Form)) (rows : List Row) (u : RowName) → Has (map name_left (reduced_rows forms rows)) u → Has (names_of rows) u
+left-named forms [] u h = absurd h
+left-named forms (row ∷ rows) u h = cases (is_kept (reduced_row forms row)) h (left-named forms rows u)
+  where
+    cases : (b : Bool) → Has (map name_left (if b then (reduced_row forms row ∷ reduced_rows forms rows) else reduced_rows forms rows)) u
+        → (Has (map name_left (reduced_rows forms rows)) u → Has (names_of rows) u) → Has (names_of (row ∷ rows)) u
+    cases true (inl e) rest = inl e
+    cases true (inr k) rest = inr (rest k)
+    cases false k rest = inr (rest k)
+
+-- the names of the rows of definitions
+abbrev definition_names : List Definition → List RowName
+definition_names ds = map (λ (d : Definition). d.row.name) ds
+
+definitions-named : (rows : List Row) (defs : List (Option Var)) (u : RowName) → Has (definition_names (definitions_of rows defs)) u → Has (names_of rows) u
+definitions-named [] defs u h = absurd h
+definitions-named (row ∷ rows) [] u h = absurd h
+definitions-named (row ∷ rows) (None ∷ defs) u h = inr (definitions-named rows defs u h)
+definitions-named (row ∷ rows) (Some v ∷ defs) u (inl e) = inl e
+definitions-named (row ∷ rows) (Some v ∷ defs) u (inr h) = inr (definitions-named rows defs u h)
+
+multiplied-has : (with_cost : Bool) (rows : List Row) (ds : List Definition) (made : List (RowName × Rational)) (u : RowName) → Has (keys_of (defined_multipliers with_cost rows ds made)) u → Has (definition_names ds) u ⊎ Has (keys_of made) u
+multiplied-has with_cost rows [] made u h = inr h
+multiplied-has with_cost rows (d ∷ ds) made u h =
+    let before = defined_multipliers with_cost rows ds made in
+    cases (insert-has row_name_cmp before d.row.name (multiplier_of with_cost rows (value_in row_name_cmp before) d) u h) (multiplied-has with_cost rows ds made u)
+  where
+    cases : {A B C D : Type 0} → A ⊎ B → (B → C ⊎ D) → (A ⊎ C) ⊎ D
+    cases (inl a) f = inl (inl a)
+    cases (inr b) f = elim (f b) [ inl c ↦ inl (inr c) | inr d ↦ inr d ]
+
+named-has : (with_cost : Bool) (rows : List Row) (lambda : List Rational) (u : RowName) → Has (keys_of (carried_multipliers with_cost rows lambda)) u → Has (names_of rows) u
+unfolding carried_multipliers
+named-has with_cost rows lambda u h =
+    let names = map name_left (rows_left rows) in
+    let scales = map scale_left (rows_left rows) in
+    elim (multiplied-has with_cost rows (definitions_in rows) (scaled_multipliers names scales lambda []) u h) [
+      | inl k ↦ definitions-named rows (definers rows) u k
+      | inr k ↦ elim (scaled-has names scales lambda [] u k) [
+        | inl l ↦ others-named rows (definers rows) u (left-named (expanded_all [] (definitions_in rows)) (others_of rows (definers rows)) u l)
+        | inr l ↦ absurd l
+      ]
+    ]
+
+pub multipliers-named : (with_cost : Bool) (rows : List Row) (lambda : List Rational) → ascends row_name_cmp (keys_of (carried_multipliers with_cost rows lambda)) ≡ true → AreNamedIn rows (carried_multipliers with_cost rows lambda)
+multipliers-named with_cost rows lambda up = record {
+  ascending = up;
+  among = λ u h. Contains-from_Has (names_of rows) u (named-has with_cost rows lambda u (Has-from_Contains (keys_of (carried_multipliers with_cost rows lambda)) u h));
+}

@@ -1,0 +1,195 @@
+-- What is carried back from the simplex is what makes the checks say yes.
+use Rattle.std.proofs.Common.{◌≡◌, ℕ, ◌*◌, ◌<◌, ℤ, pos, neg_ℤ, ◌+ℤ◌, ◌*ℤ◌, true, false, List, map, sym, ap, ◌∙◌, subst, arith}
+use Rattle.std.specs.Prelude.{◌<ℤ◌}
+use Rattle.std.proofs.lemmas.Int.{ints}
+use Rattle.exact_num.specs.Rational.{Rational}
+use Rattle.exact_num.specs.Value.{value_of}
+use Rattle.exact_num.specs.declared.fraction.Frac.{Frac}
+use Rattle.exact_num.proofs.Integers.{*ℤ_cancel, *ℤ_pos, <ℤ_cancel, nonzero_of_pos}
+use Rattle.exact_num.proofs.Ring.{*ℤ-zero, *ℤ_comm, ring, zero-*ℤ}
+use Rattle.row_core.specs.declared.Row.{Row}
+use Rattle.row_core.specs.declared.RowName.{RowName}
+use Rattle.row_core.specs.declared.Var.{Var}
+use Rattle.row_core.specs.Evaluated.{AreOver}
+use Rattle.row_core.specs.Numbers.{ascends, keys_of}
+use Rattle.row_core.specs.Order.{row_name_cmp, var_cmp}
+use Rattle.row_core.specs.Plans.{value_in}
+use Rattle.row_core.specs.Rows.{row_sum}
+use Rattle.row_core.specs.Values.{IsOver}
+use Rattle.row_core.proofs.SumLaws.{IsOver-agree}
+use Rattle.row_book.specs.Kept.{IsBook}
+use Rattle.written_method.specs.declared.reduced.Reduced.{Reduced}
+use Rattle.written_method.specs.Certificates.{AreOverFrom, right_sum}
+use Rattle.written_method.specs.Definitions.{Definition, defined, is_among}
+use Rattle.written_method.specs.Lifted.{lifted, no_right_side, right_side}
+use Rattle.written_method.specs.Programs.{program_of}
+use Rattle.certificate_checker.specs.Certificates.{AreMultipliersOver, bound_of}
+use Rattle.certificate_checker.specs.Costs.{cost_of, model_cost}
+use Rattle.certificate_checker.specs.Denominators.{AreOverSome}
+use Rattle.variable_elimination.specs.Eliminations.{IsWhole}
+use Rattle.variable_elimination.proofs.LiftLaws.{row_sum-avoids, row_sum-times}
+use Rattle.variable_elimination.proofs.LiftedLaws.{direction_met, lifted-others, lifted_meet, plan_met}
+use Rattle.simplex_core.specs.Outcomes.{BoundCost, DescendAlong, MeetAll, RefuteAll}
+use Rattle.exact_solver.specs.CarriedBack.{BecomesDirection, BecomesPlan, BecomesProof, BecomesRefutation}
+use Rattle.exact_solver.specs.Definers.{definers}
+use Rattle.exact_solver.specs.Found.{IsFoundDescent, IsFoundOptimum, IsFoundPlan, IsFoundRefutation}
+use Rattle.exact_solver.specs.Programs.{carried_direction, carried_plan, definitions_in}
+use Rattle.exact_solver.proofs.BookLaws.{book_triangular}
+use Rattle.exact_solver.proofs.CostOfBooks.{cost-row}
+use Rattle.exact_solver.proofs.OverLaws.{IsOverSome, multipliers-more, over-multiplied, values-listed}
+
+pub positive : (n : ℕ) → 0 < n → pos 0 <ℤ pos n
+positive n h = omega (arith, ints, h)
+
+-- ---- common denominators
+
+-- multipliers of rows and a list of fractions, over one number
+record AreOverOne (multipliers : List (RowName × Rational)) (numbers : List Rational) : Type 0 where
+  over : ℕ
+  named : RowName → ℤ
+  number : ℕ → ℤ
+  are : AreMultipliersOver over named multipliers
+  from : AreOverFrom (pos over) number 0 numbers
+
+over-one : (multipliers : List (RowName × Rational)) (numbers : List Rational) → AreOverSome row_name_cmp multipliers → IsOverSome numbers → AreOverOne multipliers numbers
+over-one multipliers numbers m o = record {
+  over = o.over * m.over;
+  named = λ name. pos o.over *ℤ m.number name;
+  number = λ j. pos m.over *ℤ o.number j;
+  are = multipliers-more o.over m.over m.number multipliers o.positive (m.positive, m.each);
+  from = subst (λ t. AreOverFrom t (λ j. pos m.over *ℤ o.number j) 0 numbers) (*ℤ_comm (pos m.over) (pos o.over)) (over-multiplied (pos m.over) (pos o.over) o.number 0 numbers o.each);
+}
+
+-- ---- arithmetic
+
+-- the cost c of a plan over p and the bound b of multipliers over s: r is the sum of the row of the cost over p, x that over q
+closed-by : (own c r right p x q s sum b : ℤ) → pos 0 <ℤ own → pos 0 <ℤ q → (own *ℤ c) +ℤ r ≡ right *ℤ p → r *ℤ q ≡ x *ℤ p → neg_ℤ (s *ℤ x) ≡ own *ℤ (sum *ℤ q)
+    → own *ℤ b ≡ (own *ℤ sum) +ℤ (s *ℤ right) → c *ℤ s ≡ b *ℤ p
+closed-by own c r right p x q s sum b hown hq plan kept same bound =
+    *ℤ_cancel (c *ℤ s) (b *ℤ p) (own *ℤ q) (nonzero_of_pos (own *ℤ q) (*ℤ_pos own q hown hq))
+    (let e1 : ((own *ℤ c) +ℤ r) *ℤ (s *ℤ q) ≡ (right *ℤ p) *ℤ (s *ℤ q) = ap (λ z. z *ℤ (s *ℤ q)) plan in
+    let e2 : (r *ℤ q) *ℤ s ≡ (x *ℤ p) *ℤ s = ap (λ z. z *ℤ s) kept in
+    let e3 : neg_ℤ (s *ℤ x) *ℤ p ≡ (own *ℤ (sum *ℤ q)) *ℤ p = ap (λ z. z *ℤ p) same in
+    let e4 : (own *ℤ b) *ℤ (p *ℤ q) ≡ ((own *ℤ sum) +ℤ (s *ℤ right)) *ℤ (p *ℤ q) = ap (λ z. z *ℤ (p *ℤ q)) bound in
+    let r1 = apart1 own c r s q in
+    let r2 = apart2 r s q in
+    let r3 = apart3 s x p in
+    let r4 = apart4 own sum s right p q in
+    let r5 = apart5 c s own q in
+    let r6 = apart6 b p own q in
+    omega (arith, ints))
+  where
+    apart1 : (own c r s q : ℤ) → ((own *ℤ c) +ℤ r) *ℤ (s *ℤ q) ≡ ((own *ℤ c) *ℤ (s *ℤ q)) +ℤ (r *ℤ (s *ℤ q))
+    apart1 own c r s q = simp ring
+
+    apart2 : (r s q : ℤ) → r *ℤ (s *ℤ q) ≡ (r *ℤ q) *ℤ s
+    apart2 r s q = simp ring
+
+    apart3 : (s x p : ℤ) → neg_ℤ (s *ℤ x) *ℤ p ≡ neg_ℤ ((x *ℤ p) *ℤ s)
+    apart3 s x p = simp ring
+
+    apart4 : (own sum s right p q : ℤ) → ((own *ℤ sum) +ℤ (s *ℤ right)) *ℤ (p *ℤ q) ≡ ((own *ℤ (sum *ℤ q)) *ℤ p) +ℤ ((right *ℤ p) *ℤ (s *ℤ q))
+    apart4 own sum s right p q = simp ring
+
+    apart5 : (c s own q : ℤ) → (c *ℤ s) *ℤ (own *ℤ q) ≡ (own *ℤ c) *ℤ (s *ℤ q)
+    apart5 c s own q = simp ring
+
+    apart6 : (b p own q : ℤ) → (b *ℤ p) *ℤ (own *ℤ q) ≡ (own *ℤ b) *ℤ (p *ℤ q)
+    apart6 b p own q = simp ring
+
+-- of a direction: where the sum of the row of the cost is above 0, the cost is below it
+falls-by : (own c r right p x q : ℤ) → pos 0 <ℤ own → pos 0 <ℤ q → pos 0 <ℤ p → pos 0 <ℤ x → (own *ℤ c) +ℤ r ≡ right *ℤ pos 0 → r *ℤ q ≡ x *ℤ p → c <ℤ pos 0
+falls-by own c r right p x q hown hq hp hx met kept =
+    let zero_q = zero-*ℤ q in
+    let product : pos 0 <ℤ (x *ℤ p) = *ℤ_pos x p hx hp in
+    let up : pos 0 <ℤ r = <ℤ_cancel (pos 0) r q hq (omega (arith, ints)) in
+    let zero_right = *ℤ-zero right in
+    let zero_own = zero-*ℤ own in
+    let turned = *ℤ_comm own c in
+    <ℤ_cancel c (pos 0) own hown (omega (arith, ints))
+
+-- ---- what is found
+
+module _ (rows : List Row) (vars : List Var) (book : IsBook rows vars) (reduced : Reduced) (whole : IsWhole rows (definers rows) reduced) where
+  abbrev ds : List Definition
+  ds = definitions_in rows
+
+  abbrev pub found-plan : (values plan : List (Var × Rational)) → keys_of values ≡ reduced.columns.items → ascends var_cmp (keys_of values) ≡ true → AreOverSome var_cmp values → AreOverSome var_cmp plan → MeetAll (program_of reduced) values → BecomesPlan rows vars reduced values plan
+      → IsFoundPlan rows vars plan
+  found-plan values plan keyed up some made meet becomes = record {
+    over = made.over;
+    number = made.number;
+    are = (made.positive, made.each);
+    meets =
+        becomes some.over made.over some.number made.number keyed (some.positive, some.each) (made.positive, made.each)
+        (meet (pos some.over) some.number (positive some.over some.positive) (values-listed values (pos some.over) some.number up some.each));
+  }
+
+  -- the entries of the row of the cost have the same sum of the values and of what is made of them, but for the number over which they are written
+  cost-kept : (values made : List (Var × Rational)) (q p : ℕ) (x z : Var → ℤ) → ((v : Var) → is_among (defined ds) v ≡ false → value_in var_cmp made v ≡ value_in var_cmp values v)
+      → AreOver (pos q) x (value_in var_cmp values) → AreOver (pos p) z (value_in var_cmp made) → row_sum z reduced.cost.items *ℤ pos q ≡ row_sum x reduced.cost.items *ℤ pos p
+  cost-kept values made q p x z others over_x over_z =
+      let es = reduced.cost.items in
+      let agree : (v : Var) → is_among (defined ds) v ≡ false → z v *ℤ pos q ≡ x v *ℤ pos p
+      = λ v k. IsOver-agree (pos p) (pos q) (value_in var_cmp values v) (z v) (x v) (subst (λ r. IsOver (pos p) r (z v)) (others v k) (over_z v)) (over_x v) in
+      *ℤ_comm (row_sum z es) (pos q) ∙ sym (row_sum-times (pos q) z es)
+      ∙ row_sum-avoids (λ v. pos q *ℤ z v) (λ v. pos p *ℤ x v) (defined ds) es whole.without (λ v k. *ℤ_comm (pos q) (z v) ∙ agree v k ∙ *ℤ_comm (x v) (pos p))
+      ∙ row_sum-times (pos p) x es ∙ *ℤ_comm (pos p) (row_sum x es)
+
+  pub found-optimum : (values : List (Var × Rational)) (lambda : List Frac) (multipliers : List (RowName × Rational)) → keys_of values ≡ reduced.columns.items → ascends var_cmp (keys_of values) ≡ true
+      → AreOverSome var_cmp values → AreOverSome var_cmp (carried_plan rows values) → AreOverSome row_name_cmp multipliers → IsOverSome (map value_of lambda)
+      → MeetAll (program_of reduced) values → BoundCost (program_of reduced) values (map value_of lambda) → BecomesPlan rows vars reduced values (carried_plan rows values) → BecomesProof rows vars reduced lambda multipliers
+      → IsFoundOptimum rows vars (carried_plan rows values) multipliers
+  unfolding carried_plan
+  found-optimum values lambda multipliers keyed up some made some_multipliers some_lambda meet bounds becomes proves =
+      let one = over-one multipliers (map value_of lambda) some_multipliers some_lambda in
+      let d = positive one.over one.are.0 in
+      let proof = proves one.over one.named one.number one.are one.from in
+      let q = positive some.over some.positive in
+      let both = bounds (pos some.over) some.number (pos one.over) one.number q (values-listed values (pos some.over) some.number up some.each) d one.from in
+      let p = positive made.over made.positive in
+      let met = plan_met ds (pos made.over) made.number (lifted_meet right_side ds values (pos made.over) made.number p (book_triangular rows vars book) made.each) in
+      record {
+        plan_found = found-plan values (lifted right_side ds values) keyed up some made meet becomes;
+        bound_found = record { over = one.over; number = one.named; are = one.are; proves = proof.proves both.0 };
+        closed =
+            closed-by reduced.cost_own (cost_of model_cost vars made.number) (row_sum made.number reduced.cost.items) reduced.cost_rhs (pos made.over) (row_sum some.number reduced.cost.items) (pos some.over)
+            (pos one.over) (right_sum one.number 0 (program_of reduced).rows) (bound_of one.named rows) whole.own q
+            (cost-row rows vars book reduced (pos made.over) made.number whole met)
+            (cost-kept values (lifted right_side ds values) some.over made.over some.number made.number (lifted-others right_side ds values) some.each made.each)
+            both.1 proof.bound;
+      }
+
+  pub found-refutation : (lambda : List Frac) (multipliers : List (RowName × Rational)) → AreOverSome row_name_cmp multipliers → IsOverSome (map value_of lambda) → RefuteAll (program_of reduced) (map value_of lambda) → BecomesRefutation rows vars reduced lambda multipliers
+      → IsFoundRefutation rows vars multipliers
+  found-refutation lambda multipliers some_multipliers some_lambda refute becomes =
+      let one = over-one multipliers (map value_of lambda) some_multipliers some_lambda in
+      record {
+        over = one.over;
+        number = one.named;
+        are = one.are;
+        refutes = becomes one.over one.named one.number one.are one.from (refute (pos one.over) one.number (positive one.over one.are.0) one.from);
+      }
+
+  pub found-descent : (direction : List (Var × Rational)) → keys_of direction ≡ reduced.columns.items → ascends var_cmp (keys_of direction) ≡ true → AreOverSome var_cmp direction → AreOverSome var_cmp (carried_direction rows direction)
+      → DescendAlong (program_of reduced) direction → BecomesDirection rows vars reduced direction (carried_direction rows direction) → IsFoundDescent rows vars (carried_direction rows direction)
+  unfolding carried_direction
+  found-descent direction keyed up some made along becomes =
+      let q = positive some.over some.positive in
+      let p = positive made.over made.positive in
+      let two = along (pos some.over) some.number q (values-listed direction (pos some.over) some.number up some.each) in
+      let stand = becomes some.over made.over some.number made.number keyed (some.positive, some.each) (made.positive, made.each) two.0 in
+      let met = direction_met ds (pos made.over) made.number (lifted_meet no_right_side ds direction (pos made.over) made.number p (book_triangular rows vars book) made.each) in
+      record {
+        over = made.over;
+        number = made.number;
+        are = (made.positive, made.each);
+        descends = record {
+          rows_stand = stand.0;
+          signs = stand.1;
+          falls =
+              falls-by reduced.cost_own (cost_of model_cost vars made.number) (row_sum made.number reduced.cost.items) reduced.cost_rhs (pos made.over) (row_sum some.number reduced.cost.items) (pos some.over) whole.own q p two.1
+              (cost-row rows vars book reduced (pos 0) made.number whole met)
+              (cost-kept direction (lifted no_right_side ds direction) some.over made.over some.number made.number (lifted-others no_right_side ds direction) some.each made.each);
+        };
+      }

@@ -1,0 +1,185 @@
+-- No equation is left of a book: one that defines nothing says what a definition says, so that it is reduced to 0 = 0, which isn't kept. So what is left is a linear program of inequalities.
+use Rattle.std.proofs.Common.{◌≡◌, ◌≢◌, ℤ, pos, ◌-ℤ◌, ◌*ℤ◌, Bool, true, false, not, ◌||◌, List, [], ◌∷◌, ◌⊎◌, inl, inr, map, filter, refl, sym, ap, ap₂, ◌∙◌, subst, arith, if◌then◌else◌}
+use Rattle.std.specs.Prelude.{Option, Some, None, ⊤, ◌<ℤ◌}
+use Rattle.std.specs.Ordering.{is_eq}
+use Rattle.std.proofs.lemmas.Int.{ints}
+use Rattle.exact_num.specs.Rational.{Rational}
+use Rattle.exact_num.specs.Value.{value_of}
+use Rattle.exact_num.specs.declared.fraction.Frac.{Frac}
+use Rattle.exact_num.proofs.Integers.{*ℤ_cancel, *ℤ_pos, nonzero_of_pos}
+use Rattle.exact_num.proofs.Ring.{*ℤ-zero, zero-*ℤ, *ℤ_comm}
+use Rattle.row_core.specs.declared.Row.{Row}
+use Rattle.row_core.specs.declared.Sense.{Sense}
+use Rattle.row_core.specs.declared.Sense.TheVariants.{Equal}
+use Rattle.row_core.specs.declared.Var.{Var}
+use Rattle.row_core.specs.Numbers.{none_zero, numbers_of}
+use Rattle.row_core.specs.Order.{var_cmp}
+use Rattle.row_core.specs.Rows.{number_at, row_sum}
+use Rattle.row_core.specs.Statements.{stands}
+use Rattle.row_core.specs.Values.{alone}
+use Rattle.row_core.proofs.AscendingLaws.{both_passed}
+use Rattle.row_core.proofs.MeaningLaws.{row_sum-alone}
+use Rattle.named_equations.proofs.InstanceTests.{Has, Has-from_Contains}
+use Rattle.row_book.specs.Definitions.{IsRepeatedIn}
+use Rattle.row_book.specs.Kept.{IsBook}
+use Rattle.written_method.specs.declared.reduced.Reduced.{Reduced}
+use Rattle.written_method.specs.Definitions.{Definition, definitions_of, others_of, rows_of, defined, avoids, AreTriangular}
+use Rattle.written_method.specs.Eliminated.{ReducedRow, has_entries, is_kept}
+use Rattle.written_method.specs.Programs.{inequality_of, program_of}
+use Rattle.written_method.specs.Ready.{ArePosed, IsPosed, IsReady, RowsAreAmong}
+use Rattle.variable_elimination.specs.Left.{AvoidAll}
+use Rattle.variable_elimination.specs.Meaning.{excess, AreMet}
+use Rattle.variable_elimination.specs.ReducedRows.{AreReductions, shape, shape_of, stays}
+use Rattle.variable_elimination.specs.Reductions.{IsReduced}
+use Rattle.variable_elimination.proofs.LeftLaws.{avoids-from_none}
+use Rattle.variable_elimination.proofs.LiftLaws.{met_by_some, row_sum-avoids, row_sum-times}
+use Rattle.variable_elimination.proofs.ReductionLaws.{IsReduced-met}
+use Rattle.variable_elimination.proofs.VariableLaws.{itself}
+use Rattle.exact_solver.specs.Definers.{definer, definers}
+use Rattle.exact_solver.proofs.BookLaws.{book_triangular, placed}
+
+-- ---- rows that say what a definition says
+
+met_at : (rows : List Row) (other : Row) (v : Var) (q : ℤ) (x : Var → ℤ) → Has rows other → definer other ≡ Some v → AreMet (definitions_of rows (definers rows)) q x → excess other q x ≡ pos 0
+met_at [] other v q x h d met = absurd h
+met_at (row ∷ rows) other v q x h d met = cases (definer row) refl h met (λ k m. met_at rows other v q x k d m)
+  where
+    cases : (o : Option Var) → definer row ≡ o → (row ≡ other) ⊎ Has rows other → AreMet (definitions_of (row ∷ rows) (o ∷ definers rows)) q x
+        → (Has rows other → AreMet (definitions_of rows (definers rows)) q x → excess other q x ≡ pos 0) → excess other q x ≡ pos 0
+    cases None is (inl e) m rest = let none : None ≡ Some v = sym is ∙ ap definer e ∙ d in absurd (cc none)
+    cases None is (inr k) m rest = rest k m
+    cases (Some w) is (inl e) m rest = subst (λ (r : Row). excess r q x ≡ pos 0) e m.0
+    cases (Some w) is (inr k) m rest = rest k m.1
+
+repeated_met : (rows : List Row) (row : Row) (q : ℤ) (x : Var → ℤ) → IsRepeatedIn rows row → AreMet (definitions_of rows (definers rows)) q x → excess row q x ≡ pos 0
+repeated_met rows row q x r met =
+    ap₂ (λ (es : List (Var × ℤ)) z. row_sum x es -ℤ (z *ℤ q)) (sym r.entries) (sym r.right_side) ∙ met_at rows r.other r.variable q x (Has-from_Contains rows r.other r.among) r.defines met
+
+-- a row that defines nothing is one of the others
+others_none : (rows : List Row) (row : Row) → Has (others_of rows (definers rows)) row → Has rows row × (definer row ≡ None)
+others_none [] row h = absurd h
+others_none (first ∷ rows) row h = cases (definer first) refl h (others_none rows row)
+  where
+    later : Has rows row × (definer row ≡ None) → Has (first ∷ rows) row × (definer row ≡ None)
+    later p = (inr p.0, p.1)
+
+    cases : (o : Option Var) → definer first ≡ o → Has (others_of (first ∷ rows) (o ∷ definers rows)) row → (Has (others_of rows (definers rows)) row → Has rows row × (definer row ≡ None)) → Has (first ∷ rows) row × (definer row ≡ None)
+    cases None is (inl e) rest = (inl e, ap definer (sym e) ∙ is)
+    cases None is (inr k) rest = later (rest k)
+    cases (Some w) is k rest = later (rest k)
+
+-- ---- what they are reduced to
+
+is_empty : (es : List (Var × ℤ)) → none_zero (numbers_of es) ≡ true → ((w : Var) → number_at es w ≡ pos 0) → es ≡ []
+is_empty [] some none = refl
+is_empty (e ∷ es) some none =
+    let parts = both_passed (not (is_eq (var_cmp e.0 e.0) || false)) (avoids (e.0 ∷ []) es) (avoids-from_none (e.0 ∷ []) (e ∷ es) some (λ w k. none w)) in
+    let there : not (is_eq (var_cmp e.0 e.0) || false) ≡ false = ap (λ o. not (is_eq o || false)) (itself e.0) in
+    absurd (cc (parts.0, there))
+
+cancelled : (z t : ℤ) → pos 0 <ℤ t → z *ℤ t ≡ pos 0 → z ≡ pos 0
+cancelled z t h e = *ℤ_cancel z (pos 0) t (nonzero_of_pos t h) (e ∙ sym (zero-*ℤ t))
+
+-- a row that holds wherever the definitions do, without defined variables, has no entries and the right side 0
+module _ (ds : List Definition) (triangular : AreTriangular ds) (row : Row) (apart : avoids (defined ds) row.entries.items ≡ true) (holds : (q : ℤ) (x : Var → ℤ) → AreMet ds q x → excess row q x ≡ pos 0) where
+  abbrev es : List (Var × ℤ)
+  es = row.entries.items
+
+  sum_of : (q : ℤ) (x : Var → ℤ) → AreMet ds q x → row_sum x es ≡ row.rhs *ℤ q
+  sum_of q x met = difference (row_sum x es) (row.rhs *ℤ q) (holds q x met)
+    where
+      difference : (a b : ℤ) → a -ℤ b ≡ pos 0 → a ≡ b
+      difference a b h = omega (arith, ints)
+
+  no_sum : (x : Var → ℤ) → row_sum x es ≡ pos 0
+  no_sum x =
+      let m = met_by_some ds (pos 0) x triangular in
+      let met : AreMet ds (pos 0) m.plan = subst (λ z. AreMet ds z m.plan) (*ℤ-zero m.times) m.met in
+      cancelled (row_sum x es) m.times m.positive
+      (*ℤ_comm (row_sum x es) m.times ∙ sym (row_sum-times m.times x es) ∙ sym (row_sum-avoids m.plan (λ w. m.times *ℤ x w) (defined ds) es apart (λ w k. m.agrees w k))
+      ∙ sum_of (pos 0) m.plan met ∙ *ℤ-zero row.rhs)
+
+  pub no_entries : es ≡ []
+  no_entries = is_empty es row.nonzero (λ w. sym (row_sum-alone w es row.ascending) ∙ no_sum (alone w))
+
+  pub no_right_side : row.rhs ≡ pos 0
+  no_right_side =
+      let m = met_by_some ds (pos 1) (λ v. pos 0) triangular in
+      cancelled row.rhs (m.times *ℤ pos 1) (over_one m.times m.positive) (sym (sum_of (m.times *ℤ pos 1) m.plan m.met) ∙ no_sum m.plan)
+    where
+      over_one : (t : ℤ) → pos 0 <ℤ t → pos 0 <ℤ (t *ℤ pos 1)
+      over_one t h = omega (arith, ints)
+
+-- so does what a row is reduced to, where the row holds wherever the definitions do
+reduced_holds : (ds : List Definition) (named new : Row) (scale : Rational) → IsReduced (rows_of ds) named scale new → ((q : ℤ) (x : Var → ℤ) → AreMet ds q x → excess named q x ≡ pos 0) → (q : ℤ) (x : Var → ℤ) → AreMet ds q x → excess new q x ≡ pos 0
+reduced_holds ds named new scale r zero q x met =
+    let down : ℤ = scale.bottom *ℤ r.over in
+    cancelled (excess new q x) down (*ℤ_pos scale.bottom r.over r.bottom_positive r.over_positive)
+    (IsReduced-met ds named scale new q x met r ∙ ap (λ z. (scale.top *ℤ r.over) *ℤ z) (zero q x met) ∙ *ℤ-zero (scale.top *ℤ r.over))
+
+-- ---- rows that are kept
+
+abbrev AllStay : List Row → Type 0
+AllStay [] = ⊤
+AllStay (row ∷ rows) = (stays row ≡ true) × AllStay rows
+
+abbrev kept_by : List (Var × ℤ) → Sense → ℤ → Bool
+kept_by es sense right = has_entries es || not (stands sense (pos 0) right)
+
+all_stay : (rs : List ReducedRow) (rows : List Row) → map shape_of rows ≡ map shape (filter is_kept rs) → AllStay rows
+all_stay rs [] h = tt
+all_stay [] (row ∷ rows) h = absurd (cc h)
+all_stay (r ∷ rs) (row ∷ rows) h = cases (is_kept r) refl h (all_stay rs (row ∷ rows)) (all_stay rs rows)
+  where
+    cases : (t : Bool) → is_kept r ≡ t → map shape_of (row ∷ rows) ≡ map shape (if t then (r ∷ filter is_kept rs) else filter is_kept rs)
+        → (map shape_of (row ∷ rows) ≡ map shape (filter is_kept rs) → AllStay (row ∷ rows)) → (map shape_of rows ≡ map shape (filter is_kept rs) → AllStay rows) → AllStay (row ∷ rows)
+    cases true is k same later =
+        let first : shape_of row ≡ shape r = cc k in
+        let rest : map shape_of rows ≡ map shape (filter is_kept rs) = cc k in
+        (ap (λ s. kept_by s.form.entries s.sense s.form.right) first ∙ is, later rest)
+    cases false is k same later = same k
+
+-- ---- the linear program
+
+module _ (rows : List Row) (vars : List Var) (book : IsBook rows vars) (columns : List Var) where
+  abbrev ds : List Definition
+  ds = definitions_of rows (definers rows)
+
+  -- an equation that defines nothing holds wherever the definitions do
+  equation_met : (row : Row) → Has (others_of rows (definers rows)) row → row.sense ≡ Equal → (q : ℤ) (x : Var → ℤ) → AreMet ds q x → excess row q x ≡ pos 0
+  equation_met row h equal q x met =
+      let here = others_none rows row h in
+      let p = placed rows row here.0 in
+      repeated_met rows row q x (book.definitions.repeated p.place row p.at equal here.1) met
+
+  no_equation : (named new : Row) (scale : Rational) → Has (others_of rows (definers rows)) named → new.sense ≡ named.sense → IsReduced (rows_of ds) named scale new → avoids (defined ds) new.entries.items ≡ true → stays new ≡ true → new.sense ≢ Equal
+  no_equation named new scale h sense r apart stay equal =
+      let holds = reduced_holds ds named new scale r (equation_met named h (sym sense ∙ equal)) in
+      let triangular = book_triangular rows vars book in
+      let gone : stays new ≡ false =
+      ap₂ (λ es z. kept_by es new.sense z) (no_entries ds triangular new apart holds) (no_right_side ds triangular new apart holds) ∙ ap (λ s. kept_by [] s (pos 0)) equal in
+      absurd (cc (stay, gone))
+
+  posed_rows : (others left : List Row) (scales : List Frac) → ((r : Row) → Has others r → Has (others_of rows (definers rows)) r) → AreReductions (rows_of ds) others left scales → AvoidAll (defined ds) left → AllStay left → RowsAreAmong columns left
+      → ArePosed columns (map inequality_of left)
+  posed_rows [] left scales into h apart stay among = subst (λ (rs : List Row). ArePosed columns (map inequality_of rs)) (sym h.0) tt
+  posed_rows (named ∷ others) left scales into (inl h) apart stay among = posed_rows others left scales (λ r k. into r (inr k)) h.1 apart stay among
+  posed_rows (named ∷ others) left scales into (inr (new, scale, more, more_scales, e, f, r, h)) apart stay among =
+      let apart_new : AvoidAll (defined ds) (new ∷ more) = subst (AvoidAll (defined ds)) e apart in
+      let stay_new : AllStay (new ∷ more) = subst AllStay e stay in
+      let among_new : RowsAreAmong columns (new ∷ more) = subst (RowsAreAmong columns) e among in
+      let later = posed_rows others more more_scales (λ t k. into t (inr k)) h apart_new.1 stay_new.1 among_new.1 in
+      subst (λ (rs : List Row). ArePosed columns (map inequality_of rs)) (sym e)
+      (no_equation named new (value_of scale) (into named (inl refl)) r.sense r.reduced apart_new.0 stay_new.0, new.ascending, among_new.0, later)
+
+-- what is left of a book, where the rows are those of the written method
+pub posed : (rows : List Row) (vars : List Var) (made : Reduced) (kept : List ReducedRow) → IsBook rows vars
+    → AreReductions (rows_of (definitions_of rows (definers rows))) (others_of rows (definers rows)) made.rows.items made.scales.items → AvoidAll (defined (definitions_of rows (definers rows))) made.rows.items
+    → map shape_of made.rows.items ≡ map shape (filter is_kept kept) → IsReady made → IsPosed (program_of made)
+posed rows vars made kept book reductions apart same ready = record {
+  columns = ready.columns;
+  rows = posed_rows rows vars book made.columns.items (others_of rows (definers rows)) made.rows.items made.scales.items (λ r k. k) reductions apart (all_stay kept made.rows.items same) ready.rows_among;
+  cost_ascends = ready.cost_ascends;
+  cost_among = ready.cost_among;
+  cost_positive = ready.own_positive;
+}

@@ -1,0 +1,52 @@
+-- What is left of a book is the written method's linear program.
+use Rattle.std.proofs.Common.{◌≡◌, List, [], ◌∷◌, map, refl, sym, ap, ◌∙◌}
+use Rattle.exact_num.specs.Value.{value_of}
+use Rattle.exact_num.specs.declared.fraction.Frac.{Frac}
+use Rattle.row_core.specs.declared.Row.{Row}
+use Rattle.row_core.specs.declared.RowName.{RowName}
+use Rattle.row_core.specs.declared.Var.{Var}
+use Rattle.row_book.specs.Kept.{IsBook}
+use Rattle.written_method.specs.declared.reduced.Reduced.{Reduced}
+use Rattle.written_method.specs.Eliminated.{ReducedRow}
+use Rattle.written_method.specs.Programs.{Inequality, LinearProgram, program_of}
+use Rattle.variable_elimination.specs.Columns.{AreColumns}
+use Rattle.variable_elimination.specs.CostRows.{IsCostOf}
+use Rattle.variable_elimination.specs.ReducedRows.{AreThese, Shape, scale_in, scale_worth, shape, shape_of}
+use Rattle.variable_elimination.specs.RowNames.{names_of}
+use Rattle.exact_solver.specs.Programs.{cost_left, kept_scale, name_left, program_left, rows_left, scale_left}
+use Rattle.exact_solver.proofs.BookVariables.{columns-are}
+
+-- what is made of equal things that two lists are mapped to is equal
+map-after : {A S C : Type 0} (f : A → S) (k : S → C) (xs : List A) → map (λ x. k (f x)) xs ≡ map k (map f xs)
+map-after f k [] = refl
+map-after {C = C} f k (x ∷ xs) = ap {B = List C} (λ ys. k (f x) ∷ ys) (map-after f k xs)
+
+same-after : {A B S C : Type 0} (f : A → S) (g : B → S) (k : S → C) (xs : List A) (ys : List B) → map f xs ≡ map g ys → map (λ x. k (f x)) xs ≡ map (λ y. k (g y)) ys
+same-after f g k xs ys e = map-after f k xs ∙ ap (map k) e ∙ sym (map-after g k ys)
+
+same-program : (a b : LinearProgram) → a.rows ≡ b.rows → a.columns ≡ b.columns → a.cost ≡ b.cost → a.cost_right ≡ b.cost_right → a.cost_own ≡ b.cost_own → a ≡ b
+same-program a b rows columns cost right own =
+    ap (λ r. let p : LinearProgram = record { rows = r; columns = a.columns; cost = a.cost; cost_right = a.cost_right; cost_own = a.cost_own } in p) rows
+    ∙ ap (λ c. let p : LinearProgram = record { rows = b.rows; columns = c; cost = a.cost; cost_right = a.cost_right; cost_own = a.cost_own } in p) columns
+    ∙ ap (λ c. let p : LinearProgram = record { rows = b.rows; columns = b.columns; cost = c; cost_right = a.cost_right; cost_own = a.cost_own } in p) cost
+    ∙ ap (λ r. let p : LinearProgram = record { rows = b.rows; columns = b.columns; cost = b.cost; cost_right = r; cost_own = a.cost_own } in p) right
+    ∙ ap (λ o. let p : LinearProgram = record { rows = b.rows; columns = b.columns; cost = b.cost; cost_right = b.cost_right; cost_own = o } in p) own
+
+abbrev shape_inequality : Shape → Inequality
+shape_inequality s = record { sense = s.sense; entries = s.form.entries; right = s.form.right }
+
+abbrev shape_name : Shape → RowName
+shape_name s = s.name
+
+pub program-is : (rows : List Row) (vars : List Var) (reduced : Reduced) → IsBook rows vars → AreThese (rows_left rows) reduced.rows.items reduced.scales.items → AreColumns rows reduced.columns.items → IsCostOf (cost_left rows) reduced
+    → program_of reduced ≡ program_left rows vars
+unfolding program_left
+program-is rows vars reduced book these are of =
+    same-program (program_of reduced) (program_left rows vars) (same-after shape_of shape shape_inequality reduced.rows.items (rows_left rows) these.rows_are)
+    (columns-are rows vars book reduced.columns.items are) of.cost of.right_side of.own
+
+pub names-are : (left : List ReducedRow) (rows : List Row) (scales : List Frac) → AreThese left rows scales → names_of rows ≡ map name_left left
+names-are left rows scales these = same-after shape_of shape shape_name rows left these.rows_are
+
+pub scales-are : (left : List ReducedRow) (rows : List Row) (scales : List Frac) → AreThese left rows scales → map value_of scales ≡ map scale_left left
+scales-are left rows scales these = same-after scale_worth scale_in kept_scale scales left these.scales_are

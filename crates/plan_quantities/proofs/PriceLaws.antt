@@ -1,0 +1,260 @@
+-- A plan that covers more of a fuel costs at least the bound and the price of what is more: with that much less Production it meets every row, at its
+-- scale, and in the row of the fuel's balance less Production is more on the right side.
+use Rattle.std.proofs.Common.{◌≡◌, ◌≢◌, ℕ, ◌*◌, ◌<◌, ℤ, pos, neg_ℤ, ◌+ℤ◌, ◌*ℤ◌, Bool, true, false, List, [], ◌∷◌, refl, sym, ap, ap₂, ◌∙◌, subst, inl, inr, arith, true≢false}
+use Rattle.std.specs.Prelude.{◌<ℤ◌, ◌≤ℤ◌, Contains, if◌then◌else◌}
+use Rattle.std.specs.Ordering.{is_eq}
+use Rattle.std.proofs.lemmas.Int.{ints}
+use Rattle.exact_num.specs.Rational.{Rational, whole}
+use Rattle.exact_num.proofs.Integers.{*ℤ_nonnegative, ≤ℤ-*ℤ, ≤ℤ_cancel}
+use Rattle.exact_num.proofs.Ring.{ring, products, *ℤ_assoc, *ℤ-one, +ℤ-zero}
+use Rattle.model_sets.specs.Data.{Data}
+use Rattle.row_core.specs.declared.Index.{Index}
+use Rattle.row_core.specs.declared.Row.{Row}
+use Rattle.row_core.specs.declared.RowName.{RowName}
+use Rattle.row_core.specs.declared.Var.{Var}
+use Rattle.row_core.specs.declared.kind_numbers.TheConstants.{PRODUCTION}
+use Rattle.row_core.specs.Kinds.{kind_is_free}
+use Rattle.row_core.specs.Numbers.{ascends}
+use Rattle.row_core.specs.Order.{row_name_cmp}
+use Rattle.row_core.specs.Plans.{value_in}
+use Rattle.row_core.specs.Rows.{number_at, row_sum}
+use Rattle.row_core.specs.Statements.{Holds, Stands}
+use Rattle.row_core.specs.Subscripts as place
+use Rattle.row_core.specs.Values.{IsOver}
+use Rattle.row_core.proofs.MeaningLaws.{row_sum-alone}
+use Rattle.row_core.proofs.SumLaws.{IsOver-times}
+use Rattle.row_core.proofs.PlanLaws.{holds-scaled, row_sum-scaled}
+use Rattle.certificate_checker.specs.Certificates.{AreMultipliersOver, Proves, bound_of}
+use Rattle.certificate_checker.specs.Costs.{cost_of, model_cost}
+use Rattle.certificate_checker.specs.Plans.{AllStand, HaveRightSigns, IsRight}
+use Rattle.certificate_checker.specs.Sums.{HasVariablesOf, weighted}
+use Rattle.certificate_checker.proofs.DualityLaws.{weak_duality, weighted-right}
+use Rattle.named_equations.specs.Existence.{all_variables, exists}
+use Rattle.named_equations.specs.Indices.{at_rlfy}
+use Rattle.named_equations.specs.Instances.{instances, is_instance}
+use Rattle.named_equations.specs.Notation.{scale_of, sum_over}
+use Rattle.named_equations.specs.Parameters.{trade_route}
+use Rattle.named_equations.specs.Plans.{Meets, cost}
+use Rattle.named_equations.specs.Positions.{all_years, regions}
+use Rattle.named_equations.specs.RowMeaning.{IsNamedRow}
+use Rattle.named_equations.specs.Variables.{demand, production, total_discounted_cost, trade, use_of_fuel, variable}
+use Rattle.named_equations.proofs.InstanceOrder.{instances-ascend, variables-ascend}
+use Rattle.named_equations.proofs.InstanceTests.{Contains-from_Has, Contains-variables, Has, Has-from_Contains, Has-instances, Has-map, Has-variables}
+use Rattle.named_equations.proofs.TermMeaning.{alone-self, sum_over-same, sum_over-times}
+use Rattle.plan_quantities.specs.Prices.{FeasibleWithMore, IsPromised, balance_at, price_of, price_over, production_entry, says_more}
+use Rattle.plan_quantities.proofs.ModelCost.{cost-of_all}
+use Rattle.plan_quantities.proofs.MovedRows.{Stands-moved, at_name, moved, name-itself, names, row_sum-moved, same-name, weighted-one, weighted-plus}
+use Rattle.row_book.proofs.Subscripts.{index-tidied, values-from_index}
+use Rattle.row_book.specs.Books.{AreRowsOf, entry_variables}
+use Rattle.row_book.specs.EquationRows.{terms_at}
+use Rattle.row_book.proofs.Instances.{instance-parts}
+use Rattle.row_book.proofs.Lists.{all-has}
+use Rattle.row_book.proofs.Triangles.{IsThere, all-there, row-of}
+use Rattle.row_book.proofs.Within.{names-of_rows}
+
+-- ---- the balance of the plan with less Production
+
+-- what is more, over b times q: a times q
+abbrev more_of : ℤ → ℕ → ℤ
+more_of a q = a *ℤ pos q
+
+less-production : (s b v m : ℤ) → s *ℤ (b *ℤ v +ℤ pos 1 *ℤ m) ≡ b *ℤ (s *ℤ v) +ℤ s *ℤ m
+less-production s b v m = simp ring
+
+same-needs : (s b v w m t u : ℤ) → u ≡ b *ℤ t → s *ℤ ((b *ℤ v +ℤ pos 0 *ℤ m) +ℤ (b *ℤ w +ℤ pos 0 *ℤ m)) +ℤ u ≡ b *ℤ (s *ℤ (v +ℤ w) +ℤ t)
+same-needs s b v w m t u is = ap (λ z. s *ℤ ((b *ℤ v +ℤ pos 0 *ℤ m) +ℤ (b *ℤ w +ℤ pos 0 *ℤ m)) +ℤ z) is ∙ taken s b v w m t
+  where
+    taken : (s b v w m t : ℤ) → s *ℤ ((b *ℤ v +ℤ pos 0 *ℤ m) +ℤ (b *ℤ w +ℤ pos 0 *ℤ m)) +ℤ b *ℤ t ≡ b *ℤ (s *ℤ (v +ℤ w) +ℤ t)
+    taken s b v w m t = simp ring
+
+same-trade : (b v m k : ℤ) → (b *ℤ v +ℤ pos 0 *ℤ m) *ℤ k ≡ b *ℤ (v *ℤ k)
+same-trade b v m k = simp ring
+
+less-more : (s a n : ℤ) → s *ℤ neg_ℤ (a *ℤ n) ≡ neg_ℤ (s *ℤ a *ℤ n)
+less-more s a n = simp ring
+
+covered : (needs made needs' made' more : ℤ) → needs' ≡ needs → made' ≡ made +ℤ neg_ℤ more → (needs +ℤ more) ≤ℤ made → needs' ≤ℤ made'
+covered needs made needs' made' more e f h = omega (arith, ints, e, f, h)
+
+module _ (places : ℕ) (d : Data) (a : ℤ) (b q : ℕ) (x : Var → ℤ) (positive : 0 < b) where
+  -- the plan over b times q
+  abbrev wider : Var → ℤ
+  wider v = pos b *ℤ x v
+
+  abbrev lessened : Var → Var → ℤ
+  lessened p = moved (pos b) x p (neg_ℤ (more_of a q))
+
+  balance-lessened : (r l f y : ℕ) → Holds (says_more places d (at_rlfy r l f y) a b q x) → Meets places d (b * q) (lessened (production r l f y)) (balance_at (at_rlfy r l f y))
+  balance-lessened r l f y holds =
+      let p = production r l f y in
+      let m = neg_ℤ (more_of a q) in
+      let traded : ℤ = sum_over (regions d) (λ rr. x (trade r rr l f y) *ℤ trade_route d r rr f y) in
+      let needs : ℤ = pos b *ℤ (scale_of 1 *ℤ (x (demand r l f y) +ℤ x (use_of_fuel r l f y)) +ℤ traded) in
+      let made : ℤ = pos b *ℤ (scale_of 1 *ℤ x p) in
+      let trades : sum_over (regions d) (λ rr. lessened p (trade r rr l f y) *ℤ trade_route d r rr f y) ≡ pos b *ℤ traded =
+      sum_over-same (regions d) (λ rr. lessened p (trade r rr l f y) *ℤ trade_route d r rr f y) (λ rr. pos b *ℤ (x (trade r rr l f y) *ℤ trade_route d r rr f y))
+      (λ rr. same-trade (pos b) (x (trade r rr l f y)) m (trade_route d r rr f y))
+      ∙ sym (sum_over-times (regions d) (pos b) (λ rr. x (trade r rr l f y) *ℤ trade_route d r rr f y)) in
+      let more : ℤ = scale_of 1 *ℤ a *ℤ pos q in
+      covered needs made
+      (scale_of 1 *ℤ (lessened p (demand r l f y) +ℤ lessened p (use_of_fuel r l f y)) +ℤ sum_over (regions d) (λ rr. lessened p (trade r rr l f y) *ℤ trade_route d r rr f y))
+      (scale_of 1 *ℤ lessened p p) more
+      (same-needs (scale_of 1) (pos b) (x (demand r l f y)) (x (use_of_fuel r l f y)) m traded (sum_over (regions d) (λ rr. lessened p (trade r rr l f y) *ℤ trade_route d r rr f y)) trades)
+      (ap (λ z. scale_of 1 *ℤ (pos b *ℤ x p +ℤ z *ℤ m)) (alone-self p)
+      ∙ less-production (scale_of 1) (pos b) (x p) m
+      ∙ ap (λ z. made +ℤ z) (less-more (scale_of 1) a (pos q)))
+      holds
+
+  -- ---- rows
+
+  -- what the row has at this variable
+  abbrev entry_at : Var → Row → ℤ
+  entry_at p row = number_at row.entries.items p
+
+  -- a row whose equation the plan meets
+  row-wider : (row : Row) → Holds (record { left = row_sum x row.entries.items; sign = row.sense; right = row.rhs *ℤ pos q }) → Stands row.sense (row_sum wider row.entries.items) (row.rhs *ℤ pos (b * q))
+  row-wider row holds = (holds-scaled row.sense row.entries.items row.rhs b q x positive).0 holds
+
+  regroup : (n a k : ℤ) → n *ℤ neg_ℤ (a *ℤ k) ≡ neg_ℤ (n *ℤ (a *ℤ k))
+  regroup n a k = simp ring
+
+  -- a row that the plan with less of a variable meets
+  row-lessened : (row : Row) (p : Var) → Stands row.sense (row_sum (lessened p) row.entries.items) (row.rhs *ℤ pos (b * q))
+      → Stands row.sense (row_sum wider row.entries.items) (row.rhs *ℤ pos (b * q) +ℤ entry_at p row *ℤ more_of a q)
+  row-lessened row p stands =
+      let es = row.entries.items in
+      let sum : row_sum (lessened p) es ≡ row_sum wider es +ℤ entry_at p row *ℤ neg_ℤ (more_of a q) =
+      row_sum-moved (pos b) x p (neg_ℤ (more_of a q)) es
+      ∙ ap₂ (λ s t. s +ℤ t *ℤ neg_ℤ (more_of a q)) (sym (row_sum-scaled (pos b) x es)) (row_sum-alone p es row.ascending) in
+      Stands-moved row.sense (row_sum wider es) (entry_at p row *ℤ neg_ℤ (more_of a q)) (entry_at p row *ℤ more_of a q) (row.rhs *ℤ pos (b * q))
+      (regroup (entry_at p row) a (pos q)) (subst (λ z. Stands row.sense z (row.rhs *ℤ pos (b * q))) sum stands)
+
+  -- the right sides that all rows stand to
+  abbrev right_at : RowName → Var → Row → ℤ
+  right_at name p row = row.rhs *ℤ pos (b * q) +ℤ at_name name (λ other. entry_at p other *ℤ more_of a q) row
+
+  module _ (r l f y : ℕ) (plan : FeasibleWithMore places d (at_rlfy r l f y) a b q x) where
+    row-stands : (name : RowName) (row : Row) → IsNamedRow places d name (terms_at places d name) row → is_instance d name ≡ true
+        → Stands row.sense (row_sum wider row.entries.items) (right_at (balance_at (at_rlfy r l f y)) (production r l f y) row)
+    row-stands name row is there = by_test (is_eq (row_name_cmp row.name balance)) refl
+      where
+        balance : RowName
+        balance = balance_at (at_rlfy r l f y)
+
+        p : Var
+        p = production r l f y
+
+        by_test : (t : Bool) → is_eq (row_name_cmp row.name balance) ≡ t
+            → Stands row.sense (row_sum wider row.entries.items) (row.rhs *ℤ pos (b * q) +ℤ (if t then entry_at p row *ℤ more_of a q else pos 0))
+        by_test true same =
+            let named : name ≡ balance = sym is.written.named ∙ same-name row.name balance same in
+            row-lessened row p ((is.says (b * q) (lessened p)).1 (subst (Meets places d (b * q) (lessened p)) (sym named) (balance-lessened r l f y plan.balance)))
+        by_test false other =
+            let apart : name ≢ balance = λ e. true≢false (sym (name-itself row.name balance (is.written.named ∙ e)) ∙ other) in
+            subst (Stands row.sense (row_sum wider row.entries.items)) (sym (+ℤ-zero (row.rhs *ℤ pos (b * q)))) (row-wider row ((is.says q x).1 (plan.others name there apart)))
+
+    rows-stand : (ns : List RowName) (rows : List Row) → ((name : RowName) → Has ns name → is_instance d name ≡ true) → AreRowsOf places d ns rows
+        → AllStand (right_at (balance_at (at_rlfy r l f y)) (production r l f y)) rows wider
+    rows-stand [] [] there are = tt
+    rows-stand [] (row ∷ rows) there are = absurd are
+    rows-stand (name ∷ ns) [] there are = absurd are
+    rows-stand (name ∷ ns) (row ∷ rows) there are =
+        (row-stands name row are.0 (there name (inl refl)), rows-stand ns rows (λ n has. there n (inr has)) are.1)
+
+    signs-stand : (vs : List Var) → ((v : Var) → Has vs v → exists d v ≡ true) → HaveRightSigns vs wider
+    signs-stand [] there = tt
+    signs-stand (v ∷ vs) there = (by_kind (kind_is_free v.kind) (plan.signs v (there v (inl refl))), signs-stand vs (λ u has. there u (inr has)))
+      where
+        by_kind : (free : Bool) → (free ≡ false → pos 0 ≤ℤ x v) → IsRight free (wider v)
+        by_kind true sign = tt
+        by_kind false sign = *ℤ_nonnegative (pos b) (x v) (omega (arith, ints)) (sign refl)
+
+    wider-cost : cost_of model_cost (all_variables d) wider ≡ pos b *ℤ cost d x
+    wider-cost =
+        cost-of_all d wider
+        ∙ sum_over-same (regions d) (λ r. sum_over (all_years d) (λ y. pos b *ℤ x (total_discounted_cost r y))) (λ r. pos b *ℤ sum_over (all_years d) (λ y. x (total_discounted_cost r y)))
+        (λ r. sym (sum_over-times (all_years d) (pos b) (λ y. x (total_discounted_cost r y))))
+        ∙ sym (sum_over-times (regions d) (pos b) (λ r. sum_over (all_years d) (λ y. x (total_discounted_cost r y))))
+
+    price-at : (rows : List Row) (s : ℕ) (w : RowName → ℤ) (row : Row) → AreRowsOf places d (instances d) rows → Proves model_cost rows (all_variables d) s w → Has rows row
+        → row.name ≡ balance_at (at_rlfy r l f y) → ((bound_of w rows *ℤ pos b +ℤ price_over w row *ℤ a) *ℤ pos q) ≤ℤ (pos s *ℤ pos b *ℤ cost d x)
+    price-at rows s w row are proves has named =
+        let p : Var = production r l f y in
+        let entry : Row → ℤ = λ other. number_at other.entries.items p *ℤ (a *ℤ pos q) in
+        let up : ascends row_name_cmp (names rows) ≡ true = subst (λ ns. ascends row_name_cmp ns ≡ true) (sym (names-of_rows places d (instances d) rows are)) (instances-ascend d) in
+        let of_book : HasVariablesOf rows (all_variables d) =
+        λ v given. (Contains-variables d v).1 (all-has (IsThere d) (entry_variables rows) v (all-there places d rows are) (Has-from_Contains (entry_variables rows) v given)) in
+        let least =
+        weak_duality model_cost rows (all_variables d) s w (right_at (balance_at (at_rlfy r l f y)) p) wider (variables-ascend d) of_book proves
+        (rows-stand (instances d) rows (λ name there. (Has-instances d name).0 there) are) (signs-stand (all_variables d) (λ v there. (Has-variables d v).0 there)) in
+        let alone_at : weighted w (at_name (balance_at (at_rlfy r l f y)) entry) rows ≡ w row.name *ℤ entry row = subst (λ n. weighted w (at_name n entry) rows ≡ w row.name *ℤ entry row) named (weighted-one w entry rows row up has) in
+        let priced : price_over w row ≡ w row.name *ℤ number_at row.entries.items p = ap (λ (n : RowName). w row.name *ℤ number_at row.entries.items (variable PRODUCTION n.index)) named in
+        let left : weighted w (right_at (balance_at (at_rlfy r l f y)) p) rows ≡ (bound_of w rows *ℤ pos b +ℤ price_over w row *ℤ a) *ℤ pos q =
+        weighted-plus w (λ other. other.rhs *ℤ pos (b * q)) (at_name (balance_at (at_rlfy r l f y)) entry) rows
+        ∙ ap₂ (λ u v. u +ℤ v) (weighted-right w (b * q) rows) alone_at
+        ∙ together (bound_of w rows) (pos b) (pos q) (w row.name) (number_at row.entries.items p) a
+        ∙ ap (λ z. (bound_of w rows *ℤ pos b +ℤ z *ℤ a) *ℤ pos q) (sym priced) in
+        let right : pos s *ℤ cost_of model_cost (all_variables d) wider ≡ pos s *ℤ pos b *ℤ cost d x = ap (λ z. pos s *ℤ z) wider-cost ∙ sym (*ℤ_assoc (pos s) (pos b) (cost d x)) in
+        subst (λ z. z ≤ℤ (pos s *ℤ pos b *ℤ cost d x)) left (subst (λ z. weighted w (right_at (balance_at (at_rlfy r l f y)) p) rows ≤ℤ z) right least)
+      where
+        together : (u b q y n a : ℤ) → u *ℤ (b *ℤ q) +ℤ y *ℤ (n *ℤ (a *ℤ q)) ≡ (u *ℤ b +ℤ y *ℤ n *ℤ a) *ℤ q
+        together u b q y n a = simp ring
+
+pub price-holds : (places : ℕ) (d : Data) (rows : List Row) (s : ℕ) (y : RowName → ℤ) (row : Row) (index : Index) (a : ℤ) (b q : ℕ) (x : Var → ℤ)
+    → AreRowsOf places d (instances d) rows → Proves model_cost rows (all_variables d) s y → Contains rows row → row.name ≡ balance_at index → 0 < b → FeasibleWithMore places d index a b q x
+    → ((bound_of y rows *ℤ pos b +ℤ price_over y row *ℤ a) *ℤ pos q) ≤ℤ (pos s *ℤ pos b *ℤ cost d x)
+price-holds places d rows s y row index a b q x are proves given named positive plan =
+    let has = Has-from_Contains rows row given in
+    let listed : Has (instances d) row.name = subst (λ ns. Has ns row.name) (names-of_rows places d (instances d) rows are) (Has-map (λ (r : Row). r.name) rows row has) in
+    let instance = subst (λ n. is_instance d n ≡ true) named ((Has-instances d row.name).0 listed) in
+    let subscripts : List ℕ = place.r ∷ place.l ∷ place.f ∷ place.y ∷ [] in
+    let tidy = index-tidied d subscripts index (values-from_index d subscripts index (instance-parts d (balance_at index) instance).within) in
+    let At : Index → Type 0 = λ i. row.name ≡ balance_at i → FeasibleWithMore places d i a b q x → ((bound_of y rows *ℤ pos b +ℤ price_over y row *ℤ a) *ℤ pos q) ≤ℤ (pos s *ℤ pos b *ℤ cost d x) in
+    subst At (sym tidy) (λ is more. price-at places d a b q x positive index.region index.slice index.fuel index.year more rows s y row are proves has is) named plan
+
+-- each balance has a row
+pub balance-row : (places : ℕ) (d : Data) (rows : List Row) (index : Index) → AreRowsOf places d (instances d) rows → is_instance d (balance_at index) ≡ true
+    → (row : Row) × Contains rows row × (row.name ≡ balance_at index)
+balance-row places d rows index are instance =
+    let found = row-of places d (instances d) rows (balance_at index) are ((Has-instances d (balance_at index)).1 instance) in
+    (found.0, Contains-from_Has rows found.0 found.1.0, found.1.1.written.named)
+
+-- ---- in fractions
+
+-- both sides are divided by s
+fractions : (s b q a c low lb top tb n p : ℤ) → pos 0 <ℤ s → pos 0 <ℤ lb → pos 0 <ℤ tb → n *ℤ lb ≡ low *ℤ s → p *ℤ tb ≡ top *ℤ s
+    → ((n *ℤ b +ℤ p *ℤ a) *ℤ q) ≤ℤ (s *ℤ b *ℤ c) → ((low *ℤ tb *ℤ b +ℤ top *ℤ a *ℤ lb) *ℤ q) ≤ℤ (lb *ℤ tb *ℤ b *ℤ c)
+fractions s b q a c low lb top tb n p s_positive lb_positive tb_positive bound price least =
+    let wide : ((lb *ℤ tb) *ℤ ((n *ℤ b +ℤ p *ℤ a) *ℤ q)) ≤ℤ ((lb *ℤ tb) *ℤ (s *ℤ b *ℤ c)) =
+    ≤ℤ-*ℤ ((n *ℤ b +ℤ p *ℤ a) *ℤ q) (s *ℤ b *ℤ c) (lb *ℤ tb) (*ℤ_nonnegative lb tb (omega (arith, ints, lb_positive)) (omega (arith, ints, tb_positive))) least in
+    let left : (lb *ℤ tb) *ℤ ((n *ℤ b +ℤ p *ℤ a) *ℤ q) ≡ ((low *ℤ tb *ℤ b +ℤ top *ℤ a *ℤ lb) *ℤ q) *ℤ s =
+    apart n lb p tb a b q ∙ ap₂ (λ u v. (u *ℤ tb *ℤ b +ℤ v *ℤ a *ℤ lb) *ℤ q) bound price ∙ together low tb top lb a b q s in
+    ≤ℤ_cancel ((low *ℤ tb *ℤ b +ℤ top *ℤ a *ℤ lb) *ℤ q) (lb *ℤ tb *ℤ b *ℤ c) s s_positive
+    (subst (λ z. z ≤ℤ ((lb *ℤ tb *ℤ b *ℤ c) *ℤ s)) left (subst (λ z. ((lb *ℤ tb) *ℤ ((n *ℤ b +ℤ p *ℤ a) *ℤ q)) ≤ℤ z) (sorted lb tb s b c) wide))
+  where
+    apart : (n lb p tb a b q : ℤ) → (lb *ℤ tb) *ℤ ((n *ℤ b +ℤ p *ℤ a) *ℤ q) ≡ ((n *ℤ lb) *ℤ tb *ℤ b +ℤ (p *ℤ tb) *ℤ a *ℤ lb) *ℤ q
+    apart n lb p tb a b q = simp ring
+
+    together : (low tb top lb a b q s : ℤ) → ((low *ℤ s) *ℤ tb *ℤ b +ℤ (top *ℤ s) *ℤ a *ℤ lb) *ℤ q ≡ ((low *ℤ tb *ℤ b +ℤ top *ℤ a *ℤ lb) *ℤ q) *ℤ s
+    together low tb top lb a b q s = simp ring
+
+    sorted : (lb tb s b c : ℤ) → (lb *ℤ tb) *ℤ (s *ℤ b *ℤ c) ≡ (lb *ℤ tb *ℤ b *ℤ c) *ℤ s
+    sorted lb tb s b c = simp products
+
+pub promise-holds : (places : ℕ) (d : Data) (rows : List Row) (s : ℕ) (y : RowName → ℤ) (multipliers : List (RowName × Rational)) (bound : Rational) (row : Row) (index : Index)
+    → AreRowsOf places d (instances d) rows → Proves model_cost rows (all_variables d) s y → AreMultipliersOver s y multipliers → IsOver (pos s) bound (bound_of y rows)
+    → Contains rows row → row.name ≡ balance_at index → IsPromised places d index bound (price_of multipliers row)
+promise-holds places d rows s y multipliers bound row index are proves over bounds given named =
+    let n = production_entry row in
+    let price = IsOver-times (pos s) (pos 1) (value_in row_name_cmp multipliers row.name) (whole n) (y row.name) n (over.1 row.name) (whole-over n) in
+    record {
+      bound_positive = bounds.positive;
+      price_positive = price.positive;
+      costs = λ a b q x positive plan.
+          fractions (pos s) (pos b) (pos q) a (cost d x) bound.top bound.bottom (price_of multipliers row).top (price_of multipliers row).bottom (bound_of y rows) (price_over y row)
+          (omega (arith, ints, over.0)) bounds.positive price.positive bounds.cross (price.cross ∙ ap (λ z. (price_of multipliers row).top *ℤ z) (*ℤ-one (pos s)))
+          (price-holds places d rows s y row index a b q x are proves given named positive plan);
+    }
+  where
+    whole-over : (n : ℤ) → IsOver (pos 1) (whole n) n
+    whole-over n = record { positive = omega (arith, ints); cross = refl }

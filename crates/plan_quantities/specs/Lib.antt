@@ -1,0 +1,4 @@
+pub mod Sums
+pub mod CostSums
+pub mod Quantities
+pub mod Prices

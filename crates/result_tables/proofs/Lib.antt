@@ -1,0 +1,4 @@
+mod Examples
+pub mod FoundLaws
+pub mod PriceLaws
+pub mod TextLaws

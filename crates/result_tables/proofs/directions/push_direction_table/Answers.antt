@@ -1,0 +1,15 @@
+-- The heading, and the records.
+use Rattle.std.proofs.Common.{codes, append_assoc, ◌∙◌}
+use Rattle.std.proofs.lemmas.Result.{on_ok_weaker}
+use Rattle.plan_files.specs.Texts.{records_text}
+use Rattle.result_tables.specs.Lines.{heading}
+use Rattle.result_tables.specs.Tables.{direction_table}
+use Rattle.result_tables.proofs.directions.push_direction_table.Goals as goal
+
+pub returns : goal.returns
+returns c =
+    on_ok_weaker c.push_components.result
+    (λ written.
+    rw (c.in_ok-push_heading.ensures, c.entries.ensures.values) at written
+    ∙ append_assoc c.args.out.now.items (heading (codes "Direction")) (records_text (direction_table c.args.sets.now c.args.direction.now).records))
+    c.push_components.ensures

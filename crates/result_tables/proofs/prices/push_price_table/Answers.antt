@@ -1,0 +1,15 @@
+-- The heading, and the records.
+use Rattle.std.proofs.Common.{codes, append_assoc, ◌∙◌}
+use Rattle.std.proofs.lemmas.Result.{on_ok_weaker}
+use Rattle.plan_files.specs.Texts.{records_text}
+use Rattle.result_tables.specs.Lines.{heading}
+use Rattle.result_tables.specs.Tables.{price_table}
+use Rattle.result_tables.proofs.prices.push_price_table.Goals as goal
+
+pub returns-clause-text : goal.returns-clause-text
+returns-clause-text c =
+    on_ok_weaker c.push_prices.result
+    (λ written.
+    rw c.in_ok-push_heading.ensures at written
+    ∙ append_assoc c.args.out.now.items (heading (codes "FuelPrice")) (records_text (price_table c.args.sets.now c.args.rows.now c.args.multipliers.now).records))
+    c.push_prices.ensures.text

@@ -1,0 +1,5 @@
+pub mod Causes
+pub mod Lines
+pub mod Prices
+pub mod Reports
+pub mod Tables

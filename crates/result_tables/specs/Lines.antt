@@ -1,0 +1,21 @@
+-- The lines of a report. Each ends with a line feed.
+use Rattle.std.specs.Prelude.{ℕ, List, ◌++◌, codes, decimal}
+use Rattle.exact_num.specs.Rational.{Rational}
+use Rattle.scaled_decimals.specs.PrintedFraction.{fraction_text}
+use Rattle.scaled_decimals.specs.PrintedPlaces.{places_text}
+
+-- a word and a value, as a fraction and rounded to six decimal places
+abbrev pub amount_line : List ℕ → Rational → List ℕ
+amount_line word x = word ++ codes " " ++ fraction_text x ++ codes " " ++ places_text x ++ codes "\n"
+
+-- a word and a whole number
+abbrev pub count_line : List ℕ → ℕ → List ℕ
+count_line word n = word ++ codes " " ++ decimal n ++ codes "\n"
+
+-- the numbers of pivots, and of numbers of the data that were rounded
+abbrev pub count_lines : ℕ → ℕ → List ℕ
+count_lines pivots rounded = count_line (codes "pivots") pivots ++ count_line (codes "rounded") rounded
+
+-- how a table begins
+abbrev pub heading : List ℕ → List ℕ
+heading name = codes "table " ++ name ++ codes "\n"

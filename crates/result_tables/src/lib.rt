@@ -1,0 +1,13 @@
+//! What is printed of an answer: reports, with tables of quantities and of fuel prices.
+#![tactic(auto)]
+
+mod directions;
+mod laws;
+mod lines;
+mod prices;
+mod quantities;
+mod records;
+mod reports;
+
+pub use laws::price_laws;
+pub use reports::{infeasible_report, report, unbounded_report};
