@@ -1,6 +1,5 @@
 -- How long a made file is at most.
-use Rattle.std.proofs.Common.{◌≡◌, ◌∙◌, ◌<◌, ◌≤◌, ◌+◌, ◌-◌, ◌*◌, ◌++◌, ℕ, suc, zero, List, [], ◌∷◌, length, codes, arith, refl, ap, lit≤, length-append}
-use Rattle.std.specs.Fmt.{decimal}
+use Rattle.std.proofs.Common.{◌<◌, ◌≤◌, ◌+◌, ◌-◌, ◌*◌, ◌++◌, ℕ, suc, zero, List, [], ◌∷◌, length, codes, arith, lit≤, length-append}
 use Rattle.std.specs.List.{flat_map, range_with_len}
 use Rattle.std.proofs.Math.Nat.{mul-le-mul_left}
 use Rattle.std.proofs.lemmas.Fmt.{length-decimal-le}

@@ -1,4 +1,4 @@
-use Rattle.std.proofs.Common.{◌≡◌, ◌≤◌, List, ℕ, length, refl, rules, subst, sym}
+use Rattle.std.proofs.Common.{◌≤◌, List, ℕ, length, refl, rules, subst, sym}
 use Rattle.model_maker.proofs.Sizes.{made_short}
 use Rattle.model_maker.proofs.make.Goals as goal
 
