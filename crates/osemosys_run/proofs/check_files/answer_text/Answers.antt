@@ -1,4 +1,4 @@
-use Rattle.std.proofs.Common.{inr}
+use Rattle.std.proofs.Common.{◌≡◌, inr}
 use Rattle.std.proofs.lemmas.Result.{IfOk-weaker, MatchResult-at_ok}
 use Rattle.model_sets.specs.Data.{AreSameData, Data}
 use Rattle.osemosys_run.specs.Accepted.{Accepted}

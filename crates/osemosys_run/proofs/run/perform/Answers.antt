@@ -16,8 +16,8 @@ perform_task-requires g c =
     let request = ap request_of_result (sym (c.in-Ok-Mps.is ∙ ap Ok c.in-Ok-Mps.field-0-is)) ∙ c.in_ok-file.ensures in
     asked_places (map string_bytes c.args.words.now) c.in-Ok-Mps.file.now c.in-Ok-Mps.places (sym request)
 
-pub perform_task-in-Ok-Solve-requires : goal.perform_task-in-Ok-Solve-requires
-perform_task-in-Ok-Solve-requires g c =
+pub perform_task-requires-in-Ok-Solve : goal.perform_task-requires-in-Ok-Solve
+perform_task-requires-in-Ok-Solve g c =
     let request = ap request_of_result (sym (c.in-Ok-Solve.is ∙ ap Ok c.in-Ok-Solve.field-0-is)) ∙ c.in_ok-file.ensures in
     solve_places (map string_bytes c.args.words.now) c.in-Ok-Solve.file.now c.in-Ok-Solve.gap c.in-Ok-Solve.pivots c.in-Ok-Solve.places c.in-Ok-Solve.show (sym request)
 
