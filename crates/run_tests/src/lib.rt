@@ -12,6 +12,8 @@ mod check_files;
 #[cfg(test)]
 mod faults;
 #[cfg(test)]
+mod made;
+#[cfg(test)]
 mod plan_records;
 #[cfg(test)]
 mod plans;
@@ -19,5 +21,8 @@ mod plans;
 mod refusals;
 #[cfg(test)]
 mod solves;
+mod sure;
 #[cfg(test)]
 mod texts;
+
+pub use sure::run_surely;
