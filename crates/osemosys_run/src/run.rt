@@ -18,6 +18,7 @@ ghost use Rattle.row_book.specs.Books.{AreRowsOf};
 ghost use Rattle.row_core.specs.declared.Row.{Row};
 ghost use Rattle.row_core.specs.declared.RowName.{RowName};
 ghost use Rattle.row_core.specs.declared.Var.{Var};
+ghost use Rattle.osemosys_run.specs.declared.status.ReadStop.{ReadStop};
 ghost use Rattle.osemosys_run.specs.declared.status.Status.{Status};
 ghost use Rattle.osemosys_run.specs.Accepted.{Accepted};
 ghost use Rattle.osemosys_run.specs.Causes.{Caused};

@@ -1,7 +1,8 @@
 // What `make` says in a few lines of the model that it makes: how large it is, and what `solve` with its default options comes to.
-ghost use Rattle.std.specs.Prelude.{◌≡◌, ℕ, IfOk};
+ghost use Rattle.std.specs.Prelude.{◌≡◌, ◌++◌, ℕ, IfOk, OnOk, decimal};
 ghost use Rattle.discount_factors.specs.Factors.{IsPlaces};
 ghost use Rattle.model_sets.specs.Data.{AreSameData, Data};
+ghost use Rattle.mps_writer.specs.MpsText.{line};
 ghost use Rattle.osemosys_run.specs.CheckedPlans.{IsBookOf, IsListedBook};
 ghost use Rattle.osemosys_run.specs.Summary.{DueAfterCounts, DueForSummary, counts_text};
 
@@ -66,10 +67,18 @@ fn counts_text(alloc: Global, book: &RowBook) -> Result<Vec<u8>, AllocError>
 {
     let size = size_of(book);
     let mut text = Vec::new(alloc);
-    push_with_number(&mut text, b"equations ", book.rows().len() as u64)?;
-    push_with_number(&mut text, b"\nvariables ", book.vars().len() as u64)?;
-    push_with_number(&mut text, b"\ninequalities ", size.rows)?;
-    push_with_number(&mut text, b"\ncolumns ", size.columns)?;
-    text.extend_from_slice(b"\n")?;
+    push_count(&mut text, b"equations ", book.rows().len() as u64)?;
+    push_count(&mut text, b"variables ", book.vars().len() as u64)?;
+    push_count(&mut text, b"inequalities ", size.rows)?;
+    push_count(&mut text, b"columns ", size.columns)?;
     Ok(text)
+}
+
+// Appends a line of a word and a count.
+fn push_count(out: &mut Vec<u8>, word: &[u8], count: u64) -> Result<(), AllocError>
+    ensures { OnOk result (out.new.items ≡ out.old.items ++ line (word.now ++ decimal count)) }
+{
+    push_with_number(out, word, count)?;
+    out.extend_from_slice(b"\n")?;
+    Ok(())
 }
