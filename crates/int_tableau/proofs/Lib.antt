@@ -8,3 +8,6 @@ pub mod SolutionLaws
 pub mod PlaceLaws
 pub mod StartLaws
 pub mod LoopLaws
+pub mod NarrowLaws
+pub mod GuessLaws
+pub mod HeadLaws

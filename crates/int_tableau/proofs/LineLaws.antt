@@ -91,6 +91,15 @@ line_wide-entries a b x y p =
     ∙ ap (λ t. all_fit (less_formed a b x.right y.right) && t) (and_false (all_fit (less_formed a b x.own y.own)))
     ∙ and_false (all_fit (less_formed a b x.right y.right))
 
+-- both lines have the same columns
+pub same_columns : (n m : ℕ) (xs ys : List (ℕ × ℤ)) (r o s p : ℤ) (x y : Line) → line_seen n xs r o ≡ x → line_seen m ys s p ≡ y → length y.entries ≡ length x.entries → m ≡ n
+same_columns n m xs ys r o s p x y e f h =
+    sym (length-spread (at ys) 0 m) ∙ ap (λ (l : Line). length l.entries) f ∙ h ∙ sym (ap (λ (l : Line). length l.entries) e) ∙ length-spread (at xs) 0 n
+
+-- the other line over the columns of the first
+pub other_seen : (n m : ℕ) (ys : List (ℕ × ℤ)) (s p : ℤ) (y : Line) → m ≡ n → line_seen m ys s p ≡ y → line_seen n ys s p ≡ y
+other_seen n m ys s p y same f = ap (λ k. line_seen k ys s p) (sym same) ∙ f
+
 -- ---- the line divided
 
 pub row_divisor-seen : (n : ℕ) (es : List (ℕ × ℤ)) (right own : ℤ) → IsSparse 0 n es → row_divisor (numbers_of (line_seen n es right own)) ≡ row_divisor (right ∷ own ∷ numbers_in es)

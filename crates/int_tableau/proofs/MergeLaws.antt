@@ -20,7 +20,7 @@ pub record IsMerge (columns : ℕ) (a b : ℤ) (xs ys : List (ℕ × ℤ)) (colu
   pub value : (c : ℕ) → at out c +ℤ less a b (at ls c) (at rs c) ≡ less a b (at xs c) (at ys c)
   pub fits : (c : ℕ) → c < column → all_fit (less_formed a b (at xs c) (at ys c)) ≡ true
 
-zeros_fit_at : (a b x y : ℤ) → x ≡ pos 0 → y ≡ pos 0 → all_fit (less_formed a b x y) ≡ true
+pub zeros_fit_at : (a b x y : ℤ) → x ≡ pos 0 → y ≡ pos 0 → all_fit (less_formed a b x y) ≡ true
 zeros_fit_at a b x y p q = ap₂ (λ u v. all_fit (less_formed a b u v)) p q ∙ zeros_fit a b
 
 zero-+ : (z : ℤ) → pos 0 +ℤ z ≡ z

@@ -29,7 +29,7 @@ IsSparse low high [] = ⊤
 IsSparse low high (e ∷ es) = IsEntry low high e × IsSparse (suc e.0) high es
 
 -- the column of the first entry, or `columns` where there is none
-abbrev pub head_column : ℕ → List (ℕ × ℤ) → ℕ
+abbrev pub head_column : {N : Type 0} → ℕ → List (ℕ × N) → ℕ
 head_column columns [] = columns
 head_column columns (e ∷ es) = e.0
 
@@ -38,7 +38,7 @@ abbrev pub taken_number : ℕ → List (ℕ × ℤ) → ℤ
 taken_number c [] = pos 0
 taken_number c (e ∷ es) = only (e.0 == c) e.1
 
-abbrev pub taken_rest : ℕ → List (ℕ × ℤ) → List (ℕ × ℤ)
+abbrev pub taken_rest : {N : Type 0} → ℕ → List (ℕ × N) → List (ℕ × N)
 taken_rest c [] = []
 taken_rest c (e ∷ es) = if e.0 == c then es else (e ∷ es)
 

@@ -6,3 +6,5 @@ pub mod Shapes
 pub mod NextEntries
 pub mod Counted
 pub mod Starts
+pub mod Narrow
+pub mod KeptEntries

@@ -4,12 +4,18 @@
 #![tactic(auto)]
 
 mod entries;
+mod entry_list;
 mod line;
 mod merging;
+mod narrow;
+mod narrow_division;
+mod narrow_merging;
 mod numbers;
 mod refused;
+mod room;
 mod starting;
 mod tableau;
 
+pub use narrow::is_narrow;
 pub use starting::{as_most, column_after, is_split};
 pub use tableau::Tableau;

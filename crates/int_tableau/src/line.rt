@@ -1,6 +1,6 @@
 //! A row of the tableau with only its entries other than 0.
 
-ghost use Rattle.std.specs.Prelude.{◌≡◌, ◌≢◌, ◌<◌, ◌≤◌, [], ℕ, true, pos, length, IfErr, OnOk, IfSome, IfNone};
+ghost use Rattle.std.specs.Prelude.{◌≡◌, ◌≢◌, ◌<◌, ◌≤◌, [], ℕ, false, true, pos, length, IfErr, IfOk, OnOk, IfSome, IfNone};
 ghost use Rattle.exact_num.specs.Range.{InRange, all_fit};
 ghost use Rattle.written_method.specs.Lines.{Line, entry_of, numbers_of, lowest_line, line_less, all_less_formed, cleared, cleared_formed, factor_of};
 ghost use Rattle.written_method.specs.Tableaus.{negated_line, without_last};
@@ -9,19 +9,22 @@ ghost use Rattle.int_tableau.specs.Stops.{IsRefusal};
 ghost use Rattle.int_tableau.specs.LineView.{line_seen, IsFine};
 ghost use Rattle.int_tableau.specs.NextEntries.{IsNextEntry};
 
-use crate::entries::{entry_at, number_in, position_of};
-use crate::merging::combine;
-use crate::numbers::{divide, factor, negate_all, opposite};
+use crate::entry_list::EntryList;
+use crate::merging::{combine, difference};
+use crate::narrow::is_narrow;
+use crate::narrow_division;
+use crate::numbers::{divide, factors, opposite};
 use crate::refused::Refused;
+use crate::room::Room;
 use row_core::less;
-use std::alloc::Global;
+use std::alloc::{AllocError, Global};
 use std::marker::Model;
 
 /// An entry for each column, a right side, and an own entry at z or at w.
 #[derive(Drop)]
 pub(crate) struct SparseLine {
     columns: usize,
-    entries: Vec<(usize, i128)>,
+    entries: EntryList,
     right: i128,
     own: i128,
 }
@@ -32,28 +35,30 @@ impl Model for SparseLine {
 
     ghost Value = { Line };
 
-    ghost view = { λ l. line_seen l.columns l.entries.items l.right l.own };
+    ghost view = { λ l. line_seen l.columns l.entries l.right l.own };
 
-    ghost invariant = { λ l. IsFine l.columns l.entries.items l.right l.own };
+    ghost invariant = { λ l. IsFine l.columns l.entries l.right l.own };
 }
 
 impl SparseLine {
     /// A line of these entries.
     pub(crate) fn new(
+        alloc: Global,
         columns: usize,
-        entries: Vec<(usize, i128)>,
+        entries: &[(usize, i128)],
         right: i128,
         own: i128,
-    ) -> SparseLine
-        requires { IsFine columns entries.items right own }
-        ensures { result ≡ line_seen columns entries.items right own }
+    ) -> Result<SparseLine, AllocError>
+        requires { IsFine columns entries.now right own }
+        ensures { IfOk result (λ l. l ≡ line_seen columns entries.now right own) }
     {
-        SparseLine {
+        let entries = EntryList::of(alloc, entries)?;
+        Ok(SparseLine {
             columns,
             entries,
             right,
             own,
-        }
+        })
     }
 
     /// A line of zeros.
@@ -62,7 +67,7 @@ impl SparseLine {
     {
         SparseLine {
             columns,
-            entries: Vec::new(alloc),
+            entries: EntryList::none(alloc),
             right: 0,
             own: 0,
         }
@@ -97,7 +102,7 @@ impl SparseLine {
         ensures value { result ≡ entry_of self.now column }
         ensures range { InRange (entry_of self.now column) }
     {
-        number_in(&self.entries, column, self.columns)
+        self.entries.number_in(column, self.columns)
     }
 
     /// The first entry other than 0 in a column from `from` on.
@@ -105,15 +110,15 @@ impl SparseLine {
         ensures found { IfSome result (IsNextEntry self.now from) }
         ensures none { IfNone result ((c : ℕ) → from ≤ c → entry_of self.now c ≡ pos 0) }
     {
-        let at = position_of(&self.entries, from, self.columns);
-        entry_at(&self.entries, at)
+        let at = self.entries.position_of(from, self.columns);
+        self.entries.entry_at(at)
     }
 
     /// Multiplies the line by -1.
     pub(crate) fn negate(&mut self)
         ensures { self.new ≡ negated_line self.old }
     {
-        negate_all(&mut self.entries);
+        self.entries.negate();
         self.right = opposite(self.right);
         self.own = opposite(self.own);
     }
@@ -124,16 +129,53 @@ impl SparseLine {
         ensures { self.new ≡ without_last self.old }
     {
         let last = self.columns - 1;
-        let at = position_of(&self.entries, last, self.columns);
+        let at = self.entries.position_of(last, self.columns);
         self.entries.truncate(at);
         self.columns = last;
     }
 
     /// Takes `b` times another line from `a` times this one, and divides what is left by the greatest common divisor of its
-    /// numbers. What stood in `scratch` is lost.
-    fn subtract(
+    /// numbers, all in 64 bits but the right side and the own entry. It isn't done, and the line stays, where that can't be.
+    fn subtract_narrow(
         &mut self,
-        scratch: &mut Vec<(usize, i128)>,
+        room: &mut Room,
+        a: i128,
+        b: i128,
+        other: &SparseLine,
+    ) -> Result<bool, AllocError>
+        requires a { InRange a }
+        requires b { InRange b }
+        requires same { length other.now.entries ≡ length self.old.entries }
+        ensures value { IfOk result (λ done. done ≡ true → self.new ≡ lowest_line (line_less a b self.old other.now)) }
+        ensures fits { IfOk result (λ done. done ≡ true → all_fit (all_less_formed a b (numbers_of self.old) (numbers_of other.now)) ≡ true) }
+        ensures stays { IfOk result (λ done. done ≡ false → self.new ≡ self.old) }
+    {
+        let combined = self
+            .entries
+            .combine(&mut room.narrow, a, b, &other.entries, self.columns);
+        let Ok(()) = combined else {
+            return Ok(false);
+        };
+        let narrow = is_narrow(a) && is_narrow(b);
+        let Ok(right) = difference(narrow, a, b, self.right, other.right) else {
+            return Ok(false);
+        };
+        let Ok(own) = difference(narrow, a, b, self.own, other.own) else {
+            return Ok(false);
+        };
+        let Some((right, own)) = narrow_division::divide(&mut room.narrow, right, own) else {
+            return Ok(false);
+        };
+        self.entries.replace(room.alloc, &room.narrow)?;
+        self.right = right;
+        self.own = own;
+        Ok(true)
+    }
+
+    /// The same with all numbers in 128 bits.
+    fn subtract_wide(
+        &mut self,
+        room: &mut Room,
         a: i128,
         b: i128,
         other: &SparseLine,
@@ -145,26 +187,49 @@ impl SparseLine {
         ensures fits { OnOk result (all_fit (all_less_formed a b (numbers_of self.old) (numbers_of other.now)) ≡ true) }
         ensures stopped { IfErr result (IsRefusal (all_fit (all_less_formed a b (numbers_of self.old) (numbers_of other.now)))) }
     {
-        combine(scratch, a, b, &self.entries, &other.entries, self.columns)?;
+        self.entries.write_to(&mut room.line)?;
+        other.entries.write_to(&mut room.other)?;
+        combine(&mut room.wide, a, b, &room.line, &room.other, self.columns)?;
         let Ok(right) = less(a, b, self.right, other.right) else {
             return Err(Refused::TooWide);
         };
         let Ok(own) = less(a, b, self.own, other.own) else {
             return Err(Refused::TooWide);
         };
-        let (right, own) = divide(scratch, right, own);
-        self.entries.clear();
-        self.entries.extend_from_slice(scratch.as_slice())?;
+        let (right, own) = divide(&mut room.wide, right, own);
+        self.entries = EntryList::of(room.alloc, &room.wide)?;
         self.right = right;
         self.own = own;
         Ok(())
     }
 
+    /// Takes `b` times another line from `a` times this one, and divides what is left by the greatest common divisor of its
+    /// numbers. What stood in `room` is lost.
+    fn subtract(
+        &mut self,
+        room: &mut Room,
+        a: i128,
+        b: i128,
+        other: &SparseLine,
+    ) -> Result<(), Refused>
+        requires a { InRange a }
+        requires b { InRange b }
+        requires same { length other.now.entries ≡ length self.old.entries }
+        ensures value { OnOk result (self.new ≡ lowest_line (line_less a b self.old other.now)) }
+        ensures fits { OnOk result (all_fit (all_less_formed a b (numbers_of self.old) (numbers_of other.now)) ≡ true) }
+        ensures stopped { IfErr result (IsRefusal (all_fit (all_less_formed a b (numbers_of self.old) (numbers_of other.now)))) }
+    {
+        if self.subtract_narrow(room, a, b, other)? {
+            return Ok(());
+        }
+        self.subtract_wide(room, a, b, other)
+    }
+
     /// The line without its entry in a column, by the pivot row, which has a positive entry there. A line with no entry there
-    /// stays. What stood in `scratch` is lost.
+    /// stays. What stood in `room` is lost.
     pub(crate) fn clear(
         &mut self,
-        scratch: &mut Vec<(usize, i128)>,
+        room: &mut Room,
         pivot: &SparseLine,
         column: usize,
     ) -> Result<(), Refused>
@@ -175,10 +240,11 @@ impl SparseLine {
         ensures fits { OnOk result (all_fit (cleared_formed column pivot.now self.old) ≡ true) }
         ensures stopped { IfErr result (IsRefusal (all_fit (cleared_formed column pivot.now self.old))) }
     {
-        let p = pivot.entry(column);
         let q = self.entry(column);
         if q != 0 {
-            self.subtract(scratch, factor(p, q), factor(q, p), pivot)?;
+            let p = pivot.entry(column);
+            let (a, b) = factors(p, q);
+            self.subtract(room, a, b, pivot)?;
         }
         Ok(())
     }

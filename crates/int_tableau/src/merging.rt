@@ -1,6 +1,6 @@
 //! Two lists of entries side by side, and their difference.
 
-ghost use Rattle.std.specs.Prelude.{◌≡◌, ◌<◌, ◌≤◌, ◌^◌, ◌↔◌, ℕ, true, drop, IfErr, IfOk, IsTrue, OnOk, is_ok, unsigned_abs};
+ghost use Rattle.std.specs.Prelude.{◌≡◌, ◌<◌, ◌≤◌, ◌^◌, ℕ, true, drop, IfErr, IfOk, IsTrue, OnOk, is_ok, unsigned_abs};
 ghost use Rattle.exact_num.specs.Range.{InRange, all_fit};
 ghost use Rattle.written_method.specs.Lines.{less, less_formed};
 ghost use Rattle.int_tableau.specs.Entries.{at, IsSparse, head_column, taken_rest};
@@ -9,19 +9,13 @@ ghost use Rattle.int_tableau.specs.declared.refused.Refused.TheVariants.{Memory}
 ghost use Rattle.int_tableau.specs.Pushes.{IsPushed};
 
 use crate::entries::number_at;
+use crate::narrow::is_narrow;
 use crate::refused::Refused;
 use exact_num::TooWide;
 use row_core::less;
 
-/// Whether the absolute value of a number is below 2^63.
-fn is_narrow(n: i128) -> bool
-    ensures { IsTrue result ↔ (unsigned_abs n < 2 ^ 63) }
-{
-    -(1 << 63) < n && n < 1 << 63
-}
-
 /// `a * x - b * y` where none of the numbers that are formed can leave 128 bits.
-fn narrow_less(a: i128, b: i128, x: i128, y: i128) -> i128
+pub(crate) fn narrow_less(a: i128, b: i128, x: i128, y: i128) -> i128
     requires a { unsigned_abs a < 2 ^ 63 }
     requires b { unsigned_abs b < 2 ^ 63 }
     requires x { unsigned_abs x < 2 ^ 63 }
@@ -35,7 +29,7 @@ fn narrow_less(a: i128, b: i128, x: i128, y: i128) -> i128
 
 /// `a * x - b * y`, or `TooWide` where a number that this forms leaves 128 bits. `narrow` says that `a` and `b` are below 2^63, which
 /// needn't be asked for each entry.
-fn difference(narrow: bool, a: i128, b: i128, x: i128, y: i128) -> Result<i128, TooWide>
+pub(crate) fn difference(narrow: bool, a: i128, b: i128, x: i128, y: i128) -> Result<i128, TooWide>
     requires narrow { IsTrue narrow → (unsigned_abs a < 2 ^ 63) × (unsigned_abs b < 2 ^ 63) }
     requires a { InRange a }
     requires b { InRange b }
@@ -53,7 +47,7 @@ fn difference(narrow: bool, a: i128, b: i128, x: i128, y: i128) -> Result<i128, 
 }
 
 /// The column of the entry at this position, or `columns` after the last.
-fn column_at(entries: &[(usize, i128)], position: usize, columns: usize) -> usize
+pub(crate) fn column_at<N: Copy>(entries: &[(usize, N)], position: usize, columns: usize) -> usize
     ensures { result ≡ head_column columns (drop position entries.now) }
 {
     if position < entries.len() {

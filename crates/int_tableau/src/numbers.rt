@@ -10,15 +10,18 @@ ghost use Rattle.int_tableau.specs.LineView.{line_seen};
 use exact_num::gcd;
 use row_core::{divide_all, divisor_of, quotient};
 
-/// `p` without the greatest common divisor of `p` and `q`.
-pub(crate) fn factor(p: i128, q: i128) -> i128
+/// `p` and `q` without their greatest common divisor.
+pub(crate) fn factors(p: i128, q: i128) -> (i128, i128)
     requires fits { InRange p }
     requires other_fits { InRange q }
     requires other_nonzero { q ≢ pos 0 }
-    ensures value { result ≡ factor_of p q }
-    ensures range { InRange result }
+    ensures first { result.0 ≡ factor_of p q }
+    ensures second { result.1 ≡ factor_of q p }
+    ensures first_range { InRange result.0 }
+    ensures second_range { InRange result.1 }
 {
-    quotient(p, gcd(p, q))
+    let divisor = gcd(p, q);
+    (quotient(p, divisor), quotient(q, divisor))
 }
 
 /// Multiplies each entry by -1.

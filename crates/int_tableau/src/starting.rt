@@ -192,7 +192,13 @@ fn row_line(
     push_variables(&mut entries, layout, row.sense, &row.entries)?;
     entries.push((layout.width + position, 1))?;
     push_x0(&mut entries, layout)?;
-    Ok(SparseLine::new(layout.columns(), entries, as_most(row.sense, row.rhs), 0))
+    SparseLine::new(
+        alloc,
+        layout.columns(),
+        &entries,
+        as_most(row.sense, row.rhs),
+        0,
+    )
 }
 
 /// Appends the lines of all rows.
@@ -227,12 +233,13 @@ pub(crate) fn cost_line(
 {
     let mut entries = Vec::with_capacity(alloc, reduced.cost.len())?;
     push_variables(&mut entries, layout, Sense::Most, &reduced.cost)?;
-    Ok(SparseLine::new(
+    SparseLine::new(
+        alloc,
         layout.columns(),
-        entries,
+        &entries,
         reduced.cost_rhs,
         reduced.cost_own,
-    ))
+    )
 }
 
 /// Appends the line of w, where x0 is there.
@@ -247,7 +254,7 @@ pub(crate) fn push_artificial_line(
     if layout.artificial {
         let mut entries = Vec::with_capacity(alloc, 1)?;
         push_x0(&mut entries, layout)?;
-        lines.push(SparseLine::new(layout.columns(), entries, 0, 1))?;
+        lines.push(SparseLine::new(alloc, layout.columns(), &entries, 0, 1)?)?;
     }
     Ok(())
 }

@@ -17,6 +17,7 @@ ghost use Rattle.int_tableau.specs.Counted.{Counted, pivoted_once, negated_in, s
 
 use crate::line::SparseLine;
 use crate::refused::Refused;
+use crate::room::Room;
 use crate::starting::{
     Layout, any_negative, cost_line, push_artificial_line, push_row_lines, slack_columns,
 };
@@ -28,7 +29,7 @@ use written_method::Reduced;
 
 /// Clears a column in each of some lines.
 fn clear_all(
-    scratch: &mut Vec<(usize, i128)>,
+    room: &mut Room,
     lines: &mut Vec<SparseLine>,
     pivot: &SparseLine,
     column: usize,
@@ -41,7 +42,7 @@ fn clear_all(
     ensures stopped { IfErr result (IsRefusal (all_fit (flat_map (cleared_formed column pivot.now) lines.old.items))) }
 {
     for line in lines.iter_mut() {
-        line.clear(scratch, pivot, column)?;
+        line.clear(room, pivot, column)?;
     }
     Ok(())
 }
@@ -59,7 +60,7 @@ fn drop_last_of_all(lines: &mut Vec<SparseLine>)
 /// Clears a column in each other line than that of the pivot row.
 fn clear_others(
     alloc: Global,
-    scratch: &mut Vec<(usize, i128)>,
+    room: &mut Room,
     lines: &mut Vec<SparseLine>,
     row: usize,
     column: usize,
@@ -77,7 +78,7 @@ fn clear_others(
     let slot = &mut lines[row];
     // A line of zeros in its place has nothing to be cleared.
     let pivot = replace(slot, blank);
-    clear_all(scratch, lines, &pivot, column)?;
+    clear_all(room, lines, &pivot, column)?;
     lines[row] = pivot;
     Ok(())
 }
@@ -90,8 +91,7 @@ pub struct Tableau {
     basics: Vec<usize>,
     columns: usize,
     pivots: u64,
-    // The room in which a line is made before it takes its place, used again by each.
-    scratch: Vec<(usize, i128)>,
+    room: Room,
 }
 
 impl Model for Tableau {
@@ -126,7 +126,7 @@ impl Tableau {
             basics,
             columns: layout.columns(),
             pivots: 0,
-            scratch: Vec::new(alloc),
+            room: Room::new(alloc),
         })
     }
 
@@ -256,7 +256,7 @@ impl Tableau {
         self.pivots += 1;
         let cleared = clear_others(
             alloc,
-            &mut self.scratch,
+            &mut self.room,
             &mut self.lines,
             row,
             column,

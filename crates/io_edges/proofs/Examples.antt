@@ -91,28 +91,28 @@ no_call_zero = refl
 
 -- a shelf whose fourth call was made, with three bytes left of five
 abbrev shelf : ShelfState
-shelf = record { files = []; rest = 5 ∷ 6 ∷ 7 ∷ []; failing = 9 ∷ []; calls = 4; faults = 1; begins = 3; taken = 2 }
+shelf = record { files = []; rest = 5 ∷ 6 ∷ 7 ∷ []; most = 2; failing = 9 ∷ []; calls = 4; faults = 1; begins = 3; taken = 2 }
 
-takes_two : read_on shelf 2 ≡ record { files = []; rest = 7 ∷ []; failing = 9 ∷ []; calls = 5; faults = 1; begins = 3; taken = 4 }
+takes_two : read_on shelf 2 ≡ record { files = []; rest = 7 ∷ []; most = 2; failing = 9 ∷ []; calls = 5; faults = 1; begins = 3; taken = 4 }
 takes_two = refl
 
-fails_to_read : read_failed shelf ≡ record { files = []; rest = 5 ∷ 6 ∷ 7 ∷ []; failing = 9 ∷ []; calls = 5; faults = 2; begins = 3; taken = 2 }
+fails_to_read : read_failed shelf ≡ record { files = []; rest = 5 ∷ 6 ∷ 7 ∷ []; most = 2; failing = 9 ∷ []; calls = 5; faults = 2; begins = 3; taken = 2 }
 fails_to_read = refl
 
-begins_anew : begun shelf (8 ∷ []) ≡ record { files = []; rest = 8 ∷ []; failing = 9 ∷ []; calls = 5; faults = 1; begins = 4; taken = 0 }
+begins_anew : begun shelf (8 ∷ []) ≡ record { files = []; rest = 8 ∷ []; most = 2; failing = 9 ∷ []; calls = 5; faults = 1; begins = 4; taken = 0 }
 begins_anew = refl
 
-fails_to_begin : begin_failed shelf ≡ record { files = []; rest = []; failing = 9 ∷ []; calls = 5; faults = 2; begins = 4; taken = 0 }
+fails_to_begin : begin_failed shelf ≡ record { files = []; rest = []; most = 2; failing = 9 ∷ []; calls = 5; faults = 2; begins = 4; taken = 0 }
 fails_to_begin = refl
 
 -- a sink with room for three bytes, of which one is written
 abbrev sink : SinkState
-sink = record { room = 3; written = 1 ∷ []; failing = []; calls = 1; faults = 0 }
+sink = record { room = 3; written = 1 ∷ []; most = 2; failing = []; calls = 1; faults = 0 }
 
-takes_more : written_on sink (2 ∷ 3 ∷ []) ≡ record { room = 3; written = 1 ∷ 2 ∷ 3 ∷ []; failing = []; calls = 2; faults = 0 }
+takes_more : written_on sink (2 ∷ 3 ∷ []) ≡ record { room = 3; written = 1 ∷ 2 ∷ 3 ∷ []; most = 2; failing = []; calls = 2; faults = 0 }
 takes_more = refl
 
-fails_to_write : write_failed sink ≡ record { room = 3; written = 1 ∷ []; failing = []; calls = 2; faults = 1 }
+fails_to_write : write_failed sink ≡ record { room = 3; written = 1 ∷ []; most = 2; failing = []; calls = 2; faults = 1 }
 fails_to_write = refl
 
 -- the same without a list of calls that fail

@@ -3,20 +3,22 @@ use Rattle.std.specs.Prelude.{ℕ, Bool, List, [], ◌==◌, ◌++◌, drop}
 use Rattle.std.specs.List.{list_any}
 use Rattle.io_edges.specs.Count.{counted, counted_by}
 
--- a shelf in memory: its files, the unread bytes, the numbers of the calls that fail (from 1), and its counts
+-- a shelf in memory: its files, the unread bytes, the most bytes that one call reads, the numbers of the calls that fail (from 1), and its counts
 pub record ShelfState : Type 0 where
   pub files : List (List ℕ × List ℕ)
   pub rest : List ℕ
+  pub most : ℕ
   pub failing : List ℕ
   pub calls : ℕ
   pub faults : ℕ
   pub begins : ℕ
   pub taken : ℕ
 
--- a sink in memory: how many bytes it has room for, those written, the numbers of the calls that fail, and its counts
+-- a sink in memory: how many bytes it has room for, those written, the most bytes that one call takes, the numbers of the calls that fail, and its counts
 pub record SinkState : Type 0 where
   pub room : ℕ
   pub written : List ℕ
+  pub most : ℕ
   pub failing : List ℕ
   pub calls : ℕ
   pub faults : ℕ

@@ -1,5 +1,5 @@
 // Files in memory, for tests and for callers that have their bytes already.
-ghost use Rattle.std.specs.Prelude.{◌≡◌, ◌≢◌, ◌↔◌, ◌≤◌, refl, [], ℕ, List, length, min, take, drop, false, position, IsTrue, Some, None, IfOk, OnOk, OnErr, IsErrOf, IsErr, IsSomeAnd};
+ghost use Rattle.std.specs.Prelude.{◌≡◌, ◌≢◌, ◌↔◌, ◌≤◌, ◌<◌, ◌-◌, ◌^◌, refl, [], ℕ, List, length, min, take, drop, false, position, IsTrue, Some, None, IfOk, OnOk, OnErr, IsErrOf, IsErr, IsSomeAnd};
 ghost use Rattle.std.specs.Option.{option_map};
 ghost use Rattle.std.specs.Str.{bytes_eq};
 ghost use Rattle.io_edges.specs.Files.{file_named, put_file};
@@ -17,8 +17,8 @@ struct NamedFile {
     bytes: Vec<u8>,
 }
 
-/// Files in memory. The calls whose numbers it was given fail, and no others; `begin` and `read` are
-/// counted together, from 1.
+/// Files in memory, read whole or in pieces. The calls whose numbers it was given fail, and no others;
+/// `begin` and `read` are counted together, from 1.
 #[derive(Drop)]
 pub struct MemShelf {
     alloc: Global,
@@ -26,6 +26,8 @@ pub struct MemShelf {
     // The begun file's bytes, and how many of them were read.
     current: Vec<u8>,
     at: usize,
+    // How many bytes a call of `read` moves at most; at least 1.
+    most: usize,
     failing: Failing,
     begins: u64,
     taken: u64,
@@ -41,6 +43,7 @@ impl Model for MemShelf {
     ghost view = { λ s. record {
       files = contents s.files.items;
       rest = drop s.at s.current.items;
+      most = s.most;
       failing = s.failing.numbers.items;
       calls = s.failing.calls;
       faults = s.failing.faults;
@@ -48,16 +51,34 @@ impl Model for MemShelf {
       taken = s.taken;
     } };
 
-    ghost invariant = { λ s. s.at ≤ length s.current.items };
+    ghost invariant = { λ s. (s.at ≤ length s.current.items) × (1 ≤ s.most) };
 }
 
 impl MemShelf {
-    /// A shelf with no files. `failing` has the numbers of the calls that fail. Refuses for want of
-    /// memory alone.
+    /// A shelf with no files, which reads as much as the room takes. `failing` has the numbers of the
+    /// calls that fail. Refuses only where memory runs out.
     pub fn new(alloc: Global, failing: &[u64]) -> Result<MemShelf, AllocError>
         ensures { IfOk result (λ shelf. shelf ≡ record {
           files = [];
           rest = [];
+          most = 2 ^ 64 - 1;
+          failing = failing.now;
+          calls = 0;
+          faults = 0;
+          begins = 0;
+          taken = 0;
+        }) }
+    {
+        MemShelf::in_pieces(alloc, failing, usize::MAX)
+    }
+
+    /// The same, but a call of `read` moves at most `most` bytes.
+    pub fn in_pieces(alloc: Global, failing: &[u64], most: usize) -> Result<MemShelf, AllocError>
+        requires moves { 1 ≤ most }
+        ensures { IfOk result (λ shelf. shelf ≡ record {
+          files = [];
+          rest = [];
+          most = most;
           failing = failing.now;
           calls = 0;
           faults = 0;
@@ -70,6 +91,7 @@ impl MemShelf {
             files: Vec::new(alloc),
             current: Vec::new(alloc),
             at: 0,
+            most,
             failing: Failing::new(alloc, failing)?,
             begins: 0,
             taken: 0,
@@ -170,7 +192,10 @@ impl Shelf for MemShelf {
 
     fn read(&mut self, room: &mut [u8]) -> Result<usize, Failed>
         ensures fails { IsErr result ↔ IsTrue (fails_next self.old.failing self.old.calls) }
-        ensures count { IfOk result (λ n. n ≡ min (length room.new) (length self.old.rest)) }
+        ensures count { IfOk result
+            (λ n. n ≡ min self.old.most (min (length room.new) (length self.old.rest))) }
+        ensures goes_on { IfOk result
+            (λ n. n ≡ 0 → 0 < length room.new → self.old.rest ≡ []) }
         ensures front { IfOk result (λ n. take n room.new ≡ take n self.old.rest) }
         ensures following { IfOk result (λ n. drop n room.new ≡ drop n room.old) }
         ensures ok { IfOk result (λ n. self.new ≡ read_on self.old n) }
@@ -179,7 +204,7 @@ impl Shelf for MemShelf {
     {
         self.failing.call()?;
         let left = &self.current[self.at..];
-        let n = left.len().min(room.len());
+        let n = left.len().min(room.len()).min(self.most);
         room[..n].copy_from_slice(&left[..n]);
         self.at += n;
         self.taken = self.taken.saturating_add(n as u64);

@@ -11,12 +11,12 @@ use std::marker::Model;
 /// Files in memory. No call fails for a cause outside, so there is no count of faults.
 #[derive(Drop)]
 pub struct SureShelf {
-    // No number is in its list of calls that fail.
+    // No number is in its list of calls that fail, and it reads as much as the room takes.
     shelf: MemShelf,
 }
 
 impl Model for SureShelf {
-    ghost use Rattle.std.specs.Prelude.{◌≡◌, []};
+    ghost use Rattle.std.specs.Prelude.{◌≡◌, ◌-◌, ◌^◌, []};
     ghost use Rattle.io_edges.specs.Sure.{SureShelfState};
 
     ghost Value = { SureShelfState };
@@ -28,7 +28,8 @@ impl Model for SureShelf {
       taken = s.shelf.taken;
     } };
 
-    ghost invariant = { λ s. (s.shelf.failing ≡ []) × (s.shelf.faults ≡ 0) };
+    ghost invariant = { λ s. (s.shelf.failing ≡ []) × (s.shelf.faults ≡ 0)
+        × (s.shelf.most ≡ 2 ^ 64 - 1) };
 }
 
 impl SureShelf {

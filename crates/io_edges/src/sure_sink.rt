@@ -11,12 +11,12 @@ use std::marker::Model;
 /// into no room fails, and no other call.
 #[derive(Drop)]
 pub struct SureSink {
-    // No number is in its list of calls that fail.
+    // No number is in its list of calls that fail, and it takes all of a piece that fits.
     sink: MemSink,
 }
 
 impl Model for SureSink {
-    ghost use Rattle.std.specs.Prelude.{◌≡◌, ◌≤◌, ◌<◌, [], length};
+    ghost use Rattle.std.specs.Prelude.{◌≡◌, ◌≤◌, ◌<◌, ◌-◌, ◌^◌, [], length};
     ghost use Rattle.io_edges.specs.Sure.{SureSinkState};
 
     ghost Value = { SureSinkState };
@@ -27,7 +27,8 @@ impl Model for SureSink {
       faults = s.sink.faults;
     } };
 
-    ghost invariant = { λ s. (s.sink.failing ≡ []) × (length s.sink.written ≤ s.sink.room)
+    ghost invariant = { λ s. (s.sink.failing ≡ []) × (s.sink.most ≡ 2 ^ 64 - 1)
+        × (length s.sink.written ≤ s.sink.room)
         × (0 < s.sink.faults → s.sink.room ≤ length s.sink.written) };
 }
 

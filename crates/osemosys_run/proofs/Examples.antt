@@ -37,7 +37,7 @@ option_first : asked (codes "--help" ∷ []) ≡ Err BadCommand
 option_first = refl
 
 -- the command is looked at before the number of words
-unknown_command_alone : asked (codes "solve" ∷ []) ≡ Err BadCommand
+unknown_command_alone : asked (codes "solves" ∷ []) ≡ Err BadCommand
 unknown_command_alone = refl
 
 no_file : asked (codes "mps" ∷ []) ≡ Err BadForm

@@ -78,7 +78,7 @@ module _ (places : ℕ) (d e : Data) (same : AreSameData d e) where
         optimum = optimum-carries rows gap solved.plan solved.multipliers solved.cost solved.bound solved.optimum;
         prices_fit = solved.prices_fit;
         status_is = solved.status_is;
-        text_is = solved.text_is ∙ ap₂ (λ (ss : SetLists) (vs : List Var). solved_shown show ss vs solved.plan rows solved.multipliers solved.cost solved.bound solved.made rounded) same.sets vars;
+        text_is = solved.text_is ∙ ap₂ (λ (ss : SetLists) (vs : List Var). solved_shown show ss vs solved.plan rows solved.multipliers solved.cost solved.bound solved.made rounded places) same.sets vars;
       })
   end-carries rows gap pivots show rounded status text (inr (inl infeasible)) =
       inr (inl (record {
@@ -87,7 +87,7 @@ module _ (places : ℕ) (d e : Data) (same : AreSameData d e) where
         end = ends rows pivots _ infeasible.end;
         refuted = refuted-carries rows infeasible.multipliers infeasible.refuted;
         status_is = infeasible.status_is;
-        text_is = infeasible.text_is ∙ ap (λ (ss : SetLists). infeasible_shown show ss infeasible.multipliers infeasible.made rounded) same.sets;
+        text_is = infeasible.text_is ∙ ap (λ (ss : SetLists). infeasible_shown show ss infeasible.multipliers infeasible.made rounded places) same.sets;
       }))
   end-carries rows gap pivots show rounded status text (inr (inr (inl unbounded))) =
       inr (inr (inl (record {
@@ -97,7 +97,7 @@ module _ (places : ℕ) (d e : Data) (same : AreSameData d e) where
         end = ends rows pivots _ unbounded.end;
         unbounded = unbounded-carries rows unbounded.plan unbounded.direction unbounded.unbounded;
         status_is = unbounded.status_is;
-        text_is = unbounded.text_is ∙ ap (λ (ss : SetLists). unbounded_shown show ss unbounded.plan unbounded.direction unbounded.made rounded) same.sets;
+        text_is = unbounded.text_is ∙ ap (λ (ss : SetLists). unbounded_shown show ss unbounded.plan unbounded.direction unbounded.made rounded places) same.sets;
       })))
   end-carries rows gap pivots show rounded status text (inr (inr (inr (inl out)))) =
       inr (inr (inr (inl (record {

@@ -32,26 +32,26 @@ use Rattle.osemosys_run.proofs.SolvedRows.{no-least, none-feasible}
 
 -- ---- texts
 
-shown-optimal : (show : Shown) (sets : SetLists) (rows : List Row) (vars : List Var) (rounded : ℕ) (plan : List (Var × Rational)) (multipliers : List (RowName × Rational)) (cost bound : Frac) (made : ℕ)
-    → solution_shown show sets rows vars rounded (found.Optimal plan multipliers cost bound made) ≡ solved_shown show sets vars plan rows multipliers (value_of cost) (value_of bound) made rounded
-shown-optimal Report sets rows vars rounded plan multipliers cost bound made = refl
-shown-optimal Plan sets rows vars rounded plan multipliers cost bound made = refl
-shown-optimal Multipliers sets rows vars rounded plan multipliers cost bound made = refl
-shown-optimal Summary sets rows vars rounded plan multipliers cost bound made = refl
+shown-optimal : (show : Shown) (sets : SetLists) (rows : List Row) (vars : List Var) (rounded places : ℕ) (plan : List (Var × Rational)) (multipliers : List (RowName × Rational)) (cost bound : Frac) (made : ℕ)
+    → solution_shown show sets rows vars rounded places (found.Optimal plan multipliers cost bound made) ≡ solved_shown show sets vars plan rows multipliers (value_of cost) (value_of bound) made rounded places
+shown-optimal Report sets rows vars rounded places plan multipliers cost bound made = refl
+shown-optimal Plan sets rows vars rounded places plan multipliers cost bound made = refl
+shown-optimal Multipliers sets rows vars rounded places plan multipliers cost bound made = refl
+shown-optimal Summary sets rows vars rounded places plan multipliers cost bound made = refl
 
-shown-infeasible : (show : Shown) (sets : SetLists) (rows : List Row) (vars : List Var) (rounded : ℕ) (multipliers : List (RowName × Rational)) (made : ℕ)
-    → solution_shown show sets rows vars rounded (found.Infeasible multipliers made) ≡ infeasible_shown show sets multipliers made rounded
-shown-infeasible Report sets rows vars rounded multipliers made = refl
-shown-infeasible Plan sets rows vars rounded multipliers made = refl
-shown-infeasible Multipliers sets rows vars rounded multipliers made = refl
-shown-infeasible Summary sets rows vars rounded multipliers made = refl
+shown-infeasible : (show : Shown) (sets : SetLists) (rows : List Row) (vars : List Var) (rounded places : ℕ) (multipliers : List (RowName × Rational)) (made : ℕ)
+    → solution_shown show sets rows vars rounded places (found.Infeasible multipliers made) ≡ infeasible_shown show sets multipliers made rounded places
+shown-infeasible Report sets rows vars rounded places multipliers made = refl
+shown-infeasible Plan sets rows vars rounded places multipliers made = refl
+shown-infeasible Multipliers sets rows vars rounded places multipliers made = refl
+shown-infeasible Summary sets rows vars rounded places multipliers made = refl
 
-shown-unbounded : (show : Shown) (sets : SetLists) (rows : List Row) (vars : List Var) (rounded : ℕ) (plan direction : List (Var × Rational)) (made : ℕ)
-    → solution_shown show sets rows vars rounded (found.Unbounded plan direction made) ≡ unbounded_shown show sets plan direction made rounded
-shown-unbounded Report sets rows vars rounded plan direction made = refl
-shown-unbounded Plan sets rows vars rounded plan direction made = refl
-shown-unbounded Multipliers sets rows vars rounded plan direction made = refl
-shown-unbounded Summary sets rows vars rounded plan direction made = refl
+shown-unbounded : (show : Shown) (sets : SetLists) (rows : List Row) (vars : List Var) (rounded places : ℕ) (plan direction : List (Var × Rational)) (made : ℕ)
+    → solution_shown show sets rows vars rounded places (found.Unbounded plan direction made) ≡ unbounded_shown show sets plan direction made rounded places
+shown-unbounded Report sets rows vars rounded places plan direction made = refl
+shown-unbounded Plan sets rows vars rounded places plan direction made = refl
+shown-unbounded Multipliers sets rows vars rounded places plan direction made = refl
+shown-unbounded Summary sets rows vars rounded places plan direction made = refl
 
 module _ (places : ℕ) (d : Data) (rows : List Row) (vars : List Var) (book : IsBookOf places d rows vars) where
   -- the variables of the book are those of the data
@@ -100,7 +100,7 @@ module _ (places : ℕ) (d : Data) (rows : List Row) (vars : List Var) (book : I
     ends end is = sym (is ∙ ap (λ vs. method_end rows vs pivots) are)
 
     pub due-from_solution : (solution : Solution) → end_seen solution ≡ method_end rows vars pivots → IsProved rows vars solution → IsComplete vars solution → IsNamed rows solution
-        → TellsSolution sets rows vars show rounded solution status text → DueForEnd places d rows gap pivots show rounded status text
+        → TellsSolution sets rows vars show rounded places solution status text → DueForEnd places d rows gap pivots show rounded status text
     due-from_solution (found.Optimal plan multipliers cost bound made) end proved whole named (inl told) =
         inl (record {
           plan = plan;
@@ -112,8 +112,8 @@ module _ (places : ℕ) (d : Data) (rows : List Row) (vars : List Var) (book : I
           optimum = optimum plan multipliers (value_of cost) (value_of bound) gap proved.0 proved.1 proved.2 whole named;
           prices_fit = told.0;
           status_is = told.1;
-          text_is = told.2 ∙ shown-optimal show sets rows vars rounded plan multipliers cost bound made
-              ∙ ap₂ (λ ss vs. solved_shown show ss vs plan rows multipliers (value_of cost) (value_of bound) made rounded) same are;
+          text_is = told.2 ∙ shown-optimal show sets rows vars rounded places plan multipliers cost bound made
+              ∙ ap₂ (λ ss vs. solved_shown show ss vs plan rows multipliers (value_of cost) (value_of bound) made rounded places) same are;
         })
     due-from_solution (found.Optimal plan multipliers cost bound made) end proved whole named (inr told) =
         inr (inr (inr (inr (inr (record {
@@ -134,7 +134,7 @@ module _ (places : ℕ) (d : Data) (rows : List Row) (vars : List Var) (book : I
           end = ends (HasNoPlan multipliers made) end;
           refuted = refuted multipliers proved named;
           status_is = told.1;
-          text_is = told.2 ∙ shown-infeasible show sets rows vars rounded multipliers made ∙ ap (λ ss. infeasible_shown show ss multipliers made rounded) same;
+          text_is = told.2 ∙ shown-infeasible show sets rows vars rounded places multipliers made ∙ ap (λ ss. infeasible_shown show ss multipliers made rounded places) same;
         }))
     due-from_solution (found.Infeasible multipliers made) end proved whole named (inr told) = absurd told.1
     due-from_solution (found.Unbounded plan direction made) end proved whole named (inl told) =
@@ -145,7 +145,7 @@ module _ (places : ℕ) (d : Data) (rows : List Row) (vars : List Var) (book : I
           end = ends (HasNoBound plan direction made) end;
           unbounded = unbounded plan direction (plan_cost vars plan) proved.0 proved.1 whole.0 whole.1;
           status_is = told.1;
-          text_is = told.2 ∙ shown-unbounded show sets rows vars rounded plan direction made ∙ ap (λ ss. unbounded_shown show ss plan direction made rounded) same;
+          text_is = told.2 ∙ shown-unbounded show sets rows vars rounded places plan direction made ∙ ap (λ ss. unbounded_shown show ss plan direction made rounded places) same;
         })))
     due-from_solution (found.Unbounded plan direction made) end proved whole named (inr told) = absurd told.1
 

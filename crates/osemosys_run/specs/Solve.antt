@@ -65,7 +65,7 @@ pub record IsSolved (places : ℕ) (d : Data) (rows : List Row) (gap pivots : �
   pub optimum : IsOptimum places d rows gap plan multipliers cost bound
   pub prices_fit : PricesFit show rows multipliers
   pub status_is : status ≡ Done
-  pub text_is : text ≡ solved_shown show d.sets (all_variables d) plan rows multipliers cost bound made rounded
+  pub text_is : text ≡ solved_shown show d.sets (all_variables d) plan rows multipliers cost bound made rounded places
 
 -- no plan meets them
 pub record IsInfeasible (places : ℕ) (d : Data) (rows : List Row) (pivots : ℕ) (show : Shown) (rounded : ℕ) (status : Status) (text : List ℕ) : Type 0 where
@@ -74,7 +74,7 @@ pub record IsInfeasible (places : ℕ) (d : Data) (rows : List Row) (pivots : �
   pub end : method_end rows (all_variables d) pivots ≡ HasNoPlan multipliers made
   pub refuted : IsRefuted places d rows multipliers
   pub status_is : status ≡ Infeasible
-  pub text_is : text ≡ infeasible_shown show d.sets multipliers made rounded
+  pub text_is : text ≡ infeasible_shown show d.sets multipliers made rounded places
 
 -- plans of any lower cost meet them
 pub record IsUnbounded (places : ℕ) (d : Data) (rows : List Row) (pivots : ℕ) (show : Shown) (rounded : ℕ) (status : Status) (text : List ℕ) : Type 0 where
@@ -84,7 +84,7 @@ pub record IsUnbounded (places : ℕ) (d : Data) (rows : List Row) (pivots : ℕ
   pub end : method_end rows (all_variables d) pivots ≡ HasNoBound plan direction made
   pub unbounded : AreUnbounded places d rows plan direction
   pub status_is : status ≡ Unbounded
-  pub text_is : text ≡ unbounded_shown show d.sets plan direction made rounded
+  pub text_is : text ≡ unbounded_shown show d.sets plan direction made rounded places
 
 -- ---- stops
 

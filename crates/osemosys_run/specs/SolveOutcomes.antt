@@ -3,6 +3,7 @@ use Rattle.std.specs.Prelude.{◌≡◌, ℕ, List, [], ◌⊎◌, Some, ⊤, co
 use Rattle.exact_num.specs.Steps.{first_wide}
 use Rattle.exact_num.specs.Value.{value_of}
 use Rattle.model_sets.specs.Members.{SetLists}
+use Rattle.mps_writer.specs.MpsText.{line}
 use Rattle.row_core.specs.declared.Row.{Row}
 use Rattle.row_core.specs.declared.Var.{Var}
 use Rattle.row_core.specs.declared.place.Place.{Place}
@@ -12,25 +13,24 @@ use Rattle.exact_solver.specs.declared.solutions.Solution.{Solution}
 use Rattle.exact_solver.specs.declared.solutions.Solution.TheVariants as found
 use Rattle.exact_solver.specs.declared.solutions.SolveStop.{SolveStop}
 use Rattle.exact_solver.specs.declared.solutions.SolveStop.TheVariants as stops
-use Rattle.mps_writer.specs.MpsText.{line}
 use Rattle.result_tables.specs.Prices.{price_steps}
 use Rattle.result_tables.specs.Reports.{infeasible_text, report_text, unbounded_text}
+use Rattle.osemosys_run.specs.Shown.{HasPrices}
 use Rattle.osemosys_run.specs.declared.solve.Shown.{Shown}
 use Rattle.osemosys_run.specs.declared.solve.Shown.TheVariants.{Report, Plan, Multipliers, Summary}
 use Rattle.osemosys_run.specs.declared.status.Status.{Status}
 use Rattle.osemosys_run.specs.declared.status.Status.TheVariants.{Done, Infeasible, Unbounded, Uncertified}
 use Rattle.osemosys_run.specs.declared.status.Stop.TheVariants.{Budget, Width}
 use Rattle.osemosys_run.specs.Lines.{uncertified_line}
-use Rattle.osemosys_run.specs.Shown.{HasPrices}
 use Rattle.osemosys_run.specs.Solve.{PricesFit}
 use Rattle.osemosys_run.specs.SolveTexts.{multiplier_file, plan_file, solved_lines}
 
 -- ---- texts
 
-abbrev pub report_shown : SetLists → List Row → List Var → ℕ → Solution → List ℕ
-report_shown sets rows vars rounded (found.Optimal plan multipliers cost bound made) = report_text sets vars plan rows multipliers (value_of cost) (value_of bound) made rounded
-report_shown sets rows vars rounded (found.Infeasible multipliers made) = infeasible_text made rounded
-report_shown sets rows vars rounded (found.Unbounded plan direction made) = unbounded_text sets direction made rounded
+abbrev pub report_shown : SetLists → List Row → List Var → ℕ → ℕ → Solution → List ℕ
+report_shown sets rows vars rounded places (found.Optimal plan multipliers cost bound made) = report_text sets vars plan rows multipliers (value_of cost) (value_of bound) made rounded places
+report_shown sets rows vars rounded places (found.Infeasible multipliers made) = infeasible_text made rounded places
+report_shown sets rows vars rounded places (found.Unbounded plan direction made) = unbounded_text sets direction made rounded places
 
 abbrev pub plan_shown : SetLists → Solution → List ℕ
 plan_shown sets (found.Optimal plan multipliers cost bound made) = plan_file sets plan
@@ -47,11 +47,11 @@ summary_shown (found.Optimal plan multipliers cost bound made) = solved_lines (v
 summary_shown (found.Infeasible multipliers made) = line (codes "status infeasible")
 summary_shown (found.Unbounded plan direction made) = line (codes "status unbounded")
 
-abbrev pub solution_shown : Shown → SetLists → List Row → List Var → ℕ → Solution → List ℕ
-solution_shown Report sets rows vars rounded solution = report_shown sets rows vars rounded solution
-solution_shown Plan sets rows vars rounded solution = plan_shown sets solution
-solution_shown Multipliers sets rows vars rounded solution = multipliers_shown sets solution
-solution_shown Summary sets rows vars rounded solution = summary_shown solution
+abbrev pub solution_shown : Shown → SetLists → List Row → List Var → ℕ → ℕ → Solution → List ℕ
+solution_shown Report sets rows vars rounded places solution = report_shown sets rows vars rounded places solution
+solution_shown Plan sets rows vars rounded places solution = plan_shown sets solution
+solution_shown Multipliers sets rows vars rounded places solution = multipliers_shown sets solution
+solution_shown Summary sets rows vars rounded places solution = summary_shown solution
 
 -- ---- prices
 
@@ -80,9 +80,9 @@ status_of (found.Infeasible multipliers made) = Infeasible
 status_of (found.Unbounded plan direction made) = Unbounded
 
 -- the status and the text tell the solution, or at which price a number doesn't fit
-abbrev pub TellsSolution : SetLists → List Row → List Var → Shown → ℕ → Solution → Status → List ℕ → Type 0
-TellsSolution sets rows vars show rounded solution status text =
-    (PricesFitIn show rows solution × (status ≡ status_of solution) × (text ≡ solution_shown show sets rows vars rounded solution))
+abbrev pub TellsSolution : SetLists → List Row → List Var → Shown → ℕ → ℕ → Solution → Status → List ℕ → Type 0
+TellsSolution sets rows vars show rounded places solution status text =
+    (PricesFitIn show rows solution × (status ≡ status_of solution) × (text ≡ solution_shown show sets rows vars rounded places solution))
     ⊎ ((place : Place) × HasPriceWideAt show rows solution place × (status ≡ Uncertified (Width place)) × (text ≡ uncertified_line sets (Width place)))
 
 -- they tell why the method stopped; none tell that memory ran out

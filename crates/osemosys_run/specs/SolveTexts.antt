@@ -1,13 +1,13 @@
 -- What `solve` writes at each of its ends, by what is to be shown: a report, a plan, multipliers or a summary. A file of what there isn't is its header alone.
 use Rattle.std.specs.Prelude.{ℕ, List, [], ◌++◌, codes}
-use Rattle.std.specs.Fmt.{decimal}
 use Rattle.exact_num.specs.Rational.{Rational}
 use Rattle.model_sets.specs.Members.{SetLists}
+use Rattle.mps_writer.specs.MpsText.{line}
+use Rattle.scaled_decimals.specs.PrintedFraction.{fraction_text}
+use Rattle.std.specs.Fmt.{decimal}
 use Rattle.row_core.specs.declared.Row.{Row}
 use Rattle.row_core.specs.declared.RowName.{RowName}
 use Rattle.row_core.specs.declared.Var.{Var}
-use Rattle.mps_writer.specs.MpsText.{line}
-use Rattle.scaled_decimals.specs.PrintedFraction.{fraction_text}
 use Rattle.plan_files.specs.Records.{multiplier_records, plan_records}
 use Rattle.plan_files.specs.Texts.{records_text}
 use Rattle.result_tables.specs.Reports.{infeasible_text, report_text, unbounded_text}
@@ -27,22 +27,22 @@ solved_lines cost bound made =
     line (codes "status solved") ++ line (codes "cost " ++ fraction_text cost) ++ line (codes "bound " ++ fraction_text bound) ++ line (codes "pivots " ++ decimal made)
 
 -- of a model that is solved
-abbrev pub solved_shown : Shown → SetLists → List Var → List (Var × Rational) → List Row → List (RowName × Rational) → Rational → Rational → ℕ → ℕ → List ℕ
-solved_shown Report sets vars plan rows multipliers cost bound made rounded = report_text sets vars plan rows multipliers cost bound made rounded
-solved_shown Plan sets vars plan rows multipliers cost bound made rounded = plan_file sets plan
-solved_shown Multipliers sets vars plan rows multipliers cost bound made rounded = multiplier_file sets multipliers
-solved_shown Summary sets vars plan rows multipliers cost bound made rounded = solved_lines cost bound made
+abbrev pub solved_shown : Shown → SetLists → List Var → List (Var × Rational) → List Row → List (RowName × Rational) → Rational → Rational → ℕ → ℕ → ℕ → List ℕ
+solved_shown Report sets vars plan rows multipliers cost bound made rounded places = report_text sets vars plan rows multipliers cost bound made rounded places
+solved_shown Plan sets vars plan rows multipliers cost bound made rounded places = plan_file sets plan
+solved_shown Multipliers sets vars plan rows multipliers cost bound made rounded places = multiplier_file sets multipliers
+solved_shown Summary sets vars plan rows multipliers cost bound made rounded places = solved_lines cost bound made
 
 -- of one that has no plan
-abbrev pub infeasible_shown : Shown → SetLists → List (RowName × Rational) → ℕ → ℕ → List ℕ
-infeasible_shown Report sets multipliers made rounded = infeasible_text made rounded
-infeasible_shown Plan sets multipliers made rounded = plan_file sets []
-infeasible_shown Multipliers sets multipliers made rounded = multiplier_file sets multipliers
-infeasible_shown Summary sets multipliers made rounded = line (codes "status infeasible")
+abbrev pub infeasible_shown : Shown → SetLists → List (RowName × Rational) → ℕ → ℕ → ℕ → List ℕ
+infeasible_shown Report sets multipliers made rounded places = infeasible_text made rounded places
+infeasible_shown Plan sets multipliers made rounded places = plan_file sets []
+infeasible_shown Multipliers sets multipliers made rounded places = multiplier_file sets multipliers
+infeasible_shown Summary sets multipliers made rounded places = line (codes "status infeasible")
 
 -- of one whose cost has no bound
-abbrev pub unbounded_shown : Shown → SetLists → List (Var × Rational) → List (Var × Rational) → ℕ → ℕ → List ℕ
-unbounded_shown Report sets plan direction made rounded = unbounded_text sets direction made rounded
-unbounded_shown Plan sets plan direction made rounded = plan_file sets plan
-unbounded_shown Multipliers sets plan direction made rounded = multiplier_file sets []
-unbounded_shown Summary sets plan direction made rounded = line (codes "status unbounded")
+abbrev pub unbounded_shown : Shown → SetLists → List (Var × Rational) → List (Var × Rational) → ℕ → ℕ → ℕ → List ℕ
+unbounded_shown Report sets plan direction made rounded places = unbounded_text sets direction made rounded places
+unbounded_shown Plan sets plan direction made rounded places = plan_file sets plan
+unbounded_shown Multipliers sets plan direction made rounded places = multiplier_file sets []
+unbounded_shown Summary sets plan direction made rounded places = line (codes "status unbounded")

@@ -90,21 +90,22 @@ fn answer_model(
         DueForSolve places wanted.gap wanted.pivots wanted.show model.now.rounded model.now.facts answer.status answer.text.items) }
 {
     match RowBook::new(alloc, model, places) {
-        Ok(book) => answer_book(alloc, &book, model.sets(), wanted, model.rounded()),
+        Ok(book) => answer_book(alloc, &book, model.sets(), places, wanted, model.rounded()),
         Err(fail) => refuse_book(alloc, fail, model.sets()),
     }
 }
 
-/// What is due over a book of rows, of data of which so many numbers were rounded.
+/// What is due over a book of rows with written factors of so many decimal places, of data of which so many numbers were rounded.
 pub fn answer_book(
     alloc: Global,
     book: &RowBook,
     sets: &Sets,
+    places: u8,
     wanted: Wanted,
     rounded: u64,
 ) -> Result<Answer, AllocError>
     requires { IsListedBook sets.now book.now.rows book.now.vars }
-    ensures { (places : ℕ) (d : Data) → sets.now ≡ d.sets → IsBookOf places d book.now.rows book.now.vars
+    ensures { (d : Data) → sets.now ≡ d.sets → IsBookOf places d book.now.rows book.now.vars
         → IfOk result (λ answer. DueForRows places d book.now.rows wanted.gap wanted.pivots wanted.show rounded answer.status answer.text.items) }
 {
     let size = size_of(book);
@@ -113,7 +114,7 @@ pub fn answer_book(
     }
     let pivots = u64::from(wanted.pivots);
     match solve_book(alloc, book, pivots) {
-        Ok(solution) => answer_solution(alloc, book, sets, &solution, wanted.show, rounded),
+        Ok(solution) => answer_solution(alloc, book, sets, &solution, wanted.show, rounded, places),
         Err(stop) => answer_stop(alloc, book, sets, stop, pivots),
     }
 }

@@ -33,20 +33,21 @@ fn summarize_model(alloc: Global, model: &ModelData, places: u8) -> Result<Answe
         DueForSummary places model.now.rounded model.now.facts answer.status answer.text.items) }
 {
     match RowBook::new(alloc, model, places) {
-        Ok(book) => summarize_book(alloc, &book, model.sets(), model.rounded()),
+        Ok(book) => summarize_book(alloc, &book, model.sets(), places, model.rounded()),
         Err(fail) => refuse_book(alloc, fail, model.sets()),
     }
 }
 
-// What is due over a book of rows, of data of which so many numbers were rounded: the counts, and then what solving comes to.
+// What is due over a book of rows with written factors of so many decimal places, of data of which so many numbers were rounded: the counts, and then what solving comes to.
 fn summarize_book(
     alloc: Global,
     book: &RowBook,
     sets: &Sets,
+    places: u8,
     rounded: u64,
 ) -> Result<Answer, AllocError>
     requires { IsListedBook sets.now book.now.rows book.now.vars }
-    ensures { (places : ℕ) (d : Data) → sets.now ≡ d.sets → IsBookOf places d book.now.rows book.now.vars
+    ensures { (d : Data) → sets.now ≡ d.sets → IsBookOf places d book.now.rows book.now.vars
         → IfOk result (λ answer. DueAfterCounts places d book.now.rows rounded answer.status answer.text.items) }
 {
     let wanted = Wanted {
@@ -55,7 +56,7 @@ fn summarize_book(
         show: Shown::Summary,
     };
     let mut text = counts_text(alloc, book)?;
-    let answer = answer_book(alloc, book, sets, wanted, rounded)?;
+    let answer = answer_book(alloc, book, sets, places, wanted, rounded)?;
     text.extend_from_slice(&answer.text)?;
     let status = answer.status;
     Ok(Answer { status, text })

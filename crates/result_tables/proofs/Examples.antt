@@ -67,9 +67,14 @@ negative_line : amount_line (codes "bound") (pair (negsuc 1) (pos 3000000)) ≡ 
 unfolding fraction_text millionths millionths_text digits
 negative_line = refl
 
-no_plan : infeasible_text 3 0 ≡ codes "status infeasible\npivots 3\nrounded 0\nend\n"
+no_plan : infeasible_text 3 0 6 ≡ codes "status infeasible\npivots 3\nrounded 0\nend\n"
 unfolding digits
 no_plan = refl
+
+-- written factors of nine decimal places are told, those of six aren't
+nine_places : infeasible_text 3 0 9 ≡ codes "status infeasible\npivots 3\nrounded 0\nplaces 9\nend\n"
+unfolding digits
+nine_places = refl
 
 -- ---- tables
 
@@ -86,7 +91,7 @@ none_given = refl
 -- ---- reports
 
 -- the cost before the bound, all tables in their order, and a kind without a table, which isn't shown
-whole_report : report_text sets (activity ∷ vars) ((activity, whole (pos 4)) ∷ (second, whole (pos 10)) ∷ (cost, whole (pos 80)) ∷ []) [] [] (whole (pos 80)) (whole (pos 79)) 3 1
+whole_report : report_text sets (activity ∷ vars) ((activity, whole (pos 4)) ∷ (second, whole (pos 10)) ∷ (cost, whole (pos 80)) ∷ []) [] [] (whole (pos 80)) (whole (pos 79)) 3 1 6
     ≡ codes "status solved\ncost 80 80.000000\nbound 79 79.000000\npivots 3\nrounded 1\ntable NewCapacity\nR,U,2020,10,10.000000\ntable TotalCapacityAnnual\ntable TotalTechnologyAnnualActivity\ntable ProductionByTechnologyAnnual\ntable UseByTechnologyAnnual\ntable TradeAnnual\ntable AnnualEmissions\ntable DiscountedCapitalInvestment\ntable DiscountedOperatingCost\ntable DiscountedTechnologyEmissionsPenalty\ntable DiscountedSalvageValue\ntable TotalDiscountedCost\nR,2020,80,80.000000\ntable FuelPrice\nend\n"
 unfolding escaped fields_text is_blank fraction_text millionths millionths_text digits
 whole_report = refl
@@ -94,7 +99,7 @@ whole_report = refl
 -- ---- directions
 
 -- the cost isn't chosen
-direction_shown : unbounded_text sets ((activity, whole (pos 1)) ∷ (capacity, whole (pos 0)) ∷ (second, whole (pos 2)) ∷ (cost, whole (negsuc 0)) ∷ []) 3 0
+direction_shown : unbounded_text sets ((activity, whole (pos 1)) ∷ (capacity, whole (pos 0)) ∷ (second, whole (pos 2)) ∷ (cost, whole (negsuc 0)) ∷ []) 3 0 6
     ≡ codes "status unbounded\npivots 3\nrounded 0\ntable Direction\nRateOfActivity,R,D,\"T,1\",1,2020,1,1.000000\nNewCapacity,R,U,2020,2,2.000000\nend\n"
 unfolding escaped fields_text is_blank fraction_text millionths millionths_text digits
 direction_shown = refl

@@ -1,5 +1,5 @@
 -- The lines of a report. Each ends with a line feed.
-use Rattle.std.specs.Prelude.{ℕ, List, ◌++◌, codes, decimal}
+use Rattle.std.specs.Prelude.{ℕ, ◌==◌, List, [], ◌++◌, codes, decimal, if◌then◌else◌}
 use Rattle.exact_num.specs.Rational.{Rational}
 use Rattle.scaled_decimals.specs.PrintedFraction.{fraction_text}
 use Rattle.scaled_decimals.specs.PrintedPlaces.{places_text}
@@ -12,9 +12,13 @@ amount_line word x = word ++ codes " " ++ fraction_text x ++ codes " " ++ places
 abbrev pub count_line : List ℕ → ℕ → List ℕ
 count_line word n = word ++ codes " " ++ decimal n ++ codes "\n"
 
--- the numbers of pivots, and of numbers of the data that were rounded
-abbrev pub count_lines : ℕ → ℕ → List ℕ
-count_lines pivots rounded = count_line (codes "pivots") pivots ++ count_line (codes "rounded") rounded
+-- the number of decimal places of the written factors, where it isn't 6
+abbrev pub places_line : ℕ → List ℕ
+places_line places = if places == 6 then [] else count_line (codes "places") places
+
+-- the numbers of pivots, and of numbers of the data that were rounded, and the decimal places of the written factors
+abbrev pub count_lines : ℕ → ℕ → ℕ → List ℕ
+count_lines pivots rounded places = count_line (codes "pivots") pivots ++ (count_line (codes "rounded") rounded ++ places_line places)
 
 -- how a table begins
 abbrev pub heading : List ℕ → List ℕ

@@ -10,23 +10,23 @@ use Rattle.result_tables.specs.Lines.{amount_line, count_lines}
 use Rattle.result_tables.specs.Tables.{all_tables, direction_table, table_text}
 
 -- how the report of a solved model begins
-abbrev pub summary_text : Rational → Rational → ℕ → ℕ → List ℕ
-summary_text cost bound pivots rounded = codes "status solved\n" ++ amount_line (codes "cost") cost ++ amount_line (codes "bound") bound ++ count_lines pivots rounded
+abbrev pub summary_text : Rational → Rational → ℕ → ℕ → ℕ → List ℕ
+summary_text cost bound pivots rounded places = codes "status solved\n" ++ amount_line (codes "cost") cost ++ amount_line (codes "bound") bound ++ count_lines pivots rounded places
 
 -- the last line
 abbrev pub end_line : List ℕ
 end_line = codes "end\n"
 
 -- a solved model: its cost and bound, and the tables of the variables' values in the plan and of the prices by the multipliers
-abbrev pub report_text : SetLists → List Var → List (Var × Rational) → List Row → List (RowName × Rational) → Rational → Rational → ℕ → ℕ → List ℕ
-report_text sets vars plan rows multipliers cost bound pivots rounded =
-    summary_text cost bound pivots rounded ++ flat_map table_text (all_tables sets vars plan rows multipliers) ++ end_line
+abbrev pub report_text : SetLists → List Var → List (Var × Rational) → List Row → List (RowName × Rational) → Rational → Rational → ℕ → ℕ → ℕ → List ℕ
+report_text sets vars plan rows multipliers cost bound pivots rounded places =
+    summary_text cost bound pivots rounded places ++ flat_map table_text (all_tables sets vars plan rows multipliers) ++ end_line
 
 -- a model that has no plan
-abbrev pub infeasible_text : ℕ → ℕ → List ℕ
-infeasible_text pivots rounded = codes "status infeasible\n" ++ count_lines pivots rounded ++ end_line
+abbrev pub infeasible_text : ℕ → ℕ → ℕ → List ℕ
+infeasible_text pivots rounded places = codes "status infeasible\n" ++ count_lines pivots rounded places ++ end_line
 
 -- a model that has no bound: a direction in which the cost falls for ever
-abbrev pub unbounded_text : SetLists → List (Var × Rational) → ℕ → ℕ → List ℕ
-unbounded_text sets direction pivots rounded =
-    codes "status unbounded\n" ++ count_lines pivots rounded ++ table_text (direction_table sets direction) ++ end_line
+abbrev pub unbounded_text : SetLists → List (Var × Rational) → ℕ → ℕ → ℕ → List ℕ
+unbounded_text sets direction pivots rounded places =
+    codes "status unbounded\n" ++ count_lines pivots rounded places ++ table_text (direction_table sets direction) ++ end_line

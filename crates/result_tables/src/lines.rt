@@ -2,12 +2,15 @@
 
 ghost use Rattle.std.specs.Prelude.{◌≡◌, ◌++◌, OnOk};
 ghost use Rattle.exact_num.specs.Value.{value_of};
-ghost use Rattle.result_tables.specs.Lines.{amount_line, count_line, count_lines, heading};
+ghost use Rattle.result_tables.specs.Lines.{amount_line, count_line, count_lines, heading, places_line};
 
 use exact_num::Frac;
 use itoa::Buffer;
 use scaled_decimals::{push_frac, push_places};
 use std::alloc::AllocError;
+
+/// The decimal places of written factors that no report names.
+const USUAL_PLACES: u8 = 6;
 
 /// Appends a line of a word and a value, as a fraction and rounded to six decimal places.
 pub(crate) fn push_amount(out: &mut Vec<u8>, word: &[u8], value: Frac) -> Result<(), AllocError>
@@ -21,12 +24,29 @@ pub(crate) fn push_amount(out: &mut Vec<u8>, word: &[u8], value: Frac) -> Result
     out.extend_from_slice(b"\n")
 }
 
-/// Appends the lines of how many pivots were made, and of how many numbers of the data were rounded.
-pub(crate) fn push_counts(out: &mut Vec<u8>, pivots: u64, rounded: u64) -> Result<(), AllocError>
-    ensures { OnOk result (out.new.items ≡ out.old.items ++ count_lines pivots rounded) }
+/// Appends the lines of how many pivots were made, of how many numbers of the data were rounded, and of how many decimal places
+/// the written factors have, the last only where these aren't 6.
+pub(crate) fn push_counts(
+    out: &mut Vec<u8>,
+    pivots: u64,
+    rounded: u64,
+    places: u8,
+) -> Result<(), AllocError>
+    ensures { OnOk result (out.new.items ≡ out.old.items ++ count_lines pivots rounded places) }
 {
     push_count(out, b"pivots", pivots)?;
-    push_count(out, b"rounded", rounded)
+    push_count(out, b"rounded", rounded)?;
+    push_places_line(out, places)
+}
+
+// Appends the line of the decimal places of the written factors, where these aren't 6.
+fn push_places_line(out: &mut Vec<u8>, places: u8) -> Result<(), AllocError>
+    ensures { OnOk result (out.new.items ≡ out.old.items ++ places_line places) }
+{
+    if places == USUAL_PLACES {
+        return Ok(());
+    }
+    push_count(out, b"places", u64::from(places))
 }
 
 /// Appends the line that a table begins with.

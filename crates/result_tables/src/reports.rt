@@ -21,7 +21,7 @@ use row_core::{Multipliers, Plan, Row, Stopped, Var};
 use std::alloc::{AllocError, Global};
 
 /// The report of a solved model: the lines `status solved`, `cost` and `bound` (each as a fraction and rounded to six decimal
-/// places), `pivots` and `rounded`, then 13 tables, then `end`. A table is a line `table` with its name, and CSV records: of the first
+/// places), `pivots` and `rounded`, and `places` where the written factors haven't 6 decimal places, then 13 tables, then `end`. A table is a line `table` with its name, and CSV records: of the first
 /// twelve tables one for each of `vars` of a kind, in order, whose value in the plan isn't 0, with the members of its subscripts and
 /// its value as a fraction and as a decimal; of the last one in the same way for each balance of a fuel, EBa11, whose price isn't 0.
 /// The price is the multiplier of the row times the number that the row has at Production.
@@ -38,48 +38,55 @@ pub fn report(
     bound: Frac,
     pivots: u64,
     rounded: u64,
+    places: u8,
     sets: &Sets,
 ) -> Result<Vec<u8>, Stopped>
     requires rows { AllByRecursion (IsListedRow sets.now) (map name_of_row rows.now) }
     requires vars { AllByRecursion (IsListedVariable sets.now) vars.now }
-    ensures text { IfOk result (λ text. text.items ≡ report_text sets.now vars.now plan.now rows.now multipliers.now (value_of cost) (value_of bound) pivots rounded) }
+    ensures text { IfOk result (λ text. text.items ≡ report_text sets.now vars.now plan.now rows.now multipliers.now (value_of cost) (value_of bound) pivots rounded places) }
     ensures fits { OnOk result (first_wide (price_steps rows.now multipliers.now) ≡ None) }
     ensures stopped { IfErr result (IsFirstStop (price_steps rows.now multipliers.now)) }
 {
     let mut out = Vec::new(alloc);
-    push_summary(&mut out, cost, bound, pivots, rounded)?;
+    push_summary(&mut out, cost, bound, pivots, rounded, places)?;
     push_kind_tables(alloc, &mut out, sets, vars, plan)?;
     push_price_table(alloc, &mut out, sets, rows, multipliers)?;
     push_end(&mut out)?;
     Ok(out)
 }
 
-/// The report of a model that has no plan: the lines `status infeasible`, `pivots`, `rounded` and `end`. Refuses where memory runs
-/// out.
-pub fn infeasible_report(alloc: Global, pivots: u64, rounded: u64) -> Result<Vec<u8>, AllocError>
-    ensures { IfOk result (λ text. text.items ≡ infeasible_text pivots rounded) }
+/// The report of a model that has no plan: the lines `status infeasible`, `pivots`, `rounded`, `places` where the written factors
+/// haven't 6 decimal places, and `end`. Refuses where memory runs out.
+pub fn infeasible_report(
+    alloc: Global,
+    pivots: u64,
+    rounded: u64,
+    places: u8,
+) -> Result<Vec<u8>, AllocError>
+    ensures { IfOk result (λ text. text.items ≡ infeasible_text pivots rounded places) }
 {
     let mut out = Vec::from_slice(alloc, b"status infeasible\n")?;
-    push_counts(&mut out, pivots, rounded)?;
+    push_counts(&mut out, pivots, rounded, places)?;
     push_end(&mut out)?;
     Ok(out)
 }
 
-/// The report of a model whose cost has no bound: the lines `status unbounded`, `pivots` and `rounded`, the table Direction, and
-/// `end`. The table has a record for each RateOfActivity, NewCapacity and Trade, in order, whose value in the direction isn't 0: its
+/// The report of a model whose cost has no bound: the lines `status unbounded`, `pivots`, `rounded`, and `places` where the
+/// written factors haven't 6 decimal places, the table Direction, and `end`. The table has a record for each RateOfActivity, NewCapacity and Trade, in order, whose value in the direction isn't 0: its
 /// word, the members of its subscripts, and its value as a fraction and rounded to six decimal places. Refuses where memory runs out.
 pub fn unbounded_report(
     alloc: Global,
     direction: &Plan,
     pivots: u64,
     rounded: u64,
+    places: u8,
     sets: &Sets,
 ) -> Result<Vec<u8>, AllocError>
     requires { AllByRecursion (λ e. IsKind e.0.kind × VariableIsWithin sets.now e.0) direction.now }
-    ensures { IfOk result (λ text. text.items ≡ unbounded_text sets.now direction.now pivots rounded) }
+    ensures { IfOk result (λ text. text.items ≡ unbounded_text sets.now direction.now pivots rounded places) }
 {
     let mut out = Vec::from_slice(alloc, b"status unbounded\n")?;
-    push_counts(&mut out, pivots, rounded)?;
+    push_counts(&mut out, pivots, rounded, places)?;
     push_direction_table(alloc, &mut out, sets, direction)?;
     push_end(&mut out)?;
     Ok(out)
@@ -92,13 +99,14 @@ fn push_summary(
     bound: Frac,
     pivots: u64,
     rounded: u64,
+    places: u8,
 ) -> Result<(), AllocError>
-    ensures { OnOk result (out.new.items ≡ out.old.items ++ summary_text (value_of cost) (value_of bound) pivots rounded) }
+    ensures { OnOk result (out.new.items ≡ out.old.items ++ summary_text (value_of cost) (value_of bound) pivots rounded places) }
 {
     out.extend_from_slice(b"status solved\n")?;
     push_amount(out, b"cost", cost)?;
     push_amount(out, b"bound", bound)?;
-    push_counts(out, pivots, rounded)
+    push_counts(out, pivots, rounded, places)
 }
 
 // Appends the last line.

@@ -41,7 +41,7 @@ pub(crate) fn call_over(
 }
 
 /// A call over this shelf.
-fn call_on(
+pub(crate) fn call_on(
     alloc: Global,
     words: &[&str],
     shelf: &mut MemShelf,

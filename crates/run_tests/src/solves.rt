@@ -5,7 +5,7 @@ use data_tests::section;
 use std::test::Fail;
 
 /// The words that ask for a report, and for the file of a plan with so few pivots that the method doesn't end.
-const SOLVE: &[&str] = &["solve", "model.dat"];
+pub(crate) const SOLVE: &[&str] = &["solve", "model.dat"];
 
 const FEW_PIVOTS: &[&str] = &["solve", "model.dat", "--pivots", "2", "--show", "plan"];
 
@@ -13,7 +13,7 @@ const FEW_PIVOTS: &[&str] = &["solve", "model.dat", "--pivots", "2", "--show", "
 const MULTIPLIERS: &[&str] = &["solve", "model.dat", "--show", "multipliers"];
 
 /// The report of the base example: 10 units of capacity and activity, each 5 and 3.
-const BASE_REPORT: &str = "status solved
+pub(crate) const BASE_REPORT: &str = "status solved
 cost 80 80.000000
 bound 80 80.000000
 pivots 3

@@ -2,3 +2,5 @@ pub mod ChoiceLaws
 pub mod StepLaws
 pub mod ValueLaws
 pub mod OutcomeLaws
+pub mod QuotientLaws
+pub mod EnteringExamples

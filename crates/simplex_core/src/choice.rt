@@ -1,6 +1,8 @@
 //! Which column enters, and which row leaves.
 
-ghost use Rattle.std.specs.Prelude.{◌≡◌, ◌<◌, ◌≤◌, ◌+◌, None, pos, length, IfSome, if◌then◌else◌, nat_lt};
+ghost use Rattle.std.specs.Prelude.{◌≡◌, ◌<◌, ◌≤◌, ◌+◌, ◌^◌, ◌*ℤ◌, unsigned_abs, None, pos, length, IfSome, if◌then◌else◌, nat_lt};
+ghost use Rattle.exact_num.specs.Range.{InRange};
+ghost use Rattle.exact_num.specs.Rational.{lowest, order_of};
 ghost use Rattle.written_method.specs.Choices.{better, first_positive_from, greatest_from, least_right_from, leaves_before, leaving_from, rank_of};
 ghost use Rattle.written_method.specs.Rounds.{right_sides};
 ghost use Rattle.written_method.specs.Tableaus.{line_of};
@@ -8,7 +10,7 @@ ghost use Rattle.simplex_core.specs.Views.{candidate_seen, chosen_seen, row_of_c
 
 use crate::candidate::Candidate;
 use exact_num::{cmp_frac, ratio};
-use int_tableau::Tableau;
+use int_tableau::{Tableau, is_narrow};
 use std::cmp::Ordering;
 
 /// How many degenerate pivots may follow one another before the first column that can enter is taken.
@@ -62,11 +64,33 @@ pub(crate) fn entering(tableau: &Tableau, row: usize, degenerate: u64) -> Option
     }
 }
 
+/// The product of two numbers of 64 bits.
+fn product(a: i128, b: i128) -> i128
+    requires left { unsigned_abs a < 2 ^ 63 }
+    requires right { unsigned_abs b < 2 ^ 63 }
+    ensures value { result ≡ a *ℤ b }
+    ensures range { InRange result }
+{
+    a * b
+}
+
+/// How the quotients of right side and entry of two rows stand to each other. Where all four numbers have 64 bits, their products
+/// say it sooner than fractions in lowest terms do.
+fn order_of_quotients(a: Candidate, b: Candidate) -> Ordering
+    ensures { result ≡ order_of (lowest a.right a.entry) (lowest b.right b.entry) }
+{
+    if is_narrow(a.right) && is_narrow(a.entry) && is_narrow(b.right) && is_narrow(b.entry) {
+        product(a.right, b.entry).cmp(&product(b.right, a.entry))
+    } else {
+        cmp_frac(ratio(a.right, a.entry), ratio(b.right, b.entry))
+    }
+}
+
 /// Whether a row leaves before another.
 fn is_before(a: Candidate, b: Candidate) -> bool
     ensures { result ≡ leaves_before (candidate_seen a) (candidate_seen b) }
 {
-    match cmp_frac(ratio(a.right, a.entry), ratio(b.right, b.entry)) {
+    match order_of_quotients(a, b) {
         Ordering::Less => true,
         Ordering::Equal => a.rank < b.rank,
         Ordering::Greater => false,

@@ -12,7 +12,7 @@ use std::alloc::Global;
 
 /// Solves what is left of the rows of a book: that every book's program meets what `solve` asks for, and that each end then proves
 /// what it says.
-pub fn solve_book(
+pub fn solve_program(
     alloc: Global,
     book: &RowBook,
     program: &BookProgram,

@@ -1,9 +1,9 @@
 //! Data files to the end of the simplex.
 
 use crate::answers::bound_of;
-use crate::books::solve_book;
+use crate::books::solve_program;
 use crate::seven_years::SEVEN_YEARS;
-use exact_solver::eliminate_book;
+use exact_solver::{Solution, eliminate_book, size_of, solve_book};
 use mathprog_data::read_blocks;
 use param_tables::{build, sets_of};
 use row_book::RowBook;
@@ -34,7 +34,7 @@ fn seven_years_cost_what_another_solver_says(rt: HostRuntime) -> Result<(), Fail
     };
     assert_eq!(rt; program.reduced.rows.len(), 255);
     assert_eq!(rt; program.reduced.columns.len(), 150);
-    let Ok(end) = solve_book(rt.alloc(), &book, &program, 1000) else {
+    let Ok(end) = solve_program(rt.alloc(), &book, &program, 1000) else {
         return Err(Fail::from("no end"));
     };
     let End::Optimal { lambda, pivots, .. } = end else {
@@ -46,5 +46,26 @@ fn seven_years_cost_what_another_solver_says(rt: HostRuntime) -> Result<(), Fail
     };
     assert_eq!(rt; bound.num, 431_377_048_525_887);
     assert_eq!(rt; bound.den, 125_000_000_000);
+    Ok(())
+}
+
+#[test]
+fn seven_years_are_solved_and_checked(rt: HostRuntime) -> Result<(), Fail> {
+    let book = book_of(&rt, rt.alloc(), SEVEN_YEARS)?;
+    let size = size_of(&book);
+    assert!(rt; size.rows == 280 && size.columns == 150);
+    let Ok(Solution::Optimal {
+        cost,
+        bound,
+        pivots,
+        ..
+    }) = solve_book(rt.alloc(), &book, 1000)
+    else {
+        return Err(Fail::from("no optimum"));
+    };
+    assert_eq!(rt; pivots, 273);
+    assert_eq!(rt; cost.num, 431_377_048_525_887);
+    assert_eq!(rt; cost.den, 125_000_000_000);
+    assert_eq!(rt; bound, cost);
     Ok(())
 }

@@ -4,7 +4,7 @@
 
 mod books;
 
-pub use books::solve_book;
+pub use books::solve_program;
 
 #[cfg(test)]
 mod answers;

@@ -8,10 +8,10 @@ use std::test::Fail;
 
 #[test]
 fn a_model_without_a_plan_has_no_tables(rt: HostRuntime) -> Result<(), Fail> {
-    let text = infeasible_report(rt.alloc(), 3, 0)?;
+    let text = infeasible_report(rt.alloc(), 3, 0, 9)?;
     assert_eq!(&rt;
         text.as_slice(),
-        b"status infeasible\npivots 3\nrounded 0\nend\n".as_slice()
+        b"status infeasible\npivots 3\nrounded 0\nplaces 9\nend\n".as_slice()
     );
     Ok(())
 }
@@ -27,7 +27,7 @@ fn a_direction_is_shown_by_its_chosen_variables(rt: HostRuntime) -> Result<(), F
         (CAPACITY, ratio(1, 8)),
         (TOTAL_CAPACITY, ratio(1, 8)),
     ]?);
-    let text = unbounded_report(rt.alloc(), &direction, 3, 1, &sets)?;
+    let text = unbounded_report(rt.alloc(), &direction, 3, 1, 6, &sets)?;
     assert_eq!(&rt;
         text.as_slice(),
         b"status unbounded\n\

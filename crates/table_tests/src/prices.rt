@@ -23,6 +23,7 @@ fn priced(alloc: Global, multiplier: i128, number: i128) -> Result<Vec<u8>, Stop
         whole(1),
         0,
         0,
+        6,
         &sets,
     )
 }

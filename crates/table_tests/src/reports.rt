@@ -109,6 +109,7 @@ fn the_report_of_a_small_model_is_the_one_worked_by_hand(rt: HostRuntime) -> Res
         whole(80),
         3,
         0,
+        6,
         &sets,
     ) else {
         assert!(&rt; false);
@@ -148,6 +149,7 @@ fn members_are_quoted_and_ties_are_rounded_away_from_0(rt: HostRuntime) -> Resul
         ratio(-2, 3),
         20_000,
         18_446_744_073_709_551_615,
+        6,
         &sets,
     ) else {
         assert!(&rt; false);

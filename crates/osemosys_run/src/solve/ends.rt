@@ -18,7 +18,8 @@ use row_book::RowBook;
 use row_core::Stopped;
 use std::alloc::{AllocError, Global};
 
-/// The answer for a solution of a book, of data of which so many numbers were rounded.
+/// The answer for a solution of a book, of data of which so many numbers were rounded, and with written factors of so many decimal
+/// places.
 pub fn answer_solution(
     alloc: Global,
     book: &RowBook,
@@ -26,13 +27,14 @@ pub fn answer_solution(
     solution: &Solution,
     show: Shown,
     rounded: u64,
+    places: u8,
 ) -> Result<Answer, AllocError>
     requires listed { IsListedBook sets.now book.now.rows book.now.vars }
     requires complete { IsComplete book.now.vars solution.now }
     requires named { IsNamed book.now.rows solution.now }
-    ensures { IfOk result (λ answer. TellsSolution sets.now book.now.rows book.now.vars show rounded solution.now answer.status answer.text.items) }
+    ensures { IfOk result (λ answer. TellsSolution sets.now book.now.rows book.now.vars show rounded places solution.now answer.status answer.text.items) }
 {
-    match solution_text(alloc, book, sets, solution, show, rounded) {
+    match solution_text(alloc, book, sets, solution, show, rounded, places) {
         Ok(text) => {
             let status = status_of(solution);
             Ok(Answer { status, text })

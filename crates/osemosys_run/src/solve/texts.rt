@@ -1,4 +1,4 @@
-// What is shown of a solution: a report, its plan or its multipliers.
+// What is shown of a solution: a report, its plan, its multipliers or a few lines.
 ghost use Rattle.std.specs.Prelude.{◌≡◌, [], IfErr, IfOk, OnOk};
 ghost use Rattle.exact_num.specs.Value.{value_of};
 ghost use Rattle.exact_solver.specs.Solutions.{IsComplete, IsNamed};
@@ -19,10 +19,10 @@ use row_book::RowBook;
 use row_core::{Multipliers, Plan, Stopped};
 use std::alloc::{AllocError, Global};
 
-/// The text of what is to be shown of a solution of a book, of data of which so many numbers were rounded. A file of a plan or of
-/// multipliers that there aren't is its header alone.
+/// The text of what is to be shown of a solution of a book, of data of which so many numbers were rounded, and with written factors
+/// of so many decimal places. A file of a plan or of multipliers that there aren't is its header alone.
 ///
-/// `Width` comes exactly where a report is to be shown and a number that is formed for a price doesn't fit.
+/// `Width` comes exactly where a report, or a summary of it, is to be shown and a number that is formed for a price doesn't fit.
 pub fn solution_text(
     alloc: Global,
     book: &RowBook,
@@ -30,19 +30,20 @@ pub fn solution_text(
     solution: &Solution,
     show: Shown,
     rounded: u64,
+    places: u8,
 ) -> Result<Vec<u8>, Stopped>
     requires listed { IsListedBook sets.now book.now.rows book.now.vars }
     requires complete { IsComplete book.now.vars solution.now }
     requires named { IsNamed book.now.rows solution.now }
-    ensures text { IfOk result (λ text. text.items ≡ solution_shown show sets.now book.now.rows book.now.vars rounded solution.now) }
+    ensures text { IfOk result (λ text. text.items ≡ solution_shown show sets.now book.now.rows book.now.vars rounded places solution.now) }
     ensures fits { OnOk result (PricesFitIn show book.now.rows solution.now) }
     ensures stopped { IfErr result (PricesAreStopped show book.now.rows solution.now) }
 {
     match show {
-        Shown::Report => report_of(alloc, book, sets, solution, rounded),
+        Shown::Report => report_of(alloc, book, sets, solution, rounded, places),
         Shown::Plan => Ok(plan_of(alloc, book, sets, solution)?),
         Shown::Multipliers => Ok(multipliers_of(alloc, book, sets, solution)?),
-        Shown::Summary => summary_of(alloc, book, sets, solution, rounded),
+        Shown::Summary => summary_of(alloc, book, sets, solution, rounded, places),
     }
 }
 
@@ -53,10 +54,11 @@ fn report_of(
     sets: &Sets,
     solution: &Solution,
     rounded: u64,
+    places: u8,
 ) -> Result<Vec<u8>, Stopped>
     requires listed { IsListedBook sets.now book.now.rows book.now.vars }
     requires complete { IsComplete book.now.vars solution.now }
-    ensures text { IfOk result (λ text. text.items ≡ report_shown sets.now book.now.rows book.now.vars rounded solution.now) }
+    ensures text { IfOk result (λ text. text.items ≡ report_shown sets.now book.now.rows book.now.vars rounded places solution.now) }
     ensures fits { OnOk result (PricesFitIn shows.Report book.now.rows solution.now) }
     ensures stopped { IfErr result (PricesAreStopped shows.Report book.now.rows solution.now) }
 {
@@ -77,14 +79,17 @@ fn report_of(
             *bound,
             *pivots,
             rounded,
+            places,
             sets,
         ),
-        Solution::Infeasible { pivots, .. } => Ok(infeasible_report(alloc, *pivots, rounded)?),
+        Solution::Infeasible { pivots, .. } => Ok(infeasible_report(
+            alloc, *pivots, rounded, places,
+        )?),
         Solution::Unbounded {
             direction,
             pivots,
             ..
-        } => Ok(unbounded_report(alloc, direction, *pivots, rounded, sets)?),
+        } => Ok(unbounded_report(alloc, direction, *pivots, rounded, places, sets)?),
     }
 }
 
@@ -95,6 +100,7 @@ fn summary_of(
     sets: &Sets,
     solution: &Solution,
     rounded: u64,
+    places: u8,
 ) -> Result<Vec<u8>, Stopped>
     requires listed { IsListedBook sets.now book.now.rows book.now.vars }
     requires complete { IsComplete book.now.vars solution.now }
@@ -102,7 +108,7 @@ fn summary_of(
     ensures fits { OnOk result (PricesFitIn shows.Summary book.now.rows solution.now) }
     ensures stopped { IfErr result (PricesAreStopped shows.Summary book.now.rows solution.now) }
 {
-    let _report = report_of(alloc, book, sets, solution, rounded)?;
+    let _report = report_of(alloc, book, sets, solution, rounded, places)?;
     Ok(summary_text(alloc, solution)?)
 }
 
@@ -123,7 +129,12 @@ fn summary_text(alloc: Global, solution: &Solution) -> Result<Vec<u8>, AllocErro
 }
 
 // The lines of an optimum.
-fn solved_lines(alloc: Global, cost: Frac, bound: Frac, pivots: u64) -> Result<Vec<u8>, AllocError>
+fn solved_lines(
+    alloc: Global,
+    cost: Frac,
+    bound: Frac,
+    pivots: u64,
+) -> Result<Vec<u8>, AllocError>
     ensures { IfOk result (λ text. text.items ≡ solved_lines (value_of cost) (value_of bound) pivots) }
 {
     let mut text = Vec::from_slice(alloc, b"status solved\n")?;

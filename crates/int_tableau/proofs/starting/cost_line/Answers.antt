@@ -1,6 +1,7 @@
 -- The entries that are pushed are those of the line of z.
 use Rattle.std.proofs.Common.{◌≡◌, ◌+◌, ◌++◌, ℕ, ℤ, true, List, [], length, map, sym, ap, ap₂, ◌∙◌, subst, add_assoc, to_z, of_z, if◌then◌else◌}
 use Rattle.std.specs.Int.{w128}
+use Rattle.std.proofs.lemmas.Result.{IfOk-weaker}
 use Rattle.exact_num.specs.Range.{InRange}
 use Rattle.exact_num.proofs.RangeLaws.{back_in_range}
 use Rattle.row_core.specs.declared.Sense.TheVariants.{Most}
@@ -35,7 +36,7 @@ new-requires c =
     let entries = made layout.places.items vs c.deref.result.now reduced.cost.items c.in_ok-entries.entries.items c.push_variables.new.entries.items c.in_ok-entries.ensures.items c.deref.ensures.value c.in_ok-push_variables.ensures.pushed layout.placed c.requires.variables in
     let columns : c.columns.result ≡ width_of vs + more = c.columns.ensures ∙ add_assoc layout.width layout.rows (if layout.artificial then 1 else 0) ∙ ap (λ w. w + more) (layout.width_is ∙ ap (λ (ws : List Var). width_of ws) c.requires.variables) in
     record {
-      entries_sparse = subst (IsSparse 0 c.columns.result) (sym entries)
+      entries_sparse = subst (IsSparse 0 c.columns.result) (sym (c.deref-2.ensures.value ∙ entries))
           (subst (λ n. IsSparse 0 n (column_entries Most (placed 0 vs) reduced.cost.items)) (sym columns) (cost_entries-IsSparse vs more reduced.cost.items up c.requires.ascending c.requires.fits));
       right_fits = subst InRange (sym (back_in_range reduced.cost_rhs c.requires.right_fits)) c.requires.right_fits;
       own_fits = subst InRange (sym (back_in_range reduced.cost_own c.requires.own_fits)) c.requires.own_fits;
@@ -51,7 +52,7 @@ returns c =
     let rows : layout.rows ≡ length (map inequality_of reduced.rows.items) = c.requires.rows ∙ sym (length-mapped inequality_of reduced.rows.items) in
     let columns : c.columns.result ≡ width_of vs + length (map inequality_of reduced.rows.items) + (if layout.artificial then 1 else 0) =
     c.columns.ensures ∙ ap₂ (λ w n. w + n + (if layout.artificial then 1 else 0)) (layout.width_is ∙ ap (λ (ws : List Var). width_of ws) c.requires.variables) rows in
-    c.new.ensures
-    ∙ ap₂ {C = Line} (λ n (es : List (ℕ × ℤ)). line_seen n es (to_z w128 (of_z w128 reduced.cost_rhs)) (to_z w128 (of_z w128 reduced.cost_own))) columns entries
+    IfOk-weaker c.new.result _ _ (λ l e. e
+    ∙ ap₂ {C = Line} (λ n (es : List (ℕ × ℤ)). line_seen n es (to_z w128 (of_z w128 reduced.cost_rhs)) (to_z w128 (of_z w128 reduced.cost_own))) columns (c.deref-2.ensures.value ∙ entries)
     ∙ ap₂ {C = Line} (λ r o. line_seen (width_of vs + length (map inequality_of reduced.rows.items) + (if layout.artificial then 1 else 0)) (column_entries Most (placed 0 vs) reduced.cost.items) r o) (back_in_range reduced.cost_rhs c.requires.right_fits) (back_in_range reduced.cost_own c.requires.own_fits)
-    ∙ cost_line-seen (program_of reduced) layout.artificial up c.requires.ascending c.requires.fits
+    ∙ cost_line-seen (program_of reduced) layout.artificial up c.requires.ascending c.requires.fits) c.new.ensures

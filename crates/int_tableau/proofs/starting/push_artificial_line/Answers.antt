@@ -21,8 +21,8 @@ returns-in_ok-push c = record {
       ∙ ap (λ (es : List (ℕ × ℤ)). es ++ x0_column layout.artificial (layout.width + layout.rows)) c.in_ok-entries.ensures.items
       ∙ ap (λ t. x0_column t (layout.width + layout.rows)) there
       ∙ ap₂ (λ w n. (w + n, negsuc 0) ∷ []) width (sym rows) in
-      let line : c.new.result ≡ artificial_line p =
-      c.new.ensures ∙ ap₂ {C = Line} (λ n (es : List (ℕ × ℤ)). line_seen n es (pos 0) (pos 1)) columns entries ∙ artificial_line-seen p in
+      let line : c.in_ok-new.field-0 ≡ artificial_line p =
+      c.in_ok-new.ensures ∙ ap₂ {C = Line} (λ n (es : List (ℕ × ℤ)). line_seen n es (pos 0) (pos 1)) columns (c.deref.ensures.value ∙ entries) ∙ artificial_line-seen p in
       c.in_ok-push.ensures.items
       ∙ ap (λ (l : Line). c.args.lines.now.items ++ l ∷ []) line
       ∙ ap (λ t. c.args.lines.now.items ++ (if t then (artificial_line p ∷ []) else [])) (sym there);

@@ -2,6 +2,7 @@
 use Rattle.std.proofs.Common.{◌≡◌, ◌+◌, ◌++◌, ℕ, ℤ, pos, Bool, List, [], ◌∷◌, sym, ap, ap₂, ◌∙◌, subst, to_z, of_z, lit<, if◌then◌else◌}
 use Rattle.std.specs.Int.{w128}
 use Rattle.std.proofs.lemmas.List.{append_assoc}
+use Rattle.std.proofs.lemmas.Result.{IfOk-weaker}
 use Rattle.exact_num.specs.Range.{InRange, all_fit}
 use Rattle.exact_num.proofs.RangeLaws.{back_in_range}
 use Rattle.row_core.specs.declared.Sense.{Sense}
@@ -39,7 +40,7 @@ new-requires c =
     c.in_ok-entries.ensures.items c.deref.ensures.value c.in_ok-push_variables.ensures.pushed c.in_ok-push.ensures.items c.in_ok-push_x0.ensures.pushed layout.placed layout.width_is in
     let columns : c.columns.result ≡ width_of vs + layout.rows + (if layout.artificial then 1 else 0) = c.columns.ensures ∙ ap (λ w. w + layout.rows + (if layout.artificial then 1 else 0)) layout.width_is in
     record {
-      entries_sparse = subst (IsSparse 0 c.columns.result) (sym entries)
+      entries_sparse = subst (IsSparse 0 c.columns.result) (sym (c.deref-2.ensures.value ∙ entries))
           (subst (λ n. IsSparse 0 n (column_entries row.sense (placed 0 vs) row.entries.items ++ ((width_of vs + c.args.position, pos 1) ∷ x0_column layout.artificial (width_of vs + layout.rows)))) (sym columns)
           (row_entries-IsSparse vs layout.artificial layout.rows c.args.position row.sense row.entries.items c.requires layout.ascending row.ascending (row_fits row)));
       right_fits = subst InRange (sym (back_in_range c.as_most.result c.as_most.ensures.range)) c.as_most.ensures.range;
@@ -55,7 +56,7 @@ returns c =
     c.in_ok-entries.ensures.items c.deref.ensures.value c.in_ok-push_variables.ensures.pushed c.in_ok-push.ensures.items c.in_ok-push_x0.ensures.pushed layout.placed layout.width_is in
     let columns : c.columns.result ≡ width_of vs + layout.rows + (if layout.artificial then 1 else 0) = c.columns.ensures ∙ ap (λ w. w + layout.rows + (if layout.artificial then 1 else 0)) layout.width_is in
     let right : to_z w128 (of_z w128 c.as_most.result) ≡ as_most row.sense row.rhs = back_in_range c.as_most.result c.as_most.ensures.range ∙ c.as_most.ensures.value ∙ ap (as_most row.sense) (back_in_range row.rhs (rhs_fits row)) in
-    c.new.ensures
-    ∙ ap₂ {C = Line} (λ n (es : List (ℕ × ℤ)). line_seen n es (to_z w128 (of_z w128 c.as_most.result)) (pos 0)) columns entries
+    IfOk-weaker c.new.result _ _ (λ l e. e
+    ∙ ap₂ {C = Line} (λ n (es : List (ℕ × ℤ)). line_seen n es (to_z w128 (of_z w128 c.as_most.result)) (pos 0)) columns (c.deref-2.ensures.value ∙ entries)
     ∙ ap {B = Line} (λ z. line_seen (width_of vs + layout.rows + (if layout.artificial then 1 else 0)) (column_entries row.sense (placed 0 vs) row.entries.items ++ ((width_of vs + c.args.position, pos 1) ∷ x0_column layout.artificial (width_of vs + layout.rows))) z (pos 0)) right
-    ∙ row_line-seen vs layout.artificial layout.rows c.args.position (inequality_of row) c.requires layout.ascending row.ascending (row_fits row)
+    ∙ row_line-seen vs layout.artificial layout.rows c.args.position (inequality_of row) c.requires layout.ascending row.ascending (row_fits row)) c.new.ensures

@@ -19,7 +19,8 @@ within-limits : (r c rows columns : ℕ) → r ≡ rows → c ≡ columns → r 
 within-limits r c rows columns er ec few_rows few_columns = (subst (λ n. n ≤ most_rows) er few_rows, subst (λ n. n ≤ most_columns) ec few_columns)
 
 pub returns-then-size-gt-MOST_ROWS : goal.returns-then-size-gt-MOST_ROWS
-returns-then-size-gt-MOST_ROWS c = λ places d same book.
+returns-then-size-gt-MOST_ROWS c = λ d same book.
+    let places = c.args.places in
     let rows = c.args.book.now.rows in
     let are = vars-are places d rows c.args.book.now.vars book in
     let size = c.size_of-size.ensures in
@@ -37,7 +38,8 @@ returns-then-size-gt-MOST_ROWS c = λ places d same book.
     c.refuse_size.ensures
 
 pub returns-in-Ok : goal.returns-in-Ok
-returns-in-Ok c = λ places d same book.
+returns-in-Ok c = λ d same book.
+    let places = c.args.places in
     let rows = c.args.book.now.rows in
     let vars = c.args.book.now.vars in
     let wanted = c.args.wanted in
@@ -53,7 +55,8 @@ returns-in-Ok c = λ places d same book.
     c.answer_solution.ensures
 
 pub returns-in-Err : goal.returns-in-Err
-returns-in-Err c = λ places d same book.
+returns-in-Err c = λ d same book.
+    let places = c.args.places in
     let rows = c.args.book.now.rows in
     let vars = c.args.book.now.vars in
     let wanted = c.args.wanted in

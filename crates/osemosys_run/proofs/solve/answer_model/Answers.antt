@@ -26,7 +26,7 @@ returns-in-Ok c =
       are_rows = made.rows;
       due = subst (λ rounded. DueForRows c.args.places d rows wanted.gap wanted.pivots wanted.show rounded answer.status answer.text.items) c.rounded.ensures due;
     }))
-    (c.answer_book.ensures c.args.places d c.sets.ensures.sets book)
+    (c.answer_book.ensures d c.sets.ensures.sets book)
 
 pub returns-in-Err : goal.returns-in-Err
 returns-in-Err c =

@@ -4,11 +4,12 @@ use Rattle.osemosys_run.proofs.OutcomeLaws.{vars-are}
 use Rattle.osemosys_run.proofs.summary.summarize_book.Goals as goal
 
 pub returns : goal.returns
-returns c = λ places d same book.
+returns c = λ d same book.
+    let places = c.args.places in
     let rows = c.args.book.now.rows in
     let rest = c.in_ok-answer.answer.text.items in
     let counts = c.in_ok-text.ensures ∙ ap (counts_text rows) (vars-are places d rows c.args.book.now.vars book) in (
       rest,
-      c.in_ok-answer.ensures places d same book,
+      c.in_ok-answer.ensures d same book,
       c.in_ok-extend_from_slice.ensures.items ∙ ap₂ (λ before more. before ++ more) counts c.deref.ensures.value,
     )

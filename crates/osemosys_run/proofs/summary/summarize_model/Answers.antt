@@ -25,7 +25,7 @@ returns-in-Ok c =
       are_rows = made.rows;
       due = subst (λ rounded. DueAfterCounts c.args.places d rows rounded answer.status answer.text.items) c.rounded.ensures due;
     }))
-    (c.summarize_book.ensures c.args.places d c.sets.ensures.sets book)
+    (c.summarize_book.ensures d c.sets.ensures.sets book)
 
 pub returns-in-Err : goal.returns-in-Err
 returns-in-Err c =

@@ -16,12 +16,12 @@ returns-in_err-subtract-clause-stopped c =
     let p_fits : InRange p = subst InRange (sym c.entry-p.ensures.value) c.entry-p.ensures.range in
     let q_fits : InRange q = subst InRange (sym c.entry-q.ensures.value) c.entry-q.ensures.range in
     let some : q ≢ pos 0 = λ e. c.if-q-ne0.true (ap (λ w. of_z w128 w) e) in
-    let x : to_z w128 (of_z w128 c.factor.result) ≡ factor_of p q = back_in_range c.factor.result c.factor.ensures.range ∙ c.factor.ensures.value ∙ ap₂ factor_of (back_in_range p p_fits) (back_in_range q q_fits) in
-    let y : to_z w128 (of_z w128 c.factor-then-q-ne0.result) ≡ factor_of q p = back_in_range c.factor-then-q-ne0.result c.factor-then-q-ne0.ensures.range ∙ c.factor-then-q-ne0.ensures.value ∙ ap₂ factor_of (back_in_range q q_fits) (back_in_range p p_fits) in
-    let formed : all_fit (cleared_formed c.args.column c.args.pivot.now c.args.self.now) ≡ all_fit (all_less_formed (to_z w128 (of_z w128 c.factor.result)) (to_z w128 (of_z w128 c.factor-then-q-ne0.result)) (numbers_of c.args.self.now) (numbers_of c.args.pivot.now)) =
+    let x : to_z w128 (of_z w128 c.factors-a.result.0) ≡ factor_of p q = back_in_range c.factors-a.result.0 c.factors-a.ensures.first_range ∙ c.factors-a.ensures.first ∙ ap₂ factor_of (back_in_range p p_fits) (back_in_range q q_fits) in
+    let y : to_z w128 (of_z w128 c.factors-a.result.1) ≡ factor_of q p = back_in_range c.factors-a.result.1 c.factors-a.ensures.second_range ∙ c.factors-a.ensures.second ∙ ap₂ (λ s t. factor_of t s) (back_in_range p p_fits) (back_in_range q q_fits) in
+    let formed : all_fit (cleared_formed c.args.column c.args.pivot.now c.args.self.now) ≡ all_fit (all_less_formed (to_z w128 (of_z w128 c.factors-a.result.0)) (to_z w128 (of_z w128 c.factors-a.result.1)) (numbers_of c.args.self.now) (numbers_of c.args.pivot.now)) =
     ap all_fit (cleared_formed-some c.args.column c.args.pivot.now c.args.self.now p q c.entry-p.ensures.value c.entry-q.ensures.value some)
     ∙ ap₂ (λ s t. all_fit (all_less_formed s t (numbers_of c.args.self.now) (numbers_of c.args.pivot.now))) (sym x) (sym y) in
-    let some_fit : Bool = all_fit (all_less_formed (to_z w128 (of_z w128 c.factor.result)) (to_z w128 (of_z w128 c.factor-then-q-ne0.result)) (numbers_of c.args.self.now) (numbers_of c.args.pivot.now)) in
+    let some_fit : Bool = all_fit (all_less_formed (to_z w128 (of_z w128 c.factors-a.result.0)) (to_z w128 (of_z w128 c.factors-a.result.1)) (numbers_of c.args.self.now) (numbers_of c.args.pivot.now)) in
     let stop = refused-more some_fit (all_fit (cleared_formed c.args.column c.args.pivot.now c.args.self.now)) c.in_err-subtract.field-0.0 (λ w. formed ∙ w) c.in_err-subtract.ensures.stopped in
     let e = err_from_is_err_and c.from_residual.result c.from_residual.ensures.1 in
     rw (e.1, e.2) stop
@@ -33,8 +33,8 @@ returns-in_ok-subtract-clause-value c =
     let p_fits : InRange p = subst InRange (sym c.entry-p.ensures.value) c.entry-p.ensures.range in
     let q_fits : InRange q = subst InRange (sym c.entry-q.ensures.value) c.entry-q.ensures.range in
     let some : q ≢ pos 0 = λ e. c.if-q-ne0.true (ap (λ w. of_z w128 w) e) in
-    let x : to_z w128 (of_z w128 c.factor.result) ≡ factor_of p q = back_in_range c.factor.result c.factor.ensures.range ∙ c.factor.ensures.value ∙ ap₂ factor_of (back_in_range p p_fits) (back_in_range q q_fits) in
-    let y : to_z w128 (of_z w128 c.factor-then-q-ne0.result) ≡ factor_of q p = back_in_range c.factor-then-q-ne0.result c.factor-then-q-ne0.ensures.range ∙ c.factor-then-q-ne0.ensures.value ∙ ap₂ factor_of (back_in_range q q_fits) (back_in_range p p_fits) in
+    let x : to_z w128 (of_z w128 c.factors-a.result.0) ≡ factor_of p q = back_in_range c.factors-a.result.0 c.factors-a.ensures.first_range ∙ c.factors-a.ensures.first ∙ ap₂ factor_of (back_in_range p p_fits) (back_in_range q q_fits) in
+    let y : to_z w128 (of_z w128 c.factors-a.result.1) ≡ factor_of q p = back_in_range c.factors-a.result.1 c.factors-a.ensures.second_range ∙ c.factors-a.ensures.second ∙ ap₂ (λ s t. factor_of t s) (back_in_range p p_fits) (back_in_range q q_fits) in
     c.in_ok-subtract.ensures.value
     ∙ ap₂ (λ s t. lowest_line (line_less s t c.args.self.now c.args.pivot.now)) x y
     ∙ sym (cleared-some c.args.column c.args.pivot.now c.args.self.now p q c.entry-p.ensures.value c.entry-q.ensures.value some)
@@ -46,9 +46,9 @@ returns-in_ok-subtract-clause-fits c =
     let p_fits : InRange p = subst InRange (sym c.entry-p.ensures.value) c.entry-p.ensures.range in
     let q_fits : InRange q = subst InRange (sym c.entry-q.ensures.value) c.entry-q.ensures.range in
     let some : q ≢ pos 0 = λ e. c.if-q-ne0.true (ap (λ w. of_z w128 w) e) in
-    let x : to_z w128 (of_z w128 c.factor.result) ≡ factor_of p q = back_in_range c.factor.result c.factor.ensures.range ∙ c.factor.ensures.value ∙ ap₂ factor_of (back_in_range p p_fits) (back_in_range q q_fits) in
-    let y : to_z w128 (of_z w128 c.factor-then-q-ne0.result) ≡ factor_of q p = back_in_range c.factor-then-q-ne0.result c.factor-then-q-ne0.ensures.range ∙ c.factor-then-q-ne0.ensures.value ∙ ap₂ factor_of (back_in_range q q_fits) (back_in_range p p_fits) in
-    let formed : all_fit (cleared_formed c.args.column c.args.pivot.now c.args.self.now) ≡ all_fit (all_less_formed (to_z w128 (of_z w128 c.factor.result)) (to_z w128 (of_z w128 c.factor-then-q-ne0.result)) (numbers_of c.args.self.now) (numbers_of c.args.pivot.now)) =
+    let x : to_z w128 (of_z w128 c.factors-a.result.0) ≡ factor_of p q = back_in_range c.factors-a.result.0 c.factors-a.ensures.first_range ∙ c.factors-a.ensures.first ∙ ap₂ factor_of (back_in_range p p_fits) (back_in_range q q_fits) in
+    let y : to_z w128 (of_z w128 c.factors-a.result.1) ≡ factor_of q p = back_in_range c.factors-a.result.1 c.factors-a.ensures.second_range ∙ c.factors-a.ensures.second ∙ ap₂ (λ s t. factor_of t s) (back_in_range p p_fits) (back_in_range q q_fits) in
+    let formed : all_fit (cleared_formed c.args.column c.args.pivot.now c.args.self.now) ≡ all_fit (all_less_formed (to_z w128 (of_z w128 c.factors-a.result.0)) (to_z w128 (of_z w128 c.factors-a.result.1)) (numbers_of c.args.self.now) (numbers_of c.args.pivot.now)) =
     ap all_fit (cleared_formed-some c.args.column c.args.pivot.now c.args.self.now p q c.entry-p.ensures.value c.entry-q.ensures.value some)
     ∙ ap₂ (λ s t. all_fit (all_less_formed s t (numbers_of c.args.self.now) (numbers_of c.args.pivot.now))) (sym x) (sym y) in
     formed ∙ c.in_ok-subtract.ensures.fits

@@ -16,9 +16,10 @@ pub returns-in-Optimal-clause-text : goal.returns-in-Optimal-clause-text
 returns-in-Optimal-clause-text c =
     let sets = c.args.sets.now in
     let rounded = c.args.rounded in
+    let places = c.args.places in
     let found = c.in-Optimal in
     IfOk-weaker c.report.result _ _
     (λ text is.
-    is ∙ ap₂ (λ vs rs. report_text sets vs found.plan rs found.multipliers (value_of found.cost) (value_of found.bound) found.pivots rounded) c.vars.ensures.variables c.rows.ensures.rows
-    ∙ ap (λ solution. report_shown sets c.args.book.now.rows c.args.book.now.vars rounded solution) (sym found.is))
+    is ∙ ap₂ (λ vs rs. report_text sets vs found.plan rs found.multipliers (value_of found.cost) (value_of found.bound) found.pivots rounded places) c.vars.ensures.variables c.rows.ensures.rows
+    ∙ ap (λ solution. report_shown sets c.args.book.now.rows c.args.book.now.vars rounded places solution) (sym found.is))
     c.report.ensures.text

@@ -1,0 +1,25 @@
+-- A quotient whose product with the divisor is the number.
+use Rattle.std.proofs.Common.{◌≡◌, ℤ, pos, sym, ap, ap₂, ◌∙◌, subst, arith, ◌*ℤ◌}
+use Rattle.std.specs.Int.{◌∣◌}
+use Rattle.std.specs.Prelude.{unsigned_abs, int_div, ◌<ℤ◌, ◌≤ℤ◌}
+use Rattle.std.proofs.Math.Nat.{dvd-mul_left}
+use Rattle.std.proofs.lemmas.Int.{ints, unsigned_abs-mul}
+use Rattle.std.proofs.lemmas.Nat.Gcd.{dvd_antisymm, dvd_refl}
+use Rattle.exact_num.specs.Gcd.{gcd_of}
+use Rattle.exact_num.proofs.GcdLaws.{dvd-gcd_of, gcd_of-dvd_left}
+use Rattle.exact_num.proofs.Integers.{pos-unsigned_abs, int_div-mul, *ℤ_cancel, nonzero_of_pos}
+
+-- the divisor divides the number
+divides : (q d n : ℤ) → q *ℤ d ≡ n → unsigned_abs d ∣ unsigned_abs n
+divides q d n e = subst (λ m. unsigned_abs d ∣ m) (sym (unsigned_abs-mul q d) ∙ ap unsigned_abs e) (dvd-mul_left (unsigned_abs d) (unsigned_abs q))
+
+pub guessed_quotient : (q d n : ℤ) → pos 0 <ℤ d → q *ℤ d ≡ n → int_div n d ≡ q
+guessed_quotient q d n h e =
+    let size : pos (unsigned_abs d) ≡ d = pos-unsigned_abs d (omega (arith, ints, h)) in
+    *ℤ_cancel (int_div n d) q d (nonzero_of_pos d h)
+    (ap₂ (λ x y. int_div n x *ℤ y) (sym size) (sym size) ∙ int_div-mul n (unsigned_abs d) (divides q d n e) ∙ sym e)
+
+pub guessed_divisor : (q d n : ℤ) → pos 0 ≤ℤ d → q *ℤ d ≡ n → d ≡ pos (gcd_of (unsigned_abs d) (unsigned_abs n))
+guessed_divisor q d n h e =
+    sym (pos-unsigned_abs d h)
+    ∙ ap pos (dvd_antisymm (dvd-gcd_of (unsigned_abs d) (unsigned_abs d) (unsigned_abs n) (dvd_refl (unsigned_abs d)) (divides q d n e)) (gcd_of-dvd_left (unsigned_abs d) (unsigned_abs n)))

@@ -1,0 +1,17 @@
+-- Numbers of 64 bits stay such.
+use Rattle.std.proofs.Common.{List, ℕ, ℤ, sym, subst}
+use Rattle.int_tableau.specs.declared.entry_list.EntryList.TheInside.{Inside}
+use Rattle.int_tableau.specs.KeptEntries.{AreKept}
+use Rattle.int_tableau.specs.Narrow.{AreNarrow}
+use Rattle.int_tableau.proofs.NarrowLaws.{AreNarrow-negated}
+use Rattle.int_tableau.proofs.entry_list.EntryList.negate.Goals.{in-Narrow, in-Wide}
+use Rattle.int_tableau.proofs.entry_list.EntryList.negate.Goals as goal
+
+pub invariant_of-self : goal.invariant_of-self
+invariant_of-self c =
+    elim c.match-self.branch [
+      | in-Narrow w ↦
+          subst (λ (s : Inside). AreKept s.kept) (sym w.self-inside-is)
+          (subst (λ (es : List (ℕ × ℤ)). AreNarrow es) (sym w.negate_all.ensures) (AreNarrow-negated w.in-Narrow.list.items (subst AreKept w.in-Narrow.is c.self.invariant)))
+      | in-Wide w ↦ subst (λ (s : Inside). AreKept s.kept) (sym w.self-inside-is) tt
+    ]

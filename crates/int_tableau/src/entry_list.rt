@@ -1,0 +1,176 @@
+//! The entries of a line, in 64 bits while all of their numbers fit, and else in 128.
+
+ghost use Rattle.std.specs.Prelude.{◌≡◌, ◌≤◌, ℕ, [], drop, take, true, IfOk, OnOk, OnErr};
+ghost use Rattle.exact_num.specs.Range.{InRange, all_fit};
+ghost use Rattle.row_core.specs.Numbers.{numbers_of};
+ghost use Rattle.written_method.specs.Lines.{less, less_formed};
+ghost use Rattle.int_tableau.specs.Entries.{at, IsSparse, entries_negated, first_of};
+ghost use Rattle.int_tableau.specs.Narrow.{AreNarrow};
+
+use crate::narrow::is_narrow;
+use crate::narrow_merging::combine;
+use crate::refused::Refused;
+use crate::{entries, narrow, numbers};
+use std::alloc::{AllocError, Global};
+use std::marker::Model;
+
+/// How wide the numbers are kept.
+#[derive(Drop)]
+pub(crate) enum Kept {
+    Narrow(Vec<(usize, i64)>),
+    Wide(Vec<(usize, i128)>),
+}
+
+/// Entries in ascending order of columns. What they are doesn't depend on how wide their numbers are kept.
+#[derive(Drop)]
+pub(crate) struct EntryList {
+    kept: Kept,
+}
+
+impl Model for EntryList {
+    ghost use Rattle.std.specs.Prelude.{List, ℕ, ℤ};
+    ghost use Rattle.int_tableau.specs.KeptEntries.{entries_kept, AreKept};
+
+    ghost Value = { List (ℕ × ℤ) };
+
+    ghost view = { λ e. entries_kept e.kept };
+
+    ghost invariant = { λ e. AreKept e.kept };
+}
+
+impl EntryList {
+    /// No entries.
+    pub(crate) fn none(alloc: Global) -> EntryList
+        ensures { result ≡ [] }
+    {
+        EntryList {
+            kept: Kept::Narrow(Vec::new(alloc)),
+        }
+    }
+
+    /// These entries.
+    pub(crate) fn of(alloc: Global, entries: &[(usize, i128)]) -> Result<EntryList, AllocError>
+        requires { all_fit (numbers_of entries.now) ≡ true }
+        ensures { IfOk result (λ e. e ≡ entries.now) }
+    {
+        let kept = match narrow::narrowed(alloc, entries)? {
+            Some(narrow) => Kept::Narrow(narrow),
+            None => Kept::Wide(Vec::from_slice(alloc, entries)?),
+        };
+        Ok(EntryList { kept })
+    }
+
+    /// How many entries stand before a column.
+    pub(crate) fn position_of(&self, column: usize, columns: usize) -> usize
+        requires { IsSparse 0 columns self.now }
+        ensures before { IsSparse 0 column (take result self.now) }
+        ensures rest { IsSparse column columns (drop result self.now) }
+        ensures same { (c : ℕ) → column ≤ c → at self.now c ≡ at (drop result self.now) c }
+    {
+        match &self.kept {
+            Kept::Narrow(list) => narrow::position_of(list, column, columns),
+            Kept::Wide(list) => entries::position_of(list, column, columns),
+        }
+    }
+
+    /// The number in a column.
+    pub(crate) fn number_in(&self, column: usize, columns: usize) -> i128
+        requires { IsSparse 0 columns self.now }
+        ensures value { result ≡ at self.now column }
+        ensures range { InRange (at self.now column) }
+    {
+        match &self.kept {
+            Kept::Narrow(list) => narrow::number_in(list, column, columns),
+            Kept::Wide(list) => entries::number_in(list, column, columns),
+        }
+    }
+
+    /// The entry at a position, if there is one.
+    pub(crate) fn entry_at(&self, at: usize) -> Option<(usize, i128)>
+        ensures { result ≡ first_of (drop at self.now) }
+    {
+        match &self.kept {
+            Kept::Narrow(list) => narrow::entry_at(list, at),
+            Kept::Wide(list) => entries::entry_at(list, at),
+        }
+    }
+
+    /// Multiplies each entry by -1.
+    pub(crate) fn negate(&mut self)
+        requires { all_fit (numbers_of self.old) ≡ true }
+        ensures { self.new ≡ entries_negated self.old }
+    {
+        match &mut self.kept {
+            Kept::Narrow(list) => narrow::negate_all(list),
+            Kept::Wide(list) => numbers::negate_all(list),
+        }
+    }
+
+    /// Keeps so many entries.
+    pub(crate) fn truncate(&mut self, count: usize)
+        ensures { self.new ≡ take count self.old }
+    {
+        match &mut self.kept {
+            Kept::Narrow(list) => list.truncate(count),
+            Kept::Wide(list) => list.truncate(count),
+        }
+    }
+
+    /// Writes the entries in 128 bits over what stood in `out`.
+    pub(crate) fn write_to(&self, out: &mut Vec<(usize, i128)>) -> Result<(), AllocError>
+        ensures { OnOk result (out.new.items ≡ self.now) }
+    {
+        match &self.kept {
+            Kept::Narrow(list) => narrow::widen(out, list),
+            Kept::Wide(list) => {
+                out.clear();
+                out.extend_from_slice(list)
+            }
+        }
+    }
+
+    /// Takes these entries in place of its own.
+    pub(crate) fn replace(
+        &mut self,
+        alloc: Global,
+        entries: &[(usize, i64)],
+    ) -> Result<(), AllocError>
+        requires { AreNarrow entries.now }
+        ensures value { OnOk result (self.new ≡ entries.now) }
+        ensures memory { OnErr result ((n : ℕ) → IsSparse 0 n self.old → IsSparse 0 n self.new) }
+    {
+        match &mut self.kept {
+            Kept::Narrow(list) => {
+                list.clear();
+                list.extend_from_slice(entries)?;
+            }
+            Kept::Wide(_) => self.kept = Kept::Narrow(Vec::from_slice(alloc, entries)?),
+        }
+        Ok(())
+    }
+
+    /// Writes `a` times these entries less `b` times others over what stood in `out`. `TooWide` where not all of it can be done in
+    /// 64 bits.
+    pub(crate) fn combine(
+        &self,
+        out: &mut Vec<(usize, i64)>,
+        a: i128,
+        b: i128,
+        other: &EntryList,
+        columns: usize,
+    ) -> Result<(), Refused>
+        requires line { IsSparse 0 columns self.now }
+        requires other { IsSparse 0 columns other.now }
+        ensures sparse { OnOk result (IsSparse 0 columns out.new.items) }
+        ensures narrow { OnOk result (AreNarrow out.new.items) }
+        ensures value { OnOk result ((c : ℕ) → at out.new.items c ≡ less a b (at self.now c) (at other.now c)) }
+        ensures fits { OnOk result ((c : ℕ) → all_fit (less_formed a b (at self.now c) (at other.now c)) ≡ true) }
+    {
+        match (&self.kept, &other.kept) {
+            (Kept::Narrow(line), Kept::Narrow(other)) if is_narrow(a) && is_narrow(b) => {
+                combine(out, a as i64, b as i64, line, other, columns)
+            }
+            _ => Err(Refused::TooWide),
+        }
+    }
+}

@@ -1,0 +1,84 @@
+//! Files that are read byte by byte, a report that is written byte by byte, and files that are cut short.
+
+use crate::base_text::base_text;
+use crate::calls::{Ending, MPS, SETS, assert_ends, call, call_check, call_into, call_on};
+use crate::solves::{BASE_REPORT, SOLVE};
+use data_tests::section;
+use io_edges::{MemShelf, MemSink};
+use std::alloc::Global;
+use std::test::Fail;
+
+/// A call for the equations of this text, which is read by a byte a call, where this call of the shelf fails.
+fn call_by_bytes(alloc: Global, text: &str, number: u64) -> Result<Ending, Fail> {
+    let mut shelf = MemShelf::in_pieces(alloc, &[number], 1)?;
+    shelf.put("model.dat", text.as_bytes())?;
+    let out = MemSink::new(alloc, 8000, &[])?;
+    call_on(alloc, MPS, &mut shelf, out)
+}
+
+// The calls of the shelf are: begin, a read for each byte, a read that ends the file.
+#[test]
+fn a_file_read_byte_by_byte_is_read_whole_or_reported(rt: HostRuntime) -> Result<(), Fail> {
+    let text = section(rt.alloc(), SETS, "")?;
+    let last = (text.len() as u64).saturating_add(2);
+    for number in [1, 2, 3, last / 2, last.saturating_sub(1), last] {
+        let ending = call_by_bytes(rt.alloc(), &text, number)?;
+        assert_ends(&rt, &ending, 6, "read fault file 1\n");
+    }
+    let ending = call_by_bytes(rt.alloc(), &text, last.saturating_add(1))?;
+    assert_ends(&rt, &ending, 0, &base_text(rt.alloc())?);
+    Ok(())
+}
+
+/// How many bytes of the report of the base example are written before the call that fails: of its 611 bytes none, one, its first line, the
+/// first of the next line, and all but the last.
+static WRITTEN: [u16; 5] = [0, 1, 14, 15, 610];
+
+#[test]
+fn a_report_written_byte_by_byte_stops_at_the_call_that_fails(rt: HostRuntime) -> Result<(), Fail> {
+    let text = section(rt.alloc(), SETS, "")?;
+    for count in &WRITTEN {
+        let out = MemSink::in_pieces(rt.alloc(), 1000, &[*count as u64 + 1], 1)?;
+        let (status, out) = call_into(rt.alloc(), SOLVE, text.as_bytes(), &[], out)?;
+        assert_eq!(rt; status.code(), 7);
+        assert_eq!(rt; out.bytes().len(), *count as usize);
+        assert!(rt; BASE_REPORT.as_bytes().starts_with(out.bytes()));
+    }
+    let out = MemSink::in_pieces(rt.alloc(), 1000, &[612], 1)?;
+    let ending = call_into(rt.alloc(), SOLVE, text.as_bytes(), &[], out)?;
+    assert_ends(&rt, &ending, 0, BASE_REPORT);
+    Ok(())
+}
+
+/// The first bytes of a file of the base example, and the line on where it ends too soon.
+static CUT: [(&str, &str); 5] = [
+    ("dat", "refused line 1 column 1 Unexpected\n"),
+    ("data", "refused line 1 column 5 EndTooSoon\n"),
+    ("data;\nset REG", "refused line 2 column 5 UnknownName\n"),
+    (
+        "data;\nset REGION := R",
+        "refused line 2 column 16 EndTooSoon\n",
+    ),
+    (
+        "data;\nset REGION := R ;",
+        "refused set TECHNOLOGY EmptySet\n",
+    ),
+];
+
+#[test]
+fn a_file_that_is_cut_short_is_refused_where_it_ends(rt: HostRuntime) -> Result<(), Fail> {
+    for (text, line) in &CUT {
+        let ending = call(rt.alloc(), MPS, text.as_bytes())?;
+        assert_ends(&rt, &ending, 4, line);
+    }
+    Ok(())
+}
+
+// The data ends within a statement, and the plan isn't there.
+#[test]
+fn a_missing_plan_is_told_before_what_the_data_says(rt: HostRuntime) -> Result<(), Fail> {
+    let words = ["check", "model.dat", "p"];
+    let ending = call_check(rt.alloc(), &words, "set SEASON :=", "", "", &[])?;
+    assert_ends(&rt, &ending, 6, "no such file 2\n");
+    Ok(())
+}
