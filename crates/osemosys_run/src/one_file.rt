@@ -56,7 +56,12 @@ pub fn perform_task<S: Shelf>(
 }
 
 /// The answer of a task over the text of its file. The text is gone before the first row is made.
-pub fn answer_text(alloc: Global, text: Vec<u8>, task: Task, places: u8) -> Result<Answer, AllocError>
+pub fn answer_text(
+    alloc: Global,
+    text: Vec<u8>,
+    task: Task,
+    places: u8,
+) -> Result<Answer, AllocError>
     requires short { length text.items ≤ most_bytes }
     requires places { IsPlaces places }
     ensures { IfOk result (λ answer. DueForText (DueForTask task places) text.items answer.status answer.text.items) }

@@ -129,12 +129,7 @@ fn summary_text(alloc: Global, solution: &Solution) -> Result<Vec<u8>, AllocErro
 }
 
 // The lines of an optimum.
-fn solved_lines(
-    alloc: Global,
-    cost: Frac,
-    bound: Frac,
-    pivots: u64,
-) -> Result<Vec<u8>, AllocError>
+fn solved_lines(alloc: Global, cost: Frac, bound: Frac, pivots: u64) -> Result<Vec<u8>, AllocError>
     ensures { IfOk result (λ text. text.items ≡ solved_lines (value_of cost) (value_of bound) pivots) }
 {
     let mut text = Vec::from_slice(alloc, b"status solved\n")?;
