@@ -12,7 +12,7 @@ use Rattle.clap.specs.Kinds.{or_else}
 use Rattle.clap.specs.Faults.{default_fault, defaults_fault, fault_of, walk_fault}
 use Rattle.clap.proofs.FaultLemmas.{leaf_fault}
 use Rattle.command_words.specs.ClapWords.{app, clap_rows, is_fault}
-use Rattle.command_words.specs.CommandLine.{files_in, values_in}
+use Rattle.command_words.specs.Words.{files_in, values_in}
 use Rattle.command_words.specs.WordParts.{OptionName, Gap, Pivots, Places, Show, Part, File, Chosen, parts_from, parts_of}
 use Rattle.command_words.specs.WordReading.{Given, given_by}
 use Rattle.command_words.proofs.ClapTurns.{at, chosen, file, id_of, rules, settling, shape}

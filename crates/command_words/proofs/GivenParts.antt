@@ -1,7 +1,7 @@
 -- A command with its parts is the command with what the parts give.
 use Rattle.std.proofs.Common.{◌≡◌, ◌∙◌, ◌&&◌, ◌||◌, arith, ℕ, List, [], ◌∷◌, length, Option, Some, None, is_some, Bool, true, false, cond, refl, sym, true≢false, nat_le}
 use Rattle.std.specs.Prelude.{not, slice_get}
-use Rattle.command_words.specs.CommandLine.{CommandName, allows, command_with, has_option, values_in}
+use Rattle.command_words.specs.Words.{CommandName, allows, command_with, has_option, values_in}
 use Rattle.command_words.specs.WordParts.{OptionName, Gap, Pivots, Places, Show, Part}
 use Rattle.command_words.specs.WordReading.{command_by, given_by, is_once}
 

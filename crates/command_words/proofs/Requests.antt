@@ -1,23 +1,31 @@
--- The words ask for written factors of 6 or 9 decimal places.
-use Rattle.std.proofs.Common.{◌≡◌, ℕ, inl, inr, List, [], ◌∷◌, Option, Some, None, Result, Ok, Err, Bool, true, false, cond, ◌&&◌, is_some, not, refl, subst}
+-- The words ask for written factors of 6 or 9 decimal places, and for made files of sizes from 3 to 122.
+use Rattle.std.proofs.Common.{◌≡◌, ℕ, inl, inr, List, [], ◌∷◌, Option, Some, None, Result, Ok, Err, Bool, true, false, cond, ◌&&◌, is_some, not, refl, subst, nat_le, length, ◌≤◌}
 use Rattle.std.specs.Prelude.{codes, ⊤}
+use Rattle.std.specs.Char.{is_ascii_digit}
+use Rattle.std.specs.List.{list_all}
 use Rattle.std.specs.Str.{bytes_eq}
+use Rattle.std.specs.Str.Parse.{digits_value}
+use Rattle.std.proofs.lemmas.Bool.{leb-true}
 use Rattle.discount_factors.specs.Factors.{IsPlaces}
 use Rattle.command_words.specs.declared.fault.WordFault.{WordFault}
 use Rattle.command_words.specs.declared.fault.WordFault.TheVariants.{BadNumber, BadForm, BadShow, GapAlone}
-use Rattle.command_words.specs.declared.any_command.SolveShow.{SolveShow}
-use Rattle.command_words.specs.CommandLine.{CommandName, MpsName, CheckName, SolveName, MakeName, allows_all, check_of, command_after, command_named, command_of, command_with, files_in, mps_of, or_fault, solve_of, value_in}
-use Rattle.command_words.specs.CommandLine as all
+use Rattle.command_words.specs.declared.command.MakeShow.{MakeShow}
+use Rattle.command_words.specs.declared.command.SolveShow.{SolveShow}
+use Rattle.command_words.specs.Words.{Request, Check, Mps, Solve, Make, CommandName, MpsName, CheckName, SolveName, MakeName, allows_all, check_of, command_after, command_named, command_of, command_with, asked, files_in, make_of, mps_of, or_fault, solve_of, value_in}
 use Rattle.command_words.specs.WordParts.{Gap, Pivots, Places, Show, Part, parts_of}
-use Rattle.command_words.specs.WordValues.{gap_of, pivots_of, places_of, solve_show_of}
-use Rattle.command_words.specs.Words.{Request, Check, Mps, Solve, asked, built, request_of_any}
+use Rattle.command_words.specs.WordValues.{gap_of, make_show_of, pivots_of, places_of, size_of, solve_show_of}
 
--- a request is for such factors, where there is one
-abbrev HasPlaces : Result Request WordFault → Type 0
-HasPlaces (Ok (Mps file places)) = IsPlaces places
-HasPlaces (Ok (Check file plan multipliers gap places)) = IsPlaces places
-HasPlaces (Ok (Solve file gap pivots places show)) = IsPlaces places
-HasPlaces (Err fault) = ⊤
+-- the size of a made file
+abbrev IsSize : ℕ → Type 0
+IsSize size = (3 ≤ size) × (size ≤ 122)
+
+-- a request is for such factors or such a size, where there is one
+abbrev IsInRange : Result Request WordFault → Type 0
+IsInRange (Ok (Mps file places)) = IsPlaces places
+IsInRange (Ok (Check file plan multipliers gap places)) = IsPlaces places
+IsInRange (Ok (Solve file gap pivots places show)) = IsPlaces places
+IsInRange (Ok (Make size show)) = IsSize size
+IsInRange (Err fault) = ⊤
 
 -- what a value of `--places` is
 abbrev IsOne : Option ℕ → Type 0
@@ -33,77 +41,110 @@ places-one (Some text) = go (bytes_eq text (codes "6")) (bytes_eq text (codes "9
     go false true = inr refl
     go false false = tt
 
-of_mps : (file : List ℕ) (value : Option (List ℕ)) → HasPlaces (request_of_any (mps_of file value))
+-- what a size is
+abbrev IsOneSize : Option ℕ → Type 0
+IsOneSize None = ⊤
+IsOneSize (Some size) = IsSize size
+
+size-one : (text : List ℕ) → IsOneSize (size_of text)
+size-one text = go (nat_le 1 (length text) && nat_le (length text) 3 && list_all is_ascii_digit text) (nat_le 3 size) (nat_le size 122) refl refl
+  where
+    size : ℕ
+    size = digits_value 10 text
+
+    go : (digits least most : Bool) → nat_le 3 size ≡ least → nat_le size 122 ≡ most → IsOneSize (cond (digits && least && most) (Some size) None)
+    go true true true low high = (leb-true 3 size low, leb-true size 122 high)
+    go true true false low high = tt
+    go true false most low high = tt
+    go false least most low high = tt
+
+of_mps : (file : List ℕ) (value : Option (List ℕ)) → IsInRange (mps_of file value)
 of_mps file value = go (places_of value) (places-one value)
   where
-    go : (found : Option ℕ) → IsOne found → HasPlaces (request_of_any (or_fault BadNumber found (λ decimals. Ok (all.Mps file decimals))))
+    go : (found : Option ℕ) → IsOne found → IsInRange (or_fault BadNumber found (λ decimals. Ok (Mps file decimals)))
     go None one = tt
     go (Some places) one = one
 
-of_check : (file plan : List ℕ) (multipliers gap value : Option (List ℕ)) → HasPlaces (request_of_any (check_of file plan multipliers gap value))
+of_check : (file plan : List ℕ) (multipliers gap value : Option (List ℕ)) → IsInRange (check_of file plan multipliers gap value)
 of_check file plan multipliers gap value = go (gap_of gap) (places_of value) (is_some gap && not (is_some multipliers)) (places-one value)
   where
     go : (ppm found : Option ℕ) (alone : Bool) → IsOne found
-        → HasPlaces (request_of_any (or_fault BadNumber ppm (λ n. or_fault BadNumber found (λ decimals. cond alone (Err GapAlone) (Ok (all.Check file plan multipliers n decimals))))))
+        → IsInRange (or_fault BadNumber ppm (λ n. or_fault BadNumber found (λ decimals. cond alone (Err GapAlone) (Ok (Check file plan multipliers n decimals)))))
     go None found alone one = tt
     go (Some n) None alone one = tt
     go (Some n) (Some places) true one = tt
     go (Some n) (Some places) false one = one
 
-of_solve : (file : List ℕ) (gap pivots value show : Option (List ℕ)) → HasPlaces (request_of_any (solve_of file gap pivots value show))
+of_solve : (file : List ℕ) (gap pivots value show : Option (List ℕ)) → IsInRange (solve_of file gap pivots value show)
 of_solve file gap pivots value show = go (gap_of gap) (pivots_of pivots) (places_of value) (solve_show_of show) (places-one value)
   where
     go : (ppm most found : Option ℕ) (shown : Option SolveShow) → IsOne found
-        → HasPlaces (request_of_any (or_fault BadNumber ppm (λ n. or_fault BadNumber most (λ m. or_fault BadNumber found (λ decimals.
-        or_fault BadShow shown (λ s. Ok (all.Solve file n m decimals s)))))))
+        → IsInRange (or_fault BadNumber ppm (λ n. or_fault BadNumber most (λ m. or_fault BadNumber found (λ decimals.
+        or_fault BadShow shown (λ s. Ok (Solve file n m decimals s))))))
     go None most found shown one = tt
     go (Some n) None found shown one = tt
     go (Some n) (Some m) None shown one = tt
     go (Some n) (Some m) (Some places) None one = tt
     go (Some n) (Some m) (Some places) (Some s) one = one
 
-of_mps_files : (files : List (List ℕ)) (gap pivots value show : Option (List ℕ)) → HasPlaces (request_of_any (command_of MpsName files gap pivots value show))
+of_make : (size : List ℕ) (show : Option (List ℕ)) → IsInRange (make_of size show)
+of_make size show = go (size_of size) (make_show_of show) (size-one size)
+  where
+    go : (found : Option ℕ) (shown : Option MakeShow) → IsOneSize found → IsInRange (or_fault BadNumber found (λ n. or_fault BadShow shown (λ s. Ok (Make n s))))
+    go None shown one = tt
+    go (Some n) None one = tt
+    go (Some n) (Some s) one = one
+
+of_mps_files : (files : List (List ℕ)) (gap pivots value show : Option (List ℕ)) → IsInRange (command_of MpsName files gap pivots value show)
 of_mps_files [] gap pivots value show = tt
 of_mps_files (file ∷ []) gap pivots value show = of_mps file value
 of_mps_files (file ∷ other ∷ files) gap pivots value show = tt
 
-of_check_files : (files : List (List ℕ)) (gap pivots value show : Option (List ℕ)) → HasPlaces (request_of_any (command_of CheckName files gap pivots value show))
+of_check_files : (files : List (List ℕ)) (gap pivots value show : Option (List ℕ)) → IsInRange (command_of CheckName files gap pivots value show)
 of_check_files [] gap pivots value show = tt
 of_check_files (file ∷ []) gap pivots value show = tt
 of_check_files (file ∷ plan ∷ []) gap pivots value show = of_check file plan None gap value
 of_check_files (file ∷ plan ∷ multipliers ∷ []) gap pivots value show = of_check file plan (Some multipliers) gap value
 of_check_files (file ∷ plan ∷ multipliers ∷ other ∷ files) gap pivots value show = tt
 
-of_solve_files : (files : List (List ℕ)) (gap pivots value show : Option (List ℕ)) → HasPlaces (request_of_any (command_of SolveName files gap pivots value show))
+of_solve_files : (files : List (List ℕ)) (gap pivots value show : Option (List ℕ)) → IsInRange (command_of SolveName files gap pivots value show)
 of_solve_files [] gap pivots value show = tt
 of_solve_files (file ∷ []) gap pivots value show = of_solve file gap pivots value show
 of_solve_files (file ∷ other ∷ files) gap pivots value show = tt
 
-of_parts : (name : CommandName) → ((files : List (List ℕ)) (gap pivots value show : Option (List ℕ)) → HasPlaces (request_of_any (command_of name files gap pivots value show)))
-    → (parts : Option (List Part)) → HasPlaces (request_of_any (command_with name parts))
+of_make_files : (files : List (List ℕ)) (gap pivots value show : Option (List ℕ)) → IsInRange (command_of MakeName files gap pivots value show)
+of_make_files [] gap pivots value show = tt
+of_make_files (size ∷ []) gap pivots value show = of_make size show
+of_make_files (size ∷ other ∷ files) gap pivots value show = tt
+
+of_parts : (name : CommandName) → ((files : List (List ℕ)) (gap pivots value show : Option (List ℕ)) → IsInRange (command_of name files gap pivots value show))
+    → (parts : Option (List Part)) → IsInRange (command_with name parts)
 of_parts name of_files None = tt
 of_parts name of_files (Some parts) = go (allows_all name parts)
   where
-    go : (b : Bool) → HasPlaces (request_of_any (cond b (command_of name (files_in parts) (value_in Gap parts) (value_in Pivots parts) (value_in Places parts) (value_in Show parts)) (Err BadForm)))
+    go : (b : Bool) → IsInRange (cond b (command_of name (files_in parts) (value_in Gap parts) (value_in Pivots parts) (value_in Places parts) (value_in Show parts)) (Err BadForm))
     go true = of_files (files_in parts) (value_in Gap parts) (value_in Pivots parts) (value_in Places parts) (value_in Show parts)
     go false = tt
 
-of_command : (command : Option CommandName) (words : List (List ℕ)) → HasPlaces (request_of_any (command_after (built command) words))
+of_command : (command : Option CommandName) (words : List (List ℕ)) → IsInRange (command_after command words)
 of_command None words = tt
 of_command (Some MpsName) words = of_parts MpsName of_mps_files (parts_of words)
 of_command (Some CheckName) words = of_parts CheckName of_check_files (parts_of words)
 of_command (Some SolveName) words = of_parts SolveName of_solve_files (parts_of words)
-of_command (Some MakeName) words = tt
+of_command (Some MakeName) words = of_parts MakeName of_make_files (parts_of words)
 
-has_places : (words : List (List ℕ)) → HasPlaces (asked words)
-has_places [] = tt
-has_places (first ∷ words) = of_command (command_named first) words
+in_range : (words : List (List ℕ)) → IsInRange (asked words)
+in_range [] = tt
+in_range (first ∷ words) = of_command (command_named first) words
 
 pub asked_places : (words : List (List ℕ)) (name : List ℕ) (places : ℕ) → asked words ≡ Ok (Mps name places) → IsPlaces places
-asked_places words name places e = subst HasPlaces e (has_places words)
+asked_places words name places e = subst IsInRange e (in_range words)
 
 pub check_places : (words : List (List ℕ)) (file plan : List ℕ) (multipliers : Option (List ℕ)) (gap places : ℕ) → asked words ≡ Ok (Check file plan multipliers gap places) → IsPlaces places
-check_places words file plan multipliers gap places e = subst HasPlaces e (has_places words)
+check_places words file plan multipliers gap places e = subst IsInRange e (in_range words)
 
 pub solve_places : (words : List (List ℕ)) (file : List ℕ) (gap pivots places : ℕ) (show : SolveShow) → asked words ≡ Ok (Solve file gap pivots places show) → IsPlaces places
-solve_places words file gap pivots places show e = subst HasPlaces e (has_places words)
+solve_places words file gap pivots places show e = subst IsInRange e (in_range words)
+
+pub make_size : (words : List (List ℕ)) (size : ℕ) (show : MakeShow) → asked words ≡ Ok (Make size show) → (3 ≤ size) × (size ≤ 122)
+make_size words size show e = subst IsInRange e (in_range words)

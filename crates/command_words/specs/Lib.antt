@@ -1,5 +1,4 @@
 pub mod ClapWords
-pub mod CommandLine
 pub mod Commands
 pub mod WordParts
 pub mod WordReading

@@ -3,7 +3,7 @@ use Rattle.std.specs.Prelude.{ℕ, Bool, not, ◌&&◌, ◌||◌, nat_le, List, 
 use Rattle.command_words.specs.declared.fault.WordFault.{WordFault}
 use Rattle.command_words.specs.declared.fault.WordFault.TheVariants.{BadForm}
 use Rattle.command_words.specs.declared.parsing.Given.{Given as SlicedGiven}
-use Rattle.command_words.specs.CommandLine.{AnyCommand, CommandName, command_of, files_in, has_option, values_in, value_in}
+use Rattle.command_words.specs.Words.{Request, CommandName, command_of, files_in, has_option, values_in, value_in}
 use Rattle.command_words.specs.WordParts.{OptionName, Gap, Pivots, Places, Show, Part}
 
 pub record Given : Type 0 where
@@ -43,10 +43,10 @@ abbrev pub is_allowed : CommandName → Given → Bool
 is_allowed command given = may_have command Gap given.gap && may_have command Pivots given.pivots && may_have command Places given.places && may_have command Show given.show
 
 -- the command with these files and values
-abbrev pub command_given : CommandName → Given → Result AnyCommand WordFault
+abbrev pub command_given : CommandName → Given → Result Request WordFault
 command_given command given = command_of command given.files given.gap given.pivots given.places given.show
 
 -- the same where something is given, and it is allowed
-abbrev pub command_by : CommandName → Option Given → Result AnyCommand WordFault
+abbrev pub command_by : CommandName → Option Given → Result Request WordFault
 command_by command None = Err BadForm
 command_by command (Some given) = if is_allowed command given then command_given command given else Err BadForm

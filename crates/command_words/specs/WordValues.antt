@@ -4,10 +4,10 @@ use Rattle.std.specs.Char.{is_ascii_digit}
 use Rattle.std.specs.List.{list_all}
 use Rattle.std.specs.Str.{bytes_eq}
 use Rattle.std.specs.Str.Parse.{digits_value}
-use Rattle.command_words.specs.declared.any_command.SolveShow.{SolveShow}
-use Rattle.command_words.specs.declared.any_command.SolveShow.TheVariants.{Report, Plan, Multipliers}
-use Rattle.command_words.specs.declared.any_command.MakeShow.{MakeShow}
-use Rattle.command_words.specs.declared.any_command.MakeShow.TheVariants.{File, Summary}
+use Rattle.command_words.specs.declared.command.SolveShow.{SolveShow}
+use Rattle.command_words.specs.declared.command.SolveShow.TheVariants.{Report, Plan, Multipliers}
+use Rattle.command_words.specs.declared.command.MakeShow.{MakeShow}
+use Rattle.command_words.specs.declared.command.MakeShow.TheVariants.{File, Summary}
 
 -- the whole number of 1 to `places` decimal digits, where it is from `least` to `most`; leading zeros may stand
 abbrev pub number_within : ℕ → ℕ → ℕ → List ℕ → Option ℕ

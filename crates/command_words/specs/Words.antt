@@ -1,40 +1,141 @@
--- What the words of the command line ask for, of the commands that are built: `mps`, `check` and `solve`. A command that isn't built is none.
-use Rattle.std.specs.Prelude.{ℕ, List, [], ◌∷◌, Option, Some, None, Result, Ok, Err}
+-- What the words of the command line ask for, of the commands `mps`, `check`, `solve` and `make` with all their options.
+use Rattle.std.specs.Prelude.{ℕ, Bool, true, false, not, ◌&&◌, nat_le, List, [], ◌∷◌, length, codes, Option, Some, None, is_some, Result, Ok, Err, slice_get, if◌then◌else◌}
+use Rattle.std.specs.Str.{bytes_eq}
 use Rattle.command_words.specs.declared.fault.WordFault.{WordFault}
-use Rattle.command_words.specs.declared.fault.WordFault.TheVariants.{NoCommand, BadCommand}
-use Rattle.command_words.specs.declared.any_command.SolveShow.{SolveShow}
-use Rattle.command_words.specs.CommandLine.{AnyCommand, CommandName, CheckName, MpsName, SolveName, command_named, command_after}
-use Rattle.command_words.specs.CommandLine as all
+use Rattle.command_words.specs.declared.fault.WordFault.TheVariants.{NoCommand, BadCommand, BadForm, BadNumber, BadShow, GapAlone}
+use Rattle.command_words.specs.declared.command.SolveShow.{SolveShow}
+use Rattle.command_words.specs.declared.command.MakeShow.{MakeShow}
+use Rattle.command_words.specs.WordParts.{OptionName, Gap, Pivots, Places, Show, Part, File, Chosen, parts_of}
+use Rattle.command_words.specs.WordValues.{gap_of, pivots_of, places_of, size_of, solve_show_of, make_show_of}
 
--- a command that is built, with the names of its files and its options: the decimal places of written factors, a gap in millionths, and the most pivots
+-- a command with its files and the values of its options: gaps in millionths, the most pivots, and the decimal places of written factors
 pub data Request : Type 0 where
   Mps : (file : List ℕ) (places : ℕ) → Request
   Check : (file plan : List ℕ) (multipliers : Option (List ℕ)) (gap places : ℕ) → Request
   Solve : (file : List ℕ) (gap pivots places : ℕ) (show : SolveShow) → Request
+  Make : (size : ℕ) (show : MakeShow) → Request
 
--- the command where it is built
-abbrev pub built : Option CommandName → Option CommandName
-built (Some MpsName) = Some MpsName
-built (Some CheckName) = Some CheckName
-built (Some SolveName) = Some SolveName
-built command = None
+-- ---- commands and their options
 
--- a built command of all commands
-abbrev pub request_of_any : Result AnyCommand WordFault → Result Request WordFault
-request_of_any (Ok (all.Mps file places)) = Ok (Mps file places)
-request_of_any (Ok (all.Check file plan multipliers gap places)) = Ok (Check file plan multipliers gap places)
-request_of_any (Ok (all.Solve file gap pivots places show)) = Ok (Solve file gap pivots places show)
-request_of_any (Ok command) = Err BadCommand
-request_of_any (Err fault) = Err fault
+-- the commands by name
+pub data CommandName : Type 0 where
+  MpsName : CommandName
+  CheckName : CommandName
+  SolveName : CommandName
+  MakeName : CommandName
 
--- the request of the words, or what is wrong with them
+-- the command of this word, if it is one's
+abbrev pub command_named : List ℕ → Option CommandName
+command_named word =
+    if bytes_eq word (codes "mps") then Some MpsName
+    else if bytes_eq word (codes "check") then Some CheckName
+    else if bytes_eq word (codes "solve") then Some SolveName
+    else if bytes_eq word (codes "make") then Some MakeName
+    else None
+
+-- the options that a command has
+abbrev pub has_option : CommandName → OptionName → Bool
+has_option MpsName Places = true
+has_option CheckName Gap = true
+has_option CheckName Places = true
+has_option SolveName o = true
+has_option MakeName Show = true
+has_option command o = false
+
+-- ---- parts
+
+-- the words that aren't options: files, and the size after `make`
+abbrev pub files_in : List Part → List (List ℕ)
+files_in [] = []
+files_in (File file ∷ parts) = file ∷ files_in parts
+files_in (Chosen o value ∷ parts) = files_in parts
+
+-- the option is this one
+abbrev pub is_same : OptionName → OptionName → Bool
+is_same Gap Gap = true
+is_same Pivots Pivots = true
+is_same Places Places = true
+is_same Show Show = true
+is_same o other = false
+
+-- the values that are given for an option
+abbrev pub values_in : OptionName → List Part → List (List ℕ)
+values_in o [] = []
+values_in o (File file ∷ parts) = values_in o parts
+values_in o (Chosen other value ∷ parts) = if is_same o other then value ∷ values_in o parts else values_in o parts
+
+-- the value that is given for an option, if one is
+abbrev pub value_in : OptionName → List Part → Option (List ℕ)
+value_in o parts = slice_get (values_in o parts) 0
+
+-- an option that the command has is given at most once, and another one isn't given
+abbrev pub allows : CommandName → List Part → OptionName → Bool
+allows command parts o = nat_le (length (values_in o parts)) (if has_option command o then 1 else 0)
+
+abbrev pub allows_all : CommandName → List Part → Bool
+allows_all command parts = allows command parts Gap && allows command parts Pivots && allows command parts Places && allows command parts Show
+
+-- ---- commands with their values
+
+-- what is made of a value, or this fault where there is none
+abbrev pub or_fault : {A : Type 0} → WordFault → Option A → (A → Result Request WordFault) → Result Request WordFault
+or_fault fault None make = Err fault
+or_fault fault (Some value) make = make value
+
+abbrev pub mps_of : List ℕ → Option (List ℕ) → Result Request WordFault
+mps_of file places = or_fault BadNumber (places_of places) (λ decimals. Ok (Mps file decimals))
+
+-- `check` of a plan without multipliers has no bound, so a gap is refused there, also the gap 0
+abbrev pub check_of : List ℕ → List ℕ → Option (List ℕ) → Option (List ℕ) → Option (List ℕ) → Result Request WordFault
+check_of file plan multipliers gap places =
+    or_fault BadNumber (gap_of gap) (λ ppm.
+    or_fault BadNumber (places_of places) (λ decimals.
+    if is_some gap && not (is_some multipliers) then Err GapAlone
+    else Ok (Check file plan multipliers ppm decimals)))
+
+abbrev pub solve_of : List ℕ → Option (List ℕ) → Option (List ℕ) → Option (List ℕ) → Option (List ℕ) → Result Request WordFault
+solve_of file gap pivots places show =
+    or_fault BadNumber (gap_of gap) (λ ppm.
+    or_fault BadNumber (pivots_of pivots) (λ most.
+    or_fault BadNumber (places_of places) (λ decimals.
+    or_fault BadShow (solve_show_of show) (λ shown. Ok (Solve file ppm most decimals shown)))))
+
+abbrev pub make_of : List ℕ → Option (List ℕ) → Result Request WordFault
+make_of size show =
+    or_fault BadNumber (size_of size) (λ n.
+    or_fault BadShow (make_show_of show) (λ shown. Ok (Make n shown)))
+
+-- the command with these files and these values of `--gap`, `--pivots`, `--places` and `--show`: a file that is missing or too many is a fault of form
+abbrev pub command_of : CommandName → List (List ℕ) → Option (List ℕ) → Option (List ℕ) → Option (List ℕ) → Option (List ℕ) → Result Request WordFault
+command_of MpsName (file ∷ []) gap pivots places show = mps_of file places
+command_of CheckName (file ∷ plan ∷ []) gap pivots places show = check_of file plan None gap places
+command_of CheckName (file ∷ plan ∷ multipliers ∷ []) gap pivots places show = check_of file plan (Some multipliers) gap places
+command_of SolveName (file ∷ []) gap pivots places show = solve_of file gap pivots places show
+command_of MakeName (size ∷ []) gap pivots places show = make_of size show
+command_of command files gap pivots places show = Err BadForm
+
+-- the command with the parts of the words after it
+abbrev pub command_with : CommandName → Option (List Part) → Result Request WordFault
+command_with command None = Err BadForm
+command_with command (Some parts) =
+    if allows_all command parts
+    then command_of command (files_in parts) (value_in Gap parts) (value_in Pivots parts) (value_in Places parts) (value_in Show parts)
+    else Err BadForm
+
+-- the command of a first word, with the words after it
+abbrev pub command_after : Option CommandName → List (List ℕ) → Result Request WordFault
+command_after None words = Err BadCommand
+command_after (Some command) words = command_with command (parts_of words)
+
+-- The request of the words, or their first fault in the order NoCommand, BadCommand, BadForm, BadNumber, BadShow, GapAlone.
 abbrev pub asked : List (List ℕ) → Result Request WordFault
 asked [] = Err NoCommand
-asked (first ∷ words) = request_of_any (command_after (built (command_named first)) words)
+asked (first ∷ words) = command_after (command_named first) words
 
 -- the names of a request's files, in the order in which they are read
 abbrev pub names_of : Request → List (List ℕ)
 names_of (Mps file places) = file ∷ []
-names_of (Solve file gap pivots places show) = file ∷ []
 names_of (Check file plan None gap places) = file ∷ plan ∷ []
 names_of (Check file plan (Some multipliers) gap places) = file ∷ plan ∷ multipliers ∷ []
+names_of (Solve file gap pivots places show) = file ∷ []
+names_of (Make size show) = []

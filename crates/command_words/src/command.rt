@@ -1,23 +1,26 @@
-// The commands that are built.
-ghost use Rattle.std.specs.Prelude.{◌≡◌, IfOk, map};
+// The commands with their files and options.
+ghost use Rattle.std.specs.Prelude.{◌≡◌, IfOk, map, option_map};
 ghost use Rattle.std.specs.String.{string_bytes};
-ghost use Rattle.command_words.specs.Commands.{request_of_result};
-ghost use Rattle.command_words.specs.Words.{asked};
+ghost use Rattle.command_words.specs.Words.{command_named, asked};
+ghost use Rattle.command_words.specs.Words.{MpsName, CheckName, SolveName, MakeName, check_of, mps_of};
+ghost use Rattle.command_words.specs.Commands.{request_of_result, name_of};
+ghost use Rattle.command_words.specs.WordReading.{given_of, command_by, command_given, is_allowed};
 
-use crate::any_command::{AnyCommand, SolveShow, read_any_command};
 use crate::fault::WordFault;
+use crate::parsing::{Given, read_given};
+use crate::values::{gap_of, make_show_of, pivots_of, places_of, size_of, solve_show_of};
 use std::alloc::{AllocError, Global};
 
-/// What the words ask for, of the commands that are built. `file` is the name of the data file, and `places` is how many
-/// decimal places written factors have: 6 or 9.
+/// A command with its files and options. `places` is how many decimal places written factors have: 6 or 9.
 #[derive(Clone, Copy, Debug, PartialEq, Eq)]
 pub enum Command<'a> {
-    /// To write the named equations.
+    /// `mps FILE [--places P]`: writes the named equations of a data file.
     Mps {
         file: &'a str,
         places: u8,
     },
-    /// To check a plan, and a bound where there is a file of multipliers. `gap` is in millionths of the bound.
+    /// `check FILE PLAN [MULTIPLIERS] [--gap PPM] [--places P]`: checks a plan, and a bound where
+    /// multipliers are given. `gap` is in millionths of the bound.
     Check {
         file: &'a str,
         plan: &'a str,
@@ -25,7 +28,8 @@ pub enum Command<'a> {
         gap: u32,
         places: u8,
     },
-    /// To find a plan that no other undercuts by more than `gap` millionths of a bound, by `pivots` pivots at most.
+    /// `solve FILE [--gap PPM] [--pivots N] [--places P] [--show report|plan|multipliers]`: solves.
+    /// `gap` is in millionths of the bound, `pivots` is the most pivots that may be made.
     Solve {
         file: &'a str,
         gap: u32,
@@ -33,13 +37,43 @@ pub enum Command<'a> {
         places: u8,
         show: SolveShow,
     },
+    /// `make N [--show file|summary]`: writes a made data file of this size, or solves it and writes
+    /// a summary.
+    Make {
+        size: u32,
+        show: MakeShow,
+    },
 }
 
-/// Reads the words. The first fault is answered: no word is `NoCommand`; another first word than `mps`, `check` and `solve` is
-/// `BadCommand`, also one of a command that isn't built; files that are missing or too many, and options that the command
-/// hasn't, that are repeated or that have no value, are `BadForm`; a value that isn't one of its option's numbers is
-/// `BadNumber`; one that `--show` hasn't is `BadShow`; and a gap without multipliers is `GapAlone`. A word that begins with `-`
-/// and is longer is no file, unless `--` stands before it.
+/// What `solve` writes.
+#[derive(Clone, Copy, Debug, PartialEq, Eq)]
+pub enum SolveShow {
+    Report,
+    Plan,
+    Multipliers,
+}
+
+/// What `make` writes.
+#[derive(Clone, Copy, Debug, PartialEq, Eq)]
+pub enum MakeShow {
+    File,
+    Summary,
+}
+
+#[derive(Clone, Copy, Debug, PartialEq, Eq)]
+enum CommandName {
+    Mps,
+    Check,
+    Solve,
+    Make,
+}
+
+/// Reads the words. The first fault is answered, in this order: `NoCommand` where there
+/// is no word; `BadCommand` where the first is no command; `BadForm` where an option is unknown, is
+/// none of the command's, is repeated or has no value, or a file is missing or too many; `BadNumber`
+/// where a number isn't one of the digits and the range that its place allows; `BadShow` where the value
+/// of `--show` is none of the command's; `GapAlone` where `check` has a gap and no multipliers. An
+/// option and its value are two words, or one with `=` between. After `--` no word is an option.
 pub fn read_command<'a>(
     alloc: Global,
     words: &'a [String],
@@ -47,45 +81,169 @@ pub fn read_command<'a>(
     ensures { IfOk result (λ answer.
         request_of_result answer ≡ asked (map string_bytes words.now)) }
 {
-    if let [first, ..] = words {
-        if first.as_str() == "make" {
-            return Ok(Err(WordFault::BadCommand));
+    let Some((first, others)) = words.split_first() else {
+        return Ok(Err(WordFault::NoCommand));
+    };
+    match command_named(first.as_str()) {
+        Some(name) => {
+            let given = read_given(alloc, others)?;
+            Ok(command_by(name, given))
+        }
+        None => Ok(Err(WordFault::BadCommand)),
+    }
+}
+
+// The command of this word.
+fn command_named(word: &str) -> Option<CommandName>
+    ensures { option_map name_of result ≡ command_named word.now }
+{
+    if word == "mps" {
+        Some(CommandName::Mps)
+    } else if word == "check" {
+        Some(CommandName::Check)
+    } else if word == "solve" {
+        Some(CommandName::Solve)
+    } else if word == "make" {
+        Some(CommandName::Make)
+    } else {
+        None
+    }
+}
+
+// The command with what the words after it give, if they give anything.
+fn command_by<'a>(name: CommandName, given: Option<Given<'a>>) -> Result<Command<'a>, WordFault>
+    ensures { request_of_result result
+        ≡ command_by (name_of name) (option_map given_of given.entry) }
+{
+    match given {
+        Some(given) => command_given(name, &given),
+        None => Err(WordFault::BadForm),
+    }
+}
+
+fn command_given<'a>(name: CommandName, given: &Given<'a>) -> Result<Command<'a>, WordFault>
+    ensures { request_of_result result
+        ≡ command_by (name_of name) (Some (given_of given.now)) }
+{
+    if !is_allowed(name, given) {
+        return Err(WordFault::BadForm);
+    }
+    match name {
+        CommandName::Mps => mps_given(given),
+        CommandName::Check => check_given(given),
+        CommandName::Solve => solve_given(given),
+        CommandName::Make => make_given(given),
+    }
+}
+
+// Each option that is given is one of the command's.
+fn is_allowed(name: CommandName, given: &Given<'_>) -> bool
+    ensures { result ≡ is_allowed (name_of name) (given_of given.now) }
+{
+    match name {
+        CommandName::Mps => given.gap.is_none() && given.pivots.is_none() && given.show.is_none(),
+        CommandName::Check => given.pivots.is_none() && given.show.is_none(),
+        CommandName::Solve => true,
+        CommandName::Make => {
+            given.gap.is_none() && given.pivots.is_none() && given.places.is_none()
         }
     }
-    let answer = match read_any_command(alloc, words)? {
-        Ok(AnyCommand::Mps { file, places }) => Ok(Command::Mps { file, places }),
-        Ok(
-            AnyCommand::Check {
-                file,
-                plan,
-                multipliers,
-                gap,
-                places,
-            },
-        ) => Ok(Command::Check {
-            file,
-            plan,
-            multipliers,
-            gap,
-            places,
-        }),
-        Ok(
-            AnyCommand::Solve {
-                file,
-                gap,
-                pivots,
-                places,
-                show,
-            },
-        ) => Ok(Command::Solve {
-            file,
-            gap,
-            pivots,
-            places,
-            show,
-        }),
-        Ok(AnyCommand::Make { .. }) => Err(WordFault::BadCommand),
-        Err(fault) => Err(fault),
+}
+
+fn mps_given<'a>(given: &Given<'a>) -> Result<Command<'a>, WordFault>
+    ensures { request_of_result result ≡ command_given MpsName (given_of given.now) }
+{
+    match given.files.as_slice() {
+        [file] => mps(*file, given.places),
+        _ => Err(WordFault::BadForm),
+    }
+}
+
+fn mps<'a>(file: &'a str, places: Option<&'a str>) -> Result<Command<'a>, WordFault>
+    ensures { request_of_result result
+        ≡ mps_of file.entry.now (option_map (λ value. value.now) places.entry) }
+{
+    match places_of(places) {
+        Some(places) => Ok(Command::Mps { file, places }),
+        None => Err(WordFault::BadNumber),
+    }
+}
+
+fn check_given<'a>(given: &Given<'a>) -> Result<Command<'a>, WordFault>
+    ensures { request_of_result result ≡ command_given CheckName (given_of given.now) }
+{
+    match given.files.as_slice() {
+        [file, plan] => check(*file, *plan, None, given.gap, given.places),
+        [file, plan, multipliers] => {
+            check(*file, *plan, Some(*multipliers), given.gap, given.places)
+        }
+        _ => Err(WordFault::BadForm),
+    }
+}
+
+fn check<'a>(
+    file: &'a str,
+    plan: &'a str,
+    multipliers: Option<&'a str>,
+    gap: Option<&'a str>,
+    places: Option<&'a str>,
+) -> Result<Command<'a>, WordFault>
+    ensures { request_of_result result
+        ≡ check_of file.entry.now plan.entry.now
+        (option_map (λ name. name.now) multipliers.entry) (option_map (λ value. value.now) gap.entry)
+        (option_map (λ value. value.now) places.entry) }
+{
+    let (Some(ppm), Some(places)) = (gap_of(gap), places_of(places)) else {
+        return Err(WordFault::BadNumber);
     };
-    Ok(answer)
+    if gap.is_some() && multipliers.is_none() {
+        return Err(WordFault::GapAlone);
+    }
+    Ok(Command::Check {
+        file,
+        plan,
+        multipliers,
+        gap: ppm,
+        places,
+    })
+}
+
+fn solve_given<'a>(given: &Given<'a>) -> Result<Command<'a>, WordFault>
+    ensures { request_of_result result ≡ command_given SolveName (given_of given.now) }
+{
+    let [file] = given.files.as_slice() else {
+        return Err(WordFault::BadForm);
+    };
+    let (Some(gap), Some(pivots), Some(places)) = (
+        gap_of(given.gap),
+        pivots_of(given.pivots),
+        places_of(given.places),
+    ) else {
+        return Err(WordFault::BadNumber);
+    };
+    let Some(show) = solve_show_of(given.show) else {
+        return Err(WordFault::BadShow);
+    };
+    Ok(Command::Solve {
+        file: *file,
+        gap,
+        pivots,
+        places,
+        show,
+    })
+}
+
+fn make_given<'a>(given: &Given<'a>) -> Result<Command<'a>, WordFault>
+    ensures { request_of_result result ≡ command_given MakeName (given_of given.now) }
+{
+    let [size] = given.files.as_slice() else {
+        return Err(WordFault::BadForm);
+    };
+    let Some(size) = size_of(*size) else {
+        return Err(WordFault::BadNumber);
+    };
+    let Some(show) = make_show_of(given.show) else {
+        return Err(WordFault::BadShow);
+    };
+    Ok(Command::Make { size, show })
 }

@@ -5,7 +5,7 @@
 pub enum WordFault {
     /// There is no word.
     NoCommand,
-    /// The first word is no command, or one that isn't built.
+    /// The first word is no command.
     BadCommand,
     /// A file is missing or too many, an option is unknown or repeated, or it has no value.
     BadForm,

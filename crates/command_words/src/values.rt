@@ -4,7 +4,7 @@ ghost use Rattle.std.specs.Char.{is_ascii_digit};
 ghost use Rattle.std.specs.List.{list_all};
 ghost use Rattle.command_words.specs.WordValues.{number_within, gap_of, pivots_of, places_of, size_of, solve_show_of, make_show_of};
 
-use crate::any_command::{MakeShow, SolveShow};
+use crate::command::{MakeShow, SolveShow};
 
 /// A gap in millionths, 0 where it is left out.
 pub fn gap_of(text: Option<&str>) -> Option<u32>

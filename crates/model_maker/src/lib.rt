@@ -4,7 +4,7 @@
 mod lines;
 mod table;
 
-ghost use Rattle.std.specs.Prelude.{◌≡◌, ◌≤◌, ◌++◌, IfOk, OnOk};
+ghost use Rattle.std.specs.Prelude.{◌≡◌, ◌≤◌, ◌++◌, length, IfOk, OnOk};
 ghost use Rattle.std.specs.List.{flat_map};
 ghost use Rattle.model_maker.specs.MadeModel.{parameters};
 ghost use Rattle.model_maker.specs.MadeText.{made_text, parameter_text, sets_text};
@@ -17,11 +17,12 @@ use std::alloc::{AllocError, Global};
 /// The data file that is made of this number, which is from 3 to 122: a small energy system over the
 /// `n - 2` years from 2020 on, in the data format of GNU MathProg. A mine and an import feed power plants
 /// of coal and gas and a boiler, with wind beside them; there is a demand for electricity, which grows
-/// by 4 a year, one for heat, and a penalty on emissions. Refuses only where memory runs out.
+/// by 4 a year, one for heat, and a penalty on emissions. It has at most 100,000 bytes. Refuses only where memory runs out.
 pub fn make(alloc: Global, n: u32) -> Result<Vec<u8>, AllocError>
     requires least { 3 ≤ n }
     requires most { n ≤ 122 }
-    ensures { IfOk result (λ text. text.items ≡ made_text n) }
+    ensures text { IfOk result (λ text. text.items ≡ made_text n) }
+    ensures short { IfOk result (λ text. length text.items ≤ 100000) }
 {
     let years = n - 2;
     let mut text = Vec::from_slice(alloc, b"data;\n")?;

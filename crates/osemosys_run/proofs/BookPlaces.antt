@@ -26,7 +26,7 @@ use Rattle.exact_solver.specs.Solutions.{AreNamedIn}
 use Rattle.exact_solver.specs.declared.solutions.Solution.{Solution}
 use Rattle.exact_solver.specs.declared.solutions.Solution.TheVariants as found
 use Rattle.exact_solver.proofs.BookLaws.{placed}
-use Rattle.command_words.specs.declared.any_command.SolveShow.{SolveShow}
+use Rattle.osemosys_run.specs.declared.solve.Shown.{Shown}
 use Rattle.result_tables.specs.Prices.{balances, is_balance, price_step, price_steps}
 use Rattle.osemosys_run.specs.CheckedPlans.{IsListedBook}
 use Rattle.osemosys_run.specs.PlacesWithin.{IsRowOfSets, PlaceIsWithin}
@@ -77,7 +77,7 @@ module _ (sets : SetLists) (rows : List Row) (vars : List Var) (listed : IsListe
   price-within multipliers place wide = wide-within sets (price_steps rows multipliers) place (prices-within multipliers) wide
 
   -- and that at which a solution isn't shown
-  pub shown-within : (show : SolveShow) (solution : Solution) (place : Place) → HasPriceWideAt show rows solution place → PlaceIsWithin sets place
+  pub shown-within : (show : Shown) (solution : Solution) (place : Place) → HasPriceWideAt show rows solution place → PlaceIsWithin sets place
   shown-within show (found.Optimal plan multipliers cost bound made) place wide = price-within multipliers place wide.1
   shown-within show (found.Infeasible multipliers made) place wide = absurd wide
   shown-within show (found.Unbounded plan direction made) place wide = absurd wide

@@ -12,7 +12,7 @@ use Rattle.osemosys_run.specs.declared.status.ReadStop.TheVariants as stops
 use Rattle.io_edges.specs.Count.{Rose}
 use Rattle.io_edges.specs.Edges.{Lacks}
 use Rattle.osemosys_run.specs.Causes.{Caused, CausedByFile, FollowsFromText}
-use Rattle.osemosys_run.specs.Complete.{CanBeAccepted, CanBeSolved, CanBeWritten, Completes}
+use Rattle.osemosys_run.specs.Complete.{AskForMade, CanBeSummarized, CanBeAccepted, CanBeSolved, CanBeWritten, Completes}
 use Rattle.osemosys_run.specs.Due.{Due, DueForFile, DueForText}
 use Rattle.osemosys_run.specs.Lines.{too_long_line}
 use Rattle.osemosys_run.specs.Mps.{DueForEquations}
@@ -261,29 +261,29 @@ left rest faults taken = record { files = None; rest = rest; faults = faults; be
 
 -- the text was written after the whole file was read
 read_out : IsReadToEnd mps_file (left (Some (codes "old")) 0 0) (left (Some []) 0 9) Done
-read_out told = refl
+read_out names told = refl
 
 -- and not after a part of it
 stopped_early : IsReadToEnd mps_file (left (Some (codes "old")) 0 0) (left (Some (codes "end;")) 0 9) Done → ⊥
-stopped_early h = let none : Some (codes "end;") ≡ Some [] = h refl in cc none
+stopped_early h = let none : Some (codes "end;") ≡ Some [] = h (λ e. cc e) refl in cc none
 
 -- nothing is known of a rest that isn't told
 untold_rest : IsReadToEnd mps_file (left None 0 0) (left None 0 9) (Refused refusals.TooManyEntries)
-untold_rest told = absurd (cc told)
+untold_rest names told = absurd (cc told)
 
 -- a failed write where a part of the file was read has a cause in a fault of the shelf, in the words, or in the length of the file
 cut_after_fault : IsReadToEnd mps_file (left (Some []) 0 0) (left (Some (codes "end;")) 1 9) WriteFault
 cut_after_fault = inr (inr (inl (omega arith)))
 
 cut_after_words : IsReadToEnd (codes "mps" ∷ []) (left (Some (codes "x")) 0 0) (left (Some (codes "x")) 0 0) WriteFault
-cut_after_words = inr (inl refl)
+cut_after_words = inr (inl (λ names. names))
 
 cut_after_much : IsReadToEnd mps_file (left (Some []) 0 0) (left (Some (codes "end;")) 0 67108865) WriteFault
 cut_after_much = inr (inr (inr (omega arith)))
 
 cut_for_nothing : IsReadToEnd mps_file (left (Some []) 0 0) (left (Some (codes "end;")) 0 9) WriteFault → ⊥
 cut_for_nothing (inl h) = let none : Some (codes "end;") ≡ Some [] = h refl in cc none
-cut_for_nothing (inr (inl h)) = cc h
+cut_for_nothing (inr (inl h)) = h (λ e. cc e)
 cut_for_nothing (inr (inr (inl h))) = let rose : Rose 0 0 = h in omega (arith, rose)
 cut_for_nothing (inr (inr (inr h))) = let many : 67108864 < 9 = h in omega (arith, many)
 
@@ -299,6 +299,12 @@ nothing_to_check files can = cc can.asks
 nothing_to_solve : (files : List (List ℕ × List ℕ)) → CanBeSolved [] files → ⊥
 nothing_to_solve files can = cc can.asks
 
+nothing_to_make : AskForMade [] → ⊥
+nothing_to_make asks = cc asks.asks
+
+nothing_to_summarize : CanBeSummarized [] → ⊥
+nothing_to_summarize can = cc can.asks
+
 -- a file that isn't there, and one of another name
 not_there : CanBeWritten mps_file [] → ⊥
 not_there can = cc can.there
@@ -308,6 +314,8 @@ no_claim : (status : Status) → Completes [] [] status
 no_claim status = record {
   done = λ can. elim can [ inl can ↦ absurd (nothing_asked [] can) | inr can ↦ absurd (nothing_to_check [] can) ];
   ended = λ can. absurd (nothing_to_solve [] can);
+  made = λ asks. absurd (nothing_to_make asks);
+  summarized = λ can. absurd (nothing_to_summarize can);
 }
 
 not_refused : (words : List (List ℕ)) (files : List (List ℕ × List ℕ)) → CanBeWritten words files → Completes words files (Refused refusals.TooManyEntries) → ⊥

@@ -9,15 +9,17 @@ use Rattle.osemosys_run.specs.declared.status.Status.{Status}
 use Rattle.osemosys_run.specs.declared.status.Status.TheVariants.{Done, Infeasible, Unbounded, Uncertified, Refused, Words, ReadFault, WriteFault, Memory, Rejected}
 use Rattle.osemosys_run.specs.declared.status.Refusal.TheVariants as refusals
 use Rattle.osemosys_run.specs.declared.status.ReadStop.TheVariants as stops
+use Rattle.command_words.specs.declared.command.MakeShow.{MakeShow}
 use Rattle.command_words.specs.declared.fault.WordFault.{WordFault}
 use Rattle.osemosys_run.specs.Causes.{Caused, CausedByFile, CausedByOptionalFile, CausedByRequest, FollowsFromText, StopsAtFile}
 use Rattle.osemosys_run.specs.Check.{DueForCheck}
 use Rattle.osemosys_run.specs.Mps.{DueForEquations}
 use Rattle.osemosys_run.specs.ReadEnds.{TellsEnd}
 use Rattle.osemosys_run.specs.Reading.{Sight, HasNothingLeft, IsTooLong, most_bytes}
-use Rattle.osemosys_run.specs.ReadToEnd.{IsReadAtWriteFault, IsReadToEnd}
+use Rattle.osemosys_run.specs.ReadToEnd.{IsReadAtWriteFault, IsReadToEnd, IsReadToEndFor, NamesFile}
+use Rattle.osemosys_run.specs.Shown.{shown_of}
 use Rattle.osemosys_run.specs.Solve.{DueForSolve}
-use Rattle.command_words.specs.Words.{Request, Check, Mps, Solve, asked}
+use Rattle.command_words.specs.Words.{Request, Check, Make, Mps, Solve, asked}
 use Rattle.osemosys_run.proofs.FilesRead.{Reaches, Reaches-itself, by_file, by_optional_file, rose-since}
 
 -- where the reading of a file ends for a cause, the answer that tells it has that cause
@@ -31,24 +33,24 @@ stops_at_file number name before after ends.TooLong status text told lacks left 
 stops_at_file number name before after ends.Memory status text told lacks left rose long = absurd told
 
 -- where nothing is left, the file was read to its end at any answer
-none_left : (words : List (List ℕ)) (before after : Sight) (status : Status) → status ≢ WriteFault → HasNothingLeft before after → IsReadToEnd words before after status
-none_left words before after Done other left = left
-none_left words before after Infeasible other left = left
-none_left words before after Unbounded other left = left
-none_left words before after (Uncertified stop) other left = left
-none_left words before after (Refused (refusals.Text fault)) other left = left
-none_left words before after (Refused (refusals.Sets fault)) other left = left
-none_left words before after (Refused (refusals.Build fault)) other left = left
-none_left words before after (Refused (refusals.TooLong number)) other left = tt
-none_left words before after (Refused refusals.TooManyEntries) other left = left
-none_left words before after (Refused (refusals.TooLarge rows columns)) other left = left
-none_left words before after (Refused (refusals.PlanFile fault)) other left = left
-none_left words before after (Refused (refusals.MultiplierFile fault)) other left = left
-none_left words before after (Words fault) other left = tt
-none_left words before after (ReadFault stop) other left = tt
-none_left words before after WriteFault other left = absurd (other refl)
-none_left words before after Memory other left = tt
-none_left words before after (Rejected rejection) other left = left
+none_left : (request : Result Request WordFault) (before after : Sight) (status : Status) → status ≢ WriteFault → (NamesFile request → HasNothingLeft before after) → IsReadToEndFor request before after status
+none_left request before after Done other left = left
+none_left request before after Infeasible other left = left
+none_left request before after Unbounded other left = left
+none_left request before after (Uncertified stop) other left = left
+none_left request before after (Refused (refusals.Text fault)) other left = left
+none_left request before after (Refused (refusals.Sets fault)) other left = left
+none_left request before after (Refused (refusals.Build fault)) other left = left
+none_left request before after (Refused (refusals.TooLong number)) other left = tt
+none_left request before after (Refused refusals.TooManyEntries) other left = left
+none_left request before after (Refused (refusals.TooLarge rows columns)) other left = left
+none_left request before after (Refused (refusals.PlanFile fault)) other left = left
+none_left request before after (Refused (refusals.MultiplierFile fault)) other left = left
+none_left request before after (Words fault) other left = tt
+none_left request before after (ReadFault stop) other left = tt
+none_left request before after WriteFault other left = absurd (other refl)
+none_left request before after Memory other left = tt
+none_left request before after (Rejected rejection) other left = left
 
 -- what was read to its end, and then left alone, has nothing left
 left_alone : (before there after : Sight) → HasNothingLeft before there → after ≡ there → HasNothingLeft before after
@@ -59,18 +61,20 @@ by_cause : (words : List (List ℕ)) (before after : Sight) (status : Status) (t
     → ((fault : WordFault) → status ≡ Words fault → Goal (Err fault))
     → ((request : Request) → HasNothingLeft before after → Goal (Ok request))
     → ((request : Request) (number : ℕ) (name : List ℕ) (start : Sight) → Reaches before start → StopsAtFile number name start after status text → Goal (Ok request))
+    → ((size : ℕ) (show : MakeShow) → Goal (Ok (Make size show)))
     → Caused words before after status text → Goal (asked words)
-by_cause words before after status text Goal refused read stopped caused = by_request (asked words) caused
+by_cause words before after status text Goal refused read stopped made caused = by_request (asked words) caused
   where
     by_request : (request : Result Request WordFault) → CausedByRequest request before after status text → Goal request
     by_request (Err fault) c = refused fault c.0
+    by_request (Ok (Make size show)) c = made size show
     by_request (Ok (Mps name places)) c =
         by_file before after status text (Goal (Ok (Mps name places))) (FollowsFromText (λ rounded. DueForEquations places) after status text) 1 name before (Reaches-itself before)
         (λ there bytes reached left follows. read (Mps name places) (left_alone before there after left follows.0))
         (stopped (Mps name places) 1 name before) c
     by_request (Ok (Solve name gap pivots places show)) c =
         let request = Solve name gap pivots places show in
-        by_file before after status text (Goal (Ok request)) (FollowsFromText (DueForSolve places gap pivots show) after status text) 1 name before (Reaches-itself before)
+        by_file before after status text (Goal (Ok request)) (FollowsFromText (DueForSolve places gap pivots (shown_of show)) after status text) 1 name before (Reaches-itself before)
         (λ there bytes reached left follows. read request (left_alone before there after left follows.0))
         (stopped request 1 name before) c
     by_request (Ok (Check name plan multipliers gap places)) c =
@@ -87,32 +91,39 @@ by_cause words before after status text Goal refused read stopped caused = by_re
         (stopped request 2 plan first) second_cause)
         (stopped request 1 name before) c
 
+-- a model that is made names no file
+no_file : (size : ℕ) (show : MakeShow) → NamesFile (Ok (Make size show)) → ⊥
+no_file size show names = names refl
+
 pub read_to_end : (words : List (List ℕ)) (before after : Sight) (status : Status) (text : List ℕ) → status ≢ WriteFault → Caused words before after status text
     → IsReadToEnd words before after status
 read_to_end words before after status text other caused =
-    by_cause words before after status text (λ request. IsReadToEnd words before after status)
-    (λ fault said. at (Words fault) said tt)
-    (λ request left. none_left words before after status other left)
-    (λ request number name start reached. at_file number name start) caused
+    by_cause words before after status text (λ request. IsReadToEndFor request before after status)
+    (λ fault said. at (Err fault) (Words fault) said tt)
+    (λ request left. none_left (Ok request) before after status other (λ names. left))
+    (λ request number name start reached. at_file (Ok request) number name start)
+    (λ size show. none_left (Ok (Make size show)) before after status other (λ names. absurd (no_file size show names))) caused
   where
-    at : (s : Status) → status ≡ s → IsReadToEnd words before after s → IsReadToEnd words before after status
-    at s same h = subst (IsReadToEnd words before after) (sym same) h
+    at : (request : Result Request WordFault) (s : Status) → status ≡ s → IsReadToEndFor request before after s → IsReadToEndFor request before after status
+    at request s same h = subst (IsReadToEndFor request before after) (sym same) h
 
-    at_file : (number : ℕ) (name : List ℕ) (start : Sight) → StopsAtFile number name start after status text → IsReadToEnd words before after status
-    at_file number name start (inl long) = at (Refused (refusals.TooLong number)) long.0 tt
-    at_file number name start (inr (inl missing)) = at (ReadFault (stops.NoFile number)) missing.0 tt
-    at_file number name start (inr (inr failed)) = at (ReadFault (stops.Failed number)) failed.0 tt
+    at_file : (request : Result Request WordFault) (number : ℕ) (name : List ℕ) (start : Sight) → StopsAtFile number name start after status text → IsReadToEndFor request before after status
+    at_file request number name start (inl long) = at request (Refused (refusals.TooLong number)) long.0 tt
+    at_file request number name start (inr (inl missing)) = at request (ReadFault (stops.NoFile number)) missing.0 tt
+    at_file request number name start (inr (inr failed)) = at request (ReadFault (stops.Failed number)) failed.0 tt
 
 -- where the text of such an answer met a failed write
-pub read_at_write_fault : (words : List (List ℕ)) (before after : Sight) (status : Status) (text : List ℕ) → Caused words before after status text → IsReadAtWriteFault words before after
+pub read_at_write_fault : (words : List (List ℕ)) (before after : Sight) (status : Status) (text : List ℕ) → Caused words before after status text
+    → IsReadAtWriteFault (asked words) before after
 read_at_write_fault words before after status text caused =
-    by_cause words before after status text (λ request. HasNothingLeft before after ⊎ IsErr request ⊎ Rose before.faults after.faults ⊎ (most_bytes < after.taken))
-    (λ fault said. inr (inl refl))
+    by_cause words before after status text (λ request. IsReadAtWriteFault request before after)
+    (λ fault said. inr (inl (λ names. names)))
     (λ request left. inl left)
-    (λ request number name start reached. stopped request number name start reached) caused
+    (λ request number name start reached. stopped request number name start reached)
+    (λ size show. inr (inl (no_file size show))) caused
   where
     stopped : (request : Request) (number : ℕ) (name : List ℕ) (start : Sight) → Reaches before start → StopsAtFile number name start after status text
-        → HasNothingLeft before after ⊎ IsErr {E = WordFault} (Ok request) ⊎ Rose before.faults after.faults ⊎ (most_bytes < after.taken)
+        → IsReadAtWriteFault (Ok request) before after
     stopped request number name start reached (inl long) = inr (inr (inr long.2.many_taken))
     stopped request number name start reached (inr (inl missing)) = inl (λ told. missing.3 (reached.tells told))
     stopped request number name start reached (inr (inr failed)) = inr (inr (inl (rose-since before start after reached.faults failed.2)))

@@ -1,5 +1,5 @@
 -- From the cause of an answer to what is due, and from the answer to what was delivered.
-use Rattle.std.proofs.Common.{◌≡◌, ◌≢◌, ℕ, inl, inr, List, ◌++◌, length, Option, Some, None, Result, Ok, Err, Bool, true, false, refl, sym, ◌∙◌, subst, MatchBool, nat_lt, le-ltb, lt-ltb}
+use Rattle.std.proofs.Common.{◌≡◌, ◌≢◌, ◌≤◌, arith, ℕ, inl, inr, List, ◌++◌, length, Option, Some, None, Result, Ok, Err, Bool, true, false, refl, sym, ◌∙◌, subst, MatchBool, nat_lt, le-ltb, lt-ltb}
 use Rattle.model_sets.specs.Data.{Data}
 use Rattle.exact_num.specs.Rational.{Rational}
 use Rattle.row_core.specs.declared.Row.{Row}
@@ -8,7 +8,8 @@ use Rattle.row_core.specs.declared.Var.{Var}
 use Rattle.row_core.specs.declared.place.Place.{Place}
 use Rattle.named_equations.specs.Existence.{all_variables}
 use Rattle.exact_solver.specs.Sizes.{column_count, inequality_count}
-use Rattle.command_words.specs.declared.any_command.SolveShow.{SolveShow}
+use Rattle.osemosys_run.specs.declared.solve.Shown.{Shown}
+use Rattle.osemosys_run.specs.declared.solve.Shown.TheVariants.{Summary}
 use Rattle.io_edges.specs.Count.{Rose}
 use Rattle.io_edges.specs.Edges.{Lacks}
 use Rattle.io_edges.specs.Files.{file_named}
@@ -19,17 +20,22 @@ use Rattle.osemosys_run.specs.declared.status.Refusal.{Refusal}
 use Rattle.osemosys_run.specs.declared.status.Refusal.TheVariants as refusals
 use Rattle.osemosys_run.specs.declared.status.Stop.{Stop}
 use Rattle.osemosys_run.specs.declared.status.ReadStop.TheVariants as stops
+use Rattle.command_words.specs.declared.command.MakeShow.{MakeShow}
+use Rattle.command_words.specs.declared.command.MakeShow.TheVariants as makes
 use Rattle.command_words.specs.declared.fault.WordFault.{WordFault}
+use Rattle.model_maker.specs.MadeText.{made_text}
 use Rattle.osemosys_run.specs.Causes.{Caused, CausedByFile, CausedByOptionalFile, CausedByRequest, FollowsFromText, StopsAtFile}
-use Rattle.osemosys_run.specs.Due.{Due, DueForFile, DueForOptionalFile, DueForRequest, DueForText}
+use Rattle.osemosys_run.specs.Due.{Due, DueForFile, DueForMake, DueForOptionalFile, DueForRequest, DueForText}
 use Rattle.osemosys_run.specs.Check.{DueForCheck, DueForMultiplierFile, DueForPlan, DueForPlanFile}
 use Rattle.osemosys_run.specs.Lines.{too_long_line}
 use Rattle.osemosys_run.specs.Mps.{DueForEquations}
 use Rattle.osemosys_run.specs.NotAccepted.{DueWhereNotAccepted}
 use Rattle.osemosys_run.specs.Reading.{BeganOne, Sight, most_bytes, IsWholeFile}
 use Rattle.osemosys_run.specs.Sending.{Delivers}
-use Rattle.osemosys_run.specs.Solve.{DueForEnd, DueForSolve}
-use Rattle.command_words.specs.Words.{Request, Check, Mps, Solve, asked}
+use Rattle.osemosys_run.specs.Shown.{shown_of}
+use Rattle.osemosys_run.specs.Solve.{DueForEnd, DueForRows, DueForSolve}
+use Rattle.osemosys_run.specs.Summary.{DueForSummary, default_places, default_pivots}
+use Rattle.command_words.specs.Words.{Request, Check, Make, Mps, Solve, asked}
 use Rattle.osemosys_run.proofs.FilesRead.{rose-since}
 
 -- ---- what is due
@@ -84,8 +90,9 @@ due_from_cause words before after files status text told calm caused = by_reques
     by_request (Err fault) c = (c.0, c.1)
     by_request (Ok (Mps name places)) c =
         due_for_file (FollowsFromText (λ rounded. DueForEquations places) after status text) (DueForText (λ rounded. DueForEquations places)) 1 name before after files status text told calm (λ there bytes began follows. follows.1) c
+    by_request (Ok (Make size show)) c = c.0
     by_request (Ok (Solve name gap pivots places show)) c =
-        due_for_file (FollowsFromText (DueForSolve places gap pivots show) after status text) (DueForText (DueForSolve places gap pivots show)) 1 name before after files status text told calm (λ there bytes began follows. follows.1) c
+        due_for_file (FollowsFromText (DueForSolve places gap pivots (shown_of show)) after status text) (DueForText (DueForSolve places gap pivots (shown_of show))) 1 name before after files status text told calm (λ there bytes began follows. follows.1) c
     by_request (Ok (Check name plan multipliers gap places)) c =
         let third : List ℕ → List ℕ → Sight → Option (List ℕ) → Type 0 =
         λ bytes plan_bytes there multiplier_bytes. FollowsFromText (λ rounded. DueForCheck places plan_bytes multiplier_bytes gap) after status text there bytes in
@@ -110,69 +117,86 @@ due_from_cause words before after files status text told calm caused = by_reques
 abbrev IsAnswer : Status → Type 0
 IsAnswer status = (status ≢ WriteFault) × (status ≢ Memory)
 
-is_other : (status s : Status) → s ≢ WriteFault → s ≢ Memory → status ≡ s → IsAnswer status
-is_other status s cut memory e = (λ h. cut (sym e ∙ h), λ h. memory (sym e ∙ h))
+-- nor that a read failed, where it is of the words, or of what a file says
+abbrev IsOwn : Status → Type 0
+IsOwn status = IsAnswer status × ((number : ℕ) → status ≢ ReadFault (stops.Failed number))
 
-refused_is : (status : Status) (refusal : Refusal) → status ≡ Refused refusal → IsAnswer status
-refused_is status refusal e = is_other status (Refused refusal) (λ h. cc) (λ h. cc) e
+is_other : (status s : Status) → s ≢ WriteFault → s ≢ Memory → ((number : ℕ) → s ≢ ReadFault (stops.Failed number)) → status ≡ s → IsOwn status
+is_other status s cut memory read e = ((λ h. cut (sym e ∙ h), λ h. memory (sym e ∙ h)), λ number h. read number (sym e ∙ h))
 
-equations_are : (places : ℕ) (d : Data) (status : Status) (text : List ℕ) → DueForEquations places d status text → IsAnswer status
-equations_are places d status text (inl written) = is_other status Done (λ h. cc) (λ h. cc) written.status_is
-equations_are places d status text (inr (inl wide)) = is_other status (Uncertified (Stop.Width (Place.Row wide.name))) (λ h. cc) (λ h. cc) wide.status_is
+refused_is : (status : Status) (refusal : Refusal) → status ≡ Refused refusal → IsOwn status
+refused_is status refusal e = is_other status (Refused refusal) (λ h. cc) (λ h. cc) (λ number h. cc) e
+
+equations_are : (places : ℕ) (d : Data) (status : Status) (text : List ℕ) → DueForEquations places d status text → IsOwn status
+equations_are places d status text (inl written) = is_other status Done (λ h. cc) (λ h. cc) (λ number h. cc) written.status_is
+equations_are places d status text (inr (inl wide)) = is_other status (Uncertified (Stop.Width (Place.Row wide.name))) (λ h. cc) (λ h. cc) (λ number h. cc) wide.status_is
 equations_are places d status text (inr (inr many)) = refused_is status refusals.TooManyEntries many.status_is
 
 plan_is : (places : ℕ) (d : Data) (rows : List Row) (plan : List (Var × Rational)) (multipliers : Option (List (RowName × Rational))) (gap : ℕ) (status : Status) (text : List ℕ)
-    → DueForPlan places d rows plan multipliers gap status text → IsAnswer status
-plan_is places d rows plan multipliers gap status text (inl accepted) = is_other status Done (λ h. cc) (λ h. cc) accepted.status_is
-plan_is places d rows plan multipliers gap status text (inr (inl rejected)) = is_other status (Rejected rejected.rejection) (λ h. cc) (λ h. cc) rejected.status_is
-plan_is places d rows plan multipliers gap status text (inr (inr wide)) = is_other status (Uncertified (Stop.Width wide.place)) (λ h. cc) (λ h. cc) wide.status_is
+    → DueForPlan places d rows plan multipliers gap status text → IsOwn status
+plan_is places d rows plan multipliers gap status text (inl accepted) = is_other status Done (λ h. cc) (λ h. cc) (λ number h. cc) accepted.status_is
+plan_is places d rows plan multipliers gap status text (inr (inl rejected)) = is_other status (Rejected rejected.rejection) (λ h. cc) (λ h. cc) (λ number h. cc) rejected.status_is
+plan_is places d rows plan multipliers gap status text (inr (inr wide)) = is_other status (Uncertified (Stop.Width wide.place)) (λ h. cc) (λ h. cc) (λ number h. cc) wide.status_is
 
 multiplier_file_is : (places : ℕ) (d : Data) (rows : List Row) (plan : List (Var × Rational)) (bytes : Option (List ℕ)) (gap : ℕ) (status : Status) (text : List ℕ)
-    → DueForMultiplierFile places d rows plan bytes gap status text → IsAnswer status
+    → DueForMultiplierFile places d rows plan bytes gap status text → IsOwn status
 multiplier_file_is places d rows plan bytes gap status text (inl refused) = refused_is status (refusals.MultiplierFile refused.2.fault) refused.2.status_is
 multiplier_file_is places d rows plan bytes gap status text (inr read) = plan_is places d rows plan read.0 gap status text read.2
 
 plan_file_is : (places : ℕ) (d : Data) (rows : List Row) (plan_bytes : List ℕ) (bytes : Option (List ℕ)) (gap : ℕ) (status : Status) (text : List ℕ)
-    → DueForPlanFile places d rows plan_bytes bytes gap status text → IsAnswer status
+    → DueForPlanFile places d rows plan_bytes bytes gap status text → IsOwn status
 plan_file_is places d rows plan_bytes bytes gap status text (inl refused) = refused_is status (refusals.PlanFile refused.fault) refused.status_is
 plan_file_is places d rows plan_bytes bytes gap status text (inr read) = multiplier_file_is places d rows read.0 bytes gap status text read.2
 
-end_is : (places : ℕ) (d : Data) (rows : List Row) (gap pivots : ℕ) (show : SolveShow) (rounded : ℕ) (status : Status) (text : List ℕ)
-    → DueForEnd places d rows gap pivots show rounded status text → IsAnswer status
-end_is places d rows gap pivots show rounded status text (inl solved) = is_other status Done (λ h. cc) (λ h. cc) solved.status_is
-end_is places d rows gap pivots show rounded status text (inr (inl infeasible)) = is_other status Infeasible (λ h. cc) (λ h. cc) infeasible.status_is
-end_is places d rows gap pivots show rounded status text (inr (inr (inl unbounded))) = is_other status Unbounded (λ h. cc) (λ h. cc) unbounded.status_is
-end_is places d rows gap pivots show rounded status text (inr (inr (inr (inl out)))) = is_other status (Uncertified (Stop.Budget pivots)) (λ h. cc) (λ h. cc) out.status_is
-end_is places d rows gap pivots show rounded status text (inr (inr (inr (inr (inl wide))))) = is_other status (Uncertified (Stop.Width wide.place)) (λ h. cc) (λ h. cc) wide.status_is
-end_is places d rows gap pivots show rounded status text (inr (inr (inr (inr (inr wide))))) = is_other status (Uncertified (Stop.Width wide.place)) (λ h. cc) (λ h. cc) wide.status_is
+end_is : (places : ℕ) (d : Data) (rows : List Row) (gap pivots : ℕ) (show : Shown) (rounded : ℕ) (status : Status) (text : List ℕ)
+    → DueForEnd places d rows gap pivots show rounded status text → IsOwn status
+end_is places d rows gap pivots show rounded status text (inl solved) = is_other status Done (λ h. cc) (λ h. cc) (λ number h. cc) solved.status_is
+end_is places d rows gap pivots show rounded status text (inr (inl infeasible)) = is_other status Infeasible (λ h. cc) (λ h. cc) (λ number h. cc) infeasible.status_is
+end_is places d rows gap pivots show rounded status text (inr (inr (inl unbounded))) = is_other status Unbounded (λ h. cc) (λ h. cc) (λ number h. cc) unbounded.status_is
+end_is places d rows gap pivots show rounded status text (inr (inr (inr (inl out)))) = is_other status (Uncertified (Stop.Budget pivots)) (λ h. cc) (λ h. cc) (λ number h. cc) out.status_is
+end_is places d rows gap pivots show rounded status text (inr (inr (inr (inr (inl wide))))) = is_other status (Uncertified (Stop.Width wide.place)) (λ h. cc) (λ h. cc) (λ number h. cc) wide.status_is
+end_is places d rows gap pivots show rounded status text (inr (inr (inr (inr (inr wide))))) = is_other status (Uncertified (Stop.Width wide.place)) (λ h. cc) (λ h. cc) (λ number h. cc) wide.status_is
 
-solve_is : (places gap pivots : ℕ) (show : SolveShow) (rounded : ℕ) (d : Data) (status : Status) (text : List ℕ) → DueForSolve places gap pivots show rounded d status text → IsAnswer status
-solve_is places gap pivots show rounded d status text (inl made) = elim made.due [
-  | inl large ↦ refused_is status (refusals.TooLarge (inequality_count made.rows) (column_count (all_variables d))) large.status_is
-  | inr ends ↦ end_is places d made.rows gap pivots show rounded status text ends.1
-]
-solve_is places gap pivots show rounded d status text (inr (inl wide)) = is_other status (Uncertified (Stop.Width (Place.Row wide.name))) (λ h. cc) (λ h. cc) wide.status_is
+rows_is : (places : ℕ) (d : Data) (rows : List Row) (gap pivots : ℕ) (show : Shown) (rounded : ℕ) (status : Status) (text : List ℕ)
+    → DueForRows places d rows gap pivots show rounded status text → IsOwn status
+rows_is places d rows gap pivots show rounded status text (inl large) = refused_is status (refusals.TooLarge (inequality_count rows) (column_count (all_variables d))) large.status_is
+rows_is places d rows gap pivots show rounded status text (inr ends) = end_is places d rows gap pivots show rounded status text ends.1
+
+solve_is : (places gap pivots : ℕ) (show : Shown) (rounded : ℕ) (d : Data) (status : Status) (text : List ℕ) → DueForSolve places gap pivots show rounded d status text → IsOwn status
+solve_is places gap pivots show rounded d status text (inl made) = rows_is places d made.rows gap pivots show rounded status text made.due
+solve_is places gap pivots show rounded d status text (inr (inl wide)) = is_other status (Uncertified (Stop.Width (Place.Row wide.name))) (λ h. cc) (λ h. cc) (λ number h. cc) wide.status_is
 solve_is places gap pivots show rounded d status text (inr (inr many)) = refused_is status refusals.TooManyEntries many.status_is
 
-check_is : (places : ℕ) (plan_bytes : List ℕ) (bytes : Option (List ℕ)) (gap : ℕ) (d : Data) (status : Status) (text : List ℕ) → DueForCheck places plan_bytes bytes gap d status text → IsAnswer status
+summary_is : (places rounded : ℕ) (d : Data) (status : Status) (text : List ℕ) → DueForSummary places rounded d status text → IsOwn status
+summary_is places rounded d status text (inl made) = rows_is places d made.rows 0 default_pivots Summary rounded status made.due.0 made.due.1
+summary_is places rounded d status text (inr (inl wide)) = is_other status (Uncertified (Stop.Width (Place.Row wide.name))) (λ h. cc) (λ h. cc) (λ number h. cc) wide.status_is
+summary_is places rounded d status text (inr (inr many)) = refused_is status refusals.TooManyEntries many.status_is
+
+check_is : (places : ℕ) (plan_bytes : List ℕ) (bytes : Option (List ℕ)) (gap : ℕ) (d : Data) (status : Status) (text : List ℕ) → DueForCheck places plan_bytes bytes gap d status text → IsOwn status
 check_is places plan_bytes bytes gap d status text (inl made) = plan_file_is places d made.rows plan_bytes bytes gap status text made.due
-check_is places plan_bytes bytes gap d status text (inr (inl wide)) = is_other status (Uncertified (Stop.Width (Place.Row wide.name))) (λ h. cc) (λ h. cc) wide.status_is
+check_is places plan_bytes bytes gap d status text (inr (inl wide)) = is_other status (Uncertified (Stop.Width (Place.Row wide.name))) (λ h. cc) (λ h. cc) (λ number h. cc) wide.status_is
 check_is places plan_bytes bytes gap d status text (inr (inr many)) = refused_is status refusals.TooManyEntries many.status_is
 
-not_accepted_is : (bytes : List ℕ) (status : Status) (text : List ℕ) → DueWhereNotAccepted bytes status text → IsAnswer status
+not_accepted_is : (bytes : List ℕ) (status : Status) (text : List ℕ) → DueWhereNotAccepted bytes status text → IsOwn status
 not_accepted_is bytes status text (inl refused) = refused_is status (refusals.Text refused.fault) refused.status_is
 not_accepted_is bytes status text (inr (blocks, says, inl refused)) = refused_is status (refusals.Sets refused.fault) refused.status_is
 not_accepted_is bytes status text (inr (blocks, says, inr refused)) = refused_is status (refusals.Build refused.fault) refused.status_is
 
-text_is : (Over : ℕ → Data → Status → List ℕ → Type 0) → ((rounded : ℕ) (d : Data) (status : Status) (text : List ℕ) → Over rounded d status text → IsAnswer status)
-    → (bytes : List ℕ) (status : Status) (text : List ℕ) → DueForText Over bytes status text → IsAnswer status
+text_is : (Over : ℕ → Data → Status → List ℕ → Type 0) → ((rounded : ℕ) (d : Data) (status : Status) (text : List ℕ) → Over rounded d status text → IsOwn status)
+    → (bytes : List ℕ) (status : Status) (text : List ℕ) → DueForText Over bytes status text → IsOwn status
 text_is Over over_is bytes status text (inl refused) = not_accepted_is bytes status text refused
 text_is Over over_is bytes status text (inr said) = over_is said.1.blocks.rounded said.0 status text said.2
 
+make_is : (size : ℕ) (show : MakeShow) (status : Status) (text : List ℕ) → DueForMake size show status text → IsOwn status
+make_is size makes.File status text due = is_other status Done (λ h. cc) (λ h. cc) (λ number h. cc) due.0
+make_is size makes.Summary status text due = text_is (DueForSummary default_places) (summary_is default_places) (made_text size) status due.0 due.1
+
 stop_is : (number : ℕ) (name : List ℕ) (before after : Sight) (status : Status) (text : List ℕ) → StopsAtFile number name before after status text → IsAnswer status
-stop_is number name before after status text (inl long) = refused_is status (refusals.TooLong number) long.0
-stop_is number name before after status text (inr (inl missing)) = is_other status (ReadFault (stops.NoFile number)) (λ h. cc) (λ h. cc) missing.0
-stop_is number name before after status text (inr (inr failed)) = is_other status (ReadFault (stops.Failed number)) (λ h. cc) (λ h. cc) failed.0
+stop_is number name before after status text (inl long) = (refused_is status (refusals.TooLong number) long.0).0
+stop_is number name before after status text (inr (inl missing)) = (is_other status (ReadFault (stops.NoFile number)) (λ h. cc) (λ h. cc) (λ other h. cc) missing.0).0
+stop_is number name before after status text (inr (inr failed)) =
+    let same : status ≡ ReadFault (stops.Failed number) = failed.0 in
+    (λ h. let e : ReadFault (stops.Failed number) ≡ WriteFault = sym same ∙ h in cc e, λ h. let e : ReadFault (stops.Failed number) ≡ Memory = sym same ∙ h in cc e)
 
 -- an answer with a cause isn't that a write failed or that memory ran out
 pub is_answer : (words : List (List ℕ)) (before after : Sight) (status : Status) (text : List ℕ) → Caused words before after status text
@@ -180,19 +204,56 @@ pub is_answer : (words : List (List ℕ)) (before after : Sight) (status : Statu
 is_answer words before after status text caused = by_request (asked words) caused
   where
     by_request : (request : Result Request WordFault) → CausedByRequest request before after status text → IsAnswer status
-    by_request (Err fault) c = is_other status (Words fault) (λ h. cc) (λ h. cc) c.0
-    by_request (Ok (Mps name places)) (inl whole) = text_is (λ rounded. DueForEquations places) (λ rounded. equations_are places) whole.1 status text whole.4.1
+    by_request (Err fault) c = (is_other status (Words fault) (λ h. cc) (λ h. cc) (λ number h. cc) c.0).0
+    by_request (Ok (Make size show)) c = (make_is size show status text c.0).0
+    by_request (Ok (Mps name places)) (inl whole) = (text_is (λ rounded. DueForEquations places) (λ rounded. equations_are places) whole.1 status text whole.4.1).0
     by_request (Ok (Mps name places)) (inr stopped) = stop_is 1 name before after status text stopped.1
-    by_request (Ok (Solve name gap pivots places show)) (inl whole) = text_is (DueForSolve places gap pivots show) (solve_is places gap pivots show) whole.1 status text whole.4.1
+    by_request (Ok (Solve name gap pivots places show)) (inl whole) = (text_is (DueForSolve places gap pivots (shown_of show)) (solve_is places gap pivots (shown_of show)) whole.1 status text whole.4.1).0
     by_request (Ok (Solve name gap pivots places show)) (inr stopped) = stop_is 1 name before after status text stopped.1
     by_request (Ok (Check name plan multipliers gap places)) (inr stopped) = stop_is 1 name before after status text stopped.1
     by_request (Ok (Check name plan multipliers gap places)) (inl (first, bytes, began, whole, inr stopped)) = stop_is 2 plan first after status text stopped.1
     by_request (Ok (Check name plan None gap places)) (inl (first, bytes, began, whole, inl (second, plan_bytes, second_began, second_whole, follows))) =
-        text_is (λ rounded. DueForCheck places plan_bytes None gap) (λ rounded. check_is places plan_bytes None gap) bytes status text follows.1
+        (text_is (λ rounded. DueForCheck places plan_bytes None gap) (λ rounded. check_is places plan_bytes None gap) bytes status text follows.1).0
     by_request (Ok (Check name plan (Some multipliers) gap places)) (inl (first, bytes, began, whole, inl (second, plan_bytes, second_began, second_whole, inr stopped))) =
         stop_is 3 multipliers second after status text stopped.1
     by_request (Ok (Check name plan (Some multipliers) gap places)) (inl (first, bytes, began, whole, inl (second, plan_bytes, second_began, second_whole, inl (third, multiplier_bytes, third_began, third_whole, follows)))) =
-        text_is (λ rounded. DueForCheck places plan_bytes (Some multiplier_bytes) gap) (λ rounded. check_is places plan_bytes (Some multiplier_bytes) gap) bytes status text follows.1
+        (text_is (λ rounded. DueForCheck places plan_bytes (Some multiplier_bytes) gap) (λ rounded. check_is places plan_bytes (Some multiplier_bytes) gap) bytes status text follows.1).0
+
+-- ---- failed reads
+
+-- a read of a file failed only where the shelf counted it
+stop_failed : (number : ℕ) (name : List ℕ) (before start after : Sight) (status : Status) (text : List ℕ) (other : ℕ) → before.faults ≤ start.faults
+    → StopsAtFile number name start after status text → status ≡ ReadFault (stops.Failed other) → Rose before.faults after.faults
+stop_failed number name before start after status text other more (inl long) e = absurd ((refused_is status (refusals.TooLong number) long.0).1 other e)
+stop_failed number name before start after status text other more (inr (inl missing)) e =
+    let no : ReadFault (stops.NoFile number) ≡ ReadFault (stops.Failed other) = sym missing.0 ∙ e in cc no
+stop_failed number name before start after status text other more (inr (inr failed)) e = rose-since before start after more failed.2
+
+pub failed_read : (words : List (List ℕ)) (before after : Sight) (status : Status) (text : List ℕ) → Caused words before after status text
+    → (number : ℕ) → status ≡ ReadFault (stops.Failed number) → Rose before.faults after.faults
+failed_read words before after status text caused number e = by_request (asked words) caused
+  where
+    own : IsOwn status → Rose before.faults after.faults
+    own is = absurd (is.1 number e)
+
+    more : before.faults ≤ before.faults
+    more = omega arith
+
+    by_request : (request : Result Request WordFault) → CausedByRequest request before after status text → Rose before.faults after.faults
+    by_request (Err fault) c = own (is_other status (Words fault) (λ h. cc) (λ h. cc) (λ number h. cc) c.0)
+    by_request (Ok (Make size show)) c = own (make_is size show status text c.0)
+    by_request (Ok (Mps name places)) (inl whole) = own (text_is (λ rounded. DueForEquations places) (λ rounded. equations_are places) whole.1 status text whole.4.1)
+    by_request (Ok (Mps name places)) (inr stopped) = stop_failed 1 name before before after status text number more stopped.1 e
+    by_request (Ok (Solve name gap pivots places show)) (inl whole) = own (text_is (DueForSolve places gap pivots (shown_of show)) (solve_is places gap pivots (shown_of show)) whole.1 status text whole.4.1)
+    by_request (Ok (Solve name gap pivots places show)) (inr stopped) = stop_failed 1 name before before after status text number more stopped.1 e
+    by_request (Ok (Check name plan multipliers gap places)) (inr stopped) = stop_failed 1 name before before after status text number more stopped.1 e
+    by_request (Ok (Check name plan multipliers gap places)) (inl (first, bytes, began, whole, inr stopped)) = stop_failed 2 plan before first after status text number began.faults stopped.1 e
+    by_request (Ok (Check name plan None gap places)) (inl (first, bytes, began, whole, inl (second, plan_bytes, second_began, second_whole, follows))) =
+        own (text_is (λ rounded. DueForCheck places plan_bytes None gap) (λ rounded. check_is places plan_bytes None gap) bytes status text follows.1)
+    by_request (Ok (Check name plan (Some multipliers) gap places)) (inl (first, bytes, began, whole, inl (second, plan_bytes, second_began, second_whole, inr stopped))) =
+        stop_failed 3 multipliers before second after status text number (omega (arith, began.faults, second_began.faults)) stopped.1 e
+    by_request (Ok (Check name plan (Some multipliers) gap places)) (inl (first, bytes, began, whole, inl (second, plan_bytes, second_began, second_whole, inl (third, multiplier_bytes, third_began, third_whole, follows)))) =
+        own (text_is (λ rounded. DueForCheck places plan_bytes (Some multiplier_bytes) gap) (λ rounded. check_is places plan_bytes (Some multiplier_bytes) gap) bytes status text follows.1)
 
 -- ---- what is delivered
 

@@ -1,5 +1,5 @@
 -- What is due of solving some data is due of solving any with the same sets and values.
-use Rattle.std.proofs.Common.{◌≡◌, ℕ, ◌<◌, inl, inr, List, ap, ap₂, ◌∙◌, subst}
+use Rattle.std.proofs.Common.{◌≡◌, ℕ, ◌<◌, ◌≤◌, ◌++◌, inl, inr, List, ap, ap₂, sym, ◌∙◌, subst}
 use Rattle.std.specs.Prelude.{◌⊎◌}
 use Rattle.exact_num.specs.Rational.{Rational}
 use Rattle.model_sets.specs.Data.{AreSameData, Data}
@@ -11,12 +11,14 @@ use Rattle.named_equations.specs.Existence.{all_variables}
 use Rattle.exact_solver.specs.MethodEnds.{MethodEnd, method_end}
 use Rattle.exact_solver.specs.Sizes.{column_count, inequality_count}
 use Rattle.exact_solver.specs.Solutions.{IsBound, IsDescent, IsRefutation}
-use Rattle.command_words.specs.declared.any_command.SolveShow.{SolveShow}
+use Rattle.osemosys_run.specs.declared.solve.Shown.{Shown}
+use Rattle.osemosys_run.specs.declared.solve.Shown.TheVariants.{Summary}
 use Rattle.osemosys_run.specs.declared.status.Status.{Status}
 use Rattle.osemosys_run.specs.declared.status.Status.TheVariants.{Refused}
 use Rattle.osemosys_run.specs.declared.status.Refusal.TheVariants.{TooLarge}
 use Rattle.osemosys_run.specs.declared.status.Stop.TheVariants.{Budget, Width}
 use Rattle.osemosys_run.specs.Lines.{too_large_line, uncertified_line}
+use Rattle.osemosys_run.specs.Summary.{DueForSummary, counts_text, default_pivots}
 use Rattle.osemosys_run.specs.Solve.{DueForEnd, DueForRows, DueForSolve, IsWithinLimits, PassesLimits, most_columns, most_rows}
 use Rattle.osemosys_run.specs.SolvedPlans.{AreUnbounded, IsOptimum, IsRefuted}
 use Rattle.osemosys_run.specs.SolveTexts.{infeasible_shown, solved_shown, unbounded_shown}
@@ -63,7 +65,7 @@ module _ (places : ℕ) (d e : Data) (same : AreSameData d e) where
   ends : (rows : List Row) (pivots : ℕ) (end : MethodEnd) → method_end rows (all_variables d) pivots ≡ end → method_end rows (all_variables e) pivots ≡ end
   ends rows pivots end is = subst (λ vs. method_end rows vs pivots ≡ end) vars is
 
-  end-carries : (rows : List Row) (gap pivots : ℕ) (show : SolveShow) (rounded : ℕ) (status : Status) (text : List ℕ) → DueForEnd places d rows gap pivots show rounded status text
+  end-carries : (rows : List Row) (gap pivots : ℕ) (show : Shown) (rounded : ℕ) (status : Status) (text : List ℕ) → DueForEnd places d rows gap pivots show rounded status text
       → DueForEnd places e rows gap pivots show rounded status text
   end-carries rows gap pivots show rounded status text (inl solved) =
       inl (record {
@@ -130,12 +132,12 @@ module _ (places : ℕ) (d e : Data) (same : AreSameData d e) where
     line_is = large.line_is ∙ ap (λ vs. too_large_line (inequality_count rows) (column_count vs)) vars;
   }
 
-  rows-carry : (rows : List Row) (gap pivots : ℕ) (show : SolveShow) (rounded : ℕ) (status : Status) (text : List ℕ) → DueForRows places d rows gap pivots show rounded status text
+  rows-carry : (rows : List Row) (gap pivots : ℕ) (show : Shown) (rounded : ℕ) (status : Status) (text : List ℕ) → DueForRows places d rows gap pivots show rounded status text
       → DueForRows places e rows gap pivots show rounded status text
   rows-carry rows gap pivots show rounded status text (inl large) = inl (large-carries rows status text large)
   rows-carry rows gap pivots show rounded status text (inr due) = inr (subst (IsWithinLimits rows) vars due.0, end-carries rows gap pivots show rounded status text due.1)
 
-  pub solve-carries : SameLaws places d e → (gap pivots : ℕ) (show : SolveShow) (rounded : ℕ) (status : Status) (text : List ℕ) → DueForSolve places gap pivots show rounded d status text
+  pub solve-carries : SameLaws places d e → (gap pivots : ℕ) (show : Shown) (rounded : ℕ) (status : Status) (text : List ℕ) → DueForSolve places gap pivots show rounded d status text
       → DueForSolve places gap pivots show rounded e status text
   solve-carries laws gap pivots show rounded status text (inl made) =
       inl (record {
@@ -146,3 +148,18 @@ module _ (places : ℕ) (d e : Data) (same : AreSameData d e) where
       })
   solve-carries laws gap pivots show rounded status text (inr (inl wide)) = inr (inl (wide_carries places d e status text same laws wide))
   solve-carries laws gap pivots show rounded status text (inr (inr many)) = inr (inr (many_carries places d e status text laws many))
+
+  pub summary-carries : SameLaws places d e → (rounded : ℕ) (status : Status) (text : List ℕ) → DueForSummary places rounded d status text → DueForSummary places rounded e status text
+  summary-carries laws rounded status text (inl made) =
+      inl (record {
+        made = (laws.made 0).0 made.made;
+        rows = made.rows;
+        are_rows = (laws.rows made.rows).0 made.are_rows;
+        due = (
+          made.due.0,
+          rows-carry made.rows 0 default_pivots Summary rounded status made.due.0 made.due.1,
+          made.due.2 ∙ ap (λ vs. counts_text made.rows vs ++ made.due.0) vars,
+        );
+      })
+  summary-carries laws rounded status text (inr (inl wide)) = inr (inl (wide_carries places d e status text same laws wide))
+  summary-carries laws rounded status text (inr (inr many)) = inr (inr (many_carries places d e status text laws many))

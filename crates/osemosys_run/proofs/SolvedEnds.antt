@@ -16,8 +16,8 @@ use Rattle.exact_solver.specs.declared.solutions.Solution.{Solution}
 use Rattle.exact_solver.specs.declared.solutions.Solution.TheVariants as found
 use Rattle.exact_solver.specs.declared.solutions.SolveStop.{SolveStop}
 use Rattle.exact_solver.specs.declared.solutions.SolveStop.TheVariants as stops
-use Rattle.command_words.specs.declared.any_command.SolveShow.{SolveShow}
-use Rattle.command_words.specs.declared.any_command.SolveShow.TheVariants.{Report, Plan, Multipliers}
+use Rattle.osemosys_run.specs.declared.solve.Shown.{Shown}
+use Rattle.osemosys_run.specs.declared.solve.Shown.TheVariants.{Report, Plan, Multipliers, Summary}
 use Rattle.osemosys_run.specs.declared.status.Status.{Status}
 use Rattle.osemosys_run.specs.declared.status.Stop.TheVariants.{Budget, Width}
 use Rattle.osemosys_run.specs.CheckedPlans.{AreFeasible, IsBookOf}
@@ -32,23 +32,26 @@ use Rattle.osemosys_run.proofs.SolvedRows.{no-least, none-feasible}
 
 -- ---- texts
 
-shown-optimal : (show : SolveShow) (sets : SetLists) (rows : List Row) (vars : List Var) (rounded places : ℕ) (plan : List (Var × Rational)) (multipliers : List (RowName × Rational)) (cost bound : Frac) (made : ℕ)
+shown-optimal : (show : Shown) (sets : SetLists) (rows : List Row) (vars : List Var) (rounded places : ℕ) (plan : List (Var × Rational)) (multipliers : List (RowName × Rational)) (cost bound : Frac) (made : ℕ)
     → solution_shown show sets rows vars rounded places (found.Optimal plan multipliers cost bound made) ≡ solved_shown show sets vars plan rows multipliers (value_of cost) (value_of bound) made rounded places
 shown-optimal Report sets rows vars rounded places plan multipliers cost bound made = refl
 shown-optimal Plan sets rows vars rounded places plan multipliers cost bound made = refl
 shown-optimal Multipliers sets rows vars rounded places plan multipliers cost bound made = refl
+shown-optimal Summary sets rows vars rounded places plan multipliers cost bound made = refl
 
-shown-infeasible : (show : SolveShow) (sets : SetLists) (rows : List Row) (vars : List Var) (rounded places : ℕ) (multipliers : List (RowName × Rational)) (made : ℕ)
+shown-infeasible : (show : Shown) (sets : SetLists) (rows : List Row) (vars : List Var) (rounded places : ℕ) (multipliers : List (RowName × Rational)) (made : ℕ)
     → solution_shown show sets rows vars rounded places (found.Infeasible multipliers made) ≡ infeasible_shown show sets multipliers made rounded places
 shown-infeasible Report sets rows vars rounded places multipliers made = refl
 shown-infeasible Plan sets rows vars rounded places multipliers made = refl
 shown-infeasible Multipliers sets rows vars rounded places multipliers made = refl
+shown-infeasible Summary sets rows vars rounded places multipliers made = refl
 
-shown-unbounded : (show : SolveShow) (sets : SetLists) (rows : List Row) (vars : List Var) (rounded places : ℕ) (plan direction : List (Var × Rational)) (made : ℕ)
+shown-unbounded : (show : Shown) (sets : SetLists) (rows : List Row) (vars : List Var) (rounded places : ℕ) (plan direction : List (Var × Rational)) (made : ℕ)
     → solution_shown show sets rows vars rounded places (found.Unbounded plan direction made) ≡ unbounded_shown show sets plan direction made rounded places
 shown-unbounded Report sets rows vars rounded places plan direction made = refl
 shown-unbounded Plan sets rows vars rounded places plan direction made = refl
 shown-unbounded Multipliers sets rows vars rounded places plan direction made = refl
+shown-unbounded Summary sets rows vars rounded places plan direction made = refl
 
 module _ (places : ℕ) (d : Data) (rows : List Row) (vars : List Var) (book : IsBookOf places d rows vars) where
   -- the variables of the book are those of the data
@@ -92,7 +95,7 @@ module _ (places : ℕ) (d : Data) (rows : List Row) (vars : List Var) (book : I
 
   -- ---- what is due
 
-  module _ (sets : SetLists) (same : sets ≡ d.sets) (gap pivots : ℕ) (show : SolveShow) (rounded : ℕ) (status : Status) (text : List ℕ) where
+  module _ (sets : SetLists) (same : sets ≡ d.sets) (gap pivots : ℕ) (show : Shown) (rounded : ℕ) (status : Status) (text : List ℕ) where
     ends : (end : MethodEnd) → end ≡ method_end rows vars pivots → method_end rows (all_variables d) pivots ≡ end
     ends end is = sym (is ∙ ap (λ vs. method_end rows vs pivots) are)
 

@@ -9,12 +9,13 @@ use Rattle.osemosys_run.specs.declared.status.Refusal.TheVariants.{TooLong}
 use Rattle.osemosys_run.specs.declared.status.ReadStop.TheVariants.{NoFile, Failed}
 use Rattle.command_words.specs.declared.fault.WordFault.{WordFault}
 use Rattle.osemosys_run.specs.Check.{DueForCheck}
-use Rattle.osemosys_run.specs.Due.{DueForText}
+use Rattle.osemosys_run.specs.Due.{DueForMake, DueForText}
 use Rattle.osemosys_run.specs.Lines.{stop_line, too_long_line, words_line}
 use Rattle.osemosys_run.specs.Mps.{DueForEquations}
+use Rattle.osemosys_run.specs.Shown.{shown_of}
 use Rattle.osemosys_run.specs.Solve.{DueForSolve}
 use Rattle.osemosys_run.specs.Reading.{Sight, BeganOne, HasNothingLeft, IsTooLong, IsWholeFile}
-use Rattle.command_words.specs.Words.{Request, Check, Mps, Solve, asked}
+use Rattle.command_words.specs.Words.{Request, Check, Make, Mps, Solve, asked}
 
 -- the file of this name and number is too long, or missing, or the shelf failed and counted it; and the status and the text say so
 abbrev pub StopsAtFile : ℕ → List ℕ → Sight → Sight → Status → List ℕ → Type 0
@@ -40,11 +41,12 @@ CausedByOptionalFile Then number (Some name) before after status text = CausedBy
 abbrev pub FollowsFromText : (ℕ → Data → Status → List ℕ → Type 0) → Sight → Status → List ℕ → Sight → List ℕ → Type 0
 FollowsFromText Over after status text there bytes = (after ≡ there) × DueForText Over bytes status text
 
--- for a request its files were begun one after another, and for a fault of the words the shelf stays as it is
+-- for a request its files were begun one after another; where it has none, and for a fault of the words, the shelf stays as it is
 abbrev pub CausedByRequest : Result Request WordFault → Sight → Sight → Status → List ℕ → Type 0
 CausedByRequest (Err fault) before after status text = (status ≡ Words fault) × (text ≡ words_line fault) × (after ≡ before)
 CausedByRequest (Ok (Mps name places)) before after status text = CausedByFile (FollowsFromText (λ rounded. DueForEquations places) after status text) 1 name before after status text
-CausedByRequest (Ok (Solve name gap pivots places show)) before after status text = CausedByFile (FollowsFromText (DueForSolve places gap pivots show) after status text) 1 name before after status text
+CausedByRequest (Ok (Solve name gap pivots places show)) before after status text = CausedByFile (FollowsFromText (DueForSolve places gap pivots (shown_of show)) after status text) 1 name before after status text
+CausedByRequest (Ok (Make size show)) before after status text = DueForMake size show status text × (after ≡ before)
 CausedByRequest (Ok (Check name plan multipliers gap places)) before after status text =
     CausedByFile (λ first bytes. CausedByFile (λ second plan_bytes. CausedByOptionalFile (λ there multiplier_bytes.
     FollowsFromText (λ rounded. DueForCheck places plan_bytes multiplier_bytes gap) after status text there bytes)

@@ -1,4 +1,4 @@
--- Which files `mps` must write out, which plans `check` must accept, and which models `solve` must bring to an end.
+-- Which files `mps` must write out, which plans `check` must accept, and which models `solve` and `make` must bring to an end.
 use Rattle.std.specs.Prelude.{◌≡◌, ◌⊎◌, ℕ, ℤ, ◌≤◌, List, length, Option, Some, None, Ok, ⊤}
 use Rattle.exact_num.specs.Rational.{Rational}
 use Rattle.exact_num.specs.Steps.{first_wide}
@@ -18,15 +18,22 @@ use Rattle.certificate_checker.specs.Plans.{AreValuesOver}
 use Rattle.plan_files.specs.Answers.{IsPlan}
 use Rattle.plan_files.specs.Files.{records_of}
 use Rattle.exact_solver.specs.MethodEnds.{HasNoBound, HasNoPlan, HasOptimum, IsPivotDue, IsWide, MethodEnd, method_end}
-use Rattle.command_words.specs.declared.any_command.SolveShow.{SolveShow}
+use Rattle.command_words.specs.declared.command.MakeShow.TheVariants.{File}
+use Rattle.command_words.specs.declared.command.MakeShow.TheVariants as makes
+use Rattle.command_words.specs.declared.command.SolveShow.{SolveShow}
+use Rattle.model_maker.specs.MadeText.{made_text}
+use Rattle.osemosys_run.specs.declared.solve.Shown.{Shown}
+use Rattle.osemosys_run.specs.declared.solve.Shown.TheVariants.{Summary}
 use Rattle.io_edges.specs.Files.{file_named}
 use Rattle.osemosys_run.specs.declared.status.Status.{Status}
 use Rattle.osemosys_run.specs.declared.status.Status.TheVariants.{Done, Infeasible, Unbounded, Memory}
 use Rattle.osemosys_run.specs.Accepted.{Accepted}
 use Rattle.osemosys_run.specs.Check.{TellsMultipliers, check_conditions, multiplier_bound, plan_cost}
 use Rattle.osemosys_run.specs.Reading.{most_bytes}
+use Rattle.osemosys_run.specs.Shown.{shown_of}
 use Rattle.osemosys_run.specs.Solve.{IsWithinLimits, PricesFit}
-use Rattle.command_words.specs.Words.{Check, Mps, Solve, asked}
+use Rattle.osemosys_run.specs.Summary.{default_pivots, default_places}
+use Rattle.command_words.specs.Words.{Check, Make, Mps, Solve, asked}
 
 -- the words ask for `mps` of a file that is there, with written factors of so many places; its text is accepted, and every row of the named equations over its data can be made
 pub record CanBeWritten (words : List (List ℕ)) (files : List (List ℕ × List ℕ)) : Type 0 where
@@ -80,7 +87,7 @@ pub record CanBeAccepted (words : List (List ℕ)) (files : List (List ℕ × Li
   pub fit : (rows : List Row) → AreRowsOf places d (instances d) rows → first_wide (steps (check_conditions d rows plan multipliers gap)) ≡ None
 
 -- The method comes to an end: to an optimum, where a report is to be shown with prices that fit, to no plan or to no bound.
-abbrev pub ComesToEnd : SolveShow → List Row → MethodEnd → Type 0
+abbrev pub ComesToEnd : Shown → List Row → MethodEnd → Type 0
 ComesToEnd show rows (HasOptimum plan multipliers made) = PricesFit show rows multipliers
 ComesToEnd show rows (HasNoPlan multipliers made) = ⊤
 ComesToEnd show rows (HasNoBound plan direction made) = ⊤
@@ -102,13 +109,30 @@ pub record CanBeSolved (words : List (List ℕ)) (files : List (List ℕ × List
   pub accepted : Accepted bytes d
   pub made : CanBeMade places d 0 (instances d)
   pub within : (rows : List Row) → AreRowsOf places d (instances d) rows → IsWithinLimits rows (all_variables d)
-  pub ends : (rows : List Row) → AreRowsOf places d (instances d) rows → ComesToEnd show rows (method_end rows (all_variables d) pivots)
+  pub ends : (rows : List Row) → AreRowsOf places d (instances d) rows → ComesToEnd (shown_of show) rows (method_end rows (all_variables d) pivots)
+
+-- the words ask for a made file
+pub record AskForMade (words : List (List ℕ)) : Type 0 where
+  pub size : ℕ
+  pub asks : asked words ≡ Ok (Make size File)
+
+-- The words ask for the summary of a made file; and of its text the same holds as where a model can be solved, with the options that are the default.
+pub record CanBeSummarized (words : List (List ℕ)) : Type 0 where
+  pub size : ℕ
+  pub d : Data
+  pub asks : asked words ≡ Ok (Make size makes.Summary)
+  pub accepted : Accepted (made_text size) d
+  pub made : CanBeMade default_places d 0 (instances d)
+  pub within : (rows : List Row) → AreRowsOf default_places d (instances d) rows → IsWithinLimits rows (all_variables d)
+  pub ends : (rows : List Row) → AreRowsOf default_places d (instances d) rows → ComesToEnd Summary rows (method_end rows (all_variables d) default_pivots)
 
 -- a model is solved, has no plan, or has no bound
 abbrev pub IsEnded : Status → Type 0
 IsEnded status = (status ≡ Done) ⊎ (status ≡ Infeasible) ⊎ (status ≡ Unbounded)
 
--- then the equations are written, or the plan is accepted, or the model is brought to an end, unless memory ran out
+-- then the equations or the made file are written, or the plan is accepted, or the model is brought to an end, unless memory ran out
 pub record Completes (words : List (List ℕ)) (files : List (List ℕ × List ℕ)) (status : Status) : Type 0 where
   pub done : CanBeWritten words files ⊎ CanBeAccepted words files → (status ≡ Done) ⊎ (status ≡ Memory)
   pub ended : CanBeSolved words files → IsEnded status ⊎ (status ≡ Memory)
+  pub made : AskForMade words → (status ≡ Done) ⊎ (status ≡ Memory)
+  pub summarized : CanBeSummarized words → IsEnded status ⊎ (status ≡ Memory)

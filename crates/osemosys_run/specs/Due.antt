@@ -1,20 +1,25 @@
 -- Which status and which text are due, in the order of work: the words, the file, its text, and what the command says over accepted data.
-use Rattle.std.specs.Prelude.{◌≡◌, ℕ, List, ◌⊎◌, length, MatchBool, nat_lt, Option, Some, None, Result, Ok, Err}
+use Rattle.std.specs.Prelude.{◌≡◌, ℕ, List, ◌++◌, ◌⊎◌, length, MatchBool, nat_lt, Option, Some, None, Result, Ok, Err}
 use Rattle.io_edges.specs.Files.{file_named}
 use Rattle.model_sets.specs.Data.{Data}
 use Rattle.osemosys_run.specs.declared.status.Status.{Status}
-use Rattle.osemosys_run.specs.declared.status.Status.TheVariants.{Refused, Words, ReadFault}
+use Rattle.osemosys_run.specs.declared.status.Status.TheVariants.{Done, Refused, Words, ReadFault}
 use Rattle.osemosys_run.specs.declared.status.Refusal.TheVariants.{TooLong}
 use Rattle.osemosys_run.specs.declared.status.ReadStop.TheVariants.{NoFile}
+use Rattle.command_words.specs.declared.command.MakeShow.{MakeShow}
+use Rattle.command_words.specs.declared.command.MakeShow.TheVariants.{File, Summary}
 use Rattle.command_words.specs.declared.fault.WordFault.{WordFault}
+use Rattle.model_maker.specs.MadeText.{made_text}
 use Rattle.osemosys_run.specs.Accepted.{Accepted}
 use Rattle.osemosys_run.specs.Check.{DueForCheck}
 use Rattle.osemosys_run.specs.Lines.{stop_line, too_long_line, words_line}
 use Rattle.osemosys_run.specs.Mps.{DueForEquations}
 use Rattle.osemosys_run.specs.NotAccepted.{DueWhereNotAccepted}
 use Rattle.osemosys_run.specs.Reading.{most_bytes}
+use Rattle.osemosys_run.specs.Shown.{shown_of}
 use Rattle.osemosys_run.specs.Solve.{DueForSolve}
-use Rattle.command_words.specs.Words.{Request, Check, Mps, Solve, asked}
+use Rattle.osemosys_run.specs.Summary.{DueForSummary, default_places, made_line}
+use Rattle.command_words.specs.Words.{Request, Check, Make, Mps, Solve, asked}
 
 -- over the text of a data file: its first refusal, or what `Over` has of the number of its rounded numbers and over its data
 abbrev pub DueForText : (ℕ → Data → Status → List ℕ → Type 0) → List ℕ → Status → List ℕ → Type 0
@@ -33,11 +38,17 @@ abbrev pub DueForOptionalFile : (Option (List ℕ) → Status → List ℕ → T
 DueForOptionalFile Due number files None status text = Due None status text
 DueForOptionalFile Due number files (Some name) status text = DueForFile (λ bytes. Due (Some bytes)) number (file_named files name) status text
 
+-- for a number of which a model is made, and what is to be shown: its data file, or that number and then what is due over the text of the file
+abbrev pub DueForMake : ℕ → MakeShow → Status → List ℕ → Type 0
+DueForMake size File status text = (status ≡ Done) × (text ≡ made_text size)
+DueForMake size Summary status text = (rest : List ℕ) × DueForText (DueForSummary default_places) (made_text size) status rest × (text ≡ made_line size ++ rest)
+
 -- for a request over its files, each of which is looked at before what any of them says, and for a fault of the words
 abbrev pub DueForRequest : Result Request WordFault → List (List ℕ × List ℕ) → Status → List ℕ → Type 0
 DueForRequest (Err fault) files status text = (status ≡ Words fault) × (text ≡ words_line fault)
 DueForRequest (Ok (Mps name places)) files status text = DueForFile (DueForText (λ rounded. DueForEquations places)) 1 (file_named files name) status text
-DueForRequest (Ok (Solve name gap pivots places show)) files status text = DueForFile (DueForText (DueForSolve places gap pivots show)) 1 (file_named files name) status text
+DueForRequest (Ok (Solve name gap pivots places show)) files status text = DueForFile (DueForText (DueForSolve places gap pivots (shown_of show))) 1 (file_named files name) status text
+DueForRequest (Ok (Make size show)) files status text = DueForMake size show status text
 DueForRequest (Ok (Check name plan multipliers gap places)) files status text =
     DueForFile (λ bytes. DueForFile (λ plan_bytes. DueForOptionalFile (λ multiplier_bytes.
     DueForText (λ rounded. DueForCheck places plan_bytes multiplier_bytes gap) bytes)

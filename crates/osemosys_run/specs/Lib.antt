@@ -18,8 +18,10 @@ pub mod ReadToEnd
 pub mod Reading
 pub mod RefusalLines
 pub mod Sending
+pub mod Shown
 pub mod Solve
 pub mod SolveOutcomes
 pub mod SolveTexts
 pub mod SolvedPlans
+pub mod Summary
 pub mod Tasks

@@ -12,14 +12,15 @@ use Rattle.named_equations.specs.Existence.{all_variables}
 use Rattle.exact_solver.specs.MethodEnds.{HasNoBound, HasNoPlan, HasOptimum, IsPivotDue, IsWide, method_end}
 use Rattle.exact_solver.specs.Sizes.{column_count, inequality_count}
 use Rattle.result_tables.specs.Prices.{price_steps}
-use Rattle.command_words.specs.declared.any_command.SolveShow.{SolveShow}
-use Rattle.command_words.specs.declared.any_command.SolveShow.TheVariants.{Report, Plan, Multipliers}
+use Rattle.osemosys_run.specs.declared.solve.Shown.{Shown}
+use Rattle.osemosys_run.specs.declared.solve.Shown.TheVariants.{Report, Plan, Multipliers, Summary}
 use Rattle.osemosys_run.specs.declared.status.Status.{Status}
 use Rattle.osemosys_run.specs.declared.status.Status.TheVariants.{Done, Infeasible, Unbounded, Uncertified, Refused}
 use Rattle.osemosys_run.specs.declared.status.Refusal.TheVariants.{TooLarge}
 use Rattle.osemosys_run.specs.declared.status.Stop.TheVariants.{Budget, Width}
 use Rattle.osemosys_run.specs.Lines.{too_large_line, uncertified_line}
 use Rattle.osemosys_run.specs.Mps.{IsMadeFor, IsTooLarge, IsUncertified}
+use Rattle.osemosys_run.specs.Shown.{HasPrices}
 use Rattle.osemosys_run.specs.SolvedPlans.{AreUnbounded, IsOptimum, IsRefuted}
 use Rattle.osemosys_run.specs.SolveTexts.{infeasible_shown, solved_shown, unbounded_shown}
 
@@ -44,16 +45,17 @@ pub record PassesLimits (d : Data) (rows : List Row) (status : Status) (text : L
 
 -- ---- prices
 
--- a report has prices, and every number that is formed for them fits
-abbrev pub PricesFit : SolveShow → List Row → List (RowName × Rational) → Type 0
+-- every number that is formed for the prices of a report, or of its summary, fits
+abbrev pub PricesFit : Shown → List Row → List (RowName × Rational) → Type 0
 PricesFit Report rows multipliers = first_wide (price_steps rows multipliers) ≡ None
 PricesFit Plan rows multipliers = ⊤
 PricesFit Multipliers rows multipliers = ⊤
+PricesFit Summary rows multipliers = first_wide (price_steps rows multipliers) ≡ None
 
 -- ---- ends, with so many pivots at most, and so many numbers of the data that are rounded
 
 -- a plan that meets the named equations, and a bound within the gap of its cost that no such plan undercuts
-pub record IsSolved (places : ℕ) (d : Data) (rows : List Row) (gap pivots : ℕ) (show : SolveShow) (rounded : ℕ) (status : Status) (text : List ℕ) : Type 0 where
+pub record IsSolved (places : ℕ) (d : Data) (rows : List Row) (gap pivots : ℕ) (show : Shown) (rounded : ℕ) (status : Status) (text : List ℕ) : Type 0 where
   pub plan : List (Var × Rational)
   pub multipliers : List (RowName × Rational)
   pub cost : Rational
@@ -66,7 +68,7 @@ pub record IsSolved (places : ℕ) (d : Data) (rows : List Row) (gap pivots : �
   pub text_is : text ≡ solved_shown show d.sets (all_variables d) plan rows multipliers cost bound made rounded places
 
 -- no plan meets them
-pub record IsInfeasible (places : ℕ) (d : Data) (rows : List Row) (pivots : ℕ) (show : SolveShow) (rounded : ℕ) (status : Status) (text : List ℕ) : Type 0 where
+pub record IsInfeasible (places : ℕ) (d : Data) (rows : List Row) (pivots : ℕ) (show : Shown) (rounded : ℕ) (status : Status) (text : List ℕ) : Type 0 where
   pub multipliers : List (RowName × Rational)
   pub made : ℕ
   pub end : method_end rows (all_variables d) pivots ≡ HasNoPlan multipliers made
@@ -75,7 +77,7 @@ pub record IsInfeasible (places : ℕ) (d : Data) (rows : List Row) (pivots : �
   pub text_is : text ≡ infeasible_shown show d.sets multipliers made rounded places
 
 -- plans of any lower cost meet them
-pub record IsUnbounded (places : ℕ) (d : Data) (rows : List Row) (pivots : ℕ) (show : SolveShow) (rounded : ℕ) (status : Status) (text : List ℕ) : Type 0 where
+pub record IsUnbounded (places : ℕ) (d : Data) (rows : List Row) (pivots : ℕ) (show : Shown) (rounded : ℕ) (status : Status) (text : List ℕ) : Type 0 where
   pub plan : List (Var × Rational)
   pub direction : List (Var × Rational)
   pub made : ℕ
@@ -99,20 +101,20 @@ pub record IsTooWideToSolve (d : Data) (rows : List Row) (pivots : ℕ) (status 
   pub status_is : status ≡ Uncertified (Width place)
   pub line_is : text ≡ uncertified_line d.sets (Width place)
 
--- or, where a report is to be shown, it is formed for this price, after all else
-pub record HasWidePrice (d : Data) (rows : List Row) (pivots : ℕ) (show : SolveShow) (status : Status) (text : List ℕ) : Type 0 where
+-- or, where what is to be shown has prices, it is formed for this one, after all else
+pub record HasWidePrice (d : Data) (rows : List Row) (pivots : ℕ) (show : Shown) (status : Status) (text : List ℕ) : Type 0 where
   pub plan : List (Var × Rational)
   pub multipliers : List (RowName × Rational)
   pub made : ℕ
   pub place : Place
   pub end : method_end rows (all_variables d) pivots ≡ HasOptimum plan multipliers made
-  pub reported : show ≡ Report
+  pub reported : HasPrices show
   pub wide : first_wide (price_steps rows multipliers) ≡ Some place
   pub status_is : status ≡ Uncertified (Width place)
   pub line_is : text ≡ uncertified_line d.sets (Width place)
 
 -- what is due of a linear program within the limits
-abbrev pub DueForEnd : ℕ → Data → List Row → ℕ → ℕ → SolveShow → ℕ → Status → List ℕ → Type 0
+abbrev pub DueForEnd : ℕ → Data → List Row → ℕ → ℕ → Shown → ℕ → Status → List ℕ → Type 0
 DueForEnd places d rows gap pivots show rounded status text =
     IsSolved places d rows gap pivots show rounded status text
     ⊎ IsInfeasible places d rows pivots show rounded status text
@@ -122,12 +124,12 @@ DueForEnd places d rows gap pivots show rounded status text =
     ⊎ HasWidePrice d rows pivots show status text
 
 -- what is due over the rows
-abbrev pub DueForRows : ℕ → Data → List Row → ℕ → ℕ → SolveShow → ℕ → Status → List ℕ → Type 0
+abbrev pub DueForRows : ℕ → Data → List Row → ℕ → ℕ → Shown → ℕ → Status → List ℕ → Type 0
 DueForRows places d rows gap pivots show rounded status text =
     PassesLimits d rows status text ⊎ (IsWithinLimits rows (all_variables d) × DueForEnd places d rows gap pivots show rounded status text)
 
 -- What is due over these data, for a gap in millionths, so many pivots at most, and what is to be shown.
-abbrev pub DueForSolve : ℕ → ℕ → ℕ → SolveShow → ℕ → Data → Status → List ℕ → Type 0
+abbrev pub DueForSolve : ℕ → ℕ → ℕ → Shown → ℕ → Data → Status → List ℕ → Type 0
 DueForSolve places gap pivots show rounded d status text =
     IsMadeFor places d (λ rows. DueForRows places d rows gap pivots show rounded status text)
     ⊎ IsUncertified places d status text ⊎ IsTooLarge places d status text

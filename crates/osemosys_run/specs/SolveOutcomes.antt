@@ -1,8 +1,9 @@
 -- What a solution of a book comes to, and a stop of the method, as statuses and texts.
-use Rattle.std.specs.Prelude.{◌≡◌, ℕ, List, [], ◌⊎◌, Some, ⊤}
+use Rattle.std.specs.Prelude.{◌≡◌, ℕ, List, [], ◌⊎◌, Some, ⊤, codes}
 use Rattle.exact_num.specs.Steps.{first_wide}
 use Rattle.exact_num.specs.Value.{value_of}
 use Rattle.model_sets.specs.Members.{SetLists}
+use Rattle.mps_writer.specs.MpsText.{line}
 use Rattle.row_core.specs.declared.Row.{Row}
 use Rattle.row_core.specs.declared.Var.{Var}
 use Rattle.row_core.specs.declared.place.Place.{Place}
@@ -14,14 +15,15 @@ use Rattle.exact_solver.specs.declared.solutions.SolveStop.{SolveStop}
 use Rattle.exact_solver.specs.declared.solutions.SolveStop.TheVariants as stops
 use Rattle.result_tables.specs.Prices.{price_steps}
 use Rattle.result_tables.specs.Reports.{infeasible_text, report_text, unbounded_text}
-use Rattle.command_words.specs.declared.any_command.SolveShow.{SolveShow}
-use Rattle.command_words.specs.declared.any_command.SolveShow.TheVariants.{Report, Plan, Multipliers}
+use Rattle.osemosys_run.specs.Shown.{HasPrices}
+use Rattle.osemosys_run.specs.declared.solve.Shown.{Shown}
+use Rattle.osemosys_run.specs.declared.solve.Shown.TheVariants.{Report, Plan, Multipliers, Summary}
 use Rattle.osemosys_run.specs.declared.status.Status.{Status}
 use Rattle.osemosys_run.specs.declared.status.Status.TheVariants.{Done, Infeasible, Unbounded, Uncertified}
 use Rattle.osemosys_run.specs.declared.status.Stop.TheVariants.{Budget, Width}
 use Rattle.osemosys_run.specs.Lines.{uncertified_line}
 use Rattle.osemosys_run.specs.Solve.{PricesFit}
-use Rattle.osemosys_run.specs.SolveTexts.{multiplier_file, plan_file}
+use Rattle.osemosys_run.specs.SolveTexts.{multiplier_file, plan_file, solved_lines}
 
 -- ---- texts
 
@@ -40,27 +42,33 @@ multipliers_shown sets (found.Optimal plan multipliers cost bound made) = multip
 multipliers_shown sets (found.Infeasible multipliers made) = multiplier_file sets multipliers
 multipliers_shown sets (found.Unbounded plan direction made) = multiplier_file sets []
 
-abbrev pub solution_shown : SolveShow → SetLists → List Row → List Var → ℕ → ℕ → Solution → List ℕ
+abbrev pub summary_shown : Solution → List ℕ
+summary_shown (found.Optimal plan multipliers cost bound made) = solved_lines (value_of cost) (value_of bound) made
+summary_shown (found.Infeasible multipliers made) = line (codes "status infeasible")
+summary_shown (found.Unbounded plan direction made) = line (codes "status unbounded")
+
+abbrev pub solution_shown : Shown → SetLists → List Row → List Var → ℕ → ℕ → Solution → List ℕ
 solution_shown Report sets rows vars rounded places solution = report_shown sets rows vars rounded places solution
 solution_shown Plan sets rows vars rounded places solution = plan_shown sets solution
 solution_shown Multipliers sets rows vars rounded places solution = multipliers_shown sets solution
+solution_shown Summary sets rows vars rounded places solution = summary_shown solution
 
 -- ---- prices
 
 -- every number that is formed for the prices of a report fits
-abbrev pub PricesFitIn : SolveShow → List Row → Solution → Type 0
+abbrev pub PricesFitIn : Shown → List Row → Solution → Type 0
 PricesFitIn show rows (found.Optimal plan multipliers cost bound made) = PricesFit show rows multipliers
 PricesFitIn show rows (found.Infeasible multipliers made) = ⊤
 PricesFitIn show rows (found.Unbounded plan direction made) = ⊤
 
 -- the first that doesn't is formed for this price
-abbrev pub HasPriceWideAt : SolveShow → List Row → Solution → Place → Type 0
-HasPriceWideAt show rows (found.Optimal plan multipliers cost bound made) place = (show ≡ Report) × (first_wide (price_steps rows multipliers) ≡ Some place)
+abbrev pub HasPriceWideAt : Shown → List Row → Solution → Place → Type 0
+HasPriceWideAt show rows (found.Optimal plan multipliers cost bound made) place = HasPrices show × (first_wide (price_steps rows multipliers) ≡ Some place)
 HasPriceWideAt show rows (found.Infeasible multipliers made) place = ⊥
 HasPriceWideAt show rows (found.Unbounded plan direction made) place = ⊥
 
 -- and so the text isn't written; out of memory has no cause
-abbrev pub PricesAreStopped : SolveShow → List Row → Solution → Stopped → Type 0
+abbrev pub PricesAreStopped : Shown → List Row → Solution → Stopped → Type 0
 PricesAreStopped show rows solution (parts.Width place) = HasPriceWideAt show rows solution place
 PricesAreStopped show rows solution parts.Memory = ⊤
 
@@ -72,7 +80,7 @@ status_of (found.Infeasible multipliers made) = Infeasible
 status_of (found.Unbounded plan direction made) = Unbounded
 
 -- the status and the text tell the solution, or at which price a number doesn't fit
-abbrev pub TellsSolution : SetLists → List Row → List Var → SolveShow → ℕ → ℕ → Solution → Status → List ℕ → Type 0
+abbrev pub TellsSolution : SetLists → List Row → List Var → Shown → ℕ → ℕ → Solution → Status → List ℕ → Type 0
 TellsSolution sets rows vars show rounded places solution status text =
     (PricesFitIn show rows solution × (status ≡ status_of solution) × (text ≡ solution_shown show sets rows vars rounded places solution))
     ⊎ ((place : Place) × HasPriceWideAt show rows solution place × (status ≡ Uncertified (Width place)) × (text ≡ uncertified_line sets (Width place)))

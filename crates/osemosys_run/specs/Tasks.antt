@@ -2,11 +2,13 @@
 use Rattle.std.specs.Prelude.{ℕ, List}
 use Rattle.model_sets.specs.Data.{Data}
 use Rattle.osemosys_run.specs.declared.one_file.Task.{Task}
-use Rattle.osemosys_run.specs.declared.one_file.Task.TheVariants.{Solve, Write}
+use Rattle.osemosys_run.specs.declared.one_file.Task.TheVariants.{Solve, Summarize, Write}
 use Rattle.osemosys_run.specs.declared.status.Status.{Status}
 use Rattle.osemosys_run.specs.Mps.{DueForEquations}
 use Rattle.osemosys_run.specs.Solve.{DueForSolve}
+use Rattle.osemosys_run.specs.Summary.{DueForSummary}
 
 abbrev pub DueForTask : Task → ℕ → ℕ → Data → Status → List ℕ → Type 0
 DueForTask Write places rounded = DueForEquations places
 DueForTask (Solve wanted) places rounded = DueForSolve places wanted.gap wanted.pivots wanted.show rounded
+DueForTask Summarize places rounded = DueForSummary places rounded

@@ -12,6 +12,7 @@ mod books;
 mod check;
 mod check_files;
 mod lines;
+mod making;
 mod mps;
 mod one_file;
 mod places;
@@ -22,6 +23,7 @@ mod run;
 mod sending;
 mod solve;
 mod status;
+mod summary;
 
 pub use command_words::WordFault;
 pub use run::osemosys;

@@ -12,6 +12,7 @@ use crate::answer::{Answer, refuse_file};
 use crate::mps::answer_mps;
 use crate::reading::read_file;
 use crate::solve::{Wanted, answer_solve};
+use crate::summary::answer_summary;
 use io_edges::Shelf;
 use std::alloc::{AllocError, Global};
 
@@ -25,6 +26,8 @@ pub enum Task {
     Write,
     /// To solve the model.
     Solve(Wanted),
+    /// To say in a few lines how large it is, and what solving it comes to.
+    Summarize,
 }
 
 /// The answer of a task over the file of this name, with written factors of 6 or 9 decimal places.
@@ -52,8 +55,13 @@ pub fn perform_task<S: Shelf>(
     }
 }
 
-// The answer of a task over the text of its file. The text is gone before the first row is made.
-fn answer_text(alloc: Global, text: Vec<u8>, task: Task, places: u8) -> Result<Answer, AllocError>
+/// The answer of a task over the text of its file. The text is gone before the first row is made.
+pub fn answer_text(
+    alloc: Global,
+    text: Vec<u8>,
+    task: Task,
+    places: u8,
+) -> Result<Answer, AllocError>
     requires short { length text.items ≤ most_bytes }
     requires places { IsPlaces places }
     ensures { IfOk result (λ answer. DueForText (DueForTask task places) text.items answer.status answer.text.items) }
@@ -62,6 +70,7 @@ fn answer_text(alloc: Global, text: Vec<u8>, task: Task, places: u8) -> Result<A
         Ok(model) => match task {
             Task::Write => answer_mps(alloc, &model, places),
             Task::Solve(wanted) => answer_solve(alloc, &model, places, wanted),
+            Task::Summarize => answer_summary(alloc, &model, places),
         },
         Err(answer) => Ok(answer),
     }

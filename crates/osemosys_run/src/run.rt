@@ -18,6 +18,7 @@ ghost use Rattle.row_book.specs.Books.{AreRowsOf};
 ghost use Rattle.row_core.specs.declared.Row.{Row};
 ghost use Rattle.row_core.specs.declared.RowName.{RowName};
 ghost use Rattle.row_core.specs.declared.Var.{Var};
+ghost use Rattle.osemosys_run.specs.declared.status.ReadStop.{ReadStop};
 ghost use Rattle.osemosys_run.specs.declared.status.Status.{Status};
 ghost use Rattle.osemosys_run.specs.Accepted.{Accepted};
 ghost use Rattle.osemosys_run.specs.Causes.{Caused};
@@ -34,10 +35,11 @@ ghost use Rattle.command_words.specs.WordParts.{HasSpelledParts, Part};
 use crate::accepting::acceptance_laws;
 use crate::answer::{Answer, refuse_words};
 use crate::check_files::{Asked, perform_check};
+use crate::making::perform_make;
 use crate::one_file::{Task, perform_task};
 use crate::promises::promise_laws;
 use crate::sending::send;
-use crate::solve::Wanted;
+use crate::solve::{Wanted, shown_of};
 use crate::status::Status;
 use command_words::{Command, read_command, spelled_parts};
 use io_edges::{Shelf, Sink};
@@ -62,6 +64,9 @@ use std::alloc::{AllocError, Global};
 /// equation with right signs, and a bound that no such plan undercuts, which is its cost; or shows that there is no such plan
 /// (`Infeasible`), or that there are plans of any lower cost (`Unbounded`). It makes N pivots at most, 20,000 where the option is
 /// left out, and writes a report with prices of fuels, the plan, or the multipliers that prove the bound.
+///
+/// `make N [--show file|summary]` reads no file. It writes a data file that is made of the number N, from 3 to 122; or how large
+/// its model is, and what `solve` with its default options comes to on it.
 ///
 /// Where the words, a file or what it says is refused, a number leaves 128 bits, a pivot is due after the last that may be made,
 /// the rows have too many entries, or the linear program is too large, one line says why. Memory may run out anywhere; then nothing is written.
@@ -94,7 +99,7 @@ pub fn osemosys<S: Shelf, K: Sink>(
 
     // A data file that isn't refused, and whose rows can be made, is written out; and a feasible plan with multipliers that
     // prove their bound and keep the gap is accepted, where the files are in form and every number that is formed for the
-    // conditions fits; unless memory runs out, and over a shelf and a sink without a fault.
+    // conditions fits; a made file is written; unless memory runs out, and over a shelf and a sink without a fault.
     ensures complete { WhereTold (S.files shelf.old) (λ files.
         (Rose (S.faults shelf.old) (S.faults shelf.new) → ⊥) → (Rose (K.faults out.old) (K.faults out.new) → ⊥)
         → Completes (map string_bytes words.now) files result) }
@@ -132,6 +137,10 @@ pub fn osemosys<S: Shelf, K: Sink>(
     // Every price of a report keeps what it promises.
     ensures prices { (places : ℕ) (d : Data) (rows : List Row) (gap : ℕ) (plan : List (Var × Rational)) (multipliers : List (RowName × Rational)) (cost bound : Rational)
         → AreRowsOf places d (instances d) rows → IsOptimum places d rows gap plan multipliers cost bound → ArePromised places d rows multipliers bound }
+
+    // A failed read is answered only where the shelf counted a fault, and a failed write only where the sink did.
+    ensures failed_read { (file : ℕ) → result ≡ Status.ReadFault (ReadStop.Failed file) → Rose (S.faults shelf.old) (S.faults shelf.new) }
+    ensures failed_write { result ≡ Status.WriteFault → Rose (K.faults out.old) (K.faults out.new) }
 
     // What stays, and what doesn't fall.
     ensures files { S.files shelf.new ≡ S.files shelf.old }
@@ -177,9 +186,11 @@ fn perform<S: Shelf>(alloc: Global, words: &[String], shelf: &mut S) -> Result<A
                 show,
             },
         ) => {
+            let show = shown_of(show);
             let task = Task::Solve(Wanted { gap, pivots, show });
             perform_task(alloc, file, task, places, shelf)
         }
+        Ok(Command::Make { size, show }) => perform_make(alloc, size, show),
         Ok(
             Command::Check {
                 file,

@@ -11,6 +11,7 @@ ghost use Rattle.model_sets.specs.Data.{AreSameData, Data};
 ghost use Rattle.exact_solver.specs.Sizes.{column_count, inequality_count};
 ghost use Rattle.osemosys_run.specs.CheckedPlans.{IsBookOf, IsListedBook};
 ghost use Rattle.osemosys_run.specs.Lines.{too_large_line};
+ghost use Rattle.osemosys_run.specs.Shown.{shown_of};
 ghost use Rattle.osemosys_run.specs.Solve.{DueForRows, DueForSolve, most_columns, most_rows};
 
 use crate::answer::Answer;
@@ -31,13 +32,33 @@ const MOST_ROWS: u64 = 20_000;
 /// The most columns that it may have.
 const MOST_COLUMNS: u64 = 40_000;
 
+/// What is shown of a solution: a report, its plan, its multipliers, or a few lines.
+#[derive(Clone, Copy, Debug, PartialEq, Eq)]
+pub enum Shown {
+    Report,
+    Plan,
+    Multipliers,
+    Summary,
+}
+
+/// What the words ask `solve` to show.
+pub fn shown_of(show: SolveShow) -> Shown
+    ensures { result ≡ shown_of show }
+{
+    match show {
+        SolveShow::Report => Shown::Report,
+        SolveShow::Plan => Shown::Plan,
+        SolveShow::Multipliers => Shown::Multipliers,
+    }
+}
+
 /// What is wanted of a model: a cost that is at most so many millionths of the bound above it, found by so many pivots at most,
 /// and what is to be shown.
 #[derive(Clone, Copy, Debug, PartialEq, Eq)]
 pub struct Wanted {
     pub gap: u32,
     pub pivots: u32,
-    pub show: SolveShow,
+    pub show: Shown,
 }
 
 /// What is due over any data that have the model's sets and values, with written factors of 6 or 9 decimal places.
@@ -74,8 +95,8 @@ fn answer_model(
     }
 }
 
-// What is due over a book of rows with written factors of so many decimal places, of data of which so many numbers were rounded.
-fn answer_book(
+/// What is due over a book of rows with written factors of so many decimal places, of data of which so many numbers were rounded.
+pub fn answer_book(
     alloc: Global,
     book: &RowBook,
     sets: &Sets,

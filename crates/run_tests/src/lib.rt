@@ -16,6 +16,8 @@ mod number_ends;
 #[cfg(test)]
 mod pieces;
 #[cfg(test)]
+mod made;
+#[cfg(test)]
 mod plan_records;
 #[cfg(test)]
 mod plans;
@@ -23,5 +25,8 @@ mod plans;
 mod refusals;
 #[cfg(test)]
 mod solves;
+mod sure;
 #[cfg(test)]
 mod texts;
+
+pub use sure::run_surely;

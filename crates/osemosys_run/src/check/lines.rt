@@ -78,7 +78,7 @@ fn push_by(out: &mut Vec<u8>, amount: Frac) -> Result<(), AllocError>
 }
 
 // Appends a line of a word and an amount.
-fn push_amount(out: &mut Vec<u8>, word: &[u8], amount: Frac) -> Result<(), AllocError>
+pub fn push_amount(out: &mut Vec<u8>, word: &[u8], amount: Frac) -> Result<(), AllocError>
     ensures { OnOk result (out.new.items ≡ out.old.items ++ line (word.now ++ fraction_text (value_of amount))) }
 {
     out.extend_from_slice(word)?;

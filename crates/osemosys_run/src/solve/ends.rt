@@ -9,9 +9,9 @@ ghost use Rattle.osemosys_run.specs.SolveOutcomes.{TellsSolution, TellsStop, sta
 use crate::answer::Answer;
 use crate::books::stop_at;
 use crate::lines::budget_line;
+use crate::solve::Shown;
 use crate::solve::texts::solution_text;
 use crate::status::{Status, Stop};
-use command_words::SolveShow;
 use exact_solver::{Solution, SolveStop};
 use model_sets::Sets;
 use row_book::RowBook;
@@ -25,7 +25,7 @@ pub fn answer_solution(
     book: &RowBook,
     sets: &Sets,
     solution: &Solution,
-    show: SolveShow,
+    show: Shown,
     rounded: u64,
     places: u8,
 ) -> Result<Answer, AllocError>

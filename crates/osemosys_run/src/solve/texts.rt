@@ -1,12 +1,16 @@
-// What is shown of a solution: a report, its plan or its multipliers.
+// What is shown of a solution: a report, its plan, its multipliers or a few lines.
 ghost use Rattle.std.specs.Prelude.{◌≡◌, [], IfErr, IfOk, OnOk};
+ghost use Rattle.exact_num.specs.Value.{value_of};
 ghost use Rattle.exact_solver.specs.Solutions.{IsComplete, IsNamed};
 ghost use Rattle.osemosys_run.specs.CheckedPlans.{IsListedBook};
-ghost use Rattle.osemosys_run.specs.SolveOutcomes.{PricesAreStopped, PricesFitIn, multipliers_shown, plan_shown, report_shown, solution_shown};
-ghost use Rattle.osemosys_run.specs.SolveTexts.{multiplier_file, plan_file};
-ghost use Rattle.command_words.specs.declared.any_command.SolveShow.TheVariants as shows;
+ghost use Rattle.osemosys_run.specs.SolveOutcomes.{PricesAreStopped, PricesFitIn, multipliers_shown, plan_shown, report_shown, solution_shown, summary_shown};
+ghost use Rattle.osemosys_run.specs.SolveTexts.{multiplier_file, plan_file, solved_lines};
+ghost use Rattle.osemosys_run.specs.declared.solve.Shown.TheVariants as shows;
 
-use command_words::SolveShow;
+use crate::check::lines::push_amount;
+use crate::places::push_with_number;
+use crate::solve::Shown;
+use exact_num::Frac;
 use exact_solver::Solution;
 use model_sets::Sets;
 use plan_files::{multiplier_text, plan_text};
@@ -18,13 +22,13 @@ use std::alloc::{AllocError, Global};
 /// The text of what is to be shown of a solution of a book, of data of which so many numbers were rounded, and with written factors
 /// of so many decimal places. A file of a plan or of multipliers that there aren't is its header alone.
 ///
-/// `Width` comes exactly where a report is to be shown and a number that is formed for a price doesn't fit.
+/// `Width` comes exactly where a report, or a summary of it, is to be shown and a number that is formed for a price doesn't fit.
 pub fn solution_text(
     alloc: Global,
     book: &RowBook,
     sets: &Sets,
     solution: &Solution,
-    show: SolveShow,
+    show: Shown,
     rounded: u64,
     places: u8,
 ) -> Result<Vec<u8>, Stopped>
@@ -36,9 +40,10 @@ pub fn solution_text(
     ensures stopped { IfErr result (PricesAreStopped show book.now.rows solution.now) }
 {
     match show {
-        SolveShow::Report => report_of(alloc, book, sets, solution, rounded, places),
-        SolveShow::Plan => Ok(plan_of(alloc, book, sets, solution)?),
-        SolveShow::Multipliers => Ok(multipliers_of(alloc, book, sets, solution)?),
+        Shown::Report => report_of(alloc, book, sets, solution, rounded, places),
+        Shown::Plan => Ok(plan_of(alloc, book, sets, solution)?),
+        Shown::Multipliers => Ok(multipliers_of(alloc, book, sets, solution)?),
+        Shown::Summary => summary_of(alloc, book, sets, solution, rounded, places),
     }
 }
 
@@ -86,6 +91,53 @@ fn report_of(
             ..
         } => Ok(unbounded_report(alloc, direction, *pivots, rounded, places, sets)?),
     }
+}
+
+// The summary of a solution. Making the report shows whether the numbers that are formed for its prices fit.
+fn summary_of(
+    alloc: Global,
+    book: &RowBook,
+    sets: &Sets,
+    solution: &Solution,
+    rounded: u64,
+    places: u8,
+) -> Result<Vec<u8>, Stopped>
+    requires listed { IsListedBook sets.now book.now.rows book.now.vars }
+    requires complete { IsComplete book.now.vars solution.now }
+    ensures text { IfOk result (λ text. text.items ≡ summary_shown solution.now) }
+    ensures fits { OnOk result (PricesFitIn shows.Summary book.now.rows solution.now) }
+    ensures stopped { IfErr result (PricesAreStopped shows.Summary book.now.rows solution.now) }
+{
+    let _report = report_of(alloc, book, sets, solution, rounded, places)?;
+    Ok(summary_text(alloc, solution)?)
+}
+
+// Its text.
+fn summary_text(alloc: Global, solution: &Solution) -> Result<Vec<u8>, AllocError>
+    ensures { IfOk result (λ text. text.items ≡ summary_shown solution.now) }
+{
+    match solution {
+        Solution::Optimal {
+            cost,
+            bound,
+            pivots,
+            ..
+        } => solved_lines(alloc, *cost, *bound, *pivots),
+        Solution::Infeasible { .. } => Vec::from_slice(alloc, b"status infeasible\n"),
+        Solution::Unbounded { .. } => Vec::from_slice(alloc, b"status unbounded\n"),
+    }
+}
+
+// The lines of an optimum.
+fn solved_lines(alloc: Global, cost: Frac, bound: Frac, pivots: u64) -> Result<Vec<u8>, AllocError>
+    ensures { IfOk result (λ text. text.items ≡ solved_lines (value_of cost) (value_of bound) pivots) }
+{
+    let mut text = Vec::from_slice(alloc, b"status solved\n")?;
+    push_amount(&mut text, b"cost ", cost)?;
+    push_amount(&mut text, b"bound ", bound)?;
+    push_with_number(&mut text, b"pivots ", pivots)?;
+    text.extend_from_slice(b"\n")?;
+    Ok(text)
 }
 
 // The file of its plan.

@@ -7,7 +7,7 @@ use Rattle.osemosys_run.specs.Reading.{Sight}
 use Rattle.osemosys_run.specs.Sending.{HoldsPrefixOf}
 use Rattle.osemosys_run.proofs.Completeness.{Laws}
 use Rattle.osemosys_run.proofs.EndsOfFiles.{read_at_write_fault, read_to_end}
-use Rattle.osemosys_run.proofs.Outcomes.{due_from_cause, is_answer, delivered}
+use Rattle.osemosys_run.proofs.Outcomes.{due_from_cause, failed_read, is_answer, delivered}
 use Rattle.osemosys_run.proofs.SolveCompleteness.{completes}
 use Rattle.osemosys_run.proofs.run.osemosys.Goals as goal
 
@@ -120,3 +120,23 @@ returns-in-Ok-send-clause-complete g c = λ files told calm unfailing.
 
 pub returns-in-Err-send-clause-complete : goal.returns-in-Err-send-clause-complete
 returns-in-Err-send-clause-complete g c = λ files told calm unfailing. absurd (unfailing c.in-Err-send.ensures.failed)
+
+pub returns-in-Ok-send-clause-failed_read : goal.returns-in-Ok-send-clause-failed_read
+returns-in-Ok-send-clause-failed_read g c =
+    let words = map string_bytes c.args.words.now in
+    let shelf = g.S.Shelf in
+    let old = c.args.shelf.now in
+    let new = c.perform.new.shelf in
+    let before : Sight = record { files = shelf.files old; rest = shelf.rest old; faults = shelf.faults old; begins = shelf.begins old; taken = shelf.taken old } in
+    let after : Sight = record { files = shelf.files new; rest = shelf.rest new; faults = shelf.faults new; begins = shelf.begins new; taken = shelf.taken new } in
+    failed_read words before after c.in-Ok.field-0.status c.in-Ok.field-0.text.items c.in-Ok.ensures.caused
+
+pub returns-in-Ok-send-clause-failed_write : goal.returns-in-Ok-send-clause-failed_write
+returns-in-Ok-send-clause-failed_write g c =
+    let words = map string_bytes c.args.words.now in
+    let shelf = g.S.Shelf in
+    let old = c.args.shelf.now in
+    let new = c.perform.new.shelf in
+    let before : Sight = record { files = shelf.files old; rest = shelf.rest old; faults = shelf.faults old; begins = shelf.begins old; taken = shelf.taken old } in
+    let after : Sight = record { files = shelf.files new; rest = shelf.rest new; faults = shelf.faults new; begins = shelf.begins new; taken = shelf.taken new } in
+    λ cut. absurd ((is_answer words before after c.in-Ok.field-0.status c.in-Ok.field-0.text.items c.in-Ok.ensures.caused).0 cut)

@@ -1,12 +1,14 @@
-use Rattle.std.proofs.Common.{◌∙◌, ap, sym, subst, Result, Ok, map, option_map}
+use Rattle.std.proofs.Common.{◌∙◌, ap, refl, sym, subst, Result, Ok, map, option_map}
 use Rattle.std.proofs.lemmas.Result.{IfOk-weaker}
 use Rattle.std.specs.String.{string_bytes}
 use Rattle.command_words.specs.declared.fault.WordFault.{WordFault}
-use Rattle.osemosys_run.specs.Causes.{CausedByRequest}
+use Rattle.osemosys_run.specs.declared.solve.Shown.{Shown}
+use Rattle.osemosys_run.specs.Causes.{CausedByFile, CausedByRequest, FollowsFromText}
+use Rattle.osemosys_run.specs.Solve.{DueForSolve}
 use Rattle.command_words.specs.Commands.{request_of_result}
 use Rattle.osemosys_run.specs.Reading.{Sight}
 use Rattle.command_words.specs.Words.{Request}
-use Rattle.command_words.proofs.Requests.{asked_places, check_places, solve_places}
+use Rattle.command_words.proofs.Requests.{asked_places, check_places, make_size, solve_places}
 use Rattle.osemosys_run.proofs.run.perform.Goals as goal
 
 pub perform_task-requires : goal.perform_task-requires
@@ -18,6 +20,16 @@ pub perform_task-requires-in-Ok-Solve : goal.perform_task-requires-in-Ok-Solve
 perform_task-requires-in-Ok-Solve g c =
     let request = ap request_of_result (sym (c.in-Ok-Solve.is ∙ ap Ok c.in-Ok-Solve.field-0-is)) ∙ c.in_ok-file.ensures in
     solve_places (map string_bytes c.args.words.now) c.in-Ok-Solve.file.now c.in-Ok-Solve.gap c.in-Ok-Solve.pivots c.in-Ok-Solve.places c.in-Ok-Solve.show (sym request)
+
+pub perform_make-requires-clause-least : goal.perform_make-requires-clause-least
+perform_make-requires-clause-least g c =
+    let request = ap request_of_result (sym (c.in-Ok-Make.is ∙ ap Ok c.in-Ok-Make.field-0-is)) ∙ c.in_ok-file.ensures in
+    (make_size (map string_bytes c.args.words.now) c.in-Ok-Make.size c.in-Ok-Make.show (sym request)).0
+
+pub perform_make-requires-clause-most : goal.perform_make-requires-clause-most
+perform_make-requires-clause-most g c =
+    let request = ap request_of_result (sym (c.in-Ok-Make.is ∙ ap Ok c.in-Ok-Make.field-0-is)) ∙ c.in_ok-file.ensures in
+    (make_size (map string_bytes c.args.words.now) c.in-Ok-Make.size c.in-Ok-Make.show (sym request)).1
 
 pub perform_check-requires : goal.perform_check-requires
 perform_check-requires g c =
@@ -44,8 +56,12 @@ returns-in-Ok-Solve-clause-caused g c =
     let before : Sight = record { files = shelf.files old; rest = shelf.rest old; faults = shelf.faults old; begins = shelf.begins old; taken = shelf.taken old } in
     let after : Sight = record { files = shelf.files new; rest = shelf.rest new; faults = shelf.faults new; begins = shelf.begins new; taken = shelf.taken new } in
     let request = ap request_of_result (sym (c.in-Ok-Solve.is ∙ ap Ok c.in-Ok-Solve.field-0-is)) ∙ c.in_ok-file.ensures in
+    let solve = c.in-Ok-Solve in
     IfOk-weaker c.perform_task-in-Ok-Solve.result _ _
-    (λ answer caused. subst (λ (r : Result Request WordFault). CausedByRequest r before after answer.status answer.text.items) request caused)
+    (λ answer caused.
+    subst (λ (r : Result Request WordFault). CausedByRequest r before after answer.status answer.text.items) request
+    (subst (λ (shown : Shown). CausedByFile (FollowsFromText (DueForSolve solve.places solve.gap solve.pivots shown) after answer.status answer.text.items) 1 solve.file.now before after answer.status answer.text.items)
+    c.shown_of-show.ensures caused))
     c.perform_task-in-Ok-Solve.ensures.caused
 
 pub returns-in-Ok-Check-clause-caused : goal.returns-in-Ok-Check-clause-caused
@@ -59,3 +75,13 @@ returns-in-Ok-Check-clause-caused g c =
     IfOk-weaker c.perform_check.result _ _
     (λ answer caused. subst (λ (r : Result Request WordFault). CausedByRequest r before after answer.status answer.text.items) request caused)
     c.perform_check.ensures.caused
+
+pub returns-in-Ok-Make-clause-caused : goal.returns-in-Ok-Make-clause-caused
+returns-in-Ok-Make-clause-caused g c =
+    let shelf = g.S.Shelf in
+    let old = c.args.shelf.now in
+    let before : Sight = record { files = shelf.files old; rest = shelf.rest old; faults = shelf.faults old; begins = shelf.begins old; taken = shelf.taken old } in
+    let request = ap request_of_result (sym (c.in-Ok-Make.is ∙ ap Ok c.in-Ok-Make.field-0-is)) ∙ c.in_ok-file.ensures in
+    IfOk-weaker c.perform_make.result _ _
+    (λ answer due. subst (λ (r : Result Request WordFault). CausedByRequest r before before answer.status answer.text.items) request (due, refl))
+    c.perform_make.ensures

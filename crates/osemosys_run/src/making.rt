@@ -1,0 +1,55 @@
+// `make`: the data file that is made of a number, or what it comes to in a few lines. No file is read for it.
+ghost use Rattle.std.specs.Prelude.{◌≡◌, ◌≤◌, ◌++◌, List, ℕ, length, IfOk};
+ghost use Rattle.osemosys_run.specs.Due.{DueForMake, DueForText};
+ghost use Rattle.osemosys_run.specs.Reading.{most_bytes};
+ghost use Rattle.osemosys_run.specs.Summary.{DueForSummary, default_places, made_line};
+
+use crate::answer::Answer;
+use crate::one_file::{Task, answer_text};
+use crate::places::push_with_number;
+use crate::status::Status;
+use command_words::MakeShow;
+use model_maker::make;
+use std::alloc::{AllocError, Global};
+
+/// The decimal places of written factors that `solve` has by default.
+const DEFAULT_PLACES: u8 = 6;
+
+/// The answer of `make` of this size, which is from 3 to 122.
+pub fn perform_make(alloc: Global, size: u32, show: MakeShow) -> Result<Answer, AllocError>
+    requires least { 3 ≤ size }
+    requires most { size ≤ 122 }
+    ensures { IfOk result (λ answer. DueForMake size show answer.status answer.text.items) }
+{
+    let text = make(alloc, size)?;
+    match show {
+        MakeShow::File => {
+            let status = Status::Done;
+            Ok(Answer { status, text })
+        }
+        MakeShow::Summary => summarize(alloc, size, text),
+    }
+}
+
+// The size, and then what is due over the text of the file that was made.
+fn summarize(alloc: Global, size: u32, made: Vec<u8>) -> Result<Answer, AllocError>
+    requires { length made.items ≤ most_bytes }
+    ensures { IfOk result (λ answer. (rest : List ℕ) × DueForText (DueForSummary default_places) made.items answer.status rest
+        × (answer.text.items ≡ made_line size ++ rest)) }
+{
+    let mut text = made_line(alloc, size)?;
+    let answer = answer_text(alloc, made, Task::Summarize, DEFAULT_PLACES)?;
+    text.extend_from_slice(&answer.text)?;
+    let status = answer.status;
+    Ok(Answer { status, text })
+}
+
+// The line for the size: `made N`.
+fn made_line(alloc: Global, size: u32) -> Result<Vec<u8>, AllocError>
+    ensures { IfOk result (λ text. text.items ≡ made_line size) }
+{
+    let mut text = Vec::new(alloc);
+    push_with_number(&mut text, b"made ", u64::from(size))?;
+    text.extend_from_slice(b"\n")?;
+    Ok(text)
+}
