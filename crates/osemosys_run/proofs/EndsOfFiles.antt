@@ -1,6 +1,5 @@
 -- What is left of a file to read, by the cause of the answer.
-use Rattle.std.proofs.Common.{◌≡◌, ◌≢◌, ℕ, ◌<◌, inl, inr, List, Option, Result, Ok, Err, refl, ap, sym, ◌∙◌, subst}
-use Rattle.std.specs.Prelude.{◌⊎◌, IsErr}
+use Rattle.std.proofs.Common.{◌≡◌, ◌≢◌, ℕ, inl, inr, List, Option, Result, Ok, Err, refl, ap, sym, ◌∙◌, subst}
 use Rattle.io_edges.specs.Count.{Rose}
 use Rattle.io_edges.specs.Edges.{Lacks}
 use Rattle.osemosys_run.specs.declared.reading.ReadEnd.{ReadEnd}
@@ -15,7 +14,7 @@ use Rattle.osemosys_run.specs.Causes.{Caused, CausedByFile, CausedByOptionalFile
 use Rattle.osemosys_run.specs.Check.{DueForCheck}
 use Rattle.osemosys_run.specs.Mps.{DueForEquations}
 use Rattle.osemosys_run.specs.ReadEnds.{TellsEnd}
-use Rattle.osemosys_run.specs.Reading.{Sight, HasNothingLeft, IsTooLong, most_bytes}
+use Rattle.osemosys_run.specs.Reading.{Sight, HasNothingLeft, IsTooLong}
 use Rattle.osemosys_run.specs.ReadToEnd.{IsReadAtWriteFault, IsReadToEnd, IsReadToEndFor, NamesFile}
 use Rattle.osemosys_run.specs.Shown.{shown_of}
 use Rattle.osemosys_run.specs.Solve.{DueForSolve}

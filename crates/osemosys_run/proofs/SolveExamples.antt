@@ -6,7 +6,7 @@ use Rattle.model_sets.specs.Data.{Data}
 use Rattle.named_equations.specs.Variables.{new_capacity, rate_of_activity, trade}
 use Rattle.exact_solver.specs.MethodEnds.{HasNoPlan, IsPivotDue}
 use Rattle.exact_solver.specs.Sizes.{column_count}
-use Rattle.osemosys_run.specs.declared.solve.Shown.TheVariants.{Report, Plan}
+use Rattle.osemosys_run.specs.declared.solve.Shown.TheVariants.{Report}
 use Rattle.osemosys_run.specs.declared.status.Status.TheVariants.{Infeasible, Unbounded}
 use Rattle.osemosys_run.specs.declared.status.Stop.TheVariants.{Budget}
 use Rattle.osemosys_run.specs.Codes.{code_of}

@@ -12,11 +12,11 @@ mod check_files;
 #[cfg(test)]
 mod faults;
 #[cfg(test)]
+mod made;
+#[cfg(test)]
 mod number_ends;
 #[cfg(test)]
 mod pieces;
-#[cfg(test)]
-mod made;
 #[cfg(test)]
 mod plan_records;
 #[cfg(test)]

@@ -1,7 +1,6 @@
 use Rattle.std.proofs.Common.{◌≡◌, ◌++◌, List, ℕ, sym, subst}
 use Rattle.std.proofs.lemmas.Result.{IfOk-weaker}
 use Rattle.command_words.specs.declared.command.MakeShow.{MakeShow}
-use Rattle.command_words.specs.declared.command.MakeShow.TheVariants as makes
 use Rattle.osemosys_run.specs.Due.{DueForMake, DueForText}
 use Rattle.osemosys_run.specs.Summary.{DueForSummary, default_places, made_line}
 use Rattle.osemosys_run.proofs.making.perform_make.Goals as goal
