@@ -25,3 +25,5 @@ mod refusals;
 mod solves;
 #[cfg(test)]
 mod texts;
+#[cfg(test)]
+mod widths;
