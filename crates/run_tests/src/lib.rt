@@ -28,5 +28,7 @@ mod solves;
 mod sure;
 #[cfg(test)]
 mod texts;
+#[cfg(test)]
+mod widths;
 
 pub use sure::run_surely;
