@@ -4,7 +4,7 @@ use crate::calls::{assert_ends, call};
 use std::test::Fail;
 
 /// The file that is made of 3, with one year.
-const MADE_3: &str = "data;
+pub(crate) const MADE_3: &str = "data;
 set REGION := R1 ;
 set TECHNOLOGY := MINE IMPORT PPCOAL PPGAS WIND BOILER ;
 set FUEL := COAL GAS ELC HEAT ;

@@ -1,7 +1,9 @@
-//! Files that are read byte by byte, a report that is written byte by byte, and files that are cut short.
+//! Files that are read byte by byte, a report and a made file that are written byte by byte, and files that are cut short.
 
 use crate::base_text::base_text;
-use crate::calls::{Ending, MPS, SETS, assert_ends, call, call_check, call_into, call_on};
+use crate::calls::{CHECK, Ending, MPS, SETS, assert_ends, call, call_check, call_into, call_on};
+use crate::made::MADE_3;
+use crate::plan_records::{PLAN, file_of};
 use crate::solves::{BASE_REPORT, SOLVE};
 use data_tests::section;
 use io_edges::{MemShelf, MemSink};
@@ -30,6 +32,33 @@ fn a_file_read_byte_by_byte_is_read_whole_or_reported(rt: HostRuntime) -> Result
     Ok(())
 }
 
+/// A call for a check of a plan, with both files read by a byte a call, where this call of the shelf fails.
+fn check_by_bytes(alloc: Global, text: &str, plan: &str, number: u64) -> Result<Ending, Fail> {
+    let mut shelf = MemShelf::in_pieces(alloc, &[number], 1)?;
+    shelf.put("model.dat", text.as_bytes())?;
+    shelf.put("plan.csv", plan.as_bytes())?;
+    let out = MemSink::new(alloc, 200, &[])?;
+    call_on(alloc, CHECK, &mut shelf, out)
+}
+
+// The second file is begun after the read that ends the first one.
+#[test]
+fn of_two_files_read_byte_by_byte_the_one_that_fails_is_told(rt: HostRuntime) -> Result<(), Fail> {
+    let text = section(rt.alloc(), SETS, "")?;
+    let plan = file_of(rt.alloc(), &[PLAN])?;
+    let first = (text.len() as u64).saturating_add(2);
+    let last = first.saturating_add((plan.len() as u64).saturating_add(2));
+    let ending = check_by_bytes(rt.alloc(), &text, &plan, first)?;
+    assert_ends(&rt, &ending, 6, "read fault file 1\n");
+    for number in [first.saturating_add(1), first.saturating_add(2), last] {
+        let ending = check_by_bytes(rt.alloc(), &text, &plan, number)?;
+        assert_ends(&rt, &ending, 6, "read fault file 2\n");
+    }
+    let ending = check_by_bytes(rt.alloc(), &text, &plan, last.saturating_add(1))?;
+    assert_ends(&rt, &ending, 0, "accepted\ncost 80\n");
+    Ok(())
+}
+
 /// How many bytes of the report of the base example are written before the call that fails: of its 611 bytes none, one, its first line, the
 /// first of the next line, and all but the last.
 static WRITTEN: [u16; 5] = [0, 1, 14, 15, 610];
@@ -47,6 +76,26 @@ fn a_report_written_byte_by_byte_stops_at_the_call_that_fails(rt: HostRuntime) -
     let out = MemSink::in_pieces(rt.alloc(), 1000, &[612], 1)?;
     let ending = call_into(rt.alloc(), SOLVE, text.as_bytes(), &[], out)?;
     assert_ends(&rt, &ending, 0, BASE_REPORT);
+    Ok(())
+}
+
+/// How many bytes of a made file are written before the call that fails: none, one, its first line, the first of the next line.
+static MADE: [u16; 4] = [0, 1, 6, 7];
+
+#[test]
+fn a_made_file_written_byte_by_byte_stops_at_the_call_that_fails(
+    rt: HostRuntime,
+) -> Result<(), Fail> {
+    for count in &MADE {
+        let out = MemSink::in_pieces(rt.alloc(), 8000, &[*count as u64 + 1], 1)?;
+        let (status, out) = call_into(rt.alloc(), &["make", "3"], b"", &[], out)?;
+        assert_eq!(rt; status.code(), 7);
+        assert_eq!(rt; out.bytes().len(), *count as usize);
+        assert!(rt; MADE_3.as_bytes().starts_with(out.bytes()));
+    }
+    let out = MemSink::in_pieces(rt.alloc(), 8000, &[], 1)?;
+    let ending = call_into(rt.alloc(), &["make", "3"], b"", &[], out)?;
+    assert_ends(&rt, &ending, 0, MADE_3);
     Ok(())
 }
 
