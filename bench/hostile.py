@@ -69,6 +69,12 @@ def table(name, size):
     return filled(RECORD, size) if piece is None else HEADER + filled(piece, size - len(HEADER))
 
 
+def write(path, kind, name, size):
+    """The text as a file. It isn't kept, since what this program holds counts as the other's memory until that begins."""
+    with open(path, "wb") as file:
+        file.write(TEXTS[name]()[:size] if kind == "data" else table(name, size))
+
+
 def texts(names, program, examples, work):
     path = work + "/text"
     base, plan = examples + "/base.dat", examples + "/base-plan.csv"
@@ -81,9 +87,7 @@ def texts(names, program, examples, work):
             continue
         answers = []
         for size in SIZES:
-            text = cut(TEXTS[name.split(": ", 1)[1]](), size) if kind == "data" else table(name.split(": ", 1)[1], size)
-            with open(path, "wb") as file:
-                file.write(text)
+            write(path, kind, name.split(": ", 1)[1], size)
             answers.append(measured([program, *words], SECONDS))
         (_, _, _, first, less), (status, out, err, second, more) = answers
         wrong = next((found for found in (fault(*answer[:3]) for answer in answers) if found), None)
@@ -91,11 +95,6 @@ def texts(names, program, examples, work):
         print(f"{name:46} {first:7.2f}s {second:7.2f}s {less / MIB:5.0f} MiB {more / MIB:5.0f} MiB  {status} {line}{'  WRONG: ' + wrong if wrong else ''}", flush=True)
     if os.path.exists(path):
         os.remove(path)
-
-
-def cut(text, size):
-    """The text's first bytes."""
-    return text if len(text) <= size else text[:size]
 
 
 WORDS = ["mps", "check", "solve", "make", "explain", "conflict", "span", "--show", "--pivots", "--places", "--gap", "--", "-", "--help", "-h", "--version",
