@@ -7,5 +7,5 @@ name=eliminating.sh
 . "$top/bench/common.sh"
 need rt python3
 make_work
-build_over eliminating_bench eliminating.txt elimination_tests mathprog_data param_tables row_book row_core
+build_over eliminating_bench eliminating.txt exact_solver mathprog_data param_tables row_book row_core
 python3 -B "$top/bench/eliminating.py" "$program" "$work" "$@"

@@ -10,5 +10,5 @@ need rt python3 esolver
 make_work
 build_osemosys
 osemosys=$program
-build_over simplex_bench simplex.txt simplex_core elimination_tests row_book param_tables mathprog_data row_core exact_num model_sets
+build_over simplex_bench simplex.txt simplex_core exact_solver row_book param_tables mathprog_data row_core exact_num model_sets
 python3 -B "$top/bench/simplex.py" "$program" "$osemosys" "$work" "$@"

@@ -11,9 +11,10 @@ use Rattle.command_words.specs.declared.fault.WordFault.{WordFault}
 use Rattle.command_words.specs.declared.fault.WordFault.TheVariants.{BadNumber, BadForm, BadShow, GapAlone}
 use Rattle.command_words.specs.declared.command.MakeShow.{MakeShow}
 use Rattle.command_words.specs.declared.command.SolveShow.{SolveShow}
-use Rattle.command_words.specs.Words.{Request, Check, Mps, Solve, Make, CommandName, MpsName, CheckName, SolveName, MakeName, allows_all, check_of, command_after, command_named, command_of, command_with, asked, files_in, make_of, mps_of, or_fault, solve_of, value_in}
-use Rattle.command_words.specs.WordParts.{Gap, Pivots, Places, Show, Part, parts_of}
-use Rattle.command_words.specs.WordValues.{gap_of, make_show_of, pivots_of, places_of, size_of, solve_show_of}
+use Rattle.command_words.specs.declared.command.SolveMethod.{SolveMethod}
+use Rattle.command_words.specs.Words.{Request, Check, Mps, Solve, Explain, Make, CommandName, MpsName, CheckName, SolveName, ExplainName, MakeName, allows_all, check_of, command_after, command_named, command_of, command_with, asked, explain_of, files_in, make_of, mps_of, or_fault, solve_of, value_in}
+use Rattle.command_words.specs.WordParts.{Gap, Pivots, Places, Show, Method, Part, parts_of}
+use Rattle.command_words.specs.WordValues.{gap_for, gap_of, make_show_of, method_of, pivots_of, places_of, size_of, solve_show_of}
 
 -- the size of a made file
 abbrev IsSize : ℕ → Type 0
@@ -23,7 +24,8 @@ IsSize size = (3 ≤ size) × (size ≤ 122)
 abbrev IsInRange : Result Request WordFault → Type 0
 IsInRange (Ok (Mps file places)) = IsPlaces places
 IsInRange (Ok (Check file plan multipliers gap places)) = IsPlaces places
-IsInRange (Ok (Solve file gap pivots places show)) = IsPlaces places
+IsInRange (Ok (Solve file gap pivots places show method)) = IsPlaces places
+IsInRange (Ok (Explain file pivots places)) = IsPlaces places
 IsInRange (Ok (Make size show)) = IsSize size
 IsInRange (Err fault) = ⊤
 
@@ -75,17 +77,26 @@ of_check file plan multipliers gap value = go (gap_of gap) (places_of value) (is
     go (Some n) (Some places) true one = tt
     go (Some n) (Some places) false one = one
 
-of_solve : (file : List ℕ) (gap pivots value show : Option (List ℕ)) → IsInRange (solve_of file gap pivots value show)
-of_solve file gap pivots value show = go (gap_of gap) (pivots_of pivots) (places_of value) (solve_show_of show) (places-one value)
+of_solve : (file : List ℕ) (gap pivots value show method : Option (List ℕ)) → IsInRange (solve_of file gap pivots value show method)
+of_solve file gap pivots value show method = go (gap_of gap) (pivots_of pivots) (places_of value) (solve_show_of show) (method_of method) (places-one value)
   where
-    go : (ppm most found : Option ℕ) (shown : Option SolveShow) → IsOne found
+    go : (ppm most found : Option ℕ) (shown : Option SolveShow) (way : Option SolveMethod) → IsOne found
         → IsInRange (or_fault BadNumber ppm (λ n. or_fault BadNumber most (λ m. or_fault BadNumber found (λ decimals.
-        or_fault BadShow shown (λ s. Ok (Solve file n m decimals s))))))
-    go None most found shown one = tt
-    go (Some n) None found shown one = tt
-    go (Some n) (Some m) None shown one = tt
-    go (Some n) (Some m) (Some places) None one = tt
-    go (Some n) (Some m) (Some places) (Some s) one = one
+        or_fault BadShow shown (λ s. or_fault BadShow way (λ w. Ok (Solve file (gap_for w gap n) m decimals s w)))))))
+    go None most found shown way one = tt
+    go (Some n) None found shown way one = tt
+    go (Some n) (Some m) None shown way one = tt
+    go (Some n) (Some m) (Some places) None way one = tt
+    go (Some n) (Some m) (Some places) (Some s) None one = tt
+    go (Some n) (Some m) (Some places) (Some s) (Some w) one = one
+
+of_explain : (file : List ℕ) (pivots value : Option (List ℕ)) → IsInRange (explain_of file pivots value)
+of_explain file pivots value = go (pivots_of pivots) (places_of value) (places-one value)
+  where
+    go : (most found : Option ℕ) → IsOne found → IsInRange (or_fault BadNumber most (λ m. or_fault BadNumber found (λ decimals. Ok (Explain file m decimals))))
+    go None found one = tt
+    go (Some m) None one = tt
+    go (Some m) (Some places) one = one
 
 of_make : (size : List ℕ) (show : Option (List ℕ)) → IsInRange (make_of size show)
 of_make size show = go (size_of size) (make_show_of show) (size-one size)
@@ -95,35 +106,40 @@ of_make size show = go (size_of size) (make_show_of show) (size-one size)
     go (Some n) None one = tt
     go (Some n) (Some s) one = one
 
-of_mps_files : (files : List (List ℕ)) (gap pivots value show : Option (List ℕ)) → IsInRange (command_of MpsName files gap pivots value show)
-of_mps_files [] gap pivots value show = tt
-of_mps_files (file ∷ []) gap pivots value show = of_mps file value
-of_mps_files (file ∷ other ∷ files) gap pivots value show = tt
+of_mps_files : (files : List (List ℕ)) (gap pivots value show method : Option (List ℕ)) → IsInRange (command_of MpsName files gap pivots value show method)
+of_mps_files [] gap pivots value show method = tt
+of_mps_files (file ∷ []) gap pivots value show method = of_mps file value
+of_mps_files (file ∷ other ∷ files) gap pivots value show method = tt
 
-of_check_files : (files : List (List ℕ)) (gap pivots value show : Option (List ℕ)) → IsInRange (command_of CheckName files gap pivots value show)
-of_check_files [] gap pivots value show = tt
-of_check_files (file ∷ []) gap pivots value show = tt
-of_check_files (file ∷ plan ∷ []) gap pivots value show = of_check file plan None gap value
-of_check_files (file ∷ plan ∷ multipliers ∷ []) gap pivots value show = of_check file plan (Some multipliers) gap value
-of_check_files (file ∷ plan ∷ multipliers ∷ other ∷ files) gap pivots value show = tt
+of_check_files : (files : List (List ℕ)) (gap pivots value show method : Option (List ℕ)) → IsInRange (command_of CheckName files gap pivots value show method)
+of_check_files [] gap pivots value show method = tt
+of_check_files (file ∷ []) gap pivots value show method = tt
+of_check_files (file ∷ plan ∷ []) gap pivots value show method = of_check file plan None gap value
+of_check_files (file ∷ plan ∷ multipliers ∷ []) gap pivots value show method = of_check file plan (Some multipliers) gap value
+of_check_files (file ∷ plan ∷ multipliers ∷ other ∷ files) gap pivots value show method = tt
 
-of_solve_files : (files : List (List ℕ)) (gap pivots value show : Option (List ℕ)) → IsInRange (command_of SolveName files gap pivots value show)
-of_solve_files [] gap pivots value show = tt
-of_solve_files (file ∷ []) gap pivots value show = of_solve file gap pivots value show
-of_solve_files (file ∷ other ∷ files) gap pivots value show = tt
+of_solve_files : (files : List (List ℕ)) (gap pivots value show method : Option (List ℕ)) → IsInRange (command_of SolveName files gap pivots value show method)
+of_solve_files [] gap pivots value show method = tt
+of_solve_files (file ∷ []) gap pivots value show method = of_solve file gap pivots value show method
+of_solve_files (file ∷ other ∷ files) gap pivots value show method = tt
 
-of_make_files : (files : List (List ℕ)) (gap pivots value show : Option (List ℕ)) → IsInRange (command_of MakeName files gap pivots value show)
-of_make_files [] gap pivots value show = tt
-of_make_files (size ∷ []) gap pivots value show = of_make size show
-of_make_files (size ∷ other ∷ files) gap pivots value show = tt
+of_explain_files : (files : List (List ℕ)) (gap pivots value show method : Option (List ℕ)) → IsInRange (command_of ExplainName files gap pivots value show method)
+of_explain_files [] gap pivots value show method = tt
+of_explain_files (file ∷ []) gap pivots value show method = of_explain file pivots value
+of_explain_files (file ∷ other ∷ files) gap pivots value show method = tt
 
-of_parts : (name : CommandName) → ((files : List (List ℕ)) (gap pivots value show : Option (List ℕ)) → IsInRange (command_of name files gap pivots value show))
+of_make_files : (files : List (List ℕ)) (gap pivots value show method : Option (List ℕ)) → IsInRange (command_of MakeName files gap pivots value show method)
+of_make_files [] gap pivots value show method = tt
+of_make_files (size ∷ []) gap pivots value show method = of_make size show
+of_make_files (size ∷ other ∷ files) gap pivots value show method = tt
+
+of_parts : (name : CommandName) → ((files : List (List ℕ)) (gap pivots value show method : Option (List ℕ)) → IsInRange (command_of name files gap pivots value show method))
     → (parts : Option (List Part)) → IsInRange (command_with name parts)
 of_parts name of_files None = tt
 of_parts name of_files (Some parts) = go (allows_all name parts)
   where
-    go : (b : Bool) → IsInRange (cond b (command_of name (files_in parts) (value_in Gap parts) (value_in Pivots parts) (value_in Places parts) (value_in Show parts)) (Err BadForm))
-    go true = of_files (files_in parts) (value_in Gap parts) (value_in Pivots parts) (value_in Places parts) (value_in Show parts)
+    go : (b : Bool) → IsInRange (cond b (command_of name (files_in parts) (value_in Gap parts) (value_in Pivots parts) (value_in Places parts) (value_in Show parts) (value_in Method parts)) (Err BadForm))
+    go true = of_files (files_in parts) (value_in Gap parts) (value_in Pivots parts) (value_in Places parts) (value_in Show parts) (value_in Method parts)
     go false = tt
 
 of_command : (command : Option CommandName) (words : List (List ℕ)) → IsInRange (command_after command words)
@@ -131,6 +147,7 @@ of_command None words = tt
 of_command (Some MpsName) words = of_parts MpsName of_mps_files (parts_of words)
 of_command (Some CheckName) words = of_parts CheckName of_check_files (parts_of words)
 of_command (Some SolveName) words = of_parts SolveName of_solve_files (parts_of words)
+of_command (Some ExplainName) words = of_parts ExplainName of_explain_files (parts_of words)
 of_command (Some MakeName) words = of_parts MakeName of_make_files (parts_of words)
 
 in_range : (words : List (List ℕ)) → IsInRange (asked words)
@@ -143,8 +160,11 @@ asked_places words name places e = subst IsInRange e (in_range words)
 pub check_places : (words : List (List ℕ)) (file plan : List ℕ) (multipliers : Option (List ℕ)) (gap places : ℕ) → asked words ≡ Ok (Check file plan multipliers gap places) → IsPlaces places
 check_places words file plan multipliers gap places e = subst IsInRange e (in_range words)
 
-pub solve_places : (words : List (List ℕ)) (file : List ℕ) (gap pivots places : ℕ) (show : SolveShow) → asked words ≡ Ok (Solve file gap pivots places show) → IsPlaces places
-solve_places words file gap pivots places show e = subst IsInRange e (in_range words)
+pub solve_places : (words : List (List ℕ)) (file : List ℕ) (gap pivots places : ℕ) (show : SolveShow) (method : SolveMethod) → asked words ≡ Ok (Solve file gap pivots places show method) → IsPlaces places
+solve_places words file gap pivots places show method e = subst IsInRange e (in_range words)
+
+pub explain_places : (words : List (List ℕ)) (file : List ℕ) (pivots places : ℕ) → asked words ≡ Ok (Explain file pivots places) → IsPlaces places
+explain_places words file pivots places e = subst IsInRange e (in_range words)
 
 pub make_size : (words : List (List ℕ)) (size : ℕ) (show : MakeShow) → asked words ≡ Ok (Make size show) → (3 ≤ size) × (size ≤ 122)
 make_size words size show e = subst IsInRange e (in_range words)

@@ -1,11 +1,12 @@
--- What the words of the command line mean, for the four commands with all their options, computed on examples.
+-- What the words of the command line mean, for all commands with all their options, computed on examples.
 use Rattle.std.proofs.Common.{◌≡◌, [], ◌∷◌, refl}
 use Rattle.std.specs.Prelude.{codes, Ok, Err, Some, None}
 use Rattle.command_words.specs.declared.fault.WordFault.TheVariants.{NoCommand, BadCommand, BadForm, BadNumber, BadShow, GapAlone}
 use Rattle.command_words.specs.declared.command.SolveShow.TheVariants.{Report, Plan, Multipliers}
 use Rattle.command_words.specs.declared.command.MakeShow.TheVariants.{File, Summary}
-use Rattle.command_words.specs.Words.{asked, names_of, Mps, Check, Solve, Make}
-use Rattle.command_words.specs.WordParts.{parts_of, Gap, Pivots, Places, Show, Chosen, Spells, Name, Apart, Joined}
+use Rattle.command_words.specs.declared.command.SolveMethod.TheVariants.{Exact, Rounded}
+use Rattle.command_words.specs.Words.{asked, names_of, Mps, Check, Solve, Explain, Make}
+use Rattle.command_words.specs.WordParts.{parts_of, Gap, Pivots, Places, Show, Method, Chosen, Spells, Name, Apart, Joined}
 use Rattle.command_words.specs.WordParts as parts
 
 -- ---- the command
@@ -16,7 +17,7 @@ no_words = refl
 empty_first_word : asked ([] ∷ []) ≡ Err BadCommand
 empty_first_word = refl
 
-unknown_command : asked (codes "explain" ∷ codes "f" ∷ []) ≡ Err BadCommand
+unknown_command : asked (codes "explains" ∷ codes "f" ∷ []) ≡ Err BadCommand
 unknown_command = refl
 
 -- an option before the command is taken for the command
@@ -41,15 +42,21 @@ check_with_multipliers = refl
 check_with_gap : asked (codes "check" ∷ codes "f" ∷ codes "p" ∷ codes "m" ∷ codes "--gap" ∷ codes "5" ∷ []) ≡ Ok (Check (codes "f") (codes "p") (Some (codes "m")) 5 6)
 check_with_gap = refl
 
-solve_with_defaults : asked (codes "solve" ∷ codes "f" ∷ []) ≡ Ok (Solve (codes "f") 0 20000 6 Report)
+solve_with_defaults : asked (codes "solve" ∷ codes "f" ∷ []) ≡ Ok (Solve (codes "f") 0 20000 6 Report Exact)
 solve_with_defaults = refl
 
 -- options stand anywhere, in two words or one
-solve_with_all : asked (codes "solve" ∷ codes "--pivots" ∷ codes "7" ∷ codes "--show=plan" ∷ codes "f" ∷ codes "--gap=1000000" ∷ []) ≡ Ok (Solve (codes "f") 1000000 7 6 Plan)
+solve_with_all : asked (codes "solve" ∷ codes "--pivots" ∷ codes "7" ∷ codes "--show=plan" ∷ codes "f" ∷ codes "--gap=1000000" ∷ []) ≡ Ok (Solve (codes "f") 1000000 7 6 Plan Exact)
 solve_with_all = refl
 
-solve_for_multipliers : asked (codes "solve" ∷ codes "f" ∷ codes "--show" ∷ codes "multipliers" ∷ []) ≡ Ok (Solve (codes "f") 0 20000 6 Multipliers)
+solve_for_multipliers : asked (codes "solve" ∷ codes "f" ∷ codes "--show" ∷ codes "multipliers" ∷ []) ≡ Ok (Solve (codes "f") 0 20000 6 Multipliers Exact)
 solve_for_multipliers = refl
+
+explain_with_defaults : asked (codes "explain" ∷ codes "f" ∷ []) ≡ Ok (Explain (codes "f") 20000 6)
+explain_with_defaults = refl
+
+explain_with_all : asked (codes "explain" ∷ codes "--pivots=7" ∷ codes "f" ∷ codes "--places" ∷ codes "9" ∷ []) ≡ Ok (Explain (codes "f") 7 9)
+explain_with_all = refl
 
 make_with_defaults : asked (codes "make" ∷ codes "7" ∷ []) ≡ Ok (Make 7 File)
 make_with_defaults = refl
@@ -88,6 +95,15 @@ option_of_another_command = refl
 
 option_of_solve_at_make : asked (codes "make" ∷ codes "7" ∷ codes "--pivots" ∷ codes "5" ∷ []) ≡ Err BadForm
 option_of_solve_at_make = refl
+
+gap_at_explain : asked (codes "explain" ∷ codes "f" ∷ codes "--gap" ∷ codes "5" ∷ []) ≡ Err BadForm
+gap_at_explain = refl
+
+two_files_to_explain : asked (codes "explain" ∷ codes "f" ∷ codes "g" ∷ []) ≡ Err BadForm
+two_files_to_explain = refl
+
+bad_places_of_explain : asked (codes "explain" ∷ codes "f" ∷ codes "--places" ∷ codes "7" ∷ codes "--pivots" ∷ codes "7" ∷ []) ≡ Err BadNumber
+bad_places_of_explain = refl
 
 repeated_option : asked (codes "solve" ∷ codes "f" ∷ codes "--gap" ∷ codes "5" ∷ codes "--gap" ∷ codes "5" ∷ []) ≡ Err BadForm
 repeated_option = refl
@@ -166,22 +182,22 @@ number_with_exponent = refl
 second_equals : asked (codes "solve" ∷ codes "f" ∷ codes "--gap=5=5" ∷ []) ≡ Err BadNumber
 second_equals = refl
 
-greatest_gap : asked (codes "solve" ∷ codes "f" ∷ codes "--gap" ∷ codes "1000000" ∷ []) ≡ Ok (Solve (codes "f") 1000000 20000 6 Report)
+greatest_gap : asked (codes "solve" ∷ codes "f" ∷ codes "--gap" ∷ codes "1000000" ∷ []) ≡ Ok (Solve (codes "f") 1000000 20000 6 Report Exact)
 greatest_gap = refl
 
 gap_too_great : asked (codes "solve" ∷ codes "f" ∷ codes "--gap" ∷ codes "1000001" ∷ []) ≡ Err BadNumber
 gap_too_great = refl
 
-seven_digits : asked (codes "solve" ∷ codes "f" ∷ codes "--gap" ∷ codes "0000001" ∷ []) ≡ Ok (Solve (codes "f") 1 20000 6 Report)
+seven_digits : asked (codes "solve" ∷ codes "f" ∷ codes "--gap" ∷ codes "0000001" ∷ []) ≡ Ok (Solve (codes "f") 1 20000 6 Report Exact)
 seven_digits = refl
 
 eight_digits : asked (codes "solve" ∷ codes "f" ∷ codes "--gap" ∷ codes "00000001" ∷ []) ≡ Err BadNumber
 eight_digits = refl
 
-no_pivots : asked (codes "solve" ∷ codes "f" ∷ codes "--pivots" ∷ codes "0" ∷ []) ≡ Ok (Solve (codes "f") 0 0 6 Report)
+no_pivots : asked (codes "solve" ∷ codes "f" ∷ codes "--pivots" ∷ codes "0" ∷ []) ≡ Ok (Solve (codes "f") 0 0 6 Report Exact)
 no_pivots = refl
 
-most_pivots : asked (codes "solve" ∷ codes "f" ∷ codes "--pivots" ∷ codes "1000000" ∷ []) ≡ Ok (Solve (codes "f") 0 1000000 6 Report)
+most_pivots : asked (codes "solve" ∷ codes "f" ∷ codes "--pivots" ∷ codes "1000000" ∷ []) ≡ Ok (Solve (codes "f") 0 1000000 6 Report Exact)
 most_pivots = refl
 
 too_many_pivots : asked (codes "solve" ∷ codes "f" ∷ codes "--pivots" ∷ codes "1000001" ∷ []) ≡ Err BadNumber
@@ -225,7 +241,7 @@ places_twice = refl
 places_to_check : asked (codes "check" ∷ codes "f" ∷ codes "p" ∷ codes "--places" ∷ codes "9" ∷ []) ≡ Ok (Check (codes "f") (codes "p") None 0 9)
 places_to_check = refl
 
-places_to_solve : asked (codes "solve" ∷ codes "f" ∷ codes "--places=9" ∷ codes "--pivots=7" ∷ []) ≡ Ok (Solve (codes "f") 0 7 9 Report)
+places_to_solve : asked (codes "solve" ∷ codes "f" ∷ codes "--places=9" ∷ codes "--pivots=7" ∷ []) ≡ Ok (Solve (codes "f") 0 7 9 Report Exact)
 places_to_solve = refl
 
 places_to_make : asked (codes "make" ∷ codes "7" ∷ codes "--places" ∷ codes "9" ∷ []) ≡ Err BadForm
@@ -241,6 +257,29 @@ places_before_gap_alone = refl
 
 unknown_show : asked (codes "solve" ∷ codes "f" ∷ codes "--show" ∷ codes "all" ∷ []) ≡ Err BadShow
 unknown_show = refl
+
+-- the method comes after what is shown
+unknown_method : asked (codes "solve" ∷ codes "f" ∷ codes "--method" ∷ codes "simplex" ∷ []) ≡ Err BadShow
+unknown_method = refl
+
+unknown_method_and_number : asked (codes "solve" ∷ codes "f" ∷ codes "--method" ∷ codes "simplex" ∷ codes "--pivots=x" ∷ []) ≡ Err BadNumber
+unknown_method_and_number = refl
+
+method_of_another_command : asked (codes "check" ∷ codes "f" ∷ codes "g" ∷ codes "--method=exact" ∷ []) ≡ Err BadForm
+method_of_another_command = refl
+
+method_twice : asked (codes "solve" ∷ codes "f" ∷ codes "--method=exact" ∷ codes "--method=exact" ∷ []) ≡ Err BadForm
+method_twice = refl
+
+-- the rounded method keeps a gap of 10 millionths, unless another is given
+rounded_method : asked (codes "solve" ∷ codes "f" ∷ codes "--method" ∷ codes "rounded" ∷ []) ≡ Ok (Solve (codes "f") 10 20000 6 Report Rounded)
+rounded_method = refl
+
+rounded_with_a_gap : asked (codes "solve" ∷ codes "--method=rounded" ∷ codes "f" ∷ codes "--gap=0" ∷ []) ≡ Ok (Solve (codes "f") 0 20000 6 Report Rounded)
+rounded_with_a_gap = refl
+
+exact_by_its_word : asked (codes "solve" ∷ codes "f" ∷ codes "--method=exact" ∷ codes "--gap=3" ∷ []) ≡ Ok (Solve (codes "f") 3 20000 6 Report Exact)
+exact_by_its_word = refl
 
 show_of_another_command : asked (codes "make" ∷ codes "7" ∷ codes "--show" ∷ codes "report" ∷ []) ≡ Err BadShow
 show_of_another_command = refl
@@ -283,7 +322,10 @@ no_value = refl
 files_of_check : names_of (Check (codes "f") (codes "p") (Some (codes "m")) 0 6) ≡ codes "f" ∷ codes "p" ∷ codes "m" ∷ []
 files_of_check = refl
 
-files_of_solve : names_of (Solve (codes "f") 0 7 6 Report) ≡ codes "f" ∷ []
+files_of_explain : names_of (Explain (codes "f") 7 6) ≡ codes "f" ∷ []
+files_of_explain = refl
+
+files_of_solve : names_of (Solve (codes "f") 0 7 6 Report Exact) ≡ codes "f" ∷ []
 files_of_solve = refl
 
 no_file_of_make : names_of (Make 3 File) ≡ []

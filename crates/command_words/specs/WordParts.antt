@@ -21,6 +21,7 @@ pub data OptionName : Type 0 where
   Pivots : OptionName
   Places : OptionName
   Show : OptionName
+  Method : OptionName
 
 -- an option's word
 abbrev pub option_word : OptionName → List ℕ
@@ -28,6 +29,7 @@ option_word Gap = codes "--gap"
 option_word Pivots = codes "--pivots"
 option_word Places = codes "--places"
 option_word Show = codes "--show"
+option_word Method = codes "--method"
 
 -- the option of this word, if it is one's
 abbrev pub option_named : List ℕ → Option OptionName
@@ -36,6 +38,7 @@ option_named word =
     else if bytes_eq (option_word Pivots) word then Some Pivots
     else if bytes_eq (option_word Places) word then Some Places
     else if bytes_eq (option_word Show) word then Some Show
+    else if bytes_eq (option_word Method) word then Some Method
     else None
 
 -- the sign '=', which may join an option and its value

@@ -1,5 +1,5 @@
 -- The values of options, and the number of `make`.
-use Rattle.std.specs.Prelude.{ℕ, ◌&&◌, nat_le, List, length, codes, Option, Some, None, if◌then◌else◌}
+use Rattle.std.specs.Prelude.{ℕ, ◌&&◌, nat_le, List, length, codes, Option, Some, None, is_some, if◌then◌else◌}
 use Rattle.std.specs.Char.{is_ascii_digit}
 use Rattle.std.specs.List.{list_all}
 use Rattle.std.specs.Str.{bytes_eq}
@@ -8,6 +8,8 @@ use Rattle.command_words.specs.declared.command.SolveShow.{SolveShow}
 use Rattle.command_words.specs.declared.command.SolveShow.TheVariants.{Report, Plan, Multipliers}
 use Rattle.command_words.specs.declared.command.MakeShow.{MakeShow}
 use Rattle.command_words.specs.declared.command.MakeShow.TheVariants.{File, Summary}
+use Rattle.command_words.specs.declared.command.SolveMethod.{SolveMethod}
+use Rattle.command_words.specs.declared.command.SolveMethod.TheVariants.{Exact, Rounded}
 
 -- the whole number of 1 to `places` decimal digits, where it is from `least` to `most`; leading zeros may stand
 abbrev pub number_within : ℕ → ℕ → ℕ → List ℕ → Option ℕ
@@ -67,3 +69,23 @@ make_show_named text =
 -- the file where it is left out
 abbrev pub make_show_of : Option (List ℕ) → Option MakeShow
 make_show_of = with_default File make_show_named
+
+-- the method that `solve` begins with, by its word
+abbrev pub method_named : List ℕ → Option SolveMethod
+method_named text =
+    if bytes_eq text (codes "exact") then Some Exact
+    else if bytes_eq text (codes "rounded") then Some Rounded
+    else None
+
+-- the exact one where it is left out
+abbrev pub method_of : Option (List ℕ) → Option SolveMethod
+method_of = with_default Exact method_named
+
+-- the gap that a method keeps where none is given, in millionths
+abbrev pub usual_gap : SolveMethod → ℕ
+usual_gap Exact = 0
+usual_gap Rounded = 10
+
+-- the gap that is given, or the method's
+abbrev pub gap_for : SolveMethod → Option (List ℕ) → ℕ → ℕ
+gap_for method given gap = if is_some given then gap else usual_gap method

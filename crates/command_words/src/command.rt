@@ -2,13 +2,15 @@
 ghost use Rattle.std.specs.Prelude.{◌≡◌, IfOk, map, option_map};
 ghost use Rattle.std.specs.String.{string_bytes};
 ghost use Rattle.command_words.specs.Words.{command_named, asked};
-ghost use Rattle.command_words.specs.Words.{MpsName, CheckName, SolveName, MakeName, check_of, mps_of};
+ghost use Rattle.command_words.specs.Words.{MpsName, CheckName, SolveName, ExplainName, MakeName, check_of, explain_of, mps_of};
 ghost use Rattle.command_words.specs.Commands.{request_of_result, name_of};
 ghost use Rattle.command_words.specs.WordReading.{given_of, command_by, command_given, is_allowed};
 
 use crate::fault::WordFault;
 use crate::parsing::{Given, read_given};
-use crate::values::{gap_of, make_show_of, pivots_of, places_of, size_of, solve_show_of};
+use crate::values::{
+    gap_for, gap_of, make_show_of, method_of, pivots_of, places_of, size_of, solve_show_of,
+};
 use std::alloc::{AllocError, Global};
 
 /// A command with its files and options. `places` is how many decimal places written factors have: 6 or 9.
@@ -28,14 +30,23 @@ pub enum Command<'a> {
         gap: u32,
         places: u8,
     },
-    /// `solve FILE [--gap PPM] [--pivots N] [--places P] [--show report|plan|multipliers]`: solves.
-    /// `gap` is in millionths of the bound, `pivots` is the most pivots that may be made.
+    /// `solve FILE [--gap PPM] [--pivots N] [--places P] [--show report|plan|multipliers] [--method exact|rounded]`: solves.
+    /// `gap` is in millionths of the bound, and 10 where it is left out and the method is rounded;
+    /// `pivots` is the most pivots that may be made.
     Solve {
         file: &'a str,
         gap: u32,
         pivots: u32,
         places: u8,
         show: SolveShow,
+        method: SolveMethod,
+    },
+    /// `explain FILE [--pivots N] [--places P]`: says why no plan exists, by a few equations that can't be met together. `pivots` is
+    /// the most pivots that one trial may make.
+    Explain {
+        file: &'a str,
+        pivots: u32,
+        places: u8,
     },
     /// `make N [--show file|summary]`: writes a made data file of this size, or solves it and writes
     /// a summary.
@@ -53,6 +64,13 @@ pub enum SolveShow {
     Multipliers,
 }
 
+/// Which method `solve` begins with.
+#[derive(Clone, Copy, Debug, PartialEq, Eq)]
+pub enum SolveMethod {
+    Exact,
+    Rounded,
+}
+
 /// What `make` writes.
 #[derive(Clone, Copy, Debug, PartialEq, Eq)]
 pub enum MakeShow {
@@ -65,6 +83,7 @@ enum CommandName {
     Mps,
     Check,
     Solve,
+    Explain,
     Make,
 }
 
@@ -72,7 +91,7 @@ enum CommandName {
 /// is no word; `BadCommand` where the first is no command; `BadForm` where an option is unknown, is
 /// none of the command's, is repeated or has no value, or a file is missing or too many; `BadNumber`
 /// where a number isn't one of the digits and the range that its place allows; `BadShow` where the value
-/// of `--show` is none of the command's; `GapAlone` where `check` has a gap and no multipliers. An
+/// of `--show`, and then that of `--method`, is none of the command's; `GapAlone` where `check` has a gap and no multipliers. An
 /// option and its value are two words, or one with `=` between. After `--` no word is an option.
 pub fn read_command<'a>(
     alloc: Global,
@@ -103,6 +122,8 @@ fn command_named(word: &str) -> Option<CommandName>
         Some(CommandName::Check)
     } else if word == "solve" {
         Some(CommandName::Solve)
+    } else if word == "explain" {
+        Some(CommandName::Explain)
     } else if word == "make" {
         Some(CommandName::Make)
     } else {
@@ -132,6 +153,7 @@ fn command_given<'a>(name: CommandName, given: &Given<'a>) -> Result<Command<'a>
         CommandName::Mps => mps_given(given),
         CommandName::Check => check_given(given),
         CommandName::Solve => solve_given(given),
+        CommandName::Explain => explain_given(given),
         CommandName::Make => make_given(given),
     }
 }
@@ -141,11 +163,24 @@ fn is_allowed(name: CommandName, given: &Given<'_>) -> bool
     ensures { result ≡ is_allowed (name_of name) (given_of given.now) }
 {
     match name {
-        CommandName::Mps => given.gap.is_none() && given.pivots.is_none() && given.show.is_none(),
-        CommandName::Check => given.pivots.is_none() && given.show.is_none(),
+        CommandName::Mps => {
+            given.gap.is_none()
+                && given.pivots.is_none()
+                && given.show.is_none()
+                && given.method.is_none()
+        }
+        CommandName::Check => {
+            given.pivots.is_none() && given.show.is_none() && given.method.is_none()
+        }
         CommandName::Solve => true,
+        CommandName::Explain => {
+            given.gap.is_none() && given.show.is_none() && given.method.is_none()
+        }
         CommandName::Make => {
-            given.gap.is_none() && given.pivots.is_none() && given.places.is_none()
+            given.gap.is_none()
+                && given.pivots.is_none()
+                && given.places.is_none()
+                && given.method.is_none()
         }
     }
 }
@@ -221,16 +256,45 @@ fn solve_given<'a>(given: &Given<'a>) -> Result<Command<'a>, WordFault>
     ) else {
         return Err(WordFault::BadNumber);
     };
-    let Some(show) = solve_show_of(given.show) else {
+    let (Some(show), Some(method)) = (solve_show_of(given.show), method_of(given.method)) else {
         return Err(WordFault::BadShow);
     };
     Ok(Command::Solve {
         file: *file,
-        gap,
+        gap: gap_for(method, given.gap, gap),
         pivots,
         places,
         show,
+        method,
     })
+}
+
+fn explain_given<'a>(given: &Given<'a>) -> Result<Command<'a>, WordFault>
+    ensures { request_of_result result ≡ command_given ExplainName (given_of given.now) }
+{
+    match given.files.as_slice() {
+        [file] => explain(*file, given.pivots, given.places),
+        _ => Err(WordFault::BadForm),
+    }
+}
+
+fn explain<'a>(
+    file: &'a str,
+    pivots: Option<&'a str>,
+    places: Option<&'a str>,
+) -> Result<Command<'a>, WordFault>
+    ensures { request_of_result result
+        ≡ explain_of file.entry.now (option_map (λ value. value.now) pivots.entry)
+        (option_map (λ value. value.now) places.entry) }
+{
+    match (pivots_of(pivots), places_of(places)) {
+        (Some(pivots), Some(places)) => Ok(Command::Explain {
+            file,
+            pivots,
+            places,
+        }),
+        _ => Err(WordFault::BadNumber),
+    }
 }
 
 fn make_given<'a>(given: &Given<'a>) -> Result<Command<'a>, WordFault>

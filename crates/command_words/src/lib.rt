@@ -9,6 +9,6 @@ mod fault;
 mod parsing;
 mod values;
 
-pub use command::{Command, MakeShow, SolveShow, read_command};
+pub use command::{Command, MakeShow, SolveMethod, SolveShow, read_command};
 pub use fault::WordFault;
 pub use parsing::spelled_parts;

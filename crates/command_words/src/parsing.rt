@@ -18,6 +18,7 @@ pub struct Given<'a> {
     pub pivots: Option<&'a str>,
     pub places: Option<&'a str>,
     pub show: Option<&'a str>,
+    pub method: Option<&'a str>,
 }
 
 /// Reads the words after a command. `None` where an option is unknown, is repeated or has no value.
@@ -34,6 +35,7 @@ pub fn read_given<'a>(alloc: Global, words: &'a [String]) -> Result<Option<Given
         pivots: matches.get_str("pivots"),
         places: matches.get_str("places"),
         show: matches.get_str("show"),
+        method: matches.get_str("method"),
     };
     Ok(Some(given))
 }
@@ -71,7 +73,8 @@ fn any_options<'a>(alloc: Global) -> Result<Command<'a>, AllocError>
     let command = with_option(alloc, with_files(alloc)?, "gap")?;
     let command = with_option(alloc, command, "pivots")?;
     let command = with_option(alloc, command, "places")?;
-    with_option(alloc, command, "show")
+    let command = with_option(alloc, command, "show")?;
+    with_option(alloc, command, "method")
 }
 
 // Files in any number, wherever they stand. No program's name stands before the words, and there is no help.

@@ -2,9 +2,9 @@
 ghost use Rattle.std.specs.Prelude.{◌≡◌, ◌≤◌, option_map};
 ghost use Rattle.std.specs.Char.{is_ascii_digit};
 ghost use Rattle.std.specs.List.{list_all};
-ghost use Rattle.command_words.specs.WordValues.{number_within, gap_of, pivots_of, places_of, size_of, solve_show_of, make_show_of};
+ghost use Rattle.command_words.specs.WordValues.{number_within, gap_of, pivots_of, places_of, size_of, solve_show_of, make_show_of, gap_for, method_of, usual_gap};
 
-use crate::command::{MakeShow, SolveShow};
+use crate::command::{MakeShow, SolveMethod, SolveShow};
 
 /// A gap in millionths, 0 where it is left out.
 pub fn gap_of(text: Option<&str>) -> Option<u32>
@@ -80,6 +80,42 @@ pub fn make_show_of(text: Option<&str>) -> Option<MakeShow>
         Some(MakeShow::Summary)
     } else {
         None
+    }
+}
+
+/// The method that `solve` begins with, the exact one where it is left out.
+pub fn method_of(text: Option<&str>) -> Option<SolveMethod>
+    ensures { result ≡ method_of (option_map (λ text. text.now) text.entry) }
+{
+    let Some(text) = text else {
+        return Some(SolveMethod::Exact);
+    };
+    if text == "exact" {
+        Some(SolveMethod::Exact)
+    } else if text == "rounded" {
+        Some(SolveMethod::Rounded)
+    } else {
+        None
+    }
+}
+
+/// The gap that is given, or the method's where none is, in millionths.
+pub fn gap_for(method: SolveMethod, given: Option<&str>, gap: u32) -> u32
+    ensures { result ≡ gap_for method (option_map (λ text. text.now) given.entry) gap }
+{
+    match given {
+        Some(_) => gap,
+        None => usual_gap(method),
+    }
+}
+
+// The gap that a method keeps where none is given, in millionths.
+fn usual_gap(method: SolveMethod) -> u32
+    ensures { result ≡ usual_gap method }
+{
+    match method {
+        SolveMethod::Exact => 0,
+        SolveMethod::Rounded => 10,
     }
 }
 

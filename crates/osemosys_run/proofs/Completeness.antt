@@ -34,20 +34,20 @@ use Rattle.row_core.specs.declared.place.Place.{Place}
 use Rattle.row_book.specs.Books.{AreRowsOf, CanBeMade, HasStopped}
 use Rattle.row_book.specs.declared.fail.BookFail.{BookFail}
 use Rattle.row_book.specs.declared.fail.BookFail.TheVariants as book
-use Rattle.osemosys_run.specs.declared.status.Status.{Status}
-use Rattle.osemosys_run.specs.declared.status.Status.TheVariants.{Done, Refused}
-use Rattle.osemosys_run.specs.declared.status.Refusal.TheVariants as refusals
+use Rattle.command_answers.specs.declared.status.Status.{Status}
+use Rattle.command_answers.specs.declared.status.Status.TheVariants.{Done, Refused}
+use Rattle.command_answers.specs.declared.status.Refusal.TheVariants as refusals
 use Rattle.command_words.specs.declared.fault.WordFault.{WordFault}
-use Rattle.osemosys_run.specs.Accepted.{Accepted}
+use Rattle.command_answers.specs.Accepted.{Accepted, most_bytes}
 use Rattle.osemosys_run.specs.Complete.{AreInGap, AreThereIfNamed, CanBeAccepted, CanBeWritten}
-use Rattle.osemosys_run.specs.Due.{Due, DueForFile, DueForOptionalFile, DueForRequest, DueForText}
-use Rattle.osemosys_run.specs.Check.{DueForCheck, DueForMultiplierFile, DueForPlan, DueForPlanFile, IsRejected, TellsMultipliers, check_conditions, multiplier_bound, plan_cost}
-use Rattle.osemosys_run.specs.Lines.{too_long_line}
+use Rattle.osemosys_run.specs.Due.{Due, DueForFile, DueForOptionalFile, DueForRequest}
+use Rattle.command_answers.specs.DueForText.{DueForText}
+use Rattle.check_command.specs.Check.{DueForCheck, DueForMultiplierFile, DueForPlan, DueForPlanFile, IsRejected, TellsMultipliers, check_conditions, multiplier_bound, plan_cost}
+use Rattle.command_answers.specs.Lines.{too_long_line}
 use Rattle.osemosys_run.specs.Mps.{DueForEquations}
-use Rattle.osemosys_run.specs.NotAccepted.{DueWhereNotAccepted}
-use Rattle.osemosys_run.specs.Reading.{most_bytes}
+use Rattle.command_answers.specs.NotAccepted.{DueWhereNotAccepted}
 use Rattle.command_words.specs.Words.{Request}
-use Rattle.osemosys_run.proofs.OutcomeLaws.{fails-parts, of_bound, of_gap, of_plan}
+use Rattle.check_command.proofs.OutcomeLaws.{fails-parts, of_bound, of_gap, of_plan}
 
 -- what the laws of acceptance, of plan files and of the book say
 pub record Laws : Type 0 where

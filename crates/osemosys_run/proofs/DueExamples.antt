@@ -4,20 +4,22 @@ use Rattle.std.specs.Prelude.{codes, Option, Some, None, ⊤}
 use Rattle.std.specs.Fmt.{digits}
 use Rattle.model_sets.specs.Data.{Data}
 use Rattle.mathprog_data.specs.declared.fault.DataFault.{DataFault}
-use Rattle.osemosys_run.specs.declared.status.Status.{Status}
-use Rattle.osemosys_run.specs.declared.status.Status.TheVariants.{Done, Infeasible, Unbounded, Uncertified, Refused, Words, ReadFault, WriteFault, Memory, Rejected}
-use Rattle.osemosys_run.specs.declared.status.Refusal.TheVariants as refusals
+use Rattle.command_answers.specs.declared.status.Status.{Status}
+use Rattle.command_answers.specs.declared.status.Status.TheVariants.{Done, Infeasible, Unbounded, Uncertified, Refused, Words, ReadFault, WriteFault, Memory, Rejected}
+use Rattle.command_answers.specs.declared.status.Refusal.TheVariants as refusals
 use Rattle.command_words.specs.declared.fault.WordFault.TheVariants as faults
-use Rattle.osemosys_run.specs.declared.status.ReadStop.TheVariants as stops
+use Rattle.command_answers.specs.declared.status.ReadStop.TheVariants as stops
 use Rattle.io_edges.specs.Count.{Rose}
 use Rattle.io_edges.specs.Edges.{Lacks}
 use Rattle.osemosys_run.specs.Causes.{Caused, CausedByFile, FollowsFromText}
 use Rattle.osemosys_run.specs.Complete.{AskForMade, CanBeSummarized, CanBeAccepted, CanBeSolved, CanBeWritten, Completes}
-use Rattle.osemosys_run.specs.Due.{Due, DueForFile, DueForText}
-use Rattle.osemosys_run.specs.Lines.{too_long_line}
+use Rattle.osemosys_run.specs.Due.{Due, DueForFile}
+use Rattle.command_answers.specs.DueForText.{DueForText}
+use Rattle.command_answers.specs.Lines.{too_long_line}
 use Rattle.osemosys_run.specs.Mps.{DueForEquations}
-use Rattle.osemosys_run.specs.NotAccepted.{DueWhereNotAccepted}
-use Rattle.osemosys_run.specs.Reading.{Sight, BeganOne, most_bytes, IsTooLong}
+use Rattle.command_answers.specs.NotAccepted.{DueWhereNotAccepted}
+use Rattle.osemosys_run.specs.Reading.{Sight, BeganOne, IsTooLong}
+use Rattle.command_answers.specs.Accepted.{most_bytes}
 use Rattle.osemosys_run.specs.ReadToEnd.{IsReadToEnd}
 use Rattle.osemosys_run.specs.Sending.{Delivers}
 

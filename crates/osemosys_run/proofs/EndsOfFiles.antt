@@ -4,21 +4,22 @@ use Rattle.io_edges.specs.Count.{Rose}
 use Rattle.io_edges.specs.Edges.{Lacks}
 use Rattle.osemosys_run.specs.declared.reading.ReadEnd.{ReadEnd}
 use Rattle.osemosys_run.specs.declared.reading.ReadEnd.TheVariants as ends
-use Rattle.osemosys_run.specs.declared.status.Status.{Status}
-use Rattle.osemosys_run.specs.declared.status.Status.TheVariants.{Done, Infeasible, Unbounded, Uncertified, Refused, Words, ReadFault, WriteFault, Memory, Rejected}
-use Rattle.osemosys_run.specs.declared.status.Refusal.TheVariants as refusals
-use Rattle.osemosys_run.specs.declared.status.ReadStop.TheVariants as stops
+use Rattle.command_answers.specs.declared.status.Status.{Status}
+use Rattle.command_answers.specs.declared.status.Status.TheVariants.{Done, Infeasible, Unbounded, Uncertified, Refused, Words, ReadFault, WriteFault, Memory, Rejected}
+use Rattle.command_answers.specs.declared.status.Refusal.TheVariants as refusals
+use Rattle.command_answers.specs.declared.status.ReadStop.TheVariants as stops
 use Rattle.command_words.specs.declared.command.MakeShow.{MakeShow}
 use Rattle.command_words.specs.declared.fault.WordFault.{WordFault}
 use Rattle.osemosys_run.specs.Causes.{Caused, CausedByFile, CausedByOptionalFile, CausedByRequest, FollowsFromText, StopsAtFile}
-use Rattle.osemosys_run.specs.Check.{DueForCheck}
+use Rattle.check_command.specs.Check.{DueForCheck}
 use Rattle.osemosys_run.specs.Mps.{DueForEquations}
 use Rattle.osemosys_run.specs.ReadEnds.{TellsEnd}
 use Rattle.osemosys_run.specs.Reading.{Sight, HasNothingLeft, IsTooLong}
 use Rattle.osemosys_run.specs.ReadToEnd.{IsReadAtWriteFault, IsReadToEnd, IsReadToEndFor, NamesFile}
-use Rattle.osemosys_run.specs.Shown.{shown_of}
-use Rattle.osemosys_run.specs.Solve.{DueForSolve}
-use Rattle.command_words.specs.Words.{Request, Check, Make, Mps, Solve, asked}
+use Rattle.solve_command.specs.Shown.{shown_of}
+use Rattle.explain_command.specs.Explain.{DueForExplain}
+use Rattle.solve_command.specs.Solve.{DueForSolve}
+use Rattle.command_words.specs.Words.{Request, Check, Explain, Make, Mps, Solve, asked}
 use Rattle.osemosys_run.proofs.FilesRead.{Reaches, Reaches-itself, by_file, by_optional_file, rose-since}
 
 -- where the reading of a file ends for a cause, the answer that tells it has that cause
@@ -71,9 +72,14 @@ by_cause words before after status text Goal refused read stopped made caused = 
         by_file before after status text (Goal (Ok (Mps name places))) (FollowsFromText (λ rounded. DueForEquations places) after status text) 1 name before (Reaches-itself before)
         (λ there bytes reached left follows. read (Mps name places) (left_alone before there after left follows.0))
         (stopped (Mps name places) 1 name before) c
-    by_request (Ok (Solve name gap pivots places show)) c =
-        let request = Solve name gap pivots places show in
-        by_file before after status text (Goal (Ok request)) (FollowsFromText (DueForSolve places gap pivots (shown_of show)) after status text) 1 name before (Reaches-itself before)
+    by_request (Ok (Solve name gap pivots places show method)) c =
+        let request = Solve name gap pivots places show method in
+        by_file before after status text (Goal (Ok request)) (FollowsFromText (DueForSolve places gap pivots (shown_of show) method) after status text) 1 name before (Reaches-itself before)
+        (λ there bytes reached left follows. read request (left_alone before there after left follows.0))
+        (stopped request 1 name before) c
+    by_request (Ok (Explain name pivots places)) c =
+        let request = Explain name pivots places in
+        by_file before after status text (Goal (Ok request)) (FollowsFromText (λ rounded. DueForExplain places pivots) after status text) 1 name before (Reaches-itself before)
         (λ there bytes reached left follows. read request (left_alone before there after left follows.0))
         (stopped request 1 name before) c
     by_request (Ok (Check name plan multipliers gap places)) c =

@@ -1,14 +1,11 @@
--- What the words of the command line ask for, and the one-line texts, computed on examples.
-use Rattle.std.proofs.Common.{◌≡◌, false, [], ◌∷◌, refl}
+-- What the words of the command line ask for, computed on examples.
+use Rattle.std.proofs.Common.{◌≡◌, false, [], ◌∷◌, Some, None, refl}
 use Rattle.std.specs.Prelude.{codes, Ok, Err}
-use Rattle.std.specs.Fmt.{digits}
-use Rattle.command_words.specs.declared.fault.WordFault.TheVariants.{NoCommand, BadCommand, BadForm}
-use Rattle.osemosys_run.specs.declared.status.ReadStop.TheVariants as stops
-use Rattle.command_words.specs.Words.{Mps, asked}
+use Rattle.command_words.specs.declared.fault.WordFault.TheVariants.{NoCommand, BadCommand, BadForm, BadNumber, GapAlone}
+use Rattle.command_words.specs.Words.{Check, Mps, asked, names_of}
 use Rattle.command_words.specs.WordParts.{is_option}
-use Rattle.osemosys_run.specs.Lines.{words_line, stop_line, too_long_line}
 
--- ---- words
+-- ---- `mps`, and words that ask for nothing
 
 no_words : asked [] ≡ Err NoCommand
 no_words = refl
@@ -80,34 +77,23 @@ command_twice = refl
 blank_before_dash : is_option (codes " -x") ≡ false
 blank_before_dash = refl
 
--- ---- one-line texts
+-- ---- `check`
 
-no_command_line : words_line NoCommand ≡ codes "words refused NoCommand\n"
-no_command_line = refl
+a_plan : asked (codes "check" ∷ codes "FILE" ∷ codes "PLAN" ∷ []) ≡ Ok (Check (codes "FILE") (codes "PLAN") None 0 6)
+a_plan = refl
 
-bad_command_line : words_line BadCommand ≡ codes "words refused BadCommand\n"
-bad_command_line = refl
+with_multipliers : asked (codes "check" ∷ codes "FILE" ∷ codes "PLAN" ∷ codes "BOUND" ∷ codes "--gap" ∷ codes "142858" ∷ []) ≡ Ok (Check (codes "FILE") (codes "PLAN") (Some (codes "BOUND")) 142858 6)
+with_multipliers = refl
 
-bad_form_line : words_line BadForm ≡ codes "words refused BadForm\n"
-bad_form_line = refl
+gap_alone : asked (codes "check" ∷ codes "FILE" ∷ codes "PLAN" ∷ codes "--gap" ∷ codes "0" ∷ []) ≡ Err GapAlone
+gap_alone = refl
 
-no_file_line : stop_line (stops.NoFile 1) ≡ codes "no such file 1\n"
-unfolding digits
-no_file_line = refl
+no_plan : asked (codes "check" ∷ codes "FILE" ∷ []) ≡ Err BadForm
+no_plan = refl
 
-failed_line : stop_line (stops.Failed 1) ≡ codes "read fault file 1\n"
-unfolding digits
-failed_line = refl
+gap_too_great : asked (codes "check" ∷ codes "FILE" ∷ codes "PLAN" ∷ codes "BOUND" ∷ codes "--gap=1000001" ∷ []) ≡ Err BadNumber
+gap_too_great = refl
 
-first_file_line : too_long_line 1 ≡ codes "refused too long file 1\n"
-unfolding digits
-first_file_line = refl
-
--- the number of a file is written whole
-third_file_line : too_long_line 3 ≡ codes "refused too long file 3\n"
-unfolding digits
-third_file_line = refl
-
-last_number_line : stop_line (stops.Failed 255) ≡ codes "read fault file 255\n"
-unfolding digits
-last_number_line = refl
+-- the data file is the first, then the plan's, then that of multipliers
+in_order : names_of (Check (codes "FILE") (codes "PLAN") (Some (codes "BOUND")) 0 6) ≡ codes "FILE" ∷ codes "PLAN" ∷ codes "BOUND" ∷ []
+in_order = refl

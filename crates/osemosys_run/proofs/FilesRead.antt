@@ -1,7 +1,7 @@
 -- Files that are read one after another: what is known of the shelf where the next one is begun.
 use Rattle.std.proofs.Common.{◌≡◌, ℕ, ◌≤◌, inl, inr, List, [], Option, Some, None, IsSome, refl, sym, ◌∙◌, subst, arith}
 use Rattle.io_edges.specs.Count.{Rose}
-use Rattle.osemosys_run.specs.declared.status.Status.{Status}
+use Rattle.command_answers.specs.declared.status.Status.{Status}
 use Rattle.osemosys_run.specs.Causes.{CausedByFile, CausedByOptionalFile, StopsAtFile}
 use Rattle.osemosys_run.specs.Reading.{Sight, BeganOne, HasNothingLeft, IsWholeFile}
 

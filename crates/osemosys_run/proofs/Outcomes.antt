@@ -8,34 +8,39 @@ use Rattle.row_core.specs.declared.Var.{Var}
 use Rattle.row_core.specs.declared.place.Place.{Place}
 use Rattle.named_equations.specs.Existence.{all_variables}
 use Rattle.exact_solver.specs.Sizes.{column_count, inequality_count}
-use Rattle.osemosys_run.specs.declared.solve.Shown.{Shown}
-use Rattle.osemosys_run.specs.declared.solve.Shown.TheVariants.{Summary}
+use Rattle.solve_command.specs.declared.solve.Shown.{Shown}
+use Rattle.solve_command.specs.declared.solve.Shown.TheVariants.{Summary}
 use Rattle.io_edges.specs.Count.{Rose}
 use Rattle.io_edges.specs.Edges.{Lacks}
 use Rattle.io_edges.specs.Files.{file_named}
 use Rattle.io_edges.specs.Told.{WhereTold}
-use Rattle.osemosys_run.specs.declared.status.Status.{Status}
-use Rattle.osemosys_run.specs.declared.status.Status.TheVariants.{Done, Infeasible, Unbounded, Uncertified, Refused, Words, ReadFault, WriteFault, Memory, Rejected}
-use Rattle.osemosys_run.specs.declared.status.Refusal.{Refusal}
-use Rattle.osemosys_run.specs.declared.status.Refusal.TheVariants as refusals
-use Rattle.osemosys_run.specs.declared.status.Stop.{Stop}
-use Rattle.osemosys_run.specs.declared.status.ReadStop.TheVariants as stops
+use Rattle.command_answers.specs.declared.status.Status.{Status}
+use Rattle.command_answers.specs.declared.status.Status.TheVariants.{Done, Infeasible, Unbounded, Uncertified, Refused, Words, ReadFault, WriteFault, Memory, Rejected}
+use Rattle.command_answers.specs.declared.status.Refusal.{Refusal}
+use Rattle.command_answers.specs.declared.status.Refusal.TheVariants as refusals
+use Rattle.simplex_core.specs.declared.stops.Stop.{Stop}
+use Rattle.command_answers.specs.declared.status.ReadStop.TheVariants as stops
 use Rattle.command_words.specs.declared.command.MakeShow.{MakeShow}
 use Rattle.command_words.specs.declared.command.MakeShow.TheVariants as makes
 use Rattle.command_words.specs.declared.fault.WordFault.{WordFault}
 use Rattle.model_maker.specs.MadeText.{made_text}
 use Rattle.osemosys_run.specs.Causes.{Caused, CausedByFile, CausedByOptionalFile, CausedByRequest, FollowsFromText, StopsAtFile}
-use Rattle.osemosys_run.specs.Due.{Due, DueForFile, DueForMake, DueForOptionalFile, DueForRequest, DueForText}
-use Rattle.osemosys_run.specs.Check.{DueForCheck, DueForMultiplierFile, DueForPlan, DueForPlanFile}
-use Rattle.osemosys_run.specs.Lines.{too_long_line}
+use Rattle.osemosys_run.specs.Due.{Due, DueForFile, DueForMake, DueForOptionalFile, DueForRequest}
+use Rattle.command_answers.specs.DueForText.{DueForText}
+use Rattle.check_command.specs.Check.{DueForCheck, DueForMultiplierFile, DueForPlan, DueForPlanFile}
+use Rattle.command_answers.specs.Lines.{too_long_line}
+use Rattle.explain_command.specs.Explain.{DueForExplain}
 use Rattle.osemosys_run.specs.Mps.{DueForEquations}
-use Rattle.osemosys_run.specs.NotAccepted.{DueWhereNotAccepted}
-use Rattle.osemosys_run.specs.Reading.{BeganOne, Sight, most_bytes, IsWholeFile}
+use Rattle.command_answers.specs.NotAccepted.{DueWhereNotAccepted}
+use Rattle.osemosys_run.specs.Reading.{BeganOne, Sight, IsWholeFile}
+use Rattle.command_answers.specs.Accepted.{most_bytes}
 use Rattle.osemosys_run.specs.Sending.{Delivers}
-use Rattle.osemosys_run.specs.Shown.{shown_of}
-use Rattle.osemosys_run.specs.Solve.{DueForEnd, DueForRows, DueForSolve}
-use Rattle.osemosys_run.specs.Summary.{DueForSummary, default_places, default_pivots}
-use Rattle.command_words.specs.Words.{Request, Check, Make, Mps, Solve, asked}
+use Rattle.solve_command.specs.Shown.{shown_of}
+use Rattle.command_words.specs.declared.command.SolveMethod.{SolveMethod}
+use Rattle.command_words.specs.declared.command.SolveMethod.TheVariants.{Exact, Rounded}
+use Rattle.solve_command.specs.Solve.{DueForEnd, DueForMethod, DueForRows, DueForSolve}
+use Rattle.solve_command.specs.Summary.{DueForSummary, default_places, default_pivots}
+use Rattle.command_words.specs.Words.{Request, Check, Explain, Make, Mps, Solve, asked}
 use Rattle.osemosys_run.proofs.FilesRead.{rose-since}
 
 -- ---- what is due
@@ -91,8 +96,10 @@ due_from_cause words before after files status text told calm caused = by_reques
     by_request (Ok (Mps name places)) c =
         due_for_file (FollowsFromText (λ rounded. DueForEquations places) after status text) (DueForText (λ rounded. DueForEquations places)) 1 name before after files status text told calm (λ there bytes began follows. follows.1) c
     by_request (Ok (Make size show)) c = c.0
-    by_request (Ok (Solve name gap pivots places show)) c =
-        due_for_file (FollowsFromText (DueForSolve places gap pivots (shown_of show)) after status text) (DueForText (DueForSolve places gap pivots (shown_of show))) 1 name before after files status text told calm (λ there bytes began follows. follows.1) c
+    by_request (Ok (Solve name gap pivots places show method)) c =
+        due_for_file (FollowsFromText (DueForSolve places gap pivots (shown_of show) method) after status text) (DueForText (DueForSolve places gap pivots (shown_of show) method)) 1 name before after files status text told calm (λ there bytes began follows. follows.1) c
+    by_request (Ok (Explain name pivots places)) c =
+        due_for_file (FollowsFromText (λ rounded. DueForExplain places pivots) after status text) (DueForText (λ rounded. DueForExplain places pivots)) 1 name before after files status text told calm (λ there bytes began follows. follows.1) c
     by_request (Ok (Check name plan multipliers gap places)) c =
         let third : List ℕ → List ℕ → Sight → Option (List ℕ) → Type 0 =
         λ bytes plan_bytes there multiplier_bytes. FollowsFromText (λ rounded. DueForCheck places plan_bytes multiplier_bytes gap) after status text there bytes in
@@ -155,20 +162,40 @@ end_is places d rows gap pivots show rounded status text (inr (inl infeasible)) 
 end_is places d rows gap pivots show rounded status text (inr (inr (inl unbounded))) = is_other status Unbounded (λ h. cc) (λ h. cc) (λ number h. cc) unbounded.status_is
 end_is places d rows gap pivots show rounded status text (inr (inr (inr (inl out)))) = is_other status (Uncertified (Stop.Budget pivots)) (λ h. cc) (λ h. cc) (λ number h. cc) out.status_is
 end_is places d rows gap pivots show rounded status text (inr (inr (inr (inr (inl wide))))) = is_other status (Uncertified (Stop.Width wide.place)) (λ h. cc) (λ h. cc) (λ number h. cc) wide.status_is
-end_is places d rows gap pivots show rounded status text (inr (inr (inr (inr (inr wide))))) = is_other status (Uncertified (Stop.Width wide.place)) (λ h. cc) (λ h. cc) (λ number h. cc) wide.status_is
+end_is places d rows gap pivots show rounded status text (inr (inr (inr (inr (inr (inl wide)))))) = is_other status (Uncertified (Stop.Width wide.place)) (λ h. cc) (λ h. cc) (λ number h. cc) wide.status_is
+end_is places d rows gap pivots show rounded status text (inr (inr (inr (inr (inr (inr second)))))) = is_other status Done (λ h. cc) (λ h. cc) (λ number h. cc) second.status_is
 
-rows_is : (places : ℕ) (d : Data) (rows : List Row) (gap pivots : ℕ) (show : Shown) (rounded : ℕ) (status : Status) (text : List ℕ)
-    → DueForRows places d rows gap pivots show rounded status text → IsOwn status
-rows_is places d rows gap pivots show rounded status text (inl large) = refused_is status (refusals.TooLarge (inequality_count rows) (column_count (all_variables d))) large.status_is
-rows_is places d rows gap pivots show rounded status text (inr ends) = end_is places d rows gap pivots show rounded status text ends.1
+method_is : (places : ℕ) (d : Data) (rows : List Row) (gap pivots : ℕ) (show : Shown) (method : SolveMethod) (rounded : ℕ) (status : Status) (text : List ℕ)
+    → DueForMethod places d rows gap pivots show method rounded status text → IsOwn status
+method_is places d rows gap pivots show Exact rounded status text due = end_is places d rows gap pivots show rounded status text due
+method_is places d rows gap pivots show Rounded rounded status text (inl found) = is_other status Done (λ h. cc) (λ h. cc) (λ number h. cc) found.status_is
+method_is places d rows gap pivots show Rounded rounded status text (inr (inl found)) = is_other status Infeasible (λ h. cc) (λ h. cc) (λ number h. cc) found.status_is
+method_is places d rows gap pivots show Rounded rounded status text (inr (inr due)) = end_is places d rows gap pivots show rounded status text due
 
-solve_is : (places gap pivots : ℕ) (show : Shown) (rounded : ℕ) (d : Data) (status : Status) (text : List ℕ) → DueForSolve places gap pivots show rounded d status text → IsOwn status
-solve_is places gap pivots show rounded d status text (inl made) = rows_is places d made.rows gap pivots show rounded status text made.due
-solve_is places gap pivots show rounded d status text (inr (inl wide)) = is_other status (Uncertified (Stop.Width (Place.Row wide.name))) (λ h. cc) (λ h. cc) (λ number h. cc) wide.status_is
-solve_is places gap pivots show rounded d status text (inr (inr many)) = refused_is status refusals.TooManyEntries many.status_is
+rows_is : (places : ℕ) (d : Data) (rows : List Row) (gap pivots : ℕ) (show : Shown) (method : SolveMethod) (rounded : ℕ) (status : Status) (text : List ℕ)
+    → DueForRows places d rows gap pivots show method rounded status text → IsOwn status
+rows_is places d rows gap pivots show method rounded status text (inl large) = refused_is status (refusals.TooLarge (inequality_count rows) (column_count (all_variables d))) large.status_is
+rows_is places d rows gap pivots show method rounded status text (inr due) = method_is places d rows gap pivots show method rounded status text due.1
+
+solve_is : (places gap pivots : ℕ) (show : Shown) (method : SolveMethod) (rounded : ℕ) (d : Data) (status : Status) (text : List ℕ) → DueForSolve places gap pivots show method rounded d status text → IsOwn status
+solve_is places gap pivots show method rounded d status text (inl made) = rows_is places d made.rows gap pivots show method rounded status text made.due
+solve_is places gap pivots show method rounded d status text (inr (inl wide)) = is_other status (Uncertified (Stop.Width (Place.Row wide.name))) (λ h. cc) (λ h. cc) (λ number h. cc) wide.status_is
+solve_is places gap pivots show method rounded d status text (inr (inr many)) = refused_is status refusals.TooManyEntries many.status_is
+
+explain_is : (places pivots : ℕ) (d : Data) (status : Status) (text : List ℕ) → DueForExplain places pivots d status text → IsOwn status
+explain_is places pivots d status text (inl made) = elim made.due [
+  | inl large ↦ refused_is status (refusals.TooLarge (inequality_count made.rows) (column_count (all_variables d))) large.status_is
+  | inr ends ↦ elim ends.1 [
+    | inl feasible ↦ is_other status Done (λ h. cc) (λ h. cc) (λ number h. cc) feasible.status_is
+    | inr (inl conflict) ↦ is_other status Infeasible (λ h. cc) (λ h. cc) (λ number h. cc) conflict.status_is
+    | inr (inr stopped) ↦ is_other status (Uncertified stopped.stop) (λ h. cc) (λ h. cc) (λ number h. cc) stopped.status_is
+  ]
+]
+explain_is places pivots d status text (inr (inl wide)) = is_other status (Uncertified (Stop.Width (Place.Row wide.name))) (λ h. cc) (λ h. cc) (λ number h. cc) wide.status_is
+explain_is places pivots d status text (inr (inr many)) = refused_is status refusals.TooManyEntries many.status_is
 
 summary_is : (places rounded : ℕ) (d : Data) (status : Status) (text : List ℕ) → DueForSummary places rounded d status text → IsOwn status
-summary_is places rounded d status text (inl made) = rows_is places d made.rows 0 default_pivots Summary rounded status made.due.0 made.due.1
+summary_is places rounded d status text (inl made) = rows_is places d made.rows 0 default_pivots Summary Exact rounded status made.due.0 made.due.1
 summary_is places rounded d status text (inr (inl wide)) = is_other status (Uncertified (Stop.Width (Place.Row wide.name))) (λ h. cc) (λ h. cc) (λ number h. cc) wide.status_is
 summary_is places rounded d status text (inr (inr many)) = refused_is status refusals.TooManyEntries many.status_is
 
@@ -208,8 +235,10 @@ is_answer words before after status text caused = by_request (asked words) cause
     by_request (Ok (Make size show)) c = (make_is size show status text c.0).0
     by_request (Ok (Mps name places)) (inl whole) = (text_is (λ rounded. DueForEquations places) (λ rounded. equations_are places) whole.1 status text whole.4.1).0
     by_request (Ok (Mps name places)) (inr stopped) = stop_is 1 name before after status text stopped.1
-    by_request (Ok (Solve name gap pivots places show)) (inl whole) = (text_is (DueForSolve places gap pivots (shown_of show)) (solve_is places gap pivots (shown_of show)) whole.1 status text whole.4.1).0
-    by_request (Ok (Solve name gap pivots places show)) (inr stopped) = stop_is 1 name before after status text stopped.1
+    by_request (Ok (Solve name gap pivots places show method)) (inl whole) = (text_is (DueForSolve places gap pivots (shown_of show) method) (solve_is places gap pivots (shown_of show) method) whole.1 status text whole.4.1).0
+    by_request (Ok (Solve name gap pivots places show method)) (inr stopped) = stop_is 1 name before after status text stopped.1
+    by_request (Ok (Explain name pivots places)) (inl whole) = (text_is (λ rounded. DueForExplain places pivots) (λ rounded. explain_is places pivots) whole.1 status text whole.4.1).0
+    by_request (Ok (Explain name pivots places)) (inr stopped) = stop_is 1 name before after status text stopped.1
     by_request (Ok (Check name plan multipliers gap places)) (inr stopped) = stop_is 1 name before after status text stopped.1
     by_request (Ok (Check name plan multipliers gap places)) (inl (first, bytes, began, whole, inr stopped)) = stop_is 2 plan first after status text stopped.1
     by_request (Ok (Check name plan None gap places)) (inl (first, bytes, began, whole, inl (second, plan_bytes, second_began, second_whole, follows))) =
@@ -244,8 +273,10 @@ failed_read words before after status text caused number e = by_request (asked w
     by_request (Ok (Make size show)) c = own (make_is size show status text c.0)
     by_request (Ok (Mps name places)) (inl whole) = own (text_is (λ rounded. DueForEquations places) (λ rounded. equations_are places) whole.1 status text whole.4.1)
     by_request (Ok (Mps name places)) (inr stopped) = stop_failed 1 name before before after status text number more stopped.1 e
-    by_request (Ok (Solve name gap pivots places show)) (inl whole) = own (text_is (DueForSolve places gap pivots (shown_of show)) (solve_is places gap pivots (shown_of show)) whole.1 status text whole.4.1)
-    by_request (Ok (Solve name gap pivots places show)) (inr stopped) = stop_failed 1 name before before after status text number more stopped.1 e
+    by_request (Ok (Solve name gap pivots places show method)) (inl whole) = own (text_is (DueForSolve places gap pivots (shown_of show) method) (solve_is places gap pivots (shown_of show) method) whole.1 status text whole.4.1)
+    by_request (Ok (Solve name gap pivots places show method)) (inr stopped) = stop_failed 1 name before before after status text number more stopped.1 e
+    by_request (Ok (Explain name pivots places)) (inl whole) = own (text_is (λ rounded. DueForExplain places pivots) (λ rounded. explain_is places pivots) whole.1 status text whole.4.1)
+    by_request (Ok (Explain name pivots places)) (inr stopped) = stop_failed 1 name before before after status text number more stopped.1 e
     by_request (Ok (Check name plan multipliers gap places)) (inr stopped) = stop_failed 1 name before before after status text number more stopped.1 e
     by_request (Ok (Check name plan multipliers gap places)) (inl (first, bytes, began, whole, inr stopped)) = stop_failed 2 plan before first after status text number began.faults stopped.1 e
     by_request (Ok (Check name plan None gap places)) (inl (first, bytes, began, whole, inl (second, plan_bytes, second_began, second_whole, follows))) =

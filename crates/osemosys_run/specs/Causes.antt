@@ -3,19 +3,21 @@ use Rattle.std.specs.Prelude.{◌≡◌, ℕ, List, ◌⊎◌, Option, Some, Non
 use Rattle.io_edges.specs.Count.{Rose}
 use Rattle.io_edges.specs.Edges.{Lacks}
 use Rattle.model_sets.specs.Data.{Data}
-use Rattle.osemosys_run.specs.declared.status.Status.{Status}
-use Rattle.osemosys_run.specs.declared.status.Status.TheVariants.{Refused, Words, ReadFault}
-use Rattle.osemosys_run.specs.declared.status.Refusal.TheVariants.{TooLong}
-use Rattle.osemosys_run.specs.declared.status.ReadStop.TheVariants.{NoFile, Failed}
+use Rattle.command_answers.specs.declared.status.Status.{Status}
+use Rattle.command_answers.specs.declared.status.Status.TheVariants.{Refused, Words, ReadFault}
+use Rattle.command_answers.specs.declared.status.Refusal.TheVariants.{TooLong}
+use Rattle.command_answers.specs.declared.status.ReadStop.TheVariants.{NoFile, Failed}
 use Rattle.command_words.specs.declared.fault.WordFault.{WordFault}
-use Rattle.osemosys_run.specs.Check.{DueForCheck}
-use Rattle.osemosys_run.specs.Due.{DueForMake, DueForText}
-use Rattle.osemosys_run.specs.Lines.{stop_line, too_long_line, words_line}
+use Rattle.check_command.specs.Check.{DueForCheck}
+use Rattle.osemosys_run.specs.Due.{DueForMake}
+use Rattle.command_answers.specs.DueForText.{DueForText}
+use Rattle.command_answers.specs.Lines.{stop_line, too_long_line, words_line}
+use Rattle.explain_command.specs.Explain.{DueForExplain}
 use Rattle.osemosys_run.specs.Mps.{DueForEquations}
-use Rattle.osemosys_run.specs.Shown.{shown_of}
-use Rattle.osemosys_run.specs.Solve.{DueForSolve}
+use Rattle.solve_command.specs.Shown.{shown_of}
+use Rattle.solve_command.specs.Solve.{DueForSolve}
 use Rattle.osemosys_run.specs.Reading.{Sight, BeganOne, HasNothingLeft, IsTooLong, IsWholeFile}
-use Rattle.command_words.specs.Words.{Request, Check, Make, Mps, Solve, asked}
+use Rattle.command_words.specs.Words.{Request, Check, Explain, Make, Mps, Solve, asked}
 
 -- the file of this name and number is too long, or missing, or the shelf failed and counted it; and the status and the text say so
 abbrev pub StopsAtFile : ℕ → List ℕ → Sight → Sight → Status → List ℕ → Type 0
@@ -45,7 +47,8 @@ FollowsFromText Over after status text there bytes = (after ≡ there) × DueFor
 abbrev pub CausedByRequest : Result Request WordFault → Sight → Sight → Status → List ℕ → Type 0
 CausedByRequest (Err fault) before after status text = (status ≡ Words fault) × (text ≡ words_line fault) × (after ≡ before)
 CausedByRequest (Ok (Mps name places)) before after status text = CausedByFile (FollowsFromText (λ rounded. DueForEquations places) after status text) 1 name before after status text
-CausedByRequest (Ok (Solve name gap pivots places show)) before after status text = CausedByFile (FollowsFromText (DueForSolve places gap pivots (shown_of show)) after status text) 1 name before after status text
+CausedByRequest (Ok (Solve name gap pivots places show method)) before after status text = CausedByFile (FollowsFromText (DueForSolve places gap pivots (shown_of show) method) after status text) 1 name before after status text
+CausedByRequest (Ok (Explain name pivots places)) before after status text = CausedByFile (FollowsFromText (λ rounded. DueForExplain places pivots) after status text) 1 name before after status text
 CausedByRequest (Ok (Make size show)) before after status text = DueForMake size show status text × (after ≡ before)
 CausedByRequest (Ok (Check name plan multipliers gap places)) before after status text =
     CausedByFile (λ first bytes. CausedByFile (λ second plan_bytes. CausedByOptionalFile (λ there multiplier_bytes.

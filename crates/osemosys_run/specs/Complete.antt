@@ -17,22 +17,22 @@ use Rattle.certificate_checker.specs.Gaps.{Within}
 use Rattle.certificate_checker.specs.Plans.{AreValuesOver}
 use Rattle.plan_files.specs.Answers.{IsPlan}
 use Rattle.plan_files.specs.Files.{records_of}
-use Rattle.exact_solver.specs.MethodEnds.{HasNoBound, HasNoPlan, HasOptimum, IsPivotDue, IsWide, MethodEnd, method_end}
+use Rattle.exact_solver.specs.MethodEnds.{method_end}
 use Rattle.command_words.specs.declared.command.MakeShow.TheVariants.{File}
 use Rattle.command_words.specs.declared.command.MakeShow.TheVariants as makes
+use Rattle.command_words.specs.declared.command.SolveMethod.{SolveMethod}
 use Rattle.command_words.specs.declared.command.SolveShow.{SolveShow}
 use Rattle.model_maker.specs.MadeText.{made_text}
-use Rattle.osemosys_run.specs.declared.solve.Shown.{Shown}
-use Rattle.osemosys_run.specs.declared.solve.Shown.TheVariants.{Summary}
+use Rattle.solve_command.specs.declared.solve.Shown.TheVariants.{Summary}
 use Rattle.io_edges.specs.Files.{file_named}
-use Rattle.osemosys_run.specs.declared.status.Status.{Status}
-use Rattle.osemosys_run.specs.declared.status.Status.TheVariants.{Done, Infeasible, Unbounded, Memory}
-use Rattle.osemosys_run.specs.Accepted.{Accepted}
-use Rattle.osemosys_run.specs.Check.{TellsMultipliers, check_conditions, multiplier_bound, plan_cost}
-use Rattle.osemosys_run.specs.Reading.{most_bytes}
-use Rattle.osemosys_run.specs.Shown.{shown_of}
-use Rattle.osemosys_run.specs.Solve.{IsWithinLimits, PricesFit}
-use Rattle.osemosys_run.specs.Summary.{default_pivots, default_places}
+use Rattle.command_answers.specs.declared.status.Status.{Status}
+use Rattle.command_answers.specs.declared.status.Status.TheVariants.{Done, Infeasible, Unbounded, Memory}
+use Rattle.command_answers.specs.Accepted.{Accepted, most_bytes}
+use Rattle.check_command.specs.Check.{TellsMultipliers, check_conditions, multiplier_bound, plan_cost}
+use Rattle.solve_command.specs.Shown.{shown_of}
+use Rattle.solve_command.specs.Limits.{IsWithinLimits}
+use Rattle.solve_command.specs.Solve.{ComesToEnd}
+use Rattle.solve_command.specs.Summary.{default_pivots, default_places}
 use Rattle.command_words.specs.Words.{Check, Make, Mps, Solve, asked}
 
 -- the words ask for `mps` of a file that is there, with written factors of so many places; its text is accepted, and every row of the named equations over its data can be made
@@ -86,25 +86,18 @@ pub record CanBeAccepted (words : List (List ℕ)) (files : List (List ℕ × Li
   pub in_gap : (rows : List Row) → AreRowsOf places d (instances d) rows → AreInGap d rows plan multipliers gap
   pub fit : (rows : List Row) → AreRowsOf places d (instances d) rows → first_wide (steps (check_conditions d rows plan multipliers gap)) ≡ None
 
--- The method comes to an end: to an optimum, where a report is to be shown with prices that fit, to no plan or to no bound.
-abbrev pub ComesToEnd : Shown → List Row → MethodEnd → Type 0
-ComesToEnd show rows (HasOptimum plan multipliers made) = PricesFit show rows multipliers
-ComesToEnd show rows (HasNoPlan multipliers made) = ⊤
-ComesToEnd show rows (HasNoBound plan direction made) = ⊤
-ComesToEnd show rows IsPivotDue = ⊥
-ComesToEnd show rows (IsWide place) = ⊥
-
 -- The words ask for `solve` of a file that is there; its text is accepted, and every row of the named equations over its data can be made; the linear
--- program is within the limits; and the method comes to an end.
+-- program is within the limits; and the exact method comes to an end.
 pub record CanBeSolved (words : List (List ℕ)) (files : List (List ℕ × List ℕ)) : Type 0 where
   pub name : List ℕ
   pub gap : ℕ
   pub pivots : ℕ
   pub places : ℕ
   pub show : SolveShow
+  pub method : SolveMethod
   pub bytes : List ℕ
   pub d : Data
-  pub asks : asked words ≡ Ok (Solve name gap pivots places show)
+  pub asks : asked words ≡ Ok (Solve name gap pivots places show method)
   pub there : file_named files name ≡ Some bytes
   pub accepted : Accepted bytes d
   pub made : CanBeMade places d 0 (instances d)

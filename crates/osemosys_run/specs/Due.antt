@@ -1,29 +1,24 @@
 -- Which status and which text are due, in the order of work: the words, the file, its text, and what the command says over accepted data.
-use Rattle.std.specs.Prelude.{◌≡◌, ℕ, List, ◌++◌, ◌⊎◌, length, MatchBool, nat_lt, Option, Some, None, Result, Ok, Err}
+use Rattle.std.specs.Prelude.{◌≡◌, ℕ, List, ◌++◌, length, MatchBool, nat_lt, Option, Some, None, Result, Ok, Err}
 use Rattle.io_edges.specs.Files.{file_named}
-use Rattle.model_sets.specs.Data.{Data}
-use Rattle.osemosys_run.specs.declared.status.Status.{Status}
-use Rattle.osemosys_run.specs.declared.status.Status.TheVariants.{Done, Refused, Words, ReadFault}
-use Rattle.osemosys_run.specs.declared.status.Refusal.TheVariants.{TooLong}
-use Rattle.osemosys_run.specs.declared.status.ReadStop.TheVariants.{NoFile}
+use Rattle.command_answers.specs.declared.status.Status.{Status}
+use Rattle.command_answers.specs.declared.status.Status.TheVariants.{Done, Refused, Words, ReadFault}
+use Rattle.command_answers.specs.declared.status.Refusal.TheVariants.{TooLong}
+use Rattle.command_answers.specs.declared.status.ReadStop.TheVariants.{NoFile}
 use Rattle.command_words.specs.declared.command.MakeShow.{MakeShow}
 use Rattle.command_words.specs.declared.command.MakeShow.TheVariants.{File, Summary}
 use Rattle.command_words.specs.declared.fault.WordFault.{WordFault}
 use Rattle.model_maker.specs.MadeText.{made_text}
-use Rattle.osemosys_run.specs.Accepted.{Accepted}
-use Rattle.osemosys_run.specs.Check.{DueForCheck}
-use Rattle.osemosys_run.specs.Lines.{stop_line, too_long_line, words_line}
+use Rattle.command_answers.specs.Accepted.{most_bytes}
+use Rattle.check_command.specs.Check.{DueForCheck}
+use Rattle.command_answers.specs.DueForText.{DueForText}
+use Rattle.command_answers.specs.Lines.{stop_line, too_long_line, words_line}
+use Rattle.explain_command.specs.Explain.{DueForExplain}
 use Rattle.osemosys_run.specs.Mps.{DueForEquations}
-use Rattle.osemosys_run.specs.NotAccepted.{DueWhereNotAccepted}
-use Rattle.osemosys_run.specs.Reading.{most_bytes}
-use Rattle.osemosys_run.specs.Shown.{shown_of}
-use Rattle.osemosys_run.specs.Solve.{DueForSolve}
-use Rattle.osemosys_run.specs.Summary.{DueForSummary, default_places, made_line}
-use Rattle.command_words.specs.Words.{Request, Check, Make, Mps, Solve, asked}
-
--- over the text of a data file: its first refusal, or what `Over` has of the number of its rounded numbers and over its data
-abbrev pub DueForText : (ℕ → Data → Status → List ℕ → Type 0) → List ℕ → Status → List ℕ → Type 0
-DueForText Over bytes status text = DueWhereNotAccepted bytes status text ⊎ ((d : Data) × (accepted : Accepted bytes d) × Over accepted.blocks.rounded d status text)
+use Rattle.solve_command.specs.Shown.{shown_of}
+use Rattle.solve_command.specs.Solve.{DueForSolve}
+use Rattle.solve_command.specs.Summary.{DueForSummary, default_places, made_line}
+use Rattle.command_words.specs.Words.{Request, Check, Explain, Make, Mps, Solve, asked}
 
 -- over the file of this number, which may be missing or too long: that, or what `Due` has over its bytes
 abbrev pub DueForFile : (List ℕ → Status → List ℕ → Type 0) → ℕ → Option (List ℕ) → Status → List ℕ → Type 0
@@ -47,7 +42,8 @@ DueForMake size Summary status text = (rest : List ℕ) × DueForText (DueForSum
 abbrev pub DueForRequest : Result Request WordFault → List (List ℕ × List ℕ) → Status → List ℕ → Type 0
 DueForRequest (Err fault) files status text = (status ≡ Words fault) × (text ≡ words_line fault)
 DueForRequest (Ok (Mps name places)) files status text = DueForFile (DueForText (λ rounded. DueForEquations places)) 1 (file_named files name) status text
-DueForRequest (Ok (Solve name gap pivots places show)) files status text = DueForFile (DueForText (DueForSolve places gap pivots (shown_of show))) 1 (file_named files name) status text
+DueForRequest (Ok (Solve name gap pivots places show method)) files status text = DueForFile (DueForText (DueForSolve places gap pivots (shown_of show) method)) 1 (file_named files name) status text
+DueForRequest (Ok (Explain name pivots places)) files status text = DueForFile (DueForText (λ rounded. DueForExplain places pivots)) 1 (file_named files name) status text
 DueForRequest (Ok (Make size show)) files status text = DueForMake size show status text
 DueForRequest (Ok (Check name plan multipliers gap places)) files status text =
     DueForFile (λ bytes. DueForFile (λ plan_bytes. DueForOptionalFile (λ multiplier_bytes.

@@ -4,11 +4,11 @@ use Rattle.io_edges.specs.declared.traits.OpenFault.{OpenFault}
 use Rattle.io_edges.specs.declared.traits.OpenFault.TheVariants as opening
 use Rattle.osemosys_run.specs.declared.reading.ReadEnd.{ReadEnd}
 use Rattle.osemosys_run.specs.declared.reading.ReadEnd.TheVariants.{NoFile, Failed, TooLong, Memory}
-use Rattle.osemosys_run.specs.declared.status.Status.{Status}
-use Rattle.osemosys_run.specs.declared.status.Status.TheVariants.{Refused, ReadFault}
-use Rattle.osemosys_run.specs.declared.status.Refusal.TheVariants as refusals
-use Rattle.osemosys_run.specs.declared.status.ReadStop.TheVariants as stops
-use Rattle.osemosys_run.specs.Lines.{stop_line, too_long_line}
+use Rattle.command_answers.specs.declared.status.Status.{Status}
+use Rattle.command_answers.specs.declared.status.Status.TheVariants.{Refused, ReadFault}
+use Rattle.command_answers.specs.declared.status.Refusal.TheVariants as refusals
+use Rattle.command_answers.specs.declared.status.ReadStop.TheVariants as stops
+use Rattle.command_answers.specs.Lines.{stop_line, too_long_line}
 
 -- why the reading ends where the file wasn't begun
 abbrev pub end_at : OpenFault → ReadEnd

@@ -3,10 +3,11 @@ use Rattle.std.specs.Prelude.{◌≡◌, ◌≢◌, ℕ, ◌<◌, ◌≤◌, Lis
 use Rattle.std.specs.List.{AllByRecursion}
 use Rattle.io_edges.specs.Count.{Rose}
 use Rattle.io_edges.specs.Files.{file_named}
-use Rattle.osemosys_run.specs.declared.status.Status.{Status}
-use Rattle.osemosys_run.specs.declared.status.Status.TheVariants.{Refused, Words, ReadFault, WriteFault, Memory}
-use Rattle.osemosys_run.specs.declared.status.Refusal.TheVariants.{TooLong}
-use Rattle.osemosys_run.specs.Reading.{Sight, HasNothingLeft, most_bytes}
+use Rattle.command_answers.specs.declared.status.Status.{Status}
+use Rattle.command_answers.specs.declared.status.Status.TheVariants.{Refused, Words, ReadFault, WriteFault, Memory}
+use Rattle.command_answers.specs.declared.status.Refusal.TheVariants.{TooLong}
+use Rattle.osemosys_run.specs.Reading.{Sight, HasNothingLeft}
+use Rattle.command_answers.specs.Accepted.{most_bytes}
 use Rattle.command_words.specs.declared.fault.WordFault.{WordFault}
 use Rattle.command_words.specs.Words.{Request, asked, names_of}
 

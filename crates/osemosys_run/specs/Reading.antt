@@ -3,10 +3,7 @@ use Rattle.std.specs.Prelude.{◌≡◌, ℕ, ◌+◌, ◌<◌, ◌≤◌, List,
 use Rattle.io_edges.specs.Count.{counted}
 use Rattle.io_edges.specs.Files.{file_named}
 use Rattle.io_edges.specs.Told.{WhereTold}
-
--- the most bytes that a file may have: 64 MiB
-abbrev pub most_bytes : ℕ
-most_bytes = 67108864
+use Rattle.command_answers.specs.Accepted.{most_bytes}
 
 -- the bytes that one read may take
 abbrev pub room_bytes : ℕ

@@ -2,8 +2,8 @@
 use Rattle.std.specs.Prelude.{◌≡◌, ℕ, ◌≤◌, List, ◌++◌, length, take, Option, Some}
 use Rattle.io_edges.specs.Count.{Rose}
 use Rattle.io_edges.specs.Told.{WhereTold}
-use Rattle.osemosys_run.specs.declared.status.Status.{Status}
-use Rattle.osemosys_run.specs.declared.status.Status.TheVariants.{WriteFault, Memory}
+use Rattle.command_answers.specs.declared.status.Status.{Status}
+use Rattle.command_answers.specs.declared.status.Status.TheVariants.{WriteFault, Memory}
 
 -- after the bytes from before comes a prefix of the text, and nothing else
 abbrev pub HoldsPrefixOf : List ℕ → List ℕ → Option (List ℕ) → Type 0

@@ -3,14 +3,15 @@
 ghost use Rattle.std.specs.Prelude.{◌≡◌, ◌≤◌, length, IfOk, option_map};
 ghost use Rattle.discount_factors.specs.Factors.{IsPlaces};
 ghost use Rattle.osemosys_run.specs.Causes.{CausedByFile, CausedByOptionalFile, FollowsFromText};
-ghost use Rattle.osemosys_run.specs.Check.{DueForCheck};
-ghost use Rattle.osemosys_run.specs.Due.{DueForText};
-ghost use Rattle.osemosys_run.specs.Reading.{most_bytes, sight};
+ghost use Rattle.check_command.specs.Check.{DueForCheck};
+ghost use Rattle.command_answers.specs.DueForText.{DueForText};
+ghost use Rattle.command_answers.specs.Accepted.{most_bytes};
+ghost use Rattle.osemosys_run.specs.Reading.{sight};
 
-use crate::accepting::accept;
-use crate::answer::{Answer, refuse_file};
-use crate::check::{Claim, answer_check};
+use crate::file_ends::refuse_file;
 use crate::reading::read_file;
+use check_command::{Claim, answer_check};
+use command_answers::{Answer, accept};
 use io_edges::Shelf;
 use std::alloc::{AllocError, Global};
 

@@ -1,13 +1,12 @@
 // `make`: the data file that is made of a number, or what it comes to in a few lines. No file is read for it.
 ghost use Rattle.std.specs.Prelude.{◌≡◌, ◌≤◌, ◌++◌, List, ℕ, length, IfOk};
-ghost use Rattle.osemosys_run.specs.Due.{DueForMake, DueForText};
-ghost use Rattle.osemosys_run.specs.Reading.{most_bytes};
-ghost use Rattle.osemosys_run.specs.Summary.{DueForSummary, default_places, made_line};
+ghost use Rattle.osemosys_run.specs.Due.{DueForMake};
+ghost use Rattle.command_answers.specs.DueForText.{DueForText};
+ghost use Rattle.command_answers.specs.Accepted.{most_bytes};
+ghost use Rattle.solve_command.specs.Summary.{DueForSummary, default_places, made_line};
 
-use crate::answer::Answer;
 use crate::one_file::{Task, answer_text};
-use crate::places::push_with_number;
-use crate::status::Status;
+use command_answers::{Answer, Status, push_with_number};
 use command_words::MakeShow;
 use model_maker::make;
 use std::alloc::{AllocError, Global};

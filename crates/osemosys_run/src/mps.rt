@@ -7,9 +7,7 @@ ghost use Rattle.mps_writer.specs.MpsText.{mps_text};
 ghost use Rattle.row_book.specs.Books.{HasNameWithin, IsWithinSets};
 ghost use Rattle.osemosys_run.specs.Mps.{DueForEquations};
 
-use crate::answer::Answer;
-use crate::books::refuse_book;
-use crate::status::Status;
+use command_answers::{Answer, Status, refuse_book};
 use model_sets::Sets;
 use mps_writer::mps_text;
 use param_tables::ModelData;

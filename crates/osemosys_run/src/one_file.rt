@@ -1,19 +1,20 @@
-// The commands of one file: `mps` and `solve`. The file is read whole, its text accepted, and the command's answer given over its
+// The commands of one file: `mps`, `solve` and `explain`. The file is read whole, its text accepted, and the command's answer given over its
 // data.
 ghost use Rattle.std.specs.Prelude.{◌≡◌, ◌≤◌, length, IfOk};
 ghost use Rattle.discount_factors.specs.Factors.{IsPlaces};
 ghost use Rattle.osemosys_run.specs.Causes.{CausedByFile, FollowsFromText};
-ghost use Rattle.osemosys_run.specs.Due.{DueForText};
-ghost use Rattle.osemosys_run.specs.Reading.{most_bytes, sight};
+ghost use Rattle.command_answers.specs.DueForText.{DueForText};
+ghost use Rattle.command_answers.specs.Accepted.{most_bytes};
+ghost use Rattle.osemosys_run.specs.Reading.{sight};
 ghost use Rattle.osemosys_run.specs.Tasks.{DueForTask};
 
-use crate::accepting::accept;
-use crate::answer::{Answer, refuse_file};
+use crate::file_ends::refuse_file;
 use crate::mps::answer_mps;
 use crate::reading::read_file;
-use crate::solve::{Wanted, answer_solve};
-use crate::summary::answer_summary;
+use command_answers::{Answer, accept};
+use explain_command::answer_explain;
 use io_edges::Shelf;
+use solve_command::{Wanted, answer_solve, answer_summary};
 use std::alloc::{AllocError, Global};
 
 /// The number of the data file among those that the words name.
@@ -26,6 +27,8 @@ pub enum Task {
     Write,
     /// To solve the model.
     Solve(Wanted),
+    /// To say why no plan exists, with so many pivots at most in each trial.
+    Explain(u32),
     /// To say in a few lines how large it is, and what solving it comes to.
     Summarize,
 }
@@ -70,6 +73,7 @@ pub fn answer_text(
         Ok(model) => match task {
             Task::Write => answer_mps(alloc, &model, places),
             Task::Solve(wanted) => answer_solve(alloc, &model, places, wanted),
+            Task::Explain(pivots) => answer_explain(alloc, &model, places, pivots),
             Task::Summarize => answer_summary(alloc, &model, places),
         },
         Err(answer) => Ok(answer),

@@ -18,35 +18,32 @@ ghost use Rattle.row_book.specs.Books.{AreRowsOf};
 ghost use Rattle.row_core.specs.declared.Row.{Row};
 ghost use Rattle.row_core.specs.declared.RowName.{RowName};
 ghost use Rattle.row_core.specs.declared.Var.{Var};
-ghost use Rattle.osemosys_run.specs.declared.status.ReadStop.{ReadStop};
-ghost use Rattle.osemosys_run.specs.declared.status.Status.{Status};
-ghost use Rattle.osemosys_run.specs.Accepted.{Accepted};
+ghost use Rattle.command_answers.specs.declared.status.ReadStop.{ReadStop};
+ghost use Rattle.command_answers.specs.declared.status.Status.{Status};
+ghost use Rattle.command_answers.specs.Accepted.{Accepted};
 ghost use Rattle.osemosys_run.specs.Causes.{Caused};
 ghost use Rattle.osemosys_run.specs.Complete.{Completes};
 ghost use Rattle.osemosys_run.specs.Due.{Due};
-ghost use Rattle.osemosys_run.specs.NotAccepted.{DueWhereNotAccepted};
-ghost use Rattle.osemosys_run.specs.Promises.{ArePromised};
+ghost use Rattle.command_answers.specs.NotAccepted.{DueWhereNotAccepted};
+ghost use Rattle.solve_command.specs.Promises.{ArePromised};
 ghost use Rattle.osemosys_run.specs.Reading.{sight};
 ghost use Rattle.osemosys_run.specs.ReadToEnd.{IsReadToEnd, ReadsWhole};
 ghost use Rattle.osemosys_run.specs.Sending.{Delivers};
-ghost use Rattle.osemosys_run.specs.SolvedPlans.{IsOptimum};
+ghost use Rattle.solve_command.specs.SolvedPlans.{IsNearOptimum};
 ghost use Rattle.command_words.specs.WordParts.{HasSpelledParts, Part};
 
-use crate::accepting::acceptance_laws;
-use crate::answer::{Answer, refuse_words};
 use crate::check_files::{Asked, perform_check};
 use crate::making::perform_make;
 use crate::one_file::{Task, perform_task};
-use crate::promises::promise_laws;
 use crate::sending::send;
-use crate::solve::{Wanted, shown_of};
-use crate::status::Status;
+use command_answers::{Answer, Status, acceptance_laws, refuse_words};
 use command_words::{Command, read_command, spelled_parts};
 use io_edges::{Shelf, Sink};
 use mathprog_data::verdict_laws;
 use plan_files::telling_laws;
 use plan_quantities::laws::quantity_laws;
 use row_book::stop_laws;
+use solve_command::{Wanted, promise_laws, shown_of};
 use std::alloc::{AllocError, Global};
 
 /// Runs the program on the words after its name: reads the files that they name from the shelf, and
@@ -136,7 +133,7 @@ pub fn osemosys<S: Shelf, K: Sink>(
 
     // Every price of a report keeps what it promises.
     ensures prices { (places : ℕ) (d : Data) (rows : List Row) (gap : ℕ) (plan : List (Var × Rational)) (multipliers : List (RowName × Rational)) (cost bound : Rational)
-        → AreRowsOf places d (instances d) rows → IsOptimum places d rows gap plan multipliers cost bound → ArePromised places d rows multipliers bound }
+        → AreRowsOf places d (instances d) rows → IsNearOptimum places d rows gap plan multipliers cost bound → ArePromised places d rows multipliers bound }
 
     // A failed read is answered only where the shelf counted a fault, and a failed write only where the sink did.
     ensures failed_read { (file : ℕ) → result ≡ Status.ReadFault (ReadStop.Failed file) → Rose (S.faults shelf.old) (S.faults shelf.new) }
@@ -184,12 +181,25 @@ fn perform<S: Shelf>(alloc: Global, words: &[String], shelf: &mut S) -> Result<A
                 pivots,
                 places,
                 show,
+                method,
             },
         ) => {
             let show = shown_of(show);
-            let task = Task::Solve(Wanted { gap, pivots, show });
+            let task = Task::Solve(Wanted {
+                gap,
+                pivots,
+                show,
+                method,
+            });
             perform_task(alloc, file, task, places, shelf)
         }
+        Ok(
+            Command::Explain {
+                file,
+                pivots,
+                places,
+            },
+        ) => perform_task(alloc, file, Task::Explain(pivots), places, shelf),
         Ok(Command::Make { size, show }) => perform_make(alloc, size, show),
         Ok(
             Command::Check {

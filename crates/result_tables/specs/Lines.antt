@@ -16,9 +16,14 @@ count_line word n = word ++ codes " " ++ decimal n ++ codes "\n"
 abbrev pub places_line : ℕ → List ℕ
 places_line places = if places == 6 then [] else count_line (codes "places") places
 
--- the numbers of pivots, and of numbers of the data that were rounded, and the decimal places of the written factors
-abbrev pub count_lines : ℕ → ℕ → ℕ → List ℕ
-count_lines pivots rounded places = count_line (codes "pivots") pivots ++ (count_line (codes "rounded") rounded ++ places_line places)
+-- the number of the attempt that gave what is told, where it isn't the first
+abbrev pub attempt_line : ℕ → List ℕ
+attempt_line attempt = if attempt == 1 then [] else count_line (codes "attempt") attempt
+
+-- the numbers of pivots, and of numbers of the data that were rounded, the decimal places of the written factors, and the attempt
+abbrev pub count_lines : ℕ → ℕ → ℕ → ℕ → List ℕ
+count_lines pivots rounded places attempt =
+    count_line (codes "pivots") pivots ++ (count_line (codes "rounded") rounded ++ (places_line places ++ attempt_line attempt))
 
 -- how a table begins
 abbrev pub heading : List ℕ → List ℕ

@@ -10,23 +10,24 @@ use Rattle.result_tables.specs.Lines.{amount_line, count_lines}
 use Rattle.result_tables.specs.Tables.{all_tables, direction_table, table_text}
 
 -- how the report of a solved model begins
-abbrev pub summary_text : Rational → Rational → ℕ → ℕ → ℕ → List ℕ
-summary_text cost bound pivots rounded places = codes "status solved\n" ++ amount_line (codes "cost") cost ++ amount_line (codes "bound") bound ++ count_lines pivots rounded places
+abbrev pub summary_text : Rational → Rational → ℕ → ℕ → ℕ → ℕ → List ℕ
+summary_text cost bound pivots rounded places attempt =
+    codes "status solved\n" ++ amount_line (codes "cost") cost ++ amount_line (codes "bound") bound ++ count_lines pivots rounded places attempt
 
 -- the last line
 abbrev pub end_line : List ℕ
 end_line = codes "end\n"
 
 -- a solved model: its cost and bound, and the tables of the variables' values in the plan and of the prices by the multipliers
-abbrev pub report_text : SetLists → List Var → List (Var × Rational) → List Row → List (RowName × Rational) → Rational → Rational → ℕ → ℕ → ℕ → List ℕ
-report_text sets vars plan rows multipliers cost bound pivots rounded places =
-    summary_text cost bound pivots rounded places ++ flat_map table_text (all_tables sets vars plan rows multipliers) ++ end_line
+abbrev pub report_text : SetLists → List Var → List (Var × Rational) → List Row → List (RowName × Rational) → Rational → Rational → ℕ → ℕ → ℕ → ℕ → List ℕ
+report_text sets vars plan rows multipliers cost bound pivots rounded places attempt =
+    summary_text cost bound pivots rounded places attempt ++ flat_map table_text (all_tables sets vars plan rows multipliers) ++ end_line
 
 -- a model that has no plan
-abbrev pub infeasible_text : ℕ → ℕ → ℕ → List ℕ
-infeasible_text pivots rounded places = codes "status infeasible\n" ++ count_lines pivots rounded places ++ end_line
+abbrev pub infeasible_text : ℕ → ℕ → ℕ → ℕ → List ℕ
+infeasible_text pivots rounded places attempt = codes "status infeasible\n" ++ count_lines pivots rounded places attempt ++ end_line
 
--- a model that has no bound: a direction in which the cost falls for ever
+-- a model that has no bound: a direction in which the cost falls for ever. Only the first attempt ends so
 abbrev pub unbounded_text : SetLists → List (Var × Rational) → ℕ → ℕ → ℕ → List ℕ
 unbounded_text sets direction pivots rounded places =
-    codes "status unbounded\n" ++ count_lines pivots rounded places ++ table_text (direction_table sets direction) ++ end_line
+    codes "status unbounded\n" ++ count_lines pivots rounded places 1 ++ table_text (direction_table sets direction) ++ end_line

@@ -30,7 +30,21 @@ pub(crate) fn push_direction_table(
     ensures { OnOk result (out.new.items ≡ out.old.items ++ table_text (direction_table sets.now direction.now)) }
 {
     push_heading(out, b"Direction")?;
-    push_components(alloc, out, sets, direction.entries())
+    push_chosen_values(alloc, out, sets, direction)
+}
+
+/// Appends a record for each RateOfActivity, NewCapacity and Trade, in order, whose value in a plan or a direction isn't 0: its word, its
+/// members, and its value as a fraction and rounded to six decimal places. Refuses where memory runs out.
+pub fn push_chosen_values(
+    alloc: Global,
+    out: &mut Vec<u8>,
+    sets: &Sets,
+    plan: &Plan,
+) -> Result<(), AllocError>
+    requires { AllByRecursion (λ e. IsKind e.0.kind × VariableIsWithin sets.now e.0) plan.now }
+    ensures { OnOk result (out.new.items ≡ out.old.items ++ records_text (direction_table sets.now plan.now).records) }
+{
+    push_components(alloc, out, sets, plan.entries())
 }
 
 // Appends the records of a direction.

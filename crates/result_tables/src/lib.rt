@@ -9,5 +9,6 @@ mod quantities;
 mod records;
 mod reports;
 
+pub use directions::push_chosen_values;
 pub use laws::price_laws;
 pub use reports::{infeasible_report, report, unbounded_report};

@@ -21,10 +21,11 @@ use row_core::{Multipliers, Plan, Row, Stopped, Var};
 use std::alloc::{AllocError, Global};
 
 /// The report of a solved model: the lines `status solved`, `cost` and `bound` (each as a fraction and rounded to six decimal
-/// places), `pivots` and `rounded`, and `places` where the written factors haven't 6 decimal places, then 13 tables, then `end`. A table is a line `table` with its name, and CSV records: of the first
-/// twelve tables one for each of `vars` of a kind, in order, whose value in the plan isn't 0, with the members of its subscripts and
-/// its value as a fraction and as a decimal; of the last one in the same way for each balance of a fuel, EBa11, whose price isn't 0.
-/// The price is the multiplier of the row times the number that the row has at Production.
+/// places), `pivots` and `rounded`, `places` where the written factors haven't 6 decimal places, and `attempt` where `attempt`, the
+/// number of the attempt that gave the plan, isn't 1, then 13 tables, then `end`. A table is a line `table` with its name, and CSV
+/// records: of the first twelve tables one for each of `vars` of a kind, in order, whose value in the plan isn't 0, with the members
+/// of its subscripts and its value as a fraction and as a decimal; of the last one in the same way for each balance of a fuel,
+/// EBa11, whose price isn't 0. The price is the multiplier of the row times the number that the row has at Production.
 ///
 /// `Err(Stopped::Width(Place::Price(name)))` comes exactly where this product forms a number that doesn't fit, at the first such row;
 /// `Err(Stopped::Memory)` where memory runs out.
@@ -39,16 +40,17 @@ pub fn report(
     pivots: u64,
     rounded: u64,
     places: u8,
+    attempt: u8,
     sets: &Sets,
 ) -> Result<Vec<u8>, Stopped>
     requires rows { AllByRecursion (IsListedRow sets.now) (map name_of_row rows.now) }
     requires vars { AllByRecursion (IsListedVariable sets.now) vars.now }
-    ensures text { IfOk result (λ text. text.items ≡ report_text sets.now vars.now plan.now rows.now multipliers.now (value_of cost) (value_of bound) pivots rounded places) }
+    ensures text { IfOk result (λ text. text.items ≡ report_text sets.now vars.now plan.now rows.now multipliers.now (value_of cost) (value_of bound) pivots rounded places attempt) }
     ensures fits { OnOk result (first_wide (price_steps rows.now multipliers.now) ≡ None) }
     ensures stopped { IfErr result (IsFirstStop (price_steps rows.now multipliers.now)) }
 {
     let mut out = Vec::new(alloc);
-    push_summary(&mut out, cost, bound, pivots, rounded, places)?;
+    push_summary(&mut out, cost, bound, pivots, rounded, places, attempt)?;
     push_kind_tables(alloc, &mut out, sets, vars, plan)?;
     push_price_table(alloc, &mut out, sets, rows, multipliers)?;
     push_end(&mut out)?;
@@ -56,20 +58,25 @@ pub fn report(
 }
 
 /// The report of a model that has no plan: the lines `status infeasible`, `pivots`, `rounded`, `places` where the written factors
-/// haven't 6 decimal places, and `end`. Refuses where memory runs out.
+/// haven't 6 decimal places, `attempt` where the number of the attempt that showed it isn't 1, and `end`. Refuses where memory runs
+/// out.
 pub fn infeasible_report(
     alloc: Global,
     pivots: u64,
     rounded: u64,
     places: u8,
+    attempt: u8,
 ) -> Result<Vec<u8>, AllocError>
-    ensures { IfOk result (λ text. text.items ≡ infeasible_text pivots rounded places) }
+    ensures { IfOk result (λ text. text.items ≡ infeasible_text pivots rounded places attempt) }
 {
     let mut out = Vec::from_slice(alloc, b"status infeasible\n")?;
-    push_counts(&mut out, pivots, rounded, places)?;
+    push_counts(&mut out, pivots, rounded, places, attempt)?;
     push_end(&mut out)?;
     Ok(out)
 }
+
+/// The attempt that a report of a model without a bound comes from: no later one ends so.
+const ONLY_ATTEMPT: u8 = 1;
 
 /// The report of a model whose cost has no bound: the lines `status unbounded`, `pivots`, `rounded`, and `places` where the
 /// written factors haven't 6 decimal places, the table Direction, and `end`. The table has a record for each RateOfActivity, NewCapacity and Trade, in order, whose value in the direction isn't 0: its
@@ -86,7 +93,7 @@ pub fn unbounded_report(
     ensures { IfOk result (λ text. text.items ≡ unbounded_text sets.now direction.now pivots rounded places) }
 {
     let mut out = Vec::from_slice(alloc, b"status unbounded\n")?;
-    push_counts(&mut out, pivots, rounded, places)?;
+    push_counts(&mut out, pivots, rounded, places, ONLY_ATTEMPT)?;
     push_direction_table(alloc, &mut out, sets, direction)?;
     push_end(&mut out)?;
     Ok(out)
@@ -100,13 +107,15 @@ fn push_summary(
     pivots: u64,
     rounded: u64,
     places: u8,
+    attempt: u8,
 ) -> Result<(), AllocError>
-    ensures { OnOk result (out.new.items ≡ out.old.items ++ summary_text (value_of cost) (value_of bound) pivots rounded places) }
+    ensures { OnOk result (out.new.items ≡ out.old.items ++ summary_text (value_of cost) (value_of bound) pivots rounded places attempt) }
 {
     out.extend_from_slice(b"status solved\n")?;
     push_amount(out, b"cost", cost)?;
     push_amount(out, b"bound", bound)?;
-    push_counts(out, pivots, rounded, places)
+    push_counts(out, pivots, rounded, places, attempt)?;
+    Ok(())
 }
 
 // Appends the last line.

@@ -1,7 +1,7 @@
 //! The program over files and text in memory that fail nowhere but where there is no room.
 ghost use Rattle.std.specs.Prelude.{◌≡◌, ◌≢◌, ℕ, length};
-ghost use Rattle.osemosys_run.specs.declared.status.ReadStop.{ReadStop};
-ghost use Rattle.osemosys_run.specs.declared.status.Status.{Status};
+ghost use Rattle.command_answers.specs.declared.status.ReadStop.{ReadStop};
+ghost use Rattle.command_answers.specs.declared.status.Status.{Status};
 
 use io_edges::{SureShelf, SureSink};
 use osemosys_run::{Status, osemosys};

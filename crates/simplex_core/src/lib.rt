@@ -15,6 +15,8 @@ mod progress;
 mod rounds;
 mod running;
 mod solving;
+mod stops;
 
 pub use ends::{End, Halt, Lambda};
 pub use solving::solve;
+pub use stops::{Stop, TrialStop};

@@ -8,10 +8,10 @@ use std::test::Fail;
 
 #[test]
 fn a_model_without_a_plan_has_no_tables(rt: HostRuntime) -> Result<(), Fail> {
-    let text = infeasible_report(rt.alloc(), 3, 0, 9)?;
+    let text = infeasible_report(rt.alloc(), 3, 0, 9, 3)?;
     assert_eq!(&rt;
         text.as_slice(),
-        b"status infeasible\npivots 3\nrounded 0\nplaces 9\nend\n".as_slice()
+        b"status infeasible\npivots 3\nrounded 0\nplaces 9\nattempt 3\nend\n".as_slice()
     );
     Ok(())
 }

@@ -24,6 +24,7 @@ fn priced(alloc: Global, multiplier: i128, number: i128) -> Result<Vec<u8>, Stop
         0,
         0,
         6,
+        1,
         &sets,
     )
 }

@@ -44,6 +44,7 @@ const QUOTED: &[u8] = b"status solved\n\
     bound -2/3 -0.666667\n\
     pivots 20000\n\
     rounded 18446744073709551615\n\
+    attempt 2\n\
     table NewCapacity\n\
     \"R,1\",\"say \"\"T\"\"\",2020,2/3,0.666667\n\
     table TotalCapacityAnnual\n\
@@ -110,6 +111,7 @@ fn the_report_of_a_small_model_is_the_one_worked_by_hand(rt: HostRuntime) -> Res
         3,
         0,
         6,
+        1,
         &sets,
     ) else {
         assert!(&rt; false);
@@ -150,6 +152,7 @@ fn members_are_quoted_and_ties_are_rounded_away_from_0(rt: HostRuntime) -> Resul
         20_000,
         18_446_744_073_709_551_615,
         6,
+        2,
         &sets,
     ) else {
         assert!(&rt; false);

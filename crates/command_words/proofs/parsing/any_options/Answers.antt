@@ -10,4 +10,5 @@ returns c =
     let gap = c.in_ok-command.ensures ∙ ap (more (codes "gap")) c.in_ok-with_files.ensures in
     let pivots = c.in_ok-command-2.ensures ∙ ap (more (codes "pivots")) gap in
     let places = c.in_ok-command-3.ensures ∙ ap (more (codes "places")) pivots in
-    IfOk-weaker c.with_option-4.result _ _ (λ command added. added ∙ ap (more (codes "show")) places) c.with_option-4.ensures
+    let show = c.in_ok-command-4.ensures ∙ ap (more (codes "show")) places in
+    IfOk-weaker c.with_option-5.result _ _ (λ command added. added ∙ ap (more (codes "method")) show) c.with_option-5.ensures

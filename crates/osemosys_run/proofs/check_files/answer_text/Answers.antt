@@ -1,7 +1,7 @@
 use Rattle.std.proofs.Common.{◌≡◌, inr}
 use Rattle.std.proofs.lemmas.Result.{IfOk-weaker, MatchResult-at_ok}
 use Rattle.model_sets.specs.Data.{AreSameData, Data}
-use Rattle.osemosys_run.specs.Accepted.{Accepted}
+use Rattle.command_answers.specs.Accepted.{Accepted}
 use Rattle.osemosys_run.proofs.check_files.answer_text.Goals as goal
 
 pub returns-in-Ok : goal.returns-in-Ok

@@ -1,9 +1,9 @@
 use Rattle.std.proofs.Common.{ℕ, List, Option, Some, inl, refl, ap, sym, subst, option_map, IfOk}
 use Rattle.std.proofs.lemmas.Result.{IfOk-weaker}
-use Rattle.osemosys_run.specs.declared.status.Status.{Status}
+use Rattle.command_answers.specs.declared.status.Status.{Status}
 use Rattle.osemosys_run.specs.Causes.{CausedByOptionalFile, FollowsFromText}
-use Rattle.osemosys_run.specs.Check.{DueForCheck}
-use Rattle.osemosys_run.specs.Due.{DueForText}
+use Rattle.check_command.specs.Check.{DueForCheck}
+use Rattle.command_answers.specs.DueForText.{DueForText}
 use Rattle.osemosys_run.specs.Reading.{BeganOne, Sight}
 use Rattle.osemosys_run.proofs.check_files.check_multiplier_file.Goals as goal
 

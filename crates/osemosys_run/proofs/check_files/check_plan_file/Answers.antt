@@ -1,8 +1,8 @@
 use Rattle.std.proofs.Common.{ℕ, List, inl, inr, rules, option_map, subst}
 use Rattle.std.proofs.lemmas.Result.{IfOk-weaker}
-use Rattle.osemosys_run.specs.declared.status.Status.{Status}
+use Rattle.command_answers.specs.declared.status.Status.{Status}
 use Rattle.osemosys_run.specs.Causes.{CausedByOptionalFile, FollowsFromText}
-use Rattle.osemosys_run.specs.Check.{DueForCheck}
+use Rattle.check_command.specs.Check.{DueForCheck}
 use Rattle.osemosys_run.specs.Reading.{BeganOne, Sight}
 use Rattle.osemosys_run.proofs.EndsOfFiles.{stops_at_file}
 use Rattle.osemosys_run.proofs.check_files.check_plan_file.Goals as goal

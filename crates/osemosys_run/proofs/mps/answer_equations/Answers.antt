@@ -1,6 +1,6 @@
 use Rattle.std.proofs.Common.{inl, inr}
 use Rattle.std.proofs.lemmas.Result.{IfOk-weaker}
-use Rattle.osemosys_run.proofs.BookEnds.{refused_told}
+use Rattle.command_answers.proofs.BookEnds.{refused_told}
 use Rattle.osemosys_run.proofs.mps.answer_equations.Goals as goal
 
 pub returns-in-Ok : goal.returns-in-Ok

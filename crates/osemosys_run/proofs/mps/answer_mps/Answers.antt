@@ -1,5 +1,6 @@
 use Rattle.std.proofs.lemmas.Result.{IfOk-weaker}
-use Rattle.osemosys_run.proofs.SameData.{SameLaws, equations_carry}
+use Rattle.command_answers.proofs.SameData.{SameLaws}
+use Rattle.osemosys_run.proofs.SameEquations.{equations_carry}
 use Rattle.osemosys_run.proofs.mps.answer_mps.Goals as goal
 
 pub returns : goal.returns

@@ -2,8 +2,8 @@ use Rattle.std.proofs.Common.{◌≡◌, inr, sym, subst}
 use Rattle.std.proofs.lemmas.Result.{IfOk-weaker, MatchResult-at_ok}
 use Rattle.model_sets.specs.Data.{AreSameData, Data}
 use Rattle.osemosys_run.specs.declared.one_file.Task.TheVariants.{Solve, Summarize}
-use Rattle.osemosys_run.specs.Accepted.{Accepted}
-use Rattle.osemosys_run.specs.Due.{DueForText}
+use Rattle.command_answers.specs.Accepted.{Accepted}
+use Rattle.command_answers.specs.DueForText.{DueForText}
 use Rattle.osemosys_run.specs.Tasks.{DueForTask}
 use Rattle.osemosys_run.proofs.one_file.answer_text.Goals as goal
 
@@ -22,6 +22,13 @@ returns-in-Solve c =
     (λ answer due.
     subst (λ task. DueForText (DueForTask task c.args.places) c.args.text.items answer.status answer.text.items) (sym c.in-Solve.is)
     (inr (found.0, found.1, subst (λ rounded. DueForTask (Solve c.in-Solve.wanted) c.args.places rounded found.0 answer.status answer.text.items) found.3 (due found.0 found.2)))) c.answer_solve.ensures
+
+pub returns-in-Explain : goal.returns-in-Explain
+returns-in-Explain c =
+    let found : (d : Data) × (accepted : Accepted c.args.text.items d) × AreSameData c.in-Ok.model.facts d × (c.in-Ok.model.rounded ≡ accepted.blocks.rounded) =
+    MatchResult-at_ok _ _ c.in-Ok.model c.in-Ok.is c.in_ok-model.ensures in
+    IfOk-weaker c.answer_explain.result _ _
+    (λ answer due. subst (λ task. DueForText (DueForTask task c.args.places) c.args.text.items answer.status answer.text.items) (sym c.in-Explain.is) (inr (found.0, found.1, due found.0 found.2))) c.answer_explain.ensures
 
 pub returns-in-Ok : goal.returns-in-Ok
 returns-in-Ok c =

@@ -2,7 +2,7 @@ use Rattle.std.proofs.Common.{◌≡◌, ℕ, ◌-◌, ◌≤◌, ◌++◌, List
 use Rattle.io_edges.specs.Count.{counted}
 use Rattle.io_edges.specs.Files.{file_named}
 use Rattle.io_edges.specs.Told.{WhereTold}
-use Rattle.osemosys_run.specs.Reading.{most_bytes}
+use Rattle.command_answers.specs.Accepted.{most_bytes}
 use Rattle.osemosys_run.proofs.reading.read_file.Given as goal
 
 -- what was read so far and what is left of the file are the file

@@ -2,13 +2,13 @@ use Rattle.std.proofs.Common.{◌∙◌, ap, refl, sym, subst, Result, Ok, map, 
 use Rattle.std.proofs.lemmas.Result.{IfOk-weaker}
 use Rattle.std.specs.String.{string_bytes}
 use Rattle.command_words.specs.declared.fault.WordFault.{WordFault}
-use Rattle.osemosys_run.specs.declared.solve.Shown.{Shown}
+use Rattle.solve_command.specs.declared.solve.Shown.{Shown}
 use Rattle.osemosys_run.specs.Causes.{CausedByFile, CausedByRequest, FollowsFromText}
-use Rattle.osemosys_run.specs.Solve.{DueForSolve}
+use Rattle.solve_command.specs.Solve.{DueForSolve}
 use Rattle.command_words.specs.Commands.{request_of_result}
 use Rattle.osemosys_run.specs.Reading.{Sight}
 use Rattle.command_words.specs.Words.{Request}
-use Rattle.command_words.proofs.Requests.{asked_places, check_places, make_size, solve_places}
+use Rattle.command_words.proofs.Requests.{asked_places, check_places, explain_places, make_size, solve_places}
 use Rattle.osemosys_run.proofs.run.perform.Goals as goal
 
 pub perform_task-requires : goal.perform_task-requires
@@ -19,7 +19,12 @@ perform_task-requires g c =
 pub perform_task-requires-in-Ok-Solve : goal.perform_task-requires-in-Ok-Solve
 perform_task-requires-in-Ok-Solve g c =
     let request = ap request_of_result (sym (c.in-Ok-Solve.is ∙ ap Ok c.in-Ok-Solve.field-0-is)) ∙ c.in_ok-file.ensures in
-    solve_places (map string_bytes c.args.words.now) c.in-Ok-Solve.file.now c.in-Ok-Solve.gap c.in-Ok-Solve.pivots c.in-Ok-Solve.places c.in-Ok-Solve.show (sym request)
+    solve_places (map string_bytes c.args.words.now) c.in-Ok-Solve.file.now c.in-Ok-Solve.gap c.in-Ok-Solve.pivots c.in-Ok-Solve.places c.in-Ok-Solve.show c.in-Ok-Solve.method (sym request)
+
+pub perform_task-requires-in-Ok-Explain : goal.perform_task-requires-in-Ok-Explain
+perform_task-requires-in-Ok-Explain g c =
+    let request = ap request_of_result (sym (c.in-Ok-Explain.is ∙ ap Ok c.in-Ok-Explain.field-0-is)) ∙ c.in_ok-file.ensures in
+    explain_places (map string_bytes c.args.words.now) c.in-Ok-Explain.file.now c.in-Ok-Explain.pivots c.in-Ok-Explain.places (sym request)
 
 pub perform_make-requires-clause-least : goal.perform_make-requires-clause-least
 perform_make-requires-clause-least g c =
@@ -60,9 +65,21 @@ returns-in-Ok-Solve-clause-caused g c =
     IfOk-weaker c.perform_task-in-Ok-Solve.result _ _
     (λ answer caused.
     subst (λ (r : Result Request WordFault). CausedByRequest r before after answer.status answer.text.items) request
-    (subst (λ (shown : Shown). CausedByFile (FollowsFromText (DueForSolve solve.places solve.gap solve.pivots shown) after answer.status answer.text.items) 1 solve.file.now before after answer.status answer.text.items)
+    (subst (λ (shown : Shown). CausedByFile (FollowsFromText (DueForSolve solve.places solve.gap solve.pivots shown solve.method) after answer.status answer.text.items) 1 solve.file.now before after answer.status answer.text.items)
     c.shown_of-show.ensures caused))
     c.perform_task-in-Ok-Solve.ensures.caused
+
+pub returns-in-Ok-Explain-clause-caused : goal.returns-in-Ok-Explain-clause-caused
+returns-in-Ok-Explain-clause-caused g c =
+    let shelf = g.S.Shelf in
+    let old = c.args.shelf.now in
+    let new = c.perform_task-in-Ok-Explain.new.shelf in
+    let before : Sight = record { files = shelf.files old; rest = shelf.rest old; faults = shelf.faults old; begins = shelf.begins old; taken = shelf.taken old } in
+    let after : Sight = record { files = shelf.files new; rest = shelf.rest new; faults = shelf.faults new; begins = shelf.begins new; taken = shelf.taken new } in
+    let request = ap request_of_result (sym (c.in-Ok-Explain.is ∙ ap Ok c.in-Ok-Explain.field-0-is)) ∙ c.in_ok-file.ensures in
+    IfOk-weaker c.perform_task-in-Ok-Explain.result _ _
+    (λ answer caused. subst (λ (r : Result Request WordFault). CausedByRequest r before after answer.status answer.text.items) request caused)
+    c.perform_task-in-Ok-Explain.ensures.caused
 
 pub returns-in-Ok-Check-clause-caused : goal.returns-in-Ok-Check-clause-caused
 returns-in-Ok-Check-clause-caused g c =

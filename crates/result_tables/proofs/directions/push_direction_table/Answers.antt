@@ -8,8 +8,8 @@ use Rattle.result_tables.proofs.directions.push_direction_table.Goals as goal
 
 pub returns : goal.returns
 returns c =
-    on_ok_weaker c.push_components.result
+    on_ok_weaker c.push_chosen_values.result
     (λ written.
-    rw (c.in_ok-push_heading.ensures, c.entries.ensures.values) at written
+    rw c.in_ok-push_heading.ensures at written
     ∙ append_assoc c.args.out.now.items (heading (codes "Direction")) (records_text (direction_table c.args.sets.now c.args.direction.now).records))
-    c.push_components.ensures
+    c.push_chosen_values.ensures

@@ -16,7 +16,7 @@ joined start tables last end =
 
 pub returns-clause-text : goal.returns-clause-text
 returns-clause-text c =
-    let summary : List ℕ = summary_text (value_of c.args.cost) (value_of c.args.bound) c.args.pivots c.args.rounded c.args.places in
+    let summary : List ℕ = summary_text (value_of c.args.cost) (value_of c.args.bound) c.args.pivots c.args.rounded c.args.places c.args.attempt in
     let tables : List Table = map (kind_table c.args.sets.now c.args.vars.now c.args.plan.now) table_kinds in
     let prices : Table = price_table c.args.sets.now c.args.rows.now c.args.multipliers.now in
     let first : c.push_summary.new.out.items ≡ summary = c.in_ok-push_summary.ensures ∙ ap (λ (t : List ℕ). t ++ summary) c.new-out.ensures.items in

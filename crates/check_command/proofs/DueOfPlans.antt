@@ -1,0 +1,47 @@
+-- What is due for an outcome.
+use Rattle.std.proofs.Common.{◌≡◌, ℕ, inl, inr, List, Option, Some, None, refl, ap, ap₂, ◌∙◌}
+use Rattle.std.specs.Option.{option_map}
+use Rattle.exact_num.specs.Rational.{Rational}
+use Rattle.model_sets.specs.Data.{Data}
+use Rattle.model_sets.specs.Members.{SetLists}
+use Rattle.row_core.specs.declared.Row.{Row}
+use Rattle.row_core.specs.declared.RowName.{RowName}
+use Rattle.row_core.specs.declared.Var.{Var}
+use Rattle.check_command.specs.declared.outcome.Bound.{Bound}
+use Rattle.check_command.specs.declared.outcome.Outcome.{Outcome}
+use Rattle.check_command.specs.declared.outcome.Outcome.TheVariants.{Accepted, Rejected, Wide}
+use Rattle.command_answers.specs.declared.status.Status.{Status}
+use Rattle.simplex_core.specs.declared.stops.Stop.TheVariants.{Width}
+use Rattle.check_command.specs.Check.{DueForPlan, bound_and_gap}
+use Rattle.check_command.specs.CheckLines.{accepted_text, rejected_line}
+use Rattle.check_command.specs.CheckOutcomes.{IsOutcome, TellsBound, TellsOutcome, bound_values}
+use Rattle.command_answers.specs.Lines.{uncertified_line}
+
+bounds-told : (d : Data) (rows : List Row) (plan : List (Var × Rational)) (multipliers : Option (List (RowName × Rational))) (bound : Option Bound) → TellsBound d rows plan multipliers bound
+    → option_map bound_values bound ≡ option_map (bound_and_gap d rows plan) multipliers
+bounds-told d rows plan None None told = refl
+bounds-told d rows plan None (Some bound) told = absurd told
+bounds-told d rows plan (Some multipliers) None told = absurd told
+bounds-told d rows plan (Some multipliers) (Some bound) told = ap₂ (λ b g. Some (b, g)) told.0 told.1
+
+pub due-from_outcome : (places : ℕ) (d : Data) (rows : List Row) (plan : List (Var × Rational)) (multipliers : Option (List (RowName × Rational))) (gap : ℕ) (sets : SetLists)
+    (outcome : Outcome) (status : Status) (text : List ℕ) → sets ≡ d.sets → IsOutcome places d rows plan multipliers gap outcome → TellsOutcome sets outcome status text
+    → DueForPlan places d rows plan multipliers gap status text
+due-from_outcome places d rows plan multipliers gap sets (Accepted cost bound) status text same is told =
+    inl (record {
+      pass = is.0;
+      feasible = is.1;
+      bounded = is.2;
+      status_is = told.0;
+      text_is = told.1 ∙ ap₂ accepted_text is.3 (bounds-told d rows plan multipliers bound is.4);
+    })
+due-from_outcome places d rows plan multipliers gap sets (Rejected rejection) status text same is told =
+    inr (inl (record {
+      rejection = rejection;
+      fails = is.0;
+      infeasible = is.1;
+      status_is = told.0;
+      line_is = told.1 ∙ ap (λ (s : SetLists). rejected_line s rejection) same;
+    }))
+due-from_outcome places d rows plan multipliers gap sets (Wide place) status text same is told =
+    inr (inr (record { place = place; wide = is; status_is = told.0; line_is = told.1 ∙ ap (λ (s : SetLists). uncertified_line s (Width place)) same }))

@@ -1,0 +1,6 @@
+mod CheckExamples
+mod CheckFiles
+mod CheckNames
+mod DueOfPlans
+pub mod OutcomeLaws
+mod SameChecks

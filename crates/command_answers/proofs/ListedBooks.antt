@@ -1,0 +1,30 @@
+-- The rows and variables of a book are those of the sets.
+use Rattle.std.proofs.Common.{◌≡◌, List, [], ◌∷◌, map, sym, subst}
+use Rattle.std.specs.List.{AllByRecursion}
+use Rattle.model_sets.specs.Members.{SetLists}
+use Rattle.row_core.specs.declared.Row.{Row}
+use Rattle.row_core.specs.declared.Var.{Var}
+use Rattle.plan_files.specs.Listed.{IsListedRow, IsListedVariable, name_of_row}
+use Rattle.row_book.specs.Books.{HasNameWithin, IsWithinSets}
+use Rattle.command_answers.specs.CheckedPlans.{IsListedBook}
+
+-- the same rows and variables are as much listed
+pub listed-as : (sets : SetLists) (rows : List Row) (vars : List Var) (same_rows : List Row) (same_vars : List Var) → same_rows ≡ rows → same_vars ≡ vars
+    → IsListedBook sets rows vars → IsListedBook sets same_rows same_vars
+listed-as sets rows vars same_rows same_vars rows_are vars_are book =
+    subst (λ rs. IsListedBook sets rs same_vars) (sym rows_are) (subst (λ vs. IsListedBook sets rows vs) (sym vars_are) book)
+
+each-named : (sets : SetLists) (rows : List Row) → AllByRecursion (IsListedRow sets) (map name_of_row rows) → AllByRecursion (HasNameWithin sets) rows
+each-named sets [] listed = tt
+each-named sets (row ∷ rows) listed = ((listed.0.0, listed.0.1), each-named sets rows listed.1)
+
+each-within : (sets : SetLists) (vars : List Var) → AllByRecursion (IsListedVariable sets) vars → AllByRecursion (IsWithinSets sets) vars
+each-within sets [] listed = tt
+each-within sets (v ∷ vars) listed = ((listed.0.0, listed.0.1), each-within sets vars listed.1)
+
+-- so their names can be written
+pub rows-named : (sets : SetLists) (rows : List Row) (vars : List Var) → IsListedBook sets rows vars → AllByRecursion (HasNameWithin sets) rows
+rows-named sets rows vars book = each-named sets rows book.rows_listed
+
+pub vars-named : (sets : SetLists) (rows : List Row) (vars : List Var) → IsListedBook sets rows vars → AllByRecursion (IsWithinSets sets) vars
+vars-named sets rows vars book = each-within sets vars book.vars_listed

@@ -1,0 +1,11 @@
+pub mod Accepted
+pub mod BookFails
+pub mod CheckedPlans
+pub mod Codes
+pub mod DueForText
+pub mod Lines
+pub mod MadeRows
+pub mod NotAccepted
+pub mod PlacesWithin
+pub mod PlanFaultLines
+pub mod RefusalLines

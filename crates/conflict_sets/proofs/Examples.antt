@@ -1,0 +1,99 @@
+-- The definitions, computed: the list that multipliers make, what is left of it, and its ends.
+use Rattle.std.proofs.Common.{◌≡◌, ℕ, pos, negsuc, true, false, List, [], ◌∷◌, refl}
+use Rattle.exact_num.specs.Rational.{Rational, whole}
+use Rattle.row_core.specs.declared.Row.{Row}
+use Rattle.row_core.specs.declared.RowName.{RowName}
+use Rattle.row_core.specs.declared.Var.{Var}
+use Rattle.row_core.specs.declared.equation_numbers.TheConstants.{CAA3, CAA4, EBA11, TCC1}
+use Rattle.row_core.specs.declared.place.Place.TheVariants.{CostRow}
+use Rattle.simplex_core.specs.declared.stops.Stop.TheVariants.{Budget, Trial}
+use Rattle.simplex_core.specs.declared.stops.TrialStop.TheVariants as trials
+use Rattle.exact_solver.specs.declared.solutions.SolveStop.TheVariants as stops
+use Rattle.conflict_sets.specs.declared.conflict.ExplainFail.TheVariants.{Stopped}
+use Rattle.conflict_sets.specs.Conflicts.{is_member, is_other_member}
+use Rattle.conflict_sets.specs.Trials.{HasPlan, IsPivotDue, IsWide, StopsTrial}
+use Rattle.conflict_sets.specs.Walks.{IsConflicting, IsStopped, Stops, every, first_failed, found, is_listed, is_other, trial_failed}
+
+-- the row of this equation; all subscripts are 0
+abbrev named : ℕ → RowName
+named eq = record { eq = eq; index = record { region = 0; other = 0; slice = 0; tech = 0; fuel = 0; emission = 0; mode = 0; year = 0 } }
+
+-- an activity of at least 10 that is at most a capacity that is at most 4: the multipliers that refute this, a definition's and one of 0 among them
+abbrev refuting : List (RowName × Rational)
+refuting = (named CAA3, whole (pos 1)) ∷ (named CAA4, whole (negsuc 0)) ∷ (named EBA11, whole (pos 1)) ∷ (named TCC1, whole (negsuc 0)) ∷ (named 48, whole (pos 0)) ∷ []
+
+-- ---- the list
+
+capacity_listed : is_listed refuting (named CAA4) ≡ true
+capacity_listed = refl
+
+-- a multiplier of 0, and a row without one, are none
+zero_not_listed : is_listed refuting (named 48) ≡ false
+zero_not_listed = refl
+
+missing_not_listed : is_listed refuting (named 51) ≡ false
+missing_not_listed = refl
+
+-- what is left out isn't one of the others, and all else on the list is
+left_out : is_other refuting (named CAA4) (named CAA4) ≡ false
+left_out = refl
+
+other_stays : is_other refuting (named CAA4) (named TCC1) ≡ true
+other_stays = refl
+
+-- what isn't on the list is no other of it
+never_there : is_other refuting (named CAA4) (named 48) ≡ false
+never_there = refl
+
+-- the first trial has what no list has
+first_has_all : every (named 51) ≡ true
+first_has_all = refl
+
+-- ---- members
+
+abbrev members : List RowName
+members = named CAA4 ∷ named EBA11 ∷ named TCC1 ∷ []
+
+is_one : is_member members (named EBA11) ≡ true
+is_one = refl
+
+definition_is_none : is_member members (named CAA3) ≡ false
+definition_is_none = refl
+
+itself_is_no_other : is_other_member members (named EBA11) (named EBA11) ≡ false
+itself_is_no_other = refl
+
+another_is : is_other_member members (named EBA11) (named TCC1) ≡ true
+another_is = refl
+
+-- ---- what is found
+
+-- two were needed, and one of these is off the list by now: the other is a member, with its own multiplier and its own plan
+abbrev plan_of : ℕ → List (Var × Rational)
+plan_of n = (record { kind = 1; index = record { region = 0; other = 0; slice = 0; tech = 0; fuel = 0; emission = 0; mode = 0; year = 0 } }, whole (pos n)) ∷ []
+
+one_left : found refuting ((named CAA4, plan_of 10) ∷ (named 48, plan_of 4) ∷ []) ≡ IsConflicting ((named CAA4, whole (negsuc 0)) ∷ []) (plan_of 10 ∷ [])
+one_left = refl
+
+-- ---- stops
+
+-- of the first trial, and of a later one
+first_out_of_pivots : first_failed 7 stops.Budget ≡ Stopped (Budget 7)
+first_out_of_pivots = refl
+
+later_out_of_pivots : trial_failed 2 7 stops.Budget ≡ Stopped (Trial 2 (trials.Budget 7))
+later_out_of_pivots = refl
+
+-- a stop is told as it is, and not as another
+told : Stops (IsStopped (Trial 2 (trials.Width CostRow))) (Stopped (Trial 2 (trials.Width CostRow)))
+told = refl
+
+not_told : ¬ (Stops (IsStopped (Trial 2 (trials.Width CostRow))) (Stopped (Trial 1 (trials.Width CostRow))))
+not_told h = cc h
+
+-- a plan stops nothing
+no_stop : ¬ (StopsTrial (HasPlan []) stops.Budget)
+no_stop h = cc h
+
+wide_is_no_budget : ¬ (StopsTrial (IsWide CostRow) stops.Budget)
+wide_is_no_budget h = cc h

@@ -1,0 +1,96 @@
+-- Rows that are copied and names that are listed, one after another.
+use Rattle.std.proofs.Common.{◌≡◌, ℕ, zero, suc, ◌+◌, ◌<◌, ◌≤◌, Bool, true, false, List, [], ◌∷◌, ◌++◌, length, get_or, drop, map, filter, refl, sym, ap, ap₂, ◌∙◌, subst, append_assoc, append-nil, arith, if◌then◌else◌}
+use Rattle.std.specs.Prelude.{◌&&◌}
+use Rattle.std.proofs.lemmas.List.{at_drop_all, drop_more, length-map}
+use Rattle.exact_num.specs.Rational.{Rational}
+use Rattle.exact_num.specs.declared.fraction.Frac.{Frac}
+use Rattle.row_core.specs.declared.Row.{Row}
+use Rattle.row_core.specs.declared.RowName.{RowName}
+use Rattle.row_core.specs.Plans.{valued}
+use Rattle.exact_solver.specs.Sizes.{is_unequal}
+use Rattle.variable_elimination.specs.ReducedRows.{Shape, shape_of}
+use Rattle.conflict_sets.specs.Pieces.{is_taken, selected, tests_of}
+use Rattle.conflict_sets.specs.Searches.{member_named}
+use Rattle.conflict_sets.specs.Trials.{rows_with}
+use Rattle.conflict_sets.specs.Walks.{is_listed, listed_names}
+
+-- an element, and the rest after it
+pub next-of : {A : Type 0} (xs : List A) (i : ℕ) (x : A) → i < length xs → x ≡ get_or xs i x → drop i xs ≡ x ∷ drop (i + 1) xs
+next-of {A} xs i x h e = drop_more xs i x h ∙ ap {B = List A} (λ y. y ∷ drop (i + 1) xs) (sym e)
+
+-- one more part of a whole that is made part by part
+joined : {A : Type 0} (old new more rest all : List A) → new ≡ old ++ more → old ++ (more ++ rest) ≡ all → new ++ rest ≡ all
+joined old new more rest all e h = ap (λ xs. xs ++ rest) e ∙ append_assoc old more rest ∙ h
+
+-- the shape of a row stands at its place among the shapes
+pub shape-at : (rows : List Row) (i : ℕ) (row : Row) → i < length rows → row ≡ get_or rows i row → shape_of row ≡ get_or (map shape_of rows) i (shape_of row)
+shape-at [] i row h e = absurd (omega arith)
+shape-at (r ∷ rows) zero row h e = ap shape_of e
+shape-at (r ∷ rows) (suc i) row h e = shape-at rows i row (omega arith) e
+
+-- ---- rows of a trial
+
+module _ (listed : RowName → Bool) where
+  abbrev shapes : List Row → List Shape
+  shapes rows = map shape_of (rows_with listed rows)
+
+  abbrev taken_shape : Row → List Shape
+  taken_shape row = if is_taken listed row then (shape_of row ∷ []) else []
+
+  shapes-first : (row : Row) (rows : List Row) → shapes (row ∷ rows) ≡ taken_shape row ++ shapes rows
+  shapes-first row rows = cases (is_taken listed row)
+    where
+      cases : (t : Bool) → map shape_of (if t then (row ∷ rows_with listed rows) else rows_with listed rows) ≡ (if t then (shape_of row ∷ []) else []) ++ shapes rows
+      cases true = refl
+      cases false = refl
+
+  pub taken-next : (rows : List Row) (i : ℕ) (row : Row) (old new : List Shape) → i < length rows → row ≡ get_or rows i row → new ≡ old ++ taken_shape row → old ++ shapes (drop i rows) ≡ shapes rows → new ++ shapes (drop (i + 1) rows) ≡ shapes rows
+  taken-next rows i row old new h e pushed so_far =
+      joined old new (taken_shape row) (shapes (drop (i + 1) rows)) (shapes rows) pushed
+      (ap (λ ss. old ++ ss) (sym (ap shapes (next-of rows i row h e) ∙ shapes-first row (drop (i + 1) rows))) ∙ so_far)
+
+  pub taken-all : (rows : List Row) (i : ℕ) (made : List Shape) → length rows ≤ i → made ++ shapes (drop i rows) ≡ shapes rows → made ≡ shapes rows
+  taken-all rows i made h so_far = sym (ap (λ ss. made ++ ss) (at_drop_all shapes rows i h) ∙ append-nil made) ∙ so_far
+
+  -- ---- rows that are tried, with something for each
+
+  abbrev chosen : {A : Type 0} → List Row → List A → List A
+  chosen rows xs = selected (tests_of listed rows) xs
+
+  chosen-first : {A : Type 0} (row : Row) (rows : List Row) (x : A) (xs : List A) → chosen (row ∷ rows) (x ∷ xs) ≡ (if listed row.name then (x ∷ []) else []) ++ chosen rows xs
+  chosen-first {A} row rows x xs = cases (listed row.name)
+    where
+      cases : (t : Bool) → selected (t ∷ tests_of listed rows) (x ∷ xs) ≡ (if t then (x ∷ []) else []) ++ chosen rows xs
+      cases true = refl
+      cases false = refl
+
+  pub chosen-next : {A : Type 0} (rows : List Row) (xs : List A) (i : ℕ) (row : Row) (x : A) (old new : List A) → i < length rows → i < length xs → row ≡ get_or rows i row → x ≡ get_or xs i x
+      → new ≡ old ++ (if listed row.name then (x ∷ []) else []) → old ++ chosen (drop i rows) (drop i xs) ≡ chosen rows xs → new ++ chosen (drop (i + 1) rows) (drop (i + 1) xs) ≡ chosen rows xs
+  chosen-next rows xs i row x old new h k e f pushed so_far =
+      joined old new (if listed row.name then (x ∷ []) else []) (chosen (drop (i + 1) rows) (drop (i + 1) xs)) (chosen rows xs) pushed
+      (ap (λ ss. old ++ ss) (sym (ap₂ (λ rs ys. chosen rs ys) (next-of rows i row h e) (next-of xs i x k f) ∙ chosen-first row (drop (i + 1) rows) x (drop (i + 1) xs))) ∙ so_far)
+
+  pub chosen-all : {A : Type 0} (rows : List Row) (xs : List A) (i : ℕ) (made : List A) → length rows ≤ i → made ++ chosen (drop i rows) (drop i xs) ≡ chosen rows xs → made ≡ chosen rows xs
+  chosen-all rows xs i made h so_far = sym (ap (λ ss. made ++ ss) (at_drop_all (λ rs. chosen rs (drop i xs)) rows i h) ∙ append-nil made) ∙ so_far
+
+-- ---- names
+
+module _ (m : List (RowName × Rational)) where
+  abbrev on_list : Row → Bool
+  on_list row = is_unequal row.sense && is_listed m row.name
+
+  names-first : (row : Row) (rows : List Row) → listed_names m (row ∷ rows) ≡ (if on_list row then (row.name ∷ []) else []) ++ listed_names m rows
+  names-first row rows = cases (on_list row)
+    where
+      cases : (t : Bool) → map (λ (r : Row). r.name) (if t then (row ∷ filter on_list rows) else filter on_list rows) ≡ (if t then (row.name ∷ []) else []) ++ listed_names m rows
+      cases true = refl
+      cases false = refl
+
+  pub names-next : (rows : List Row) (i : ℕ) (row : Row) (old new : List RowName) → i < length rows → row ≡ get_or rows i row → new ≡ old ++ (if on_list row then (row.name ∷ []) else []) → old ++ listed_names m (drop i rows) ≡ listed_names m rows
+      → new ++ listed_names m (drop (i + 1) rows) ≡ listed_names m rows
+  names-next rows i row old new h e pushed so_far =
+      joined old new (if on_list row then (row.name ∷ []) else []) (listed_names m (drop (i + 1) rows)) (listed_names m rows) pushed
+      (ap (λ ns. old ++ ns) (sym (ap (listed_names m) (next-of rows i row h e) ∙ names-first row (drop (i + 1) rows))) ∙ so_far)
+
+  pub names-all : (rows : List Row) (i : ℕ) (made : List RowName) → length rows ≤ i → made ++ listed_names m (drop i rows) ≡ listed_names m rows → made ≡ listed_names m rows
+  names-all rows i made h so_far = sym (ap (λ ns. made ++ ns) (at_drop_all (listed_names m) rows i h) ∙ append-nil made) ∙ so_far

@@ -1,0 +1,114 @@
+-- What plans and multipliers of some rows are to fewer of them.
+use Rattle.std.proofs.Common.{◌≡◌, ℕ, ◌*◌, ◌<◌, ℤ, pos, ◌+ℤ◌, ◌*ℤ◌, Bool, true, false, List, [], ◌∷◌, ◌++◌, inl, inr, filter, refl, sym, ap, ap₂, ◌∙◌, subst, arith, if◌then◌else◌}
+use Rattle.std.specs.Prelude.{◌<ℤ◌, Contains}
+use Rattle.std.specs.List.{flat_map}
+use Rattle.std.proofs.lemmas.Int.{ints}
+use Rattle.std.proofs.lemmas.List.Concat.{flat_map-cons}
+use Rattle.exact_num.proofs.Ring.{zero-*ℤ}
+use Rattle.row_core.specs.declared.Row.{Row}
+use Rattle.row_core.specs.declared.RowName.{RowName}
+use Rattle.row_core.specs.declared.Var.{Var}
+use Rattle.row_core.specs.Kinds.{kind_is_free}
+use Rattle.row_core.specs.Numbers.{ascends, variables_of}
+use Rattle.row_core.specs.Order.{var_cmp}
+use Rattle.row_core.specs.Rows.{number_at}
+use Rattle.named_equations.proofs.InstanceTests.{Contains-from_Has, Has, Has-append_left, Has-append_right, Has-from_Contains}
+use Rattle.certificate_checker.specs.Certificates.{AreSigned, AreWithin, IsWithin, Proves, Refutes, bound_of}
+use Rattle.certificate_checker.specs.Costs.{no_cost}
+use Rattle.certificate_checker.specs.Plans.{AllStand, MeetsAll}
+use Rattle.certificate_checker.specs.Sums.{HasVariablesOf, column_sum, weighted}
+use Rattle.conflict_sets.specs.Pieces.{is_taken}
+use Rattle.conflict_sets.specs.Trials.{rows_with}
+use Rattle.conflict_sets.proofs.RowLists.{Takes, append-either, taken-too}
+
+-- ---- plans
+
+abbrev right_of : ℕ → Row → ℤ
+right_of q row = row.rhs *ℤ pos q
+
+-- what takes fewer rows of a list asks for less
+fewer-stand : (p r : Row → Bool) (q : ℕ) (x : Var → ℤ) (rows : List Row) → ((row : Row) → Has rows row → p row ≡ true → r row ≡ true) → AllStand (right_of q) (filter r rows) x → AllStand (right_of q) (filter p rows) x
+fewer-stand p r q x [] both h = tt
+fewer-stand p r q x (row ∷ rows) both h = cases (p row) (r row) refl refl h (fewer-stand p r q x rows (λ t k. both t (inr k)))
+  where
+    cases : (a b : Bool) → p row ≡ a → r row ≡ b → AllStand (right_of q) (if b then (row ∷ filter r rows) else filter r rows) x → (AllStand (right_of q) (filter r rows) x → AllStand (right_of q) (filter p rows) x)
+        → AllStand (right_of q) (if a then (row ∷ filter p rows) else filter p rows) x
+    cases true true is_p is_r h rest = (h.0, rest h.1)
+    cases true false is_p is_r h rest = let there : r row ≡ true = both row (inl refl) is_p in absurd (cc (is_r, there))
+    cases false true is_p is_r h rest = rest h.1
+    cases false false is_p is_r h rest = rest h
+
+pub fewer-met : (rows : List Row) (vars : List Var) (fewer more : RowName → Bool) (q : ℕ) (x : Var → ℤ) → Takes rows fewer more → MeetsAll (rows_with more rows) vars q x → MeetsAll (rows_with fewer rows) vars q x
+fewer-met rows vars fewer more q x takes h = record {
+  positive = h.positive;
+  rows_hold = fewer-stand (is_taken fewer) (is_taken more) q x rows (λ row k t. taken-too rows fewer more row k takes t) h.rows_hold;
+  signs = h.signs;
+}
+
+-- with every inequality, the rows of a trial are all rows
+all-stand : (q : ℕ) (x : Var → ℤ) (rows : List Row) (p : Row → Bool) → ((row : Row) → p row ≡ true) → AllStand (right_of q) (filter p rows) x → AllStand (right_of q) rows x
+all-stand q x [] p every h = tt
+all-stand q x (row ∷ rows) p every h = cases (p row) (every row) h (all-stand q x rows p every)
+  where
+    cases : (t : Bool) → t ≡ true → AllStand (right_of q) (if t then (row ∷ filter p rows) else filter p rows) x → (AllStand (right_of q) (filter p rows) x → AllStand (right_of q) rows x) → AllStand (right_of q) (row ∷ rows) x
+    cases true is h rest = (h.0, rest h.1)
+    cases false is h rest = absurd (cc is)
+
+pub all-met : (rows : List Row) (vars : List Var) (listed : RowName → Bool) (q : ℕ) (x : Var → ℤ) → ((row : Row) → is_taken listed row ≡ true) → MeetsAll (rows_with listed rows) vars q x → MeetsAll rows vars q x
+all-met rows vars listed q x every h = record { positive = h.positive; rows_hold = all-stand q x rows (is_taken listed) every h.rows_hold; signs = h.signs }
+
+-- ---- multipliers
+
+module _ (y : RowName → ℤ) (p : Row → Bool) where
+  -- sums over those rows are sums over all, where all others have the multiplier 0
+  part-sum : (f : Row → ℤ) (rows : List Row) → ((row : Row) → Has rows row → p row ≡ false → y row.name ≡ pos 0) → weighted y f (filter p rows) ≡ weighted y f rows
+  part-sum f [] none = refl
+  part-sum f (row ∷ rows) none = cases (p row) refl (part-sum f rows (λ r k. none r (inr k)))
+    where
+      nothing : (z a b : ℤ) → z ≡ pos 0 → a ≡ b → a ≡ (z *ℤ f row) +ℤ b
+      nothing z a b e same = let no = zero-*ℤ (f row) in let product : z *ℤ f row ≡ pos 0 = ap (λ w. w *ℤ f row) e ∙ no in omega (arith, ints)
+
+      cases : (t : Bool) → p row ≡ t → weighted y f (filter p rows) ≡ weighted y f rows → weighted y f (if t then (row ∷ filter p rows) else filter p rows) ≡ (y row.name *ℤ f row) +ℤ weighted y f rows
+      cases true is e = ap (λ z. (y row.name *ℤ f row) +ℤ z) e
+      cases false is e = nothing (y row.name) (weighted y f (filter p rows)) (weighted y f rows) (none row (inl refl) is) e
+
+  part-signed : (rows : List Row) → AreSigned y rows → AreSigned y (filter p rows)
+  part-signed [] h = tt
+  part-signed (row ∷ rows) h = cases (p row) (part-signed rows h.1)
+    where
+      cases : (t : Bool) → AreSigned y (filter p rows) → AreSigned y (if t then (row ∷ filter p rows) else filter p rows)
+      cases true rest = (h.0, rest)
+      cases false rest = rest
+
+within-same : (vars : List Var) (a b c : Var → ℤ) → ((v : Var) → a v ≡ b v) → AreWithin vars a c → AreWithin vars b c
+within-same [] a b c e h = tt
+within-same (v ∷ vars) a b c e h = (subst (λ z. IsWithin (kind_is_free v.kind) z (c v)) (e v) h.0, within-same vars a b c e h.1)
+
+pub part-refuted : (rows : List Row) (vars : List Var) (p : Row → Bool) (s : ℕ) (y : RowName → ℤ) → ((row : Row) → Has rows row → p row ≡ false → y row.name ≡ pos 0) → Refutes rows vars s y → Refutes (filter p rows) vars s y
+part-refuted rows vars p s y none h = record {
+  proves = record {
+    signs = part-signed y p rows h.proves.signs;
+    columns = within-same vars (column_sum y rows) (column_sum y (filter p rows)) (λ v. no_cost v *ℤ pos s) (λ v. sym (part-sum y p (λ row. number_at row.entries.items v) rows none)) h.proves.columns;
+  };
+  positive = subst (λ z. pos 0 <ℤ z) (sym (part-sum y p (λ row. row.rhs) rows none)) h.positive;
+}
+
+-- ---- variables
+
+abbrev variables_in : List Row → List Var
+variables_in rows = flat_map (λ (row : Row). variables_of row.entries.items) rows
+
+fewer-variables : (p : Row → Bool) (rows : List Row) (v : Var) → Has (variables_in (filter p rows)) v → Has (variables_in rows) v
+fewer-variables p [] v h = absurd h
+fewer-variables p (row ∷ rows) v h = subst (λ vs. Has vs v) (sym (flat_map-cons (λ (r : Row). variables_of r.entries.items) row rows)) (cases (p row) h (fewer-variables p rows v))
+  where
+    cases : (t : Bool) → Has (variables_in (if t then (row ∷ filter p rows) else filter p rows)) v → (Has (variables_in (filter p rows)) v → Has (variables_in rows) v) → Has (variables_of row.entries.items ++ variables_in rows) v
+    cases true k rest =
+        elim (append-either (variables_of row.entries.items) (variables_in (filter p rows)) v (subst (λ vs. Has vs v) (flat_map-cons (λ (r : Row). variables_of r.entries.items) row (filter p rows)) k)) [
+          | inl here ↦ Has-append_left (variables_of row.entries.items) (variables_in rows) v here
+          | inr there ↦ Has-append_right (variables_of row.entries.items) (variables_in rows) v (rest there)
+        ]
+    cases false k rest = Has-append_right (variables_of row.entries.items) (variables_in rows) v (rest k)
+
+pub part-variables : (p : Row → Bool) (rows : List Row) (vars : List Var) → HasVariablesOf rows vars → HasVariablesOf (filter p rows) vars
+part-variables p rows vars h v k = h v (Contains-from_Has (variables_in rows) v (fewer-variables p rows v (Has-from_Contains (variables_in (filter p rows)) v k)))

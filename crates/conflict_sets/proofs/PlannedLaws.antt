@@ -1,0 +1,124 @@
+-- Values that meet the linear program of a trial become a plan that meets the rows of the trial.
+use Rattle.std.proofs.Common.{◌≡◌, ◌≢◌, ℕ, ◌<◌, ℤ, pos, ◌*ℤ◌, Bool, true, false, not, ◌||◌, List, [], ◌∷◌, inl, inr, length, map, refl, sym, ap, ap₂, ◌∙◌, subst, arith, if◌then◌else◌}
+use Rattle.std.specs.Prelude.{Option, Some, None}
+use Rattle.std.specs.Prelude.{◌≤ℤ◌, int_le}
+use Rattle.std.specs.Ordering.{int_eq}
+use Rattle.std.proofs.lemmas.Int.{ints}
+use Rattle.std.proofs.lemmas.Bool.Decides.{nat_tests}
+use Rattle.exact_num.proofs.Integers.{*ℤ_nonnegative}
+use Rattle.exact_num.proofs.Ring.{zero-*ℤ}
+use Rattle.row_core.specs.Statements.{stands}
+use Rattle.written_method.specs.Eliminated.{has_entries}
+use Rattle.exact_num.specs.Rational.{Rational}
+use Rattle.exact_num.specs.Value.{value_of}
+use Rattle.exact_num.specs.declared.fraction.Frac.{Frac}
+use Rattle.row_core.specs.declared.Row.{Row}
+use Rattle.row_core.specs.declared.RowName.{RowName}
+use Rattle.row_core.specs.declared.Sense.{Sense}
+use Rattle.row_core.specs.declared.Sense.TheVariants.{Least, Equal, Most}
+use Rattle.row_core.specs.declared.Var.{Var}
+use Rattle.row_core.specs.Rows.{RowHolds, row_sum}
+use Rattle.row_core.specs.Statements.{Stands}
+use Rattle.written_method.specs.Definitions.{Definition, definitions_of, others_of, rows_of, defined, AreTriangular}
+use Rattle.written_method.specs.Lifted.{lifted, right_side}
+use Rattle.written_method.specs.Programs.{inequality_of}
+use Rattle.written_method.specs.Ready.{ArePosed}
+use Rattle.variable_elimination.specs.Left.{AvoidAll}
+use Rattle.variable_elimination.specs.Lifts.{AllStand, CarriesPlan, right_times}
+use Rattle.variable_elimination.specs.Meaning.{AreMet, excess}
+use Rattle.variable_elimination.specs.ReducedRows.{AreReductions, Shape, shape_of}
+use Rattle.variable_elimination.proofs.LiftedLaws.{lifted-others, lifted_meet, plan_met, reduced_hold}
+use Rattle.variable_elimination.proofs.LiftLaws.{at_most, product_down}
+use Rattle.variable_elimination.proofs.ReductionLaws.{reduced_says}
+use Rattle.exact_solver.specs.Sizes.{is_unequal}
+use Rattle.conflict_sets.specs.Pieces.{is_taken, selected, tests_of}
+use Rattle.conflict_sets.specs.Trials.{rows_with}
+use Rattle.conflict_sets.proofs.TriedLaws.{reduction-copied}
+
+abbrev AllHold : List Row → ℕ → (Var → ℤ) → Type 0
+AllHold rows q x = AllStand (right_times q) rows x
+
+either-hold : (row : Row) (rows : List Row) (t : Bool) (q : ℕ) (x : Var → ℤ) → RowHolds row q x → AllHold rows q x → AllHold (if t then (row ∷ rows) else rows) q x
+either-hold row rows true q x h k = (h, k)
+either-hold row rows false q x h k = k
+
+not-equal : (sense : Sense) → sense ≢ Equal → is_unequal sense ≡ true
+not-equal Least h = refl
+not-equal Equal h = absurd (h refl)
+not-equal Most h = refl
+
+-- a right side to which 0 stands, times any number
+stands_to_times : (sense : Sense) (right : ℤ) (q : ℕ) → stands sense (pos 0) right ≡ true → Stands sense (pos 0) (right *ℤ pos q)
+stands_to_times Least right q h = product_down right (pos q) (at_most right h) (omega (arith, ints))
+stands_to_times Equal right q h = sym (zero-*ℤ (pos q)) ∙ ap (λ z. z *ℤ pos q) (equal_to right h)
+  where
+    equal_to : (z : ℤ) → int_eq (pos 0) z ≡ true → pos 0 ≡ z
+    equal_to z h = grind (arith, ints, nat_tests)
+stands_to_times Most right q h = *ℤ_nonnegative right (pos q) (at_least right h) (omega (arith, ints))
+  where
+    at_least : (z : ℤ) → int_le (pos 0) z ≡ true → pos 0 ≤ℤ z
+    at_least z h = grind (arith, ints, nat_tests)
+
+-- a row without entries that is true of 0 holds of every plan
+empty-holds : (row : Row) (q : ℕ) (x : Var → ℤ) → has_entries row.entries.items ≡ false → stands row.sense (pos 0) row.rhs ≡ true → RowHolds row q x
+empty-holds row q x h k = subst (λ z. Stands row.sense z (row.rhs *ℤ pos q)) (nothing row.entries.items h) (stands_to_times row.sense row.rhs q k)
+  where
+    nothing : (es : List (Var × ℤ)) → has_entries es ≡ false → pos 0 ≡ row_sum x es
+    nothing [] h = refl
+    nothing (e ∷ es) h = absurd (cc h)
+
+-- rows that define nothing: each was dropped, or is tried, or isn't on the list
+others-tried : (listed : RowName → Bool) (columns : List Var) (ds : List Definition) (others rows : List Row) (scales : List Frac) (made : List Row) (p : ℕ) (z : Var → ℤ)
+    → AreReductions (rows_of ds) others rows scales → ArePosed columns (map inequality_of rows) → map shape_of made ≡ selected (tests_of listed rows) (map shape_of rows)
+    → AreMet ds (pos p) z → AllHold made p z → AllHold (rows_with listed others) p z
+others-tried listed columns ds [] rows scales made p z r posed e met holds = tt
+others-tried listed columns ds (named ∷ others) rows scales made p z (inl (dropped, r)) posed e met holds =
+    either-hold named (rows_with listed others) (is_taken listed named) p z
+    ((reduced_says ds named (value_of dropped.scale) dropped.new p z dropped.reduction.reduced dropped.reduction.sense met).0 (empty-holds dropped.new p z dropped.empty dropped.holds))
+    (others-tried listed columns ds others rows scales made p z r posed e met holds)
+others-tried listed columns ds (named ∷ others) rows scales made p z (inr (new, scale, more, more_scales, ee, ff, r, h)) posed e met holds =
+    cases (listed new.name) refl made (e ∙ ap (λ (rs : List Row). selected (tests_of listed rs) (map shape_of rs)) ee) holds (λ ks i k. others-tried listed columns ds others more more_scales ks p z h posed_new.3 i met k)
+  where
+    posed_new : ArePosed columns (map inequality_of (new ∷ more))
+    posed_new = subst (λ (rs : List Row). ArePosed columns (map inequality_of rs)) ee posed
+
+    cases : (t : Bool) → listed new.name ≡ t → (made : List Row) → map shape_of made ≡ selected (t ∷ tests_of listed more) (shape_of new ∷ map shape_of more) → AllHold made p z
+        → ((ks : List Row) → map shape_of ks ≡ selected (tests_of listed more) (map shape_of more) → AllHold ks p z → AllHold (rows_with listed others) p z) → AllHold (rows_with listed (named ∷ others)) p z
+    cases true is [] e holds rest = absurd (cc e)
+    cases true is (m ∷ made) e holds rest =
+        let first : shape_of m ≡ shape_of new = cc e in
+        let later : map shape_of made ≡ selected (tests_of listed more) (map shape_of more) = cc e in
+        let copied = reduction-copied (rows_of ds) named (value_of scale) new m first r in
+        either-hold named (rows_with listed others) (is_taken listed named) p z ((reduced_says ds named (value_of scale) m p z copied.reduced copied.sense met).0 holds.0) (rest made later holds.1)
+    cases false is made e holds rest =
+        let left_out : is_taken listed named ≡ false =
+        ap₂ (λ a b. not a || b) (ap is_unequal (sym r.sense) ∙ not-equal new.sense posed_new.0) (ap listed (sym r.name) ∙ is) in
+        subst (λ t. AllHold (if t then (named ∷ rows_with listed others) else rows_with listed others) p z) (sym left_out) (rest made e holds)
+
+definition_holds : (row : Row) (p : ℕ) (z : Var → ℤ) → row.sense ≡ Equal → excess row (pos p) z ≡ pos 0 → RowHolds row p z
+definition_holds row p z e met =
+    let same : row_sum z row.entries.items ≡ row.rhs *ℤ pos p = omega (arith, ints) in
+    subst (λ s. Stands s (row_sum z row.entries.items) (row.rhs *ℤ pos p)) (sym e) same
+
+all-tried : (listed : RowName → Bool) (rows : List Row) (defs : List (Option Var)) (p : ℕ) (z : Var → ℤ) → length defs ≡ length rows → AreTriangular (definitions_of rows defs) → AreMet (definitions_of rows defs) (pos p) z
+    → AllHold (rows_with listed (others_of rows defs)) p z → AllHold (rows_with listed rows) p z
+all-tried listed [] defs p z same h met others = tt
+all-tried listed (row ∷ rows) [] p z same h met others = absurd (omega arith)
+all-tried listed (row ∷ rows) (None ∷ defs) p z same h met others = cases (is_taken listed row) others (λ k. all-tried listed rows defs p z (omega arith) h met k)
+  where
+    cases : (t : Bool) → AllHold (if t then (row ∷ rows_with listed (others_of rows defs)) else rows_with listed (others_of rows defs)) p z → (AllHold (rows_with listed (others_of rows defs)) p z → AllHold (rows_with listed rows) p z)
+        → AllHold (if t then (row ∷ rows_with listed rows) else rows_with listed rows) p z
+    cases true h rest = (h.0, rest h.1)
+    cases false h rest = rest h
+all-tried listed (row ∷ rows) (Some v ∷ defs) p z same h met others =
+    either-hold row (rows_with listed rows) (is_taken listed row) p z (definition_holds row p z h.0.equal met.0) (all-tried listed rows defs p z (omega arith) h.3 met.1 others)
+
+pub carries-tried : (listed : RowName → Bool) (columns : List Var) (rows : List Row) (defs : List (Option Var)) (values : List (Var × Rational)) (reduced : List Row) (scales : List Frac) (made : List Row)
+    → length defs ≡ length rows → AreTriangular (definitions_of rows defs) → AreReductions (rows_of (definitions_of rows defs)) (others_of rows defs) reduced scales → ArePosed columns (map inequality_of reduced)
+    → map shape_of made ≡ selected (tests_of listed reduced) (map shape_of reduced) → AvoidAll (defined (definitions_of rows defs)) made
+    → CarriesPlan (rows_with listed rows) made values (lifted right_side (definitions_of rows defs) values)
+carries-tried listed columns rows defs values reduced scales made same triangular r posed e apart q p x z hq hp over over_made holds =
+    let ds : List Definition = definitions_of rows defs in
+    let met : AreMet ds (pos p) z = plan_met ds (pos p) z (lifted_meet right_side ds values (pos p) z (omega (arith, ints)) triangular over_made) in
+    all-tried listed rows defs p z same triangular met
+    (others-tried listed columns ds (others_of rows defs) reduced scales made p z r posed e met (reduced_hold (defined ds) values (lifted right_side ds values) (lifted-others right_side ds values) q p x z hq hp over over_made made apart holds))

@@ -1,0 +1,121 @@
+-- Rows of a trial, among those of another.
+use Rattle.std.proofs.Common.{◌≡◌, ℕ, Bool, true, false, not, ◌||◌, ◌&&◌, List, [], ◌∷◌, ◌++◌, ◌⊎◌, inl, inr, map, filter, refl, sym, ap, ap₂, ◌∙◌, subst, if◌then◌else◌}
+use Rattle.std.specs.Ordering.{is_eq, is_lt, ordering_reverse}
+use Rattle.std.specs.declared.cmp.Ordering.{Ordering}
+use Rattle.std.specs.declared.cmp.Ordering.TheVariants.{Less, Equal as Alike, Greater}
+use Rattle.std.specs.Cmp.Derive.{both_true}
+use Rattle.row_core.specs.declared.Row.{Row}
+use Rattle.row_core.specs.declared.RowName.{RowName}
+use Rattle.row_core.specs.Numbers.{ascends, before_first}
+use Rattle.row_core.specs.Order.{row_name_cmp}
+use Rattle.row_core.proofs.AscendingLaws.{ascends-first, ascends-skip, ascends-tail, both_passed, test-from_Less}
+use Rattle.row_core.proofs.Orders.{row_name_cmp_exact, row_name_cmp_total}
+use Rattle.named_equations.proofs.InstanceTests.{Contains-from_Has, Has, Has-from_Contains, filter_parts}
+use Rattle.row_book.specs.Books.{names_of}
+use Rattle.variable_elimination.proofs.LiftLaws.{alike}
+use Rattle.exact_solver.specs.Sizes.{is_unequal}
+use Rattle.conflict_sets.specs.Conflicts.{inequalities}
+use Rattle.conflict_sets.specs.Pieces.{is_taken}
+
+-- ---- names
+
+pub same-name : (a b : RowName) → is_eq (row_name_cmp a b) ≡ true → a ≡ b
+same-name a b h = row_name_cmp_exact a b (alike (row_name_cmp a b) h)
+
+irreflexive : (a : RowName) → row_name_cmp a a ≡ Less → ⊥
+irreflexive a h = cc (sym h ∙ (row_name_cmp_total.antisymm a a ∙ ap ordering_reverse h))
+
+pub itself : (a : RowName) → is_eq (row_name_cmp a a) ≡ true
+itself a = turned (row_name_cmp a a) (row_name_cmp_total.antisymm a a)
+  where
+    turned : (o : Ordering) → o ≡ ordering_reverse o → is_eq o ≡ true
+    turned Less h = absurd (cc h)
+    turned Alike h = refl
+    turned Greater h = absurd (cc h)
+
+-- ---- ascending names
+
+pub first-before : (v : RowName) (vs : List RowName) (w : RowName) → ascends row_name_cmp (v ∷ vs) ≡ true → Has vs w → row_name_cmp v w ≡ Less
+first-before v vs w up there =
+    let found = Contains-from_Has vs w there in
+    subst (λ u. row_name_cmp v u ≡ Less) found.2 (ascends-first row_name_cmp row_name_cmp_total v vs up found.0 _ found.1)
+
+pub not-again : (v : RowName) (vs : List RowName) → ascends row_name_cmp (v ∷ vs) ≡ true → Has vs v → ⊥
+not-again v vs up there = irreflexive v (first-before v vs v up there)
+
+before-all : (v : RowName) (ws : List RowName) → ((u : RowName) → Has ws u → row_name_cmp v u ≡ Less) → before_first row_name_cmp v ws ≡ true
+before-all v [] h = refl
+before-all v (w ∷ ws) h = test-from_Less (row_name_cmp v w) (h w (inl refl))
+
+-- a name may be left out of ascending ones
+pub without-one : (vs : List RowName) (c : RowName) (ws : List RowName) → ascends row_name_cmp (vs ++ c ∷ ws) ≡ true → ascends row_name_cmp (vs ++ ws) ≡ true
+without-one [] c ws up = ascends-tail row_name_cmp c ws up
+without-one (v ∷ []) c ws up = ascends-skip row_name_cmp row_name_cmp_total v c ws up
+without-one (v ∷ w ∷ vs) c ws up =
+    let parts = both_passed (is_lt (row_name_cmp v w)) (ascends row_name_cmp (w ∷ vs ++ c ∷ ws)) up in
+    both_true parts.0 (without-one (w ∷ vs) c ws parts.1)
+
+-- those of a list that pass a test
+pub filter-names : {A : Type 0} (name : A → RowName) (p : A → Bool) (xs : List A) (u : RowName) → Has (map name (filter p xs)) u → Has (map name xs) u
+filter-names name p [] u h = absurd h
+filter-names name p (x ∷ xs) u h = cases (p x) h (filter-names name p xs u)
+  where
+    cases : (t : Bool) → Has (map name (if t then (x ∷ filter p xs) else filter p xs)) u → (Has (map name (filter p xs)) u → Has (map name xs) u) → Has (map name (x ∷ xs)) u
+    cases true (inl e) rest = inl e
+    cases true (inr k) rest = inr (rest k)
+    cases false k rest = inr (rest k)
+
+pub filter-ascends : {A : Type 0} (name : A → RowName) (p : A → Bool) (xs : List A) → ascends row_name_cmp (map name xs) ≡ true → ascends row_name_cmp (map name (filter p xs)) ≡ true
+filter-ascends name p [] up = refl
+filter-ascends name p (x ∷ xs) up = cases (p x) (filter-ascends name p xs (ascends-tail row_name_cmp (name x) (map name xs) up))
+  where
+    cases : (t : Bool) → ascends row_name_cmp (map name (filter p xs)) ≡ true → ascends row_name_cmp (map name (if t then (x ∷ filter p xs) else filter p xs)) ≡ true
+    cases true rest = both_true (before-all (name x) (map name (filter p xs)) (λ u h. first-before (name x) (map name xs) u up (filter-names name p xs u h))) rest
+    cases false rest = rest
+
+pub filter-has : {A : Type 0} (p : A → Bool) (xs : List A) (x : A) → Has xs x → p x ≡ true → Has (filter p xs) x
+filter-has p [] x h k = absurd h
+filter-has p (y ∷ xs) x (inl e) k = subst (λ t. Has (if t then (y ∷ filter p xs) else filter p xs) x) (sym (ap p e ∙ k)) (inl e)
+filter-has p (y ∷ xs) x (inr h) k = cases (p y) (filter-has p xs x h k)
+  where
+    cases : (t : Bool) → Has (filter p xs) x → Has (if t then (y ∷ filter p xs) else filter p xs) x
+    cases true rest = inr rest
+    cases false rest = rest
+
+pub mapped-has : {A : Type 0} (name : A → RowName) (xs : List A) (u : RowName) → Has (map name xs) u → (x : A) × Has xs x × (name x ≡ u)
+mapped-has name [] u h = absurd h
+mapped-has name (x ∷ xs) u (inl e) = (x, inl refl, e)
+mapped-has name (x ∷ xs) u (inr h) = let rest = mapped-has name xs u h in (rest.0, inr rest.1, rest.2)
+
+pub map-has : {A B : Type 0} (f : A → B) (xs : List A) (x : A) → Has xs x → Has (map f xs) (f x)
+map-has f [] x h = absurd h
+map-has f (y ∷ xs) x (inl e) = inl (ap f e)
+map-has f (y ∷ xs) x (inr h) = inr (map-has f xs x h)
+
+pub append-either : {A : Type 0} (xs ys : List A) (x : A) → Has (xs ++ ys) x → Has xs x ⊎ Has ys x
+append-either [] ys x h = inr h
+append-either (z ∷ xs) ys x (inl e) = inl (inl e)
+append-either (z ∷ xs) ys x (inr h) = elim (append-either xs ys x h) [ inl l ↦ inl (inr l) | inr r ↦ inr r ]
+
+-- ---- rows of a trial
+
+-- the name of an inequality of rows
+pub inequality-named : (rows : List Row) (row : Row) → Has rows row → is_unequal row.sense ≡ true → Has (inequalities rows) row.name
+inequality-named rows row h k = map-has (λ (r : Row). r.name) (filter (λ (r : Row). is_unequal r.sense) rows) row (filter-has (λ (r : Row). is_unequal r.sense) rows row h k)
+
+pub inequality-row : (rows : List Row) (u : RowName) → Has (inequalities rows) u → (row : Row) × Has rows row × (is_unequal row.sense ≡ true) × (row.name ≡ u)
+inequality-row rows u h =
+    let found = mapped-has (λ (r : Row). r.name) (filter (λ (r : Row). is_unequal r.sense) rows) u h in
+    let parts = filter_parts (λ (r : Row). is_unequal r.sense) rows found.0 found.1 in
+    (found.0, parts.0, parts.1, found.2)
+
+-- one list takes what another takes
+abbrev pub Takes : (rows : List Row) (fewer more : RowName → Bool) → Type 0
+Takes rows fewer more = (name : RowName) → Has (inequalities rows) name → fewer name ≡ true → more name ≡ true
+
+pub taken-too : (rows : List Row) (fewer more : RowName → Bool) (row : Row) → Has rows row → Takes rows fewer more → is_taken fewer row ≡ true → is_taken more row ≡ true
+taken-too rows fewer more row h takes k = cases (is_unequal row.sense) refl k
+  where
+    cases : (t : Bool) → is_unequal row.sense ≡ t → (not t || fewer row.name) ≡ true → (not (is_unequal row.sense) || more row.name) ≡ true
+    cases true is k = ap (λ b. not b || more row.name) is ∙ takes row.name (inequality-named rows row h is) k
+    cases false is k = ap (λ b. not b || more row.name) is

@@ -1,0 +1,51 @@
+-- What a list of tests selects.
+use Rattle.std.proofs.Common.{◌≡◌, ◌≤◌, ℕ, suc, Bool, true, false, List, [], ◌∷◌, ◌++◌, length, map, filter, refl, ap, ◌∙◌, arith, if◌then◌else◌}
+use Rattle.conflict_sets.specs.Pieces.{selected}
+
+pub map-map : {A B C : Type 0} (g : B → C) (f : A → B) (xs : List A) → map (λ x. g (f x)) xs ≡ map g (map f xs)
+map-map g f [] = refl
+map-map {C = C} g f (x ∷ xs) = ap {B = List C} (λ ys. g (f x) ∷ ys) (map-map g f xs)
+
+-- a filter selects by its tests
+pub map-filter : {A B : Type 0} (p : A → Bool) (f : A → B) (xs : List A) → map f (filter p xs) ≡ selected (map p xs) (map f xs)
+map-filter p f [] = refl
+map-filter {A} {B} p f (x ∷ xs) = cases (p x) (map-filter p f xs)
+  where
+    cases : (t : Bool) → map f (filter p xs) ≡ selected (map p xs) (map f xs) → map f (if t then (x ∷ filter p xs) else filter p xs) ≡ selected (t ∷ map p xs) (f x ∷ map f xs)
+    cases true e = ap {B = List B} (λ ys. f x ∷ ys) e
+    cases false e = e
+
+pub map-selected : {A B : Type 0} (f : A → B) (ts : List Bool) (xs : List A) → map f (selected ts xs) ≡ selected ts (map f xs)
+map-selected f [] xs = refl
+map-selected f (t ∷ ts) [] = refl
+map-selected {A} {B} f (true ∷ ts) (x ∷ xs) = ap {B = List B} (λ ys. f x ∷ ys) (map-selected f ts xs)
+map-selected f (false ∷ ts) (x ∷ xs) = map-selected f ts xs
+
+-- no more are selected than there are
+pub length-selected : {A : Type 0} (ts : List Bool) (xs : List A) → length (selected ts xs) ≤ length xs
+length-selected [] xs = omega arith
+length-selected (t ∷ ts) [] = omega arith
+length-selected (true ∷ ts) (x ∷ xs) = let rest = length-selected ts xs in omega arith
+length-selected (false ∷ ts) (x ∷ xs) = let rest = length-selected ts xs in omega arith
+
+-- as many of one list as of another of the same length
+pub length-alike : {A B : Type 0} (ts : List Bool) (xs : List A) (ys : List B) → length xs ≡ length ys → length (selected ts xs) ≡ length (selected ts ys)
+length-alike [] xs ys e = refl
+length-alike (t ∷ ts) [] [] e = refl
+length-alike (t ∷ ts) [] (y ∷ ys) e = absurd (omega arith)
+length-alike (t ∷ ts) (x ∷ xs) [] e = absurd (omega arith)
+length-alike (true ∷ ts) (x ∷ xs) (y ∷ ys) e = ap suc (length-alike ts xs ys (omega arith))
+length-alike (false ∷ ts) (x ∷ xs) (y ∷ ys) e = length-alike ts xs ys (omega arith)
+
+pub selected-none : {A : Type 0} (ts : List Bool) → selected {A = A} ts [] ≡ []
+selected-none [] = refl
+selected-none (t ∷ ts) = refl
+
+-- one more
+pub selected-more : {A : Type 0} (ts : List Bool) (xs : List A) (t : Bool) (x : A) → length ts ≡ length xs → selected (ts ++ t ∷ []) (xs ++ x ∷ []) ≡ selected ts xs ++ (if t then (x ∷ []) else [])
+selected-more [] [] true x e = refl
+selected-more [] [] false x e = refl
+selected-more [] (y ∷ ys) t x e = absurd (omega arith)
+selected-more (s ∷ ts) [] t x e = absurd (omega arith)
+selected-more {A} (true ∷ ts) (y ∷ ys) t x e = ap {B = List A} (λ zs. y ∷ zs) (selected-more ts ys t x (omega arith))
+selected-more (false ∷ ts) (y ∷ ys) t x e = selected-more ts ys t x (omega arith)

@@ -1,0 +1,112 @@
+-- Of the inequalities those that were tried alone have a multiplier other than 0.
+use Rattle.std.proofs.Common.{◌≡◌, ℤ, pos, Bool, true, false, not, List, [], ◌∷◌, ◌⊎◌, inl, inr, map, filter, refl, sym, ap, ◌∙◌, subst, if◌then◌else◌}
+use Rattle.std.specs.Prelude.{Option, Some, None, Contains}
+use Rattle.std.specs.BTreeMap.{insert_entry}
+use Rattle.std.specs.Ordering.{is_eq}
+use Rattle.exact_num.specs.Rational.{Rational, times, whole}
+use Rattle.row_core.specs.declared.Row.{Row}
+use Rattle.row_core.specs.declared.RowName.{RowName}
+use Rattle.row_core.specs.declared.Sense.TheVariants.{Equal}
+use Rattle.row_core.specs.declared.Var.{Var}
+use Rattle.row_core.specs.LookUps.{value_at}
+use Rattle.row_core.specs.Numbers.{ascends, is_zero, keys_of}
+use Rattle.row_core.specs.Order.{row_name_cmp}
+use Rattle.row_core.specs.Plans.{or_zero, value_in}
+use Rattle.row_core.proofs.AscendingLaws.{ascends-tail}
+use Rattle.named_equations.proofs.InstanceTests.{Contains-from_Has, Has, Has-from_Contains, filter_parts}
+use Rattle.row_book.specs.Books.{names_of}
+use Rattle.row_book.specs.Kept.{IsBook}
+use Rattle.written_method.specs.Definitions.{Definition, definitions_of, AreTriangular}
+use Rattle.written_method.specs.Eliminated.{ReducedRow}
+use Rattle.written_method.specs.Multiplied.{defined_multipliers, multiplier_of, scaled_multipliers}
+use Rattle.exact_solver.specs.Definers.{definers}
+use Rattle.exact_solver.specs.Programs.{definitions_in, name_left, rows_left, scale_left}
+use Rattle.exact_solver.specs.Sizes.{is_unequal}
+use Rattle.exact_solver.proofs.BookLaws.{book_triangular}
+use Rattle.exact_solver.proofs.CompletePlans.{insert-has}
+use Rattle.conflict_sets.specs.Conflicts.{inequalities}
+use Rattle.conflict_sets.specs.Pieces.{AreWithin}
+use Rattle.conflict_sets.specs.Trials.{rows_tried, tried_multipliers}
+use Rattle.conflict_sets.specs.Walks.{is_listed}
+use Rattle.conflict_sets.proofs.RowLists.{inequality-row, mapped-has, not-again, same-name}
+
+-- a value other than 0 is that of a key
+listed-key : (values : List (RowName × Rational)) (u : RowName) → is_listed values u ≡ true → Has (keys_of values) u
+listed-key [] u h = absurd (cc h)
+listed-key (e ∷ values) u h = cases (is_eq (row_name_cmp e.0 u)) refl h (listed-key values u)
+  where
+    cases : (t : Bool) → is_eq (row_name_cmp e.0 u) ≡ t → not (is_zero (or_zero (if t then Some e.1 else value_at row_name_cmp values u)).top) ≡ true → (is_listed values u ≡ true → Has (keys_of values) u) → Has (keys_of (e ∷ values)) u
+    cases true is k rest = inl (same-name e.0 u is)
+    cases false is k rest = inr (rest k)
+
+-- ---- the keys
+
+scaled-has : (names : List RowName) (scales multipliers : List Rational) (made : List (RowName × Rational)) (u : RowName) → Has (keys_of (scaled_multipliers names scales multipliers made)) u → Has names u ⊎ Has (keys_of made) u
+scaled-has [] scales multipliers made u h = inr h
+scaled-has (name ∷ names) [] multipliers made u h = inr h
+scaled-has (name ∷ names) (scale ∷ scales) [] made u h = inr h
+scaled-has (name ∷ names) (scale ∷ scales) (multiplier ∷ multipliers) made u h =
+    cases (scaled-has names scales multipliers (insert_entry row_name_cmp made name (times multiplier scale)) u h) (insert-has row_name_cmp made name (times multiplier scale) u)
+  where
+    cases : {A B C D : Type 0} → A ⊎ B → (B → C ⊎ D) → (C ⊎ A) ⊎ D
+    cases (inl a) f = inl (inr a)
+    cases (inr b) f = elim (f b) [ inl c ↦ inl (inl c) | inr d ↦ inr d ]
+
+abbrev definition_name : Definition → RowName
+definition_name d = d.row.name
+
+multiplied-has : (rows : List Row) (ds : List Definition) (made : List (RowName × Rational)) (u : RowName) → Has (keys_of (defined_multipliers false rows ds made)) u → Has (map definition_name ds) u ⊎ Has (keys_of made) u
+multiplied-has rows [] made u h = inr h
+multiplied-has rows (d ∷ ds) made u h =
+    let before = defined_multipliers false rows ds made in
+    cases (insert-has row_name_cmp before d.row.name (multiplier_of false rows (value_in row_name_cmp before) d) u h) (multiplied-has rows ds made u)
+  where
+    cases : {A B C D : Type 0} → A ⊎ B → (B → C ⊎ D) → (A ⊎ C) ⊎ D
+    cases (inl a) f = inl (inl a)
+    cases (inr b) f = elim (f b) [ inl c ↦ inl (inr c) | inr d ↦ inr d ]
+
+-- ---- definitions are no inequalities
+
+definition-row : (rows : List Row) (defs : List (Option Var)) (u : RowName) → AreTriangular (definitions_of rows defs) → Has (map definition_name (definitions_of rows defs)) u → (row : Row) × Has rows row × (row.sense ≡ Equal) × (row.name ≡ u)
+definition-row [] defs u h k = absurd k
+definition-row (row ∷ rows) [] u h k = absurd k
+definition-row (row ∷ rows) (None ∷ defs) u h k = let rest = definition-row rows defs u h k in (rest.0, inr rest.1, rest.2, rest.3)
+definition-row (row ∷ rows) (Some v ∷ defs) u h (inl e) = (row, inl refl, h.0.equal, e)
+definition-row (row ∷ rows) (Some v ∷ defs) u h (inr k) = let rest = definition-row rows defs u h.3 k in (rest.0, inr rest.1, rest.2, rest.3)
+
+named-has : (rows : List Row) (row : Row) → Has rows row → Has (names_of rows) row.name
+named-has [] row h = absurd h
+named-has (r ∷ rows) row (inl e) = inl (ap (λ (t : Row). t.name) e)
+named-has (r ∷ rows) row (inr h) = inr (named-has rows row h)
+
+-- rows of one name are one row
+one-row : (rows : List Row) (a b : Row) → ascends row_name_cmp (names_of rows) ≡ true → Has rows a → Has rows b → a.name ≡ b.name → a ≡ b
+one-row [] a b up h k e = absurd h
+one-row (row ∷ rows) a b up (inl i) (inl j) e = sym i ∙ j
+one-row (row ∷ rows) a b up (inl i) (inr k) e = absurd (not-again row.name (names_of rows) up (subst (Has (names_of rows)) (sym (ap (λ (t : Row). t.name) i ∙ e)) (named-has rows b k)))
+one-row (row ∷ rows) a b up (inr h) (inl j) e = absurd (not-again row.name (names_of rows) up (subst (Has (names_of rows)) (e ∙ sym (ap (λ (t : Row). t.name) j)) (named-has rows a h)))
+one-row (row ∷ rows) a b up (inr h) (inr k) e = one-row rows a b (ascends-tail row_name_cmp row.name (names_of rows) up) h k e
+
+tried-listed : (listed : RowName → Bool) (left : List ReducedRow) (u : RowName) → Has (map name_left (filter (λ (r : ReducedRow). listed r.name) left)) u → listed u ≡ true
+tried-listed listed left u h =
+    let found = mapped-has name_left (filter (λ (r : ReducedRow). listed r.name) left) u h in
+    let parts = filter_parts (λ (r : ReducedRow). listed r.name) left found.0 found.1 in
+    ap listed (sym found.2) ∙ parts.1
+
+pub multipliers-within : (listed : RowName → Bool) (rows : List Row) (vars : List Var) (lambda : List Rational) → IsBook rows vars → AreWithin listed rows (tried_multipliers listed rows lambda)
+unfolding tried_multipliers
+multipliers-within listed rows vars lambda book u there is =
+    let names = map name_left (rows_tried listed rows) in
+    let scales = map scale_left (rows_tried listed rows) in
+    let inequality = inequality-row rows u (Has-from_Contains (inequalities rows) u there) in
+    elim (multiplied-has rows (definitions_in rows) (scaled_multipliers names scales lambda []) u (listed-key (tried_multipliers listed rows lambda) u is)) [
+      | inl defined ↦
+          let definition = definition-row rows (definers rows) u (book_triangular rows vars book) defined in
+          let same : inequality.0 ≡ definition.0 = one-row rows inequality.0 definition.0 book.ascending inequality.1 definition.1 (inequality.3 ∙ sym definition.3) in
+          let equal : is_unequal inequality.0.sense ≡ false = ap (λ (r : Row). is_unequal r.sense) same ∙ ap is_unequal definition.2 in
+          absurd (cc (inequality.2, equal))
+      | inr scaled ↦ elim (scaled-has names scales lambda [] u scaled) [
+        | inl k ↦ tried-listed listed (rows_left rows) u k
+        | inr k ↦ absurd k
+      ]
+    ]

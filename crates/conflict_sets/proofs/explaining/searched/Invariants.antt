@@ -1,0 +1,12 @@
+-- What is left of the trials comes to what all of them come to.
+use Rattle.std.proofs.Common.{◌≡◌, ◌≤◌, length, drop}
+use Rattle.conflict_sets.specs.Searches.{SearchIs, walk_from}
+use Rattle.conflict_sets.proofs.explaining.searched.Given as goal
+
+abbrev pub invariant-loop-name : goal.invariant-loop-name
+invariant-loop-name l = record {
+  few : l.search.trials ≤ l.name-index;
+  even : length l.search.names.items ≡ length l.search.plans.items;
+  walks : walk_from l.book.rows l.book.vars l.pivots l.search (drop l.name-index l.names) ≡ walk_from l.book.rows l.book.vars l.pivots l.fn.search l.names;
+  searched : SearchIs l.book.rows l.book.vars l.search (drop l.name-index l.names);
+}

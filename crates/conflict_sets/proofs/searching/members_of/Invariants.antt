@@ -1,0 +1,8 @@
+-- The names so far have their multipliers.
+use Rattle.std.proofs.Common.{◌≡◌, take, map}
+use Rattle.row_core.specs.Plans.{valued}
+use Rattle.conflict_sets.specs.Searches.{member_named}
+use Rattle.conflict_sets.proofs.searching.members_of.Given as goal
+
+abbrev pub invariant-loop-name : goal.invariant-loop-name
+invariant-loop-name l = map valued l.members.items ≡ map (member_named l.multipliers) (take l.name-index l.names)

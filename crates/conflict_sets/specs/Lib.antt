@@ -1,0 +1,5 @@
+pub mod Trials
+pub mod Walks
+pub mod Conflicts
+pub mod Pieces
+pub mod Searches

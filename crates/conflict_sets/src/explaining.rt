@@ -1,0 +1,90 @@
+//! Why no plan meets the rows of a book.
+
+ghost use Rattle.std.specs.Prelude.{◌≡◌, Some, length, IfOk, IfErr, IfSome, IfNone};
+ghost use Rattle.exact_solver.specs.BookPrograms.{IsProgramOf};
+ghost use Rattle.conflict_sets.specs.Conflicts.{AdmitsSome, IsConflict};
+ghost use Rattle.conflict_sets.specs.Searches.{SearchIs, walk_from};
+ghost use Rattle.conflict_sets.specs.Walks.{Stops, explained, explanation_seen, first_failed};
+
+use crate::conflict::{Conflict, ExplainFail};
+use crate::listing::{Listing, listed_names};
+use crate::searching::Search;
+use crate::trial::{Finding, trial};
+use exact_solver::{BookProgram, SolveStop};
+use row_book::RowBook;
+use row_core::RowName;
+use simplex_core::Stop;
+use std::alloc::Global;
+
+/// A few inequalities of a book that can't be met together, each of them needed for that, or `None` where some plan meets all rows.
+///
+/// The first trial has every equation and every inequality, at no cost. Where multipliers refute it, the inequalities with a multiplier
+/// other than 0 are the list; then each of it in turn, if it is still on it, is left out in a trial. Where the others have no plan, their
+/// refutation makes the new list; else the inequality is needed. Each trial may make so many pivots, its plan is checked over its own
+/// rows, and its multipliers over all rows. Members stand in the order of rows, and so do their plans, which have one value for each
+/// variable of the book.
+///
+/// `Stopped` comes exactly where a trial stops, with the first that does: `Budget` and `Width` where that is the first trial, and `Trial`
+/// with its number, counted from 1, where it is a later one. Any other refusal means that memory ran out.
+pub fn explain(
+    alloc: Global,
+    book: &RowBook,
+    program: &BookProgram,
+    pivots: u64,
+) -> Result<Option<Conflict>, ExplainFail>
+    requires { IsProgramOf book.now.rows book.now.vars program.now }
+    ensures end { IfOk result (λ found. explanation_seen found ≡ explained book.now.rows book.now.vars pivots) }
+    ensures stopped { IfErr result (Stops (explained book.now.rows book.now.vars pivots)) }
+    ensures conflict { IfOk result (λ found. IfSome found (IsConflict book.now.rows book.now.vars)) }
+    ensures feasible { IfOk result (λ found. IfNone found (AdmitsSome book.now.rows book.now.vars)) }
+{
+    let multipliers = match trial(alloc, book, program, &Listing::Every, pivots) {
+        Ok(Finding::Plan(_)) => return Ok(None),
+        Ok(Finding::Refutation(multipliers)) => multipliers,
+        Err(stop) => return Err(first_fail(stop, pivots)),
+    };
+    let names = listed_names(alloc, book.rows(), &multipliers)?;
+    let search = Search {
+        multipliers,
+        names: Vec::new(alloc),
+        plans: Vec::new(alloc),
+        trials: 0,
+    };
+    let conflict = searched(alloc, book, program, search, &names, pivots)?;
+    Ok(Some(conflict))
+}
+
+/// What is left of the list when each of these inequalities was tried.
+fn searched(
+    alloc: Global,
+    book: &RowBook,
+    program: &BookProgram,
+    search: Search,
+    names: &[RowName],
+    pivots: u64,
+) -> Result<Conflict, ExplainFail>
+    requires program { IsProgramOf book.now.rows book.now.vars program.now }
+    requires first { search.trials ≡ 0 }
+    requires even { length search.names.items ≡ length search.plans.items }
+    requires searched { SearchIs book.now.rows book.now.vars search names.now }
+    ensures end { IfOk result (λ conflict. explanation_seen (Some conflict) ≡ walk_from book.now.rows book.now.vars pivots search names.now) }
+    ensures stopped { IfErr result (Stops (walk_from book.now.rows book.now.vars pivots search names.now)) }
+    ensures conflict { IfOk result (IsConflict book.now.rows book.now.vars) }
+{
+    let mut search = search;
+    for name in names {
+        search.leave_out(alloc, book, program, *name, pivots)?;
+    }
+    Ok(search.conflict(alloc)?)
+}
+
+/// Why the first trial, which has every inequality, stopped.
+fn first_fail(stop: SolveStop, pivots: u64) -> ExplainFail
+    ensures { result ≡ first_failed pivots stop }
+{
+    match stop {
+        SolveStop::Budget => ExplainFail::Stopped(Stop::Budget(pivots)),
+        SolveStop::Width(place) => ExplainFail::Stopped(Stop::Width(place)),
+        SolveStop::Memory => ExplainFail::Memory,
+    }
+}

@@ -1,0 +1,13 @@
+//! Why no plan exists: a few inequalities of a book that can't be met together, each of them shown to be needed for that.
+#![tactic(auto)]
+
+mod conflict;
+mod copying;
+mod explaining;
+mod laws;
+mod listing;
+mod searching;
+mod trial;
+
+pub use conflict::{Conflict, ExplainFail};
+pub use explaining::explain;

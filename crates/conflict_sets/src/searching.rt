@@ -1,0 +1,110 @@
+//! The list of inequalities that a refutation uses, as one after another is tried.
+
+ghost use Rattle.std.specs.Prelude.{◌≡◌, ◌+◌, ◌<◌, ◌≤◌, ◌^◌, ◌∷◌, List, length, map, IfOk, IfErr, OnOk};
+ghost use Rattle.row_core.specs.declared.RowName.{RowName};
+ghost use Rattle.row_core.specs.Plans.{valued};
+ghost use Rattle.exact_solver.specs.BookPrograms.{IsProgramOf};
+ghost use Rattle.conflict_sets.specs.Searches.{SearchIs, member_named, walk_from};
+ghost use Rattle.conflict_sets.specs.Walks.{Stops, trial_failed};
+
+use crate::conflict::{Conflict, ExplainFail};
+use crate::listing::{Listing, is_listed};
+use crate::trial::{Finding, trial};
+use exact_num::Frac;
+use exact_solver::{BookProgram, SolveStop};
+use row_book::RowBook;
+use row_core::{Multipliers, Plan, RowName};
+use simplex_core::{Stop, TrialStop};
+use std::alloc::{AllocError, Global};
+
+/// What is known after some trials.
+#[derive(Debug, Drop)]
+pub(crate) struct Search {
+    /// The multipliers of the last refutation. The list is the inequalities with one other than 0.
+    pub multipliers: Multipliers,
+    /// The inequalities that were tried and are needed, in order.
+    pub names: Vec<RowName>,
+    /// For each of them the plan of the others on the list.
+    pub plans: Vec<Plan>,
+    /// The number of the last trial.
+    pub trials: u64,
+}
+
+impl Search {
+    /// Tries the list without this inequality, where it is still on it.
+    pub fn leave_out(
+        &mut self,
+        alloc: Global,
+        book: &RowBook,
+        program: &BookProgram,
+        name: RowName,
+        pivots: u64,
+    ) -> Result<(), ExplainFail>
+        requires program { IsProgramOf book.now.rows book.now.vars program.now }
+        requires counted { self.old.trials + 1 < 2 ^ 64 }
+        requires even { length self.old.names.items ≡ length self.old.plans.items }
+        ensures counted { OnOk result (self.new.trials ≤ self.old.trials + 1) }
+        ensures even { OnOk result (length self.new.names.items ≡ length self.new.plans.items) }
+        ensures walks { OnOk result ((left : List RowName) → walk_from book.now.rows book.now.vars pivots self.old (name ∷ left) ≡ walk_from book.now.rows book.now.vars pivots self.new left) }
+        ensures stopped { IfErr result (λ fail. (left : List RowName) → Stops (walk_from book.now.rows book.now.vars pivots self.old (name ∷ left)) fail) }
+        ensures searched { OnOk result ((left : List RowName) → SearchIs book.now.rows book.now.vars self.old (name ∷ left) → SearchIs book.now.rows book.now.vars self.new left) }
+    {
+        if !is_listed(&self.multipliers, name) {
+            return Ok(());
+        }
+        self.trials += 1;
+        let listing = Listing::Others(&self.multipliers, name);
+        match trial(alloc, book, program, &listing, pivots) {
+            Ok(Finding::Plan(plan)) => {
+                self.names.push(name)?;
+                self.plans.push(plan)?;
+                Ok(())
+            }
+            Ok(Finding::Refutation(multipliers)) => {
+                self.multipliers = multipliers;
+                Ok(())
+            }
+            Err(stop) => Err(trial_fail(stop, self.trials, pivots)),
+        }
+    }
+
+    /// The inequalities that are needed, each with its multiplier and its plan.
+    pub fn conflict(self, alloc: Global) -> Result<Conflict, AllocError>
+        ensures members { IfOk result (λ conflict. map valued conflict.members.items ≡ map (member_named self.multipliers) self.names.items) }
+        ensures plans { IfOk result (λ conflict. conflict.plans.items ≡ self.plans.items) }
+    {
+        let members = members_of(alloc, &self.names, &self.multipliers)?;
+        Ok(Conflict {
+            members,
+            plans: self.plans,
+        })
+    }
+}
+
+/// Each name with its multiplier.
+fn members_of(
+    alloc: Global,
+    names: &[RowName],
+    multipliers: &Multipliers,
+) -> Result<Vec<(RowName, Frac)>, AllocError>
+    ensures { IfOk result (λ members. map valued members.items ≡ map (member_named multipliers.now) names.now) }
+{
+    let mut members = Vec::with_capacity(alloc, names.len())?;
+    for name in names {
+        members.push((*name, multipliers.value(*name)))?;
+    }
+    Ok(members)
+}
+
+/// Why the trial of this number stopped.
+fn trial_fail(stop: SolveStop, trial: u64, pivots: u64) -> ExplainFail
+    ensures { result ≡ trial_failed trial pivots stop }
+{
+    match stop {
+        SolveStop::Budget => ExplainFail::Stopped(Stop::Trial(trial, TrialStop::Budget(pivots))),
+        SolveStop::Width(place) => {
+            ExplainFail::Stopped(Stop::Trial(trial, TrialStop::Width(place)))
+        }
+        SolveStop::Memory => ExplainFail::Memory,
+    }
+}

@@ -1,0 +1,83 @@
+-- Whether all conditions of a check hold and every number that is formed for them fits, as a test; and three such checks one after another.
+use Rattle.std.proofs.Common.{◌≡◌, ℕ, Bool, true, false, List, [], ◌∷◌, Option, Some, None, ap, ap₂, sym, ◌∙◌, refl, if◌then◌else◌}
+use Rattle.std.specs.Prelude.{◌&&◌, is_none}
+use Rattle.exact_num.specs.Rational.{Rational}
+use Rattle.exact_num.specs.Steps.{first_wide}
+use Rattle.row_core.specs.declared.Row.{Row}
+use Rattle.row_core.specs.declared.RowName.{RowName}
+use Rattle.row_core.specs.declared.Var.{Var}
+use Rattle.row_core.specs.declared.place.Place.{Place}
+use Rattle.certificate_checker.specs.Conditions.{AllPass, Condition, FailsFor, first_failing, steps}
+use Rattle.certificate_checker.specs.Costs.{model_cost}
+use Rattle.certificate_checker.specs.Gaps.{gap_condition}
+use Rattle.certificate_checker.specs.MultiplierChecks.{bound_conditions}
+use Rattle.certificate_checker.specs.PlanChecks.{plan_conditions}
+use Rattle.certificate_checker.specs.Reasons.{Reason}
+use Rattle.exact_solver.specs.MethodEnds.{multiplier_bound, plan_cost}
+use Rattle.decimal_solver.specs.declared.stops.Stop.{Stop}
+use Rattle.decimal_solver.specs.declared.stops.Stop.TheVariants.{Nothing, Memory}
+use Rattle.decimal_solver.specs.Attempts.{Attempt, checked, passes}
+use Rattle.decimal_solver.specs.Views.{IsNothing, IsRefused}
+
+and_false : (b : Bool) → (b && false) ≡ false
+and_false true = refl
+and_false false = refl
+
+pub passes-yes : (cs : List Condition) → AllPass cs → passes cs ≡ true
+passes-yes cs h = ap₂ (λ a b. is_none a && is_none b) h.fit h.hold
+
+pub passes-no : (cs : List Condition) (reason : Reason) → FailsFor cs reason → passes cs ≡ false
+passes-no cs reason h = ap (λ b. is_none (first_wide (steps cs)) && is_none b) h.fails ∙ and_false (is_none (first_wide (steps cs)))
+
+pub passes-wide : (cs : List Condition) (place : Place) → first_wide (steps cs) ≡ Some place → passes cs ≡ false
+passes-wide cs place h = ap (λ a. is_none a && is_none (first_failing cs)) h
+
+-- ---- three checks one after another
+
+module _ {A : Type 0} where
+  abbrev all_of : Bool → Bool → Bool → Option A → Option A
+  all_of a b c x = if a && (b && c) then x else None
+
+  no_first : (a b c : Bool) (x : Option A) → a ≡ false → all_of a b c x ≡ None
+  no_first a b c x h = ap (λ a. all_of a b c x) h
+
+  no_second : (a b c : Bool) (x : Option A) → b ≡ false → all_of a b c x ≡ None
+  no_second a b c x h = ap (λ b. all_of a b c x) h ∙ ap (λ t. if t then x else None) (and_false a)
+
+  no_third : (a b c : Bool) (x : Option A) → c ≡ false → all_of a b c x ≡ None
+  no_third a b c x h = ap (λ c. all_of a b c x) h ∙ ap (λ t. if a && t then x else None) (and_false b) ∙ ap (λ t. if t then x else None) (and_false a)
+
+  yes_all : (a b c : Bool) (x : Option A) → a ≡ true → b ≡ true → c ≡ true → all_of a b c x ≡ x
+  yes_all a b c x f g h = ap (λ a. all_of a b c x) f ∙ ap (λ b. all_of true b c x) g ∙ ap (λ c. all_of true true c x) h
+
+module _ (rows : List Row) (vars : List Var) (ppm : ℕ) (plan : List (Var × Rational)) (multipliers : List (RowName × Rational)) (pivots : ℕ) where
+  abbrev plan_passes : Bool
+  plan_passes = passes (plan_conditions model_cost rows vars plan)
+
+  abbrev bound_passes : Bool
+  bound_passes = passes (bound_conditions model_cost rows vars multipliers)
+
+  abbrev gap_passes : Rational → Rational → Bool
+  gap_passes cost bound = passes (gap_condition cost bound ppm ∷ [])
+
+  abbrev given : Option Attempt
+  given = Some (record { plan = plan; multipliers = multipliers; cost = plan_cost vars plan; bound = multiplier_bound rows multipliers; pivots = pivots })
+
+  pub no_plan : (stop : Stop) → IsRefused plan_passes stop → IsNothing (checked rows vars ppm plan multipliers pivots) stop
+  no_plan Nothing h = no_first plan_passes bound_passes (gap_passes (plan_cost vars plan) (multiplier_bound rows multipliers)) given h
+  no_plan Memory h = tt
+
+  pub no_bound : (stop : Stop) → IsRefused bound_passes stop → IsNothing (checked rows vars ppm plan multipliers pivots) stop
+  no_bound Nothing h = no_second plan_passes bound_passes (gap_passes (plan_cost vars plan) (multiplier_bound rows multipliers)) given h
+  no_bound Memory h = tt
+
+  pub no_gap : (cost bound : Rational) → cost ≡ plan_cost vars plan → bound ≡ multiplier_bound rows multipliers → (stop : Stop) → IsRefused (gap_passes cost bound) stop → IsNothing (checked rows vars ppm plan multipliers pivots) stop
+  no_gap cost bound e f Nothing h =
+      no_third plan_passes bound_passes (gap_passes (plan_cost vars plan) (multiplier_bound rows multipliers)) given (sym (ap₂ gap_passes e f) ∙ h)
+  no_gap cost bound e f Memory h = tt
+
+  pub all_yes : (cost bound : Rational) → cost ≡ plan_cost vars plan → bound ≡ multiplier_bound rows multipliers → plan_passes ≡ true → bound_passes ≡ true → gap_passes cost bound ≡ true
+      → checked rows vars ppm plan multipliers pivots ≡ Some (record { plan = plan; multipliers = multipliers; cost = cost; bound = bound; pivots = pivots })
+  all_yes cost bound e f p b g =
+      yes_all plan_passes bound_passes (gap_passes (plan_cost vars plan) (multiplier_bound rows multipliers)) given p b (sym (ap₂ gap_passes e f) ∙ g)
+      ∙ ap₂ {C = Option Attempt} (λ c d. Some (record { plan = plan; multipliers = multipliers; cost = c; bound = d; pivots = pivots })) (sym e) (sym f)

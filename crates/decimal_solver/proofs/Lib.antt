@@ -1,0 +1,12 @@
+pub mod Nothing
+pub mod LineLaws
+pub mod MergeLaws
+pub mod ChoiceLaws
+pub mod RowLaws
+pub mod RunLaws
+pub mod StartLaws
+pub mod EndLaws
+pub mod CheckLaws
+pub mod Examples
+pub mod CarryLaws
+pub mod AttemptLaws

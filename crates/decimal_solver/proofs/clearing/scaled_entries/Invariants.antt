@@ -1,0 +1,9 @@
+-- The entries so far, and those that are left.
+use Rattle.std.proofs.Common.{◌≡◌, [], drop}
+use Rattle.decimal_solver.specs.Lines.{scaled_entries}
+use Rattle.decimal_solver.specs.Views.{entries_seen}
+use Rattle.decimal_solver.proofs.clearing.scaled_entries.Given as goal
+
+abbrev pub invariant-loop-entry : goal.invariant-loop-entry
+invariant-loop-entry l =
+    scaled_entries l.f l.d l.limit [] (entries_seen l.entries) ≡ scaled_entries l.f l.d l.limit (entries_seen l.made.items) (entries_seen (drop l.entry-index l.entries))

@@ -1,0 +1,11 @@
+-- The places so far, and those of the variables that are left.
+use Rattle.std.proofs.Common.{◌≡◌, ◌+◌, ◌++◌, drop}
+use Rattle.written_method.specs.FirstTableau.{width_of}
+use Rattle.int_tableau.specs.Starts.{placed}
+use Rattle.decimal_solver.proofs.starting.layout_of.Given as goal
+
+abbrev pub invariant-loop-variable : goal.invariant-loop-variable
+invariant-loop-variable l = record {
+  places : placed 0 l.variables ≡ l.places.items ++ placed l.width (drop l.variable-index l.variables);
+  width : width_of l.variables ≡ l.width + width_of (drop l.variable-index l.variables);
+}

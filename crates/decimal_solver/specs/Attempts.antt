@@ -1,0 +1,62 @@
+-- How the attempt ends over all rows: its values and multipliers carried back to them, and the checker's yes.
+use Rattle.std.specs.Prelude.{ℕ, ◌&&◌, pos, Bool, true, List, [], ◌∷◌, replicate, Option, Some, None, is_none, if◌then◌else◌}
+use Rattle.exact_num.specs.Rational.{Rational, whole}
+use Rattle.exact_num.specs.Steps.{first_wide}
+use Rattle.row_core.specs.declared.Row.{Row}
+use Rattle.row_core.specs.declared.RowName.{RowName}
+use Rattle.row_core.specs.declared.Var.{Var}
+use Rattle.written_method.specs.Programs.{LinearProgram}
+use Rattle.certificate_checker.specs.Conditions.{Condition, first_failing, steps}
+use Rattle.certificate_checker.specs.Costs.{model_cost}
+use Rattle.certificate_checker.specs.Gaps.{gap_condition}
+use Rattle.certificate_checker.specs.MultiplierChecks.{bound_conditions}
+use Rattle.certificate_checker.specs.PlanChecks.{plan_conditions}
+use Rattle.exact_solver.specs.MethodEnds.{multiplier_bound, plan_cost}
+use Rattle.exact_solver.specs.Programs.{carried_multipliers, carried_plan, carrying_steps, plan_steps, program_left}
+use Rattle.decimal_solver.specs.Ends.{column_values, row_multipliers, spread, variable_values}
+use Rattle.decimal_solver.specs.Numbers.{and_then}
+use Rattle.decimal_solver.specs.Rounds.{run}
+use Rattle.decimal_solver.specs.Starts.{first_state}
+use Rattle.decimal_solver.specs.States.{State}
+
+pub record Attempt : Type 0 where
+  pub plan : List (Var × Rational)
+  pub multipliers : List (RowName × Rational)
+  pub cost : Rational
+  pub bound : Rational
+  pub pivots : ℕ
+
+-- all conditions of a check hold, and every number that is formed for them fits
+abbrev pub passes : List Condition → Bool
+passes conditions = is_none (first_wide (steps conditions)) && is_none (first_failing conditions)
+
+-- the plan and the multipliers, where the checker says yes to the plan, to the bound, and to the gap between them
+abbrev pub checked : List Row → List Var → ℕ → List (Var × Rational) → List (RowName × Rational) → ℕ → Option Attempt
+checked rows vars ppm plan multipliers pivots =
+    if passes (plan_conditions model_cost rows vars plan)
+    && (passes (bound_conditions model_cost rows vars multipliers)
+    && passes (gap_condition (plan_cost vars plan) (multiplier_bound rows multipliers) ppm ∷ []))
+    then Some (record { plan = plan; multipliers = multipliers; cost = plan_cost vars plan; bound = multiplier_bound rows multipliers; pivots = pivots })
+    else None
+
+-- values and multipliers of the linear program, carried back to all rows
+abbrev pub carried : List Row → List Var → ℕ → List (Var × Rational) → List Rational → ℕ → Option Attempt
+carried rows vars ppm values lambda pivots =
+    if is_none (first_wide (plan_steps rows values)) && is_none (first_wide (carrying_steps true rows lambda))
+    then checked rows vars ppm (carried_plan rows values) (carried_multipliers true rows lambda) pivots
+    else None
+
+-- the last state's values and multipliers
+abbrev pub state_end : List Row → List Var → ℕ → LinearProgram → State → Option Attempt
+state_end rows vars ppm p s =
+    and_then (variable_values (column_values (replicate s.columns (whole (pos 0))) s.rows) 0 [] p.columns)
+    (λ values. and_then (row_multipliers (spread (replicate s.columns (pos 0)) s.cost.entries) s.slack [] s.rows)
+    (λ lambda. carried rows vars ppm values lambda s.pivots))
+
+-- the attempt on a linear program that is left of rows
+abbrev pub program_end : List Row → List Var → ℕ → ℕ → LinearProgram → Option Attempt
+program_end rows vars ppm pivots p = and_then (first_state p) (λ first. and_then (run pivots first) (λ last. state_end rows vars ppm p last))
+
+-- the attempt on rows and their variables: to within so many millionths of the bound, with so many pivots at most
+unfoldable pub grid_end : List Row → List Var → ℕ → ℕ → Option Attempt
+grid_end rows vars ppm pivots = program_end rows vars ppm pivots (program_left rows vars)

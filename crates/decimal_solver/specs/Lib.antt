@@ -1,0 +1,10 @@
+pub mod Numbers
+pub mod Lines
+pub mod States
+pub mod Rounds
+pub mod Starts
+pub mod Ends
+pub mod Views
+pub mod Stops
+pub mod Attempts
+pub mod Answers

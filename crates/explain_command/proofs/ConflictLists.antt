@@ -1,0 +1,56 @@
+-- The members of a conflict of a book are rows of the sets, and each of its plans has a value for each variable of the book.
+use Rattle.std.proofs.Common.{◌≡◌, ℕ, suc, List, [], ◌∷◌, length, inl, inr, refl, ap, subst}
+use Rattle.std.specs.Prelude.{Contains}
+use Rattle.std.specs.List.{AllByRecursion}
+use Rattle.exact_num.specs.Rational.{Rational}
+use Rattle.exact_num.specs.declared.fraction.Frac.{Frac}
+use Rattle.model_sets.specs.Members.{SetLists}
+use Rattle.row_core.specs.declared.Row.{Row}
+use Rattle.row_core.specs.declared.RowName.{RowName}
+use Rattle.row_core.specs.declared.Var.{Var}
+use Rattle.row_core.specs.Kinds.{IsKind}
+use Rattle.row_core.specs.NameTexts.{VariableIsWithin}
+use Rattle.row_core.specs.Numbers.{keys_of}
+use Rattle.named_equations.proofs.InstanceTests.{Contains-from_Has, Has, Has-from_Contains}
+use Rattle.row_book.proofs.Lists.{all-has}
+use Rattle.row_book.specs.Books.{HasNameWithin}
+use Rattle.command_answers.specs.CheckedPlans.{IsListedBook}
+use Rattle.command_answers.specs.PlacesWithin.{IsRowOfSets}
+use Rattle.command_answers.proofs.ListedBooks.{rows-named}
+use Rattle.solve_command.proofs.BookPlaces.{plan-named}
+use Rattle.conflict_sets.specs.Conflicts.{AreNeeded, IsConflict, inequalities}
+use Rattle.conflict_sets.specs.declared.conflict.Conflict.{Conflict}
+use Rattle.conflict_sets.proofs.RowLists.{inequality-row}
+
+module _ (rows : List Row) (vars : List Var) where
+  even : (names : List RowName) (members : List (RowName × Frac)) (plans : List (List (Var × Rational))) → AreNeeded rows vars names members plans → length members ≡ length plans
+  even names [] [] h = refl
+  even names [] (plan ∷ plans) h = absurd h
+  even names (member ∷ members) [] h = absurd h
+  even names (member ∷ members) (plan ∷ plans) h = ap suc (even names members plans h.1)
+
+  pub as-many : (conflict : Conflict) → IsConflict rows vars conflict → length conflict.members.items ≡ length conflict.plans.items
+  as-many conflict is = even (keys_of conflict.members.items) conflict.members.items conflict.plans.items is.needed
+
+module _ (sets : SetLists) (rows : List Row) (vars : List Var) (listed : IsListedBook sets rows vars) where
+  row-listed : (name : RowName) → Has (inequalities rows) name → IsRowOfSets sets name
+  row-listed name h = let row = inequality-row rows name h in subst (IsRowOfSets sets) row.3 (all-has (HasNameWithin sets) rows row.0 (rows-named sets rows vars listed) row.1)
+
+  each-listed : (members : List (RowName × Frac)) → ((name : RowName) → Has (keys_of members) name → IsRowOfSets sets name) → AllByRecursion (λ (e : RowName × Frac). IsRowOfSets sets e.0) members
+  each-listed [] each = tt
+  each-listed (member ∷ members) each = (each member.0 (inl refl), each-listed members (λ name h. each name (inr h)))
+
+  pub members-listed : (conflict : Conflict) → IsConflict rows vars conflict → AllByRecursion (λ (e : RowName × Frac). IsRowOfSets sets e.0) conflict.members.items
+  members-listed conflict is =
+      each-listed conflict.members.items
+      (λ name h. row-listed name (Has-from_Contains (inequalities rows) name (is.among name (Contains-from_Has (keys_of conflict.members.items) name h))))
+
+  each-whole : (names : List RowName) (members : List (RowName × Frac)) (plans : List (List (Var × Rational))) → AreNeeded rows vars names members plans
+      → AllByRecursion (AllByRecursion (λ (e : Var × Rational). IsKind e.0.kind × VariableIsWithin sets e.0)) plans
+  each-whole names [] [] h = tt
+  each-whole names [] (plan ∷ plans) h = absurd h
+  each-whole names (member ∷ members) [] h = tt
+  each-whole names (member ∷ members) (plan ∷ plans) h = (plan-named sets rows vars listed plan h.0.whole, each-whole names members plans h.1)
+
+  pub plans-listed : (conflict : Conflict) → IsConflict rows vars conflict → AllByRecursion (AllByRecursion (λ (e : Var × Rational). IsKind e.0.kind × VariableIsWithin sets e.0)) conflict.plans.items
+  plans-listed conflict is = each-whole (keys_of conflict.members.items) conflict.members.items conflict.plans.items is.needed

@@ -1,0 +1,80 @@
+-- A conflict of the rows of a book is one of the named equations.
+use Rattle.std.proofs.Common.{◌≡◌, ℕ, ℤ, Bool, true, false, List, [], ◌∷◌, inl, inr, map, refl, sym, ap, ◌∙◌, subst}
+use Rattle.std.specs.Prelude.{Option, Some, None, Contains}
+use Rattle.exact_num.specs.Rational.{Rational}
+use Rattle.exact_num.specs.declared.fraction.Frac.{Frac}
+use Rattle.model_sets.specs.Data.{Data}
+use Rattle.row_core.specs.declared.Row.{Row}
+use Rattle.row_core.specs.declared.RowName.{RowName}
+use Rattle.row_core.specs.declared.Var.{Var}
+use Rattle.row_core.specs.Numbers.{keys_of}
+use Rattle.row_core.specs.Plans.{valued}
+use Rattle.named_equations.specs.Instances.{instances, variable_of}
+use Rattle.named_equations.proofs.InstanceTests.{Contains-from_Has, Has, Has-from_Contains}
+use Rattle.row_book.specs.Books.{AreRowsOf}
+use Rattle.row_book.specs.Kept.{IsBook}
+use Rattle.exact_solver.specs.Sizes.{is_unequal}
+use Rattle.exact_solver.proofs.BookLaws.{placed}
+use Rattle.command_answers.specs.CheckedPlans.{IsBookOf}
+use Rattle.command_answers.proofs.CheckedRows.{feasible-from_rows as feasible-from_all, vars-are}
+use Rattle.conflict_sets.specs.Conflicts.{AdmitsSome, AreNeeded, IsConflict, inequalities, is_member}
+use Rattle.conflict_sets.specs.declared.conflict.Conflict.{Conflict}
+use Rattle.conflict_sets.proofs.RowLists.{inequality-row}
+use Rattle.explain_command.specs.NamedConflicts.{HavePlans, IsNamedConflict, SomeIsFeasible}
+use Rattle.explain_command.proofs.NamedRows.{feasible-from_rows, rows-from_feasible}
+
+pub keys-valued : (es : List (RowName × Frac)) → keys_of (map valued es) ≡ keys_of es
+keys-valued [] = refl
+keys-valued (e ∷ es) = ap {B = List RowName} (λ ks. e.0 ∷ ks) (keys-valued es)
+
+-- a row's name is that of its instance
+row-named : (places : ℕ) (d : Data) (names : List RowName) (rows : List Row) (row : Row) → AreRowsOf places d names rows → Has rows row → Has names row.name
+row-named places d [] [] row are h = absurd h
+row-named places d [] (r ∷ rows) row are h = absurd are
+row-named places d (name ∷ names) [] row are h = absurd h
+row-named places d (name ∷ names) (r ∷ rows) row are (inl e) = inl (sym are.0.written.named ∙ ap (λ (t : Row). t.name) e)
+row-named places d (name ∷ names) (r ∷ rows) row are (inr h) = inr (row-named places d names rows row are.1 h)
+
+module _ (places : ℕ) (d : Data) (rows : List Row) (vars : List Var) (kept : IsBook rows vars) (book : IsBookOf places d rows vars) where
+  -- an inequality is an instance that defines nothing
+  instance-of : (u : RowName) → Has (inequalities rows) u → Contains (instances d) u × (variable_of u ≡ None)
+  instance-of u h =
+      let row = inequality-row rows u h in (
+        Contains-from_Has (instances d) u (subst (Has (instances d)) row.3 (row-named places d (instances d) rows row.0 book.are_rows row.1)),
+        ap variable_of (sym row.3) ∙ nothing row.0 row.1 row.2,
+      )
+    where
+      nothing : (row : Row) → Has rows row → is_unequal row.sense ≡ true → variable_of row.name ≡ None
+      nothing row there unequal = cases (variable_of row.name) refl
+        where
+          cases : (o : Option Var) → variable_of row.name ≡ o → o ≡ None
+          cases None is = refl
+          cases (Some v) is =
+              let at = placed rows row there in
+              let equal : is_unequal row.sense ≡ false = ap is_unequal (kept.definitions.solvable at.place row v at.at is).0 in
+              absurd (cc (unequal, equal))
+
+  have-plans : (names : List RowName) (members : List (RowName × Frac)) (plans : List (List (Var × Rational))) → AreNeeded rows vars names members plans → HavePlans names places d (keys_of members) plans
+  have-plans names [] [] h = tt
+  have-plans names [] (plan ∷ plans) h = absurd h
+  have-plans names (member ∷ members) [] h = absurd h
+  have-plans names (member ∷ members) (plan ∷ plans) h = (
+    record {
+      whole = h.0.whole ∙ vars-are places d rows vars book;
+      some = h.0.some;
+      feasible = λ q x are. feasible-from_rows _ places d rows vars kept book q x (h.0.meets q x are);
+    },
+    have-plans names members plans h.1,
+  )
+
+  pub named-conflict : (conflict : Conflict) → IsConflict rows vars conflict → IsNamedConflict places d (keys_of (map valued conflict.members.items)) conflict.plans.items
+  named-conflict conflict c =
+      subst (λ (ns : List RowName). IsNamedConflict places d ns conflict.plans.items) (sym (keys-valued conflict.members.items))
+      (record {
+        instance = λ u h. instance-of u (Has-from_Contains (inequalities rows) u (c.among u h));
+        none = λ q x feasible. c.refuted.none q x (rows-from_feasible (is_member (keys_of conflict.members.items)) places d rows vars kept book q x feasible);
+        needed = have-plans (keys_of conflict.members.items) conflict.members.items conflict.plans.items c.needed;
+      })
+
+  pub some-feasible : AdmitsSome rows vars → SomeIsFeasible places d
+  some-feasible some = record { over = some.over; plan = some.plan; feasible = feasible-from_all places d rows vars book some.over some.plan some.meets }

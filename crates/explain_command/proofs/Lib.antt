@@ -1,0 +1,7 @@
+mod NamedRows
+mod ConflictNames
+mod ConflictLists
+mod TrialPlaces
+mod SameExplains
+mod TextLaws
+mod ExplainEnds

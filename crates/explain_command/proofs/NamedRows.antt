@@ -1,0 +1,136 @@
+-- The rows of a trial of a book hold of a plan exactly where it meets the definitions and the inequalities that are listed.
+use Rattle.std.proofs.Common.{◌≡◌, ℕ, ◌<◌, ℤ, pos, ◌*ℤ◌, Bool, true, false, not, ◌||◌, List, [], ◌∷◌, inl, inr, map, filter, refl, sym, ap, ap₂, ◌∙◌, subst, if◌then◌else◌}
+use Rattle.std.specs.Prelude.{Option, Some, None, is_some, Contains}
+use Rattle.model_sets.specs.Data.{Data}
+use Rattle.row_core.specs.declared.Row.{Row}
+use Rattle.row_core.specs.declared.RowName.{RowName}
+use Rattle.row_core.specs.declared.Sense.{Sense}
+use Rattle.row_core.specs.declared.Sense.TheVariants.{Least, Equal, Most}
+use Rattle.row_core.specs.declared.Var.{Var}
+use Rattle.row_core.specs.Kinds.{kind_is_free}
+use Rattle.row_core.specs.Rows.{RowHolds, row_sum}
+use Rattle.row_core.specs.Statements.{Stands}
+use Rattle.named_equations.specs.Existence.{exists}
+use Rattle.named_equations.specs.Instances.{instances, variable_of}
+use Rattle.named_equations.specs.Plans.{Meets}
+use Rattle.named_equations.proofs.InstanceTests.{Contains-from_Has, Has, Has-from_Contains}
+use Rattle.row_book.specs.Books.{AreRowsOf}
+use Rattle.row_book.specs.Definitions.{IsRepeatedIn}
+use Rattle.row_book.specs.Kept.{IsBook}
+use Rattle.certificate_checker.specs.Plans.{AllStand, HaveRightSigns, MeetsAll}
+use Rattle.exact_solver.specs.Sizes.{is_unequal}
+use Rattle.exact_solver.proofs.BookLaws.{placed}
+use Rattle.command_answers.specs.CheckedPlans.{IsBookOf}
+use Rattle.command_answers.proofs.CheckedRows.{sign-at, signs-each}
+use Rattle.conflict_sets.specs.Pieces.{is_taken}
+use Rattle.conflict_sets.specs.Trials.{rows_with}
+use Rattle.explain_command.specs.NamedConflicts.{FeasibleWith, MeetsAsked, is_asked}
+
+abbrev right_of : ℕ → Row → ℤ
+right_of q row = row.rhs *ℤ pos q
+
+-- ---- what is taken is asked for, and what is asked for is taken
+
+some-is : {A : Type 0} (o : Option A) → is_some o ≡ true → (x : A) × (o ≡ Some x)
+some-is None h = absurd (cc h)
+some-is (Some x) h = (x, refl)
+
+asked-taken : (listed : RowName → Bool) (rows : List Row) (vars : List Var) → IsBook rows vars → (row : Row) → Has rows row → is_asked listed row.name ≡ true → is_taken listed row ≡ true
+asked-taken listed rows vars book row there asked = cases (is_some (variable_of row.name)) refl asked
+  where
+    cases : (t : Bool) → is_some (variable_of row.name) ≡ t → (t || listed row.name) ≡ true → (not (is_unequal row.sense) || listed row.name) ≡ true
+    cases true is k =
+        let v = some-is (variable_of row.name) is in
+        let at = placed rows row there in
+        let equal = (book.definitions.solvable at.place row v.0 at.at v.1).0 in
+        ap (λ s. not (is_unequal s) || listed row.name) equal
+    cases false is k = either (not (is_unequal row.sense)) k
+      where
+        either : (b : Bool) → listed row.name ≡ true → (b || listed row.name) ≡ true
+        either true h = refl
+        either false h = h
+
+-- ---- from rows to equations
+
+meets-asked : (listed : RowName → Bool) (places : ℕ) (d : Data) (q : ℕ) (x : Var → ℤ) (names : List RowName) (rows : List Row) → ((row : Row) → Has rows row → is_asked listed row.name ≡ true → is_taken listed row ≡ true)
+    → AreRowsOf places d names rows → AllStand (right_of q) (rows_with listed rows) x → MeetsAsked listed places d q x names
+meets-asked listed places d q x [] [] takes are stand = tt
+meets-asked listed places d q x [] (row ∷ rows) takes are stand = absurd are
+meets-asked listed places d q x (name ∷ names) [] takes are stand = absurd are
+meets-asked listed places d q x (name ∷ names) (row ∷ rows) takes are stand = cases (is_taken listed row) refl stand (λ k. meets-asked listed places d q x names rows (λ r h. takes r (inr h)) are.1 k)
+  where
+    cases : (t : Bool) → is_taken listed row ≡ t → AllStand (right_of q) (if t then (row ∷ rows_with listed rows) else rows_with listed rows) x → (AllStand (right_of q) (rows_with listed rows) x → MeetsAsked listed places d q x names)
+        → (is_asked listed name ≡ true → Meets places d q x name) × MeetsAsked listed places d q x names
+    cases true is stand rest = (λ asked. (are.0.says q x).0 stand.0, rest stand.1)
+    cases false is stand rest = (
+      λ asked. let taken : is_taken listed row ≡ true = takes row (inl refl) (ap (is_asked listed) are.0.written.named ∙ asked) in absurd (cc (is, taken)),
+      rest stand,
+    )
+
+pub feasible-from_rows : (listed : RowName → Bool) (places : ℕ) (d : Data) (rows : List Row) (vars : List Var) → IsBook rows vars → IsBookOf places d rows vars → (q : ℕ) (x : Var → ℤ) → MeetsAll (rows_with listed rows) vars q x → FeasibleWith listed places d q x
+feasible-from_rows listed places d rows vars kept book q x meets = record {
+  positive = meets.positive;
+  equations = meets-asked listed places d q x (instances d) rows (asked-taken listed rows vars kept) book.are_rows meets.rows_hold;
+  signs = λ v there fixed. sign-at vars x v meets.signs (Has-from_Contains vars v (book.whole v there)) fixed;
+}
+
+-- ---- from equations to rows
+
+-- each row whose name is asked for holds
+asked-hold : (listed : RowName → Bool) (places : ℕ) (d : Data) (q : ℕ) (x : Var → ℤ) (names : List RowName) (rows : List Row) → AreRowsOf places d names rows → MeetsAsked listed places d q x names → (row : Row) → Has rows row → is_asked listed row.name ≡ true → RowHolds row q x
+asked-hold listed places d q x [] [] are meets row h asked = absurd h
+asked-hold listed places d q x [] (r ∷ rows) are meets row h asked = absurd are
+asked-hold listed places d q x (name ∷ names) [] are meets row h asked = absurd h
+asked-hold listed places d q x (name ∷ names) (r ∷ rows) are meets row (inl e) asked =
+    subst (λ (t : Row). RowHolds t q x) e ((are.0.says q x).1 (meets.0 (ap (is_asked listed) (sym are.0.written.named ∙ ap (λ (t : Row). t.name) e) ∙ asked)))
+asked-hold listed places d q x (name ∷ names) (r ∷ rows) are meets row (inr h) asked = asked-hold listed places d q x names rows are.1 meets.1 row h asked
+
+equal-sense : (s : Sense) → is_unequal s ≡ false → s ≡ Equal
+equal-sense Least h = absurd (cc h)
+equal-sense Equal h = refl
+equal-sense Most h = absurd (cc h)
+
+module _ (listed : RowName → Bool) (places : ℕ) (d : Data) (rows : List Row) (vars : List Var) (kept : IsBook rows vars) (book : IsBookOf places d rows vars) (q : ℕ) (x : Var → ℤ) (meets : FeasibleWith listed places d q x) where
+  holds : (row : Row) → Has rows row → is_asked listed row.name ≡ true → RowHolds row q x
+  holds row h asked = asked-hold listed places d q x (instances d) rows book.are_rows meets.equations row h asked
+
+  -- an equation that defines nothing says what a definition says
+  repeated-holds : (row : Row) → Has rows row → row.sense ≡ Equal → IsRepeatedIn rows row → RowHolds row q x
+  repeated-holds row h equal r =
+      let there = Has-from_Contains rows r.other r.among in
+      let at = placed rows r.other there in
+      let other_equal = (kept.definitions.solvable at.place r.other r.variable at.at r.defines).0 in
+      let asked : is_asked listed r.other.name ≡ true = ap (λ o. is_some o || listed r.other.name) r.defines in
+      let stands : Stands Equal (row_sum x r.other.entries.items) (r.other.rhs *ℤ pos q) = subst (λ s. Stands s (row_sum x r.other.entries.items) (r.other.rhs *ℤ pos q)) other_equal (holds r.other there asked) in
+      subst (λ s. Stands s (row_sum x row.entries.items) (row.rhs *ℤ pos q)) (sym equal)
+      (ap (λ (es : List (Var × ℤ)). row_sum x es) (sym r.entries) ∙ stands ∙ ap (λ z. z *ℤ pos q) r.right_side)
+
+  taken-holds : (row : Row) → Has rows row → is_taken listed row ≡ true → RowHolds row q x
+  taken-holds row h taken = by_sense (is_unequal row.sense) refl taken
+    where
+      by_variable : (o : Option Var) → variable_of row.name ≡ o → row.sense ≡ Equal → RowHolds row q x
+      by_variable None is equal = let at = placed rows row h in repeated-holds row h equal (kept.definitions.repeated at.place row at.at equal is)
+      by_variable (Some v) is equal = holds row h (ap (λ o. is_some o || listed row.name) is)
+
+      or_true : (b : Bool) → (b || true) ≡ true
+      or_true true = refl
+      or_true false = refl
+
+      by_sense : (t : Bool) → is_unequal row.sense ≡ t → (not t || listed row.name) ≡ true → RowHolds row q x
+      by_sense true is k = holds row h (ap (λ t. is_some (variable_of row.name) || t) k ∙ or_true (is_some (variable_of row.name)))
+      by_sense false is k = by_variable (variable_of row.name) refl (equal-sense row.sense is)
+
+  all-stand : (some : List Row) → ((row : Row) → Has some row → Has rows row) → AllStand (right_of q) (rows_with listed some) x
+  all-stand [] among = tt
+  all-stand (row ∷ some) among = cases (is_taken listed row) refl (all-stand some (λ r h. among r (inr h)))
+    where
+      cases : (t : Bool) → is_taken listed row ≡ t → AllStand (right_of q) (rows_with listed some) x → AllStand (right_of q) (if t then (row ∷ rows_with listed some) else rows_with listed some) x
+      cases true is rest = (taken-holds row (among row (inl refl)) is, rest)
+      cases false is rest = rest
+
+  pub rows-from_feasible : MeetsAll (rows_with listed rows) vars q x
+  rows-from_feasible = record {
+    positive = meets.positive;
+    rows_hold = all-stand rows (λ row h. h);
+    signs = signs-each vars x (λ v there fixed. meets.signs v (book.exist v (Contains-from_Has vars v there)) fixed);
+  }

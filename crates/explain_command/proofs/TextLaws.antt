@@ -1,0 +1,42 @@
+-- Lines one after another.
+use Rattle.std.proofs.Common.{◌≡◌, ℕ, zero, suc, ◌+◌, ◌<◌, List, [], ◌∷◌, ◌++◌, length, map, drop, get_or, refl, sym, ap, ◌∙◌, append_assoc, arith}
+use Rattle.std.specs.List.{AllByRecursion, flat_map}
+use Rattle.std.proofs.lemmas.List.{drop_more}
+use Rattle.exact_num.specs.Rational.{Rational}
+use Rattle.exact_num.specs.declared.fraction.Frac.{Frac}
+use Rattle.model_sets.specs.Members.{SetLists}
+use Rattle.row_core.specs.declared.RowName.{RowName}
+use Rattle.row_core.specs.declared.Var.{Var}
+use Rattle.row_core.specs.Plans.{valued}
+use Rattle.explain_command.specs.Texts.{all_plan_lines, plan_lines}
+
+-- each of a list has it
+pub each-at : {A : Type 0} (P : A → Type 0) (xs : List A) (i : ℕ) (d : A) → AllByRecursion P xs → i < length xs → P (get_or xs i d)
+each-at P [] i d all h = absurd (omega arith)
+each-at P (x ∷ xs) zero d all h = all.0
+each-at P (x ∷ xs) (suc i) d all h = each-at P xs i d all.1 (omega arith)
+
+-- a line more of the entries
+pub lines-next : (line_of : RowName × Rational → List ℕ) (es : List (RowName × Frac)) (i : ℕ) (d : RowName × Frac) (out all : List ℕ) → i < length es → out ++ flat_map line_of (map valued (drop i es)) ≡ all
+    → (out ++ line_of (valued (get_or es i d))) ++ flat_map line_of (map valued (drop (i + 1) es)) ≡ all
+lines-next line_of es i d out all h so_far =
+    append_assoc out (line_of (valued (get_or es i d))) (flat_map line_of (map valued (drop (i + 1) es)))
+    ∙ sym (ap (λ (xs : List (RowName × Frac)). out ++ flat_map line_of (map valued xs)) (drop_more es i d h)) ∙ so_far
+
+-- a plan more
+module _ (sets : SetLists) (members : List (RowName × Frac)) (plans : List (List (Var × Rational))) where
+  abbrev lines_from : List (RowName × Frac) → List (List (Var × Rational)) → List ℕ
+  lines_from ms ps = all_plan_lines sets (map valued ms) ps
+
+  pub plans-next : (i : ℕ) (m : RowName × Frac) (p : List (Var × Rational)) (out all : List ℕ) → i < length members → i < length plans → out ++ lines_from (drop i members) (drop i plans) ≡ all
+      → (out ++ plan_lines sets (get_or members i m).0 (get_or plans i p)) ++ lines_from (drop (i + 1) members) (drop (i + 1) plans) ≡ all
+  plans-next i m p out all in_members in_plans so_far =
+      append_assoc out (plan_lines sets (get_or members i m).0 (get_or plans i p)) (lines_from (drop (i + 1) members) (drop (i + 1) plans))
+      ∙ sym (ap (λ (ms : List (RowName × Frac)). out ++ lines_from ms (drop i plans)) (drop_more members i m in_members)
+      ∙ ap (λ (ps : List (List (Var × Rational))). out ++ lines_from (get_or members i m ∷ drop (i + 1) members) ps) (drop_more plans i p in_plans))
+      ∙ so_far
+
+-- where no member is left there is no line
+pub no-plans : (sets : SetLists) (members : List (RowName × Rational)) → all_plan_lines sets members [] ≡ []
+no-plans sets [] = refl
+no-plans sets (member ∷ members) = refl

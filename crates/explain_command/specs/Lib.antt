@@ -1,0 +1,4 @@
+pub mod NamedConflicts
+pub mod Texts
+pub mod Explain
+pub mod Outcomes

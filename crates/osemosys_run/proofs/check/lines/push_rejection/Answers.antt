@@ -1,9 +1,0 @@
-use Rattle.std.proofs.Common.{◌≡◌, ◌++◌, sym, subst}
-use Rattle.std.specs.Prelude.{OnOk}
-use Rattle.osemosys_run.specs.CheckLines.{rejection_text}
-use Rattle.osemosys_run.proofs.check.lines.push_rejection.Goals as goal
-
-pub returns-in-WrongMultiplier : goal.returns-in-WrongMultiplier
-returns-in-WrongMultiplier c =
-    let pushed = c.push_with_row-in-WrongMultiplier in
-    subst (λ rejection. OnOk pushed.result (pushed.new.out.items ≡ c.args.out.now.items ++ rejection_text c.args.sets.now rejection)) (sym c.in-WrongMultiplier.is) pushed.ensures

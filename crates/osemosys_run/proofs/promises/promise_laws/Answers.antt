@@ -1,5 +1,0 @@
-use Rattle.osemosys_run.proofs.PromisedPrices.{prices-promised}
-use Rattle.osemosys_run.proofs.promises.promise_laws.Goals as goal
-
-pub returns : goal.returns
-returns c = record { prices = prices-promised c.price_laws.ensures.promised }

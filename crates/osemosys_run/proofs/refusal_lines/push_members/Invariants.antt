@@ -1,8 +1,0 @@
-use Rattle.std.proofs.Common.{◌≡◌, ◌++◌, take}
-use Rattle.std.specs.List.{join_with_byte}
-use Rattle.param_tables.specs.Positions.{names_at}
-use Rattle.osemosys_run.proofs.refusal_lines.push_members.Given as goal
-
--- the names so far stand there
-abbrev pub invariant-loop-i : goal.invariant-loop-i
-invariant-loop-i l = l.out.items ≡ l.fn.out.items ++ join_with_byte 44 (take l.i (names_at l.sets l.cell.param l.cell.index.items))

@@ -1,0 +1,63 @@
+//! Exact presolve: what can't move goes, until nothing changes.
+
+use crate::annual::drop_implied;
+use crate::bounds::fix_columns;
+use crate::helpers::drop_columns;
+use crate::inequalities::Inequalities;
+use crate::steps::Step;
+use crate::stop::Stop;
+use crate::zeros::drop_rows;
+use std::alloc::Global;
+
+/// At most so many rounds are made.
+const ROUNDS: usize = 1000;
+
+/// What a round did.
+#[derive(Clone, Copy, Debug, PartialEq, Eq)]
+pub(crate) enum Round {
+    Same,
+    Changed,
+    /// This row has no entries left, and is false.
+    False(usize),
+}
+
+/// What presolve did, and a row that is false, where there is one.
+#[derive(Drop)]
+pub(crate) struct Presolved {
+    pub(crate) steps: Vec<Step>,
+    pub(crate) false_row: Option<usize>,
+}
+
+/// Switches rows and columns off, round by round.
+pub(crate) fn presolve(alloc: Global, all: &mut Inequalities) -> Result<Presolved, Stop> {
+    let mut presolved = Presolved {
+        steps: Vec::new(alloc),
+        false_row: None,
+    };
+    drop_implied(alloc, all)?;
+    for _ in 0..ROUNDS {
+        match one_round(alloc, all, &mut presolved.steps)? {
+            Round::Changed => {}
+            Round::Same => break,
+            Round::False(row) => {
+                presolved.false_row = Some(row);
+                break;
+            }
+        }
+    }
+    Ok(presolved)
+}
+
+/// One round: rows, then columns with equal bounds, then columns that want one direction.
+fn one_round(alloc: Global, all: &mut Inequalities, steps: &mut Vec<Step>) -> Result<Round, Stop> {
+    let rows = drop_rows(alloc, all, steps)?;
+    if let Round::False(_) = rows {
+        return Ok(rows);
+    }
+    let fixed = fix_columns(alloc, all, steps)?;
+    let dropped = drop_columns(alloc, all, steps)?;
+    if fixed || dropped {
+        return Ok(Round::Changed);
+    }
+    Ok(rows)
+}

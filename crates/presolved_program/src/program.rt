@@ -1,0 +1,132 @@
+//! The smaller program: presolve, Trade and equations done.
+
+use crate::access::{at, empty_lists, filled, item, push_at, put};
+use crate::entries::Entry;
+use crate::equalities::{Equality, equalities_of};
+use crate::floats::float_of;
+use crate::inequalities::{Aim, Inequalities, inequalities_of};
+use crate::lines::Line;
+use crate::presolve::presolve;
+use crate::steps::Step;
+use crate::stop::Stop;
+use crate::trades::{Merge, Trades, without_trades};
+use std::alloc::Global;
+use written_method::Reduced;
+
+/// A linear program made smaller by exact steps, and all that undoes them.
+#[derive(Drop)]
+pub struct Program {
+    pub all: Inequalities,
+    pub steps: Vec<Step>,
+    /// A row of the linear program that is false whatever the columns are.
+    pub false_row: Option<usize>,
+    pub lines: Vec<Line>,
+    pub merges: Vec<Merge>,
+    /// A line that is false whatever the columns are.
+    pub false_line: Option<usize>,
+    /// The lines that are left, ascending.
+    pub left: Vec<usize>,
+    /// The columns that are left, ascending.
+    pub columns: Vec<usize>,
+    /// The entries of each column in the lines that are left, ascending by line.
+    pub uses: Vec<Vec<Entry>>,
+    /// The greatest absolute number of each line that is left; 0 for another.
+    pub tops: Vec<f64>,
+    pub equalities: Vec<Equality>,
+}
+
+impl Program {
+    /// Whether a row or a line is false whatever the columns are.
+    pub fn is_false(&self) -> bool {
+        self.false_row.is_some() || self.false_line.is_some()
+    }
+}
+
+/// Makes a linear program smaller, for an aim. It gives up where a number doesn't fit, where a Trade needs too many
+/// combinations, or where no column solves an equation.
+pub fn prepare(alloc: Global, reduced: &Reduced, aim: Aim) -> Result<Program, Stop> {
+    let mut all = inequalities_of(alloc, reduced, aim)?;
+    let presolved = presolve(alloc, &mut all)?;
+    let trades = if presolved.false_row.is_some() {
+        Trades::none(alloc)
+    } else {
+        without_trades(alloc, &all)?
+    };
+    let left = left_of(alloc, &trades)?;
+    let false_line = false_line_of(&trades)?;
+    let columns = columns_of(alloc, &all)?;
+    let mut program = Program {
+        all,
+        steps: presolved.steps,
+        false_row: presolved.false_row,
+        lines: trades.lines,
+        merges: trades.merges,
+        false_line,
+        left,
+        columns,
+        uses: Vec::new(alloc),
+        tops: Vec::new(alloc),
+        equalities: Vec::new(alloc),
+    };
+    if program.is_false() {
+        program.left.clear();
+        program.columns.clear();
+    }
+    complete(alloc, &mut program, aim)?;
+    Ok(program)
+}
+
+/// The lines that are still there and have entries.
+fn left_of(alloc: Global, trades: &Trades) -> Result<Vec<usize>, Stop> {
+    let mut left = Vec::new(alloc);
+    for (place, line) in trades.lines.iter().enumerate() {
+        if at(&trades.on, place)? && !line.entries.is_empty() {
+            left.push(place)?;
+        }
+    }
+    Ok(left)
+}
+
+/// The first line that is still there, has no entries, and isn't true.
+fn false_line_of(trades: &Trades) -> Result<Option<usize>, Stop> {
+    for (place, line) in trades.lines.iter().enumerate() {
+        if at(&trades.on, place)? && line.entries.is_empty() && line.right.num < 0 {
+            return Ok(Some(place));
+        }
+    }
+    Ok(None)
+}
+
+/// The columns that are still there and aren't free.
+fn columns_of(alloc: Global, all: &Inequalities) -> Result<Vec<usize>, Stop> {
+    let mut columns = Vec::new(alloc);
+    for column in 0..all.free.len() {
+        if at(&all.column_on, column)? && !at(&all.free, column)? {
+            columns.push(column)?;
+        }
+    }
+    Ok(columns)
+}
+
+/// The columns of the lines that are left, their greatest numbers, and the equations among them.
+fn complete(alloc: Global, program: &mut Program, aim: Aim) -> Result<(), Stop> {
+    let count = program.all.free.len();
+    program.uses = empty_lists(alloc, count)?;
+    program.tops = filled(alloc, 0.0, program.lines.len())?;
+    let mut counts = filled(alloc, 0, count)?;
+    for place in &program.left {
+        let mut top: f64 = 0.0;
+        for entry in &item(&program.lines, *place)?.entries {
+            let used = Entry::new(*place, entry.number)?;
+            push_at(&mut program.uses, entry.at, used)?;
+            let uses: usize = at(&counts, entry.at)?;
+            put(&mut counts, entry.at, uses.saturating_add(1))?;
+            top = top.max(float_of(entry.number).abs());
+        }
+        put(&mut program.tops, *place, top)?;
+    }
+    if aim != Aim::Refutation {
+        program.equalities = equalities_of(alloc, &program.lines, &program.left, &counts)?;
+    }
+    Ok(())
+}

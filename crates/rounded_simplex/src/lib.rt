@@ -1,0 +1,15 @@
+//! The simplex method in rounded numbers: a guess at the optimum of a linear program, for an exact check to judge.
+#![tactic(auto)]
+
+mod choices;
+mod dual;
+mod ending;
+mod phases;
+mod primal;
+mod program;
+mod scaling;
+mod solving;
+mod state;
+
+pub use program::{Answer, Guess, LinearProgram};
+pub use solving::guess;

@@ -1,0 +1,340 @@
+//! The state of the simplex method, and what a pivot changes of it.
+
+use crate::scaling::Scaled;
+use sparse_factors::{Basis, Entry, Factors, Lists, SparseVector, at, factor, put};
+use std::alloc::{AllocError, Global};
+
+/// The factors are made anew after so many pivots.
+pub(crate) const UPDATES: u64 = 100;
+/// Room for the slots of so many updates.
+const ROOM: usize = 101;
+/// So many singular bases in a row end the attempt.
+const MOST_REPAIRS: usize = 50;
+
+/// A basis with its factors, and the numbers that go with it.
+#[derive(Drop)]
+pub(crate) struct State {
+    pub(crate) alloc: Global,
+    pub(crate) program: Scaled,
+    pub(crate) tolerance: f64,
+    pub(crate) basis: Basis,
+    pub(crate) factors: Factors,
+    /// The values of the basic variables, by slot.
+    pub(crate) values: Vec<f64>,
+    /// The weights of dual steepest edge, by slot.
+    pub(crate) weights: Vec<f64>,
+    /// The weights of basic variables while the factors are made anew.
+    kept_weights: Vec<f64>,
+    /// The costs of the phase, by variable.
+    pub(crate) costs: Vec<f64>,
+    /// The reduced costs, by variable.
+    pub(crate) reduced_costs: Vec<f64>,
+    /// The leaving slot's row of the inverse, by slot of the rows.
+    pub(crate) inverse_row: SparseVector,
+    /// That row while it was divided by U.
+    row_in_upper: Vec<Entry>,
+    /// The leaving slot's row of the tableau, by variable, and its nonbasic variables.
+    pub(crate) row: SparseVector,
+    pub(crate) row_variables: Vec<usize>,
+    /// The entering variable's column of the tableau, by slot.
+    pub(crate) column: SparseVector,
+    /// That column before U.
+    spike: SparseVector,
+    /// The inverse times its own row, by slot.
+    pub(crate) steepest: SparseVector,
+    /// By slot, for whole solves.
+    work: SparseVector,
+    /// For rows that no update needs.
+    unused: Vec<Entry>,
+}
+
+impl State {
+    /// The basis of all slacks, with the costs of the dual phase.
+    pub(crate) fn new(
+        alloc: Global,
+        program: Scaled,
+        tolerance: f64,
+    ) -> Result<Option<State>, AllocError> {
+        let mut basis = Basis::of_slacks(alloc, program.rows, program.columns, ROOM)?;
+        let Some(factors) = factor(alloc, &program.by_column, &mut basis)? else {
+            return Ok(None);
+        };
+        let room = basis.room();
+        let variables = program.columns.saturating_add(program.rows);
+        Ok(Some(State {
+            alloc,
+            values: constant(alloc, 0.0, room)?,
+            weights: constant(alloc, 1.0, room)?,
+            kept_weights: constant(alloc, 1.0, variables)?,
+            costs: constant(alloc, 0.0, variables)?,
+            reduced_costs: constant(alloc, 0.0, variables)?,
+            inverse_row: SparseVector::zeros(alloc, room)?,
+            row_in_upper: Vec::new(alloc),
+            row: SparseVector::zeros(alloc, variables)?,
+            row_variables: Vec::new(alloc),
+            column: SparseVector::zeros(alloc, room)?,
+            spike: SparseVector::zeros(alloc, room)?,
+            steepest: SparseVector::zeros(alloc, room)?,
+            work: SparseVector::zeros(alloc, room)?,
+            unused: Vec::new(alloc),
+            program,
+            tolerance,
+            basis,
+            factors,
+        }))
+    }
+
+    /// How many variables there are, with the slacks.
+    pub(crate) fn variables(&self) -> usize {
+        self.costs.len()
+    }
+
+    /// Makes the factors anew, and all that depends on them. False where the basis stayed singular, or where
+    /// a number that came out isn't finite.
+    pub(crate) fn renew(&mut self) -> Result<bool, AllocError> {
+        self.keep_weights();
+        for _ in 0..MOST_REPAIRS {
+            if let Some(factors) = factor(self.alloc, &self.program.by_column, &mut self.basis)? {
+                self.factors = factors;
+                self.restore_weights();
+                self.solve_values()?;
+                self.solve_reduced_costs()?;
+                return Ok(all_finite(&self.values) && all_finite(&self.reduced_costs));
+            }
+        }
+        Ok(false)
+    }
+
+    /// Keeps the weights by variable.
+    fn keep_weights(&mut self) {
+        for slot in 0..self.factors.slots() {
+            if let Some(variable) = self.basis.variable(slot) {
+                put(
+                    &mut self.kept_weights,
+                    variable,
+                    at(&self.weights, slot, 1.0),
+                );
+            }
+        }
+    }
+
+    /// Takes the weights back into their slots.
+    fn restore_weights(&mut self) {
+        for slot in 0..self.weights.len() {
+            let weight = match self.basis.variable(slot) {
+                Some(variable) => at(&self.kept_weights, variable, 1.0),
+                None => 1.0,
+            };
+            put(&mut self.weights, slot, weight);
+        }
+    }
+
+    /// Makes all weights 1.
+    pub(crate) fn reset_weights(&mut self) {
+        for weight in self.weights.iter_mut() {
+            *weight = 1.0;
+        }
+    }
+
+    /// Solves for the values of the basic variables, and once more for what the first solution misses.
+    fn solve_values(&mut self) -> Result<(), AllocError> {
+        spread(&mut self.work, &self.program.right_sides, &self.basis);
+        self.factors.ftran(&mut self.work)?;
+        for value in self.values.iter_mut() {
+            *value = 0.0;
+        }
+        for slot in self.work.listed() {
+            put(&mut self.values, *slot, self.work.value(*slot));
+        }
+        let rest = self.rest_of_right_sides()?;
+        spread(&mut self.work, &rest, &self.basis);
+        self.factors.ftran(&mut self.work)?;
+        for slot in self.work.listed() {
+            let value = at(&self.values, *slot, 0.0) + self.work.value(*slot);
+            put(&mut self.values, *slot, value);
+        }
+        Ok(())
+    }
+
+    /// What the values miss of the right sides, by row.
+    fn rest_of_right_sides(&self) -> Result<Vec<f64>, AllocError> {
+        let mut rest = Vec::from_slice(self.alloc, &self.program.right_sides)?;
+        for (slot, value) in self.values.iter().enumerate() {
+            if *value != 0.0 {
+                if let Some(variable) = self.basis.variable(slot) {
+                    match self.basis.row_of_slack(variable) {
+                        Some(row) => {
+                            let number = at(&rest, row, 0.0);
+                            put(&mut rest, row, number - *value);
+                        }
+                        None => subtract(&mut rest, self.program.by_column.list(variable), *value),
+                    }
+                }
+            }
+        }
+        Ok(rest)
+    }
+
+    /// Solves for the prices of the rows, and makes the reduced costs from them.
+    fn solve_reduced_costs(&mut self) -> Result<(), AllocError> {
+        self.work.clear();
+        for slot in 0..self.program.rows {
+            if let Some(variable) = self.basis.variable(slot) {
+                let cost = at(&self.costs, variable, 0.0);
+                if cost != 0.0 {
+                    self.work.set(slot, cost);
+                }
+            }
+        }
+        self.factors.btran(&mut self.work, &mut self.unused)?;
+        let mut prices = constant(self.alloc, 0.0, self.program.rows)?;
+        for slot in self.work.listed() {
+            put(
+                &mut prices,
+                self.basis.row_of_slot(*slot),
+                self.work.value(*slot),
+            );
+        }
+        for variable in 0..self.variables() {
+            let reduced = if self.basis.is_basic(variable) {
+                0.0
+            } else {
+                self.reduced_cost(variable, &prices)
+            };
+            put(&mut self.reduced_costs, variable, reduced);
+        }
+        Ok(())
+    }
+
+    /// The reduced cost of a nonbasic variable.
+    fn reduced_cost(&self, variable: usize, prices: &[f64]) -> f64 {
+        let mut reduced = at(&self.costs, variable, 0.0);
+        match self.basis.row_of_slack(variable) {
+            Some(row) => reduced -= at(prices, row, 0.0),
+            None => {
+                for entry in self.program.by_column.list(variable) {
+                    reduced -= entry.value * at(prices, entry.at, 0.0);
+                }
+            }
+        }
+        reduced
+    }
+
+    /// Raises the costs of nonbasic variables whose reduced cost is below 0 until it is 0.
+    pub(crate) fn shift_costs(&mut self) {
+        for variable in 0..self.variables() {
+            if at(&self.reduced_costs, variable, 0.0) < 0.0 && !self.basis.is_basic(variable) {
+                self.shift_cost(variable);
+            }
+        }
+    }
+
+    /// Raises the cost of a variable until its reduced cost is 0.
+    pub(crate) fn shift_cost(&mut self, variable: usize) {
+        let cost = at(&self.costs, variable, 0.0) - at(&self.reduced_costs, variable, 0.0);
+        put(&mut self.costs, variable, cost);
+        put(&mut self.reduced_costs, variable, 0.0);
+    }
+
+    /// Makes the row of the inverse of a slot.
+    pub(crate) fn make_inverse_row(&mut self, slot: usize) -> Result<(), AllocError> {
+        self.inverse_row.clear();
+        self.inverse_row.set(slot, 1.0);
+        self.factors
+            .btran(&mut self.inverse_row, &mut self.row_in_upper)
+    }
+
+    /// Makes the row of the tableau from the row of the inverse.
+    pub(crate) fn make_row(&mut self) -> Result<(), AllocError> {
+        self.row.clear();
+        for slot in self.inverse_row.listed() {
+            let value = self.inverse_row.value(*slot);
+            let row = self.basis.row_of_slot(*slot);
+            let slack = self.basis.slack(row);
+            if !self.basis.is_basic(slack) {
+                let sum = self.row.value(slack) + value;
+                self.row.set(slack, sum);
+            }
+            self.row.subtract(self.program.by_row.list(row), -value);
+        }
+        self.row.gather()?;
+        self.row_variables.clear();
+        for variable in self.row.listed() {
+            if !self.basis.is_basic(*variable) {
+                self.row_variables.push(*variable)?;
+            }
+        }
+        Ok(())
+    }
+
+    /// Makes the column of the tableau of a variable.
+    pub(crate) fn make_column(&mut self, variable: usize) -> Result<(), AllocError> {
+        self.column.clear();
+        match self.basis.row_of_slack(variable) {
+            Some(row) => self.column.set(self.basis.slot_of_row(row), 1.0),
+            None => {
+                for entry in self.program.by_column.list(variable) {
+                    self.column
+                        .set(self.basis.slot_of_row(entry.at), entry.value);
+                }
+            }
+        }
+        self.factors
+            .ftran_keeping(&mut self.column, &mut self.spike)
+    }
+
+    /// Makes what the weights of dual steepest edge need.
+    pub(crate) fn make_steepest(&mut self) -> Result<(), AllocError> {
+        self.steepest.copy_listed(&self.inverse_row)?;
+        self.factors.ftran(&mut self.steepest)
+    }
+
+    /// Puts a variable into the basis in the place of the one in a slot; the value and the weight go to the new slot.
+    pub(crate) fn exchange(&mut self, slot: usize, variable: usize) -> Result<(), AllocError> {
+        let added = self.factors.update(slot, &self.spike, &self.row_in_upper)?;
+        if let Some(leaving) = self.basis.variable(slot) {
+            put(&mut self.kept_weights, leaving, 1.0);
+        }
+        self.basis.retire(slot);
+        self.basis.place(added, variable);
+        let value = at(&self.values, slot, 0.0);
+        put(&mut self.values, added, value);
+        put(&mut self.values, slot, 0.0);
+        let weight = at(&self.weights, slot, 1.0);
+        put(&mut self.weights, added, weight);
+        put(&mut self.weights, slot, 1.0);
+        Ok(())
+    }
+}
+
+/// Whether all numbers are finite.
+pub(crate) fn all_finite(numbers: &[f64]) -> bool {
+    numbers.iter().all(|number| number.is_finite())
+}
+
+/// So many times the same number.
+pub(crate) fn constant(alloc: Global, number: f64, count: usize) -> Result<Vec<f64>, AllocError> {
+    let mut list = Vec::with_capacity(alloc, count)?;
+    for _ in 0..count {
+        list.push(number)?;
+    }
+    Ok(list)
+}
+
+/// Takes the numbers of a list by rows into a vector by slots.
+fn spread(vector: &mut SparseVector, numbers: &[f64], basis: &Basis) {
+    vector.clear();
+    for (row, number) in numbers.iter().enumerate() {
+        if *number != 0.0 {
+            vector.set(basis.slot_of_row(row), *number);
+        }
+    }
+}
+
+/// Takes `factor` times the entries away.
+fn subtract(numbers: &mut [f64], entries: &[Entry], factor: f64) {
+    for entry in entries {
+        let number = at(numbers, entry.at, 0.0);
+        put(numbers, entry.at, number - entry.value * factor);
+    }
+}

@@ -1,0 +1,44 @@
+//! Why a try gives nothing.
+
+use presolved_program::Stop;
+use row_core::Stopped;
+use std::alloc::{AllocError, AllocFailed};
+
+/// Why a try gives nothing.
+#[derive(Clone, Copy, Debug, PartialEq, Eq)]
+pub(crate) enum Halt {
+    /// A check says no, a number doesn't fit, or nothing was guessed.
+    Nothing,
+    /// Memory ran out.
+    Memory,
+}
+
+impl From<AllocError> for Halt {
+    fn from(_: AllocError) -> Halt {
+        Halt::Memory
+    }
+}
+
+impl<T: Drop> From<AllocFailed<T>> for Halt {
+    fn from(_: AllocFailed<T>) -> Halt {
+        Halt::Memory
+    }
+}
+
+impl From<Stopped> for Halt {
+    fn from(stopped: Stopped) -> Halt {
+        match stopped {
+            Stopped::Width(_) => Halt::Nothing,
+            Stopped::Memory => Halt::Memory,
+        }
+    }
+}
+
+impl From<Stop> for Halt {
+    fn from(stop: Stop) -> Halt {
+        match stop {
+            Stop::GivenUp => Halt::Nothing,
+            Stop::Memory => Halt::Memory,
+        }
+    }
+}

@@ -1,0 +1,17 @@
+//! A guess of plan and multipliers in numbers of limited accuracy, rounded to short decimals, carried back exactly to all rows
+//! of a book, and given to the checker, whose yes alone decides.
+#![tactic(auto)]
+
+mod attempt;
+mod certifying;
+mod checking;
+mod costless;
+mod found;
+mod halts;
+mod plans;
+mod refuting;
+mod solving;
+mod tries;
+
+pub use found::Rounded;
+pub use solving::rounded;

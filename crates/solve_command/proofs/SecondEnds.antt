@@ -1,0 +1,42 @@
+-- What the second attempt finds on the grid is what it gives, where a gap is allowed, the defined variables can be removed, and its prices fit.
+use Rattle.std.proofs.Common.{◌≡◌, ◌∙◌, ◌==◌, ℕ, List, Option, Some, None, Bool, true, false, cond, refl, ap}
+use Rattle.std.specs.Prelude.{is_none}
+use Rattle.std.proofs.lemmas.Bool.Decides.{Decides-eqb}
+use Rattle.exact_num.specs.Steps.{first_wide}
+use Rattle.model_sets.specs.Members.{SetLists}
+use Rattle.row_core.specs.declared.Row.{Row}
+use Rattle.row_core.specs.declared.Var.{Var}
+use Rattle.written_method.specs.Eliminated.{elimination_steps}
+use Rattle.exact_solver.specs.Definers.{definers}
+use Rattle.decimal_solver.specs.Answers.{attempt_seen}
+use Rattle.decimal_solver.specs.Attempts.{grid_end}
+use Rattle.decimal_solver.specs.Answers as grid
+use Rattle.decimal_solver.specs.declared.attempts.Found.{Found}
+use Rattle.result_tables.specs.Prices.{price_steps}
+use Rattle.command_answers.specs.declared.answer.Answer.{Answer}
+use Rattle.solve_command.specs.declared.solve.Shown.{Shown}
+use Rattle.solve_command.specs.Second.{TellsGrid, TellsSecond}
+use Rattle.solve_command.specs.Solve.{priced, second_end}
+
+nonzero : (n : ℕ) → (n ≡ 0 → ⊥) → (n == 0) ≡ false
+nonzero n h = go (n == 0) refl
+  where
+    go : (b : Bool) → (n == 0) ≡ b → b ≡ false
+    go true e = absurd (h ((Decides-eqb n 0).0 e))
+    go false e = refl
+
+module _ (rows : List Row) (vars : List Var) (gap pivots : ℕ) (found : Found) (allowed : gap ≡ 0 → ⊥) (fits : first_wide (elimination_steps rows (definers rows)) ≡ None)
+    (end : grid_end rows vars gap pivots ≡ Some (attempt_seen found)) where
+  gives : second_end rows vars gap pivots ≡ cond (is_none (first_wide (price_steps rows found.multipliers))) (Some (attempt_seen found)) None
+  gives = rw (nonzero gap allowed, fits) (ap (priced rows) end)
+
+  pub second-told : grid.IsProved rows vars gap found → grid.IsComplete vars found → grid.IsNamed rows found → (sets : SetLists) (show : Shown) (rounded places : ℕ) (answer : Option Answer)
+      → TellsGrid sets rows vars show rounded places found answer → TellsSecond sets rows vars gap pivots show rounded places answer
+  second-told proved whole named sets show rounded places None told = gives ∙ ap (λ b. cond b (Some (attempt_seen found)) None) told
+  second-told proved whole named sets show rounded places (Some answer) told = record {
+    found = attempt_seen found;
+    second = gives ∙ ap (λ b. cond b (Some (attempt_seen found)) None) told.0;
+    worth = record { plan = proved.plan; bound = proved.bound; within = proved.gap.within; whole = whole; named = named };
+    status_is = told.1;
+    text_is = told.2;
+  }

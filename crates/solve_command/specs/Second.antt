@@ -1,0 +1,71 @@
+-- What the second attempt gives, and what is told of it.
+use Rattle.std.specs.Prelude.{◌≡◌, ℕ, List, ◌⊎◌, Option, Some, None, is_none, true, false}
+use Rattle.exact_num.specs.Steps.{first_wide}
+use Rattle.exact_num.specs.Value.{value_of}
+use Rattle.model_sets.specs.Members.{SetLists}
+use Rattle.row_core.specs.declared.Row.{Row}
+use Rattle.row_core.specs.declared.Var.{Var}
+use Rattle.row_core.specs.declared.place.Place.{Place}
+use Rattle.row_core.specs.Numbers.{keys_of}
+use Rattle.certificate_checker.specs.Gaps.{Within}
+use Rattle.exact_solver.specs.Solutions.{AreNamedIn, IsBound, IsPlan}
+use Rattle.exact_solver.specs.declared.solutions.Solution.{Solution}
+use Rattle.exact_solver.specs.declared.solutions.Solution.TheVariants as exact
+use Rattle.decimal_solver.specs.Attempts.{Attempt}
+use Rattle.decimal_solver.specs.declared.attempts.Found.{Found}
+use Rattle.result_tables.specs.Prices.{price_steps}
+use Rattle.solve_command.specs.declared.solve.Shown.{Shown}
+use Rattle.command_answers.specs.declared.answer.Answer.{Answer}
+use Rattle.command_answers.specs.declared.status.Status.{Status}
+use Rattle.command_answers.specs.declared.status.Status.TheVariants.{Done, Uncertified}
+use Rattle.simplex_core.specs.declared.stops.Stop.TheVariants.{Width}
+use Rattle.command_answers.specs.Lines.{uncertified_line}
+use Rattle.solve_command.specs.Solve.{second_attempt, second_end}
+use Rattle.solve_command.specs.SolveOutcomes.{HasPriceWideAt, PricesFitIn, solution_shown, status_of}
+use Rattle.solve_command.specs.SolveTexts.{solved_shown}
+
+-- what was found, as a solution of the exact method
+abbrev pub found_solution : Found → Solution
+found_solution found = exact.Optimal found.plan found.multipliers found.cost found.bound found.pivots
+
+-- what it says of the rows: a plan that meets them, with a value for each variable, multipliers of rows that prove the bound, and a cost within the gap of it
+pub record IsWorth (rows : List Row) (vars : List Var) (gap : ℕ) (found : Attempt) : Type 0 where
+  pub plan : IsPlan rows vars found.plan found.cost
+  pub bound : IsBound rows vars found.multipliers found.bound
+  pub within : Within found.cost found.bound gap
+  pub whole : keys_of found.plan ≡ vars
+  pub named : AreNamedIn rows found.multipliers
+
+-- the status and the text tell what the second attempt gives
+pub record IsToldSecond (sets : SetLists) (rows : List Row) (vars : List Var) (gap pivots : ℕ) (show : Shown) (rounded places : ℕ) (status : Status) (text : List ℕ) : Type 0 where
+  pub found : Attempt
+  pub second : second_end rows vars gap pivots ≡ Some found
+  pub worth : IsWorth rows vars gap found
+  pub status_is : status ≡ Done
+  pub text_is : text ≡ solved_shown show sets vars found.plan rows found.multipliers found.cost found.bound found.pivots rounded places second_attempt
+
+-- an answer tells it, and there is none exactly where the attempt gives nothing
+abbrev pub TellsSecond : SetLists → List Row → List Var → ℕ → ℕ → Shown → ℕ → ℕ → Option Answer → Type 0
+TellsSecond sets rows vars gap pivots show rounded places None = second_end rows vars gap pivots ≡ None
+TellsSecond sets rows vars gap pivots show rounded places (Some answer) = IsToldSecond sets rows vars gap pivots show rounded places answer.status answer.text.items
+
+-- an answer tells what was found on the grid, and there is none exactly where a number that is formed for its prices doesn't fit
+abbrev pub TellsGrid : SetLists → List Row → List Var → Shown → ℕ → ℕ → Found → Option Answer → Type 0
+TellsGrid sets rows vars show rounded places found None = is_none (first_wide (price_steps rows found.multipliers)) ≡ false
+TellsGrid sets rows vars show rounded places found (Some answer) =
+    (is_none (first_wide (price_steps rows found.multipliers)) ≡ true) × (answer.status ≡ Done)
+    × (answer.text.items ≡ solved_shown show sets vars found.plan rows found.multipliers (value_of found.cost) (value_of found.bound) found.pivots rounded places second_attempt)
+
+-- the last answer is the second attempt's, or the first answer, where that gives nothing
+abbrev pub IsLastOf : SetLists → List Row → List Var → ℕ → ℕ → Shown → ℕ → ℕ → Answer → Answer → Type 0
+IsLastOf sets rows vars gap pivots show rounded places first last =
+    IsToldSecond sets rows vars gap pivots show rounded places last.status last.text.items
+    ⊎ ((second_end rows vars gap pivots ≡ None) × (last.status ≡ first.status) × (last.text.items ≡ first.text.items))
+
+-- a solution is told, or at which of its prices a number doesn't fit where the second attempt gives nothing, or what that gives
+abbrev pub TellsExactly : SetLists → List Row → List Var → ℕ → ℕ → Shown → ℕ → ℕ → Solution → Status → List ℕ → Type 0
+TellsExactly sets rows vars gap pivots show rounded places solution status text =
+    (PricesFitIn show rows solution × (status ≡ status_of solution) × (text ≡ solution_shown show sets rows vars rounded places 1 solution))
+    ⊎ ((place : Place) × HasPriceWideAt show rows solution place
+    × (IsToldSecond sets rows vars gap pivots show rounded places status text
+    ⊎ ((second_end rows vars gap pivots ≡ None) × (status ≡ Uncertified (Width place)) × (text ≡ uncertified_line sets (Width place)))))

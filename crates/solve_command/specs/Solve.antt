@@ -1,0 +1,202 @@
+-- What `solve` says over accepted data: a plan and a bound that no plan undercuts; that there is no plan; that there are plans of any lower cost; or
+-- why the exact method came to none of these ends.
+use Rattle.std.specs.Prelude.{◌≡◌, ℕ, List, ◌⊎◌, None, Some, ⊤, ◌==◌, Option, is_none, if◌then◌else◌}
+use Rattle.exact_num.specs.Rational.{Rational}
+use Rattle.exact_num.specs.Steps.{first_wide}
+use Rattle.model_sets.specs.Data.{Data}
+use Rattle.row_core.specs.declared.Row.{Row}
+use Rattle.row_core.specs.declared.RowName.{RowName}
+use Rattle.row_core.specs.declared.Var.{Var}
+use Rattle.row_core.specs.declared.place.Place.{Place}
+use Rattle.named_equations.specs.Existence.{all_variables}
+use Rattle.written_method.specs.Eliminated.{elimination_steps}
+use Rattle.decimal_solver.specs.Attempts.{Attempt, grid_end}
+use Rattle.exact_solver.specs.Definers.{definers}
+use Rattle.exact_solver.specs.MethodEnds.{HasNoBound, HasNoPlan, HasOptimum, IsPivotDue, IsWide, MethodEnd, method_end}
+use Rattle.result_tables.specs.Prices.{price_steps}
+use Rattle.solve_command.specs.declared.solve.Shown.{Shown}
+use Rattle.solve_command.specs.declared.solve.Shown.TheVariants.{Report, Plan, Multipliers, Summary}
+use Rattle.command_answers.specs.declared.status.Status.{Status}
+use Rattle.command_answers.specs.declared.status.Status.TheVariants.{Done, Infeasible, Unbounded, Uncertified}
+use Rattle.simplex_core.specs.declared.stops.Stop.TheVariants.{Budget, Width}
+use Rattle.command_answers.specs.Lines.{uncertified_line}
+use Rattle.command_answers.specs.MadeRows.{IsMadeFor, IsTooLarge, IsUncertified}
+use Rattle.solve_command.specs.Limits.{IsWithinLimits, PassesLimits}
+use Rattle.solve_command.specs.Shown.{HasPrices}
+use Rattle.command_words.specs.declared.command.SolveMethod.{SolveMethod}
+use Rattle.command_words.specs.declared.command.SolveMethod.TheVariants.{Exact, Rounded}
+use Rattle.solve_command.specs.SolvedPlans.{AreUnbounded, IsNearOptimum, IsOptimum, IsRefuted}
+use Rattle.solve_command.specs.SolveTexts.{infeasible_shown, solved_shown, unbounded_shown}
+
+-- ---- attempts
+
+-- the exact method is the first attempt, the method on a grid the second, and the rounded one the third
+abbrev pub first_attempt : ℕ
+first_attempt = 1
+
+abbrev pub second_attempt : ℕ
+second_attempt = 2
+
+abbrev pub third_attempt : ℕ
+third_attempt = 3
+
+-- ---- prices
+
+-- every number that is formed for the prices of a report, or of its summary, fits
+abbrev pub PricesFit : Shown → List Row → List (RowName × Rational) → Type 0
+PricesFit Report rows multipliers = first_wide (price_steps rows multipliers) ≡ None
+PricesFit Plan rows multipliers = ⊤
+PricesFit Multipliers rows multipliers = ⊤
+PricesFit Summary rows multipliers = first_wide (price_steps rows multipliers) ≡ None
+
+-- ---- the second attempt
+
+-- what was found, where every number that is formed for its prices fits
+abbrev pub priced : List Row → Option Attempt → Option Attempt
+priced rows None = None
+priced rows (Some found) = if is_none (first_wide (price_steps rows found.multipliers)) then Some found else None
+
+-- The second attempt is made where a gap is allowed, in millionths, and the defined variables can be removed. It gives a plan, a bound and their
+-- multipliers, or nothing.
+abbrev pub second_end : List Row → List Var → ℕ → ℕ → Option Attempt
+second_end rows vars gap pivots =
+    if gap == 0 then None
+    else if is_none (first_wide (elimination_steps rows (definers rows))) then priced rows (grid_end rows vars gap pivots)
+    else None
+
+-- ---- ends, with so many pivots at most, and so many numbers of the data that are rounded
+
+-- a plan that meets the named equations, and a bound within the gap of its cost that no such plan undercuts
+pub record IsSolved (places : ℕ) (d : Data) (rows : List Row) (gap pivots : ℕ) (show : Shown) (rounded : ℕ) (status : Status) (text : List ℕ) : Type 0 where
+  pub plan : List (Var × Rational)
+  pub multipliers : List (RowName × Rational)
+  pub cost : Rational
+  pub bound : Rational
+  pub made : ℕ
+  pub end : method_end rows (all_variables d) pivots ≡ HasOptimum plan multipliers made
+  pub optimum : IsOptimum places d rows gap plan multipliers cost bound
+  pub prices_fit : PricesFit show rows multipliers
+  pub status_is : status ≡ Done
+  pub text_is : text ≡ solved_shown show d.sets (all_variables d) plan rows multipliers cost bound made rounded places first_attempt
+
+-- no plan meets them
+pub record IsInfeasible (places : ℕ) (d : Data) (rows : List Row) (pivots : ℕ) (show : Shown) (rounded : ℕ) (status : Status) (text : List ℕ) : Type 0 where
+  pub multipliers : List (RowName × Rational)
+  pub made : ℕ
+  pub end : method_end rows (all_variables d) pivots ≡ HasNoPlan multipliers made
+  pub refuted : IsRefuted places d rows multipliers
+  pub status_is : status ≡ Infeasible
+  pub text_is : text ≡ infeasible_shown show d.sets multipliers made rounded places first_attempt
+
+-- plans of any lower cost meet them
+pub record IsUnbounded (places : ℕ) (d : Data) (rows : List Row) (pivots : ℕ) (show : Shown) (rounded : ℕ) (status : Status) (text : List ℕ) : Type 0 where
+  pub plan : List (Var × Rational)
+  pub direction : List (Var × Rational)
+  pub made : ℕ
+  pub end : method_end rows (all_variables d) pivots ≡ HasNoBound plan direction made
+  pub unbounded : AreUnbounded places d rows plan direction
+  pub status_is : status ≡ Unbounded
+  pub text_is : text ≡ unbounded_shown show d.sets plan direction made rounded places
+
+-- ---- stops
+
+-- each where the second attempt gives nothing: a pivot is due after the last
+pub record IsOutOfPivots (d : Data) (rows : List Row) (gap pivots : ℕ) (status : Status) (text : List ℕ) : Type 0 where
+  pub end : method_end rows (all_variables d) pivots ≡ IsPivotDue
+  pub no_second : second_end rows (all_variables d) gap pivots ≡ None
+  pub status_is : status ≡ Uncertified (Budget pivots)
+  pub line_is : text ≡ uncertified_line d.sets (Budget pivots)
+
+-- the first number that doesn't fit is formed at this place of the method
+pub record IsTooWideToSolve (d : Data) (rows : List Row) (gap pivots : ℕ) (status : Status) (text : List ℕ) : Type 0 where
+  pub place : Place
+  pub end : method_end rows (all_variables d) pivots ≡ IsWide place
+  pub no_second : second_end rows (all_variables d) gap pivots ≡ None
+  pub status_is : status ≡ Uncertified (Width place)
+  pub line_is : text ≡ uncertified_line d.sets (Width place)
+
+-- or, where what is to be shown has prices, it is formed for this one, after all else
+pub record HasWidePrice (d : Data) (rows : List Row) (gap pivots : ℕ) (show : Shown) (status : Status) (text : List ℕ) : Type 0 where
+  pub plan : List (Var × Rational)
+  pub multipliers : List (RowName × Rational)
+  pub made : ℕ
+  pub place : Place
+  pub end : method_end rows (all_variables d) pivots ≡ HasOptimum plan multipliers made
+  pub reported : HasPrices show
+  pub wide : first_wide (price_steps rows multipliers) ≡ Some place
+  pub no_second : second_end rows (all_variables d) gap pivots ≡ None
+  pub status_is : status ≡ Uncertified (Width place)
+  pub line_is : text ≡ uncertified_line d.sets (Width place)
+
+-- ---- where the exact method stops, and the second attempt gives something
+
+-- the method comes to an end: to an optimum, where a report is to be shown with prices that fit, to no plan or to no bound
+abbrev pub ComesToEnd : Shown → List Row → MethodEnd → Type 0
+ComesToEnd show rows (HasOptimum plan multipliers made) = PricesFit show rows multipliers
+ComesToEnd show rows (HasNoPlan multipliers made) = ⊤
+ComesToEnd show rows (HasNoBound plan direction made) = ⊤
+ComesToEnd show rows IsPivotDue = ⊥
+ComesToEnd show rows (IsWide place) = ⊥
+
+-- a plan that meets the named equations, and a bound within the gap of its cost that no such plan undercuts
+pub record IsSolvedOnGrid (places : ℕ) (d : Data) (rows : List Row) (gap pivots : ℕ) (show : Shown) (rounded : ℕ) (status : Status) (text : List ℕ) : Type 0 where
+  pub found : Attempt
+  pub stopped : ComesToEnd show rows (method_end rows (all_variables d) pivots) → ⊥
+  pub second : second_end rows (all_variables d) gap pivots ≡ Some found
+  pub optimum : IsNearOptimum places d rows gap found.plan found.multipliers found.cost found.bound
+  pub status_is : status ≡ Done
+  pub text_is : text ≡ solved_shown show d.sets (all_variables d) found.plan rows found.multipliers found.cost found.bound found.pivots rounded places second_attempt
+
+-- what is due of a linear program by the exact method, and by the second attempt where it stops
+abbrev pub DueForEnd : ℕ → Data → List Row → ℕ → ℕ → Shown → ℕ → Status → List ℕ → Type 0
+DueForEnd places d rows gap pivots show rounded status text =
+    IsSolved places d rows gap pivots show rounded status text
+    ⊎ IsInfeasible places d rows pivots show rounded status text
+    ⊎ IsUnbounded places d rows pivots show rounded status text
+    ⊎ IsOutOfPivots d rows gap pivots status text
+    ⊎ IsTooWideToSolve d rows gap pivots status text
+    ⊎ HasWidePrice d rows gap pivots show status text
+    ⊎ IsSolvedOnGrid places d rows gap pivots show rounded status text
+
+-- ---- what is found in numbers of limited accuracy, and proved
+
+-- a plan that meets the named equations, and a bound within the gap of its cost that no such plan undercuts
+pub record IsFound (places : ℕ) (d : Data) (rows : List Row) (gap : ℕ) (show : Shown) (rounded attempt : ℕ) (status : Status) (text : List ℕ) : Type 0 where
+  pub plan : List (Var × Rational)
+  pub multipliers : List (RowName × Rational)
+  pub cost : Rational
+  pub bound : Rational
+  pub made : ℕ
+  pub optimum : IsNearOptimum places d rows gap plan multipliers cost bound
+  pub prices_fit : PricesFit show rows multipliers
+  pub status_is : status ≡ Done
+  pub text_is : text ≡ solved_shown show d.sets (all_variables d) plan rows multipliers cost bound made rounded places attempt
+
+-- no plan meets them
+pub record IsFoundInfeasible (places : ℕ) (d : Data) (rows : List Row) (show : Shown) (rounded attempt : ℕ) (status : Status) (text : List ℕ) : Type 0 where
+  pub multipliers : List (RowName × Rational)
+  pub made : ℕ
+  pub refuted : IsRefuted places d rows multipliers
+  pub status_is : status ≡ Infeasible
+  pub text_is : text ≡ infeasible_shown show d.sets multipliers made rounded places attempt
+
+-- ---- what is due
+
+-- of a linear program within the limits: with the rounded method what it finds, and where it finds nothing, as with the exact one, its end
+abbrev pub DueForMethod : ℕ → Data → List Row → ℕ → ℕ → Shown → SolveMethod → ℕ → Status → List ℕ → Type 0
+DueForMethod places d rows gap pivots show Exact rounded status text = DueForEnd places d rows gap pivots show rounded status text
+DueForMethod places d rows gap pivots show Rounded rounded status text =
+    IsFound places d rows gap show rounded third_attempt status text
+    ⊎ IsFoundInfeasible places d rows show rounded third_attempt status text
+    ⊎ DueForEnd places d rows gap pivots show rounded status text
+
+-- over the rows
+abbrev pub DueForRows : ℕ → Data → List Row → ℕ → ℕ → Shown → SolveMethod → ℕ → Status → List ℕ → Type 0
+DueForRows places d rows gap pivots show method rounded status text =
+    PassesLimits d rows status text ⊎ (IsWithinLimits rows (all_variables d) × DueForMethod places d rows gap pivots show method rounded status text)
+
+-- What is due over these data, for a gap in millionths, so many pivots at most, what is to be shown, and the method that is asked for.
+abbrev pub DueForSolve : ℕ → ℕ → ℕ → Shown → SolveMethod → ℕ → Data → Status → List ℕ → Type 0
+DueForSolve places gap pivots show method rounded d status text =
+    IsMadeFor places d (λ rows. DueForRows places d rows gap pivots show method rounded status text)
+    ⊎ IsUncertified places d status text ⊎ IsTooLarge places d status text

@@ -1,0 +1,45 @@
+-- What `make` says in a few lines of the model that it makes: how large it is, and what `solve` with its default options comes to.
+use Rattle.std.specs.Prelude.{◌≡◌, ℕ, List, ◌++◌, ◌⊎◌, length, codes}
+use Rattle.std.specs.Fmt.{decimal}
+use Rattle.model_sets.specs.Data.{Data}
+use Rattle.mps_writer.specs.MpsText.{line}
+use Rattle.row_core.specs.declared.Row.{Row}
+use Rattle.row_core.specs.declared.Var.{Var}
+use Rattle.named_equations.specs.Existence.{all_variables}
+use Rattle.exact_solver.specs.Sizes.{column_count, inequality_count}
+use Rattle.solve_command.specs.declared.solve.Shown.TheVariants.{Summary}
+use Rattle.command_answers.specs.declared.status.Status.{Status}
+use Rattle.command_answers.specs.MadeRows.{IsMadeFor, IsTooLarge, IsUncertified}
+use Rattle.command_words.specs.declared.command.SolveMethod.TheVariants.{Exact}
+use Rattle.solve_command.specs.Solve.{DueForRows}
+
+-- ---- lines
+
+-- the number that a model was made of
+abbrev pub made_line : ℕ → List ℕ
+made_line size = line (codes "made " ++ decimal size)
+
+-- how many equations and variables it has, and how many inequalities and columns the linear program that is solved
+abbrev pub counts_text : List Row → List Var → List ℕ
+counts_text rows vars =
+    line (codes "equations " ++ decimal (length rows)) ++ line (codes "variables " ++ decimal (length vars))
+    ++ line (codes "inequalities " ++ decimal (inequality_count rows)) ++ line (codes "columns " ++ decimal (column_count vars))
+
+-- ---- what is due
+
+-- the options that `solve` has by default: a gap of 0, 20,000 pivots, 6 decimal places, and the exact method
+abbrev pub default_pivots : ℕ
+default_pivots = 20000
+
+abbrev pub default_places : ℕ
+default_places = 6
+
+-- over the rows: the counts, and then the summary of what `solve` comes to
+abbrev pub DueAfterCounts : ℕ → Data → List Row → ℕ → Status → List ℕ → Type 0
+DueAfterCounts places d rows rounded status text =
+    (rest : List ℕ) × DueForRows places d rows 0 default_pivots Summary Exact rounded status rest × (text ≡ counts_text rows (all_variables d) ++ rest)
+
+-- What is due over the data of a model that was made.
+abbrev pub DueForSummary : ℕ → ℕ → Data → Status → List ℕ → Type 0
+DueForSummary places rounded d status text =
+    IsMadeFor places d (λ rows. DueAfterCounts places d rows rounded status text) ⊎ IsUncertified places d status text ⊎ IsTooLarge places d status text

@@ -1,0 +1,19 @@
+//! What `solve` answers over accepted data: an end of the exact method, or why there is none; and what `make` says in a few lines of
+//! the model that it makes.
+//!
+//! `solve` makes the book of rows and solves it, where it isn't too large, by the exact method or first by the rounded one (`rounding`); then come `ends` (the answer for a solution, or for the stop of
+//! the method) and `texts` (what is shown of a solution). `summary` puts the counts before the few lines of `make`; `promises` has the
+//! law on the prices of a report.
+#![tactic(auto)]
+
+mod ends;
+mod promises;
+mod rounding;
+mod second;
+mod solve;
+mod summary;
+mod texts;
+
+pub use promises::promise_laws;
+pub use solve::{Shown, Wanted, answer_book, answer_solve, shown_of};
+pub use summary::answer_summary;

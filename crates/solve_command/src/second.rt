@@ -1,0 +1,123 @@
+// The answer of the second attempt, where it gives something.
+ghost use Rattle.std.specs.Prelude.{◌≡◌, IfOk};
+ghost use Rattle.exact_num.specs.Value.{value_of};
+ghost use Rattle.row_core.specs.Numbers.{keys_of};
+ghost use Rattle.exact_solver.specs.Solutions.{AreNamedIn, IsPlan};
+ghost use Rattle.command_answers.specs.CheckedPlans.{IsListedBook};
+ghost use Rattle.solve_command.specs.Second.{IsLastOf, TellsGrid, TellsSecond, found_solution};
+ghost use Rattle.solve_command.specs.Solve.{second_attempt};
+
+use crate::solve::{Shown, Wanted};
+use crate::texts::{shown_beside, solution_text};
+use command_answers::{Answer, Status};
+use decimal_solver::{Found, second};
+use exact_solver::{Solution, eliminate_book};
+use model_sets::Sets;
+use row_book::RowBook;
+use row_core::Stopped;
+use std::alloc::{AllocError, Global};
+
+/// The number of the attempt that the method on a grid is.
+const SECOND_ATTEMPT: u8 = 2;
+
+/// What the second attempt gives over a book, of data of which so many numbers were rounded; where it gives nothing, the first answer.
+pub fn or_second(
+    alloc: Global,
+    book: &RowBook,
+    sets: &Sets,
+    places: u8,
+    wanted: Wanted,
+    rounded: u64,
+    first: Answer,
+) -> Result<Answer, AllocError>
+    requires { IsListedBook sets.now book.now.rows book.now.vars }
+    ensures { IfOk result (λ last. IsLastOf sets.now book.now.rows book.now.vars wanted.gap wanted.pivots wanted.show rounded places first last) }
+{
+    match answer_second(alloc, book, sets, places, wanted, rounded)? {
+        Some(answer) => Ok(answer),
+        None => Ok(first),
+    }
+}
+
+// The answer of the second attempt. None where it gives nothing.
+fn answer_second(
+    alloc: Global,
+    book: &RowBook,
+    sets: &Sets,
+    places: u8,
+    wanted: Wanted,
+    rounded: u64,
+) -> Result<Option<Answer>, AllocError>
+    requires { IsListedBook sets.now book.now.rows book.now.vars }
+    ensures { IfOk result (TellsSecond sets.now book.now.rows book.now.vars wanted.gap wanted.pivots wanted.show rounded places) }
+{
+    if wanted.gap == 0 {
+        return Ok(None);
+    }
+    let program = match eliminate_book(alloc, book) {
+        Ok(program) => program,
+        Err(Stopped::Width(_)) => return Ok(None),
+        Err(Stopped::Memory) => return Err(AllocError),
+    };
+    let pivots = u64::from(wanted.pivots);
+    match second(alloc, book, &program, wanted.gap, pivots)? {
+        Some(found) => answer_grid(alloc, book, sets, found, wanted.show, rounded, places),
+        None => Ok(None),
+    }
+}
+
+// The answer for what was found on the grid. None where a number that is formed for its prices doesn't fit, which making the report
+// shows, whatever is to be shown.
+fn answer_grid(
+    alloc: Global,
+    book: &RowBook,
+    sets: &Sets,
+    found: Found,
+    show: Shown,
+    rounded: u64,
+    places: u8,
+) -> Result<Option<Answer>, AllocError>
+    requires listed { IsListedBook sets.now book.now.rows book.now.vars }
+    requires whole { keys_of found.plan ≡ book.now.vars }
+    requires named { AreNamedIn book.now.rows found.multipliers }
+    ensures { IfOk result (TellsGrid sets.now book.now.rows book.now.vars show rounded places found) }
+{
+    let solution = solution_of(found);
+    let report = match solution_text(
+        alloc,
+        book,
+        sets,
+        &solution,
+        Shown::Report,
+        rounded,
+        places,
+        SECOND_ATTEMPT,
+    ) {
+        Ok(report) => report,
+        Err(Stopped::Width(_)) => return Ok(None),
+        Err(Stopped::Memory) => return Err(AllocError),
+    };
+    let text = shown_beside(alloc, book, sets, &solution, show, report)?;
+    let status = Status::Done;
+    Ok(Some(Answer { status, text }))
+}
+
+// What was found, as a solution of the exact method.
+fn solution_of(found: Found) -> Solution
+    ensures { result ≡ found_solution found }
+{
+    let Found {
+        plan,
+        multipliers,
+        cost,
+        bound,
+        pivots,
+    } = found;
+    Solution::Optimal {
+        plan,
+        multipliers,
+        cost,
+        bound,
+        pivots,
+    }
+}

@@ -1,0 +1,75 @@
+// What `make` says in a few lines of the model that it makes: how large it is, and what `solve` with its default options comes to.
+ghost use Rattle.std.specs.Prelude.{◌≡◌, ◌++◌, ℕ, IfOk, decimal};
+ghost use Rattle.discount_factors.specs.Factors.{IsPlaces};
+ghost use Rattle.model_sets.specs.Data.{AreSameData, Data};
+ghost use Rattle.command_answers.specs.CheckedPlans.{IsBookOf, IsListedBook};
+ghost use Rattle.solve_command.specs.Summary.{DueAfterCounts, DueForSummary, counts_text};
+
+use crate::solve::{Shown, Wanted, answer_book};
+use command_answers::{Answer, push_count, refuse_book};
+use command_words::SolveMethod;
+use exact_solver::size_of;
+use model_sets::Sets;
+use param_tables::ModelData;
+use row_book::{RowBook, same_data_laws};
+use std::alloc::{AllocError, Global};
+
+/// What is due over any data that have the model's sets and values, with written factors of 6 or 9 decimal places.
+pub fn answer_summary(alloc: Global, model: &ModelData, places: u8) -> Result<Answer, AllocError>
+    requires { IsPlaces places }
+    ensures { IfOk result (λ answer. (d : Data) → AreSameData model.now.facts d
+        → DueForSummary places model.now.rounded d answer.status answer.text.items) }
+{
+    same_data_laws();
+    summarize_model(alloc, model, places)
+}
+
+// The same over the model's own data.
+fn summarize_model(alloc: Global, model: &ModelData, places: u8) -> Result<Answer, AllocError>
+    requires { IsPlaces places }
+    ensures { IfOk result (λ answer.
+        DueForSummary places model.now.rounded model.now.facts answer.status answer.text.items) }
+{
+    match RowBook::new(alloc, model, places) {
+        Ok(book) => summarize_book(alloc, &book, model.sets(), places, model.rounded()),
+        Err(fail) => refuse_book(alloc, fail, model.sets()),
+    }
+}
+
+// What is due over a book of rows with written factors of so many decimal places, of data of which so many numbers were rounded: the counts, and then what solving comes to.
+fn summarize_book(
+    alloc: Global,
+    book: &RowBook,
+    sets: &Sets,
+    places: u8,
+    rounded: u64,
+) -> Result<Answer, AllocError>
+    requires { IsListedBook sets.now book.now.rows book.now.vars }
+    ensures { (d : Data) → sets.now ≡ d.sets → IsBookOf places d book.now.rows book.now.vars
+        → IfOk result (λ answer. DueAfterCounts places d book.now.rows rounded answer.status answer.text.items) }
+{
+    let wanted = Wanted {
+        gap: 0,
+        pivots: 20_000,
+        show: Shown::Summary,
+        method: SolveMethod::Exact,
+    };
+    let mut text = counts_text(alloc, book)?;
+    let answer = answer_book(alloc, book, sets, places, wanted, rounded)?;
+    text.extend_from_slice(&answer.text)?;
+    let status = answer.status;
+    Ok(Answer { status, text })
+}
+
+// The counts of a book.
+fn counts_text(alloc: Global, book: &RowBook) -> Result<Vec<u8>, AllocError>
+    ensures { IfOk result (λ text. text.items ≡ counts_text book.now.rows book.now.vars) }
+{
+    let size = size_of(book);
+    let mut text = Vec::new(alloc);
+    push_count(&mut text, b"equations ", book.rows().len() as u64)?;
+    push_count(&mut text, b"variables ", book.vars().len() as u64)?;
+    push_count(&mut text, b"inequalities ", size.rows)?;
+    push_count(&mut text, b"columns ", size.columns)?;
+    Ok(text)
+}

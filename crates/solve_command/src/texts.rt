@@ -1,0 +1,221 @@
+// What is shown of a solution: a report, its plan, its multipliers or a few lines.
+ghost use Rattle.std.specs.Prelude.{◌≡◌, ℕ, [], IfErr, IfOk, OnOk};
+ghost use Rattle.exact_num.specs.Value.{value_of};
+ghost use Rattle.exact_solver.specs.Solutions.{IsComplete, IsNamed};
+ghost use Rattle.command_answers.specs.CheckedPlans.{IsListedBook};
+ghost use Rattle.solve_command.specs.SolveOutcomes.{PricesAreStopped, PricesFitIn, multipliers_shown, plan_shown, report_shown, solution_shown, summary_shown};
+ghost use Rattle.solve_command.specs.SolveTexts.{multiplier_file, plan_file, solved_lines};
+ghost use Rattle.solve_command.specs.declared.solve.Shown.TheVariants as shows;
+
+use crate::solve::Shown;
+use command_answers::{push_amount, push_with_number};
+use exact_num::Frac;
+use exact_solver::Solution;
+use model_sets::Sets;
+use plan_files::{multiplier_text, plan_text};
+use result_tables::{infeasible_report, report, unbounded_report};
+use row_book::RowBook;
+use row_core::{Multipliers, Plan, Stopped};
+use std::alloc::{AllocError, Global};
+
+/// The text of what is to be shown of a solution of a book, of data of which so many numbers were rounded, with written factors of
+/// so many decimal places, and by the attempt of this number. A file of a plan or of multipliers that there aren't is its header alone.
+///
+/// `Width` comes exactly where a report, or a summary of it, is to be shown and a number that is formed for a price doesn't fit.
+pub fn solution_text(
+    alloc: Global,
+    book: &RowBook,
+    sets: &Sets,
+    solution: &Solution,
+    show: Shown,
+    rounded: u64,
+    places: u8,
+    attempt: u8,
+) -> Result<Vec<u8>, Stopped>
+    requires listed { IsListedBook sets.now book.now.rows book.now.vars }
+    requires complete { IsComplete book.now.vars solution.now }
+    requires named { IsNamed book.now.rows solution.now }
+    ensures text { IfOk result (λ text. text.items ≡ solution_shown show sets.now book.now.rows book.now.vars rounded places attempt solution.now) }
+    ensures fits { OnOk result (PricesFitIn show book.now.rows solution.now) }
+    ensures stopped { IfErr result (PricesAreStopped show book.now.rows solution.now) }
+{
+    match show {
+        Shown::Report => report_of(alloc, book, sets, solution, rounded, places, attempt),
+        Shown::Plan => Ok(plan_of(alloc, book, sets, solution)?),
+        Shown::Multipliers => Ok(multipliers_of(alloc, book, sets, solution)?),
+        Shown::Summary => summary_of(alloc, book, sets, solution, rounded, places, attempt),
+    }
+}
+
+/// The same where its report is at hand.
+pub fn shown_beside(
+    alloc: Global,
+    book: &RowBook,
+    sets: &Sets,
+    solution: &Solution,
+    show: Shown,
+    report: Vec<u8>,
+) -> Result<Vec<u8>, AllocError>
+    requires listed { IsListedBook sets.now book.now.rows book.now.vars }
+    requires complete { IsComplete book.now.vars solution.now }
+    requires named { IsNamed book.now.rows solution.now }
+    ensures { (rounded places attempt : ℕ) → report.items ≡ report_shown sets.now book.now.rows book.now.vars rounded places attempt solution.now
+        → IfOk result (λ text. text.items ≡ solution_shown show sets.now book.now.rows book.now.vars rounded places attempt solution.now) }
+{
+    match show {
+        Shown::Report => Ok(report),
+        Shown::Plan => plan_of(alloc, book, sets, solution),
+        Shown::Multipliers => multipliers_of(alloc, book, sets, solution),
+        Shown::Summary => summary_text(alloc, solution),
+    }
+}
+
+// The report of a solution.
+fn report_of(
+    alloc: Global,
+    book: &RowBook,
+    sets: &Sets,
+    solution: &Solution,
+    rounded: u64,
+    places: u8,
+    attempt: u8,
+) -> Result<Vec<u8>, Stopped>
+    requires listed { IsListedBook sets.now book.now.rows book.now.vars }
+    requires complete { IsComplete book.now.vars solution.now }
+    ensures text { IfOk result (λ text. text.items ≡ report_shown sets.now book.now.rows book.now.vars rounded places attempt solution.now) }
+    ensures fits { OnOk result (PricesFitIn shows.Report book.now.rows solution.now) }
+    ensures stopped { IfErr result (PricesAreStopped shows.Report book.now.rows solution.now) }
+{
+    match solution {
+        Solution::Optimal {
+            plan,
+            multipliers,
+            cost,
+            bound,
+            pivots,
+        } => report(
+            alloc,
+            book.rows(),
+            book.vars(),
+            plan,
+            multipliers,
+            *cost,
+            *bound,
+            *pivots,
+            rounded,
+            places,
+            attempt,
+            sets,
+        ),
+        Solution::Infeasible { pivots, .. } => Ok(infeasible_report(
+            alloc, *pivots, rounded, places, attempt,
+        )?),
+        Solution::Unbounded {
+            direction,
+            pivots,
+            ..
+        } => Ok(unbounded_report(alloc, direction, *pivots, rounded, places, sets)?),
+    }
+}
+
+// The summary of a solution. Making the report shows whether the numbers that are formed for its prices fit.
+fn summary_of(
+    alloc: Global,
+    book: &RowBook,
+    sets: &Sets,
+    solution: &Solution,
+    rounded: u64,
+    places: u8,
+    attempt: u8,
+) -> Result<Vec<u8>, Stopped>
+    requires listed { IsListedBook sets.now book.now.rows book.now.vars }
+    requires complete { IsComplete book.now.vars solution.now }
+    ensures text { IfOk result (λ text. text.items ≡ summary_shown solution.now) }
+    ensures fits { OnOk result (PricesFitIn shows.Summary book.now.rows solution.now) }
+    ensures stopped { IfErr result (PricesAreStopped shows.Summary book.now.rows solution.now) }
+{
+    let _report = report_of(alloc, book, sets, solution, rounded, places, attempt)?;
+    Ok(summary_text(alloc, solution)?)
+}
+
+// Its text.
+fn summary_text(alloc: Global, solution: &Solution) -> Result<Vec<u8>, AllocError>
+    ensures { IfOk result (λ text. text.items ≡ summary_shown solution.now) }
+{
+    match solution {
+        Solution::Optimal {
+            cost,
+            bound,
+            pivots,
+            ..
+        } => solved_lines(alloc, *cost, *bound, *pivots),
+        Solution::Infeasible { .. } => Vec::from_slice(alloc, b"status infeasible\n"),
+        Solution::Unbounded { .. } => Vec::from_slice(alloc, b"status unbounded\n"),
+    }
+}
+
+// The lines of an optimum.
+fn solved_lines(alloc: Global, cost: Frac, bound: Frac, pivots: u64) -> Result<Vec<u8>, AllocError>
+    ensures { IfOk result (λ text. text.items ≡ solved_lines (value_of cost) (value_of bound) pivots) }
+{
+    let mut text = Vec::from_slice(alloc, b"status solved\n")?;
+    push_amount(&mut text, b"cost ", cost)?;
+    push_amount(&mut text, b"bound ", bound)?;
+    push_with_number(&mut text, b"pivots ", pivots)?;
+    text.extend_from_slice(b"\n")?;
+    Ok(text)
+}
+
+// The file of its plan.
+fn plan_of(
+    alloc: Global,
+    book: &RowBook,
+    sets: &Sets,
+    solution: &Solution,
+) -> Result<Vec<u8>, AllocError>
+    requires listed { IsListedBook sets.now book.now.rows book.now.vars }
+    requires complete { IsComplete book.now.vars solution.now }
+    ensures { IfOk result (λ text. text.items ≡ plan_shown sets.now solution.now) }
+{
+    match solution {
+        Solution::Optimal { plan, .. } | Solution::Unbounded { plan, .. } => {
+            plan_text(alloc, plan, sets)
+        }
+        Solution::Infeasible { .. } => no_plan(alloc, sets),
+    }
+}
+
+// The file of a plan that there isn't.
+fn no_plan(alloc: Global, sets: &Sets) -> Result<Vec<u8>, AllocError>
+    ensures { IfOk result (λ text. text.items ≡ plan_file sets.now []) }
+{
+    let none = Plan::of(Vec::new(alloc));
+    plan_text(alloc, &none, sets)
+}
+
+// The file of its multipliers.
+fn multipliers_of(
+    alloc: Global,
+    book: &RowBook,
+    sets: &Sets,
+    solution: &Solution,
+) -> Result<Vec<u8>, AllocError>
+    requires listed { IsListedBook sets.now book.now.rows book.now.vars }
+    requires named { IsNamed book.now.rows solution.now }
+    ensures { IfOk result (λ text. text.items ≡ multipliers_shown sets.now solution.now) }
+{
+    match solution {
+        Solution::Optimal { multipliers, .. } | Solution::Infeasible { multipliers, .. } => {
+            multiplier_text(alloc, multipliers, sets)
+        }
+        Solution::Unbounded { .. } => no_multipliers(alloc, sets),
+    }
+}
+
+// The file of multipliers that there aren't.
+fn no_multipliers(alloc: Global, sets: &Sets) -> Result<Vec<u8>, AllocError>
+    ensures { IfOk result (λ text. text.items ≡ multiplier_file sets.now []) }
+{
+    let none = Multipliers::of(Vec::new(alloc));
+    multiplier_text(alloc, &none, sets)
+}
