@@ -1,8 +1,8 @@
 #!/bin/sh
 # Prints the processor time and the most memory in which the exact simplex solves made files, less the time of all that comes before it;
-# how many rows and columns it begins with, its pivots and the cost; and the time and memory of esolver (QSopt_ex) on the text of
-# `osemosys mps`, with whether both costs are the same. It proves and builds a small program in a copy of the repository. Words choose
-# the files whose names have one of them.
+# how many rows and columns it begins with, its pivots, how many of them phase 1 makes by the kept rows, and the cost; and the time and
+# memory of esolver (QSopt_ex) on the text of `osemosys mps`, with whether both costs are the same. It proves and builds a small program
+# in a copy of the repository. Words choose the files whose names have one of them. It fails where phase 1 begins anew.
 top=$(cd "$(dirname "$0")/.." && pwd)
 name=simplex.sh
 . "$top/bench/common.sh"

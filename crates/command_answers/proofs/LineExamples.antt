@@ -1,5 +1,5 @@
 -- The lines of refusals and of stops, and the exit statuses, computed on examples.
-use Rattle.std.proofs.Common.{◌≡◌, [], ◌∷◌, refl}
+use Rattle.std.proofs.Common.{◌≡◌, [], ◌∷◌, Some, None, refl}
 use Rattle.std.specs.Prelude.{codes}
 use Rattle.std.specs.Fmt.{digits}
 use Rattle.model_sets.specs.Members.{SetLists}
@@ -19,7 +19,9 @@ use Rattle.command_answers.specs.declared.status.Status.TheVariants.{Infeasible,
 use Rattle.command_answers.specs.Codes.{code_of}
 use Rattle.command_answers.specs.Lines.{entries_line, stop_line, too_large_line, too_long_line, uncertified_line, words_line}
 use Rattle.command_answers.specs.PlanFaultLines.{multiplier_fault_line, plan_fault_line}
-use Rattle.command_answers.specs.RefusalLines.{text_line, set_line, data_line}
+use Rattle.command_answers.specs.RefusalLines.{text_line, set_line, data_line, no_such_line}
+use Rattle.model_sets.specs.declared.set_numbers.TheConstants.{EMISSION, YEAR}
+use Rattle.model_sets.specs.Members.{index_of}
 
 -- ---- words and files
 
@@ -154,3 +156,18 @@ no_plan = refl
 
 no_bound : code_of Unbounded ≡ 2
 no_bound = refl
+
+-- ---- members that words name
+
+no_such_emission : no_such_line EMISSION ≡ codes "refused no such EMISSION\n"
+no_such_emission = refl
+
+no_such_year : no_such_line YEAR ≡ codes "refused no such YEAR\n"
+no_such_year = refl
+
+-- names are compared byte by byte
+second_member : index_of (codes "CO2" ∷ codes "NOX" ∷ []) (codes "NOX") ≡ Some 1
+second_member = refl
+
+no_member : index_of (codes "7" ∷ []) (codes "007") ≡ None
+no_member = refl

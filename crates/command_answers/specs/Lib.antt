@@ -5,6 +5,7 @@ pub mod Codes
 pub mod DueForText
 pub mod Lines
 pub mod MadeRows
+pub mod NamedMembers
 pub mod NotAccepted
 pub mod PlacesWithin
 pub mod PlanFaultLines

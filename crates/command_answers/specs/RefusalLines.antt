@@ -1,4 +1,4 @@
--- The lines that say why a data file is refused.
+-- The lines that say why a data file is refused, or a word that names no member of a set.
 use Rattle.std.specs.Prelude.{ℕ, ◌==◌, List, [], ◌++◌, codes, if◌then◌else◌}
 use Rattle.std.specs.Fmt.{decimal}
 use Rattle.std.specs.List.{join_with_byte}
@@ -58,6 +58,10 @@ text_line number at = place_line at (text_fault_word number)
 -- the line for a fault of the sets
 abbrev pub set_line : SetFault → List ℕ
 set_line fault = line (codes "refused set " ++ set_word fault.set ++ codes " " ++ set_fault_word fault.no)
+
+-- the line for a word that names no member of the set
+abbrev pub no_such_line : ℕ → List ℕ
+no_such_line set = line (codes "refused no such " ++ set_word set)
 
 -- the line for what is wrong with a parameter at an index, with the names of its members in the parameter's own order of subscripts
 abbrev pub cell_line : List ℕ → ℕ → List (List ℕ) → List ℕ

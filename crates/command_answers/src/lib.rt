@@ -3,7 +3,7 @@
 //!
 //! A command's own crate stands on this one: it takes accepted data (`accepting`), makes the book of rows (`books` where that can't be
 //! made), and answers with a status and a text (`answer`). Stops of a method and their lines are in `stops` and `lines`, the names of places in
-//! `places`.
+//! `places`, and members that words of a command name in `named_members`.
 #![tactic(auto)]
 
 mod accepting;
@@ -11,6 +11,7 @@ mod amounts;
 mod answer;
 mod books;
 mod lines;
+mod named_members;
 mod places;
 mod plan_fault_lines;
 mod refusal_lines;
@@ -23,6 +24,7 @@ pub use answer::{Answer, refuse_words};
 pub use books::{refuse_book, refuse_size};
 pub use command_words::WordFault;
 pub use lines::{push_trial_stop, stop_line, too_long_line};
+pub use named_members::find_member;
 pub use places::{push_place, push_with_row, push_with_var};
 pub use plan_fault_lines::{multiplier_fault_line, plan_fault_line};
 pub use simplex_core::{Stop, TrialStop};

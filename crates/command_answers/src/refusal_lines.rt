@@ -1,11 +1,11 @@
-//! The lines that say why a data file is refused.
+//! The lines that say why a data file is refused, or a word that names no member of a set.
 
 ghost use Rattle.std.specs.Prelude.{◌≡◌, ◌++◌, [], codes, if◌then◌else◌, IfOk, OnOk};
 ghost use Rattle.std.specs.List.{join_with_byte};
 ghost use Rattle.model_sets.specs.Names.{IsSet};
 ghost use Rattle.param_tables.specs.Positions.{names_at};
 ghost use Rattle.param_tables.specs.Told.{IsCell, NamesCell, refusal_told};
-ghost use Rattle.command_answers.specs.RefusalLines.{cell_line, data_line, place_line, set_fault_word, set_line, text_fault_word, text_line};
+ghost use Rattle.command_answers.specs.RefusalLines.{cell_line, data_line, no_such_line, place_line, set_fault_word, set_line, text_fault_word, text_line};
 
 use itoa::Buffer;
 use mathprog_data::{DataFault, Mark};
@@ -29,6 +29,17 @@ pub fn set_line(alloc: Global, fault: SetFault) -> Result<Vec<u8>, AllocError>
     out.extend_from_slice(set_word(fault.set).as_bytes())?;
     out.extend_from_slice(b" ")?;
     out.extend_from_slice(set_fault_word(fault.no).as_bytes())?;
+    out.extend_from_slice(b"\n")?;
+    Ok(out)
+}
+
+/// The line for a word that names no member of the set: `refused no such SET`.
+pub fn no_such_line(alloc: Global, set: u8) -> Result<Vec<u8>, AllocError>
+    requires { IsSet set }
+    ensures { IfOk result (λ line. line.items ≡ no_such_line set) }
+{
+    let mut out = Vec::from_slice(alloc, b"refused no such ")?;
+    out.extend_from_slice(set_word(set).as_bytes())?;
     out.extend_from_slice(b"\n")?;
     Ok(out)
 }

@@ -54,6 +54,8 @@ pub enum Refusal {
     TooManyEntries,
     /// The linear program has so many inequalities and so many columns: more than 20,000, or more than 40,000.
     TooLarge(u64, u64),
+    /// A word of the command names no member of the set of this number.
+    NoSuch(u8),
 }
 
 /// Why a file couldn't be read. Files count from 1, in the order of the words.

@@ -13,7 +13,7 @@ use Rattle.clap.specs.Faults.{default_fault, defaults_fault, fault_of, walk_faul
 use Rattle.clap.proofs.FaultLemmas.{leaf_fault}
 use Rattle.command_words.specs.ClapWords.{app, clap_rows, is_fault}
 use Rattle.command_words.specs.Words.{files_in, values_in}
-use Rattle.command_words.specs.WordParts.{OptionName, Gap, Pivots, Places, Show, Method, Part, File, Chosen, parts_from, parts_of}
+use Rattle.command_words.specs.WordParts.{OptionName, Gap, Pivots, Places, Show, Method, Slack, Part, File, Chosen, parts_from, parts_of}
 use Rattle.command_words.specs.WordReading.{Given, given_by}
 use Rattle.command_words.proofs.ClapTurns.{at, chosen, file, id_of, rules, settling, shape}
 use Rattle.command_words.proofs.ClapOptions.{or_else_nil}
@@ -33,9 +33,9 @@ all_values o value parts = earlier value ++ values_in o parts
 abbrev is_one : List Text → Bool
 is_one values = nat_le (length values) 1
 
-abbrev together : List Text → Option Text → Option Text → Option Text → Option Text → Option Text → List Part → Option Given
-together files gap pivots places show method parts =
-    cond (is_one (all_values Gap gap parts) && is_one (all_values Pivots pivots parts) && is_one (all_values Places places parts) && is_one (all_values Show show parts) && is_one (all_values Method method parts))
+abbrev together : List Text → Option Text → Option Text → Option Text → Option Text → Option Text → Option Text → List Part → Option Given
+together files gap pivots places show method slack parts =
+    cond (is_one (all_values Gap gap parts) && is_one (all_values Pivots pivots parts) && is_one (all_values Places places parts) && is_one (all_values Show show parts) && is_one (all_values Method method parts) && is_one (all_values Slack slack parts))
     (Some (record {
       files = files ++ files_in parts;
       gap = slice_get (all_values Gap gap parts) 0;
@@ -43,6 +43,7 @@ together files gap pivots places show method parts =
       places = slice_get (all_values Places places parts) 0;
       show = slice_get (all_values Show show parts) 0;
       method = slice_get (all_values Method method parts) 0;
+      slack = slice_get (all_values Slack slack parts) 0;
     })) None
 
 two_are_not_one : (x y : Text) (zs : List Text) → is_one (x ∷ y ∷ zs) ≡ false
@@ -52,67 +53,49 @@ second_false : (a : Bool) → (a && false) ≡ false
 second_false true = refl
 second_false false = refl
 
--- no more parts: each option was given once at most
-gathered_all : (files : List Text) (gap pivots places show method : Option Text)
-    → Some (record { files = files; gap = gap; pivots = pivots; places = places; show = show; method = method }) ≡ together files gap pivots places show method []
-gathered_all files None None None None None = rw (append-nil files) refl
-gathered_all files None None None None (Some e) = rw (append-nil files) refl
-gathered_all files None None None (Some d) None = rw (append-nil files) refl
-gathered_all files None None None (Some d) (Some e) = rw (append-nil files) refl
-gathered_all files None None (Some c) None None = rw (append-nil files) refl
-gathered_all files None None (Some c) None (Some e) = rw (append-nil files) refl
-gathered_all files None None (Some c) (Some d) None = rw (append-nil files) refl
-gathered_all files None None (Some c) (Some d) (Some e) = rw (append-nil files) refl
-gathered_all files None (Some b) None None None = rw (append-nil files) refl
-gathered_all files None (Some b) None None (Some e) = rw (append-nil files) refl
-gathered_all files None (Some b) None (Some d) None = rw (append-nil files) refl
-gathered_all files None (Some b) None (Some d) (Some e) = rw (append-nil files) refl
-gathered_all files None (Some b) (Some c) None None = rw (append-nil files) refl
-gathered_all files None (Some b) (Some c) None (Some e) = rw (append-nil files) refl
-gathered_all files None (Some b) (Some c) (Some d) None = rw (append-nil files) refl
-gathered_all files None (Some b) (Some c) (Some d) (Some e) = rw (append-nil files) refl
-gathered_all files (Some a) None None None None = rw (append-nil files) refl
-gathered_all files (Some a) None None None (Some e) = rw (append-nil files) refl
-gathered_all files (Some a) None None (Some d) None = rw (append-nil files) refl
-gathered_all files (Some a) None None (Some d) (Some e) = rw (append-nil files) refl
-gathered_all files (Some a) None (Some c) None None = rw (append-nil files) refl
-gathered_all files (Some a) None (Some c) None (Some e) = rw (append-nil files) refl
-gathered_all files (Some a) None (Some c) (Some d) None = rw (append-nil files) refl
-gathered_all files (Some a) None (Some c) (Some d) (Some e) = rw (append-nil files) refl
-gathered_all files (Some a) (Some b) None None None = rw (append-nil files) refl
-gathered_all files (Some a) (Some b) None None (Some e) = rw (append-nil files) refl
-gathered_all files (Some a) (Some b) None (Some d) None = rw (append-nil files) refl
-gathered_all files (Some a) (Some b) None (Some d) (Some e) = rw (append-nil files) refl
-gathered_all files (Some a) (Some b) (Some c) None None = rw (append-nil files) refl
-gathered_all files (Some a) (Some b) (Some c) None (Some e) = rw (append-nil files) refl
-gathered_all files (Some a) (Some b) (Some c) (Some d) None = rw (append-nil files) refl
-gathered_all files (Some a) (Some b) (Some c) (Some d) (Some e) = rw (append-nil files) refl
+-- no more parts: each option was given once at most, and its value is the one that was given
+no_more : (value : Option Text) → is_one (earlier value ++ []) ≡ true
+no_more None = refl
+no_more (Some value) = refl
 
-gathered_is : (parts : List Part) (files : List Text) (gap pivots places show method : Option Text)
-    → gathered (record { files = files; gap = gap; pivots = pivots; places = places; show = show; method = method }) parts ≡ together files gap pivots places show method parts
-gathered_is [] files gap pivots places show method = gathered_all files gap pivots places show method
-gathered_is (File name ∷ parts) files gap pivots places show method =
-    gathered_is parts (files ++ name ∷ []) gap pivots places show method
-    ∙ ap (λ all. cond (is_one (all_values Gap gap parts) && is_one (all_values Pivots pivots parts) && is_one (all_values Places places parts) && is_one (all_values Show show parts) && is_one (all_values Method method parts))
-    (Some (record { files = all; gap = slice_get (all_values Gap gap parts) 0; pivots = slice_get (all_values Pivots pivots parts) 0; places = slice_get (all_values Places places parts) 0; show = slice_get (all_values Show show parts) 0; method = slice_get (all_values Method method parts) 0 })) None)
+still : (value : Option Text) → slice_get (earlier value ++ []) 0 ≡ value
+still None = refl
+still (Some value) = refl
+
+gathered_all : (files : List Text) (gap pivots places show method slack : Option Text)
+    → Some (record { files = files; gap = gap; pivots = pivots; places = places; show = show; method = method; slack = slack }) ≡ together files gap pivots places show method slack []
+gathered_all files gap pivots places show method slack =
+    rw (no_more gap, no_more pivots, no_more places, no_more show, no_more method, no_more slack, still gap, still pivots, still places, still show, still method, still slack, append-nil files) refl
+
+gathered_is : (parts : List Part) (files : List Text) (gap pivots places show method slack : Option Text)
+    → gathered (record { files = files; gap = gap; pivots = pivots; places = places; show = show; method = method; slack = slack }) parts ≡ together files gap pivots places show method slack parts
+gathered_is [] files gap pivots places show method slack = gathered_all files gap pivots places show method slack
+gathered_is (File name ∷ parts) files gap pivots places show method slack =
+    gathered_is parts (files ++ name ∷ []) gap pivots places show method slack
+    ∙ ap (λ all. cond (is_one (all_values Gap gap parts) && is_one (all_values Pivots pivots parts) && is_one (all_values Places places parts) && is_one (all_values Show show parts) && is_one (all_values Method method parts) && is_one (all_values Slack slack parts))
+    (Some (record { files = all; gap = slice_get (all_values Gap gap parts) 0; pivots = slice_get (all_values Pivots pivots parts) 0; places = slice_get (all_values Places places parts) 0; show = slice_get (all_values Show show parts) 0; method = slice_get (all_values Method method parts) 0; slack = slice_get (all_values Slack slack parts) 0 })) None)
     (append_assoc files (name ∷ []) (files_in parts))
-gathered_is (Chosen Gap value ∷ parts) files None pivots places show method = gathered_is parts files (Some value) pivots places show method
-gathered_is (Chosen Gap value ∷ parts) files (Some a) pivots places show method = rw (two_are_not_one a value (values_in Gap parts)) refl
-gathered_is (Chosen Pivots value ∷ parts) files gap None places show method = gathered_is parts files gap (Some value) places show method
-gathered_is (Chosen Pivots value ∷ parts) files gap (Some b) places show method = rw (two_are_not_one b value (values_in Pivots parts), second_false (is_one (all_values Gap gap parts))) refl
-gathered_is (Chosen Places value ∷ parts) files gap pivots None show method = gathered_is parts files gap pivots (Some value) show method
-gathered_is (Chosen Places value ∷ parts) files gap pivots (Some c) show method =
+gathered_is (Chosen Gap value ∷ parts) files None pivots places show method slack = gathered_is parts files (Some value) pivots places show method slack
+gathered_is (Chosen Gap value ∷ parts) files (Some a) pivots places show method slack = rw (two_are_not_one a value (values_in Gap parts)) refl
+gathered_is (Chosen Pivots value ∷ parts) files gap None places show method slack = gathered_is parts files gap (Some value) places show method slack
+gathered_is (Chosen Pivots value ∷ parts) files gap (Some b) places show method slack =
+    rw (two_are_not_one b value (values_in Pivots parts), second_false (is_one (all_values Gap gap parts))) refl
+gathered_is (Chosen Places value ∷ parts) files gap pivots None show method slack = gathered_is parts files gap pivots (Some value) show method slack
+gathered_is (Chosen Places value ∷ parts) files gap pivots (Some c) show method slack =
     rw (two_are_not_one c value (values_in Places parts), second_false (is_one (all_values Gap gap parts) && is_one (all_values Pivots pivots parts))) refl
-gathered_is (Chosen Show value ∷ parts) files gap pivots places None method = gathered_is parts files gap pivots places (Some value) method
-gathered_is (Chosen Show value ∷ parts) files gap pivots places (Some d) method =
+gathered_is (Chosen Show value ∷ parts) files gap pivots places None method slack = gathered_is parts files gap pivots places (Some value) method slack
+gathered_is (Chosen Show value ∷ parts) files gap pivots places (Some d) method slack =
     rw (two_are_not_one d value (values_in Show parts), second_false (is_one (all_values Gap gap parts) && is_one (all_values Pivots pivots parts) && is_one (all_values Places places parts))) refl
-gathered_is (Chosen Method value ∷ parts) files gap pivots places show None = gathered_is parts files gap pivots places show (Some value)
-gathered_is (Chosen Method value ∷ parts) files gap pivots places show (Some e) =
+gathered_is (Chosen Method value ∷ parts) files gap pivots places show None slack = gathered_is parts files gap pivots places show (Some value) slack
+gathered_is (Chosen Method value ∷ parts) files gap pivots places show (Some e) slack =
     rw (two_are_not_one e value (values_in Method parts), second_false (is_one (all_values Gap gap parts) && is_one (all_values Pivots pivots parts) && is_one (all_values Places places parts) && is_one (all_values Show show parts))) refl
+gathered_is (Chosen Slack value ∷ parts) files gap pivots places show method None = gathered_is parts files gap pivots places show method (Some value)
+gathered_is (Chosen Slack value ∷ parts) files gap pivots places show method (Some f) =
+    rw (two_are_not_one f value (values_in Slack parts), second_false (is_one (all_values Gap gap parts) && is_one (all_values Pivots pivots parts) && is_one (all_values Places places parts) && is_one (all_values Show show parts) && is_one (all_values Method method parts))) refl
 
 gathers_is : (parts : Option (List Part)) → gathers nothing_given parts ≡ given_by parts
 gathers_is None = refl
-gathers_is (Some parts) = gathered_is parts [] None None None None None
+gathers_is (Some parts) = gathered_is parts [] None None None None None None
 
 -- ---- what clap's rows give
 
@@ -124,6 +107,7 @@ given_rows rows = record {
   places = first_of (codes "places") rows;
   show = first_of (codes "show") rows;
   method = first_of (codes "method") rows;
+  slack = first_of (codes "slack") rows;
 }
 
 first_is : (id : Text) (rows : List Row) → first_of id rows ≡ option_and_then (λ values. slice_get values 0) (all_of id rows)
@@ -134,7 +118,7 @@ first_is id rows = go (find (λ r. bytes_eq r.id id) rows)
     go (Some r) = refl
 
 says_is : (rows : List Row) (g : Given) → Says rows g → given_rows rows ≡ g
-says_is rows g s = λ i. record { files = files i; gap = value Gap i; pivots = value Pivots i; places = value Places i; show = value Show i; method = value Method i }
+says_is rows g s = λ i. record { files = files i; gap = value Gap i; pivots = value Pivots i; places = value Places i; show = value Show i; method = value Method i; slack = value Slack i }
   where
     unlisted : (xs : List Text) → unwrap_or (listed xs) [] ≡ xs
     unlisted [] = refl
@@ -170,6 +154,7 @@ no_default rows = (rw (either (has_row (codes "file") rows)) refl, of)
     of Places = rw (either (has_row (codes "places") rows)) refl
     of Show = rw (either (has_row (codes "show") rows)) refl
     of Method = rw (either (has_row (codes "method") rows)) refl
+    of Slack = rw (either (has_row (codes "slack") rows)) refl
 
 no_defaults : (rows : List Row) → defaults_fault rows rules ≡ []
 unfolding defaults_fault
@@ -179,17 +164,19 @@ no_defaults rows =
     let after_pivots = with_default after_gap (chosen Pivots) in
     let after_places = with_default after_pivots (chosen Places) in
     let after_show = with_default after_places (chosen Show) in
+    let after_method = with_default after_show (chosen Method) in
     ap₂ or_else (no_default rows).0
-    (ap₂ or_else ((no_default after_file).1 Gap) (ap₂ or_else ((no_default after_gap).1 Pivots) (ap₂ or_else ((no_default after_pivots).1 Places) (ap₂ or_else ((no_default after_places).1 Show) (ap₂ or_else ((no_default after_show).1 Method) refl)))))
+    (ap₂ or_else ((no_default after_file).1 Gap) (ap₂ or_else ((no_default after_gap).1 Pivots) (ap₂ or_else ((no_default after_pivots).1 Places) (ap₂ or_else ((no_default after_places).1 Show) (ap₂ or_else ((no_default after_show).1 Method) (ap₂ or_else ((no_default after_method).1 Slack) refl))))))
 
 kept : (rows : List Row) → fold with_default rows rules ≡ rows
 kept rows =
-    ap (λ r. with_default (with_default (with_default (with_default (with_default r (chosen Gap)) (chosen Pivots)) (chosen Places)) (chosen Show)) (chosen Method)) (both_same (has_row (codes "file") rows) rows)
-    ∙ ap (λ r. with_default (with_default (with_default (with_default r (chosen Pivots)) (chosen Places)) (chosen Show)) (chosen Method)) (both_same (has_row (codes "gap") rows) rows)
-    ∙ ap (λ r. with_default (with_default (with_default r (chosen Places)) (chosen Show)) (chosen Method)) (both_same (has_row (codes "pivots") rows) rows)
-    ∙ ap (λ r. with_default (with_default r (chosen Show)) (chosen Method)) (both_same (has_row (codes "places") rows) rows)
-    ∙ ap (λ r. with_default r (chosen Method)) (both_same (has_row (codes "show") rows) rows)
-    ∙ both_same (has_row (codes "method") rows) rows
+    ap (λ r. with_default (with_default (with_default (with_default (with_default (with_default r (chosen Gap)) (chosen Pivots)) (chosen Places)) (chosen Show)) (chosen Method)) (chosen Slack)) (both_same (has_row (codes "file") rows) rows)
+    ∙ ap (λ r. with_default (with_default (with_default (with_default (with_default r (chosen Pivots)) (chosen Places)) (chosen Show)) (chosen Method)) (chosen Slack)) (both_same (has_row (codes "gap") rows) rows)
+    ∙ ap (λ r. with_default (with_default (with_default (with_default r (chosen Places)) (chosen Show)) (chosen Method)) (chosen Slack)) (both_same (has_row (codes "pivots") rows) rows)
+    ∙ ap (λ r. with_default (with_default (with_default r (chosen Show)) (chosen Method)) (chosen Slack)) (both_same (has_row (codes "places") rows) rows)
+    ∙ ap (λ r. with_default (with_default r (chosen Method)) (chosen Slack)) (both_same (has_row (codes "show") rows) rows)
+    ∙ ap (λ r. with_default r (chosen Slack)) (both_same (has_row (codes "method") rows) rows)
+    ∙ both_same (has_row (codes "slack") rows) rows
 
 fault_is : (words : List Text) → fault_of app words ≡ faults (at nothing_held idle) words
 fault_is words =

@@ -9,7 +9,7 @@ use Rattle.clap.specs.Kinds.{Kinds}
 use Rattle.clap.specs.Faults.{settle_fault, turn_fault}
 use Rattle.clap.specs.declared.builder.value_parser.ValueParser.TheVariants as vp
 use Rattle.command_words.specs.ClapWords.{app, file_rule, option_rule}
-use Rattle.command_words.specs.WordParts.{OptionName, Gap, Pivots, Places, Show, Method, is_option}
+use Rattle.command_words.specs.WordParts.{OptionName, Gap, Pivots, Places, Show, Method, Slack, is_option}
 
 -- what building makes of an argument: one value a use
 abbrev filled_with : Rule → Option ℕ → Rule
@@ -25,12 +25,13 @@ id_of Pivots = codes "pivots"
 id_of Places = codes "places"
 id_of Show = codes "show"
 id_of Method = codes "method"
+id_of Slack = codes "slack"
 
 abbrev pub chosen : OptionName → Rule
 chosen o = filled_with (option_rule (id_of o)) None
 
 abbrev pub rules : List Rule
-rules = file ∷ chosen Gap ∷ chosen Pivots ∷ chosen Places ∷ chosen Show ∷ chosen Method ∷ []
+rules = file ∷ chosen Gap ∷ chosen Pivots ∷ chosen Places ∷ chosen Show ∷ chosen Method ∷ chosen Slack ∷ []
 
 abbrev pub shape : Shape
 shape = record (built app).top { rules = rules }
@@ -145,6 +146,7 @@ value_turn Pivots word h e = let p = is_plain word e in rw (p.no_end, p.no_long,
 value_turn Places word h e = let p = is_plain word e in rw (p.no_end, p.no_long, p.no_short) refl
 value_turn Show word h e = let p = is_plain word e in rw (p.no_end, p.no_long, p.no_short) refl
 value_turn Method word h e = let p = is_plain word e in rw (p.no_end, p.no_long, p.no_short) refl
+value_turn Slack word h e = let p = is_plain word e in rw (p.no_end, p.no_long, p.no_short) refl
 
 pub value_next : (o : OptionName) (word : Text) (h : Held) → is_option word ≡ false → next (due o h) word ≡ at (with_value o word h) idle
 unfolding walked
@@ -153,3 +155,4 @@ value_next Pivots word h e = let p = is_plain word e in rw (p.no_end, p.no_long,
 value_next Places word h e = let p = is_plain word e in rw (p.no_end, p.no_long, p.no_short) refl
 value_next Show word h e = let p = is_plain word e in rw (p.no_end, p.no_long, p.no_short) refl
 value_next Method word h e = let p = is_plain word e in rw (p.no_end, p.no_long, p.no_short) refl
+value_next Slack word h e = let p = is_plain word e in rw (p.no_end, p.no_long, p.no_short) refl

@@ -5,7 +5,10 @@ mod ClapRows
 mod ClapStates
 mod ClapTurns
 mod ClapWalk
+mod FurtherExamples
 mod GivenParts
+pub mod LimitLaws
+mod LimitTurns
 pub mod Requests
 mod WordExamples
 mod WordSpelling

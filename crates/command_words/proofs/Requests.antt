@@ -1,5 +1,5 @@
 -- The words ask for written factors of 6 or 9 decimal places, and for made files of sizes from 3 to 122.
-use Rattle.std.proofs.Common.{◌≡◌, ℕ, inl, inr, List, [], ◌∷◌, Option, Some, None, Result, Ok, Err, Bool, true, false, cond, ◌&&◌, is_some, not, refl, subst, nat_le, length, ◌≤◌}
+use Rattle.std.proofs.Common.{◌≡◌, ℕ, ℤ, inl, inr, List, [], ◌∷◌, Option, Some, None, Result, Ok, Err, Bool, true, false, cond, ◌&&◌, is_some, not, refl, subst, nat_le, length, ◌≤◌}
 use Rattle.std.specs.Prelude.{codes, ⊤}
 use Rattle.std.specs.Char.{is_ascii_digit}
 use Rattle.std.specs.List.{list_all}
@@ -12,20 +12,28 @@ use Rattle.command_words.specs.declared.fault.WordFault.TheVariants.{BadNumber, 
 use Rattle.command_words.specs.declared.command.MakeShow.{MakeShow}
 use Rattle.command_words.specs.declared.command.SolveShow.{SolveShow}
 use Rattle.command_words.specs.declared.command.SolveMethod.{SolveMethod}
-use Rattle.command_words.specs.Words.{Request, Check, Mps, Solve, Explain, Make, CommandName, MpsName, CheckName, SolveName, ExplainName, MakeName, allows_all, check_of, command_after, command_named, command_of, command_with, asked, explain_of, files_in, make_of, mps_of, or_fault, solve_of, value_in}
-use Rattle.command_words.specs.WordParts.{Gap, Pivots, Places, Show, Method, Part, parts_of}
+use Rattle.command_words.specs.LimitLists.{AreLimits, limits_of}
+use Rattle.command_words.proofs.LimitLaws.{AreLimitsIfRead, are_limits}
+use Rattle.command_words.specs.Words.{Request, Check, Mps, Solve, Explain, Curve, Span, Make, CommandName, MpsName, CheckName, SolveName, ExplainName, CurveName, SpanName, MakeName, allows_all, check_of, command_after, command_named, command_of, command_with, asked, curve_of, explain_of, files_in, make_of, mps_of, or_fault, solve_of, span_of, value_in}
+use Rattle.command_words.specs.WordParts.{Gap, Pivots, Places, Show, Method, Slack, Part, parts_of}
 use Rattle.command_words.specs.WordValues.{gap_for, gap_of, make_show_of, method_of, pivots_of, places_of, size_of, solve_show_of}
 
 -- the size of a made file
 abbrev IsSize : ℕ → Type 0
 IsSize size = (3 ≤ size) × (size ≤ 122)
 
+-- a word asks for `span`
+abbrev IsSpanOn : Type 0
+IsSpanOn = ⊥
+
 -- a request is for such factors or such a size, where there is one
 abbrev IsInRange : Result Request WordFault → Type 0
 IsInRange (Ok (Mps file places)) = IsPlaces places
 IsInRange (Ok (Check file plan multipliers gap places)) = IsPlaces places
 IsInRange (Ok (Solve file gap pivots places show method)) = IsPlaces places
-IsInRange (Ok (Explain file pivots places)) = IsPlaces places
+IsInRange (Ok (Explain file pivots places method)) = IsPlaces places
+IsInRange (Ok (Curve file region emission limits gap pivots places method)) = IsPlaces places × AreLimits limits
+IsInRange (Ok (Span file region technology year slack gap pivots places method)) = IsSpanOn × IsPlaces places
 IsInRange (Ok (Make size show)) = IsSize size
 IsInRange (Err fault) = ⊤
 
@@ -90,13 +98,41 @@ of_solve file gap pivots value show method = go (gap_of gap) (pivots_of pivots) 
     go (Some n) (Some m) (Some places) (Some s) None one = tt
     go (Some n) (Some m) (Some places) (Some s) (Some w) one = one
 
-of_explain : (file : List ℕ) (pivots value : Option (List ℕ)) → IsInRange (explain_of file pivots value)
-of_explain file pivots value = go (pivots_of pivots) (places_of value) (places-one value)
+of_explain : (file : List ℕ) (pivots value method : Option (List ℕ)) → IsInRange (explain_of file pivots value method)
+of_explain file pivots value method = go (pivots_of pivots) (places_of value) (method_of method) (places-one value)
   where
-    go : (most found : Option ℕ) → IsOne found → IsInRange (or_fault BadNumber most (λ m. or_fault BadNumber found (λ decimals. Ok (Explain file m decimals))))
-    go None found one = tt
-    go (Some m) None one = tt
-    go (Some m) (Some places) one = one
+    go : (most found : Option ℕ) (way : Option SolveMethod) → IsOne found
+        → IsInRange (or_fault BadNumber most (λ m. or_fault BadNumber found (λ decimals. or_fault BadShow way (λ w. Ok (Explain file m decimals w)))))
+    go None found way one = tt
+    go (Some m) None way one = tt
+    go (Some m) (Some places) None one = tt
+    go (Some m) (Some places) (Some w) one = one
+
+of_curve : (file region emission limits : List ℕ) (gap pivots value method : Option (List ℕ)) → IsInRange (curve_of file region emission limits gap pivots value method)
+of_curve file region emission limits gap pivots value method = go (gap_of gap) (pivots_of pivots) (places_of value) (limits_of limits) (method_of method) (places-one value) (are_limits limits)
+  where
+    go : (ppm most found : Option ℕ) (read : Option (List ℤ)) (way : Option SolveMethod) → IsOne found → AreLimitsIfRead read
+        → IsInRange (or_fault BadNumber ppm (λ n. or_fault BadNumber most (λ m. or_fault BadNumber found (λ decimals.
+        or_fault BadNumber read (λ bounds. or_fault BadShow way (λ w. Ok (Curve file region emission bounds (gap_for w gap n) m decimals w)))))))
+    go None most found read way one few = tt
+    go (Some n) None found read way one few = tt
+    go (Some n) (Some m) None read way one few = tt
+    go (Some n) (Some m) (Some places) None way one few = tt
+    go (Some n) (Some m) (Some places) (Some bounds) None one few = tt
+    go (Some n) (Some m) (Some places) (Some bounds) (Some w) one few = (one, few)
+
+of_span : IsSpanOn → (file region technology year : List ℕ) (gap pivots value slack method : Option (List ℕ)) → IsInRange (span_of file region technology year gap pivots value slack method)
+of_span on file region technology year gap pivots value slack method = go (gap_of gap) (pivots_of pivots) (places_of value) (gap_of slack) (method_of method) (places-one value)
+  where
+    go : (ppm most found above : Option ℕ) (way : Option SolveMethod) → IsOne found
+        → IsInRange (or_fault BadNumber ppm (λ n. or_fault BadNumber most (λ m. or_fault BadNumber found (λ decimals.
+        or_fault BadNumber above (λ a. or_fault BadShow way (λ w. Ok (Span file region technology year a (gap_for w gap n) m decimals w)))))))
+    go None most found above way one = tt
+    go (Some n) None found above way one = tt
+    go (Some n) (Some m) None above way one = tt
+    go (Some n) (Some m) (Some places) None way one = tt
+    go (Some n) (Some m) (Some places) (Some a) None one = tt
+    go (Some n) (Some m) (Some places) (Some a) (Some w) one = (on, one)
 
 of_make : (size : List ℕ) (show : Option (List ℕ)) → IsInRange (make_of size show)
 of_make size show = go (size_of size) (make_show_of show) (size-one size)
@@ -106,53 +142,88 @@ of_make size show = go (size_of size) (make_show_of show) (size-one size)
     go (Some n) None one = tt
     go (Some n) (Some s) one = one
 
-of_mps_files : (files : List (List ℕ)) (gap pivots value show method : Option (List ℕ)) → IsInRange (command_of MpsName files gap pivots value show method)
-of_mps_files [] gap pivots value show method = tt
-of_mps_files (file ∷ []) gap pivots value show method = of_mps file value
-of_mps_files (file ∷ other ∷ files) gap pivots value show method = tt
+of_mps_files : (files : List (List ℕ)) (gap pivots value show method slack : Option (List ℕ)) → IsInRange (command_of MpsName files gap pivots value show method slack)
+of_mps_files [] gap pivots value show method slack = tt
+of_mps_files (file ∷ []) gap pivots value show method slack = of_mps file value
+of_mps_files (file ∷ other ∷ files) gap pivots value show method slack = tt
 
-of_check_files : (files : List (List ℕ)) (gap pivots value show method : Option (List ℕ)) → IsInRange (command_of CheckName files gap pivots value show method)
-of_check_files [] gap pivots value show method = tt
-of_check_files (file ∷ []) gap pivots value show method = tt
-of_check_files (file ∷ plan ∷ []) gap pivots value show method = of_check file plan None gap value
-of_check_files (file ∷ plan ∷ multipliers ∷ []) gap pivots value show method = of_check file plan (Some multipliers) gap value
-of_check_files (file ∷ plan ∷ multipliers ∷ other ∷ files) gap pivots value show method = tt
+of_check_files : (files : List (List ℕ)) (gap pivots value show method slack : Option (List ℕ)) → IsInRange (command_of CheckName files gap pivots value show method slack)
+of_check_files [] gap pivots value show method slack = tt
+of_check_files (file ∷ []) gap pivots value show method slack = tt
+of_check_files (file ∷ plan ∷ []) gap pivots value show method slack = of_check file plan None gap value
+of_check_files (file ∷ plan ∷ multipliers ∷ []) gap pivots value show method slack = of_check file plan (Some multipliers) gap value
+of_check_files (file ∷ plan ∷ multipliers ∷ other ∷ files) gap pivots value show method slack = tt
 
-of_solve_files : (files : List (List ℕ)) (gap pivots value show method : Option (List ℕ)) → IsInRange (command_of SolveName files gap pivots value show method)
-of_solve_files [] gap pivots value show method = tt
-of_solve_files (file ∷ []) gap pivots value show method = of_solve file gap pivots value show method
-of_solve_files (file ∷ other ∷ files) gap pivots value show method = tt
+of_solve_files : (files : List (List ℕ)) (gap pivots value show method slack : Option (List ℕ)) → IsInRange (command_of SolveName files gap pivots value show method slack)
+of_solve_files [] gap pivots value show method slack = tt
+of_solve_files (file ∷ []) gap pivots value show method slack = of_solve file gap pivots value show method
+of_solve_files (file ∷ other ∷ files) gap pivots value show method slack = tt
 
-of_explain_files : (files : List (List ℕ)) (gap pivots value show method : Option (List ℕ)) → IsInRange (command_of ExplainName files gap pivots value show method)
-of_explain_files [] gap pivots value show method = tt
-of_explain_files (file ∷ []) gap pivots value show method = of_explain file pivots value
-of_explain_files (file ∷ other ∷ files) gap pivots value show method = tt
+of_explain_files : (files : List (List ℕ)) (gap pivots value show method slack : Option (List ℕ)) → IsInRange (command_of ExplainName files gap pivots value show method slack)
+of_explain_files [] gap pivots value show method slack = tt
+of_explain_files (file ∷ []) gap pivots value show method slack = of_explain file pivots value method
+of_explain_files (file ∷ other ∷ files) gap pivots value show method slack = tt
 
-of_make_files : (files : List (List ℕ)) (gap pivots value show method : Option (List ℕ)) → IsInRange (command_of MakeName files gap pivots value show method)
-of_make_files [] gap pivots value show method = tt
-of_make_files (size ∷ []) gap pivots value show method = of_make size show
-of_make_files (size ∷ other ∷ files) gap pivots value show method = tt
+of_curve_files : (files : List (List ℕ)) (gap pivots value show method slack : Option (List ℕ)) → IsInRange (command_of CurveName files gap pivots value show method slack)
+of_curve_files [] gap pivots value show method slack = tt
+of_curve_files (file ∷ []) gap pivots value show method slack = tt
+of_curve_files (file ∷ region ∷ []) gap pivots value show method slack = tt
+of_curve_files (file ∷ region ∷ emission ∷ []) gap pivots value show method slack = tt
+of_curve_files (file ∷ region ∷ emission ∷ limits ∷ []) gap pivots value show method slack = of_curve file region emission limits gap pivots value method
+of_curve_files (file ∷ region ∷ emission ∷ limits ∷ other ∷ files) gap pivots value show method slack = tt
 
-of_parts : (name : CommandName) → ((files : List (List ℕ)) (gap pivots value show method : Option (List ℕ)) → IsInRange (command_of name files gap pivots value show method))
+of_span_files : IsSpanOn → (files : List (List ℕ)) (gap pivots value show method slack : Option (List ℕ)) → IsInRange (command_of SpanName files gap pivots value show method slack)
+of_span_files on [] gap pivots value show method slack = tt
+of_span_files on (file ∷ []) gap pivots value show method slack = tt
+of_span_files on (file ∷ region ∷ []) gap pivots value show method slack = tt
+of_span_files on (file ∷ region ∷ technology ∷ []) gap pivots value show method slack = tt
+of_span_files on (file ∷ region ∷ technology ∷ year ∷ []) gap pivots value show method slack = of_span on file region technology year gap pivots value slack method
+of_span_files on (file ∷ region ∷ technology ∷ year ∷ other ∷ files) gap pivots value show method slack = tt
+
+of_make_files : (files : List (List ℕ)) (gap pivots value show method slack : Option (List ℕ)) → IsInRange (command_of MakeName files gap pivots value show method slack)
+of_make_files [] gap pivots value show method slack = tt
+of_make_files (size ∷ []) gap pivots value show method slack = of_make size show
+of_make_files (size ∷ other ∷ files) gap pivots value show method slack = tt
+
+of_parts : (name : CommandName) → ((files : List (List ℕ)) (gap pivots value show method slack : Option (List ℕ)) → IsInRange (command_of name files gap pivots value show method slack))
     → (parts : Option (List Part)) → IsInRange (command_with name parts)
 of_parts name of_files None = tt
 of_parts name of_files (Some parts) = go (allows_all name parts)
   where
-    go : (b : Bool) → IsInRange (cond b (command_of name (files_in parts) (value_in Gap parts) (value_in Pivots parts) (value_in Places parts) (value_in Show parts) (value_in Method parts)) (Err BadForm))
-    go true = of_files (files_in parts) (value_in Gap parts) (value_in Pivots parts) (value_in Places parts) (value_in Show parts) (value_in Method parts)
+    go : (b : Bool) → IsInRange (cond b (command_of name (files_in parts) (value_in Gap parts) (value_in Pivots parts) (value_in Places parts) (value_in Show parts) (value_in Method parts) (value_in Slack parts)) (Err BadForm))
+    go true = of_files (files_in parts) (value_in Gap parts) (value_in Pivots parts) (value_in Places parts) (value_in Show parts) (value_in Method parts) (value_in Slack parts)
     go false = tt
 
-of_command : (command : Option CommandName) (words : List (List ℕ)) → IsInRange (command_after command words)
-of_command None words = tt
-of_command (Some MpsName) words = of_parts MpsName of_mps_files (parts_of words)
-of_command (Some CheckName) words = of_parts CheckName of_check_files (parts_of words)
-of_command (Some SolveName) words = of_parts SolveName of_solve_files (parts_of words)
-of_command (Some ExplainName) words = of_parts ExplainName of_explain_files (parts_of words)
-of_command (Some MakeName) words = of_parts MakeName of_make_files (parts_of words)
+-- a command that a word asks for
+abbrev IsOn : Option CommandName → Type 0
+IsOn (Some SpanName) = IsSpanOn
+IsOn command = ⊤
+
+is_on : (word : List ℕ) → IsOn (command_named word)
+is_on word = go (bytes_eq word (codes "mps")) (bytes_eq word (codes "check")) (bytes_eq word (codes "solve")) (bytes_eq word (codes "explain")) (bytes_eq word (codes "curve")) (bytes_eq word (codes "make"))
+  where
+    go : (a b c d e f : Bool) → IsOn (cond a (Some MpsName) (cond b (Some CheckName) (cond c (Some SolveName) (cond d (Some ExplainName) (cond e (Some CurveName) (cond f (Some MakeName) None))))))
+    go true b c d e f = tt
+    go false true c d e f = tt
+    go false false true d e f = tt
+    go false false false true e f = tt
+    go false false false false true f = tt
+    go false false false false false true = tt
+    go false false false false false false = tt
+
+of_command : (command : Option CommandName) (words : List (List ℕ)) → IsOn command → IsInRange (command_after command words)
+of_command None words on = tt
+of_command (Some MpsName) words on = of_parts MpsName of_mps_files (parts_of words)
+of_command (Some CheckName) words on = of_parts CheckName of_check_files (parts_of words)
+of_command (Some SolveName) words on = of_parts SolveName of_solve_files (parts_of words)
+of_command (Some ExplainName) words on = of_parts ExplainName of_explain_files (parts_of words)
+of_command (Some CurveName) words on = of_parts CurveName of_curve_files (parts_of words)
+of_command (Some SpanName) words on = of_parts SpanName (of_span_files on) (parts_of words)
+of_command (Some MakeName) words on = of_parts MakeName of_make_files (parts_of words)
 
 in_range : (words : List (List ℕ)) → IsInRange (asked words)
 in_range [] = tt
-in_range (first ∷ words) = of_command (command_named first) words
+in_range (first ∷ words) = of_command (command_named first) words (is_on first)
 
 pub asked_places : (words : List (List ℕ)) (name : List ℕ) (places : ℕ) → asked words ≡ Ok (Mps name places) → IsPlaces places
 asked_places words name places e = subst IsInRange e (in_range words)
@@ -163,8 +234,16 @@ check_places words file plan multipliers gap places e = subst IsInRange e (in_ra
 pub solve_places : (words : List (List ℕ)) (file : List ℕ) (gap pivots places : ℕ) (show : SolveShow) (method : SolveMethod) → asked words ≡ Ok (Solve file gap pivots places show method) → IsPlaces places
 solve_places words file gap pivots places show method e = subst IsInRange e (in_range words)
 
-pub explain_places : (words : List (List ℕ)) (file : List ℕ) (pivots places : ℕ) → asked words ≡ Ok (Explain file pivots places) → IsPlaces places
-explain_places words file pivots places e = subst IsInRange e (in_range words)
+pub explain_places : (words : List (List ℕ)) (file : List ℕ) (pivots places : ℕ) (method : SolveMethod) → asked words ≡ Ok (Explain file pivots places method) → IsPlaces places
+explain_places words file pivots places method e = subst IsInRange e (in_range words)
+
+pub curve_places : (words : List (List ℕ)) (file region emission : List ℕ) (limits : List ℤ) (gap pivots places : ℕ) (method : SolveMethod)
+    → asked words ≡ Ok (Curve file region emission limits gap pivots places method) → IsPlaces places × AreLimits limits
+curve_places words file region emission limits gap pivots places method e = subst IsInRange e (in_range words)
+
+pub no_span : (words : List (List ℕ)) (file region technology year : List ℕ) (slack gap pivots places : ℕ) (method : SolveMethod)
+    → asked words ≡ Ok (Span file region technology year slack gap pivots places method) → ⊥
+no_span words file region technology year slack gap pivots places method e = (subst IsInRange e (in_range words)).0
 
 pub make_size : (words : List (List ℕ)) (size : ℕ) (show : MakeShow) → asked words ≡ Ok (Make size show) → (3 ≤ size) × (size ≤ 122)
 make_size words size show e = subst IsInRange e (in_range words)

@@ -6,7 +6,7 @@ use Rattle.command_words.specs.declared.command.SolveShow.TheVariants.{Report, P
 use Rattle.command_words.specs.declared.command.MakeShow.TheVariants.{File, Summary}
 use Rattle.command_words.specs.declared.command.SolveMethod.TheVariants.{Exact, Rounded}
 use Rattle.command_words.specs.Words.{asked, names_of, Mps, Check, Solve, Explain, Make}
-use Rattle.command_words.specs.WordParts.{parts_of, Gap, Pivots, Places, Show, Method, Chosen, Spells, Name, Apart, Joined}
+use Rattle.command_words.specs.WordParts.{parts_of, Gap, Pivots, Places, Show, Method, Slack, Chosen, Spells, Name, Apart, Joined}
 use Rattle.command_words.specs.WordParts as parts
 
 -- ---- the command
@@ -52,10 +52,10 @@ solve_with_all = refl
 solve_for_multipliers : asked (codes "solve" ∷ codes "f" ∷ codes "--show" ∷ codes "multipliers" ∷ []) ≡ Ok (Solve (codes "f") 0 20000 6 Multipliers Exact)
 solve_for_multipliers = refl
 
-explain_with_defaults : asked (codes "explain" ∷ codes "f" ∷ []) ≡ Ok (Explain (codes "f") 20000 6)
+explain_with_defaults : asked (codes "explain" ∷ codes "f" ∷ []) ≡ Ok (Explain (codes "f") 20000 6 Exact)
 explain_with_defaults = refl
 
-explain_with_all : asked (codes "explain" ∷ codes "--pivots=7" ∷ codes "f" ∷ codes "--places" ∷ codes "9" ∷ []) ≡ Ok (Explain (codes "f") 7 9)
+explain_with_all : asked (codes "explain" ∷ codes "--pivots=7" ∷ codes "f" ∷ codes "--places" ∷ codes "9" ∷ []) ≡ Ok (Explain (codes "f") 7 9 Exact)
 explain_with_all = refl
 
 make_with_defaults : asked (codes "make" ∷ codes "7" ∷ []) ≡ Ok (Make 7 File)
@@ -322,7 +322,7 @@ no_value = refl
 files_of_check : names_of (Check (codes "f") (codes "p") (Some (codes "m")) 0 6) ≡ codes "f" ∷ codes "p" ∷ codes "m" ∷ []
 files_of_check = refl
 
-files_of_explain : names_of (Explain (codes "f") 7 6) ≡ codes "f" ∷ []
+files_of_explain : names_of (Explain (codes "f") 7 6 Exact) ≡ codes "f" ∷ []
 files_of_explain = refl
 
 files_of_solve : names_of (Solve (codes "f") 0 7 6 Report Exact) ≡ codes "f" ∷ []

@@ -5,14 +5,16 @@ use Rattle.command_words.specs.declared.command.Command.TheVariants as code
 use Rattle.command_words.specs.declared.command.CommandName.{CommandName as CodeName}
 use Rattle.command_words.specs.declared.command.CommandName.TheVariants as names
 use Rattle.command_words.specs.declared.fault.WordFault.{WordFault}
-use Rattle.command_words.specs.Words.{Request, Mps, Check, Solve, Explain, Make, CommandName, MpsName, CheckName, SolveName, ExplainName, MakeName}
+use Rattle.command_words.specs.Words.{Request, Mps, Check, Solve, Explain, Curve, Span, Make, CommandName, MpsName, CheckName, SolveName, ExplainName, CurveName, SpanName, MakeName}
 
 -- the request of a command, without where the names of its files lie in memory
 abbrev pub request_of : Command → Request
 request_of (code.Mps file places) = Mps file.now places
 request_of (code.Check file plan multipliers gap places) = Check file.now plan.now (option_map (λ name. name.now) multipliers) gap places
 request_of (code.Solve file gap pivots places show method) = Solve file.now gap pivots places show method
-request_of (code.Explain file pivots places) = Explain file.now pivots places
+request_of (code.Explain file pivots places method) = Explain file.now pivots places method
+request_of (code.Curve file region emission limits gap pivots places method) = Curve file.now region.now emission.now limits.items gap pivots places method
+request_of (code.Span file region technology year slack gap pivots places method) = Span file.now region.now technology.now year.now slack gap pivots places method
 request_of (code.Make size show) = Make size show
 
 -- the same where the words may be at fault
@@ -26,4 +28,6 @@ name_of names.Mps = MpsName
 name_of names.Check = CheckName
 name_of names.Solve = SolveName
 name_of names.Explain = ExplainName
+name_of names.Curve = CurveName
+name_of names.Span = SpanName
 name_of names.Make = MakeName

@@ -22,6 +22,7 @@ pub data OptionName : Type 0 where
   Places : OptionName
   Show : OptionName
   Method : OptionName
+  Slack : OptionName
 
 -- an option's word
 abbrev pub option_word : OptionName → List ℕ
@@ -30,6 +31,7 @@ option_word Pivots = codes "--pivots"
 option_word Places = codes "--places"
 option_word Show = codes "--show"
 option_word Method = codes "--method"
+option_word Slack = codes "--slack"
 
 -- the option of this word, if it is one's
 abbrev pub option_named : List ℕ → Option OptionName
@@ -39,6 +41,7 @@ option_named word =
     else if bytes_eq (option_word Places) word then Some Places
     else if bytes_eq (option_word Show) word then Some Show
     else if bytes_eq (option_word Method) word then Some Method
+    else if bytes_eq (option_word Slack) word then Some Slack
     else None
 
 -- the sign '=', which may join an option and its value

@@ -4,7 +4,7 @@ use Rattle.command_words.specs.declared.fault.WordFault.{WordFault}
 use Rattle.command_words.specs.declared.fault.WordFault.TheVariants.{BadForm}
 use Rattle.command_words.specs.declared.parsing.Given.{Given as SlicedGiven}
 use Rattle.command_words.specs.Words.{Request, CommandName, command_of, files_in, has_option, values_in, value_in}
-use Rattle.command_words.specs.WordParts.{OptionName, Gap, Pivots, Places, Show, Method, Part}
+use Rattle.command_words.specs.WordParts.{OptionName, Gap, Pivots, Places, Show, Method, Slack, Part}
 
 pub record Given : Type 0 where
   pub files : List (List ℕ)
@@ -13,6 +13,7 @@ pub record Given : Type 0 where
   pub places : Option (List ℕ)
   pub show : Option (List ℕ)
   pub method : Option (List ℕ)
+  pub slack : Option (List ℕ)
 
 -- without where the words lie in memory
 abbrev pub given_of : SlicedGiven → Given
@@ -23,6 +24,7 @@ given_of given = record {
   places = option_map (λ value. value.now) given.places;
   show = option_map (λ value. value.now) given.show;
   method = option_map (λ value. value.now) given.method;
+  slack = option_map (λ value. value.now) given.slack;
 }
 
 -- the option is given at most once
@@ -33,8 +35,8 @@ is_once parts o = nat_le (length (values_in o parts)) 1
 abbrev pub given_by : Option (List Part) → Option Given
 given_by None = None
 given_by (Some parts) =
-    if is_once parts Gap && is_once parts Pivots && is_once parts Places && is_once parts Show && is_once parts Method
-    then Some (record { files = files_in parts; gap = value_in Gap parts; pivots = value_in Pivots parts; places = value_in Places parts; show = value_in Show parts; method = value_in Method parts })
+    if is_once parts Gap && is_once parts Pivots && is_once parts Places && is_once parts Show && is_once parts Method && is_once parts Slack
+    then Some (record { files = files_in parts; gap = value_in Gap parts; pivots = value_in Pivots parts; places = value_in Places parts; show = value_in Show parts; method = value_in Method parts; slack = value_in Slack parts })
     else None
 
 -- an option that is given is one of the command's
@@ -42,11 +44,11 @@ abbrev pub may_have : CommandName → OptionName → Option (List ℕ) → Bool
 may_have command o value = not (is_some value) || has_option command o
 
 abbrev pub is_allowed : CommandName → Given → Bool
-is_allowed command given = may_have command Gap given.gap && may_have command Pivots given.pivots && may_have command Places given.places && may_have command Show given.show && may_have command Method given.method
+is_allowed command given = may_have command Gap given.gap && may_have command Pivots given.pivots && may_have command Places given.places && may_have command Show given.show && may_have command Method given.method && may_have command Slack given.slack
 
 -- the command with these files and values
 abbrev pub command_given : CommandName → Given → Result Request WordFault
-command_given command given = command_of command given.files given.gap given.pivots given.places given.show given.method
+command_given command given = command_of command given.files given.gap given.pivots given.places given.show given.method given.slack
 
 -- the same where something is given, and it is allowed
 abbrev pub command_by : CommandName → Option Given → Result Request WordFault

@@ -24,7 +24,7 @@ abbrev pub with_default : {A : Type 0} → A → (List ℕ → Option A) → Opt
 with_default value read None = Some value
 with_default value read (Some text) = read text
 
--- a gap in millionths: 1 to 7 digits, 0 to 1,000,000, and 0 where it is left out
+-- a gap or a slack in millionths: 1 to 7 digits, 0 to 1,000,000, and 0 where it is left out
 abbrev pub gap_of : Option (List ℕ) → Option ℕ
 gap_of = with_default 0 (number_within 7 0 1000000)
 
@@ -70,7 +70,7 @@ make_show_named text =
 abbrev pub make_show_of : Option (List ℕ) → Option MakeShow
 make_show_of = with_default File make_show_named
 
--- the method that `solve` begins with, by its word
+-- the method that a command begins with, by its word
 abbrev pub method_named : List ℕ → Option SolveMethod
 method_named text =
     if bytes_eq text (codes "exact") then Some Exact

@@ -1,20 +1,23 @@
--- What the words of the command line ask for, of the commands `mps`, `check`, `solve`, `explain` and `make` with all their options.
-use Rattle.std.specs.Prelude.{ℕ, Bool, true, false, not, ◌&&◌, nat_le, List, [], ◌∷◌, length, codes, Option, Some, None, is_some, Result, Ok, Err, slice_get, if◌then◌else◌}
+-- What the words of the command line ask for, of all commands with all their options.
+use Rattle.std.specs.Prelude.{ℕ, ℤ, Bool, true, false, not, ◌&&◌, nat_le, List, [], ◌∷◌, length, codes, Option, Some, None, is_some, Result, Ok, Err, slice_get, if◌then◌else◌}
 use Rattle.std.specs.Str.{bytes_eq}
 use Rattle.command_words.specs.declared.fault.WordFault.{WordFault}
 use Rattle.command_words.specs.declared.fault.WordFault.TheVariants.{NoCommand, BadCommand, BadForm, BadNumber, BadShow, GapAlone}
 use Rattle.command_words.specs.declared.command.SolveShow.{SolveShow}
 use Rattle.command_words.specs.declared.command.MakeShow.{MakeShow}
 use Rattle.command_words.specs.declared.command.SolveMethod.{SolveMethod}
-use Rattle.command_words.specs.WordParts.{OptionName, Gap, Pivots, Places, Show, Method, Part, File, Chosen, parts_of}
+use Rattle.command_words.specs.WordParts.{OptionName, Gap, Pivots, Places, Show, Method, Slack, Part, File, Chosen, parts_of}
+use Rattle.command_words.specs.LimitLists.{limits_of}
 use Rattle.command_words.specs.WordValues.{gap_for, gap_of, pivots_of, places_of, size_of, solve_show_of, make_show_of, method_of}
 
--- a command with its files and the values of its options: gaps in millionths, the most pivots, and the decimal places of written factors
+-- a command with its files, the names of members, and the values of its options: limits in billionths, gaps and slacks in millionths, the most pivots, and the decimal places of written factors
 pub data Request : Type 0 where
   Mps : (file : List ℕ) (places : ℕ) → Request
   Check : (file plan : List ℕ) (multipliers : Option (List ℕ)) (gap places : ℕ) → Request
   Solve : (file : List ℕ) (gap pivots places : ℕ) (show : SolveShow) (method : SolveMethod) → Request
-  Explain : (file : List ℕ) (pivots places : ℕ) → Request
+  Explain : (file : List ℕ) (pivots places : ℕ) (method : SolveMethod) → Request
+  Curve : (file region emission : List ℕ) (limits : List ℤ) (gap pivots places : ℕ) (method : SolveMethod) → Request
+  Span : (file region technology year : List ℕ) (slack gap pivots places : ℕ) (method : SolveMethod) → Request
   Make : (size : ℕ) (show : MakeShow) → Request
 
 -- ---- commands and their options
@@ -25,15 +28,18 @@ pub data CommandName : Type 0 where
   CheckName : CommandName
   SolveName : CommandName
   ExplainName : CommandName
+  CurveName : CommandName
+  SpanName : CommandName
   MakeName : CommandName
 
--- the command of this word, if it is one's
+-- the command of this word, if it is one's; no word asks for `span` yet
 abbrev pub command_named : List ℕ → Option CommandName
 command_named word =
     if bytes_eq word (codes "mps") then Some MpsName
     else if bytes_eq word (codes "check") then Some CheckName
     else if bytes_eq word (codes "solve") then Some SolveName
     else if bytes_eq word (codes "explain") then Some ExplainName
+    else if bytes_eq word (codes "curve") then Some CurveName
     else if bytes_eq word (codes "make") then Some MakeName
     else None
 
@@ -42,15 +48,29 @@ abbrev pub has_option : CommandName → OptionName → Bool
 has_option MpsName Places = true
 has_option CheckName Gap = true
 has_option CheckName Places = true
-has_option SolveName o = true
+has_option SolveName Gap = true
+has_option SolveName Pivots = true
+has_option SolveName Places = true
+has_option SolveName Show = true
+has_option SolveName Method = true
 has_option ExplainName Pivots = true
 has_option ExplainName Places = true
+has_option ExplainName Method = true
+has_option CurveName Gap = true
+has_option CurveName Pivots = true
+has_option CurveName Places = true
+has_option CurveName Method = true
+has_option SpanName Gap = true
+has_option SpanName Pivots = true
+has_option SpanName Places = true
+has_option SpanName Method = true
+has_option SpanName Slack = true
 has_option MakeName Show = true
 has_option command o = false
 
 -- ---- parts
 
--- the words that aren't options: files, and the size after `make`
+-- the words that aren't options: files, names of members, limits, and the size after `make`
 abbrev pub files_in : List Part → List (List ℕ)
 files_in [] = []
 files_in (File file ∷ parts) = file ∷ files_in parts
@@ -63,6 +83,7 @@ is_same Pivots Pivots = true
 is_same Places Places = true
 is_same Show Show = true
 is_same Method Method = true
+is_same Slack Slack = true
 is_same o other = false
 
 -- the values that are given for an option
@@ -80,7 +101,7 @@ abbrev pub allows : CommandName → List Part → OptionName → Bool
 allows command parts o = nat_le (length (values_in o parts)) (if has_option command o then 1 else 0)
 
 abbrev pub allows_all : CommandName → List Part → Bool
-allows_all command parts = allows command parts Gap && allows command parts Pivots && allows command parts Places && allows command parts Show && allows command parts Method
+allows_all command parts = allows command parts Gap && allows command parts Pivots && allows command parts Places && allows command parts Show && allows command parts Method && allows command parts Slack
 
 -- ---- commands with their values
 
@@ -108,32 +129,52 @@ solve_of file gap pivots places show method =
     or_fault BadShow (solve_show_of show) (λ shown.
     or_fault BadShow (method_of method) (λ way. Ok (Solve file (gap_for way gap ppm) most decimals shown way))))))
 
-abbrev pub explain_of : List ℕ → Option (List ℕ) → Option (List ℕ) → Result Request WordFault
-explain_of file pivots places =
+abbrev pub explain_of : List ℕ → Option (List ℕ) → Option (List ℕ) → Option (List ℕ) → Result Request WordFault
+explain_of file pivots places method =
     or_fault BadNumber (pivots_of pivots) (λ most.
-    or_fault BadNumber (places_of places) (λ decimals. Ok (Explain file most decimals)))
+    or_fault BadNumber (places_of places) (λ decimals.
+    or_fault BadShow (method_of method) (λ way. Ok (Explain file most decimals way))))
+
+abbrev pub curve_of : (file region emission limits : List ℕ) (gap pivots places method : Option (List ℕ)) → Result Request WordFault
+curve_of file region emission limits gap pivots places method =
+    or_fault BadNumber (gap_of gap) (λ ppm.
+    or_fault BadNumber (pivots_of pivots) (λ most.
+    or_fault BadNumber (places_of places) (λ decimals.
+    or_fault BadNumber (limits_of limits) (λ bounds.
+    or_fault BadShow (method_of method) (λ way. Ok (Curve file region emission bounds (gap_for way gap ppm) most decimals way))))))
+
+-- the slack is read as a gap is
+abbrev pub span_of : (file region technology year : List ℕ) (gap pivots places slack method : Option (List ℕ)) → Result Request WordFault
+span_of file region technology year gap pivots places slack method =
+    or_fault BadNumber (gap_of gap) (λ ppm.
+    or_fault BadNumber (pivots_of pivots) (λ most.
+    or_fault BadNumber (places_of places) (λ decimals.
+    or_fault BadNumber (gap_of slack) (λ above.
+    or_fault BadShow (method_of method) (λ way. Ok (Span file region technology year above (gap_for way gap ppm) most decimals way))))))
 
 abbrev pub make_of : List ℕ → Option (List ℕ) → Result Request WordFault
 make_of size show =
     or_fault BadNumber (size_of size) (λ n.
     or_fault BadShow (make_show_of show) (λ shown. Ok (Make n shown)))
 
--- the command with these files and these values of `--gap`, `--pivots`, `--places`, `--show` and `--method`: a file that is missing or too many is a fault of form
-abbrev pub command_of : CommandName → List (List ℕ) → Option (List ℕ) → Option (List ℕ) → Option (List ℕ) → Option (List ℕ) → Option (List ℕ) → Result Request WordFault
-command_of MpsName (file ∷ []) gap pivots places show method = mps_of file places
-command_of CheckName (file ∷ plan ∷ []) gap pivots places show method = check_of file plan None gap places
-command_of CheckName (file ∷ plan ∷ multipliers ∷ []) gap pivots places show method = check_of file plan (Some multipliers) gap places
-command_of SolveName (file ∷ []) gap pivots places show method = solve_of file gap pivots places show method
-command_of ExplainName (file ∷ []) gap pivots places show method = explain_of file pivots places
-command_of MakeName (size ∷ []) gap pivots places show method = make_of size show
-command_of command files gap pivots places show method = Err BadForm
+-- the command with these files and these values of `--gap`, `--pivots`, `--places`, `--show`, `--method` and `--slack`: a file that is missing or too many is a fault of form
+abbrev pub command_of : CommandName → List (List ℕ) → (gap pivots places show method slack : Option (List ℕ)) → Result Request WordFault
+command_of MpsName (file ∷ []) gap pivots places show method slack = mps_of file places
+command_of CheckName (file ∷ plan ∷ []) gap pivots places show method slack = check_of file plan None gap places
+command_of CheckName (file ∷ plan ∷ multipliers ∷ []) gap pivots places show method slack = check_of file plan (Some multipliers) gap places
+command_of SolveName (file ∷ []) gap pivots places show method slack = solve_of file gap pivots places show method
+command_of ExplainName (file ∷ []) gap pivots places show method slack = explain_of file pivots places method
+command_of CurveName (file ∷ region ∷ emission ∷ limits ∷ []) gap pivots places show method slack = curve_of file region emission limits gap pivots places method
+command_of SpanName (file ∷ region ∷ technology ∷ year ∷ []) gap pivots places show method slack = span_of file region technology year gap pivots places slack method
+command_of MakeName (size ∷ []) gap pivots places show method slack = make_of size show
+command_of command files gap pivots places show method slack = Err BadForm
 
 -- the command with the parts of the words after it
 abbrev pub command_with : CommandName → Option (List Part) → Result Request WordFault
 command_with command None = Err BadForm
 command_with command (Some parts) =
     if allows_all command parts
-    then command_of command (files_in parts) (value_in Gap parts) (value_in Pivots parts) (value_in Places parts) (value_in Show parts) (value_in Method parts)
+    then command_of command (files_in parts) (value_in Gap parts) (value_in Pivots parts) (value_in Places parts) (value_in Show parts) (value_in Method parts) (value_in Slack parts)
     else Err BadForm
 
 -- the command of a first word, with the words after it
@@ -152,5 +193,7 @@ names_of (Mps file places) = file ∷ []
 names_of (Check file plan None gap places) = file ∷ plan ∷ []
 names_of (Check file plan (Some multipliers) gap places) = file ∷ plan ∷ multipliers ∷ []
 names_of (Solve file gap pivots places show method) = file ∷ []
-names_of (Explain file pivots places) = file ∷ []
+names_of (Explain file pivots places method) = file ∷ []
+names_of (Curve file region emission limits gap pivots places method) = file ∷ []
+names_of (Span file region technology year slack gap pivots places method) = file ∷ []
 names_of (Make size show) = []

@@ -2,19 +2,21 @@
 ghost use Rattle.std.specs.Prelude.{◌≡◌, IfOk, map, option_map};
 ghost use Rattle.std.specs.String.{string_bytes};
 ghost use Rattle.command_words.specs.Words.{command_named, asked};
-ghost use Rattle.command_words.specs.Words.{MpsName, CheckName, SolveName, ExplainName, MakeName, check_of, explain_of, mps_of};
+ghost use Rattle.command_words.specs.Words.{MpsName, CheckName, SolveName, ExplainName, CurveName, SpanName, MakeName, check_of, curve_of, mps_of, span_of};
 ghost use Rattle.command_words.specs.Commands.{request_of_result, name_of};
 ghost use Rattle.command_words.specs.WordReading.{given_of, command_by, command_given, is_allowed};
 
 use crate::fault::WordFault;
+use crate::limits::limits_of;
 use crate::parsing::{Given, read_given};
 use crate::values::{
     gap_for, gap_of, make_show_of, method_of, pivots_of, places_of, size_of, solve_show_of,
 };
 use std::alloc::{AllocError, Global};
 
-/// A command with its files and options. `places` is how many decimal places written factors have: 6 or 9.
-#[derive(Clone, Copy, Debug, PartialEq, Eq)]
+/// A command with its files and options. `places` is how many decimal places written factors have: 6 or 9. `gap` is in millionths
+/// of the bound, and 10 where it is left out and the method is rounded; `pivots` is the most pivots that may be made.
+#[derive(Debug, Drop)]
 pub enum Command<'a> {
     /// `mps FILE [--places P]`: writes the named equations of a data file.
     Mps {
@@ -22,7 +24,7 @@ pub enum Command<'a> {
         places: u8,
     },
     /// `check FILE PLAN [MULTIPLIERS] [--gap PPM] [--places P]`: checks a plan, and a bound where
-    /// multipliers are given. `gap` is in millionths of the bound.
+    /// multipliers are given.
     Check {
         file: &'a str,
         plan: &'a str,
@@ -31,8 +33,6 @@ pub enum Command<'a> {
         places: u8,
     },
     /// `solve FILE [--gap PPM] [--pivots N] [--places P] [--show report|plan|multipliers] [--method exact|rounded]`: solves.
-    /// `gap` is in millionths of the bound, and 10 where it is left out and the method is rounded;
-    /// `pivots` is the most pivots that may be made.
     Solve {
         file: &'a str,
         gap: u32,
@@ -41,12 +41,40 @@ pub enum Command<'a> {
         show: SolveShow,
         method: SolveMethod,
     },
-    /// `explain FILE [--pivots N] [--places P]`: says why no plan exists, by a few equations that can't be met together. `pivots` is
-    /// the most pivots that one trial may make.
+    /// `explain FILE [--pivots N] [--places P] [--method exact|rounded]`: says why no plan exists, by a few equations that can't be
+    /// met together. `pivots` are those of one trial.
     Explain {
         file: &'a str,
         pivots: u32,
         places: u8,
+        method: SolveMethod,
+    },
+    /// `curve FILE REGION EMISSION LIMITS [--gap PPM] [--pivots N] [--places P] [--method exact|rounded]`: says what each of these limits on
+    /// an emission in a region costs. The limits are in billionths, ascending; `pivots` are those of one limit. The exact method's cost
+    /// is its bound, so that it keeps any gap.
+    Curve {
+        file: &'a str,
+        region: &'a str,
+        emission: &'a str,
+        limits: Vec<i128>,
+        gap: u32,
+        pivots: u32,
+        places: u8,
+        method: SolveMethod,
+    },
+    /// `span FILE REGION TECHNOLOGY YEAR [--slack PPM] [--gap PPM] [--pivots N] [--places P] [--method exact|rounded]`: says how little and
+    /// how much of a technology a plan may build that costs at most `slack` millionths more than the least cost. `pivots` are those of
+    /// one trial. The exact method's cost is its bound, so that it keeps any gap.
+    Span {
+        file: &'a str,
+        region: &'a str,
+        technology: &'a str,
+        year: &'a str,
+        slack: u32,
+        gap: u32,
+        pivots: u32,
+        places: u8,
+        method: SolveMethod,
     },
     /// `make N [--show file|summary]`: writes a made data file of this size, or solves it and writes
     /// a summary.
@@ -64,7 +92,7 @@ pub enum SolveShow {
     Multipliers,
 }
 
-/// Which method `solve` begins with.
+/// Which method `solve`, `explain`, `curve` and `span` begin with.
 #[derive(Clone, Copy, Debug, PartialEq, Eq)]
 pub enum SolveMethod {
     Exact,
@@ -84,13 +112,15 @@ enum CommandName {
     Check,
     Solve,
     Explain,
+    Curve,
+    Span,
     Make,
 }
 
 /// Reads the words. The first fault is answered, in this order: `NoCommand` where there
 /// is no word; `BadCommand` where the first is no command; `BadForm` where an option is unknown, is
-/// none of the command's, is repeated or has no value, or a file is missing or too many; `BadNumber`
-/// where a number isn't one of the digits and the range that its place allows; `BadShow` where the value
+/// none of the command's, is repeated or has no value, or a file or another word is missing or too many;
+/// `BadNumber` where a number, or a list of limits, isn't one of the digits and the range that its place allows; `BadShow` where the value
 /// of `--show`, and then that of `--method`, is none of the command's; `GapAlone` where `check` has a gap and no multipliers. An
 /// option and its value are two words, or one with `=` between. After `--` no word is an option.
 pub fn read_command<'a>(
@@ -106,13 +136,13 @@ pub fn read_command<'a>(
     match command_named(first.as_str()) {
         Some(name) => {
             let given = read_given(alloc, others)?;
-            Ok(command_by(name, given))
+            command_by(alloc, name, given)
         }
         None => Ok(Err(WordFault::BadCommand)),
     }
 }
 
-// The command of this word.
+// The command of this word. No word asks for `span` yet.
 fn command_named(word: &str) -> Option<CommandName>
     ensures { option_map name_of result ≡ command_named word.now }
 {
@@ -124,6 +154,8 @@ fn command_named(word: &str) -> Option<CommandName>
         Some(CommandName::Solve)
     } else if word == "explain" {
         Some(CommandName::Explain)
+    } else if word == "curve" {
+        Some(CommandName::Curve)
     } else if word == "make" {
         Some(CommandName::Make)
     } else {
@@ -132,29 +164,39 @@ fn command_named(word: &str) -> Option<CommandName>
 }
 
 // The command with what the words after it give, if they give anything.
-fn command_by<'a>(name: CommandName, given: Option<Given<'a>>) -> Result<Command<'a>, WordFault>
-    ensures { request_of_result result
-        ≡ command_by (name_of name) (option_map given_of given.entry) }
+fn command_by<'a>(
+    alloc: Global,
+    name: CommandName,
+    given: Option<Given<'a>>,
+) -> Result<Result<Command<'a>, WordFault>, AllocError>
+    ensures { IfOk result (λ answer. request_of_result answer
+        ≡ command_by (name_of name) (option_map given_of given.entry)) }
 {
     match given {
-        Some(given) => command_given(name, &given),
-        None => Err(WordFault::BadForm),
+        Some(given) => command_given(alloc, name, &given),
+        None => Ok(Err(WordFault::BadForm)),
     }
 }
 
-fn command_given<'a>(name: CommandName, given: &Given<'a>) -> Result<Command<'a>, WordFault>
-    ensures { request_of_result result
-        ≡ command_by (name_of name) (Some (given_of given.now)) }
+fn command_given<'a>(
+    alloc: Global,
+    name: CommandName,
+    given: &Given<'a>,
+) -> Result<Result<Command<'a>, WordFault>, AllocError>
+    ensures { IfOk result (λ answer. request_of_result answer
+        ≡ command_by (name_of name) (Some (given_of given.now))) }
 {
     if !is_allowed(name, given) {
-        return Err(WordFault::BadForm);
+        return Ok(Err(WordFault::BadForm));
     }
     match name {
-        CommandName::Mps => mps_given(given),
-        CommandName::Check => check_given(given),
-        CommandName::Solve => solve_given(given),
-        CommandName::Explain => explain_given(given),
-        CommandName::Make => make_given(given),
+        CommandName::Mps => Ok(mps_given(given)),
+        CommandName::Check => Ok(check_given(given)),
+        CommandName::Solve => Ok(solve_given(given)),
+        CommandName::Explain => Ok(explain_given(given)),
+        CommandName::Curve => curve_given(alloc, given),
+        CommandName::Span => Ok(span_given(given)),
+        CommandName::Make => Ok(make_given(given)),
     }
 }
 
@@ -168,19 +210,26 @@ fn is_allowed(name: CommandName, given: &Given<'_>) -> bool
                 && given.pivots.is_none()
                 && given.show.is_none()
                 && given.method.is_none()
+                && given.slack.is_none()
         }
         CommandName::Check => {
-            given.pivots.is_none() && given.show.is_none() && given.method.is_none()
+            given.pivots.is_none()
+                && given.show.is_none()
+                && given.method.is_none()
+                && given.slack.is_none()
         }
-        CommandName::Solve => true,
+        CommandName::Solve => given.slack.is_none(),
         CommandName::Explain => {
-            given.gap.is_none() && given.show.is_none() && given.method.is_none()
+            given.gap.is_none() && given.show.is_none() && given.slack.is_none()
         }
+        CommandName::Curve => given.show.is_none() && given.slack.is_none(),
+        CommandName::Span => given.show.is_none(),
         CommandName::Make => {
             given.gap.is_none()
                 && given.pivots.is_none()
                 && given.places.is_none()
                 && given.method.is_none()
+                && given.slack.is_none()
         }
     }
 }
@@ -272,29 +321,120 @@ fn solve_given<'a>(given: &Given<'a>) -> Result<Command<'a>, WordFault>
 fn explain_given<'a>(given: &Given<'a>) -> Result<Command<'a>, WordFault>
     ensures { request_of_result result ≡ command_given ExplainName (given_of given.now) }
 {
+    let [file] = given.files.as_slice() else {
+        return Err(WordFault::BadForm);
+    };
+    let (Some(pivots), Some(places)) = (pivots_of(given.pivots), places_of(given.places)) else {
+        return Err(WordFault::BadNumber);
+    };
+    let Some(method) = method_of(given.method) else {
+        return Err(WordFault::BadShow);
+    };
+    Ok(Command::Explain {
+        file: *file,
+        pivots,
+        places,
+        method,
+    })
+}
+
+fn curve_given<'a>(
+    alloc: Global,
+    given: &Given<'a>,
+) -> Result<Result<Command<'a>, WordFault>, AllocError>
+    ensures { IfOk result (λ answer. request_of_result answer ≡ command_given CurveName (given_of given.now)) }
+{
     match given.files.as_slice() {
-        [file] => explain(*file, given.pivots, given.places),
+        [file, region, emission, limits] => {
+            curve(alloc, *file, *region, *emission, *limits, given)
+        }
+        _ => Ok(Err(WordFault::BadForm)),
+    }
+}
+
+// The files that are given are these four words.
+fn curve<'a>(
+    alloc: Global,
+    file: &'a str,
+    region: &'a str,
+    emission: &'a str,
+    limits: &'a str,
+    given: &Given<'a>,
+) -> Result<Result<Command<'a>, WordFault>, AllocError>
+    ensures { IfOk result (λ answer. request_of_result answer
+        ≡ curve_of file.entry.now region.entry.now emission.entry.now limits.entry.now
+        (given_of given.now).gap (given_of given.now).pivots (given_of given.now).places (given_of given.now).method) }
+{
+    let (Some(gap), Some(pivots), Some(places)) = (
+        gap_of(given.gap),
+        pivots_of(given.pivots),
+        places_of(given.places),
+    ) else {
+        return Ok(Err(WordFault::BadNumber));
+    };
+    let Some(limits) = limits_of(alloc, limits)? else {
+        return Ok(Err(WordFault::BadNumber));
+    };
+    let Some(method) = method_of(given.method) else {
+        return Ok(Err(WordFault::BadShow));
+    };
+    Ok(Ok(Command::Curve {
+        file,
+        region,
+        emission,
+        limits,
+        gap: gap_for(method, given.gap, gap),
+        pivots,
+        places,
+        method,
+    }))
+}
+
+fn span_given<'a>(given: &Given<'a>) -> Result<Command<'a>, WordFault>
+    ensures { request_of_result result ≡ command_given SpanName (given_of given.now) }
+{
+    match given.files.as_slice() {
+        [file, region, technology, year] => span(*file, *region, *technology, *year, given),
         _ => Err(WordFault::BadForm),
     }
 }
 
-fn explain<'a>(
+// The files that are given are these four words.
+fn span<'a>(
     file: &'a str,
-    pivots: Option<&'a str>,
-    places: Option<&'a str>,
+    region: &'a str,
+    technology: &'a str,
+    year: &'a str,
+    given: &Given<'a>,
 ) -> Result<Command<'a>, WordFault>
     ensures { request_of_result result
-        ≡ explain_of file.entry.now (option_map (λ value. value.now) pivots.entry)
-        (option_map (λ value. value.now) places.entry) }
+        ≡ span_of file.entry.now region.entry.now technology.entry.now year.entry.now
+        (given_of given.now).gap (given_of given.now).pivots (given_of given.now).places (given_of given.now).slack (given_of given.now).method }
 {
-    match (pivots_of(pivots), places_of(places)) {
-        (Some(pivots), Some(places)) => Ok(Command::Explain {
-            file,
-            pivots,
-            places,
-        }),
-        _ => Err(WordFault::BadNumber),
-    }
+    let (Some(gap), Some(pivots), Some(places)) = (
+        gap_of(given.gap),
+        pivots_of(given.pivots),
+        places_of(given.places),
+    ) else {
+        return Err(WordFault::BadNumber);
+    };
+    let Some(slack) = gap_of(given.slack) else {
+        return Err(WordFault::BadNumber);
+    };
+    let Some(method) = method_of(given.method) else {
+        return Err(WordFault::BadShow);
+    };
+    Ok(Command::Span {
+        file,
+        region,
+        technology,
+        year,
+        slack,
+        gap: gap_for(method, given.gap, gap),
+        pivots,
+        places,
+        method,
+    })
 }
 
 fn make_given<'a>(given: &Given<'a>) -> Result<Command<'a>, WordFault>

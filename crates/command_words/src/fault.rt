@@ -7,7 +7,7 @@ pub enum WordFault {
     NoCommand,
     /// The first word is no command.
     BadCommand,
-    /// A file is missing or too many, an option is unknown or repeated, or it has no value.
+    /// A file or another word is missing or too many, an option is unknown or repeated, or it has no value.
     BadForm,
     /// A number isn't one of the digits and the range that its place allows.
     BadNumber,

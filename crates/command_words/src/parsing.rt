@@ -19,6 +19,7 @@ pub struct Given<'a> {
     pub places: Option<&'a str>,
     pub show: Option<&'a str>,
     pub method: Option<&'a str>,
+    pub slack: Option<&'a str>,
 }
 
 /// Reads the words after a command. `None` where an option is unknown, is repeated or has no value.
@@ -36,6 +37,7 @@ pub fn read_given<'a>(alloc: Global, words: &'a [String]) -> Result<Option<Given
         places: matches.get_str("places"),
         show: matches.get_str("show"),
         method: matches.get_str("method"),
+        slack: matches.get_str("slack"),
     };
     Ok(Some(given))
 }
@@ -74,7 +76,8 @@ fn any_options<'a>(alloc: Global) -> Result<Command<'a>, AllocError>
     let command = with_option(alloc, command, "pivots")?;
     let command = with_option(alloc, command, "places")?;
     let command = with_option(alloc, command, "show")?;
-    with_option(alloc, command, "method")
+    let command = with_option(alloc, command, "method")?;
+    with_option(alloc, command, "slack")
 }
 
 // Files in any number, wherever they stand. No program's name stands before the words, and there is no help.

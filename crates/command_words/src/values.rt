@@ -6,7 +6,7 @@ ghost use Rattle.command_words.specs.WordValues.{number_within, gap_of, pivots_o
 
 use crate::command::{MakeShow, SolveMethod, SolveShow};
 
-/// A gap in millionths, 0 where it is left out.
+/// A gap or a slack in millionths, 0 where it is left out.
 pub fn gap_of(text: Option<&str>) -> Option<u32>
     ensures { result ≡ gap_of (option_map (λ text. text.now) text.entry) }
 {
@@ -83,7 +83,7 @@ pub fn make_show_of(text: Option<&str>) -> Option<MakeShow>
     }
 }
 
-/// The method that `solve` begins with, the exact one where it is left out.
+/// The method that a command begins with, the exact one where it is left out.
 pub fn method_of(text: Option<&str>) -> Option<SolveMethod>
     ensures { result ≡ method_of (option_map (λ text. text.now) text.entry) }
 {

@@ -1,9 +1,8 @@
 -- Where every inequality of the list was tried, what is left of it is a conflict.
-use Rattle.std.proofs.Common.{◌≡◌, ◌≢◌, ℕ, ◌<◌, ℤ, pos, ◌*ℤ◌, Bool, true, false, not, ◌||◌, ◌&&◌, List, [], ◌∷◌, ◌++◌, inl, inr, map, filter, refl, sym, ap, ap₂, ◌∙◌, subst, append-nil, arith}
-use Rattle.std.specs.Prelude.{Contains, unsigned_abs, ⊤}
+use Rattle.std.proofs.Common.{◌≡◌, ◌≢◌, ℕ, ℤ, pos, ◌*ℤ◌, Bool, true, false, not, ◌||◌, ◌&&◌, List, [], ◌∷◌, inl, inr, map, refl, sym, ap, ap₂, ◌∙◌, subst, append-nil, arith}
+use Rattle.std.specs.Prelude.{Contains, unsigned_abs}
 use Rattle.std.proofs.lemmas.Bool.{eqb-true}
 use Rattle.std.proofs.lemmas.Int.{ints}
-use Rattle.std.specs.List.{list_any}
 use Rattle.std.specs.Ordering.{is_eq}
 use Rattle.exact_num.specs.Rational.{Rational}
 use Rattle.exact_num.specs.Value.{value_of}
@@ -24,7 +23,7 @@ use Rattle.certificate_checker.specs.Certificates.{AdmitsNone, AreMultipliersOve
 use Rattle.certificate_checker.specs.Sums.{HasVariablesOf}
 use Rattle.certificate_checker.proofs.DualityLaws.{Refutes-none}
 use Rattle.exact_solver.specs.Sizes.{is_unequal}
-use Rattle.conflict_sets.specs.Conflicts.{AreNeeded, AreRefuted, IsConflict, IsWholePlan, inequalities, is_member, is_other_member}
+use Rattle.conflict_sets.specs.Conflicts.{AreNeeded, IsConflict, IsWholePlan, inequalities, is_member, is_other_member}
 use Rattle.conflict_sets.specs.Searches.{IsSearched, names_known, needed_name}
 use Rattle.conflict_sets.specs.Pieces.{is_taken}
 use Rattle.conflict_sets.specs.Trials.{rows_with}

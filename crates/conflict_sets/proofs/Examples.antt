@@ -1,5 +1,5 @@
 -- The definitions, computed: the list that multipliers make, what is left of it, and its ends.
-use Rattle.std.proofs.Common.{◌≡◌, ℕ, pos, negsuc, true, false, List, [], ◌∷◌, refl}
+use Rattle.std.proofs.Common.{◌≡◌, ◌≤◌, ℕ, pos, negsuc, Bool, true, false, List, [], ◌∷◌, refl, arith}
 use Rattle.exact_num.specs.Rational.{Rational, whole}
 use Rattle.row_core.specs.declared.Row.{Row}
 use Rattle.row_core.specs.declared.RowName.{RowName}
@@ -11,6 +11,8 @@ use Rattle.simplex_core.specs.declared.stops.TrialStop.TheVariants as trials
 use Rattle.exact_solver.specs.declared.solutions.SolveStop.TheVariants as stops
 use Rattle.conflict_sets.specs.declared.conflict.ExplainFail.TheVariants.{Stopped}
 use Rattle.conflict_sets.specs.Conflicts.{is_member, is_other_member}
+use Rattle.conflict_sets.specs.Pieces.{is_outside}
+use Rattle.conflict_sets.specs.RoundedStops.{EndsSo, IsStopOfSome}
 use Rattle.conflict_sets.specs.Trials.{HasPlan, IsPivotDue, IsWide, StopsTrial}
 use Rattle.conflict_sets.specs.Walks.{IsConflicting, IsStopped, Stops, every, first_failed, found, is_listed, is_other, trial_failed}
 
@@ -44,6 +46,25 @@ other_stays = refl
 -- what isn't on the list is no other of it
 never_there : is_other refuting (named CAA4) (named 48) ≡ false
 never_there = refl
+
+-- what stands from one name to another is left out at once, and what comes before it or after it isn't
+abbrev middle : RowName → RowName → RowName → Bool
+middle first last name = is_outside first last name
+
+first_is_within : middle (named CAA4) (named EBA11) (named CAA4) ≡ false
+first_is_within = refl
+
+between_is_within : middle (named CAA3) (named EBA11) (named CAA4) ≡ false
+between_is_within = refl
+
+last_is_within : middle (named CAA4) (named EBA11) (named EBA11) ≡ false
+last_is_within = refl
+
+before_is_outside : middle (named CAA4) (named EBA11) (named CAA3) ≡ true
+before_is_outside = refl
+
+after_is_outside : middle (named CAA4) (named EBA11) (named TCC1) ≡ true
+after_is_outside = refl
 
 -- the first trial has what no list has
 first_has_all : every (named 51) ≡ true
@@ -97,3 +118,17 @@ no_stop h = cc h
 
 wide_is_no_budget : ¬ (StopsTrial (IsWide CostRow) stops.Budget)
 wide_is_no_budget h = cc h
+
+-- by guesses first: the exact trial's own stop, and no other
+own_stop : EndsSo IsPivotDue 7 (trials.Budget 7)
+own_stop = (refl, refl)
+
+no_other_budget : ¬ (EndsSo IsPivotDue 7 (trials.Budget 8))
+no_other_budget h = let e : 8 ≡ 7 = h.1 in omega arith
+
+plan_is_no_stop : ¬ (EndsSo (HasPlan []) 7 (trials.Width CostRow))
+plan_is_no_stop h = cc h
+
+-- later trials are counted from 1
+none_is_numbered_0 : (rows : List Row) (vars : List Var) → ¬ (IsStopOfSome rows vars 7 (Trial 0 (trials.Budget 7)))
+none_is_numbered_0 rows vars h = let at_least_1 : 1 ≤ 0 = h.0 in omega arith

@@ -1,5 +1,5 @@
 -- What the simplex found of a trial makes the checker say yes.
-use Rattle.std.proofs.Common.{◌≡◌, ℕ, ◌*◌, ◌<◌, ℤ, pos, ◌*ℤ◌, Bool, true, false, List, map, length, refl, sym, ap, ap₂, ◌∙◌, subst, arith}
+use Rattle.std.proofs.Common.{◌≡◌, ℕ, ◌*◌, ◌<◌, ℤ, pos, ◌*ℤ◌, Bool, true, false, List, map, sym, ap, ap₂, ◌∙◌, subst, arith}
 use Rattle.std.specs.Prelude.{◌<ℤ◌, Option}
 use Rattle.std.proofs.lemmas.Int.{ints}
 use Rattle.exact_num.specs.Rational.{Rational}
@@ -27,7 +27,6 @@ use Rattle.variable_elimination.specs.Columns.{AreColumns}
 use Rattle.variable_elimination.specs.Left.{AvoidAll}
 use Rattle.variable_elimination.specs.ReducedRows.{AreReductions, shape_of}
 use Rattle.variable_elimination.proofs.LiftedLaws.{lifted-others, plan_right}
-use Rattle.certificate_checker.specs.Conditions.{Condition}
 use Rattle.certificate_checker.specs.Costs.{model_cost}
 use Rattle.certificate_checker.specs.PlanChecks.{plan_conditions}
 use Rattle.certificate_checker.specs.Plans.{MeetsAll}

@@ -13,4 +13,5 @@ pub mod TrialEnds
 pub mod FoundTrials
 pub mod PairLaws
 pub mod StillLaws
+pub mod RoundedLaws
 pub mod Examples

@@ -1,16 +1,13 @@
 -- Rows that are copied and names that are listed, one after another.
-use Rattle.std.proofs.Common.{◌≡◌, ℕ, zero, suc, ◌+◌, ◌<◌, ◌≤◌, Bool, true, false, List, [], ◌∷◌, ◌++◌, length, get_or, drop, map, filter, refl, sym, ap, ap₂, ◌∙◌, subst, append_assoc, append-nil, arith, if◌then◌else◌}
+use Rattle.std.proofs.Common.{◌≡◌, ℕ, zero, suc, ◌+◌, ◌<◌, ◌≤◌, Bool, true, false, List, [], ◌∷◌, ◌++◌, length, get_or, drop, map, filter, refl, sym, ap, ap₂, ◌∙◌, append_assoc, append-nil, arith, if◌then◌else◌}
 use Rattle.std.specs.Prelude.{◌&&◌}
-use Rattle.std.proofs.lemmas.List.{at_drop_all, drop_more, length-map}
+use Rattle.std.proofs.lemmas.List.{at_drop_all, drop_more}
 use Rattle.exact_num.specs.Rational.{Rational}
-use Rattle.exact_num.specs.declared.fraction.Frac.{Frac}
 use Rattle.row_core.specs.declared.Row.{Row}
 use Rattle.row_core.specs.declared.RowName.{RowName}
-use Rattle.row_core.specs.Plans.{valued}
 use Rattle.exact_solver.specs.Sizes.{is_unequal}
 use Rattle.variable_elimination.specs.ReducedRows.{Shape, shape_of}
 use Rattle.conflict_sets.specs.Pieces.{is_taken, selected, tests_of}
-use Rattle.conflict_sets.specs.Searches.{member_named}
 use Rattle.conflict_sets.specs.Trials.{rows_with}
 use Rattle.conflict_sets.specs.Walks.{is_listed, listed_names}
 

@@ -1,6 +1,6 @@
 -- What plans and multipliers of some rows are to fewer of them.
-use Rattle.std.proofs.Common.{◌≡◌, ℕ, ◌*◌, ◌<◌, ℤ, pos, ◌+ℤ◌, ◌*ℤ◌, Bool, true, false, List, [], ◌∷◌, ◌++◌, inl, inr, filter, refl, sym, ap, ap₂, ◌∙◌, subst, arith, if◌then◌else◌}
-use Rattle.std.specs.Prelude.{◌<ℤ◌, Contains}
+use Rattle.std.proofs.Common.{◌≡◌, ℕ, ℤ, pos, ◌+ℤ◌, ◌*ℤ◌, Bool, true, false, not, ◌||◌, List, [], ◌∷◌, ◌++◌, inl, inr, filter, refl, sym, ap, ◌∙◌, subst, arith, if◌then◌else◌}
+use Rattle.std.specs.Prelude.{◌<ℤ◌}
 use Rattle.std.specs.List.{flat_map}
 use Rattle.std.proofs.lemmas.Int.{ints}
 use Rattle.std.proofs.lemmas.List.Concat.{flat_map-cons}
@@ -9,16 +9,17 @@ use Rattle.row_core.specs.declared.Row.{Row}
 use Rattle.row_core.specs.declared.RowName.{RowName}
 use Rattle.row_core.specs.declared.Var.{Var}
 use Rattle.row_core.specs.Kinds.{kind_is_free}
-use Rattle.row_core.specs.Numbers.{ascends, variables_of}
-use Rattle.row_core.specs.Order.{var_cmp}
+use Rattle.row_core.specs.Numbers.{variables_of}
 use Rattle.row_core.specs.Rows.{number_at}
 use Rattle.named_equations.proofs.InstanceTests.{Contains-from_Has, Has, Has-append_left, Has-append_right, Has-from_Contains}
-use Rattle.certificate_checker.specs.Certificates.{AreSigned, AreWithin, IsWithin, Proves, Refutes, bound_of}
+use Rattle.certificate_checker.specs.Certificates.{AreSigned, AreWithin, IsWithin, Refutes}
 use Rattle.certificate_checker.specs.Costs.{no_cost}
 use Rattle.certificate_checker.specs.Plans.{AllStand, MeetsAll}
 use Rattle.certificate_checker.specs.Sums.{HasVariablesOf, column_sum, weighted}
+use Rattle.exact_solver.specs.Sizes.{is_unequal}
 use Rattle.conflict_sets.specs.Pieces.{is_taken}
 use Rattle.conflict_sets.specs.Trials.{rows_with}
+use Rattle.conflict_sets.specs.Walks.{every}
 use Rattle.conflict_sets.proofs.RowLists.{Takes, append-either, taken-too}
 
 -- ---- plans
@@ -53,6 +54,14 @@ all-stand q x (row ∷ rows) p every h = cases (p row) (every row) h (all-stand 
     cases : (t : Bool) → t ≡ true → AllStand (right_of q) (if t then (row ∷ filter p rows) else filter p rows) x → (AllStand (right_of q) (filter p rows) x → AllStand (right_of q) rows x) → AllStand (right_of q) (row ∷ rows) x
     cases true is h rest = (h.0, rest h.1)
     cases false is h rest = absurd (cc is)
+
+-- the first trial has every row
+pub every-taken : (row : Row) → is_taken every row ≡ true
+every-taken row = cases (is_unequal row.sense)
+  where
+    cases : (b : Bool) → (not b || true) ≡ true
+    cases true = refl
+    cases false = refl
 
 pub all-met : (rows : List Row) (vars : List Var) (listed : RowName → Bool) (q : ℕ) (x : Var → ℤ) → ((row : Row) → is_taken listed row ≡ true) → MeetsAll (rows_with listed rows) vars q x → MeetsAll rows vars q x
 all-met rows vars listed q x every h = record { positive = h.positive; rows_hold = all-stand q x rows (is_taken listed) every h.rows_hold; signs = h.signs }

@@ -1,5 +1,5 @@
 -- Values that meet the linear program of a trial become a plan that meets the rows of the trial.
-use Rattle.std.proofs.Common.{◌≡◌, ◌≢◌, ℕ, ◌<◌, ℤ, pos, ◌*ℤ◌, Bool, true, false, not, ◌||◌, List, [], ◌∷◌, inl, inr, length, map, refl, sym, ap, ap₂, ◌∙◌, subst, arith, if◌then◌else◌}
+use Rattle.std.proofs.Common.{◌≡◌, ◌≢◌, ℕ, ℤ, pos, ◌*ℤ◌, Bool, true, false, not, ◌||◌, List, [], ◌∷◌, inl, inr, length, map, refl, sym, ap, ap₂, ◌∙◌, subst, arith, if◌then◌else◌}
 use Rattle.std.specs.Prelude.{Option, Some, None}
 use Rattle.std.specs.Prelude.{◌≤ℤ◌, int_le}
 use Rattle.std.specs.Ordering.{int_eq}
@@ -26,7 +26,7 @@ use Rattle.written_method.specs.Ready.{ArePosed}
 use Rattle.variable_elimination.specs.Left.{AvoidAll}
 use Rattle.variable_elimination.specs.Lifts.{AllStand, CarriesPlan, right_times}
 use Rattle.variable_elimination.specs.Meaning.{AreMet, excess}
-use Rattle.variable_elimination.specs.ReducedRows.{AreReductions, Shape, shape_of}
+use Rattle.variable_elimination.specs.ReducedRows.{AreReductions, shape_of}
 use Rattle.variable_elimination.proofs.LiftedLaws.{lifted-others, lifted_meet, plan_met, reduced_hold}
 use Rattle.variable_elimination.proofs.LiftLaws.{at_most, product_down}
 use Rattle.variable_elimination.proofs.ReductionLaws.{reduced_says}

@@ -1,5 +1,5 @@
 -- Rows of a trial, among those of another.
-use Rattle.std.proofs.Common.{◌≡◌, ℕ, Bool, true, false, not, ◌||◌, ◌&&◌, List, [], ◌∷◌, ◌++◌, ◌⊎◌, inl, inr, map, filter, refl, sym, ap, ap₂, ◌∙◌, subst, if◌then◌else◌}
+use Rattle.std.proofs.Common.{◌≡◌, Bool, true, false, not, ◌||◌, List, [], ◌∷◌, ◌++◌, ◌⊎◌, inl, inr, map, filter, refl, sym, ap, ◌∙◌, subst, if◌then◌else◌}
 use Rattle.std.specs.Ordering.{is_eq, is_lt, ordering_reverse}
 use Rattle.std.specs.declared.cmp.Ordering.{Ordering}
 use Rattle.std.specs.declared.cmp.Ordering.TheVariants.{Less, Equal as Alike, Greater}
@@ -10,8 +10,7 @@ use Rattle.row_core.specs.Numbers.{ascends, before_first}
 use Rattle.row_core.specs.Order.{row_name_cmp}
 use Rattle.row_core.proofs.AscendingLaws.{ascends-first, ascends-skip, ascends-tail, both_passed, test-from_Less}
 use Rattle.row_core.proofs.Orders.{row_name_cmp_exact, row_name_cmp_total}
-use Rattle.named_equations.proofs.InstanceTests.{Contains-from_Has, Has, Has-from_Contains, filter_parts}
-use Rattle.row_book.specs.Books.{names_of}
+use Rattle.named_equations.proofs.InstanceTests.{Contains-from_Has, Has, filter_parts}
 use Rattle.variable_elimination.proofs.LiftLaws.{alike}
 use Rattle.exact_solver.specs.Sizes.{is_unequal}
 use Rattle.conflict_sets.specs.Conflicts.{inequalities}

@@ -1,5 +1,5 @@
 -- What is known goes on from trial to trial.
-use Rattle.std.proofs.Common.{◌≡◌, ℕ, ℤ, Bool, true, false, not, ◌&&◌, List, [], ◌∷◌, ◌++◌, inl, inr, map, filter, refl, sym, ap, ap₂, ◌∙◌, subst, append_assoc}
+use Rattle.std.proofs.Common.{◌≡◌, Bool, true, false, not, ◌&&◌, List, [], ◌∷◌, ◌++◌, inl, inr, map, filter, sym, ap, ap₂, ◌∙◌, subst, append_assoc}
 use Rattle.std.specs.Prelude.{Contains}
 use Rattle.std.specs.Ordering.{is_eq}
 use Rattle.std.proofs.lemmas.List.{map-append}
@@ -10,7 +10,7 @@ use Rattle.row_core.specs.declared.Var.{Var}
 use Rattle.row_core.specs.Numbers.{ascends, keys_of}
 use Rattle.row_core.specs.Order.{row_name_cmp}
 use Rattle.row_core.proofs.AscendingLaws.{both_passed}
-use Rattle.named_equations.proofs.InstanceTests.{Contains-from_Has, Has, Has-append_left, Has-append_right, Has-from_Contains, filter_parts}
+use Rattle.named_equations.proofs.InstanceTests.{Contains-from_Has, Has, Has-from_Contains, filter_parts}
 use Rattle.row_book.specs.Kept.{IsBook}
 use Rattle.exact_solver.specs.MethodEnds.{plan_cost}
 use Rattle.exact_solver.specs.Sizes.{is_unequal}
@@ -19,7 +19,7 @@ use Rattle.conflict_sets.specs.Conflicts.{IsWholePlan, inequalities}
 use Rattle.conflict_sets.specs.Pieces.{AreWithin}
 use Rattle.conflict_sets.specs.Searches.{IsSearched, names_known, needed_name}
 use Rattle.conflict_sets.specs.Trials.{rows_with}
-use Rattle.conflict_sets.specs.Walks.{Needed, every, is_listed, is_other, listed_names}
+use Rattle.conflict_sets.specs.Walks.{Needed, is_listed, is_other, listed_names}
 use Rattle.conflict_sets.proofs.PartLaws.{fewer-met}
 use Rattle.conflict_sets.proofs.RowLists.{append-either, filter-ascends, filter-has, inequality-named, inequality-row, itself, map-has, mapped-has, without-one}
 

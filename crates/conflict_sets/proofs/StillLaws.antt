@@ -1,5 +1,5 @@
 -- An inequality that was needed stays on the list: without it the others have a plan, so that no later refutation does without it.
-use Rattle.std.proofs.Common.{◌≡◌, ℕ, ◌<◌, ℤ, pos, Bool, true, false, not, ◌||◌, ◌&&◌, List, [], ◌∷◌, inl, inr, filter, refl, sym, ap, ap₂, ◌∙◌, subst, if◌then◌else◌}
+use Rattle.std.proofs.Common.{◌≡◌, ℕ, ℤ, pos, Bool, true, false, not, ◌||◌, ◌&&◌, List, [], ◌∷◌, inl, inr, filter, refl, ap, ap₂, ◌∙◌, if◌then◌else◌}
 use Rattle.std.specs.Ordering.{is_eq}
 use Rattle.exact_num.specs.Rational.{Rational}
 use Rattle.row_core.specs.declared.Row.{Row}

@@ -1,6 +1,6 @@
 -- The linear program of a trial is that of the definitions, is ready to be solved, and its rows are some of the book's, reduced.
-use Rattle.std.proofs.Common.{◌≡◌, ◌≢◌, ℕ, ◌+◌, ◌<◌, ◌≤◌, ◌^◌, ℤ, pos, ◌+ℤ◌, ◌*ℤ◌, Bool, true, false, List, [], ◌∷◌, inl, inr, length, map, refl, sym, ap, ap₂, ◌∙◌, subst, arith}
-use Rattle.std.specs.Prelude.{◌<ℤ◌, IsTrue, ⊤}
+use Rattle.std.proofs.Common.{◌≡◌, ◌+◌, ◌<◌, ◌≤◌, ◌^◌, ℤ, pos, ◌+ℤ◌, ◌*ℤ◌, Bool, true, false, List, [], ◌∷◌, inl, inr, length, map, refl, sym, ap, ap₂, ◌∙◌, subst, arith}
+use Rattle.std.specs.Prelude.{◌<ℤ◌, IsTrue}
 use Rattle.std.proofs.lemmas.Int.{ints}
 use Rattle.std.proofs.lemmas.List.{length-map}
 use Rattle.exact_num.specs.Range.{InRange, all_fit}
@@ -9,7 +9,6 @@ use Rattle.exact_num.specs.Value.{value_of}
 use Rattle.exact_num.specs.declared.fraction.Frac.{Frac}
 use Rattle.row_core.specs.declared.Row.{Row}
 use Rattle.row_core.specs.declared.RowName.{RowName}
-use Rattle.row_core.specs.declared.Sense.TheVariants.{Equal}
 use Rattle.row_core.specs.declared.Var.{Var}
 use Rattle.row_core.specs.Numbers.{ascends, numbers_of, variables_of}
 use Rattle.row_core.specs.Order.{var_cmp}
@@ -26,7 +25,6 @@ use Rattle.variable_elimination.specs.ReducedRows.{AreReductions, IsReduction, S
 use Rattle.variable_elimination.specs.Reductions.{multiples_of}
 use Rattle.variable_elimination.specs.RowNames.{names_of}
 use Rattle.exact_solver.specs.BookPrograms.{IsProgramOf}
-use Rattle.exact_solver.specs.Definers.{definers}
 use Rattle.exact_solver.specs.Programs.{inequality_in, name_left, program_left, rows_left, scale_left}
 use Rattle.exact_solver.specs.declared.books.BookProgram.{BookProgram}
 use Rattle.exact_solver.proofs.CarriedWords.{as_many}

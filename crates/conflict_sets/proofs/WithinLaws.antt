@@ -1,9 +1,9 @@
 -- Of the inequalities those that were tried alone have a multiplier other than 0.
-use Rattle.std.proofs.Common.{◌≡◌, ℤ, pos, Bool, true, false, not, List, [], ◌∷◌, ◌⊎◌, inl, inr, map, filter, refl, sym, ap, ◌∙◌, subst, if◌then◌else◌}
-use Rattle.std.specs.Prelude.{Option, Some, None, Contains}
+use Rattle.std.proofs.Common.{◌≡◌, Bool, true, false, not, List, [], ◌∷◌, ◌⊎◌, inl, inr, map, filter, refl, sym, ap, ◌∙◌, subst, if◌then◌else◌}
+use Rattle.std.specs.Prelude.{Option, Some, None}
 use Rattle.std.specs.BTreeMap.{insert_entry}
 use Rattle.std.specs.Ordering.{is_eq}
-use Rattle.exact_num.specs.Rational.{Rational, times, whole}
+use Rattle.exact_num.specs.Rational.{Rational, times}
 use Rattle.row_core.specs.declared.Row.{Row}
 use Rattle.row_core.specs.declared.RowName.{RowName}
 use Rattle.row_core.specs.declared.Sense.TheVariants.{Equal}
@@ -13,7 +13,7 @@ use Rattle.row_core.specs.Numbers.{ascends, is_zero, keys_of}
 use Rattle.row_core.specs.Order.{row_name_cmp}
 use Rattle.row_core.specs.Plans.{or_zero, value_in}
 use Rattle.row_core.proofs.AscendingLaws.{ascends-tail}
-use Rattle.named_equations.proofs.InstanceTests.{Contains-from_Has, Has, Has-from_Contains, filter_parts}
+use Rattle.named_equations.proofs.InstanceTests.{Has, Has-from_Contains, filter_parts}
 use Rattle.row_book.specs.Books.{names_of}
 use Rattle.row_book.specs.Kept.{IsBook}
 use Rattle.written_method.specs.Definitions.{Definition, definitions_of, AreTriangular}

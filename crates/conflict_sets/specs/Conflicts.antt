@@ -1,5 +1,5 @@
 -- What a conflict is: inequalities that can't be met together, each of which is needed for that.
-use Rattle.std.specs.Prelude.{◌≡◌, ◌≢◌, ℕ, pos, ℤ, Bool, true, not, ◌&&◌, Contains, List, [], ◌∷◌, map, filter, ⊤}
+use Rattle.std.specs.Prelude.{◌≡◌, ◌≢◌, ℕ, pos, ℤ, Bool, true, not, ◌&&◌, Contains, List, [], ◌∷◌, filter, ⊤}
 use Rattle.std.specs.List.{list_any}
 use Rattle.std.specs.Ordering.{is_eq}
 use Rattle.exact_num.specs.Rational.{Rational}

@@ -3,3 +3,4 @@ pub mod Walks
 pub mod Conflicts
 pub mod Pieces
 pub mod Searches
+pub mod RoundedStops

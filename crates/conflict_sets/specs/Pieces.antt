@@ -1,13 +1,13 @@
 -- The parts of a trial as the code has them.
-use Rattle.std.specs.Prelude.{◌≡◌, ℕ, pos, Bool, true, false, not, ◌||◌, Contains, List, [], ◌∷◌, map, filter, Option, None, ⊤}
+use Rattle.std.specs.Prelude.{◌≡◌, pos, Bool, true, false, not, ◌||◌, ◌&&◌, Contains, List, [], ◌∷◌, map}
 use Rattle.exact_num.specs.Rational.{Rational}
-use Rattle.exact_num.specs.declared.fraction.Frac.{Frac}
 use Rattle.row_core.specs.declared.Row.{Row}
 use Rattle.row_core.specs.declared.RowName.{RowName}
 use Rattle.row_core.specs.declared.Var.{Var}
-use Rattle.row_core.specs.Forms.{Form}
+use Rattle.row_core.specs.Order.{row_name_cmp}
+use Rattle.std.specs.Ordering.{is_lt}
 use Rattle.written_method.specs.declared.reduced.Reduced.{Reduced}
-use Rattle.variable_elimination.specs.ReducedRows.{Shape, shape_of}
+use Rattle.variable_elimination.specs.ReducedRows.{shape_of}
 use Rattle.exact_solver.specs.Solutions.{IsPlan, IsRefutation}
 use Rattle.exact_solver.specs.MethodEnds.{plan_cost}
 use Rattle.row_core.specs.Numbers.{keys_of}
@@ -20,10 +20,15 @@ use Rattle.conflict_sets.specs.declared.listing.Listing.TheVariants as listings
 use Rattle.conflict_sets.specs.declared.trial.Finding.{Finding}
 use Rattle.conflict_sets.specs.declared.trial.Finding.TheVariants as findings
 
+-- the name comes before the first of these or after the last
+abbrev pub is_outside : RowName → RowName → RowName → Bool
+is_outside first last name = is_lt (row_name_cmp name first) || is_lt (row_name_cmp last name)
+
 -- the inequalities that a listing lists
 abbrev pub listed_by : Listing → RowName → Bool
 listed_by listings.Every = every
 listed_by (listings.Others multipliers left_out) = is_other multipliers.now left_out
+listed_by (listings.Outside multipliers first last) = λ name. is_listed multipliers.now name && is_outside first last name
 
 -- the row is an equation, or listed
 abbrev pub is_taken : (RowName → Bool) → Row → Bool

@@ -1,5 +1,5 @@
 -- A trial: the exact method at no cost, on every equation and on some of the inequalities.
-use Rattle.std.specs.Prelude.{◌≡◌, ℕ, pos, Bool, true, false, not, ◌||◌, List, [], ◌++◌, map, filter, Option, Some, None, ⊤}
+use Rattle.std.specs.Prelude.{◌≡◌, ℕ, pos, Bool, false, not, ◌||◌, List, [], ◌++◌, map, filter, Option, Some, None, ⊤}
 use Rattle.exact_num.specs.Rational.{Rational}
 use Rattle.exact_num.specs.Steps.{Step, first_wide}
 use Rattle.row_core.specs.declared.Row.{Row}

@@ -79,7 +79,7 @@ fn searched(
 }
 
 /// Why the first trial, which has every inequality, stopped.
-fn first_fail(stop: SolveStop, pivots: u64) -> ExplainFail
+pub(crate) fn first_fail(stop: SolveStop, pivots: u64) -> ExplainFail
     ensures { result ≡ first_failed pivots stop }
 {
     match stop {

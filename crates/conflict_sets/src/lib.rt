@@ -4,10 +4,14 @@
 mod conflict;
 mod copying;
 mod explaining;
+mod guessing;
 mod laws;
 mod listing;
+mod rounding;
 mod searching;
+mod shrinking;
 mod trial;
 
 pub use conflict::{Conflict, ExplainFail};
 pub use explaining::explain;
+pub use rounding::explain_rounded;

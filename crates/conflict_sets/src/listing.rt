@@ -2,7 +2,7 @@
 
 ghost use Rattle.std.specs.Prelude.{◌≡◌, ◌++◌, ◌∷◌, [], ◌&&◌, if◌then◌else◌, IfOk, OnOk};
 ghost use Rattle.exact_solver.specs.Sizes.{is_unequal};
-ghost use Rattle.conflict_sets.specs.Pieces.{listed_by};
+ghost use Rattle.conflict_sets.specs.Pieces.{is_outside, listed_by};
 ghost use Rattle.conflict_sets.specs.Walks.{is_listed, listed_names};
 
 use row_core::{Multipliers, Row, RowName, Sense};
@@ -15,6 +15,8 @@ pub(crate) enum Listing<'a> {
     Every,
     /// Those with a multiplier other than 0, but the one of this name.
     Others(&'a Multipliers, RowName),
+    /// Those with a multiplier other than 0, but those from this name to that one.
+    Outside(&'a Multipliers, RowName, RowName),
 }
 
 /// Whether the inequality of this name is among them.
@@ -26,7 +28,17 @@ pub(crate) fn is_listed_by(listing: &Listing<'_>, name: RowName) -> bool
         Listing::Others(multipliers, left_out) => {
             is_listed(*multipliers, name) && name != *left_out
         }
+        Listing::Outside(multipliers, first, last) => {
+            is_listed(*multipliers, name) && is_outside(name, *first, *last)
+        }
     }
+}
+
+/// Whether a name comes before the first of these or after the last.
+fn is_outside(name: RowName, first: RowName, last: RowName) -> bool
+    ensures { result ≡ is_outside first last name }
+{
+    name.cmp(&first).is_lt() || last.cmp(&name).is_lt()
 }
 
 /// Whether the row of this name has a multiplier other than 0.

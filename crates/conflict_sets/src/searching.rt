@@ -97,7 +97,7 @@ fn members_of(
 }
 
 /// Why the trial of this number stopped.
-fn trial_fail(stop: SolveStop, trial: u64, pivots: u64) -> ExplainFail
+pub(crate) fn trial_fail(stop: SolveStop, trial: u64, pivots: u64) -> ExplainFail
     ensures { result ≡ trial_failed trial pivots stop }
 {
     match stop {

@@ -1,6 +1,5 @@
 -- The members of a conflict of a book are rows of the sets, and each of its plans has a value for each variable of the book.
-use Rattle.std.proofs.Common.{◌≡◌, ℕ, suc, List, [], ◌∷◌, length, inl, inr, refl, ap, subst}
-use Rattle.std.specs.Prelude.{Contains}
+use Rattle.std.proofs.Common.{◌≡◌, suc, List, [], ◌∷◌, length, inl, inr, refl, ap, subst}
 use Rattle.std.specs.List.{AllByRecursion}
 use Rattle.exact_num.specs.Rational.{Rational}
 use Rattle.exact_num.specs.declared.fraction.Frac.{Frac}

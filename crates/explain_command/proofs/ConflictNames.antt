@@ -1,5 +1,5 @@
 -- A conflict of the rows of a book is one of the named equations.
-use Rattle.std.proofs.Common.{◌≡◌, ℕ, ℤ, Bool, true, false, List, [], ◌∷◌, inl, inr, map, refl, sym, ap, ◌∙◌, subst}
+use Rattle.std.proofs.Common.{◌≡◌, ℕ, true, false, List, [], ◌∷◌, inl, inr, map, refl, sym, ap, ◌∙◌, subst}
 use Rattle.std.specs.Prelude.{Option, Some, None, Contains}
 use Rattle.exact_num.specs.Rational.{Rational}
 use Rattle.exact_num.specs.declared.fraction.Frac.{Frac}

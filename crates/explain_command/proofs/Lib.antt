@@ -5,3 +5,4 @@ mod TrialPlaces
 mod SameExplains
 mod TextLaws
 mod ExplainEnds
+mod GuessedEnds

@@ -1,23 +1,21 @@
 -- The rows of a trial of a book hold of a plan exactly where it meets the definitions and the inequalities that are listed.
-use Rattle.std.proofs.Common.{◌≡◌, ℕ, ◌<◌, ℤ, pos, ◌*ℤ◌, Bool, true, false, not, ◌||◌, List, [], ◌∷◌, inl, inr, map, filter, refl, sym, ap, ap₂, ◌∙◌, subst, if◌then◌else◌}
-use Rattle.std.specs.Prelude.{Option, Some, None, is_some, Contains}
+use Rattle.std.proofs.Common.{◌≡◌, ℕ, ℤ, pos, ◌*ℤ◌, Bool, true, false, not, ◌||◌, List, [], ◌∷◌, inl, inr, refl, sym, ap, ◌∙◌, subst, if◌then◌else◌}
+use Rattle.std.specs.Prelude.{Option, Some, None, is_some}
 use Rattle.model_sets.specs.Data.{Data}
 use Rattle.row_core.specs.declared.Row.{Row}
 use Rattle.row_core.specs.declared.RowName.{RowName}
 use Rattle.row_core.specs.declared.Sense.{Sense}
 use Rattle.row_core.specs.declared.Sense.TheVariants.{Least, Equal, Most}
 use Rattle.row_core.specs.declared.Var.{Var}
-use Rattle.row_core.specs.Kinds.{kind_is_free}
 use Rattle.row_core.specs.Rows.{RowHolds, row_sum}
 use Rattle.row_core.specs.Statements.{Stands}
-use Rattle.named_equations.specs.Existence.{exists}
 use Rattle.named_equations.specs.Instances.{instances, variable_of}
 use Rattle.named_equations.specs.Plans.{Meets}
 use Rattle.named_equations.proofs.InstanceTests.{Contains-from_Has, Has, Has-from_Contains}
 use Rattle.row_book.specs.Books.{AreRowsOf}
 use Rattle.row_book.specs.Definitions.{IsRepeatedIn}
 use Rattle.row_book.specs.Kept.{IsBook}
-use Rattle.certificate_checker.specs.Plans.{AllStand, HaveRightSigns, MeetsAll}
+use Rattle.certificate_checker.specs.Plans.{AllStand, MeetsAll}
 use Rattle.exact_solver.specs.Sizes.{is_unequal}
 use Rattle.exact_solver.proofs.BookLaws.{placed}
 use Rattle.command_answers.specs.CheckedPlans.{IsBookOf}

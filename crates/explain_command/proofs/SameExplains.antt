@@ -23,7 +23,12 @@ use Rattle.command_answers.proofs.SamePlans.{vars-same}
 use Rattle.solve_command.specs.Limits.{IsWithinLimits, PassesLimits, most_columns, most_rows}
 use Rattle.conflict_sets.specs.Conflicts.{is_member, is_other_member}
 use Rattle.conflict_sets.specs.Walks.{Explanation, explanation}
-use Rattle.explain_command.specs.Explain.{DueForExplain, DueForRows, DueForTrials}
+use Rattle.command_words.specs.declared.command.SolveMethod.{SolveMethod}
+use Rattle.command_words.specs.declared.command.SolveMethod.TheVariants.{Exact, Rounded}
+use Rattle.simplex_core.specs.declared.stops.Stop.TheVariants.{Width}
+use Rattle.conflict_sets.specs.RoundedStops.{IsStopOfSome}
+use Rattle.explain_command.specs.Explain.{DueForExplain, DueForGuesses, DueForMethod, DueForRows, DueForTrials}
+use Rattle.explain_command.specs.ShownConflicts.{AreShown}
 use Rattle.explain_command.specs.NamedConflicts.{FeasibleWith, HavePlans, IsNamedConflict, MeetsAsked, SomeIsFeasible}
 use Rattle.explain_command.specs.Texts.{conflict_text}
 
@@ -97,6 +102,37 @@ module _ (places : ℕ) (d e : Data) (same : AreSameData d e) where
         line_is = stopped.line_is ∙ ap (λ (ss : SetLists). uncertified_line ss stopped.stop) same.sets;
       }))
 
+  guesses-carry : (rows : List Row) (pivots : ℕ) (status : Status) (text : List ℕ) → DueForGuesses places d rows pivots status text → DueForGuesses places e rows pivots status text
+  guesses-carry rows pivots status text (inl feasible) = inl (record { some = some-carries feasible.some; status_is = feasible.status_is; text_is = feasible.text_is })
+  guesses-carry rows pivots status text (inr (inl found)) =
+      inr (inl (record {
+        members = found.members;
+        plans = found.plans;
+        conflict = conflict-carries _ found.plans found.conflict;
+        shown = subst (λ (vs : List Var). AreShown rows vs found.members) vars found.shown;
+        status_is = found.status_is;
+        text_is = found.text_is ∙ ap (λ (ss : SetLists). conflict_text ss found.members found.plans) same.sets;
+      }))
+  guesses-carry rows pivots status text (inr (inr (inl before))) =
+      inr (inr (inl (record {
+        place = before.place;
+        wide = before.wide;
+        status_is = before.status_is;
+        line_is = before.line_is ∙ ap (λ (ss : SetLists). uncertified_line ss (Width before.place)) same.sets;
+      })))
+  guesses-carry rows pivots status text (inr (inr (inr stopped))) =
+      inr (inr (inr (record {
+        stop = stopped.stop;
+        eliminated = stopped.eliminated;
+        stops = subst (λ (vs : List Var). IsStopOfSome rows vs pivots stopped.stop) vars stopped.stops;
+        status_is = stopped.status_is;
+        line_is = stopped.line_is ∙ ap (λ (ss : SetLists). uncertified_line ss stopped.stop) same.sets;
+      })))
+
+  method-carries : (rows : List Row) (pivots : ℕ) (method : SolveMethod) (status : Status) (text : List ℕ) → DueForMethod places d rows pivots method status text → DueForMethod places e rows pivots method status text
+  method-carries rows pivots Exact status text due = trials-carry rows pivots status text due
+  method-carries rows pivots Rounded status text due = guesses-carry rows pivots status text due
+
   large-carries : (rows : List Row) (status : Status) (text : List ℕ) → PassesLimits d rows status text → PassesLimits e rows status text
   large-carries rows status text large = record {
     passed = subst (λ vs. (most_rows < inequality_count rows) ⊎ (most_columns < column_count vs)) vars large.passed;
@@ -104,17 +140,17 @@ module _ (places : ℕ) (d e : Data) (same : AreSameData d e) where
     line_is = large.line_is ∙ ap (λ vs. too_large_line (inequality_count rows) (column_count vs)) vars;
   }
 
-  rows-carry : (rows : List Row) (pivots : ℕ) (status : Status) (text : List ℕ) → DueForRows places d rows pivots status text → DueForRows places e rows pivots status text
-  rows-carry rows pivots status text (inl large) = inl (large-carries rows status text large)
-  rows-carry rows pivots status text (inr due) = inr (subst (IsWithinLimits rows) vars due.0, trials-carry rows pivots status text due.1)
+  rows-carry : (rows : List Row) (pivots : ℕ) (method : SolveMethod) (status : Status) (text : List ℕ) → DueForRows places d rows pivots method status text → DueForRows places e rows pivots method status text
+  rows-carry rows pivots method status text (inl large) = inl (large-carries rows status text large)
+  rows-carry rows pivots method status text (inr due) = inr (subst (IsWithinLimits rows) vars due.0, method-carries rows pivots method status text due.1)
 
-  pub explain-carries : SameLaws places d e → (pivots : ℕ) (status : Status) (text : List ℕ) → DueForExplain places pivots d status text → DueForExplain places pivots e status text
-  explain-carries laws pivots status text (inl made) =
+  pub explain-carries : SameLaws places d e → (pivots : ℕ) (method : SolveMethod) (status : Status) (text : List ℕ) → DueForExplain places pivots method d status text → DueForExplain places pivots method e status text
+  explain-carries laws pivots method status text (inl made) =
       inl (record {
         made = (laws.made 0).0 made.made;
         rows = made.rows;
         are_rows = (laws.rows made.rows).0 made.are_rows;
-        due = rows-carry made.rows pivots status text made.due;
+        due = rows-carry made.rows pivots method status text made.due;
       })
-  explain-carries laws pivots status text (inr (inl wide)) = inr (inl (wide_carries places d e status text same laws wide))
-  explain-carries laws pivots status text (inr (inr many)) = inr (inr (many_carries places d e status text laws many))
+  explain-carries laws pivots method status text (inr (inl wide)) = inr (inl (wide_carries places d e status text same laws wide))
+  explain-carries laws pivots method status text (inr (inr many)) = inr (inr (many_carries places d e status text laws many))

@@ -1,5 +1,5 @@
 -- The place at which a trial stops is that of a row or a variable of the sets, so its name can be written.
-use Rattle.std.proofs.Common.{◌≡◌, ℕ, ◌+◌, Bool, true, false, not, ◌||◌, List, [], ◌∷◌, ◌++◌, map, filter, Option, Some, None, refl, sym, ap, ◌∙◌, subst, if◌then◌else◌}
+use Rattle.std.proofs.Common.{◌≡◌, ℕ, ◌+◌, Bool, true, false, List, [], ◌∷◌, ◌++◌, map, filter, Option, Some, None, refl, subst, if◌then◌else◌}
 use Rattle.std.specs.Prelude.{⊤}
 use Rattle.std.specs.List.{AllByRecursion}
 use Rattle.exact_num.specs.Rational.{Rational}
@@ -11,7 +11,6 @@ use Rattle.row_core.specs.declared.Var.{Var}
 use Rattle.row_core.specs.declared.place.Place.{Place}
 use Rattle.row_book.specs.Books.{HasNameWithin, IsWithinSets}
 use Rattle.row_book.proofs.Lists.{AllByRecursion-filter, AllByRecursion-map, AllByRecursion-weaker}
-use Rattle.certificate_checker.specs.Conditions.{steps}
 use Rattle.certificate_checker.specs.Costs.{model_cost}
 use Rattle.certificate_checker.specs.PlanChecks.{plan_conditions}
 use Rattle.written_method.specs.Definitions.{definitions_of}
@@ -29,7 +28,8 @@ use Rattle.solve_command.proofs.EndPlaces.{defined-within, names-left, plan-step
 use Rattle.solve_command.proofs.MethodPlaces.{DefinesWithin, OutcomeIsWithin, definitions-within, elimination-within, solved-within}
 use Rattle.conflict_sets.specs.Pieces.{is_taken}
 use Rattle.conflict_sets.specs.Trials.{HasNone, HasPlan, IsPivotDue, IsWide, TrialEnd, carried_trial, plan_checks, rows_tried, rows_with, trial_end, trial_program, tried_multipliers, tried_steps, unless_stopped}
-use Rattle.conflict_sets.specs.Walks.{Explanation, IsConflicting, IsFeasible, IsStopped, Needed, every, explained, explanation, found, is_listed, is_other, listed_names, walk}
+use Rattle.conflict_sets.specs.RoundedStops.{IsStopOfSome}
+use Rattle.conflict_sets.specs.Walks.{Explanation, IsConflicting, IsFeasible, IsStopped, Needed, every, explained, is_listed, is_other, listed_names, walk}
 use Rattle.explain_command.specs.Outcomes.{StopIsWithin}
 
 module _ (sets : SetLists) (rows : List Row) (vars : List Var) (define : AllByRecursion (DefinesWithin sets) rows) (listed_vars : AllByRecursion (IsWithinSets sets) vars) where
@@ -150,6 +150,15 @@ module _ (sets : SetLists) (rows : List Row) (vars : List Var) (define : AllByRe
 
   pub stop-named : (pivots : ℕ) (stop : Stop) → explained rows vars pivots ≡ IsStopped stop → StopIsWithin sets stop
   stop-named pivots stop is = subst ExplanationIsNamed is (explained-named pivots)
+
+  -- by guesses first, the trial that stops is an exact one
+  pub some-stop-named : (pivots : ℕ) (stop : Stop) → IsStopOfSome rows vars pivots stop → StopIsWithin sets stop
+  some-stop-named pivots (Budget most) h = tt
+  some-stop-named pivots (Width place) h = subst (TrialIsNamed every) h (trial-named_end every pivots)
+  some-stop-named pivots (Trial number (trials.Budget most)) h = tt
+  some-stop-named pivots (Trial number (trials.Width place)) h =
+      let others = is_other h.1.multipliers h.1.left_out in
+      subst (TrialIsNamed others) h.1.ends (trial-named_end others pivots)
 
   pub elimination-named : (place : Place) → first_wide (elimination_steps rows (definers rows)) ≡ Some place → PlaceIsWithin sets place
   elimination-named place wide = wide-within sets (elimination_steps rows (definers rows)) place (elimination-within sets rows define) wide

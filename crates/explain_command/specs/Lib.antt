@@ -1,4 +1,5 @@
 pub mod NamedConflicts
+pub mod ShownConflicts
 pub mod Texts
 pub mod Explain
 pub mod Outcomes

@@ -1,14 +1,13 @@
 -- Named inequalities that can't be met together, each of which is needed for that. The definitions, the named equations that define variables, hold in every
 -- plan; an equation that defines nothing, EBa10 of two regions in their other order, says what a definition says.
-use Rattle.std.specs.Prelude.{◌≡◌, ℕ, ◌<◌, ℤ, pos, ◌≤ℤ◌, Bool, true, false, not, ◌&&◌, ◌||◌, is_some, List, [], ◌∷◌, map, Contains, None, ⊤}
-use Rattle.std.specs.Ordering.{is_eq}
+use Rattle.std.specs.Prelude.{◌≡◌, ℕ, ◌<◌, ℤ, pos, ◌≤ℤ◌, Bool, true, false, ◌||◌, is_some, List, [], ◌∷◌, Contains, None, ⊤}
 use Rattle.exact_num.specs.Rational.{Rational}
 use Rattle.model_sets.specs.Data.{Data}
 use Rattle.row_core.specs.declared.RowName.{RowName}
 use Rattle.row_core.specs.declared.Var.{Var}
 use Rattle.row_core.specs.Kinds.{kind_is_free}
 use Rattle.row_core.specs.Numbers.{keys_of}
-use Rattle.row_core.specs.Order.{row_name_cmp, var_cmp}
+use Rattle.row_core.specs.Order.{var_cmp}
 use Rattle.named_equations.specs.Existence.{all_variables, exists}
 use Rattle.named_equations.specs.Instances.{instances, variable_of}
 use Rattle.named_equations.specs.Plans.{Feasible, Meets}

@@ -7,10 +7,12 @@ ghost use Rattle.written_method.specs.Eliminated.{elimination_steps};
 ghost use Rattle.exact_solver.specs.BookPrograms.{IsProgramOf};
 ghost use Rattle.exact_solver.specs.Definers.{definers};
 ghost use Rattle.command_answers.specs.CheckedPlans.{IsBookOf, IsListedBook};
-ghost use Rattle.explain_command.specs.Explain.{DueForExplain, DueForRows, DueForTrials};
+ghost use Rattle.explain_command.specs.Explain.{DueForExplain, DueForMethod, DueForRows, DueForTrials};
 
 use crate::ends::{answer_found, answer_stop};
+use crate::rounding::answer_guesses;
 use command_answers::{Answer, refuse_book, refuse_size, stop_at};
+use command_words::SolveMethod;
 use conflict_sets::{ExplainFail, explain};
 use exact_solver::{BookProgram, eliminate_book, size_of};
 use model_sets::Sets;
@@ -26,19 +28,20 @@ const MOST_ROWS: u64 = 20_000;
 const MOST_COLUMNS: u64 = 40_000;
 
 /// What is due over any data that have the model's sets and values, with written factors of 6 or 9 decimal places, and so many pivots at
-/// most in each trial.
+/// most in each trial, by the exact method or by guesses first.
 pub fn answer_explain(
     alloc: Global,
     model: &ModelData,
     places: u8,
     pivots: u32,
+    method: SolveMethod,
 ) -> Result<Answer, AllocError>
     requires { IsPlaces places }
     ensures { IfOk result (λ answer. (d : Data) → AreSameData model.now.facts d
-        → DueForExplain places pivots d answer.status answer.text.items) }
+        → DueForExplain places pivots method d answer.status answer.text.items) }
 {
     same_data_laws();
-    answer_model(alloc, model, places, pivots)
+    answer_model(alloc, model, places, pivots, method)
 }
 
 // The same over the model's own data.
@@ -47,12 +50,13 @@ fn answer_model(
     model: &ModelData,
     places: u8,
     pivots: u32,
+    method: SolveMethod,
 ) -> Result<Answer, AllocError>
     requires { IsPlaces places }
-    ensures { IfOk result (λ answer. DueForExplain places pivots model.now.facts answer.status answer.text.items) }
+    ensures { IfOk result (λ answer. DueForExplain places pivots method model.now.facts answer.status answer.text.items) }
 {
     match RowBook::new(alloc, model, places) {
-        Ok(book) => answer_book(alloc, &book, model.sets(), u64::from(pivots)),
+        Ok(book) => answer_book(alloc, &book, model.sets(), u64::from(pivots), method),
         Err(fail) => refuse_book(alloc, fail, model.sets()),
     }
 }
@@ -63,19 +67,38 @@ fn answer_book(
     book: &RowBook,
     sets: &Sets,
     pivots: u64,
+    method: SolveMethod,
 ) -> Result<Answer, AllocError>
     requires { IsListedBook sets.now book.now.rows book.now.vars }
     ensures { (places : ℕ) (d : Data) → sets.now ≡ d.sets → IsBookOf places d book.now.rows book.now.vars
-        → IfOk result (λ answer. DueForRows places d book.now.rows pivots answer.status answer.text.items) }
+        → IfOk result (λ answer. DueForRows places d book.now.rows pivots method answer.status answer.text.items) }
 {
     let size = size_of(book);
     if size.rows > MOST_ROWS || size.columns > MOST_COLUMNS {
         return refuse_size(alloc, size.rows, size.columns);
     }
-    answer_trials(alloc, book, sets, pivots)
+    answer_method(alloc, book, sets, pivots, method)
 }
 
 // What is due over a book of rows whose linear program isn't too large.
+fn answer_method(
+    alloc: Global,
+    book: &RowBook,
+    sets: &Sets,
+    pivots: u64,
+    method: SolveMethod,
+) -> Result<Answer, AllocError>
+    requires { IsListedBook sets.now book.now.rows book.now.vars }
+    ensures { (places : ℕ) (d : Data) → sets.now ≡ d.sets → IsBookOf places d book.now.rows book.now.vars
+        → IfOk result (λ answer. DueForMethod places d book.now.rows pivots method answer.status answer.text.items) }
+{
+    match method {
+        SolveMethod::Exact => answer_trials(alloc, book, sets, pivots),
+        SolveMethod::Rounded => answer_guesses(alloc, book, sets, pivots),
+    }
+}
+
+// What is due by the exact method.
 fn answer_trials(
     alloc: Global,
     book: &RowBook,

@@ -4,6 +4,7 @@
 
 mod ends;
 mod explain;
+mod rounding;
 mod texts;
 
 pub use explain::answer_explain;

@@ -11,3 +11,6 @@ pub mod LoopLaws
 pub mod NarrowLaws
 pub mod GuessLaws
 pub mod HeadLaws
+pub mod SizeLaws
+pub mod MarkLaws
+pub mod SwapLaws

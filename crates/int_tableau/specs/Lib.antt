@@ -8,3 +8,6 @@ pub mod Counted
 pub mod Starts
 pub mod Narrow
 pub mod KeptEntries
+pub mod Sizes
+pub mod Marks
+pub mod Swaps

@@ -1,13 +1,18 @@
 //! The entries of a line, in 64 bits while all of their numbers fit, and else in 128.
 
-ghost use Rattle.std.specs.Prelude.{◌≡◌, ◌≤◌, ℕ, [], drop, take, true, IfOk, OnOk, OnErr};
+ghost use Rattle.std.specs.Prelude.{◌≡◌, ◌≤◌, ◌≤ℤ◌, ◌∷◌, Bool, List, ℕ, suc, pos, [], drop, take, true, IfOk, OnOk, OnErr};
 ghost use Rattle.exact_num.specs.Range.{InRange, all_fit};
 ghost use Rattle.row_core.specs.Numbers.{numbers_of};
 ghost use Rattle.written_method.specs.Lines.{less, less_formed};
 ghost use Rattle.int_tableau.specs.Entries.{at, IsSparse, entries_negated, first_of};
+ghost use Rattle.row_core.specs.Written.{row_divisor};
+ghost use Rattle.int_tableau.specs.Marks.{AreMarked};
 ghost use Rattle.int_tableau.specs.Narrow.{AreNarrow};
+ghost use Rattle.int_tableau.specs.Sizes.{AreWithin};
 
+use crate::marks::{MARKS, marks_of};
 use crate::narrow::is_narrow;
+use crate::narrow_division::are_lowest;
 use crate::narrow_merging::combine;
 use crate::refused::Refused;
 use crate::{entries, narrow, numbers};
@@ -95,6 +100,52 @@ impl EntryList {
         }
     }
 
+    /// The greatest absolute value of the entries, or `least` where that is greater.
+    pub(crate) fn size(&self, least: u128) -> u128
+        requires { all_fit (numbers_of self.now) ≡ true }
+        ensures within { AreWithin result (numbers_of self.now) }
+        ensures least { least ≤ result }
+    {
+        match &self.kept {
+            Kept::Narrow(list) => narrow::size(list, least),
+            Kept::Wide(list) => entries::size(list, least),
+        }
+    }
+
+    /// The marks of their columns.
+    pub(crate) fn marks(&self) -> [bool; MARKS]
+        ensures { AreMarked result self.now }
+    {
+        match &self.kept {
+            Kept::Narrow(list) => marks_of(list),
+            Kept::Wide(list) => marks_of(list),
+        }
+    }
+
+    /// The number in the last of so many columns.
+    pub(crate) fn last_in(&self, column: usize) -> i128
+        requires { IsSparse 0 (suc column) self.now }
+        ensures value { result ≡ at self.now column }
+        ensures range { InRange (at self.now column) }
+    {
+        match &self.kept {
+            Kept::Narrow(list) => narrow::last_in(list, column),
+            Kept::Wide(list) => entries::last_in(list, column),
+        }
+    }
+
+    /// Whether it is sure that a number and the entries have no common divisor.
+    pub(crate) fn are_lowest(&self, first: i128) -> bool
+        requires fits { InRange first }
+        requires nonnegative { pos 0 ≤ℤ first }
+        ensures { result ≡ true → row_divisor (first ∷ numbers_of self.now) ≡ 1 }
+    {
+        match &self.kept {
+            Kept::Narrow(list) => are_lowest(first, list),
+            Kept::Wide(_) => false,
+        }
+    }
+
     /// Multiplies each entry by -1.
     pub(crate) fn negate(&mut self)
         requires { all_fit (numbers_of self.old) ≡ true }
@@ -138,6 +189,8 @@ impl EntryList {
         requires { AreNarrow entries.now }
         ensures value { OnOk result (self.new ≡ entries.now) }
         ensures memory { OnErr result ((n : ℕ) → IsSparse 0 n self.old → IsSparse 0 n self.new) }
+        ensures within { OnErr result ((n : ℕ) → AreWithin n (numbers_of self.old) → AreWithin n (numbers_of self.new)) }
+        ensures marked { OnErr result ((marks : List Bool) → AreMarked marks self.old → AreMarked marks self.new) }
     {
         match &mut self.kept {
             Kept::Narrow(list) => {

@@ -6,6 +6,7 @@
 mod entries;
 mod entry_list;
 mod line;
+mod marks;
 mod merging;
 mod narrow;
 mod narrow_division;
@@ -13,9 +14,11 @@ mod narrow_merging;
 mod numbers;
 mod refused;
 mod room;
+mod sizes;
 mod starting;
 mod tableau;
 
+pub use merging::difference;
 pub use narrow::is_narrow;
 pub use starting::{as_most, column_after, is_split};
 pub use tableau::Tableau;

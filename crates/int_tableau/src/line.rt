@@ -1,8 +1,11 @@
 //! A row of the tableau with only its entries other than 0.
 
-ghost use Rattle.std.specs.Prelude.{◌≡◌, ◌≢◌, ◌<◌, ◌≤◌, [], ℕ, false, true, pos, length, IfErr, IfOk, OnOk, IfSome, IfNone};
+ghost use Rattle.std.specs.Prelude.{◌≡◌, ◌≢◌, ◌<◌, ◌≤◌, ◌-◌, [], ℕ, false, true, pos, length, IfErr, IfOk, OnOk, IfSome, IfNone};
 ghost use Rattle.exact_num.specs.Range.{InRange, all_fit};
 ghost use Rattle.written_method.specs.Lines.{Line, entry_of, numbers_of, lowest_line, line_less, all_less_formed, cleared, cleared_formed, factor_of};
+ghost use Rattle.row_core.specs.Numbers.{numbers_of as numbers_in};
+ghost use Rattle.row_core.specs.Written.{row_divisor};
+ghost use Rattle.int_tableau.specs.Sizes.{AreWithin, IsSized};
 ghost use Rattle.written_method.specs.Tableaus.{negated_line, without_last};
 ghost use Rattle.int_tableau.specs.Entries.{at, IsSparse};
 ghost use Rattle.int_tableau.specs.Stops.{IsRefusal};
@@ -10,12 +13,15 @@ ghost use Rattle.int_tableau.specs.LineView.{line_seen, IsFine};
 ghost use Rattle.int_tableau.specs.NextEntries.{IsNextEntry};
 
 use crate::entry_list::EntryList;
+use crate::marks::{MARKS, is_marked};
 use crate::merging::{combine, difference};
 use crate::narrow::is_narrow;
 use crate::narrow_division;
 use crate::numbers::{divide, factors, opposite};
 use crate::refused::Refused;
 use crate::room::Room;
+use crate::sizes::{greater, size_of};
+use exact_num::gcd;
 use row_core::less;
 use std::alloc::{AllocError, Global};
 use std::marker::Model;
@@ -27,17 +33,31 @@ pub(crate) struct SparseLine {
     entries: EntryList,
     right: i128,
     own: i128,
+    /// No absolute value of its numbers is above it.
+    size: u128,
+    /// Outside marked columns it has no entry.
+    marks: [bool; MARKS],
+}
+
+/// The greatest absolute value of the numbers of a line.
+fn size_of_line(entries: &EntryList, right: i128, own: i128) -> u128
+    requires fits { all_fit (numbers_in entries.now) ≡ true }
+    requires right { InRange right }
+    requires own { InRange own }
+    ensures { IsSized result entries.now right own }
+{
+    entries.size(greater(size_of(right), size_of(own)))
 }
 
 impl Model for SparseLine {
     ghost use Rattle.written_method.specs.Lines.{Line};
-    ghost use Rattle.int_tableau.specs.LineView.{line_seen, IsFine};
+    ghost use Rattle.int_tableau.specs.LineView.{line_seen, IsLine};
 
     ghost Value = { Line };
 
     ghost view = { λ l. line_seen l.columns l.entries l.right l.own };
 
-    ghost invariant = { λ l. IsFine l.columns l.entries l.right l.own };
+    ghost invariant = { λ l. IsLine l.columns l.entries l.right l.own l.size l.marks };
 }
 
 impl SparseLine {
@@ -53,11 +73,15 @@ impl SparseLine {
         ensures { IfOk result (λ l. l ≡ line_seen columns entries.now right own) }
     {
         let entries = EntryList::of(alloc, entries)?;
+        let size = size_of_line(&entries, right, own);
+        let marks = entries.marks();
         Ok(SparseLine {
             columns,
             entries,
             right,
             own,
+            size,
+            marks,
         })
     }
 
@@ -70,6 +94,8 @@ impl SparseLine {
             entries: EntryList::none(alloc),
             right: 0,
             own: 0,
+            size: 0,
+            marks: [false; MARKS],
         }
     }
 
@@ -102,6 +128,9 @@ impl SparseLine {
         ensures value { result ≡ entry_of self.now column }
         ensures range { InRange (entry_of self.now column) }
     {
+        if !is_marked(&self.marks, column) {
+            return 0;
+        }
         self.entries.number_in(column, self.columns)
     }
 
@@ -112,6 +141,29 @@ impl SparseLine {
     {
         let at = self.entries.position_of(from, self.columns);
         self.entries.entry_at(at)
+    }
+
+    /// A size that no number of the line passes.
+    pub(crate) fn size(&self) -> u128
+        ensures { AreWithin result (numbers_of self.now) }
+    {
+        self.size
+    }
+
+    /// The entry in the last column.
+    pub(crate) fn last_entry(&self) -> i128
+        requires { 0 < length self.now.entries }
+        ensures value { result ≡ entry_of self.now (length self.now.entries - 1) }
+        ensures range { InRange (entry_of self.now (length self.now.entries - 1)) }
+    {
+        self.entries.last_in(self.columns - 1)
+    }
+
+    /// Whether it is sure that the numbers of the line have no common divisor.
+    pub(crate) fn is_lowest(&self) -> bool
+        ensures { result ≡ true → row_divisor (numbers_of self.now) ≡ 1 }
+    {
+        self.entries.are_lowest(gcd(self.right, self.own))
     }
 
     /// Multiplies the line by -1.
@@ -169,6 +221,8 @@ impl SparseLine {
         self.entries.replace(room.alloc, &room.narrow)?;
         self.right = right;
         self.own = own;
+        self.size = size_of_line(&self.entries, right, own);
+        self.marks = self.entries.marks();
         Ok(true)
     }
 
@@ -200,6 +254,8 @@ impl SparseLine {
         self.entries = EntryList::of(room.alloc, &room.wide)?;
         self.right = right;
         self.own = own;
+        self.size = size_of_line(&self.entries, right, own);
+        self.marks = self.entries.marks();
         Ok(())
     }
 

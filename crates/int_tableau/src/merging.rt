@@ -29,7 +29,7 @@ pub(crate) fn narrow_less(a: i128, b: i128, x: i128, y: i128) -> i128
 
 /// `a * x - b * y`, or `TooWide` where a number that this forms leaves 128 bits. `narrow` says that `a` and `b` are below 2^63, which
 /// needn't be asked for each entry.
-pub(crate) fn difference(narrow: bool, a: i128, b: i128, x: i128, y: i128) -> Result<i128, TooWide>
+pub fn difference(narrow: bool, a: i128, b: i128, x: i128, y: i128) -> Result<i128, TooWide>
     requires narrow { IsTrue narrow → (unsigned_abs a < 2 ^ 63) × (unsigned_abs b < 2 ^ 63) }
     requires a { InRange a }
     requires b { InRange b }

@@ -1,11 +1,13 @@
 //! Lists of entries whose numbers have 64 bits: their absolute values are below 2^63.
 
-ghost use Rattle.std.specs.Prelude.{◌≡◌, ◌<◌, ◌≤◌, ◌^◌, ◌↔◌, ℕ, true, drop, take, neg_ℤ, IfOk, OnOk, IfSome, IsTrue, unsigned_abs};
+ghost use Rattle.std.specs.Prelude.{◌≡◌, ◌<◌, ◌≤◌, ◌^◌, ◌↔◌, ℕ, suc, true, drop, take, neg_ℤ, IfOk, OnOk, IfSome, IsTrue, unsigned_abs};
 ghost use Rattle.int_tableau.specs.Entries.{at, IsSparse, taken_number, entries_negated, first_of};
 ghost use Rattle.exact_num.specs.Range.{InRange, all_fit};
 ghost use Rattle.row_core.specs.Numbers.{numbers_of};
 ghost use Rattle.int_tableau.specs.Narrow.{AreNarrow};
+ghost use Rattle.int_tableau.specs.Sizes.{AreWithin};
 
+use crate::sizes::{greater, last_position, size_of};
 use std::alloc::{AllocError, Global};
 
 /// Whether the absolute value of a number is below 2^63: then it has 64 bits, and a product with another such number 127.
@@ -66,6 +68,29 @@ pub(crate) fn entry_at(entries: &[(usize, i64)], at: usize) -> Option<(usize, i1
     } else {
         None
     }
+}
+
+/// The number in the last of so many columns.
+pub(crate) fn last_in(entries: &[(usize, i64)], column: usize) -> i128
+    requires sparse { IsSparse 0 (suc column) entries.now }
+    requires narrow { AreNarrow entries.now }
+    ensures value { result ≡ at entries.now column }
+    ensures range { InRange (at entries.now column) }
+{
+    number_at(entries, last_position(entries.len()), column) as i128
+}
+
+/// The greatest absolute value of the entries, or `least` where that is greater.
+pub(crate) fn size(entries: &[(usize, i64)], least: u128) -> u128
+    requires { AreNarrow entries.now }
+    ensures within { AreWithin result (numbers_of entries.now) }
+    ensures least { least ≤ result }
+{
+    let mut greatest = least;
+    for entry in entries {
+        greatest = greater(greatest, size_of(entry.1 as i128));
+    }
+    greatest
 }
 
 /// `-n`.

@@ -1,7 +1,7 @@
 //! Division of entries of 64 bits by the greatest common divisor of a line. A quotient is guessed by a product, and the guess is
 //! tested by another one, which takes far less time than a division.
 
-ghost use Rattle.std.specs.Prelude.{◌≡◌, ◌<◌, ◌≤ℤ◌, ◌<ℤ◌, ◌*ℤ◌, ◌^◌, ◌∷◌, ℕ, pos, int_div, unsigned_abs, FitsSigned, IfSome};
+ghost use Rattle.std.specs.Prelude.{◌≡◌, ◌<◌, ◌≤ℤ◌, ◌<ℤ◌, ◌*ℤ◌, ◌^◌, ◌∷◌, ℕ, true, pos, int_div, unsigned_abs, FitsSigned, IfSome};
 ghost use Rattle.std.specs.Int.{w64};
 ghost use Rattle.exact_num.specs.Gcd.{gcd_of};
 ghost use Rattle.exact_num.specs.Range.{InRange};
@@ -120,6 +120,19 @@ fn divisor_of(first: i64, entries: &[(usize, i64)]) -> i64
         divisor = divisor.shared(entry.1);
     }
     if divisor.by > 0 { divisor.by } else { 1 }
+}
+
+/// Whether it is sure that a number that isn't negative and the numbers of entries have no common divisor.
+pub(crate) fn are_lowest(first: i128, entries: &[(usize, i64)]) -> bool
+    requires fits { InRange first }
+    requires nonnegative { pos 0 ≤ℤ first }
+    requires entries { AreNarrow entries.now }
+    ensures { result ≡ true → row_divisor (first ∷ numbers_of entries.now) ≡ 1 }
+{
+    if !is_narrow(first) {
+        return false;
+    }
+    divisor_of(first as i64, entries) == 1
 }
 
 /// Divides each entry.

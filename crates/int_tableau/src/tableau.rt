@@ -4,7 +4,8 @@ ghost use Rattle.std.specs.Prelude.{◌≡◌, ◌≢◌, ◌<◌, ◌≤◌, �
 ghost use Rattle.exact_num.specs.Range.{InRange, all_fit};
 ghost use Rattle.row_core.specs.declared.place.Place.TheVariants as places;
 ghost use Rattle.row_core.specs.Stops.{IsStop};
-ghost use Rattle.written_method.specs.Lines.{entry_of, cleared, cleared_formed};
+ghost use Rattle.row_core.specs.Written.{row_divisor};
+ghost use Rattle.written_method.specs.Lines.{entry_of, cleared, cleared_formed, numbers_of};
 ghost use Rattle.written_method.specs.Tableaus.{rows_of, line_of, basic_of, own_of, no_line, others, has_x0, without_last, pivot_formed};
 ghost use Rattle.written_method.specs.FirstTableau.{first_tableau};
 ghost use Rattle.written_method.specs.Programs.{program_of};
@@ -13,6 +14,8 @@ ghost use Rattle.written_method.specs.Meaning.{Values, Solves};
 ghost use Rattle.int_tableau.specs.Stops.{IsRefusal};
 ghost use Rattle.int_tableau.specs.Shapes.{HaveColumns, HaveSome, IsNowhere};
 ghost use Rattle.int_tableau.specs.NextEntries.{IsNextEntry};
+ghost use Rattle.int_tableau.specs.Sizes.{AreWithin};
+ghost use Rattle.int_tableau.specs.Swaps.{swapped_in};
 ghost use Rattle.int_tableau.specs.Counted.{Counted, pivoted_once, negated_in, shortened, SolvesWithout};
 
 use crate::line::SparseLine;
@@ -95,6 +98,8 @@ pub struct Tableau {
 }
 
 impl Model for Tableau {
+    ghost use Rattle.int_tableau.specs.Sizes.{AreWithin};
+    ghost use Rattle.int_tableau.specs.Swaps.{swapped_in};
     ghost use Rattle.int_tableau.specs.Counted.{Counted};
     ghost use Rattle.int_tableau.specs.Shapes.{IsTableau};
 
@@ -169,6 +174,60 @@ impl Tableau {
         ensures range { InRange (entry_of (line_of self.now.tableau row) column) }
     {
         self.lines[row].entry(column)
+    }
+
+    /// The number of lines: that of rows, one more for z, and one for w while it is there.
+    pub fn lines(&self) -> usize
+        ensures { result ≡ length self.now.tableau.lines }
+    {
+        self.lines.len()
+    }
+
+    /// The entry of a row in the last column, which is that of x0 while it is there.
+    pub fn last_entry(&self, row: usize) -> i128
+        requires row { row < length self.now.tableau.lines }
+        requires some { 0 < self.now.tableau.columns }
+        ensures value { result ≡ entry_of (line_of self.now.tableau row) (self.now.tableau.columns - 1) }
+        ensures range { InRange (entry_of (line_of self.now.tableau row) (self.now.tableau.columns - 1)) }
+    {
+        self.lines[row].last_entry()
+    }
+
+    /// A size that the absolute value of no number of a row passes.
+    pub fn size(&self, row: usize) -> u128
+        requires { row < length self.now.tableau.lines }
+        ensures { AreWithin result (numbers_of (line_of self.now.tableau row)) }
+    {
+        self.lines[row].size()
+    }
+
+    /// Whether it is sure that the numbers of a row have no common divisor.
+    pub fn is_lowest(&self, row: usize) -> bool
+        requires { row < length self.now.tableau.lines }
+        ensures { result ≡ true → row_divisor (numbers_of (line_of self.now.tableau row)) ≡ 1 }
+    {
+        self.lines[row].is_lowest()
+    }
+
+    /// The same tableau after one more pivot, which was made otherwise.
+    pub fn counted(mut self) -> Tableau
+        requires { suc self.pivots < 2 ^ 64 }
+        ensures { result ≡ record { tableau = self.tableau; pivots = suc self.pivots } }
+    {
+        self.pivots += 1;
+        self
+    }
+
+    /// The tableau with a row multiplied by -1, and then that row and another in each other's place.
+    pub fn swapped(mut self, home: usize, row: usize) -> Tableau
+        requires home { home < rows_of self.tableau }
+        requires row { row < rows_of self.tableau }
+        ensures { result ≡ swapped_in home row self }
+    {
+        self.lines[row].negate();
+        self.lines.swap(row, home);
+        self.basics.swap(row, home);
+        self
     }
 
     /// The right side of a row.

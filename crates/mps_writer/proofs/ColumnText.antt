@@ -10,8 +10,8 @@ use Rattle.std.proofs.lemmas.List.{at_drop_more}
 use Rattle.std.proofs.lemmas.List.Elements.{filter-append}
 use Rattle.model_sets.specs.Members.{SetLists}
 use Rattle.row_core.specs.declared.Var.{Var}
-use Rattle.row_core.specs.declared.Row.{Row}
 use Rattle.row_core.specs.Order.{var_cmp}
+use Rattle.row_source.specs.Contents.{RowContents}
 use Rattle.row_core.proofs.Orders.{var_cmp_total}
 use Rattle.mps_writer.specs.declared.entries.Entry.{Entry}
 use Rattle.mps_writer.specs.Entries.{entry_of, row_entries, entries_of, is_of, is_after, RisesFrom, Rises, AreSorted, following, lines_of, column_text}
@@ -19,7 +19,7 @@ use Rattle.mps_writer.specs.MpsText.{numbered, entry_line, entry_lines, column_h
 use Rattle.mps_writer.proofs.SameVariables.{later, same-is}
 
 -- the line of an entry in column j
-abbrev line_in : ℕ → Entry → List ℕ
+abbrev pub line_in : ℕ → Entry → List ℕ
 line_in j e = entry_line j e.row e.number
 
 -- ---- entries in order
@@ -108,12 +108,12 @@ row-lines j v i (e ∷ es) = by_choice (is_same_variable e.0 v) (row-lines j v i
     by_choice true rest = ap (λ (more : List ℕ). entry_line j i e.1 ++ more) rest
     by_choice false rest = rest
 
-rows-lines : (j : ℕ) (v : Var) (rs : List (ℕ × Row)) → flat_map (line_in j) (filter (is_of v) (flat_map row_entries rs)) ≡ flat_map (entry_lines j v) rs
+pub rows-lines : (j : ℕ) (v : Var) (rs : List (ℕ × RowContents)) → flat_map (line_in j) (filter (is_of v) (flat_map row_entries rs)) ≡ flat_map (entry_lines j v) rs
 rows-lines j v [] = refl
 rows-lines j v (r ∷ rs) =
     ap (flat_map (line_in j)) (filter-append (is_of v) (row_entries r) (flat_map row_entries rs))
     ∙ flat_map-append (line_in j) (filter (is_of v) (row_entries r)) (filter (is_of v) (flat_map row_entries rs))
-    ∙ ap (λ (front : List ℕ). front ++ flat_map (line_in j) (filter (is_of v) (flat_map row_entries rs))) (row-lines j v r.0 r.1.entries.items)
+    ∙ ap (λ (front : List ℕ). front ++ flat_map (line_in j) (filter (is_of v) (flat_map row_entries rs))) (row-lines j v r.0 r.1.entries)
     ∙ ap (λ (more : List ℕ). entry_lines j v r ++ more) (rows-lines j v rs)
 
 flat_map-same : {A : Type 0} (f g : A → List ℕ) → ((x : A) → f x ≡ g x) → (xs : List A) → flat_map f xs ≡ flat_map g xs
@@ -121,7 +121,7 @@ flat_map-same f g same [] = refl
 flat_map-same f g same (x ∷ xs) = ap (λ (front : List ℕ). front ++ flat_map f xs) (same x) ∙ ap (λ (more : List ℕ). g x ++ more) (flat_map-same f g same xs)
 
 -- the lines of the sorted entries are the section of columns
-pub columns-section : (sets : SetLists) (rows : List Row) (sorted : List Entry) (columns : List (ℕ × Var)) → AreSorted (entries_of rows) sorted
+pub columns-section : (sets : SetLists) (rows : List RowContents) (sorted : List Entry) (columns : List (ℕ × Var)) → AreSorted (entries_of rows) sorted
     → flat_map (column_text sets sorted) columns ≡ flat_map (column_lines sets rows) columns
 columns-section sets rows sorted columns are =
     flat_map-same (column_text sets sorted) (column_lines sets rows)

@@ -20,7 +20,7 @@ all_after-earlier u v [] less all = all
 all_after-earlier u v (w ∷ ws) less all = (var_cmp_total.trans u v w less all.0, all_after-earlier u v ws less all.1)
 
 -- the first of ascending variables is before each of the others
-all_after : (v : Var) (ws : List Var) → ascends var_cmp (v ∷ ws) ≡ true → AllAfter v ws
+pub all_after : (v : Var) (ws : List Var) → ascends var_cmp (v ∷ ws) ≡ true → AllAfter v ws
 all_after v [] h = tt
 all_after v (w ∷ ws) h =
     let parts = both_passed (is_lt (var_cmp v w)) (ascends var_cmp (w ∷ ws)) h in
@@ -28,7 +28,7 @@ all_after v (w ∷ ws) h =
     (less, all_after-earlier v w ws less (all_after w ws parts.1))
 
 -- what stays of ascending variables ascends
-ascends-drop : (k : ℕ) (ws : List Var) → ascends var_cmp ws ≡ true → ascends var_cmp (drop k ws) ≡ true
+pub ascends-drop : (k : ℕ) (ws : List Var) → ascends var_cmp ws ≡ true → ascends var_cmp (drop k ws) ≡ true
 ascends-drop zero ws h = h
 ascends-drop (suc k) [] h = h
 ascends-drop (suc k) (w ∷ ws) h = ascends-drop k ws (ascends-tail var_cmp w ws h)

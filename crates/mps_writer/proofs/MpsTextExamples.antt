@@ -1,53 +1,38 @@
 -- The MPS text, computed on the rows of a worked example, and on near misses.
-use Rattle.std.proofs.Common.{◌≡◌, ℕ, ◌<◌, ◌^◌, true, false, Bool, List, [], ◌∷◌, length, refl, arith, Global}
+use Rattle.std.proofs.Common.{◌≡◌, ℕ, ◌^◌, true, false, Bool, List, [], ◌∷◌, refl}
 use Rattle.std.specs.Prelude.{ℤ, pos, negsuc, codes, ◌-◌}
 use Rattle.std.specs.Fmt.{digits}
 use Rattle.std.specs.Str.{bytes_eq}
-use denote.RawPtr.{null_ptr}
 use Rattle.row_core.specs.declared.Index.{Index}
 use Rattle.row_core.specs.declared.Var.{Var}
-use Rattle.row_core.specs.declared.Row.{Row}
 use Rattle.row_core.specs.declared.RowName.{RowName}
 use Rattle.row_core.specs.declared.Sense.{Sense}
 use Rattle.row_core.specs.declared.Sense.TheVariants.{Least, Equal, Most}
 use Rattle.row_core.specs.Names.{new_capacity, accumulated_new_capacity, total_capacity_annual, caa1, caa2}
-use Rattle.row_core.specs.Numbers.{variables_of, numbers_of, ascends, none_zero, all_in_range}
-use Rattle.row_core.specs.Order.{var_cmp}
-use Rattle.row_core.proofs.RowLaws.{has_unit, IsLowest-unit}
 use Rattle.row_core.specs.NameTexts.{variable_name, row_name}
 use Rattle.model_sets.specs.Members.{SetLists}
-use Rattle.mps_writer.specs.MpsText.{mps_text, row_lines, column_lines, rhs_line, numbered, bounds}
+use Rattle.row_source.specs.Contents.{RowContents}
+use Rattle.mps_writer.specs.MpsText.{mps_text, rows_text, row_lines, column_lines, rhs_line, numbered, bounds}
 
--- a row in the memory that this allocator gives, with what a row keeps
-abbrev pub made : Global → RowName → Sense → (entries : List (Var × ℤ)) (rhs : ℤ) → length entries < 2 ^ 63 → ascends var_cmp (variables_of entries) ≡ true
-    → none_zero (numbers_of entries) ≡ true → all_in_range (rhs ∷ numbers_of entries) ≡ true → has_unit (rhs ∷ numbers_of entries) ≡ true → Row
-made memory name sense entries rhs small ascending nonzero fits unit = record {
-  name = name;
-  sense = sense;
-  entries = record { ptr = null_ptr; len = length entries; cap = length entries; alloc = memory; items = entries; ok = (refl, omega arith); small = small };
-  rhs = rhs;
-  ascending = ascending;
-  nonzero = nonzero;
-  fits = fits;
-  lowest = IsLowest-unit (rhs ∷ numbers_of entries) unit;
-}
+-- what a row of this name says
+abbrev pub says : RowName → Sense → List (Var × ℤ) → ℤ → RowContents
+says name sense entries rhs = record { name = name; sense = sense; entries = entries; rhs = rhs }
 
-module _ (memory : Global) where
-  -- CAa1 and CAa2 of both years of two years, with residual capacities 7 and 3
-  abbrev pub caa1_2020 : Row
-  caa1_2020 = made memory (caa1 0 0 0) Equal ((new_capacity 0 0 0, negsuc 0) ∷ (accumulated_new_capacity 0 0 0, pos 1) ∷ []) (pos 0) (omega arith) refl refl refl refl
+-- CAa1 and CAa2 of both years of two years, with residual capacities 7 and 3
+abbrev pub caa1_2020 : RowContents
+caa1_2020 = says (caa1 0 0 0) Equal ((new_capacity 0 0 0, negsuc 0) ∷ (accumulated_new_capacity 0 0 0, pos 1) ∷ []) (pos 0)
 
-  abbrev pub caa1_2021 : Row
-  caa1_2021 = made memory (caa1 0 0 1) Equal ((new_capacity 0 0 0, negsuc 0) ∷ (new_capacity 0 0 1, negsuc 0) ∷ (accumulated_new_capacity 0 0 1, pos 1) ∷ []) (pos 0) (omega arith) refl refl refl refl
+abbrev pub caa1_2021 : RowContents
+caa1_2021 = says (caa1 0 0 1) Equal ((new_capacity 0 0 0, negsuc 0) ∷ (new_capacity 0 0 1, negsuc 0) ∷ (accumulated_new_capacity 0 0 1, pos 1) ∷ []) (pos 0)
 
-  abbrev pub caa2_2020 : Row
-  caa2_2020 = made memory (caa2 0 0 0) Equal ((accumulated_new_capacity 0 0 0, negsuc 0) ∷ (total_capacity_annual 0 0 0, pos 1) ∷ []) (pos 7) (omega arith) refl refl refl refl
+abbrev pub caa2_2020 : RowContents
+caa2_2020 = says (caa2 0 0 0) Equal ((accumulated_new_capacity 0 0 0, negsuc 0) ∷ (total_capacity_annual 0 0 0, pos 1) ∷ []) (pos 7)
 
-  abbrev pub caa2_2021 : Row
-  caa2_2021 = made memory (caa2 0 0 1) Equal ((accumulated_new_capacity 0 0 1, negsuc 0) ∷ (total_capacity_annual 0 0 1, pos 1) ∷ []) (pos 3) (omega arith) refl refl refl refl
+abbrev pub caa2_2021 : RowContents
+caa2_2021 = says (caa2 0 0 1) Equal ((accumulated_new_capacity 0 0 1, negsuc 0) ∷ (total_capacity_annual 0 0 1, pos 1) ∷ []) (pos 3)
 
-  abbrev pub rows : List Row
-  rows = caa1_2020 ∷ caa1_2021 ∷ caa2_2020 ∷ caa2_2021 ∷ []
+abbrev pub rows : List RowContents
+rows = caa1_2020 ∷ caa1_2021 ∷ caa2_2020 ∷ caa2_2021 ∷ []
 
 -- the variables of these rows
 abbrev pub columns : List Var
@@ -74,43 +59,41 @@ row = refl
 abbrev pub text : List ℕ
 text = codes "NAME OSEMOSYS\nROWS\n N COST\n* CAa1[R,T,2020]\n E R1\n* CAa1[R,T,2021]\n E R2\n* CAa2[R,T,2020]\n E R3\n* CAa2[R,T,2021]\n E R4\nCOLUMNS\n* NewCapacity[R,T,2020]\n C1 R1 -1\n C1 R2 -1\n* NewCapacity[R,T,2021]\n C2 R2 -1\n* AccumulatedNewCapacity[R,T,2020]\n C3 R1 1\n C3 R3 -1\n* AccumulatedNewCapacity[R,T,2021]\n C4 R2 1\n C4 R4 -1\n* TotalCapacityAnnual[R,T,2020]\n C5 R3 1\n* TotalCapacityAnnual[R,T,2021]\n C6 R4 1\nRHS\n RHS R3 7\n RHS R4 3\nENDATA\n"
 
-pub whole_text : (memory : Global) → mps_text sets (rows memory) columns ≡ text
+pub whole_text : rows_text sets rows columns ≡ text
 unfolding digits
-whole_text memory = refl
+whole_text = refl
 
 -- ---- near misses: the text of other rows is another one
 
-abbrev is_text : List Row → List Var → Bool
-is_text rows columns = bytes_eq (mps_text sets rows columns) text
+abbrev is_text : List RowContents → List Var → Bool
+is_text rows columns = bytes_eq (rows_text sets rows columns) text
 
-itself : (memory : Global) → is_text (rows memory) columns ≡ true
+itself : is_text rows columns ≡ true
 unfolding digits
-itself memory = refl
+itself = refl
 
 -- without NewCapacity[R,T,2020] in CAa1[R,T,2021]
-entry_left_out : (memory : Global)
-    → is_text (caa1_2020 memory ∷ made memory (caa1 0 0 1) Equal ((new_capacity 0 0 1, negsuc 0) ∷ (accumulated_new_capacity 0 0 1, pos 1) ∷ []) (pos 0) (omega arith) refl refl refl refl
-    ∷ caa2_2020 memory ∷ caa2_2021 memory ∷ []) columns ≡ false
+entry_left_out : is_text (caa1_2020 ∷ says (caa1 0 0 1) Equal ((new_capacity 0 0 1, negsuc 0) ∷ (accumulated_new_capacity 0 0 1, pos 1) ∷ []) (pos 0)
+    ∷ caa2_2020 ∷ caa2_2021 ∷ []) columns ≡ false
 unfolding digits
-entry_left_out memory = refl
+entry_left_out = refl
 
-row_left_out : (memory : Global) → is_text (caa1_2020 memory ∷ caa1_2021 memory ∷ caa2_2020 memory ∷ []) columns ≡ false
+row_left_out : is_text (caa1_2020 ∷ caa1_2021 ∷ caa2_2020 ∷ []) columns ≡ false
 unfolding digits
-row_left_out memory = refl
+row_left_out = refl
 
-column_left_out : (memory : Global) → is_text (rows memory) (new_capacity 0 0 0 ∷ new_capacity 0 0 1 ∷ accumulated_new_capacity 0 0 0 ∷ accumulated_new_capacity 0 0 1 ∷ total_capacity_annual 0 0 0 ∷ []) ≡ false
+column_left_out : is_text rows (new_capacity 0 0 0 ∷ new_capacity 0 0 1 ∷ accumulated_new_capacity 0 0 0 ∷ accumulated_new_capacity 0 0 1 ∷ total_capacity_annual 0 0 0 ∷ []) ≡ false
 unfolding digits
-column_left_out memory = refl
+column_left_out = refl
 
-rows_exchanged : (memory : Global) → is_text (caa1_2021 memory ∷ caa1_2020 memory ∷ caa2_2020 memory ∷ caa2_2021 memory ∷ []) columns ≡ false
+rows_exchanged : is_text (caa1_2021 ∷ caa1_2020 ∷ caa2_2020 ∷ caa2_2021 ∷ []) columns ≡ false
 unfolding digits
-rows_exchanged memory = refl
+rows_exchanged = refl
 
-right_side_negative : (memory : Global)
-    → is_text (caa1_2020 memory ∷ caa1_2021 memory ∷ caa2_2020 memory
-    ∷ made memory (caa2 0 0 1) Equal ((accumulated_new_capacity 0 0 1, negsuc 0) ∷ (total_capacity_annual 0 0 1, pos 1) ∷ []) (negsuc 2) (omega arith) refl refl refl refl ∷ []) columns ≡ false
+right_side_negative : is_text (caa1_2020 ∷ caa1_2021 ∷ caa2_2020
+    ∷ says (caa2 0 0 1) Equal ((accumulated_new_capacity 0 0 1, negsuc 0) ∷ (total_capacity_annual 0 0 1, pos 1) ∷ []) (negsuc 2) ∷ []) columns ≡ false
 unfolding digits
-right_side_negative memory = refl
+right_side_negative = refl
 
 -- ---- parts that these rows have none of
 
@@ -145,25 +128,25 @@ capacity_name : variable_name both (record { kind = 2; index = everywhere }) ≡
 capacity_name = refl
 
 -- each sense has its letter, also with a row number of two digits
-least_line : (memory : Global) → row_lines sets (1, made memory (caa1 0 0 0) Least ((new_capacity 0 0 0, pos 1) ∷ []) (pos 0) (omega arith) refl refl refl refl) ≡ codes "* CAa1[R,T,2020]\n G R1\n"
+least_line : row_lines sets (1, says (caa1 0 0 0) Least ((new_capacity 0 0 0, pos 1) ∷ []) (pos 0)) ≡ codes "* CAa1[R,T,2020]\n G R1\n"
 unfolding digits
-least_line memory = refl
+least_line = refl
 
-most_line : (memory : Global) → row_lines sets (12, made memory (caa1 0 0 0) Most ((new_capacity 0 0 0, pos 1) ∷ []) (pos 0) (omega arith) refl refl refl refl) ≡ codes "* CAa1[R,T,2020]\n L R12\n"
+most_line : row_lines sets (12, says (caa1 0 0 0) Most ((new_capacity 0 0 0, pos 1) ∷ []) (pos 0)) ≡ codes "* CAa1[R,T,2020]\n L R12\n"
 unfolding digits
-most_line memory = refl
+most_line = refl
 
 -- a right side below 0, the greatest one, and 0
-negative_right : (memory : Global) → rhs_line (3, made memory (caa1 0 0 0) Equal ((new_capacity 0 0 0, pos 1) ∷ []) (negsuc 9) (omega arith) refl refl refl refl) ≡ codes " RHS R3 -10\n"
+negative_right : rhs_line (3, says (caa1 0 0 0) Equal ((new_capacity 0 0 0, pos 1) ∷ []) (negsuc 9)) ≡ codes " RHS R3 -10\n"
 unfolding digits
-negative_right memory = refl
+negative_right = refl
 
-greatest_right : (memory : Global) → rhs_line (4, made memory (caa1 0 0 0) Equal ((new_capacity 0 0 0, pos 1) ∷ []) (pos (2 ^ 127 - 1)) (omega arith) refl refl refl refl) ≡ codes " RHS R4 170141183460469231731687303715884105727\n"
+greatest_right : rhs_line (4, says (caa1 0 0 0) Equal ((new_capacity 0 0 0, pos 1) ∷ []) (pos (2 ^ 127 - 1))) ≡ codes " RHS R4 170141183460469231731687303715884105727\n"
 unfolding digits
-greatest_right memory = refl
+greatest_right = refl
 
-zero_right : (memory : Global) → rhs_line (3, caa1_2020 memory) ≡ []
-zero_right memory = refl
+zero_right : rhs_line (3, caa1_2020) ≡ []
+zero_right = refl
 
 -- TotalDiscountedCost is free, and the cost
 cost_column : column_lines both [] (11, record { kind = 37; index = everywhere }) ≡ codes "* TotalDiscountedCost[A,2020]\n C11 COST 1\n"

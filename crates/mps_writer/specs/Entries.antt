@@ -1,12 +1,13 @@
 -- All entries of rows in the order of their variables, and the lines of columns made from them. Only private functions cite these:
 -- that the lines are those of the MPS text is shown of them.
-use Rattle.std.specs.Prelude.{◌≡◌, ℕ, ℤ, Bool, false, List, [], ◌∷◌, ◌++◌, map, filter, ⊤, IsPermutation, if◌then◌else◌}
+use Rattle.std.specs.Prelude.{◌≡◌, ℕ, ℤ, Bool, false, ◌==◌, List, [], ◌∷◌, ◌++◌, map, filter, ⊤, IsPermutation, if◌then◌else◌}
 use Rattle.std.specs.List.{flat_map}
 use Rattle.std.specs.Ordering.{is_lt}
 use Rattle.model_sets.specs.Members.{SetLists}
 use Rattle.row_core.specs.declared.Var.{Var}
-use Rattle.row_core.specs.declared.Row.{Row}
+use Rattle.row_core.specs.Equations.{IsEquation}
 use Rattle.row_core.specs.Order.{var_cmp}
+use Rattle.row_source.specs.Contents.{RowContents}
 use Rattle.mps_writer.specs.declared.entries.Entry.{Entry}
 use Rattle.mps_writer.specs.MpsText.{column_head, entry_line, is_same_variable, numbered}
 
@@ -15,12 +16,24 @@ abbrev pub entry_of : ℕ → Var × ℤ → Entry
 entry_of i e = record { variable = e.0; row = i; number = e.1 }
 
 -- the entries of a row
-abbrev pub row_entries : ℕ × Row → List Entry
-row_entries r = map (entry_of r.0) r.1.entries.items
+abbrev pub row_entries : ℕ × RowContents → List Entry
+row_entries r = map (entry_of r.0) r.1.entries
 
 -- all entries, row by row
-abbrev pub entries_of : List Row → List Entry
+abbrev pub entries_of : List RowContents → List Entry
 entries_of rows = flat_map row_entries (numbered rows)
+
+-- the entry is at a variable of this kind
+abbrev pub is_of_kind : ℕ → Entry → Bool
+is_of_kind kind e = e.variable.kind == kind
+
+-- all entries of a kind, row by row
+abbrev pub entries_of_kind : ℕ → List RowContents → List Entry
+entries_of_kind kind rows = filter (is_of_kind kind) (entries_of rows)
+
+-- the row's equation is in its list
+abbrev pub HasEquation : RowContents → Type 0
+HasEquation row = IsEquation row.name.eq
 
 -- the entry is one of this variable
 abbrev pub is_of : Var → Entry → Bool

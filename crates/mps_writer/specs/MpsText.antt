@@ -1,6 +1,6 @@
 -- The text of rows in the free MPS format: https://lpsolve.sourceforge.net/5.5/mps-format.htm, "free MPS". Every line ends with a line
 -- feed; a line that begins with '*' is a comment.
-use Rattle.std.specs.Prelude.{ℕ, ℤ, Bool, List, [], ◌++◌, codes, ◌==◌, if◌then◌else◌}
+use Rattle.std.specs.Prelude.{ℕ, ℤ, Bool, List, [], ◌++◌, map, codes, ◌==◌, if◌then◌else◌}
 use Rattle.std.specs.List.{flat_map, enumerate_from, list_any}
 use Rattle.std.specs.Fmt.{decimal, signed_decimal}
 use Rattle.std.specs.Ordering.{is_eq}
@@ -15,6 +15,7 @@ use Rattle.row_core.specs.Equations.{IsEquation}
 use Rattle.row_core.specs.NameTexts.{variable_name, row_name, VariableIsWithin, RowNameIsWithin}
 use Rattle.row_core.specs.Numbers.{is_zero}
 use Rattle.row_core.specs.Order.{var_cmp}
+use Rattle.row_source.specs.Contents.{RowContents, contents_of}
 
 -- ---- lines
 
@@ -43,7 +44,7 @@ sense_letter Most = codes "L"
 -- ---- sections
 
 -- a row's name, as a comment, and its sense
-abbrev pub row_lines : SetLists → ℕ × Row → List ℕ
+abbrev pub row_lines : SetLists → ℕ × RowContents → List ℕ
 row_lines sets r =
     line (codes "* " ++ row_name sets r.1.name) ++ line (codes " " ++ sense_letter r.1.sense ++ codes " " ++ row_label r.0)
 
@@ -56,8 +57,8 @@ abbrev pub entry_line : ℕ → ℕ → ℤ → List ℕ
 entry_line j i n = line (codes " " ++ column_label j ++ codes " " ++ row_label i ++ codes " " ++ signed_decimal n)
 
 -- a row's entry at the variable of column j, if it has one
-abbrev pub entry_lines : ℕ → Var → ℕ × Row → List ℕ
-entry_lines j v r = flat_map (λ e. if is_same_variable e.0 v then entry_line j r.0 e.1 else []) r.1.entries.items
+abbrev pub entry_lines : ℕ → Var → ℕ × RowContents → List ℕ
+entry_lines j v r = flat_map (λ e. if is_same_variable e.0 v then entry_line j r.0 e.1 else []) r.1.entries
 
 -- the cost is the sum of the variables TotalDiscountedCost
 abbrev pub cost_line : ℕ → Var → List ℕ
@@ -68,7 +69,7 @@ abbrev pub column_head : SetLists → ℕ × Var → List ℕ
 column_head sets c = line (codes "* " ++ variable_name sets c.1) ++ cost_line c.0 c.1
 
 -- a column's head, and its entries in the order of rows
-abbrev pub column_lines : SetLists → List Row → ℕ × Var → List ℕ
+abbrev pub column_lines : SetLists → List RowContents → ℕ × Var → List ℕ
 column_lines sets rows c =
     column_head sets c ++ flat_map (entry_lines c.0 c.1) (numbered rows)
 
@@ -77,7 +78,7 @@ abbrev pub rhs_line_of : ℕ → ℤ → List ℕ
 rhs_line_of i rhs = if is_zero rhs then [] else line (codes " RHS " ++ row_label i ++ codes " " ++ signed_decimal rhs)
 
 -- a row's right side
-abbrev pub rhs_line : ℕ × Row → List ℕ
+abbrev pub rhs_line : ℕ × RowContents → List ℕ
 rhs_line r = rhs_line_of r.0 r.1.rhs
 
 -- the column's variable may be below 0
@@ -92,20 +93,29 @@ bound_line c = if is_free_column c then line (codes " FR BND " ++ column_label c
 abbrev pub bounds : List (ℕ × Var) → List ℕ
 bounds columns = if list_any is_free_column columns then line (codes "BOUNDS") ++ flat_map bound_line columns else []
 
--- the text of the rows with these columns
-abbrev pub mps_text : SetLists → List Row → List Var → List ℕ
-mps_text sets rows variables =
-    line (codes "NAME OSEMOSYS") ++ line (codes "ROWS") ++ line (codes " N COST")
-    ++ flat_map (row_lines sets) (numbered rows)
+-- all after the head of the rows
+abbrev pub sections_text : SetLists → List RowContents → List Var → List ℕ
+sections_text sets rows variables =
+    flat_map (row_lines sets) (numbered rows)
     ++ line (codes "COLUMNS") ++ flat_map (column_lines sets rows) (numbered variables)
     ++ line (codes "RHS") ++ flat_map rhs_line (numbered rows)
     ++ bounds (numbered variables)
     ++ line (codes "ENDATA")
 
+-- the text of what these rows say, with these columns
+abbrev pub rows_text : SetLists → List RowContents → List Var → List ℕ
+rows_text sets rows variables =
+    line (codes "NAME OSEMOSYS") ++ line (codes "ROWS") ++ line (codes " N COST")
+    ++ sections_text sets rows variables
+
+-- the text of the rows with these columns
+abbrev pub mps_text : SetLists → List Row → List Var → List ℕ
+mps_text sets rows variables = rows_text sets (map contents_of rows) variables
+
 -- ---- names
 
 -- the row's equation is in its list, and each of its subscripts is the position of a member
-abbrev pub IsNamedRow : SetLists → Row → Type 0
+abbrev pub IsNamedRow : SetLists → RowContents → Type 0
 IsNamedRow sets row = IsEquation row.name.eq × RowNameIsWithin sets row.name
 
 -- the variable's kind is in its list, and each of its subscripts is the position of a member

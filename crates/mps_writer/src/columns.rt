@@ -7,7 +7,7 @@ ghost use Rattle.row_core.specs.Order.{var_cmp};
 ghost use Rattle.mps_writer.specs.Entries.{Rises, following, column_text, lines_of};
 ghost use Rattle.mps_writer.specs.MpsText.{IsNamedVariable, numbered};
 
-use crate::entries::Entry;
+use crate::entries::{Entry, compare};
 use crate::lines::{push_column_head, push_entry};
 use model_sets::Sets;
 use row_core::Var;
@@ -59,11 +59,4 @@ fn push_column(
         }
     }
     Ok(entries.len())
-}
-
-// How the entry's variable compares with this one.
-fn compare(entry: &Entry, var: Var) -> Ordering
-    ensures { result ≡ var_cmp entry.now.variable var }
-{
-    entry.variable.cmp(&var)
 }

@@ -1,10 +1,13 @@
 //! All entries of the rows, in the order of their variables.
 
-ghost use Rattle.std.specs.Prelude.{◌≡◌, ◌++◌, IfOk, OnOk};
+ghost use Rattle.std.specs.Prelude.{◌≡◌, ◌++◌, IfOk, OnOk, map};
+ghost use Rattle.row_source.specs.Contents.{contents_of};
+ghost use Rattle.row_core.specs.Order.{var_cmp};
 ghost use Rattle.mps_writer.specs.Entries.{AreSorted, entries_of, row_entries};
 
 use row_core::{Row, Var};
 use std::alloc::{AllocError, Global};
+use std::cmp::Ordering;
 
 /// An entry: its variable, its row's number and itself.
 #[derive(Clone, Copy, Debug)]
@@ -15,9 +18,16 @@ pub struct Entry {
     pub number: i128,
 }
 
+/// How the entry's variable compares with this one.
+pub fn compare(entry: &Entry, var: Var) -> Ordering
+    ensures { result ≡ var_cmp entry.now.variable var }
+{
+    entry.variable.cmp(&var)
+}
+
 /// The entries by variable, and those of one variable in the order of rows.
 pub fn sorted_entries(alloc: Global, rows: &[Row]) -> Result<Vec<Entry>, AllocError>
-    ensures { IfOk result (λ entries. AreSorted (entries_of rows.now) entries.items) }
+    ensures { IfOk result (λ entries. AreSorted (entries_of (map contents_of rows.now)) entries.items) }
 {
     let mut entries = all_entries(alloc, rows)?;
     entries.sort_by_key(|entry| entry.variable)?;
@@ -26,7 +36,7 @@ pub fn sorted_entries(alloc: Global, rows: &[Row]) -> Result<Vec<Entry>, AllocEr
 
 // The entries row by row.
 fn all_entries(alloc: Global, rows: &[Row]) -> Result<Vec<Entry>, AllocError>
-    ensures { IfOk result (λ entries. entries.items ≡ entries_of rows.now) }
+    ensures { IfOk result (λ entries. entries.items ≡ entries_of (map contents_of rows.now)) }
 {
     let mut entries = Vec::new(alloc);
     for (place, row) in rows.iter().enumerate() {
@@ -37,7 +47,7 @@ fn all_entries(alloc: Global, rows: &[Row]) -> Result<Vec<Entry>, AllocError>
 
 // Adds the entries of a row.
 fn add_entries(entries: &mut Vec<Entry>, number: u64, row: &Row) -> Result<(), AllocError>
-    ensures { OnOk result (entries.new.items ≡ entries.old.items ++ row_entries (number, row.now)) }
+    ensures { OnOk result (entries.new.items ≡ entries.old.items ++ row_entries (number, contents_of row.now)) }
 {
     for (variable, entry) in row.entries.as_slice() {
         entries.push(Entry {

@@ -2,19 +2,26 @@
 //! `R1`, `R2`, .. and columns `C1`, `C2`, .., each after a comment line with its name.
 #![tactic(auto)]
 
-ghost use Rattle.std.specs.Prelude.{◌≡◌, ◌++◌, true, IfOk, OnOk};
+ghost use Rattle.std.specs.Prelude.{◌≡◌, ◌++◌, true, map, IfOk, OnOk};
 ghost use Rattle.std.specs.List.{AllByRecursion, flat_map, list_any};
 ghost use Rattle.row_core.specs.Numbers.{ascends};
 ghost use Rattle.row_core.specs.Order.{var_cmp};
+ghost use Rattle.row_source.specs.Contents.{contents_of};
 ghost use Rattle.mps_writer.specs.MpsText.{IsNamedRow, IsNamedVariable, bound_line, bounds, column_lines, is_free_column, mps_text, numbered, row_lines, rhs_line};
 
+mod buffer;
 mod columns;
 mod entries;
+mod kind_entries;
 mod lines;
+mod sections;
+mod sending;
+mod sent_columns;
 
 use crate::columns::push_columns;
 use crate::entries::sorted_entries;
 use crate::lines::{push_bound, push_rhs, push_row};
+pub use crate::sending::{MpsFail, mps_to};
 use model_sets::Sets;
 use row_core::{Row, Var, is_free};
 use std::alloc::{AllocError, Global};
@@ -31,7 +38,7 @@ pub fn mps_text(
     vars: &[Var],
     sets: &Sets,
 ) -> Result<Vec<u8>, AllocError>
-    requires rows { AllByRecursion (IsNamedRow sets.now) rows.now }
+    requires rows { AllByRecursion (λ row. IsNamedRow sets.now (contents_of row)) rows.now }
     requires vars { AllByRecursion (IsNamedVariable sets.now) vars.now }
     requires ascending { ascends var_cmp vars.now ≡ true }
     ensures { IfOk result (λ text. text.items ≡ mps_text sets.now rows.now vars.now) }
@@ -49,8 +56,8 @@ pub fn mps_text(
 
 // The names and senses of all rows.
 fn push_rows(out: &mut Vec<u8>, rows: &[Row], sets: &Sets) -> Result<(), AllocError>
-    requires { AllByRecursion (IsNamedRow sets.now) rows.now }
-    ensures { OnOk result (out.new.items ≡ out.old.items ++ flat_map (row_lines sets.now) (numbered rows.now)) }
+    requires { AllByRecursion (λ row. IsNamedRow sets.now (contents_of row)) rows.now }
+    ensures { OnOk result (out.new.items ≡ out.old.items ++ flat_map (row_lines sets.now) (numbered (map contents_of rows.now))) }
 {
     for (place, row) in rows.iter().enumerate() {
         push_row(out, place as u64 + 1, row, sets)?;
@@ -69,7 +76,7 @@ fn push_column_section(
     requires vars { AllByRecursion (IsNamedVariable sets.now) vars.now }
     requires ascending { ascends var_cmp vars.now ≡ true }
     ensures { OnOk result (out.new.items
-        ≡ out.old.items ++ flat_map (column_lines sets.now rows.now) (numbered vars.now)) }
+        ≡ out.old.items ++ flat_map (column_lines sets.now (map contents_of rows.now)) (numbered vars.now)) }
 {
     let entries = sorted_entries(alloc, rows)?;
     push_columns(out, vars, &entries, sets)?;
@@ -78,7 +85,7 @@ fn push_column_section(
 
 // The right sides that aren't 0.
 fn push_right_sides(out: &mut Vec<u8>, rows: &[Row]) -> Result<(), AllocError>
-    ensures { OnOk result (out.new.items ≡ out.old.items ++ flat_map rhs_line (numbered rows.now)) }
+    ensures { OnOk result (out.new.items ≡ out.old.items ++ flat_map rhs_line (numbered (map contents_of rows.now))) }
 {
     for (place, row) in rows.iter().enumerate() {
         push_rhs(out, place as u64 + 1, row.rhs)?;

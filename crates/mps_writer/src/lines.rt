@@ -1,6 +1,7 @@
 //! The lines of rows, entries, right sides and bounds.
 ghost use Rattle.std.specs.Prelude.{◌≡◌, ◌++◌, OnOk, decimal};
 ghost use Rattle.row_core.specs.Kinds.{IsKind};
+ghost use Rattle.row_source.specs.Contents.{contents_of};
 ghost use Rattle.mps_writer.specs.MpsText.{IsNamedRow, IsNamedVariable, bound_line, column_head, entry_line, row_lines, rhs_line_of};
 
 use crate::entries::Entry;
@@ -12,9 +13,9 @@ use std::alloc::AllocError;
 
 /// Appends a row's name as a comment, and its sense.
 pub fn push_row(out: &mut Vec<u8>, number: u64, row: &Row, sets: &Sets) -> Result<(), AllocError>
-    requires { IsNamedRow sets.now row.now }
+    requires { IsNamedRow sets.now (contents_of row.now) }
     ensures { OnOk result (out.new.items
-        ≡ out.old.items ++ row_lines sets.now (number, row.now)) }
+        ≡ out.old.items ++ row_lines sets.now (number, contents_of row.now)) }
 {
     out.extend_from_slice(b"* ")?;
     push_row_name(out, row.name, sets)?;

@@ -12,7 +12,7 @@ use Rattle.command_answers.specs.declared.status.ReadStop.TheVariants as stops
 use Rattle.io_edges.specs.Count.{Rose}
 use Rattle.io_edges.specs.Edges.{Lacks}
 use Rattle.osemosys_run.specs.Causes.{Caused, CausedByFile, FollowsFromText}
-use Rattle.osemosys_run.specs.Complete.{AskForMade, CanBeSummarized, CanBeAccepted, CanBeSolved, CanBeWritten, Completes}
+use Rattle.osemosys_run.specs.Complete.{AskForMade, CanBeSummarized, CanBeAccepted, CanBeDrawn, CanBeExplained, CanBeSolved, CanBeWritten, Completes}
 use Rattle.osemosys_run.specs.Due.{Due, DueForFile}
 use Rattle.command_answers.specs.DueForText.{DueForText}
 use Rattle.command_answers.specs.Lines.{too_long_line}
@@ -39,6 +39,7 @@ Comes (Refused (refusals.TooLarge rows columns)) = ⊥
 Comes (Refused (refusals.PlanFile fault)) = ⊥
 Comes (Refused (refusals.MultiplierFile fault)) = ⊥
 Comes (Refused (refusals.TooLong file)) = ⊥
+Comes (Refused (refusals.NoSuch set)) = ⊥
 Comes (Words fault) = ⊥
 Comes (ReadFault stop) = ⊥
 Comes WriteFault = ⊥
@@ -301,6 +302,12 @@ nothing_to_check files can = cc can.asks
 nothing_to_solve : (files : List (List ℕ × List ℕ)) → CanBeSolved [] files → ⊥
 nothing_to_solve files can = cc can.asks
 
+nothing_to_explain : (files : List (List ℕ × List ℕ)) → CanBeExplained [] files → ⊥
+nothing_to_explain files can = cc can.asks
+
+nothing_to_draw : (files : List (List ℕ × List ℕ)) → CanBeDrawn [] files → ⊥
+nothing_to_draw files can = cc can.asks
+
 nothing_to_make : AskForMade [] → ⊥
 nothing_to_make asks = cc asks.asks
 
@@ -316,6 +323,8 @@ no_claim : (status : Status) → Completes [] [] status
 no_claim status = record {
   done = λ can. elim can [ inl can ↦ absurd (nothing_asked [] can) | inr can ↦ absurd (nothing_to_check [] can) ];
   ended = λ can. absurd (nothing_to_solve [] can);
+  explained = λ can. absurd (nothing_to_explain [] can);
+  drawn = λ can. absurd (nothing_to_draw [] can);
   made = λ asks. absurd (nothing_to_make asks);
   summarized = λ can. absurd (nothing_to_summarize can);
 }

@@ -1,5 +1,7 @@
 -- What is left of a file to read, by the cause of the answer.
-use Rattle.std.proofs.Common.{◌≡◌, ◌≢◌, ℕ, inl, inr, List, Option, Result, Ok, Err, refl, ap, sym, ◌∙◌, subst}
+use Rattle.std.proofs.Common.{◌≡◌, ◌≢◌, ◌<◌, ◌≤◌, ℕ, inl, inr, List, [], length, Option, Some, None, IsSome, Result, Ok, Err, refl, ap, sym, ◌∙◌, subst, arith}
+use Rattle.std.specs.List.{AllByRecursion}
+use Rattle.command_answers.specs.Accepted.{most_bytes}
 use Rattle.io_edges.specs.Count.{Rose}
 use Rattle.io_edges.specs.Edges.{Lacks}
 use Rattle.osemosys_run.specs.declared.reading.ReadEnd.{ReadEnd}
@@ -15,11 +17,12 @@ use Rattle.check_command.specs.Check.{DueForCheck}
 use Rattle.osemosys_run.specs.Mps.{DueForEquations}
 use Rattle.osemosys_run.specs.ReadEnds.{TellsEnd}
 use Rattle.osemosys_run.specs.Reading.{Sight, HasNothingLeft, IsTooLong}
-use Rattle.osemosys_run.specs.ReadToEnd.{IsReadAtWriteFault, IsReadToEnd, IsReadToEndFor, NamesFile}
+use Rattle.osemosys_run.specs.ReadToEnd.{IsReadAtWriteFault, IsReadToEnd, IsReadToEndFor, IsThere, NamesFile}
 use Rattle.solve_command.specs.Shown.{shown_of}
+use Rattle.curve_command.specs.Curve.{DueForCurve}
 use Rattle.explain_command.specs.Explain.{DueForExplain}
 use Rattle.solve_command.specs.Solve.{DueForSolve}
-use Rattle.command_words.specs.Words.{Request, Check, Explain, Make, Mps, Solve, asked}
+use Rattle.command_words.specs.Words.{Request, Check, Curve, Explain, Make, Mps, Solve, Span, asked, names_of}
 use Rattle.osemosys_run.proofs.FilesRead.{Reaches, Reaches-itself, by_file, by_optional_file, rose-since}
 
 -- where the reading of a file ends for a cause, the answer that tells it has that cause
@@ -44,6 +47,7 @@ none_left request before after (Refused (refusals.Build fault)) other left = lef
 none_left request before after (Refused (refusals.TooLong number)) other left = tt
 none_left request before after (Refused refusals.TooManyEntries) other left = left
 none_left request before after (Refused (refusals.TooLarge rows columns)) other left = left
+none_left request before after (Refused (refusals.NoSuch set)) other left = left
 none_left request before after (Refused (refusals.PlanFile fault)) other left = left
 none_left request before after (Refused (refusals.MultiplierFile fault)) other left = left
 none_left request before after (Words fault) other left = tt
@@ -77,11 +81,17 @@ by_cause words before after status text Goal refused read stopped made caused = 
         by_file before after status text (Goal (Ok request)) (FollowsFromText (DueForSolve places gap pivots (shown_of show) method) after status text) 1 name before (Reaches-itself before)
         (λ there bytes reached left follows. read request (left_alone before there after left follows.0))
         (stopped request 1 name before) c
-    by_request (Ok (Explain name pivots places)) c =
-        let request = Explain name pivots places in
-        by_file before after status text (Goal (Ok request)) (FollowsFromText (λ rounded. DueForExplain places pivots) after status text) 1 name before (Reaches-itself before)
+    by_request (Ok (Explain name pivots places method)) c =
+        let request = Explain name pivots places method in
+        by_file before after status text (Goal (Ok request)) (FollowsFromText (λ rounded. DueForExplain places pivots method) after status text) 1 name before (Reaches-itself before)
         (λ there bytes reached left follows. read request (left_alone before there after left follows.0))
         (stopped request 1 name before) c
+    by_request (Ok (Curve name region emission limits gap pivots places method)) c =
+        let request = Curve name region emission limits gap pivots places method in
+        by_file before after status text (Goal (Ok request)) (FollowsFromText (λ rounded. DueForCurve places (record { method = method; pivots = pivots; gap = gap }) region emission limits) after status text) 1 name before (Reaches-itself before)
+        (λ there bytes reached left follows. read request (left_alone before there after left follows.0))
+        (stopped request 1 name before) c
+    by_request (Ok (Span name region technology year slack gap pivots places method)) c = absurd c
     by_request (Ok (Check name plan multipliers gap places)) c =
         let request = Check name plan multipliers gap places in
         let third : List ℕ → List ℕ → Sight → Option (List ℕ) → Type 0 =
@@ -132,3 +142,66 @@ read_at_write_fault words before after status text caused =
     stopped request number name start reached (inl long) = inr (inr (inr long.2.many_taken))
     stopped request number name start reached (inr (inl missing)) = inl (λ told. missing.3 (reached.tells told))
     stopped request number name start reached (inr (inr failed)) = inr (inr (inl (rose-since before start after reached.faults failed.2)))
+
+same_bytes : (a b : List ℕ) → Some a ≡ Some b → a ≡ b
+same_bytes a b e = cc e
+
+not_longer : (a b : List ℕ) → Some a ≡ Some b → most_bytes < length a → length b ≤ most_bytes → ⊥
+not_longer a b e more short = omega (arith, subst (λ (x : List ℕ). most_bytes < length x) (same_bytes a b e) more, short)
+
+-- where all files of the words are there, aren't too long and met no fault, nothing is left of the last one
+pub whole_read : (words : List (List ℕ)) (before after : Sight) (status : Status) (text : List ℕ) (files : List (List ℕ × List ℕ)) → before.files ≡ Some files → IsSome before.rest
+    → (Rose before.faults after.faults → ⊥) → Caused words before after status text
+    → (request : Request) → asked words ≡ Ok request → names_of request ≢ [] → AllByRecursion (IsThere files) (names_of request) → after.rest ≡ Some []
+whole_read words before after status text files told rest calm caused request asks names all_there =
+    by_request request names all_there (subst (λ (r : Result Request WordFault). CausedByRequest r before after status text) asks caused) rest
+  where
+    -- the work stops at no such file but where nothing is left
+    never : (number : ℕ) (name : List ℕ) (start : Sight) → IsThere files name → Reaches before start → StopsAtFile number name start after status text → HasNothingLeft before after
+    never number name start there reached (inl long) =
+        let longer = long.2.longer files (reached.files ∙ told) in
+        absurd (not_longer longer.0 there.bytes (sym longer.1 ∙ there.there) longer.2 there.short)
+    never number name start there reached (inr (inl missing)) = λ is_told. missing.3 (reached.tells is_told)
+    never number name start there reached (inr (inr failed)) = absurd (calm (rose-since before start after reached.faults failed.2))
+
+    by_request : (request : Request) → names_of request ≢ [] → AllByRecursion (IsThere files) (names_of request) → CausedByRequest (Ok request) before after status text → HasNothingLeft before after
+    by_request (Make size show) names there c = absurd (names refl)
+    by_request (Span name region technology year slack gap pivots places method) names there c = absurd c
+    by_request (Mps name places) names there c =
+        by_file before after status text (HasNothingLeft before after) (FollowsFromText (λ rounded. DueForEquations places) after status text) 1 name before (Reaches-itself before)
+        (λ at bytes reached left follows. left_alone before at after left follows.0)
+        (never 1 name before there.0) c
+    by_request (Solve name gap pivots places show method) names there c =
+        by_file before after status text (HasNothingLeft before after) (FollowsFromText (DueForSolve places gap pivots (shown_of show) method) after status text) 1 name before (Reaches-itself before)
+        (λ at bytes reached left follows. left_alone before at after left follows.0)
+        (never 1 name before there.0) c
+    by_request (Explain name pivots places method) names there c =
+        by_file before after status text (HasNothingLeft before after) (FollowsFromText (λ rounded. DueForExplain places pivots method) after status text) 1 name before (Reaches-itself before)
+        (λ at bytes reached left follows. left_alone before at after left follows.0)
+        (never 1 name before there.0) c
+    by_request (Curve name region emission limits gap pivots places method) names there c =
+        by_file before after status text (HasNothingLeft before after) (FollowsFromText (λ rounded. DueForCurve places (record { method = method; pivots = pivots; gap = gap }) region emission limits) after status text) 1 name before (Reaches-itself before)
+        (λ at bytes reached left follows. left_alone before at after left follows.0)
+        (never 1 name before there.0) c
+    by_request (Check name plan None gap places) names there c =
+        let third : List ℕ → List ℕ → Sight → Option (List ℕ) → Type 0 =
+        λ bytes plan_bytes at multiplier_bytes. FollowsFromText (λ rounded. DueForCheck places plan_bytes multiplier_bytes gap) after status text at bytes in
+        let second_then : List ℕ → Sight → List ℕ → Type 0 = λ bytes second plan_bytes. CausedByOptionalFile (third bytes plan_bytes) 3 None second after status text in
+        let first_then : Sight → List ℕ → Type 0 = λ first bytes. CausedByFile (second_then bytes) 2 plan first after status text in
+        by_file before after status text (HasNothingLeft before after) first_then 1 name before (Reaches-itself before)
+        (λ first bytes first_reached first_left second_cause. by_file before after status text (HasNothingLeft before after) (second_then bytes) 2 plan first first_reached
+        (λ second plan_bytes second_reached second_left third_cause. left_alone before second after second_left third_cause.0)
+        (never 2 plan first there.1.0) second_cause)
+        (never 1 name before there.0) c
+    by_request (Check name plan (Some multipliers) gap places) names there c =
+        let third : List ℕ → List ℕ → Sight → Option (List ℕ) → Type 0 =
+        λ bytes plan_bytes at multiplier_bytes. FollowsFromText (λ rounded. DueForCheck places plan_bytes multiplier_bytes gap) after status text at bytes in
+        let second_then : List ℕ → Sight → List ℕ → Type 0 = λ bytes second plan_bytes. CausedByOptionalFile (third bytes plan_bytes) 3 (Some multipliers) second after status text in
+        let first_then : Sight → List ℕ → Type 0 = λ first bytes. CausedByFile (second_then bytes) 2 plan first after status text in
+        by_file before after status text (HasNothingLeft before after) first_then 1 name before (Reaches-itself before)
+        (λ first bytes first_reached first_left second_cause. by_file before after status text (HasNothingLeft before after) (second_then bytes) 2 plan first first_reached
+        (λ second plan_bytes second_reached second_left third_cause. by_file before after status text (HasNothingLeft before after) (λ at found. third bytes plan_bytes at (Some found)) 3 multipliers second second_reached
+        (λ at found reached left follows. left_alone before at after left follows.0)
+        (never 3 multipliers second there.1.1.0) third_cause)
+        (never 2 plan first there.1.0) second_cause)
+        (never 1 name before there.0) c

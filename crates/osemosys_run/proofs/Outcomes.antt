@@ -1,6 +1,7 @@
 -- From the cause of an answer to what is due, and from the answer to what was delivered.
-use Rattle.std.proofs.Common.{◌≡◌, ◌≢◌, ◌≤◌, arith, ℕ, inl, inr, List, ◌++◌, length, Option, Some, None, Result, Ok, Err, Bool, true, false, refl, sym, ◌∙◌, subst, MatchBool, nat_lt, le-ltb, lt-ltb}
+use Rattle.std.proofs.Common.{◌≡◌, ◌≢◌, ◌≤◌, arith, ℕ, ℤ, inl, inr, List, ◌++◌, length, Option, Some, None, Result, Ok, Err, Bool, true, false, refl, sym, ◌∙◌, subst, MatchBool, nat_lt, le-ltb, lt-ltb}
 use Rattle.model_sets.specs.Data.{Data}
+use Rattle.model_sets.specs.declared.set_numbers.TheConstants.{EMISSION, REGION}
 use Rattle.exact_num.specs.Rational.{Rational}
 use Rattle.row_core.specs.declared.Row.{Row}
 use Rattle.row_core.specs.declared.RowName.{RowName}
@@ -29,7 +30,11 @@ use Rattle.osemosys_run.specs.Due.{Due, DueForFile, DueForMake, DueForOptionalFi
 use Rattle.command_answers.specs.DueForText.{DueForText}
 use Rattle.check_command.specs.Check.{DueForCheck, DueForMultiplierFile, DueForPlan, DueForPlanFile}
 use Rattle.command_answers.specs.Lines.{too_long_line}
-use Rattle.explain_command.specs.Explain.{DueForExplain}
+use Rattle.curve_command.specs.Curve.{DueForCurve, DueForLimits}
+use Rattle.curve_command.specs.CurveTexts.{first_stop, status_for}
+use Rattle.curve_command.specs.Limited.{with_limit}
+use Rattle.curve_command.specs.Trials.{Wanted}
+use Rattle.explain_command.specs.Explain.{DueForExplain, DueForMethod as DueForTrialsBy}
 use Rattle.osemosys_run.specs.Mps.{DueForEquations}
 use Rattle.command_answers.specs.NotAccepted.{DueWhereNotAccepted}
 use Rattle.osemosys_run.specs.Reading.{BeganOne, Sight, IsWholeFile}
@@ -40,7 +45,7 @@ use Rattle.command_words.specs.declared.command.SolveMethod.{SolveMethod}
 use Rattle.command_words.specs.declared.command.SolveMethod.TheVariants.{Exact, Rounded}
 use Rattle.solve_command.specs.Solve.{DueForEnd, DueForMethod, DueForRows, DueForSolve}
 use Rattle.solve_command.specs.Summary.{DueForSummary, default_places, default_pivots}
-use Rattle.command_words.specs.Words.{Request, Check, Explain, Make, Mps, Solve, asked}
+use Rattle.command_words.specs.Words.{Request, Check, Curve, Explain, Make, Mps, Solve, Span, asked}
 use Rattle.osemosys_run.proofs.FilesRead.{rose-since}
 
 -- ---- what is due
@@ -98,8 +103,12 @@ due_from_cause words before after files status text told calm caused = by_reques
     by_request (Ok (Make size show)) c = c.0
     by_request (Ok (Solve name gap pivots places show method)) c =
         due_for_file (FollowsFromText (DueForSolve places gap pivots (shown_of show) method) after status text) (DueForText (DueForSolve places gap pivots (shown_of show) method)) 1 name before after files status text told calm (λ there bytes began follows. follows.1) c
-    by_request (Ok (Explain name pivots places)) c =
-        due_for_file (FollowsFromText (λ rounded. DueForExplain places pivots) after status text) (DueForText (λ rounded. DueForExplain places pivots)) 1 name before after files status text told calm (λ there bytes began follows. follows.1) c
+    by_request (Ok (Explain name pivots places method)) c =
+        due_for_file (FollowsFromText (λ rounded. DueForExplain places pivots method) after status text) (DueForText (λ rounded. DueForExplain places pivots method)) 1 name before after files status text told calm (λ there bytes began follows. follows.1) c
+    by_request (Ok (Curve name region emission limits gap pivots places method)) c =
+        let Over : ℕ → Data → Status → List ℕ → Type 0 = λ rounded. DueForCurve places (record { method = method; pivots = pivots; gap = gap }) region emission limits in
+        due_for_file (FollowsFromText Over after status text) (DueForText Over) 1 name before after files status text told calm (λ there bytes began follows. follows.1) c
+    by_request (Ok (Span name region technology year slack gap pivots places method)) c = absurd c
     by_request (Ok (Check name plan multipliers gap places)) c =
         let third : List ℕ → List ℕ → Sight → Option (List ℕ) → Type 0 =
         λ bytes plan_bytes there multiplier_bytes. FollowsFromText (λ rounded. DueForCheck places plan_bytes multiplier_bytes gap) after status text there bytes in
@@ -182,17 +191,38 @@ solve_is places gap pivots show method rounded d status text (inl made) = rows_i
 solve_is places gap pivots show method rounded d status text (inr (inl wide)) = is_other status (Uncertified (Stop.Width (Place.Row wide.name))) (λ h. cc) (λ h. cc) (λ number h. cc) wide.status_is
 solve_is places gap pivots show method rounded d status text (inr (inr many)) = refused_is status refusals.TooManyEntries many.status_is
 
-explain_is : (places pivots : ℕ) (d : Data) (status : Status) (text : List ℕ) → DueForExplain places pivots d status text → IsOwn status
-explain_is places pivots d status text (inl made) = elim made.due [
+trials_are : (places : ℕ) (d : Data) (rows : List Row) (pivots : ℕ) (method : SolveMethod) (status : Status) (text : List ℕ) → DueForTrialsBy places d rows pivots method status text → IsOwn status
+trials_are places d rows pivots Exact status text (inl feasible) = is_other status Done (λ h. cc) (λ h. cc) (λ number h. cc) feasible.status_is
+trials_are places d rows pivots Exact status text (inr (inl conflict)) = is_other status Infeasible (λ h. cc) (λ h. cc) (λ number h. cc) conflict.status_is
+trials_are places d rows pivots Exact status text (inr (inr stopped)) = is_other status (Uncertified stopped.stop) (λ h. cc) (λ h. cc) (λ number h. cc) stopped.status_is
+trials_are places d rows pivots Rounded status text (inl feasible) = is_other status Done (λ h. cc) (λ h. cc) (λ number h. cc) feasible.status_is
+trials_are places d rows pivots Rounded status text (inr (inl conflict)) = is_other status Infeasible (λ h. cc) (λ h. cc) (λ number h. cc) conflict.status_is
+trials_are places d rows pivots Rounded status text (inr (inr (inl before))) = is_other status (Uncertified (Stop.Width before.place)) (λ h. cc) (λ h. cc) (λ number h. cc) before.status_is
+trials_are places d rows pivots Rounded status text (inr (inr (inr stopped))) = is_other status (Uncertified stopped.stop) (λ h. cc) (λ h. cc) (λ number h. cc) stopped.status_is
+
+explain_is : (places pivots : ℕ) (method : SolveMethod) (d : Data) (status : Status) (text : List ℕ) → DueForExplain places pivots method d status text → IsOwn status
+explain_is places pivots method d status text (inl made) = elim made.due [
   | inl large ↦ refused_is status (refusals.TooLarge (inequality_count made.rows) (column_count (all_variables d))) large.status_is
-  | inr ends ↦ elim ends.1 [
-    | inl feasible ↦ is_other status Done (λ h. cc) (λ h. cc) (λ number h. cc) feasible.status_is
-    | inr (inl conflict) ↦ is_other status Infeasible (λ h. cc) (λ h. cc) (λ number h. cc) conflict.status_is
-    | inr (inr stopped) ↦ is_other status (Uncertified stopped.stop) (λ h. cc) (λ h. cc) (λ number h. cc) stopped.status_is
-  ]
+  | inr ends ↦ trials_are places d made.rows pivots method status text ends.1
 ]
-explain_is places pivots d status text (inr (inl wide)) = is_other status (Uncertified (Stop.Width (Place.Row wide.name))) (λ h. cc) (λ h. cc) (λ number h. cc) wide.status_is
-explain_is places pivots d status text (inr (inr many)) = refused_is status refusals.TooManyEntries many.status_is
+explain_is places pivots method d status text (inr (inl wide)) = is_other status (Uncertified (Stop.Width (Place.Row wide.name))) (λ h. cc) (λ h. cc) (λ number h. cc) wide.status_is
+explain_is places pivots method d status text (inr (inr many)) = refused_is status refusals.TooManyEntries many.status_is
+
+stop_is_own : (first : Option Stop) (status : Status) → status ≡ status_for first → IsOwn status
+stop_is_own None status e = is_other status Done (λ h. cc) (λ h. cc) (λ number h. cc) e
+stop_is_own (Some stop) status e = is_other status (Uncertified stop) (λ h. cc) (λ h. cc) (λ number h. cc) e
+
+limits_are : (places : ℕ) (d : Data) (r e : ℕ) (wanted : Wanted) (limits : List ℤ) (status : Status) (text : List ℕ) → DueForLimits places d r e wanted limits status text → IsOwn status
+limits_are places d r e wanted limits status text (inl curve) = stop_is_own (first_stop 1 curve.all) status curve.status_is
+limits_are places d r e wanted limits status text (inr refusal) = elim refusal.refuses [
+  | inl many ↦ refused_is status refusals.TooManyEntries many.status_is
+  | inr made ↦ refused_is status (refusals.TooLarge (inequality_count made.rows) (column_count (all_variables (with_limit d r e refusal.limit)))) made.due.status_is
+]
+
+curve_is : (places : ℕ) (wanted : Wanted) (region emission : List ℕ) (limits : List ℤ) (d : Data) (status : Status) (text : List ℕ) → DueForCurve places wanted region emission limits d status text → IsOwn status
+curve_is places wanted region emission limits d status text (inl none) = refused_is status (refusals.NoSuch REGION) none.status_is
+curve_is places wanted region emission limits d status text (inr (inl alone)) = refused_is status (refusals.NoSuch EMISSION) alone.emission_isnt.status_is
+curve_is places wanted region emission limits d status text (inr (inr members)) = limits_are places d members.r members.e wanted limits status text members.due
 
 summary_is : (places rounded : ℕ) (d : Data) (status : Status) (text : List ℕ) → DueForSummary places rounded d status text → IsOwn status
 summary_is places rounded d status text (inl made) = rows_is places d made.rows 0 default_pivots Summary Exact rounded status made.due.0 made.due.1
@@ -237,8 +267,13 @@ is_answer words before after status text caused = by_request (asked words) cause
     by_request (Ok (Mps name places)) (inr stopped) = stop_is 1 name before after status text stopped.1
     by_request (Ok (Solve name gap pivots places show method)) (inl whole) = (text_is (DueForSolve places gap pivots (shown_of show) method) (solve_is places gap pivots (shown_of show) method) whole.1 status text whole.4.1).0
     by_request (Ok (Solve name gap pivots places show method)) (inr stopped) = stop_is 1 name before after status text stopped.1
-    by_request (Ok (Explain name pivots places)) (inl whole) = (text_is (λ rounded. DueForExplain places pivots) (λ rounded. explain_is places pivots) whole.1 status text whole.4.1).0
-    by_request (Ok (Explain name pivots places)) (inr stopped) = stop_is 1 name before after status text stopped.1
+    by_request (Ok (Explain name pivots places method)) (inl whole) = (text_is (λ rounded. DueForExplain places pivots method) (λ rounded. explain_is places pivots method) whole.1 status text whole.4.1).0
+    by_request (Ok (Explain name pivots places method)) (inr stopped) = stop_is 1 name before after status text stopped.1
+    by_request (Ok (Curve name region emission limits gap pivots places method)) (inl whole) =
+        let Over : ℕ → Data → Status → List ℕ → Type 0 = λ rounded. DueForCurve places (record { method = method; pivots = pivots; gap = gap }) region emission limits in
+        (text_is Over (λ rounded. curve_is places (record { method = method; pivots = pivots; gap = gap }) region emission limits) whole.1 status text whole.4.1).0
+    by_request (Ok (Curve name region emission limits gap pivots places method)) (inr stopped) = stop_is 1 name before after status text stopped.1
+    by_request (Ok (Span name region technology year slack gap pivots places method)) c = absurd c
     by_request (Ok (Check name plan multipliers gap places)) (inr stopped) = stop_is 1 name before after status text stopped.1
     by_request (Ok (Check name plan multipliers gap places)) (inl (first, bytes, began, whole, inr stopped)) = stop_is 2 plan first after status text stopped.1
     by_request (Ok (Check name plan None gap places)) (inl (first, bytes, began, whole, inl (second, plan_bytes, second_began, second_whole, follows))) =
@@ -275,8 +310,13 @@ failed_read words before after status text caused number e = by_request (asked w
     by_request (Ok (Mps name places)) (inr stopped) = stop_failed 1 name before before after status text number more stopped.1 e
     by_request (Ok (Solve name gap pivots places show method)) (inl whole) = own (text_is (DueForSolve places gap pivots (shown_of show) method) (solve_is places gap pivots (shown_of show) method) whole.1 status text whole.4.1)
     by_request (Ok (Solve name gap pivots places show method)) (inr stopped) = stop_failed 1 name before before after status text number more stopped.1 e
-    by_request (Ok (Explain name pivots places)) (inl whole) = own (text_is (λ rounded. DueForExplain places pivots) (λ rounded. explain_is places pivots) whole.1 status text whole.4.1)
-    by_request (Ok (Explain name pivots places)) (inr stopped) = stop_failed 1 name before before after status text number more stopped.1 e
+    by_request (Ok (Explain name pivots places method)) (inl whole) = own (text_is (λ rounded. DueForExplain places pivots method) (λ rounded. explain_is places pivots method) whole.1 status text whole.4.1)
+    by_request (Ok (Explain name pivots places method)) (inr stopped) = stop_failed 1 name before before after status text number more stopped.1 e
+    by_request (Ok (Curve name region emission limits gap pivots places method)) (inl whole) =
+        let Over : ℕ → Data → Status → List ℕ → Type 0 = λ rounded. DueForCurve places (record { method = method; pivots = pivots; gap = gap }) region emission limits in
+        own (text_is Over (λ rounded. curve_is places (record { method = method; pivots = pivots; gap = gap }) region emission limits) whole.1 status text whole.4.1)
+    by_request (Ok (Curve name region emission limits gap pivots places method)) (inr stopped) = stop_failed 1 name before before after status text number more stopped.1 e
+    by_request (Ok (Span name region technology year slack gap pivots places method)) c = absurd c
     by_request (Ok (Check name plan multipliers gap places)) (inr stopped) = stop_failed 1 name before before after status text number more stopped.1 e
     by_request (Ok (Check name plan multipliers gap places)) (inl (first, bytes, began, whole, inr stopped)) = stop_failed 2 plan before first after status text number began.faults stopped.1 e
     by_request (Ok (Check name plan None gap places)) (inl (first, bytes, began, whole, inl (second, plan_bytes, second_began, second_whole, follows))) =

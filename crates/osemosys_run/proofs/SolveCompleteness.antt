@@ -26,6 +26,8 @@ use Rattle.command_words.specs.declared.command.SolveMethod.TheVariants.{Exact, 
 use Rattle.solve_command.specs.Solve.{ComesToEnd, DueForEnd, DueForMethod, DueForRows, DueForSolve}
 use Rattle.solve_command.specs.Limits.{IsWithinLimits, PassesLimits}
 use Rattle.solve_command.proofs.SolvedEnds.{prices_come}
+use Rattle.osemosys_run.proofs.CurveCompleteness.{drawn_from_due}
+use Rattle.osemosys_run.proofs.ExplainCompleteness.{explained_from_due}
 use Rattle.osemosys_run.proofs.Completeness.{Laws, done_from_due, equations_done, over_accepted, over_short}
 
 -- ---- solving
@@ -119,8 +121,10 @@ completes laws words files status before after f f' d calm = elim (due_or_memory
   | inl due ↦ record {
     done = λ can. inl (done_from_due laws words files status due.0 due.1 can);
     ended = λ can. inl (ended_from_due laws words files status due.0 due.1 can);
+    explained = λ can. inl (explained_from_due laws words files status due.0 due.1 can);
+    drawn = λ can. inl (drawn_from_due laws words files status due.0 due.1 can);
     made = λ asks. inl (made_from_due words files status due.0 due.1 asks);
     summarized = λ can. inl (summarized_from_due laws words files status due.0 due.1 can);
   }
-  | inr memory ↦ record { done = λ can. inr memory; ended = λ can. inr memory; made = λ asks. inr memory; summarized = λ can. inr memory }
+  | inr memory ↦ record { done = λ can. inr memory; ended = λ can. inr memory; explained = λ can. inr memory; drawn = λ can. inr memory; made = λ asks. inr memory; summarized = λ can. inr memory }
 ]

@@ -12,12 +12,13 @@ use Rattle.check_command.specs.Check.{DueForCheck}
 use Rattle.osemosys_run.specs.Due.{DueForMake}
 use Rattle.command_answers.specs.DueForText.{DueForText}
 use Rattle.command_answers.specs.Lines.{stop_line, too_long_line, words_line}
+use Rattle.curve_command.specs.Curve.{DueForCurve}
 use Rattle.explain_command.specs.Explain.{DueForExplain}
 use Rattle.osemosys_run.specs.Mps.{DueForEquations}
 use Rattle.solve_command.specs.Shown.{shown_of}
 use Rattle.solve_command.specs.Solve.{DueForSolve}
 use Rattle.osemosys_run.specs.Reading.{Sight, BeganOne, HasNothingLeft, IsTooLong, IsWholeFile}
-use Rattle.command_words.specs.Words.{Request, Check, Explain, Make, Mps, Solve, asked}
+use Rattle.command_words.specs.Words.{Request, Check, Curve, Explain, Make, Mps, Solve, Span, asked}
 
 -- the file of this name and number is too long, or missing, or the shelf failed and counted it; and the status and the text say so
 abbrev pub StopsAtFile : ℕ → List ℕ → Sight → Sight → Status → List ℕ → Type 0
@@ -48,7 +49,10 @@ abbrev pub CausedByRequest : Result Request WordFault → Sight → Sight → St
 CausedByRequest (Err fault) before after status text = (status ≡ Words fault) × (text ≡ words_line fault) × (after ≡ before)
 CausedByRequest (Ok (Mps name places)) before after status text = CausedByFile (FollowsFromText (λ rounded. DueForEquations places) after status text) 1 name before after status text
 CausedByRequest (Ok (Solve name gap pivots places show method)) before after status text = CausedByFile (FollowsFromText (DueForSolve places gap pivots (shown_of show) method) after status text) 1 name before after status text
-CausedByRequest (Ok (Explain name pivots places)) before after status text = CausedByFile (FollowsFromText (λ rounded. DueForExplain places pivots) after status text) 1 name before after status text
+CausedByRequest (Ok (Explain name pivots places method)) before after status text = CausedByFile (FollowsFromText (λ rounded. DueForExplain places pivots method) after status text) 1 name before after status text
+CausedByRequest (Ok (Curve name region emission limits gap pivots places method)) before after status text =
+    CausedByFile (FollowsFromText (λ rounded. DueForCurve places (record { method = method; pivots = pivots; gap = gap }) region emission limits) after status text) 1 name before after status text
+CausedByRequest (Ok (Span name region technology year slack gap pivots places method)) before after status text = ⊥
 CausedByRequest (Ok (Make size show)) before after status text = DueForMake size show status text × (after ≡ before)
 CausedByRequest (Ok (Check name plan multipliers gap places)) before after status text =
     CausedByFile (λ first bytes. CausedByFile (λ second plan_bytes. CausedByOptionalFile (λ there multiplier_bytes.

@@ -1,8 +1,11 @@
--- Which files `mps` must write out, which plans `check` must accept, and which models `solve` and `make` must bring to an end.
-use Rattle.std.specs.Prelude.{◌≡◌, ◌⊎◌, ℕ, ℤ, ◌≤◌, List, length, Option, Some, None, Ok, ⊤}
+-- Which files `mps` must write out, which plans `check` must accept, which models `solve` and `make` must bring to an end, which `explain` must, and which curves must be told whole.
+use Rattle.std.specs.List.{AllByRecursion}
+use Rattle.std.specs.Prelude.{◌≡◌, ◌≢◌, ◌⊎◌, ℕ, ℤ, ◌≤◌, List, length, Option, Some, None, Ok, ⊤}
 use Rattle.exact_num.specs.Rational.{Rational}
 use Rattle.exact_num.specs.Steps.{first_wide}
 use Rattle.model_sets.specs.Data.{Data}
+use Rattle.model_sets.specs.Members.{index_of, members}
+use Rattle.model_sets.specs.declared.set_numbers.TheConstants.{EMISSION, REGION}
 use Rattle.row_core.specs.declared.Row.{Row}
 use Rattle.row_core.specs.declared.RowName.{RowName}
 use Rattle.row_core.specs.declared.Var.{Var}
@@ -29,11 +32,15 @@ use Rattle.command_answers.specs.declared.status.Status.{Status}
 use Rattle.command_answers.specs.declared.status.Status.TheVariants.{Done, Infeasible, Unbounded, Memory}
 use Rattle.command_answers.specs.Accepted.{Accepted, most_bytes}
 use Rattle.check_command.specs.Check.{TellsMultipliers, check_conditions, multiplier_bound, plan_cost}
+use Rattle.curve_command.specs.Limited.{limit_at, with_limit}
+use Rattle.emission_curve.specs.Ends.{IsStopped, point_end}
+use Rattle.explain_command.specs.Explain.{NothingStops}
+use Rattle.simplex_core.specs.declared.stops.TrialStop.{TrialStop}
 use Rattle.solve_command.specs.Shown.{shown_of}
 use Rattle.solve_command.specs.Limits.{IsWithinLimits}
 use Rattle.solve_command.specs.Solve.{ComesToEnd}
 use Rattle.solve_command.specs.Summary.{default_pivots, default_places}
-use Rattle.command_words.specs.Words.{Check, Make, Mps, Solve, asked}
+use Rattle.command_words.specs.Words.{Check, Curve, Explain, Make, Mps, Solve, asked}
 
 -- the words ask for `mps` of a file that is there, with written factors of so many places; its text is accepted, and every row of the named equations over its data can be made
 pub record CanBeWritten (words : List (List ℕ)) (files : List (List ℕ × List ℕ)) : Type 0 where
@@ -104,6 +111,50 @@ pub record CanBeSolved (words : List (List ℕ)) (files : List (List ℕ × List
   pub within : (rows : List Row) → AreRowsOf places d (instances d) rows → IsWithinLimits rows (all_variables d)
   pub ends : (rows : List Row) → AreRowsOf places d (instances d) rows → ComesToEnd (shown_of show) rows (method_end rows (all_variables d) pivots)
 
+-- The words ask for `explain` of a file that is there; its text is accepted, and every row of the named equations over its data can be made; the linear
+-- program is within the limits; and nothing stops the method.
+pub record CanBeExplained (words : List (List ℕ)) (files : List (List ℕ × List ℕ)) : Type 0 where
+  pub name : List ℕ
+  pub pivots : ℕ
+  pub places : ℕ
+  pub method : SolveMethod
+  pub bytes : List ℕ
+  pub d : Data
+  pub asks : asked words ≡ Ok (Explain name pivots places method)
+  pub there : file_named files name ≡ Some bytes
+  pub accepted : Accepted bytes d
+  pub made : CanBeMade places d 0 (instances d)
+  pub within : (rows : List Row) → AreRowsOf places d (instances d) rows → IsWithinLimits rows (all_variables d)
+  pub never : (rows : List Row) → AreRowsOf places d (instances d) rows → NothingStops method rows (all_variables d) pivots
+
+-- at this limit, in billionths, every row of the named equations can be made; the linear program is within the limits; and nothing stops the exact method
+pub record CanBeTried (places : ℕ) (d : Data) (r e pivots : ℕ) (limit : ℤ) : Type 0 where
+  pub made : CanBeMade places (with_limit d r e limit) 0 (instances (with_limit d r e limit))
+  pub within : (rows : List Row) → AreRowsOf places (with_limit d r e limit) (instances (with_limit d r e limit)) rows → IsWithinLimits rows (all_variables (with_limit d r e limit))
+  pub ends : (rows : List Row) → AreRowsOf places (with_limit d r e limit) (instances (with_limit d r e limit)) rows
+      → (stop : TrialStop) → point_end rows (all_variables (with_limit d r e limit)) (limit_at r e) pivots ≢ IsStopped stop
+
+-- The words ask for `curve` of a file that is there, for a region and an emission that its data have; its text is accepted; and each limit can be tried.
+pub record CanBeDrawn (words : List (List ℕ)) (files : List (List ℕ × List ℕ)) : Type 0 where
+  pub name : List ℕ
+  pub region : List ℕ
+  pub emission : List ℕ
+  pub limits : List ℤ
+  pub gap : ℕ
+  pub pivots : ℕ
+  pub places : ℕ
+  pub method : SolveMethod
+  pub bytes : List ℕ
+  pub d : Data
+  pub r : ℕ
+  pub e : ℕ
+  pub asks : asked words ≡ Ok (Curve name region emission limits gap pivots places method)
+  pub there : file_named files name ≡ Some bytes
+  pub accepted : Accepted bytes d
+  pub region_is : index_of (members d.sets REGION) region ≡ Some r
+  pub emission_is : index_of (members d.sets EMISSION) emission ≡ Some e
+  pub each : AllByRecursion (CanBeTried places d r e pivots) limits
+
 -- the words ask for a made file
 pub record AskForMade (words : List (List ℕ)) : Type 0 where
   pub size : ℕ
@@ -123,9 +174,15 @@ pub record CanBeSummarized (words : List (List ℕ)) : Type 0 where
 abbrev pub IsEnded : Status → Type 0
 IsEnded status = (status ≡ Done) ⊎ (status ≡ Infeasible) ⊎ (status ≡ Unbounded)
 
--- then the equations or the made file are written, or the plan is accepted, or the model is brought to an end, unless memory ran out
+-- some plan exists, or why there is none is told
+abbrev pub IsExplained : Status → Type 0
+IsExplained status = (status ≡ Done) ⊎ (status ≡ Infeasible)
+
+-- then the equations or the made file are written, or the plan is accepted, or the model is brought to an end or explained, unless memory ran out
 pub record Completes (words : List (List ℕ)) (files : List (List ℕ × List ℕ)) (status : Status) : Type 0 where
   pub done : CanBeWritten words files ⊎ CanBeAccepted words files → (status ≡ Done) ⊎ (status ≡ Memory)
   pub ended : CanBeSolved words files → IsEnded status ⊎ (status ≡ Memory)
+  pub explained : CanBeExplained words files → IsExplained status ⊎ (status ≡ Memory)
+  pub drawn : CanBeDrawn words files → (status ≡ Done) ⊎ (status ≡ Memory)
   pub made : AskForMade words → (status ≡ Done) ⊎ (status ≡ Memory)
   pub summarized : CanBeSummarized words → IsEnded status ⊎ (status ≡ Memory)

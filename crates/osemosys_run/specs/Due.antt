@@ -13,12 +13,13 @@ use Rattle.command_answers.specs.Accepted.{most_bytes}
 use Rattle.check_command.specs.Check.{DueForCheck}
 use Rattle.command_answers.specs.DueForText.{DueForText}
 use Rattle.command_answers.specs.Lines.{stop_line, too_long_line, words_line}
+use Rattle.curve_command.specs.Curve.{DueForCurve}
 use Rattle.explain_command.specs.Explain.{DueForExplain}
 use Rattle.osemosys_run.specs.Mps.{DueForEquations}
 use Rattle.solve_command.specs.Shown.{shown_of}
 use Rattle.solve_command.specs.Solve.{DueForSolve}
 use Rattle.solve_command.specs.Summary.{DueForSummary, default_places, made_line}
-use Rattle.command_words.specs.Words.{Request, Check, Explain, Make, Mps, Solve, asked}
+use Rattle.command_words.specs.Words.{Request, Check, Curve, Explain, Make, Mps, Solve, Span, asked}
 
 -- over the file of this number, which may be missing or too long: that, or what `Due` has over its bytes
 abbrev pub DueForFile : (List ℕ → Status → List ℕ → Type 0) → ℕ → Option (List ℕ) → Status → List ℕ → Type 0
@@ -43,7 +44,10 @@ abbrev pub DueForRequest : Result Request WordFault → List (List ℕ × List �
 DueForRequest (Err fault) files status text = (status ≡ Words fault) × (text ≡ words_line fault)
 DueForRequest (Ok (Mps name places)) files status text = DueForFile (DueForText (λ rounded. DueForEquations places)) 1 (file_named files name) status text
 DueForRequest (Ok (Solve name gap pivots places show method)) files status text = DueForFile (DueForText (DueForSolve places gap pivots (shown_of show) method)) 1 (file_named files name) status text
-DueForRequest (Ok (Explain name pivots places)) files status text = DueForFile (DueForText (λ rounded. DueForExplain places pivots)) 1 (file_named files name) status text
+DueForRequest (Ok (Explain name pivots places method)) files status text = DueForFile (DueForText (λ rounded. DueForExplain places pivots method)) 1 (file_named files name) status text
+DueForRequest (Ok (Curve name region emission limits gap pivots places method)) files status text =
+    DueForFile (DueForText (λ rounded. DueForCurve places (record { method = method; pivots = pivots; gap = gap }) region emission limits)) 1 (file_named files name) status text
+DueForRequest (Ok (Span name region technology year slack gap pivots places method)) files status text = ⊥
 DueForRequest (Ok (Make size show)) files status text = DueForMake size show status text
 DueForRequest (Ok (Check name plan multipliers gap places)) files status text =
     DueForFile (λ bytes. DueForFile (λ plan_bytes. DueForOptionalFile (λ multiplier_bytes.

@@ -1,16 +1,30 @@
 -- What is due of a command of one file over its data.
-use Rattle.std.specs.Prelude.{ℕ, List}
+use Rattle.std.specs.Prelude.{ℕ, List, ⊤}
+use Rattle.std.specs.List.{AllByRecursion}
+use Rattle.command_words.specs.LimitLists.{IsLimit}
+use Rattle.curve_command.specs.Curve.{DueForCurve}
 use Rattle.model_sets.specs.Data.{Data}
+use Rattle.osemosys_run.specs.declared.one_file.CurveAsked.{CurveAsked}
 use Rattle.osemosys_run.specs.declared.one_file.Task.{Task}
-use Rattle.osemosys_run.specs.declared.one_file.Task.TheVariants.{Explain, Solve, Summarize, Write}
+use Rattle.osemosys_run.specs.declared.one_file.Task.TheVariants.{Curve, Explain, Solve, Summarize, Write}
 use Rattle.command_answers.specs.declared.status.Status.{Status}
 use Rattle.explain_command.specs.Explain.{DueForExplain}
 use Rattle.osemosys_run.specs.Mps.{DueForEquations}
 use Rattle.solve_command.specs.Solve.{DueForSolve}
 use Rattle.solve_command.specs.Summary.{DueForSummary}
 
+-- of `curve`, for a region and an emission by their names and for limits in billionths
+abbrev pub DueForAsked : CurveAsked → ℕ → Data → Status → List ℕ → Type 0
+DueForAsked asked places = DueForCurve places (record { method = asked.method; pivots = asked.pivots; gap = asked.gap }) asked.region.now asked.emission.now asked.limits.now
+
+-- each limit of the task is one that words can ask for
+abbrev pub HasLimits : Task → Type 0
+HasLimits (Curve asked) = AllByRecursion IsLimit asked.limits.now
+HasLimits task = ⊤
+
 abbrev pub DueForTask : Task → ℕ → ℕ → Data → Status → List ℕ → Type 0
 DueForTask Write places rounded = DueForEquations places
 DueForTask (Solve wanted) places rounded = DueForSolve places wanted.gap wanted.pivots wanted.show wanted.method rounded
-DueForTask (Explain pivots) places rounded = DueForExplain places pivots
+DueForTask (Explain pivots method) places rounded = DueForExplain places pivots method
+DueForTask (Curve asked) places rounded = DueForAsked asked places
 DueForTask Summarize places rounded = DueForSummary places rounded

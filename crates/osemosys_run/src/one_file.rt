@@ -1,34 +1,54 @@
-// The commands of one file: `mps`, `solve` and `explain`. The file is read whole, its text accepted, and the command's answer given over its
+// The commands of one file: `mps`, `solve`, `explain` and `curve`. The file is read whole, its text accepted, and the command's answer given over its
 // data.
 ghost use Rattle.std.specs.Prelude.{◌≡◌, ◌≤◌, length, IfOk};
+ghost use Rattle.std.specs.List.{AllByRecursion};
+ghost use Rattle.command_words.specs.LimitLists.{IsLimit};
 ghost use Rattle.discount_factors.specs.Factors.{IsPlaces};
+ghost use Rattle.model_sets.specs.Data.{AreSameData, Data};
 ghost use Rattle.osemosys_run.specs.Causes.{CausedByFile, FollowsFromText};
 ghost use Rattle.command_answers.specs.DueForText.{DueForText};
 ghost use Rattle.command_answers.specs.Accepted.{most_bytes};
 ghost use Rattle.osemosys_run.specs.Reading.{sight};
-ghost use Rattle.osemosys_run.specs.Tasks.{DueForTask};
+ghost use Rattle.osemosys_run.specs.Tasks.{DueForAsked, DueForTask, HasLimits};
 
 use crate::file_ends::refuse_file;
 use crate::mps::answer_mps;
 use crate::reading::read_file;
 use command_answers::{Answer, accept};
+use command_words::SolveMethod;
+use curve_command::answer_curve;
 use explain_command::answer_explain;
 use io_edges::Shelf;
+use param_tables::ModelData;
 use solve_command::{Wanted, answer_solve, answer_summary};
 use std::alloc::{AllocError, Global};
 
 /// The number of the data file among those that the words name.
 const DATA_FILE: u8 = 1;
 
+/// What the words after `curve` say besides the file: a region and an emission by their names, limits in billionths, how many millionths
+/// of a bound the rounded method may leave a cost above it, the most pivots of a trial, and the method.
+#[derive(Clone, Copy, Debug, PartialEq, Eq)]
+pub struct CurveAsked<'a> {
+    pub region: &'a str,
+    pub emission: &'a str,
+    pub limits: &'a [i128],
+    pub gap: u32,
+    pub pivots: u32,
+    pub method: SolveMethod,
+}
+
 /// What a command of one file does with its data.
 #[derive(Clone, Copy, Debug, PartialEq, Eq)]
-pub enum Task {
+pub enum Task<'a> {
     /// To write the named equations.
     Write,
     /// To solve the model.
     Solve(Wanted),
     /// To say why no plan exists, with so many pivots at most in each trial.
-    Explain(u32),
+    Explain { pivots: u32, method: SolveMethod },
+    /// To say what each of these limits on an emission costs.
+    Curve(CurveAsked<'a>),
     /// To say in a few lines how large it is, and what solving it comes to.
     Summarize,
 }
@@ -37,15 +57,16 @@ pub enum Task {
 pub fn perform_task<S: Shelf>(
     alloc: Global,
     file: &str,
-    task: Task,
+    task: Task<'_>,
     places: u8,
     shelf: &mut S,
 ) -> Result<Answer, AllocError>
-    requires { IsPlaces places }
+    requires places { IsPlaces places }
+    requires limits { HasLimits task }
     ensures caused { IfOk result (λ answer.
         let after = sight (S.files shelf.new) (S.rest shelf.new)
         (S.faults shelf.new) (S.begins shelf.new) (S.taken shelf.new) in
-        CausedByFile (FollowsFromText (DueForTask task places) after answer.status answer.text.items) DATA_FILE file.now
+        CausedByFile (FollowsFromText (DueForTask task.entry places) after answer.status answer.text.items) DATA_FILE file.now
         (sight (S.files shelf.old) (S.rest shelf.old)
         (S.faults shelf.old) (S.begins shelf.old) (S.taken shelf.old))
         after answer.status answer.text.items) }
@@ -62,20 +83,48 @@ pub fn perform_task<S: Shelf>(
 pub fn answer_text(
     alloc: Global,
     text: Vec<u8>,
-    task: Task,
+    task: Task<'_>,
     places: u8,
 ) -> Result<Answer, AllocError>
     requires short { length text.items ≤ most_bytes }
     requires places { IsPlaces places }
-    ensures { IfOk result (λ answer. DueForText (DueForTask task places) text.items answer.status answer.text.items) }
+    requires limits { HasLimits task }
+    ensures { IfOk result (λ answer. DueForText (DueForTask task.entry places) text.items answer.status answer.text.items) }
 {
     match accept(alloc, text)? {
         Ok(model) => match task {
             Task::Write => answer_mps(alloc, &model, places),
             Task::Solve(wanted) => answer_solve(alloc, &model, places, wanted),
-            Task::Explain(pivots) => answer_explain(alloc, &model, places, pivots),
+            Task::Explain { pivots, method } => {
+                answer_explain(alloc, &model, places, pivots, method)
+            }
+            Task::Curve(asked) => answer_asked(alloc, &model, asked, places),
             Task::Summarize => answer_summary(alloc, &model, places),
         },
         Err(answer) => Ok(answer),
     }
+}
+
+// What is due of `curve` over any data that have the model's sets and values.
+fn answer_asked(
+    alloc: Global,
+    model: &ModelData,
+    asked: CurveAsked<'_>,
+    places: u8,
+) -> Result<Answer, AllocError>
+    requires places { IsPlaces places }
+    requires limits { AllByRecursion IsLimit asked.limits.now }
+    ensures { (d : Data) → AreSameData model.now.facts d → IfOk result (λ answer. DueForAsked asked.entry places d answer.status answer.text.items) }
+{
+    answer_curve(
+        alloc,
+        model,
+        places,
+        asked.region,
+        asked.emission,
+        asked.limits,
+        asked.pivots,
+        asked.method,
+        asked.gap,
+    )
 }

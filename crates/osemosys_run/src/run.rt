@@ -34,7 +34,7 @@ ghost use Rattle.command_words.specs.WordParts.{HasSpelledParts, Part};
 
 use crate::check_files::{Asked, perform_check};
 use crate::making::perform_make;
-use crate::one_file::{Task, perform_task};
+use crate::one_file::{CurveAsked, Task, perform_task};
 use crate::sending::send;
 use command_answers::{Answer, Status, acceptance_laws, refuse_words};
 use command_words::{Command, read_command, spelled_parts};
@@ -61,6 +61,9 @@ use std::alloc::{AllocError, Global};
 /// equation with right signs, and a bound that no such plan undercuts, which is its cost; or shows that there is no such plan
 /// (`Infeasible`), or that there are plans of any lower cost (`Unbounded`). It makes N pivots at most, 20,000 where the option is
 /// left out, and writes a report with prices of fuels, the plan, or the multipliers that prove the bound.
+///
+/// `curve FILE REGION EMISSION LIMITS [--gap PPM] [--pivots N] [--places P] [--method exact|rounded]` says for each of these limits on the
+/// emissions of the model period what the least cost is, and by how much at least it grows with each unit that the limit is lower.
 ///
 /// `make N [--show file|summary]` reads no file. It writes a data file that is made of the number N, from 3 to 122; or how large
 /// its model is, and what `solve` with its default options comes to on it.
@@ -198,8 +201,33 @@ fn perform<S: Shelf>(alloc: Global, words: &[String], shelf: &mut S) -> Result<A
                 file,
                 pivots,
                 places,
+                method,
             },
-        ) => perform_task(alloc, file, Task::Explain(pivots), places, shelf),
+        ) => perform_task(alloc, file, Task::Explain { pivots, method }, places, shelf),
+        Ok(
+            Command::Curve {
+                file,
+                region,
+                emission,
+                limits,
+                gap,
+                pivots,
+                places,
+                method,
+            },
+        ) => {
+            let task = Task::Curve(CurveAsked {
+                region,
+                emission,
+                limits: &limits,
+                gap,
+                pivots,
+                method,
+            });
+            perform_task(alloc, file, task, places, shelf)
+        }
+        // No word asks for it yet.
+        Ok(Command::Span { .. }) => unreachable!(),
         Ok(Command::Make { size, show }) => perform_make(alloc, size, show),
         Ok(
             Command::Check {

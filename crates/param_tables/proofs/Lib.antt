@@ -1,5 +1,8 @@
 pub mod AscendingLaws
 pub mod BuildLaws
+pub mod ChangeLaws
+mod ChangedExamples
+pub mod CopyLaws
 pub mod DataLaws
 pub mod EntryLaws
 mod Examples

@@ -1,5 +1,7 @@
 pub mod BlockData
 pub mod Built
+pub mod Changed
+pub mod ChangedTables
 pub mod InTurn
 pub mod Places
 pub mod Positions

@@ -20,7 +20,11 @@ use std::alloc::{AllocError, Global};
 use std::collections::BTreeMap;
 
 /// Keeps the value at the place.
-fn keep(values: &mut BTreeMap<u64, i128>, place: u64, value: &i128) -> Result<(), AllocError>
+pub(crate) fn keep(
+    values: &mut BTreeMap<u64, i128>,
+    place: u64,
+    value: &i128,
+) -> Result<(), AllocError>
     ensures { OnOk result ((q : ℕ) → get nat_cmp values.new q ≡ (if nat_eq q place then Some value.now else get nat_cmp values.old q)) }
 {
     values.insert(place, *value)?;

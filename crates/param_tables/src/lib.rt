@@ -3,7 +3,9 @@
 #![tactic(auto)]
 
 mod building;
+mod changed;
 mod checks;
+mod copied_sets;
 mod fault;
 mod first_fault;
 mod given;

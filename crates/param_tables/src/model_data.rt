@@ -6,6 +6,7 @@ ghost use Rattle.exact_num.specs.Value.{value_of};
 ghost use Rattle.model_sets.specs.Data.{IsUsedParam, value_at};
 ghost use Rattle.model_sets.specs.Params.{range_of};
 ghost use Rattle.param_tables.specs.Built.{AreComplete, IsValueIn, amount_at};
+ghost use Rattle.param_tables.specs.Changed.{IsBuiltWith};
 ghost use Rattle.param_tables.specs.Positions.{IsIndexOf, names_at};
 ghost use Rattle.param_tables.specs.Ranges.{billion};
 ghost use Rattle.param_tables.specs.RatioPlaces.{AreKeptWith, IsWithin, ratio_sizes};
@@ -13,6 +14,7 @@ ghost use Rattle.param_tables.specs.Ratios.{AreMembersFor, IsRegion, IsTechnolog
 ghost use Rattle.param_tables.specs.View.{facts_of};
 ghost use Rattle.mathprog_data.specs.WellFormed.{IsWithinLimit};
 
+use crate::changed::{Change, changed_parts};
 use crate::indices::place_of;
 use crate::listed::{listed_indices, listed_modes, listed_technologies};
 use crate::param_table::{ParamTable, is_nonzero};
@@ -103,6 +105,45 @@ impl ModelData {
         ensures given { IsSomeAnd (value_at self.now.facts param (names_at self.now.facts.sets param index.now)) (IsValueIn (range_of param)) }
     {
         amount(self.value(param, index))
+    }
+
+    /// The data with this value of the used parameter at the index, and else as they are: the same sets, the same value of each used
+    /// parameter at each other index, and the same number of rounded numbers. The value is in billionths, lies in the parameter's
+    /// range, and is from -10^24 to 10^24. It may run out of memory. What is kept is copied: time and memory are in proportion to
+    /// the members and the values that are given, a sort of those of the ratios and of the parameter apart.
+    pub fn with_value(
+        &self,
+        alloc: Global,
+        param: u8,
+        index: &[u16],
+        value: i128,
+    ) -> Result<ModelData, AllocError>
+        requires used { IsUsedParam self.now.facts param }
+        requires index { IsIndexOf self.now.facts.sets param index.now }
+        requires value { IsValueIn (range_of param) value }
+        ensures changed { IfOk result (IsBuiltWith param (names_at self.now.facts.sets param index.now) value self.now) }
+        ensures complete { IfOk result (λ model. AreComplete model.facts) }
+    {
+        let place = place_of(&self.sets, subscript_sets(param), index);
+        let change = Change {
+            param,
+            place,
+            value,
+        };
+        let parts = changed_parts(
+            alloc,
+            &self.sets,
+            self.tables.as_slice(),
+            self.second,
+            change,
+        )?;
+        Ok(ModelData::new(
+            parts.sets,
+            parts.tables,
+            self.second,
+            parts.ratios,
+            self.rounded,
+        ))
     }
 
     /// Whether the ratio isn't 0 at the index of the region.

@@ -4,9 +4,11 @@ ghost use Rattle.std.specs.Prelude.{◌≡◌, ℕ, [], None, length, IfOk};
 ghost use Rattle.std.specs.BTreeMap.{get};
 ghost use Rattle.std.specs.List.Sorted.{IsStrictlyIncreasing};
 ghost use Rattle.std.specs.Ordering.{nat_cmp};
+ghost use Rattle.param_tables.specs.ChangedTables.{IsCopyOf, IsTableWith};
 ghost use Rattle.param_tables.specs.RatioPlaces.{is_nonzero_value};
 ghost use Rattle.param_tables.specs.Tables.{entries_of, given_in, table_value, value_else};
 
+use crate::given::keep;
 use model_sets::param_numbers::CAPACITY_OF_ONE_TECHNOLOGY_UNIT;
 use std::alloc::{AllocError, Global};
 use std::collections::BTreeMap;
@@ -70,6 +72,48 @@ impl ParamTable {
             places,
             values,
         })
+    }
+
+    /// The table once more. It may run out of memory.
+    pub(crate) fn copied(&self, alloc: Global) -> Result<ParamTable, AllocError>
+        ensures { IfOk result (IsCopyOf self.now) }
+    {
+        let places = Vec::from_slice(alloc, self.places.as_slice())?;
+        let values = Vec::from_slice(alloc, self.values.as_slice())?;
+        Ok(ParamTable {
+            default: self.default,
+            places,
+            values,
+        })
+    }
+
+    /// The values given, by the places of their indices.
+    fn given(&self, alloc: Global) -> Result<BTreeMap<u64, i128>, AllocError>
+        requires { length self.now.values.items ≡ length self.now.places.items }
+        ensures { IfOk result (λ given. (q : ℕ) → get nat_cmp given q ≡ given_in (entries_of self.now) q) }
+    {
+        let mut given = BTreeMap::new(alloc);
+        let mut i = self.places.len();
+        while i > 0 {
+            i -= 1;
+            keep(&mut given, self.places[i], &self.values[i])?;
+        }
+        Ok(given)
+    }
+
+    /// The table with this value, in billionths, at the place. It may run out of memory.
+    pub(crate) fn with_value(
+        &self,
+        alloc: Global,
+        place: u64,
+        value: i128,
+    ) -> Result<ParamTable, AllocError>
+        requires { length self.now.values.items ≡ length self.now.places.items }
+        ensures { IfOk result (IsTableWith place value self.now) }
+    {
+        let mut given = self.given(alloc)?;
+        keep(&mut given, place, &value)?;
+        ParamTable::new(alloc, self.default, given)
     }
 
     /// The value given at the place.

@@ -4,7 +4,7 @@ mod EnergySums
 mod CostSums
 mod QuantityLaws
 pub mod ModelCost
-mod MovedRows
-mod PriceLaws
+pub mod MovedRows
+pub mod PriceLaws
 mod SumExamples
 mod PriceExamples

@@ -77,18 +77,18 @@ abbrev pub names : List Row → List RowName
 names rows = map (λ row. row.name) rows
 
 -- the first name is none of the later ones
-later : (row other : Row) (rows : List Row) → ascends row_name_cmp (names (row ∷ rows)) ≡ true → Has rows other → is_eq (row_name_cmp row.name other.name) ≡ false
+pub later : (row other : Row) (rows : List Row) → ascends row_name_cmp (names (row ∷ rows)) ≡ true → Has rows other → is_eq (row_name_cmp row.name other.name) ≡ false
 later row other rows up has =
     let found = Contains-from_Has (names rows) other.name (Has-map (λ (r : Row). r.name) rows other has) in
     let before = ascends-first row_name_cmp row_name_cmp_total row.name (names rows) up found.0 other.name found.1 in
     subst (λ n. is_eq (row_name_cmp row.name n) ≡ false) found.2 (ap is_eq before)
 
-is_eq-reversed : (o : Ordering) → is_eq (ordering_reverse o) ≡ is_eq o
+pub is_eq-reversed : (o : Ordering) → is_eq (ordering_reverse o) ≡ is_eq o
 is_eq-reversed Less = refl
 is_eq-reversed Alike = refl
 is_eq-reversed Greater = refl
 
-weighted-none : (y : RowName → ℤ) (f : Row → ℤ) (name : RowName) (rows : List Row) → ((row : Row) → Has rows row → is_eq (row_name_cmp row.name name) ≡ false) → weighted y (at_name name f) rows ≡ pos 0
+pub weighted-none : (y : RowName → ℤ) (f : Row → ℤ) (name : RowName) (rows : List Row) → ((row : Row) → Has rows row → is_eq (row_name_cmp row.name name) ≡ false) → weighted y (at_name name f) rows ≡ pos 0
 weighted-none y f name [] none = refl
 weighted-none y f name (row ∷ rows) none =
     ap₂ (λ (b : Bool) z. (y row.name *ℤ (if b then f row else pos 0)) +ℤ z) (none row (inl refl)) (weighted-none y f name rows (λ r has. none r (inr has)))

@@ -55,7 +55,7 @@ use Rattle.row_book.proofs.Within.{names-of_rows}
 -- ---- the balance of the plan with less Production
 
 -- what is more, over b times q: a times q
-abbrev more_of : ℤ → ℕ → ℤ
+abbrev pub more_of : ℤ → ℕ → ℤ
 more_of a q = a *ℤ pos q
 
 less-production : (s b v m : ℤ) → s *ℤ (b *ℤ v +ℤ pos 1 *ℤ m) ≡ b *ℤ (s *ℤ v) +ℤ s *ℤ m
@@ -78,10 +78,10 @@ covered needs made needs' made' more e f h = omega (arith, ints, e, f, h)
 
 module _ (places : ℕ) (d : Data) (a : ℤ) (b q : ℕ) (x : Var → ℤ) (positive : 0 < b) where
   -- the plan over b times q
-  abbrev wider : Var → ℤ
+  abbrev pub wider : Var → ℤ
   wider v = pos b *ℤ x v
 
-  abbrev lessened : Var → Var → ℤ
+  abbrev pub lessened : Var → Var → ℤ
   lessened p = moved (pos b) x p (neg_ℤ (more_of a q))
 
   balance-lessened : (r l f y : ℕ) → Holds (says_more places d (at_rlfy r l f y) a b q x) → Meets places d (b * q) (lessened (production r l f y)) (balance_at (at_rlfy r l f y))
@@ -108,18 +108,18 @@ module _ (places : ℕ) (d : Data) (a : ℤ) (b q : ℕ) (x : Var → ℤ) (posi
   -- ---- rows
 
   -- what the row has at this variable
-  abbrev entry_at : Var → Row → ℤ
+  abbrev pub entry_at : Var → Row → ℤ
   entry_at p row = number_at row.entries.items p
 
   -- a row whose equation the plan meets
-  row-wider : (row : Row) → Holds (record { left = row_sum x row.entries.items; sign = row.sense; right = row.rhs *ℤ pos q }) → Stands row.sense (row_sum wider row.entries.items) (row.rhs *ℤ pos (b * q))
+  pub row-wider : (row : Row) → Holds (record { left = row_sum x row.entries.items; sign = row.sense; right = row.rhs *ℤ pos q }) → Stands row.sense (row_sum wider row.entries.items) (row.rhs *ℤ pos (b * q))
   row-wider row holds = (holds-scaled row.sense row.entries.items row.rhs b q x positive).0 holds
 
   regroup : (n a k : ℤ) → n *ℤ neg_ℤ (a *ℤ k) ≡ neg_ℤ (n *ℤ (a *ℤ k))
   regroup n a k = simp ring
 
   -- a row that the plan with less of a variable meets
-  row-lessened : (row : Row) (p : Var) → Stands row.sense (row_sum (lessened p) row.entries.items) (row.rhs *ℤ pos (b * q))
+  pub row-lessened : (row : Row) (p : Var) → Stands row.sense (row_sum (lessened p) row.entries.items) (row.rhs *ℤ pos (b * q))
       → Stands row.sense (row_sum wider row.entries.items) (row.rhs *ℤ pos (b * q) +ℤ entry_at p row *ℤ more_of a q)
   row-lessened row p stands =
       let es = row.entries.items in
@@ -222,7 +222,7 @@ balance-row places d rows index are instance =
 -- ---- in fractions
 
 -- both sides are divided by s
-fractions : (s b q a c low lb top tb n p : ℤ) → pos 0 <ℤ s → pos 0 <ℤ lb → pos 0 <ℤ tb → n *ℤ lb ≡ low *ℤ s → p *ℤ tb ≡ top *ℤ s
+pub fractions : (s b q a c low lb top tb n p : ℤ) → pos 0 <ℤ s → pos 0 <ℤ lb → pos 0 <ℤ tb → n *ℤ lb ≡ low *ℤ s → p *ℤ tb ≡ top *ℤ s
     → ((n *ℤ b +ℤ p *ℤ a) *ℤ q) ≤ℤ (s *ℤ b *ℤ c) → ((low *ℤ tb *ℤ b +ℤ top *ℤ a *ℤ lb) *ℤ q) ≤ℤ (lb *ℤ tb *ℤ b *ℤ c)
 fractions s b q a c low lb top tb n p s_positive lb_positive tb_positive bound price least =
     let wide : ((lb *ℤ tb) *ℤ ((n *ℤ b +ℤ p *ℤ a) *ℤ q)) ≤ℤ ((lb *ℤ tb) *ℤ (s *ℤ b *ℤ c)) =

@@ -1,2 +1,3 @@
 pub mod Found
 pub mod Attempts
+pub mod Guesses

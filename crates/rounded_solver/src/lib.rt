@@ -7,6 +7,7 @@ mod certifying;
 mod checking;
 mod costless;
 mod found;
+mod guesses;
 mod halts;
 mod plans;
 mod refuting;
@@ -14,4 +15,5 @@ mod solving;
 mod tries;
 
 pub use found::Rounded;
+pub use guesses::{Guess, guess_multipliers, guess_values};
 pub use solving::rounded;

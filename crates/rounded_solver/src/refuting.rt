@@ -25,9 +25,9 @@ const PLACES: i32 = 7;
 
 /// Multipliers, and the pivots that they took.
 #[derive(Drop)]
-struct Guessed {
-    lambda: Vec<Frac>,
-    pivots: u64,
+pub(crate) struct Guessed {
+    pub(crate) lambda: Vec<Frac>,
+    pub(crate) pivots: u64,
 }
 
 /// The first try that the checker accepts.
@@ -75,7 +75,12 @@ fn one_try(
 }
 
 /// The multipliers of a guess. Where a row is false as it stands, nothing has to be guessed.
-fn make_guess(alloc: Global, smaller: &Program, digits: i32, pivots: u64) -> Result<Guessed, Halt> {
+pub(crate) fn make_guess(
+    alloc: Global,
+    smaller: &Program,
+    digits: i32,
+    pivots: u64,
+) -> Result<Guessed, Halt> {
     let margins = margins_of(alloc, smaller, PLACES, digits)?;
     if smaller.is_false() {
         let lambda = multipliers_of(alloc, smaller, &margins, &[])?;

@@ -11,6 +11,7 @@ pub mod EnergyTerms
 pub mod EntryVariables
 mod Examples
 mod InvestmentExamples
+pub mod FeedLaws
 pub mod GatheredLaws
 pub mod GivenValues
 pub mod InstanceRows
@@ -40,6 +41,7 @@ pub mod SignLaws
 pub mod SignShapes
 pub mod StopLaws
 pub mod Subscripts
+pub mod TallyLaws
 pub mod TermVariables
 pub mod Triangles
 pub mod VariablesInOrder

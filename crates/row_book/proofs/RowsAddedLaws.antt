@@ -25,13 +25,13 @@ use Rattle.row_book.proofs.Lists.{flat_map-middle, flat_map-last}
 use Rattle.row_book.proofs.Places.{list-middle, take-past}
 use Rattle.row_book.proofs.Ranges.{range-last, range-middle}
 
-both_lists : (places : ℕ) (d : Data) (ns ms : List RowName) (rs ss : List Row) → AreRowsOf places d ns rs → AreRowsOf places d ms ss → AreRowsOf places d (ns ++ ms) (rs ++ ss)
+pub both_lists : (places : ℕ) (d : Data) (ns ms : List RowName) (rs ss : List Row) → AreRowsOf places d ns rs → AreRowsOf places d ms ss → AreRowsOf places d (ns ++ ms) (rs ++ ss)
 both_lists places d [] ms [] ss a b = b
 both_lists places d [] ms (r ∷ rs) ss a b = absurd a
 both_lists places d (n ∷ ns) ms [] ss a b = absurd a
 both_lists places d (n ∷ ns) ms (r ∷ rs) ss a b = (a.0, both_lists places d ns ms rs ss a.1 b)
 
-both_fit : (places : ℕ) (d : Data) (ns ms : List RowName) → list_all (row_fits places d) ns ≡ true → list_all (row_fits places d) ms ≡ true → list_all (row_fits places d) (ns ++ ms) ≡ true
+pub both_fit : (places : ℕ) (d : Data) (ns ms : List RowName) → list_all (row_fits places d) ns ≡ true → list_all (row_fits places d) ms ≡ true → list_all (row_fits places d) (ns ++ ms) ≡ true
 both_fit places d ns ms a b = list_all-append (row_fits places d) ns ms ∙ both_true a b
 
 -- ---- one list after another

@@ -15,6 +15,7 @@ use Rattle.row_core.specs.Numbers.{ascends, before_first}
 use Rattle.row_core.specs.Order.{var_cmp}
 use Rattle.row_core.proofs.Orders.{var_cmp_exact, var_cmp_total}
 use Rattle.row_book.specs.Books.{AreVariablesOf, entry_variables}
+use Rattle.row_book.specs.Tallies.{AreSameVariables, AreSortedVariables}
 
 first_passes : (v : Var) (vs : List Var) → AllByRecursion (λ w. var_cmp v w ≡ Less) vs → before_first var_cmp v vs ≡ true
 first_passes v [] first = refl
@@ -41,17 +42,26 @@ alike Less h = absurd (cc h)
 alike Equal h = refl
 alike Greater h = absurd (cc h)
 
-pub variables-are : (same : Var → Var → Bool) → ((v w : Var) → same v w ≡ eq_by_cmp var_cmp v w) → (rows : List Row) (all sorted vars : List Var) → all ≡ entry_variables rows
-    → IsPermutation all sorted → IsSorted var_cmp sorted → vars ≡ dedup same sorted → AreVariablesOf rows vars
-variables-are same ties rows all sorted vars of_rows permutation in_order distinct = record {
+-- sorted and without those that repeat, they are the same
+pub variables-sorted : (same : Var → Var → Bool) → ((v w : Var) → same v w ≡ eq_by_cmp var_cmp v w) → (all sorted vars : List Var)
+    → IsPermutation all sorted → IsSorted var_cmp sorted → vars ≡ dedup same sorted → AreSortedVariables all vars
+variables-sorted same ties all sorted vars permutation in_order distinct = record {
   ascending = ap (ascends var_cmp) distinct ∙ ascends-from_sorted (dedup same sorted) (IsStrictlySortedBy-dedup var_cmp_total ties sorted in_order);
-  each = λ v. (
-    λ h.
-        subst (λ vs. Contains vs v) of_rows
-        (Contains-permutation sorted all v (IsPermutation-sym all sorted permutation) (Contains-from_dedup same sorted v (subst (λ vs. Contains vs v) distinct h))),
+  same = λ v. (
+    λ h. Contains-permutation sorted all v (IsPermutation-sym all sorted permutation) (Contains-from_dedup same sorted v (subst (λ vs. Contains vs v) distinct h)),
     λ h.
         subst (λ vs. Contains vs v) (sym distinct)
         (Contains-dedup (same-equivalence same ties) (λ x y e. var_cmp_exact x y (alike (var_cmp x y) (sym (ties x y) ∙ e))) sorted v
-        (Contains-permutation all sorted v permutation (subst (λ vs. Contains vs v) (sym of_rows) h))),
+        (Contains-permutation all sorted v permutation h)),
   );
 }
+
+-- those of rows
+pub variables-are : (rows : List Row) (all vars : List Var) → AreSameVariables all (entry_variables rows) → AreSortedVariables all vars → AreVariablesOf rows vars
+variables-are rows all vars of_rows sorted = record {
+  ascending = sorted.ascending;
+  each = λ v. (λ h. (of_rows v).0 ((sorted.same v).0 h), λ h. (sorted.same v).1 ((of_rows v).1 h));
+}
+
+pub variables-listed : (rows : List Row) (all vars : List Var) → all ≡ entry_variables rows → AreSortedVariables all vars → AreVariablesOf rows vars
+variables-listed rows all vars is sorted = variables-are rows all vars (subst (AreSameVariables all) is (λ v. (λ has. has, λ has. has))) sorted

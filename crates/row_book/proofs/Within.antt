@@ -74,7 +74,7 @@ all_within d s i are (p ∷ ps) passes =
 equation-places : list_all (λ n. list_all (is_place (subscripts_of n)) (subscripts_of n)) equation_numbers ≡ true
 equation-places = refl
 
-name-within : (d : Data) (name : RowName) → IsInstance d name → IsEquation name.eq × RowNameIsWithin d.sets name
+pub name-within : (d : Data) (name : RowName) → IsInstance d name → IsEquation name.eq × RowNameIsWithin d.sets name
 name-within d name instance = (
   instance.equation,
   all_within d (subscripts_of name.eq) name.index (values-from_index d (subscripts_of name.eq) name.index instance.within) (subscripts_of name.eq)

@@ -1,9 +1,12 @@
 pub mod Books
 pub mod Definitions
 pub mod EquationRows
+pub mod FeedStates
+pub mod Feeds
 pub mod Kept
 pub mod Kinds
 pub mod Ratios
 pub mod RowsAdded
 pub mod Signs
+pub mod Tallies
 pub mod Walks

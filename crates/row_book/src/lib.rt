@@ -8,14 +8,18 @@ mod cells;
 mod defined;
 mod factors;
 mod fail;
+mod feed;
 mod instance_row;
 mod laws;
 mod made_rows;
 mod ratios;
 mod rows;
+mod tally;
+mod tallying;
 mod variables;
 mod walk;
 
 pub use book::RowBook;
 pub use fail::BookFail;
+pub use feed::RowFeed;
 pub use laws::{same_data_laws, stop_laws};

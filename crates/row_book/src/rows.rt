@@ -116,7 +116,7 @@ impl MadeRows {
     }
 
     /// Adds the rows of an equation.
-    fn add_equation(
+    pub(crate) fn add_equation(
         &mut self,
         model: &ModelData,
         factors: &[Factors],

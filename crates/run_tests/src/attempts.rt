@@ -123,3 +123,43 @@ fn the_rounded_method_comes_to_an_end_of_its_own(rt: HostRuntime) -> Result<(), 
     }
     Ok(())
 }
+
+/// Statements beside those of the base example, and the exit status and lines of what `explain` says by the rounded method.
+static GUESSED: [(&str, u8, &[&str]); 3] = [
+    ("", 0, &["status feasible\nend\n"]),
+    (
+        "param OutputActivityRatio default 0 := ;",
+        1,
+        &[
+            "status infeasible\nconflict 1\nequation EBa11[R,D,F,2020] ",
+            "\nwithout EBa11[R,D,F,2020]\nend\n",
+        ],
+    ),
+    (
+        "param TotalAnnualMaxCapacity default 9 := ;",
+        1,
+        &[
+            "status infeasible\nconflict 3\nequation CAa4[R,D,T,2020] -",
+            "\nequation EBa11[R,D,F,2020] ",
+            "\nequation TCC1[R,T,2020] -",
+            "\nwithout CAa4[R,D,T,2020]\nRateOfActivity,R,D,T,1,2020,1",
+            "\nwithout EBa11[R,D,F,2020]\n",
+            "\nwithout TCC1[R,T,2020]\nRateOfActivity,R,D,T,1,2020,1",
+        ],
+    ),
+];
+
+#[test]
+fn conflicts_are_told_by_the_rounded_method_too(rt: HostRuntime) -> Result<(), Fail> {
+    let words: &[&str] = &["explain", "model.dat", "--method", "rounded"];
+    for (statements, code, lines) in &GUESSED {
+        let file = section(rt.alloc(), SETS, statements)?;
+        let (status, out) = call(rt.alloc(), words, file.as_bytes())?;
+        let written = std::str::from_utf8(out.bytes()).unwrap_or("");
+        assert_eq!(rt; status.code(), *code, "{statements}");
+        for line in *lines {
+            assert!(rt; written.contains(*line), "{written}");
+        }
+    }
+    Ok(())
+}

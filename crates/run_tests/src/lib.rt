@@ -12,6 +12,8 @@ mod calls;
 #[cfg(test)]
 mod check_files;
 #[cfg(test)]
+mod curves;
+#[cfg(test)]
 mod faults;
 #[cfg(test)]
 mod made;

@@ -4,3 +4,10 @@ pub mod ValueLaws
 pub mod OutcomeLaws
 pub mod QuotientLaws
 pub mod EnteringExamples
+pub mod KeptChoiceLaws
+pub mod KeptSizeLaws
+pub mod KeptSwapLaws
+pub mod KeptRoundLaws
+pub mod KeptWayLaws
+pub mod KeptStartLaws
+pub mod KeptReachedLaws

@@ -14,7 +14,7 @@ use int_tableau::{Tableau, is_narrow};
 use std::cmp::Ordering;
 
 /// How many degenerate pivots may follow one another before the first column that can enter is taken.
-const PATIENCE: u64 = 50;
+pub(crate) const PATIENCE: u64 = 50;
 
 /// The column with the greatest positive entry in a row, the first of those.
 fn greatest(tableau: &Tableau, row: usize) -> Option<usize>
@@ -98,7 +98,7 @@ fn is_before(a: Candidate, b: Candidate) -> bool
 }
 
 /// The better of the row that was chosen so far and one more.
-fn better_of(chosen: Option<Candidate>, a: Candidate) -> Candidate
+pub(crate) fn better_of(chosen: Option<Candidate>, a: Candidate) -> Candidate
     ensures { candidate_seen result ≡ better (chosen_seen chosen) (candidate_seen a) }
 {
     match chosen {
@@ -108,7 +108,7 @@ fn better_of(chosen: Option<Candidate>, a: Candidate) -> Candidate
 }
 
 /// A row's place at a tie: x0, whose column is the last, leaves first, then the row with the least basic column.
-fn rank(x0: Option<usize>, basic: usize) -> usize
+pub(crate) fn rank(x0: Option<usize>, basic: usize) -> usize
     requires { IfSome x0 (λ last. basic ≤ last) }
     ensures { result ≡ rank_of x0 basic }
 {

@@ -5,9 +5,12 @@ ghost use Rattle.written_method.specs.FirstTableau.{first_state};
 ghost use Rattle.written_method.specs.Programs.{program_of};
 ghost use Rattle.written_method.specs.Ready.{IsReady};
 ghost use Rattle.written_method.specs.Runs.{Ended, answer, no_column};
+ghost use Rattle.row_core.specs.declared.place.Stopped.TheVariants.{Memory};
+ghost use Rattle.simplex_core.specs.Begun.{IsBegun};
 ghost use Rattle.simplex_core.specs.Runs.{IsRanOut};
 ghost use Rattle.simplex_core.specs.Views.{ending_seen, phase_seen, state_seen};
 
+use crate::kept_rounds::{KeptEnd, kept_phase};
 use crate::pivoting::after;
 use crate::progress::{Due, Phase, Progress};
 use crate::rounds::due;
@@ -46,14 +49,46 @@ fn no_column(phase: Phase) -> Finish
     }
 }
 
+/// How the rounds begin.
+#[derive(Drop)]
+enum Begun {
+    /// The method ends in phase 1.
+    Over(Finished),
+    /// The rounds begin with this state.
+    Rounds(Progress),
+}
+
+/// The state from which the plain rounds go on: that in which phase 2 begins where phase 1 is made by the kept rows, and else the first.
+fn begin(alloc: Global, reduced: &Reduced, pivots: u64) -> Result<Begun, Stopped>
+    requires { IsReady reduced.now }
+    ensures begun { IfOk result (IsBegun pivots (first_state (program_of reduced.now))) }
+    ensures memory { IfErr result (λ e. e ≡ Memory) }
+{
+    let first = Progress::begin(alloc, reduced)?;
+    let end = match first.phase {
+        Phase::Start => kept_phase(alloc, reduced, first, pivots),
+        _ => return Ok(Begun::Rounds(first)),
+    };
+    match end {
+        KeptEnd::Over(finished) => Ok(Begun::Over(finished)),
+        KeptEnd::Second(progress) => Ok(Begun::Rounds(progress)),
+        KeptEnd::Unsure => Ok(Begun::Rounds(Progress::begin(alloc, reduced)?)),
+        KeptEnd::Memory => Err(Stopped::Memory),
+    }
+}
+
 /// The rounds of a linear program, with so many pivots at most.
 pub(crate) fn run(alloc: Global, reduced: &Reduced, pivots: u64) -> Result<Finished, Stopped>
     requires { IsReady reduced.now }
     ensures answered { IfOk result (λ f. answer pivots (first_state (program_of reduced.now)) ≡ Ended (ending_seen f.finish) (state_seen f.last)) }
     ensures stopped { IfErr result (IsRanOut (answer pivots (first_state (program_of reduced.now)))) }
 {
-    let mut last = Progress::begin(alloc, reduced)?;
-    let mut made = 0;
+    let begun = begin(alloc, reduced, pivots)?;
+    let mut last = match begun {
+        Begun::Over(finished) => return Ok(finished),
+        Begun::Rounds(progress) => progress,
+    };
+    let mut made = last.tableau.pivots();
     'rounds: loop {
         match due(&last) {
             Due::NoColumn => {

@@ -7,7 +7,7 @@ use exact_solver::{Solution, eliminate_book, size_of, solve_book};
 use mathprog_data::read_blocks;
 use param_tables::{build, sets_of};
 use row_book::RowBook;
-use simplex_core::End;
+use simplex_core::{End, kept_pivots};
 use std::alloc::Global;
 use std::process::Abort;
 use std::test::Fail;
@@ -46,6 +46,17 @@ fn seven_years_cost_what_another_solver_says(rt: HostRuntime) -> Result<(), Fail
     };
     assert_eq!(rt; bound.num, 431_377_048_525_887);
     assert_eq!(rt; bound.den, 125_000_000_000);
+    Ok(())
+}
+
+#[test]
+fn seven_years_do_not_begin_anew(rt: HostRuntime) -> Result<(), Fail> {
+    let book = book_of(&rt, rt.alloc(), SEVEN_YEARS)?;
+    let Ok(program) = eliminate_book(rt.alloc(), &book) else {
+        return Err(Fail::from("stopped"));
+    };
+    // Another program of the same method leaves phase 1 after x0's first pivot and 137 more.
+    assert_eq!(rt; kept_pivots(rt.alloc(), &program.reduced, 1000), Some(138));
     Ok(())
 }
 

@@ -12,6 +12,8 @@ mod answers;
 mod data_files;
 #[cfg(test)]
 mod ends;
+#[cfg(test)]
+mod kept_rows;
 mod programs;
 #[cfg(test)]
 mod seven_years;

@@ -1,5 +1,6 @@
-use Rattle.std.proofs.Common.{◌∙◌, ◌++◌, List, ℕ, ap}
+use Rattle.std.proofs.Common.{◌∙◌, ◌++◌, List, ℕ, ap, map}
 use Rattle.std.specs.List.{flat_map}
+use Rattle.row_source.specs.Contents.{contents_of}
 use Rattle.mps_writer.specs.Entries.{column_text}
 use Rattle.mps_writer.specs.MpsText.{numbered}
 use Rattle.mps_writer.specs.declared.entries.Entry.{Entry}
@@ -12,4 +13,4 @@ returns c =
     let columns = numbered c.args.vars.now in
     c.in_ok-push_columns.ensures
     ∙ ap (λ (es : List Entry). c.args.out.now.items ++ flat_map (column_text sets es) columns) c.deref.ensures.value
-    ∙ ap (λ (text : List ℕ). c.args.out.now.items ++ text) (columns-section sets c.args.rows.now c.in_ok-entries.entries.items columns c.in_ok-entries.ensures)
+    ∙ ap (λ (text : List ℕ). c.args.out.now.items ++ text) (columns-section sets (map contents_of c.args.rows.now) c.in_ok-entries.entries.items columns c.in_ok-entries.ensures)

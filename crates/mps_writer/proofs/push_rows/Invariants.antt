@@ -1,9 +1,10 @@
-use Rattle.std.proofs.Common.{◌≡◌, ◌+◌, ◌++◌, drop}
+use Rattle.std.proofs.Common.{◌≡◌, ◌+◌, ◌++◌, drop, map}
 use Rattle.std.specs.List.{flat_map, enumerate_from}
+use Rattle.row_source.specs.Contents.{contents_of}
 use Rattle.mps_writer.specs.MpsText.{row_lines, numbered}
 use Rattle.mps_writer.proofs.push_rows.Given as goal
 
 -- with the lines of the rows that are left, the lines so far are those of all rows
 abbrev pub invariant-loop-place : goal.invariant-loop-place
 invariant-loop-place l =
-    l.out.items ++ flat_map (row_lines l.sets) (enumerate_from (l.place + 1) (drop l.place l.rows)) ≡ l.fn.out.items ++ flat_map (row_lines l.sets) (numbered l.rows)
+    l.out.items ++ flat_map (row_lines l.sets) (enumerate_from (l.place + 1) (map contents_of (drop l.place l.rows))) ≡ l.fn.out.items ++ flat_map (row_lines l.sets) (numbered (map contents_of l.rows))

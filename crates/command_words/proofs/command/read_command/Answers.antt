@@ -1,4 +1,5 @@
 use Rattle.std.proofs.Common.{◌≡◌, ◌∙◌, Some, ap, sym, map, option_map}
+use Rattle.std.proofs.lemmas.Result.{IfOk-weaker}
 use Rattle.std.specs.String.{string_bytes}
 use Rattle.command_words.specs.Words.{command_after, command_named, asked}
 use Rattle.command_words.specs.Commands.{name_of}
@@ -15,4 +16,4 @@ returns-in_ok-given-in-Some-command_named c =
     let named : Some name ≡ command_named first = ap (option_map name_of) (sym c.in-Some-command_named.is) ∙ c.command_named.ensures ∙ ap command_named c.as_str.ensures.value in
     let given = ap (command_by name) c.in_ok-given-in-Some-command_named.ensures in
     let words : command_after (command_named first) others ≡ asked (map string_bytes c.args.words.now) = sym (ap (λ words. asked (map string_bytes words)) c.in-Some.ensures.cases.0) in
-    c.command_by.ensures ∙ given ∙ given_is name (parts_of others) ∙ ap (λ o. command_after o others) named ∙ words
+    IfOk-weaker c.command_by.result _ _ (λ answer is. is ∙ given ∙ given_is name (parts_of others) ∙ ap (λ o. command_after o others) named ∙ words) c.command_by.ensures

@@ -11,4 +11,5 @@ returns c =
     let pivots = c.in_ok-command-2.ensures ∙ ap (more (codes "pivots")) gap in
     let places = c.in_ok-command-3.ensures ∙ ap (more (codes "places")) pivots in
     let show = c.in_ok-command-4.ensures ∙ ap (more (codes "show")) places in
-    IfOk-weaker c.with_option-5.result _ _ (λ command added. added ∙ ap (more (codes "method")) show) c.with_option-5.ensures
+    let method = c.in_ok-command-5.ensures ∙ ap (more (codes "method")) show in
+    IfOk-weaker c.with_option-6.result _ _ (λ command added. added ∙ ap (more (codes "slack")) method) c.with_option-6.ensures

@@ -1,8 +1,7 @@
 -- Row by row.
-use Rattle.std.proofs.Common.{◌≡◌, ◌<◌, List, length, get_or, map, sym, ap, subst, arith}
+use Rattle.std.proofs.Common.{◌<◌, length, map, sym, subst}
 use Rattle.std.proofs.lemmas.List.{length-map}
-use Rattle.row_core.specs.declared.Row.{Row}
-use Rattle.variable_elimination.specs.ReducedRows.{Shape, shape_of}
+use Rattle.variable_elimination.specs.ReducedRows.{shape_of}
 use Rattle.conflict_sets.specs.Pieces.{listed_by}
 use Rattle.conflict_sets.proofs.LoopLaws.{chosen-all, chosen-next, shape-at}
 use Rattle.conflict_sets.proofs.copying.tried_rows.Goals as goal

@@ -1,24 +1,15 @@
 -- The first trial, and the trials after it.
-use Rattle.std.proofs.Common.{◌≡◌, true, false, Bool, not, ◌||◌, List, [], refl, ap, ap₂, sym, ◌∙◌, subst}
+use Rattle.std.proofs.Common.{◌≡◌, List, [], ap, ap₂, sym, ◌∙◌, subst}
 use Rattle.std.proofs.lemmas.Result.{err_from_is_err_and}
-use Rattle.row_core.specs.declared.Row.{Row}
 use Rattle.row_core.specs.declared.RowName.{RowName}
-use Rattle.exact_solver.specs.Sizes.{is_unequal}
-use Rattle.conflict_sets.specs.Pieces.{IsFinding, end_found, is_taken}
-use Rattle.conflict_sets.specs.Searches.{IsSearched, paired, walk_from}
+use Rattle.conflict_sets.specs.Pieces.{IsFinding, end_found}
+use Rattle.conflict_sets.specs.Searches.{IsSearched, paired}
 use Rattle.conflict_sets.specs.Trials.{HasNone, HasPlan, trial_end}
 use Rattle.conflict_sets.specs.Walks.{Needed, Stops, every, explained, listed_names, walk}
-use Rattle.conflict_sets.proofs.PartLaws.{all-met}
+use Rattle.conflict_sets.proofs.PartLaws.{all-met, every-taken}
 use Rattle.conflict_sets.proofs.SearchLaws.{search-starts}
 use Rattle.conflict_sets.proofs.WalkLaws.{explained-feasible, explained-stops, explained-walk}
 use Rattle.conflict_sets.proofs.explaining.explain.Goals as goal
-
-every-taken : (row : Row) → is_taken every row ≡ true
-every-taken row = cases (is_unequal row.sense)
-  where
-    cases : (b : Bool) → (not b || true) ≡ true
-    cases true = refl
-    cases false = refl
 
 pub returns-in-Ok-Plan-clause-end : goal.returns-in-Ok-Plan-clause-end
 returns-in-Ok-Plan-clause-end c =

@@ -2,7 +2,6 @@
 use Rattle.std.proofs.Common.{◌≡◌, ◌+◌, List, [], drop, map, ap, ap₂, sym, ◌∙◌, subst}
 use Rattle.std.proofs.lemmas.List.{drop_all, drop_more}
 use Rattle.std.proofs.lemmas.Result.{err_from_is_err_and}
-use Rattle.exact_num.specs.Rational.{Rational}
 use Rattle.row_core.specs.declared.RowName.{RowName}
 use Rattle.row_core.specs.Plans.{valued}
 use Rattle.conflict_sets.specs.Searches.{IsSearched, all_needed, walk_from}

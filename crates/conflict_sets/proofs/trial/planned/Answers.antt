@@ -1,16 +1,13 @@
 -- The plan meets the rows of the trial, so that the checker says yes to it.
-use Rattle.std.proofs.Common.{◌≡◌, ℕ, ℤ, true, List, map, refl, sym, ap, ◌∙◌, subst}
-use Rattle.std.specs.Prelude.{pos, None}
+use Rattle.std.proofs.Common.{◌≡◌, true, List, map, refl, sym, ap, ◌∙◌, subst}
+use Rattle.std.specs.Prelude.{pos}
 use Rattle.std.proofs.lemmas.Result.{err_from_is_err_and}
 use Rattle.exact_num.specs.Rational.{Rational}
 use Rattle.exact_num.specs.Steps.{first_wide}
-use Rattle.exact_num.specs.Value.{value_of}
-use Rattle.row_core.specs.declared.Row.{Row}
 use Rattle.row_core.specs.declared.Var.{Var}
 use Rattle.row_core.specs.Numbers.{ascends, keys_of}
 use Rattle.row_core.specs.Order.{var_cmp}
 use Rattle.row_core.specs.Values.{IsOver}
-use Rattle.written_method.specs.Eliminated.{is_column}
 use Rattle.variable_elimination.specs.ReducedRows.{shape_of}
 use Rattle.certificate_checker.specs.Conditions.{AllPass, steps}
 use Rattle.certificate_checker.specs.Costs.{cost_of, model_cost}
@@ -21,7 +18,7 @@ use Rattle.exact_solver.specs.Programs.{carried_plan}
 use Rattle.exact_solver.proofs.BookVariables.{columns-are}
 use Rattle.exact_solver.proofs.CompletePlans.{plan-complete}
 use Rattle.conflict_sets.specs.Pieces.{listed_by}
-use Rattle.conflict_sets.specs.Trials.{IsWide, planned_end, rows_with}
+use Rattle.conflict_sets.specs.Trials.{rows_with}
 use Rattle.conflict_sets.proofs.FoundTrials.{checked-conditions, checked-meets, copies-meet, trial-plan}
 use Rattle.conflict_sets.proofs.TrialEnds.{planned-ends, planned-stops, planned-wide}
 use Rattle.conflict_sets.proofs.trial.planned.Goals as goal

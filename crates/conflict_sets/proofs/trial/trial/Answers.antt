@@ -10,7 +10,7 @@ use Rattle.exact_solver.proofs.SolvedLaws.{infeasible-counted, optimal-sized, un
 use Rattle.conflict_sets.specs.Pieces.{end_found, listed_by}
 use Rattle.conflict_sets.specs.Trials.{StopsTrial, trial_program}
 use Rattle.conflict_sets.proofs.TrialEnds.{trial-ends, trial-halts}
-use Rattle.conflict_sets.proofs.TriedLaws.{as-many, posed-tried, program-tried, ready-tried, whole-many}
+use Rattle.conflict_sets.proofs.TriedLaws.{posed-tried, program-tried, ready-tried, whole-many}
 use Rattle.conflict_sets.proofs.trial.trial.Goals as goal
 
 pub trial_program-requires : goal.trial_program-requires

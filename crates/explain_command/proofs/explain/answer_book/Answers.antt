@@ -40,6 +40,6 @@ returns c = λ places d same book.
     let size = c.size_of-size.ensures in
     let limits : IsWithinLimits rows vars = within-limits c.size_of-size.result.rows c.size_of-size.result.columns (inequality_count rows) (column_count vars) size.rows size.columns
     c.if-size-gt-MOST_ROWS.false c.if-size-gt-MOST_COLUMNS.false in
-    IfOk-weaker c.answer_trials.result _ _
+    IfOk-weaker c.answer_method.result _ _
     (λ answer due. inr (subst (IsWithinLimits rows) (vars-are places d rows vars book) limits, due))
-    (c.answer_trials.ensures places d same book)
+    (c.answer_method.ensures places d same book)

@@ -11,5 +11,5 @@ returns c =
     IfOk-weaker c.answer_model.result _ _
     (λ answer due d same.
     let rows : SameLaws places model d = record { rows = laws.rows places model d same; made = laws.made places model d same; wide = laws.wide places model d same; many = laws.many places model d same } in
-    explain-carries places model d same rows c.args.pivots answer.status answer.text.items due)
+    explain-carries places model d same rows c.args.pivots c.args.method answer.status answer.text.items due)
     c.answer_model.ensures

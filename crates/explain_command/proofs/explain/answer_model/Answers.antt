@@ -24,7 +24,7 @@ returns-in-Ok c =
       made = made.made;
       rows = rows;
       are_rows = made.rows;
-      due = subst (λ most. DueForRows places d rows most answer.status answer.text.items) c.from.ensures due;
+      due = subst (λ most. DueForRows places d rows most c.args.method answer.status answer.text.items) c.from.ensures due;
     }))
     (c.answer_book.ensures places d c.sets.ensures.sets book)
 

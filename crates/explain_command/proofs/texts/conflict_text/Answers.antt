@@ -1,5 +1,5 @@
 -- The members of a conflict are rows of the sets, and its plans have the book's variables.
-use Rattle.std.proofs.Common.{◌≡◌, List, length, sym, ap, ◌∙◌, subst}
+use Rattle.std.proofs.Common.{length, sym, ap, ◌∙◌, subst}
 use Rattle.std.specs.List.{AllByRecursion}
 use Rattle.exact_num.specs.Rational.{Rational}
 use Rattle.exact_num.specs.declared.fraction.Frac.{Frac}

@@ -1,24 +1,21 @@
 -- The divisor of the entries and of the divisor of right side and own entry is that of all columns.
 use Rattle.std.proofs.Common.{◌≡◌, ◌<◌, ◌^◌, ℕ, ℤ, pos, List, ◌∷◌, sym, ap, ap₂, ◌∙◌, subst, to_z, of_z}
 use Rattle.std.specs.Int.{w64, w128}
-use Rattle.std.specs.Prelude.{unsigned_abs, int_div, ◌==◌, if◌then◌else◌}
+use Rattle.std.specs.Prelude.{unsigned_abs, int_div}
 use Rattle.exact_num.specs.Formed.{common}
 use Rattle.exact_num.proofs.RangeLaws.{back_in_range}
 use Rattle.row_core.specs.Numbers.{numbers_of}
-use Rattle.row_core.specs.Written.{common_divisor, entries_divided, row_divisor}
-use Rattle.row_core.proofs.WritingSteps.{gcd_of_assoc}
+use Rattle.row_core.specs.Written.{entries_divided, row_divisor}
 use Rattle.row_core.proofs.WrittenLaws.{row_divisor-is}
 use Rattle.written_method.specs.Lines.{Line, line_over}
 use Rattle.int_tableau.specs.Entries.{IsSparse}
 use Rattle.int_tableau.specs.LineView.{line_seen}
 use Rattle.int_tableau.specs.Narrow.{AreNarrow}
+use Rattle.int_tableau.proofs.SizeLaws.{divisor-joined}
 use Rattle.int_tableau.proofs.DivisionLaws.{IsSparse-over}
 use Rattle.int_tableau.proofs.LineLaws.{line_over-seen, row_divisor-seen}
 use Rattle.int_tableau.proofs.NarrowLaws.{back_narrow, back_narrowed, back_widened, AreNarrow-divided}
 use Rattle.int_tableau.proofs.narrow_division.divide.Goals as goal
-
-divisor-joined : (r o : ℤ) (zs : List ℤ) → row_divisor (common r o ∷ zs) ≡ row_divisor (r ∷ o ∷ zs)
-divisor-joined r o zs = ap (λ d. if d == 0 then 1 else d) (gcd_of_assoc (unsigned_abs r) (unsigned_abs o) (common_divisor zs))
 
 -- the divisor of right side and own entry
 first_is : (c : goal.After-quotient-2) → to_z w64 (of_z w64 (to_z w128 (of_z w128 c.gcd-first.result))) ≡ common c.args.right c.args.own

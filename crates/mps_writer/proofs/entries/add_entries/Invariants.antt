@@ -1,8 +1,9 @@
 use Rattle.std.proofs.Common.{◌≡◌, ◌++◌, drop, map}
+use Rattle.row_source.specs.Contents.{contents_of}
 use Rattle.mps_writer.specs.Entries.{row_entries, entry_of}
 use Rattle.mps_writer.proofs.entries.add_entries.Given as goal
 
 -- with the entries that are left, the entries so far are those of the row
 abbrev pub invariant-loop-variable : goal.invariant-loop-variable
 invariant-loop-variable l =
-    l.entries.items ++ map (entry_of l.number) (drop l.variable-index l.row.entries.items) ≡ l.fn.entries.items ++ row_entries (l.number, l.row)
+    l.entries.items ++ map (entry_of l.number) (drop l.variable-index l.row.entries.items) ≡ l.fn.entries.items ++ row_entries (l.number, contents_of l.row)

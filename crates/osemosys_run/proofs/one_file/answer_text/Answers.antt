@@ -4,7 +4,7 @@ use Rattle.model_sets.specs.Data.{AreSameData, Data}
 use Rattle.osemosys_run.specs.declared.one_file.Task.TheVariants.{Solve, Summarize}
 use Rattle.command_answers.specs.Accepted.{Accepted}
 use Rattle.command_answers.specs.DueForText.{DueForText}
-use Rattle.osemosys_run.specs.Tasks.{DueForTask}
+use Rattle.osemosys_run.specs.Tasks.{DueForTask, HasLimits}
 use Rattle.osemosys_run.proofs.one_file.answer_text.Goals as goal
 
 pub returns-in-Write : goal.returns-in-Write
@@ -29,6 +29,16 @@ returns-in-Explain c =
     MatchResult-at_ok _ _ c.in-Ok.model c.in-Ok.is c.in_ok-model.ensures in
     IfOk-weaker c.answer_explain.result _ _
     (λ answer due. subst (λ task. DueForText (DueForTask task c.args.places) c.args.text.items answer.status answer.text.items) (sym c.in-Explain.is) (inr (found.0, found.1, due found.0 found.2))) c.answer_explain.ensures
+
+pub returns-in-Curve : goal.returns-in-Curve
+returns-in-Curve c =
+    let found : (d : Data) × (accepted : Accepted c.args.text.items d) × AreSameData c.in-Ok.model.facts d × (c.in-Ok.model.rounded ≡ accepted.blocks.rounded) =
+    MatchResult-at_ok _ _ c.in-Ok.model c.in-Ok.is c.in_ok-model.ensures in
+    IfOk-weaker c.answer_asked.result _ _
+    (λ answer due. subst (λ task. DueForText (DueForTask task c.args.places) c.args.text.items answer.status answer.text.items) (sym c.in-Curve.is) (inr (found.0, found.1, due))) (c.answer_asked.ensures found.0 found.2)
+
+pub answer_asked-requires-clause-limits : goal.answer_asked-requires-clause-limits
+answer_asked-requires-clause-limits c = subst HasLimits c.in-Curve.is c.requires.limits
 
 pub returns-in-Ok : goal.returns-in-Ok
 returns-in-Ok c =

@@ -1,4 +1,4 @@
-use Rattle.std.proofs.Common.{◌≡◌, ◌++◌, map, List, ℕ, Some, subst}
+use Rattle.std.proofs.Common.{◌≡◌, ◌++◌, IsSome, map, List, ℕ, Some, refl, subst, sym}
 use Rattle.std.specs.String.{string_bytes}
 use Rattle.io_edges.specs.Told.{WhereTold}
 use Rattle.osemosys_run.specs.Causes.{Caused}
@@ -6,7 +6,7 @@ use Rattle.osemosys_run.specs.Due.{Due}
 use Rattle.osemosys_run.specs.Reading.{Sight}
 use Rattle.osemosys_run.specs.Sending.{HoldsPrefixOf}
 use Rattle.osemosys_run.proofs.Completeness.{Laws}
-use Rattle.osemosys_run.proofs.EndsOfFiles.{read_at_write_fault, read_to_end}
+use Rattle.osemosys_run.proofs.EndsOfFiles.{read_at_write_fault, read_to_end, whole_read}
 use Rattle.osemosys_run.proofs.Outcomes.{due_from_cause, failed_read, is_answer, delivered}
 use Rattle.osemosys_run.proofs.SolveCompleteness.{completes}
 use Rattle.osemosys_run.proofs.run.osemosys.Goals as goal
@@ -140,3 +140,13 @@ returns-in-Ok-send-clause-failed_write g c =
     let before : Sight = record { files = shelf.files old; rest = shelf.rest old; faults = shelf.faults old; begins = shelf.begins old; taken = shelf.taken old } in
     let after : Sight = record { files = shelf.files new; rest = shelf.rest new; faults = shelf.faults new; begins = shelf.begins new; taken = shelf.taken new } in
     λ cut. absurd ((is_answer words before after c.in-Ok.field-0.status c.in-Ok.field-0.text.items c.in-Ok.ensures.caused).0 cut)
+
+pub returns-in-Err-send-clause-read_whole : goal.returns-in-Err-send-clause-read_whole
+returns-in-Err-send-clause-read_whole g c = λ files told calm request asks names there other.
+    let words = map string_bytes c.args.words.now in
+    let shelf = g.S.Shelf in
+    let old = c.args.shelf.now in
+    let new = c.perform.new.shelf in
+    let before : Sight = record { files = shelf.files old; rest = shelf.rest old; faults = shelf.faults old; begins = shelf.begins old; taken = shelf.taken old } in
+    let after : Sight = record { files = shelf.files new; rest = shelf.rest new; faults = shelf.faults new; begins = shelf.begins new; taken = shelf.taken new } in
+    whole_read words before after c.in-Ok.field-0.status c.in-Ok.field-0.text.items files told (g.met.S.Shelf.tells_rest old (subst IsSome (sym told) refl)) calm c.in-Ok.ensures.caused request asks names there

@@ -1,4 +1,7 @@
-use Rattle.std.proofs.Common.{◌∙◌, ap, refl, sym, subst, Result, Ok, map, option_map}
+use Rattle.std.specs.List.{AllByRecursion}
+use Rattle.command_words.specs.LimitLists.{IsLimit}
+use Rattle.curve_command.specs.Curve.{DueForCurve}
+use Rattle.std.proofs.Common.{ℤ, List, ◌∙◌, ap, refl, sym, subst, Result, Ok, map, option_map}
 use Rattle.std.proofs.lemmas.Result.{IfOk-weaker}
 use Rattle.std.specs.String.{string_bytes}
 use Rattle.command_words.specs.declared.fault.WordFault.{WordFault}
@@ -8,23 +11,38 @@ use Rattle.solve_command.specs.Solve.{DueForSolve}
 use Rattle.command_words.specs.Commands.{request_of_result}
 use Rattle.osemosys_run.specs.Reading.{Sight}
 use Rattle.command_words.specs.Words.{Request}
-use Rattle.command_words.proofs.Requests.{asked_places, check_places, explain_places, make_size, solve_places}
+use Rattle.command_words.proofs.Requests.{asked_places, check_places, curve_places, explain_places, make_size, no_span, solve_places}
 use Rattle.osemosys_run.proofs.run.perform.Goals as goal
 
-pub perform_task-requires : goal.perform_task-requires
-perform_task-requires g c =
+pub perform_task-requires-clause-places : goal.perform_task-requires-clause-places
+perform_task-requires-clause-places g c =
     let request = ap request_of_result (sym (c.in-Ok-Mps.is ∙ ap Ok c.in-Ok-Mps.field-0-is)) ∙ c.in_ok-file.ensures in
     asked_places (map string_bytes c.args.words.now) c.in-Ok-Mps.file.now c.in-Ok-Mps.places (sym request)
 
-pub perform_task-requires-in-Ok-Solve : goal.perform_task-requires-in-Ok-Solve
-perform_task-requires-in-Ok-Solve g c =
+pub perform_task-requires-in-Ok-Solve-clause-places : goal.perform_task-requires-in-Ok-Solve-clause-places
+perform_task-requires-in-Ok-Solve-clause-places g c =
     let request = ap request_of_result (sym (c.in-Ok-Solve.is ∙ ap Ok c.in-Ok-Solve.field-0-is)) ∙ c.in_ok-file.ensures in
     solve_places (map string_bytes c.args.words.now) c.in-Ok-Solve.file.now c.in-Ok-Solve.gap c.in-Ok-Solve.pivots c.in-Ok-Solve.places c.in-Ok-Solve.show c.in-Ok-Solve.method (sym request)
 
-pub perform_task-requires-in-Ok-Explain : goal.perform_task-requires-in-Ok-Explain
-perform_task-requires-in-Ok-Explain g c =
+pub perform_task-requires-in-Ok-Explain-clause-places : goal.perform_task-requires-in-Ok-Explain-clause-places
+perform_task-requires-in-Ok-Explain-clause-places g c =
     let request = ap request_of_result (sym (c.in-Ok-Explain.is ∙ ap Ok c.in-Ok-Explain.field-0-is)) ∙ c.in_ok-file.ensures in
-    explain_places (map string_bytes c.args.words.now) c.in-Ok-Explain.file.now c.in-Ok-Explain.pivots c.in-Ok-Explain.places (sym request)
+    explain_places (map string_bytes c.args.words.now) c.in-Ok-Explain.file.now c.in-Ok-Explain.pivots c.in-Ok-Explain.places c.in-Ok-Explain.method (sym request)
+
+pub perform_task-requires-in-Ok-Curve-clause-places : goal.perform_task-requires-in-Ok-Curve-clause-places
+perform_task-requires-in-Ok-Curve-clause-places g c =
+    let request = ap request_of_result (sym (c.in-Ok-Curve.is ∙ ap Ok c.in-Ok-Curve.field-0-is)) ∙ c.in_ok-file.ensures in
+    (curve_places (map string_bytes c.args.words.now) c.in-Ok-Curve.file.now c.in-Ok-Curve.region.now c.in-Ok-Curve.emission.now c.in-Ok-Curve.limits.items c.in-Ok-Curve.gap c.in-Ok-Curve.pivots c.in-Ok-Curve.places c.in-Ok-Curve.method (sym request)).0
+
+pub perform_task-requires-in-Ok-Curve-clause-limits : goal.perform_task-requires-in-Ok-Curve-clause-limits
+perform_task-requires-in-Ok-Curve-clause-limits g c =
+    let request = ap request_of_result (sym (c.in-Ok-Curve.is ∙ ap Ok c.in-Ok-Curve.field-0-is)) ∙ c.in_ok-file.ensures in
+    subst (AllByRecursion IsLimit) (sym c.deref.ensures.value) (curve_places (map string_bytes c.args.words.now) c.in-Ok-Curve.file.now c.in-Ok-Curve.region.now c.in-Ok-Curve.emission.now c.in-Ok-Curve.limits.items c.in-Ok-Curve.gap c.in-Ok-Curve.pivots c.in-Ok-Curve.places c.in-Ok-Curve.method (sym request)).1.within
+
+pub unreachable-requires : goal.unreachable-requires
+unreachable-requires g c =
+    let request = ap request_of_result (sym (c.in-Ok-Span.is ∙ ap Ok c.in-Ok-Span.field-0-is)) ∙ c.in_ok-file.ensures in
+    no_span (map string_bytes c.args.words.now) c.in-Ok-Span.field-0-0.now c.in-Ok-Span.field-0-1.now c.in-Ok-Span.field-0-2.now c.in-Ok-Span.field-0-3.now c.in-Ok-Span.field-0-4 c.in-Ok-Span.field-0-5 c.in-Ok-Span.field-0-6 c.in-Ok-Span.field-0-7 c.in-Ok-Span.field-0-8 (sym request)
 
 pub perform_make-requires-clause-least : goal.perform_make-requires-clause-least
 perform_make-requires-clause-least g c =
@@ -80,6 +98,22 @@ returns-in-Ok-Explain-clause-caused g c =
     IfOk-weaker c.perform_task-in-Ok-Explain.result _ _
     (λ answer caused. subst (λ (r : Result Request WordFault). CausedByRequest r before after answer.status answer.text.items) request caused)
     c.perform_task-in-Ok-Explain.ensures.caused
+
+pub returns-in-Ok-Curve-clause-caused : goal.returns-in-Ok-Curve-clause-caused
+returns-in-Ok-Curve-clause-caused g c =
+    let shelf = g.S.Shelf in
+    let old = c.args.shelf.now in
+    let new = c.perform_task-in-Ok-Curve.new.shelf in
+    let before : Sight = record { files = shelf.files old; rest = shelf.rest old; faults = shelf.faults old; begins = shelf.begins old; taken = shelf.taken old } in
+    let after : Sight = record { files = shelf.files new; rest = shelf.rest new; faults = shelf.faults new; begins = shelf.begins new; taken = shelf.taken new } in
+    let request = ap request_of_result (sym (c.in-Ok-Curve.is ∙ ap Ok c.in-Ok-Curve.field-0-is)) ∙ c.in_ok-file.ensures in
+    let curve = c.in-Ok-Curve in
+    IfOk-weaker c.perform_task-in-Ok-Curve.result _ _
+    (λ answer caused.
+    subst (λ (r : Result Request WordFault). CausedByRequest r before after answer.status answer.text.items) request
+    (subst (λ (limits : List ℤ). CausedByFile (FollowsFromText (λ rounded. DueForCurve curve.places (record { method = curve.method; pivots = curve.pivots; gap = curve.gap }) curve.region.now curve.emission.now limits) after answer.status answer.text.items) 1 curve.file.now before after answer.status answer.text.items)
+    c.deref.ensures.value caused))
+    c.perform_task-in-Ok-Curve.ensures.caused
 
 pub returns-in-Ok-Check-clause-caused : goal.returns-in-Ok-Check-clause-caused
 returns-in-Ok-Check-clause-caused g c =

@@ -1,5 +1,5 @@
 -- Each end is that of what is left.
-use Rattle.std.proofs.Common.{◌≡◌, ◌≢◌, ℕ, suc, ◌+◌, ◌-◌, ◌≤◌, sym, ap, ap₂, ◌∙◌, subst, arith}
+use Rattle.std.proofs.Common.{◌≡◌, ◌≢◌, ℕ, suc, ◌+◌, ◌-◌, ◌≤◌, sym, ap, ◌∙◌, subst, arith}
 use Rattle.std.proofs.lemmas.Result.{err_from_is_err_and}
 use Rattle.exact_num.specs.Range.{all_fit}
 use Rattle.written_method.specs.FirstTableau.{first_state}
@@ -8,21 +8,35 @@ use Rattle.written_method.specs.Rounds.{State, after, step_of}
 use Rattle.written_method.specs.Runs.{Ended, answer}
 use Rattle.written_method.proofs.ReachedLaws.{IsReached, IsReached-after, IsReached-first}
 use Rattle.written_method.proofs.RunLaws.{answer-due, answer-no_column, answer-no_row, answer-pivot, answer-wide}
+use Rattle.simplex_core.specs.Begun.{IsBegun}
+use Rattle.simplex_core.specs.KeptEnds.{IsSecond}
+use Rattle.simplex_core.specs.Runs.{IsRanOut}
 use Rattle.simplex_core.specs.Views.{state_seen}
+use Rattle.simplex_core.proofs.KeptReachedLaws.{advanced-IsReached}
 use Rattle.simplex_core.proofs.StepLaws.{IsRanOut-from, degenerate-bound, reached-IsMove}
 use Rattle.simplex_core.proofs.running.run.Goals as goal
+
+pub returns-in_err-begun-clause-stopped : goal.returns-in_err-begun-clause-stopped
+returns-in_err-begun-clause-stopped c =
+    let q = err_from_is_err_and c.from_residual.result c.from_residual.ensures.1 in
+    rw (q.1, q.2) (subst (IsRanOut (answer c.args.pivots (first_state (program_of c.args.reduced.now)))) (sym c.in_err-begun.ensures.memory) tt)
+
+pub returns-in-Over-clause-answered : goal.returns-in-Over-clause-answered
+returns-in-Over-clause-answered c = subst (IsBegun c.args.pivots (first_state (program_of c.args.reduced.now))) c.in-Over.is c.in_ok-begun.ensures.begun
 
 pub rounds-init : goal.rounds-init
 rounds-init c =
     let p : LinearProgram = program_of c.args.reduced.now in
-    let first : state_seen c.in_ok-last.last ≡ first_state p = c.in_ok-last.ensures in
+    let s : State = state_seen c.in-Rounds.progress in
+    let w : IsSecond c.args.pivots (first_state p) s = subst (IsBegun c.args.pivots (first_state p)) c.in-Rounds.is c.in_ok-begun.ensures.begun in
+    let made : c.pivots-made.result ≡ s.pivots = c.pivots-made.ensures in
     let whole : c.args.pivots ≡ c.args.pivots - 0 = omega arith in
     record {
-      agrees = ap₂ answer whole (sym first);
-      reached = subst (IsReached p) (sym first) (IsReached-first p c.requires.own_positive);
-      counted = ap (λ (s : State). s.pivots) first;
-      degenerate = omega (arith, ap (λ (s : State). s.degenerate) first);
-      within = omega arith;
+      agrees = ap (λ n. answer n (first_state p)) whole ∙ w.agrees ∙ ap (λ n. answer (c.args.pivots - n) s) (sym made);
+      reached = subst (IsReached p) (sym w.reached) (advanced-IsReached p (s.pivots - 0) (first_state p) c.requires.own_positive (IsReached-first p c.requires.own_positive));
+      counted = sym made;
+      degenerate = omega (arith, made, w.few);
+      within = omega (arith, made, w.within);
     }
 
 pub returns-in-NoColumn-clause-answered : goal.returns-in-NoColumn-clause-answered

@@ -1,12 +1,9 @@
 -- A trial of the others, and what it leads to.
-use Rattle.std.proofs.Common.{◌≡◌, ◌+◌, true, false, List, [], ◌∷◌, ◌++◌, ap, ap₂, sym, ◌∙◌, subst}
-use Rattle.exact_num.specs.Rational.{Rational}
-use Rattle.row_core.specs.declared.RowName.{RowName}
-use Rattle.row_core.specs.declared.Var.{Var}
+use Rattle.std.proofs.Common.{◌≡◌, ◌+◌, List, [], ◌∷◌, ◌++◌, ap, ap₂, sym, ◌∙◌, subst}
 use Rattle.conflict_sets.specs.Pieces.{IsFinding, end_found}
 use Rattle.conflict_sets.specs.Searches.{IsSearched, all_needed, paired}
 use Rattle.conflict_sets.specs.Trials.{HasNone, HasPlan, trial_end}
-use Rattle.conflict_sets.specs.Walks.{Needed, Stops, is_listed, is_other, walk}
+use Rattle.conflict_sets.specs.Walks.{Needed, Stops, is_other, walk}
 use Rattle.conflict_sets.proofs.PairLaws.{paired-more}
 use Rattle.conflict_sets.proofs.SearchLaws.{search-drops, search-needs, search-skips}
 use Rattle.conflict_sets.proofs.WalkLaws.{walk-drops, walk-needs, walk-skips, walk-stops}

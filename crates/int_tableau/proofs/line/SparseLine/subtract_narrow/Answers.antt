@@ -6,6 +6,7 @@ use Rattle.exact_num.proofs.RangeLaws.{back_in_range}
 use Rattle.written_method.specs.Lines.{Line, numbers_of, less, less_formed, line_less, all_less_formed, lowest_line}
 use Rattle.int_tableau.specs.Entries.{at, IsSparse}
 use Rattle.int_tableau.specs.LineView.{line_seen}
+use Rattle.int_tableau.proofs.DivisionLaws.{IsSparse-fit}
 use Rattle.int_tableau.proofs.LineLaws.{same_columns, other_seen, spread-fit, line_less-seen, line_fits-all}
 use Rattle.int_tableau.proofs.line.SparseLine.subtract_narrow.Goals as goal
 
@@ -22,6 +23,12 @@ invariant_of-self c = record {
   entries_sparse = c.in_err-replace.ensures.memory c.self.inside.columns c.self.invariant.entries_sparse;
   right_fits = c.self.invariant.right_fits;
   own_fits = c.self.invariant.own_fits;
+  sized = record {
+    entries_within = c.in_err-replace.ensures.within c.self.inside.size c.self.invariant.sized.entries_within;
+    right_within = c.self.invariant.sized.right_within;
+    own_within = c.self.invariant.sized.own_within;
+  };
+  marked = c.in_err-replace.ensures.marked c.self.inside.marks c.self.invariant.marked;
 }
 
 pub invariant_of-self-2 : goal.invariant_of-self-2
@@ -31,7 +38,14 @@ invariant_of-self-2 c =
       entries_sparse = subst (IsSparse 0 n) (sym (c.in_ok-replace.ensures.value ∙ c.deref.ensures.value)) (c.in-Some.ensures.sparse n c.in-Ok.ensures.sparse);
       right_fits = subst InRange (sym (back_in_range c.in-Some.right c.in-Some.ensures.right)) c.in-Some.ensures.right;
       own_fits = subst InRange (sym (back_in_range c.in-Some.own c.in-Some.ensures.own)) c.in-Some.ensures.own;
+      sized = c.size_of_line-self-inside.ensures;
+      marked = c.marks-self-inside.ensures;
     }
+
+pub size_of_line-self-inside-requires-clause-fits : goal.size_of_line-self-inside-requires-clause-fits
+size_of_line-self-inside-requires-clause-fits c =
+    let n = c.self.inside.columns in
+    IsSparse-fit 0 n c.replace.new.self (subst (IsSparse 0 n) (sym (c.in_ok-replace.ensures.value ∙ c.deref.ensures.value)) (c.in-Some.ensures.sparse n c.in-Ok.ensures.sparse))
 
 pub returns-clause-value : goal.returns-clause-value
 returns-clause-value c _ =

@@ -90,6 +90,11 @@ of-requires c =
     let n = c.self.inside.columns in
     IsSparse-fit 0 n c.deref-3.result.now (subst (IsSparse 0 n) (sym c.deref-3.ensures.value) (c.divide-right.ensures.sparse n c.in_ok-combine.ensures.sparse))
 
+pub size_of_line-self-inside-requires-clause-fits : goal.size_of_line-self-inside-requires-clause-fits
+size_of_line-self-inside-requires-clause-fits c =
+    let n = c.self.inside.columns in
+    IsSparse-fit 0 n c.in_ok-self-inside.field-0 (subst (IsSparse 0 n) (sym (c.in_ok-self-inside.ensures ∙ c.deref-3.ensures.value)) (c.divide-right.ensures.sparse n c.in_ok-combine.ensures.sparse))
+
 pub invariant_of-self : goal.invariant_of-self
 invariant_of-self c =
     let n = c.self.inside.columns in
@@ -97,6 +102,8 @@ invariant_of-self c =
       entries_sparse = subst (IsSparse 0 n) (sym (c.in_ok-self-inside.ensures ∙ c.deref-3.ensures.value)) (c.divide-right.ensures.sparse n c.in_ok-combine.ensures.sparse);
       right_fits = subst InRange (sym (back_in_range c.divide-right.result.0 c.divide-right.ensures.right)) c.divide-right.ensures.right;
       own_fits = subst InRange (sym (back_in_range c.divide-right.result.1 c.divide-right.ensures.own)) c.divide-right.ensures.own;
+      sized = c.size_of_line-self-inside.ensures;
+      marked = c.marks-self-inside.ensures;
     }
 
 pub returns-clause-value : goal.returns-clause-value

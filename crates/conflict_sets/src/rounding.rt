@@ -1,0 +1,161 @@
+//! Why no plan meets the rows of a book, by guesses that the checker accepts, and by the exact method where there are none.
+
+ghost use Rattle.std.specs.Prelude.{◌≡◌, ◌∷◌, List, Some, length, IfOk, IfErr, IfSome, IfNone, OnOk};
+ghost use Rattle.row_core.specs.declared.RowName.{RowName};
+ghost use Rattle.exact_solver.specs.BookPrograms.{IsProgramOf};
+ghost use Rattle.exact_solver.specs.Solutions.{IsRefutation};
+ghost use Rattle.conflict_sets.specs.Conflicts.{AdmitsSome, IsConflict};
+ghost use Rattle.conflict_sets.specs.Pieces.{IsFinding, listed_by};
+ghost use Rattle.conflict_sets.specs.RoundedStops.{StopsSome};
+ghost use Rattle.conflict_sets.specs.Searches.{SearchIs};
+ghost use Rattle.conflict_sets.specs.Trials.{StopsTrial, trial_end};
+ghost use Rattle.conflict_sets.specs.Walks.{first_failed, trial_failed};
+
+use crate::conflict::{Conflict, ExplainFail};
+use crate::explaining::first_fail;
+use crate::guessing::guessed;
+use crate::listing::{Listing, is_listed, listed_names};
+use crate::searching::{Search, trial_fail};
+use crate::shrinking::Shrinking;
+use crate::trial::{Finding, trial};
+use exact_solver::{BookProgram, SolveStop};
+use row_book::RowBook;
+use row_core::{Multipliers, RowName};
+use std::alloc::Global;
+
+/// As `explain`, by guesses in numbers of limited accuracy first: a few inequalities of a book that can't be met together, each of them
+/// needed for that, or `None` where some plan meets all rows. Plans and multipliers are checked as those of `explain` are.
+///
+/// Each trial is made by guesses, and by the exact method where the checker accepts none of them; each guess and each exact trial may
+/// make so many pivots. A long list is made shorter first: parts of it, a half and then smaller ones, are left out at once in trials by
+/// guesses alone. Which inequalities are found isn't defined.
+///
+/// `Stopped` comes only where no guess was accepted in a trial and the exact method stops in the same trial, with its stop: `Budget` and
+/// `Width` where that is the first trial, and `Trial` with its number where it is a later one. Trials are counted as they are made,
+/// those of the first step too, the first after the first trial as 1. Any other refusal means that memory ran out.
+pub fn explain_rounded(
+    alloc: Global,
+    book: &RowBook,
+    program: &BookProgram,
+    pivots: u64,
+) -> Result<Option<Conflict>, ExplainFail>
+    requires { IsProgramOf book.now.rows book.now.vars program.now }
+    ensures stopped { IfErr result (StopsSome book.now.rows book.now.vars pivots) }
+    ensures conflict { IfOk result (λ found. IfSome found (IsConflict book.now.rows book.now.vars)) }
+    ensures feasible { IfOk result (λ found. IfNone found (AdmitsSome book.now.rows book.now.vars)) }
+{
+    match rounded_trial(alloc, book, program, &Listing::Every, pivots) {
+        Ok(Finding::Plan(_)) => Ok(None),
+        Ok(Finding::Refutation(multipliers)) => {
+            let conflict = shortened(alloc, book, program, multipliers, pivots)?;
+            Ok(Some(conflict))
+        }
+        Err(stop) => Err(first_fail(stop, pivots)),
+    }
+}
+
+/// Tries the equations of a book and those of its inequalities that are listed: by guesses, and by the exact method where none is
+/// accepted.
+fn rounded_trial(
+    alloc: Global,
+    book: &RowBook,
+    program: &BookProgram,
+    listing: &Listing<'_>,
+    pivots: u64,
+) -> Result<Finding, SolveStop>
+    requires { IsProgramOf book.now.rows book.now.vars program.now }
+    ensures stopped { IfErr result (StopsTrial (trial_end (listed_by listing.now) book.now.rows book.now.vars pivots)) }
+    ensures worth { IfOk result (IsFinding (listed_by listing.now) book.now.rows book.now.vars) }
+{
+    match guessed(alloc, book, program, listing, pivots) {
+        Ok(Some(finding)) => Ok(finding),
+        Ok(None) => trial(alloc, book, program, listing, pivots),
+        Err(_) => Err(SolveStop::Memory),
+    }
+}
+
+/// The conflict that is left of the list of a refutation.
+fn shortened(
+    alloc: Global,
+    book: &RowBook,
+    program: &BookProgram,
+    multipliers: Multipliers,
+    pivots: u64,
+) -> Result<Conflict, ExplainFail>
+    requires program { IsProgramOf book.now.rows book.now.vars program.now }
+    requires refutation { IsRefutation book.now.rows book.now.vars multipliers }
+    ensures stopped { IfErr result (StopsSome book.now.rows book.now.vars pivots) }
+    ensures conflict { IfOk result (IsConflict book.now.rows book.now.vars) }
+{
+    let mut shrinking = Shrinking {
+        multipliers,
+        trials: 0,
+    };
+    shrinking.shrink(alloc, book, program, pivots)?;
+    let names = listed_names(alloc, book.rows(), &shrinking.multipliers)?;
+    let search = Search {
+        multipliers: shrinking.multipliers,
+        names: Vec::new(alloc),
+        plans: Vec::new(alloc),
+        trials: shrinking.trials,
+    };
+    searched(alloc, book, program, search, &names, pivots)
+}
+
+/// What is left of the list when each of these inequalities was tried.
+fn searched(
+    alloc: Global,
+    book: &RowBook,
+    program: &BookProgram,
+    search: Search,
+    names: &[RowName],
+    pivots: u64,
+) -> Result<Conflict, ExplainFail>
+    requires program { IsProgramOf book.now.rows book.now.vars program.now }
+    requires even { length search.names.items ≡ length search.plans.items }
+    requires searched { SearchIs book.now.rows book.now.vars search names.now }
+    ensures stopped { IfErr result (StopsSome book.now.rows book.now.vars pivots) }
+    ensures conflict { IfOk result (IsConflict book.now.rows book.now.vars) }
+{
+    let mut search = search;
+    for name in names {
+        leave_out(alloc, book, program, &mut search, *name, pivots)?;
+    }
+    Ok(search.conflict(alloc)?)
+}
+
+/// Tries the list without this inequality, where it is still on it.
+fn leave_out(
+    alloc: Global,
+    book: &RowBook,
+    program: &BookProgram,
+    search: &mut Search,
+    name: RowName,
+    pivots: u64,
+) -> Result<(), ExplainFail>
+    requires program { IsProgramOf book.now.rows book.now.vars program.now }
+    requires even { length search.old.names.items ≡ length search.old.plans.items }
+    requires refutation { IsRefutation book.now.rows book.now.vars search.old.multipliers }
+    ensures even { OnOk result (length search.new.names.items ≡ length search.new.plans.items) }
+    ensures stopped { IfErr result (StopsSome book.now.rows book.now.vars pivots) }
+    ensures searched { OnOk result ((left : List RowName) → SearchIs book.now.rows book.now.vars search.old (name ∷ left) → SearchIs book.now.rows book.now.vars search.new left) }
+{
+    if !is_listed(&search.multipliers, name) {
+        return Ok(());
+    }
+    // A count of trials that are made one after another never comes near its end.
+    search.trials = search.trials.saturating_add(1);
+    let listing = Listing::Others(&search.multipliers, name);
+    match rounded_trial(alloc, book, program, &listing, pivots) {
+        Ok(Finding::Plan(plan)) => {
+            search.names.push(name)?;
+            search.plans.push(plan)?;
+            Ok(())
+        }
+        Ok(Finding::Refutation(multipliers)) => {
+            search.multipliers = multipliers;
+            Ok(())
+        }
+        Err(stop) => Err(trial_fail(stop, search.trials, pivots)),
+    }
+}

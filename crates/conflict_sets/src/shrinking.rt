@@ -1,0 +1,109 @@
+//! A long list made shorter before its inequalities are tried one by one.
+
+ghost use Rattle.std.specs.Prelude.{IfOk, OnOk};
+ghost use Rattle.exact_solver.specs.BookPrograms.{IsProgramOf};
+ghost use Rattle.exact_solver.specs.Solutions.{IsRefutation};
+
+use crate::guessing::refuted_by_guess;
+use crate::listing::{Listing, listed_names};
+use crate::trial::Finding;
+use exact_solver::BookProgram;
+use row_book::RowBook;
+use row_core::{Multipliers, RowName};
+use std::alloc::{AllocError, Global};
+
+/// How often the parts are halved at most.
+const ROUNDS: usize = 6;
+
+/// The least number of inequalities that are left out at once.
+const LEAST: usize = 4;
+
+/// The list, and how many trials were made.
+#[derive(Debug, Drop)]
+pub(crate) struct Shrinking {
+    /// The multipliers of the last refutation. The list is the inequalities with one other than 0.
+    pub multipliers: Multipliers,
+    /// The number of the last trial.
+    pub trials: u64,
+}
+
+impl Shrinking {
+    /// Leaves out parts of the list, a half first and then smaller ones, where guesses show that the rest has no plan.
+    pub fn shrink(
+        &mut self,
+        alloc: Global,
+        book: &RowBook,
+        program: &BookProgram,
+        pivots: u64,
+    ) -> Result<(), AllocError>
+        requires program { IsProgramOf book.now.rows book.now.vars program.now }
+        requires refutation { IsRefutation book.now.rows book.now.vars self.old.multipliers }
+        ensures refutation { OnOk result (IsRefutation book.now.rows book.now.vars self.new.multipliers) }
+    {
+        let mut size = usize::MAX;
+        for _ in 0..ROUNDS {
+            let names = listed_names(alloc, book.rows(), &self.multipliers)?;
+            size = (size / 2).min(names.len() / 2);
+            if size < LEAST {
+                return Ok(());
+            }
+            self.leave_out_parts(alloc, book, program, &names, size, pivots)?;
+        }
+        Ok(())
+    }
+
+    /// Leaves out so many of these inequalities at once, one part after another, where the rest has no plan.
+    fn leave_out_parts(
+        &mut self,
+        alloc: Global,
+        book: &RowBook,
+        program: &BookProgram,
+        names: &[RowName],
+        size: usize,
+        pivots: u64,
+    ) -> Result<(), AllocError>
+        requires program { IsProgramOf book.now.rows book.now.vars program.now }
+        requires refutation { IsRefutation book.now.rows book.now.vars self.old.multipliers }
+        ensures refutation { OnOk result (IsRefutation book.now.rows book.now.vars self.new.multipliers) }
+    {
+        let mut first: Option<RowName> = None;
+        let mut count: usize = 0;
+        for name in names {
+            let start = first.unwrap_or(*name);
+            count = count.saturating_add(1);
+            if count >= size {
+                self.leave_out_part(alloc, book, program, start, *name, pivots)?;
+                first = None;
+                count = 0;
+            } else {
+                first = Some(start);
+            }
+        }
+        Ok(())
+    }
+
+    /// Leaves out the inequalities from one name to another, where guesses show that the others on the list have no plan.
+    fn leave_out_part(
+        &mut self,
+        alloc: Global,
+        book: &RowBook,
+        program: &BookProgram,
+        first: RowName,
+        last: RowName,
+        pivots: u64,
+    ) -> Result<(), AllocError>
+        requires program { IsProgramOf book.now.rows book.now.vars program.now }
+        requires refutation { IsRefutation book.now.rows book.now.vars self.old.multipliers }
+        ensures refutation { OnOk result (IsRefutation book.now.rows book.now.vars self.new.multipliers) }
+    {
+        // A count of trials that are made one after another never comes near its end.
+        self.trials = self.trials.saturating_add(1);
+        let listing = Listing::Outside(&self.multipliers, first, last);
+        match refuted_by_guess(alloc, book, program, &listing, pivots)? {
+            Some(Finding::Refutation(multipliers)) => self.multipliers = multipliers,
+            Some(Finding::Plan(_plan)) => {}
+            None => {}
+        }
+        Ok(())
+    }
+}

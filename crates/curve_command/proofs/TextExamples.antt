@@ -1,0 +1,57 @@
+-- Lines, texts and statuses, computed.
+use Rattle.std.proofs.Common.{◌≡◌, ◌*◌, ◌^◌, pos, negsuc, [], ◌∷◌, codes, refl}
+use Rattle.exact_num.specs.Gcd.{gcd_of, gcd_within}
+use Rattle.exact_num.specs.Rational.{lowest, whole}
+use Rattle.model_sets.specs.Members.{no_members}
+use Rattle.scaled_decimals.specs.PrintedFraction.{fraction_text}
+use Rattle.scaled_decimals.specs.PrintedPlaces.{millionths, millionths_text}
+use Rattle.std.specs.Fmt.{digits}
+use Rattle.simplex_core.specs.declared.stops.Stop.TheVariants.{Trial}
+use Rattle.simplex_core.specs.declared.stops.TrialStop.TheVariants.{Budget, Width}
+use Rattle.row_core.specs.declared.place.Place.TheVariants.{CostRow}
+use Rattle.command_answers.specs.declared.status.Status.TheVariants.{Done, Uncertified}
+use Rattle.emission_curve.specs.Ends.{HasLine, HasLineBelow, HasNoBound, HasNoPlan, IsStopped}
+use Rattle.curve_command.specs.CurveTexts.{curve_status, curve_text, limit_line}
+
+-- ---- lines
+
+four : limit_line no_members (pos (4 * 10 ^ 9), HasLine (whole (pos 110)) (whole (negsuc 4))) ≡ codes "limit 4 cost 110 110.000000 slope -5\n"
+unfolding lowest gcd_of gcd_within fraction_text millionths_text millionths digits
+four = refl
+
+-- a limit that isn't whole is a fraction
+half : limit_line no_members (pos (5 * 10 ^ 8), HasNoPlan) ≡ codes "limit 1/2 infeasible\n"
+unfolding lowest gcd_of gcd_within fraction_text digits
+half = refl
+
+no_limit_at_all : limit_line no_members (pos 0, HasNoBound) ≡ codes "limit 0 unbounded\n"
+unfolding lowest gcd_of gcd_within fraction_text digits
+no_limit_at_all = refl
+
+rounded : limit_line no_members (pos (7 * 10 ^ 9), HasLineBelow (whole (pos 96)) (whole (pos 95)) (whole (negsuc 4))) ≡ codes "limit 7 cost 96 96.000000 bound 95 95.000000 slope -5\n"
+unfolding lowest gcd_of gcd_within fraction_text millionths_text millionths digits
+rounded = refl
+
+stopped : limit_line no_members (pos (10 ^ 9), IsStopped (Budget 3)) ≡ codes "limit 1 uncertified budget 3\n"
+unfolding lowest gcd_of gcd_within fraction_text digits
+stopped = refl
+
+wide : limit_line no_members (pos (10 ^ 9), IsStopped (Width CostRow)) ≡ codes "limit 1 uncertified width cost row\n"
+unfolding lowest gcd_of gcd_within fraction_text digits
+wide = refl
+
+two : curve_text no_members ((pos (10 ^ 9), HasNoPlan) ∷ (pos (2 * 10 ^ 9), HasNoBound) ∷ []) ≡ codes "limit 1 infeasible\nlimit 2 unbounded\nend\n"
+unfolding lowest gcd_of gcd_within fraction_text digits
+two = refl
+
+-- ---- statuses
+
+all_ended : curve_status ((pos 1, HasNoPlan) ∷ (pos 2, HasLine (whole (pos 1)) (whole (pos 0))) ∷ []) ≡ Done
+all_ended = refl
+
+-- the first that stopped is told, by its place from 1 on
+second_stopped : curve_status ((pos 1, HasNoPlan) ∷ (pos 2, IsStopped (Budget 3)) ∷ (pos 3, IsStopped (Width CostRow)) ∷ []) ≡ Uncertified (Trial 2 (Budget 3))
+second_stopped = refl
+
+not_the_last : ¬ (curve_status ((pos 2, IsStopped (Budget 3)) ∷ (pos 3, IsStopped (Width CostRow)) ∷ []) ≡ Uncertified (Trial 2 (Width CostRow)))
+not_the_last h = cc h

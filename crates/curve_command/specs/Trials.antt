@@ -1,0 +1,55 @@
+-- The trial of one limit: the data with that limit, their rows, and the end of the method that is asked for.
+use Rattle.std.specs.Prelude.{◌≡◌, ◌⊎◌, ℕ, List}
+use Rattle.model_sets.specs.Data.{Data}
+use Rattle.row_core.specs.declared.RowName.{RowName}
+use Rattle.row_core.specs.declared.place.Place.{Place}
+use Rattle.named_equations.specs.Existence.{all_variables}
+use Rattle.named_equations.specs.Instances.{instances}
+use Rattle.row_book.specs.Books.{IsTooWide}
+use Rattle.simplex_core.specs.declared.stops.TrialStop.TheVariants.{Width}
+use Rattle.command_answers.specs.declared.status.Status.{Status}
+use Rattle.command_answers.specs.MadeRows.{IsMadeFor, IsTooLarge}
+use Rattle.command_words.specs.declared.command.SolveMethod.{SolveMethod}
+use Rattle.command_words.specs.declared.command.SolveMethod.TheVariants.{Rounded}
+use Rattle.solve_command.specs.Limits.{IsWithinLimits, PassesLimits}
+use Rattle.emission_curve.specs.Ends.{IsStopped, PointEnd, point_end}
+use Rattle.emission_curve.specs.Points.{EndIsRounded}
+use Rattle.curve_command.specs.CurvePoints.{EndIsTrue}
+use Rattle.curve_command.specs.CurveTexts.{Found}
+use Rattle.curve_command.specs.Limited.{limit_at, with_limit}
+
+-- the method, the most pivots of a trial, and how far in millionths the rounded method may leave a cost above a bound
+pub record Wanted : Type 0 where
+  pub method : SolveMethod
+  pub pivots : ℕ
+  pub gap : ℕ
+
+-- the first row that can't be made is one in which a number doesn't fit: its place is the trial's stop
+pub record HasWideRow (places : ℕ) (d : Data) (end : PointEnd) : Type 0 where
+  pub name : RowName
+  pub wide : IsTooWide places d 0 (instances d) name
+  pub end_is : end ≡ IsStopped (Width (Place.Row name))
+
+-- the rows can be made, their linear program isn't too large, and the exact method ends on them so
+abbrev pub EndsExactly : ℕ → Data → RowName → ℕ → PointEnd → Type 0
+EndsExactly places d limit pivots end =
+    IsMadeFor places d (λ rows. IsWithinLimits rows (all_variables d) × (end ≡ point_end rows (all_variables d) limit pivots))
+
+-- or the rounded method is asked for, and finds so much
+pub record EndsRounded (places : ℕ) (d : Data) (wanted : Wanted) (end : PointEnd) : Type 0 where
+  pub asked : wanted.method ≡ Rounded
+  pub rows : IsMadeFor places d (λ rows. IsWithinLimits rows (all_variables d))
+  pub rounded : EndIsRounded wanted.gap end
+
+-- the trial ends so, for these causes
+abbrev pub EndsSo : ℕ → Data → RowName → Wanted → PointEnd → Type 0
+EndsSo places d limit wanted end = HasWideRow places d end ⊎ EndsExactly places d limit wanted.pivots end ⊎ EndsRounded places d wanted end
+
+-- the trial of a limit, in billionths, comes to this end, and it is true of the plans of the named equations
+pub record IsTrialOf (places : ℕ) (d : Data) (r e : ℕ) (wanted : Wanted) (found : Found) : Type 0 where
+  pub cause : EndsSo places (with_limit d r e found.0) (limit_at r e) wanted found.1
+  pub true_end : EndIsTrue places d r e found.0 found.1
+
+-- the trial refuses: its rows have too many entries, or their linear program is too large
+abbrev pub RefusesTrial : ℕ → Data → Status → List ℕ → Type 0
+RefusesTrial places d status text = IsTooLarge places d status text ⊎ IsMadeFor places d (λ rows. PassesLimits d rows status text)

@@ -1,0 +1,97 @@
+// The answer over accepted data.
+ghost use Rattle.std.specs.Prelude.{◌<◌, IfOk, length};
+ghost use Rattle.std.specs.List.{AllByRecursion};
+ghost use Rattle.command_words.specs.LimitLists.{IsLimit};
+ghost use Rattle.discount_factors.specs.Factors.{IsPlaces};
+ghost use Rattle.model_sets.specs.Data.{AreSameData, Data};
+ghost use Rattle.model_sets.specs.Members.{members};
+ghost use Rattle.curve_command.specs.Curve.{DueForCurve, DueForLimits};
+ghost use Rattle.curve_command.specs.Outcomes.{wanted_of};
+
+use crate::texts::{curve_status, curve_text};
+use crate::trials::{Member, Outcome, Wanted, trials};
+use command_answers::{Answer, find_member};
+use command_words::SolveMethod;
+use model_sets::set_numbers::{EMISSION, REGION};
+use param_tables::ModelData;
+use std::alloc::{AllocError, Global};
+
+/// What is due over any data that have the model's sets and values, with written factors of 6 or 9 decimal places: for the words of a
+/// region and an emission, and for limits in billionths. Each trial may make so many pivots at most. The rounded method, where it is
+/// asked for, may leave a cost so many millionths of a bound above it.
+pub fn answer_curve(
+    alloc: Global,
+    model: &ModelData,
+    places: u8,
+    region: &str,
+    emission: &str,
+    limits: &[i128],
+    pivots: u32,
+    method: SolveMethod,
+    gap: u32,
+) -> Result<Answer, AllocError>
+    requires places { IsPlaces places }
+    requires limits { AllByRecursion IsLimit limits.now }
+    ensures { (d : Data) → AreSameData model.now.facts d → IfOk result (λ answer.
+        DueForCurve places (record { method = method; pivots = pivots; gap = gap }) region.now emission.now limits.now d answer.status answer.text.items) }
+{
+    let wanted = Wanted {
+        method,
+        pivots,
+        gap,
+    };
+    answer_words(alloc, model, places, region, emission, limits, wanted)
+}
+
+// The same of what is wanted.
+fn answer_words(
+    alloc: Global,
+    model: &ModelData,
+    places: u8,
+    region: &str,
+    emission: &str,
+    limits: &[i128],
+    wanted: Wanted,
+) -> Result<Answer, AllocError>
+    requires places { IsPlaces places }
+    requires limits { AllByRecursion IsLimit limits.now }
+    ensures { (d : Data) → AreSameData model.now.facts d → IfOk result (λ answer.
+        DueForCurve places (wanted_of wanted) region.now emission.now limits.now d answer.status answer.text.items) }
+{
+    let region = match find_member(alloc, model.sets(), REGION, region)? {
+        Ok(region) => region,
+        Err(answer) => return Ok(answer),
+    };
+    let emission = match find_member(alloc, model.sets(), EMISSION, emission)? {
+        Ok(emission) => emission,
+        Err(answer) => return Ok(answer),
+    };
+    let member = Member { region, emission };
+    answer_limits(alloc, model, places, member, limits, wanted)
+}
+
+// What is due for an emission in a region.
+fn answer_limits(
+    alloc: Global,
+    model: &ModelData,
+    places: u8,
+    member: Member,
+    limits: &[i128],
+    wanted: Wanted,
+) -> Result<Answer, AllocError>
+    requires places { IsPlaces places }
+    requires region { member.region < length (members model.now.facts.sets REGION) }
+    requires emission { member.emission < length (members model.now.facts.sets EMISSION) }
+    requires limits { AllByRecursion IsLimit limits.now }
+    ensures { (d : Data) → AreSameData model.now.facts d → IfOk result (λ answer.
+        DueForLimits places d member.region member.emission (wanted_of wanted) limits.now answer.status answer.text.items) }
+{
+    match trials(alloc, model, places, member, limits, wanted)? {
+        Outcome::Ended(all) => {
+            let text = curve_text(alloc, model.sets(), &all)?;
+            let status = curve_status(&all);
+            Ok(Answer { status, text })
+        }
+        Outcome::Refused(answer) => Ok(answer),
+    }
+}

@@ -1,0 +1,150 @@
+// The trials of limits, one after another.
+ghost use Rattle.std.specs.Prelude.{◌≡◌, ◌<◌, IfOk, length};
+ghost use Rattle.std.specs.List.{AllByRecursion};
+ghost use Rattle.command_words.specs.LimitLists.{IsLimit};
+ghost use Rattle.discount_factors.specs.Factors.{IsPlaces};
+ghost use Rattle.model_sets.specs.Data.{AreSameData, Data};
+ghost use Rattle.model_sets.specs.Members.{members};
+ghost use Rattle.row_book.specs.Books.{NamesRowWithin};
+ghost use Rattle.curve_command.specs.Limited.{limit_at};
+ghost use Rattle.curve_command.specs.Outcomes.{FailTells, OutcomeTells, TrialTells, wanted_of};
+
+use crate::points::book_trial;
+use command_answers::{Answer, TrialStop, refuse_book};
+use command_words::SolveMethod;
+use emission_curve::Point;
+use model_sets::Sets;
+use model_sets::param_numbers::MODEL_PERIOD_EMISSION_LIMIT;
+use model_sets::set_numbers::{EMISSION, REGION};
+use param_tables::ModelData;
+use row_book::{BookFail, RowBook, same_data_laws};
+use row_core::equation_numbers::E9;
+use row_core::{Index, RowName};
+use std::alloc::{AllocError, Global};
+
+/// An emission in a region, by their positions.
+#[derive(Clone, Copy)]
+pub struct Member {
+    pub region: u16,
+    pub emission: u16,
+}
+
+/// The method, the most pivots of a trial, and how many millionths of a bound the rounded method may leave a cost above it.
+#[derive(Clone, Copy)]
+pub struct Wanted {
+    pub method: SolveMethod,
+    pub pivots: u32,
+    pub gap: u32,
+}
+
+/// What was found at a limit, in billionths.
+#[derive(Clone, Copy)]
+pub struct Found {
+    pub limit: i128,
+    pub point: Point,
+}
+
+/// What a trial comes to.
+#[derive(Drop)]
+pub enum Trial {
+    /// It ended, or stopped.
+    Ended(Point),
+    /// The call refuses so.
+    Refused(Answer),
+}
+
+/// What the trials come to.
+#[derive(Drop)]
+pub enum Outcome {
+    /// Each of them ended, or stopped.
+    Ended(Vec<Found>),
+    /// The first that refuses does so.
+    Refused(Answer),
+}
+
+/// The trials of limits, in billionths, in turn.
+pub fn trials(
+    alloc: Global,
+    model: &ModelData,
+    places: u8,
+    member: Member,
+    limits: &[i128],
+    wanted: Wanted,
+) -> Result<Outcome, AllocError>
+    requires places { IsPlaces places }
+    requires region { member.region < length (members model.now.facts.sets REGION) }
+    requires emission { member.emission < length (members model.now.facts.sets EMISSION) }
+    requires limits { AllByRecursion IsLimit limits.now }
+    ensures { (d : Data) → AreSameData model.now.facts d → IfOk result (OutcomeTells places d member.region member.emission (wanted_of wanted) limits.now) }
+{
+    let mut all = Vec::with_capacity(alloc, limits.len())?;
+    for limit in limits {
+        match limit_trial(alloc, model, places, member, *limit, wanted)? {
+            Trial::Ended(point) => all.push(found_at(*limit, point))?,
+            Trial::Refused(answer) => return Ok(Outcome::Refused(answer)),
+        }
+    }
+    Ok(Outcome::Ended(all))
+}
+
+// What was found at a limit.
+fn found_at(limit: i128, point: Point) -> Found
+    ensures limit { result.limit ≡ limit }
+    ensures point { result.point ≡ point }
+{
+    Found { limit, point }
+}
+
+// The trial of a limit, in billionths: over the data with that limit.
+fn limit_trial(
+    alloc: Global,
+    model: &ModelData,
+    places: u8,
+    member: Member,
+    limit: i128,
+    wanted: Wanted,
+) -> Result<Trial, AllocError>
+    requires places { IsPlaces places }
+    requires region { member.region < length (members model.now.facts.sets REGION) }
+    requires emission { member.emission < length (members model.now.facts.sets EMISSION) }
+    requires limit { IsLimit limit }
+    ensures { (d : Data) → AreSameData model.now.facts d → IfOk result (TrialTells places d member.region member.emission (wanted_of wanted) limit) }
+{
+    same_data_laws();
+    let index = [member.region, member.emission];
+    let limited = model.with_value(alloc, MODEL_PERIOD_EMISSION_LIMIT, &index, limit)?;
+    match RowBook::new(alloc, &limited, places) {
+        Ok(book) => book_trial(alloc, &book, limited.sets(), limit_row(member), wanted),
+        Err(fail) => failed_trial(alloc, fail, limited.sets()),
+    }
+}
+
+// The row of the limit.
+fn limit_row(member: Member) -> RowName
+    ensures { result ≡ limit_at member.region member.emission }
+{
+    RowName {
+        eq: E9,
+        index: Index {
+            region: member.region,
+            other: 0,
+            slice: 0,
+            tech: 0,
+            fuel: 0,
+            emission: member.emission,
+            mode: 0,
+            year: 0,
+        },
+    }
+}
+
+// The trial of which the rows can't be made.
+fn failed_trial(alloc: Global, fail: BookFail, sets: &Sets) -> Result<Trial, AllocError>
+    requires { NamesRowWithin sets.now fail }
+    ensures { IfOk result (FailTells sets.now fail) }
+{
+    match fail {
+        BookFail::Width(place) => Ok(Trial::Ended(Point::Stopped(TrialStop::Width(place)))),
+        _ => Ok(Trial::Refused(refuse_book(alloc, fail, sets)?)),
+    }
+}

@@ -1,0 +1,62 @@
+use Rattle.std.proofs.Common.{◌∙◌, ◌++◌, ℕ, List, refl, ap, sym, subst, arith}
+use Rattle.std.specs.List.{AllByRecursion, flat_map}
+use Rattle.row_source.specs.Contents.{RowContents, contents_of}
+use Rattle.row_source.specs.Sources.{rows_of_equation}
+use Rattle.row_source.proofs.EquationLaws.{all-of_equation}
+use Rattle.mps_writer.specs.MpsText.{IsNamedRow}
+use Rattle.mps_writer.specs.SectionLines.{lines_in}
+use Rattle.mps_writer.proofs.TakenLaws.{fails-now, item-end, item-fails, item-taken, leaves-all}
+use Rattle.mps_writer.proofs.sections.send_equation.Goals as goal
+
+pub rows-init : goal.rows-init
+rows-init g c =
+    let source = g.R.RowSource in
+    let f : ℕ × RowContents → List ℕ = lines_in c.args.section c.args.sets.now in
+    record {
+      rows = c.start.ensures.rows;
+      named = subst (λ (rs : List (ℕ × RowContents)). AllByRecursion (λ r. IsNamedRow c.args.sets.now r.1) rs) (sym c.start.ensures.ahead) (all-of_equation (IsNamedRow c.args.sets.now) c.args.eq (source.rows c.args.rows.now) c.requires.named);
+      taken = leaves-all (c.args.buffer.now.items ++ flat_map f (rows_of_equation c.args.eq (source.rows c.args.rows.now))) (c.args.buffer.now.items ++ flat_map f (source.ahead c.start.new.self)) (g.K.Sink.written c.args.out.now)
+          (ap (λ (rs : List (ℕ × RowContents)). c.args.buffer.now.items ++ flat_map f rs) (sym c.start.ensures.ahead));
+      faults = omega arith;
+    }
+
+pub returns-in-Ok-None-clause-taken : goal.returns-in-Ok-None-clause-taken
+returns-in-Ok-None-clause-taken g c =
+    let source = g.R.RowSource in
+    let f : ℕ × RowContents → List ℕ = lines_in c.args.section c.args.sets.now in
+    let both = rw c.in-Ok-None.field-0-is at c.in-Ok-None.ensures.answers in (
+      item-end f (source.ahead c.rows.rows) (c.args.buffer.now.items ++ flat_map f (rows_of_equation c.args.eq (source.rows c.args.rows.now))) c.rows.buffer.items (g.K.Sink.written c.args.out.now) (g.K.Sink.written c.rows.out) both.0 c.rows.invariant.taken,
+      c.rows.invariant.faults,
+    )
+
+pub returns-in-Err-clause-taken : goal.returns-in-Err-clause-taken
+returns-in-Err-clause-taken g c =
+    let source = g.R.RowSource in
+    let f : ℕ × RowContents → List ℕ = lines_in c.args.section c.args.sets.now in
+    fails-now (c.args.buffer.now.items ++ flat_map f (rows_of_equation c.args.eq (source.rows c.args.rows.now))) (c.rows.buffer.items ++ flat_map f (source.ahead c.rows.rows)) (g.K.Sink.written c.args.out.now) (g.K.Sink.written c.rows.out)
+    (g.K.Sink.faults c.args.out.now) (g.K.Sink.faults c.rows.out) c.rows.invariant.taken c.rows.invariant.faults
+
+pub returns-in-Err-send_lines-clause-taken : goal.returns-in-Err-send_lines-clause-taken
+returns-in-Err-send_lines-clause-taken g c =
+    let source = g.R.RowSource in
+    let f : ℕ × RowContents → List ℕ = lines_in c.args.section c.args.sets.now in
+    let found = c.in-Ok-Some.found in
+    let r : ℕ × RowContents = (found.0, contents_of found.1) in
+    item-fails f r (source.ahead c.next.new.self) (source.ahead c.rows.rows) (c.args.buffer.now.items ++ flat_map f (rows_of_equation c.args.eq (source.rows c.args.rows.now))) c.rows.buffer.items (f r) c.in-Err-send_lines.fail
+    (g.K.Sink.written c.args.out.now) (g.K.Sink.written c.rows.out) (g.K.Sink.written c.send_lines.new.out) (g.K.Sink.faults c.args.out.now) (g.K.Sink.faults c.rows.out) (g.K.Sink.faults c.send_lines.new.out)
+    (rw c.in-Ok-Some.field-0-is at c.in-Ok-Some.ensures.answers) refl c.rows.invariant.taken c.rows.invariant.faults c.in-Err-send_lines.ensures
+
+pub rows-preserved : goal.rows-preserved
+rows-preserved g c =
+    let source = g.R.RowSource in
+    let f : ℕ × RowContents → List ℕ = lines_in c.args.section c.args.sets.now in
+    let found = c.in-Ok-Some.found in
+    let r : ℕ × RowContents = (found.0, contents_of found.1) in
+    let is = rw c.in-Ok-Some.field-0-is at c.in-Ok-Some.ensures.answers in
+    record {
+      rows = c.in-Ok-Some.ensures.rows ∙ c.rows.invariant.rows;
+      named = (subst (λ (rs : List (ℕ × RowContents)). AllByRecursion (λ x. IsNamedRow c.args.sets.now x.1) rs) is c.rows.invariant.named).1;
+      taken = item-taken f r (source.ahead c.next.new.self) (source.ahead c.rows.rows) (c.args.buffer.now.items ++ flat_map f (rows_of_equation c.args.eq (source.rows c.args.rows.now))) c.rows.buffer.items (f r) c.send_lines.new.buffer.items
+          (g.K.Sink.written c.args.out.now) (g.K.Sink.written c.rows.out) (g.K.Sink.written c.send_lines.new.out) is refl c.rows.invariant.taken c.in-Ok.ensures.0;
+      faults = omega (arith, c.rows.invariant.faults, c.in-Ok.ensures.1);
+    }

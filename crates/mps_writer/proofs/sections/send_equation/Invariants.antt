@@ -1,0 +1,23 @@
+use Rattle.std.proofs.Common.{◌≡◌, ◌≤◌, ◌++◌, length}
+use Rattle.std.specs.List.{AllByRecursion, flat_map}
+use Rattle.row_source.specs.Sources.{rows_of_equation}
+use Rattle.mps_writer.specs.MpsText.{IsNamedRow}
+use Rattle.mps_writer.specs.SectionLines.{lines_in}
+use Rattle.mps_writer.specs.Steps.{LeavesOf}
+use Rattle.mps_writer.proofs.sections.send_equation.Given as goal
+
+-- with the lines of the rows that are ahead, the lines so far are those of the equation
+abbrev pub invariant-rows : goal.invariant-rows
+invariant-rows g l =
+    let sink = g.K.Sink in
+    let source = g.R.RowSource in
+    record {
+      rows : source.rows l.rows ≡ source.rows l.fn.rows;
+      named : AllByRecursion (λ r. IsNamedRow l.sets r.1) (source.ahead l.rows);
+      taken : LeavesOf (l.fn.buffer.items ++ flat_map (lines_in l.section l.sets) (rows_of_equation l.eq (source.rows l.fn.rows)))
+          (sink.written l.fn.out) (sink.written l.out) (l.buffer.items ++ flat_map (lines_in l.section l.sets) (source.ahead l.rows));
+      faults : sink.faults l.fn.out ≤ sink.faults l.out;
+    }
+
+abbrev pub decreases-rows : goal.decreases-rows
+decreases-rows g l = length (g.R.RowSource.ahead l.rows)

@@ -1,0 +1,55 @@
+use Rattle.std.proofs.Common.{◌∙◌, ◌+◌, ◌-◌, ◌<◌, ◌++◌, ℕ, List, refl, ap, sym, arith}
+use Rattle.std.specs.List.{flat_map, range_with_len}
+use Rattle.row_source.specs.Contents.{RowContents}
+use Rattle.mps_writer.specs.MpsText.{numbered}
+use Rattle.mps_writer.specs.SectionLines.{lines_in}
+use Rattle.mps_writer.proofs.SectionLaws.{equation-next, equation_lines, equations-end, section-whole}
+use Rattle.mps_writer.proofs.TakenLaws.{item-end, item-fails, item-taken, leaves-all}
+use Rattle.mps_writer.proofs.sections.send_section.Goals as goal
+
+pub loop-eq-init : goal.loop-eq-init
+loop-eq-init g c =
+    let rows : List RowContents = g.R.RowSource.rows c.args.rows.now in
+    record {
+      low = omega arith;
+      rows = refl;
+      taken = leaves-all (c.args.buffer.now.items ++ flat_map (lines_in c.args.section c.args.sets.now) (numbered rows)) _ (g.K.Sink.written c.args.out.now)
+          (ap (λ (text : List ℕ). c.args.buffer.now.items ++ text) (sym (section-whole c.args.section c.args.sets.now rows c.requires.in_order c.requires.named)));
+      faults = omega arith;
+    }
+
+pub returns-in-Err-clause-taken : goal.returns-in-Err-clause-taken
+returns-in-Err-clause-taken g c =
+    let rows : List RowContents = g.R.RowSource.rows c.args.rows.now in
+    let i : ℕ = c.loop-eq.eq in
+    let f : ℕ → List ℕ = equation_lines c.args.section c.args.sets.now rows in
+    let inside : i < 65 = omega (arith, c.loop-eq-test.true) in
+    item-fails f i (range_with_len (i + 1) (65 - (i + 1))) (range_with_len i (65 - i)) (c.args.buffer.now.items ++ flat_map (lines_in c.args.section c.args.sets.now) (numbered rows)) c.loop-eq.buffer.items
+    (equation_lines c.args.section c.args.sets.now (g.R.RowSource.rows c.loop-eq.rows) i) c.in-Err.fail
+    (g.K.Sink.written c.args.out.now) (g.K.Sink.written c.loop-eq.out) (g.K.Sink.written c.send_equation.new.out) (g.K.Sink.faults c.args.out.now) (g.K.Sink.faults c.loop-eq.out) (g.K.Sink.faults c.send_equation.new.out)
+    (equation-next i inside) (ap (λ (rs : List RowContents). equation_lines c.args.section c.args.sets.now rs i) c.loop-eq.invariant.rows) c.loop-eq.invariant.taken c.loop-eq.invariant.faults c.in-Err.ensures.taken
+
+pub loop-eq-preserved : goal.loop-eq-preserved
+loop-eq-preserved g c =
+    let rows : List RowContents = g.R.RowSource.rows c.args.rows.now in
+    let i : ℕ = c.loop-eq.eq in
+    let f : ℕ → List ℕ = equation_lines c.args.section c.args.sets.now rows in
+    let inside : i < 65 = omega (arith, c.loop-eq-test.true) in
+    record {
+      low = omega arith;
+      rows = c.in-Ok.ensures.rows ∙ c.loop-eq.invariant.rows;
+      taken = item-taken f i (range_with_len (i + 1) (65 - (i + 1))) (range_with_len i (65 - i)) (c.args.buffer.now.items ++ flat_map (lines_in c.args.section c.args.sets.now) (numbered rows)) c.loop-eq.buffer.items
+          (equation_lines c.args.section c.args.sets.now (g.R.RowSource.rows c.loop-eq.rows) i) c.send_equation.new.buffer.items
+          (g.K.Sink.written c.args.out.now) (g.K.Sink.written c.loop-eq.out) (g.K.Sink.written c.send_equation.new.out)
+          (equation-next i inside) (ap (λ (rs : List RowContents). equation_lines c.args.section c.args.sets.now rs i) c.loop-eq.invariant.rows) c.loop-eq.invariant.taken c.in-Ok.ensures.taken.0;
+      faults = omega (arith, c.loop-eq.invariant.faults, c.in-Ok.ensures.taken.1);
+    }
+
+pub returns-clause-taken : goal.returns-clause-taken
+returns-clause-taken g c =
+    let rows : List RowContents = g.R.RowSource.rows c.args.rows.now in
+    let i : ℕ = c.loop-eq.eq in (
+      item-end (equation_lines c.args.section c.args.sets.now rows) (range_with_len i (65 - i)) (c.args.buffer.now.items ++ flat_map (lines_in c.args.section c.args.sets.now) (numbered rows)) c.loop-eq.buffer.items
+          (g.K.Sink.written c.args.out.now) (g.K.Sink.written c.loop-eq.out) (equations-end i (omega (arith, c.loop-eq-test.false))) c.loop-eq.invariant.taken,
+      c.loop-eq.invariant.faults,
+    )

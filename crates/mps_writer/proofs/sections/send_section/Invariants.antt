@@ -1,0 +1,21 @@
+use Rattle.std.proofs.Common.{◌≡◌, ◌≤◌, ◌-◌, ◌++◌}
+use Rattle.std.specs.List.{flat_map, range_with_len}
+use Rattle.mps_writer.specs.MpsText.{numbered}
+use Rattle.mps_writer.specs.SectionLines.{lines_in}
+use Rattle.mps_writer.proofs.SectionLaws.{equation_lines}
+use Rattle.mps_writer.specs.Steps.{LeavesOf}
+use Rattle.mps_writer.proofs.sections.send_section.Given as goal
+
+-- the lines of the equations so far were written
+abbrev pub invariant-loop-eq : goal.invariant-loop-eq
+invariant-loop-eq g l =
+    let sink = g.K.Sink in
+    let source = g.R.RowSource in
+    record {
+      low : 1 ≤ l.eq;
+      rows : source.rows l.rows ≡ source.rows l.fn.rows;
+      taken : LeavesOf (l.fn.buffer.items ++ flat_map (lines_in l.section l.sets) (numbered (source.rows l.fn.rows)))
+          (sink.written l.fn.out) (sink.written l.out)
+          (l.buffer.items ++ flat_map (equation_lines l.section l.sets (source.rows l.fn.rows)) (range_with_len l.eq (65 - l.eq)));
+      faults : sink.faults l.fn.out ≤ sink.faults l.out;
+    }

@@ -1,0 +1,16 @@
+use Rattle.std.proofs.Common.{◌≡◌, ◌≤◌, ◌++◌, drop}
+use Rattle.mps_writer.specs.Entries.{following, lines_of}
+use Rattle.mps_writer.specs.MpsText.{column_head}
+use Rattle.mps_writer.specs.Steps.{LeavesOf}
+use Rattle.mps_writer.proofs.sent_columns.send_column.Given as goal
+
+-- with the lines of the entries that are left, the lines so far are those of the column
+abbrev pub invariant-loop-i : goal.invariant-loop-i
+invariant-loop-i g l =
+    let sink = g.K.Sink in
+    record {
+      taken : LeavesOf (l.fn.buffer.items ++ (column_head l.sets (l.column, l.fn.var) ++ lines_of l.column l.fn.var (drop l.fn.from l.entries)))
+          (sink.written l.fn.out) (sink.written l.out) (l.buffer.items ++ lines_of l.column l.fn.var (drop l.i l.entries));
+      rest : following l.fn.var (drop l.i l.entries) ≡ following l.fn.var (drop l.fn.from l.entries);
+      faults : sink.faults l.fn.out ≤ sink.faults l.out;
+    }

@@ -1,0 +1,15 @@
+-- The values from this place of the list on are there.
+use Rattle.std.proofs.Common.{◌≡◌, ℕ, ◌≤◌, length, drop}
+use Rattle.std.specs.BTreeMap.{get}
+use Rattle.std.specs.Ordering.{nat_cmp}
+use Rattle.param_tables.specs.Tables.{entries_of, given_in}
+use Rattle.param_tables.proofs.param_table.ParamTable.given.Given as goal
+
+abbrev pub invariant-loop-i : goal.invariant-loop-i
+invariant-loop-i l = record {
+  within : l.i ≤ length l.self.places.items;
+  values : (q : ℕ) → get nat_cmp l.given q ≡ given_in (drop l.i (entries_of l.self)) q;
+}
+
+abbrev pub decreases-loop-i : goal.decreases-loop-i
+decreases-loop-i l = l.i

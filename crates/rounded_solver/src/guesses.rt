@@ -1,0 +1,115 @@
+//! Guesses at a linear program alone, for a caller that has what is made of them checked.
+
+ghost use Rattle.std.specs.Prelude.{◌≡◌, true, length, IfOk, IfSome};
+ghost use Rattle.row_core.specs.Numbers.{ascends};
+ghost use Rattle.row_core.specs.Order.{var_cmp};
+ghost use Rattle.rounded_solver.specs.Guesses.{IfValues};
+
+use crate::halts::Halt;
+use crate::plans::plan_of;
+use crate::refuting::make_guess;
+use crate::tries::TOLERANCE;
+use exact_num::Frac;
+use presolved_program::{Aim, prepare};
+use rounded_program::{margins_of, rounded_program, values_of};
+use rounded_simplex::{Answer, guess};
+use row_core::Plan;
+use std::alloc::{AllocError, Global};
+use written_method::Reduced;
+
+/// The significant digits of multipliers, for which costs keep room.
+const DIGITS: i32 = 9;
+
+/// What a guess at values comes to. Nothing is proved of it.
+#[derive(Debug, Drop)]
+pub enum Guess {
+    /// A value for each column, in order. They should meet all rows.
+    Values(Plan),
+    /// There seem to be no such values.
+    NoValues,
+    /// Nothing.
+    Nothing,
+}
+
+/// Guesses at values of least cost, with so many decimals, by so many pivots at most. Refuses only out of memory.
+///
+/// A value stands for each column, in order; that they meet the rows, or that no values do, has to be checked.
+pub fn guess_values(
+    alloc: Global,
+    reduced: &Reduced,
+    places: i32,
+    pivots: u64,
+) -> Result<Guess, AllocError>
+    requires { ascends var_cmp reduced.now.columns.items ≡ true }
+    ensures { IfOk result (IfValues reduced.now.columns.items) }
+{
+    match values_guessed(alloc, reduced, places, pivots) {
+        Ok(guessed) => Ok(guessed),
+        Err(Halt::Nothing) => Ok(Guess::Nothing),
+        Err(Halt::Memory) => Err(AllocError),
+    }
+}
+
+/// The same, where every number fits.
+fn values_guessed(alloc: Global, reduced: &Reduced, places: i32, pivots: u64) -> Result<Guess, Halt>
+    requires { ascends var_cmp reduced.now.columns.items ≡ true }
+    ensures { IfOk result (IfValues reduced.now.columns.items) }
+{
+    let smaller = prepare(alloc, reduced, Aim::Cheapest)?;
+    if smaller.is_false() {
+        return Ok(Guess::NoValues);
+    }
+    let margins = margins_of(alloc, &smaller, places, DIGITS)?;
+    let asked = rounded_program(alloc, &smaller, &margins)?;
+    match guess(alloc, &asked, TOLERANCE, pivots)? {
+        Answer::Solved(guess) => {
+            let values = values_of(alloc, &smaller, &margins, &guess.values)?;
+            let plan = plan_of(alloc, reduced.columns.as_slice(), &values)?;
+            Ok(Guess::Values(plan))
+        }
+        Answer::NoPlan => Ok(Guess::NoValues),
+        Answer::GivenUp => Ok(Guess::Nothing),
+    }
+}
+
+/// Guesses at multipliers that refute the rows, with so many significant digits, by so many pivots at most: one for each row, in
+/// order, not all of them 0. None where nothing is guessed. Refuses only out of memory.
+///
+/// That they refute the rows has to be checked.
+pub fn guess_multipliers(
+    alloc: Global,
+    reduced: &Reduced,
+    digits: i32,
+    pivots: u64,
+) -> Result<Option<Vec<Frac>>, AllocError>
+    ensures { IfOk result (λ found. IfSome found (λ lambda. length lambda.items ≡ length reduced.now.rows.items)) }
+{
+    match multipliers_guessed(alloc, reduced, digits, pivots) {
+        Ok(lambda) => {
+            if lambda.len() == reduced.rows.len() && has_some(&lambda) {
+                Ok(Some(lambda))
+            } else {
+                Ok(None)
+            }
+        }
+        Err(Halt::Nothing) => Ok(None),
+        Err(Halt::Memory) => Err(AllocError),
+    }
+}
+
+/// The same, where every number fits.
+fn multipliers_guessed(
+    alloc: Global,
+    reduced: &Reduced,
+    digits: i32,
+    pivots: u64,
+) -> Result<Vec<Frac>, Halt> {
+    let smaller = prepare(alloc, reduced, Aim::Refutation)?;
+    let guessed = make_guess(alloc, &smaller, digits, pivots)?;
+    Ok(guessed.lambda)
+}
+
+/// Whether some multiplier isn't 0.
+fn has_some(lambda: &[Frac]) -> bool {
+    lambda.iter().any(|multiplier| multiplier.num != 0)
+}

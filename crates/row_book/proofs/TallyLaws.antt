@@ -1,0 +1,178 @@
+-- What is found of rows that are looked at one after another.
+use Rattle.std.proofs.Common.{◌≡◌, ℕ, ◌+◌, ◌-◌, ◌*◌, ◌<◌, ◌≤◌, Bool, true, false, ◌&&◌, ◌||◌, nat_eq, List, [], ◌∷◌, ◌++◌, map, length, length-append, refl, ap, ap₂, sym, ◌∙◌, subst, arith, inl, inr}
+use Rattle.std.specs.List.{AllByRecursion, Contains, flat_map, list_all, list_any, range_with_len}
+use Rattle.std.specs.Prelude.{ℤ, filter, OnOk, Result, Ok, Err}
+use Rattle.std.proofs.lemmas.Grind.{flat_map-append}
+use Rattle.std.proofs.Math.ListN.{replicate}
+use Rattle.std.proofs.lemmas.List.{get_or-replicate, length-replicate, map-append}
+use Rattle.std.proofs.lemmas.List.Elements.{Contains-append_cases, Contains-append_left, Contains-append_right}
+use Rattle.std.proofs.lemmas.List.Folds.{list_any-append}
+use Rattle.std.proofs.lemmas.List.FromFn.{map-range_with_len_more}
+use Rattle.std.proofs.lemmas.List.Sums.{sum_by-append}
+use Rattle.model_sets.specs.Data.{Data}
+use Rattle.row_core.specs.declared.Index.{Index}
+use Rattle.row_core.specs.declared.Row.{Row}
+use Rattle.row_core.specs.declared.RowName.{RowName}
+use Rattle.row_core.specs.declared.Var.{Var}
+use Rattle.named_equations.specs.Instances.{indices, instances, instances_of, name_at, stands_at, subscripts_of}
+use Rattle.row_source.specs.Contents.{RowContents, contents_of}
+use Rattle.row_source.specs.Sources.{has_kind}
+use Rattle.row_book.specs.Books.{AreRowsOf, CanBeMade, HasStopped, entries_in, entry_count, entry_limit, entry_variables, row_fits}
+use Rattle.row_book.specs.Tallies.{AreSameVariables, AreSortedVariables, AreTallied, Marks, MarksMore, TalliesMore, marked, names_to, rows_before, table_room}
+use Rattle.row_book.specs.declared.fail.BookFail.{BookFail}
+use Rattle.row_book.specs.declared.tally.Tally.{Tally}
+use Rattle.row_book.proofs.Lists.{flat_map-last, flat_map-middle}
+use Rattle.row_book.proofs.Ranges.{range-last, range-middle}
+use Rattle.row_book.proofs.RowsAddedLaws.{both_fit, both_lists, stops-earlier, stops-later}
+
+-- ---- marks
+
+turn : (m a p r : Bool) → ((m || (a && p)) || (a && r)) ≡ (m || (a && (p || r)))
+turn true a p r = refl
+turn false true p r = refl
+turn false false p r = refl
+
+-- an entry is marked, and then those after it
+pub entry-turn : (now m a p r whole : Bool) → now ≡ (m || (a && p)) → (m || (a && (p || r))) ≡ whole → (now || (a && r)) ≡ whole
+entry-turn now m a p r whole is so_far = ap (λ (b : Bool). b || (a && r)) is ∙ turn m a p r ∙ so_far
+
+pub entry-end : (m a whole : Bool) → (m || (a && false)) ≡ whole → m ≡ whole
+entry-end true a whole so_far = so_far
+entry-end false true whole so_far = so_far
+entry-end false false whole so_far = so_far
+
+three : (m p r : Bool) → ((m || p) || r) ≡ (m || (p || r))
+three true p r = refl
+three false p r = refl
+
+pub row-turn : (now m p r whole : Bool) → now ≡ (m || p) → (m || (p || r)) ≡ whole → (now || r) ≡ whole
+row-turn now m p r whole is so_far = ap (λ (b : Bool). b || r) is ∙ three m p r ∙ so_far
+
+pub row-end : (m whole : Bool) → (m || false) ≡ whole → m ≡ whole
+row-end true whole so_far = so_far
+row-end false whole so_far = so_far
+
+-- the marks of some rows, and of others after them
+marks-more : (table new : List Bool) (rows others : List RowContents) → Marks table rows → MarksMore table new (λ eq kind. has_kind eq kind others) → Marks new (rows ++ others)
+marks-more table new rows others marks more = record {
+  long = more.long ∙ marks.long;
+  each = λ eq kind within kind_within.
+      more.each eq kind within kind_within
+      ∙ ap (λ (b : Bool). b || has_kind eq kind others) (marks.each eq kind within kind_within)
+      ∙ sym (list_any-append (λ (row : RowContents). nat_eq row.name.eq eq && list_any (λ (entry : Var × ℤ). nat_eq entry.0.kind kind) row.entries) rows others);
+}
+
+-- ---- variables
+
+pub variables-more : (old now added all : List Var) → AreSameVariables old all → AreSameVariables now (old ++ added) → AreSameVariables now (all ++ added)
+variables-more old now added all before more v = (
+  λ has.
+      elim (Contains-append_cases old added v ((more v).0 has)) [
+        | inl left ↦ Contains-append_left all added v ((before v).0 left)
+        | inr right ↦ Contains-append_right all added v right
+      ],
+  λ has.
+      elim (Contains-append_cases all added v has) [
+        | inl left ↦ (more v).1 (Contains-append_left old added v ((before v).1 left))
+        | inr right ↦ (more v).1 (Contains-append_right old added v right)
+      ],
+)
+
+pub variables-over : (a b c : List Var) → AreSameVariables a b → AreSameVariables b c → AreSameVariables a c
+variables-over a b c first second v = (λ has. (second v).0 ((first v).0 has), λ has. (first v).1 ((second v).1 has))
+
+entry_variables-append : (rows others : List Row) → entry_variables (rows ++ others) ≡ entry_variables rows ++ entry_variables others
+entry_variables-append rows others = flat_map-append (λ (row : Row). map (λ entry. entry.0) row.entries.items) rows others
+
+pub sorted-same : {A E : Type 0} (outcome : Result A E) (all sorted named : List Var) → all ≡ named → OnOk outcome (AreSortedVariables all sorted) → OnOk outcome (AreSameVariables sorted named)
+sorted-same (Ok x) all sorted named is are = subst (AreSameVariables sorted) is are.same
+sorted-same (Err fail) all sorted named is are = tt
+
+-- ---- names
+
+-- each instance of an equation has its number
+pub named-so : (places : ℕ) (d : Data) (eq : ℕ) (names : List RowName) (rows : List Row) → eq ≤ 64 → AllByRecursion (λ name. name.eq ≡ eq) names → AreRowsOf places d names rows → AllByRecursion (λ row. row.name.eq ≤ 64) rows
+named-so places d eq [] [] low of_names are = tt
+named-so places d eq [] (row ∷ rows) low of_names are = absurd are
+named-so places d eq (name ∷ names) [] low of_names are = absurd are
+named-so places d eq (name ∷ names) (row ∷ rows) low of_names are = (
+  (let same : row.name.eq ≡ eq = ap (λ (n : RowName). n.eq) are.0.written.named ∙ of_names.0 in omega (arith, same, low)),
+  named-so places d eq names rows low of_names.1 are.1,
+)
+
+pub as-many : (places : ℕ) (d : Data) (names : List RowName) (rows : List Row) → AreRowsOf places d names rows → length rows ≡ length names
+as-many places d [] [] are = refl
+as-many places d [] (row ∷ rows) are = absurd are
+as-many places d (name ∷ names) [] are = absurd are
+as-many places d (name ∷ names) (row ∷ rows) are = let rest : length rows ≡ length names = as-many places d names rows are.1 in omega (arith, rest)
+
+numbered-so : (eq : ℕ) (is : List Index) → AllByRecursion (λ name. name.eq ≡ eq) (map (name_at eq) is)
+numbered-so eq [] = tt
+numbered-so eq (i ∷ is) = (refl, numbered-so eq is)
+
+pub instances-named : (d : Data) (eq : ℕ) → AllByRecursion (λ name. name.eq ≡ eq) (instances_of d eq)
+instances-named d eq = numbered-so eq (filter (stands_at d eq) (indices d (subscripts_of eq)))
+
+-- ---- before any row
+
+pub nothing-tallied : (places : ℕ) (d : Data) (t : Tally) (n : ℕ) → t.rows ≡ 0 → t.entries ≡ 0 → t.before.items ≡ [] → t.vars.items ≡ [] → t.kinds.items ≡ replicate n false → n ≡ table_room → AreTallied places d 0 t
+nothing-tallied places d t n rows entries before vars kinds room = record {
+  all = [];
+  rows = tt;
+  fit = refl;
+  entries = entries;
+  number = rows;
+  before = before;
+  kinds = record {
+    long = ap length kinds ∙ length-replicate n false ∙ room;
+    each = λ eq kind within kind_within. ap (λ (table : List Bool). marked table eq kind) kinds ∙ get_or-replicate n (eq * 256 + kind) false false (omega (arith, room, within, kind_within));
+  };
+  variables = λ v. (λ has. subst (λ (vs : List Var). Contains vs v) vars has, λ has. subst (λ (vs : List Var). Contains vs v) (sym vars) has);
+}
+
+-- ---- one equation more
+
+names-more : (d : Data) (i : ℕ) → 1 ≤ i → names_to d ((i + 1) - 1) ≡ names_to d (i - 1) ++ instances_of d i
+names-more d i low = ap (flat_map (instances_of d)) (range-last 1 i low) ∙ flat_map-last (instances_of d) (range_with_len 1 (i - 1)) i
+
+before-more : (d : Data) (i : ℕ) → 1 ≤ i → rows_before d ((i + 1) - 1) ≡ rows_before d (i - 1) ++ length (names_to d (i - 1)) ∷ []
+before-more d i low =
+    let step : (i + 1) - 1 ≡ (i - 1) + 1 = omega (arith, low) in
+    let last : 1 + (i - 1) ≡ i = omega (arith, low) in
+    ap (rows_before d) step ∙ map-range_with_len_more (λ eq. length (names_to d (eq - 1))) 1 (i - 1) i last
+
+pub tally-more : (places : ℕ) (d : Data) (i : ℕ) (t u : Tally) → 1 ≤ i → AreTallied places d (i - 1) t → TalliesMore places d (instances_of d i) t u → AreTallied places d ((i + 1) - 1) u
+tally-more places d i t u low so_far more =
+    let whole = names-more d i low in
+    record {
+      all = so_far.all ++ more.added;
+      rows = subst (λ (names : List RowName). AreRowsOf places d names (so_far.all ++ more.added)) (sym whole) (both_lists places d (names_to d (i - 1)) (instances_of d i) so_far.all more.added so_far.rows more.rows);
+      fit = subst (λ (names : List RowName). list_all (row_fits places d) names ≡ true) (sym whole) (both_fit places d (names_to d (i - 1)) (instances_of d i) so_far.fit more.fit);
+      entries =
+          more.entries
+          ∙ ap (λ (n : ℕ). n + entries_in places d (instances_of d i)) so_far.entries
+          ∙ sym (sum_by-append (entry_count places d) (names_to d (i - 1)) (instances_of d i))
+          ∙ ap (entries_in places d) (sym whole);
+      number =
+          more.counts.number
+          ∙ ap₂ (λ (m n : ℕ). m + n) so_far.number (as-many places d (instances_of d i) more.added more.rows)
+          ∙ sym (length-append (names_to d (i - 1)) (instances_of d i))
+          ∙ ap length (sym whole);
+      before =
+          more.before
+          ∙ ap₂ (λ (earlier : List ℕ) (n : ℕ). earlier ++ n ∷ []) so_far.before so_far.number
+          ∙ sym (before-more d i low);
+      kinds = subst (Marks u.kinds.items) (sym (map-append contents_of so_far.all more.added)) (marks-more t.kinds.items u.kinds.items (map contents_of so_far.all) (map contents_of more.added) so_far.kinds more.counts.kinds);
+      variables = subst (λ (vs : List Var). AreSameVariables u.vars.items vs) (sym (entry_variables-append so_far.all more.added)) (variables-more t.vars.items u.vars.items (entry_variables more.added) (entry_variables so_far.all) so_far.variables more.counts.variables);
+    }
+
+-- what stops an equation stops all
+pub tally-stops : (places : ℕ) (d : Data) (i : ℕ) (t : Tally) (fail : BookFail) → 1 ≤ i → i < 65 → AreTallied places d (i - 1) t → HasStopped places d t.entries (instances_of d i) fail → HasStopped places d 0 (instances d) fail
+tally-stops places d i t fail low high so_far stops =
+    let later : List ℕ = range_with_len (i + 1) (65 - (i + 1)) in
+    let whole : instances d ≡ names_to d (i - 1) ++ (instances_of d i ++ flat_map (instances_of d) later) =
+    ap (flat_map (instances_of d)) (range-middle 1 64 i low high) ∙ flat_map-middle (instances_of d) (range_with_len 1 (i - 1)) i later in
+    let made : CanBeMade places d 0 (names_to d (i - 1)) = record { fit = so_far.fit; few = (let few : entries_in places d (names_to d (i - 1)) ≤ entry_limit = subst (λ (n : ℕ). n ≤ entry_limit) so_far.entries t.few in omega (arith, few)) } in
+    subst (λ (names : List RowName). HasStopped places d 0 names fail) (sym whole)
+    (stops-later places d 0 t.entries (names_to d (i - 1)) (instances_of d i ++ flat_map (instances_of d) later) fail made (omega (arith, so_far.entries))
+    (stops-earlier places d t.entries (instances_of d i) (flat_map (instances_of d) later) fail stops))

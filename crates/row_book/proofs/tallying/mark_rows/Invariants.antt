@@ -1,0 +1,14 @@
+use Rattle.std.proofs.Common.{◌≡◌, ℕ, ◌<◌, ◌||◌, drop, length, map}
+use Rattle.row_source.specs.Contents.{contents_of}
+use Rattle.row_source.specs.Sources.{has_kind}
+use Rattle.row_book.specs.Tallies.{kind_room, marked}
+use Rattle.row_book.proofs.tallying.mark_rows.Given as goal
+
+-- with the rows that are left, what is marked is what was marked before and all rows
+abbrev pub invariant-loop-row : goal.invariant-loop-row
+invariant-loop-row l = record {
+  long : length l.kinds.items ≡ length l.fn.kinds.items;
+  each : (eq kind : ℕ) → eq < 65 → kind < kind_room
+      → (marked l.kinds.items eq kind || has_kind eq kind (map contents_of (drop l.row-index l.rows)))
+      ≡ (marked l.fn.kinds.items eq kind || has_kind eq kind (map contents_of l.rows));
+}

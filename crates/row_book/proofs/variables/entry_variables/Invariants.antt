@@ -1,7 +1,0 @@
-use Rattle.std.proofs.Common.{◌≡◌, ◌++◌, drop}
-use Rattle.row_book.specs.Books.{entry_variables}
-use Rattle.row_book.proofs.variables.entry_variables.Given as goal
-
--- with the variables of the rows that are left, the variables so far are those of all rows
-abbrev pub invariant-loop-row : goal.invariant-loop-row
-invariant-loop-row l = l.vars.items ++ entry_variables (drop l.row-index l.rows) ≡ entry_variables l.rows

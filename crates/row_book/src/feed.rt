@@ -1,0 +1,188 @@
+//! A feed of rows: each is made when it is asked for.
+
+ghost use Rattle.std.specs.Prelude.{◌≡◌, [], map, reverse, true, IfErr, IfOk, OnErr, OnOk};
+ghost use Rattle.std.specs.List.{AllByRecursion};
+ghost use Rattle.discount_factors.specs.Factors.{IsPlaces};
+ghost use Rattle.named_equations.specs.Instances.{instances};
+ghost use Rattle.named_equations.specs.RegionFactors.{AreRegionFactors, places_of};
+ghost use Rattle.row_core.specs.Equations.{IsEquation};
+ghost use Rattle.row_source.specs.Contents.{contents_of};
+ghost use Rattle.row_source.specs.Sources.{Answers, AreInOrder, rows_of_equation};
+ghost use Rattle.row_book.specs.Books.{CanBeMade, HasStopped, IsWithinSets, NamesRowWithin};
+ghost use Rattle.row_book.specs.Feeds.{AreContentsOf, HasContentsWithin, ahead_after, equation_contents};
+
+use crate::factors::region_factors;
+use crate::fail::BookFail;
+use crate::made_rows::MadeRows;
+use crate::tally::Tally;
+use crate::tallying::is_marked;
+use crate::variables::sort_variables;
+use discount_factors::Factors;
+use param_tables::ModelData;
+use row_core::{Row, Var};
+use row_source::RowSource;
+use std::alloc::{AllocError, Global};
+use std::marker::Model;
+
+/// All rows of a model, in order, which are made again equation by equation as they are asked for.
+#[derive(Drop)]
+pub struct RowFeed<'a> {
+    alloc: Global,
+    model: &'a ModelData,
+    factors: Vec<Factors>,
+    /// How many rows stand before those of each equation, in the order of equations.
+    before: Vec<u64>,
+    /// Of each equation, and each kind of variable: whether it has an entry of the kind.
+    kinds: Vec<bool>,
+    /// The equation, and how many rows of all stand before the place.
+    eq: u8,
+    passed: u64,
+    /// Whether the rows of the equation are made: then those that are ahead, the next one last.
+    made: bool,
+    rows: Vec<Row>,
+}
+
+impl<'a> Model for RowFeed<'a> {
+    ghost use Rattle.named_equations.specs.RegionFactors.{places_of};
+    ghost use Rattle.row_book.specs.Feeds.{Feed, ahead_after, all_contents, equation_contents};
+    ghost use Rattle.row_book.specs.FeedStates.{IsFeed};
+
+    ghost Value = { Feed };
+
+    ghost view = { λ feed. record {
+      rows = all_contents (places_of feed.factors.items) feed.model.now.facts;
+      ahead = ahead_after feed.passed feed.made feed.rows.items (equation_contents (places_of feed.factors.items) feed.model.now.facts feed.eq);
+    } };
+
+    ghost invariant = { λ feed. IsFeed feed.model.now.facts feed.factors.items feed.before.items feed.kinds.items feed.eq };
+}
+
+impl<'a> RowFeed<'a> {
+    /// A feed of the row of each instance of the named equations, by the equation's number and then by
+    /// subscripts, which stands before the first row of equation 1; and the variables of all entries, in
+    /// strictly ascending order. Written factors have `places` decimal places, 6 or 9.
+    ///
+    /// Every row is made once. The first one that can't be made is refused: with `Width` and its name where a
+    /// number that is formed for it doesn't fit, and else with `TooManyEntries`, where the entries of the rows
+    /// up to and with it are more than 4,000,000. `Memory` comes where memory ran out.
+    pub fn new(
+        alloc: Global,
+        model: &'a ModelData,
+        places: u8,
+    ) -> Result<(RowFeed<'a>, Vec<Var>), BookFail>
+        requires places { IsPlaces places }
+        ensures rows { IfOk result (λ made. AreContentsOf places model.now.facts made.0.rows made.1.items) }
+        ensures starts { IfOk result (λ made. made.0.ahead ≡ rows_of_equation 1 made.0.rows) }
+        ensures in_order { IfOk result (λ made. AreInOrder made.0.rows) }
+
+        // Each name is of its list, with the positions of members as its subscripts.
+        ensures named { IfOk result (λ made. AllByRecursion (HasContentsWithin model.now.facts.sets) made.0.rows) }
+        ensures within { IfOk result (λ made. AllByRecursion (IsWithinSets model.now.facts.sets) made.1.items) }
+
+        // When there is a feed, and why there is none.
+        ensures made { OnOk result (CanBeMade places model.now.facts 0 (instances model.now.facts)) }
+        ensures stopped { IfErr result (HasStopped places model.now.facts 0 (instances model.now.facts)) }
+        ensures place { IfErr result (NamesRowWithin model.now.facts.sets) }
+    {
+        let factors = region_factors(alloc, model, places)?;
+        let mut tally = Tally::new(alloc)?;
+        match tally.add_equations(alloc, model, &factors) {
+            Ok(()) => {}
+            Err(fail) => return Err(fail),
+        }
+        let Tally {
+            before,
+            kinds,
+            mut vars,
+            ..
+        } = tally;
+        match sort_variables(&mut vars) {
+            Ok(()) => {}
+            Err(_) => return Err(BookFail::Memory),
+        }
+        let feed = RowFeed {
+            alloc,
+            model,
+            factors,
+            before,
+            kinds,
+            eq: 1,
+            passed: 0,
+            made: false,
+            rows: Vec::new(alloc),
+        };
+        Ok((feed, vars))
+    }
+}
+
+impl<'a> RowSource for RowFeed<'a> {
+    ghost rows = { λ feed. feed.rows };
+
+    ghost ahead = { λ feed. feed.ahead };
+
+    fn start(&mut self, eq: u8) {
+        self.passed = self.before[eq as usize - 1];
+        self.eq = eq;
+        self.made = false;
+    }
+
+    fn next(&mut self) -> Result<Option<(u64, Row)>, AllocError> {
+        if self.made {
+            return next_row(&mut self.rows, &mut self.passed);
+        }
+        self.rows = match equation_rows(self.alloc, self.model, &self.factors, self.eq) {
+            Ok(rows) => rows,
+            Err(fail) => return Err(fail),
+        };
+        self.made = true;
+        next_row(&mut self.rows, &mut self.passed)
+    }
+
+    fn has(&self, eq: u8, kind: u8) -> bool {
+        is_marked(&self.kinds, eq, kind)
+    }
+}
+
+/// Makes the rows of an equation, of which all can be made, and puts the last one first. Fails only where memory runs
+/// out.
+fn equation_rows(
+    alloc: Global,
+    model: &ModelData,
+    factors: &[Factors],
+    eq: u8,
+) -> Result<Vec<Row>, AllocError>
+    requires equation { IsEquation eq }
+    requires factors { AreRegionFactors (places_of factors.now) model.now.facts factors.now }
+    ensures { IfOk result (λ rows. map contents_of (reverse rows.items) ≡ equation_contents (places_of factors.now) model.now.facts eq) }
+{
+    let mut made = MadeRows {
+        alloc,
+        rows: Vec::new(alloc),
+        entries: 0,
+    };
+    match made.add_equation(model, factors, eq) {
+        Ok(()) => {}
+        Err(_) => return Err(AllocError),
+    }
+    made.rows.reverse();
+    Ok(made.rows)
+}
+
+/// Takes the last of the rows, which is the one after those that are passed.
+fn next_row(rows: &mut Vec<Row>, passed: &mut u64) -> Result<Option<(u64, Row)>, AllocError>
+    ensures answers { IfOk result (λ found. Answers
+        (ahead_after passed.old true rows.old.items []) found (ahead_after passed.new true rows.new.items [])) }
+    ensures stays { OnErr result (ahead_after passed.new true rows.new.items [] ≡ ahead_after passed.old true rows.old.items []) }
+{
+    let number = match passed.checked_add(1) {
+        Some(number) => number,
+        None => return Err(AllocError),
+    };
+    match rows.pop() {
+        None => Ok(None),
+        Some(row) => {
+            *passed = number;
+            Ok(Some((number, row)))
+        }
+    }
+}

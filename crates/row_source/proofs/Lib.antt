@@ -1,0 +1,2 @@
+pub mod EquationLaws
+mod SourceExamples

@@ -1,0 +1,25 @@
+-- The code's number is that of the rough line.
+use Rattle.std.proofs.Common.{◌≡◌, sym, ap₂, ◌∙◌, subst, to_z, of_z}
+use Rattle.std.specs.Int.{w128}
+use Rattle.exact_num.specs.Range.{InRange}
+use Rattle.exact_num.proofs.RangeLaws.{IfOk-equal, back_in_range}
+use Rattle.written_method.specs.Lines.{entry_of, less}
+use Rattle.written_method.specs.Tableaus.{Tableau, line_of}
+use Rattle.simplex_core.specs.KeptViews.{rough_of, x0_in}
+use Rattle.simplex_core.proofs.KeptChoiceLaws.{rough-right}
+use Rattle.simplex_core.proofs.kept_choice.rough_right.Goals as goal
+
+pub returns-clause-value : goal.returns-clause-value
+returns-clause-value c =
+    let t : Tableau = c.args.tableau.now.tableau in
+    let h = c.args.home in
+    let d = x0_in t in
+    let a : to_z w128 (of_z w128 h.at_x0) ≡ entry_of (line_of t h.row) d = back_in_range h.at_x0 h.at_x0_fits ∙ c.requires.home.at_x0_is in
+    let b : to_z w128 (of_z w128 c.last_entry.result) ≡ entry_of (line_of t c.args.row) d = back_in_range c.last_entry.result (subst InRange (sym c.last_entry.ensures.value) c.last_entry.ensures.range) ∙ c.last_entry.ensures.value in
+    let x : to_z w128 (of_z w128 c.rhs.result) ≡ (line_of t c.args.row).right = back_in_range c.rhs.result (subst InRange (sym c.rhs.ensures.value) c.rhs.ensures.range) ∙ c.rhs.ensures.value in
+    let y : to_z w128 (of_z w128 h.right) ≡ (line_of t h.row).right = back_in_range h.right h.right_fits ∙ c.requires.home.right_is in
+    let same : less (to_z w128 (of_z w128 h.at_x0)) (to_z w128 (of_z w128 c.last_entry.result)) (to_z w128 (of_z w128 c.rhs.result)) (to_z w128 (of_z w128 h.right)) ≡ (rough_of t h.row d c.args.row).right =
+    ap₂ (λ p q. less p q (to_z w128 (of_z w128 c.rhs.result)) (to_z w128 (of_z w128 h.right))) a b
+    ∙ ap₂ (λ p q. less (entry_of (line_of t h.row) d) (entry_of (line_of t c.args.row) d) p q) x y
+    ∙ rough-right t h.row d c.args.row c.if-row-home.false in
+    IfOk-equal (λ z. z) c.less.result same c.less.ensures.value
