@@ -1,5 +1,8 @@
 pub mod LimitedLaws
 pub mod LimitedData
+pub mod LimitTerms
+pub mod RenewedLaws
+pub mod KeptBooks
 pub mod NamedPoints
 pub mod PointPlaces
 pub mod TrialLaws

@@ -75,3 +75,21 @@ module _ (model d changed : Data) (r e : ℕ) (z : ℤ) (same : AreSameData mode
 
   pub same-limited : AreSameData changed (with_limit d r e z)
   same-limited = record { sets = sets-are; second = second-is; values = value-alike }
+
+-- the limit may be put into either of two data that are the same
+module _ (d e : Data) (r m : ℕ) (z : ℤ) (same : AreSameData d e) where
+  names-same : limit_names d r m ≡ limit_names e r m
+  names-same = ap (λ (sets : SetLists). limit_names (record { sets = sets; given = d.given; defaults = d.defaults; second = d.second }) r m) same.sets
+
+  limited-value : (param : ℕ) → IsUsedParam d param → (index : List (List ℕ)) → Contains (indices_of d.sets param) index → value_at (with_limit d r m z) param index ≡ value_at (with_limit e r m z) param index
+  limited-value param used index has = by_test (is_given_at param index (given_limit d r m z)) refl
+    where
+      test-same : is_given_at param index (given_limit d r m z) ≡ is_given_at param index (given_limit e r m z)
+      test-same = ap (λ (names : List (List ℕ)). nat_eq MODEL_PERIOD_EMISSION_LIMIT param && pointwise bytes_eq names index) names-same
+
+      by_test : (b : Bool) → is_given_at param index (given_limit d r m z) ≡ b → value_at (with_limit d r m z) param index ≡ value_at (with_limit e r m z) param index
+      by_test true is = value-chosen d r m z param index true is ∙ sym (value-chosen e r m z param index true (sym test-same ∙ is))
+      by_test false is = value-chosen d r m z param index false is ∙ same.values param used index has ∙ sym (value-chosen e r m z param index false (sym test-same ∙ is))
+
+  pub limited-alike : AreSameData (with_limit d r m z) (with_limit e r m z)
+  limited-alike = record { sets = same.sets; second = same.second; values = λ param used index has. limited-value param used index has }

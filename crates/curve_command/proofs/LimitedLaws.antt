@@ -146,7 +146,7 @@ module _ (d : Data) (r e : ℕ) (z : ℤ) where
     limit-tidied : (i : Index) → is_index d (subscripts_of E9) i ≡ true → i ≡ at_re i.region i.emission
     limit-tidied i within = index-tidied d (place.r ∷ place.e ∷ []) i (values-from_index d (place.r ∷ place.e ∷ []) i within)
 
-    limit-apart : (i : Index) → is_index d (subscripts_of E9) i ≡ true → name_at E9 i ≢ limit_at r e → model_period_emission_limit d i.region i.emission ≡ model_period_emission_limit limited i.region i.emission
+    pub limit-apart : (i : Index) → is_index d (subscripts_of E9) i ≡ true → name_at E9 i ≢ limit_at r e → model_period_emission_limit d i.region i.emission ≡ model_period_emission_limit limited i.region i.emission
     limit-apart i within apart =
         let at = are_in_sets d (subscripts_of E9) i within in
         limit-elsewhere i.region i.emission (at.region refl) (at.emission refl)
@@ -198,7 +198,7 @@ module _ (d : Data) (r e : ℕ) (z : ℤ) where
     is-limit (pos n) least = refl
     is-limit (negsuc n) least = absurd (omega (arith, ints, least))
 
-    limit-instance : pos 0 ≤ℤ z → is_instance limited (limit_at r e) ≡ true
+    pub limit-instance : pos 0 ≤ℤ z → is_instance limited (limit_at r e) ≡ true
     limit-instance least =
         both_true (both_true refl (index-from_values limited (place.r ∷ place.e ∷ []) (at_re r e) (values-re limited r e (lt-ltb r _ in_r) (lt-ltb e _ in_e))))
         (is-limit (model_period_emission_limit limited r e) (subst (λ limit. pos 0 ≤ℤ limit) (sym limit-here) least))

@@ -4,3 +4,4 @@ pub mod CurveTexts
 pub mod Trials
 pub mod Curve
 pub mod Outcomes
+pub mod KeptRows

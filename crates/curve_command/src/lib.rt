@@ -2,6 +2,7 @@
 //! bound on the cost at every other limit.
 #![tactic(auto)]
 
+mod books;
 mod curve;
 mod laws;
 mod points;

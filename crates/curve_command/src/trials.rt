@@ -1,20 +1,21 @@
 // The trials of limits, one after another.
-ghost use Rattle.std.specs.Prelude.{◌≡◌, ◌<◌, IfOk, length};
+ghost use Rattle.std.specs.Prelude.{◌≡◌, ◌<◌, IfOk, IfSome, length};
 ghost use Rattle.std.specs.List.{AllByRecursion};
 ghost use Rattle.command_words.specs.LimitLists.{IsLimit};
 ghost use Rattle.discount_factors.specs.Factors.{IsPlaces};
 ghost use Rattle.model_sets.specs.Data.{AreSameData, Data};
 ghost use Rattle.model_sets.specs.Members.{members};
 ghost use Rattle.row_book.specs.Books.{NamesRowWithin};
+ghost use Rattle.curve_command.specs.KeptRows.{IsBookAtSome};
 ghost use Rattle.curve_command.specs.Limited.{limit_at};
 ghost use Rattle.curve_command.specs.Outcomes.{FailTells, OutcomeTells, TrialTells, wanted_of};
 
+use crate::books::limited_book;
 use crate::points::book_trial;
 use command_answers::{Answer, TrialStop, refuse_book};
 use command_words::SolveMethod;
 use emission_curve::Point;
 use model_sets::Sets;
-use model_sets::param_numbers::MODEL_PERIOD_EMISSION_LIMIT;
 use model_sets::set_numbers::{EMISSION, REGION};
 use param_tables::ModelData;
 use row_book::{BookFail, RowBook, same_data_laws};
@@ -53,6 +54,13 @@ pub enum Trial {
     Refused(Answer),
 }
 
+/// What a trial comes to, and its rows, where they were made.
+#[derive(Drop)]
+pub struct Tried {
+    pub trial: Trial,
+    pub book: Option<RowBook>,
+}
+
 /// What the trials come to.
 #[derive(Drop)]
 pub enum Outcome {
@@ -78,11 +86,16 @@ pub fn trials(
     ensures { (d : Data) → AreSameData model.now.facts d → IfOk result (OutcomeTells places d member.region member.emission (wanted_of wanted) limits.now) }
 {
     let mut all = Vec::with_capacity(alloc, limits.len())?;
+    let mut book = None;
     for limit in limits {
-        match limit_trial(alloc, model, places, member, *limit, wanted)? {
+        let Tried { trial, book: made } = limit_trial(
+            alloc, model, places, member, *limit, wanted, book,
+        )?;
+        match trial {
             Trial::Ended(point) => all.push(found_at(*limit, point))?,
             Trial::Refused(answer) => return Ok(Outcome::Refused(answer)),
         }
+        book = made;
     }
     Ok(Outcome::Ended(all))
 }
@@ -95,7 +108,7 @@ fn found_at(limit: i128, point: Point) -> Found
     Found { limit, point }
 }
 
-// The trial of a limit, in billionths: over the data with that limit.
+// The trial of a limit, in billionths: over the data with that limit. `before` are the rows of another limit's trial.
 fn limit_trial(
     alloc: Global,
     model: &ModelData,
@@ -103,24 +116,34 @@ fn limit_trial(
     member: Member,
     limit: i128,
     wanted: Wanted,
-) -> Result<Trial, AllocError>
+    before: Option<RowBook>,
+) -> Result<Tried, AllocError>
     requires places { IsPlaces places }
     requires region { member.region < length (members model.now.facts.sets REGION) }
     requires emission { member.emission < length (members model.now.facts.sets EMISSION) }
     requires limit { IsLimit limit }
-    ensures { (d : Data) → AreSameData model.now.facts d → IfOk result (TrialTells places d member.region member.emission (wanted_of wanted) limit) }
+    requires before { IfSome before (IsBookAtSome places model.now.facts member.region member.emission) }
+    ensures trial { (d : Data) → AreSameData model.now.facts d → IfOk result (λ tried. TrialTells places d member.region member.emission (wanted_of wanted) limit tried.trial) }
+    ensures book { IfOk result (λ tried. IfSome tried.book (IsBookAtSome places model.now.facts member.region member.emission)) }
 {
     same_data_laws();
-    let index = [member.region, member.emission];
-    let limited = model.with_value(alloc, MODEL_PERIOD_EMISSION_LIMIT, &index, limit)?;
-    match RowBook::new(alloc, &limited, places) {
-        Ok(book) => book_trial(alloc, &book, limited.sets(), limit_row(member), wanted),
-        Err(fail) => failed_trial(alloc, fail, limited.sets()),
+    match limited_book(alloc, model, places, member, limit, before) {
+        Ok(book) => {
+            let trial = book_trial(alloc, &book, model.sets(), limit_row(member), wanted)?;
+            Ok(Tried {
+                trial,
+                book: Some(book),
+            })
+        }
+        Err(fail) => {
+            let trial = failed_trial(alloc, fail, model.sets())?;
+            Ok(Tried { trial, book: None })
+        }
     }
 }
 
-// The row of the limit.
-fn limit_row(member: Member) -> RowName
+/// The row of the limit.
+pub fn limit_row(member: Member) -> RowName
     ensures { result ≡ limit_at member.region member.emission }
 {
     RowName {

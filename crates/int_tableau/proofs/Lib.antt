@@ -14,3 +14,5 @@ pub mod HeadLaws
 pub mod SizeLaws
 pub mod MarkLaws
 pub mod SwapLaws
+pub mod ProductLaws
+pub mod LastLaws

@@ -11,3 +11,4 @@ pub mod KeptEntries
 pub mod Sizes
 pub mod Marks
 pub mod Swaps
+pub mod Shorts

@@ -1,6 +1,6 @@
 //! The entries of a line, in 64 bits while all of their numbers fit, and else in 128.
 
-ghost use Rattle.std.specs.Prelude.{◌≡◌, ◌≤◌, ◌≤ℤ◌, ◌∷◌, Bool, List, ℕ, suc, pos, [], drop, take, true, IfOk, OnOk, OnErr};
+ghost use Rattle.std.specs.Prelude.{◌≡◌, ◌<◌, ◌≤◌, ◌^◌, ◌≤ℤ◌, ◌∷◌, Bool, List, ℕ, suc, pos, [], drop, take, true, IfOk, OnOk, OnErr, IfSome, unsigned_abs};
 ghost use Rattle.exact_num.specs.Range.{InRange, all_fit};
 ghost use Rattle.row_core.specs.Numbers.{numbers_of};
 ghost use Rattle.written_method.specs.Lines.{less, less_formed};
@@ -131,6 +131,30 @@ impl EntryList {
         match &self.kept {
             Kept::Narrow(list) => narrow::last_in(list, column),
             Kept::Wide(list) => entries::last_in(list, column),
+        }
+    }
+
+    /// The number in the last of so many columns, where it is kept in 64 bits.
+    pub(crate) fn short_last_in(&self, last: usize) -> Option<i64>
+        requires { IsSparse 0 (suc last) self.now }
+        ensures value { IfSome result (λ s. s ≡ at self.now last) }
+        ensures narrow { IfSome result (λ s. unsigned_abs s < 2 ^ 63) }
+    {
+        match &self.kept {
+            Kept::Narrow(list) => Some(narrow::short_last_in(list, last)),
+            Kept::Wide(_) => None,
+        }
+    }
+
+    /// The number in a column, where it is kept in 64 bits.
+    pub(crate) fn short_in(&self, column: usize, columns: usize) -> Option<i64>
+        requires { IsSparse 0 columns self.now }
+        ensures value { IfSome result (λ s. s ≡ at self.now column) }
+        ensures narrow { IfSome result (λ s. unsigned_abs s < 2 ^ 63) }
+    {
+        match &self.kept {
+            Kept::Narrow(list) => Some(narrow::short_in(list, column, columns)),
+            Kept::Wide(_) => None,
         }
     }
 

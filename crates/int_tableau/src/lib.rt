@@ -14,11 +14,14 @@ mod narrow_merging;
 mod numbers;
 mod refused;
 mod room;
+mod short_numbers;
 mod sizes;
 mod starting;
 mod tableau;
 
 pub use merging::difference;
 pub use narrow::is_narrow;
+pub use narrow_merging::short_difference;
+pub use short_numbers::ShortNumbers;
 pub use starting::{as_most, column_after, is_split};
 pub use tableau::Tableau;

@@ -1,15 +1,16 @@
 //! A row of the tableau with only its entries other than 0.
 
-ghost use Rattle.std.specs.Prelude.{◌≡◌, ◌≢◌, ◌<◌, ◌≤◌, ◌-◌, [], ℕ, false, true, pos, length, IfErr, IfOk, OnOk, IfSome, IfNone};
+ghost use Rattle.std.specs.Prelude.{◌≡◌, ◌≢◌, ◌<◌, ◌≤◌, ◌-◌, ◌^◌, [], ℕ, false, true, pos, length, unsigned_abs, IfErr, IfOk, OnOk, IfSome, IfNone};
 ghost use Rattle.exact_num.specs.Range.{InRange, all_fit};
 ghost use Rattle.written_method.specs.Lines.{Line, entry_of, numbers_of, lowest_line, line_less, all_less_formed, cleared, cleared_formed, factor_of};
 ghost use Rattle.row_core.specs.Numbers.{numbers_of as numbers_in};
 ghost use Rattle.row_core.specs.Written.{row_divisor};
+ghost use Rattle.int_tableau.specs.Shorts.{AreOf};
 ghost use Rattle.int_tableau.specs.Sizes.{AreWithin, IsSized};
 ghost use Rattle.written_method.specs.Tableaus.{negated_line, without_last};
 ghost use Rattle.int_tableau.specs.Entries.{at, IsSparse};
 ghost use Rattle.int_tableau.specs.Stops.{IsRefusal};
-ghost use Rattle.int_tableau.specs.LineView.{line_seen, IsFine};
+ghost use Rattle.int_tableau.specs.LineView.{AreLast, line_seen, IsFine};
 ghost use Rattle.int_tableau.specs.NextEntries.{IsNextEntry};
 
 use crate::entry_list::EntryList;
@@ -20,6 +21,7 @@ use crate::narrow_division;
 use crate::numbers::{divide, factors, opposite};
 use crate::refused::Refused;
 use crate::room::Room;
+use crate::short_numbers::ShortNumbers;
 use crate::sizes::{greater, size_of};
 use exact_num::gcd;
 use row_core::less;
@@ -29,12 +31,15 @@ use std::marker::Model;
 /// An entry for each column, a right side, and an own entry at z or at w.
 #[derive(Drop)]
 pub(crate) struct SparseLine {
-    columns: usize,
-    entries: EntryList,
+    // What a choice reads of each line stands side by side.
     right: i128,
-    own: i128,
     /// No absolute value of its numbers is above it.
     size: u128,
+    /// The entry in the last column, where it is known and has 64 bits.
+    last: Option<i64>,
+    columns: usize,
+    entries: EntryList,
+    own: i128,
     /// Outside marked columns it has no entry.
     marks: [bool; MARKS],
 }
@@ -49,6 +54,17 @@ fn size_of_line(entries: &EntryList, right: i128, own: i128) -> u128
     entries.size(greater(size_of(right), size_of(own)))
 }
 
+/// The entry in the last column, where it has 64 bits.
+fn last_of(entries: &EntryList, columns: usize) -> Option<i64>
+    requires { IsSparse 0 columns entries.now }
+    ensures { AreLast result entries.now columns }
+{
+    if columns == 0 {
+        return None;
+    }
+    entries.short_last_in(columns - 1)
+}
+
 impl Model for SparseLine {
     ghost use Rattle.written_method.specs.Lines.{Line};
     ghost use Rattle.int_tableau.specs.LineView.{line_seen, IsLine};
@@ -57,7 +73,7 @@ impl Model for SparseLine {
 
     ghost view = { λ l. line_seen l.columns l.entries l.right l.own };
 
-    ghost invariant = { λ l. IsLine l.columns l.entries l.right l.own l.size l.marks };
+    ghost invariant = { λ l. IsLine l.columns l.entries l.right l.own l.size l.marks l.last };
 }
 
 impl SparseLine {
@@ -75,12 +91,14 @@ impl SparseLine {
         let entries = EntryList::of(alloc, entries)?;
         let size = size_of_line(&entries, right, own);
         let marks = entries.marks();
+        let last = last_of(&entries, columns);
         Ok(SparseLine {
+            right,
+            size,
+            last,
             columns,
             entries,
-            right,
             own,
-            size,
             marks,
         })
     }
@@ -90,11 +108,12 @@ impl SparseLine {
         ensures { result ≡ line_seen columns [] (pos 0) (pos 0) }
     {
         SparseLine {
+            right: 0,
+            size: 0,
+            last: None,
             columns,
             entries: EntryList::none(alloc),
-            right: 0,
             own: 0,
-            size: 0,
             marks: [false; MARKS],
         }
     }
@@ -156,7 +175,41 @@ impl SparseLine {
         ensures value { result ≡ entry_of self.now (length self.now.entries - 1) }
         ensures range { InRange (entry_of self.now (length self.now.entries - 1)) }
     {
-        self.entries.last_in(self.columns - 1)
+        match self.last {
+            Some(last) => last as i128,
+            None => self.entries.last_in(self.columns - 1),
+        }
+    }
+
+    /// The entry in a column, where it has 64 bits.
+    fn short_entry(&self, column: usize) -> Option<i64>
+        requires { column < length self.now.entries }
+        ensures value { IfSome result (λ s. s ≡ entry_of self.now column) }
+        ensures narrow { IfSome result (λ s. unsigned_abs s < 2 ^ 63) }
+    {
+        if !is_marked(&self.marks, column) {
+            return Some(0);
+        }
+        self.entries.short_in(column, self.columns)
+    }
+
+    /// The entries in a column and in the last one, and the right side, where they have 64 bits.
+    pub(crate) fn short_numbers(&self, column: usize) -> Option<ShortNumbers>
+        requires { column < length self.now.entries }
+        ensures { IfSome result (AreOf self.now column) }
+    {
+        if !is_narrow(self.right) {
+            return None;
+        }
+        let entry = self.short_entry(column)?;
+        let Some(last) = self.last else {
+            return None;
+        };
+        Some(ShortNumbers {
+            entry,
+            last,
+            right: self.right as i64,
+        })
     }
 
     /// Whether it is sure that the numbers of the line have no common divisor.
@@ -173,6 +226,7 @@ impl SparseLine {
         self.entries.negate();
         self.right = opposite(self.right);
         self.own = opposite(self.own);
+        self.last = last_of(&self.entries, self.columns);
     }
 
     /// Drops the last column.
@@ -184,6 +238,7 @@ impl SparseLine {
         let at = self.entries.position_of(last, self.columns);
         self.entries.truncate(at);
         self.columns = last;
+        self.last = None;
     }
 
     /// Takes `b` times another line from `a` times this one, and divides what is left by the greatest common divisor of its
@@ -218,11 +273,13 @@ impl SparseLine {
         let Some((right, own)) = narrow_division::divide(&mut room.narrow, right, own) else {
             return Ok(false);
         };
+        self.last = None;
         self.entries.replace(room.alloc, &room.narrow)?;
         self.right = right;
         self.own = own;
         self.size = size_of_line(&self.entries, right, own);
         self.marks = self.entries.marks();
+        self.last = last_of(&self.entries, self.columns);
         Ok(true)
     }
 
@@ -256,6 +313,7 @@ impl SparseLine {
         self.own = own;
         self.size = size_of_line(&self.entries, right, own);
         self.marks = self.entries.marks();
+        self.last = last_of(&self.entries, self.columns);
         Ok(())
     }
 

@@ -7,7 +7,7 @@ ghost use Rattle.row_core.specs.Numbers.{numbers_of};
 ghost use Rattle.int_tableau.specs.Narrow.{AreNarrow};
 ghost use Rattle.int_tableau.specs.Sizes.{AreWithin};
 
-use crate::sizes::{greater, last_position, size_of};
+use crate::sizes::{greater, greater_short, last_position};
 use std::alloc::{AllocError, Global};
 
 /// Whether the absolute value of a number is below 2^63: then it has 64 bits, and a product with another such number 127.
@@ -15,6 +15,13 @@ pub fn is_narrow(n: i128) -> bool
     ensures { IsTrue result ↔ (unsigned_abs n < 2 ^ 63) }
 {
     -(1 << 63) < n && n < 1 << 63
+}
+
+/// Whether the absolute value of a number of 64 bits is below 2^63.
+pub(crate) fn is_short(n: i64) -> bool
+    ensures { IsTrue result ↔ (unsigned_abs n < 2 ^ 63) }
+{
+    n > i64::MIN
 }
 
 /// The number of the entry at this position where it stands in this column, and else 0.
@@ -49,13 +56,23 @@ pub(crate) fn position_of(entries: &[(usize, i64)], column: usize, columns: usiz
 }
 
 /// The number in a column.
+pub(crate) fn short_in(entries: &[(usize, i64)], column: usize, columns: usize) -> i64
+    requires sparse { IsSparse 0 columns entries.now }
+    requires narrow { AreNarrow entries.now }
+    ensures value { result ≡ at entries.now column }
+    ensures narrow { unsigned_abs (at entries.now column) < 2 ^ 63 }
+{
+    number_at(entries, position_of(entries, column, columns), column)
+}
+
+/// The number in a column, in 128 bits.
 pub(crate) fn number_in(entries: &[(usize, i64)], column: usize, columns: usize) -> i128
     requires sparse { IsSparse 0 columns entries.now }
     requires narrow { AreNarrow entries.now }
     ensures value { result ≡ at entries.now column }
     ensures range { InRange (at entries.now column) }
 {
-    number_at(entries, position_of(entries, column, columns), column) as i128
+    short_in(entries, column, columns) as i128
 }
 
 /// The entry at a position, if there is one.
@@ -71,13 +88,23 @@ pub(crate) fn entry_at(entries: &[(usize, i64)], at: usize) -> Option<(usize, i1
 }
 
 /// The number in the last of so many columns.
+pub(crate) fn short_last_in(entries: &[(usize, i64)], column: usize) -> i64
+    requires sparse { IsSparse 0 (suc column) entries.now }
+    requires narrow { AreNarrow entries.now }
+    ensures value { result ≡ at entries.now column }
+    ensures narrow { unsigned_abs (at entries.now column) < 2 ^ 63 }
+{
+    number_at(entries, last_position(entries.len()), column)
+}
+
+/// The number in the last of so many columns, in 128 bits.
 pub(crate) fn last_in(entries: &[(usize, i64)], column: usize) -> i128
     requires sparse { IsSparse 0 (suc column) entries.now }
     requires narrow { AreNarrow entries.now }
     ensures value { result ≡ at entries.now column }
     ensures range { InRange (at entries.now column) }
 {
-    number_at(entries, last_position(entries.len()), column) as i128
+    short_last_in(entries, column) as i128
 }
 
 /// The greatest absolute value of the entries, or `least` where that is greater.
@@ -86,9 +113,17 @@ pub(crate) fn size(entries: &[(usize, i64)], least: u128) -> u128
     ensures within { AreWithin result (numbers_of entries.now) }
     ensures least { least ≤ result }
 {
-    let mut greatest = least;
+    greater(least, short_size(entries) as u128)
+}
+
+/// The greatest absolute value of the entries.
+fn short_size(entries: &[(usize, i64)]) -> u64
+    requires { AreNarrow entries.now }
+    ensures { AreWithin result (numbers_of entries.now) }
+{
+    let mut greatest = 0;
     for entry in entries {
-        greatest = greater(greatest, size_of(entry.1 as i128));
+        greatest = greater_short(greatest, entry.1.unsigned_abs());
     }
     greatest
 }

@@ -1,42 +1,67 @@
 //! Two lists of entries of 64 bits side by side, and their difference.
 
-ghost use Rattle.std.specs.Prelude.{◌≡◌, ◌<◌, ◌^◌, ℕ, true, OnOk, unsigned_abs};
+ghost use Rattle.std.specs.Prelude.{◌≡◌, ◌<◌, ◌^◌, ℕ, true, OnOk, IfSome, vec_len, vec_capacity, unsigned_abs};
 ghost use Rattle.exact_num.specs.Range.{InRange, all_fit};
 ghost use Rattle.written_method.specs.Lines.{less, less_formed};
 ghost use Rattle.int_tableau.specs.Entries.{at, IsSparse};
 ghost use Rattle.int_tableau.specs.Narrow.{AreNarrow};
 ghost use Rattle.int_tableau.specs.Pushes.{IsPushed};
 
-use crate::merging::{column_at, narrow_less};
-use crate::narrow::is_narrow;
+use crate::merging::column_at;
+use crate::narrow::is_short;
 use crate::refused::Refused;
 
-/// `a * x - b * y`.
-fn difference(a: i64, b: i64, x: i64, y: i64) -> i128
+/// `a * x - b * y`, if both products and the difference are numbers of 64 bits.
+pub fn short_difference(a: i64, b: i64, x: i64, y: i64) -> Option<i64>
     requires a { unsigned_abs a < 2 ^ 63 }
     requires b { unsigned_abs b < 2 ^ 63 }
     requires x { unsigned_abs x < 2 ^ 63 }
     requires y { unsigned_abs y < 2 ^ 63 }
-    ensures value { result ≡ less a b x y }
-    ensures fits { all_fit (less_formed a b x y) ≡ true }
-    ensures range { InRange result }
+    ensures value { IfSome result (λ z. z ≡ less a b x y) }
+    ensures narrow { IfSome result (λ z. unsigned_abs z < 2 ^ 63) }
 {
-    narrow_less(a as i128, b as i128, x as i128, y as i128)
+    let first = a.checked_mul(x)?;
+    let second = b.checked_mul(y)?;
+    let rest = first.checked_sub(second)?;
+    if is_short(rest) { Some(rest) } else { None }
 }
 
-/// Appends an entry, unless its number is 0. `TooWide` where it has more than 64 bits.
-fn push_unless_zero(out: &mut Vec<(usize, i64)>, column: usize, number: i128) -> Result<(), Refused>
-    requires { InRange number }
-    ensures pushed { OnOk result (IsPushed column number out.old.items out.new.items) }
-    ensures narrow { OnOk result (AreNarrow out.old.items → AreNarrow out.new.items) }
+/// Appends an entry, unless its number is 0. There is room for it.
+fn push_unless_zero(out: &mut Vec<(usize, i64)>, column: usize, number: i64)
+    requires room { vec_len out.old < vec_capacity out.old }
+    requires number { unsigned_abs number < 2 ^ 63 }
+    ensures pushed { IsPushed column number out.old.items out.new.items }
+    ensures narrow { AreNarrow out.old.items → AreNarrow out.new.items }
+    ensures capacity { vec_capacity out.new ≡ vec_capacity out.old }
 {
-    if number == 0 {
-        return Ok(());
+    if number != 0 {
+        out.push_reserved((column, number));
     }
-    if !is_narrow(number) {
+}
+
+/// Appends `a * x - b * y` as an entry, unless it is 0. `TooWide` where a number that is formed has more than 64 bits.
+fn push_difference(
+    out: &mut Vec<(usize, i64)>,
+    column: usize,
+    a: i64,
+    b: i64,
+    x: i64,
+    y: i64,
+) -> Result<(), Refused>
+    requires room { vec_len out.old < vec_capacity out.old }
+    requires a { unsigned_abs a < 2 ^ 63 }
+    requires b { unsigned_abs b < 2 ^ 63 }
+    requires x { unsigned_abs x < 2 ^ 63 }
+    requires y { unsigned_abs y < 2 ^ 63 }
+    ensures pushed { OnOk result (IsPushed column (less a b x y) out.old.items out.new.items) }
+    ensures narrow { OnOk result (AreNarrow out.old.items → AreNarrow out.new.items) }
+    ensures capacity { vec_capacity out.new ≡ vec_capacity out.old }
+    ensures fits { all_fit (less_formed a b x y) ≡ true }
+{
+    let Some(number) = short_difference(a, b, x, y) else {
         return Err(Refused::TooWide);
-    }
-    out.push((column, number as i64))?;
+    };
+    push_unless_zero(out, column, number);
     Ok(())
 }
 
@@ -62,21 +87,22 @@ pub(crate) fn combine(
     ensures fits { OnOk result ((c : ℕ) → all_fit (less_formed a b (at line.now c) (at other.now c)) ≡ true) }
 {
     out.clear();
+    out.reserve(columns)?;
     let mut left = 0;
     let mut right = 0;
     let mut first = column_at(line, 0, columns);
     let mut second = column_at(other, 0, columns);
     while first < columns || second < columns {
         if first < second {
-            push_unless_zero(out, first, difference(a, b, line[left].1, 0))?;
+            push_difference(out, first, a, b, line[left].1, 0)?;
             left += 1;
             first = column_at(line, left, columns);
         } else if second < first {
-            push_unless_zero(out, second, difference(a, b, 0, other[right].1))?;
+            push_difference(out, second, a, b, 0, other[right].1)?;
             right += 1;
             second = column_at(other, right, columns);
         } else {
-            push_unless_zero(out, first, difference(a, b, line[left].1, other[right].1))?;
+            push_difference(out, first, a, b, line[left].1, other[right].1)?;
             left += 1;
             right += 1;
             first = column_at(line, left, columns);

@@ -19,6 +19,14 @@ pub(crate) fn greater(a: u128, b: u128) -> u128
     if a < b { b } else { a }
 }
 
+/// The greater of two sizes of 64 bits.
+pub(crate) fn greater_short(a: u64, b: u64) -> u64
+    ensures first { a ≤ result }
+    ensures second { b ≤ result }
+{
+    if a < b { b } else { a }
+}
+
 /// The last of so many positions, or 0.
 pub(crate) fn last_position(count: usize) -> usize
     ensures { result ≡ count - 1 }

@@ -14,6 +14,7 @@ ghost use Rattle.written_method.specs.Meaning.{Values, Solves};
 ghost use Rattle.int_tableau.specs.Stops.{IsRefusal};
 ghost use Rattle.int_tableau.specs.Shapes.{HaveColumns, HaveSome, IsNowhere};
 ghost use Rattle.int_tableau.specs.NextEntries.{IsNextEntry};
+ghost use Rattle.int_tableau.specs.Shorts.{AreOf};
 ghost use Rattle.int_tableau.specs.Sizes.{AreWithin};
 ghost use Rattle.int_tableau.specs.Swaps.{swapped_in};
 ghost use Rattle.int_tableau.specs.Counted.{Counted, pivoted_once, negated_in, shortened, SolvesWithout};
@@ -21,6 +22,7 @@ ghost use Rattle.int_tableau.specs.Counted.{Counted, pivoted_once, negated_in, s
 use crate::line::SparseLine;
 use crate::refused::Refused;
 use crate::room::Room;
+use crate::short_numbers::ShortNumbers;
 use crate::starting::{
     Layout, any_negative, cost_line, push_artificial_line, push_row_lines, slack_columns,
 };
@@ -191,6 +193,15 @@ impl Tableau {
         ensures range { InRange (entry_of (line_of self.now.tableau row) (self.now.tableau.columns - 1)) }
     {
         self.lines[row].last_entry()
+    }
+
+    /// The entries of a row in a column and in the last one, and its right side, where they have 64 bits.
+    pub fn short_numbers(&self, row: usize, column: usize) -> Option<ShortNumbers>
+        requires row { row < length self.now.tableau.lines }
+        requires column { column < self.now.tableau.columns }
+        ensures { IfSome result (AreOf (line_of self.now.tableau row) column) }
+    {
+        self.lines[row].short_numbers(column)
     }
 
     /// A size that the absolute value of no number of a row passes.

@@ -1,5 +1,5 @@
 -- What is due for worked examples: the words, the files, the status and the text; and what isn't.
-use Rattle.std.proofs.Common.{◌≡◌, ℕ, ◌<◌, ◌≤◌, ◌-◌, ◌^◌, List, [], ◌∷◌, ◌++◌, length, refl, sym, ap, subst, arith, inl, inr, Bool, true, MatchBool, nat_lt}
+use Rattle.std.proofs.Common.{◌≡◌, ℕ, ◌<◌, ◌≤◌, ◌-◌, ◌^◌, List, [], ◌∷◌, ◌++◌, length, take, refl, sym, ap, subst, arith, inl, inr, Bool, true, MatchBool, nat_lt}
 use Rattle.std.specs.Prelude.{codes, Option, Some, None, ⊤}
 use Rattle.std.specs.Fmt.{digits}
 use Rattle.model_sets.specs.Data.{Data}
@@ -13,7 +13,7 @@ use Rattle.io_edges.specs.Count.{Rose}
 use Rattle.io_edges.specs.Edges.{Lacks}
 use Rattle.osemosys_run.specs.Causes.{Caused, CausedByFile, FollowsFromText}
 use Rattle.osemosys_run.specs.Complete.{AskForMade, CanBeSummarized, CanBeAccepted, CanBeDrawn, CanBeExplained, CanBeSolved, CanBeWritten, Completes}
-use Rattle.osemosys_run.specs.Due.{Due, DueForFile}
+use Rattle.osemosys_run.specs.Due.{AskForEquations, Due, DueForFile}
 use Rattle.command_answers.specs.DueForText.{DueForText}
 use Rattle.command_answers.specs.Lines.{too_long_line}
 use Rattle.osemosys_run.specs.Mps.{DueForEquations}
@@ -134,37 +134,61 @@ after_them : (before written bytes : List ℕ) → Some before ≡ Some bytes �
 after_them before written bytes told = ap (λ (all : Option (List ℕ)). elim all as (λ _. Option (List ℕ)) [ None ↦ None | Some b ↦ Some (b ++ written) ]) told
 
 -- the whole line comes after what was written before
-delivered : Delivers form_due (Words faults.BadForm) (Some (codes "before ")) (Some (codes "before words refused BadForm\n")) 0 0
+delivered : Delivers ⊥ form_due (Words faults.BadForm) (Some (codes "before ")) (Some (codes "before words refused BadForm\n")) 0 0
 delivered = (codes "words refused BadForm\n", (refl, refl), after_them (codes "before ") (codes "words refused BadForm\n"))
 
 -- a line that lacks its last byte
-cut_short : Delivers form_due (Words faults.BadForm) (Some []) (Some (codes "words refused BadForm")) 0 0 → ⊥
+cut_short : Delivers ⊥ form_due (Words faults.BadForm) (Some []) (Some (codes "words refused BadForm")) 0 0 → ⊥
 cut_short h =
     let whole : h.0 ≡ codes "words refused BadForm\n" = h.1.1 in
     let there : Some (codes "words refused BadForm") ≡ Some h.0 = h.2 [] refl in
     cc (whole, there)
 
 -- a failed write leaves a prefix of the line, and the sink counted it
-prefix_left : Delivers form_due WriteFault (Some []) (Some (codes "words ref")) 0 1
+prefix_left : Delivers ⊥ form_due WriteFault (Some []) (Some (codes "words ref")) 0 1
 prefix_left = (omega arith, (Words faults.BadForm, codes "words refused BadForm\n", (refl, refl), λ bytes told. (9, omega arith, after_them [] (codes "words ref") bytes told)))
 
 -- without a fault that the sink counted there is no write fault
-no_fault : (after : Option (List ℕ)) → Delivers form_due WriteFault (Some []) after 0 0 → ⊥
+no_fault : (after : Option (List ℕ)) → Delivers ⊥ form_due WriteFault (Some []) after 0 0 → ⊥
 no_fault after h = let rose : Rose 0 0 = h.0 in omega (arith, rose)
 
 -- where memory ran out nothing is written
-nothing_written : Delivers form_due Memory (Some (codes "before")) (Some (codes "before")) 0 0
-nothing_written = refl
+nothing_written : Delivers ⊥ form_due Memory (Some (codes "before")) (Some (codes "before")) 0 0
+nothing_written = inl refl
 
-something_written : Delivers form_due Memory (Some []) (Some (codes "w")) 0 0 → ⊥
-something_written h = cc h
+something_written : Delivers ⊥ form_due Memory (Some []) (Some (codes "w")) 0 0 → ⊥
+something_written (inl nothing) = cc nothing
+something_written (inr begun) = begun.0
+
+-- a text that is due with status 0
+abbrev name_due : Status → List ℕ → Type 0
+name_due status text = (status ≡ Done) × (text ≡ codes "NAME")
+
+-- where it is written as it is made, and memory runs out, a prefix of it may be written
+begun_as_made : Delivers ⊤ name_due Memory (Some []) (Some (codes "NA")) 0 0
+begun_as_made = inr (tt, (codes "NAME", (refl, refl), λ bytes told. (2, omega arith, after_them [] (codes "NA") bytes told)))
+
+-- but what was written before stays
+lost_as_made : Delivers ⊤ name_due Memory (Some (codes "before")) (Some []) 0 0 → ⊥
+lost_as_made (inl nothing) = cc nothing
+lost_as_made (inr begun) =
+    let part = begun.1.2 (codes "before") refl in
+    let e : Some [] ≡ Some (codes "before" ++ take part.0 begun.1.0) = part.2 in
+    cc e
+
+-- the words that ask for it
+equations_asked : AskForEquations (codes "mps" ∷ codes "FILE" ∷ [])
+equations_asked = record { name = codes "FILE"; places = 6; asks = refl }
+
+plan_asked : AskForEquations check_plan → ⊥
+plan_asked asks = cc asks.asks
 
 -- a sink that tells nothing
-untold : Delivers form_due (Words faults.BadForm) None None 0 0
+untold : Delivers ⊥ form_due (Words faults.BadForm) None None 0 0
 untold = (codes "words refused BadForm\n", (refl, refl), λ bytes told. absurd (cc told))
 
 -- the line of another fault isn't due, also where the sink tells nothing
-untold_other : Delivers form_due (Words faults.NoCommand) None None 0 0 → ⊥
+untold_other : Delivers ⊥ form_due (Words faults.NoCommand) None None 0 0 → ⊥
 untold_other h = cc h.1.0
 
 -- ---- causes, also over a shelf that tells nothing

@@ -1,6 +1,7 @@
--- From the cause of an answer to what is due, and from the answer to what was delivered.
+-- From the cause of an answer to what is due, and which statuses an answer has.
 use Rattle.std.proofs.Common.{◌≡◌, ◌≢◌, ◌≤◌, arith, ℕ, ℤ, inl, inr, List, ◌++◌, length, Option, Some, None, Result, Ok, Err, Bool, true, false, refl, sym, ◌∙◌, subst, MatchBool, nat_lt, le-ltb, lt-ltb}
 use Rattle.model_sets.specs.Data.{Data}
+use Rattle.model_sets.specs.Members.{SetLists}
 use Rattle.model_sets.specs.declared.set_numbers.TheConstants.{EMISSION, REGION}
 use Rattle.exact_num.specs.Rational.{Rational}
 use Rattle.row_core.specs.declared.Row.{Row}
@@ -8,6 +9,8 @@ use Rattle.row_core.specs.declared.RowName.{RowName}
 use Rattle.row_core.specs.declared.Var.{Var}
 use Rattle.row_core.specs.declared.place.Place.{Place}
 use Rattle.named_equations.specs.Existence.{all_variables}
+use Rattle.row_book.specs.declared.fail.BookFail.{BookFail}
+use Rattle.row_book.specs.declared.fail.BookFail.TheVariants as fails
 use Rattle.exact_solver.specs.Sizes.{column_count, inequality_count}
 use Rattle.solve_command.specs.declared.solve.Shown.{Shown}
 use Rattle.solve_command.specs.declared.solve.Shown.TheVariants.{Summary}
@@ -27,6 +30,7 @@ use Rattle.command_words.specs.declared.fault.WordFault.{WordFault}
 use Rattle.model_maker.specs.MadeText.{made_text}
 use Rattle.osemosys_run.specs.Causes.{Caused, CausedByFile, CausedByOptionalFile, CausedByRequest, FollowsFromText, StopsAtFile}
 use Rattle.osemosys_run.specs.Due.{Due, DueForFile, DueForMake, DueForOptionalFile, DueForRequest}
+use Rattle.command_answers.specs.BookFails.{TellsFail}
 use Rattle.command_answers.specs.DueForText.{DueForText}
 use Rattle.check_command.specs.Check.{DueForCheck, DueForMultiplierFile, DueForPlan, DueForPlanFile}
 use Rattle.command_answers.specs.Lines.{too_long_line}
@@ -39,7 +43,7 @@ use Rattle.osemosys_run.specs.Mps.{DueForEquations}
 use Rattle.command_answers.specs.NotAccepted.{DueWhereNotAccepted}
 use Rattle.osemosys_run.specs.Reading.{BeganOne, Sight, IsWholeFile}
 use Rattle.command_answers.specs.Accepted.{most_bytes}
-use Rattle.osemosys_run.specs.Sending.{Delivers}
+use Rattle.osemosys_run.specs.Replies.{IsAnswer}
 use Rattle.solve_command.specs.Shown.{shown_of}
 use Rattle.command_words.specs.declared.command.SolveMethod.{SolveMethod}
 use Rattle.command_words.specs.declared.command.SolveMethod.TheVariants.{Exact, Rounded}
@@ -128,10 +132,6 @@ due_from_cause words before after files status text told calm caused = by_reques
         second_cause) c
 
 -- ---- which statuses an answer has
-
--- an answer isn't that a write failed, or that memory ran out
-abbrev IsAnswer : Status → Type 0
-IsAnswer status = (status ≢ WriteFault) × (status ≢ Memory)
 
 -- nor that a read failed, where it is of the words, or of what a file says
 abbrev IsOwn : Status → Type 0
@@ -248,6 +248,12 @@ make_is : (size : ℕ) (show : MakeShow) (status : Status) (text : List ℕ) →
 make_is size makes.File status text due = is_other status Done (λ h. cc) (λ h. cc) (λ number h. cc) due.0
 make_is size makes.Summary status text due = text_is (DueForSummary default_places) (summary_is default_places) (made_text size) status due.0 due.1
 
+-- the answer where a row can't be made is one
+pub fail_is_answer : (sets : SetLists) (fail : BookFail) (status : Status) (text : List ℕ) → TellsFail sets fail status text → IsAnswer status
+fail_is_answer sets (fails.Width place) status text told = (is_other status (Uncertified (Stop.Width place)) (λ h. cc) (λ h. cc) (λ number h. cc) told.0).0
+fail_is_answer sets fails.TooManyEntries status text told = (refused_is status refusals.TooManyEntries told.0).0
+fail_is_answer sets fails.Memory status text told = absurd told
+
 stop_is : (number : ℕ) (name : List ℕ) (before after : Sight) (status : Status) (text : List ℕ) → StopsAtFile number name before after status text → IsAnswer status
 stop_is number name before after status text (inl long) = (refused_is status (refusals.TooLong number) long.0).0
 stop_is number name before after status text (inr (inl missing)) = (is_other status (ReadFault (stops.NoFile number)) (λ h. cc) (λ h. cc) (λ other h. cc) missing.0).0
@@ -325,19 +331,3 @@ failed_read words before after status text caused number e = by_request (asked w
         stop_failed 3 multipliers before second after status text number (omega (arith, began.faults, second_began.faults)) stopped.1 e
     by_request (Ok (Check name plan (Some multipliers) gap places)) (inl (first, bytes, began, whole, inl (second, plan_bytes, second_began, second_whole, inl (third, multiplier_bytes, third_began, third_whole, follows)))) =
         own (text_is (λ rounded. DueForCheck places plan_bytes (Some multiplier_bytes) gap) (λ rounded. check_is places plan_bytes (Some multiplier_bytes) gap) bytes status text follows.1)
-
--- ---- what is delivered
-
--- an answer whose text was written is delivered
-pub delivered : (due : Status → List ℕ → Type 0) (status : Status) (text : List ℕ) (before after : Option (List ℕ)) (f f' : ℕ) → due status text
-    → (status ≢ WriteFault) × (status ≢ Memory) → WhereTold before (λ bytes. after ≡ Some (bytes ++ text)) → Delivers due status before after f f'
-delivered due Done text before after f f' d answer written = (text, d, written)
-delivered due Infeasible text before after f f' d answer written = (text, d, written)
-delivered due Unbounded text before after f f' d answer written = (text, d, written)
-delivered due (Uncertified stop) text before after f f' d answer written = (text, d, written)
-delivered due (Refused refusal) text before after f f' d answer written = (text, d, written)
-delivered due (Words fault) text before after f f' d answer written = (text, d, written)
-delivered due (ReadFault stop) text before after f f' d answer written = (text, d, written)
-delivered due WriteFault text before after f f' d answer written = absurd (answer.0 refl)
-delivered due (Rejected rejection) text before after f f' d answer written = (text, d, written)
-delivered due Memory text before after f f' d answer written = absurd (answer.1 refl)

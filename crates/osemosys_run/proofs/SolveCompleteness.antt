@@ -28,6 +28,7 @@ use Rattle.solve_command.specs.Limits.{IsWithinLimits, PassesLimits}
 use Rattle.solve_command.proofs.SolvedEnds.{prices_come}
 use Rattle.osemosys_run.proofs.CurveCompleteness.{drawn_from_due}
 use Rattle.osemosys_run.proofs.ExplainCompleteness.{explained_from_due}
+use Rattle.osemosys_run.proofs.Delivery.{due_or_memory}
 use Rattle.osemosys_run.proofs.Completeness.{Laws, done_from_due, equations_done, over_accepted, over_short}
 
 -- ---- solving
@@ -101,23 +102,9 @@ summarized_from_due laws words files status text due can =
 
 -- ---- what is delivered
 
--- over a sink without a fault something due was delivered, unless memory ran out
-due_or_memory : (words : List (List ℕ)) (files : List (List ℕ × List ℕ)) (status : Status) (before after : Option (List ℕ)) (f f' : ℕ)
-    → Delivers (Due words files) status before after f f' → (Rose f f' → ⊥) → ((text : List ℕ) × Due words files status text) ⊎ (status ≡ Memory)
-due_or_memory words files Done before after f f' d calm = inl (d.0, d.1)
-due_or_memory words files Infeasible before after f f' d calm = inl (d.0, d.1)
-due_or_memory words files Unbounded before after f f' d calm = inl (d.0, d.1)
-due_or_memory words files (Uncertified stop) before after f f' d calm = inl (d.0, d.1)
-due_or_memory words files (Refused refusal) before after f f' d calm = inl (d.0, d.1)
-due_or_memory words files (Words fault) before after f f' d calm = inl (d.0, d.1)
-due_or_memory words files (ReadFault stop) before after f f' d calm = inl (d.0, d.1)
-due_or_memory words files WriteFault before after f f' d calm = absurd (calm d.0)
-due_or_memory words files (Rejected rejection) before after f f' d calm = inl (d.0, d.1)
-due_or_memory words files Memory before after f f' d calm = inr refl
-
-pub completes : Laws → (words : List (List ℕ)) (files : List (List ℕ × List ℕ)) (status : Status) (before after : Option (List ℕ)) (f f' : ℕ)
-    → Delivers (Due words files) status before after f f' → (Rose f f' → ⊥) → Completes words files status
-completes laws words files status before after f f' d calm = elim (due_or_memory words files status before after f f' d calm) [
+pub completes : Laws → (A : Type 0) (words : List (List ℕ)) (files : List (List ℕ × List ℕ)) (status : Status) (before after : Option (List ℕ)) (f f' : ℕ)
+    → Delivers A (Due words files) status before after f f' → (Rose f f' → ⊥) → Completes words files status
+completes laws A words files status before after f f' d calm = elim (due_or_memory A (Due words files) status before after f f' d calm) [
   | inl due ↦ record {
     done = λ can. inl (done_from_due laws words files status due.0 due.1 can);
     ended = λ can. inl (ended_from_due laws words files status due.0 due.1 can);

@@ -54,6 +54,12 @@ DueForRequest (Ok (Check name plan multipliers gap places)) files status text =
     DueForText (λ rounded. DueForCheck places plan_bytes multiplier_bytes gap) bytes)
     3 files multipliers) 2 (file_named files plan)) 1 (file_named files name) status text
 
+-- the words ask for the equations, which `mps` writes as they are made
+pub record AskForEquations (words : List (List ℕ)) : Type 0 where
+  pub name : List ℕ
+  pub places : ℕ
+  pub asks : asked words ≡ Ok (Mps name places)
+
 -- The status and the text that are due for these words over these files.
 abbrev pub Due : List (List ℕ) → List (List ℕ × List ℕ) → Status → List ℕ → Type 0
 Due words files status text = DueForRequest (asked words) files status text

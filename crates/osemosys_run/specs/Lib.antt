@@ -5,5 +5,6 @@ pub mod Mps
 pub mod ReadEnds
 pub mod ReadToEnd
 pub mod Reading
+pub mod Replies
 pub mod Sending
 pub mod Tasks

@@ -1,4 +1,4 @@
--- What is due of a command of one file over its data.
+-- What is due of a command of one file over its data. Only private functions cite these.
 use Rattle.std.specs.Prelude.{ℕ, List, ⊤}
 use Rattle.std.specs.List.{AllByRecursion}
 use Rattle.command_words.specs.LimitLists.{IsLimit}
@@ -6,10 +6,9 @@ use Rattle.curve_command.specs.Curve.{DueForCurve}
 use Rattle.model_sets.specs.Data.{Data}
 use Rattle.osemosys_run.specs.declared.one_file.CurveAsked.{CurveAsked}
 use Rattle.osemosys_run.specs.declared.one_file.Task.{Task}
-use Rattle.osemosys_run.specs.declared.one_file.Task.TheVariants.{Curve, Explain, Solve, Summarize, Write}
+use Rattle.osemosys_run.specs.declared.one_file.Task.TheVariants.{Curve, Explain, Solve, Summarize}
 use Rattle.command_answers.specs.declared.status.Status.{Status}
 use Rattle.explain_command.specs.Explain.{DueForExplain}
-use Rattle.osemosys_run.specs.Mps.{DueForEquations}
 use Rattle.solve_command.specs.Solve.{DueForSolve}
 use Rattle.solve_command.specs.Summary.{DueForSummary}
 
@@ -23,7 +22,6 @@ HasLimits (Curve asked) = AllByRecursion IsLimit asked.limits.now
 HasLimits task = ⊤
 
 abbrev pub DueForTask : Task → ℕ → ℕ → Data → Status → List ℕ → Type 0
-DueForTask Write places rounded = DueForEquations places
 DueForTask (Solve wanted) places rounded = DueForSolve places wanted.gap wanted.pivots wanted.show wanted.method rounded
 DueForTask (Explain pivots method) places rounded = DueForExplain places pivots method
 DueForTask (Curve asked) places rounded = DueForAsked asked places

@@ -2,15 +2,18 @@
 //!
 //! A call does its work in this order: `command_words` says which command over which files; `reading` gives a whole file (`file_ends` the
 //! answer where there is none), and `accept` of `command_answers` the data of its text, or what refuses it; then comes the command's own
-//! answer over the data (`mps`; `check_command`, `solve_command`), and `sending` puts the text into the sink. `run` puts them together.
+//! answer over the data (`check_command`, `solve_command`), and `sending` puts the text into the sink; the equations of `mps` are written as they
+//! are made (`equations`). What is to be sent is a `reply`. `run` puts them together.
 #![tactic(auto)]
 
 mod check_files;
+mod equations;
 mod file_ends;
 mod making;
 mod mps;
 mod one_file;
 mod reading;
+mod reply;
 mod run;
 mod sending;
 

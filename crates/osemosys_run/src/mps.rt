@@ -1,49 +1,62 @@
-// What `mps` answers over accepted data: its equations, or the line for the first row that can't be made.
-ghost use Rattle.std.specs.Prelude.{◌≡◌, IfOk};
-ghost use Rattle.std.specs.List.{AllByRecursion};
+// `mps`: the file is read whole, and its text accepted; its equations are written then.
+ghost use Rattle.std.specs.Prelude.{◌≡◌, ◌≤◌, List, ℕ, length, IfOk};
 ghost use Rattle.discount_factors.specs.Factors.{IsPlaces};
-ghost use Rattle.model_sets.specs.Data.{AreSameData, Data};
-ghost use Rattle.mps_writer.specs.MpsText.{mps_text};
-ghost use Rattle.row_book.specs.Books.{HasNameWithin, IsWithinSets};
+ghost use Rattle.command_answers.specs.Accepted.{most_bytes};
+ghost use Rattle.command_answers.specs.DueForText.{DueForText};
+ghost use Rattle.command_answers.specs.declared.status.Status.{Status};
+ghost use Rattle.osemosys_run.specs.Causes.{CausedByFile, FollowsFromText};
 ghost use Rattle.osemosys_run.specs.Mps.{DueForEquations};
+ghost use Rattle.osemosys_run.specs.Reading.{sight};
+ghost use Rattle.osemosys_run.specs.Replies.{DueForReply, HasPlaces};
 
-use command_answers::{Answer, Status, refuse_book};
-use model_sets::Sets;
-use mps_writer::mps_text;
-use param_tables::ModelData;
-use row_book::{RowBook, same_data_laws};
+use crate::file_ends::refuse_file;
+use crate::reading::read_file;
+use crate::reply::Reply;
+use command_answers::accept;
+use io_edges::Shelf;
 use std::alloc::{AllocError, Global};
 
-/// The MPS text of the equations of a model, with written factors of 6 or 9 decimal places, or the line for the first
-/// row that can't be made. It is what is due over any data that have the model's sets and values.
-pub fn answer_mps(alloc: Global, model: &ModelData, places: u8) -> Result<Answer, AllocError>
-    requires { IsPlaces places }
-    ensures { IfOk result (λ answer. (d : Data) → AreSameData model.now.facts d
-        → DueForEquations places d answer.status answer.text.items) }
-{
-    same_data_laws();
-    answer_equations(alloc, model, places)
-}
+/// The number of the data file among those that the words name.
+const DATA_FILE: u8 = 1;
 
-// The same over the model's own data.
-fn answer_equations(alloc: Global, model: &ModelData, places: u8) -> Result<Answer, AllocError>
+/// What is to be sent of `mps` over the file of this name, with written factors of 6 or 9 decimal places.
+pub fn perform_mps<S: Shelf>(
+    alloc: Global,
+    file: &str,
+    places: u8,
+    shelf: &mut S,
+) -> Result<Reply, AllocError>
     requires { IsPlaces places }
-    ensures { IfOk result (λ answer. DueForEquations places model.now.facts answer.status answer.text.items) }
+    ensures caused { IfOk result (λ reply. (status : Status) (text : List ℕ) → DueForReply reply status text →
+        let after = sight (S.files shelf.new) (S.rest shelf.new)
+        (S.faults shelf.new) (S.begins shelf.new) (S.taken shelf.new) in
+        CausedByFile (FollowsFromText (λ rounded. DueForEquations places) after status text) DATA_FILE file.now
+        (sight (S.files shelf.old) (S.rest shelf.old)
+        (S.faults shelf.old) (S.begins shelf.old) (S.taken shelf.old))
+        after status text) }
+    ensures places { IfOk result HasPlaces }
+    ensures files { S.files shelf.new ≡ S.files shelf.old }
+    ensures faults { S.faults shelf.old ≤ S.faults shelf.new }
 {
-    match RowBook::new(alloc, model, places) {
-        Ok(book) => write_book(alloc, model, &book),
-        Err(fail) => refuse_book(alloc, fail, model.sets()),
+    match read_file(alloc, file, shelf) {
+        Ok(bytes) => accept_model(alloc, bytes, places),
+        Err(end) => {
+            let answer = refuse_file(alloc, DATA_FILE, end)?;
+            Ok(Reply::Told(answer))
+        }
     }
 }
 
-// The text of the rows of a book.
-fn write_book(alloc: Global, model: &ModelData, book: &RowBook) -> Result<Answer, AllocError>
-    requires named { AllByRecursion (HasNameWithin model.now.facts.sets) book.now.rows }
-    requires within { AllByRecursion (IsWithinSets model.now.facts.sets) book.now.vars }
-    ensures { IfOk result (λ answer. (answer.status ≡ Status.Done)
-        × (answer.text.items ≡ mps_text model.now.facts.sets book.now.rows book.now.vars)) }
+// The same over the text of its file. The text is gone before the first row is made.
+fn accept_model(alloc: Global, text: Vec<u8>, places: u8) -> Result<Reply, AllocError>
+    requires short { length text.items ≤ most_bytes }
+    requires places { IsPlaces places }
+    ensures due { IfOk result (λ reply. (status : Status) (line : List ℕ) → DueForReply reply status line
+        → DueForText (λ rounded. DueForEquations places) text.items status line) }
+    ensures places { IfOk result HasPlaces }
 {
-    let text = mps_text(alloc, book.rows(), book.vars(), model.sets())?;
-    let status = Status::Done;
-    Ok(Answer { status, text })
+    match accept(alloc, text)? {
+        Ok(model) => Ok(Reply::Equations(model, places)),
+        Err(answer) => Ok(Reply::Told(answer)),
+    }
 }

@@ -1,5 +1,5 @@
-// The commands of one file: `mps`, `solve`, `explain` and `curve`. The file is read whole, its text accepted, and the command's answer given over its
-// data.
+// The commands of one file that have an answer: `solve`, `explain` and `curve`. The file is read whole, its text accepted, and the command's answer
+// given over its data.
 ghost use Rattle.std.specs.Prelude.{◌≡◌, ◌≤◌, length, IfOk};
 ghost use Rattle.std.specs.List.{AllByRecursion};
 ghost use Rattle.command_words.specs.LimitLists.{IsLimit};
@@ -12,7 +12,6 @@ ghost use Rattle.osemosys_run.specs.Reading.{sight};
 ghost use Rattle.osemosys_run.specs.Tasks.{DueForAsked, DueForTask, HasLimits};
 
 use crate::file_ends::refuse_file;
-use crate::mps::answer_mps;
 use crate::reading::read_file;
 use command_answers::{Answer, accept};
 use command_words::SolveMethod;
@@ -41,8 +40,6 @@ pub struct CurveAsked<'a> {
 /// What a command of one file does with its data.
 #[derive(Clone, Copy, Debug, PartialEq, Eq)]
 pub enum Task<'a> {
-    /// To write the named equations.
-    Write,
     /// To solve the model.
     Solve(Wanted),
     /// To say why no plan exists, with so many pivots at most in each trial.
@@ -93,7 +90,6 @@ pub fn answer_text(
 {
     match accept(alloc, text)? {
         Ok(model) => match task {
-            Task::Write => answer_mps(alloc, &model, places),
             Task::Solve(wanted) => answer_solve(alloc, &model, places, wanted),
             Task::Explain { pivots, method } => {
                 answer_explain(alloc, &model, places, pivots, method)

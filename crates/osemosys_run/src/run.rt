@@ -23,20 +23,22 @@ ghost use Rattle.command_answers.specs.declared.status.Status.{Status};
 ghost use Rattle.command_answers.specs.Accepted.{Accepted};
 ghost use Rattle.osemosys_run.specs.Causes.{Caused};
 ghost use Rattle.osemosys_run.specs.Complete.{Completes};
-ghost use Rattle.osemosys_run.specs.Due.{Due};
+ghost use Rattle.osemosys_run.specs.Due.{AskForEquations, Due};
 ghost use Rattle.command_answers.specs.NotAccepted.{DueWhereNotAccepted};
 ghost use Rattle.solve_command.specs.Promises.{ArePromised};
 ghost use Rattle.osemosys_run.specs.Reading.{sight};
 ghost use Rattle.osemosys_run.specs.ReadToEnd.{IsReadToEnd, ReadsWhole};
+ghost use Rattle.osemosys_run.specs.Replies.{DueForReply, IsAskedBy};
 ghost use Rattle.osemosys_run.specs.Sending.{Delivers};
 ghost use Rattle.solve_command.specs.SolvedPlans.{IsNearOptimum};
 ghost use Rattle.command_words.specs.WordParts.{HasSpelledParts, Part};
 
 use crate::check_files::{Asked, perform_check};
 use crate::making::perform_make;
+use crate::mps::perform_mps;
 use crate::one_file::{CurveAsked, Task, perform_task};
-use crate::sending::send;
-use command_answers::{Answer, Status, acceptance_laws, refuse_words};
+use crate::reply::{Reply, deliver};
+use command_answers::{Status, acceptance_laws, refuse_words};
 use command_words::{Command, read_command, spelled_parts};
 use io_edges::{Shelf, Sink};
 use mathprog_data::verdict_laws;
@@ -69,7 +71,8 @@ use std::alloc::{AllocError, Global};
 /// its model is, and what `solve` with its default options comes to on it.
 ///
 /// Where the words, a file or what it says is refused, a number leaves 128 bits, a pivot is due after the last that may be made,
-/// the rows have too many entries, or the linear program is too large, one line says why. Memory may run out anywhere; then nothing is written.
+/// the rows have too many entries, or the linear program is too large, one line says why. Memory may run out anywhere; then nothing is written,
+/// or, of the equations of `mps`, which are written as they are made, a prefix of their text.
 pub fn osemosys<S: Shelf, K: Sink>(
     alloc: Global,
     words: &[String],
@@ -80,11 +83,11 @@ pub fn osemosys<S: Shelf, K: Sink>(
     // the words and the files.
     ensures due { WhereTold (S.files shelf.old) (λ files.
         (Rose (S.faults shelf.old) (S.faults shelf.new) → ⊥)
-        → Delivers (Due (map string_bytes words.now) files) result
+        → Delivers (AskForEquations (map string_bytes words.now)) (Due (map string_bytes words.now) files) result
         (K.written out.old) (K.written out.new) (K.faults out.old) (K.faults out.new)) }
 
     // Over any shelf and any sink, status and text have their cause.
-    ensures caused { Delivers (Caused (map string_bytes words.now)
+    ensures caused { Delivers (AskForEquations (map string_bytes words.now)) (Caused (map string_bytes words.now)
         (sight (S.files shelf.old) (S.rest shelf.old)
         (S.faults shelf.old) (S.begins shelf.old) (S.taken shelf.old))
         (sight (S.files shelf.new) (S.rest shelf.new)
@@ -156,27 +159,25 @@ pub fn osemosys<S: Shelf, K: Sink>(
     quantity_laws();
     promise_laws();
     match perform(alloc, words, shelf) {
-        Ok(Answer { status, text }) => match send(&text, out) {
-            Ok(()) => status,
-            Err(_) => Status::WriteFault,
-        },
+        Ok(reply) => deliver(alloc, reply, out),
         Err(_) => Status::Memory,
     }
 }
 
-// The answer to the words, with what the shelf holds.
-fn perform<S: Shelf>(alloc: Global, words: &[String], shelf: &mut S) -> Result<Answer, AllocError>
-    ensures caused { IfOk result (λ answer. Caused (map string_bytes words.now)
+// What is to be sent for the words, with what the shelf holds.
+fn perform<S: Shelf>(alloc: Global, words: &[String], shelf: &mut S) -> Result<Reply, AllocError>
+    ensures caused { IfOk result (λ reply. (status : Status) (text : List ℕ) → DueForReply reply status text → Caused (map string_bytes words.now)
         (sight (S.files shelf.old) (S.rest shelf.old)
         (S.faults shelf.old) (S.begins shelf.old) (S.taken shelf.old))
         (sight (S.files shelf.new) (S.rest shelf.new)
         (S.faults shelf.new) (S.begins shelf.new) (S.taken shelf.new))
-        answer.status answer.text.items) }
+        status text) }
+    ensures asked { IfOk result (IsAskedBy (map string_bytes words.now)) }
     ensures files { S.files shelf.new ≡ S.files shelf.old }
     ensures faults { S.faults shelf.old ≤ S.faults shelf.new }
 {
     match read_command(alloc, words)? {
-        Ok(Command::Mps { file, places }) => perform_task(alloc, file, Task::Write, places, shelf),
+        Ok(Command::Mps { file, places }) => perform_mps(alloc, file, places, shelf),
         Ok(
             Command::Solve {
                 file,
@@ -194,7 +195,8 @@ fn perform<S: Shelf>(alloc: Global, words: &[String], shelf: &mut S) -> Result<A
                 show,
                 method,
             });
-            perform_task(alloc, file, task, places, shelf)
+            let answer = perform_task(alloc, file, task, places, shelf)?;
+            Ok(Reply::Told(answer))
         }
         Ok(
             Command::Explain {
@@ -203,7 +205,11 @@ fn perform<S: Shelf>(alloc: Global, words: &[String], shelf: &mut S) -> Result<A
                 places,
                 method,
             },
-        ) => perform_task(alloc, file, Task::Explain { pivots, method }, places, shelf),
+        ) => {
+            let task = Task::Explain { pivots, method };
+            let answer = perform_task(alloc, file, task, places, shelf)?;
+            Ok(Reply::Told(answer))
+        }
         Ok(
             Command::Curve {
                 file,
@@ -224,11 +230,15 @@ fn perform<S: Shelf>(alloc: Global, words: &[String], shelf: &mut S) -> Result<A
                 pivots,
                 method,
             });
-            perform_task(alloc, file, task, places, shelf)
+            let answer = perform_task(alloc, file, task, places, shelf)?;
+            Ok(Reply::Told(answer))
         }
         // No word asks for it yet.
         Ok(Command::Span { .. }) => unreachable!(),
-        Ok(Command::Make { size, show }) => perform_make(alloc, size, show),
+        Ok(Command::Make { size, show }) => {
+            let answer = perform_make(alloc, size, show)?;
+            Ok(Reply::Told(answer))
+        }
         Ok(
             Command::Check {
                 file,
@@ -237,17 +247,20 @@ fn perform<S: Shelf>(alloc: Global, words: &[String], shelf: &mut S) -> Result<A
                 gap,
                 places,
             },
-        ) => perform_check(
-            alloc,
-            Asked {
+        ) => {
+            let asked = Asked {
                 file,
                 plan,
                 multipliers,
                 gap,
                 places,
-            },
-            shelf,
-        ),
-        Err(fault) => refuse_words(alloc, fault),
+            };
+            let answer = perform_check(alloc, asked, shelf)?;
+            Ok(Reply::Told(answer))
+        }
+        Err(fault) => {
+            let answer = refuse_words(alloc, fault)?;
+            Ok(Reply::Told(answer))
+        }
     }
 }

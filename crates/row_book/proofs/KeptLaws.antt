@@ -25,7 +25,7 @@ made-book places d rows vars complete are listed = record {
   signs = all-signs places d rows complete are;
 }
 
-same_row : (rows : List Row) (i : ℕ) (row other : Row) → IsAt rows i row → IsAt rows i other → row ≡ other
+pub same_row : (rows : List Row) (i : ℕ) (row other : Row) → IsAt rows i row → IsAt rows i other → row ≡ other
 same_row rows i row other at bt = let both : Some row ≡ Some other = sym at ∙ bt in cc
 
 -- the row that is read at a position stands there

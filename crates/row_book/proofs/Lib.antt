@@ -30,6 +30,7 @@ pub mod Ranges
 pub mod RatioCells
 pub mod RatioIndices
 pub mod Regions
+pub mod ReplacedLaws
 pub mod RowsAddedLaws
 pub mod RowsOfCells
 pub mod SameCostTerms

@@ -70,3 +70,8 @@ stopped-by_places places d factors before fail are is =
 pub factors-by_places : (places : ℕ) (d : Data) (factors : List Discounting) → AreRegionFactors places d factors → AreRegionFactors (places_of factors) d factors
 factors-by_places places d [] are = record { one_each = are.one_each; each = λ r one at. absurd (cc at) }
 factors-by_places places d (one ∷ others) are = subst (λ n. AreRegionFactors n d (one ∷ others)) (sym (are.each 0 one refl).places_are) are
+
+-- where there is a region the factors have the places for which they were made
+pub places-known : (places : ℕ) (d : Data) (factors : List Discounting) (r : ℕ) → AreRegionFactors places d factors → r < count_of d sets.region → places_of factors ≡ places
+places-known places d [] r are inside = absurd (omega (arith, inside, are.one_each))
+places-known places d (one ∷ others) r are inside = (are.each 0 one refl).places_are

@@ -54,13 +54,13 @@ same-terms places d e same name is = terms-same (agree same) places name is ∙ 
 
 module _ (places : ℕ) (d e : Data) where
   -- of these instances the terms are the same
-  abbrev HaveSameTerms : List RowName → Type 0
+  abbrev pub HaveSameTerms : List RowName → Type 0
   HaveSameTerms names = (name : RowName) → Has names name → terms_at places d name ≡ terms_at places e name
 
-  fits-same : (name : RowName) → terms_at places d name ≡ terms_at places e name → row_fits places d name ≡ row_fits places e name
+  pub fits-same : (name : RowName) → terms_at places d name ≡ terms_at places e name → row_fits places d name ≡ row_fits places e name
   fits-same name is = ap (λ (t : EquationTerms). all_fit (equation_formed t)) is
 
-  count-same : (name : RowName) → terms_at places d name ≡ terms_at places e name → entry_count places d name ≡ entry_count places e name
+  pub count-same : (name : RowName) → terms_at places d name ≡ terms_at places e name → entry_count places d name ≡ entry_count places e name
   count-same name is = ap (λ (t : EquationTerms). length (written_entries (terms_of t) (right_of t))) is
 
   all_fit-same : (names : List RowName) → HaveSameTerms names → list_all (row_fits places d) names ≡ list_all (row_fits places e) names
@@ -108,10 +108,10 @@ module _ (places : ℕ) (d e : Data) where
       }
 
   -- of these instances it is the same what they say
-  abbrev SayTheSame : List RowName → Type 0
+  abbrev pub SayTheSame : List RowName → Type 0
   SayTheSame names = (name : RowName) → Has names name → (q : ℕ) (x : Var → ℤ) → says places d q x name ≡ says places e q x name
 
-  is_named_row : (name : RowName) (row : Row) → terms_at places d name ≡ terms_at places e name → ((q : ℕ) (x : Var → ℤ) → says places d q x name ≡ says places e q x name)
+  pub is_named_row : (name : RowName) (row : Row) → terms_at places d name ≡ terms_at places e name → ((q : ℕ) (x : Var → ℤ) → says places d q x name ≡ says places e q x name)
       → IsNamedRow places d name (terms_at places d name) row → IsNamedRow places e name (terms_at places e name) row
   is_named_row name row terms say is = record {
     written = subst (λ (t : EquationTerms). IsRowOf name t row) terms is.written;
@@ -119,7 +119,7 @@ module _ (places : ℕ) (d e : Data) where
     defines = is.defines;
   }
 
-  are_rows_of : (names : List RowName) (rows : List Row) → HaveSameTerms names → SayTheSame names → AreRowsOf places d names rows → AreRowsOf places e names rows
+  pub are_rows_of : (names : List RowName) (rows : List Row) → HaveSameTerms names → SayTheSame names → AreRowsOf places d names rows → AreRowsOf places e names rows
   are_rows_of [] [] terms say are = are
   are_rows_of [] (row ∷ rows) terms say are = absurd are
   are_rows_of (name ∷ names) [] terms say are = absurd are

@@ -6,6 +6,7 @@ pub mod Feeds
 pub mod Kept
 pub mod Kinds
 pub mod Ratios
+pub mod Replaced
 pub mod RowsAdded
 pub mod Signs
 pub mod Tallies

@@ -1,6 +1,6 @@
 //! The book of rows.
 
-ghost use Rattle.std.specs.Prelude.{◌≡◌, ◌<◌, true, length, Contains, IfErr, IfOk, IfSome, OnOk};
+ghost use Rattle.std.specs.Prelude.{◌≡◌, ◌<◌, ℕ, true, false, length, Contains, IfErr, IfOk, IfSome, OnOk};
 ghost use Rattle.std.specs.List.{AllByRecursion};
 ghost use Rattle.row_core.specs.Numbers.{ascends};
 ghost use Rattle.row_core.specs.Order.{row_name_cmp};
@@ -12,10 +12,12 @@ ghost use Rattle.row_core.specs.declared.Var.{Var};
 ghost use Rattle.row_book.specs.Books.{AreRowsOf, AreVariablesOf, CanBeMade, HasNameWithin, HasStopped, IsWithinSets, NamesRowWithin, names_of};
 ghost use Rattle.row_book.specs.Definitions.{AreTriangular, IsAt, cost_of};
 ghost use Rattle.row_book.specs.Kept.{IsBook, IsDefinedAt};
+ghost use Rattle.row_book.specs.Replaced.{AreTwins, IsReplaced};
 ghost use Rattle.row_book.specs.Signs.{HaveSigns};
 
 use crate::defined::defined_variable;
 use crate::fail::BookFail;
+use crate::replaced::position_of_twin;
 use crate::rows::all_rows;
 use crate::variables::variables_of_rows;
 use param_tables::ModelData;
@@ -101,6 +103,23 @@ impl RowBook {
         ensures definition { IfSome result (IsDefinedAt self.now.rows i) }
     {
         defined_variable(self.rows[i].name)
+    }
+
+    /// Puts an inequality in the place of the one with its name, where the name defines no variable and both have entries at
+    /// the same variables. Answers whether it did; where it didn't, nothing is changed.
+    pub fn replace(&mut self, row: Row) -> bool
+        ensures replaced { result ≡ true → IsReplaced row self.old.rows self.new.rows }
+        ensures kept { result ≡ false → self.new.rows ≡ self.old.rows }
+        ensures none { result ≡ false → (i : ℕ) (before : Row) → IsAt self.old.rows i before → AreTwins before row → ⊥ }
+        ensures variables { self.new.vars ≡ self.old.vars }
+    {
+        match position_of_twin(&self.rows, &row) {
+            Some(i) => {
+                self.rows[i] = row;
+                true
+            }
+            None => false,
+        }
     }
 
     /// The coefficient of a variable in the cost: 1 for TotalDiscountedCost, and 0 for any other.

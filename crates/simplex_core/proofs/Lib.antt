@@ -11,3 +11,4 @@ pub mod KeptRoundLaws
 pub mod KeptWayLaws
 pub mod KeptStartLaws
 pub mod KeptReachedLaws
+pub mod ShortLaws

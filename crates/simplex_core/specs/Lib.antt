@@ -6,3 +6,4 @@ pub mod Outcomes
 pub mod KeptViews
 pub mod KeptEnds
 pub mod Begun
+pub mod ShortViews

@@ -13,6 +13,7 @@ ghost use Rattle.simplex_core.specs.Views.{chosen_seen};
 use crate::candidate::Candidate;
 use crate::choice::{PATIENCE, better_of, rank as rank_at};
 use crate::home::Home;
+use crate::short_choice;
 use exact_num::TooWide;
 use int_tableau::{Tableau, difference, is_narrow};
 
@@ -81,7 +82,7 @@ fn rough_right(tableau: &Tableau, home: Home, row: usize) -> Result<i128, TooWid
 }
 
 /// The place of a row among those of the same quotient: x0's is the first.
-fn rank(tableau: &Tableau, home: Home, row: usize) -> usize
+pub(crate) fn rank(tableau: &Tableau, home: Home, row: usize) -> usize
     requires home { IsHome tableau.now.tableau home }
     requires row { row < length tableau.now.tableau.basics }
     ensures { result ≡ rank_of (Some (x0_in tableau.now.tableau)) (slice_index_or (kept_basics tableau.now.tableau home.row (x0_in tableau.now.tableau)) row 0) }
@@ -135,6 +136,31 @@ fn greater(size: u128, number: i128) -> u128
     larger(size, number.unsigned_abs())
 }
 
+/// The greatest sizes with those of one line more, by its multiplied entry and its entry at x0.
+pub(crate) fn seen_by(
+    tableau: &Tableau,
+    home: Home,
+    spread: Spread,
+    row: usize,
+    at_x0: i128,
+    entry: i128,
+) -> Spread
+    requires home { IsHome tableau.now.tableau home }
+    requires row { row < length tableau.now.tableau.lines }
+    requires at_x0 { at_x0 ≡ entry_of (line_of tableau.now.tableau row) (x0_in tableau.now.tableau) }
+    requires at_x0_fits { InRange at_x0 }
+    requires entry { entry ≡ entry_of (rough_of tableau.now.tableau home.row (x0_in tableau.now.tableau) row) home.column }
+    requires range { InRange entry }
+    requires before { AreSpread tableau.now.tableau home.row home.column row spread }
+    ensures { AreSpread tableau.now.tableau home.row home.column (row + 1) result }
+{
+    Spread {
+        entry: greater(spread.entry, entry),
+        at_x0: greater(spread.at_x0, at_x0),
+        size: larger(spread.size, tableau.size(row)),
+    }
+}
+
 /// The greatest sizes with those of one line more.
 pub(crate) fn seen(tableau: &Tableau, home: Home, spread: Spread, row: usize, entry: i128) -> Spread
     requires home { IsHome tableau.now.tableau home }
@@ -144,15 +170,11 @@ pub(crate) fn seen(tableau: &Tableau, home: Home, spread: Spread, row: usize, en
     requires before { AreSpread tableau.now.tableau home.row home.column row spread }
     ensures { AreSpread tableau.now.tableau home.row home.column (row + 1) result }
 {
-    Spread {
-        entry: greater(spread.entry, entry),
-        at_x0: greater(spread.at_x0, tableau.last_entry(row)),
-        size: larger(spread.size, tableau.size(row)),
-    }
+    seen_by(tableau, home, spread, row, tableau.last_entry(row), entry)
 }
 
-/// The row that leaves for the column that enters.
-pub(crate) fn leaving(tableau: &Tableau, home: Home) -> Result<LeavingRow, TooWide>
+/// The row that leaves for the column that enters, in 128 bits.
+fn wide_leaving(tableau: &Tableau, home: Home) -> Result<LeavingRow, TooWide>
     requires { IsHome tableau.now.tableau home }
     ensures chosen { IfOk result (λ l. chosen_seen l.chosen ≡ kept_leaving (kept_state tableau.now.tableau home.row (x0_in tableau.now.tableau) 0 0) home.column) }
     ensures spread { IfOk result (λ l. AreSpread tableau.now.tableau home.row home.column (rows_of tableau.now.tableau) l.spread) }
@@ -171,6 +193,18 @@ pub(crate) fn leaving(tableau: &Tableau, home: Home) -> Result<LeavingRow, TooWi
         }
     }
     Ok(LeavingRow { chosen, spread })
+}
+
+/// The row that leaves for the column that enters. It is sought in 64 bits first.
+pub(crate) fn leaving(tableau: &Tableau, home: Home) -> Result<LeavingRow, TooWide>
+    requires { IsHome tableau.now.tableau home }
+    ensures chosen { IfOk result (λ l. chosen_seen l.chosen ≡ kept_leaving (kept_state tableau.now.tableau home.row (x0_in tableau.now.tableau) 0 0) home.column) }
+    ensures spread { IfOk result (λ l. AreSpread tableau.now.tableau home.row home.column (rows_of tableau.now.tableau) l.spread) }
+{
+    match short_choice::leaving(tableau, home) {
+        Some(leaving) => Ok(leaving),
+        None => wide_leaving(tableau, home),
+    }
 }
 
 /// The column with the greatest positive entry in x0's row but that at x0, the first of those.

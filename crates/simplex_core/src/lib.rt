@@ -20,6 +20,7 @@ mod plans;
 mod progress;
 mod rounds;
 mod running;
+mod short_choice;
 mod solving;
 mod stops;
 

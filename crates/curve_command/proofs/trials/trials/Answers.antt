@@ -24,7 +24,7 @@ returns-in-Refused c = λ d same.
     let fits : InRange z = limit-range z (each-at IsLimit limits i (pos 0) c.requires.limits c.loop-limit-test.true) in
     let told =
     subst (TrialTells c.args.places d c.args.member.region c.args.member.emission (wanted_of c.args.wanted) z) c.in-Refused.is
-    (subst (λ (n : ℤ). TrialTells c.args.places d c.args.member.region c.args.member.emission (wanted_of c.args.wanted) n c.in_ok-point.field-0) (back_in_range z fits) (c.in_ok-point.ensures d same)) in
+    (subst (λ (n : ℤ). TrialTells c.args.places d c.args.member.region c.args.member.emission (wanted_of c.args.wanted) n c.in_ok-trial.field-0.trial) (back_in_range z fits) (c.in_ok-trial.ensures.trial d same)) in
     record {
       earlier = c.loop-limit.all.items;
       limit = z;
@@ -50,13 +50,14 @@ loop-limit-preserved c =
       trials = λ d same.
           let told =
           subst (TrialTells c.args.places d c.args.member.region c.args.member.emission (wanted_of c.args.wanted) z) c.in-Ended.is
-          (subst (λ (n : ℤ). TrialTells c.args.places d c.args.member.region c.args.member.emission (wanted_of c.args.wanted) n c.in_ok-point.field-0) (back_in_range z fits) (c.in_ok-point.ensures d same)) in
+          (subst (λ (n : ℤ). TrialTells c.args.places d c.args.member.region c.args.member.emission (wanted_of c.args.wanted) n c.in_ok-trial.field-0.trial) (back_in_range z fits) (c.in_ok-trial.ensures.trial d same)) in
           subst (AllByRecursion (λ (f : Found). IsTrialOf c.args.places d c.args.member.region c.args.member.emission (wanted_of c.args.wanted) (found_seen f))) (sym pushed)
           (all-more (λ (f : Found). IsTrialOf c.args.places d c.args.member.region c.args.member.emission (wanted_of c.args.wanted) (found_seen f)) all found (inv.trials d same) told.0);
+      kept = c.in_ok-trial.ensures.book;
       within = λ d same.
           let told =
           subst (TrialTells c.args.places d c.args.member.region c.args.member.emission (wanted_of c.args.wanted) z) c.in-Ended.is
-          (subst (λ (n : ℤ). TrialTells c.args.places d c.args.member.region c.args.member.emission (wanted_of c.args.wanted) n c.in_ok-point.field-0) (back_in_range z fits) (c.in_ok-point.ensures d same)) in
+          (subst (λ (n : ℤ). TrialTells c.args.places d c.args.member.region c.args.member.emission (wanted_of c.args.wanted) n c.in_ok-trial.field-0.trial) (back_in_range z fits) (c.in_ok-trial.ensures.trial d same)) in
           subst (AllByRecursion (λ (f : Found). PointIsWithin d.sets f.point)) (sym pushed) (all-more (λ (f : Found). PointIsWithin d.sets f.point) all found (inv.within d same) told.1);
     }
 

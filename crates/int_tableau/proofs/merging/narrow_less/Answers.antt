@@ -1,27 +1,11 @@
 -- Products of numbers below 2^63 are below 2^126, and so their difference is below 2^127.
-use Rattle.std.proofs.Common.{◌≡◌, ◌*◌, ◌<◌, ◌^◌, ℤ, sym, ap₂, ◌∙◌, subst, arith, FitsSigned, ◌-ℤ◌, ◌*ℤ◌, to_z, of_z}
+use Rattle.std.proofs.Common.{◌≡◌, ◌<◌, ◌^◌, ℤ, sym, ap₂, ◌∙◌, subst, arith, FitsSigned, ◌-ℤ◌, ◌*ℤ◌, to_z, of_z}
 use Rattle.std.specs.Int.{w128}
 use Rattle.std.specs.Prelude.{unsigned_abs}
-use Rattle.std.proofs.lemmas.Int.{ints, unsigned_abs-mul}
-use Rattle.std.proofs.lemmas.Nat.{mul-lt}
 use Rattle.exact_num.specs.Range.{InRange}
-use Rattle.exact_num.proofs.RangeLaws.{FitsSigned-from_InRange, back_in_range, in_range-yes, narrow_is}
-use Rattle.row_core.proofs.LessLaws.{goes_on}
+use Rattle.exact_num.proofs.RangeLaws.{FitsSigned-from_InRange, back_in_range, narrow_is}
+use Rattle.int_tableau.proofs.ProductLaws.{less_fits, formed_fit}
 use Rattle.int_tableau.proofs.merging.narrow_less.Goals as goal
-
-product_below : (a x : ℤ) → unsigned_abs a < 2 ^ 63 → unsigned_abs x < 2 ^ 63 → unsigned_abs (a *ℤ x) < 2 ^ 126
-product_below a x h k =
-    let both : unsigned_abs a * unsigned_abs x < 2 ^ 63 * 2 ^ 63 = mul-lt (unsigned_abs a) (unsigned_abs x) (2 ^ 63) (2 ^ 63) h k in
-    subst (λ n. n < 2 ^ 126) (sym (unsigned_abs-mul a x)) both
-
-in_range_below : (z : ℤ) → unsigned_abs z < 2 ^ 126 → InRange z
-in_range_below z h = omega arith
-
-difference_fits : (p q : ℤ) → unsigned_abs p < 2 ^ 126 → unsigned_abs q < 2 ^ 126 → InRange (p -ℤ q)
-difference_fits p q h k = omega (arith, ints)
-
-less_fits : (a b x y : ℤ) → unsigned_abs a < 2 ^ 63 → unsigned_abs b < 2 ^ 63 → unsigned_abs x < 2 ^ 63 → unsigned_abs y < 2 ^ 63 → InRange ((a *ℤ x) -ℤ (b *ℤ y))
-less_fits a b x y ha hb hx hy = difference_fits (a *ℤ x) (b *ℤ y) (product_below a x ha hx) (product_below b y hb hy)
 
 fits : (z : ℤ) → unsigned_abs z < 2 ^ 63 → FitsSigned w128 z
 fits z h = FitsSigned-from_InRange z (omega arith)
@@ -49,13 +33,7 @@ returns-clause-value c =
     ∙ back_in_range ((a *ℤ x) -ℤ (b *ℤ y)) (less_fits a b x y c.requires.a c.requires.b c.requires.x c.requires.y)
 
 pub returns-clause-fits : goal.returns-clause-fits
-returns-clause-fits c =
-    let a = c.args.a in
-    let b = c.args.b in
-    let x = c.args.x in
-    let y = c.args.y in
-    goes_on a b x y (in_range-yes (a *ℤ x) (in_range_below (a *ℤ x) (product_below a x c.requires.a c.requires.x))) (in_range-yes (b *ℤ y) (in_range_below (b *ℤ y) (product_below b y c.requires.b c.requires.y)))
-    ∙ in_range-yes ((a *ℤ x) -ℤ (b *ℤ y)) (less_fits a b x y c.requires.a c.requires.b c.requires.x c.requires.y)
+returns-clause-fits c = formed_fit c.args.a c.args.b c.args.x c.args.y c.requires.a c.requires.b c.requires.x c.requires.y
 
 pub returns-clause-range : goal.returns-clause-range
 returns-clause-range c =

@@ -1,24 +1,11 @@
-use Rattle.std.proofs.Common.{◌≡◌, ◌<◌, ◌^◌, drop, sym, ◌∙◌, subst, arith}
+use Rattle.std.proofs.Common.{◌<◌, ◌^◌, sym, ◌∙◌, subst}
 use Rattle.std.specs.Prelude.{unsigned_abs}
-use Rattle.exact_num.specs.Range.{InRange}
+use Rattle.int_tableau.proofs.NarrowLaws.{narrow_fits, back_widened}
 use Rattle.int_tableau.specs.Entries.{at}
-use Rattle.int_tableau.proofs.EntryLaws.{taken_number-at}
-use Rattle.int_tableau.proofs.NarrowLaws.{narrow_fits, back_widened, AreNarrow-drop, taken_number-narrow}
 use Rattle.int_tableau.proofs.narrow.number_in.Goals as goal
 
--- the number at the position where the column belongs
-found : (c : goal.After-number_at) → c.number_at.result ≡ at c.args.entries.now c.args.column
-found c =
-    c.number_at.ensures
-    ∙ sym (c.position_of.ensures.same c.args.column (omega arith) ∙ taken_number-at c.args.column c.args.columns (drop c.position_of.result c.args.entries.now) c.position_of.ensures.rest)
-
-narrow : (c : goal.After-number_at) → unsigned_abs c.number_at.result < 2 ^ 63
-narrow c =
-    subst (λ z. unsigned_abs z < 2 ^ 63) (sym c.number_at.ensures)
-    (taken_number-narrow c.args.column (drop c.position_of.result c.args.entries.now) (AreNarrow-drop c.args.entries.now c.position_of.result c.requires.narrow))
-
 pub returns-clause-value : goal.returns-clause-value
-returns-clause-value c = back_widened c.number_at.result (narrow c) ∙ found c
+returns-clause-value c = back_widened c.short_in.result (subst (λ z. unsigned_abs z < 2 ^ 63) (sym c.short_in.ensures.value) c.short_in.ensures.narrow) ∙ c.short_in.ensures.value
 
 pub returns-clause-range : goal.returns-clause-range
-returns-clause-range c = subst InRange (found c) (narrow_fits c.number_at.result (narrow c))
+returns-clause-range c = narrow_fits (at c.args.entries.now c.args.column) c.short_in.ensures.narrow

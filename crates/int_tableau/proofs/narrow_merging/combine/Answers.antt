@@ -1,9 +1,8 @@
 -- One column after another.
-use Rattle.std.proofs.Common.{◌≡◌, ℕ, ◌<◌, ◌≤◌, ◌^◌, ℤ, pos, true, List, get_or, drop, refl, sym, ap₂, ◌∙◌, subst, arith, to_z, of_z}
-use Rattle.std.specs.Int.{w64, w128}
+use Rattle.std.proofs.Common.{◌≡◌, ℕ, ◌<◌, ◌≤◌, ◌^◌, ℤ, pos, true, List, length, get_or, drop, refl, sym, ap₂, ◌∙◌, subst, arith, to_z, of_z}
+use Rattle.std.specs.Int.{w64}
 use Rattle.std.specs.Prelude.{unsigned_abs}
-use Rattle.exact_num.specs.Range.{InRange, all_fit}
-use Rattle.exact_num.proofs.RangeLaws.{back_in_range}
+use Rattle.exact_num.specs.Range.{all_fit}
 use Rattle.written_method.specs.Lines.{less, less_formed}
 use Rattle.int_tableau.specs.Entries.{at, head_column}
 use Rattle.int_tableau.specs.Narrow.{AreNarrow}
@@ -12,6 +11,7 @@ use Rattle.int_tableau.proofs.DivisionLaws.{no_entry}
 use Rattle.int_tableau.proofs.EntryLaws.{head_column-below}
 use Rattle.int_tableau.proofs.HeadLaws.{IsMerging-both, IsMerging-left, IsMerging-right, IsMerging-sparse, IsMerging-value, IsMerging-fits, head_there}
 use Rattle.int_tableau.proofs.NarrowLaws.{AreNarrow-at, back_narrow}
+use Rattle.int_tableau.proofs.ProductLaws.{room_left, room_right}
 use Rattle.int_tableau.proofs.narrow_merging.combine.Goals.{then-first-columns, else-first-columns+then-second-columns}
 use Rattle.int_tableau.proofs.narrow_merging.combine.Goals as goal
 
@@ -25,14 +25,23 @@ read_small : (xs : List (ℕ × ℤ)) (i n d : ℕ) → AreNarrow xs → d ≡ h
 read_small xs i n d narrow e h = let r = read xs i n d narrow e h in subst (λ z. unsigned_abs z < 2 ^ 63) (sym r.0) r.1
 
 -- what is pushed, with the numbers as they stand in the lists
-pushed_as : (d : ℕ) (a b x y u v z : ℤ) (out more : List (ℕ × ℤ)) → x ≡ u → y ≡ v → z ≡ less a b x y → InRange z → IsPushed d (to_z w128 (of_z w128 z)) out more → IsPushed d (less a b u v) out more
-pushed_as d a b x y u v z out more p q e fits h = subst (λ (w : ℤ). IsPushed d w out more) (back_in_range z fits ∙ e ∙ ap₂ (less a b) p q) h
+pushed_as : (d : ℕ) (a b x y u v : ℤ) (out more : List (ℕ × ℤ)) → x ≡ u → y ≡ v → IsPushed d (less a b x y) out more → IsPushed d (less a b u v) out more
+pushed_as d a b x y u v out more p q h = subst (λ (w : ℤ). IsPushed d w out more) (ap₂ (less a b) p q) h
 
 fits_as : (a b x y u v : ℤ) → x ≡ u → y ≡ v → all_fit (less_formed a b x y) ≡ true → all_fit (less_formed a b u v) ≡ true
 fits_as a b x y u v p q h = ap₂ (λ s t. all_fit (less_formed a b s t)) (sym p) (sym q) ∙ h
 
-pub difference-requires-clause-x : goal.difference-requires-clause-x
-difference-requires-clause-x c =
+pub push_difference-requires-clause-room : goal.push_difference-requires-clause-room
+push_difference-requires-clause-room c =
+    let n = c.args.columns in
+    let v = c.loop-first.invariant in
+    let ys : List (ℕ × ℤ) = drop c.loop-first.right c.args.other.now in
+    let next : head_column n ys ≤ n = head_column-below v.merging.column n ys v.merging.merge.right in
+    let some : length c.loop-first.out.items < n = room_left n c.loop-first.first (to_z w64 (of_z w64 c.args.a)) (to_z w64 (of_z w64 c.args.b)) c.args.line.now c.args.other.now (drop c.loop-first.left c.args.line.now) ys c.loop-first.out.items v.merging v.first (omega (arith, v.second, c.if-first-second.true)) in
+    omega (arith, v.room)
+
+pub push_difference-requires-clause-x : goal.push_difference-requires-clause-x
+push_difference-requires-clause-x c =
     let n = c.args.columns in
     let v = c.loop-first.invariant in
     let ys : List (ℕ × ℤ) = drop c.loop-first.right c.args.other.now in
@@ -55,16 +64,26 @@ loop-first-preserved-then-first-second c =
     let below : d < n = omega arith in
     let x = read xs i n d c.requires.line_narrow v.first below in
     record {
-      merging = IsMerging-left n a b xs ys i j c.loop-first.out.items c.push_unless_zero.new.out.items d v.merging v.first later below
-          (fits_as a b (to_z w64 (of_z w64 (get_or xs i no_entry).1)) (pos 0) (get_or xs i no_entry).1 (pos 0) x.0 refl c.difference.ensures.fits)
-          (pushed_as d a b (to_z w64 (of_z w64 (get_or xs i no_entry).1)) (pos 0) (get_or xs i no_entry).1 (pos 0) c.difference.result c.loop-first.out.items c.push_unless_zero.new.out.items x.0 refl c.difference.ensures.value c.difference.ensures.range c.in_ok-push_unless_zero.ensures.pushed);
-      narrow = c.in_ok-push_unless_zero.ensures.narrow v.narrow;
+      merging = IsMerging-left n a b xs ys i j c.loop-first.out.items c.push_difference.new.out.items d v.merging v.first later below
+          (fits_as a b (to_z w64 (of_z w64 (get_or xs i no_entry).1)) (pos 0) (get_or xs i no_entry).1 (pos 0) x.0 refl c.push_difference.ensures.fits)
+          (pushed_as d a b (to_z w64 (of_z w64 (get_or xs i no_entry).1)) (pos 0) (get_or xs i no_entry).1 (pos 0) c.loop-first.out.items c.push_difference.new.out.items x.0 refl c.in_ok-push_difference.ensures.pushed);
+      narrow = c.in_ok-push_difference.ensures.narrow v.narrow;
       first = c.column_at-first-then-first-second.ensures;
       second = v.second;
+      room = subst (λ k. n ≤ k) (sym c.push_difference.ensures.capacity) v.room;
     }
 
-pub difference-requires-then-second-first-clause-y : goal.difference-requires-then-second-first-clause-y
-difference-requires-then-second-first-clause-y c =
+pub push_difference-requires-then-second-first-clause-room : goal.push_difference-requires-then-second-first-clause-room
+push_difference-requires-then-second-first-clause-room c =
+    let n = c.args.columns in
+    let v = c.loop-first.invariant in
+    let xs : List (ℕ × ℤ) = drop c.loop-first.left c.args.line.now in
+    let next : head_column n xs ≤ n = head_column-below v.merging.column n xs v.merging.merge.left in
+    let some : length c.loop-first.out.items < n = room_right n c.loop-first.second (to_z w64 (of_z w64 c.args.a)) (to_z w64 (of_z w64 c.args.b)) c.args.line.now c.args.other.now xs (drop c.loop-first.right c.args.other.now) c.loop-first.out.items v.merging v.second (omega (arith, v.first, c.if-second-first.true)) in
+    omega (arith, v.room)
+
+pub push_difference-requires-then-second-first-clause-y : goal.push_difference-requires-then-second-first-clause-y
+push_difference-requires-then-second-first-clause-y c =
     let n = c.args.columns in
     let v = c.loop-first.invariant in
     let xs : List (ℕ × ℤ) = drop c.loop-first.left c.args.line.now in
@@ -87,16 +106,29 @@ loop-first-preserved-then-second-first c =
     let below : d < n = omega arith in
     let y = read ys j n d c.requires.other_narrow v.second below in
     record {
-      merging = IsMerging-right n a b xs ys i j c.loop-first.out.items c.push_unless_zero-then-second-first.new.out.items d v.merging later v.second below
-          (fits_as a b (pos 0) (to_z w64 (of_z w64 (get_or ys j no_entry).1)) (pos 0) (get_or ys j no_entry).1 refl y.0 c.difference-then-second-first.ensures.fits)
-          (pushed_as d a b (pos 0) (to_z w64 (of_z w64 (get_or ys j no_entry).1)) (pos 0) (get_or ys j no_entry).1 c.difference-then-second-first.result c.loop-first.out.items c.push_unless_zero-then-second-first.new.out.items refl y.0 c.difference-then-second-first.ensures.value c.difference-then-second-first.ensures.range c.in_ok-push_unless_zero-2.ensures.pushed);
-      narrow = c.in_ok-push_unless_zero-2.ensures.narrow v.narrow;
+      merging = IsMerging-right n a b xs ys i j c.loop-first.out.items c.push_difference-then-second-first.new.out.items d v.merging later v.second below
+          (fits_as a b (pos 0) (to_z w64 (of_z w64 (get_or ys j no_entry).1)) (pos 0) (get_or ys j no_entry).1 refl y.0 c.push_difference-then-second-first.ensures.fits)
+          (pushed_as d a b (pos 0) (to_z w64 (of_z w64 (get_or ys j no_entry).1)) (pos 0) (get_or ys j no_entry).1 c.loop-first.out.items c.push_difference-then-second-first.new.out.items refl y.0 c.in_ok-push_difference-2.ensures.pushed);
+      narrow = c.in_ok-push_difference-2.ensures.narrow v.narrow;
       first = v.first;
       second = c.column_at-second-then-second-first.ensures;
+      room = subst (λ k. n ≤ k) (sym c.push_difference-then-second-first.ensures.capacity) v.room;
     }
 
-pub difference-requires-else-second-first-clause-x : goal.difference-requires-else-second-first-clause-x
-difference-requires-else-second-first-clause-x c =
+pub push_difference-requires-else-second-first-clause-room : goal.push_difference-requires-else-second-first-clause-room
+push_difference-requires-else-second-first-clause-room c =
+    let n = c.args.columns in
+    let v = c.loop-first.invariant in
+    let below : c.loop-first.first < n =
+    elim c.if-first-columns.branch [
+      | then-first-columns w ↦ w.if-first-columns.true
+      | else-first-columns+then-second-columns w ↦ omega (arith, w.if-second-columns.true, c.if-first-second.false, c.if-second-first.false)
+    ] in
+    let some : length c.loop-first.out.items < n = room_left n c.loop-first.first (to_z w64 (of_z w64 c.args.a)) (to_z w64 (of_z w64 c.args.b)) c.args.line.now c.args.other.now (drop c.loop-first.left c.args.line.now) (drop c.loop-first.right c.args.other.now) c.loop-first.out.items v.merging v.first below in
+    omega (arith, v.room)
+
+pub push_difference-requires-else-second-first-clause-x : goal.push_difference-requires-else-second-first-clause-x
+push_difference-requires-else-second-first-clause-x c =
     let below : c.loop-first.first < c.args.columns =
     elim c.if-first-columns.branch [
       | then-first-columns w ↦ w.if-first-columns.true
@@ -104,8 +136,8 @@ difference-requires-else-second-first-clause-x c =
     ] in
     read_small c.args.line.now c.loop-first.left c.args.columns c.loop-first.first c.requires.line_narrow c.loop-first.invariant.first below
 
-pub difference-requires-else-second-first-clause-y : goal.difference-requires-else-second-first-clause-y
-difference-requires-else-second-first-clause-y c =
+pub push_difference-requires-else-second-first-clause-y : goal.push_difference-requires-else-second-first-clause-y
+push_difference-requires-else-second-first-clause-y c =
     let below : c.loop-first.second < c.args.columns =
     elim c.if-first-columns.branch [
       | then-first-columns w ↦ omega (arith, w.if-first-columns.true, c.if-first-second.false, c.if-second-first.false)
@@ -134,12 +166,13 @@ loop-first-preserved c =
     let x = read xs i n d c.requires.line_narrow v.first below in
     let y = read ys j n d c.requires.other_narrow second below in
     record {
-      merging = IsMerging-both n a b xs ys i j c.loop-first.out.items c.push_unless_zero-else-second-first.new.out.items d v.merging v.first second below
-          (fits_as a b (to_z w64 (of_z w64 (get_or xs i no_entry).1)) (to_z w64 (of_z w64 (get_or ys j no_entry).1)) (get_or xs i no_entry).1 (get_or ys j no_entry).1 x.0 y.0 c.difference-else-second-first.ensures.fits)
-          (pushed_as d a b (to_z w64 (of_z w64 (get_or xs i no_entry).1)) (to_z w64 (of_z w64 (get_or ys j no_entry).1)) (get_or xs i no_entry).1 (get_or ys j no_entry).1 c.difference-else-second-first.result c.loop-first.out.items c.push_unless_zero-else-second-first.new.out.items x.0 y.0 c.difference-else-second-first.ensures.value c.difference-else-second-first.ensures.range c.in_ok-push_unless_zero-3.ensures.pushed);
-      narrow = c.in_ok-push_unless_zero-3.ensures.narrow v.narrow;
+      merging = IsMerging-both n a b xs ys i j c.loop-first.out.items c.push_difference-else-second-first.new.out.items d v.merging v.first second below
+          (fits_as a b (to_z w64 (of_z w64 (get_or xs i no_entry).1)) (to_z w64 (of_z w64 (get_or ys j no_entry).1)) (get_or xs i no_entry).1 (get_or ys j no_entry).1 x.0 y.0 c.push_difference-else-second-first.ensures.fits)
+          (pushed_as d a b (to_z w64 (of_z w64 (get_or xs i no_entry).1)) (to_z w64 (of_z w64 (get_or ys j no_entry).1)) (get_or xs i no_entry).1 (get_or ys j no_entry).1 c.loop-first.out.items c.push_difference-else-second-first.new.out.items x.0 y.0 c.in_ok-push_difference-3.ensures.pushed);
+      narrow = c.in_ok-push_difference-3.ensures.narrow v.narrow;
       first = c.column_at-first-else-second-first.ensures;
       second = c.column_at-second-else-second-first.ensures;
+      room = subst (λ k. n ≤ k) (sym c.push_difference-else-second-first.ensures.capacity) v.room;
     }
 
 pub returns-clause-sparse : goal.returns-clause-sparse

@@ -1,5 +1,6 @@
 -- What is left begins with the two columns, and what is before them is written.
-use Rattle.std.proofs.Common.{◌≡◌, ◌+◌, ◌-◌, drop, length}
+use Rattle.std.proofs.Common.{◌≡◌, ◌+◌, ◌-◌, ◌≤◌, drop, length}
+use Rattle.std.specs.Prelude.{vec_capacity}
 use Rattle.int_tableau.proofs.HeadLaws.{IsMerging}
 use Rattle.int_tableau.specs.Entries.{head_column}
 use Rattle.int_tableau.specs.Narrow.{AreNarrow}
@@ -11,6 +12,7 @@ invariant-loop-first l = record {
   narrow : AreNarrow l.out.items;
   first : l.first ≡ head_column l.columns (drop l.left l.line);
   second : l.second ≡ head_column l.columns (drop l.right l.other);
+  room : l.columns ≤ vec_capacity l.out;
 }
 
 abbrev pub decreases-loop-first : goal.decreases-loop-first

@@ -1,31 +1,25 @@
-use Rattle.std.proofs.Common.{◌≡◌, ◌≢◌, ◌<◌, ◌^◌, ℕ, ℤ, pos, List, ◌++◌, [], ◌∷◌, sym, ap, ◌∙◌, subst, to_z, of_z}
-use Rattle.std.specs.Int.{w128}
-use Rattle.std.specs.Prelude.{unsigned_abs}
-use Rattle.exact_num.proofs.RangeLaws.{back_in_range}
+use Rattle.std.proofs.Common.{◌≡◌, ◌≢◌, ℕ, ℤ, pos, List, ◌++◌, [], ◌∷◌, sym, ap, ◌∙◌, subst, to_z, of_z}
+use Rattle.std.specs.Int.{w64}
 use Rattle.int_tableau.specs.Narrow.{AreNarrow}
 use Rattle.int_tableau.specs.Pushes.{IsPushed}
 use Rattle.int_tableau.proofs.MergeLaws.{pushed, not_pushed}
-use Rattle.int_tableau.proofs.NarrowLaws.{back_narrowed, AreNarrow-last}
+use Rattle.int_tableau.proofs.NarrowLaws.{back_narrow, narrow_fits, AreNarrow-last}
 use Rattle.int_tableau.proofs.narrow_merging.push_unless_zero.Goals as goal
 
-pub returns-then-number-eq0-clause-pushed : goal.returns-then-number-eq0-clause-pushed
-returns-then-number-eq0-clause-pushed c =
-    let none : c.args.number ≡ pos 0 = sym (back_in_range c.args.number c.requires) ∙ ap (λ n. to_z w128 n) c.if-number-eq0.true in
+written : (c : goal.After-push_reserved) → c.push_reserved.new.self.items ≡ c.args.out.now.items ++ (c.args.column, c.args.number) ∷ []
+written c = c.push_reserved.ensures.items ∙ ap {B = List (ℕ × ℤ)} (λ w. c.args.out.now.items ++ (c.args.column, w) ∷ []) (back_narrow c.args.number c.requires.number)
+
+pub returns-then-number-ne0-clause-pushed : goal.returns-then-number-ne0-clause-pushed
+returns-then-number-ne0-clause-pushed c =
+    let z : ℤ = c.args.number in
+    let out : List (ℕ × ℤ) = c.args.out.now.items in
+    let some : z ≢ pos 0 = λ e. c.if-number-ne0.true (ap (λ w. of_z w64 w) e) in
+    subst (λ (xs : List (ℕ × ℤ)). IsPushed c.args.column z out xs) (sym (written c)) (pushed c.args.column z out some (narrow_fits z c.requires.number))
+
+pub returns-else-number-ne0-clause-pushed : goal.returns-else-number-ne0-clause-pushed
+returns-else-number-ne0-clause-pushed c =
+    let none : c.args.number ≡ pos 0 = sym (back_narrow c.args.number c.requires.number) ∙ ap (λ n. to_z w64 n) c.if-number-ne0.false in
     not_pushed c.args.column c.args.number c.args.out.now.items none
 
-pub returns-clause-pushed : goal.returns-clause-pushed
-returns-clause-pushed c =
-    let z : ℤ = c.args.number in
-    let out : List (ℕ × ℤ) = c.args.out.now.items in
-    let small : unsigned_abs z < 2 ^ 63 = subst (λ y. unsigned_abs y < 2 ^ 63) (back_in_range z c.requires) (c.is_narrow.ensures.0 c.if-not-is_narrow.false) in
-    let some : z ≢ pos 0 = λ e. c.if-number-eq0.false (ap (λ w. of_z w128 w) e) in
-    let items : c.push.new.self.items ≡ out ++ (c.args.column, z) ∷ [] = c.in_ok-push.ensures.items ∙ ap {B = List (ℕ × ℤ)} (λ w. out ++ (c.args.column, w) ∷ []) (back_narrowed z small) in
-    subst (λ (xs : List (ℕ × ℤ)). IsPushed c.args.column z out xs) (sym items) (pushed c.args.column z out some c.requires)
-
-pub returns-clause-narrow : goal.returns-clause-narrow
-returns-clause-narrow c h =
-    let z : ℤ = c.args.number in
-    let out : List (ℕ × ℤ) = c.args.out.now.items in
-    let small : unsigned_abs z < 2 ^ 63 = subst (λ y. unsigned_abs y < 2 ^ 63) (back_in_range z c.requires) (c.is_narrow.ensures.0 c.if-not-is_narrow.false) in
-    let items : c.push.new.self.items ≡ out ++ (c.args.column, z) ∷ [] = c.in_ok-push.ensures.items ∙ ap {B = List (ℕ × ℤ)} (λ w. out ++ (c.args.column, w) ∷ []) (back_narrowed z small) in
-    subst (λ (xs : List (ℕ × ℤ)). AreNarrow xs) (sym items) (AreNarrow-last out (c.args.column, z) h small)
+pub returns-then-number-ne0-clause-narrow : goal.returns-then-number-ne0-clause-narrow
+returns-then-number-ne0-clause-narrow c = λ h. subst (λ (xs : List (ℕ × ℤ)). AreNarrow xs) (sym (written c)) (AreNarrow-last c.args.out.now.items (c.args.column, c.args.number) h c.requires.number)

@@ -7,13 +7,6 @@ use Rattle.command_answers.specs.DueForText.{DueForText}
 use Rattle.osemosys_run.specs.Tasks.{DueForTask, HasLimits}
 use Rattle.osemosys_run.proofs.one_file.answer_text.Goals as goal
 
-pub returns-in-Write : goal.returns-in-Write
-returns-in-Write c =
-    let found : (d : Data) × (accepted : Accepted c.args.text.items d) × AreSameData c.in-Ok.model.facts d × (c.in-Ok.model.rounded ≡ accepted.blocks.rounded) =
-    MatchResult-at_ok _ _ c.in-Ok.model c.in-Ok.is c.in_ok-model.ensures in
-    IfOk-weaker c.answer_mps.result _ _
-    (λ answer due. subst (λ task. DueForText (DueForTask task c.args.places) c.args.text.items answer.status answer.text.items) (sym c.in-Write.is) (inr (found.0, found.1, due found.0 found.2))) c.answer_mps.ensures
-
 pub returns-in-Solve : goal.returns-in-Solve
 returns-in-Solve c =
     let found : (d : Data) × (accepted : Accepted c.args.text.items d) × AreSameData c.in-Ok.model.facts d × (c.in-Ok.model.rounded ≡ accepted.blocks.rounded) =

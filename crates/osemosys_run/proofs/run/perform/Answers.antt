@@ -1,26 +1,29 @@
 use Rattle.std.specs.List.{AllByRecursion}
 use Rattle.command_words.specs.LimitLists.{IsLimit}
 use Rattle.curve_command.specs.Curve.{DueForCurve}
-use Rattle.std.proofs.Common.{ℤ, List, ◌∙◌, ap, refl, sym, subst, Result, Ok, map, option_map}
+use Rattle.std.proofs.Common.{ℕ, ℤ, List, ◌∙◌, ap, refl, sym, subst, Result, Ok, map, option_map}
 use Rattle.std.proofs.lemmas.Result.{IfOk-weaker}
 use Rattle.std.specs.String.{string_bytes}
 use Rattle.command_words.specs.declared.fault.WordFault.{WordFault}
 use Rattle.solve_command.specs.declared.solve.Shown.{Shown}
+use Rattle.command_answers.specs.declared.status.Status.{Status}
 use Rattle.osemosys_run.specs.Causes.{CausedByFile, CausedByRequest, FollowsFromText}
+use Rattle.osemosys_run.specs.Due.{AskForEquations}
+use Rattle.osemosys_run.proofs.Delivery.{asked_by, told_so}
 use Rattle.solve_command.specs.Solve.{DueForSolve}
 use Rattle.command_words.specs.Commands.{request_of_result}
 use Rattle.osemosys_run.specs.Reading.{Sight}
-use Rattle.command_words.specs.Words.{Request}
+use Rattle.command_words.specs.Words.{Request, asked}
 use Rattle.command_words.proofs.Requests.{asked_places, check_places, curve_places, explain_places, make_size, no_span, solve_places}
 use Rattle.osemosys_run.proofs.run.perform.Goals as goal
 
-pub perform_task-requires-clause-places : goal.perform_task-requires-clause-places
-perform_task-requires-clause-places g c =
+pub perform_mps-requires : goal.perform_mps-requires
+perform_mps-requires g c =
     let request = ap request_of_result (sym (c.in-Ok-Mps.is ∙ ap Ok c.in-Ok-Mps.field-0-is)) ∙ c.in_ok-file.ensures in
     asked_places (map string_bytes c.args.words.now) c.in-Ok-Mps.file.now c.in-Ok-Mps.places (sym request)
 
-pub perform_task-requires-in-Ok-Solve-clause-places : goal.perform_task-requires-in-Ok-Solve-clause-places
-perform_task-requires-in-Ok-Solve-clause-places g c =
+pub perform_task-requires-clause-places : goal.perform_task-requires-clause-places
+perform_task-requires-clause-places g c =
     let request = ap request_of_result (sym (c.in-Ok-Solve.is ∙ ap Ok c.in-Ok-Solve.field-0-is)) ∙ c.in_ok-file.ensures in
     solve_places (map string_bytes c.args.words.now) c.in-Ok-Solve.file.now c.in-Ok-Solve.gap c.in-Ok-Solve.pivots c.in-Ok-Solve.places c.in-Ok-Solve.show c.in-Ok-Solve.method (sym request)
 
@@ -63,44 +66,53 @@ pub returns-in-Ok-Mps-clause-caused : goal.returns-in-Ok-Mps-clause-caused
 returns-in-Ok-Mps-clause-caused g c =
     let shelf = g.S.Shelf in
     let old = c.args.shelf.now in
-    let new = c.perform_task.new.shelf in
+    let new = c.perform_mps.new.shelf in
     let before : Sight = record { files = shelf.files old; rest = shelf.rest old; faults = shelf.faults old; begins = shelf.begins old; taken = shelf.taken old } in
     let after : Sight = record { files = shelf.files new; rest = shelf.rest new; faults = shelf.faults new; begins = shelf.begins new; taken = shelf.taken new } in
     let request = ap request_of_result (sym (c.in-Ok-Mps.is ∙ ap Ok c.in-Ok-Mps.field-0-is)) ∙ c.in_ok-file.ensures in
-    IfOk-weaker c.perform_task.result _ _
-    (λ answer caused. subst (λ (r : Result Request WordFault). CausedByRequest r before after answer.status answer.text.items) request caused)
-    c.perform_task.ensures.caused
+    IfOk-weaker c.perform_mps.result _ _
+    (λ reply caused status text said. subst (λ (r : Result Request WordFault). CausedByRequest r before after status text) request (caused status text said))
+    c.perform_mps.ensures.caused
 
-pub returns-in-Ok-Solve-clause-caused : goal.returns-in-Ok-Solve-clause-caused
-returns-in-Ok-Solve-clause-caused g c =
+pub returns-in-Ok-Mps-clause-asked : goal.returns-in-Ok-Mps-clause-asked
+returns-in-Ok-Mps-clause-asked g c =
+    let words = map string_bytes c.args.words.now in
+    let request = ap request_of_result (sym (c.in-Ok-Mps.is ∙ ap Ok c.in-Ok-Mps.field-0-is)) ∙ c.in_ok-file.ensures in
+    let asks : AskForEquations words = record { name = c.in-Ok-Mps.file.now; places = c.in-Ok-Mps.places; asks = sym request } in
+    IfOk-weaker c.perform_mps.result _ _ (λ reply places. asked_by words reply asks places) c.perform_mps.ensures.places
+
+pub returns-in_ok-answer-in-Ok-Solve-clause-caused : goal.returns-in_ok-answer-in-Ok-Solve-clause-caused
+returns-in_ok-answer-in-Ok-Solve-clause-caused g c = λ status text said.
     let shelf = g.S.Shelf in
     let old = c.args.shelf.now in
-    let new = c.perform_task-in-Ok-Solve.new.shelf in
+    let new = c.perform_task.new.shelf in
     let before : Sight = record { files = shelf.files old; rest = shelf.rest old; faults = shelf.faults old; begins = shelf.begins old; taken = shelf.taken old } in
     let after : Sight = record { files = shelf.files new; rest = shelf.rest new; faults = shelf.faults new; begins = shelf.begins new; taken = shelf.taken new } in
     let request = ap request_of_result (sym (c.in-Ok-Solve.is ∙ ap Ok c.in-Ok-Solve.field-0-is)) ∙ c.in_ok-file.ensures in
     let solve = c.in-Ok-Solve in
-    IfOk-weaker c.perform_task-in-Ok-Solve.result _ _
-    (λ answer caused.
-    subst (λ (r : Result Request WordFault). CausedByRequest r before after answer.status answer.text.items) request
+    let answer = c.in_ok-answer-in-Ok-Solve.answer in
+    told_so (λ (s : Status) (t : List ℕ). CausedByRequest (asked (map string_bytes c.args.words.now)) before after s t) answer.status answer.text.items
+    (subst (λ (r : Result Request WordFault). CausedByRequest r before after answer.status answer.text.items) request
     (subst (λ (shown : Shown). CausedByFile (FollowsFromText (DueForSolve solve.places solve.gap solve.pivots shown solve.method) after answer.status answer.text.items) 1 solve.file.now before after answer.status answer.text.items)
-    c.shown_of-show.ensures caused))
-    c.perform_task-in-Ok-Solve.ensures.caused
+    c.shown_of-show.ensures c.in_ok-answer-in-Ok-Solve.ensures.caused))
+    status text said
 
-pub returns-in-Ok-Explain-clause-caused : goal.returns-in-Ok-Explain-clause-caused
-returns-in-Ok-Explain-clause-caused g c =
+pub returns-in_ok-answer-in-Ok-Explain-clause-caused : goal.returns-in_ok-answer-in-Ok-Explain-clause-caused
+returns-in_ok-answer-in-Ok-Explain-clause-caused g c = λ status text said.
     let shelf = g.S.Shelf in
     let old = c.args.shelf.now in
     let new = c.perform_task-in-Ok-Explain.new.shelf in
     let before : Sight = record { files = shelf.files old; rest = shelf.rest old; faults = shelf.faults old; begins = shelf.begins old; taken = shelf.taken old } in
     let after : Sight = record { files = shelf.files new; rest = shelf.rest new; faults = shelf.faults new; begins = shelf.begins new; taken = shelf.taken new } in
     let request = ap request_of_result (sym (c.in-Ok-Explain.is ∙ ap Ok c.in-Ok-Explain.field-0-is)) ∙ c.in_ok-file.ensures in
-    IfOk-weaker c.perform_task-in-Ok-Explain.result _ _
-    (λ answer caused. subst (λ (r : Result Request WordFault). CausedByRequest r before after answer.status answer.text.items) request caused)
-    c.perform_task-in-Ok-Explain.ensures.caused
+    let answer = c.in_ok-answer-in-Ok-Explain.answer in
+    told_so (λ (s : Status) (t : List ℕ). CausedByRequest (asked (map string_bytes c.args.words.now)) before after s t) answer.status answer.text.items
+    (subst (λ (r : Result Request WordFault). CausedByRequest r before after answer.status answer.text.items) request
+    c.in_ok-answer-in-Ok-Explain.ensures.caused)
+    status text said
 
-pub returns-in-Ok-Curve-clause-caused : goal.returns-in-Ok-Curve-clause-caused
-returns-in-Ok-Curve-clause-caused g c =
+pub returns-in_ok-answer-in-Ok-Curve-clause-caused : goal.returns-in_ok-answer-in-Ok-Curve-clause-caused
+returns-in_ok-answer-in-Ok-Curve-clause-caused g c = λ status text said.
     let shelf = g.S.Shelf in
     let old = c.args.shelf.now in
     let new = c.perform_task-in-Ok-Curve.new.shelf in
@@ -108,31 +120,45 @@ returns-in-Ok-Curve-clause-caused g c =
     let after : Sight = record { files = shelf.files new; rest = shelf.rest new; faults = shelf.faults new; begins = shelf.begins new; taken = shelf.taken new } in
     let request = ap request_of_result (sym (c.in-Ok-Curve.is ∙ ap Ok c.in-Ok-Curve.field-0-is)) ∙ c.in_ok-file.ensures in
     let curve = c.in-Ok-Curve in
-    IfOk-weaker c.perform_task-in-Ok-Curve.result _ _
-    (λ answer caused.
-    subst (λ (r : Result Request WordFault). CausedByRequest r before after answer.status answer.text.items) request
+    let answer = c.in_ok-answer-in-Ok-Curve.answer in
+    told_so (λ (s : Status) (t : List ℕ). CausedByRequest (asked (map string_bytes c.args.words.now)) before after s t) answer.status answer.text.items
+    (subst (λ (r : Result Request WordFault). CausedByRequest r before after answer.status answer.text.items) request
     (subst (λ (limits : List ℤ). CausedByFile (FollowsFromText (λ rounded. DueForCurve curve.places (record { method = curve.method; pivots = curve.pivots; gap = curve.gap }) curve.region.now curve.emission.now limits) after answer.status answer.text.items) 1 curve.file.now before after answer.status answer.text.items)
-    c.deref.ensures.value caused))
-    c.perform_task-in-Ok-Curve.ensures.caused
+    c.deref.ensures.value c.in_ok-answer-in-Ok-Curve.ensures.caused))
+    status text said
 
-pub returns-in-Ok-Check-clause-caused : goal.returns-in-Ok-Check-clause-caused
-returns-in-Ok-Check-clause-caused g c =
+pub returns-in_ok-answer-in-Ok-Check-clause-caused : goal.returns-in_ok-answer-in-Ok-Check-clause-caused
+returns-in_ok-answer-in-Ok-Check-clause-caused g c = λ status text said.
     let shelf = g.S.Shelf in
     let old = c.args.shelf.now in
     let new = c.perform_check.new.shelf in
     let before : Sight = record { files = shelf.files old; rest = shelf.rest old; faults = shelf.faults old; begins = shelf.begins old; taken = shelf.taken old } in
     let after : Sight = record { files = shelf.files new; rest = shelf.rest new; faults = shelf.faults new; begins = shelf.begins new; taken = shelf.taken new } in
     let request = ap request_of_result (sym (c.in-Ok-Check.is ∙ ap Ok c.in-Ok-Check.field-0-is)) ∙ c.in_ok-file.ensures in
-    IfOk-weaker c.perform_check.result _ _
-    (λ answer caused. subst (λ (r : Result Request WordFault). CausedByRequest r before after answer.status answer.text.items) request caused)
-    c.perform_check.ensures.caused
+    let answer = c.in_ok-answer-in-Ok-Check.answer in
+    told_so (λ (s : Status) (t : List ℕ). CausedByRequest (asked (map string_bytes c.args.words.now)) before after s t) answer.status answer.text.items
+    (subst (λ (r : Result Request WordFault). CausedByRequest r before after answer.status answer.text.items) request
+    c.in_ok-answer-in-Ok-Check.ensures.caused)
+    status text said
 
-pub returns-in-Ok-Make-clause-caused : goal.returns-in-Ok-Make-clause-caused
-returns-in-Ok-Make-clause-caused g c =
+pub returns-in_ok-answer-in-Ok-Make-clause-caused : goal.returns-in_ok-answer-in-Ok-Make-clause-caused
+returns-in_ok-answer-in-Ok-Make-clause-caused g c = λ status text said.
     let shelf = g.S.Shelf in
     let old = c.args.shelf.now in
     let before : Sight = record { files = shelf.files old; rest = shelf.rest old; faults = shelf.faults old; begins = shelf.begins old; taken = shelf.taken old } in
     let request = ap request_of_result (sym (c.in-Ok-Make.is ∙ ap Ok c.in-Ok-Make.field-0-is)) ∙ c.in_ok-file.ensures in
-    IfOk-weaker c.perform_make.result _ _
-    (λ answer due. subst (λ (r : Result Request WordFault). CausedByRequest r before before answer.status answer.text.items) request (due, refl))
-    c.perform_make.ensures
+    let answer = c.in_ok-answer-in-Ok-Make.answer in
+    told_so (λ (s : Status) (t : List ℕ). CausedByRequest (asked (map string_bytes c.args.words.now)) before before s t) answer.status answer.text.items
+    (subst (λ (r : Result Request WordFault). CausedByRequest r before before answer.status answer.text.items) request (c.in_ok-answer-in-Ok-Make.ensures, refl))
+    status text said
+
+pub returns-in_ok-answer-in-Err-clause-caused : goal.returns-in_ok-answer-in-Err-clause-caused
+returns-in_ok-answer-in-Err-clause-caused g c = λ status text said.
+    let shelf = g.S.Shelf in
+    let old = c.args.shelf.now in
+    let before : Sight = record { files = shelf.files old; rest = shelf.rest old; faults = shelf.faults old; begins = shelf.begins old; taken = shelf.taken old } in
+    let request = ap request_of_result (sym c.in-Err.is) ∙ c.in_ok-file.ensures in
+    let answer = c.in_ok-answer-in-Err.answer in
+    told_so (λ (s : Status) (t : List ℕ). CausedByRequest (asked (map string_bytes c.args.words.now)) before before s t) answer.status answer.text.items
+    (subst (λ (r : Result Request WordFault). CausedByRequest r before before answer.status answer.text.items) request (c.in_ok-answer-in-Err.ensures.0, c.in_ok-answer-in-Err.ensures.1, refl))
+    status text said

@@ -1,26 +1,14 @@
--- Each size is at least what it was and what the line has.
-use Rattle.std.proofs.Common.{◌≡◌, sym, ap, subst, arith}
-use Rattle.std.specs.Prelude.{unsigned_abs}
+use Rattle.std.proofs.Common.{sym, ◌∙◌, subst}
 use Rattle.exact_num.specs.Range.{InRange}
 use Rattle.exact_num.proofs.RangeLaws.{back_in_range}
-use Rattle.kept_method.specs.Widths.{late_entry}
-use Rattle.written_method.specs.Lines.{entry_of, numbers_of}
-use Rattle.written_method.specs.Tableaus.{Tableau, line_of}
-use Rattle.simplex_core.specs.KeptViews.{kept_state, x0_in}
-use Rattle.simplex_core.proofs.KeptSizeLaws.{late_entry-is, spread-more, AreWithin-more}
 use Rattle.simplex_core.proofs.kept_choice.seen.Goals as goal
 
-pub returns : goal.returns
-returns c =
-    let t : Tableau = c.args.tableau.now.tableau in
-    let h = c.args.home in
-    let row = c.args.row in
-    let entry : late_entry (kept_state t h.row (x0_in t) 0 0) h.column row ≡ unsigned_abs c.args.entry = late_entry-is t h.row (x0_in t) h.column row c.args.entry c.requires.home.kept c.requires.row c.requires.entry in
-    let x0 : c.last_entry.result ≡ entry_of (line_of t row) (x0_in t) = c.last_entry.ensures.value in
-    let fits : InRange c.last_entry.result = subst InRange (sym x0) c.last_entry.ensures.range in
-    spread-more t h.row h.column row c.args.spread (record { entry = c.greater.result; at_x0 = c.greater-2.result; size = c.larger.result }) c.requires.before c.greater.ensures.before c.greater-2.ensures.before c.larger.ensures.first
-    (record {
-      entry_within = omega (arith, entry, c.greater.ensures.number, ap unsigned_abs (back_in_range c.args.entry c.requires.range));
-      x0_within = omega (arith, ap unsigned_abs x0, c.greater-2.ensures.number, ap unsigned_abs (back_in_range c.last_entry.result fits));
-      size_within = AreWithin-more c.size.result c.larger.result (numbers_of (line_of t row)) c.larger.ensures.second c.size.ensures;
-    })
+pub seen_by-requires-clause-at_x0 : goal.seen_by-requires-clause-at_x0
+seen_by-requires-clause-at_x0 c =
+    let fits : InRange c.last_entry.result = subst InRange (sym c.last_entry.ensures.value) c.last_entry.ensures.range in
+    back_in_range c.last_entry.result fits ∙ c.last_entry.ensures.value
+
+pub seen_by-requires-clause-at_x0_fits : goal.seen_by-requires-clause-at_x0_fits
+seen_by-requires-clause-at_x0_fits c =
+    let fits : InRange c.last_entry.result = subst InRange (sym c.last_entry.ensures.value) c.last_entry.ensures.range in
+    subst InRange (sym (back_in_range c.last_entry.result fits)) fits

@@ -28,6 +28,7 @@ invariant_of-self c = record {
     right_within = c.self.invariant.sized.right_within;
     own_within = c.self.invariant.sized.own_within;
   };
+  last_is = tt;
   marked = c.in_err-replace.ensures.marked c.self.inside.marks c.self.invariant.marked;
 }
 
@@ -40,12 +41,18 @@ invariant_of-self-2 c =
       own_fits = subst InRange (sym (back_in_range c.in-Some.own c.in-Some.ensures.own)) c.in-Some.ensures.own;
       sized = c.size_of_line-self-inside.ensures;
       marked = c.marks-self-inside.ensures;
+      last_is = c.last_of-self-inside.ensures;
     }
 
 pub size_of_line-self-inside-requires-clause-fits : goal.size_of_line-self-inside-requires-clause-fits
 size_of_line-self-inside-requires-clause-fits c =
     let n = c.self.inside.columns in
     IsSparse-fit 0 n c.replace.new.self (subst (IsSparse 0 n) (sym (c.in_ok-replace.ensures.value ∙ c.deref.ensures.value)) (c.in-Some.ensures.sparse n c.in-Ok.ensures.sparse))
+
+pub last_of-self-inside-requires : goal.last_of-self-inside-requires
+last_of-self-inside-requires c =
+    let n = c.self.inside.columns in
+    subst (IsSparse 0 n) (sym (c.in_ok-replace.ensures.value ∙ c.deref.ensures.value)) (c.in-Some.ensures.sparse n c.in-Ok.ensures.sparse)
 
 pub returns-clause-value : goal.returns-clause-value
 returns-clause-value c _ =

@@ -95,6 +95,11 @@ size_of_line-self-inside-requires-clause-fits c =
     let n = c.self.inside.columns in
     IsSparse-fit 0 n c.in_ok-self-inside.field-0 (subst (IsSparse 0 n) (sym (c.in_ok-self-inside.ensures ∙ c.deref-3.ensures.value)) (c.divide-right.ensures.sparse n c.in_ok-combine.ensures.sparse))
 
+pub last_of-self-inside-requires : goal.last_of-self-inside-requires
+last_of-self-inside-requires c =
+    let n = c.self.inside.columns in
+    subst (IsSparse 0 n) (sym (c.in_ok-self-inside.ensures ∙ c.deref-3.ensures.value)) (c.divide-right.ensures.sparse n c.in_ok-combine.ensures.sparse)
+
 pub invariant_of-self : goal.invariant_of-self
 invariant_of-self c =
     let n = c.self.inside.columns in
@@ -104,6 +109,7 @@ invariant_of-self c =
       own_fits = subst InRange (sym (back_in_range c.divide-right.result.1 c.divide-right.ensures.own)) c.divide-right.ensures.own;
       sized = c.size_of_line-self-inside.ensures;
       marked = c.marks-self-inside.ensures;
+      last_is = c.last_of-self-inside.ensures;
     }
 
 pub returns-clause-value : goal.returns-clause-value

@@ -1,0 +1,8 @@
+-- What was seen is within the greatest so far.
+use Rattle.std.proofs.Common.{take}
+use Rattle.row_core.specs.Numbers.{numbers_of}
+use Rattle.int_tableau.specs.Sizes.{AreWithin}
+use Rattle.int_tableau.proofs.narrow.short_size.Given as goal
+
+abbrev pub invariant-loop-entry : goal.invariant-loop-entry
+invariant-loop-entry l = AreWithin l.greatest (numbers_of (take l.entry-index l.entries))

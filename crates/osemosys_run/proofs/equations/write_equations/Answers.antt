@@ -1,0 +1,23 @@
+use Rattle.std.proofs.Common.{ℕ, List}
+use Rattle.std.specs.Prelude.{⊤}
+use Rattle.model_sets.specs.Data.{AreSameData, Data}
+use Rattle.command_answers.specs.declared.status.Status.{Status}
+use Rattle.command_answers.proofs.SameData.{SameLaws}
+use Rattle.osemosys_run.specs.Mps.{DueForEquations}
+use Rattle.osemosys_run.proofs.Delivery.{delivers-weaker}
+use Rattle.osemosys_run.proofs.SameEquations.{equations_carry}
+use Rattle.osemosys_run.proofs.equations.write_equations.Goals as goal
+
+pub returns-clause-delivers : goal.returns-clause-delivers
+returns-clause-delivers g c =
+    let sink = g.K.Sink in
+    let model = c.args.model.now.facts in
+    let places = c.args.places in
+    let laws = c.same_data_laws.ensures in
+    delivers-weaker ⊤ ⊤ (DueForEquations places model) (λ (status : Status) (text : List ℕ). (d : Data) → AreSameData model d → DueForEquations places d status text)
+    c.write_model.result (sink.written c.args.out.now) (sink.written c.write_model.new.out) (sink.faults c.args.out.now) (sink.faults c.write_model.new.out)
+    (λ made. made)
+    (λ status text due d same.
+    let rows : SameLaws places model d = record { rows = laws.rows places model d same; made = laws.made places model d same; wide = laws.wide places model d same; many = laws.many places model d same } in
+    equations_carry places model d status text same rows due)
+    c.write_model.ensures.delivers

@@ -1,0 +1,153 @@
+-- The definitions, computed: on a model of two technologies T and U, of which 10 units of activity are wanted, whose best plan builds 10 of T and costs 80, with a limit of 88.
+use Rattle.std.proofs.Common.{◌≡◌, ℕ, ℤ, pos, negsuc, List, [], ◌∷◌, inl, inr, refl}
+use Rattle.std.specs.Prelude.{Some, None, ◌==◌, if◌then◌else◌}
+use Rattle.std.proofs.Common.{arith}
+use Rattle.std.proofs.lemmas.Int.{ints}
+use Rattle.exact_num.specs.Gcd.{gcd_of, gcd_within}
+use Rattle.exact_num.specs.Rational.{Rational, lowest, plus, times, whole}
+use Rattle.row_core.specs.declared.Var.{Var}
+use Rattle.row_core.specs.declared.kind_numbers.TheConstants.{NEW_CAPACITY, TOTAL_DISCOUNTED_COST}
+use Rattle.row_core.specs.declared.place.Place.TheVariants.{CostRow, Expand, Row}
+use Rattle.row_core.specs.Rows.{number_at}
+use Rattle.row_core.specs.Terms.{gathered}
+use Rattle.row_core.specs.Written.{written_entries, written_right}
+use Rattle.named_equations.specs.Instances.{variable_of}
+use Rattle.simplex_core.specs.declared.stops.Stop.TheVariants.{Budget, Trial, Width}
+use Rattle.simplex_core.specs.declared.stops.TrialStop.TheVariants as trials
+use Rattle.exact_solver.specs.declared.solutions.SolveStop.TheVariants as stops
+use Rattle.span_finder.specs.declared.found.SpanFail.TheVariants.{Stopped}
+use Rattle.span_finder.specs.declared.limiting.TheConstants.{SPAN}
+use Rattle.span_finder.specs.declared.trial.Goal.TheVariants.{Least, Greatest}
+use Rattle.span_finder.specs.LimitRows.{CostsAtMost, cost_terms, span_name}
+use Rattle.span_finder.specs.Slacks.{slack_limit}
+use Rattle.span_finder.specs.SpanEnds.{HasExtreme, HasNoEnd, IsBounded, IsNothing, IsPivotDue, IsPlainStop, IsRising, IsStopped, IsWide, StopsAt, end_seen, greatest_end, least_end, trial_cost, trial_fail, unless_stopped}
+
+-- a variable of a kind, of this technology
+abbrev of_kind : ℕ → ℕ → Var
+of_kind kind tech = record { kind = kind; index = record { region = 0; other = 0; slice = 0; tech = tech; fuel = 0; emission = 0; mode = 0; year = 0 } }
+
+abbrev built_t : Var
+built_t = of_kind NEW_CAPACITY 0
+
+abbrev built_u : Var
+built_u = of_kind NEW_CAPACITY 1
+
+abbrev total_cost : Var
+total_cost = of_kind TOTAL_DISCOUNTED_COST 0
+
+abbrev variables : List Var
+variables = built_t ∷ built_u ∷ total_cost ∷ []
+
+-- ---- the row that limits the cost
+
+-- it has no number of a named equation, and defines nothing
+beyond : SPAN ≡ 65
+beyond = refl
+
+defines_nothing : variable_of span_name ≡ None
+defines_nothing = refl
+
+-- a limit of 88: the cost is at most 88; and of 177/2: twice the cost is at most 177
+entries_whole : written_entries (gathered (cost_terms variables)) (whole (pos 88)) ≡ (total_cost, pos 1) ∷ []
+unfolding lowest gcd_of gcd_within
+entries_whole = refl
+
+right_whole : written_right (gathered (cost_terms variables)) (whole (pos 88)) ≡ pos 88
+unfolding lowest gcd_of gcd_within
+right_whole = refl
+
+entries_half : written_entries (gathered (cost_terms variables)) (lowest (pos 177) (pos 2)) ≡ (total_cost, pos 2) ∷ []
+unfolding lowest gcd_of gcd_within
+entries_half = refl
+
+right_half : written_right (gathered (cost_terms variables)) (lowest (pos 177) (pos 2)) ≡ pos 177
+unfolding lowest gcd_of gcd_within
+right_half = refl
+
+-- a plan that costs exactly the limit is within it, and one that costs a half more isn't
+abbrev costing : ℤ → Var → ℤ
+costing n v = if v.kind == TOTAL_DISCOUNTED_COST then n else pos 0
+
+within : CostsAtMost variables (whole (pos 88)) 2 (costing (pos 176))
+within = omega (arith, ints)
+
+beyond_limit : ¬ (CostsAtMost variables (whole (pos 88)) 2 (costing (pos 177)))
+beyond_limit h = absurd (omega (arith, ints, h))
+
+-- ---- the limit that a slack leaves
+
+-- a tenth more than 80; above a cost below 0 too; and no slack
+tenth_more : slack_limit (whole (pos 80)) 100000 ≡ whole (pos 88)
+unfolding plus times lowest gcd_of gcd_within
+tenth_more = refl
+
+-- above -80 by a tenth of 80 is -72
+above_negative : slack_limit (whole (negsuc 79)) 100000 ≡ whole (negsuc 71)
+unfolding plus times lowest gcd_of gcd_within
+above_negative = refl
+
+no_slack : slack_limit (whole (pos 80)) 0 ≡ whole (pos 80)
+unfolding plus times lowest gcd_of gcd_within
+no_slack = refl
+
+-- ---- costs of trials
+
+least_counts : number_at (trial_cost built_t Least) built_t ≡ pos 1
+least_counts = refl
+
+greatest_counts : number_at (trial_cost built_t Greatest) built_t ≡ negsuc 0
+greatest_counts = refl
+
+others_cost_nothing : number_at (trial_cost built_t Least) built_u ≡ pos 0
+others_cost_nothing = refl
+
+-- ---- ends
+
+abbrev plan_of : ℤ → List (Var × Rational)
+plan_of n = (built_t, whole n) ∷ []
+
+-- both trials end: the first with the least value, the second with the greatest, and not the other way round
+bounded : least_end 9 (λ low. greatest_end 9 low (HasExtreme (plan_of (pos 11)))) (HasExtreme (plan_of (pos 8))) ≡ IsBounded (plan_of (pos 8)) (plan_of (pos 11))
+bounded = refl
+
+rising : greatest_end 9 (plan_of (pos 8)) (HasNoEnd (plan_of (pos 10)) (plan_of (pos 1))) ≡ IsRising (plan_of (pos 8)) (plan_of (pos 10)) (plan_of (pos 1))
+rising = refl
+
+-- there is no greatest value only where the second trial has no end, and not where it stops
+stopped_is_no_rise : greatest_end 9 (plan_of (pos 8)) IsPivotDue ≡ IsStopped (Trial 2 (trials.Budget 9))
+stopped_is_no_rise = refl
+
+first_stops : least_end 9 (λ low. IsNothing) (IsWide CostRow) ≡ IsStopped (Trial 1 (trials.Width CostRow))
+first_stops = refl
+
+-- a number of the elimination that doesn't fit is told without a trial
+plain_stop : unless_stopped (Some CostRow) IsNothing ≡ IsStopped (Width CostRow)
+plain_stop = refl
+
+-- a plan with a direction is seen as one that rises, and one without as bounded
+seen_bounded : end_seen (plan_of (pos 8)) (plan_of (pos 11)) None ≡ IsBounded (plan_of (pos 8)) (plan_of (pos 11))
+seen_bounded = refl
+
+-- ---- stops
+
+second_out_of_pivots : trial_fail 2 9 stops.Budget ≡ Stopped (Trial 2 (trials.Budget 9))
+second_out_of_pivots = refl
+
+told : StopsAt (IsStopped (Trial 2 (trials.Budget 9))) (Stopped (Trial 2 (trials.Budget 9)))
+told = refl
+
+-- a stop outside the trials is of the limit's row, or of its expansion, and no other
+of_the_row : IsPlainStop (Stopped (Width (Row span_name)))
+of_the_row = inl refl
+
+of_its_expansion : IsPlainStop (Stopped (Width (Expand span_name)))
+of_its_expansion = inr refl
+
+of_no_other : ¬ (IsPlainStop (Stopped (Width CostRow)))
+of_no_other h = elim h [ inl e ↦ cc e | inr e ↦ cc e ]
+
+no_budget : ¬ (IsPlainStop (Stopped (Budget 9)))
+no_budget h = h
+
+not_told : ¬ (StopsAt (IsStopped (Trial 2 (trials.Budget 9))) (Stopped (Trial 1 (trials.Budget 9))))
+not_told h = cc h

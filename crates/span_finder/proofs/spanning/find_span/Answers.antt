@@ -1,0 +1,7 @@
+-- A stop that isn't a trial's.
+use Rattle.exact_num.specs.Value.{value_of}
+use Rattle.span_finder.proofs.PlainStops.{answer-plain}
+use Rattle.span_finder.proofs.spanning.find_span.Goals as goal
+
+pub returns-clause-plain : goal.returns-clause-plain
+returns-clause-plain c = answer-plain c.args.book.now.rows c.args.book.now.vars (value_of c.args.limit) c.args.var c.args.pivots c.found_span.result c.found_span.ensures.stopped
