@@ -1,6 +1,7 @@
 // From the text of a data file to its data, or to the answer that refuses it. Every command begins here.
-ghost use Rattle.std.specs.Prelude.{◌≡◌, ◌≤◌, List, ℕ, None, length, IfOk, MatchResult};
+ghost use Rattle.std.specs.Prelude.{◌≡◌, ◌≤◌, List, ℕ, None, length, IfOk, MatchResult, ⊤};
 ghost use Rattle.mathprog_data.specs.BlocksView.{blocks_told};
+ghost use Rattle.mathprog_data.specs.Pieces.{StandsFor};
 ghost use Rattle.mathprog_data.specs.Verdicts.{FaultAt, Says};
 ghost use Rattle.mathprog_data.specs.WellFormed.{AreWellFormed};
 ghost use Rattle.model_sets.specs.Data.{AreSameData, Data};
@@ -17,7 +18,7 @@ ghost use Rattle.command_answers.specs.RefusalLines.{data_line, set_line, text_l
 use crate::answer::Answer;
 use crate::refusal_lines::{data_line, set_line, text_line};
 use crate::status::{Refusal, Status};
-use mathprog_data::{Blocks, DataFault, ReadFail, read_blocks, verdict_laws};
+use mathprog_data::{Blocks, DataFault, PieceReader, ReadFail, verdict_laws};
 use model_sets::{SetFail, SetFault, Sets};
 use param_tables::{BuildFail, BuildFault, ModelData, build, sets_of};
 use std::alloc::{AllocError, Global};
@@ -31,20 +32,46 @@ pub fn accept(alloc: Global, text: Vec<u8>) -> Result<Result<ModelData, Answer>,
         (λ model. (d : Data) × (accepted : Accepted text.items d) × AreSameData model.facts d × (model.rounded ≡ accepted.blocks.rounded))
         (λ answer. DueWhereNotAccepted text.items answer.status answer.text.items)) }
 {
-    match read_text(alloc, text)? {
+    let reader = read_text(alloc, text)?;
+    accept_read(alloc, reader)
+}
+
+/// The data of the text that a reader was fed, or the answer for its first refusal, as of `accept`.
+///
+/// What the reader keeps is gone when the data come back.
+pub fn accept_read(
+    alloc: Global,
+    reader: PieceReader,
+) -> Result<Result<ModelData, Answer>, AllocError>
+    requires { (text : List ℕ) × StandsFor reader text }
+    ensures { (text : List ℕ) → StandsFor reader text → length text ≤ most_bytes → IfOk result (λ verdict. MatchResult verdict
+        (λ model. (d : Data) × (accepted : Accepted text d) × AreSameData model.facts d × (model.rounded ≡ accepted.blocks.rounded))
+        (λ answer. DueWhereNotAccepted text answer.status answer.text.items)) }
+{
+    match end_reading(alloc, reader)? {
         Ok(blocks) => accept_blocks(alloc, &blocks),
         Err(answer) => Ok(Err(answer)),
     }
 }
 
-// The blocks that a text says, or the answer for its first fault.
-fn read_text(alloc: Global, text: Vec<u8>) -> Result<Result<Blocks, Answer>, AllocError>
+// A reader that was fed a text. The text is gone then.
+fn read_text(alloc: Global, text: Vec<u8>) -> Result<PieceReader, AllocError>
     requires { length text.items ≤ most_bytes }
-    ensures { IfOk result (λ verdict. MatchResult verdict
-        (λ blocks. Says text.items (blocks_told blocks) × AreWellFormed (blocks_told blocks))
-        (λ answer. RefusesText text.items answer.status answer.text.items)) }
+    ensures { IfOk result (λ reader. StandsFor reader text.items) }
 {
-    match read_blocks(alloc, &text) {
+    let mut reader = PieceReader::new(alloc)?;
+    reader.feed(&text)?;
+    Ok(reader)
+}
+
+// The blocks that the text of a reader says, or the answer for its first fault.
+fn end_reading(alloc: Global, reader: PieceReader) -> Result<Result<Blocks, Answer>, AllocError>
+    ensures told { (text : List ℕ) → StandsFor reader text → IfOk result (λ verdict. MatchResult verdict
+        (λ blocks. Says text (blocks_told blocks))
+        (λ answer. RefusesText text answer.status answer.text.items)) }
+    ensures well_formed { (text : List ℕ) → StandsFor reader text → IfOk result (λ verdict. MatchResult verdict (λ blocks. AreWellFormed (blocks_told blocks)) (λ answer. ⊤)) }
+{
+    match reader.finish() {
         Ok(blocks) => Ok(Ok(blocks)),
         Err(ReadFail::Fault(fault)) => Ok(Err(refuse_text(alloc, fault)?)),
         Err(ReadFail::Memory) => Err(AllocError),

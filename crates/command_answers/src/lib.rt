@@ -18,7 +18,7 @@ mod refusal_lines;
 mod status;
 mod stops;
 
-pub use accepting::{accept, acceptance_laws};
+pub use accepting::{accept, accept_read, acceptance_laws};
 pub use amounts::{push_amount, push_count, push_with_number};
 pub use answer::{Answer, refuse_words};
 pub use books::{refuse_book, refuse_size};

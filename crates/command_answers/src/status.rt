@@ -29,7 +29,7 @@ pub enum Status {
     ReadFault(ReadStop),
     /// A write failed; a prefix of the text due was written.
     WriteFault,
-    /// Memory ran out; nothing was written.
+    /// Memory ran out; nothing was written, or a prefix of a text that is written as it is made.
     Memory,
     /// A condition on the plan, the multipliers or the gap fails: the first that does.
     Rejected(Rejection),

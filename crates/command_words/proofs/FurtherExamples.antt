@@ -119,10 +119,13 @@ curve_with_two_faults : asked (codes "curve" ∷ codes "f" ∷ codes "R" ∷ cod
 unfolding limit_of all_of
 curve_with_two_faults = refl
 
--- ---- the words after `span`; no word asks for it yet
+-- ---- span
 
-no_span_yet : asked (codes "span" ∷ codes "f" ∷ codes "R" ∷ codes "T" ∷ codes "2020" ∷ []) ≡ Err BadCommand
-no_span_yet = refl
+span_asked : asked (codes "span" ∷ codes "f" ∷ codes "R" ∷ codes "T" ∷ codes "2020" ∷ []) ≡ Ok (Span (codes "f") (codes "R") (codes "T") (codes "2020") 0 0 20000 6 Exact)
+span_asked = refl
+
+no_other_spelling : asked (codes "Span" ∷ codes "f" ∷ codes "R" ∷ codes "T" ∷ codes "2020" ∷ []) ≡ Err BadCommand
+no_other_spelling = refl
 
 span_with_defaults : command_after (Some SpanName) (codes "f" ∷ codes "R" ∷ codes "T" ∷ codes "007" ∷ []) ≡ Ok (Span (codes "f") (codes "R") (codes "T") (codes "007") 0 0 20000 6 Exact)
 span_with_defaults = refl

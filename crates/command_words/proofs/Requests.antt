@@ -22,10 +22,6 @@ use Rattle.command_words.specs.WordValues.{gap_for, gap_of, make_show_of, method
 abbrev IsSize : ℕ → Type 0
 IsSize size = (3 ≤ size) × (size ≤ 122)
 
--- a word asks for `span`
-abbrev IsSpanOn : Type 0
-IsSpanOn = ⊥
-
 -- a request is for such factors or such a size, where there is one
 abbrev IsInRange : Result Request WordFault → Type 0
 IsInRange (Ok (Mps file places)) = IsPlaces places
@@ -33,7 +29,7 @@ IsInRange (Ok (Check file plan multipliers gap places)) = IsPlaces places
 IsInRange (Ok (Solve file gap pivots places show method)) = IsPlaces places
 IsInRange (Ok (Explain file pivots places method)) = IsPlaces places
 IsInRange (Ok (Curve file region emission limits gap pivots places method)) = IsPlaces places × AreLimits limits
-IsInRange (Ok (Span file region technology year slack gap pivots places method)) = IsSpanOn × IsPlaces places
+IsInRange (Ok (Span file region technology year slack gap pivots places method)) = IsPlaces places
 IsInRange (Ok (Make size show)) = IsSize size
 IsInRange (Err fault) = ⊤
 
@@ -121,8 +117,8 @@ of_curve file region emission limits gap pivots value method = go (gap_of gap) (
     go (Some n) (Some m) (Some places) (Some bounds) None one few = tt
     go (Some n) (Some m) (Some places) (Some bounds) (Some w) one few = (one, few)
 
-of_span : IsSpanOn → (file region technology year : List ℕ) (gap pivots value slack method : Option (List ℕ)) → IsInRange (span_of file region technology year gap pivots value slack method)
-of_span on file region technology year gap pivots value slack method = go (gap_of gap) (pivots_of pivots) (places_of value) (gap_of slack) (method_of method) (places-one value)
+of_span : (file region technology year : List ℕ) (gap pivots value slack method : Option (List ℕ)) → IsInRange (span_of file region technology year gap pivots value slack method)
+of_span file region technology year gap pivots value slack method = go (gap_of gap) (pivots_of pivots) (places_of value) (gap_of slack) (method_of method) (places-one value)
   where
     go : (ppm most found above : Option ℕ) (way : Option SolveMethod) → IsOne found
         → IsInRange (or_fault BadNumber ppm (λ n. or_fault BadNumber most (λ m. or_fault BadNumber found (λ decimals.
@@ -132,7 +128,7 @@ of_span on file region technology year gap pivots value slack method = go (gap_o
     go (Some n) (Some m) None above way one = tt
     go (Some n) (Some m) (Some places) None way one = tt
     go (Some n) (Some m) (Some places) (Some a) None one = tt
-    go (Some n) (Some m) (Some places) (Some a) (Some w) one = (on, one)
+    go (Some n) (Some m) (Some places) (Some a) (Some w) one = one
 
 of_make : (size : List ℕ) (show : Option (List ℕ)) → IsInRange (make_of size show)
 of_make size show = go (size_of size) (make_show_of show) (size-one size)
@@ -172,13 +168,13 @@ of_curve_files (file ∷ region ∷ emission ∷ []) gap pivots value show metho
 of_curve_files (file ∷ region ∷ emission ∷ limits ∷ []) gap pivots value show method slack = of_curve file region emission limits gap pivots value method
 of_curve_files (file ∷ region ∷ emission ∷ limits ∷ other ∷ files) gap pivots value show method slack = tt
 
-of_span_files : IsSpanOn → (files : List (List ℕ)) (gap pivots value show method slack : Option (List ℕ)) → IsInRange (command_of SpanName files gap pivots value show method slack)
-of_span_files on [] gap pivots value show method slack = tt
-of_span_files on (file ∷ []) gap pivots value show method slack = tt
-of_span_files on (file ∷ region ∷ []) gap pivots value show method slack = tt
-of_span_files on (file ∷ region ∷ technology ∷ []) gap pivots value show method slack = tt
-of_span_files on (file ∷ region ∷ technology ∷ year ∷ []) gap pivots value show method slack = of_span on file region technology year gap pivots value slack method
-of_span_files on (file ∷ region ∷ technology ∷ year ∷ other ∷ files) gap pivots value show method slack = tt
+of_span_files : (files : List (List ℕ)) (gap pivots value show method slack : Option (List ℕ)) → IsInRange (command_of SpanName files gap pivots value show method slack)
+of_span_files [] gap pivots value show method slack = tt
+of_span_files (file ∷ []) gap pivots value show method slack = tt
+of_span_files (file ∷ region ∷ []) gap pivots value show method slack = tt
+of_span_files (file ∷ region ∷ technology ∷ []) gap pivots value show method slack = tt
+of_span_files (file ∷ region ∷ technology ∷ year ∷ []) gap pivots value show method slack = of_span file region technology year gap pivots value slack method
+of_span_files (file ∷ region ∷ technology ∷ year ∷ other ∷ files) gap pivots value show method slack = tt
 
 of_make_files : (files : List (List ℕ)) (gap pivots value show method slack : Option (List ℕ)) → IsInRange (command_of MakeName files gap pivots value show method slack)
 of_make_files [] gap pivots value show method slack = tt
@@ -194,36 +190,19 @@ of_parts name of_files (Some parts) = go (allows_all name parts)
     go true = of_files (files_in parts) (value_in Gap parts) (value_in Pivots parts) (value_in Places parts) (value_in Show parts) (value_in Method parts) (value_in Slack parts)
     go false = tt
 
--- a command that a word asks for
-abbrev IsOn : Option CommandName → Type 0
-IsOn (Some SpanName) = IsSpanOn
-IsOn command = ⊤
-
-is_on : (word : List ℕ) → IsOn (command_named word)
-is_on word = go (bytes_eq word (codes "mps")) (bytes_eq word (codes "check")) (bytes_eq word (codes "solve")) (bytes_eq word (codes "explain")) (bytes_eq word (codes "curve")) (bytes_eq word (codes "make"))
-  where
-    go : (a b c d e f : Bool) → IsOn (cond a (Some MpsName) (cond b (Some CheckName) (cond c (Some SolveName) (cond d (Some ExplainName) (cond e (Some CurveName) (cond f (Some MakeName) None))))))
-    go true b c d e f = tt
-    go false true c d e f = tt
-    go false false true d e f = tt
-    go false false false true e f = tt
-    go false false false false true f = tt
-    go false false false false false true = tt
-    go false false false false false false = tt
-
-of_command : (command : Option CommandName) (words : List (List ℕ)) → IsOn command → IsInRange (command_after command words)
-of_command None words on = tt
-of_command (Some MpsName) words on = of_parts MpsName of_mps_files (parts_of words)
-of_command (Some CheckName) words on = of_parts CheckName of_check_files (parts_of words)
-of_command (Some SolveName) words on = of_parts SolveName of_solve_files (parts_of words)
-of_command (Some ExplainName) words on = of_parts ExplainName of_explain_files (parts_of words)
-of_command (Some CurveName) words on = of_parts CurveName of_curve_files (parts_of words)
-of_command (Some SpanName) words on = of_parts SpanName (of_span_files on) (parts_of words)
-of_command (Some MakeName) words on = of_parts MakeName of_make_files (parts_of words)
+of_command : (command : Option CommandName) (words : List (List ℕ)) → IsInRange (command_after command words)
+of_command None words = tt
+of_command (Some MpsName) words = of_parts MpsName of_mps_files (parts_of words)
+of_command (Some CheckName) words = of_parts CheckName of_check_files (parts_of words)
+of_command (Some SolveName) words = of_parts SolveName of_solve_files (parts_of words)
+of_command (Some ExplainName) words = of_parts ExplainName of_explain_files (parts_of words)
+of_command (Some CurveName) words = of_parts CurveName of_curve_files (parts_of words)
+of_command (Some SpanName) words = of_parts SpanName of_span_files (parts_of words)
+of_command (Some MakeName) words = of_parts MakeName of_make_files (parts_of words)
 
 in_range : (words : List (List ℕ)) → IsInRange (asked words)
 in_range [] = tt
-in_range (first ∷ words) = of_command (command_named first) words (is_on first)
+in_range (first ∷ words) = of_command (command_named first) words
 
 pub asked_places : (words : List (List ℕ)) (name : List ℕ) (places : ℕ) → asked words ≡ Ok (Mps name places) → IsPlaces places
 asked_places words name places e = subst IsInRange e (in_range words)
@@ -241,9 +220,9 @@ pub curve_places : (words : List (List ℕ)) (file region emission : List ℕ) (
     → asked words ≡ Ok (Curve file region emission limits gap pivots places method) → IsPlaces places × AreLimits limits
 curve_places words file region emission limits gap pivots places method e = subst IsInRange e (in_range words)
 
-pub no_span : (words : List (List ℕ)) (file region technology year : List ℕ) (slack gap pivots places : ℕ) (method : SolveMethod)
-    → asked words ≡ Ok (Span file region technology year slack gap pivots places method) → ⊥
-no_span words file region technology year slack gap pivots places method e = (subst IsInRange e (in_range words)).0
+pub span_places : (words : List (List ℕ)) (file region technology year : List ℕ) (slack gap pivots places : ℕ) (method : SolveMethod)
+    → asked words ≡ Ok (Span file region technology year slack gap pivots places method) → IsPlaces places
+span_places words file region technology year slack gap pivots places method e = subst IsInRange e (in_range words)
 
 pub make_size : (words : List (List ℕ)) (size : ℕ) (show : MakeShow) → asked words ≡ Ok (Make size show) → (3 ≤ size) × (size ≤ 122)
 make_size words size show e = subst IsInRange e (in_range words)

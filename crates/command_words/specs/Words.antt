@@ -32,7 +32,7 @@ pub data CommandName : Type 0 where
   SpanName : CommandName
   MakeName : CommandName
 
--- the command of this word, if it is one's; no word asks for `span` yet
+-- the command of this word, if it is one's
 abbrev pub command_named : List ℕ → Option CommandName
 command_named word =
     if bytes_eq word (codes "mps") then Some MpsName
@@ -40,6 +40,7 @@ command_named word =
     else if bytes_eq word (codes "solve") then Some SolveName
     else if bytes_eq word (codes "explain") then Some ExplainName
     else if bytes_eq word (codes "curve") then Some CurveName
+    else if bytes_eq word (codes "span") then Some SpanName
     else if bytes_eq word (codes "make") then Some MakeName
     else None
 

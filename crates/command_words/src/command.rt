@@ -142,7 +142,7 @@ pub fn read_command<'a>(
     }
 }
 
-// The command of this word. No word asks for `span` yet.
+// The command of this word.
 fn command_named(word: &str) -> Option<CommandName>
     ensures { option_map name_of result ≡ command_named word.now }
 {
@@ -156,6 +156,8 @@ fn command_named(word: &str) -> Option<CommandName>
         Some(CommandName::Explain)
     } else if word == "curve" {
         Some(CommandName::Curve)
+    } else if word == "span" {
+        Some(CommandName::Span)
     } else if word == "make" {
         Some(CommandName::Make)
     } else {

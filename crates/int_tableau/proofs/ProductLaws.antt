@@ -2,7 +2,7 @@
 use Rattle.std.proofs.Common.{◌≡◌, ◌*◌, ◌<◌, ◌≤◌, ◌+◌, ◌^◌, ℕ, suc, ℤ, true, List, [], ◌∷◌, length, sym, ◌∙◌, subst, arith, ◌-ℤ◌, ◌*ℤ◌}
 use Rattle.std.specs.Prelude.{unsigned_abs}
 use Rattle.std.proofs.lemmas.Int.{ints, unsigned_abs-mul}
-use Rattle.std.proofs.lemmas.Nat.{mul-lt}
+use Rattle.std.proofs.lemmas.Nat.{mul-le, mul-lt}
 use Rattle.exact_num.specs.Range.{InRange, all_fit}
 use Rattle.exact_num.proofs.RangeLaws.{in_range-yes}
 use Rattle.row_core.proofs.LessLaws.{goes_on}
@@ -30,6 +30,37 @@ pub formed_fit : (a b x y : ℤ) → unsigned_abs a < 2 ^ 63 → unsigned_abs b 
 formed_fit a b x y ha hb hx hy =
     goes_on a b x y (in_range-yes (a *ℤ x) (in_range_below (a *ℤ x) (product_below a x ha hx))) (in_range-yes (b *ℤ y) (in_range_below (b *ℤ y) (product_below b y hb hy)))
     ∙ in_range-yes ((a *ℤ x) -ℤ (b *ℤ y)) (less_fits a b x y ha hb hx hy)
+
+-- ---- products that are sure to have 64 bits
+
+-- by bounds of the two numbers
+pub sure_at : (a b x y : ℤ) (m n : ℕ) → unsigned_abs x ≤ m → unsigned_abs y ≤ n → (unsigned_abs a * m) + (unsigned_abs b * n) < 2 ^ 63 → (unsigned_abs a * unsigned_abs x) + (unsigned_abs b * unsigned_abs y) < 2 ^ 63
+sure_at a b x y m n h k below =
+    let first : unsigned_abs a * unsigned_abs x ≤ unsigned_abs a * m = mul-le (unsigned_abs a) (unsigned_abs x) (unsigned_abs a) m (omega arith) h in
+    let second : unsigned_abs b * unsigned_abs y ≤ unsigned_abs b * n = mul-le (unsigned_abs b) (unsigned_abs y) (unsigned_abs b) n (omega arith) k in
+    omega arith
+
+pub sure_first : (a b x y : ℤ) → (unsigned_abs a * unsigned_abs x) + (unsigned_abs b * unsigned_abs y) < 2 ^ 63 → unsigned_abs (a *ℤ x) < 2 ^ 63
+sure_first a b x y h = subst (λ n. n < 2 ^ 63) (sym (unsigned_abs-mul a x)) (omega arith)
+
+pub sure_second : (a b x y : ℤ) → (unsigned_abs a * unsigned_abs x) + (unsigned_abs b * unsigned_abs y) < 2 ^ 63 → unsigned_abs (b *ℤ y) < 2 ^ 63
+sure_second a b x y h = subst (λ n. n < 2 ^ 63) (sym (unsigned_abs-mul b y)) (omega arith)
+
+pub sure_less : (a b x y : ℤ) → (unsigned_abs a * unsigned_abs x) + (unsigned_abs b * unsigned_abs y) < 2 ^ 63 → unsigned_abs ((a *ℤ x) -ℤ (b *ℤ y)) < 2 ^ 63
+sure_less a b x y h =
+    let both : unsigned_abs (a *ℤ x) + unsigned_abs (b *ℤ y) < 2 ^ 63 = omega (arith, unsigned_abs-mul a x, unsigned_abs-mul b y, h) in
+    between (a *ℤ x) (b *ℤ y) both
+  where
+    between : (p q : ℤ) → unsigned_abs p + unsigned_abs q < 2 ^ 63 → unsigned_abs (p -ℤ q) < 2 ^ 63
+    between p q h = omega (arith, ints)
+
+pub sure_fits : (a b x y : ℤ) → (unsigned_abs a * unsigned_abs x) + (unsigned_abs b * unsigned_abs y) < 2 ^ 63 → all_fit (less_formed a b x y) ≡ true
+sure_fits a b x y h =
+    goes_on a b x y (in_range-yes (a *ℤ x) (in_range_short (a *ℤ x) (sure_first a b x y h))) (in_range-yes (b *ℤ y) (in_range_short (b *ℤ y) (sure_second a b x y h)))
+    ∙ in_range-yes ((a *ℤ x) -ℤ (b *ℤ y)) (in_range_short ((a *ℤ x) -ℤ (b *ℤ y)) (sure_less a b x y h))
+  where
+    in_range_short : (z : ℤ) → unsigned_abs z < 2 ^ 63 → InRange z
+    in_range_short z h = omega arith
 
 -- ---- how many entries there are
 

@@ -35,6 +35,11 @@ all-within n [] i h w = tt
 all-within n (e ∷ es) zero h w = absurd (omega arith)
 all-within n (e ∷ es) (suc i) h w = (w.0, all-within n es i (omega arith) w.1)
 
+pub within-at : (n : ℕ) (es : List (ℕ × ℤ)) (i : ℕ) → AreWithin n (numbers_of es) → i < length es → unsigned_abs (get_or es i no_entry).1 ≤ n
+within-at n [] i w h = absurd (omega arith)
+within-at n (e ∷ es) zero w h = w.0
+within-at n (e ∷ es) (suc i) w h = within-at n es i w.1 (omega arith)
+
 pub take-within : (n : ℕ) (es : List (ℕ × ℤ)) (i : ℕ) → AreWithin n (numbers_of es) → AreWithin n (numbers_of (take i es))
 take-within n es zero w = tt
 take-within n [] (suc i) w = tt

@@ -10,10 +10,9 @@ ghost use Rattle.int_tableau.specs.Marks.{AreMarked};
 ghost use Rattle.int_tableau.specs.Narrow.{AreNarrow};
 ghost use Rattle.int_tableau.specs.Sizes.{AreWithin};
 
-use crate::marks::{MARKS, marks_of};
-use crate::narrow::is_narrow;
+use crate::marks::{MARKS, mark};
 use crate::narrow_division::are_lowest;
-use crate::narrow_merging::combine;
+use crate::narrow_merging::{combine, is_sure};
 use crate::refused::Refused;
 use crate::{entries, narrow, numbers};
 use std::alloc::{AllocError, Global};
@@ -65,6 +64,19 @@ impl EntryList {
         Ok(EntryList { kept })
     }
 
+    /// How many entries stand before a column. Where it is so many as `near` says, that is seen at once.
+    pub(crate) fn position_near(&self, column: usize, columns: usize, near: usize) -> usize
+        requires { IsSparse 0 columns self.now }
+        ensures before { IsSparse 0 column (take result self.now) }
+        ensures rest { IsSparse column columns (drop result self.now) }
+        ensures same { (c : ℕ) → column ≤ c → at self.now c ≡ at (drop result self.now) c }
+    {
+        match &self.kept {
+            Kept::Narrow(list) => narrow::position_near(list, column, columns, near),
+            Kept::Wide(list) => entries::position_of(list, column, columns),
+        }
+    }
+
     /// How many entries stand before a column.
     pub(crate) fn position_of(&self, column: usize, columns: usize) -> usize
         requires { IsSparse 0 columns self.now }
@@ -112,13 +124,13 @@ impl EntryList {
         }
     }
 
-    /// The marks of their columns.
-    pub(crate) fn marks(&self) -> [bool; MARKS]
-        ensures { AreMarked result self.now }
+    /// Marks their columns, and no others.
+    pub(crate) fn mark(&self, marks: &mut [bool; MARKS])
+        ensures { AreMarked marks.new self.now }
     {
         match &self.kept {
-            Kept::Narrow(list) => marks_of(list),
-            Kept::Wide(list) => marks_of(list),
+            Kept::Narrow(list) => mark(marks, list),
+            Kept::Wide(list) => mark(marks, list),
         }
     }
 
@@ -226,25 +238,31 @@ impl EntryList {
         Ok(())
     }
 
-    /// Writes `a` times these entries less `b` times others over what stood in `out`. `TooWide` where not all of it can be done in
-    /// 64 bits.
+    /// Writes `a` times these entries less `b` times others over what stood in `out`. `TooWide` where it isn't sure that all of it can
+    /// be done in 64 bits: neither these numbers nor the others are above their sizes.
     pub(crate) fn combine(
         &self,
         out: &mut Vec<(usize, i64)>,
         a: i128,
         b: i128,
+        size: u128,
         other: &EntryList,
+        other_size: u128,
         columns: usize,
     ) -> Result<(), Refused>
         requires line { IsSparse 0 columns self.now }
         requires other { IsSparse 0 columns other.now }
+        requires a { InRange a }
+        requires b { InRange b }
+        requires sized { AreWithin size (numbers_of self.now) }
+        requires other_sized { AreWithin other_size (numbers_of other.now) }
         ensures sparse { OnOk result (IsSparse 0 columns out.new.items) }
         ensures narrow { OnOk result (AreNarrow out.new.items) }
         ensures value { OnOk result ((c : ℕ) → at out.new.items c ≡ less a b (at self.now c) (at other.now c)) }
         ensures fits { OnOk result ((c : ℕ) → all_fit (less_formed a b (at self.now c) (at other.now c)) ≡ true) }
     {
         match (&self.kept, &other.kept) {
-            (Kept::Narrow(line), Kept::Narrow(other)) if is_narrow(a) && is_narrow(b) => {
+            (Kept::Narrow(line), Kept::Narrow(other)) if is_sure(a, b, size, other_size) => {
                 combine(out, a as i64, b as i64, line, other, columns)
             }
             _ => Err(Refused::TooWide),

@@ -90,7 +90,8 @@ impl SparseLine {
     {
         let entries = EntryList::of(alloc, entries)?;
         let size = size_of_line(&entries, right, own);
-        let marks = entries.marks();
+        let mut marks = [false; MARKS];
+        entries.mark(&mut marks);
         let last = last_of(&entries, columns);
         Ok(SparseLine {
             right,
@@ -158,7 +159,15 @@ impl SparseLine {
         ensures found { IfSome result (IsNextEntry self.now from) }
         ensures none { IfNone result ((c : ℕ) → from ≤ c → entry_of self.now c ≡ pos 0) }
     {
-        let at = self.entries.position_of(from, self.columns);
+        self.next_entry_near(from, 0)
+    }
+
+    /// The same. Where so many entries stand before `from` as `near` says, that is seen at once.
+    pub(crate) fn next_entry_near(&self, from: usize, near: usize) -> Option<(usize, i128)>
+        ensures found { IfSome result (IsNextEntry self.now from) }
+        ensures none { IfNone result ((c : ℕ) → from ≤ c → entry_of self.now c ≡ pos 0) }
+    {
+        let at = self.entries.position_near(from, self.columns, near);
         self.entries.entry_at(at)
     }
 
@@ -257,9 +266,15 @@ impl SparseLine {
         ensures fits { IfOk result (λ done. done ≡ true → all_fit (all_less_formed a b (numbers_of self.old) (numbers_of other.now)) ≡ true) }
         ensures stays { IfOk result (λ done. done ≡ false → self.new ≡ self.old) }
     {
-        let combined = self
-            .entries
-            .combine(&mut room.narrow, a, b, &other.entries, self.columns);
+        let combined = self.entries.combine(
+            &mut room.narrow,
+            a,
+            b,
+            self.size,
+            &other.entries,
+            other.size,
+            self.columns,
+        );
         let Ok(()) = combined else {
             return Ok(false);
         };
@@ -278,7 +293,7 @@ impl SparseLine {
         self.right = right;
         self.own = own;
         self.size = size_of_line(&self.entries, right, own);
-        self.marks = self.entries.marks();
+        self.entries.mark(&mut self.marks);
         self.last = last_of(&self.entries, self.columns);
         Ok(true)
     }
@@ -312,7 +327,7 @@ impl SparseLine {
         self.right = right;
         self.own = own;
         self.size = size_of_line(&self.entries, right, own);
-        self.marks = self.entries.marks();
+        self.entries.mark(&mut self.marks);
         self.last = last_of(&self.entries, self.columns);
         Ok(())
     }

@@ -13,13 +13,12 @@ pub(crate) fn is_marked(marks: &[bool; MARKS], column: usize) -> bool
     marks[column % MARKS]
 }
 
-/// The marks of the columns of entries.
-pub(crate) fn marks_of<N: Copy>(entries: &[(usize, N)]) -> [bool; MARKS]
-    ensures { AreMarked result entries.now }
+/// Marks the columns of entries, and no others.
+pub(crate) fn mark<N: Copy>(marks: &mut [bool; MARKS], entries: &[(usize, N)])
+    ensures { AreMarked marks.new entries.now }
 {
-    let mut marks = [false; MARKS];
+    *marks = [false; MARKS];
     for entry in entries {
         marks[entry.0 % MARKS] = true;
     }
-    marks
 }

@@ -55,6 +55,27 @@ pub(crate) fn position_of(entries: &[(usize, i64)], column: usize, columns: usiz
     low
 }
 
+/// How many entries stand before a column. It is looked first whether it is so many as `near` says.
+pub(crate) fn position_near(
+    entries: &[(usize, i64)],
+    column: usize,
+    columns: usize,
+    near: usize,
+) -> usize
+    requires { IsSparse 0 columns entries.now }
+    ensures before { IsSparse 0 column (take result entries.now) }
+    ensures rest { IsSparse column columns (drop result entries.now) }
+    ensures same { (c : ℕ) → column ≤ c → at entries.now c ≡ at (drop result entries.now) c }
+{
+    if near == 0 || near >= entries.len() {
+        return position_of(entries, column, columns);
+    }
+    if entries[near - 1].0 < column && column <= entries[near].0 {
+        return near;
+    }
+    position_of(entries, column, columns)
+}
+
 /// The number in a column.
 pub(crate) fn short_in(entries: &[(usize, i64)], column: usize, columns: usize) -> i64
     requires sparse { IsSparse 0 columns entries.now }

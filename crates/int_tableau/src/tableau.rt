@@ -283,6 +283,18 @@ impl Tableau {
         self.lines[row].next_entry(from)
     }
 
+    /// The same. Where so many entries of the row stand before `from` as `near` says, it is found without a search; what is found
+    /// doesn't depend on `near`.
+    pub fn next_entry_near(&self, row: usize, from: usize, near: usize) -> Option<(usize, i128)>
+        requires { row < length self.now.tableau.lines }
+        ensures found { IfSome result (IsNextEntry (line_of self.now.tableau row) from) }
+        ensures column { IfSome result (λ e. e.0 < self.now.tableau.columns) }
+        ensures countable { IfSome result (λ e. e.0 + 1 < 2 ^ 64) }
+        ensures none { IfNone result ((c : ℕ) → from ≤ c → entry_of (line_of self.now.tableau row) c ≡ pos 0) }
+    {
+        self.lines[row].next_entry_near(from, near)
+    }
+
     /// The tableau with a row multiplied by -1. The same values solve it.
     pub fn negated(mut self, row: usize) -> Tableau
         requires { row < length self.tableau.lines }

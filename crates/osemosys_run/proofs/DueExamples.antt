@@ -12,7 +12,7 @@ use Rattle.command_answers.specs.declared.status.ReadStop.TheVariants as stops
 use Rattle.io_edges.specs.Count.{Rose}
 use Rattle.io_edges.specs.Edges.{Lacks}
 use Rattle.osemosys_run.specs.Causes.{Caused, CausedByFile, FollowsFromText}
-use Rattle.osemosys_run.specs.Complete.{AskForMade, CanBeSummarized, CanBeAccepted, CanBeDrawn, CanBeExplained, CanBeSolved, CanBeWritten, Completes}
+use Rattle.osemosys_run.specs.Complete.{AskForMade, CanBeSummarized, CanBeAccepted, CanBeDrawn, CanBeSpanned, CanBeExplained, CanBeSolved, CanBeWritten, Completes}
 use Rattle.osemosys_run.specs.Due.{AskForEquations, Due, DueForFile}
 use Rattle.command_answers.specs.DueForText.{DueForText}
 use Rattle.command_answers.specs.Lines.{too_long_line}
@@ -332,6 +332,9 @@ nothing_to_explain files can = cc can.asks
 nothing_to_draw : (files : List (List ℕ × List ℕ)) → CanBeDrawn [] files → ⊥
 nothing_to_draw files can = cc can.asks
 
+nothing_to_span : (files : List (List ℕ × List ℕ)) → CanBeSpanned [] files → ⊥
+nothing_to_span files can = cc can.asks
+
 nothing_to_make : AskForMade [] → ⊥
 nothing_to_make asks = cc asks.asks
 
@@ -349,6 +352,7 @@ no_claim status = record {
   ended = λ can. absurd (nothing_to_solve [] can);
   explained = λ can. absurd (nothing_to_explain [] can);
   drawn = λ can. absurd (nothing_to_draw [] can);
+  spanned = λ can. absurd (nothing_to_span [] can);
   made = λ asks. absurd (nothing_to_make asks);
   summarized = λ can. absurd (nothing_to_summarize can);
 }

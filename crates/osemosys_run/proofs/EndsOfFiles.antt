@@ -20,6 +20,7 @@ use Rattle.osemosys_run.specs.Reading.{Sight, HasNothingLeft, IsTooLong}
 use Rattle.osemosys_run.specs.ReadToEnd.{IsReadAtWriteFault, IsReadToEnd, IsReadToEndFor, IsThere, NamesFile}
 use Rattle.solve_command.specs.Shown.{shown_of}
 use Rattle.curve_command.specs.Curve.{DueForCurve}
+use Rattle.span_command.specs.Span.{DueForSpan}
 use Rattle.explain_command.specs.Explain.{DueForExplain}
 use Rattle.solve_command.specs.Solve.{DueForSolve}
 use Rattle.command_words.specs.Words.{Request, Check, Curve, Explain, Make, Mps, Solve, Span, asked, names_of}
@@ -91,7 +92,11 @@ by_cause words before after status text Goal refused read stopped made caused = 
         by_file before after status text (Goal (Ok request)) (FollowsFromText (λ rounded. DueForCurve places (record { method = method; pivots = pivots; gap = gap }) region emission limits) after status text) 1 name before (Reaches-itself before)
         (λ there bytes reached left follows. read request (left_alone before there after left follows.0))
         (stopped request 1 name before) c
-    by_request (Ok (Span name region technology year slack gap pivots places method)) c = absurd c
+    by_request (Ok (Span name region technology year slack gap pivots places method)) c =
+        let request = Span name region technology year slack gap pivots places method in
+        by_file before after status text (Goal (Ok request)) (FollowsFromText (λ rounded. DueForSpan places (record { method = method; slack = slack; gap = gap; pivots = pivots }) rounded region technology year) after status text) 1 name before (Reaches-itself before)
+        (λ there bytes reached left follows. read request (left_alone before there after left follows.0))
+        (stopped request 1 name before) c
     by_request (Ok (Check name plan multipliers gap places)) c =
         let request = Check name plan multipliers gap places in
         let third : List ℕ → List ℕ → Sight → Option (List ℕ) → Type 0 =
@@ -166,7 +171,10 @@ whole_read words before after status text files told rest calm caused request as
 
     by_request : (request : Request) → names_of request ≢ [] → AllByRecursion (IsThere files) (names_of request) → CausedByRequest (Ok request) before after status text → HasNothingLeft before after
     by_request (Make size show) names there c = absurd (names refl)
-    by_request (Span name region technology year slack gap pivots places method) names there c = absurd c
+    by_request (Span name region technology year slack gap pivots places method) names there c =
+        by_file before after status text (HasNothingLeft before after) (FollowsFromText (λ rounded. DueForSpan places (record { method = method; slack = slack; gap = gap; pivots = pivots }) rounded region technology year) after status text) 1 name before (Reaches-itself before)
+        (λ at bytes reached left follows. left_alone before at after left follows.0)
+        (never 1 name before there.0) c
     by_request (Mps name places) names there c =
         by_file before after status text (HasNothingLeft before after) (FollowsFromText (λ rounded. DueForEquations places) after status text) 1 name before (Reaches-itself before)
         (λ at bytes reached left follows. left_alone before at after left follows.0)

@@ -2,7 +2,7 @@
 use Rattle.std.proofs.Common.{◌≡◌, ◌≢◌, ◌≤◌, arith, ℕ, ℤ, inl, inr, List, ◌++◌, length, Option, Some, None, Result, Ok, Err, Bool, true, false, refl, sym, ◌∙◌, subst, MatchBool, nat_lt, le-ltb, lt-ltb}
 use Rattle.model_sets.specs.Data.{Data}
 use Rattle.model_sets.specs.Members.{SetLists}
-use Rattle.model_sets.specs.declared.set_numbers.TheConstants.{EMISSION, REGION}
+use Rattle.model_sets.specs.declared.set_numbers.TheConstants.{EMISSION, REGION, TECHNOLOGY, YEAR}
 use Rattle.exact_num.specs.Rational.{Rational}
 use Rattle.row_core.specs.declared.Row.{Row}
 use Rattle.row_core.specs.declared.RowName.{RowName}
@@ -48,6 +48,8 @@ use Rattle.solve_command.specs.Shown.{shown_of}
 use Rattle.command_words.specs.declared.command.SolveMethod.{SolveMethod}
 use Rattle.command_words.specs.declared.command.SolveMethod.TheVariants.{Exact, Rounded}
 use Rattle.solve_command.specs.Solve.{DueForEnd, DueForMethod, DueForRows, DueForSolve}
+use Rattle.span_command.specs.Span.{DueForSpan}
+use Rattle.span_command.specs.Span as spans
 use Rattle.solve_command.specs.Summary.{DueForSummary, default_places, default_pivots}
 use Rattle.command_words.specs.Words.{Request, Check, Curve, Explain, Make, Mps, Solve, Span, asked}
 use Rattle.osemosys_run.proofs.FilesRead.{rose-since}
@@ -112,7 +114,9 @@ due_from_cause words before after files status text told calm caused = by_reques
     by_request (Ok (Curve name region emission limits gap pivots places method)) c =
         let Over : ℕ → Data → Status → List ℕ → Type 0 = λ rounded. DueForCurve places (record { method = method; pivots = pivots; gap = gap }) region emission limits in
         due_for_file (FollowsFromText Over after status text) (DueForText Over) 1 name before after files status text told calm (λ there bytes began follows. follows.1) c
-    by_request (Ok (Span name region technology year slack gap pivots places method)) c = absurd c
+    by_request (Ok (Span name region technology year slack gap pivots places method)) c =
+        let Over : ℕ → Data → Status → List ℕ → Type 0 = λ rounded. DueForSpan places (record { method = method; slack = slack; gap = gap; pivots = pivots }) rounded region technology year in
+        due_for_file (FollowsFromText Over after status text) (DueForText Over) 1 name before after files status text told calm (λ there bytes began follows. follows.1) c
     by_request (Ok (Check name plan multipliers gap places)) c =
         let third : List ℕ → List ℕ → Sight → Option (List ℕ) → Type 0 =
         λ bytes plan_bytes there multiplier_bytes. FollowsFromText (λ rounded. DueForCheck places plan_bytes multiplier_bytes gap) after status text there bytes in
@@ -224,6 +228,35 @@ curve_is places wanted region emission limits d status text (inl none) = refused
 curve_is places wanted region emission limits d status text (inr (inl alone)) = refused_is status (refusals.NoSuch EMISSION) alone.emission_isnt.status_is
 curve_is places wanted region emission limits d status text (inr (inr members)) = limits_are places d members.r members.e wanted limits status text members.due
 
+span_end_is : (places : ℕ) (d : Data) (rows : List Row) (var : Var) (slack pivots rounded : ℕ) (status : Status) (text : List ℕ) → spans.DueForEnd places d rows var slack pivots rounded status text → IsOwn status
+span_end_is places d rows var slack pivots rounded status text (inl spanned) = is_other status Done (λ h. cc) (λ h. cc) (λ number h. cc) spanned.status_is
+span_end_is places d rows var slack pivots rounded status text (inr (inl endless)) = is_other status Done (λ h. cc) (λ h. cc) (λ number h. cc) endless.status_is
+span_end_is places d rows var slack pivots rounded status text (inr (inr (inl infeasible))) = is_other status Infeasible (λ h. cc) (λ h. cc) (λ number h. cc) infeasible.status_is
+span_end_is places d rows var slack pivots rounded status text (inr (inr (inr (inl unbounded)))) = is_other status Unbounded (λ h. cc) (λ h. cc) (λ number h. cc) unbounded.status_is
+span_end_is places d rows var slack pivots rounded status text (inr (inr (inr (inr (inl before))))) = is_other status (Uncertified before.stop) (λ h. cc) (λ h. cc) (λ number h. cc) before.status_is
+span_end_is places d rows var slack pivots rounded status text (inr (inr (inr (inr (inr (inl wide)))))) = is_other status (Uncertified (Stop.Width Place.SumGap)) (λ h. cc) (λ h. cc) (λ number h. cc) wide.status_is
+span_end_is places d rows var slack pivots rounded status text (inr (inr (inr (inr (inr (inr after)))))) = is_other status (Uncertified after.stop) (λ h. cc) (λ h. cc) (λ number h. cc) after.status_is
+
+span_method_is : (places : ℕ) (d : Data) (rows : List Row) (var : Var) (wanted : spans.Wanted) (method : SolveMethod) (rounded : ℕ) (status : Status) (text : List ℕ) → spans.DueBy method places d rows var wanted rounded status text → IsOwn status
+span_method_is places d rows var wanted Exact rounded status text due = span_end_is places d rows var wanted.slack wanted.pivots rounded status text due
+span_method_is places d rows var wanted Rounded rounded status text (inl (inl spanned)) = is_other status Done (λ h. cc) (λ h. cc) (λ number h. cc) spanned.status_is
+span_method_is places d rows var wanted Rounded rounded status text (inl (inr infeasible)) = is_other status Infeasible (λ h. cc) (λ h. cc) (λ number h. cc) infeasible.status_is
+span_method_is places d rows var wanted Rounded rounded status text (inr due) = span_end_is places d rows var wanted.slack wanted.pivots rounded status text due
+
+span_member_is : (places : ℕ) (d : Data) (var : Var) (wanted : spans.Wanted) (rounded : ℕ) (status : Status) (text : List ℕ) → spans.DueForMember places d var wanted rounded status text → IsOwn status
+span_member_is places d var wanted rounded status text (inl made) = elim made.due [
+  | inl large ↦ refused_is status (refusals.TooLarge (inequality_count made.rows) (column_count (all_variables d))) large.status_is
+  | inr due ↦ span_method_is places d made.rows var wanted wanted.method rounded status text due.1
+]
+span_member_is places d var wanted rounded status text (inr (inl wide)) = is_other status (Uncertified (Stop.Width (Place.Row wide.name))) (λ h. cc) (λ h. cc) (λ number h. cc) wide.status_is
+span_member_is places d var wanted rounded status text (inr (inr many)) = refused_is status refusals.TooManyEntries many.status_is
+
+span_is : (places : ℕ) (wanted : spans.Wanted) (rounded : ℕ) (region technology year : List ℕ) (d : Data) (status : Status) (text : List ℕ) → spans.DueForSpan places wanted rounded region technology year d status text → IsOwn status
+span_is places wanted rounded region technology year d status text (inl none) = refused_is status (refusals.NoSuch REGION) none.status_is
+span_is places wanted rounded region technology year d status text (inr (inl alone)) = refused_is status (refusals.NoSuch TECHNOLOGY) alone.technology_isnt.status_is
+span_is places wanted rounded region technology year d status text (inr (inr (inl no_year))) = refused_is status (refusals.NoSuch YEAR) no_year.year_isnt.status_is
+span_is places wanted rounded region technology year d status text (inr (inr (inr members))) = span_member_is places d (spans.built members.r members.t members.y) wanted rounded status text members.due
+
 summary_is : (places rounded : ℕ) (d : Data) (status : Status) (text : List ℕ) → DueForSummary places rounded d status text → IsOwn status
 summary_is places rounded d status text (inl made) = rows_is places d made.rows 0 default_pivots Summary Exact rounded status made.due.0 made.due.1
 summary_is places rounded d status text (inr (inl wide)) = is_other status (Uncertified (Stop.Width (Place.Row wide.name))) (λ h. cc) (λ h. cc) (λ number h. cc) wide.status_is
@@ -279,7 +312,10 @@ is_answer words before after status text caused = by_request (asked words) cause
         let Over : ℕ → Data → Status → List ℕ → Type 0 = λ rounded. DueForCurve places (record { method = method; pivots = pivots; gap = gap }) region emission limits in
         (text_is Over (λ rounded. curve_is places (record { method = method; pivots = pivots; gap = gap }) region emission limits) whole.1 status text whole.4.1).0
     by_request (Ok (Curve name region emission limits gap pivots places method)) (inr stopped) = stop_is 1 name before after status text stopped.1
-    by_request (Ok (Span name region technology year slack gap pivots places method)) c = absurd c
+    by_request (Ok (Span name region technology year slack gap pivots places method)) (inl whole) =
+        let Over : ℕ → Data → Status → List ℕ → Type 0 = λ rounded. DueForSpan places (record { method = method; slack = slack; gap = gap; pivots = pivots }) rounded region technology year in
+        (text_is Over (λ rounded. span_is places (record { method = method; slack = slack; gap = gap; pivots = pivots }) rounded region technology year) whole.1 status text whole.4.1).0
+    by_request (Ok (Span name region technology year slack gap pivots places method)) (inr stopped) = stop_is 1 name before after status text stopped.1
     by_request (Ok (Check name plan multipliers gap places)) (inr stopped) = stop_is 1 name before after status text stopped.1
     by_request (Ok (Check name plan multipliers gap places)) (inl (first, bytes, began, whole, inr stopped)) = stop_is 2 plan first after status text stopped.1
     by_request (Ok (Check name plan None gap places)) (inl (first, bytes, began, whole, inl (second, plan_bytes, second_began, second_whole, follows))) =
@@ -322,7 +358,10 @@ failed_read words before after status text caused number e = by_request (asked w
         let Over : ℕ → Data → Status → List ℕ → Type 0 = λ rounded. DueForCurve places (record { method = method; pivots = pivots; gap = gap }) region emission limits in
         own (text_is Over (λ rounded. curve_is places (record { method = method; pivots = pivots; gap = gap }) region emission limits) whole.1 status text whole.4.1)
     by_request (Ok (Curve name region emission limits gap pivots places method)) (inr stopped) = stop_failed 1 name before before after status text number more stopped.1 e
-    by_request (Ok (Span name region technology year slack gap pivots places method)) c = absurd c
+    by_request (Ok (Span name region technology year slack gap pivots places method)) (inl whole) =
+        let Over : ℕ → Data → Status → List ℕ → Type 0 = λ rounded. DueForSpan places (record { method = method; slack = slack; gap = gap; pivots = pivots }) rounded region technology year in
+        own (text_is Over (λ rounded. span_is places (record { method = method; slack = slack; gap = gap; pivots = pivots }) rounded region technology year) whole.1 status text whole.4.1)
+    by_request (Ok (Span name region technology year slack gap pivots places method)) (inr stopped) = stop_failed 1 name before before after status text number more stopped.1 e
     by_request (Ok (Check name plan multipliers gap places)) (inr stopped) = stop_failed 1 name before before after status text number more stopped.1 e
     by_request (Ok (Check name plan multipliers gap places)) (inl (first, bytes, began, whole, inr stopped)) = stop_failed 2 plan before first after status text number began.faults stopped.1 e
     by_request (Ok (Check name plan None gap places)) (inl (first, bytes, began, whole, inl (second, plan_bytes, second_began, second_whole, follows))) =

@@ -8,6 +8,11 @@ use Rattle.io_edges.specs.Edges.{Moves}
 abbrev pub Parts : Option (List ℕ) → List ℕ → Option (List ℕ) → Type 0
 Parts rest bytes file = (left : List ℕ) × (rest ≡ Some left) × (file ≡ Some (bytes ++ left))
 
+-- where nothing was read yet, the whole file is left
+pub begun : (rest file : Option (List ℕ)) → IsSome file → rest ≡ file → Parts rest [] file
+begun rest None there whole = absurd (cc there)
+begun rest (Some left) there whole = (left, whole, refl)
+
 -- what a read moved comes after what was read
 pub moved : (rest after : Option (List ℕ)) (bytes room : List ℕ) (n : ℕ) (file : Option (List ℕ))
     → Parts rest bytes file → ((left : List ℕ) → rest ≡ Some left → Moves left n room after)

@@ -27,6 +27,7 @@ use Rattle.solve_command.specs.Solve.{ComesToEnd, DueForEnd, DueForMethod, DueFo
 use Rattle.solve_command.specs.Limits.{IsWithinLimits, PassesLimits}
 use Rattle.solve_command.proofs.SolvedEnds.{prices_come}
 use Rattle.osemosys_run.proofs.CurveCompleteness.{drawn_from_due}
+use Rattle.osemosys_run.proofs.SpanCompleteness.{spanned_from_due}
 use Rattle.osemosys_run.proofs.ExplainCompleteness.{explained_from_due}
 use Rattle.osemosys_run.proofs.Delivery.{due_or_memory}
 use Rattle.osemosys_run.proofs.Completeness.{Laws, done_from_due, equations_done, over_accepted, over_short}
@@ -110,8 +111,9 @@ completes laws A words files status before after f f' d calm = elim (due_or_memo
     ended = λ can. inl (ended_from_due laws words files status due.0 due.1 can);
     explained = λ can. inl (explained_from_due laws words files status due.0 due.1 can);
     drawn = λ can. inl (drawn_from_due laws words files status due.0 due.1 can);
+    spanned = λ can. inl (spanned_from_due laws words files status due.0 due.1 can);
     made = λ asks. inl (made_from_due words files status due.0 due.1 asks);
     summarized = λ can. inl (summarized_from_due laws words files status due.0 due.1 can);
   }
-  | inr memory ↦ record { done = λ can. inr memory; ended = λ can. inr memory; explained = λ can. inr memory; drawn = λ can. inr memory; made = λ asks. inr memory; summarized = λ can. inr memory }
+  | inr memory ↦ record { done = λ can. inr memory; ended = λ can. inr memory; explained = λ can. inr memory; drawn = λ can. inr memory; spanned = λ can. inr memory; made = λ asks. inr memory; summarized = λ can. inr memory }
 ]

@@ -17,6 +17,7 @@ use Rattle.explain_command.specs.Explain.{DueForExplain}
 use Rattle.osemosys_run.specs.Mps.{DueForEquations}
 use Rattle.solve_command.specs.Shown.{shown_of}
 use Rattle.solve_command.specs.Solve.{DueForSolve}
+use Rattle.span_command.specs.Span.{DueForSpan}
 use Rattle.osemosys_run.specs.Reading.{Sight, BeganOne, HasNothingLeft, IsTooLong, IsWholeFile}
 use Rattle.command_words.specs.Words.{Request, Check, Curve, Explain, Make, Mps, Solve, Span, asked}
 
@@ -52,7 +53,8 @@ CausedByRequest (Ok (Solve name gap pivots places show method)) before after sta
 CausedByRequest (Ok (Explain name pivots places method)) before after status text = CausedByFile (FollowsFromText (λ rounded. DueForExplain places pivots method) after status text) 1 name before after status text
 CausedByRequest (Ok (Curve name region emission limits gap pivots places method)) before after status text =
     CausedByFile (FollowsFromText (λ rounded. DueForCurve places (record { method = method; pivots = pivots; gap = gap }) region emission limits) after status text) 1 name before after status text
-CausedByRequest (Ok (Span name region technology year slack gap pivots places method)) before after status text = ⊥
+CausedByRequest (Ok (Span name region technology year slack gap pivots places method)) before after status text =
+    CausedByFile (FollowsFromText (λ rounded. DueForSpan places (record { method = method; slack = slack; gap = gap; pivots = pivots }) rounded region technology year) after status text) 1 name before after status text
 CausedByRequest (Ok (Make size show)) before after status text = DueForMake size show status text × (after ≡ before)
 CausedByRequest (Ok (Check name plan multipliers gap places)) before after status text =
     CausedByFile (λ first bytes. CausedByFile (λ second plan_bytes. CausedByOptionalFile (λ there multiplier_bytes.

@@ -1,14 +1,16 @@
--- Which files `mps` must write out, which plans `check` must accept, which models `solve` and `make` must bring to an end, which `explain` must, and which curves must be told whole.
+-- Which files `mps` must write out, which plans `check` must accept, which models `solve` and `make` must bring to an end, which `explain` must, which curves must be told whole, and which spans must be found.
 use Rattle.std.specs.List.{AllByRecursion}
-use Rattle.std.specs.Prelude.{◌≡◌, ◌≢◌, ◌⊎◌, ℕ, ℤ, ◌≤◌, List, length, Option, Some, None, Ok, ⊤}
+use Rattle.std.specs.Prelude.{◌≡◌, ◌≢◌, ◌⊎◌, ℕ, ℤ, ◌≤◌, true, List, length, Option, Some, None, Ok, ⊤}
+use Rattle.exact_num.specs.Range.{all_fit}
 use Rattle.exact_num.specs.Rational.{Rational}
 use Rattle.exact_num.specs.Steps.{first_wide}
 use Rattle.model_sets.specs.Data.{Data}
 use Rattle.model_sets.specs.Members.{index_of, members}
-use Rattle.model_sets.specs.declared.set_numbers.TheConstants.{EMISSION, REGION}
+use Rattle.model_sets.specs.declared.set_numbers.TheConstants.{EMISSION, REGION, TECHNOLOGY, YEAR}
 use Rattle.row_core.specs.declared.Row.{Row}
 use Rattle.row_core.specs.declared.RowName.{RowName}
 use Rattle.row_core.specs.declared.Var.{Var}
+use Rattle.row_core.specs.declared.place.Place.{Place}
 use Rattle.named_equations.specs.Existence.{all_variables}
 use Rattle.named_equations.specs.Instances.{instances}
 use Rattle.named_equations.specs.Plans.{Feasible}
@@ -20,7 +22,7 @@ use Rattle.certificate_checker.specs.Gaps.{Within}
 use Rattle.certificate_checker.specs.Plans.{AreValuesOver}
 use Rattle.plan_files.specs.Answers.{IsPlan}
 use Rattle.plan_files.specs.Files.{records_of}
-use Rattle.exact_solver.specs.MethodEnds.{method_end}
+use Rattle.exact_solver.specs.MethodEnds.{HasOptimum, IsPivotDue, IsWide, method_end, multiplier_bound as bound_of}
 use Rattle.command_words.specs.declared.command.MakeShow.TheVariants.{File}
 use Rattle.command_words.specs.declared.command.MakeShow.TheVariants as makes
 use Rattle.command_words.specs.declared.command.SolveMethod.{SolveMethod}
@@ -35,12 +37,17 @@ use Rattle.check_command.specs.Check.{TellsMultipliers, check_conditions, multip
 use Rattle.curve_command.specs.Limited.{limit_at, with_limit}
 use Rattle.emission_curve.specs.Ends.{IsStopped, point_end}
 use Rattle.explain_command.specs.Explain.{NothingStops}
+use Rattle.simplex_core.specs.declared.stops.Stop.{Stop}
 use Rattle.simplex_core.specs.declared.stops.TrialStop.{TrialStop}
+use Rattle.span_finder.specs.Slacks.{slack_formed, slack_limit}
+use Rattle.span_finder.specs.SpanEnds.{Stops}
+use Rattle.span_finder.specs.declared.found.SpanFail.TheVariants.{Stopped}
+use Rattle.span_command.specs.Span.{built}
 use Rattle.solve_command.specs.Shown.{shown_of}
 use Rattle.solve_command.specs.Limits.{IsWithinLimits}
 use Rattle.solve_command.specs.Solve.{ComesToEnd}
 use Rattle.solve_command.specs.Summary.{default_pivots, default_places}
-use Rattle.command_words.specs.Words.{Check, Curve, Explain, Make, Mps, Solve, asked}
+use Rattle.command_words.specs.Words.{Check, Curve, Explain, Make, Mps, Solve, Span, asked}
 
 -- the words ask for `mps` of a file that is there, with written factors of so many places; its text is accepted, and every row of the named equations over its data can be made
 pub record CanBeWritten (words : List (List ℕ)) (files : List (List ℕ × List ℕ)) : Type 0 where
@@ -155,6 +162,43 @@ pub record CanBeDrawn (words : List (List ℕ)) (files : List (List ℕ × List 
   pub emission_is : index_of (members d.sets EMISSION) emission ≡ Some e
   pub each : AllByRecursion (CanBeTried places d r e pivots) limits
 
+-- nothing stops the exact method over the rows; and near a least cost, which is what its multipliers prove, every number of the limit fits, and nothing stops the row that limits the
+-- cost nor the two trials
+pub record NothingStopsSpan (rows : List Row) (vars : List Var) (var : Var) (slack pivots : ℕ) : Type 0 where
+  pub in_time : method_end rows vars pivots ≢ IsPivotDue
+  pub fits : (place : Place) → method_end rows vars pivots ≢ IsWide place
+  pub limit_fits : (plan : List (Var × Rational)) (multipliers : List (RowName × Rational)) (made : ℕ) → method_end rows vars pivots ≡ HasOptimum plan multipliers made
+      → all_fit (slack_formed (bound_of rows multipliers) slack) ≡ true
+  pub never : (plan : List (Var × Rational)) (multipliers : List (RowName × Rational)) (made : ℕ) → method_end rows vars pivots ≡ HasOptimum plan multipliers made
+      → (stop : Stop) → ¬ (Stops rows vars (slack_limit (bound_of rows multipliers) slack) var pivots (Stopped stop))
+
+-- The words ask for `span` of a file that is there, for a region, a technology and a year that its data have; its text is accepted, and every row of the named equations over its data
+-- can be made; the linear program is within the limits; and nothing stops the work.
+pub record CanBeSpanned (words : List (List ℕ)) (files : List (List ℕ × List ℕ)) : Type 0 where
+  pub name : List ℕ
+  pub region : List ℕ
+  pub technology : List ℕ
+  pub year : List ℕ
+  pub slack : ℕ
+  pub gap : ℕ
+  pub pivots : ℕ
+  pub places : ℕ
+  pub method : SolveMethod
+  pub bytes : List ℕ
+  pub d : Data
+  pub r : ℕ
+  pub t : ℕ
+  pub y : ℕ
+  pub asks : asked words ≡ Ok (Span name region technology year slack gap pivots places method)
+  pub there : file_named files name ≡ Some bytes
+  pub accepted : Accepted bytes d
+  pub region_is : index_of (members d.sets REGION) region ≡ Some r
+  pub technology_is : index_of (members d.sets TECHNOLOGY) technology ≡ Some t
+  pub year_is : index_of (members d.sets YEAR) year ≡ Some y
+  pub made : CanBeMade places d 0 (instances d)
+  pub within : (rows : List Row) → AreRowsOf places d (instances d) rows → IsWithinLimits rows (all_variables d)
+  pub ends : (rows : List Row) → AreRowsOf places d (instances d) rows → NothingStopsSpan rows (all_variables d) (built r t y) slack pivots
+
 -- the words ask for a made file
 pub record AskForMade (words : List (List ℕ)) : Type 0 where
   pub size : ℕ
@@ -184,5 +228,6 @@ pub record Completes (words : List (List ℕ)) (files : List (List ℕ × List �
   pub ended : CanBeSolved words files → IsEnded status ⊎ (status ≡ Memory)
   pub explained : CanBeExplained words files → IsExplained status ⊎ (status ≡ Memory)
   pub drawn : CanBeDrawn words files → (status ≡ Done) ⊎ (status ≡ Memory)
+  pub spanned : CanBeSpanned words files → IsEnded status ⊎ (status ≡ Memory)
   pub made : AskForMade words → (status ≡ Done) ⊎ (status ≡ Memory)
   pub summarized : CanBeSummarized words → IsEnded status ⊎ (status ≡ Memory)

@@ -18,6 +18,7 @@ use Rattle.explain_command.specs.Explain.{DueForExplain}
 use Rattle.osemosys_run.specs.Mps.{DueForEquations}
 use Rattle.solve_command.specs.Shown.{shown_of}
 use Rattle.solve_command.specs.Solve.{DueForSolve}
+use Rattle.span_command.specs.Span.{DueForSpan}
 use Rattle.solve_command.specs.Summary.{DueForSummary, default_places, made_line}
 use Rattle.command_words.specs.Words.{Request, Check, Curve, Explain, Make, Mps, Solve, Span, asked}
 
@@ -47,7 +48,8 @@ DueForRequest (Ok (Solve name gap pivots places show method)) files status text 
 DueForRequest (Ok (Explain name pivots places method)) files status text = DueForFile (DueForText (λ rounded. DueForExplain places pivots method)) 1 (file_named files name) status text
 DueForRequest (Ok (Curve name region emission limits gap pivots places method)) files status text =
     DueForFile (DueForText (λ rounded. DueForCurve places (record { method = method; pivots = pivots; gap = gap }) region emission limits)) 1 (file_named files name) status text
-DueForRequest (Ok (Span name region technology year slack gap pivots places method)) files status text = ⊥
+DueForRequest (Ok (Span name region technology year slack gap pivots places method)) files status text =
+    DueForFile (DueForText (λ rounded. DueForSpan places (record { method = method; slack = slack; gap = gap; pivots = pivots }) rounded region technology year)) 1 (file_named files name) status text
 DueForRequest (Ok (Make size show)) files status text = DueForMake size show status text
 DueForRequest (Ok (Check name plan multipliers gap places)) files status text =
     DueForFile (λ bytes. DueForFile (λ plan_bytes. DueForOptionalFile (λ multiplier_bytes.

@@ -1,6 +1,7 @@
 pub mod Causes
 pub mod Complete
 pub mod Due
+pub mod FedFiles
 pub mod Mps
 pub mod ReadEnds
 pub mod ReadToEnd

@@ -5,16 +5,22 @@ use Rattle.command_words.specs.LimitLists.{IsLimit}
 use Rattle.curve_command.specs.Curve.{DueForCurve}
 use Rattle.model_sets.specs.Data.{Data}
 use Rattle.osemosys_run.specs.declared.one_file.CurveAsked.{CurveAsked}
+use Rattle.osemosys_run.specs.declared.one_file.SpanAsked.{SpanAsked}
 use Rattle.osemosys_run.specs.declared.one_file.Task.{Task}
-use Rattle.osemosys_run.specs.declared.one_file.Task.TheVariants.{Curve, Explain, Solve, Summarize}
+use Rattle.osemosys_run.specs.declared.one_file.Task.TheVariants.{Curve, Explain, Solve, Span}
 use Rattle.command_answers.specs.declared.status.Status.{Status}
 use Rattle.explain_command.specs.Explain.{DueForExplain}
 use Rattle.solve_command.specs.Solve.{DueForSolve}
-use Rattle.solve_command.specs.Summary.{DueForSummary}
+use Rattle.span_command.specs.Span.{DueForSpan}
 
 -- of `curve`, for a region and an emission by their names and for limits in billionths
 abbrev pub DueForAsked : CurveAsked → ℕ → Data → Status → List ℕ → Type 0
 DueForAsked asked places = DueForCurve places (record { method = asked.method; pivots = asked.pivots; gap = asked.gap }) asked.region.now asked.emission.now asked.limits.now
+
+-- of `span`, for a region, a technology and a year by their names, over data of which so many numbers are rounded
+abbrev pub DueForSpanAsked : SpanAsked → ℕ → ℕ → Data → Status → List ℕ → Type 0
+DueForSpanAsked asked places rounded =
+    DueForSpan places (record { method = asked.method; slack = asked.slack; gap = asked.gap; pivots = asked.pivots }) rounded asked.region.now asked.technology.now asked.year.now
 
 -- each limit of the task is one that words can ask for
 abbrev pub HasLimits : Task → Type 0
@@ -25,4 +31,4 @@ abbrev pub DueForTask : Task → ℕ → ℕ → Data → Status → List ℕ �
 DueForTask (Solve wanted) places rounded = DueForSolve places wanted.gap wanted.pivots wanted.show wanted.method rounded
 DueForTask (Explain pivots method) places rounded = DueForExplain places pivots method
 DueForTask (Curve asked) places rounded = DueForAsked asked places
-DueForTask Summarize places rounded = DueForSummary places rounded
+DueForTask (Span asked) places rounded = DueForSpanAsked asked places rounded

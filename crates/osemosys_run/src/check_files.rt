@@ -1,18 +1,20 @@
-// The files of `check`, read whole one after another before any of them is looked at: the data file, the plan's, and that of
-// multipliers if one is named.
-ghost use Rattle.std.specs.Prelude.{◌≡◌, ◌≤◌, length, IfOk, option_map};
+// The files of `check`, read whole one after another before anything is answered on what they say: the data file, which is fed to a reader,
+// the plan's, and that of multipliers if one is named.
+ghost use Rattle.std.specs.Prelude.{◌≡◌, ◌≤◌, List, ℕ, length, IfOk, option_map};
 ghost use Rattle.discount_factors.specs.Factors.{IsPlaces};
 ghost use Rattle.osemosys_run.specs.Causes.{CausedByFile, CausedByOptionalFile, FollowsFromText};
+ghost use Rattle.mathprog_data.specs.Pieces.{StandsFor};
 ghost use Rattle.check_command.specs.Check.{DueForCheck};
 ghost use Rattle.command_answers.specs.DueForText.{DueForText};
 ghost use Rattle.command_answers.specs.Accepted.{most_bytes};
 ghost use Rattle.osemosys_run.specs.Reading.{sight};
 
 use crate::file_ends::refuse_file;
-use crate::reading::read_file;
+use crate::reading::{feed_file, read_file};
 use check_command::{Claim, answer_check};
-use command_answers::{Answer, accept};
+use command_answers::{Answer, accept_read};
 use io_edges::Shelf;
+use mathprog_data::PieceReader;
 use std::alloc::{AllocError, Global};
 
 /// The numbers of the files among those that the words name.
@@ -54,8 +56,8 @@ pub fn perform_check<S: Shelf>(
     ensures files { S.files shelf.new ≡ S.files shelf.old }
     ensures faults { S.faults shelf.old ≤ S.faults shelf.new }
 {
-    match read_file(alloc, asked.file, shelf) {
-        Ok(text) => check_plan_file(alloc, text, asked, shelf),
+    match feed_file(alloc, asked.file, shelf) {
+        Ok(reader) => check_plan_file(alloc, reader, asked, shelf),
         Err(end) => refuse_file(alloc, DATA_FILE, end),
     }
 }
@@ -63,17 +65,17 @@ pub fn perform_check<S: Shelf>(
 // The same where the data file was read.
 fn check_plan_file<S: Shelf>(
     alloc: Global,
-    text: Vec<u8>,
+    reader: PieceReader,
     asked: Asked<'_>,
     shelf: &mut S,
 ) -> Result<Answer, AllocError>
-    requires short { length text.items ≤ most_bytes }
+    requires stands { (text : List ℕ) × StandsFor reader text }
     requires places { IsPlaces asked.places }
-    ensures caused { IfOk result (λ answer.
+    ensures caused { (text : List ℕ) → StandsFor reader text → length text ≤ most_bytes → IfOk result (λ answer.
         let after = sight (S.files shelf.new) (S.rest shelf.new)
         (S.faults shelf.new) (S.begins shelf.new) (S.taken shelf.new) in
         CausedByFile (λ second plan_bytes. CausedByOptionalFile (λ there multiplier_bytes.
-        FollowsFromText (λ rounded. DueForCheck asked.entry.places plan_bytes multiplier_bytes asked.entry.gap) after answer.status answer.text.items there text.items)
+        FollowsFromText (λ rounded. DueForCheck asked.entry.places plan_bytes multiplier_bytes asked.entry.gap) after answer.status answer.text.items there text)
         3 (option_map (λ name. name.now) asked.entry.multipliers) second after answer.status answer.text.items)
         2 asked.entry.plan.now
         (sight (S.files shelf.old) (S.rest shelf.old)
@@ -83,7 +85,7 @@ fn check_plan_file<S: Shelf>(
     ensures faults { S.faults shelf.old ≤ S.faults shelf.new }
 {
     match read_file(alloc, asked.plan, shelf) {
-        Ok(plan) => check_multiplier_file(alloc, text, &plan, asked, shelf),
+        Ok(plan) => check_multiplier_file(alloc, reader, &plan, asked, shelf),
         Err(end) => refuse_file(alloc, PLAN_FILE, end),
     }
 }
@@ -91,18 +93,18 @@ fn check_plan_file<S: Shelf>(
 // The same where the plan's file was read too.
 fn check_multiplier_file<S: Shelf>(
     alloc: Global,
-    text: Vec<u8>,
+    reader: PieceReader,
     plan: &[u8],
     asked: Asked<'_>,
     shelf: &mut S,
 ) -> Result<Answer, AllocError>
-    requires short { length text.items ≤ most_bytes }
+    requires stands { (text : List ℕ) × StandsFor reader text }
     requires places { IsPlaces asked.places }
-    ensures caused { IfOk result (λ answer.
+    ensures caused { (text : List ℕ) → StandsFor reader text → length text ≤ most_bytes → IfOk result (λ answer.
         let after = sight (S.files shelf.new) (S.rest shelf.new)
         (S.faults shelf.new) (S.begins shelf.new) (S.taken shelf.new) in
         CausedByOptionalFile (λ there multiplier_bytes.
-        FollowsFromText (λ rounded. DueForCheck asked.entry.places plan.now multiplier_bytes asked.entry.gap) after answer.status answer.text.items there text.items)
+        FollowsFromText (λ rounded. DueForCheck asked.entry.places plan.now multiplier_bytes asked.entry.gap) after answer.status answer.text.items there text)
         3 (option_map (λ name. name.now) asked.entry.multipliers)
         (sight (S.files shelf.old) (S.rest shelf.old)
         (S.faults shelf.old) (S.begins shelf.old) (S.taken shelf.old))
@@ -119,7 +121,7 @@ fn check_multiplier_file<S: Shelf>(
                 multipliers,
                 gap,
             };
-            answer_text(alloc, text, asked.places, claim)
+            answer_read(alloc, reader, asked.places, claim)
         }
         Some(name) => match read_file(alloc, name, shelf) {
             Ok(bytes) => {
@@ -129,26 +131,26 @@ fn check_multiplier_file<S: Shelf>(
                     multipliers,
                     gap,
                 };
-                answer_text(alloc, text, asked.places, claim)
+                answer_read(alloc, reader, asked.places, claim)
             }
             Err(end) => refuse_file(alloc, MULTIPLIER_FILE, end),
         },
     }
 }
 
-// The answer where all files were read. The data file's text is gone before the first row is made.
-fn answer_text(
+// The answer where all files were read. What the reader keeps of the data file's text is gone before the first row is made.
+fn answer_read(
     alloc: Global,
-    text: Vec<u8>,
+    reader: PieceReader,
     places: u8,
     claim: Claim<'_, '_>,
 ) -> Result<Answer, AllocError>
-    requires short { length text.items ≤ most_bytes }
+    requires stands { (text : List ℕ) × StandsFor reader text }
     requires places { IsPlaces places }
-    ensures { IfOk result (λ answer.
-        DueForText (λ rounded. DueForCheck places claim.entry.plan.now (option_map (λ text. text.now) claim.entry.multipliers) claim.entry.gap) text.items answer.status answer.text.items) }
+    ensures { (text : List ℕ) → StandsFor reader text → length text ≤ most_bytes → IfOk result (λ answer.
+        DueForText (λ rounded. DueForCheck places claim.entry.plan.now (option_map (λ text. text.now) claim.entry.multipliers) claim.entry.gap) text answer.status answer.text.items) }
 {
-    match accept(alloc, text)? {
+    match accept_read(alloc, reader)? {
         Ok(model) => answer_check(alloc, &model, places, claim),
         Err(answer) => Ok(answer),
     }

@@ -5,10 +5,10 @@ ghost use Rattle.command_answers.specs.DueForText.{DueForText};
 ghost use Rattle.command_answers.specs.Accepted.{most_bytes};
 ghost use Rattle.solve_command.specs.Summary.{DueForSummary, default_places, made_line};
 
-use crate::one_file::{Task, answer_text};
-use command_answers::{Answer, Status, push_with_number};
+use command_answers::{Answer, Status, accept, push_with_number};
 use command_words::MakeShow;
 use model_maker::make;
+use solve_command::answer_summary;
 use std::alloc::{AllocError, Global};
 
 /// The decimal places of written factors that `solve` has by default.
@@ -37,10 +37,21 @@ fn summarize(alloc: Global, size: u32, made: Vec<u8>) -> Result<Answer, AllocErr
         × (answer.text.items ≡ made_line size ++ rest)) }
 {
     let mut text = made_line(alloc, size)?;
-    let answer = answer_text(alloc, made, Task::Summarize, DEFAULT_PLACES)?;
+    let answer = answer_made(alloc, made)?;
     text.extend_from_slice(&answer.text)?;
     let status = answer.status;
     Ok(Answer { status, text })
+}
+
+// What comes of the text of the file that was made. The text is gone before the first row is made.
+fn answer_made(alloc: Global, made: Vec<u8>) -> Result<Answer, AllocError>
+    requires { length made.items ≤ most_bytes }
+    ensures { IfOk result (λ answer. DueForText (DueForSummary default_places) made.items answer.status answer.text.items) }
+{
+    match accept(alloc, made)? {
+        Ok(model) => answer_summary(alloc, &model, DEFAULT_PLACES),
+        Err(answer) => Ok(answer),
+    }
 }
 
 // The line for the size: `made N`.

@@ -1,6 +1,7 @@
-// `mps`: the file is read whole, and its text accepted; its equations are written then.
+// `mps`: the file is fed whole to a reader, and its text accepted; its equations are written then.
 ghost use Rattle.std.specs.Prelude.{◌≡◌, ◌≤◌, List, ℕ, length, IfOk};
 ghost use Rattle.discount_factors.specs.Factors.{IsPlaces};
+ghost use Rattle.mathprog_data.specs.Pieces.{StandsFor};
 ghost use Rattle.command_answers.specs.Accepted.{most_bytes};
 ghost use Rattle.command_answers.specs.DueForText.{DueForText};
 ghost use Rattle.command_answers.specs.declared.status.Status.{Status};
@@ -10,10 +11,11 @@ ghost use Rattle.osemosys_run.specs.Reading.{sight};
 ghost use Rattle.osemosys_run.specs.Replies.{DueForReply, HasPlaces};
 
 use crate::file_ends::refuse_file;
-use crate::reading::read_file;
+use crate::reading::feed_file;
 use crate::reply::Reply;
-use command_answers::accept;
+use command_answers::accept_read;
 use io_edges::Shelf;
+use mathprog_data::PieceReader;
 use std::alloc::{AllocError, Global};
 
 /// The number of the data file among those that the words name.
@@ -38,8 +40,8 @@ pub fn perform_mps<S: Shelf>(
     ensures files { S.files shelf.new ≡ S.files shelf.old }
     ensures faults { S.faults shelf.old ≤ S.faults shelf.new }
 {
-    match read_file(alloc, file, shelf) {
-        Ok(bytes) => accept_model(alloc, bytes, places),
+    match feed_file(alloc, file, shelf) {
+        Ok(reader) => accept_model(alloc, reader, places),
         Err(end) => {
             let answer = refuse_file(alloc, DATA_FILE, end)?;
             Ok(Reply::Told(answer))
@@ -47,15 +49,15 @@ pub fn perform_mps<S: Shelf>(
     }
 }
 
-// The same over the text of its file. The text is gone before the first row is made.
-fn accept_model(alloc: Global, text: Vec<u8>, places: u8) -> Result<Reply, AllocError>
-    requires short { length text.items ≤ most_bytes }
+// The same over the text of its file. What the reader keeps of it is gone before the first row is made.
+fn accept_model(alloc: Global, reader: PieceReader, places: u8) -> Result<Reply, AllocError>
+    requires stands { (text : List ℕ) × StandsFor reader text }
     requires places { IsPlaces places }
-    ensures due { IfOk result (λ reply. (status : Status) (line : List ℕ) → DueForReply reply status line
-        → DueForText (λ rounded. DueForEquations places) text.items status line) }
+    ensures due { (text : List ℕ) → StandsFor reader text → length text ≤ most_bytes → IfOk result (λ reply. (status : Status) (line : List ℕ) → DueForReply reply status line
+        → DueForText (λ rounded. DueForEquations places) text status line) }
     ensures places { IfOk result HasPlaces }
 {
-    match accept(alloc, text)? {
+    match accept_read(alloc, reader)? {
         Ok(model) => Ok(Reply::Equations(model, places)),
         Err(answer) => Ok(Reply::Told(answer)),
     }

@@ -1,25 +1,28 @@
-// The commands of one file that have an answer: `solve`, `explain` and `curve`. The file is read whole, its text accepted, and the command's answer
-// given over its data.
-ghost use Rattle.std.specs.Prelude.{◌≡◌, ◌≤◌, length, IfOk};
+// The commands of one file that have an answer: `solve`, `explain`, `curve` and `span`. The file is fed whole to a reader, its text
+// accepted, and the command's answer given over its data.
+ghost use Rattle.std.specs.Prelude.{◌≡◌, ◌≤◌, List, ℕ, length, IfOk};
 ghost use Rattle.std.specs.List.{AllByRecursion};
 ghost use Rattle.command_words.specs.LimitLists.{IsLimit};
 ghost use Rattle.discount_factors.specs.Factors.{IsPlaces};
 ghost use Rattle.model_sets.specs.Data.{AreSameData, Data};
 ghost use Rattle.osemosys_run.specs.Causes.{CausedByFile, FollowsFromText};
 ghost use Rattle.command_answers.specs.DueForText.{DueForText};
+ghost use Rattle.mathprog_data.specs.Pieces.{StandsFor};
 ghost use Rattle.command_answers.specs.Accepted.{most_bytes};
 ghost use Rattle.osemosys_run.specs.Reading.{sight};
-ghost use Rattle.osemosys_run.specs.Tasks.{DueForAsked, DueForTask, HasLimits};
+ghost use Rattle.osemosys_run.specs.Tasks.{DueForAsked, DueForSpanAsked, DueForTask, HasLimits};
 
 use crate::file_ends::refuse_file;
-use crate::reading::read_file;
-use command_answers::{Answer, accept};
+use crate::reading::feed_file;
+use command_answers::{Answer, accept_read};
 use command_words::SolveMethod;
 use curve_command::answer_curve;
 use explain_command::answer_explain;
 use io_edges::Shelf;
+use mathprog_data::PieceReader;
 use param_tables::ModelData;
-use solve_command::{Wanted, answer_solve, answer_summary};
+use solve_command::{Wanted, answer_solve};
+use span_command::answer_span;
 use std::alloc::{AllocError, Global};
 
 /// The number of the data file among those that the words name.
@@ -37,6 +40,20 @@ pub struct CurveAsked<'a> {
     pub method: SolveMethod,
 }
 
+/// What the words after `span` say besides the file: a region, a technology and a year by their names, how many millionths of its
+/// absolute value above the least cost, or above the bound of the rounded method, a plan may cost, how many millionths the rounded method may stay from what it proves, the most
+/// pivots, and the method.
+#[derive(Clone, Copy, Debug, PartialEq, Eq)]
+pub struct SpanAsked<'a> {
+    pub region: &'a str,
+    pub technology: &'a str,
+    pub year: &'a str,
+    pub slack: u32,
+    pub gap: u32,
+    pub pivots: u32,
+    pub method: SolveMethod,
+}
+
 /// What a command of one file does with its data.
 #[derive(Clone, Copy, Debug, PartialEq, Eq)]
 pub enum Task<'a> {
@@ -46,8 +63,8 @@ pub enum Task<'a> {
     Explain { pivots: u32, method: SolveMethod },
     /// To say what each of these limits on an emission costs.
     Curve(CurveAsked<'a>),
-    /// To say in a few lines how large it is, and what solving it comes to.
-    Summarize,
+    /// To say how little and how much of a technology may be built near the least cost.
+    Span(SpanAsked<'a>),
 }
 
 /// The answer of a task over the file of this name, with written factors of 6 or 9 decimal places.
@@ -70,32 +87,33 @@ pub fn perform_task<S: Shelf>(
     ensures files { S.files shelf.new ≡ S.files shelf.old }
     ensures faults { S.faults shelf.old ≤ S.faults shelf.new }
 {
-    match read_file(alloc, file, shelf) {
-        Ok(bytes) => answer_text(alloc, bytes, task, places),
+    match feed_file(alloc, file, shelf) {
+        Ok(reader) => answer_read(alloc, reader, task, places),
         Err(end) => refuse_file(alloc, DATA_FILE, end),
     }
 }
 
-/// The answer of a task over the text of its file. The text is gone before the first row is made.
-pub fn answer_text(
+// The same over the text of its file. What the reader keeps of it is gone before the first row is made.
+fn answer_read(
     alloc: Global,
-    text: Vec<u8>,
+    reader: PieceReader,
     task: Task<'_>,
     places: u8,
 ) -> Result<Answer, AllocError>
-    requires short { length text.items ≤ most_bytes }
+    requires stands { (text : List ℕ) × StandsFor reader text }
     requires places { IsPlaces places }
     requires limits { HasLimits task }
-    ensures { IfOk result (λ answer. DueForText (DueForTask task.entry places) text.items answer.status answer.text.items) }
+    ensures { (text : List ℕ) → StandsFor reader text → length text ≤ most_bytes →
+        IfOk result (λ answer. DueForText (DueForTask task.entry places) text answer.status answer.text.items) }
 {
-    match accept(alloc, text)? {
+    match accept_read(alloc, reader)? {
         Ok(model) => match task {
             Task::Solve(wanted) => answer_solve(alloc, &model, places, wanted),
             Task::Explain { pivots, method } => {
                 answer_explain(alloc, &model, places, pivots, method)
             }
             Task::Curve(asked) => answer_asked(alloc, &model, asked, places),
-            Task::Summarize => answer_summary(alloc, &model, places),
+            Task::Span(asked) => answer_span_asked(alloc, &model, asked, places),
         },
         Err(answer) => Ok(answer),
     }
@@ -119,6 +137,30 @@ fn answer_asked(
         asked.region,
         asked.emission,
         asked.limits,
+        asked.pivots,
+        asked.method,
+        asked.gap,
+    )
+}
+
+// What is due of `span` over any data that have the model's sets and values.
+fn answer_span_asked(
+    alloc: Global,
+    model: &ModelData,
+    asked: SpanAsked<'_>,
+    places: u8,
+) -> Result<Answer, AllocError>
+    requires { IsPlaces places }
+    ensures { (d : Data) → AreSameData model.now.facts d → IfOk result (λ answer. DueForSpanAsked asked.entry places model.now.rounded d answer.status answer.text.items) }
+{
+    answer_span(
+        alloc,
+        model,
+        places,
+        asked.region,
+        asked.technology,
+        asked.year,
+        asked.slack,
         asked.pivots,
         asked.method,
         asked.gap,

@@ -2,10 +2,12 @@
 ghost use Rattle.std.specs.Prelude.{◌≡◌, ◌⊎◌, ◌≤◌, [], IfOk, IsErrOf, IsSome, Some, vec_len};
 ghost use Rattle.io_edges.specs.Count.{counted, Rose};
 ghost use Rattle.io_edges.specs.Edges.{Lacks};
+ghost use Rattle.osemosys_run.specs.FedFiles.{IsFed};
 ghost use Rattle.osemosys_run.specs.Reading.{IsWholeFile, IsTooLong};
 ghost use Rattle.osemosys_run.specs.declared.reading.ReadEnd.TheVariants.{Memory};
 
 use io_edges::{OpenFault, Shelf};
+use mathprog_data::PieceReader;
 use std::alloc::{AllocError, Global};
 
 /// The most bytes that a file may have: 64 MiB.
@@ -83,6 +85,42 @@ pub fn read_file<S: Shelf>(alloc: Global, name: &str, shelf: &mut S) -> Result<V
             return Err(ReadEnd::TooLong);
         }
         bytes.extend_from_slice(&room[..count])?;
+    }
+}
+
+/// Reads a file to its end and feeds it to a reader of its text, in pieces of at most 65,536 bytes. What the text says, or its fault, is
+/// told when the reader ends.
+pub fn feed_file<S: Shelf>(alloc: Global, name: &str, shelf: &mut S) -> Result<PieceReader, ReadEnd>
+    ensures whole { IfOk result (λ reader. IsFed (S.files shelf.old) name.now reader (S.rest shelf.old) (S.rest shelf.new) (S.taken shelf.new)) }
+
+    // When each refusal comes. That memory runs out has no cause.
+    ensures no_file { IsErrOf result ReadEnd.NoFile → Lacks (S.files shelf.old) name.now }
+    ensures missing { Lacks (S.files shelf.old) name.now → ¬ Rose (S.faults shelf.old) (S.faults shelf.new)
+        → IsErrOf result ReadEnd.NoFile ⊎ IsErrOf result ReadEnd.Memory }
+    ensures unopened { IsErrOf result ReadEnd.NoFile → IsSome (S.rest shelf.old) → S.rest shelf.new ≡ Some [] }
+    ensures failed { IsErrOf result ReadEnd.Failed → Rose (S.faults shelf.old) (S.faults shelf.new) }
+    ensures too_long { IsErrOf result ReadEnd.TooLong
+        → IsTooLong (S.files shelf.old) name.now (S.taken shelf.new) }
+
+    // What stays, and what is counted.
+    ensures files { S.files shelf.new ≡ S.files shelf.old }
+    ensures begins { S.begins shelf.new ≡ counted (S.begins shelf.old) }
+    ensures faults { S.faults shelf.old ≤ S.faults shelf.new }
+{
+    shelf.begin(name)?;
+    let mut room = zeros(alloc, ROOM)?;
+    let mut reader = PieceReader::new(alloc)?;
+    'rooms: loop {
+        let Ok(count) = shelf.read(&mut room) else {
+            return Err(ReadEnd::Failed);
+        };
+        if count == 0 {
+            return Ok(reader);
+        }
+        if count > MOST_BYTES - reader.fed() as usize {
+            return Err(ReadEnd::TooLong);
+        }
+        reader.feed(&room[..count])?;
     }
 }
 

@@ -36,7 +36,7 @@ ghost use Rattle.command_words.specs.WordParts.{HasSpelledParts, Part};
 use crate::check_files::{Asked, perform_check};
 use crate::making::perform_make;
 use crate::mps::perform_mps;
-use crate::one_file::{CurveAsked, Task, perform_task};
+use crate::one_file::{CurveAsked, SpanAsked, Task, perform_task};
 use crate::reply::{Reply, deliver};
 use command_answers::{Status, acceptance_laws, refuse_words};
 use command_words::{Command, read_command, spelled_parts};
@@ -66,6 +66,10 @@ use std::alloc::{AllocError, Global};
 ///
 /// `curve FILE REGION EMISSION LIMITS [--gap PPM] [--pivots N] [--places P] [--method exact|rounded]` says for each of these limits on the
 /// emissions of the model period what the least cost is, and by how much at least it grows with each unit that the limit is lower.
+///
+/// `span FILE REGION TECHNOLOGY YEAR [--slack PPM] [--gap PPM] [--pivots N] [--places P] [--method exact|rounded]` says how little and how
+/// much of the technology is built in the region and the year by plans whose cost is at most PPM millionths above the least, with such
+/// plans, or that there is no most.
 ///
 /// `make N [--show file|summary]` reads no file. It writes a data file that is made of the number N, from 3 to 122; or how large
 /// its model is, and what `solve` with its default options comes to on it.
@@ -233,8 +237,31 @@ fn perform<S: Shelf>(alloc: Global, words: &[String], shelf: &mut S) -> Result<R
             let answer = perform_task(alloc, file, task, places, shelf)?;
             Ok(Reply::Told(answer))
         }
-        // No word asks for it yet.
-        Ok(Command::Span { .. }) => unreachable!(),
+        Ok(
+            Command::Span {
+                file,
+                region,
+                technology,
+                year,
+                slack,
+                gap,
+                pivots,
+                places,
+                method,
+            },
+        ) => {
+            let task = Task::Span(SpanAsked {
+                region,
+                technology,
+                year,
+                slack,
+                gap,
+                pivots,
+                method,
+            });
+            let answer = perform_task(alloc, file, task, places, shelf)?;
+            Ok(Reply::Told(answer))
+        }
         Ok(Command::Make { size, show }) => {
             let answer = perform_make(alloc, size, show)?;
             Ok(Reply::Told(answer))

@@ -1,14 +1,14 @@
 //! Guesses at a linear program alone, for a caller that has what is made of them checked.
 
 ghost use Rattle.std.specs.Prelude.{◌≡◌, true, length, IfOk, IfSome};
-ghost use Rattle.row_core.specs.Numbers.{ascends};
+ghost use Rattle.row_core.specs.Numbers.{ascends, keys_of};
 ghost use Rattle.row_core.specs.Order.{var_cmp};
 ghost use Rattle.rounded_solver.specs.Guesses.{IfValues};
 
 use crate::halts::Halt;
 use crate::plans::plan_of;
 use crate::refuting::make_guess;
-use crate::tries::TOLERANCE;
+use crate::tries::{TOLERANCE, rounded_end};
 use exact_num::Frac;
 use presolved_program::{Aim, prepare};
 use rounded_program::{margins_of, rounded_program, values_of};
@@ -29,6 +29,15 @@ pub enum Guess {
     NoValues,
     /// Nothing.
     Nothing,
+}
+
+/// A guess at a plan of least cost, and at what shows that none costs less. Nothing is proved of it.
+#[derive(Debug, Drop)]
+pub struct GuessedOptimum {
+    /// A value for each column, in order.
+    pub values: Plan,
+    /// A multiplier for each row, in order.
+    pub multipliers: Vec<Frac>,
 }
 
 /// Guesses at values of least cost, with so many decimals, by so many pivots at most. Refuses only out of memory.
@@ -70,6 +79,60 @@ fn values_guessed(alloc: Global, reduced: &Reduced, places: i32, pivots: u64) ->
         Answer::NoPlan => Ok(Guess::NoValues),
         Answer::GivenUp => Ok(Guess::Nothing),
     }
+}
+
+/// Guesses at values of least cost with so many decimals, and at the multipliers that prove that cost with so many significant
+/// digits, by so many pivots at most. None where nothing is guessed. Refuses only out of memory.
+///
+/// That the values meet the rows, and that the multipliers prove a cost near theirs, has to be checked. `TRIES` has the numbers of
+/// decimals and digits to be tried, in order.
+pub fn guess_optimum(
+    alloc: Global,
+    reduced: &Reduced,
+    places: i32,
+    digits: i32,
+    pivots: u64,
+) -> Result<Option<GuessedOptimum>, AllocError>
+    requires { ascends var_cmp reduced.now.columns.items ≡ true }
+    ensures values { IfOk result (λ found. IfSome found (λ guessed. keys_of guessed.values ≡ reduced.now.columns.items)) }
+    ensures multipliers { IfOk result (λ found. IfSome found (λ guessed. length guessed.multipliers.items ≡ length reduced.now.rows.items)) }
+{
+    match optimum_guessed(alloc, reduced, places, digits, pivots) {
+        Ok(guessed) => {
+            if guessed.multipliers.len() == reduced.rows.len() {
+                Ok(Some(guessed))
+            } else {
+                Ok(None)
+            }
+        }
+        Err(Halt::Nothing) => Ok(None),
+        Err(Halt::Memory) => Err(AllocError),
+    }
+}
+
+/// The same, where every number fits.
+fn optimum_guessed(
+    alloc: Global,
+    reduced: &Reduced,
+    places: i32,
+    digits: i32,
+    pivots: u64,
+) -> Result<GuessedOptimum, Halt>
+    requires { ascends var_cmp reduced.now.columns.items ≡ true }
+    ensures { IfOk result (λ guessed. keys_of guessed.values ≡ reduced.now.columns.items) }
+{
+    let smaller = prepare(alloc, reduced, Aim::Cheapest)?;
+    if smaller.is_false() {
+        return Err(Halt::Nothing);
+    }
+    let Some(end) = rounded_end(alloc, &smaller, places, digits, pivots)? else {
+        return Err(Halt::Nothing);
+    };
+    let values = plan_of(alloc, reduced.columns.as_slice(), &end.values)?;
+    Ok(GuessedOptimum {
+        values,
+        multipliers: end.lambda,
+    })
 }
 
 /// Guesses at multipliers that refute the rows, with so many significant digits, by so many pivots at most: one for each row, in

@@ -15,5 +15,6 @@ mod solving;
 mod tries;
 
 pub use found::Rounded;
-pub use guesses::{Guess, guess_multipliers, guess_values};
+pub use guesses::{Guess, GuessedOptimum, guess_multipliers, guess_optimum, guess_values};
 pub use solving::rounded;
+pub use tries::TRIES;

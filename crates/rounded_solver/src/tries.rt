@@ -8,6 +8,7 @@ ghost use Rattle.rounded_solver.specs.Found.{IsComplete, IsNamed, IsProved};
 use crate::attempt::Attempt;
 use crate::certifying::certified;
 use crate::halts::Halt;
+use exact_num::Frac;
 use exact_solver::BookProgram;
 use presolved_program::{Aim, Program, prepare};
 use rounded_program::{margins_of, multipliers_of, rounded_program, values_of};
@@ -19,7 +20,15 @@ use std::alloc::Global;
 pub(crate) const TOLERANCE: f64 = 0.1 / 17179869184.0;
 
 /// The decimals of values and the significant digits of multipliers, try by try: fewer need fewer bits, and leave a wider gap.
-const TRIES: [(i32, i32); 4] = [(7, 9), (6, 8), (5, 7), (4, 6)];
+pub const TRIES: [(i32, i32); 4] = [(7, 9), (6, 8), (5, 7), (4, 6)];
+
+/// Values of columns and multipliers of rows, and the pivots that they took.
+#[derive(Drop)]
+pub(crate) struct RoundedEnd {
+    pub(crate) values: Vec<Frac>,
+    pub(crate) lambda: Vec<Frac>,
+    pub(crate) pivots: u64,
+}
 
 /// The first try that the checker accepts.
 pub(crate) fn cheapest_plan(
@@ -66,16 +75,44 @@ fn one_try(
     ensures whole { IfOk result (IfFound (IsComplete book.now.vars)) }
     ensures named { IfOk result (IfFound (IsNamed book.now.rows)) }
 {
+    match rounded_end(alloc, smaller, places, digits, pivots)? {
+        Some(end) => {
+            let found = certified(
+                alloc,
+                book,
+                program,
+                &end.values,
+                &end.lambda,
+                ppm,
+                end.pivots,
+            )?;
+            Ok(Attempt::Found(found))
+        }
+        None => Ok(Attempt::NoPlan),
+    }
+}
+
+/// The end of a guess, rounded. None where there seems to be no plan.
+pub(crate) fn rounded_end(
+    alloc: Global,
+    smaller: &Program,
+    places: i32,
+    digits: i32,
+    pivots: u64,
+) -> Result<Option<RoundedEnd>, Halt> {
     let margins = margins_of(alloc, smaller, places, digits)?;
     let asked = rounded_program(alloc, smaller, &margins)?;
     match guess(alloc, &asked, TOLERANCE, pivots)? {
         Answer::Solved(guess) => {
             let values = values_of(alloc, smaller, &margins, &guess.values)?;
             let lambda = multipliers_of(alloc, smaller, &margins, &guess.multipliers)?;
-            let found = certified(alloc, book, program, &values, &lambda, ppm, guess.pivots)?;
-            Ok(Attempt::Found(found))
+            Ok(Some(RoundedEnd {
+                values,
+                lambda,
+                pivots: guess.pivots,
+            }))
         }
-        Answer::NoPlan => Ok(Attempt::NoPlan),
-        Answer::GivenUp => Ok(Attempt::Nothing),
+        Answer::NoPlan => Ok(None),
+        Answer::GivenUp => Err(Halt::Nothing),
     }
 }

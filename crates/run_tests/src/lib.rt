@@ -29,6 +29,8 @@ mod plans;
 mod refusals;
 #[cfg(test)]
 mod solves;
+#[cfg(test)]
+mod spans;
 mod sure;
 #[cfg(test)]
 mod texts;

@@ -15,7 +15,7 @@ static WORDS: [(&[&str], WordFault, &str); 15] = [
         "words refused BadCommand\n",
     ),
     (
-        &["span", "model.dat"],
+        &["spam", "model.dat"],
         WordFault::BadCommand,
         "words refused BadCommand\n",
     ),

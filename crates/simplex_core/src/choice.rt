@@ -25,12 +25,14 @@ fn greatest(tableau: &Tableau, row: usize) -> Option<usize>
     let mut best = 0;
     let mut chosen = None;
     let mut from = 0;
-    while let Some((column, entry)) = tableau.next_entry(row, from) {
+    let mut seen = 0;
+    while let Some((column, entry)) = tableau.next_entry_near(row, from, seen) {
         if entry > best {
             best = entry;
             chosen = Some(column);
         }
         from = column + 1;
+        seen += 1;
     }
     chosen
 }

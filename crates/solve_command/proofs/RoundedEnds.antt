@@ -8,6 +8,7 @@ use Rattle.row_core.specs.declared.Row.{Row}
 use Rattle.row_core.specs.declared.Var.{Var}
 use Rattle.exact_solver.specs.declared.solutions.Solution.{Solution}
 use Rattle.exact_solver.specs.declared.solutions.Solution.TheVariants as exact
+use Rattle.exact_solver.specs.MethodEnds.{plan_cost}
 use Rattle.rounded_solver.specs.Found as rounded
 use Rattle.rounded_solver.specs.declared.found.Rounded.{Rounded}
 use Rattle.rounded_solver.specs.declared.found.Rounded.TheVariants as found
@@ -36,6 +37,7 @@ module _ (places : ℕ) (d : Data) (rows : List Row) (vars : List Var) (book : I
         bound = value_of bound;
         made = made;
         optimum = near places d rows vars book plan multipliers (value_of cost) (value_of bound) gap found.proved.0 found.proved.1 found.proved.2 found.complete found.named;
+        cost_is = found.proved.0.cost_is ∙ ap (λ vs. plan_cost vs plan) (are places d rows vars book);
         prices_fit = told.fits;
         status_is = told.status_is;
         text_is = told.text_is ∙ shown-optimal show sets rows vars rounded places third_attempt plan multipliers cost bound made

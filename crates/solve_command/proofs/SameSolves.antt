@@ -9,7 +9,7 @@ use Rattle.row_core.specs.declared.RowName.{RowName}
 use Rattle.row_core.specs.declared.Var.{Var}
 use Rattle.named_equations.specs.Existence.{all_variables}
 use Rattle.named_equations.proofs.SameInstances.{same-cost, same-feasible}
-use Rattle.exact_solver.specs.MethodEnds.{MethodEnd, method_end}
+use Rattle.exact_solver.specs.MethodEnds.{MethodEnd, method_end, plan_cost}
 use Rattle.exact_solver.specs.Sizes.{column_count, inequality_count}
 use Rattle.exact_solver.specs.Solutions.{IsBound, IsDescent, IsRefutation}
 use Rattle.solve_command.specs.declared.solve.Shown.{Shown}
@@ -174,6 +174,7 @@ module _ (places : ℕ) (d e : Data) (same : AreSameData d e) where
     bound = found.bound;
     made = found.made;
     optimum = near-carries rows gap found.plan found.multipliers found.cost found.bound found.optimum;
+    cost_is = found.cost_is ∙ ap (λ vs. plan_cost vs found.plan) vars;
     prices_fit = found.prices_fit;
     status_is = found.status_is;
     text_is = found.text_is ∙ ap₂ (λ (ss : SetLists) (vs : List Var). solved_shown show ss vs found.plan rows found.multipliers found.cost found.bound found.made rounded places attempt) same.sets vars;

@@ -12,7 +12,7 @@ use Rattle.named_equations.specs.Existence.{all_variables}
 use Rattle.written_method.specs.Eliminated.{elimination_steps}
 use Rattle.decimal_solver.specs.Attempts.{Attempt, grid_end}
 use Rattle.exact_solver.specs.Definers.{definers}
-use Rattle.exact_solver.specs.MethodEnds.{HasNoBound, HasNoPlan, HasOptimum, IsPivotDue, IsWide, MethodEnd, method_end}
+use Rattle.exact_solver.specs.MethodEnds.{HasNoBound, HasNoPlan, HasOptimum, IsPivotDue, IsWide, MethodEnd, method_end, plan_cost}
 use Rattle.result_tables.specs.Prices.{price_steps}
 use Rattle.solve_command.specs.declared.solve.Shown.{Shown}
 use Rattle.solve_command.specs.declared.solve.Shown.TheVariants.{Report, Plan, Multipliers, Summary}
@@ -168,6 +168,7 @@ pub record IsFound (places : ℕ) (d : Data) (rows : List Row) (gap : ℕ) (show
   pub bound : Rational
   pub made : ℕ
   pub optimum : IsNearOptimum places d rows gap plan multipliers cost bound
+  pub cost_is : cost ≡ plan_cost (all_variables d) plan
   pub prices_fit : PricesFit show rows multipliers
   pub status_is : status ≡ Done
   pub text_is : text ≡ solved_shown show d.sets (all_variables d) plan rows multipliers cost bound made rounded places attempt

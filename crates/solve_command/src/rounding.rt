@@ -37,23 +37,29 @@ pub fn answer_rounded(
         IsFound places d book.now.rows wanted.gap wanted.show rounded third_attempt answer.status answer.text.items
         ⊎ IsFoundInfeasible places d book.now.rows wanted.show rounded third_attempt answer.status answer.text.items)) }
 {
-    match found_in(alloc, book, wanted)? {
+    match rounded_solution(alloc, book, wanted.gap, u64::from(wanted.pivots))? {
         Some(solution) => answer_found(alloc, book, sets, &solution, wanted, rounded, places),
         None => Ok(None),
     }
 }
 
-// What the rounded method finds, as a solution. The rows whose defined variables can't be removed have none.
-fn found_in(alloc: Global, book: &RowBook, wanted: Wanted) -> Result<Option<Solution>, AllocError>
-    ensures { IfOk result (λ found. IfSome found (IsFoundBy book.now.rows book.now.vars wanted.gap)) }
+/// What the rounded method finds over a book, as a solution: a plan whose cost is above a proved bound by at most so many millionths of
+/// the bound, or that there is no plan. Each guess may take so many pivots at most. Rows whose defined variables can't be removed have
+/// no such solution; when else there is none isn't defined. Refuses only out of memory.
+pub fn rounded_solution(
+    alloc: Global,
+    book: &RowBook,
+    gap: u32,
+    pivots: u64,
+) -> Result<Option<Solution>, AllocError>
+    ensures { IfOk result (λ found. IfSome found (IsFoundBy book.now.rows book.now.vars gap)) }
 {
     let program = match eliminate_book(alloc, book) {
         Ok(program) => program,
         Err(Stopped::Width(_)) => return Ok(None),
         Err(Stopped::Memory) => return Err(AllocError),
     };
-    let pivots = u64::from(wanted.pivots);
-    match round(alloc, book, &program, wanted.gap, pivots)? {
+    match round(alloc, book, &program, gap, pivots)? {
         Some(found) => Ok(Some(solution_of(found))),
         None => Ok(None),
     }

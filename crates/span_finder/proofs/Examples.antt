@@ -4,7 +4,7 @@ use Rattle.std.specs.Prelude.{Some, None, ◌==◌, if◌then◌else◌}
 use Rattle.std.proofs.Common.{arith}
 use Rattle.std.proofs.lemmas.Int.{ints}
 use Rattle.exact_num.specs.Gcd.{gcd_of, gcd_within}
-use Rattle.exact_num.specs.Rational.{Rational, lowest, plus, times, whole}
+use Rattle.exact_num.specs.Rational.{Rational, lowest, minus, order_of, plus, times, whole}
 use Rattle.row_core.specs.declared.Var.{Var}
 use Rattle.row_core.specs.declared.kind_numbers.TheConstants.{NEW_CAPACITY, TOTAL_DISCOUNTED_COST}
 use Rattle.row_core.specs.declared.place.Place.TheVariants.{CostRow, Expand, Row}
@@ -19,6 +19,7 @@ use Rattle.span_finder.specs.declared.found.SpanFail.TheVariants.{Stopped}
 use Rattle.span_finder.specs.declared.limiting.TheConstants.{SPAN}
 use Rattle.span_finder.specs.declared.trial.Goal.TheVariants.{Least, Greatest}
 use Rattle.span_finder.specs.LimitRows.{CostsAtMost, cost_terms, span_name}
+use Rattle.span_finder.specs.RoundedSpans.{LieWithin, measure_of}
 use Rattle.span_finder.specs.Slacks.{slack_limit}
 use Rattle.span_finder.specs.SpanEnds.{HasExtreme, HasNoEnd, IsBounded, IsNothing, IsPivotDue, IsPlainStop, IsRising, IsStopped, IsWide, StopsAt, end_seen, greatest_end, least_end, trial_cost, trial_fail, unless_stopped}
 
@@ -151,3 +152,55 @@ no_budget h = h
 
 not_told : ¬ (StopsAt (IsStopped (Trial 2 (trials.Budget 9))) (Stopped (Trial 1 (trials.Budget 9))))
 not_told h = cc h
+
+-- ---- ends that are near
+
+-- the measure of an end below 1 is 1, and that of one below -1 is its absolute value
+measure_of_half : measure_of (lowest (pos 1) (pos 2)) ≡ whole (pos 1)
+unfolding lowest gcd_of gcd_within order_of
+measure_of_half = refl
+
+measure_of_negative : measure_of (whole (negsuc 2)) ≡ whole (pos 3)
+unfolding order_of
+measure_of_negative = refl
+
+-- a tenth above 8 is 4/5 above it, and no more
+tenth_above : LieWithin 100000 (lowest (pos 44) (pos 5)) (whole (pos 8)) (whole (pos 8))
+unfolding minus times lowest gcd_of gcd_within order_of
+tenth_above = refl
+
+more_than_a_tenth : ¬ (LieWithin 100000 (lowest (pos 89) (pos 10)) (whole (pos 8)) (whole (pos 8)))
+unfolding minus times lowest gcd_of gcd_within order_of
+more_than_a_tenth h = cc h
+
+-- below an end it is measured by the end too: a tenth of 10, not of 9
+tenth_below : LieWithin 100000 (whole (pos 10)) (whole (pos 9)) (whole (pos 10))
+unfolding minus times lowest gcd_of gcd_within order_of
+tenth_below = refl
+
+measured_by_the_end : ¬ (LieWithin 100000 (whole (pos 10)) (whole (pos 9)) (whole (pos 9)))
+unfolding minus times lowest gcd_of gcd_within order_of
+measured_by_the_end h = cc h
+
+-- beside 0 it is a tenth of 1
+beside_zero : LieWithin 100000 (lowest (pos 1) (pos 10)) (whole (pos 0)) (whole (pos 0))
+unfolding minus times lowest gcd_of gcd_within order_of
+beside_zero = refl
+
+too_far_from_zero : ¬ (LieWithin 100000 (lowest (pos 1) (pos 5)) (whole (pos 0)) (whole (pos 0)))
+unfolding minus times lowest gcd_of gcd_within order_of
+too_far_from_zero h = cc h
+
+-- above -8 by a tenth of 8
+above_minus_eight : LieWithin 100000 (lowest (negsuc 35) (pos 5)) (whole (negsuc 7)) (whole (negsuc 7))
+unfolding minus times lowest gcd_of gcd_within order_of
+above_minus_eight = refl
+
+-- with no millionths they are equal
+same_end : LieWithin 0 (whole (pos 8)) (whole (pos 8)) (whole (pos 8))
+unfolding minus times lowest gcd_of gcd_within order_of
+same_end = refl
+
+hardly_above : ¬ (LieWithin 0 (lowest (pos 8000001) (pos 1000000)) (whole (pos 8)) (whole (pos 8)))
+unfolding minus times lowest gcd_of gcd_within order_of
+hardly_above h = cc h

@@ -145,7 +145,7 @@ least-passes vtop vbottom q x h =
     let b = one-*ℤ x in
     subst (λ z. (z *ℤ q) ≤ℤ (x *ℤ vbottom)) a (subst (λ z. ((pos 1 *ℤ vtop) *ℤ q) ≤ℤ (z *ℤ vbottom)) b h)
 
-minus : (a : ℤ) → negsuc 0 *ℤ a ≡ neg_ℤ a
+pub minus : (a : ℤ) → negsuc 0 *ℤ a ≡ neg_ℤ a
 minus a = neg_ℤ-*ℤ (pos 1) a ∙ ap neg_ℤ (one-*ℤ a)
 
 -- the greatest

@@ -9,6 +9,7 @@ pub mod CopyLaws
 pub mod CapacityLaws
 pub mod SlackLaws
 pub mod SpanLaws
+pub mod RoundedLaws
 pub mod PlainStops
 pub mod CallLaws
 pub mod Examples

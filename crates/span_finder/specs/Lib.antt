@@ -1,6 +1,9 @@
 pub mod LimitRows
 pub mod Spans
+pub mod RoundedSpans
 pub mod Slacks
 pub mod Worth
 pub mod SpanEnds
 pub mod Trials
+pub mod LimitedBooks
+pub mod RoundedTrials

@@ -24,6 +24,20 @@ pub struct Span {
     pub direction: Option<Plan>,
 }
 
+/// Between which values a variable lies in plans that cost at most a limit, from a little below the least to a little above the
+/// greatest.
+#[derive(Debug, Drop)]
+pub struct RoundedSpan {
+    /// No such plan has less of the variable.
+    pub low: Frac,
+    /// A plan in which the variable has little more than that.
+    pub low_plan: Plan,
+    /// No such plan has more of the variable.
+    pub high: Frac,
+    /// A plan in which the variable has little less than that.
+    pub high_plan: Plan,
+}
+
 /// Why no answer is found.
 #[derive(Clone, Copy, Debug, PartialEq, Eq)]
 pub enum SpanFail {

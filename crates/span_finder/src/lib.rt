@@ -4,13 +4,19 @@
 mod checking;
 mod copying;
 mod found;
+mod halts;
 mod laws;
+mod limited;
 mod limiting;
+mod near;
+mod rounded_trial;
+mod rounding;
 mod slack;
 mod spanning;
 mod trial;
 
-pub use found::{Span, SpanFail};
+pub use found::{RoundedSpan, Span, SpanFail};
 pub use limiting::SPAN;
+pub use rounding::round_span;
 pub use slack::slack_limit;
 pub use spanning::find_span;

@@ -26,7 +26,7 @@ pub fn slack_limit(cost: Frac, slack: u32) -> Result<Frac, TooWide>
 }
 
 /// The absolute value.
-fn absolute(value: Frac) -> Frac
+pub(crate) fn absolute(value: Frac) -> Frac
     ensures { value_of result ≡ absolute (value_of value) }
 {
     let num = if value.num < 0 { -value.num } else { value.num };

@@ -18,8 +18,8 @@ ghost use Rattle.span_finder.specs.SpanEnds.{EndsSo, HasExtreme, IsPlainStop, Sp
 ghost use Rattle.span_finder.specs.Spans.{HasNearBest, HasPlan, IsSpan};
 ghost use Rattle.span_finder.specs.Trials.{AreFound, IsColumnOf, IsExtreme, IsHighFound, IsLeftOf, IsTrial};
 
-use crate::copying::{limited_definers, limited_rows};
 use crate::found::{Span, SpanFail};
+use crate::limited::{LimitedBook, limited_book};
 use crate::trial::{Extreme, Goal, Problem, aimed, trial};
 use exact_num::Frac;
 use exact_solver::SolveStop;
@@ -27,7 +27,6 @@ use row_book::RowBook;
 use row_core::{Plan, Row, Var};
 use simplex_core::{Stop, TrialStop};
 use std::alloc::Global;
-use variable_elimination::eliminate;
 use written_method::Reduced;
 
 /// Between which values a NewCapacity lies in the plans that meet all rows of a book with right signs and cost at most a limit.
@@ -76,9 +75,11 @@ fn found_span(
     ensures proved { IfOk result (IsSpan book.now.rows book.now.vars (value_of limit) var) }
 {
     let variables = book.vars();
-    let rows = limited_rows(alloc, book, limit)?;
-    let defs = limited_definers(alloc, book)?;
-    let reduced = eliminate(alloc, &rows, &defs)?;
+    let LimitedBook {
+        rows,
+        defs,
+        reduced,
+    } = limited_book(alloc, book, limit)?;
     both_trials(alloc, &rows, variables, &defs, reduced, var, pivots)
 }
 

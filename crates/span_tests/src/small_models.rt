@@ -1,7 +1,7 @@
 //! Small models, whose spans are worked out by hand.
 
 use crate::books::book_of;
-use crate::spans::span_of;
+use crate::spans::{rounded_span_of, span_of};
 use exact_num::{Frac, cmp_frac, fits, ratio};
 use std::process::Abort;
 use std::test::Fail;
@@ -96,6 +96,58 @@ fn a_span_has_the_least_and_the_greatest_value(rt: HostRuntime) -> Result<(), Fa
                 "a greatest value where there is none, or none where there is one",
             )),
         }
+    }
+    Ok(())
+}
+
+/// The value is from one fraction to another.
+fn assert_within(rt: &impl Abort, value: Frac, from: (i128, i128), to: (i128, i128)) {
+    assert!(rt; at_most(rt, from, (value.num, value.den)));
+    assert!(rt; at_most(rt, (value.num, value.den), to));
+}
+
+/// A fraction is at most another.
+fn at_most(rt: &impl Abort, less: (i128, i128), more: (i128, i128)) -> bool {
+    assert!(rt; less.1 > 0 && fits(less.0) && fits(less.1));
+    assert!(rt; more.1 > 0 && fits(more.0) && fits(more.1));
+    cmp_frac(ratio(less.0, less.1), ratio(more.0, more.1)).is_le()
+}
+
+/// A technology, and from where to where the ends of its span are looked for with a slack of 100,000 millionths: from 10 millionths
+/// below the least value to it, and from the greatest value to 10 millionths above, or a little further.
+struct Ends {
+    technology: u16,
+    low_from: (i128, i128),
+    low_to: (i128, i128),
+    high_from: (i128, i128),
+    high_to: (i128, i128),
+}
+
+static ENDS: [Ends; 2] = [
+    Ends {
+        technology: 0,
+        low_from: (83_999, 10_000),
+        low_to: (42, 5),
+        high_from: (34, 3),
+        high_to: (113_335, 10_000),
+    },
+    // No end is below 0.
+    Ends {
+        technology: 1,
+        low_from: (0, 1),
+        low_to: (0, 1),
+        high_from: (8, 5),
+        high_to: (16_001, 10_000),
+    },
+];
+
+#[test]
+fn rounded_ends_are_near_the_least_and_the_greatest_value(rt: HostRuntime) -> Result<(), Fail> {
+    let book = book_of(&rt, rt.alloc(), TWO, DEARER)?;
+    for ends in &ENDS {
+        let span = rounded_span_of(rt.alloc(), &book, ends.technology, 100_000, 10)?;
+        assert_within(&rt, span.low, ends.low_from, ends.low_to);
+        assert_within(&rt, span.high, ends.high_from, ends.high_to);
     }
     Ok(())
 }

@@ -13,7 +13,7 @@ use exact_solver::{Solution, solve_book};
 use row_book::RowBook;
 use row_core::kind_numbers::NEW_CAPACITY;
 use row_core::{Plan, Var};
-use span_finder::{Span, find_span, slack_limit};
+use span_finder::{RoundedSpan, Span, find_span, round_span, slack_limit};
 use std::alloc::Global;
 use std::test::Fail;
 
@@ -56,6 +56,47 @@ fn span_near(
         Ok(limit) => match find_span(alloc, book, limit, var, PIVOTS) {
             Ok(span) => Ok(span),
             Err(_) => Err(Fail::from("stopped")),
+        },
+        Err(_) => Err(Fail::from("a number of the limit doesn't fit")),
+    }
+}
+
+/// The same by the rounded method, with ends within so many millionths.
+pub(crate) fn rounded_span_of(
+    alloc: Global,
+    book: &RowBook,
+    technology: u16,
+    slack: u32,
+    ppm: u32,
+) -> Result<RoundedSpan, Fail>
+    requires { AllByRecursion (λ (row : Row). row.name.eq < SPAN) book.now.rows }
+{
+    match solve_book(alloc, book, PIVOTS) {
+        Ok(Solution::Optimal { cost, .. }) => {
+            rounded_span_near(alloc, book, cost, technology, slack, ppm)
+        }
+        _ => Err(Fail::from("no least cost")),
+    }
+}
+
+/// The same near this cost.
+fn rounded_span_near(
+    alloc: Global,
+    book: &RowBook,
+    cost: Frac,
+    technology: u16,
+    slack: u32,
+    ppm: u32,
+) -> Result<RoundedSpan, Fail>
+    requires { AllByRecursion (λ (row : Row). row.name.eq < SPAN) book.now.rows }
+{
+    let Some(var) = capacity_of(book, technology) else {
+        return Err(Fail::from("no such technology"));
+    };
+    match slack_limit(cost, slack) {
+        Ok(limit) => match round_span(alloc, book, limit, var, ppm, PIVOTS)? {
+            Some(span) => Ok(span),
+            None => Err(Fail::from("nothing is found")),
         },
         Err(_) => Err(Fail::from("a number of the limit doesn't fit")),
     }

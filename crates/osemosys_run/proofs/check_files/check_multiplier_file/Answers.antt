@@ -8,19 +8,19 @@ use Rattle.osemosys_run.specs.Reading.{BeganOne, Sight}
 use Rattle.osemosys_run.proofs.check_files.check_multiplier_file.Goals as goal
 
 pub returns-in-None-clause-caused : goal.returns-in-None-clause-caused
-returns-in-None-clause-caused g c =
+returns-in-None-clause-caused g c = λ text stands short.
     let shelf = g.S.Shelf in
     let old = c.args.shelf.now in
     let before : Sight = record { files = shelf.files old; rest = shelf.rest old; faults = shelf.faults old; begins = shelf.begins old; taken = shelf.taken old } in
     let asked = c.args.asked in
     let Then : Status → List ℕ → Sight → Option (List ℕ) → Type 0 =
-    λ status text there multiplier_bytes. FollowsFromText (λ rounded. DueForCheck asked.places c.args.plan.now multiplier_bytes asked.gap) before status text there c.args.text.items in
-    subst (λ name. IfOk c.answer_text.result (λ answer. CausedByOptionalFile (Then answer.status answer.text.items) 3 name before before answer.status answer.text.items))
+    λ status line there multiplier_bytes. FollowsFromText (λ rounded. DueForCheck asked.places c.args.plan.now multiplier_bytes asked.gap) before status line there text in
+    subst (λ name. IfOk c.answer_read.result (λ answer. CausedByOptionalFile (Then answer.status answer.text.items) 3 name before before answer.status answer.text.items))
     (sym (ap (option_map (λ name. name.now)) c.in-None.is))
-    (IfOk-weaker c.answer_text.result _ _ (λ answer due. (refl, due)) c.answer_text.ensures)
+    (IfOk-weaker c.answer_read.result _ _ (λ answer due. (refl, due)) (c.answer_read.ensures text stands short))
 
 pub returns-in-Ok-clause-caused : goal.returns-in-Ok-clause-caused
-returns-in-Ok-clause-caused g c =
+returns-in-Ok-clause-caused g c = λ text stands short.
     let shelf = g.S.Shelf in
     let old = c.args.shelf.now in
     let there = c.read_file.new.shelf in
@@ -29,15 +29,15 @@ returns-in-Ok-clause-caused g c =
     let began : BeganOne before one = record { files = c.read_file.ensures.files; begins = c.read_file.ensures.begins; faults = c.read_file.ensures.faults } in
     let asked = c.args.asked in
     let Then : Status → List ℕ → Sight → Option (List ℕ) → Type 0 =
-    λ status text there multiplier_bytes. FollowsFromText (λ rounded. DueForCheck asked.places c.args.plan.now multiplier_bytes asked.gap) one status text there c.args.text.items in
-    subst (λ name. IfOk c.answer_text-in-Ok.result (λ answer. CausedByOptionalFile (Then answer.status answer.text.items) 3 name before one answer.status answer.text.items))
+    λ status line there multiplier_bytes. FollowsFromText (λ rounded. DueForCheck asked.places c.args.plan.now multiplier_bytes asked.gap) one status line there text in
+    subst (λ name. IfOk c.answer_read-in-Ok.result (λ answer. CausedByOptionalFile (Then answer.status answer.text.items) 3 name before one answer.status answer.text.items))
     (sym (ap (option_map (λ name. name.now)) c.in-Some.is))
-    (IfOk-weaker c.answer_text-in-Ok.result _ _
+    (IfOk-weaker c.answer_read-in-Ok.result _ _
     (λ answer due. inl (
       one,
       c.in-Ok.bytes.items,
       began,
       c.in-Ok.ensures.whole,
-      (refl, subst (λ bytes. DueForText (λ rounded. DueForCheck asked.places c.args.plan.now (Some bytes) asked.gap) c.args.text.items answer.status answer.text.items) c.as_slice.ensures.value due),
+      (refl, subst (λ bytes. DueForText (λ rounded. DueForCheck asked.places c.args.plan.now (Some bytes) asked.gap) text answer.status answer.text.items) c.as_slice.ensures.value due),
     ))
-    c.answer_text-in-Ok.ensures)
+    (c.answer_read-in-Ok.ensures text stands short))

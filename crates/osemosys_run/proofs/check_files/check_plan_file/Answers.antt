@@ -8,7 +8,7 @@ use Rattle.osemosys_run.proofs.EndsOfFiles.{stops_at_file}
 use Rattle.osemosys_run.proofs.check_files.check_plan_file.Goals as goal
 
 pub returns-in-Ok-clause-caused : goal.returns-in-Ok-clause-caused
-returns-in-Ok-clause-caused g c =
+returns-in-Ok-clause-caused g c = λ text stands short.
     let shelf = g.S.Shelf in
     let old = c.args.shelf.now in
     let there = c.read_file.new.shelf in
@@ -19,14 +19,14 @@ returns-in-Ok-clause-caused g c =
     let after : Sight = record { files = shelf.files last; rest = shelf.rest last; faults = shelf.faults last; begins = shelf.begins last; taken = shelf.taken last } in
     let asked = c.args.asked in
     let Then : List ℕ → Status → List ℕ → Type 0 =
-    λ plan status text. CausedByOptionalFile (λ there multiplier_bytes. FollowsFromText (λ rounded. DueForCheck asked.places plan multiplier_bytes asked.gap) after status text there c.args.text.items)
-    3 (option_map (λ name. name.now) asked.multipliers) one after status text in
+    λ plan status line. CausedByOptionalFile (λ there multiplier_bytes. FollowsFromText (λ rounded. DueForCheck asked.places plan multiplier_bytes asked.gap) after status line there text)
+    3 (option_map (λ name. name.now) asked.multipliers) one after status line in
     IfOk-weaker c.check_multiplier_file.result _ _
     (λ answer caused. inl (one, c.in-Ok.plan.items, began, c.in-Ok.ensures.whole, subst (λ plan. Then plan answer.status answer.text.items) c.deref.ensures.value caused))
-    c.check_multiplier_file.ensures.caused
+    (c.check_multiplier_file.ensures.caused text stands short)
 
 pub returns-in-Err-clause-caused : goal.returns-in-Err-clause-caused
-returns-in-Err-clause-caused g c =
+returns-in-Err-clause-caused g c = λ text stands short.
     let shelf = g.S.Shelf in
     let old = c.args.shelf.now in
     let there = c.read_file.new.shelf in

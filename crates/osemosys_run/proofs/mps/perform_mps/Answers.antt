@@ -12,22 +12,26 @@ pub returns-in-Ok-clause-caused : goal.returns-in-Ok-clause-caused
 returns-in-Ok-clause-caused g c =
     let shelf = g.S.Shelf in
     let old = c.args.shelf.now in
-    let new = c.read_file.new.shelf in
+    let new = c.feed_file.new.shelf in
     let before : Sight = record { files = shelf.files old; rest = shelf.rest old; faults = shelf.faults old; begins = shelf.begins old; taken = shelf.taken old } in
     let after : Sight = record { files = shelf.files new; rest = shelf.rest new; faults = shelf.faults new; begins = shelf.begins new; taken = shelf.taken new } in
-    let began : BeganOne before after = record { files = c.read_file.ensures.files; begins = c.read_file.ensures.begins; faults = c.read_file.ensures.faults } in
+    let began : BeganOne before after = record { files = c.feed_file.ensures.files; begins = c.feed_file.ensures.begins; faults = c.feed_file.ensures.faults } in
+    let fed = c.in-Ok.ensures.whole in
     IfOk-weaker c.accept_model.result _ _
-    (λ reply due status text said. inl (after, c.in-Ok.bytes.items, began, c.in-Ok.ensures.whole, (refl, due status text said)))
-    c.accept_model.ensures.due
+    (λ reply due status text said. inl (after, fed.bytes, began, fed.whole, (refl, due status text said)))
+    (c.accept_model.ensures.due fed.bytes fed.stands fed.whole.short)
+
+pub accept_model-requires-clause-stands : goal.accept_model-requires-clause-stands
+accept_model-requires-clause-stands g c = (c.in-Ok.ensures.whole.bytes, c.in-Ok.ensures.whole.stands)
 
 pub returns-in_ok-answer-in-Err-clause-caused : goal.returns-in_ok-answer-in-Err-clause-caused
 returns-in_ok-answer-in-Err-clause-caused g c = λ status text said.
     let shelf = g.S.Shelf in
     let old = c.args.shelf.now in
-    let new = c.read_file.new.shelf in
+    let new = c.feed_file.new.shelf in
     let before : Sight = record { files = shelf.files old; rest = shelf.rest old; faults = shelf.faults old; begins = shelf.begins old; taken = shelf.taken old } in
     let after : Sight = record { files = shelf.files new; rest = shelf.rest new; faults = shelf.faults new; begins = shelf.begins new; taken = shelf.taken new } in
-    let began : BeganOne before after = record { files = c.read_file.ensures.files; begins = c.read_file.ensures.begins; faults = c.read_file.ensures.faults } in
+    let began : BeganOne before after = record { files = c.feed_file.ensures.files; begins = c.feed_file.ensures.begins; faults = c.feed_file.ensures.faults } in
     let answer = c.in_ok-answer-in-Err.answer in
     told_so (λ (s : Status) (t : List ℕ). CausedByFile (FollowsFromText (λ rounded. DueForEquations c.args.places) after s t) 1 c.args.file.now before after s t)
     answer.status answer.text.items

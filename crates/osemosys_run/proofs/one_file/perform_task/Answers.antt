@@ -8,22 +8,26 @@ pub returns-in-Ok-clause-caused : goal.returns-in-Ok-clause-caused
 returns-in-Ok-clause-caused g c =
     let shelf = g.S.Shelf in
     let old = c.args.shelf.now in
-    let new = c.read_file.new.shelf in
+    let new = c.feed_file.new.shelf in
     let before : Sight = record { files = shelf.files old; rest = shelf.rest old; faults = shelf.faults old; begins = shelf.begins old; taken = shelf.taken old } in
     let after : Sight = record { files = shelf.files new; rest = shelf.rest new; faults = shelf.faults new; begins = shelf.begins new; taken = shelf.taken new } in
-    let began : BeganOne before after = record { files = c.read_file.ensures.files; begins = c.read_file.ensures.begins; faults = c.read_file.ensures.faults } in
-    IfOk-weaker c.answer_text.result _ _
-    (λ answer due. inl (after, c.in-Ok.bytes.items, began, c.in-Ok.ensures.whole, (refl, due)))
-    c.answer_text.ensures
+    let began : BeganOne before after = record { files = c.feed_file.ensures.files; begins = c.feed_file.ensures.begins; faults = c.feed_file.ensures.faults } in
+    let fed = c.in-Ok.ensures.whole in
+    IfOk-weaker c.answer_read.result _ _
+    (λ answer due. inl (after, fed.bytes, began, fed.whole, (refl, due)))
+    (c.answer_read.ensures fed.bytes fed.stands fed.whole.short)
+
+pub answer_read-requires-clause-stands : goal.answer_read-requires-clause-stands
+answer_read-requires-clause-stands g c = (c.in-Ok.ensures.whole.bytes, c.in-Ok.ensures.whole.stands)
 
 pub returns-in-Err-clause-caused : goal.returns-in-Err-clause-caused
 returns-in-Err-clause-caused g c =
     let shelf = g.S.Shelf in
     let old = c.args.shelf.now in
-    let new = c.read_file.new.shelf in
+    let new = c.feed_file.new.shelf in
     let before : Sight = record { files = shelf.files old; rest = shelf.rest old; faults = shelf.faults old; begins = shelf.begins old; taken = shelf.taken old } in
     let after : Sight = record { files = shelf.files new; rest = shelf.rest new; faults = shelf.faults new; begins = shelf.begins new; taken = shelf.taken new } in
-    let began : BeganOne before after = record { files = c.read_file.ensures.files; begins = c.read_file.ensures.begins; faults = c.read_file.ensures.faults } in
+    let began : BeganOne before after = record { files = c.feed_file.ensures.files; begins = c.feed_file.ensures.begins; faults = c.feed_file.ensures.faults } in
     IfOk-weaker c.refuse_file.result _ _
     (λ answer told. inr (began, stops_at_file 1 c.args.file.now before after c.in-Err.end answer.status answer.text.items told (search rules) (search rules) (search rules) (search rules)))
     c.refuse_file.ensures

@@ -14,7 +14,7 @@ use Rattle.solve_command.specs.Solve.{DueForSolve}
 use Rattle.command_words.specs.Commands.{request_of_result}
 use Rattle.osemosys_run.specs.Reading.{Sight}
 use Rattle.command_words.specs.Words.{Request, asked}
-use Rattle.command_words.proofs.Requests.{asked_places, check_places, curve_places, explain_places, make_size, no_span, solve_places}
+use Rattle.command_words.proofs.Requests.{asked_places, check_places, curve_places, explain_places, make_size, solve_places, span_places}
 use Rattle.osemosys_run.proofs.run.perform.Goals as goal
 
 pub perform_mps-requires : goal.perform_mps-requires
@@ -42,10 +42,10 @@ perform_task-requires-in-Ok-Curve-clause-limits g c =
     let request = ap request_of_result (sym (c.in-Ok-Curve.is ∙ ap Ok c.in-Ok-Curve.field-0-is)) ∙ c.in_ok-file.ensures in
     subst (AllByRecursion IsLimit) (sym c.deref.ensures.value) (curve_places (map string_bytes c.args.words.now) c.in-Ok-Curve.file.now c.in-Ok-Curve.region.now c.in-Ok-Curve.emission.now c.in-Ok-Curve.limits.items c.in-Ok-Curve.gap c.in-Ok-Curve.pivots c.in-Ok-Curve.places c.in-Ok-Curve.method (sym request)).1.within
 
-pub unreachable-requires : goal.unreachable-requires
-unreachable-requires g c =
+pub perform_task-requires-in-Ok-Span-clause-places : goal.perform_task-requires-in-Ok-Span-clause-places
+perform_task-requires-in-Ok-Span-clause-places g c =
     let request = ap request_of_result (sym (c.in-Ok-Span.is ∙ ap Ok c.in-Ok-Span.field-0-is)) ∙ c.in_ok-file.ensures in
-    no_span (map string_bytes c.args.words.now) c.in-Ok-Span.field-0-0.now c.in-Ok-Span.field-0-1.now c.in-Ok-Span.field-0-2.now c.in-Ok-Span.field-0-3.now c.in-Ok-Span.field-0-4 c.in-Ok-Span.field-0-5 c.in-Ok-Span.field-0-6 c.in-Ok-Span.field-0-7 c.in-Ok-Span.field-0-8 (sym request)
+    span_places (map string_bytes c.args.words.now) c.in-Ok-Span.file.now c.in-Ok-Span.region.now c.in-Ok-Span.technology.now c.in-Ok-Span.year.now c.in-Ok-Span.slack c.in-Ok-Span.gap c.in-Ok-Span.pivots c.in-Ok-Span.places c.in-Ok-Span.method (sym request)
 
 pub perform_make-requires-clause-least : goal.perform_make-requires-clause-least
 perform_make-requires-clause-least g c =
@@ -125,6 +125,20 @@ returns-in_ok-answer-in-Ok-Curve-clause-caused g c = λ status text said.
     (subst (λ (r : Result Request WordFault). CausedByRequest r before after answer.status answer.text.items) request
     (subst (λ (limits : List ℤ). CausedByFile (FollowsFromText (λ rounded. DueForCurve curve.places (record { method = curve.method; pivots = curve.pivots; gap = curve.gap }) curve.region.now curve.emission.now limits) after answer.status answer.text.items) 1 curve.file.now before after answer.status answer.text.items)
     c.deref.ensures.value c.in_ok-answer-in-Ok-Curve.ensures.caused))
+    status text said
+
+pub returns-in_ok-answer-in-Ok-Span-clause-caused : goal.returns-in_ok-answer-in-Ok-Span-clause-caused
+returns-in_ok-answer-in-Ok-Span-clause-caused g c = λ status text said.
+    let shelf = g.S.Shelf in
+    let old = c.args.shelf.now in
+    let new = c.perform_task-in-Ok-Span.new.shelf in
+    let before : Sight = record { files = shelf.files old; rest = shelf.rest old; faults = shelf.faults old; begins = shelf.begins old; taken = shelf.taken old } in
+    let after : Sight = record { files = shelf.files new; rest = shelf.rest new; faults = shelf.faults new; begins = shelf.begins new; taken = shelf.taken new } in
+    let request = ap request_of_result (sym (c.in-Ok-Span.is ∙ ap Ok c.in-Ok-Span.field-0-is)) ∙ c.in_ok-file.ensures in
+    let answer = c.in_ok-answer-in-Ok-Span.answer in
+    told_so (λ (s : Status) (t : List ℕ). CausedByRequest (asked (map string_bytes c.args.words.now)) before after s t) answer.status answer.text.items
+    (subst (λ (r : Result Request WordFault). CausedByRequest r before after answer.status answer.text.items) request
+    c.in_ok-answer-in-Ok-Span.ensures.caused)
     status text said
 
 pub returns-in_ok-answer-in-Ok-Check-clause-caused : goal.returns-in_ok-answer-in-Ok-Check-clause-caused

@@ -32,6 +32,7 @@ loop-column-preserved c =
         range = subst InRange (sym (w.best-is ∙ back)) next.fits;
         least = let p : pos 0 ≤ℤ best = c.loop-column.invariant.least in subst (λ y. pos 0 ≤ℤ y) (sym w.best-is) (omega (arith, ints, w.if-entry-best.true));
         column = subst (λ (o : Option ℕ). IfSome o (λ d. d < c.args.tableau.now.tableau.columns)) (sym w.chosen-is) c.in-Some.ensures.column;
+        seen = omega (arith, c.loop-column.invariant.seen, next.from);
         within = omega arith;
       }
       | else-entry-best w ↦ record {
@@ -43,6 +44,7 @@ loop-column-preserved c =
         range = subst InRange (sym w.best-is) c.loop-column.invariant.range;
         least = subst (λ y. pos 0 ≤ℤ y) (sym w.best-is) c.loop-column.invariant.least;
         column = subst (λ (o : Option ℕ). IfSome o (λ d. d < c.args.tableau.now.tableau.columns)) (sym w.chosen-is) c.loop-column.invariant.column;
+        seen = omega (arith, c.loop-column.invariant.seen, next.from);
         within = omega arith;
       }
     ]

@@ -12,6 +12,7 @@ invariant-loop-column l = record {
   range : InRange l.best;
   least : pos 0 ≤ℤ l.best;
   column : IfSome l.chosen (λ c. c < l.tableau.tableau.columns);
+  seen : l.seen ≤ l.from;
   within : l.from ≤ length (line_of l.tableau.tableau l.row).entries;
 }
 

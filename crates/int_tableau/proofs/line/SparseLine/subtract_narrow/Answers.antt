@@ -40,7 +40,7 @@ invariant_of-self-2 c =
       right_fits = subst InRange (sym (back_in_range c.in-Some.right c.in-Some.ensures.right)) c.in-Some.ensures.right;
       own_fits = subst InRange (sym (back_in_range c.in-Some.own c.in-Some.ensures.own)) c.in-Some.ensures.own;
       sized = c.size_of_line-self-inside.ensures;
-      marked = c.marks-self-inside.ensures;
+      marked = c.mark.ensures;
       last_is = c.last_of-self-inside.ensures;
     }
 

@@ -108,7 +108,7 @@ invariant_of-self c =
       right_fits = subst InRange (sym (back_in_range c.divide-right.result.0 c.divide-right.ensures.right)) c.divide-right.ensures.right;
       own_fits = subst InRange (sym (back_in_range c.divide-right.result.1 c.divide-right.ensures.own)) c.divide-right.ensures.own;
       sized = c.size_of_line-self-inside.ensures;
-      marked = c.marks-self-inside.ensures;
+      marked = c.mark.ensures;
       last_is = c.last_of-self-inside.ensures;
     }
 

@@ -1,0 +1,27 @@
+use Rattle.std.proofs.Common.{inl, inr, refl}
+use Rattle.std.proofs.lemmas.Result.{IfOk-weaker, MatchResult-at_err, MatchResult-at_ok, MatchResult-weaker}
+use Rattle.mathprog_data.specs.BlocksView.{blocks_told}
+use Rattle.mathprog_data.specs.Verdicts.{Says}
+use Rattle.param_tables.specs.BlockData.{data_told}
+use Rattle.command_answers.proofs.accepting.accept_read.Goals as goal
+
+pub accept_blocks-requires : goal.accept_blocks-requires
+accept_blocks-requires c = MatchResult-at_ok _ _ c.in-Ok.blocks c.in-Ok.is (c.in_ok-blocks.ensures.well_formed c.requires.0 c.requires.1)
+
+pub returns-in-Ok : goal.returns-in-Ok
+returns-in-Ok c = λ text stands short.
+    let blocks = blocks_told c.in-Ok.blocks in
+    let says : Says text blocks = MatchResult-at_ok _ _ c.in-Ok.blocks c.in-Ok.is (c.in_ok-blocks.ensures.told text stands) in
+    IfOk-weaker c.accept_blocks.result _ _
+    (λ verdict due. MatchResult-weaker verdict due
+    (λ model same. (
+      data_told blocks,
+      record { blocks = blocks; short = short; says = says; sets_accepted = same.0; data_accepted = same.1; told = refl },
+      same.2,
+      same.3,
+    ))
+    (λ answer refused. inr (blocks, says, refused)))
+    c.accept_blocks.ensures
+
+pub returns-in-Err : goal.returns-in-Err
+returns-in-Err c = λ text stands short. inl (MatchResult-at_err _ _ c.in-Err.answer c.in-Err.is (c.in_ok-blocks.ensures.told text stands))

@@ -1,0 +1,10 @@
+-- The columns of the entries so far are marked.
+use Rattle.std.proofs.Common.{◌≡◌, length, take}
+use Rattle.int_tableau.specs.Marks.{AreMarked}
+use Rattle.int_tableau.proofs.marks.mark.Given as goal
+
+abbrev pub invariant-loop-entry : goal.invariant-loop-entry
+invariant-loop-entry g l = record {
+  marked : AreMarked l.marks (take l.entry-index l.entries);
+  many : length l.marks ≡ 256;
+}

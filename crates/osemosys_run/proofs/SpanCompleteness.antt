@@ -1,0 +1,111 @@
+-- Where nothing stops the work, a span is found, or it is told that there is no plan or no least cost.
+use Rattle.std.proofs.Common.{◌≡◌, ◌⊎◌, ℕ, true, inl, inr, List, Option, Result, Some, None, sym, ap, ◌∙◌, subst, arith}
+use Rattle.exact_num.specs.Range.{all_fit}
+use Rattle.exact_num.specs.Rational.{Rational}
+use Rattle.model_sets.specs.Data.{Data}
+use Rattle.model_sets.specs.Members.{index_of, members}
+use Rattle.model_sets.specs.declared.set_numbers.TheConstants.{REGION, TECHNOLOGY, YEAR}
+use Rattle.row_core.specs.declared.Row.{Row}
+use Rattle.row_core.specs.declared.Var.{Var}
+use Rattle.named_equations.specs.Existence.{all_variables}
+use Rattle.named_equations.specs.Instances.{instances}
+use Rattle.row_book.specs.Books.{AreRowsOf, CanBeMade}
+use Rattle.exact_solver.specs.MethodEnds.{multiplier_bound}
+use Rattle.command_words.specs.declared.command.SolveMethod.{SolveMethod}
+use Rattle.command_words.specs.declared.command.SolveMethod.TheVariants.{Exact, Rounded}
+use Rattle.command_words.specs.declared.fault.WordFault.{WordFault}
+use Rattle.command_words.specs.Words.{Request}
+use Rattle.command_answers.specs.declared.status.Status.{Status}
+use Rattle.command_answers.specs.DueForText.{DueForText}
+use Rattle.command_answers.specs.MadeRows.{IsTooLarge, IsUncertified}
+use Rattle.solve_command.specs.Limits.{IsWithinLimits, PassesLimits}
+use Rattle.span_finder.specs.Slacks.{slack_formed, slack_limit}
+use Rattle.span_finder.specs.SpanEnds.{Stops}
+use Rattle.span_finder.specs.declared.found.SpanFail.TheVariants.{Stopped}
+use Rattle.span_command.specs.Span.{DueBy, DueForEnd, DueForMember, DueForRows, DueForSpan, HasLeastCost, Wanted, built}
+use Rattle.osemosys_run.specs.Complete.{CanBeSpanned, IsEnded, NothingStopsSpan}
+use Rattle.osemosys_run.specs.Due.{Due, DueForFile, DueForRequest}
+use Rattle.osemosys_run.proofs.Completeness.{Laws, equations_done, over_accepted, over_short}
+
+same_member : (found : Option ℕ) (a b : ℕ) → found ≡ Some a → found ≡ Some b → a ≡ b
+same_member found a b h k = cc (h, k)
+
+no_member : (found : Option ℕ) (a : ℕ) → found ≡ None → found ≡ Some a → ⊥
+no_member found a h k = cc (h, k)
+
+module _ (laws : Laws) (places : ℕ) (d : Data) (var : Var) (wanted : Wanted) (can_make : CanBeMade places d 0 (instances d))
+    (within : (rows : List Row) → AreRowsOf places d (instances d) rows → IsWithinLimits rows (all_variables d))
+    (nothing : (rows : List Row) → AreRowsOf places d (instances d) rows → NothingStopsSpan rows (all_variables d) var wanted.slack wanted.pivots) where
+  -- a least cost is what its multipliers prove
+  cost-bound : (rows : List Row) (cost : Rational) (least : HasLeastCost places d rows wanted.pivots cost) → multiplier_bound rows least.multipliers ≡ cost
+  cost-bound rows cost least = sym (least.optimum.same ∙ least.optimum.near.proved.bound_is)
+
+  limit-fits : (rows : List Row) → NothingStopsSpan rows (all_variables d) var wanted.slack wanted.pivots → (cost : Rational) → HasLeastCost places d rows wanted.pivots cost → all_fit (slack_formed cost wanted.slack) ≡ true
+  limit-fits rows never cost least = subst (λ (c : Rational). all_fit (slack_formed c wanted.slack) ≡ true) (cost-bound rows cost least) (never.limit_fits least.plan least.multipliers least.made least.end)
+
+  end_comes : (rows : List Row) (rounded : ℕ) (status : Status) (text : List ℕ) → NothingStopsSpan rows (all_variables d) var wanted.slack wanted.pivots
+      → DueForEnd places d rows var wanted.slack wanted.pivots rounded status text → IsEnded status
+  end_comes rows rounded status text never (inl spanned) = inl spanned.status_is
+  end_comes rows rounded status text never (inr (inl endless)) = inl endless.status_is
+  end_comes rows rounded status text never (inr (inr (inl infeasible))) = inr (inl infeasible.status_is)
+  end_comes rows rounded status text never (inr (inr (inr (inl unbounded)))) = inr (inr unbounded.status_is)
+  end_comes rows rounded status text never (inr (inr (inr (inr (inl before))))) = elim before.end [
+    | inl due ↦ absurd (never.in_time due.0)
+    | inr wide ↦ absurd (never.fits wide.0 wide.1)
+  ]
+  end_comes rows rounded status text never (inr (inr (inr (inr (inr (inl wide)))))) =
+      let fits : all_fit (slack_formed wide.cost wanted.slack) ≡ true = limit-fits rows never wide.cost wide.least in
+      absurd (cc (fits, wide.wide))
+  end_comes rows rounded status text never (inr (inr (inr (inr (inr (inr after)))))) =
+      let least = after.least in
+      absurd (never.never least.plan least.multipliers least.made least.end after.stop
+      (subst (λ (c : Rational). Stops rows (all_variables d) (slack_limit c wanted.slack) var wanted.pivots (Stopped after.stop)) (sym (cost-bound rows after.cost least)) after.stops))
+
+  method_comes : (method : SolveMethod) (rows : List Row) (rounded : ℕ) (status : Status) (text : List ℕ) → NothingStopsSpan rows (all_variables d) var wanted.slack wanted.pivots
+      → DueBy method places d rows var wanted rounded status text → IsEnded status
+  method_comes Exact rows rounded status text never due = end_comes rows rounded status text never due
+  method_comes Rounded rows rounded status text never (inl (inl spanned)) = inl spanned.status_is
+  method_comes Rounded rows rounded status text never (inl (inr infeasible)) = inr (inl infeasible.status_is)
+  method_comes Rounded rows rounded status text never (inr due) = end_comes rows rounded status text never due
+
+  too_large : (rows : List Row) (status : Status) (text : List ℕ) → IsWithinLimits rows (all_variables d) → PassesLimits d rows status text → ⊥
+  too_large rows status text limits large = elim large.passed [ inl many ↦ omega (arith, many, limits.0) | inr many ↦ omega (arith, many, limits.1) ]
+
+  rows_come : (rows : List Row) → AreRowsOf places d (instances d) rows → (rounded : ℕ) (status : Status) (text : List ℕ) → DueForRows places d rows var wanted rounded status text → IsEnded status
+  rows_come rows are rounded status text (inl large) = absurd (too_large rows status text (within rows are) large)
+  rows_come rows are rounded status text (inr due) = method_comes wanted.method rows rounded status text (nothing rows are) due.1
+
+  no_row : (status : Status) (text : List ℕ) → IsUncertified places d status text ⊎ IsTooLarge places d status text → IsEnded status
+  no_row status text (inl wide) = inl (equations_done laws places d status text can_make (inr (inl wide)))
+  no_row status text (inr many) = inl (equations_done laws places d status text can_make (inr (inr many)))
+
+  pub member_ends : (rounded : ℕ) (status : Status) (text : List ℕ) → DueForMember places d var wanted rounded status text → IsEnded status
+  member_ends rounded status text (inl made) = rows_come made.rows made.are_rows rounded status text made.due
+  member_ends rounded status text (inr stopped) = no_row status text stopped
+
+-- what the words ask for
+abbrev wanted_for : SolveMethod → ℕ → ℕ → ℕ → Wanted
+wanted_for method slack gap pivots = record { method = method; slack = slack; gap = gap; pivots = pivots }
+
+module _ (laws : Laws) (words : List (List ℕ)) (files : List (List ℕ × List ℕ)) (rounded : ℕ) (status : Status) (text : List ℕ) (can : CanBeSpanned words files) where
+  abbrev wanted : Wanted
+  wanted = wanted_for can.method can.slack can.gap can.pivots
+
+  members_end : DueForSpan can.places wanted rounded can.region can.technology can.year can.d status text → IsEnded status
+  members_end (inl none) = absurd (no_member (index_of (members can.d.sets REGION) can.region) can.r none.missing can.region_is)
+  members_end (inr (inl alone)) = absurd (no_member (index_of (members can.d.sets TECHNOLOGY) can.technology) can.t alone.technology_isnt.missing can.technology_is)
+  members_end (inr (inr (inl no_year))) = absurd (no_member (index_of (members can.d.sets YEAR) can.year) can.y no_year.year_isnt.missing can.year_is)
+  members_end (inr (inr (inr all))) =
+      member_ends laws can.places can.d (built can.r can.t can.y) wanted can.made can.within can.ends rounded status text
+      (subst (λ r. DueForMember can.places can.d (built r can.t can.y) wanted rounded status text) (same_member (index_of (members can.d.sets REGION) can.region) all.r can.r all.region_is.found can.region_is)
+      (subst (λ t. DueForMember can.places can.d (built all.r t can.y) wanted rounded status text) (same_member (index_of (members can.d.sets TECHNOLOGY) can.technology) all.t can.t all.technology_is.found can.technology_is)
+      (subst (λ y. DueForMember can.places can.d (built all.r all.t y) wanted rounded status text) (same_member (index_of (members can.d.sets YEAR) can.year) all.y can.y all.year_is.found can.year_is)
+      all.due)))
+
+pub spanned_from_due : Laws → (words : List (List ℕ)) (files : List (List ℕ × List ℕ)) (status : Status) (text : List ℕ) → Due words files status text → CanBeSpanned words files → IsEnded status
+spanned_from_due laws words files status text due can =
+    let Over : ℕ → Data → Status → List ℕ → Type 0 = λ rounded. DueForSpan can.places (wanted_for can.method can.slack can.gap can.pivots) rounded can.region can.technology can.year in
+    let for_file = subst (λ (request : Result Request WordFault). DueForRequest request files status text) can.asks due in
+    let for_bytes = subst (λ (file : Option (List ℕ)). DueForFile (DueForText Over) 1 file status text) can.there for_file in
+    let for_text = over_short (DueForText Over) 1 can.bytes status text can.accepted.short for_bytes in
+    members_end laws words files can.accepted.blocks.rounded status text can (over_accepted laws Over can.bytes can.d status text can.accepted for_text)

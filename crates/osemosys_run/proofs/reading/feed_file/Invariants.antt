@@ -1,0 +1,26 @@
+use Rattle.std.proofs.Common.{◌≡◌, ℕ, ◌-◌, ◌≤◌, ◌++◌, List, vec_len, Some, IsSome}
+use Rattle.io_edges.specs.Count.{counted}
+use Rattle.io_edges.specs.Files.{file_named}
+use Rattle.io_edges.specs.Told.{WhereTold}
+use Rattle.mathprog_data.specs.Pieces.{StandsFor}
+use Rattle.command_answers.specs.Accepted.{most_bytes}
+use Rattle.osemosys_run.proofs.reading.feed_file.Given as goal
+
+-- what the reader was fed so far and what is left of the file are the file
+abbrev pub invariant-rooms : goal.invariant-rooms
+invariant-rooms g l =
+    let shelf = g.S.Shelf in
+    record {
+      room : vec_len l.room ≡ 65536;
+      short : l.reader.fed ≤ most_bytes;
+      all_taken : shelf.taken l.shelf ≡ l.reader.fed;
+      read : (bytes : List ℕ) × StandsFor l.reader bytes
+          × WhereTold (shelf.files l.fn.shelf) (λ all. (left : List ℕ) × (shelf.rest l.shelf ≡ Some left) × (file_named all l.name ≡ Some (bytes ++ left)));
+      told : IsSome (shelf.rest l.fn.shelf) → IsSome (shelf.rest l.shelf);
+      files : shelf.files l.shelf ≡ shelf.files l.fn.shelf;
+      begins : shelf.begins l.shelf ≡ counted (shelf.begins l.fn.shelf);
+      faults : shelf.faults l.fn.shelf ≤ shelf.faults l.shelf;
+    }
+
+abbrev pub decreases-rooms : goal.decreases-rooms
+decreases-rooms g l = most_bytes - l.reader.fed

@@ -1,0 +1,52 @@
+-- What the rounded method finds of a book of rows, and ends near its bound, are due over the named equations.
+use Rattle.std.proofs.Common.{◌≡◌, ℕ, List, inl, inr, ap, ◌∙◌}
+use Rattle.exact_num.specs.Value.{value_of}
+use Rattle.exact_num.proofs.ValueLaws.{value_of-IsLowest}
+use Rattle.model_sets.specs.Data.{Data}
+use Rattle.model_sets.specs.Members.{SetLists}
+use Rattle.row_core.specs.declared.Row.{Row}
+use Rattle.row_core.specs.declared.Var.{Var}
+use Rattle.exact_solver.specs.MethodEnds.{plan_cost}
+use Rattle.exact_solver.specs.declared.solutions.Solution.{Solution}
+use Rattle.exact_solver.specs.declared.solutions.Solution.TheVariants as found
+use Rattle.command_answers.specs.CheckedPlans.{IsBookOf}
+use Rattle.command_answers.specs.declared.status.Status.{Status}
+use Rattle.solve_command.specs.Rounding.{IsFoundBy}
+use Rattle.solve_command.proofs.SolvedEnds.{are, near, refuted}
+use Rattle.span_finder.specs.Slacks.{slack_limit}
+use Rattle.span_command.specs.Outcomes.{TellsFound}
+use Rattle.span_command.specs.Span.{DueForFound}
+use Rattle.span_command.specs.SpanTexts.{rounded_text}
+use Rattle.span_command.proofs.NearRows.{near-high-end, near-low-end}
+
+module _ (places : ℕ) (d : Data) (rows : List Row) (vars : List Var) (book : IsBookOf places d rows vars) (sets : SetLists) (same : sets ≡ d.sets) (var : Var) (slack gap rounded : ℕ) (status : Status) (text : List ℕ) where
+  pub due-from_found : (solution : Solution) → IsFoundBy rows vars gap solution → TellsFound sets rows vars var slack gap rounded places solution status text → DueForFound places d rows var slack gap rounded status text
+  due-from_found (found.Optimal plan multipliers cost bound made) of told =
+      let span = told.span in
+      let worth = told.worth in
+      let limit = slack_limit (value_of bound) slack in
+      inl (record {
+        plan = plan;
+        multipliers = multipliers;
+        cost = value_of cost;
+        bound = value_of bound;
+        low = value_of span.low;
+        high = value_of span.high;
+        low_plan = span.low_plan;
+        high_plan = span.high_plan;
+        optimum = near places d rows vars book plan multipliers (value_of cost) (value_of bound) gap of.proved.0 of.proved.1 of.proved.2 of.complete of.named;
+        cost_is = of.proved.0.cost_is ∙ ap (λ (vs : List Var). plan_cost vs plan) (are places d rows vars book);
+        low_end = near-low-end places d rows vars book limit var span.low_plan worth.low_plan gap (value_of span.low) (value_of-IsLowest span.low) worth.low worth.low_close;
+        high_end = near-high-end places d rows vars book limit var span.high_plan worth.high_plan gap (value_of span.high) (value_of-IsLowest span.high) worth.high worth.high_close;
+        status_is = told.status_is;
+        text_is = told.text_is ∙ ap (λ (ss : SetLists). rounded_text ss (value_of cost) (value_of bound) limit (value_of span.low) (value_of span.high) span.low_plan span.high_plan) same;
+      })
+  due-from_found (found.Infeasible multipliers made) of told =
+      inr (record {
+        multipliers = multipliers;
+        made = made;
+        refuted = refuted places d rows vars book multipliers of.proved of.named;
+        status_is = told.0;
+        text_is = told.1;
+      })
+  due-from_found (found.Unbounded plan direction made) of told = absurd told

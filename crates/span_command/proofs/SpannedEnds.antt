@@ -1,0 +1,187 @@
+-- What is due for a solution of a book, for a span near its cost, and for each stop, over the named equations.
+use Rattle.std.proofs.Common.{◌≡◌, ◌++◌, ℕ, List, Option, Some, None, inl, inr, refl, sym, ap, ◌∙◌, subst, codes}
+use Rattle.exact_num.specs.Range.{all_fit}
+use Rattle.exact_num.specs.Rational.{Rational}
+use Rattle.exact_num.specs.Value.{value_of}
+use Rattle.exact_num.specs.declared.fraction.Frac.{Frac}
+use Rattle.std.specs.Prelude.{true}
+use Rattle.model_sets.specs.Data.{Data}
+use Rattle.model_sets.specs.Members.{SetLists}
+use Rattle.row_core.specs.declared.Row.{Row}
+use Rattle.row_core.specs.declared.Var.{Var}
+use Rattle.row_core.specs.Order.{var_cmp}
+use Rattle.row_core.specs.Plans.{value_in}
+use Rattle.named_equations.specs.Existence.{all_variables}
+use Rattle.exact_solver.specs.MethodEnds.{HasNoBound, HasNoPlan, HasOptimum, IsPivotDue, IsStopOf, IsWide, MethodEnd, end_seen, method_end, plan_cost}
+use Rattle.exact_solver.specs.Solutions.{IsComplete, IsDescent, IsNamed, IsProved}
+use Rattle.exact_solver.specs.declared.solutions.Solution.{Solution}
+use Rattle.exact_solver.specs.declared.solutions.Solution.TheVariants as found
+use Rattle.exact_solver.specs.declared.solutions.SolveStop.{SolveStop}
+use Rattle.exact_solver.specs.declared.solutions.SolveStop.TheVariants as stops
+use Rattle.row_core.specs.declared.place.Place.TheVariants.{SumGap}
+use Rattle.result_tables.specs.Lines.{amount_line}
+use Rattle.result_tables.specs.Reports.{end_line, unbounded_text}
+use Rattle.simplex_core.specs.declared.stops.Stop.TheVariants.{Budget, Width}
+use Rattle.command_answers.specs.CheckedPlans.{IsBookOf}
+use Rattle.command_answers.specs.Lines.{uncertified_line}
+use Rattle.command_answers.specs.declared.status.Status.{Status}
+use Rattle.command_answers.specs.declared.status.Status.TheVariants.{Done}
+use Rattle.command_answers.proofs.CheckedRows.{are-feasible, vars-are}
+use Rattle.solve_command.specs.SolveOutcomes.{TellsStop}
+use Rattle.solve_command.proofs.SolvedEnds.{near, refuted}
+use Rattle.solve_command.proofs.SolvedRows.{no-least}
+use Rattle.span_finder.specs.SpanEnds as trials
+use Rattle.span_finder.specs.SpanEnds.{EndsSo, SpanEnd, Stops}
+use Rattle.span_finder.specs.Slacks.{slack_formed, slack_limit}
+use Rattle.span_finder.specs.Spans as over_rows
+use Rattle.span_finder.specs.Spans.{IsNearPlan}
+use Rattle.span_finder.specs.declared.found.SpanFail.{SpanFail}
+use Rattle.span_command.specs.NearBest.{IsLowEnd}
+use Rattle.span_command.specs.Outcomes.{IsToldSpan, IsToldStop, TellsNear, TellsSolution, span_lines}
+use Rattle.span_command.specs.Span.{DueForEnd, HasLeastCost}
+use Rattle.span_command.specs.SpanTexts.{bounded_text, chosen_table, head_text, limited_line, rising_text}
+use Rattle.span_command.proofs.NearRows.{high-end, low-end, no-high-end}
+
+module _ (places : ℕ) (d : Data) (rows : List Row) (vars : List Var) (book : IsBookOf places d rows vars) (sets : SetLists) (same : sets ≡ d.sets) (var : Var) (slack pivots rounded : ℕ) (status : Status) (text : List ℕ) where
+  are : vars ≡ all_variables d
+  are = vars-are places d rows vars book
+
+  ends : (end : MethodEnd) → end ≡ method_end rows vars pivots → method_end rows (all_variables d) pivots ≡ end
+  ends end is = sym (is ∙ ap (λ (vs : List Var). method_end rows vs pivots) are)
+
+  -- ---- near a least cost
+
+  module _ (cost : Rational) (least : HasLeastCost places d rows pivots cost) (fits : all_fit (slack_formed cost slack) ≡ true) where
+    abbrev limit : Rational
+    limit = slack_limit cost slack
+
+    spans : (end : SpanEnd) → EndsSo rows vars limit var pivots end → EndsSo rows (all_variables d) limit var pivots end
+    spans end so = subst (λ (vs : List Var). EndsSo rows vs limit var pivots end) are so
+
+    due-from_high : (low plan : List (Var × Rational)) (high : Option Frac) (direction : Option (List (Var × Rational)))
+        → EndsSo rows vars limit var pivots (trials.end_seen low plan direction) → IsLowEnd places d limit var low → IsNearPlan rows vars limit plan
+        → over_rows.IsHighEnd rows vars limit var plan high direction → status ≡ Done → text ≡ span_lines sets cost limit (value_in var_cmp low var) low plan high direction
+        → DueForEnd places d rows var slack pivots rounded status text
+    due-from_high low plan (Some high) None so low_end near_plan is status_is text_is =
+        inl (record {
+          cost = cost;
+          low = low;
+          high = plan;
+          least = least;
+          fits = fits;
+          ends = spans (trials.IsBounded low plan) so;
+          low_end = low_end;
+          high_end = high-end places d rows vars book limit var plan near_plan (value_of high) is.0 is.1;
+          status_is = status_is;
+          text_is = text_is
+              ∙ ap (λ (v : Rational). head_text cost limit (value_in var_cmp low var) ++ amount_line (codes "high") v ++ chosen_table sets (codes "Low") low ++ chosen_table sets (codes "High") plan ++ end_line) is.0
+              ∙ ap (λ (ss : SetLists). bounded_text ss cost limit var low plan) same;
+        })
+    due-from_high low plan (Some high) (Some direction) so low_end near_plan is status_is text_is = absurd is
+    due-from_high low plan None (Some direction) so low_end near_plan is status_is text_is =
+        inr (inl (record {
+          cost = cost;
+          low = low;
+          high = plan;
+          direction = direction;
+          least = least;
+          fits = fits;
+          ends = spans (trials.IsRising low plan direction) so;
+          low_end = low_end;
+          no_high_end = no-high-end places d rows vars book limit var plan near_plan is.1;
+          status_is = status_is;
+          text_is = text_is ∙ ap (λ (ss : SetLists). rising_text ss cost limit var low plan direction) same;
+        }))
+    due-from_high low plan None None so low_end near_plan is status_is text_is = absurd is
+
+    due-from_span : IsToldSpan sets rows vars cost limit var pivots status text → DueForEnd places d rows var slack pivots rounded status text
+    due-from_span told =
+        let span = told.span in
+        let proved = told.proved in
+        due-from_high span.low_plan span.high_plan span.high span.direction told.ends (low-end places d rows vars book limit var span.low_plan proved.low_plan (value_of span.low) proved.low_is proved.low) proved.high_plan proved.high
+        told.status_is (told.text_is ∙ ap (λ (v : Rational). span_lines sets cost limit v span.low_plan span.high_plan span.high span.direction) proved.low_is)
+
+    due-from_limit : IsToldStop sets rows vars limit var pivots status text → DueForEnd places d rows var slack pivots rounded status text
+    due-from_limit told =
+        inr (inr (inr (inr (inr (inr (record {
+          cost = cost;
+          stop = told.stop;
+          least = least;
+          fits = fits;
+          stops = subst (λ (vs : List Var). Stops rows vs limit var pivots (SpanFail.Stopped told.stop)) are told.stops;
+          status_is = told.status_is;
+          line_is = told.line_is ∙ ap (λ (ss : SetLists). limited_line ss told.stop) same;
+        }))))))
+
+  due-from_near : (cost : Rational) → HasLeastCost places d rows pivots cost → TellsNear sets rows vars cost var slack pivots status text → DueForEnd places d rows var slack pivots rounded status text
+  due-from_near cost least (inl wide) =
+      inr (inr (inr (inr (inr (inl (record {
+        cost = cost;
+        least = least;
+        wide = wide.0;
+        status_is = wide.1;
+        line_is = wide.2 ∙ ap (λ (ss : SetLists). uncertified_line ss (Width SumGap)) same;
+      }))))))
+  due-from_near cost least (inr (fits, inl told)) = due-from_span cost least fits told
+  due-from_near cost least (inr (fits, inr told)) = due-from_limit cost least fits told
+
+  -- ---- solutions
+
+  pub due-from_solution : (solution : Solution) → end_seen solution ≡ method_end rows vars pivots → IsProved rows vars solution → IsComplete vars solution → IsNamed rows solution
+      → TellsSolution sets rows vars var slack pivots rounded places solution status text → DueForEnd places d rows var slack pivots rounded status text
+  due-from_solution (found.Optimal plan multipliers cost bound made) end proved whole named told =
+      due-from_near (value_of cost)
+      (record {
+        plan = plan;
+        multipliers = multipliers;
+        bound = value_of bound;
+        made = made;
+        end = ends (HasOptimum plan multipliers made) end;
+        optimum = record { near = near places d rows vars book plan multipliers (value_of cost) (value_of bound) 0 proved.0 proved.1 (proved.2.within 0) whole named; same = proved.2.same };
+      })
+      told
+  due-from_solution (found.Infeasible multipliers made) end proved whole named told =
+      inr (inr (inl (record {
+        multipliers = multipliers;
+        made = made;
+        end = ends (HasNoPlan multipliers made) end;
+        refuted = refuted places d rows vars book multipliers proved named;
+        status_is = told.0;
+        text_is = told.1;
+      })))
+  due-from_solution (found.Unbounded plan direction made) end proved whole named told =
+      inr (inr (inr (inl (record {
+        plan = plan;
+        direction = direction;
+        made = made;
+        end = ends (HasNoBound plan direction made) end;
+        unbounded = record {
+          cost = plan_cost vars plan;
+          feasible = are-feasible places d rows vars book plan (plan_cost vars plan) proved.0.some (λ q x over. (proved.0.meets q x over, proved.0.costs q x over));
+          whole = whole.0 ∙ are;
+          endless = no-least places d rows vars book proved.1.endless;
+          descends = subst (λ (vs : List Var). IsDescent rows vs direction) are proved.1;
+          along = whole.1 ∙ are;
+        };
+        status_is = told.0;
+        text_is = told.1 ∙ ap (λ (ss : SetLists). unbounded_text ss direction made rounded places) same;
+      }))))
+
+  -- ---- stops before the least cost
+
+  pub due-from_stop : (stop : SolveStop) → IsStopOf (method_end rows vars pivots) stop → TellsStop sets pivots stop status text → DueForEnd places d rows var slack pivots rounded status text
+  due-from_stop stops.Budget stopped told =
+      inr (inr (inr (inr (inl (record {
+        stop = Budget pivots;
+        end = inl (ends IsPivotDue (sym stopped), refl);
+        status_is = told.0;
+        line_is = told.1 ∙ ap (λ (ss : SetLists). uncertified_line ss (Budget pivots)) same;
+      })))))
+  due-from_stop (stops.Width place) stopped told =
+      inr (inr (inr (inr (inl (record {
+        stop = Width place;
+        end = inr (place, ends (IsWide place) (sym stopped), refl);
+        status_is = told.0;
+        line_is = told.1 ∙ ap (λ (ss : SetLists). uncertified_line ss (Width place)) same;
+      })))))
+  due-from_stop stops.Memory stopped told = absurd told

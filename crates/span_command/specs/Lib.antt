@@ -1,0 +1,5 @@
+pub mod NearBest
+pub mod SpanTexts
+pub mod LimitedPlaces
+pub mod Span
+pub mod Outcomes

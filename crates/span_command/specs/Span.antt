@@ -1,0 +1,202 @@
+-- What `span` says over accepted data: between which values the capacity that is built in a year lies in plans near the best; that there is no plan, or no least cost; or
+-- which step stopped.
+use Rattle.std.specs.Prelude.{◌≡◌, ℕ, List, ◌⊎◌, false, true}
+use Rattle.exact_num.specs.Range.{all_fit}
+use Rattle.exact_num.specs.Rational.{Rational}
+use Rattle.model_sets.specs.Data.{Data}
+use Rattle.model_sets.specs.declared.set_numbers.TheConstants.{REGION, TECHNOLOGY, YEAR}
+use Rattle.row_core.specs.declared.Row.{Row}
+use Rattle.row_core.specs.declared.RowName.{RowName}
+use Rattle.row_core.specs.declared.Var.{Var}
+use Rattle.row_core.specs.declared.place.Place.{Place}
+use Rattle.row_core.specs.declared.place.Place.TheVariants.{SumGap}
+use Rattle.row_core.specs.declared.kind_numbers.TheConstants.{NEW_CAPACITY}
+use Rattle.named_equations.specs.Existence.{all_variables}
+use Rattle.simplex_core.specs.declared.stops.Stop.{Stop}
+use Rattle.simplex_core.specs.declared.stops.Stop.TheVariants.{Budget, Width}
+use Rattle.exact_solver.specs.MethodEnds.{HasOptimum, IsPivotDue, IsWide, method_end, plan_cost}
+use Rattle.command_answers.specs.declared.status.Status.{Status}
+use Rattle.command_answers.specs.declared.status.Status.TheVariants.{Done, Uncertified}
+use Rattle.command_answers.specs.Lines.{uncertified_line}
+use Rattle.command_answers.specs.MadeRows.{IsMadeFor, IsTooLarge, IsUncertified}
+use Rattle.command_answers.specs.NamedMembers.{IsMemberAt, IsNoMember}
+use Rattle.solve_command.specs.Limits.{IsWithinLimits, PassesLimits}
+use Rattle.command_words.specs.declared.command.SolveMethod.{SolveMethod}
+use Rattle.command_words.specs.declared.command.SolveMethod.TheVariants.{Exact, Rounded}
+use Rattle.solve_command.specs.Solve.{IsFoundInfeasible, IsInfeasible, IsUnbounded, third_attempt}
+use Rattle.solve_command.specs.SolvedPlans.{IsNearOptimum, IsOptimum}
+use Rattle.solve_command.specs.declared.solve.Shown.TheVariants.{Report}
+use Rattle.span_finder.specs.SpanEnds.{EndsSo, IsBounded, IsRising, Stops}
+use Rattle.span_finder.specs.declared.found.SpanFail.TheVariants.{Stopped}
+use Rattle.span_finder.specs.Slacks.{slack_formed, slack_limit}
+use Rattle.span_command.specs.NearBest.{HasNoHighEnd, IsHighEnd, IsLowEnd, IsNearHighEnd, IsNearLowEnd}
+use Rattle.span_command.specs.SpanTexts.{bounded_text, limited_line, rising_text, rounded_text}
+
+-- the capacity of a technology that is built in a region in a year
+abbrev pub built : ℕ → ℕ → ℕ → Var
+built region technology year = record { kind = NEW_CAPACITY; index = record { region = region; other = 0; slice = 0; tech = technology; fuel = 0; emission = 0; mode = 0; year = year } }
+
+-- ---- the least cost
+
+-- the exact method stops before it
+pub record HasStoppedBefore (d : Data) (rows : List Row) (pivots : ℕ) (status : Status) (text : List ℕ) : Type 0 where
+  pub stop : Stop
+  pub end : ((method_end rows (all_variables d) pivots ≡ IsPivotDue) × (stop ≡ Budget pivots)) ⊎ ((place : Place) × (method_end rows (all_variables d) pivots ≡ IsWide place) × (stop ≡ Width place))
+  pub status_is : status ≡ Uncertified stop
+  pub line_is : text ≡ uncertified_line d.sets stop
+
+-- it comes to a plan of least cost, in whose words the rest is said
+pub record HasLeastCost (places : ℕ) (d : Data) (rows : List Row) (pivots : ℕ) (cost : Rational) : Type 0 where
+  pub plan : List (Var × Rational)
+  pub multipliers : List (RowName × Rational)
+  pub bound : Rational
+  pub made : ℕ
+  pub end : method_end rows (all_variables d) pivots ≡ HasOptimum plan multipliers made
+  pub optimum : IsOptimum places d rows 0 plan multipliers cost bound
+
+-- ---- after it
+
+-- a number that is formed for the limit doesn't fit
+pub record HasWideLimit (places : ℕ) (d : Data) (rows : List Row) (slack pivots : ℕ) (status : Status) (text : List ℕ) : Type 0 where
+  pub cost : Rational
+  pub least : HasLeastCost places d rows pivots cost
+  pub wide : all_fit (slack_formed cost slack) ≡ false
+  pub status_is : status ≡ Uncertified (Width SumGap)
+  pub line_is : text ≡ uncertified_line d.sets (Width SumGap)
+
+-- each plan near the best has at least as much of the variable as one of them and at most as much as another, and both are printed
+pub record IsSpanned (places : ℕ) (d : Data) (rows : List Row) (var : Var) (slack pivots : ℕ) (status : Status) (text : List ℕ) : Type 0 where
+  pub cost : Rational
+  pub low : List (Var × Rational)
+  pub high : List (Var × Rational)
+  pub least : HasLeastCost places d rows pivots cost
+  pub fits : all_fit (slack_formed cost slack) ≡ true
+  pub ends : EndsSo rows (all_variables d) (slack_limit cost slack) var pivots (IsBounded low high)
+  pub low_end : IsLowEnd places d (slack_limit cost slack) var low
+  pub high_end : IsHighEnd places d (slack_limit cost slack) var high
+  pub status_is : status ≡ Done
+  pub text_is : text ≡ bounded_text d.sets cost (slack_limit cost slack) var low high
+
+-- each has at least as much as one of them, and whatever the whole number, one has more
+pub record IsEndless (places : ℕ) (d : Data) (rows : List Row) (var : Var) (slack pivots : ℕ) (status : Status) (text : List ℕ) : Type 0 where
+  pub cost : Rational
+  pub low : List (Var × Rational)
+  pub high : List (Var × Rational)
+  pub direction : List (Var × Rational)
+  pub least : HasLeastCost places d rows pivots cost
+  pub fits : all_fit (slack_formed cost slack) ≡ true
+  pub ends : EndsSo rows (all_variables d) (slack_limit cost slack) var pivots (IsRising low high direction)
+  pub low_end : IsLowEnd places d (slack_limit cost slack) var low
+  pub no_high_end : HasNoHighEnd places d (slack_limit cost slack) var high
+  pub status_is : status ≡ Done
+  pub text_is : text ≡ rising_text d.sets cost (slack_limit cost slack) var low high direction
+
+-- the row that limits the cost, the elimination, or the first trial that didn't end, stopped
+pub record HasStoppedAfter (places : ℕ) (d : Data) (rows : List Row) (var : Var) (slack pivots : ℕ) (status : Status) (text : List ℕ) : Type 0 where
+  pub cost : Rational
+  pub stop : Stop
+  pub least : HasLeastCost places d rows pivots cost
+  pub fits : all_fit (slack_formed cost slack) ≡ true
+  pub stops : Stops rows (all_variables d) (slack_limit cost slack) var pivots (Stopped stop)
+  pub status_is : status ≡ Uncertified stop
+  pub line_is : text ≡ limited_line d.sets stop
+
+-- ---- what is found in numbers of limited accuracy, and proved
+
+-- A plan costs little more than a bound that no plan undercuts: so many millionths of the bound's absolute value. Each plan whose cost is within the slack of the bound has at least
+-- low of the variable and at most high, and such a plan near either end is printed.
+pub record IsSpannedNearly (places : ℕ) (d : Data) (rows : List Row) (var : Var) (slack gap : ℕ) (status : Status) (text : List ℕ) : Type 0 where
+  pub plan : List (Var × Rational)
+  pub multipliers : List (RowName × Rational)
+  pub cost : Rational
+  pub bound : Rational
+  pub low : Rational
+  pub high : Rational
+  pub low_plan : List (Var × Rational)
+  pub high_plan : List (Var × Rational)
+  pub optimum : IsNearOptimum places d rows gap plan multipliers cost bound
+  pub cost_is : cost ≡ plan_cost (all_variables d) plan
+  pub low_end : IsNearLowEnd places d (slack_limit bound slack) var gap low_plan low
+  pub high_end : IsNearHighEnd places d (slack_limit bound slack) var gap high_plan high
+  pub status_is : status ≡ Done
+  pub text_is : text ≡ rounded_text d.sets cost bound (slack_limit bound slack) low high low_plan high_plan
+
+-- ---- what is due
+
+-- the method, how many millionths of its absolute value above the least cost, or above the bound of the rounded method, a plan near the best may cost, how far in millionths that method
+-- may stay from what it proves, and the most pivots
+pub record Wanted : Type 0 where
+  pub method : SolveMethod
+  pub slack : ℕ
+  pub gap : ℕ
+  pub pivots : ℕ
+
+-- of a linear program within the limits, by the exact method; no report of a least cost is shown, so that no price is formed
+abbrev pub DueForEnd : ℕ → Data → List Row → Var → ℕ → ℕ → ℕ → Status → List ℕ → Type 0
+DueForEnd places d rows var slack pivots rounded status text =
+    IsSpanned places d rows var slack pivots status text
+    ⊎ IsEndless places d rows var slack pivots status text
+    ⊎ IsInfeasible places d rows pivots Report rounded status text
+    ⊎ IsUnbounded places d rows pivots Report rounded status text
+    ⊎ HasStoppedBefore d rows pivots status text
+    ⊎ HasWideLimit places d rows slack pivots status text
+    ⊎ HasStoppedAfter places d rows var slack pivots status text
+
+-- what the rounded method finds
+abbrev pub DueForFound : ℕ → Data → List Row → Var → ℕ → ℕ → ℕ → Status → List ℕ → Type 0
+DueForFound places d rows var slack gap rounded status text =
+    IsSpannedNearly places d rows var slack gap status text ⊎ IsFoundInfeasible places d rows Report rounded third_attempt status text
+
+-- with the rounded method what it finds, and where it finds nothing, as with the exact one, its end
+abbrev pub DueBy : SolveMethod → ℕ → Data → List Row → Var → Wanted → ℕ → Status → List ℕ → Type 0
+DueBy Exact places d rows var wanted rounded status text = DueForEnd places d rows var wanted.slack wanted.pivots rounded status text
+DueBy Rounded places d rows var wanted rounded status text =
+    DueForFound places d rows var wanted.slack wanted.gap rounded status text ⊎ DueForEnd places d rows var wanted.slack wanted.pivots rounded status text
+
+abbrev pub DueForMethod : ℕ → Data → List Row → Var → Wanted → ℕ → Status → List ℕ → Type 0
+DueForMethod places d rows var wanted rounded status text = DueBy wanted.method places d rows var wanted rounded status text
+
+-- over the rows
+abbrev pub DueForRows : ℕ → Data → List Row → Var → Wanted → ℕ → Status → List ℕ → Type 0
+DueForRows places d rows var wanted rounded status text =
+    PassesLimits d rows status text ⊎ (IsWithinLimits rows (all_variables d) × DueForMethod places d rows var wanted rounded status text)
+
+-- over the data, for the capacity of a technology in a region and a year
+abbrev pub DueForMember : ℕ → Data → Var → Wanted → ℕ → Status → List ℕ → Type 0
+DueForMember places d var wanted rounded status text =
+    IsMadeFor places d (λ rows. DueForRows places d rows var wanted rounded status text)
+    ⊎ IsUncertified places d status text ⊎ IsTooLarge places d status text
+
+-- ---- the words
+
+-- all three words are members
+pub record HasMembers (places : ℕ) (d : Data) (region technology year : List ℕ) (wanted : Wanted) (rounded : ℕ) (status : Status) (text : List ℕ) : Type 0 where
+  pub r : ℕ
+  pub t : ℕ
+  pub y : ℕ
+  pub region_is : IsMemberAt d.sets REGION region r
+  pub technology_is : IsMemberAt d.sets TECHNOLOGY technology t
+  pub year_is : IsMemberAt d.sets YEAR year y
+  pub due : DueForMember places d (built r t y) wanted rounded status text
+
+-- the first is a member and the second isn't
+pub record HasRegionAlone (d : Data) (region technology : List ℕ) (status : Status) (text : List ℕ) : Type 0 where
+  pub r : ℕ
+  pub region_is : IsMemberAt d.sets REGION region r
+  pub technology_isnt : IsNoMember d.sets TECHNOLOGY technology status text
+
+-- the first two are members and the third isn't
+pub record HasNoYear (d : Data) (region technology year : List ℕ) (status : Status) (text : List ℕ) : Type 0 where
+  pub r : ℕ
+  pub t : ℕ
+  pub region_is : IsMemberAt d.sets REGION region r
+  pub technology_is : IsMemberAt d.sets TECHNOLOGY technology t
+  pub year_isnt : IsNoMember d.sets YEAR year status text
+
+-- What is due over these data, for the words of a region, a technology and a year, and so many numbers of the data that are rounded.
+abbrev pub DueForSpan : ℕ → Wanted → ℕ → List ℕ → List ℕ → List ℕ → Data → Status → List ℕ → Type 0
+DueForSpan places wanted rounded region technology year d status text =
+    IsNoMember d.sets REGION region status text
+    ⊎ HasRegionAlone d region technology status text
+    ⊎ HasNoYear d region technology year status text
+    ⊎ HasMembers places d region technology year wanted rounded status text

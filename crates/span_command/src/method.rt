@@ -1,0 +1,200 @@
+// What is due over a book of rows: the least cost, a limit near it, and the span within the limit.
+ghost use Rattle.std.specs.Prelude.{◌≡◌, ℕ, Contains, IfOk};
+ghost use Rattle.exact_num.specs.Value.{value_of};
+ghost use Rattle.model_sets.specs.Data.{Data};
+ghost use Rattle.row_core.specs.declared.kind_numbers.TheConstants.{NEW_CAPACITY};
+ghost use Rattle.exact_solver.specs.Solutions.{IsComplete, IsPlan, IsProved};
+ghost use Rattle.command_answers.specs.CheckedPlans.{IsBookOf, IsListedBook};
+ghost use Rattle.span_finder.specs.SpanEnds.{Stops};
+ghost use Rattle.span_finder.specs.Spans.{HasNearBest};
+ghost use Rattle.span_command.specs.Outcomes.{IsToldStop, TellsNear, TellsSolution, TellsSpan, wanted_of};
+ghost use Rattle.span_command.specs.Span.{DueForEnd, DueForMethod, DueForRows};
+
+use crate::ends::{answer_found, answer_limited, answer_stop};
+use crate::rounding::answer_rounded;
+use crate::wanted::Wanted;
+use command_answers::{Answer, Status, refuse_size, stop_at};
+use command_words::SolveMethod;
+use exact_num::Frac;
+use exact_solver::{Solution, size_of, solve_book};
+use model_sets::Sets;
+use result_tables::{infeasible_report, unbounded_report};
+use row_book::RowBook;
+use row_core::{Place, Plan};
+use span_finder::{SpanFail, find_span, slack_limit};
+use std::alloc::{AllocError, Global};
+
+/// The most inequalities that a linear program may have.
+const MOST_ROWS: u64 = 20_000;
+
+/// The most columns that it may have.
+const MOST_COLUMNS: u64 = 40_000;
+
+/// The number of the attempt that the exact method is.
+const FIRST_ATTEMPT: u8 = 1;
+
+/// What is due over a book of rows with written factors of so many decimal places, of data of which so many numbers were rounded.
+pub fn answer_book(
+    alloc: Global,
+    book: &RowBook,
+    sets: &Sets,
+    places: u8,
+    wanted: Wanted,
+    rounded: u64,
+) -> Result<Answer, AllocError>
+    requires listed { IsListedBook sets.now book.now.rows book.now.vars }
+    requires chosen { wanted.var.kind ≡ NEW_CAPACITY }
+    requires there { Contains book.now.vars wanted.var }
+    ensures { (d : Data) → sets.now ≡ d.sets → IsBookOf places d book.now.rows book.now.vars
+        → IfOk result (λ answer. DueForRows places d book.now.rows wanted.var (wanted_of wanted) rounded answer.status answer.text.items) }
+{
+    let size = size_of(book);
+    if size.rows > MOST_ROWS || size.columns > MOST_COLUMNS {
+        return refuse_size(alloc, size.rows, size.columns);
+    }
+    answer_method(alloc, book, sets, places, wanted, rounded)
+}
+
+// What is due over a book whose linear program isn't too large.
+fn answer_method(
+    alloc: Global,
+    book: &RowBook,
+    sets: &Sets,
+    places: u8,
+    wanted: Wanted,
+    rounded: u64,
+) -> Result<Answer, AllocError>
+    requires listed { IsListedBook sets.now book.now.rows book.now.vars }
+    requires chosen { wanted.var.kind ≡ NEW_CAPACITY }
+    requires there { Contains book.now.vars wanted.var }
+    ensures { (d : Data) → sets.now ≡ d.sets → IsBookOf places d book.now.rows book.now.vars
+        → IfOk result (λ answer. DueForMethod places d book.now.rows wanted.var (wanted_of wanted) rounded answer.status answer.text.items) }
+{
+    match wanted.method {
+        SolveMethod::Exact => answer_exact(alloc, book, sets, places, wanted, rounded),
+        SolveMethod::Rounded => {
+            match answer_rounded(alloc, book, sets, places, wanted, rounded)? {
+                Some(answer) => Ok(answer),
+                None => answer_exact(alloc, book, sets, places, wanted, rounded),
+            }
+        }
+    }
+}
+
+// What is due by the exact method.
+fn answer_exact(
+    alloc: Global,
+    book: &RowBook,
+    sets: &Sets,
+    places: u8,
+    wanted: Wanted,
+    rounded: u64,
+) -> Result<Answer, AllocError>
+    requires listed { IsListedBook sets.now book.now.rows book.now.vars }
+    requires chosen { wanted.var.kind ≡ NEW_CAPACITY }
+    requires there { Contains book.now.vars wanted.var }
+    ensures { (d : Data) → sets.now ≡ d.sets → IsBookOf places d book.now.rows book.now.vars
+        → IfOk result (λ answer. DueForEnd places d book.now.rows wanted.var wanted.slack wanted.pivots rounded answer.status answer.text.items) }
+{
+    match solve_book(alloc, book, wanted.pivots) {
+        Ok(solution) => answer_solution(alloc, book, sets, places, wanted, rounded, &solution),
+        Err(stop) => answer_stop(alloc, book, sets, stop, wanted.pivots),
+    }
+}
+
+// What is told of a solution: what is near its cost, or that there is no least cost.
+fn answer_solution(
+    alloc: Global,
+    book: &RowBook,
+    sets: &Sets,
+    places: u8,
+    wanted: Wanted,
+    rounded: u64,
+    solution: &Solution,
+) -> Result<Answer, AllocError>
+    requires listed { IsListedBook sets.now book.now.rows book.now.vars }
+    requires chosen { wanted.var.kind ≡ NEW_CAPACITY }
+    requires there { Contains book.now.vars wanted.var }
+    requires proved { IsProved book.now.rows book.now.vars solution.now }
+    requires complete { IsComplete book.now.vars solution.now }
+    ensures { IfOk result (λ answer. TellsSolution sets.now book.now.rows book.now.vars wanted.var wanted.slack wanted.pivots rounded places solution.now answer.status answer.text.items) }
+{
+    match solution {
+        Solution::Optimal { plan, cost, .. } => answer_near(alloc, book, sets, wanted, plan, *cost),
+        Solution::Infeasible { pivots, .. } => Ok(Answer {
+            status: Status::Infeasible,
+            text: infeasible_report(alloc, *pivots, rounded, places, FIRST_ATTEMPT)?,
+        }),
+        Solution::Unbounded {
+            direction,
+            pivots,
+            ..
+        } => Ok(Answer {
+            status: Status::Unbounded,
+            text: unbounded_report(alloc, direction, *pivots, rounded, places, sets)?,
+        }),
+    }
+}
+
+// What is told near the cost of a plan.
+fn answer_near(
+    alloc: Global,
+    book: &RowBook,
+    sets: &Sets,
+    wanted: Wanted,
+    plan: &Plan,
+    cost: Frac,
+) -> Result<Answer, AllocError>
+    requires listed { IsListedBook sets.now book.now.rows book.now.vars }
+    requires chosen { wanted.var.kind ≡ NEW_CAPACITY }
+    requires there { Contains book.now.vars wanted.var }
+    requires plan { IsPlan book.now.rows book.now.vars plan.now (value_of cost) }
+    ensures { IfOk result (λ answer. TellsNear sets.now book.now.rows book.now.vars (value_of cost) wanted.var wanted.slack wanted.pivots answer.status answer.text.items) }
+{
+    match slack_limit(cost, wanted.slack) {
+        Ok(limit) => answer_within(alloc, book, sets, wanted, cost, limit),
+        Err(_) => stop_at(alloc, Place::SumGap, sets),
+    }
+}
+
+// What is told within a limit.
+fn answer_within(
+    alloc: Global,
+    book: &RowBook,
+    sets: &Sets,
+    wanted: Wanted,
+    cost: Frac,
+    limit: Frac,
+) -> Result<Answer, AllocError>
+    requires listed { IsListedBook sets.now book.now.rows book.now.vars }
+    requires chosen { wanted.var.kind ≡ NEW_CAPACITY }
+    requires there { Contains book.now.vars wanted.var }
+    requires near { HasNearBest book.now.rows book.now.vars (value_of limit) }
+    ensures { IfOk result (λ answer. TellsSpan sets.now book.now.rows book.now.vars (value_of cost) (value_of limit) wanted.var wanted.pivots answer.status answer.text.items) }
+{
+    match find_span(alloc, book, limit, wanted.var, wanted.pivots) {
+        Ok(span) => answer_found(alloc, book, sets, cost, limit, wanted.var, &span),
+        Err(fail) => answer_fail(alloc, book, sets, wanted, limit, fail),
+    }
+}
+
+// What is told where there is none; nothing where memory ran out.
+fn answer_fail(
+    alloc: Global,
+    book: &RowBook,
+    sets: &Sets,
+    wanted: Wanted,
+    limit: Frac,
+    fail: SpanFail,
+) -> Result<Answer, AllocError>
+    requires listed { IsListedBook sets.now book.now.rows book.now.vars }
+    requires stops { Stops book.now.rows book.now.vars (value_of limit) wanted.var wanted.pivots fail }
+    ensures { IfOk result (λ answer. IsToldStop sets.now book.now.rows book.now.vars (value_of limit) wanted.var wanted.pivots answer.status answer.text.items) }
+{
+    // The rows and the variables of a book are what the places of the trials speak of.
+    let _ = book.vars();
+    match fail {
+        SpanFail::Stopped(stop) => answer_limited(alloc, stop, sets),
+        SpanFail::Memory => Err(AllocError),
+    }
+}

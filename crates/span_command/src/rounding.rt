@@ -1,0 +1,102 @@
+// The answer of the rounded method, where it finds one.
+ghost use Rattle.std.specs.Prelude.{◌≡◌, Contains, IfOk, IfSome};
+ghost use Rattle.exact_num.specs.Value.{value_of};
+ghost use Rattle.model_sets.specs.Data.{Data};
+ghost use Rattle.row_core.specs.declared.kind_numbers.TheConstants.{NEW_CAPACITY};
+ghost use Rattle.command_answers.specs.CheckedPlans.{IsBookOf, IsListedBook};
+ghost use Rattle.solve_command.specs.Rounding.{IsFoundBy};
+ghost use Rattle.span_command.specs.Outcomes.{IsToldNearly, TellsFound};
+ghost use Rattle.span_command.specs.Span.{DueForFound};
+
+use crate::ends::answer_near_ends;
+use crate::wanted::Wanted;
+use command_answers::{Answer, Status};
+use exact_num::Frac;
+use exact_solver::Solution;
+use model_sets::Sets;
+use result_tables::infeasible_report;
+use row_book::RowBook;
+use solve_command::rounded_solution;
+use span_finder::{round_span, slack_limit};
+use std::alloc::{AllocError, Global};
+
+/// The number of the attempt that the rounded method is.
+const THIRD_ATTEMPT: u8 = 3;
+
+/// The answer for what the rounded method finds over a book, of data of which so many numbers were rounded: a bound of the cost, and ends
+/// of the variable in plans near the bound. None where it finds nothing, or no ends.
+pub fn answer_rounded(
+    alloc: Global,
+    book: &RowBook,
+    sets: &Sets,
+    places: u8,
+    wanted: Wanted,
+    rounded: u64,
+) -> Result<Option<Answer>, AllocError>
+    requires listed { IsListedBook sets.now book.now.rows book.now.vars }
+    requires chosen { wanted.var.kind ≡ NEW_CAPACITY }
+    requires there { Contains book.now.vars wanted.var }
+    ensures { (d : Data) → sets.now ≡ d.sets → IsBookOf places d book.now.rows book.now.vars
+        → IfOk result (λ found. IfSome found (λ answer. DueForFound places d book.now.rows wanted.var wanted.slack wanted.gap rounded answer.status answer.text.items)) }
+{
+    match rounded_solution(alloc, book, wanted.gap, wanted.pivots)? {
+        Some(solution) => answer_solution(alloc, book, sets, places, wanted, rounded, &solution),
+        None => Ok(None),
+    }
+}
+
+// What is told of what it finds.
+fn answer_solution(
+    alloc: Global,
+    book: &RowBook,
+    sets: &Sets,
+    places: u8,
+    wanted: Wanted,
+    rounded: u64,
+    solution: &Solution,
+) -> Result<Option<Answer>, AllocError>
+    requires listed { IsListedBook sets.now book.now.rows book.now.vars }
+    requires chosen { wanted.var.kind ≡ NEW_CAPACITY }
+    requires there { Contains book.now.vars wanted.var }
+    requires found { IsFoundBy book.now.rows book.now.vars wanted.gap solution.now }
+    ensures { IfOk result (λ found. IfSome found (λ answer.
+        TellsFound sets.now book.now.rows book.now.vars wanted.var wanted.slack wanted.gap rounded places solution.now answer.status answer.text.items)) }
+{
+    match solution {
+        Solution::Optimal { cost, bound, .. } => {
+            answer_near(alloc, book, sets, wanted, *cost, *bound)
+        }
+        Solution::Infeasible { pivots, .. } => Ok(Some(Answer {
+            status: Status::Infeasible,
+            text: infeasible_report(alloc, *pivots, rounded, places, THIRD_ATTEMPT)?,
+        })),
+        Solution::Unbounded { .. } => Ok(None),
+    }
+}
+
+// What is told near a bound.
+fn answer_near(
+    alloc: Global,
+    book: &RowBook,
+    sets: &Sets,
+    wanted: Wanted,
+    cost: Frac,
+    bound: Frac,
+) -> Result<Option<Answer>, AllocError>
+    requires listed { IsListedBook sets.now book.now.rows book.now.vars }
+    requires chosen { wanted.var.kind ≡ NEW_CAPACITY }
+    requires there { Contains book.now.vars wanted.var }
+    ensures { IfOk result (λ found. IfSome found (λ answer.
+        IsToldNearly sets.now book.now.rows book.now.vars (value_of cost) (value_of bound) wanted.var wanted.slack wanted.gap answer.status answer.text.items)) }
+{
+    let Ok(limit) = slack_limit(bound, wanted.slack) else {
+        return Ok(None);
+    };
+    match round_span(alloc, book, limit, wanted.var, wanted.gap, wanted.pivots)? {
+        Some(span) => {
+            let answer = answer_near_ends(alloc, book, sets, cost, bound, limit, wanted, &span)?;
+            Ok(Some(answer))
+        }
+        None => Ok(None),
+    }
+}

@@ -1,0 +1,116 @@
+// The answer over accepted data.
+ghost use Rattle.std.specs.Prelude.{◌≡◌, true, IfOk};
+ghost use Rattle.discount_factors.specs.Factors.{IsPlaces};
+ghost use Rattle.model_sets.specs.Data.{AreSameData, Data};
+ghost use Rattle.named_equations.specs.Existence.{exists};
+ghost use Rattle.row_core.specs.declared.kind_numbers.TheConstants.{NEW_CAPACITY};
+ghost use Rattle.span_command.specs.Outcomes.{wanted_of};
+ghost use Rattle.span_command.specs.Span.{DueForMember, DueForSpan, built};
+
+use crate::method::answer_book;
+use crate::wanted::Wanted;
+use command_answers::{Answer, find_member, refuse_book};
+use command_words::SolveMethod;
+use model_sets::set_numbers::{REGION, TECHNOLOGY, YEAR};
+use param_tables::ModelData;
+use row_book::{RowBook, same_data_laws};
+use row_core::kind_numbers::NEW_CAPACITY;
+use row_core::{Index, Var};
+use std::alloc::{AllocError, Global};
+
+/// What is due over any data that have the model's sets and values, with written factors of 6 or 9 decimal places: for the words of a
+/// region, a technology and a year, in plans whose cost is at most so many millionths of its absolute value above the least cost, or above the bound
+/// of the rounded method. The
+/// search for the least cost, and each of the two trials, may make so many pivots at most. The rounded method, where it is asked for, may
+/// stay so many millionths from what it proves: a cost from a bound, and a plan's value from an end.
+pub fn answer_span(
+    alloc: Global,
+    model: &ModelData,
+    places: u8,
+    region: &str,
+    technology: &str,
+    year: &str,
+    slack: u32,
+    pivots: u32,
+    method: SolveMethod,
+    gap: u32,
+) -> Result<Answer, AllocError>
+    requires { IsPlaces places }
+    ensures { (d : Data) → AreSameData model.now.facts d → IfOk result (λ answer.
+        DueForSpan places (record { method = method; slack = slack; gap = gap; pivots = pivots }) model.now.rounded region.now technology.now year.now d answer.status answer.text.items) }
+{
+    let region = match find_member(alloc, model.sets(), REGION, region)? {
+        Ok(region) => region,
+        Err(answer) => return Ok(answer),
+    };
+    let technology = match find_member(alloc, model.sets(), TECHNOLOGY, technology)? {
+        Ok(technology) => technology,
+        Err(answer) => return Ok(answer),
+    };
+    let year = match find_member(alloc, model.sets(), YEAR, year)? {
+        Ok(year) => year,
+        Err(answer) => return Ok(answer),
+    };
+    let wanted = Wanted {
+        var: built(region, technology, year),
+        method,
+        slack,
+        gap,
+        pivots: u64::from(pivots),
+    };
+    answer_member(alloc, model, places, wanted)
+}
+
+// The capacity of a technology that is built in a region in a year.
+fn built(region: u16, technology: u16, year: u16) -> Var
+    ensures { result ≡ built region technology year }
+{
+    Var {
+        kind: NEW_CAPACITY,
+        index: Index {
+            region,
+            other: 0,
+            slice: 0,
+            tech: technology,
+            fuel: 0,
+            emission: 0,
+            mode: 0,
+            year,
+        },
+    }
+}
+
+// What is due for a variable that exists.
+fn answer_member(
+    alloc: Global,
+    model: &ModelData,
+    places: u8,
+    wanted: Wanted,
+) -> Result<Answer, AllocError>
+    requires places { IsPlaces places }
+    requires chosen { wanted.var.kind ≡ NEW_CAPACITY }
+    requires exists { exists model.now.facts wanted.var ≡ true }
+    ensures { (d : Data) → AreSameData model.now.facts d → IfOk result (λ answer.
+        DueForMember places d wanted.var (wanted_of wanted) model.now.rounded answer.status answer.text.items) }
+{
+    same_data_laws();
+    answer_model(alloc, model, places, wanted)
+}
+
+// The same over the model's own data.
+fn answer_model(
+    alloc: Global,
+    model: &ModelData,
+    places: u8,
+    wanted: Wanted,
+) -> Result<Answer, AllocError>
+    requires places { IsPlaces places }
+    requires chosen { wanted.var.kind ≡ NEW_CAPACITY }
+    requires exists { exists model.now.facts wanted.var ≡ true }
+    ensures { IfOk result (λ answer. DueForMember places model.now.facts wanted.var (wanted_of wanted) model.now.rounded answer.status answer.text.items) }
+{
+    match RowBook::new(alloc, model, places) {
+        Ok(book) => answer_book(alloc, &book, model.sets(), places, wanted, model.rounded()),
+        Err(fail) => refuse_book(alloc, fail, model.sets()),
+    }
+}

@@ -1,0 +1,66 @@
+-- What the ends that the rounded method finds are worth: no plan passes them, neither of the rows with the limit's, nor near the best.
+use Rattle.std.proofs.Common.{◌≡◌, ℕ, pos, negsuc, neg_ℤ, ◌*ℤ◌, Bool, true, false, List, ◌∙◌, subst, arith, if◌then◌else◌}
+use Rattle.std.specs.Prelude.{Result, Ok, Err, IfOk, int_lt, ◌≤ℤ◌}
+use Rattle.std.proofs.lemmas.Int.{ints}
+use Rattle.exact_num.specs.Rational.{Rational, whole}
+use Rattle.exact_num.specs.Value.{value_of}
+use Rattle.exact_num.proofs.Ring.{*ℤ-one, neg_ℤ-*ℤ, one-*ℤ, zero-*ℤ}
+use Rattle.row_core.specs.declared.Row.{Row}
+use Rattle.row_core.specs.declared.Var.{Var}
+use Rattle.row_core.specs.Kinds.{kind_is_free}
+use Rattle.row_core.specs.Numbers.{ascends}
+use Rattle.row_core.specs.Order.{var_cmp}
+use Rattle.row_core.specs.Rows.{number_at}
+use Rattle.named_equations.proofs.InstanceTests.{Has}
+use Rattle.certificate_checker.specs.Certificates.{BoundsAll}
+use Rattle.span_finder.specs.LimitRows.{HasLimitRow}
+use Rattle.span_finder.specs.RoundedSpans.{IsRoundedSpan}
+use Rattle.span_finder.specs.RoundedTrials.{AreRoundedEnds, IsEndNear, end_of}
+use Rattle.span_finder.specs.SpanEnds.{trial_cost}
+use Rattle.span_finder.specs.Spans.{IsNearPlan}
+use Rattle.span_finder.specs.Trials.{NonePasses}
+use Rattle.span_finder.specs.declared.found.RoundedSpan.{RoundedSpan}
+use Rattle.span_finder.specs.declared.trial.Goal.{Goal}
+use Rattle.span_finder.specs.declared.trial.Goal.TheVariants.{Least, Greatest}
+use Rattle.span_finder.proofs.ExtremeLaws.{cost-is, minus}
+use Rattle.span_finder.proofs.FeasibleLaws.{sign-at}
+use Rattle.span_finder.proofs.LimitBooks.{near-from, near-to}
+
+-- ---- the end that a bound leaves
+
+module _ (rows : List Row) (vars : List Var) (var : Var) (up : ascends var_cmp vars ≡ true) (listed : Has vars var) (bounded : kind_is_free var.kind ≡ false) where
+  pub end-passes : (goal : Goal) (bound : Rational) → BoundsAll (number_at (trial_cost var goal)) rows vars bound → NonePasses goal rows vars var (end_of goal bound)
+  end-passes Least bound h = cases (int_lt bound.top (pos 0))
+    where
+      cases : (b : Bool) → NonePasses Least rows vars var (if b then whole (pos 0) else bound)
+      cases true = λ q x meets.
+          let least : pos 0 ≤ℤ x var = sign-at vars x var meets.signs listed bounded in
+          let none : pos 0 *ℤ pos q ≡ pos 0 = zero-*ℤ (pos q) in
+          let one : x var *ℤ pos 1 ≡ x var = *ℤ-one (x var) in
+          omega (arith, ints)
+      cases false = λ q x meets. subst (λ z. (bound.top *ℤ pos q) ≤ℤ (z *ℤ bound.bottom)) (cost-is vars var (pos 1) x up listed ∙ one-*ℤ (x var)) (h q x meets)
+  end-passes Greatest bound h = λ q x meets.
+      let costs : (bound.top *ℤ pos q) ≤ℤ (neg_ℤ (x var) *ℤ bound.bottom) = subst (λ z. (bound.top *ℤ pos q) ≤ℤ (z *ℤ bound.bottom)) (cost-is vars var (negsuc 0) x up listed ∙ minus (x var)) (h q x meets) in
+      let value : neg_ℤ (x var) *ℤ bound.bottom ≡ neg_ℤ (x var *ℤ bound.bottom) = neg_ℤ-*ℤ (x var) bound.bottom in
+      let end : neg_ℤ bound.top *ℤ pos q ≡ neg_ℤ (bound.top *ℤ pos q) = neg_ℤ-*ℤ bound.top (pos q) in
+      omega (arith, ints)
+
+-- ---- near the best
+
+module _ (rows : List Row) (vars : List Var) (limit : Rational) (var : Var) (ppm : ℕ) (all : List Row) (of : HasLimitRow rows vars limit all) where
+  plan-near : (goal : Goal) (plan : List (Var × Rational)) (end : Rational) → IsEndNear all vars var goal ppm plan end → IsNearPlan rows vars limit plan
+  plan-near goal plan end e = record { whole = e.complete; some = e.is_plan.some; near = λ q x are. near-from rows vars limit all of q x (e.is_plan.meets q x are) }
+
+  ends-span : (span : RoundedSpan) → AreRoundedEnds all vars var ppm span → IsRoundedSpan rows vars limit var ppm span
+  ends-span span ends = record {
+    low_plan = plan-near Least span.low_plan (value_of span.low) ends.low;
+    low = λ q x near. ends.low.none_passes q x (near-to rows vars limit all of q x near);
+    low_close = ends.low.close;
+    high_plan = plan-near Greatest span.high_plan (value_of span.high) ends.high;
+    high = λ q x near. ends.high.none_passes q x (near-to rows vars limit all of q x near);
+    high_close = ends.high.close;
+  }
+
+  pub answer-rounds : {E : Type 0} (answer : Result RoundedSpan E) → IfOk answer (AreRoundedEnds all vars var ppm) → IfOk answer (IsRoundedSpan rows vars limit var ppm)
+  answer-rounds (Ok span) h = ends-span span h
+  answer-rounds (Err e) h = tt
