@@ -1,10 +1,9 @@
 """Compares a curve with the costs that glpsol finds: curve.py PROGRAM MODEL FOLDER FILE REGION EMISSION LIMITS"""
 import re
-import subprocess
 import sys
 from fractions import Fraction
 
-from mps import measured
+from mps import least_cost, measured
 
 GAP = 10  # millionths
 SLACK = 1e-7  # glpsol computes with floating-point numbers: so much of a cost may be off
@@ -20,18 +19,11 @@ def with_limit(text, region, emission, limit):
     return changed
 
 
-def least_cost(model, folder, text):
+def cost_at(model, folder, text):
     """The cost that glpsol finds, or None where there is no plan."""
     with open(folder + "/limited.dat", "w") as file:
         file.write(text)
-    words = ["glpsol", "-m", model, "-d", folder + "/limited.dat", "-w", folder + "/solution"]
-    subprocess.run(words, stdout=subprocess.DEVNULL, stderr=subprocess.DEVNULL, check=False)
-    with open(folder + "/solution") as file:
-        for line in file:
-            words = line.split()
-            if words[:2] == ["s", "bas"]:
-                return float(words[-1]) if words[4:6] == ["f", "f"] else None
-    sys.exit("glpsol came to no end")
+    return least_cost(["-m", model, "-d", folder + "/limited.dat"], folder + "/solution")
 
 
 def told(line):
@@ -76,7 +68,7 @@ def main():
         written = file.read().splitlines()
     print(f"status {status}")
     lines = [told(line) for line in written if line.startswith("limit ")]
-    costs = [least_cost(model, folder, with_limit(text, region, emission, limit)) for limit in limits.split(",")]
+    costs = [cost_at(model, folder, with_limit(text, region, emission, limit)) for limit in limits.split(",")]
     wrong = 0
     for line, (_, values), least in zip(written, lines, costs):
         good = judged(values, least)

@@ -173,6 +173,17 @@ def peer(path, folder):
     return took, most, (told["Number of rows"] - 1, told["Number of columns"], entries)
 
 
+def least_cost(words, solution):
+    """The least cost that glpsol finds, called with these words and writing to this file; None where there is none."""
+    subprocess.run(["glpsol", *words, "-w", solution], stdout=subprocess.DEVNULL, stderr=subprocess.DEVNULL, check=False)
+    with open(solution) as file:
+        for line in file:
+            parts = line.split()
+            if parts[:2] == ["s", "bas"]:
+                return float(parts[-1]) if parts[4:6] == ["f", "f"] else None
+    sys.exit("glpsol came to no end")
+
+
 def counts(output):
     """The rows, columns and entries of the program's text, without the cost."""
     rows = columns = entries = 0

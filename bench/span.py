@@ -3,7 +3,7 @@ import subprocess
 import sys
 from fractions import Fraction
 
-from mps import measured
+from mps import least_cost, measured
 
 GAP = 10  # millionths
 SLACK = 1e-6  # glpsol computes with floating-point numbers: so much of an end may be off
@@ -52,14 +52,7 @@ def least(folder, text):
     """The least cost that glpsol finds; None where there is none."""
     with open(folder + "/limited.mps", "w") as file:
         file.write(text)
-    words = ["glpsol", "--freemps", folder + "/limited.mps", "-w", folder + "/solution"]
-    subprocess.run(words, stdout=subprocess.DEVNULL, stderr=subprocess.DEVNULL, check=False)
-    with open(folder + "/solution") as file:
-        for line in file:
-            words = line.split()
-            if words[:2] == ["s", "bas"]:
-                return float(words[-1]) if words[4:6] == ["f", "f"] else None
-    sys.exit("glpsol came to no end")
+    return least_cost(["--freemps", folder + "/limited.mps"], folder + "/solution")
 
 
 def near(end, found):
