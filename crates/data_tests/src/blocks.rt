@@ -165,8 +165,8 @@ pub(crate) const MEANT: [Meant<'static>; 15] = [
         b"REGION 12 it's a; FUEL; YearSplit [D,2020]=-1@70; rounded 1",
     ),
     (
-        b"set FUEL := abcdefghijklmnopqrstuv abcdefghijklmnopqrstuvw ; param OperationalLife : 'a technology with a long name' := R 1 ;",
-        b"FUEL abcdefghijklmnopqrstuv abcdefghijklmnopqrstuvw; OperationalLife [R,a technology with a long name]=1000000000@121; rounded 0",
+        b"set FUEL := abcdefghijklmnop abcdefghijklmnopq ; param OperationalLife : 'a technology with a long name' := R 1 ;",
+        b"FUEL abcdefghijklmnop abcdefghijklmnopq; OperationalLife [R,a technology with a long name]=1000000000@109; rounded 0",
     ),
 ];
 

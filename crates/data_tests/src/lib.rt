@@ -1,7 +1,8 @@
 //! Tests of data sections: their tokens, their statements, and the sets and values that they give. Small data
-//! sections for these tests and those of rows.
+//! sections for these tests and those of rows, and the MPS text of the base example.
 #![tactic(auto)]
 
+mod base_example;
 #[cfg(test)]
 mod blocks;
 #[cfg(test)]
@@ -12,4 +13,5 @@ mod tokens;
 #[cfg(test)]
 mod values;
 
+pub use base_example::base_text;
 pub use sections::section;

@@ -13,15 +13,16 @@ pub struct Mark {
     pub column: u32,
 }
 
-/// How many bytes of a name stand in the name itself. A longer one has memory of its own.
-const SHORT: usize = 22;
+/// How many bytes of a name stand in the name itself. A longer one has memory of its own. With a length of four bytes
+/// they fill whole words, by which a name is moved fastest.
+const SHORT: usize = 16;
 
-/// A name of 22 bytes at most, in the first places of the array.
+/// A name of 16 bytes at most, in the first places of the array.
 #[derive(Clone, Copy)]
 struct ShortName {
-    length: u8,
-    bytes: [u8; 22],
-    ghost fits: { length ≤ 22 },
+    length: u32,
+    bytes: [u8; 16],
+    ghost fits: { length ≤ 16 },
 }
 
 /// How a name is kept. Nearly all names of a model are short, and a large data section has millions of them:
@@ -56,7 +57,7 @@ impl Name {
     {
         Name(Kept::Short(ShortName {
             length: 0,
-            bytes: [0; 22],
+            bytes: [0; 16],
         }))
     }
 
@@ -68,8 +69,7 @@ impl Name {
         if bytes.len() <= SHORT {
             return Ok(Name(Kept::Short(short_name(bytes))));
         }
-        let long = Box::new(alloc, Vec::from_slice(alloc, bytes)?)?;
-        Ok(Name(Kept::Long(long)))
+        long_name(alloc, bytes)
     }
 
     /// The name of these bytes. Where they are many it takes them over, so that they aren't in memory twice.
@@ -83,13 +83,14 @@ impl Name {
         Ok(Name(Kept::Long(long)))
     }
 
-    /// A second name of the same bytes.
+    /// A second name of the same bytes. Small, so that it stands in the loop over the subscripts of a cell.
+    #[inline(always)]
     pub(crate) fn copy(&self, alloc: Global) -> Result<Name, AllocError>
         ensures { IfOk result (λ name. name ≡ self.now) }
     {
         match &self.0 {
             Kept::Short(short) => Ok(Name(Kept::Short(*short))),
-            Kept::Long(long) => Name::from_slice(alloc, long.as_slice()),
+            Kept::Long(long) => long_name(alloc, long.as_slice()),
         }
     }
 
@@ -104,15 +105,25 @@ impl Name {
     }
 }
 
+/// The name of these bytes, in memory of its own.
+#[cold]
+#[inline(never)]
+fn long_name(alloc: Global, bytes: &[u8]) -> Result<Name, AllocError>
+    ensures { IfOk result (λ name. name ≡ bytes.now) }
+{
+    let long = Box::new(alloc, Vec::from_slice(alloc, bytes)?)?;
+    Ok(Name(Kept::Long(long)))
+}
+
 /// The short name of these bytes.
 fn short_name(bytes: &[u8]) -> ShortName
-    requires { length bytes.now ≤ 22 }
+    requires { length bytes.now ≤ 16 }
     ensures { take result.length result.bytes ≡ bytes.now }
 {
-    let mut places = [0; 22];
+    let mut places = [0; 16];
     places[..bytes.len()].copy_from_slice(bytes);
     ShortName {
-        length: bytes.len() as u8,
+        length: bytes.len() as u32,
         bytes: places,
     }
 }

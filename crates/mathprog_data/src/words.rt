@@ -1,6 +1,7 @@
 //! The bare symbols that are keywords where one may stand.
 
-ghost use Rattle.std.specs.Prelude.{◌≡◌};
+ghost use Rattle.std.specs.Prelude.{◌≡◌, false};
+ghost use Rattle.mathprog_data.specs.declared.words.Word.TheVariants.{Other};
 ghost use Rattle.mathprog_data.specs.Words.{word_of};
 
 /// What a bare symbol may be besides a name or a number.
@@ -28,6 +29,9 @@ pub(crate) enum Word {
 pub(crate) fn word_of(bytes: &[u8]) -> Word
     ensures { result ≡ word_of bytes.now }
 {
+    if !may_be_word(bytes) {
+        return Word::Other;
+    }
     if bytes == b"data".as_slice() {
         Word::Data
     } else if bytes == b"set".as_slice() {
@@ -45,4 +49,12 @@ pub(crate) fn word_of(bytes: &[u8]) -> Word
     } else {
         Word::Other
     }
+}
+
+/// Whether the first byte is that of a word. Most symbols where a word may stand are numbers, which are told by it.
+#[inline]
+fn may_be_word(bytes: &[u8]) -> bool
+    ensures { result ≡ false → word_of bytes.now ≡ Other }
+{
+    !bytes.is_empty() && (bytes[0] >= b'a' || bytes[0] == b'.')
 }

@@ -4,5 +4,6 @@ mod GatheredLaws
 mod MpsTextExamples
 mod SameVariables
 mod SectionLaws
+mod SideLaws
 mod SortedEntries
 mod TakenLaws

@@ -16,7 +16,7 @@ ghost use Rattle.mps_writer.specs.declared.sending.MpsFail.TheVariants.{Memory, 
 use crate::any_free;
 use crate::buffer::{flush, spill};
 use crate::lines::push_bound;
-use crate::sections::{Section, send_section};
+use crate::sections::{SIDES, Section, send_section};
 use crate::sent_columns::send_columns;
 use io_edges::{Failed, Sink};
 use model_sets::Sets;
@@ -51,8 +51,8 @@ impl From<Failed> for MpsFail {
 
 /// Writes the text of the rows of the source, in their order, with a column for each of the variables, which
 /// ascend strictly: the text that `mps_text` gives. The source goes through its equations once for the rows,
-/// for each kind of variable once through those that have it, and once for the right sides, so that the entries
-/// of one kind are in memory at a time, and no list of rows.
+/// for each kind of variable once through those that have it, and once for the right sides, where it asks for no
+/// row of an equation whose right sides are all 0. So it holds the entries of one kind at a time, and no list of rows.
 ///
 /// Where a write fails or memory runs out, a prefix of the text was written by then.
 pub fn mps_to<R: RowSource, K: Sink>(
@@ -107,7 +107,9 @@ fn send_sections<R: RowSource, K: Sink>(
         (K.written out.old) (K.written out.new) (K.faults out.old) (K.faults out.new) buffer.new.items }
     ensures rows_stay { R.rows rows.new ≡ R.rows rows.old }
 {
-    match send_section(rows, Section::Rows, sets, buffer, out) {
+    // Nothing is known yet of right sides.
+    let mut sides = [true; SIDES];
+    match send_section(rows, Section::Rows, &mut sides, sets, buffer, out) {
         Ok(()) => {}
         Err(fail) => return Err(fail),
     }
@@ -123,7 +125,7 @@ fn send_sections<R: RowSource, K: Sink>(
         Ok(()) => {}
         Err(fail) => return Err(fail),
     }
-    match send_section(rows, Section::RightSides, sets, buffer, out) {
+    match send_section(rows, Section::RightSides, &mut sides, sets, buffer, out) {
         Ok(()) => {}
         Err(fail) => return Err(fail),
     }

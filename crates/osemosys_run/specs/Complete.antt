@@ -162,8 +162,8 @@ pub record CanBeDrawn (words : List (List ℕ)) (files : List (List ℕ × List 
   pub emission_is : index_of (members d.sets EMISSION) emission ≡ Some e
   pub each : AllByRecursion (CanBeTried places d r e pivots) limits
 
--- nothing stops the exact method over the rows; and near a least cost, which is what its multipliers prove, every number of the limit fits, and nothing stops the row that limits the
--- cost nor the two trials
+-- nothing stops the exact method over the rows; and near a least cost, which is what its multipliers prove, every number of the limit fits, and nothing stops
+-- the row that limits the cost, the elimination with that row, or either trial
 pub record NothingStopsSpan (rows : List Row) (vars : List Var) (var : Var) (slack pivots : ℕ) : Type 0 where
   pub in_time : method_end rows vars pivots ≢ IsPivotDue
   pub fits : (place : Place) → method_end rows vars pivots ≢ IsWide place
@@ -222,7 +222,8 @@ IsEnded status = (status ≡ Done) ⊎ (status ≡ Infeasible) ⊎ (status ≡ U
 abbrev pub IsExplained : Status → Type 0
 IsExplained status = (status ≡ Done) ⊎ (status ≡ Infeasible)
 
--- then the equations or the made file are written, or the plan is accepted, or the model is brought to an end or explained, unless memory ran out
+-- then the equations or the made file are written, or the plan is accepted, or the model is brought to an end or explained, or its curve
+-- or its span is told, unless memory ran out
 pub record Completes (words : List (List ℕ)) (files : List (List ℕ × List ℕ)) (status : Status) : Type 0 where
   pub done : CanBeWritten words files ⊎ CanBeAccepted words files → (status ≡ Done) ⊎ (status ≡ Memory)
   pub ended : CanBeSolved words files → IsEnded status ⊎ (status ≡ Memory)

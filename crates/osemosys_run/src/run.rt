@@ -106,7 +106,8 @@ pub fn osemosys<S: Shelf, K: Sink>(
 
     // A data file that isn't refused, and whose rows can be made, is written out; and a feasible plan with multipliers that
     // prove their bound and keep the gap is accepted, where the files are in form and every number that is formed for the
-    // conditions fits; a made file is written; unless memory runs out, and over a shelf and a sink without a fault.
+    // conditions fits; a model that nothing stops is solved or explained, its curve is told whole, and its span is found; a
+    // made file is written; unless memory runs out, and over a shelf and a sink without a fault.
     ensures complete { WhereTold (S.files shelf.old) (λ files.
         (Rose (S.faults shelf.old) (S.faults shelf.new) → ⊥) → (Rose (K.faults out.old) (K.faults out.new) → ⊥)
         → Completes (map string_bytes words.now) files result) }

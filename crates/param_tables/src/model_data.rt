@@ -59,7 +59,26 @@ fn amount(value: Option<i128>) -> Frac
     requires { IfSome value IsWithinLimit }
     ensures { value_of result ≡ lowest (unwrap_or value (pos 0)) (pos billion) }
 {
-    ratio(value.unwrap_or(0), BILLION)
+    let value = value.unwrap_or(0);
+    if 0 <= value && value < 1 << 63 {
+        narrow_amount(value as u64)
+    } else {
+        ratio(value, BILLION)
+    }
+}
+
+/// A value of so many billionths. Most are whole numbers or have four decimal places at most: over the smaller
+/// denominator, 64 bits and few steps give the lowest terms.
+fn narrow_amount(billionths: u64) -> Frac
+    ensures { value_of result ≡ lowest (pos billionths) (pos billion) }
+{
+    if billionths % 1_000_000_000 == 0 {
+        ratio(i128::from(billionths / 1_000_000_000), 1)
+    } else if billionths % 100_000 == 0 {
+        ratio(i128::from(billionths / 100_000), 10_000)
+    } else {
+        ratio(i128::from(billionths), BILLION)
+    }
 }
 
 impl ModelData {

@@ -2,7 +2,7 @@
 
 ghost use Rattle.std.specs.Prelude.{◌≡◌, ℕ, [], None, length, IfOk};
 ghost use Rattle.std.specs.BTreeMap.{get};
-ghost use Rattle.std.specs.List.Sorted.{IsStrictlyIncreasing};
+ghost use Rattle.std.specs.List.Sorted.{IsBinarySearchResult, IsStrictlyIncreasing};
 ghost use Rattle.std.specs.Ordering.{nat_cmp};
 ghost use Rattle.param_tables.specs.ChangedTables.{IsCopyOf, IsTableWith};
 ghost use Rattle.param_tables.specs.RatioPlaces.{is_nonzero_value};
@@ -116,13 +116,26 @@ impl ParamTable {
         ParamTable::new(alloc, self.default, given)
     }
 
+    /// The position of the place in the list of places, or where it would stand.
+    fn search(&self, place: u64) -> Result<usize, usize>
+        requires { IsStrictlyIncreasing self.now.places.items }
+        ensures { IsBinarySearchResult (λ y. nat_cmp y place) self.now.places.items result }
+    {
+        // Where all values are given, each place is its own position.
+        let own = place as usize;
+        if own < self.places.len() && self.places[own] == place {
+            return Ok(own);
+        }
+        self.places.binary_search(&place)
+    }
+
     /// The value given at the place.
     fn given_at(&self, place: u64) -> Option<i128>
         requires ascending { IsStrictlyIncreasing self.now.places.items }
         requires long { length self.now.values.items ≡ length self.now.places.items }
         ensures { result ≡ given_in (entries_of self.now) place }
     {
-        let i = self.places.binary_search(&place).ok()?;
+        let i = self.search(place).ok()?;
         self.values.get(i).copied()
     }
 

@@ -19,6 +19,25 @@ fn count_before(places: &[u64], start: u64) -> usize
     }
 }
 
+/// How many of the places lie before `end`, as the first ones do. Looked for from these on, since most parts are short.
+fn count_from(places: &[u64], first: usize, end: u64) -> usize
+    requires rising { IsStrictlyIncreasing places.now }
+    requires within { first ≤ length places.now }
+    requires before { (k : ℕ) → k < first → slice_index places.now k < end }
+    ensures within { result ≤ length places.now }
+    ensures before { (k : ℕ) → k < result → slice_index places.now k < end }
+    ensures after { (k : ℕ) → result ≤ k → k < length places.now → end ≤ slice_index places.now k }
+{
+    let mut count = first;
+    while count < places.len() {
+        if places[count] >= end {
+            return count;
+        }
+        count += 1;
+    }
+    count
+}
+
 /// The places from `start` on that lie before `end`.
 pub(crate) fn part_between(places: &[u64], start: u64, end: u64) -> &[u64]
     requires rising { IsStrictlyIncreasing places.now }
@@ -26,7 +45,7 @@ pub(crate) fn part_between(places: &[u64], start: u64, end: u64) -> &[u64]
     ensures { IsPartBetween places.now start end result.now }
 {
     let first = count_before(places, start);
-    let last = count_before(places, end);
+    let last = count_from(places, first, end);
     &places[first..last]
 }
 

@@ -175,11 +175,12 @@ contents-within places d =
 
 -- ---- a feed, from what was found of all rows
 
-pub feed-kept : (places : ℕ) (d : Data) (factors : List Discounting) (t : Tally) → AreRegionFactors places d factors → AreTallied (places_of factors) d 64 t → IsFeed d factors t.before.items t.kinds.items 1
+pub feed-kept : (places : ℕ) (d : Data) (factors : List Discounting) (t : Tally) → AreRegionFactors places d factors → AreTallied (places_of factors) d 64 t → IsFeed d factors t.before.items t.kinds.items t.held.items 1
 feed-kept places d factors t are tallied = record {
   equation = (omega arith, omega arith);
   factors_are = factors-by_places places d factors are;
   counts = tallied.before;
+  held_are = tallied.held.1;
   marks = subst (Marks t.kinds.items) (all-say (places_of factors) d tallied.all tallied.rows) tallied.kinds;
 }
 
@@ -220,6 +221,10 @@ ahead-starts places d before rows eq z counts low high =
 pub reversed-says : (places : ℕ) (d : Data) (eq : ℕ) (made reversed : List Row) → AreRowsOf places d (instances_of d eq) made → reversed ≡ reverse made → map contents_of (reverse reversed) ≡ equation_contents places d eq
 reversed-says places d eq made reversed are is =
     ap (λ (rows : List Row). map contents_of (reverse rows)) is ∙ ap (λ (rows : List Row). map contents_of rows) (reverse-reverse made) ∙ equation-says places d eq made are
+
+-- copies of the rows of an equation that are held, the last one first
+pub copies-say : (places : ℕ) (d : Data) (eq : ℕ) (held : List Row) (copies : List Row) → AreRowsOf places d (instances_of d eq) held → map contents_of (reverse copies) ≡ map contents_of held → map contents_of (reverse copies) ≡ equation_contents places d eq
+copies-say places d eq held copies are same = same ∙ equation-says places d eq held are
 
 -- ---- the next row
 

@@ -13,7 +13,7 @@ use Rattle.named_equations.specs.Variables.{capital_investment, new_capacity}
 use Rattle.row_book.specs.EquationRows.{terms_at}
 use Rattle.row_book.proofs.Examples.{at_zeros, base, defaults, whole}
 
-abbrev spread : Bool → Data
+abbrev pub spread : Bool → Data
 spread second = record {
   sets = base.sets;
   given = [];

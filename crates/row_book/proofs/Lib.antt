@@ -11,13 +11,15 @@ pub mod EnergyTerms
 pub mod EntryVariables
 mod Examples
 mod InvestmentExamples
-pub mod FeedLaws
+pub mod FeedExamples
+mod FeedLaws
 pub mod GatheredLaws
 pub mod GivenValues
 pub mod InstanceRows
 pub mod Instances
 pub mod KeptLaws
 pub mod KindLaws
+mod KindVariableLaws
 pub mod LimitSigns
 pub mod LimitTerms
 pub mod Lists

@@ -11,7 +11,8 @@ use Rattle.std.proofs.lemmas.Cmp.{eq_by_cmp_equiv}
 use Rattle.std.proofs.lemmas.List.Kept.{Contains-dedup, Contains-from_dedup, IsStrictlySortedBy-dedup}
 use Rattle.std.proofs.lemmas.List.Sorted.{Contains-permutation, IsPermutation-sym}
 use Rattle.row_core.specs.Order.{index_cmp}
-use Rattle.row_core.proofs.Orders.{index_cmp_exact, index_cmp_total}
+use Rattle.row_core.specs.OrderLaws.{index_cmp_total}
+use Rattle.row_core.proofs.Orders.{index_cmp_exact}
 use Rattle.model_sets.specs.Data.{Data}
 use Rattle.row_core.specs.declared.Index.{Index}
 use Rattle.row_core.specs.Subscripts as place

@@ -1,13 +1,14 @@
 -- What is found of rows that are looked at one after another.
-use Rattle.std.proofs.Common.{◌≡◌, ℕ, ◌+◌, ◌-◌, ◌*◌, ◌<◌, ◌≤◌, Bool, true, false, ◌&&◌, ◌||◌, nat_eq, List, [], ◌∷◌, ◌++◌, map, length, length-append, refl, ap, ap₂, sym, ◌∙◌, subst, arith, inl, inr}
+use Rattle.std.proofs.Common.{◌≡◌, ℕ, ◌+◌, ◌-◌, ◌*◌, ◌<◌, ◌≤◌, Bool, true, false, ◌&&◌, ◌||◌, nat_eq, eqb-true, get_or, List, [], ◌∷◌, ◌++◌, map, length, length-append, refl, ap, ap₂, sym, ◌∙◌, subst, arith, inl, inr}
 use Rattle.std.specs.List.{AllByRecursion, Contains, flat_map, list_all, list_any, range_with_len}
 use Rattle.std.specs.Prelude.{ℤ, filter, OnOk, Result, Ok, Err}
 use Rattle.std.proofs.lemmas.Grind.{flat_map-append}
-use Rattle.std.proofs.Math.ListN.{replicate}
-use Rattle.std.proofs.lemmas.List.{get_or-replicate, length-replicate, map-append}
+use Rattle.std.proofs.Math.ListN.{get_or-append, replicate}
+use Rattle.std.proofs.lemmas.Bool.{cases_lt}
+use Rattle.std.proofs.lemmas.List.{get_or_at, get_or-replicate, length-replicate, map-append}
 use Rattle.std.proofs.lemmas.List.Elements.{Contains-append_cases, Contains-append_left, Contains-append_right}
 use Rattle.std.proofs.lemmas.List.Folds.{list_any-append}
-use Rattle.std.proofs.lemmas.List.FromFn.{map-range_with_len_more}
+use Rattle.std.proofs.lemmas.List.FromFn.{length-map-range_with_len, map-range_with_len_more}
 use Rattle.std.proofs.lemmas.List.Sums.{sum_by-append}
 use Rattle.model_sets.specs.Data.{Data}
 use Rattle.row_core.specs.declared.Index.{Index}
@@ -18,7 +19,9 @@ use Rattle.named_equations.specs.Instances.{indices, instances, instances_of, na
 use Rattle.row_source.specs.Contents.{RowContents, contents_of}
 use Rattle.row_source.specs.Sources.{has_kind}
 use Rattle.row_book.specs.Books.{AreRowsOf, CanBeMade, HasStopped, entries_in, entry_count, entry_limit, entry_variables, row_fits}
-use Rattle.row_book.specs.Tallies.{AreSameVariables, AreSortedVariables, AreTallied, Marks, MarksMore, TalliesMore, marked, names_to, rows_before, table_room}
+use Rattle.row_book.specs.Held.{AreHeld, KeepsRows}
+use Rattle.row_book.specs.declared.held_rows.HeldRows.{HeldRows}
+use Rattle.row_book.specs.Tallies.{AreHeldTo, AreSameVariables, AreSortedVariables, AreTallied, Marks, MarksMore, TalliesMore, marked, names_to, rows_before, table_room}
 use Rattle.row_book.specs.declared.fail.BookFail.{BookFail}
 use Rattle.row_book.specs.declared.tally.Tally.{Tally}
 use Rattle.row_book.proofs.Lists.{flat_map-last, flat_map-middle}
@@ -84,9 +87,9 @@ variables-over a b c first second v = (λ has. (second v).0 ((first v).0 has), �
 entry_variables-append : (rows others : List Row) → entry_variables (rows ++ others) ≡ entry_variables rows ++ entry_variables others
 entry_variables-append rows others = flat_map-append (λ (row : Row). map (λ entry. entry.0) row.entries.items) rows others
 
-pub sorted-same : {A E : Type 0} (outcome : Result A E) (all sorted named : List Var) → all ≡ named → OnOk outcome (AreSortedVariables all sorted) → OnOk outcome (AreSameVariables sorted named)
-sorted-same (Ok x) all sorted named is are = subst (AreSameVariables sorted) is are.same
-sorted-same (Err fail) all sorted named is are = tt
+pub sorted-same : {A E : Type 0} (outcome : Result A E) (all sorted named : List Var) → AreSameVariables all named → OnOk outcome (AreSortedVariables all sorted) → OnOk outcome (AreSameVariables sorted named)
+sorted-same (Ok x) all sorted named same are = variables-over sorted all named are.same same
+sorted-same (Err fail) all sorted named same are = tt
 
 -- ---- names
 
@@ -115,20 +118,53 @@ instances-named d eq = numbered-so eq (filter (stands_at d eq) (indices d (subsc
 
 -- ---- before any row
 
-pub nothing-tallied : (places : ℕ) (d : Data) (t : Tally) (n : ℕ) → t.rows ≡ 0 → t.entries ≡ 0 → t.before.items ≡ [] → t.vars.items ≡ [] → t.kinds.items ≡ replicate n false → n ≡ table_room → AreTallied places d 0 t
-nothing-tallied places d t n rows entries before vars kinds room = record {
+pub nothing-tallied : (places : ℕ) (d : Data) (t : Tally) (n : ℕ) → t.rows ≡ 0 → t.entries ≡ 0 → t.before.items ≡ [] → t.held.items ≡ [] → t.vars.items ≡ [] → t.kinds.items ≡ replicate n false → n ≡ table_room → AreTallied places d 0 t
+nothing-tallied places d t n rows entries before held vars kinds room = record {
   all = [];
   rows = tt;
   fit = refl;
   entries = entries;
   number = rows;
   before = before;
+  held = (
+    (let none : length t.held.items ≡ 0 = ap length held in omega (arith, none)),
+    λ i below z. let none : length t.held.items ≡ 0 = ap length held in absurd (omega (arith, none, below)),
+  );
   kinds = record {
     long = ap length kinds ∙ length-replicate n false ∙ room;
     each = λ eq kind within kind_within. ap (λ (table : List Bool). marked table eq kind) kinds ∙ get_or-replicate n (eq * 256 + kind) false false (omega (arith, room, within, kind_within));
   };
   variables = λ v. (λ has. subst (λ (vs : List Var). Contains vs v) vars has, λ has. subst (λ (vs : List Var). Contains vs v) (sym vars) has);
 }
+
+-- ---- rows that are held
+
+held-more : (places : ℕ) (d : Data) (i : ℕ) (added : List Row) (old new : List HeldRows) (m : ℕ) → 1 ≤ i → m ≡ i - 1 → AreHeldTo places d (i - 1) old → KeepsRows (nat_eq (length old) m) added old new → AreRowsOf places d (instances_of d i) added
+    → AreHeldTo places d ((i + 1) - 1) new
+held-more places d i added old new m low many are keeps rows = elim keeps [
+  | inl same ↦ (
+    (let few = are.0 in let long : length new ≡ length old = ap length same in omega (arith, few, long, low)),
+    subst (AreHeld places d) (sym same) are.1,
+  )
+  | inr kept ↦ (
+      let all : length old ≡ m = eqb-true (length old) m kept.0 in
+      let last : length old + 1 ≡ i = omega (arith, all, many, low) in
+      let h : HeldRows = kept.1 in
+      let split : new ≡ old ++ h ∷ [] = kept.2 in
+      let long : length new ≡ length old + 1 = ap length split ∙ length-append old (h ∷ []) in
+      let here : AreRowsOf places d (instances_of d (length old + 1)) h.rows.items =
+      subst (λ (n : ℕ). AreRowsOf places d (instances_of d n) h.rows.items) (sym last) (subst (AreRowsOf places d (instances_of d i)) (sym kept.3) rows) in (
+        omega (arith, long, last),
+        λ k below z. subst (λ (hs : List HeldRows). AreRowsOf places d (instances_of d (k + 1)) (get_or hs k z).rows.items) (sym split)
+            (elim (cases_lt k (length old)) [
+              | inl earlier ↦ subst (λ (x : HeldRows). AreRowsOf places d (instances_of d (k + 1)) x.rows.items) (sym (get_or-append old (h ∷ []) z k earlier)) (are.1 k earlier z)
+              | inr later ↦ (let e : length old ≡ k = omega (arith, later, below, long) in
+                  subst (λ (n : ℕ). AreRowsOf places d (instances_of d (n + 1)) (get_or (old ++ h ∷ []) n z).rows.items) e
+                  (subst (λ (x : HeldRows). AreRowsOf places d (instances_of d (length old + 1)) x.rows.items) (sym (get_or_at old h [] z (length old) refl)) here))
+            ]),
+      )
+      )
+]
 
 -- ---- one equation more
 
@@ -162,6 +198,8 @@ tally-more places d i t u low so_far more =
           more.before
           ∙ ap₂ (λ (earlier : List ℕ) (n : ℕ). earlier ++ n ∷ []) so_far.before so_far.number
           ∙ sym (before-more d i low);
+      held = held-more places d i more.added t.held.items u.held.items (length t.before.items) low
+          (ap length so_far.before ∙ length-map-range_with_len (λ eq. length (names_to d (eq - 1))) 1 (i - 1)) so_far.held more.held more.rows;
       kinds = subst (Marks u.kinds.items) (sym (map-append contents_of so_far.all more.added)) (marks-more t.kinds.items u.kinds.items (map contents_of so_far.all) (map contents_of more.added) so_far.kinds more.counts.kinds);
       variables = subst (λ (vs : List Var). AreSameVariables u.vars.items vs) (sym (entry_variables-append so_far.all more.added)) (variables-more t.vars.items u.vars.items (entry_variables more.added) (entry_variables so_far.all) so_far.variables more.counts.variables);
     }

@@ -3,7 +3,9 @@ pub mod Definitions
 pub mod EquationRows
 pub mod FeedStates
 pub mod Feeds
+pub mod Held
 pub mod Kept
+pub mod KindVariables
 pub mod Kinds
 pub mod Ratios
 pub mod Replaced

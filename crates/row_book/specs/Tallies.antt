@@ -1,5 +1,5 @@
 -- What a first pass through all rows finds of them. Only private functions cite these.
-use Rattle.std.specs.Prelude.{◌≡◌, ℕ, ◌+◌, ◌-◌, ◌*◌, ◌<◌, Bool, true, false, ◌||◌, List, [], ◌∷◌, ◌++◌, map, length, Contains, ◌↔◌, slice_index_or}
+use Rattle.std.specs.Prelude.{◌≡◌, ℕ, ◌+◌, ◌-◌, ◌*◌, ◌<◌, ◌≤◌, ◌==◌, Bool, true, false, ◌||◌, List, [], ◌∷◌, ◌++◌, map, length, Contains, ◌↔◌, slice_index_or}
 use Rattle.std.specs.List.{flat_map, list_all, range_with_len}
 use Rattle.model_sets.specs.Data.{Data}
 use Rattle.row_core.specs.declared.Row.{Row}
@@ -11,6 +11,8 @@ use Rattle.named_equations.specs.Instances.{instances_of}
 use Rattle.row_source.specs.Contents.{RowContents, contents_of}
 use Rattle.row_source.specs.Sources.{has_kind}
 use Rattle.row_book.specs.Books.{AreRowsOf, entries_in, entry_variables, row_fits}
+use Rattle.row_book.specs.Held.{AreHeld, KeepsRows}
+use Rattle.row_book.specs.declared.held_rows.HeldRows.{HeldRows}
 use Rattle.row_book.specs.declared.tally.Tally.{Tally}
 
 -- how many kinds a table of kinds has room for at each equation, and in all
@@ -49,13 +51,15 @@ pub record Counts (rows : List Row) (old new : Tally) : Type 0 where
   pub kinds : MarksMore old.kinds.items new.kinds.items (λ eq kind. has_kind eq kind (map contents_of rows))
   pub variables : AreSameVariables new.vars.items (old.vars.items ++ entry_variables rows)
 
--- the rows of these instances, which are those of the next equation, were made and looked at
+-- the rows of these instances, which are those of the next equation, were made and looked at, and may be held, if those of all equations
+-- before them are
 pub record TalliesMore (places : ℕ) (d : Data) (names : List RowName) (old new : Tally) : Type 0 where
   pub added : List Row
   pub rows : AreRowsOf places d names added
   pub fit : list_all (row_fits places d) names ≡ true
   pub entries : new.entries ≡ old.entries + entries_in places d names
   pub before : new.before.items ≡ old.before.items ++ old.rows ∷ []
+  pub held : KeepsRows (length old.held.items == length old.before.items) added old.held.items new.held.items
   pub counts : Counts added old new
 
 -- the instances of the first equations
@@ -66,6 +70,10 @@ names_to d n = flat_map (instances_of d) (range_with_len 1 n)
 abbrev pub rows_before : Data → ℕ → List ℕ
 rows_before d n = map (λ eq. length (names_to d (eq - 1))) (range_with_len 1 n)
 
+-- the rows that are held are those of the first equations, and of no more than so many
+abbrev pub AreHeldTo : ℕ → Data → ℕ → List HeldRows → Type 0
+AreHeldTo places d n held = (length held ≤ n) × AreHeld places d held
+
 -- the rows of the first equations were made and looked at
 pub record AreTallied (places : ℕ) (d : Data) (n : ℕ) (t : Tally) : Type 0 where
   pub all : List Row
@@ -74,5 +82,6 @@ pub record AreTallied (places : ℕ) (d : Data) (n : ℕ) (t : Tally) : Type 0 w
   pub entries : t.entries ≡ entries_in places d (names_to d n)
   pub number : t.rows ≡ length (names_to d n)
   pub before : t.before.items ≡ rows_before d n
+  pub held : AreHeldTo places d n t.held.items
   pub kinds : Marks t.kinds.items (map contents_of all)
   pub variables : AreSameVariables t.vars.items (entry_variables all)

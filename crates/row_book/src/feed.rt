@@ -1,4 +1,4 @@
-//! A feed of rows: each is made when it is asked for.
+//! A feed of rows: those of the first equations are copied, and all others made again, when they are asked for.
 
 ghost use Rattle.std.specs.Prelude.{◌≡◌, [], map, reverse, true, IfErr, IfOk, OnErr, OnOk};
 ghost use Rattle.std.specs.List.{AllByRecursion};
@@ -10,9 +10,11 @@ ghost use Rattle.row_source.specs.Contents.{contents_of};
 ghost use Rattle.row_source.specs.Sources.{Answers, AreInOrder, rows_of_equation};
 ghost use Rattle.row_book.specs.Books.{CanBeMade, HasStopped, IsWithinSets, NamesRowWithin};
 ghost use Rattle.row_book.specs.Feeds.{AreContentsOf, HasContentsWithin, ahead_after, equation_contents};
+ghost use Rattle.row_book.specs.Held.{AreHeld};
 
 use crate::factors::region_factors;
 use crate::fail::BookFail;
+use crate::held_rows::{HeldRows, copied_backwards};
 use crate::made_rows::MadeRows;
 use crate::tally::Tally;
 use crate::tallying::is_marked;
@@ -24,7 +26,8 @@ use row_source::RowSource;
 use std::alloc::{AllocError, Global};
 use std::marker::Model;
 
-/// All rows of a model, in order, which are made again equation by equation as they are asked for.
+/// All rows of a model, in order. Those of the first equations are held, as long as they have no more than 262,144
+/// entries together, and copied when they are asked for; the others are made again then, equation by equation.
 #[derive(Drop)]
 pub struct RowFeed<'a> {
     alloc: Global,
@@ -34,6 +37,8 @@ pub struct RowFeed<'a> {
     before: Vec<u64>,
     /// Of each equation, and each kind of variable: whether it has an entry of the kind.
     kinds: Vec<bool>,
+    /// The rows of the first equations.
+    held: Vec<HeldRows>,
     /// The equation, and how many rows of all stand before the place.
     eq: u8,
     passed: u64,
@@ -54,7 +59,7 @@ impl<'a> Model for RowFeed<'a> {
       ahead = ahead_after feed.passed feed.made feed.rows.items (equation_contents (places_of feed.factors.items) feed.model.now.facts feed.eq);
     } };
 
-    ghost invariant = { λ feed. IsFeed feed.model.now.facts feed.factors.items feed.before.items feed.kinds.items feed.eq };
+    ghost invariant = { λ feed. IsFeed feed.model.now.facts feed.factors.items feed.before.items feed.kinds.items feed.held.items feed.eq };
 }
 
 impl<'a> RowFeed<'a> {
@@ -93,6 +98,7 @@ impl<'a> RowFeed<'a> {
         let Tally {
             before,
             kinds,
+            held,
             mut vars,
             ..
         } = tally;
@@ -106,6 +112,7 @@ impl<'a> RowFeed<'a> {
             factors,
             before,
             kinds,
+            held,
             eq: 1,
             passed: 0,
             made: false,
@@ -130,7 +137,7 @@ impl<'a> RowSource for RowFeed<'a> {
         if self.made {
             return next_row(&mut self.rows, &mut self.passed);
         }
-        self.rows = match equation_rows(self.alloc, self.model, &self.factors, self.eq) {
+        self.rows = match rows_again(self.alloc, self.model, &self.factors, &self.held, self.eq) {
             Ok(rows) => rows,
             Err(fail) => return Err(fail),
         };
@@ -141,6 +148,27 @@ impl<'a> RowSource for RowFeed<'a> {
     fn has(&self, eq: u8, kind: u8) -> bool {
         is_marked(&self.kinds, eq, kind)
     }
+}
+
+/// The rows of an equation, the last one first: copies of those that are held, or rows that are made again. Fails only
+/// where memory runs out.
+fn rows_again(
+    alloc: Global,
+    model: &ModelData,
+    factors: &[Factors],
+    held: &[HeldRows],
+    eq: u8,
+) -> Result<Vec<Row>, AllocError>
+    requires equation { IsEquation eq }
+    requires factors { AreRegionFactors (places_of factors.now) model.now.facts factors.now }
+    requires held { AreHeld (places_of factors.now) model.now.facts held.now }
+    ensures { IfOk result (λ rows. map contents_of (reverse rows.items) ≡ equation_contents (places_of factors.now) model.now.facts eq) }
+{
+    let place = eq as usize - 1;
+    if place < held.len() {
+        return copied_backwards(alloc, &held[place].rows);
+    }
+    equation_rows(alloc, model, factors, eq)
 }
 
 /// Makes the rows of an equation, of which all can be made, and puts the last one first. Fails only where memory runs

@@ -2,6 +2,7 @@
 
 ghost use Rattle.std.specs.Prelude.{◌≤◌};
 
+use crate::held_rows::HeldRows;
 use row_core::Var;
 
 /// What is found so far.
@@ -14,6 +15,8 @@ pub(crate) struct Tally {
     pub(crate) before: Vec<u64>,
     /// Of each equation, and each kind of variable: whether it has an entry of the kind.
     pub(crate) kinds: Vec<bool>,
+    /// The rows of the first equations, as long as they don't have too many entries.
+    pub(crate) held: Vec<HeldRows>,
     /// The variables of all entries.
     pub(crate) vars: Vec<Var>,
     pub(crate) ghost few: { entries ≤ 4000000 },

@@ -1,5 +1,5 @@
 //! What a first pass through all rows finds of them: how many stand before each equation, which kinds each equation
-//! has, and the variables.
+//! has, and the variables. It holds the rows of the first equations.
 
 ghost use Rattle.std.specs.Prelude.{◌≡◌, ℕ, ◌≤◌, ◌<◌, ◌+◌, ◌-◌, ◌&&◌, ◌++◌, nat_eq, map, length, false, IfErr, IfOk, OnOk};
 ghost use Rattle.std.specs.List.{AllByRecursion};
@@ -13,9 +13,11 @@ ghost use Rattle.row_book.specs.Books.{HasStopped, entry_variables};
 ghost use Rattle.row_book.specs.Tallies.{AreSameVariables, AreTallied, Counts, MarksMore, TalliesMore, marked, table_room};
 
 use crate::fail::BookFail;
+use crate::held_rows::keep_rows;
+use crate::kind_variables::add_by_kind;
 use crate::made_rows::MadeRows;
 use crate::tally::Tally;
-use crate::variables::{add_all_variables, sort_variables};
+use crate::variables::sort_variables;
 use discount_factors::Factors;
 use param_tables::ModelData;
 use row_core::equation_numbers::EQUATION_COUNT;
@@ -42,11 +44,13 @@ impl Tally {
             entries: 0,
             before: Vec::new(alloc),
             kinds,
+            held: Vec::new(alloc),
             vars: Vec::new(alloc),
         })
     }
 
-    /// Makes the rows of all equations, each once, and lets them go again, equation by equation.
+    /// Makes the rows of all equations, each once, equation by equation. Those of the first equations are held, and the
+    /// others let go again.
     pub(crate) fn add_equations(
         &mut self,
         alloc: Global,
@@ -67,7 +71,7 @@ impl Tally {
         Ok(())
     }
 
-    /// Makes the rows of an equation, and looks at them.
+    /// Makes the rows of an equation, looks at them, and holds them if there is room.
     fn add_equation(
         &mut self,
         alloc: Global,
@@ -81,6 +85,7 @@ impl Tally {
         ensures more { OnOk result (TalliesMore (places_of factors.now) model.now.facts (instances_of model.now.facts eq) self.old self.new) }
         ensures stopped { IfErr result (HasStopped (places_of factors.now) model.now.facts self.old.entries (instances_of model.now.facts eq)) }
     {
+        let all_held = self.held.len() == self.before.len();
         let mut made = MadeRows {
             alloc,
             rows: Vec::new(alloc),
@@ -96,7 +101,10 @@ impl Tally {
             Err(_) => return Err(BookFail::Memory),
         }
         self.entries = made.entries;
-        Ok(())
+        match keep_rows(&mut self.held, all_held, made.entries, made.rows) {
+            Ok(()) => Ok(()),
+            Err(_) => Err(BookFail::Memory),
+        }
     }
 
     /// Looks at rows.
@@ -106,6 +114,7 @@ impl Tally {
         ensures counts { OnOk result (Counts rows.now self.old self.new) }
         ensures before { OnOk result (self.new.before ≡ self.old.before) }
         ensures entries { OnOk result (self.new.entries ≡ self.old.entries) }
+        ensures held { OnOk result (self.new.held ≡ self.old.held) }
     {
         self.rows = match self.rows.checked_add(rows.len() as u64) {
             Some(number) => number,
@@ -116,16 +125,16 @@ impl Tally {
     }
 }
 
-/// Adds the variables of rows, and leaves out those that repeat where they are many.
+/// Adds the variables of rows, and leaves out those that repeat if these rows at least double a long list.
 fn gather_variables(vars: &mut Vec<Var>, rows: &[Row]) -> Result<(), AllocError>
     ensures { OnOk result (AreSameVariables vars.new.items (vars.old.items ++ entry_variables rows.now)) }
 {
     let before = vars.len();
-    match add_all_variables(vars, rows) {
+    match add_by_kind(vars, rows) {
         Ok(()) => {}
         Err(fail) => return Err(fail),
     }
-    // Half of them at least are new.
+    // At least half of them are of these rows.
     if vars.len() > FEW && vars.len() / 2 >= before {
         return sort_variables(vars);
     }

@@ -9,7 +9,7 @@ use Rattle.std.proofs.Math.Nat.{dvd-mul_left, mul-dvd-mul_left, one-dvd}
 use Rattle.exact_num.specs.Formed.{common}
 use Rattle.exact_num.specs.Gcd.{gcd_of}
 use Rattle.exact_num.specs.Rational.{Rational}
-use Rattle.exact_num.proofs.GcdLaws.{gcd_of-dvd_left, gcd_of-dvd_right, dvd-gcd_of, gcd_of-one}
+use Rattle.exact_num.proofs.GcdLaws.{gcd_of-dvd_left, gcd_of-dvd_right, dvd-gcd_of, gcd_of-one, one-gcd_of}
 use Rattle.exact_num.proofs.Integers.{int_div-mul, pos-unsigned_abs, <ℤ_cancel, *ℤ_pos, *ℤ_cancel, nonzero_of_pos, unsigned_abs-zero}
 use Rattle.exact_num.proofs.RationalLaws.{common_pos}
 use Rattle.exact_num.proofs.Ring.{*ℤ_assoc, *ℤ-one, one-*ℤ, zero-*ℤ, zero-+ℤ}
@@ -157,6 +157,12 @@ pub widened-one : (d b : ℤ) → b ≡ pos 1 → widened d b ≡ d
 widened-one d b h =
     let one : common d b ≡ pos 1 = ap (λ z. common d z) h ∙ ap pos (gcd_of-one (unsigned_abs d)) in
     ap₂ (λ g z. int_div d g *ℤ z) one h ∙ int_div-mul d 1 (one-dvd (unsigned_abs d))
+
+-- and by any number 1 becomes that number
+pub one-widened : (d b : ℤ) → d ≡ pos 1 → widened d b ≡ b
+one-widened d b h =
+    let one : common d b ≡ pos 1 = ap (λ z. common z b) h ∙ ap pos (one-gcd_of (unsigned_abs b)) in
+    ap₂ (λ x g. int_div x g *ℤ b) h one ∙ one-*ℤ b
 
 -- over its own denominator a number has its own numerator
 pub numerator_over-own : (d : ℤ) (number : Rational) → pos 0 <ℤ d → number.bottom ≡ d → numerator_over d number ≡ number.top

@@ -10,6 +10,7 @@ use Rattle.row_core.specs.declared.Index.{Index}
 use Rattle.row_core.specs.declared.Var.{Var}
 use Rattle.row_core.specs.declared.RowName.{RowName}
 use Rattle.row_core.specs.Order.{index_cmp, var_cmp, row_name_cmp}
+use Rattle.row_core.specs.OrderLaws.{index_cmp_total}
 
 -- a function of eight numbers has one value where they are the same
 same_of_eight : {X : Type 0} (g : ℕ → ℕ → ℕ → ℕ → ℕ → ℕ → ℕ → ℕ → X) (a b c d e f h k a' b' c' d' e' f' h' k' : ℕ) → a ≡ a' → b ≡ b' → c ≡ c' → d ≡ d' → e ≡ e' → f ≡ f' → h ≡ h' → k ≡ k' → g a b c d e f h k ≡ g a' b' c' d' e' f' h' k'
@@ -40,16 +41,6 @@ same_var a b = same_of_two (λ kind index. record { kind = kind; index = index }
 
 same_row_name : (a b : RowName) → a.eq ≡ b.eq → a.index ≡ b.index → a ≡ b
 same_row_name a b = same_of_two (λ eq index. record { eq = eq; index = index }) a.eq b.eq a.index b.index
-
-pub index_cmp_total : IsTotalOrder index_cmp
-index_cmp_total =
-    then_total (on_total (λ (i : Index). i.region) nat_cmp_total)
-    (then_total (on_total (λ (i : Index). i.other) nat_cmp_total)
-    (then_total (on_total (λ (i : Index). i.slice) nat_cmp_total)
-    (then_total (on_total (λ (i : Index). i.tech) nat_cmp_total)
-    (then_total (on_total (λ (i : Index). i.fuel) nat_cmp_total)
-    (then_total (on_total (λ (i : Index). i.emission) nat_cmp_total)
-    (then_total (on_total (λ (i : Index). i.mode) nat_cmp_total) (on_total (λ (i : Index). i.year) nat_cmp_total)))))))
 
 pub var_cmp_total : IsTotalOrder var_cmp
 var_cmp_total = then_total (on_total (λ (v : Var). v.kind) nat_cmp_total) (on_total (λ (v : Var). v.index) index_cmp_total)

@@ -4,6 +4,7 @@ pub mod NameTexts
 pub mod Names
 pub mod Numbers
 pub mod Order
+pub mod OrderLaws
 pub mod Rows
 pub mod Statements
 pub mod Stops

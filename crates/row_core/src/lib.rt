@@ -14,6 +14,7 @@ mod dividing;
 pub mod equation_numbers;
 mod equations;
 mod evaluating;
+mod index_order;
 pub mod kind_numbers;
 mod kinds;
 mod left_side;
@@ -43,7 +44,7 @@ pub use writing::write_row;
 
 /// The subscripts of a variable or an equation, each a position in its set, counted from 0.
 /// A subscript that the kind or equation doesn't have is 0. Ordered by the fields as they stand here.
-#[derive(Clone, Copy, Debug, PartialEq, Eq, PartialOrd, Ord)]
+#[derive(Clone, Copy, Debug, PartialEq, Eq)]
 pub struct Index {
     /// The region, `r`.
     pub region: u16,

@@ -86,32 +86,21 @@ impl Terms {
     }
 }
 
-/// The position of the term of this variable, or the one at which it belongs.
+/// The position of the term of this variable, or the one at which it belongs. Looked for from the end, where most terms
+/// belong: so most are placed by one comparison.
 fn position_of(list: &[Term], variable: Var) -> Result<usize, usize>
     requires { IsTrue (ascends var_cmp (variables_of (map seen list.now))) }
     ensures { MatchResult result (IsThere list.now variable) (BelongsAt list.now variable) }
 {
-    let end = end_of(list, variable);
-    if end == 0 {
-        return Err(0);
-    }
-    match compare(list[end - 1].variable, variable) {
-        Ordering::Equal => Ok(end - 1),
-        _ => Err(end),
-    }
-}
-
-/// How many terms aren't after the variable. Looked for from the end, where most terms belong.
-fn end_of(list: &[Term], variable: Var) -> usize
-    ensures within { result ≤ length list.now }
-    ensures not_after { (d : Term) → 0 < result → var_cmp (slice_index_or list.now (result - 1) d).variable variable ≢ Greater }
-    ensures following { (d : Term) → result < length list.now → var_cmp (slice_index_or list.now result d).variable variable ≡ Greater }
-{
     let mut end = list.len();
-    while end > 0 && compare(list[end - 1].variable, variable) == Ordering::Greater {
-        end -= 1;
+    while end > 0 {
+        match compare(list[end - 1].variable, variable) {
+            Ordering::Less => return Err(end),
+            Ordering::Equal => return Ok(end - 1),
+            Ordering::Greater => end -= 1,
+        }
     }
-    end
+    Err(0)
 }
 
 /// How two variables stand in the order of variables.

@@ -94,6 +94,9 @@ fn widen(denominator: i128, other: i128) -> Result<i128, TooWide>
 {
     if other == 1 {
         Ok(denominator)
+    } else if denominator == 1 {
+        // Most rows have one denominator beside 1.
+        Ok(other)
     } else {
         product(quotient(denominator, gcd(denominator, other)), other)
     }

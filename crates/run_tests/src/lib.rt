@@ -4,8 +4,6 @@
 #[cfg(test)]
 mod attempts;
 #[cfg(test)]
-mod base_text;
-#[cfg(test)]
 mod bounds;
 #[cfg(test)]
 mod calls;

@@ -1,11 +1,10 @@
 //! Files that are read byte by byte, a report and a made file that are written byte by byte, and files that are cut short.
 
-use crate::base_text::base_text;
 use crate::calls::{CHECK, Ending, MPS, SETS, assert_ends, call, call_check, call_into, call_on};
 use crate::made::MADE_3;
 use crate::plan_records::{PLAN, file_of};
 use crate::solves::{BASE_REPORT, SOLVE};
-use data_tests::section;
+use data_tests::{base_text, section};
 use io_edges::{MemShelf, MemSink};
 use std::alloc::Global;
 use std::test::Fail;

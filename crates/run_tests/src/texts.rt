@@ -1,8 +1,7 @@
 //! What is written where nothing is refused, and where a row can't be made.
 
-use crate::base_text::base_text;
 use crate::calls::{MPS, SETS, call};
-use data_tests::section;
+use data_tests::{base_text, section};
 use std::alloc::Global;
 use std::process::Abort;
 use std::test::Fail;

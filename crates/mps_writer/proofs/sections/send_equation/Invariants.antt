@@ -1,8 +1,8 @@
-use Rattle.std.proofs.Common.{◌≡◌, ◌≤◌, ◌++◌, length}
+use Rattle.std.proofs.Common.{◌≡◌, ◌≤◌, ◌++◌, length, false}
 use Rattle.std.specs.List.{AllByRecursion, flat_map}
 use Rattle.row_source.specs.Sources.{rows_of_equation}
 use Rattle.mps_writer.specs.MpsText.{IsNamedRow}
-use Rattle.mps_writer.specs.SectionLines.{lines_in}
+use Rattle.mps_writer.specs.SectionLines.{HasNoSides, lines_in}
 use Rattle.mps_writer.specs.Steps.{LeavesOf}
 use Rattle.mps_writer.proofs.sections.send_equation.Given as goal
 
@@ -17,6 +17,7 @@ invariant-rows g l =
       taken : LeavesOf (l.fn.buffer.items ++ flat_map (lines_in l.section l.sets) (rows_of_equation l.eq (source.rows l.fn.rows)))
           (sink.written l.fn.out) (sink.written l.out) (l.buffer.items ++ flat_map (lines_in l.section l.sets) (source.ahead l.rows));
       faults : sink.faults l.fn.out ≤ sink.faults l.out;
+      sides : l.found ≡ false → HasNoSides (source.ahead l.rows) → HasNoSides (rows_of_equation l.eq (source.rows l.fn.rows));
     }
 
 abbrev pub decreases-rows : goal.decreases-rows

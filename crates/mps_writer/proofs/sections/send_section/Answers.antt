@@ -1,9 +1,11 @@
-use Rattle.std.proofs.Common.{◌∙◌, ◌+◌, ◌-◌, ◌<◌, ◌++◌, ℕ, List, refl, ap, sym, arith}
+use Rattle.std.proofs.Common.{◌≡◌, ◌∙◌, ◌+◌, ◌-◌, ◌<◌, ◌++◌, ℕ, List, false, refl, ap, sym, subst, arith}
 use Rattle.std.specs.List.{flat_map, range_with_len}
 use Rattle.row_source.specs.Contents.{RowContents}
+use Rattle.row_source.specs.Sources.{rows_of_equation}
 use Rattle.mps_writer.specs.MpsText.{numbered}
-use Rattle.mps_writer.specs.SectionLines.{lines_in}
+use Rattle.mps_writer.specs.SectionLines.{HasNoSides, lines_in}
 use Rattle.mps_writer.proofs.SectionLaws.{equation-next, equation_lines, equations-end, section-whole}
+use Rattle.mps_writer.proofs.SideLaws.{sides-more}
 use Rattle.mps_writer.proofs.TakenLaws.{item-end, item-fails, item-taken, leaves-all}
 use Rattle.mps_writer.proofs.sections.send_section.Goals as goal
 
@@ -13,6 +15,7 @@ loop-eq-init g c =
     record {
       low = omega arith;
       rows = refl;
+      sides = c.requires.sides;
       taken = leaves-all (c.args.buffer.now.items ++ flat_map (lines_in c.args.section c.args.sets.now) (numbered rows)) _ (g.K.Sink.written c.args.out.now)
           (ap (λ (text : List ℕ). c.args.buffer.now.items ++ text) (sym (section-whole c.args.section c.args.sets.now rows c.requires.in_order c.requires.named)));
       faults = omega arith;
@@ -38,6 +41,8 @@ loop-eq-preserved g c =
     record {
       low = omega arith;
       rows = c.in-Ok.ensures.rows ∙ c.loop-eq.invariant.rows;
+      sides = sides-more rows c.loop-eq.sides i c.in-Ok.some inside c.loop-eq.invariant.sides
+          (subst (λ (rs : List RowContents). c.in-Ok.some ≡ false → HasNoSides (rows_of_equation i rs)) c.loop-eq.invariant.rows c.in-Ok.ensures.sides);
       taken = item-taken f i (range_with_len (i + 1) (65 - (i + 1))) (range_with_len i (65 - i)) (c.args.buffer.now.items ++ flat_map (lines_in c.args.section c.args.sets.now) (numbered rows)) c.loop-eq.buffer.items
           (equation_lines c.args.section c.args.sets.now (g.R.RowSource.rows c.loop-eq.rows) i) c.send_equation.new.buffer.items
           (g.K.Sink.written c.args.out.now) (g.K.Sink.written c.loop-eq.out) (g.K.Sink.written c.send_equation.new.out)
@@ -53,3 +58,9 @@ returns-clause-taken g c =
           (g.K.Sink.written c.args.out.now) (g.K.Sink.written c.loop-eq.out) (equations-end i (omega (arith, c.loop-eq-test.false))) c.loop-eq.invariant.taken,
       c.loop-eq.invariant.faults,
     )
+
+pub send_equation-requires-clause-sides : goal.send_equation-requires-clause-sides
+send_equation-requires-clause-sides g c = λ none.
+    let i : ℕ = c.loop-eq.eq in
+    let inside : i < 65 = omega (arith, c.loop-eq-test.true) in
+    subst (λ (rs : List RowContents). HasNoSides (rows_of_equation i rs)) (sym c.loop-eq.invariant.rows) (c.loop-eq.invariant.sides.each i inside none)

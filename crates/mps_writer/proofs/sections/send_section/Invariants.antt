@@ -1,7 +1,7 @@
 use Rattle.std.proofs.Common.{◌≡◌, ◌≤◌, ◌-◌, ◌++◌}
 use Rattle.std.specs.List.{flat_map, range_with_len}
 use Rattle.mps_writer.specs.MpsText.{numbered}
-use Rattle.mps_writer.specs.SectionLines.{lines_in}
+use Rattle.mps_writer.specs.SectionLines.{AreSidesOf, lines_in}
 use Rattle.mps_writer.proofs.SectionLaws.{equation_lines}
 use Rattle.mps_writer.specs.Steps.{LeavesOf}
 use Rattle.mps_writer.proofs.sections.send_section.Given as goal
@@ -14,6 +14,7 @@ invariant-loop-eq g l =
     record {
       low : 1 ≤ l.eq;
       rows : source.rows l.rows ≡ source.rows l.fn.rows;
+      sides : AreSidesOf (source.rows l.fn.rows) l.sides;
       taken : LeavesOf (l.fn.buffer.items ++ flat_map (lines_in l.section l.sets) (numbered (source.rows l.fn.rows)))
           (sink.written l.fn.out) (sink.written l.out)
           (l.buffer.items ++ flat_map (equation_lines l.section l.sets (source.rows l.fn.rows)) (range_with_len l.eq (65 - l.eq)));

@@ -6,6 +6,7 @@ use Rattle.mps_writer.specs.Entries.{HasEquation}
 use Rattle.mps_writer.specs.MpsText.{bounds, column_lines, line, numbered, rhs_line, row_lines, sections_text}
 use Rattle.mps_writer.specs.Steps.{Fails, LeavesOf}
 use Rattle.mps_writer.proofs.SectionLaws.{named-equations, sections-are}
+use Rattle.mps_writer.proofs.SideLaws.{sides-none}
 use Rattle.mps_writer.proofs.TakenLaws.{leaves-all, then-fails, then-last, then-more}
 use Rattle.mps_writer.proofs.sending.send_sections.Goals as goal
 
@@ -215,3 +216,6 @@ returns-clause-taken g c =
     let so_far6 : LeavesOf whole b (sink.written c.send_bounds.new.out) (c.send_bounds.new.buffer.items ++ end) = then-more whole c.send_section-2.new.buffer.items (bounds (numbered vars)) end c.send_bounds.new.buffer.items b (sink.written c.send_section-2.new.out) (sink.written c.send_bounds.new.out) so_far5 c.in-Ok-send_bounds.ensures.0 in
     let low6 : m ≤ (sink.faults c.send_bounds.new.out) = omega (arith, low5, c.in-Ok-send_bounds.ensures.1) in
     then-last whole (c.send_bounds.new.buffer.items ++ end) c.send_piece-3.new.buffer.items c.send_piece-3.result b (sink.written c.send_bounds.new.out) (sink.written c.send_piece-3.new.out) m (sink.faults c.send_bounds.new.out) (sink.faults c.send_piece-3.new.out) so_far6 low6 c.send_piece-3.ensures
+
+pub send_section-requires-clause-sides : goal.send_section-requires-clause-sides
+send_section-requires-clause-sides g c = sides-none (g.R.RowSource.rows c.args.rows.now)

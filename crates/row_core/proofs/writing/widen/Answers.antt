@@ -8,7 +8,7 @@ use Rattle.exact_num.specs.Range.{InRange}
 use Rattle.exact_num.proofs.RangeLaws.{back_in_range}
 use Rattle.exact_num.proofs.RationalLaws.{common_pos}
 use Rattle.row_core.specs.Written.{widened}
-use Rattle.row_core.proofs.DivisionLaws.{widened-one, widened_pos}
+use Rattle.row_core.proofs.DivisionLaws.{widened-one, one-widened, widened_pos}
 use Rattle.row_core.proofs.writing.widen.Goals as goal
 
 pub quotient-requires-clause-positive : goal.quotient-requires-clause-positive
@@ -25,8 +25,13 @@ returns-then-other-eq1-clause-value c =
     let one : c.args.other ≡ pos 1 = sym (back_in_range c.args.other c.requires.other_fits) ∙ ap (λ n. to_z w128 n) c.if-other-eq1.true in
     back_in_range c.args.denominator c.requires.fits ∙ sym (widened-one c.args.denominator c.args.other one)
 
-pub returns-else-other-eq1-clause-positive : goal.returns-else-other-eq1-clause-positive
-returns-else-other-eq1-clause-positive c =
+pub returns-then-denominator-eq1-clause-value : goal.returns-then-denominator-eq1-clause-value
+returns-then-denominator-eq1-clause-value c =
+    let one : c.args.denominator ≡ pos 1 = sym (back_in_range c.args.denominator c.requires.fits) ∙ ap (λ n. to_z w128 n) c.if-denominator-eq1.true in
+    back_in_range c.args.other c.requires.other_fits ∙ sym (one-widened c.args.denominator c.args.other one)
+
+pub returns-else-denominator-eq1-clause-positive : goal.returns-else-denominator-eq1-clause-positive
+returns-else-denominator-eq1-clause-positive c =
     let d : ℤ = c.args.denominator in
     let b : ℤ = c.args.other in
     let fits : InRange d = c.requires.fits in

@@ -1,8 +1,15 @@
-use Rattle.std.proofs.Common.{◌≤◌, List, sym, subst}
+use Rattle.std.proofs.Common.{◌≤◌, ◌+◌, ◌∙◌, ◌++◌, Bool, List, nat_eq, length, map, ap, ap₂, sym, subst}
 use Rattle.std.specs.List.{AllByRecursion}
 use Rattle.row_core.specs.declared.Row.{Row}
 use Rattle.named_equations.specs.Instances.{instances_of}
 use Rattle.named_equations.specs.RegionFactors.{places_of}
+use Rattle.row_source.specs.Contents.{contents_of}
+use Rattle.row_source.specs.Sources.{has_kind}
+use Rattle.row_book.specs.Books.{entry_variables}
+use Rattle.row_book.specs.Held.{KeepsRows}
+use Rattle.row_book.specs.Tallies.{AreSameVariables, MarksMore}
+use Rattle.row_book.specs.declared.held_rows.HeldRows.{HeldRows}
+use Rattle.row_book.specs.declared.tally.Tally.{Tally}
 use Rattle.row_book.proofs.RowsAddedLaws.{alone}
 use Rattle.row_book.proofs.TallyLaws.{instances-named, named-so}
 use Rattle.row_book.proofs.tally.Tally.add_equation.Goals as goal
@@ -15,3 +22,28 @@ add_rows-requires-clause-equations c =
     subst (λ (rs : List Row). AllByRecursion (λ row. row.name.eq ≤ 64) rs) (sym c.deref.ensures.value)
     (named-so places d c.args.eq (instances_of d c.args.eq) rows c.requires.equation.1 (instances-named d c.args.eq)
     (alone places d (instances_of d c.args.eq) _ c.add_equation.new.self c.new.ensures.items c.in-Ok.ensures.added))
+
+pub returns-in-Ok-keep_rows-clause-more : goal.returns-in-Ok-keep_rows-clause-more
+returns-in-Ok-keep_rows-clause-more c =
+    let d = c.args.model.now.facts in
+    let places = places_of c.args.factors.now in
+    let old : Tally = c.args.self.now in
+    let new : Tally = c.add_rows.new.self in
+    let rows : List Row = c.add_equation.new.self.rows.items in
+    let adds = c.in-Ok.ensures.added in
+    let counts = c.in-Ok-add_rows.ensures.counts in
+    let is = c.deref.ensures.value in
+    record {
+      added = rows;
+      rows = alone places d (instances_of d c.args.eq) _ c.add_equation.new.self c.new.ensures.items adds;
+      fit = adds.fit;
+      entries = adds.counted;
+      before = ap (λ v. v.items) c.in-Ok-add_rows.ensures.before ∙ c.in_ok-push.ensures.items;
+      held = subst (λ (held : List HeldRows). KeepsRows (nat_eq (length old.held.items) (length old.before.items)) rows held c.keep_rows.new.held.items) (ap (λ v. v.items) c.in-Ok-add_rows.ensures.held)
+          (subst (λ (all : Bool). KeepsRows all rows new.held.items c.keep_rows.new.held.items) (ap₂ nat_eq (c.len.ensures ∙ old.held.ok.0) (c.len-2.ensures ∙ old.before.ok.0)) c.in-Ok-keep_rows.ensures);
+      counts = record {
+        number = counts.number ∙ ap (λ (rs : List Row). old.rows + length rs) is;
+        kinds = subst (λ (rs : List Row). MarksMore old.kinds.items new.kinds.items (λ eq kind. has_kind eq kind (map contents_of rs))) is counts.kinds;
+        variables = subst (λ (rs : List Row). AreSameVariables new.vars.items (old.vars.items ++ entry_variables rs)) is counts.variables;
+      };
+    }

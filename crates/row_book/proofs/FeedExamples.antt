@@ -1,0 +1,179 @@
+-- What a feed of rows tells, and what a first pass through all rows finds: examples, and near misses.
+use Rattle.std.proofs.Common.{◌≡◌, ℕ, ◌+◌, pos, negsuc, Bool, true, false, List, [], ◌∷◌, ◌++◌, map, length, length-append, refl, sym, ap, ◌∙◌, subst, inl, inr, arith, true≢false}
+use Rattle.std.specs.Prelude.{None, Some}
+use Rattle.row_core.specs.declared.Row.{Row}
+use Rattle.row_core.specs.declared.Sense.TheVariants.{Equal}
+use Rattle.row_core.specs.declared.Var.{Var}
+use Rattle.row_core.specs.declared.equation_numbers.TheConstants.{CAA1, CC1}
+use Rattle.row_core.specs.declared.kind_numbers.TheConstants.{CAPITAL_INVESTMENT, TRADE}
+use Rattle.exact_num.specs.Gcd.{gcd_of, gcd_within}
+use Rattle.exact_num.specs.Rational.{lowest, plus, times}
+use Rattle.named_equations.specs.Variables.{capital_investment, new_capacity}
+use Rattle.row_source.specs.Contents.{RowContents, contents_of}
+use Rattle.row_source.specs.Sources.{has_kind}
+use Rattle.row_book.specs.Feeds.{HasContentsWithin, ahead_after, all_contents, contents_at, equation_contents}
+use Rattle.row_book.specs.Held.{AreHeld, KeepsRows}
+use Rattle.row_book.specs.KindVariables.{is_before_kind, is_of_kind, next_kind}
+use Rattle.row_book.specs.Tallies.{AreSortedVariables, AreTallied, Counts, Marks, MarksMore, kind_room, marked, names_to, rows_before}
+use Rattle.row_book.specs.Books.{AreRowsOf}
+use Rattle.row_book.specs.declared.held_rows.HeldRows.{HeldRows}
+use Rattle.row_book.specs.declared.tally.Tally.{Tally}
+use Rattle.named_equations.specs.Instances.{instances_of}
+use Rattle.row_book.proofs.Examples.{at_zeros, base}
+use Rattle.row_book.proofs.InvestmentExamples.{spread}
+
+-- ---- what rows say
+
+-- an investment is 5 times the new capacity
+abbrev investment : RowContents
+investment = record {
+  name = at_zeros CC1;
+  sense = Equal;
+  entries = (new_capacity 0 0 0, negsuc 4) ∷ (capital_investment 0 0 0, pos 1) ∷ [];
+  rhs = pos 0;
+}
+
+investment_says : contents_at 9 (spread false) (at_zeros CC1) ≡ investment
+unfolding contents_at lowest times plus gcd_of gcd_within
+investment_says = refl
+
+-- the one row of CC1; none of EBa4, as nothing is taken in
+one_row : equation_contents 9 (spread false) CC1 ≡ investment ∷ []
+unfolding equation_contents contents_at lowest times plus gcd_of gcd_within
+one_row = refl
+
+no_row : equation_contents 6 base 10 ≡ []
+unfolding equation_contents
+no_row = refl
+
+-- the names of all rows are the instances
+all_names : map (λ row. row.name) (all_contents 6 base)
+    ≡ map at_zeros
+    (1 ∷ 2 ∷ 3 ∷ 4 ∷ 5 ∷ 6 ∷ 7 ∷ 8 ∷ 9 ∷ 12 ∷ 13 ∷ 14 ∷ 15 ∷ 16 ∷ 17 ∷ 18 ∷ 19 ∷ 20 ∷ 21 ∷ 22 ∷ 24 ∷ 25 ∷ 26 ∷ 29 ∷ 30
+    ∷ 31 ∷ 32 ∷ 33 ∷ 34 ∷ 38 ∷ 39 ∷ 40 ∷ 41 ∷ 42 ∷ 47 ∷ 50 ∷ 53 ∷ 54 ∷ 55 ∷ 56 ∷ 57 ∷ 58 ∷ 59 ∷ [])
+unfolding all_contents contents_at
+all_names = refl
+
+-- an equation past the last one has no place in the list
+past_last : (row : RowContents) → row.name.eq ≡ 65 → HasContentsWithin base.sets row → ⊥
+past_last row past within = omega (arith, past, within.0.1)
+
+-- ---- the place among the rows
+
+-- before the rows are made: all that the equation has, numbered from the next position on
+not_made : (a b : RowContents) → ahead_after 3 false [] (a ∷ b ∷ []) ≡ (4, a) ∷ (5, b) ∷ []
+not_made a b = refl
+
+-- afterwards those that are made, which are kept with the last one first and come in order
+made : (first second : Row) → ahead_after 3 true (second ∷ first ∷ []) [] ≡ (4, contents_of first) ∷ (5, contents_of second) ∷ []
+made first second = refl
+
+-- when all of them were taken none is ahead, though the equation has one
+all_taken : (a : RowContents) → ahead_after 4 true [] (a ∷ []) ≡ []
+all_taken a = refl
+
+-- ---- what a first pass finds
+
+-- how many rows stand before those of each equation
+counts_before : rows_before base 64
+    ≡ 0 ∷ 1 ∷ 2 ∷ 3 ∷ 4 ∷ 5 ∷ 6 ∷ 7 ∷ 8 ∷ 9 ∷ 9 ∷ 9 ∷ 10 ∷ 11 ∷ 12 ∷ 13 ∷ 14 ∷ 15 ∷ 16 ∷ 17 ∷ 18 ∷ 19 ∷ 20 ∷ 20 ∷ 21 ∷ 22 ∷ 23 ∷ 23 ∷ 23
+    ∷ 24 ∷ 25 ∷ 26 ∷ 27 ∷ 28 ∷ 29 ∷ 29 ∷ 29 ∷ 29 ∷ 30 ∷ 31 ∷ 32 ∷ 33 ∷ 34 ∷ 34 ∷ 34 ∷ 34 ∷ 34 ∷ 35 ∷ 35 ∷ 35 ∷ 36 ∷ 36 ∷ 36 ∷ 37 ∷ 38 ∷ 39
+    ∷ 40 ∷ 41 ∷ 42 ∷ 43 ∷ 43 ∷ 43 ∷ 43 ∷ 43 ∷ []
+counts_before = refl
+
+-- the instances of the first three equations
+first_names : names_to base 3 ≡ map at_zeros (1 ∷ 2 ∷ 3 ∷ [])
+first_names = refl
+
+-- the row of CC1 has an entry at an investment, and none at a trade; of CAa1 none is among these
+kind_there : has_kind CC1 CAPITAL_INVESTMENT (investment ∷ []) ≡ true
+kind_there = refl
+
+other_kind : has_kind CC1 TRADE (investment ∷ []) ≡ false
+other_kind = refl
+
+other_equation : has_kind CAA1 CAPITAL_INVESTMENT (investment ∷ []) ≡ false
+other_equation = refl
+
+-- kind 1 of equation 0 is marked, and kind 0 isn't, nor is what lies past the table's end
+is_marked : marked (false ∷ true ∷ []) 0 1 ≡ true
+is_marked = refl
+
+isnt_marked : marked (false ∷ true ∷ []) 0 0 ≡ false
+isnt_marked = refl
+
+past_end : marked (false ∷ true ∷ []) 1 1 ≡ false
+past_end = refl
+
+-- a mark that is added must be there, and one that was there stays
+mark_left_out : MarksMore (false ∷ false ∷ []) (false ∷ false ∷ []) (λ eq kind. true) → ⊥
+mark_left_out is = true≢false (sym (is.each 0 1 (omega arith) (omega arith)))
+
+mark_taken_away : MarksMore (true ∷ []) (false ∷ []) (λ eq kind. false) → ⊥
+mark_taken_away is = true≢false (sym (is.each 0 0 (omega arith) (omega arith)))
+
+-- a table with room for one equation alone is too short
+short_table : (table : List Bool) → length table ≡ kind_room → Marks table [] → ⊥
+short_table table short is = omega (arith, short, is.long)
+
+-- a row that was looked at is counted
+row_not_counted : (row : Row) (old new : Tally) → new.rows ≡ old.rows → Counts (row ∷ []) old new → ⊥
+row_not_counted row old new same is = omega (arith, same, is.number)
+
+-- before the first equation nothing is counted
+counted_too_early : (t : Tally) → t.rows ≡ 1 → AreTallied 6 base 0 t → ⊥
+counted_too_early t one is = omega (arith, one, is.number)
+
+-- ---- the variables
+
+-- each once, in order; a list with one twice doesn't ascend
+sorted : AreSortedVariables (new_capacity 0 0 0 ∷ []) (new_capacity 0 0 0 ∷ [])
+sorted = record { ascending = refl; same = λ v. (λ there. there, λ there. there) }
+
+twice : (vs : List Var) → AreSortedVariables vs (new_capacity 0 0 0 ∷ new_capacity 0 0 0 ∷ []) → ⊥
+twice vs is = true≢false (sym is.ascending)
+
+-- ---- variables kind by kind
+
+of : ℕ → Var
+of kind = record { kind = kind; index = (new_capacity 0 0 0).index }
+
+-- after kind 3 comes 4, wherever it stands; and where a lesser one was found before, that one
+next : next_kind 3 None (of 5 ∷ of 3 ∷ of 4 ∷ of 9 ∷ []) ≡ Some 4
+unfolding of
+next = refl
+
+found_before : next_kind 3 (Some 4) (of 5 ∷ of 9 ∷ []) ≡ Some 4
+unfolding of
+found_before = refl
+
+-- the same kind and those before it don't come after it
+no_next : next_kind 3 None (of 3 ∷ of 1 ∷ []) ≡ None
+unfolding of
+no_next = refl
+
+-- a kind isn't before itself
+not_before : is_before_kind 3 (of 3) ≡ false
+unfolding of
+not_before = refl
+
+of_itself : is_of_kind 3 (of 3) ≡ true
+unfolding of
+of_itself = refl
+
+-- ---- rows that are held
+
+-- after a gap nothing more is held
+held_after_gap : (rows : List Row) (old : List HeldRows) (h : HeldRows) → KeepsRows false rows old (old ++ h ∷ []) → ⊥
+held_after_gap rows old h keeps = elim keeps [
+  | inl same ↦ (let long : length old + 1 ≡ length old = sym (length-append old (h ∷ [])) ∙ ap length same in omega (arith, long))
+  | inr kept ↦ true≢false (sym kept.0)
+]
+
+-- before a gap they are, after the others
+held_next : (rows : List Row) (g h : HeldRows) → h.rows.items ≡ rows → KeepsRows true rows (g ∷ []) (g ∷ h ∷ [])
+held_next rows g h are = inr (refl, h, refl, are)
+
+-- an equation that has a row isn't held by an empty list
+row_left_out : (h : HeldRows) → h.rows.items ≡ [] → AreHeld 6 base (h ∷ []) → ⊥
+row_left_out h none held = subst (AreRowsOf 6 base (instances_of base 1)) none (held 0 (omega arith) h)
