@@ -91,7 +91,7 @@ alike Less h = absurd (cc h)
 alike Equal h = refl
 alike Greater h = absurd (cc h)
 
--- behind a variable none of an ascending list is the same
+-- after a variable none of an ascending list is the same
 nothing_behind : (x : Var → ℤ) (w : Var) (vs : List Var) → ascends var_cmp (w ∷ vs) ≡ true → sum_over vs (λ v. alone v w *ℤ x v) ≡ pos 0
 nothing_behind x w [] h = refl
 nothing_behind x w (v ∷ vs) h =

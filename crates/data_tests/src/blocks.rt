@@ -178,16 +178,16 @@ fn push_param(alloc: Global, out: &mut Vec<u8>, block: &ParamBlock) -> Result<()
     if let Some(value) = block.default {
         out.extend_from_slice(format!(in alloc; " default {value}")?.as_bytes())?;
     }
-    for given in &block.values {
+    for number in 0..block.values.len() {
         out.extend_from_slice(b" [")?;
-        for (i, name) in given.index.iter().enumerate() {
+        for i in 0..block.values.subscripts(number) {
             if i > 0 {
                 out.push(b',')?;
             }
-            push_name(out, name)?;
+            push_name(out, block.values.name(number, i))?;
         }
-        let value = given.value;
-        let column = given.at.column;
+        let value = block.values.value(number);
+        let column = block.values.at(number).column;
         out.extend_from_slice(format!(in alloc; "]={value}@{column}")?.as_bytes())?;
     }
     out.extend_from_slice(b"; ")

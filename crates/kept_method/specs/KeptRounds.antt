@@ -1,4 +1,4 @@
--- The rounds of the first phase over kept tableaus: the state of the method that stands behind, what is due in it, and the next.
+-- The rounds of the first phase over kept tableaus: the state of the method that they show, what is due in it, and the next.
 use Rattle.std.specs.Prelude.{◌≡◌, ◌≢◌, ◌<◌, neg_ℤ, length, ℕ, suc, nat_lt, pos, List, map, Option, Some, None, slice_set, if◌then◌else◌}
 use Rattle.row_core.specs.Numbers.{is_zero}
 use Rattle.written_method.specs.Lines.{Line, entry_of, less, line_less}

@@ -40,7 +40,6 @@ pub mod SectionMeans
 pub mod SectionsSound
 pub mod SectionsTaken
 pub mod ShortNumbers
-pub mod SliceLemmas
 pub mod StatementFaultLaws
 mod StatementLawsHold
 pub mod StatementsGo
@@ -54,6 +53,8 @@ pub mod TokenListLaws
 pub mod TokenRunLemmas
 pub mod TokensSeen
 pub mod TurnLaws
+pub mod SymbolBytes
+pub mod ValueLemmas
 pub mod VerdictLaws
 pub mod Verdicts
 pub mod WalkLaws

@@ -1,14 +1,9 @@
 -- What blocks in memory say, as plain lists.
 use Rattle.std.specs.Prelude.{List, map}
-use Rattle.mathprog_data.specs.declared.blocks.Given.{Given}
 use Rattle.mathprog_data.specs.declared.blocks.SetBlock.{SetBlock as KeptSet}
 use Rattle.mathprog_data.specs.declared.blocks.ParamBlock.{ParamBlock as KeptParam}
 use Rattle.mathprog_data.specs.declared.blocks.Blocks.{Blocks as KeptBlocks}
-use Rattle.mathprog_data.specs.Meaning.{GivenValue, SetBlock, ParamBlock, Blocks}
-
--- the value that is given
-abbrev pub value_told : Given → GivenValue
-value_told given = record { index = given.index.items; value = given.value; at = given.at }
+use Rattle.mathprog_data.specs.Meaning.{SetBlock, ParamBlock, Blocks}
 
 -- what a block says of its set
 abbrev pub set_told : KeptSet → SetBlock
@@ -16,7 +11,7 @@ set_told block = record { set = block.set; members = block.members.items }
 
 -- what a block says of its parameter
 abbrev pub param_told : KeptParam → ParamBlock
-param_told block = record { param = block.param; default = block.default; values = map value_told block.values.items }
+param_told block = record { param = block.param; default = block.default; values = block.values }
 
 -- what blocks say of sets
 abbrev pub sets_told : List KeptSet → List SetBlock

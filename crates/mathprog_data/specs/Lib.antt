@@ -28,6 +28,7 @@ pub mod Symbols
 pub mod Tables
 pub mod TokenRuns
 pub mod TokenSlices
+pub mod ValuesView
 pub mod Verdicts
 pub mod WellFormed
 pub mod Words

@@ -1,7 +1,8 @@
 //! What a data section says: the members of its sets, and the defaults and values of its parameters.
 
-ghost use Rattle.std.specs.Prelude.{◌≡◌, ◌≤◌, IfOk, [], length, take};
+ghost use Rattle.std.specs.Prelude.{◌≡◌, ◌≤◌, IfOk, [], length, take, true};
 
+use crate::values::Values;
 use std::alloc::{AllocError, Global};
 use std::marker::Model;
 use std::mem::size_of;
@@ -94,6 +95,17 @@ impl Name {
         }
     }
 
+    /// Whether this is surely the other name. Of a long name it's never sure.
+    #[inline(always)]
+    pub(crate) fn is_surely(&self, other: &Name) -> bool
+        ensures { result ≡ true → self.now ≡ other.now }
+    {
+        match (&self.0, &other.0) {
+            (Kept::Short(a), Kept::Short(b)) => is_same(a, b),
+            _ => false,
+        }
+    }
+
     /// The bytes of the name.
     pub fn bytes(&self) -> &[u8]
         ensures { result.now ≡ self.now }
@@ -115,6 +127,24 @@ fn long_name(alloc: Global, bytes: &[u8]) -> Result<Name, AllocError>
     Ok(Name(Kept::Long(long)))
 }
 
+/// Whether two short names have the same bytes. Byte by byte, since they are few.
+#[inline(always)]
+fn is_same(a: &ShortName, b: &ShortName) -> bool
+    ensures { result ≡ true → take a.now.length a.now.bytes ≡ take b.now.length b.now.bytes }
+{
+    if a.length != b.length {
+        return false;
+    }
+    let mut i = 0;
+    while i < a.length {
+        if a.bytes[i as usize] != b.bytes[i as usize] {
+            return false;
+        }
+        i += 1;
+    }
+    true
+}
+
 /// The short name of these bytes.
 fn short_name(bytes: &[u8]) -> ShortName
     requires { length bytes.now ≤ 16 }
@@ -127,20 +157,6 @@ fn short_name(bytes: &[u8]) -> ShortName
         bytes: places,
     }
 }
-
-/// A value that was given to a parameter.
-#[derive(Drop)]
-pub struct Given {
-    /// The names of the members, one for each subscript, in the order of the subscripts.
-    pub index: Vec<Name>,
-    /// In a table the place of the row's symbol. Else the place of the first subscript that no slice fixes,
-    /// or that of the value where every subscript is fixed.
-    pub at: Mark,
-    /// The value in billionths.
-    pub value: i128,
-}
-
-const _: () = prove!(size_of::<Given>() == 48);
 
 /// What a statement says of a set.
 #[derive(Drop)]
@@ -159,7 +175,7 @@ pub struct ParamBlock {
     /// The default in billionths.
     pub default: Option<i128>,
     /// The values, in the order of the text.
-    pub values: Vec<Given>,
+    pub values: Values,
 }
 
 /// What a data section says.

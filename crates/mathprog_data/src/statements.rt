@@ -108,6 +108,8 @@ pub(crate) struct StatementReader {
     row: Name,
     /// For how many columns the row has a value.
     cells: usize,
+    /// Where the first column's name is kept among those of the values. Only a hint: a name is looked at before it's pointed to.
+    place: u32,
     draft: Draft,
 }
 
@@ -131,6 +133,7 @@ impl StatementReader {
             transposed: false,
             row: Name::empty(),
             cells: 0,
+            place: 0,
             draft: Draft::new(alloc),
         }
     }
@@ -195,6 +198,7 @@ impl StatementReader {
             transposed: _,
             row: _,
             cells: _,
+            place: _,
             draft,
         } = self;
         draft.into_blocks()

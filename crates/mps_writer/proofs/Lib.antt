@@ -2,6 +2,7 @@ mod ColumnText
 mod ColumnTurns
 mod GatheredLaws
 mod MpsTextExamples
+mod RearrangedLaws
 mod SameVariables
 mod SectionLaws
 mod SideLaws

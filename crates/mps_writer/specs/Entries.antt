@@ -55,6 +55,11 @@ pub record AreSorted (entries sorted : List Entry) : Type 0 where
   pub rising : Rises sorted
   pub stable : (v : Var) → filter (is_of v) sorted ≡ filter (is_of v) entries
 
+-- the same entries, and those of one variable in their order
+pub record IsRearranged (entries others : List Entry) : Type 0 where
+  pub same : IsPermutation entries others
+  pub stable : (v : Var) → filter (is_of v) others ≡ filter (is_of v) entries
+
 -- the entry's variable is after v
 abbrev pub is_after : Var → Entry → Bool
 is_after v e = is_lt (var_cmp v e.variable)

@@ -1,5 +1,6 @@
 pub mod Entries
 pub mod Gathered
+pub mod Keys
 pub mod MpsText
 pub mod SectionLines
 pub mod Sent

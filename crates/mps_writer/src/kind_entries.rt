@@ -8,6 +8,7 @@ ghost use Rattle.row_source.specs.Sources.{AreInOrder, rows_of_equation};
 ghost use Rattle.mps_writer.specs.Entries.{AreSorted, HasEquation, entries_of_kind, is_of_kind, row_entries};
 
 use crate::entries::Entry;
+use crate::key_order::sort_pieces;
 use row_core::Row;
 use row_core::equation_numbers::EQUATION_COUNT;
 use row_source::RowSource;
@@ -29,6 +30,7 @@ pub fn sorted_entries_of_kind<R: RowSource>(
         Ok(()) => {}
         Err(fail) => return Err(fail),
     }
+    sort_pieces(alloc, &mut entries)?;
     entries.sort_by_key(|entry| entry.variable)?;
     Ok(entries)
 }

@@ -12,6 +12,7 @@ ghost use Rattle.mps_writer.specs.MpsText.{IsNamedRow, IsNamedVariable, bound_li
 mod buffer;
 mod columns;
 mod entries;
+mod key_order;
 mod kind_entries;
 mod lines;
 mod sections;

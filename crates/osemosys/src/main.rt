@@ -9,7 +9,7 @@ use std::process::ExitCode;
 use std::{env, io};
 
 /// The exit status where memory runs out for the words.
-const WANT_OF_MEMORY: u8 = 8;
+const OUT_OF_MEMORY: u8 = 8;
 
 /// The exit status where the system refuses the words for another cause, as for one that isn't UTF-8.
 const NO_WORDS: u8 = 10;
@@ -22,7 +22,7 @@ fn main(rt: HostRuntime) -> ExitCode {
             let status = osemosys(rt.alloc(), &words, &mut shelf, &mut out);
             ExitCode::from(status.code())
         }
-        Err(e) if e.kind() == ErrorKind::OutOfMemory => ExitCode::from(WANT_OF_MEMORY),
+        Err(e) if e.kind() == ErrorKind::OutOfMemory => ExitCode::from(OUT_OF_MEMORY),
         Err(_) => ExitCode::from(NO_WORDS),
     }
 }

@@ -1,13 +1,13 @@
 -- The values that were given, value by value.
 use Rattle.std.proofs.Common.{◌≡◌, ◌≢◌, ℕ, ◌+◌, ◌<◌, ◌≤◌, Bool, true, false, cond, not, ◌||◌, List, [], ◌∷◌, ◌++◌, Option, None, Some, length, nat_eq, get_or, take, refl, sym, ap, ◌∙◌, inl, inr, arith}
-use Rattle.std.specs.Prelude.{ℤ, is_some, if◌then◌else◌}
+use Rattle.std.specs.Prelude.{ℤ, pos, is_some, if◌then◌else◌}
 use Rattle.std.specs.Bool.{Decides}
 use Rattle.std.specs.Cmp.Lexicographic.{pointwise, pointwise_decides}
 use Rattle.std.specs.List.{find, list_any}
 use Rattle.std.specs.Option.{option_map, option_or}
 use Rattle.std.specs.Str.{bytes_eq}
 use Rattle.std.proofs.lemmas.Bool.{cases_eq, eq-eqb, ne_eqb, false≢true}
-use Rattle.std.proofs.lemmas.List.{take_more}
+use Rattle.std.proofs.lemmas.List.{get_or_default, take_more}
 use Rattle.std.proofs.lemmas.List.Folds.{find-append}
 use Rattle.std.proofs.lemmas.Slice.Eq.{bytes_eq-Decides}
 use Rattle.model_sets.specs.Data.{indices_of}
@@ -23,6 +23,15 @@ use Rattle.model_sets.proofs.ParamLaws.{subscripts_are_sets}
 -- two indices are one
 pub names_same : (xs ys : List (List ℕ)) → Decides (pointwise bytes_eq xs ys) (xs ≡ ys)
 names_same = pointwise_decides bytes_eq-Decides
+
+-- ---- the value at a place
+
+-- a value to name where there may be none
+pub no_value : GivenValue
+no_value = record { index = []; value = pos 0; at = record { line = 0; column = 0 } }
+
+pub value_there : (values : List GivenValue) (i : ℕ) → i < length values → get_or values i no_value ≡ get_or values i (get_or values i no_value)
+value_there values i below = get_or_default values i no_value (get_or values i no_value) below
 
 -- ---- why a value is refused
 

@@ -165,11 +165,3 @@ place_last sets ks is k place below within before =
     let long : length is ≡ length ks = AllZip-long (λ g h. h < length (members sets g)) ks is within in
     let here = place_more sets ks (names_over sets ks is) (place / n) k (place % n) before part.place in
     subst (λ names. IsPlaceOf sets (ks ++ k ∷ []) names place) (sym (names_over-push sets ks is k (place % n) long)) (subst (IsPlaceOf sets (ks ++ k ∷ []) (names_over sets ks is ++ slice_index_or (members sets k) (place % n) [] ∷ [])) (sym part.whole) here)
-
--- ---- the same subscripts and names
-
-pub same_members : (sets : SetLists) (ks js : List ℕ) (names others : List (List ℕ)) → ks ≡ js → names ≡ others → are_members sets ks names ≡ are_members sets js others
-same_members sets ks js names others ek en = ap (λ hs. are_members sets hs names) ek ∙ ap (are_members sets js) en
-
-pub same_place : (sets : SetLists) (ks js : List ℕ) (names others : List (List ℕ)) (place : ℕ) → ks ≡ js → names ≡ others → IsPlaceOf sets ks names place → IsPlaceOf sets js others place
-same_place sets ks js names others place ek en at = subst (λ hs. IsPlaceOf sets hs others place) ek (subst (λ ns. IsPlaceOf sets ks ns place) en at)

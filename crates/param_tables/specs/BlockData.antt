@@ -6,8 +6,6 @@ use Rattle.model_sets.specs.declared.param_numbers.TheConstants.{DISCOUNT_RATE_I
 use Rattle.model_sets.specs.Data.{Given, Default, Data}
 use Rattle.model_sets.specs.Members.{SetLists}
 use Rattle.model_sets.specs.Names.{set_count}
-use Rattle.mathprog_data.specs.declared.blocks.Given.{Given as KeptGiven}
-use Rattle.mathprog_data.specs.BlocksView.{value_told}
 use Rattle.mathprog_data.specs.Meaning.{GivenValue, SetBlock, ParamBlock, Blocks}
 
 -- the names of the members of set k, in the order of the text; a set without a statement has none
@@ -17,10 +15,6 @@ members_told statements k = option_map_or (λ s. s.members) (find (λ s. nat_eq 
 -- the names of the members of every set, from set number 1
 abbrev pub set_lists : Blocks → SetLists
 set_lists statements = map (members_told statements.sets) (range_with_len 1 set_count)
-
--- the values that are given
-abbrev pub values_told : List KeptGiven → List GivenValue
-values_told values = map value_told values
 
 -- the value as one of the data
 abbrev pub given_of : ℕ → GivenValue → Given

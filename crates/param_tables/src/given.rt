@@ -7,14 +7,13 @@ ghost use Rattle.model_sets.specs.Members.{AreSets};
 ghost use Rattle.model_sets.specs.Params.{IsParam};
 ghost use Rattle.param_tables.specs.InTurn.{first_of, in_turn};
 ghost use Rattle.param_tables.specs.Refusals.{value_refusal};
-ghost use Rattle.param_tables.specs.BlockData.{values_told};
 ghost use Rattle.param_tables.specs.Tables.{AreGiven};
 ghost use Rattle.param_tables.specs.Stops.{IsStopDue};
 ghost use Rattle.mathprog_data.specs.WellFormed.{IsValueOf};
 
 use crate::fault::{BuildFault, Stop};
-use crate::indices::place_of_names;
-use mathprog_data::Given;
+use crate::indices::place_of_value;
+use mathprog_data::Values;
 use model_sets::{Sets, subscript_sets};
 use std::alloc::{AllocError, Global};
 use std::collections::BTreeMap;
@@ -38,25 +37,25 @@ pub(crate) fn placed_values(
     alloc: Global,
     sets: &Sets,
     param: u8,
-    given: &[Given],
+    given: &Values,
 ) -> Result<BTreeMap<u64, i128>, Stop>
     requires sets { AreSets sets.now }
     requires listed { IsParam param }
-    requires indices { All (IsValueOf param) (values_told given.now) }
-    ensures values { IfOk result (λ values. AreGiven sets.now param (values_told given.now) (get nat_cmp values)) }
-    ensures accepted { OnOk result (in_turn (value_refusal sets.now param) (values_told given.now) ≡ []) }
-    ensures refused { IfErr result (IsStopDue (first_of (in_turn (value_refusal sets.now param) (values_told given.now))) sets.now) }
+    requires indices { All (IsValueOf param) given.now }
+    ensures values { IfOk result (λ values. AreGiven sets.now param given.now (get nat_cmp values)) }
+    ensures accepted { OnOk result (in_turn (value_refusal sets.now param) given.now ≡ []) }
+    ensures refused { IfErr result (IsStopDue (first_of (in_turn (value_refusal sets.now param) given.now)) sets.now) }
 {
     let subscripts = subscript_sets(param);
     let mut values = BTreeMap::new(alloc);
-    for value in given {
-        let Some(place) = place_of_names(sets, subscripts, value.index.as_slice()) else {
-            return Err(Stop::Fault(BuildFault::UnknownMember(value.at)));
+    for number in 0..given.len() {
+        let Some(place) = place_of_value(sets, subscripts, given, number) else {
+            return Err(Stop::Fault(BuildFault::UnknownMember(given.at(number))));
         };
         if values.contains_key(&place) {
-            return Err(Stop::Fault(BuildFault::ValueTwice(value.at)));
+            return Err(Stop::Fault(BuildFault::ValueTwice(given.at(number))));
         }
-        keep(&mut values, place, &value.value)?;
+        keep(&mut values, place, &given.value(number))?;
     }
     Ok(values)
 }

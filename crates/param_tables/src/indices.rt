@@ -1,13 +1,14 @@
 //! The indices over some sets, by their places in the order of the members, the last subscript running
 //! fastest. A place counts from 0.
 
-ghost use Rattle.std.specs.Prelude.{◌≡◌, ◌+◌, ◌*◌, ◌^◌, ◌<◌, ◌≤◌, length, IfOk, IfSome, is_some, All};
+ghost use Rattle.std.specs.Prelude.{◌≡◌, ◌+◌, ◌*◌, ◌^◌, ◌<◌, ◌≤◌, length, IfOk, IfSome, is_some, slice_index_or, All};
+ghost use Rattle.mathprog_data.specs.Meaning.{GivenValue};
 ghost use Rattle.model_sets.specs.Data.{indices_over};
 ghost use Rattle.model_sets.specs.Names.{IsSet};
 ghost use Rattle.param_tables.specs.Places.{IsPlaceOf, are_members};
 ghost use Rattle.param_tables.specs.Positions.{ArePositions, names_over};
 
-use mathprog_data::Name;
+use mathprog_data::Values;
 use model_sets::Sets;
 use std::alloc::{AllocError, Global};
 
@@ -35,17 +36,23 @@ pub(crate) fn index_count(sets: &Sets, subscripts: &[u8]) -> u64
     count
 }
 
-/// The place of the index of these names; `None` where one of them isn't a member of its set.
-pub(crate) fn place_of_names(sets: &Sets, subscripts: &[u8], names: &[Name]) -> Option<u64>
+/// The place of the index of this value; `None` where one of its names isn't a member of its set.
+pub(crate) fn place_of_value(
+    sets: &Sets,
+    subscripts: &[u8],
+    values: &Values,
+    number: usize,
+) -> Option<u64>
     requires listed { All IsSet subscripts.now }
     requires most { length subscripts.now ≤ 5 }
-    requires paired { length names.now ≡ length subscripts.now }
-    ensures place { IfSome result (IsPlaceOf sets.now subscripts.now names.now) }
-    ensures found { is_some result ≡ are_members sets.now subscripts.now names.now }
+    requires number { number < length values.now }
+    requires paired { (v : GivenValue) → v ≡ slice_index_or values.now number v → length v.index ≡ length subscripts.now }
+    ensures place { (v : GivenValue) → v ≡ slice_index_or values.now number v → IfSome result (IsPlaceOf sets.now subscripts.now v.index) }
+    ensures found { (v : GivenValue) → v ≡ slice_index_or values.now number v → is_some result ≡ are_members sets.now subscripts.now v.index }
 {
     let mut place = 0;
     for (i, set) in subscripts.iter().enumerate() {
-        let member = sets.index_of(*set, names[i].bytes())?;
+        let member = sets.index_of(*set, values.name(number, i).bytes())?;
         place = next_place(place, sets.count(*set), member);
     }
     Some(place)

@@ -17,7 +17,7 @@ ghost use Rattle.mathprog_data.specs.WellFormed.{IsWithinLimit};
 use crate::changed::{Change, changed_parts};
 use crate::indices::place_of;
 use crate::listed::{listed_indices, listed_modes, listed_technologies};
-use crate::param_table::{ParamTable, is_nonzero};
+use crate::param_table::{ParamTable, is_nonzero, value_else};
 use crate::ratio_places::AllRatioPlaces;
 use crate::ratio_sizes::RatioSizes;
 use crate::ratios::{ActivityRatio, RatioIndex};
@@ -111,8 +111,12 @@ impl ModelData {
         ensures value { result ≡ value_at self.now.facts param (names_at self.now.facts.sets param index.now) }
         ensures given { IsSomeAnd result (IsValueIn (range_of param)) }
     {
+        let table = &self.tables[usize::from(param - 1)];
+        if table.places.as_slice().is_empty() {
+            return value_else(param, table.default);
+        }
         let place = place_of(&self.sets, subscript_sets(param), index);
-        self.tables[usize::from(param - 1)].value_at(param, place)
+        table.value_at(param, place)
     }
 
     /// The value of the used parameter at the index, which has one position for each

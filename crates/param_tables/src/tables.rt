@@ -28,7 +28,7 @@ fn table_of(alloc: Global, sets: &Sets, block: &ParamBlock) -> Result<ParamTable
     ensures accepted { OnOk result (value_refusals sets.now (param_told block.now) ≡ []) }
     ensures refused { IfErr result (IsStopDue (first_of (value_refusals sets.now (param_told block.now))) sets.now) }
 {
-    let values = placed_values(alloc, sets, block.param, block.values.as_slice())?;
+    let values = placed_values(alloc, sets, block.param, &block.values)?;
     Ok(ParamTable::new(alloc, block.default, values)?)
 }
 

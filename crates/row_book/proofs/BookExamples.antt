@@ -1,5 +1,5 @@
 -- What a book keeps: examples, and near misses.
-use Rattle.std.proofs.Common.{◌≡◌, ◌≢◌, pos, negsuc, Bool, true, false, inl, inr, [], ◌∷◌, refl, sym, subst, arith}
+use Rattle.std.proofs.Common.{◌≡◌, ◌≢◌, pos, negsuc, Bool, true, false, inl, inr, [], ◌∷◌, None, Some, refl, sym, subst, ◌∙◌, arith}
 use Rattle.std.specs.Ordering.{is_eq}
 use Rattle.std.specs.Prelude.{◌≤ℤ◌, Contains, if◌then◌else◌}
 use Rattle.std.proofs.lemmas.Int.{ints}
@@ -9,6 +9,7 @@ use Rattle.row_core.specs.Numbers.{variables_of}
 use Rattle.row_core.specs.Order.{var_cmp}
 use Rattle.row_core.specs.Rows.{number_at}
 use Rattle.row_core.proofs.Orders.{var_cmp_exact}
+use Rattle.named_equations.specs.Instances.{variable_of}
 use Rattle.named_equations.specs.Variables.{capital_investment, new_capacity, production, rate_of_production, trade}
 use Rattle.named_equations.proofs.InstanceTests.{Contains-from_Has, Has, Has-from_Contains}
 use Rattle.row_book.specs.Books.{entry_variables}
@@ -102,3 +103,11 @@ with_none = record {
 -- a row that stands twice doesn't define its variable alone
 not_alone : (row : Row) (v : Var) → Defines row v → IsDefinedAt (row ∷ row ∷ []) 0 v → ⊥
 not_alone row v defines is = let same : 0 ≡ 1 = is.once 1 row refl defines in omega (arith, same)
+
+-- no row stands at the position
+nothing_there : (v : Var) → IsDefinedAt [] 0 v → ⊥
+nothing_there v is = absurd (cc is.there.1)
+
+-- the row that stands there defines nothing
+defines_nothing : (row : Row) (v : Var) → variable_of row.name ≡ None → IsDefinedAt (row ∷ []) 0 v → ⊥
+defines_nothing row v none is = let both : None ≡ Some v = sym none ∙ is.defines row refl in absurd (cc both)

@@ -163,17 +163,17 @@ of_itself = refl
 
 -- ---- rows that are held
 
--- after a gap nothing more is held
-held_after_gap : (rows : List Row) (old : List HeldRows) (h : HeldRows) → KeepsRows false rows old (old ++ h ∷ []) → ⊥
-held_after_gap rows old h keeps = elim keeps [
-  | inl same ↦ (let long : length old + 1 ≡ length old = sym (length-append old (h ∷ [])) ∙ ap length same in omega (arith, long))
-  | inr kept ↦ true≢false (sym kept.0)
+-- the rows of another equation aren't held as those of this one
+of_another : (rows : List Row) (h : HeldRows) → h.eq ≡ 2 → KeepsRows 1 rows [] (h ∷ []) → ⊥
+of_another rows h is keeps = elim keeps [
+  | inl same ↦ (let long : 1 ≡ 0 = ap length same in omega (arith, long))
+  | inr kept ↦ (let one : h ≡ kept.0 = cc kept.1 in let wrong : 2 ≡ 1 = sym is ∙ ap (λ (x : HeldRows). x.eq) one ∙ kept.2 in omega (arith, wrong))
 ]
 
--- before a gap they are, after the others
-held_next : (rows : List Row) (g h : HeldRows) → h.rows.items ≡ rows → KeepsRows true rows (g ∷ []) (g ∷ h ∷ [])
-held_next rows g h are = inr (refl, h, refl, are)
+-- those of this one are, after the others, whichever these are
+held_next : (rows : List Row) (g h : HeldRows) → h.eq ≡ 7 → h.rows.items ≡ rows → KeepsRows 7 rows (g ∷ []) (g ∷ h ∷ [])
+held_next rows g h is are = inr (h, refl, is, are)
 
 -- an equation that has a row isn't held by an empty list
-row_left_out : (h : HeldRows) → h.rows.items ≡ [] → AreHeld 6 base (h ∷ []) → ⊥
-row_left_out h none held = subst (AreRowsOf 6 base (instances_of base 1)) none (held 0 (omega arith) h)
+row_left_out : (h : HeldRows) → h.eq ≡ 1 → h.rows.items ≡ [] → AreHeld 6 base (h ∷ []) → ⊥
+row_left_out h is none held = subst (AreRowsOf 6 base (instances_of base 1)) none (subst (λ (n : ℕ). AreRowsOf 6 base (instances_of base n) h.rows.items) is (held 0 (omega arith) h))

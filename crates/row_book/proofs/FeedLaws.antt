@@ -180,7 +180,7 @@ feed-kept places d factors t are tallied = record {
   equation = (omega arith, omega arith);
   factors_are = factors-by_places places d factors are;
   counts = tallied.before;
-  held_are = tallied.held.1;
+  held_are = tallied.held;
   marks = subst (Marks t.kinds.items) (all-say (places_of factors) d tallied.all tallied.rows) tallied.kinds;
 }
 

@@ -37,9 +37,11 @@ at-index (r ∷ rows) (suc i) row inside is = at-index rows i row (omega (arith,
 pub defined-at : (rows : List Row) (vars : List Var) (i : ℕ) (row : Row) (found : Option Var) → IsBook rows vars → IsAt rows i row → found ≡ variable_of row.name → IfSome found (IsDefinedAt rows i)
 defined-at rows vars i row None book at is = tt
 defined-at rows vars i row (Some v) book at is =
-    let defines : Defines row v = sym is in
+    let of : Defines row v = sym is in
     record {
+      there = (row, at);
+      defines = λ other bt. ap (λ (r : Row). variable_of r.name) (sym (same_row rows i row other at bt)) ∙ of;
       solvable = λ other bt.
-          book.definitions.solvable i other v bt (ap (λ (r : Row). variable_of r.name) (sym (same_row rows i row other at bt)) ∙ defines);
-      once = λ j other bt too. book.definitions.once i j row other v at bt defines too;
+          book.definitions.solvable i other v bt (ap (λ (r : Row). variable_of r.name) (sym (same_row rows i row other at bt)) ∙ of);
+      once = λ j other bt too. book.definitions.once i j row other v at bt of too;
     }

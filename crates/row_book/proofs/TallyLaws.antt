@@ -21,7 +21,7 @@ use Rattle.row_source.specs.Sources.{has_kind}
 use Rattle.row_book.specs.Books.{AreRowsOf, CanBeMade, HasStopped, entries_in, entry_count, entry_limit, entry_variables, row_fits}
 use Rattle.row_book.specs.Held.{AreHeld, KeepsRows}
 use Rattle.row_book.specs.declared.held_rows.HeldRows.{HeldRows}
-use Rattle.row_book.specs.Tallies.{AreHeldTo, AreSameVariables, AreSortedVariables, AreTallied, Marks, MarksMore, TalliesMore, marked, names_to, rows_before, table_room}
+use Rattle.row_book.specs.Tallies.{AreSameVariables, AreSortedVariables, AreTallied, Marks, MarksMore, TalliesMore, marked, names_to, rows_before, table_room}
 use Rattle.row_book.specs.declared.fail.BookFail.{BookFail}
 use Rattle.row_book.specs.declared.tally.Tally.{Tally}
 use Rattle.row_book.proofs.Lists.{flat_map-last, flat_map-middle}
@@ -126,10 +126,7 @@ nothing-tallied places d t n rows entries before held vars kinds room = record {
   entries = entries;
   number = rows;
   before = before;
-  held = (
-    (let none : length t.held.items ≡ 0 = ap length held in omega (arith, none)),
-    λ i below z. let none : length t.held.items ≡ 0 = ap length held in absurd (omega (arith, none, below)),
-  );
+  held = λ i below z. let none : length t.held.items ≡ 0 = ap length held in absurd (omega (arith, none, below));
   kinds = record {
     long = ap length kinds ∙ length-replicate n false ∙ room;
     each = λ eq kind within kind_within. ap (λ (table : List Bool). marked table eq kind) kinds ∙ get_or-replicate n (eq * 256 + kind) false false (omega (arith, room, within, kind_within));
@@ -139,32 +136,26 @@ nothing-tallied places d t n rows entries before held vars kinds room = record {
 
 -- ---- rows that are held
 
-held-more : (places : ℕ) (d : Data) (i : ℕ) (added : List Row) (old new : List HeldRows) (m : ℕ) → 1 ≤ i → m ≡ i - 1 → AreHeldTo places d (i - 1) old → KeepsRows (nat_eq (length old) m) added old new → AreRowsOf places d (instances_of d i) added
-    → AreHeldTo places d ((i + 1) - 1) new
-held-more places d i added old new m low many are keeps rows = elim keeps [
-  | inl same ↦ (
-    (let few = are.0 in let long : length new ≡ length old = ap length same in omega (arith, few, long, low)),
-    subst (AreHeld places d) (sym same) are.1,
-  )
+held-more : (places : ℕ) (d : Data) (eq : ℕ) (added : List Row) (old new : List HeldRows) → AreHeld places d old → KeepsRows eq added old new → AreRowsOf places d (instances_of d eq) added → AreHeld places d new
+held-more places d eq added old new are keeps rows = elim keeps [
+  | inl same ↦ subst (AreHeld places d) (sym same) are
   | inr kept ↦ (
-      let all : length old ≡ m = eqb-true (length old) m kept.0 in
-      let last : length old + 1 ≡ i = omega (arith, all, many, low) in
-      let h : HeldRows = kept.1 in
-      let split : new ≡ old ++ h ∷ [] = kept.2 in
+      let h : HeldRows = kept.0 in
+      let split : new ≡ old ++ h ∷ [] = kept.1 in
       let long : length new ≡ length old + 1 = ap length split ∙ length-append old (h ∷ []) in
-      let here : AreRowsOf places d (instances_of d (length old + 1)) h.rows.items =
-      subst (λ (n : ℕ). AreRowsOf places d (instances_of d n) h.rows.items) (sym last) (subst (AreRowsOf places d (instances_of d i)) (sym kept.3) rows) in (
-        omega (arith, long, last),
-        λ k below z. subst (λ (hs : List HeldRows). AreRowsOf places d (instances_of d (k + 1)) (get_or hs k z).rows.items) (sym split)
-            (elim (cases_lt k (length old)) [
-              | inl earlier ↦ subst (λ (x : HeldRows). AreRowsOf places d (instances_of d (k + 1)) x.rows.items) (sym (get_or-append old (h ∷ []) z k earlier)) (are.1 k earlier z)
-              | inr later ↦ (let e : length old ≡ k = omega (arith, later, below, long) in
-                  subst (λ (n : ℕ). AreRowsOf places d (instances_of d (n + 1)) (get_or (old ++ h ∷ []) n z).rows.items) e
-                  (subst (λ (x : HeldRows). AreRowsOf places d (instances_of d (length old + 1)) x.rows.items) (sym (get_or_at old h [] z (length old) refl)) here))
-            ]),
-      )
+      let here : IsHeld h =
+      subst (λ (n : ℕ). AreRowsOf places d (instances_of d n) h.rows.items) (sym kept.2) (subst (AreRowsOf places d (instances_of d eq)) (sym kept.3) rows) in
+      λ k below z. subst (λ (hs : List HeldRows). IsHeld (get_or hs k z)) (sym split)
+      (elim (cases_lt k (length old)) [
+        | inl earlier ↦ subst IsHeld (sym (get_or-append old (h ∷ []) z k earlier)) (are k earlier z)
+        | inr later ↦ (let e : length old ≡ k = omega (arith, later, below, long) in
+            subst (λ (n : ℕ). IsHeld (get_or (old ++ h ∷ []) n z)) e (subst IsHeld (sym (get_or_at old h [] z (length old) refl)) here))
+      ])
       )
 ]
+  where
+    IsHeld : HeldRows → Type 0
+    IsHeld x = AreRowsOf places d (instances_of d x.eq) x.rows.items
 
 -- ---- one equation more
 
@@ -177,7 +168,7 @@ before-more d i low =
     let last : 1 + (i - 1) ≡ i = omega (arith, low) in
     ap (rows_before d) step ∙ map-range_with_len_more (λ eq. length (names_to d (eq - 1))) 1 (i - 1) i last
 
-pub tally-more : (places : ℕ) (d : Data) (i : ℕ) (t u : Tally) → 1 ≤ i → AreTallied places d (i - 1) t → TalliesMore places d (instances_of d i) t u → AreTallied places d ((i + 1) - 1) u
+pub tally-more : (places : ℕ) (d : Data) (i : ℕ) (t u : Tally) → 1 ≤ i → AreTallied places d (i - 1) t → TalliesMore places d i t u → AreTallied places d ((i + 1) - 1) u
 tally-more places d i t u low so_far more =
     let whole = names-more d i low in
     record {
@@ -198,8 +189,7 @@ tally-more places d i t u low so_far more =
           more.before
           ∙ ap₂ (λ (earlier : List ℕ) (n : ℕ). earlier ++ n ∷ []) so_far.before so_far.number
           ∙ sym (before-more d i low);
-      held = held-more places d i more.added t.held.items u.held.items (length t.before.items) low
-          (ap length so_far.before ∙ length-map-range_with_len (λ eq. length (names_to d (eq - 1))) 1 (i - 1)) so_far.held more.held more.rows;
+      held = held-more places d i more.added t.held.items u.held.items so_far.held more.held more.rows;
       kinds = subst (Marks u.kinds.items) (sym (map-append contents_of so_far.all more.added)) (marks-more t.kinds.items u.kinds.items (map contents_of so_far.all) (map contents_of more.added) so_far.kinds more.counts.kinds);
       variables = subst (λ (vs : List Var). AreSameVariables u.vars.items vs) (sym (entry_variables-append so_far.all more.added)) (variables-more t.vars.items u.vars.items (entry_variables more.added) (entry_variables so_far.all) so_far.variables more.counts.variables);
     }

@@ -1,5 +1,5 @@
 -- The variables of rows, sorted and without those that repeat, ascend strictly and are the same variables.
-use Rattle.std.proofs.Common.{◌≡◌, true, List, [], ◌∷◌, Bool, ◌&&◌, refl, ap, sym, ◌∙◌, subst}
+use Rattle.std.proofs.Common.{◌≡◌, ℕ, ◌++◌, length, take, true, List, [], ◌∷◌, Bool, ◌&&◌, refl, ap, sym, ◌∙◌, subst}
 use Rattle.std.specs.Cmp.{IsEquivalence}
 use Rattle.std.specs.declared.cmp.Ordering.{Ordering}
 use Rattle.std.specs.declared.cmp.Ordering.TheVariants.{Less, Equal, Greater}
@@ -7,7 +7,8 @@ use Rattle.std.specs.List.{AllByRecursion, Contains, dedup}
 use Rattle.std.specs.List.Sorted.{IsPermutation, IsSorted, IsStrictlySortedBy}
 use Rattle.std.specs.Ordering.{eq_by_cmp, is_eq, is_lt}
 use Rattle.std.proofs.lemmas.List.Kept.{Contains-dedup, Contains-from_dedup, IsStrictlySortedBy-dedup}
-use Rattle.std.proofs.lemmas.List.Sorted.{Contains-permutation, IsPermutation-sym}
+use Rattle.std.proofs.lemmas.List.Sorted.{Contains-permutation, IsPermutation-sym, IsPermutation-trans, length_permutation}
+use Rattle.std.proofs.Math.Seq.{take-append_seam}
 use Rattle.std.proofs.lemmas.Cmp.{eq_by_cmp_equiv}
 use Rattle.row_core.specs.declared.Row.{Row}
 use Rattle.row_core.specs.declared.Var.{Var}
@@ -55,6 +56,13 @@ variables-sorted same ties all sorted vars permutation in_order distinct = recor
         (Contains-permutation all sorted v permutation h)),
   );
 }
+
+-- put into another order, back into their place, and sorted there
+pub permuted-twice : (all passed pieces sorted rest : List Var) (n : ℕ) → passed ≡ all → length passed ≡ n → IsPermutation passed pieces → IsPermutation (take n (pieces ++ rest)) sorted
+    → IsPermutation all sorted
+permuted-twice all passed pieces sorted rest n is long a b =
+    let back : take n (pieces ++ rest) ≡ pieces = ap (λ (i : ℕ). take i (pieces ++ rest)) (sym (length_permutation passed pieces a ∙ long)) ∙ take-append_seam pieces rest in
+    IsPermutation-trans all pieces sorted (subst (λ (vs : List Var). IsPermutation vs pieces) is a) (subst (λ (vs : List Var). IsPermutation vs sorted) back b)
 
 -- those of rows
 pub variables-are : (rows : List Row) (all vars : List Var) → AreSameVariables all (entry_variables rows) → AreSortedVariables all vars → AreVariablesOf rows vars

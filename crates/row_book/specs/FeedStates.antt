@@ -9,7 +9,7 @@ use Rattle.row_book.specs.Held.{AreHeld}
 use Rattle.row_book.specs.Tallies.{Marks, rows_before}
 use Rattle.row_book.specs.declared.held_rows.HeldRows.{HeldRows}
 
--- the factors are those of the regions, the counts and kinds those of all rows, the rows that are held those of the first equations,
+-- the factors are those of the regions, the counts and kinds those of all rows, the rows that are held those of their equations,
 -- and the equation is of its list
 pub record IsFeed (d : Data) (factors : List Discounting) (before : List ℕ) (kinds : List Bool) (held : List HeldRows) (eq : ℕ) : Type 0 where
   pub equation : IsEquation eq

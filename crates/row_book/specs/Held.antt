@@ -1,15 +1,15 @@
--- The rows of the first equations, which are held. Only private functions and invariants cite these.
-use Rattle.std.specs.Prelude.{◌≡◌, ℕ, ◌+◌, ◌<◌, ◌⊎◌, Bool, true, List, [], ◌∷◌, ◌++◌, length, slice_index_or}
+-- The rows that are held. Only private functions and invariants cite these.
+use Rattle.std.specs.Prelude.{◌≡◌, ℕ, ◌<◌, ◌⊎◌, List, [], ◌∷◌, ◌++◌, length, slice_index_or}
 use Rattle.model_sets.specs.Data.{Data}
 use Rattle.row_core.specs.declared.Row.{Row}
 use Rattle.named_equations.specs.Instances.{instances_of}
 use Rattle.row_book.specs.Books.{AreRowsOf}
 use Rattle.row_book.specs.declared.held_rows.HeldRows.{HeldRows}
 
--- the rows of as many equations as there are lists, in order from equation 1
+-- each list holds the rows of its equation
 abbrev pub AreHeld : ℕ → Data → List HeldRows → Type 0
-AreHeld places d held = (i : ℕ) → i < length held → (z : HeldRows) → AreRowsOf places d (instances_of d (i + 1)) (slice_index_or held i z).rows.items
+AreHeld places d held = (i : ℕ) → i < length held → (z : HeldRows) → AreRowsOf places d (instances_of d (slice_index_or held i z).eq) (slice_index_or held i z).rows.items
 
--- nothing changes, or these rows are held after the others, and that only where all before them are
-abbrev pub KeepsRows : Bool → List Row → List HeldRows → List HeldRows → Type 0
-KeepsRows all rows old new = (new ≡ old) ⊎ ((all ≡ true) × (h : HeldRows) × (new ≡ old ++ h ∷ []) × (h.rows.items ≡ rows))
+-- nothing changes, or these rows are held as those of the equation, after the others
+abbrev pub KeepsRows : ℕ → List Row → List HeldRows → List HeldRows → Type 0
+KeepsRows eq rows old new = (new ≡ old) ⊎ ((h : HeldRows) × (new ≡ old ++ h ∷ []) × (h.eq ≡ eq) × (h.rows.items ≡ rows))

@@ -18,8 +18,9 @@ pub record IsBook (rows : List Row) (vars : List Var) : Type 0 where
   pub definitions : AreTriangular rows
   pub signs : HaveSigns rows
 
--- of a row at this position that defines the variable: it is an equation with a positive entry there, and no other row defines that
--- variable
+-- the row at this position defines the variable: it is an equation with a positive entry there, and no other row defines that variable
 pub record IsDefinedAt (rows : List Row) (i : ℕ) (v : Var) : Type 0 where
+  pub there : (row : Row) × IsAt rows i row
+  pub defines : (row : Row) → IsAt rows i row → Defines row v
   pub solvable : (row : Row) → IsAt rows i row → (row.sense ≡ Equal) × (pos 0 <ℤ number_at row.entries.items v)
   pub once : (j : ℕ) (other : Row) → IsAt rows j other → Defines other v → i ≡ j

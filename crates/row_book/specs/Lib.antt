@@ -5,6 +5,7 @@ pub mod FeedStates
 pub mod Feeds
 pub mod Held
 pub mod Kept
+pub mod Keys
 pub mod KindVariables
 pub mod Kinds
 pub mod Ratios

@@ -51,15 +51,14 @@ pub record Counts (rows : List Row) (old new : Tally) : Type 0 where
   pub kinds : MarksMore old.kinds.items new.kinds.items (λ eq kind. has_kind eq kind (map contents_of rows))
   pub variables : AreSameVariables new.vars.items (old.vars.items ++ entry_variables rows)
 
--- the rows of these instances, which are those of the next equation, were made and looked at, and may be held, if those of all equations
--- before them are
-pub record TalliesMore (places : ℕ) (d : Data) (names : List RowName) (old new : Tally) : Type 0 where
+-- the rows of this equation, which is the next one, were made and looked at, and may be held
+pub record TalliesMore (places : ℕ) (d : Data) (eq : ℕ) (old new : Tally) : Type 0 where
   pub added : List Row
-  pub rows : AreRowsOf places d names added
-  pub fit : list_all (row_fits places d) names ≡ true
-  pub entries : new.entries ≡ old.entries + entries_in places d names
+  pub rows : AreRowsOf places d (instances_of d eq) added
+  pub fit : list_all (row_fits places d) (instances_of d eq) ≡ true
+  pub entries : new.entries ≡ old.entries + entries_in places d (instances_of d eq)
   pub before : new.before.items ≡ old.before.items ++ old.rows ∷ []
-  pub held : KeepsRows (length old.held.items == length old.before.items) added old.held.items new.held.items
+  pub held : KeepsRows eq added old.held.items new.held.items
   pub counts : Counts added old new
 
 -- the instances of the first equations
@@ -70,10 +69,6 @@ names_to d n = flat_map (instances_of d) (range_with_len 1 n)
 abbrev pub rows_before : Data → ℕ → List ℕ
 rows_before d n = map (λ eq. length (names_to d (eq - 1))) (range_with_len 1 n)
 
--- the rows that are held are those of the first equations, and of no more than so many
-abbrev pub AreHeldTo : ℕ → Data → ℕ → List HeldRows → Type 0
-AreHeldTo places d n held = (length held ≤ n) × AreHeld places d held
-
 -- the rows of the first equations were made and looked at
 pub record AreTallied (places : ℕ) (d : Data) (n : ℕ) (t : Tally) : Type 0 where
   pub all : List Row
@@ -82,6 +77,6 @@ pub record AreTallied (places : ℕ) (d : Data) (n : ℕ) (t : Tally) : Type 0 w
   pub entries : t.entries ≡ entries_in places d (names_to d n)
   pub number : t.rows ≡ length (names_to d n)
   pub before : t.before.items ≡ rows_before d n
-  pub held : AreHeldTo places d n t.held.items
+  pub held : AreHeld places d t.held.items
   pub kinds : Marks t.kinds.items (map contents_of all)
   pub variables : AreSameVariables t.vars.items (entry_variables all)

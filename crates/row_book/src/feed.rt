@@ -1,4 +1,4 @@
-//! A feed of rows: those of the first equations are copied, and all others made again, when they are asked for.
+//! A feed of rows: those that are held are copied, and all others made again, when they are asked for.
 
 ghost use Rattle.std.specs.Prelude.{◌≡◌, [], map, reverse, true, IfErr, IfOk, OnErr, OnOk};
 ghost use Rattle.std.specs.List.{AllByRecursion};
@@ -14,7 +14,7 @@ ghost use Rattle.row_book.specs.Held.{AreHeld};
 
 use crate::factors::region_factors;
 use crate::fail::BookFail;
-use crate::held_rows::{HeldRows, copied_backwards};
+use crate::held_rows::{HeldRows, copied_backwards, position_of_rows};
 use crate::made_rows::MadeRows;
 use crate::tally::Tally;
 use crate::tallying::is_marked;
@@ -26,8 +26,9 @@ use row_source::RowSource;
 use std::alloc::{AllocError, Global};
 use std::marker::Model;
 
-/// All rows of a model, in order. Those of the first equations are held, as long as they have no more than 262,144
-/// entries together, and copied when they are asked for; the others are made again then, equation by equation.
+/// All rows of a model, in order. Those of an equation are held where they have 8 entries a row or more, and those of the
+/// first equations as long as they have no more than 262,144 entries together; they are copied when they are asked for. The
+/// others are made again then, equation by equation.
 #[derive(Drop)]
 pub struct RowFeed<'a> {
     alloc: Global,
@@ -37,7 +38,7 @@ pub struct RowFeed<'a> {
     before: Vec<u64>,
     /// Of each equation, and each kind of variable: whether it has an entry of the kind.
     kinds: Vec<bool>,
-    /// The rows of the first equations.
+    /// The rows that are held.
     held: Vec<HeldRows>,
     /// The equation, and how many rows of all stand before the place.
     eq: u8,
@@ -164,11 +165,10 @@ fn rows_again(
     requires held { AreHeld (places_of factors.now) model.now.facts held.now }
     ensures { IfOk result (λ rows. map contents_of (reverse rows.items) ≡ equation_contents (places_of factors.now) model.now.facts eq) }
 {
-    let place = eq as usize - 1;
-    if place < held.len() {
-        return copied_backwards(alloc, &held[place].rows);
+    match position_of_rows(held, eq) {
+        Some(place) => copied_backwards(alloc, &held[place].rows),
+        None => equation_rows(alloc, model, factors, eq),
     }
-    equation_rows(alloc, model, factors, eq)
 }
 
 /// Makes the rows of an equation, of which all can be made, and puts the last one first. Fails only where memory runs

@@ -1,36 +1,55 @@
 //! Rows that are held, so that they aren't made again, and copied where they are asked for.
 
-ghost use Rattle.std.specs.Prelude.{◌≡◌, ◌<◌, length, map, reverse, IfOk, OnOk};
+ghost use Rattle.std.specs.Prelude.{◌≡◌, ◌<◌, length, map, reverse, slice_index_or, IfOk, IfSome, OnOk};
 ghost use Rattle.row_source.specs.Contents.{contents_of};
 ghost use Rattle.row_book.specs.Held.{KeepsRows};
+ghost use Rattle.row_book.specs.declared.held_rows.HeldRows.{HeldRows};
 
 use row_core::Row;
 use std::alloc::{AllocError, Global};
 
-/// How many entries the rows that are held may have together. So the rows of a small model are made once, and what is
-/// held of a large one takes some tens of megabytes.
+/// Up to how many entries of all rows so far the rows of an equation are held, however short they are. So the rows of a
+/// small model are made once, and what is held of short rows takes some tens of megabytes.
 const HELD_ENTRIES: usize = 262_144;
+
+/// From how many entries a row on, on average, the rows of an equation are held in any case. A long row takes far longer to
+/// make than to copy, and next to nothing beside its entries, of which all rows have 4,000,000 at most.
+const LONG_ROW: usize = 8;
 
 /// The rows of an equation, in order.
 #[derive(Drop)]
 pub(crate) struct HeldRows {
+    pub(crate) eq: u8,
     pub(crate) rows: Vec<Row>,
 }
 
-/// Holds the rows of the next equation as well, if those of all equations before it are held (`all`), and together they
-/// have no more entries (`entries`) than may be held.
+/// Holds the rows of an equation if they are long, or if they and those of all equations before it have few entries. They
+/// have so many (`own`), and with the others so many (`entries`).
 pub(crate) fn keep_rows(
     held: &mut Vec<HeldRows>,
-    all: bool,
-    entries: usize,
+    eq: u8,
     rows: Vec<Row>,
+    own: usize,
+    entries: usize,
 ) -> Result<(), AllocError>
-    ensures { OnOk result (KeepsRows all rows.items held.old.items held.new.items) }
+    ensures { OnOk result (KeepsRows eq rows.items held.old.items held.new.items) }
 {
-    if all && entries <= HELD_ENTRIES {
-        held.push(HeldRows { rows })?;
+    if entries <= HELD_ENTRIES || own / LONG_ROW >= rows.len() {
+        held.push(HeldRows { eq, rows })?;
     }
     Ok(())
+}
+
+/// Where the rows of the equation stand, if they are held.
+pub(crate) fn position_of_rows(held: &[HeldRows], eq: u8) -> Option<usize>
+    ensures { IfSome result (λ i. (i < length held.now) × ((z : HeldRows) → (slice_index_or held.now i z).eq ≡ eq)) }
+{
+    for i in 0..held.len() {
+        if held[i].eq == eq {
+            return Some(i);
+        }
+    }
+    None
 }
 
 /// Copies of rows, the last one first.

@@ -11,6 +11,7 @@ mod fail;
 mod feed;
 mod held_rows;
 mod instance_row;
+mod key_order;
 mod kind_variables;
 mod laws;
 mod made_rows;

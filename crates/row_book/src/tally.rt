@@ -15,7 +15,7 @@ pub(crate) struct Tally {
     pub(crate) before: Vec<u64>,
     /// Of each equation, and each kind of variable: whether it has an entry of the kind.
     pub(crate) kinds: Vec<bool>,
-    /// The rows of the first equations, as long as they don't have too many entries.
+    /// The rows that are held.
     pub(crate) held: Vec<HeldRows>,
     /// The variables of all entries.
     pub(crate) vars: Vec<Var>,

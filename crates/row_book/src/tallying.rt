@@ -1,5 +1,5 @@
 //! What a first pass through all rows finds of them: how many stand before each equation, which kinds each equation
-//! has, and the variables. It holds the rows of the first equations.
+//! has, and the variables. It holds rows that are worth it.
 
 ghost use Rattle.std.specs.Prelude.{◌≡◌, ℕ, ◌≤◌, ◌<◌, ◌+◌, ◌-◌, ◌&&◌, ◌++◌, nat_eq, map, length, false, IfErr, IfOk, OnOk};
 ghost use Rattle.std.specs.List.{AllByRecursion};
@@ -49,8 +49,7 @@ impl Tally {
         })
     }
 
-    /// Makes the rows of all equations, each once, equation by equation. Those of the first equations are held, and the
-    /// others let go again.
+    /// Makes the rows of all equations, each once, equation by equation. Some are held, and the others let go again.
     pub(crate) fn add_equations(
         &mut self,
         alloc: Global,
@@ -71,7 +70,7 @@ impl Tally {
         Ok(())
     }
 
-    /// Makes the rows of an equation, looks at them, and holds them if there is room.
+    /// Makes the rows of an equation, looks at them, and holds them if they are long or few.
     fn add_equation(
         &mut self,
         alloc: Global,
@@ -82,10 +81,9 @@ impl Tally {
         requires equation { IsEquation eq }
         requires factors { AreRegionFactors (places_of factors.now) model.now.facts factors.now }
         requires long { length self.old.kinds.items ≡ table_room }
-        ensures more { OnOk result (TalliesMore (places_of factors.now) model.now.facts (instances_of model.now.facts eq) self.old self.new) }
+        ensures more { OnOk result (TalliesMore (places_of factors.now) model.now.facts eq self.old self.new) }
         ensures stopped { IfErr result (HasStopped (places_of factors.now) model.now.facts self.old.entries (instances_of model.now.facts eq)) }
     {
-        let all_held = self.held.len() == self.before.len();
         let mut made = MadeRows {
             alloc,
             rows: Vec::new(alloc),
@@ -100,8 +98,9 @@ impl Tally {
             Ok(()) => {}
             Err(_) => return Err(BookFail::Memory),
         }
+        let own = made.entries - self.entries;
         self.entries = made.entries;
-        match keep_rows(&mut self.held, all_held, made.entries, made.rows) {
+        match keep_rows(&mut self.held, eq, made.rows, own, made.entries) {
             Ok(()) => Ok(()),
             Err(_) => Err(BookFail::Memory),
         }

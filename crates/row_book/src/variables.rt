@@ -5,6 +5,7 @@ ghost use Rattle.row_core.specs.Numbers.{variables_of};
 ghost use Rattle.row_book.specs.Books.{AreVariablesOf, entry_variables};
 ghost use Rattle.row_book.specs.Tallies.{AreSortedVariables};
 
+use crate::key_order::sort_pieces;
 use row_core::{Row, Var};
 use std::alloc::{AllocError, Global};
 
@@ -23,8 +24,11 @@ pub(crate) fn variables_of_rows(alloc: Global, rows: &[Row]) -> Result<Vec<Var>,
 pub(crate) fn sort_variables(vars: &mut Vec<Var>) -> Result<(), AllocError>
     ensures { OnOk result (AreSortedVariables vars.old.items vars.new.items) }
 {
+    let alloc = *vars.allocator();
+    sort_pieces(alloc, vars)?;
     vars.sort()?;
     vars.dedup();
+    vars.shrink_to_fit();
     Ok(())
 }
 

@@ -4,7 +4,7 @@ use borrow.Author.Tests.{eqb-true}
 use Rattle.std.specs.Prelude.{unsigned_abs, int_div, ◌<ℤ◌, ⊤}
 use Rattle.std.specs.Int.{◌∣◌}
 use Rattle.std.proofs.lemmas.Int.{ints, unsigned_abs-mul}
-use Rattle.std.proofs.lemmas.Nat.Gcd.{dvd_trans, dvd_refl, dvd-zero}
+use Rattle.std.proofs.lemmas.Nat.Gcd.{dvd_antisymm, dvd_trans, dvd_refl, dvd-zero}
 use Rattle.std.proofs.Math.Nat.{dvd-mul_left, mul-dvd-mul_left, one-dvd}
 use Rattle.exact_num.specs.Formed.{common}
 use Rattle.exact_num.specs.Gcd.{gcd_of}
@@ -163,6 +163,17 @@ pub one-widened : (d b : ℤ) → d ≡ pos 1 → widened d b ≡ b
 one-widened d b h =
     let one : common d b ≡ pos 1 = ap (λ z. common z b) h ∙ ap pos (one-gcd_of (unsigned_abs b)) in
     ap₂ (λ x g. int_div x g *ℤ b) h one ∙ one-*ℤ b
+
+gcd_of-same : (n : ℕ) → gcd_of n n ≡ n
+gcd_of-same n = dvd_antisymm (gcd_of-dvd_left n n) (dvd-gcd_of n n n (dvd_refl n) (dvd_refl n))
+
+-- a denominator that is the common one already widens nothing
+pub widened-own : (d b : ℤ) → pos 0 <ℤ d → b ≡ d → widened d b ≡ d
+widened-own d b h own =
+    let n : ℕ = unsigned_abs d in
+    let whole : pos n ≡ d = pos-unsigned_abs d (omega (arith, ints, h)) in
+    let same : common d b ≡ d = ap (λ z. common d z) own ∙ ap pos (gcd_of-same n) ∙ whole in
+    ap₂ (λ g z. int_div d g *ℤ z) same own ∙ exact_quotient d d h (dvd_refl n)
 
 -- over its own denominator a number has its own numerator
 pub numerator_over-own : (d : ℤ) (number : Rational) → pos 0 <ℤ d → number.bottom ≡ d → numerator_over d number ≡ number.top

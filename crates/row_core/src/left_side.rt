@@ -75,6 +75,13 @@ impl LeftSide {
         }
     }
 
+    /// Makes room for so many more terms.
+    fn reserve(&mut self, count: u16) -> Result<(), AllocError>
+        ensures { self.new ≡ self.old }
+    {
+        self.terms.reserve(usize::from(count))
+    }
+
     /// Adds a term for each position below `count`, in order.
     pub fn add_each<F: Fn(u16) -> (Var, Option<Frac>)>(
         &mut self,
@@ -84,6 +91,7 @@ impl LeftSide {
         requires { (i : ℕ) → i < count → F.pre term i }
         ensures { (g : ℕ → Var × Amount) → GivesTerms count (F.post term) g → OnOk result (self.new ≡ with_amounts (each (range_with_len 0 count) g) self.old) }
     {
+        self.reserve(count)?;
         for i in 0..count {
             let (variable, coefficient) = term(i);
             self.add(variable, coefficient)?;

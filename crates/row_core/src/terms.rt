@@ -1,6 +1,7 @@
 //! The terms of an equation.
 
 ghost use Rattle.std.specs.Prelude.{◌≡◌, ◌≢◌, ◌-◌, ◌<◌, ◌≤◌, [], true, length, map, slice_index_or, slice_set, IsTrue, IfErr, MatchResult, OnOk, OnErr};
+ghost use Rattle.std.specs.List.{insert};
 ghost use Rattle.std.specs.declared.cmp.Ordering.TheVariants.{Greater};
 ghost use Rattle.exact_num.specs.Formed.{sum_formed};
 ghost use Rattle.exact_num.specs.Rational.{plus};
@@ -8,6 +9,7 @@ ghost use Rattle.exact_num.specs.Value.{value_of};
 ghost use Rattle.row_core.specs.Numbers.{ascends, variables_of};
 ghost use Rattle.row_core.specs.Order.{var_cmp};
 ghost use Rattle.row_core.specs.TermPlaces.{IsThere, BelongsAt};
+ghost use Rattle.row_core.specs.declared.place.Stopped.TheVariants.{Memory};
 ghost use Rattle.row_core.specs.declared.terms.Term.{Term};
 ghost use Rattle.exact_num.specs.Range.{all_fit};
 ghost use Rattle.row_core.specs.Stops.{IsStop};
@@ -17,7 +19,7 @@ ghost use Rattle.row_core.specs.TermViews.{seen};
 use crate::Var;
 use crate::place::{Place, Stopped};
 use exact_num::{Frac, add};
-use std::alloc::Global;
+use std::alloc::{AllocError, Global};
 use std::cmp::Ordering;
 use std::marker::Model;
 
@@ -68,13 +70,17 @@ impl Terms {
         ensures stopped { IfErr result (IsStop place (all_fit (term_formed (seen term) self.old))) }
         ensures unchanged { OnErr result (self.new ≡ self.old) }
     {
-        match position_of(&self.list, term.variable) {
+        match position_of(&self.list, &term.variable) {
             Ok(at) => increase(&mut self.list, at, place, term.coefficient),
-            Err(at) => {
-                self.list.insert(at, term)?;
-                Ok(())
-            }
+            Err(at) => put_in(&mut self.list, at, term),
         }
+    }
+
+    /// Makes room for so many more terms.
+    pub(crate) fn reserve(&mut self, more: usize) -> Result<(), AllocError>
+        ensures { self.new ≡ self.old }
+    {
+        self.list.reserve(more)
     }
 
     /// The terms, strictly ascending by variable.
@@ -88,13 +94,13 @@ impl Terms {
 
 /// The position of the term of this variable, or the one at which it belongs. Looked for from the end, where most terms
 /// belong: so most are placed by one comparison.
-fn position_of(list: &[Term], variable: Var) -> Result<usize, usize>
+fn position_of(list: &[Term], variable: &Var) -> Result<usize, usize>
     requires { IsTrue (ascends var_cmp (variables_of (map seen list.now))) }
-    ensures { MatchResult result (IsThere list.now variable) (BelongsAt list.now variable) }
+    ensures { MatchResult result (IsThere list.now variable.now) (BelongsAt list.now variable.now) }
 {
     let mut end = list.len();
     while end > 0 {
-        match compare(list[end - 1].variable, variable) {
+        match compare(&list[end - 1].variable, variable) {
             Ordering::Less => return Err(end),
             Ordering::Equal => return Ok(end - 1),
             Ordering::Greater => end -= 1,
@@ -104,10 +110,25 @@ fn position_of(list: &[Term], variable: Var) -> Result<usize, usize>
 }
 
 /// How two variables stand in the order of variables.
-fn compare(a: Var, b: Var) -> Ordering
-    ensures { result ≡ var_cmp a b }
+fn compare(a: &Var, b: &Var) -> Ordering
+    ensures { result ≡ var_cmp a.now b.now }
 {
-    a.cmp(&b)
+    a.cmp(b)
+}
+
+/// Puts a term in at this position: most belong at the end.
+fn put_in(list: &mut Vec<Term>, at: usize, term: Term) -> Result<(), Stopped>
+    requires { at ≤ length list.old.items }
+    ensures put { OnOk result (list.new.items ≡ insert list.old.items at term) }
+    ensures memory { IfErr result (λ e. e ≡ Memory) }
+    ensures unchanged { OnErr result (list.new.items ≡ list.old.items) }
+{
+    if at == list.len() {
+        list.push(term)?;
+    } else {
+        list.insert(at, term)?;
+    }
+    Ok(())
 }
 
 /// Adds to the coefficient of the term at this position.

@@ -52,7 +52,7 @@ pub fn write_row(
         return Err(Stopped::Width(place));
     };
     let entries = entries_of(alloc, place, list, denominator)?;
-    let Ok(rhs) = numerator(denominator, right) else {
+    let Ok(rhs) = numerator(denominator, &right) else {
         return Err(Stopped::Width(place));
     };
     Ok(reduced(name, sense, entries, rhs))
@@ -80,7 +80,7 @@ fn reduced(name: RowName, sense: Sense, mut entries: Vec<(Var, i128)>, right: i1
     }
 }
 
-/// The least common multiple of a common denominator and one more denominator.
+/// The least common multiple of a common denominator and one more denominator. Most rows have one denominator beside 1.
 #[tactic(auto, using(exact_num::proofs::RangeLaws::ranges))]
 fn widen(denominator: i128, other: i128) -> Result<i128, TooWide>
     requires fits { InRange denominator }
@@ -94,8 +94,27 @@ fn widen(denominator: i128, other: i128) -> Result<i128, TooWide>
 {
     if other == 1 {
         Ok(denominator)
-    } else if denominator == 1 {
-        // Most rows have one denominator beside 1.
+    } else if other == denominator {
+        Ok(denominator)
+    } else {
+        widen_further(denominator, other)
+    }
+}
+
+/// The same, whatever the denominators are. It stands apart, so that the tests above are inlined.
+#[inline(never)]
+#[tactic(auto, using(exact_num::proofs::RangeLaws::ranges))]
+fn widen_further(denominator: i128, other: i128) -> Result<i128, TooWide>
+    requires fits { InRange denominator }
+    requires positive { pos 0 <ℤ denominator }
+    requires other_fits { InRange other }
+    requires other_positive { pos 0 <ℤ other }
+    ensures refused { is_ok result ≡ in_range (widened denominator other) }
+    ensures value { IfOk result (λ d. d ≡ widened denominator other) }
+    ensures range { IfOk result (λ d. InRange d) }
+    ensures positive { IfOk result (λ d. pos 0 <ℤ d) }
+{
+    if denominator == 1 {
         Ok(other)
     } else {
         product(quotient(denominator, gcd(denominator, other)), other)
@@ -104,11 +123,11 @@ fn widen(denominator: i128, other: i128) -> Result<i128, TooWide>
 
 /// The common denominator with one more term.
 #[tactic(auto, using(exact_num::proofs::RangeLaws::ranges))]
-fn widen_by_term(denominator: i128, term: Term) -> Result<i128, TooWide>
+fn widen_by_term(denominator: i128, term: &Term) -> Result<i128, TooWide>
     requires fits { InRange denominator }
     requires positive { pos 0 <ℤ denominator }
-    ensures refused { is_ok result ≡ in_range (widened_by_term denominator (seen term)) }
-    ensures value { IfOk result (λ d. d ≡ widened_by_term denominator (seen term)) }
+    ensures refused { is_ok result ≡ in_range (widened_by_term denominator (seen term.now)) }
+    ensures value { IfOk result (λ d. d ≡ widened_by_term denominator (seen term.now)) }
     ensures range { IfOk result (λ d. InRange d) }
     ensures positive { IfOk result (λ d. pos 0 <ℤ d) }
 {
@@ -128,25 +147,38 @@ fn denominator_of(terms: &[Term], right: Frac) -> Result<i128, TooWide>
 {
     let mut denominator = 1;
     for term in terms {
-        denominator = widen_by_term(denominator, *term)?;
+        denominator = widen_by_term(denominator, term)?;
     }
     widen(denominator, right.den)
 }
 
-/// The numerator of a number over a common denominator.
+/// The numerator of a number over a common denominator. Most numbers have that denominator already.
 #[tactic(auto, using(exact_num::proofs::RangeLaws::ranges))]
-fn numerator(denominator: i128, number: Frac) -> Result<i128, TooWide>
+fn numerator(denominator: i128, number: &Frac) -> Result<i128, TooWide>
+    requires fits { InRange denominator }
+    requires positive { pos 0 <ℤ denominator }
+    ensures refused { is_ok result ≡ in_range (numerator_over denominator (value_of number.now)) }
+    ensures value { IfOk result (λ n. n ≡ numerator_over denominator (value_of number.now)) }
+    ensures range { IfOk result (λ n. InRange n) }
+{
+    if number.den == denominator {
+        Ok(number.num)
+    } else {
+        expanded_numerator(denominator, *number)
+    }
+}
+
+/// The same of a number over a smaller denominator. It stands apart, so that the test above is inlined.
+#[inline(never)]
+#[tactic(auto, using(exact_num::proofs::RangeLaws::ranges))]
+fn expanded_numerator(denominator: i128, number: Frac) -> Result<i128, TooWide>
     requires fits { InRange denominator }
     requires positive { pos 0 <ℤ denominator }
     ensures refused { is_ok result ≡ in_range (numerator_over denominator (value_of number)) }
     ensures value { IfOk result (λ n. n ≡ numerator_over denominator (value_of number)) }
     ensures range { IfOk result (λ n. InRange n) }
 {
-    if number.den == denominator {
-        Ok(number.num)
-    } else {
-        product(number.num, quotient(denominator, number.den))
-    }
+    product(number.num, quotient(denominator, number.den))
 }
 
 /// Each variable with the numerator of its coefficient over a common denominator, without those that are 0.
@@ -164,7 +196,7 @@ fn entries_of(
 {
     let mut entries = Vec::with_capacity(alloc, terms.len())?;
     for term in terms {
-        push_entry(&mut entries, place, *term, denominator)?;
+        push_entry(&mut entries, place, term, denominator)?;
     }
     Ok(entries)
 }
@@ -173,19 +205,19 @@ fn entries_of(
 fn push_entry(
     entries: &mut Vec<(Var, i128)>,
     place: Place,
-    term: Term,
+    term: &Term,
     denominator: i128,
 ) -> Result<(), Stopped>
     requires fits { InRange denominator }
     requires positive { pos 0 <ℤ denominator }
-    ensures pushed { OnOk result (entries.new.items ≡ entries.old.items ++ entry_over denominator (seen term)) }
-    ensures fits { OnOk result (all_fit (numbers_of (entry_over denominator (seen term))) ≡ true) }
-    ensures stopped { IfErr result (IsStop place (all_fit (numbers_of (entry_over denominator (seen term))))) }
+    ensures pushed { OnOk result (entries.new.items ≡ entries.old.items ++ entry_over denominator (seen term.now)) }
+    ensures fits { OnOk result (all_fit (numbers_of (entry_over denominator (seen term.now))) ≡ true) }
+    ensures stopped { IfErr result (IsStop place (all_fit (numbers_of (entry_over denominator (seen term.now))))) }
 {
     if term.coefficient.num == 0 {
         return Ok(());
     }
-    let Ok(number) = numerator(denominator, term.coefficient) else {
+    let Ok(number) = numerator(denominator, &term.coefficient) else {
         return Err(Stopped::Width(place));
     };
     entries.push((term.variable, number))?;

@@ -1,6 +1,8 @@
 //! Data sections, read as the program reads them and as plain lists.
 
-use mathprog_data::{Blocks, Name, read_blocks};
+ghost use Rattle.std.specs.Prelude.{◌<◌, length};
+
+use mathprog_data::{Blocks, Values, read_blocks};
 use model_sets::Sets;
 use model_sets::param_numbers::DISCOUNT_RATE_IDV;
 use param_tables::{ModelData, build, sets_of};
@@ -41,22 +43,24 @@ fn plain_data(alloc: Global, blocks: &Blocks, sets: Sets) -> Result<PlainData, A
         if let Some(value) = block.default {
             defaults.push(PlainDefault { param, value })?;
         }
-        for value in block.values.iter() {
+        for number in 0..block.values.len() {
             given.push(PlainValue {
                 param,
-                index: names_of(alloc, &value.index)?,
-                value: value.value,
+                index: names_of(alloc, &block.values, number)?,
+                value: block.values.value(number),
             })?;
         }
     }
     Ok(PlainData::new(sets, given, defaults, second))
 }
 
-/// The bytes of the names.
-fn names_of(alloc: Global, names: &[Name]) -> Result<Vec<Vec<u8>>, AllocError> {
+/// The bytes of the names of this value.
+fn names_of(alloc: Global, values: &Values, number: usize) -> Result<Vec<Vec<u8>>, AllocError>
+    requires { number < length values.now }
+{
     let mut all = Vec::new(alloc);
-    for name in names {
-        all.push(Vec::from_slice(alloc, name.bytes())?)?;
+    for i in 0..values.subscripts(number) {
+        all.push(Vec::from_slice(alloc, values.name(number, i).bytes())?)?;
     }
     Ok(all)
 }

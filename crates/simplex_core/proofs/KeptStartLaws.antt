@@ -122,7 +122,7 @@ end-started pivots s t r c (ends.Over f) some none is d fits w = (first-answer p
 end-started pivots s t r c ends.Unsure some none is d fits w = tt
 end-started pivots s t r c ends.Memory some none is d fits w = tt
 
--- the state after it is that behind the kept tableau
+-- the state after it is that which the kept tableau shows
 pub started-is : (p : LinearProgram) (h : ℕ) → any_negative p.rows ≡ true → h ≡ least_right_from 0 0 (pos 0) (right_sides (tableau_with p true))
     → shown_state (kept_state (negated h (tableau_with p true)) h (x0_in (tableau_with p true)) 1 0) ≡ after (start_state (tableau_with p true) 0 0) h (x0_in (tableau_with p true))
 started-is p h some is =

@@ -1,4 +1,4 @@
--- From one state of phase 1 behind the kept tableau to the next, and to its ends.
+-- From one state of phase 1 that the kept tableau shows to the next, and to its ends.
 use Rattle.std.proofs.Common.{◌≡◌, ◌≢◌, ℕ, zero, suc, ◌-◌, ◌<◌, ◌≤◌, Bool, true, false, refl, sym, ap, ap₂, ◌∙◌, subst, arith, if◌then◌else◌}
 use Rattle.row_core.specs.Numbers.{is_zero}
 use Rattle.written_method.specs.Tableaus.{Tableau, pivoted, without_x0}
@@ -148,7 +148,7 @@ way-start pivots s h t w e =
       few = omega arith;
     }
 
--- the method's end in the state behind the kept tableau
+-- the method's end in the state that the kept tableau shows
 pub IsKeptEnd-last : (pivots : ℕ) (s : State) (h : ℕ) (t : Counted) (made deg : ℕ) (finish : Finish) (e : KeptEnd) → suc t.pivots ≡ made → made ≤ pivots
     → answer (pivots - s.pivots) s ≡ Ended (ending_seen finish) (shown_state (kept_state t.tableau h (x0_in t.tableau) made deg)) → IsLastEnd t h deg finish e → IsKeptEnd pivots s e
 IsKeptEnd-last pivots s h t made deg finish (ends.Second last) m within a w = absurd w

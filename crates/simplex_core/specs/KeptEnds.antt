@@ -45,7 +45,7 @@ IsLastEnd t home degenerate finish (ends.Over f) = (f.finish ≡ finish) × (sta
 IsLastEnd t home degenerate finish ends.Unsure = ⊤
 IsLastEnd t home degenerate finish ends.Memory = ⊤
 
--- a state of the method's phase 1 that follows this one, with the answer of the whole, behind a kept tableau
+-- a state of the method's phase 1 that follows this one, with the answer of the whole, as a kept tableau shows it
 pub record IsOnWay (pivots : ℕ) (s : State) (home : ℕ) (t : Tableau) (made degenerate : ℕ) : Type 0 where
   pub kept : IsKept home (x0_in t) t
   pub since : s.pivots ≤ made

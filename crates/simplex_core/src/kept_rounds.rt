@@ -33,7 +33,7 @@ pub(crate) enum KeptEnd {
     Memory,
 }
 
-/// The method's state behind a kept tableau: the pivot that was kept back is made.
+/// The method's state that a kept tableau shows: the pivot that was kept back is made.
 fn method_state(
     alloc: Global,
     tableau: Tableau,

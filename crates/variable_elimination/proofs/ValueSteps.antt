@@ -97,7 +97,7 @@ module _ {K : Type 0} (cmp : K → K → Ordering) (total : IsTotalOrder cmp) wh
       cases Alike rest = refl
       cases Greater rest = ap {B = List (K × Rational)} (λ rs. valued e ∷ rs) rest
 
-  -- what is behind all of a list is put at its end
+  -- what comes after all of a list is put at its end
   pub insert-last : {A : Type 0} (es : List (K × A)) (v : K) (a : A) → ascends cmp (keys_of (es ++ (v, a) ∷ [])) ≡ true → insert_entry cmp es v a ≡ es ++ (v, a) ∷ []
   insert-last [] v a h = refl
   insert-last {A} (e ∷ es) v a h =
@@ -121,7 +121,7 @@ module _ {K : Type 0} (cmp : K → K → Ordering) (total : IsTotalOrder cmp) wh
       before [] (suc m) k = refl
       before (f ∷ fs) (suc m) k = k
 
-  -- the next of an ascending list is put behind those before it
+  -- the next of an ascending list is put after those before it
   pub insert-next : {A : Type 0} (es : List (K × A)) (i : ℕ) (d e : K × A) → i < length es → e ≡ get_or es i d → ascends cmp (keys_of es) ≡ true → insert_entry cmp (take i es) e.0 e.1 ≡ take (i + 1) es
   insert-next es i d e h is up =
       let next : take (i + 1) es ≡ take i es ++ e ∷ [] = take_more es i d h ∙ ap (λ f. take i es ++ f ∷ []) (sym is) in

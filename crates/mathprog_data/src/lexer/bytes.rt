@@ -24,12 +24,24 @@ pub(crate) fn is_separator(byte: u8) -> bool
     byte == b' ' || byte == b'\t' || byte == b'\r' || byte == b'\n'
 }
 
-/// Whether it may stand in a bare symbol: an ASCII letter or digit, `+`, `-`, `.` or `_`.
-#[inline]
+/// Of the bytes from 0 to 63, one bit each: `+`, `-`, `.` and the digits.
+const LOW_SYMBOL_BYTES: u64 = 288_063_250_384_289_792;
+
+/// Of those from 64 to 127: the ASCII letters and `_`.
+const HIGH_SYMBOL_BYTES: u64 = 576_460_745_995_190_270;
+
+/// Whether it may stand in a bare symbol: an ASCII letter or digit, `+`, `-`, `.` or `_`. It is asked of nearly every byte,
+/// so its bit is looked up.
+#[inline(always)]
 pub(crate) fn is_symbol_byte(byte: u8) -> bool
     ensures { result ≡ is_symbol_byte byte }
 {
-    byte.is_ascii_alphanumeric() || byte == b'+' || byte == b'-' || byte == b'.' || byte == b'_'
+    let bits = if byte < 64 {
+        LOW_SYMBOL_BYTES
+    } else {
+        HIGH_SYMBOL_BYTES
+    };
+    byte < 128 && (bits >> (byte % 64)) % 2 == 1
 }
 
 /// How many bytes of bare symbols stand in front.

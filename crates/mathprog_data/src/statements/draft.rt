@@ -5,9 +5,11 @@ ghost use Rattle.std.specs.List.{list_any};
 ghost use Rattle.mathprog_data.specs.BlocksView.{blocks_told};
 ghost use Rattle.mathprog_data.specs.DraftViews.{draft_view};
 ghost use Rattle.mathprog_data.specs.MachineStates.{noted, empty_draft, drafted, with_default, Draft, MemberNamed, ValueGiven, SetClosed, ParamClosed};
-ghost use Rattle.mathprog_data.specs.Tables.{given};
+ghost use Rattle.mathprog_data.specs.Slices.{index_at};
+ghost use Rattle.mathprog_data.specs.Tables.{given, cell_index};
 
-use crate::blocks::{Blocks, Given, Mark, Name, ParamBlock, SetBlock};
+use crate::blocks::{Blocks, Mark, Name, ParamBlock, SetBlock};
+use crate::values::Values;
 use std::alloc::{AllocError, Global};
 use std::mem;
 
@@ -18,7 +20,7 @@ pub(crate) struct Draft {
     alloc: Global,
     members: Vec<Name>,
     default: Option<i128>,
-    values: Vec<Given>,
+    values: Values,
     sets: Vec<SetBlock>,
     params: Vec<ParamBlock>,
     rounded: u64,
@@ -33,7 +35,7 @@ impl Draft {
             alloc,
             members: Vec::new(alloc),
             default: None,
-            values: Vec::new(alloc),
+            values: Values::new(alloc),
             sets: Vec::new(alloc),
             params: Vec::new(alloc),
             rounded: 0,
@@ -93,20 +95,48 @@ impl Draft {
         }
     }
 
-    /// Adds a value to the open parameter.
+    /// Keeps the names of a table's columns. Answers the place of the first.
+    pub(crate) fn keep_columns(&mut self, columns: &[Name]) -> Result<u32, AllocError>
+        ensures { draft_view self.new ≡ draft_view self.old }
+    {
+        self.values.keep_names(self.alloc, columns)
+    }
+
+    /// Adds a value of plain data to the open parameter.
     #[inline(always)]
-    pub(crate) fn give_value(
+    pub(crate) fn give_plain(
         &mut self,
-        index: Vec<Name>,
+        slice: &[Option<Name>],
+        names: &[Name],
         number: (i128, bool),
         at: Mark,
     ) -> Result<(), AllocError>
         requires { self.old.rounded + 1 < 2 ^ 64 }
-        ensures { OnOk result (draft_view self.new ≡ noted (draft_view self.old) (ValueGiven (given index.items number at))) }
+        ensures { OnOk result (draft_view self.new ≡ noted (draft_view self.old) (ValueGiven (given (index_at slice.now names.now) number at))) }
     {
-        let (value, rounded) = number;
-        self.values.push(Given { index, value, at })?;
-        self.count(rounded);
+        self.values
+            .push_plain(self.alloc, slice, names, number, at)?;
+        self.count(number.1);
+        Ok(())
+    }
+
+    /// Adds a value of a table to the open parameter. The name of its column may stand at the place `hint`.
+    #[inline(always)]
+    pub(crate) fn give_cell(
+        &mut self,
+        slice: &[Option<Name>],
+        transposed: bool,
+        row: &Name,
+        column: &Name,
+        hint: u32,
+        number: (i128, bool),
+        at: Mark,
+    ) -> Result<(), AllocError>
+        requires { self.old.rounded + 1 < 2 ^ 64 }
+        ensures { OnOk result (draft_view self.new ≡ noted (draft_view self.old) (ValueGiven (given (cell_index slice.now transposed row.now column.now) number at))) }
+    {
+        self.values.push_cell(self.alloc, slice, transposed, row, column, hint, number, at)?;
+        self.count(number.1);
         Ok(())
     }
 
@@ -124,7 +154,7 @@ impl Draft {
         ensures { OnOk result (draft_view self.new ≡ noted (draft_view self.old) (ParamClosed param)) }
     {
         let default = mem::replace(&mut self.default, None);
-        let values = mem::replace(&mut self.values, Vec::new(self.alloc));
+        let values = mem::replace(&mut self.values, Values::new(self.alloc));
         self.params.push(ParamBlock {
             param,
             default,

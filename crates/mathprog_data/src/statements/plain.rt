@@ -9,14 +9,13 @@ ghost use Rattle.mathprog_data.specs.MachineViews.{Turned, form_view};
 ghost use Rattle.mathprog_data.specs.SymbolViews.{seen_view, name_in, number_in};
 
 use super::seen::{Seen, Symbol};
-use super::slices::{free_count, index_at};
+use super::slices::free_count;
 use super::{State, StatementReader};
 use crate::blocks::Mark;
 use crate::fault::{BAD_NUMBER, UNEXPECTED};
 use crate::lexeme::Sign;
 use model_sets::param_numbers::RESULTS_PATH;
 use std::alloc::AllocError;
-use std::mem;
 
 impl StatementReader {
     /// Takes a token where a record may begin.
@@ -41,7 +40,7 @@ impl StatementReader {
             Seen::Symbol(symbol) => {
                 self.mark = at;
                 self.left = free_count(&self.slice);
-                self.names = Vec::with_capacity(self.alloc, self.left)?;
+                self.names.clear();
                 self.plain(symbol)
             }
         }
@@ -101,9 +100,8 @@ impl StatementReader {
         match value_of(self.item, symbol) {
             None => Ok(Some(BAD_NUMBER)),
             Some(number) => {
-                let names = mem::replace(&mut self.names, Vec::new(self.alloc));
-                let index = index_at(self.alloc, &self.slice, names)?;
-                self.draft.give_value(index, number, self.mark)?;
+                self.draft
+                    .give_plain(&self.slice, &self.names, number, self.mark)?;
                 Ok(self.go(State::InRecords, true))
             }
         }

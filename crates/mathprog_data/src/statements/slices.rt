@@ -1,11 +1,11 @@
 //! Slices.
 
-ghost use Rattle.std.specs.Prelude.{◌≡◌, IfOk, [], ◌∷◌};
+ghost use Rattle.std.specs.Prelude.{◌≡◌, IfOk};
 ghost use Rattle.mathprog_data.specs.MachineStates.{SignSeen};
 ghost use Rattle.mathprog_data.specs.MachineSteps.{bracket, place_due, place_read};
 ghost use Rattle.mathprog_data.specs.MachineViews.{Turned};
 ghost use Rattle.model_sets.specs.Params.{subscript_count};
-ghost use Rattle.mathprog_data.specs.Slices.{all_free, free_count, index_at};
+ghost use Rattle.mathprog_data.specs.Slices.{all_free, free_count};
 ghost use Rattle.mathprog_data.specs.SymbolViews.{seen_view};
 
 use super::seen::Seen;
@@ -38,71 +38,6 @@ pub(super) fn free_count(slice: &[Option<Name>]) -> usize
         }
     }
     count
-}
-
-/// The full index: the fixed names in their places, and the others in the free places. Where there is a name
-/// for every place, and none is fixed, the names are the index as they are.
-pub(super) fn index_at(
-    alloc: Global,
-    slice: &[Option<Name>],
-    names: Vec<Name>,
-) -> Result<Vec<Name>, AllocError>
-    ensures { IfOk result (λ index. index.items ≡ index_at slice.now names.items) }
-{
-    if names.len() == slice.len() && free_count(slice) == slice.len() {
-        return Ok(names);
-    }
-    index_between(alloc, slice, names)
-}
-
-/// The full index, where some places are fixed.
-fn index_between(
-    alloc: Global,
-    slice: &[Option<Name>],
-    names: Vec<Name>,
-) -> Result<Vec<Name>, AllocError>
-    ensures { IfOk result (λ index. index.items ≡ index_at slice.now names.items) }
-{
-    let mut index = Vec::with_capacity(alloc, slice.len())?;
-    let mut names = names.into_iter();
-    for place in slice {
-        match place {
-            Some(fixed) => index.push(fixed.copy(alloc)?)?,
-            None => match names.next() {
-                Some(name) => index.push(name)?,
-                None => return Ok(index),
-            },
-        }
-    }
-    Ok(index)
-}
-
-/// The full index, with these two names in the free places.
-pub(super) fn index_of_two(
-    alloc: Global,
-    slice: &[Option<Name>],
-    first: &Name,
-    second: &Name,
-) -> Result<Vec<Name>, AllocError>
-    ensures { IfOk result (λ index. index.items ≡ index_at slice.now (first.now ∷ second.now ∷ [])) }
-{
-    let mut index = Vec::with_capacity(alloc, slice.len())?;
-    let mut taken = 0u8;
-    for place in slice {
-        let name = match place {
-            Some(fixed) => fixed,
-            None => {
-                taken += 1;
-                match taken {
-                    1 => first,
-                    2 => second,
-                    _ => return Ok(index),
-                }
-            }
-        };
-        index.push(name.copy(alloc)?)?;
-    }
-    Ok(index)
 }
 
 impl StatementReader {

@@ -9,32 +9,13 @@ ghost use Rattle.mathprog_data.specs.SymbolViews.{seen_view, word_in, number_in}
 ghost use Rattle.mathprog_data.specs.Tables.{given, cell_index};
 
 use super::seen::{Seen, Symbol};
-use super::slices::{free_count, index_of_two};
+use super::slices::free_count;
 use super::{State, StatementReader};
-use crate::blocks::{Mark, Name};
+use crate::blocks::Mark;
 use crate::fault::{BAD_NUMBER, ROW_TOO_SHORT, UNEXPECTED, WRONG_SLICE};
 use crate::lexeme::Sign;
 use crate::words::Word;
-use std::alloc::{AllocError, Global};
-
-/// The index of a cell: the row gives the first free subscript and the column the second, in a transposed
-/// table the other way round.
-fn cell_index(
-    alloc: Global,
-    slice: &[Option<Name>],
-    transposed: bool,
-    row: &Name,
-    column: &Name,
-) -> Result<Vec<Name>, AllocError>
-    ensures { IfOk result (λ index. index.items ≡ cell_index slice.now transposed row.now column.now) }
-{
-    let (first, second) = if transposed {
-        (column, row)
-    } else {
-        (row, column)
-    };
-    index_of_two(alloc, slice, first, second)
-}
+use std::alloc::AllocError;
 
 impl StatementReader {
     /// Takes the colon of a table.
@@ -106,7 +87,7 @@ impl StatementReader {
         ensures { IfOk result (λ fault. Turned self.old (in_columns self.old.item self.old.slice.items self.old.transposed self.old.columns.items self.old.comma (seen_view seen.entry)) fault self.new) }
     {
         match seen {
-            Seen::Sign(Sign::Gives) => Ok(self.end_columns()),
+            Seen::Sign(Sign::Gives) => self.end_columns(),
             Seen::Sign(Sign::Comma) => Ok(self.take_comma(State::InColumns)),
             Seen::Symbol(symbol) => {
                 let name = symbol.name(self.alloc)?;
@@ -118,13 +99,14 @@ impl StatementReader {
     }
 
     /// Takes the `:=` after the columns.
-    fn end_columns(&mut self) -> Option<u8>
-        ensures { Turned self.old (columns_end self.old.item self.old.slice.items self.old.transposed self.old.columns.items) result self.new }
+    fn end_columns(&mut self) -> Result<Option<u8>, AllocError>
+        ensures { IfOk result (λ fault. Turned self.old (columns_end self.old.item self.old.slice.items self.old.transposed self.old.columns.items) fault self.new) }
     {
         if self.columns.is_empty() {
-            Some(UNEXPECTED)
+            Ok(Some(UNEXPECTED))
         } else {
-            self.go(State::InRows, false)
+            self.place = self.draft.keep_columns(&self.columns)?;
+            Ok(self.go(State::InRows, false))
         }
     }
 
@@ -189,14 +171,17 @@ impl StatementReader {
             None => Ok(Some(BAD_NUMBER)),
             Some(number) => {
                 let column = &self.columns[self.cells];
-                let index = cell_index(
-                    self.alloc,
+                let cells = u32::try_from(self.cells).unwrap_or(0);
+                let hint = self.place.saturating_add(cells);
+                self.draft.give_cell(
                     &self.slice,
                     self.transposed,
                     &self.row,
                     column,
+                    hint,
+                    number,
+                    self.mark,
                 )?;
-                self.draft.give_value(index, number, self.mark)?;
                 Ok(self.next_cell())
             }
         }

@@ -2,11 +2,8 @@ use Rattle.std.proofs.Common.{sym, subst}
 use Rattle.std.proofs.lemmas.Result.{err_from_is_err_and}
 use Rattle.std.specs.BTreeMap.{get}
 use Rattle.std.specs.Ordering.{nat_cmp}
-use Rattle.param_tables.specs.InTurn.{first_of, in_turn}
-use Rattle.param_tables.specs.Refusals.{value_refusal}
+use Rattle.param_tables.specs.InTurn.{first_of}
 use Rattle.mathprog_data.specs.BlocksView.{param_told}
-use Rattle.param_tables.specs.BlockData.{values_told}
-use Rattle.param_tables.specs.Tables.{AreGiven}
 use Rattle.param_tables.specs.Stops.{IsStopDue}
 use Rattle.param_tables.proofs.TableOfLaws.{table_of_given, used_refusals}
 use Rattle.param_tables.proofs.tables.table_of.Goals as goal
@@ -17,13 +14,10 @@ returns-in_err-values-clause-refused c =
     let sets = c.args.sets.now in
     let stop = c.in_err-values.field-0.0 in
     let p = err_from_is_err_and c.from_residual.result c.from_residual.ensures.1 in
-    let slice = subst (λ given. IsStopDue (first_of (in_turn (value_refusal sets s.param) (values_told given))) sets stop) c.as_slice.ensures.value c.in_err-values.ensures.refused in
-    rw (p.1, p.2) (subst (λ refusals. IsStopDue (first_of refusals) sets stop) (sym (used_refusals sets s c.requires.used.1)) slice)
+    rw (p.1, p.2) (subst (λ refusals. IsStopDue (first_of refusals) sets stop) (sym (used_refusals sets s c.requires.used.1)) c.in_err-values.ensures.refused)
 
 pub returns-clause-table : goal.returns-clause-table
 returns-clause-table c =
     let s = param_told c.args.block.now in
     let sets = c.args.sets.now in
-    let made = c.in_ok-new.ensures in
-    let given = subst (λ given. AreGiven sets s.param (values_told given) (get nat_cmp c.in_ok-values.values)) c.as_slice.ensures.value c.in_ok-values.ensures.values in
-    table_of_given sets s c.in_ok-new.field-0 (get nat_cmp c.in_ok-values.values) c.in_ok-new.ensures.default (c.in_ok-new.ensures.ascending, c.in_ok-new.ensures.long) c.in_ok-new.ensures.values given
+    table_of_given sets s c.in_ok-new.field-0 (get nat_cmp c.in_ok-values.values) c.in_ok-new.ensures.default (c.in_ok-new.ensures.ascending, c.in_ok-new.ensures.long) c.in_ok-new.ensures.values c.in_ok-values.ensures.values

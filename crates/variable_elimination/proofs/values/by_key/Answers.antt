@@ -1,4 +1,4 @@
--- The next entry is put behind those before it.
+-- The next entry is put after those before it.
 use Rattle.std.proofs.Common.{ap, ◌∙◌}
 use Rattle.std.specs.BTreeMap.{insert_entry}
 use Rattle.variable_elimination.proofs.ValueSteps.{insert-next}

@@ -39,8 +39,7 @@ returns-in-Ok-keep_rows-clause-more c =
       fit = adds.fit;
       entries = adds.counted;
       before = ap (λ v. v.items) c.in-Ok-add_rows.ensures.before ∙ c.in_ok-push.ensures.items;
-      held = subst (λ (held : List HeldRows). KeepsRows (nat_eq (length old.held.items) (length old.before.items)) rows held c.keep_rows.new.held.items) (ap (λ v. v.items) c.in-Ok-add_rows.ensures.held)
-          (subst (λ (all : Bool). KeepsRows all rows new.held.items c.keep_rows.new.held.items) (ap₂ nat_eq (c.len.ensures ∙ old.held.ok.0) (c.len-2.ensures ∙ old.before.ok.0)) c.in-Ok-keep_rows.ensures);
+      held = subst (λ (held : List HeldRows). KeepsRows c.args.eq rows held c.keep_rows.new.held.items) (ap (λ v. v.items) c.in-Ok-add_rows.ensures.held) c.in-Ok-keep_rows.ensures;
       counts = record {
         number = counts.number ∙ ap (λ (rs : List Row). old.rows + length rs) is;
         kinds = subst (λ (rs : List Row). MarksMore old.kinds.items new.kinds.items (λ eq kind. has_kind eq kind (map contents_of rs))) is counts.kinds;

@@ -1,10 +1,10 @@
 -- One term after another.
-use Rattle.std.proofs.Common.{◌+◌, refl, sym, ap, ◌∙◌}
+use Rattle.std.proofs.Common.{◌+◌, sym, ap, ◌∙◌}
 use Rattle.row_core.proofs.RepeatedLaws.{with_rest_of_all, all-begin, all-step, all-end}
 use Rattle.row_core.proofs.left_side.LeftSide.add_each.Goals as goal
 
 pub loop-i-init : goal.loop-i-init
-loop-i-init g c term gives = refl
+loop-i-init g c term gives = ap (with_rest_of_all term c.args.count 0) (sym c.in_ok-reserve.ensures)
 
 pub loop-i-preserved : goal.loop-i-preserved
 loop-i-preserved g c term gives =

@@ -1,5 +1,6 @@
 use Rattle.std.proofs.Common.{◌≡◌, ℕ, true, List, map, get_or, set, sym, ap, ◌∙◌, subst}
 use Rattle.std.specs.Prelude.{Result, Ok, Err, OnOk, OnErr}
+use Rattle.std.specs.List.{insert}
 use Rattle.std.proofs.lemmas.Result.{on_ok_weaker, MatchResult-weaker}
 use Rattle.exact_num.specs.Formed.{sum_formed}
 use Rattle.exact_num.specs.Range.{all_fit}
@@ -22,6 +23,11 @@ added_there : (items items' : List Term) (term : Term) (at : ℕ) (r : Result Un
     → OnOk r ((d : Term) → map seen items' ≡ set (map seen items) at ((get_or items at d).variable, plus (value_of (get_or items at d).coefficient) (value_of term.coefficient)))
     → OnOk r (map seen items' ≡ with_term (seen term) (map seen items))
 added_there items items' term at r there h = on_ok_weaker r (λ e. e term ∙ sym (with_term-there (seen term) items at term there)) h
+
+-- a term that is put in at its place is one more term
+put_there : (items items' : List Term) (term : Term) (at : ℕ) (r : Result Unit Stopped) → BelongsAt items term.variable at
+    → OnOk r (items' ≡ insert items at term) → OnOk r (map seen items' ≡ with_term (seen term) (map seen items))
+put_there items items' term at r belongs h = on_ok_weaker r (λ e. ap (map seen) e ∙ with_term-belongs term items at belongs) h
 
 -- the terms ascend whether one was added or none
 ascend_after : (items items' : List Term) (term : Term) (r : Result Unit Stopped) → ascends var_cmp (variables_of (map seen items)) ≡ true
@@ -65,18 +71,23 @@ returns-in-Ok-clause-stopped c =
 pub invariant_of-self-in-Err : goal.invariant_of-self-in-Err
 invariant_of-self-in-Err c =
     let items = c.self.inside.list.items in
+    let r : Result Unit Stopped = c.put_in.result in
     let belongs : BelongsAt items c.args.term.variable c.in-Err.at = subst (λ ts. BelongsAt ts c.args.term.variable c.in-Err.at) c.deref.ensures.value c.in-Err.ensures in
-    ap (λ ts. ascends var_cmp (variables_of ts)) (ap (map seen) c.in_ok-insert-in-Err.ensures.items ∙ with_term-belongs c.args.term items c.in-Err.at belongs)
-    ∙ ascends-with_term (seen c.args.term) (map seen items) c.self.invariant
+    let done = put_there items c.put_in.new.list.items c.args.term c.in-Err.at r belongs c.put_in.ensures.put in
+    ascend_after items c.put_in.new.list.items c.args.term r c.self.invariant done c.put_in.ensures.unchanged
 
-pub returns-in_ok-insert-in-Err-clause-added : goal.returns-in_ok-insert-in-Err-clause-added
-returns-in_ok-insert-in-Err-clause-added c =
+pub returns-in-Err-clause-added : goal.returns-in-Err-clause-added
+returns-in-Err-clause-added c =
     let items = c.self.inside.list.items in
+    let r : Result Unit Stopped = c.put_in.result in
     let belongs : BelongsAt items c.args.term.variable c.in-Err.at = subst (λ ts. BelongsAt ts c.args.term.variable c.in-Err.at) c.deref.ensures.value c.in-Err.ensures in
-    ap (map seen) c.in_ok-insert-in-Err.ensures.items ∙ with_term-belongs c.args.term items c.in-Err.at belongs ∙ ap (with_term (seen c.args.term)) c.self.view_is
+    let done = put_there items c.put_in.new.list.items c.args.term c.in-Err.at r belongs c.put_in.ensures.put in
+    subst (λ ts. OnOk r (map seen c.put_in.new.list.items ≡ with_term (seen c.args.term) ts)) c.self.view_is done
 
-pub returns-in_ok-insert-in-Err-clause-fits : goal.returns-in_ok-insert-in-Err-clause-fits
-returns-in_ok-insert-in-Err-clause-fits c =
+pub returns-in-Err-clause-fits : goal.returns-in-Err-clause-fits
+returns-in-Err-clause-fits c =
     let items = c.self.inside.list.items in
+    let r : Result Unit Stopped = c.put_in.result in
     let belongs : BelongsAt items c.args.term.variable c.in-Err.at = subst (λ ts. BelongsAt ts c.args.term.variable c.in-Err.at) c.deref.ensures.value c.in-Err.ensures in
-    ap all_fit (ap (term_formed (seen c.args.term)) (sym c.self.view_is) ∙ term_formed-belongs (seen c.args.term) items c.in-Err.at c.args.term belongs) ∙ all_fit-nil
+    let formed = ap all_fit (ap (term_formed (seen c.args.term)) (sym c.self.view_is) ∙ term_formed-belongs (seen c.args.term) items c.in-Err.at c.args.term belongs) ∙ all_fit-nil in
+    on_ok_weaker r (λ (h : c.put_in.new.list.items ≡ insert items c.in-Err.at c.args.term). formed) c.put_in.ensures.put
