@@ -44,8 +44,12 @@ columns_are_bytes = refl
 symbol_bytes : list_all is_symbol_byte (codes "aZ09+-._") ≡ true
 symbol_bytes = refl
 
-no_symbol_byte : (is_symbol_byte 47 ≡ false) × (is_symbol_byte 39 ≡ false) × (is_symbol_byte 195 ≡ false) × (is_symbol_byte 32 ≡ false)
-no_symbol_byte = (refl, refl, refl, refl)
+no_symbol_byte : (is_symbol_byte 32 ≡ false) × (is_symbol_byte 39 ≡ false) × (is_symbol_byte 44 ≡ false) × (is_symbol_byte 47 ≡ false) × (is_symbol_byte 195 ≡ false)
+no_symbol_byte = (refl, refl, refl, refl, refl)
+
+-- the neighbours of the digits and of the letters
+no_symbol_neighbours : (is_symbol_byte 58 ≡ false) × (is_symbol_byte 64 ≡ false) × (is_symbol_byte 91 ≡ false) × (is_symbol_byte 96 ≡ false) × (is_symbol_byte 123 ≡ false)
+no_symbol_neighbours = (refl, refl, refl, refl, refl)
 
 printable_edges : (is_printable 31 ≡ false) × (is_printable 32 ≡ true) × (is_printable 126 ≡ true) × (is_printable 127 ≡ false)
 printable_edges = (refl, refl, refl, refl)

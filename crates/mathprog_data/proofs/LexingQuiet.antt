@@ -1,12 +1,13 @@
 -- Past a byte that is quiet the lexer only goes on.
 use Rattle.std.proofs.Common.{◌≡◌, ℕ, Bool, true, false, not, cond, List, ◌∷◌, None, Some, refl, ap}
 use Rattle.std.proofs.lemmas.Bool.{not_from_false}
+use Rattle.mathprog_data.specs.declared.lexer.Kind.TheVariants.{Bare}
 use Rattle.mathprog_data.specs.declared.lexer.pending.Pending.{Pending}
 use Rattle.mathprog_data.specs.declared.lexer.pending.Pending.TheVariants as pendings
 use Rattle.mathprog_data.specs.Places.{is_line_feed}
 use Rattle.mathprog_data.specs.LexingBytes.{is_separator, is_symbol_byte}
-use Rattle.mathprog_data.specs.LexingMachine.{State, quiet, passed, begun, in_comment}
-use Rattle.mathprog_data.specs.LexingRuns.{run}
+use Rattle.mathprog_data.specs.LexingMachine.{State, quiet, passed, begun, in_comment, token_of}
+use Rattle.mathprog_data.specs.LexingRuns.{run, and_then}
 use Rattle.mathprog_data.proofs.LexingByteLemmas.{separator_is_no_symbol}
 
 where_true : (b : Bool) (x p : Pending) → cond b (Some x) None ≡ Some p → (b ≡ true) × (x ≡ p)
@@ -55,6 +56,24 @@ begun_in (pendings.Quote quote) s byte bytes gap symbol = cc
 -- the same past the first byte of a bare symbol
 pub run_begun : (s : State) (byte : ℕ) (bytes : List ℕ) → s.pending ≡ pendings.Gap → is_symbol_byte byte ≡ true → run s (byte ∷ bytes) ≡ run (begun s byte pendings.Bare) bytes
 run_begun s byte bytes gap symbol = begun_in s.pending s byte bytes gap symbol
+
+-- past a separator that ends a bare symbol the symbol is seen, and then what is seen of the rest
+ended_in : (pending : Pending) (s : State) (byte : ℕ) (bytes : List ℕ) → pending ≡ pendings.Bare → is_separator byte ≡ true
+    → run (record s { pending = pending }) (byte ∷ bytes) ≡ and_then (token_of s Bare) (run (passed s byte pendings.Gap) bytes)
+unfolding run
+ended_in pendings.Bare s byte bytes bare ends = let other = separator_is_no_symbol byte ends in rw (other, other, ends) refl
+ended_in pendings.Gap s byte bytes bare ends = cc
+ended_in pendings.LineComment s byte bytes bare ends = cc
+ended_in pendings.BlockComment s byte bytes bare ends = cc
+ended_in pendings.Slash s byte bytes bare ends = cc
+ended_in pendings.Star s byte bytes bare ends = cc
+ended_in pendings.Colon s byte bytes bare ends = cc
+ended_in (pendings.Quoted quote) s byte bytes bare ends = cc
+ended_in (pendings.Quote quote) s byte bytes bare ends = cc
+
+pub run_ended : (s : State) (byte : ℕ) (bytes : List ℕ) → s.pending ≡ pendings.Bare → is_separator byte ≡ true
+    → run s (byte ∷ bytes) ≡ and_then (token_of s Bare) (run (passed s byte pendings.Gap) bytes)
+run_ended s byte bytes bare ends = ended_in s.pending s byte bytes bare ends
 
 -- and past a byte with which one goes on
 pub run_symbol : (s : State) (byte : ℕ) (bytes : List ℕ) → s.pending ≡ pendings.Bare → is_symbol_byte byte ≡ true → run s (byte ∷ bytes) ≡ run (passed s byte s.pending) bytes

@@ -54,6 +54,7 @@ pub mod TokenRunLemmas
 pub mod TokensSeen
 pub mod TurnLaws
 pub mod SymbolBytes
+mod ValueExamples
 pub mod ValueLemmas
 pub mod VerdictLaws
 pub mod Verdicts

@@ -1,5 +1,5 @@
 -- Values go on saying what they said while names are added.
-use Rattle.std.proofs.Common.{ℕ, zero, suc, ◌≡◌, ◌≤◌, ◌<◌, ◌+◌, List, [], ◌∷◌, ◌++◌, length, map, drop, get_or, Option, Some, None, refl, sym, ap, subst, ◌∙◌, arith, rules}
+use Rattle.std.proofs.Common.{ℕ, zero, suc, ◌≡◌, ◌≤◌, ◌<◌, ◌+◌, List, [], ◌∷◌, ◌++◌, length, drop, get_or, Option, Some, None, refl, sym, ap, subst, ◌∙◌, arith}
 use Rattle.std.proofs.lemmas.List.{drop_more, get_or_default, length-map, map-append}
 use Rattle.mathprog_data.specs.declared.name_places.KeptValue.{KeptValue}
 use Rattle.mathprog_data.specs.Meaning.{GivenValue}

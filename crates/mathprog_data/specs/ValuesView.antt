@@ -40,7 +40,7 @@ kept_told names kept = record { index = names_at names (places_in kept.index); v
 abbrev pub all_told : List Name → List KeptValue → List GivenValue
 all_told names kept = map (kept_told names) kept
 
--- the values point to names below the end
+-- the values point to places below the end
 pub data AreKept (end : ℕ) : List KeptValue → Type 0 where
   none : AreKept end []
   more : {value : KeptValue} {values : List KeptValue} → AreWithin end (places_in value.index) → AreKept end values → AreKept end (value ∷ values)

@@ -23,6 +23,7 @@ use crate::span_reader::{SpanReader, TextPiece};
 use crate::statements::StatementReader;
 
 /// Takes the next byte of the text, and says whether it closes the text.
+#[inline(never)]
 fn take_any_byte(
     piece: TextPiece<'_>,
     byte: u8,
@@ -58,7 +59,7 @@ fn take_any_byte(
     }
 }
 
-/// The same, sooner for the many bytes that make nothing whole.
+/// The same, sooner for the many bytes that end a bare symbol or make nothing whole.
 #[inline]
 fn take_byte(
     piece: TextPiece<'_>,
@@ -84,6 +85,9 @@ fn take_byte(
         (text : List ℕ) → IsShown text piece.entry spans.old.kept.items (token_from lexer.old) → (bytes : List ℕ) →
         outcome_after text spans.old.tokens (run lexer.old (byte ∷ bytes)) ≡ Refuses fault.no fault.at }
 {
+    if let Some(symbol) = lexer.end_symbol(byte) {
+        return spans.take_token(piece, &symbol);
+    }
     if lexer.pass_over(byte) {
         return Ok(false);
     }

@@ -3,9 +3,10 @@
 mod bytes;
 mod pending;
 
-ghost use Rattle.std.specs.Prelude.{◌≡◌, ◌+◌, ◌<◌, ◌≤◌, ◌∷◌, ◌++◌, ℕ, List, length, drop, take, true, false, IfSome};
+ghost use Rattle.std.specs.Prelude.{◌≡◌, ◌+◌, ◌<◌, ◌≤◌, ◌∷◌, ◌++◌, ℕ, List, length, drop, take, true, false, None, Some, IfSome};
 ghost use Rattle.std.specs.List.{prefix_len};
-ghost use Rattle.mathprog_data.specs.LexingRuns.{run};
+ghost use Rattle.mathprog_data.specs.declared.lexer.Seen.TheVariants.{Token};
+ghost use Rattle.mathprog_data.specs.LexingRuns.{run, and_then};
 ghost use Rattle.mathprog_data.specs.LexingBytes.{is_symbol_byte};
 ghost use Rattle.mathprog_data.specs.LexingMachine.{least_length, least_span, IsWithin, GoesOn, token_from, next_mark};
 ghost use Rattle.mathprog_data.specs.Places.{place_after};
@@ -52,12 +53,12 @@ pub(crate) struct Lexer {
     pending: Pending,
     /// How many bytes were taken.
     place: u32,
-    /// The line and column of the next byte.
-    mark: Mark,
     /// How many bytes stand before the first byte of what is pending.
     from: u32,
     /// The line and column of that byte.
     start: Mark,
+    /// The line and column of the next byte.
+    mark: Mark,
     /// Those of the first byte that may not stand in the quoted symbol that is pending.
     bad: Option<Mark>,
 }
@@ -128,6 +129,35 @@ impl Lexer {
             Pending::Bare => self.token(Kind::Bare),
             Pending::Quoted(_) => self.fault(OPEN_STRING),
             Pending::Quote(quote) => self.closed(quote),
+        }
+    }
+
+    /// Goes past the byte, where it is a separator that ends a bare symbol, and answers the symbol. Small, so that it
+    /// stands in the loop over the bytes: nearly all tokens end so.
+    #[inline(always)]
+    pub(crate) fn end_symbol(&mut self, byte: u8) -> Option<Span>
+        requires { self.old.place < 67108864 }
+        ensures passes { IfSome result (λ span. (bytes : List ℕ) → run self.old (byte ∷ bytes) ≡ and_then (Token span) (run self.new bytes)) }
+        ensures begun { IfSome result (λ span. token_from self.old ≡ Some span.from) }
+        ensures ended { IfSome result (λ span. token_from self.new ≡ None) }
+        ensures order { IfSome result (λ span. span.from + least_span span.kind ≤ span.to) }
+        ensures to { IfSome result (λ span. span.to ≡ self.old.place) }
+        ensures place { IfSome result (λ span. self.new.place ≡ self.old.place + 1) }
+        ensures mark { IfSome result (λ span. self.new.mark ≡ next_mark self.old.mark byte) }
+        ensures kept { result ≡ None → self.new ≡ self.old }
+    {
+        match self.pending {
+            Pending::Bare if is_separator(byte) => {
+                let symbol = Span {
+                    kind: Kind::Bare,
+                    from: self.from,
+                    to: self.place,
+                    at: self.start,
+                };
+                self.pass(byte, Pending::Gap);
+                Some(symbol)
+            }
+            _ => None,
         }
     }
 

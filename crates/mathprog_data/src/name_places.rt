@@ -25,7 +25,7 @@ impl NamePlaces {
         }
     }
 
-    /// A place at which the next name of this index may stand: where it stood in the index before.
+    /// A place at which the next name of this index may stand: where it stood in the index before. A guess: nothing rests on it.
     #[inline(always)]
     pub(crate) fn remembered(&self, index: NamePlaces) -> u32 {
         if index.count < 5 {

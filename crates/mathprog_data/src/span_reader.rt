@@ -75,7 +75,8 @@ impl SpanReader {
     }
 
     /// Takes the token at the span, and says whether it closes the text.
-    fn take_token(&mut self, piece: TextPiece<'_>, span: &Span) -> Result<bool, ReadFail>
+    #[inline(always)]
+    pub(crate) fn take_token(&mut self, piece: TextPiece<'_>, span: &Span) -> Result<bool, ReadFail>
         requires order { span.now.from + least_span span.now.kind ≤ span.now.to }
         requires past { piece.start ≤ span.now.to }
         requires within { span.now.to ≤ piece.start + length piece.bytes.now }

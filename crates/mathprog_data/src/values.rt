@@ -1,6 +1,6 @@
 //! The values of a parameter.
 
-ghost use Rattle.std.specs.Prelude.{◌≡◌, ◌≤◌, ◌<◌, ◌+◌, ◌++◌, ◌∷◌, [], ℕ, ◌==◌, IfOk, OnOk, true, length, slice_index_or};
+ghost use Rattle.std.specs.Prelude.{◌≡◌, ◌<◌, ◌+◌, ◌++◌, ◌∷◌, [], ◌==◌, IfOk, OnOk, true, length, slice_index_or};
 ghost use Rattle.mathprog_data.specs.Meaning.{GivenValue, value_of};
 ghost use Rattle.mathprog_data.specs.Slices.{index_at};
 ghost use Rattle.mathprog_data.specs.Tables.{given, cell_index};
@@ -11,8 +11,8 @@ use crate::name_places::{KeptValue, NamePlaces};
 use std::alloc::{AllocError, Global};
 use std::marker::Model;
 
-/// Values that were given to a parameter, in the order of the text. A name that comes again where it came in the value before,
-/// and a name of a table's columns, is kept once.
+/// Values that were given to a parameter, in the order of the text. A name of at most 16 bytes that comes again where it came in
+/// the value before, or that is a table's column, is kept once.
 #[derive(Drop)]
 pub struct Values {
     /// The names to which the values point.

@@ -80,8 +80,8 @@ impl Sets {
 
     /// Adds a member to the set, and answers its position. Refuses, in this order, a member of YEAR that
     /// isn't a whole number from 1 to 9999 written without sign and without leading zeros (3), a name
-    /// that stands in the set already (1), and a member past the set's limit (4), and last for want of
-    /// memory. A refusal changes nothing.
+    /// that stands in the set already (1), and a member past the set's limit (4), and last when memory
+    /// runs out. A refusal changes nothing.
     pub fn add(&mut self, set: u8, name: &[u8]) -> Result<u16, SetFail>
         requires { IsSet set }
         ensures appended { OnOk result (self.new ≡ with_member self.old set name.now) }

@@ -10,7 +10,6 @@ use Rattle.std.proofs.lemmas.Cmp.{nat_cmp_total}
 use Rattle.std.proofs.lemmas.List.Elements.{filter-append}
 use Rattle.std.proofs.lemmas.List.Sorted.{IsPermutation-append, IsPermutation-refl, IsPermutation-trans, length_permutation}
 use Rattle.std.proofs.Math.Seq.{take-append_seam}
-use Rattle.row_core.specs.declared.Var.{Var}
 use Rattle.mps_writer.specs.declared.entries.Entry.{Entry}
 use Rattle.mps_writer.specs.Entries.{AreSorted, IsRearranged, is_of}
 use Rattle.mps_writer.specs.Keys.{key_of}

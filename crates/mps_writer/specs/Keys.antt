@@ -2,7 +2,8 @@
 use Rattle.std.specs.Prelude.{ℕ, ◌+◌, ◌*◌}
 use Rattle.row_core.specs.declared.Var.{Var}
 
--- the subscripts, each in bits of its own unless they are very large
+-- the subscripts, each in bits of its own; the fuel and the emission share theirs, since no kind has both, and only for
+-- trades over more than 64 timeslices may the number not rise (nothing but speed rests on it)
 abbrev pub key_of : Var → ℕ
 key_of v =
     (v.index.region * 70368744177664 + v.index.other * 1099511627776 + v.index.slice * 17179869184 + v.index.tech * 4194304)

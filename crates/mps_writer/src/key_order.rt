@@ -1,4 +1,4 @@
-//! Entries of one kind, sorted piece by piece by a number that rises with their variables unless sets are very large.
+//! Entries of one kind, sorted piece by piece by a number that rises with their variables in nearly all models.
 //! Numbers compare in one step, and a piece takes little room. The sort by variable then finds long runs.
 
 ghost use Rattle.std.specs.Prelude.{◌≡◌, OnOk};

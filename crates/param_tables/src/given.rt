@@ -1,6 +1,6 @@
 //! The values of one statement, by the places of their indices.
 
-ghost use Rattle.std.specs.Prelude.{◌≡◌, ℕ, [], None, Some, nat_eq, IfErr, IfOk, OnErr, OnOk, All, if◌then◌else◌};
+ghost use Rattle.std.specs.Prelude.{◌≡◌, ℕ, [], Some, nat_eq, IfErr, IfOk, OnOk, All, if◌then◌else◌};
 ghost use Rattle.std.specs.BTreeMap.{get};
 ghost use Rattle.std.specs.Ordering.{nat_cmp};
 ghost use Rattle.model_sets.specs.Members.{AreSets};

@@ -1,6 +1,6 @@
 //! The checked data of a model.
 
-ghost use Rattle.std.specs.Prelude.{◌≡◌, ◌≤◌, ◌^◌, None, unsigned_abs, unwrap_or, pos, take, IfOk, IfSome, IsSomeAnd};
+ghost use Rattle.std.specs.Prelude.{◌≡◌, unwrap_or, pos, take, IfOk, IfSome, IsSomeAnd};
 ghost use Rattle.exact_num.specs.Rational.{lowest};
 ghost use Rattle.exact_num.specs.Value.{value_of};
 ghost use Rattle.model_sets.specs.Data.{IsUsedParam, value_at};
@@ -112,6 +112,7 @@ impl ModelData {
         ensures given { IsSomeAnd result (IsValueIn (range_of param)) }
     {
         let table = &self.tables[usize::from(param - 1)];
+        // Many parameters are given by their default alone: then the place isn't reckoned.
         if table.places.as_slice().is_empty() {
             return value_else(param, table.default);
         }

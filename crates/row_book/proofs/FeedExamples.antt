@@ -1,6 +1,7 @@
 -- What a feed of rows tells, and what a first pass through all rows finds: examples, and near misses.
-use Rattle.std.proofs.Common.{◌≡◌, ℕ, ◌+◌, pos, negsuc, Bool, true, false, List, [], ◌∷◌, ◌++◌, map, length, length-append, refl, sym, ap, ◌∙◌, subst, inl, inr, arith, true≢false}
+use Rattle.std.proofs.Common.{◌≡◌, ℕ, ◌<◌, pos, negsuc, Bool, true, false, List, [], ◌∷◌, map, length, refl, sym, ap, ◌∙◌, subst, inl, inr, arith, true≢false}
 use Rattle.std.specs.Prelude.{None, Some}
+use Rattle.std.specs.List.{list_all}
 use Rattle.row_core.specs.declared.Row.{Row}
 use Rattle.row_core.specs.declared.Sense.TheVariants.{Equal}
 use Rattle.row_core.specs.declared.Var.{Var}
@@ -12,13 +13,17 @@ use Rattle.named_equations.specs.Variables.{capital_investment, new_capacity}
 use Rattle.row_source.specs.Contents.{RowContents, contents_of}
 use Rattle.row_source.specs.Sources.{has_kind}
 use Rattle.row_book.specs.Feeds.{HasContentsWithin, ahead_after, all_contents, contents_at, equation_contents}
+use Rattle.row_book.specs.FeedStates.{IsFeed}
 use Rattle.row_book.specs.Held.{AreHeld, KeepsRows}
 use Rattle.row_book.specs.KindVariables.{is_before_kind, is_of_kind, next_kind}
 use Rattle.row_book.specs.Tallies.{AreSortedVariables, AreTallied, Counts, Marks, MarksMore, kind_room, marked, names_to, rows_before}
-use Rattle.row_book.specs.Books.{AreRowsOf}
+use Rattle.row_book.specs.Books.{AreRowsOf, row_fits}
 use Rattle.row_book.specs.declared.held_rows.HeldRows.{HeldRows}
 use Rattle.row_book.specs.declared.tally.Tally.{Tally}
-use Rattle.named_equations.specs.Instances.{instances_of}
+use Rattle.discount_factors.specs.Known.{Discounting}
+use Rattle.model_sets.specs.Data.{Data}
+use Rattle.named_equations.specs.Instances.{instances, instances_of}
+use Rattle.named_equations.specs.RegionFactors.{places_of}
 use Rattle.row_book.proofs.Examples.{at_zeros, base}
 use Rattle.row_book.proofs.InvestmentExamples.{spread}
 
@@ -132,6 +137,24 @@ sorted = record { ascending = refl; same = λ v. (λ there. there, λ there. the
 
 twice : (vs : List Var) → AreSortedVariables vs (new_capacity 0 0 0 ∷ new_capacity 0 0 0 ∷ []) → ⊥
 twice vs is = true≢false (sym is.ascending)
+
+left_out : AreSortedVariables (new_capacity 0 0 0 ∷ []) [] → ⊥
+left_out is = let none = (is.same (new_capacity 0 0 0)).1 (0, omega arith, refl) in let below : none.0 < 0 = none.1 in omega (arith, below)
+
+-- ---- a feed
+
+module _ (d : Data) (factors : List Discounting) (before : List ℕ) (kinds : List Bool) (held : List HeldRows) where
+  -- none stands at an equation past the last one
+  at_no_equation : IsFeed d factors before kinds held 65 → ⊥
+  at_no_equation is = omega (arith, is.equation.1)
+
+  -- none is of rows that can't all be made
+  unmade : list_all (row_fits (places_of factors) d) (instances d) ≡ false → IsFeed d factors before kinds held 1 → ⊥
+  unmade wide is = true≢false (sym is.made.fit ∙ wide)
+
+  -- and none is without a count for each equation
+  uncounted : IsFeed d factors [] kinds held 1 → ⊥
+  uncounted is = let long : 0 ≡ 64 = ap length is.counts in omega (arith, long)
 
 -- ---- variables kind by kind
 

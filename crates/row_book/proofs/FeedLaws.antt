@@ -175,10 +175,17 @@ contents-within places d =
 
 -- ---- a feed, from what was found of all rows
 
+pub tallied-made : (places : ℕ) (d : Data) (t : Tally) → AreTallied places d 64 t → CanBeMade places d 0 (instances d)
+tallied-made places d t tallied = record {
+  fit = tallied.fit;
+  few = (let few : entries_in places d (names_to d 64) ≤ entry_limit = subst (λ (n : ℕ). n ≤ entry_limit) tallied.entries t.few in omega (arith, few));
+}
+
 pub feed-kept : (places : ℕ) (d : Data) (factors : List Discounting) (t : Tally) → AreRegionFactors places d factors → AreTallied (places_of factors) d 64 t → IsFeed d factors t.before.items t.kinds.items t.held.items 1
 feed-kept places d factors t are tallied = record {
   equation = (omega arith, omega arith);
   factors_are = factors-by_places places d factors are;
+  made = tallied-made (places_of factors) d t tallied;
   counts = tallied.before;
   held_are = tallied.held;
   marks = subst (Marks t.kinds.items) (all-say (places_of factors) d tallied.all tallied.rows) tallied.kinds;
@@ -197,9 +204,7 @@ pub feed-within : (places : ℕ) (d : Data) (contents : List RowContents) (vars 
 feed-within places d contents vars are = variables-within places d are.rows vars are.are_rows are.are_variables
 
 pub feed-made : (places : ℕ) (d : Data) (factors : List Discounting) (t : Tally) → AreRegionFactors places d factors → AreTallied (places_of factors) d 64 t → CanBeMade places d 0 (instances d)
-feed-made places d factors t are tallied =
-    made-by_places places d factors 0 are
-    (record { fit = tallied.fit; few = (let few : entries_in (places_of factors) d (names_to d 64) ≤ entry_limit = subst (λ (n : ℕ). n ≤ entry_limit) tallied.entries t.few in omega (arith, few)) })
+feed-made places d factors t are tallied = made-by_places places d factors 0 are (tallied-made (places_of factors) d t tallied)
 
 -- how many rows stand before an equation
 pub before-at : (d : Data) (before : List ℕ) (eq : ℕ) (z : ℕ) → before ≡ rows_before d 64 → 1 ≤ eq → eq < 65 → get_or before (eq - 1) z ≡ length (names_to d (eq - 1))

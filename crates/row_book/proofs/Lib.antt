@@ -11,7 +11,7 @@ pub mod EnergyTerms
 pub mod EntryVariables
 mod Examples
 mod InvestmentExamples
-pub mod FeedExamples
+mod FeedExamples
 mod FeedLaws
 pub mod GatheredLaws
 pub mod GivenValues
@@ -23,6 +23,7 @@ mod KindVariableLaws
 pub mod LimitSigns
 pub mod LimitTerms
 pub mod Lists
+pub mod MadeAgain
 pub mod Numbers
 pub mod ParameterSigns
 pub mod Periods

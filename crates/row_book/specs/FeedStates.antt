@@ -3,17 +3,20 @@ use Rattle.std.specs.Prelude.{◌≡◌, ℕ, Bool, List}
 use Rattle.discount_factors.specs.Known.{Discounting}
 use Rattle.model_sets.specs.Data.{Data}
 use Rattle.row_core.specs.Equations.{IsEquation}
+use Rattle.named_equations.specs.Instances.{instances}
 use Rattle.named_equations.specs.RegionFactors.{AreRegionFactors, places_of}
+use Rattle.row_book.specs.Books.{CanBeMade}
 use Rattle.row_book.specs.Feeds.{all_contents}
 use Rattle.row_book.specs.Held.{AreHeld}
 use Rattle.row_book.specs.Tallies.{Marks, rows_before}
 use Rattle.row_book.specs.declared.held_rows.HeldRows.{HeldRows}
 
--- the factors are those of the regions, the counts and kinds those of all rows, the rows that are held those of their equations,
--- and the equation is of its list
+-- the factors are those of the regions, all rows can be made, the counts and kinds are theirs, the rows that are held those of their
+-- equations, and the equation is of its list
 pub record IsFeed (d : Data) (factors : List Discounting) (before : List ℕ) (kinds : List Bool) (held : List HeldRows) (eq : ℕ) : Type 0 where
   pub equation : IsEquation eq
   pub factors_are : AreRegionFactors (places_of factors) d factors
+  pub made : CanBeMade (places_of factors) d 0 (instances d)
   pub counts : before ≡ rows_before d 64
   pub held_are : AreHeld (places_of factors) d held
   pub marks : Marks kinds (all_contents (places_of factors) d)

@@ -162,6 +162,7 @@ fn rows_again(
 ) -> Result<Vec<Row>, AllocError>
     requires equation { IsEquation eq }
     requires factors { AreRegionFactors (places_of factors.now) model.now.facts factors.now }
+    requires made { CanBeMade (places_of factors.now) model.now.facts 0 (instances model.now.facts) }
     requires held { AreHeld (places_of factors.now) model.now.facts held.now }
     ensures { IfOk result (λ rows. map contents_of (reverse rows.items) ≡ equation_contents (places_of factors.now) model.now.facts eq) }
 {
@@ -181,6 +182,7 @@ fn equation_rows(
 ) -> Result<Vec<Row>, AllocError>
     requires equation { IsEquation eq }
     requires factors { AreRegionFactors (places_of factors.now) model.now.facts factors.now }
+    requires made { CanBeMade (places_of factors.now) model.now.facts 0 (instances model.now.facts) }
     ensures { IfOk result (λ rows. map contents_of (reverse rows.items) ≡ equation_contents (places_of factors.now) model.now.facts eq) }
 {
     let mut made = MadeRows {
@@ -190,7 +192,10 @@ fn equation_rows(
     };
     match made.add_equation(model, factors, eq) {
         Ok(()) => {}
-        Err(_) => return Err(AllocError),
+        Err(BookFail::Memory) => return Err(AllocError),
+        // Each of these rows was made before, of the same data.
+        Err(BookFail::Width(_)) => unreachable!(),
+        Err(BookFail::TooManyEntries) => unreachable!(),
     }
     made.rows.reverse();
     Ok(made.rows)

@@ -8,12 +8,12 @@ ghost use Rattle.row_book.specs.declared.held_rows.HeldRows.{HeldRows};
 use row_core::Row;
 use std::alloc::{AllocError, Global};
 
-/// Up to how many entries of all rows so far the rows of an equation are held, however short they are. So the rows of a
-/// small model are made once, and what is held of short rows takes some tens of megabytes.
+/// As long as all rows so far have no more entries than this, those of an equation are held, however short they are. So the
+/// rows of a small model are made once, and what is held of short rows takes some tens of megabytes.
 const HELD_ENTRIES: usize = 262_144;
 
-/// From how many entries a row on, on average, the rows of an equation are held in any case. A long row takes far longer to
-/// make than to copy, and next to nothing beside its entries, of which all rows have 4,000,000 at most.
+/// Rows with this many entries or more on average are held in any case: a long row takes far longer to make than to copy.
+/// All rows have 4,000,000 entries at most.
 const LONG_ROW: usize = 8;
 
 /// The rows of an equation, in order.

@@ -1,4 +1,4 @@
-//! Variables, sorted piece by piece by a number that rises with them unless sets are very large. Numbers compare in one
+//! Variables, sorted piece by piece by a number that rises with them in nearly all models. Numbers compare in one
 //! step, and a piece takes little room. The sort by variable then finds long runs.
 
 ghost use Rattle.std.specs.Prelude.{◌≡◌, IsPermutation};

@@ -46,8 +46,8 @@ impl LeftSide {
         }
     }
 
-    /// Adds a term: to the coefficient of its variable, where that is there already. Refuses for want of
-    /// memory alone.
+    /// Adds a term: to the coefficient of its variable, where that is there already. Refuses only when memory
+    /// runs out.
     #[tactic(auto, unfolding(crate::specs::Calculated::with_number))]
     pub fn add(&mut self, variable: Var, coefficient: Option<Frac>) -> Result<(), AllocError>
         ensures { OnOk result (self.new ≡ with_number variable (known coefficient) self.old) }

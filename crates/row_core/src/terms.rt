@@ -1,8 +1,7 @@
 //! The terms of an equation.
 
-ghost use Rattle.std.specs.Prelude.{◌≡◌, ◌≢◌, ◌-◌, ◌<◌, ◌≤◌, [], true, length, map, slice_index_or, slice_set, IsTrue, IfErr, MatchResult, OnOk, OnErr};
+ghost use Rattle.std.specs.Prelude.{◌≡◌, ◌<◌, ◌≤◌, [], true, length, map, slice_index_or, slice_set, IsTrue, IfErr, MatchResult, OnOk, OnErr};
 ghost use Rattle.std.specs.List.{insert};
-ghost use Rattle.std.specs.declared.cmp.Ordering.TheVariants.{Greater};
 ghost use Rattle.exact_num.specs.Formed.{sum_formed};
 ghost use Rattle.exact_num.specs.Rational.{plus};
 ghost use Rattle.exact_num.specs.Value.{value_of};

@@ -1,6 +1,6 @@
 //! Rows from terms: denominators cleared, and divided by the greatest common divisor.
 
-ghost use Rattle.std.specs.Prelude.{◌≡◌, pos, ◌<ℤ◌, IsTrue, OnOk, IfOk, IfErr, is_ok, map, true, ◌∷◌, ◌++◌, int_div, unsigned_abs};
+ghost use Rattle.std.specs.Prelude.{◌≡◌, pos, ◌<ℤ◌, IsTrue, OnOk, IfOk, IfErr, is_ok, map, true, ◌∷◌, ◌++◌, int_div};
 ghost use Rattle.exact_num.specs.Range.{InRange, in_range, all_fit};
 ghost use Rattle.exact_num.specs.Value.{value_of};
 ghost use Rattle.row_core.specs.Numbers.{numbers_of, variables_of, ascends, none_zero};

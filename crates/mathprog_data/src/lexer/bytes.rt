@@ -25,10 +25,10 @@ pub(crate) fn is_separator(byte: u8) -> bool
 }
 
 /// Of the bytes from 0 to 63, one bit each: `+`, `-`, `.` and the digits.
-const LOW_SYMBOL_BYTES: u64 = 288_063_250_384_289_792;
+const LOW_SYMBOL_BYTES: u64 = 0x03ff_6800_0000_0000;
 
 /// Of those from 64 to 127: the ASCII letters and `_`.
-const HIGH_SYMBOL_BYTES: u64 = 576_460_745_995_190_270;
+const HIGH_SYMBOL_BYTES: u64 = 0x07ff_fffe_87ff_fffe;
 
 /// Whether it may stand in a bare symbol: an ASCII letter or digit, `+`, `-`, `.` or `_`. It is asked of nearly every byte,
 /// so its bit is looked up.

@@ -17,6 +17,9 @@ use crate::lexeme::Sign;
 use crate::words::Word;
 use std::alloc::AllocError;
 
+/// The names of no more columns than this are kept before the first value comes with one. No set has as many members.
+const MOST_COLUMNS: usize = 65_536;
+
 impl StatementReader {
     /// Takes the colon of a table.
     pub(super) fn open_table(&mut self) -> Option<u8>
@@ -103,11 +106,12 @@ impl StatementReader {
         ensures { IfOk result (λ fault. Turned self.old (columns_end self.old.item self.old.slice.items self.old.transposed self.old.columns.items) fault self.new) }
     {
         if self.columns.is_empty() {
-            Ok(Some(UNEXPECTED))
-        } else {
-            self.place = self.draft.keep_columns(&self.columns)?;
-            Ok(self.go(State::InRows, false))
+            return Ok(Some(UNEXPECTED));
         }
+        if self.columns.len() <= MOST_COLUMNS {
+            self.place = self.draft.keep_columns(&self.columns)?;
+        }
+        Ok(self.go(State::InRows, false))
     }
 
     /// Takes a token between rows.

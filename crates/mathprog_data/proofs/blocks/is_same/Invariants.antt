@@ -1,4 +1,4 @@
-use Rattle.std.proofs.Common.{◌-◌, ◌≡◌, ◌≤◌, take, ℕ}
+use Rattle.std.proofs.Common.{◌-◌, ◌≡◌, ◌≤◌, take}
 use Rattle.mathprog_data.proofs.blocks.is_same.Given as goal
 
 abbrev pub invariant-loop-i : goal.invariant-loop-i
