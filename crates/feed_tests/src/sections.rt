@@ -112,9 +112,9 @@ fn first_and_last(feed: &mut RowFeed<'_>, eq: u8) -> Result<Option<(u64, u64)>, 
     Err(Fail::from("there are more rows"))
 }
 
-// Of the technologies, timeslices and years CAa3 has 67,200 rows with two entries each, and CAa4 as many. Those of CAa3 are
-// held; with those of CAa4 there would be more than 262,144 entries. Before CAa4 stand 560 rows of EQ_SpecifiedDemand, 240 of
-// CAa1, 240 of CAa2 and those of CAa3. Each of the two kinds of variables has more than 131,072 entries, which are sorted in
+// Of the technologies, timeslices and years CAa3 has 134,400 rows with two entries each, and CAa4 as many. Those of CAa3 are
+// held; with those of CAa4 there would be more than 500,000 entries. Before CAa4 stand 560 rows of EQ_SpecifiedDemand, 480 of
+// CAa1, 480 of CAa2 and those of CAa3. Each of the two kinds of variables has more than 131,072 entries, which are sorted in
 // pieces.
 #[test]
 fn rows_that_are_not_held_are_made_again(rt: HostRuntime) -> Result<(), Fail> {
@@ -123,14 +123,14 @@ fn rows_that_are_not_held_are_made_again(rt: HostRuntime) -> Result<(), Fail> {
         alloc,
         "set REGION := R; set FUEL := F; set MODE_OF_OPERATION := 1; set YEAR := 2020 2021;",
     )?;
-    push_numbers(alloc, &mut sets, "TECHNOLOGY", 120)?;
+    push_numbers(alloc, &mut sets, "TECHNOLOGY", 240)?;
     push_numbers(alloc, &mut sets, "TIMESLICE", 280)?;
     let model = model_of(alloc, sets.as_str())?;
     let Ok((mut feed, _)) = RowFeed::new(alloc, &model, 6) else {
         return Err(Fail::from("the rows are refused"));
     };
-    assert_eq!(rt; first_and_last(&mut feed, CAA4)?, Some((68_241, 135_440)));
-    let (out, _) = text_of(alloc, &model, 60_000_000)?;
+    assert_eq!(rt; first_and_last(&mut feed, CAA4)?, Some((135_921, 270_320)));
+    let (out, _) = text_of(alloc, &model, 120_000_000)?;
     assert!(rt; out.bytes().ends_with(b"\nENDATA\n"));
     Ok(())
 }

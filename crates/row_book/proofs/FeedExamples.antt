@@ -1,6 +1,6 @@
 -- What a feed of rows tells, and what a first pass through all rows finds: examples, and near misses.
 use Rattle.std.proofs.Common.{◌≡◌, ℕ, ◌<◌, pos, negsuc, Bool, true, false, List, [], ◌∷◌, map, length, refl, sym, ap, ◌∙◌, subst, inl, inr, arith, true≢false}
-use Rattle.std.specs.Prelude.{None, Some}
+use Rattle.std.specs.Prelude.{None, Option, Some}
 use Rattle.std.specs.List.{list_all}
 use Rattle.row_core.specs.declared.Row.{Row}
 use Rattle.row_core.specs.declared.Sense.TheVariants.{Equal}
@@ -12,7 +12,7 @@ use Rattle.exact_num.specs.Rational.{lowest, plus, times}
 use Rattle.named_equations.specs.Variables.{capital_investment, new_capacity}
 use Rattle.row_source.specs.Contents.{RowContents, contents_of}
 use Rattle.row_source.specs.Sources.{has_kind}
-use Rattle.row_book.specs.Feeds.{HasContentsWithin, ahead_after, all_contents, contents_at, equation_contents}
+use Rattle.row_book.specs.Feeds.{HasContentsWithin, ahead_after, ahead_at, all_contents, contents_at, equation_contents}
 use Rattle.row_book.specs.FeedStates.{IsFeed}
 use Rattle.row_book.specs.Held.{AreHeld, KeepsRows}
 use Rattle.row_book.specs.KindVariables.{is_before_kind, is_of_kind, next_kind}
@@ -76,6 +76,16 @@ made first second = refl
 -- when all of them were taken none is ahead, though the equation has one
 all_taken : (a : RowContents) → ahead_after 4 true [] (a ∷ []) ≡ []
 all_taken a = refl
+
+-- of rows that are held, those after the ones that were taken; where none are held, how many were taken says nothing
+one_taken : (a b c : RowContents) → ahead_at (Some 0) 1 4 false [] (a ∷ b ∷ c ∷ []) ≡ (5, b) ∷ (6, c) ∷ []
+one_taken a b c = refl
+
+three_taken : (a b c : RowContents) → ahead_at (Some 0) 3 6 false [] (a ∷ b ∷ c ∷ []) ≡ []
+three_taken a b c = refl
+
+none_held : (a b : RowContents) → ahead_at None 1 3 false [] (a ∷ b ∷ []) ≡ (4, a) ∷ (5, b) ∷ []
+none_held a b = refl
 
 -- ---- what a first pass finds
 
@@ -143,17 +153,17 @@ left_out is = let none = (is.same (new_capacity 0 0 0)).1 (0, omega arith, refl)
 
 -- ---- a feed
 
-module _ (d : Data) (factors : List Discounting) (before : List ℕ) (kinds : List Bool) (held : List HeldRows) where
+module _ (d : Data) (factors : List Discounting) (before : List ℕ) (kinds : List Bool) (held : List HeldRows) (place : Option ℕ) where
   -- none stands at an equation past the last one
-  at_no_equation : IsFeed d factors before kinds held 65 → ⊥
+  at_no_equation : IsFeed d factors before kinds held place 65 → ⊥
   at_no_equation is = omega (arith, is.equation.1)
 
   -- none is of rows that can't all be made
-  unmade : list_all (row_fits (places_of factors) d) (instances d) ≡ false → IsFeed d factors before kinds held 1 → ⊥
+  unmade : list_all (row_fits (places_of factors) d) (instances d) ≡ false → IsFeed d factors before kinds held place 1 → ⊥
   unmade wide is = true≢false (sym is.made.fit ∙ wide)
 
   -- and none is without a count for each equation
-  uncounted : IsFeed d factors [] kinds held 1 → ⊥
+  uncounted : IsFeed d factors [] kinds held place 1 → ⊥
   uncounted is = let long : 0 ≡ 64 = ap length is.counts in omega (arith, long)
 
 -- ---- variables kind by kind

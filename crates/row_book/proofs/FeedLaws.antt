@@ -1,8 +1,8 @@
 -- The rows of a feed: equation by equation they are those of all instances.
-use Rattle.std.proofs.Common.{◌≡◌, ◌≢◌, ℕ, zero, suc, ◌+◌, ◌-◌, ◌<◌, ◌≤◌, Bool, true, false, cond, nat_eq, List, [], ◌∷◌, ◌++◌, filter, get_or, map, length, reverse, refl, ap, ap₂, sym, ◌∙◌, subst, arith, eq-eqb, eqb-true}
-use Rattle.std.specs.Prelude.{ℤ, None, Some}
+use Rattle.std.proofs.Common.{◌≡◌, ◌≢◌, ℕ, zero, suc, ◌+◌, ◌-◌, ◌<◌, ◌≤◌, Bool, true, false, cond, nat_eq, List, [], ◌∷◌, ◌++◌, Option, Result, drop, filter, get_or, map, length, reverse, refl, ap, ap₂, sym, ◌∙◌, subst, arith, eq-eqb, eqb-true}
+use Rattle.std.specs.Prelude.{ℤ, None, Some, Ok, Err, IfOk, IfSome, OnErr, slice_index_or}
 use Rattle.std.specs.List.{AllByRecursion, enumerate_from, flat_map, range_with_len}
-use Rattle.std.proofs.lemmas.List.{append-nil, length-map, map-append, reverse-append, reverse-reverse}
+use Rattle.std.proofs.lemmas.List.{append-nil, drop-map, length-map, map-append, reverse-append, reverse-reverse}
 use Rattle.std.proofs.lemmas.List.FromFn.{get_or-map-range_with_len, length-map-range_with_len}
 use Rattle.std.proofs.lemmas.List.Elements.{filter-append}
 use Rattle.model_sets.specs.Data.{Data}
@@ -19,7 +19,9 @@ use Rattle.row_source.specs.Sources.{Answers, AreInOrder, is_of_equation, rows_o
 use Rattle.row_book.specs.Books.{AreRowsOf, CanBeMade, IsWithinSets, entries_in, entry_limit}
 use Rattle.row_book.specs.EquationRows.{terms_at}
 use Rattle.row_book.specs.FeedStates.{IsFeed}
-use Rattle.row_book.specs.Feeds.{AreContentsOf, HasContentsWithin, ahead_after, all_contents, contents_at, contents_written, equation_contents}
+use Rattle.row_book.specs.Held.{AreHeld}
+use Rattle.row_book.specs.declared.held_rows.HeldRows.{HeldRows}
+use Rattle.row_book.specs.Feeds.{AreContentsOf, HasContentsWithin, ahead_after, ahead_at, all_contents, contents_at, contents_written, equation_contents}
 use Rattle.row_book.specs.Tallies.{AreSortedVariables, AreTallied, Marks, names_to, rows_before}
 use Rattle.row_book.specs.declared.tally.Tally.{Tally}
 use Rattle.row_book.proofs.Instances.{IsInstance, all-instances}
@@ -181,13 +183,15 @@ tallied-made places d t tallied = record {
   few = (let few : entries_in places d (names_to d 64) ≤ entry_limit = subst (λ (n : ℕ). n ≤ entry_limit) tallied.entries t.few in omega (arith, few));
 }
 
-pub feed-kept : (places : ℕ) (d : Data) (factors : List Discounting) (t : Tally) → AreRegionFactors places d factors → AreTallied (places_of factors) d 64 t → IsFeed d factors t.before.items t.kinds.items t.held.items 1
-feed-kept places d factors t are tallied = record {
+pub feed-kept : (places : ℕ) (d : Data) (factors : List Discounting) (t : Tally) → AreRegionFactors places d factors → AreTallied (places_of factors) d 64 t → (place : Option ℕ)
+    → IfSome place (λ i. (i < length t.held.items) × ((z : HeldRows) → (slice_index_or t.held.items i z).eq ≡ 1)) → IsFeed d factors t.before.items t.kinds.items t.held.items place 1
+feed-kept places d factors t are tallied place there = record {
   equation = (omega arith, omega arith);
   factors_are = factors-by_places places d factors are;
   made = tallied-made (places_of factors) d t tallied;
   counts = tallied.before;
   held_are = tallied.held;
+  place_is = there;
   marks = subst (Marks t.kinds.items) (all-say (places_of factors) d tallied.all tallied.rows) tallied.kinds;
 }
 
@@ -227,9 +231,18 @@ pub reversed-says : (places : ℕ) (d : Data) (eq : ℕ) (made reversed : List R
 reversed-says places d eq made reversed are is =
     ap (λ (rows : List Row). map contents_of (reverse rows)) is ∙ ap (λ (rows : List Row). map contents_of rows) (reverse-reverse made) ∙ equation-says places d eq made are
 
--- copies of the rows of an equation that are held, the last one first
-pub copies-say : (places : ℕ) (d : Data) (eq : ℕ) (held : List Row) (copies : List Row) → AreRowsOf places d (instances_of d eq) held → map contents_of (reverse copies) ≡ map contents_of held → map contents_of (reverse copies) ≡ equation_contents places d eq
-copies-say places d eq held copies are same = same ∙ equation-says places d eq held are
+-- what is left of the rows of an equation that are held
+pub held-say : (places : ℕ) (d : Data) (held : List HeldRows) (place eq taken : ℕ) (z : HeldRows) → AreHeld places d held → place < length held → (get_or held place z).eq ≡ eq
+    → map contents_of (drop taken (get_or held place z).rows.items) ≡ drop taken (equation_contents places d eq)
+held-say places d held place eq taken z are inside same =
+    let rows : List Row = (get_or held place z).rows.items in
+    let of_equation : AreRowsOf places d (instances_of d eq) rows = subst (λ (n : ℕ). AreRowsOf places d (instances_of d n) rows) same (are place inside z) in
+    sym (drop-map contents_of taken rows) ∙ ap (drop taken) (equation-says places d eq rows of_equation)
+
+-- none is taken yet
+pub at-start : (place : Option ℕ) (passed : ℕ) (rows : List Row) (contents : List RowContents) → ahead_at place 0 passed false rows contents ≡ ahead_after passed false rows contents
+at-start None passed rows contents = refl
+at-start (Some place) passed rows contents = refl
 
 -- ---- the next row
 
@@ -247,3 +260,12 @@ pub none-answers : (passed : ℕ) (before after : List Row) → length before �
 none-answers passed [] [] empty split = (refl, refl)
 none-answers passed [] (row ∷ rows) empty split = absurd (cc split)
 none-answers passed (row ∷ rows) after empty split = absurd (omega (arith, empty))
+
+-- what is answered of one list and leaves another is answered of a list that is the same
+pub answers-same : {T : Type 0} (r : Result (Option (ℕ × Row)) T) (a b x y : List (ℕ × RowContents)) → a ≡ x → b ≡ y → IfOk r (λ found. Answers a found b) → IfOk r (λ found. Answers x found y)
+answers-same r a b x y first second answers =
+    subst (λ start. IfOk r (λ found. Answers start found y)) first (subst (λ rest. IfOk r (λ found. Answers a found rest)) second answers)
+
+pub both-stay : {T E A B C : Type 0} (r : Result T E) → (A → B → C) → OnErr r A → OnErr r B → OnErr r C
+both-stay (Ok value) f a b = tt
+both-stay (Err fail) f a b = f a b

@@ -1,5 +1,5 @@
 -- What a feed of rows keeps. Only its invariant cites these.
-use Rattle.std.specs.Prelude.{◌≡◌, ℕ, Bool, List}
+use Rattle.std.specs.Prelude.{◌≡◌, ℕ, ◌<◌, Bool, List, Option, IfSome, length, slice_index_or}
 use Rattle.discount_factors.specs.Known.{Discounting}
 use Rattle.model_sets.specs.Data.{Data}
 use Rattle.row_core.specs.Equations.{IsEquation}
@@ -12,11 +12,12 @@ use Rattle.row_book.specs.Tallies.{Marks, rows_before}
 use Rattle.row_book.specs.declared.held_rows.HeldRows.{HeldRows}
 
 -- the factors are those of the regions, all rows can be made, the counts and kinds are theirs, the rows that are held those of their
--- equations, and the equation is of its list
-pub record IsFeed (d : Data) (factors : List Discounting) (before : List ℕ) (kinds : List Bool) (held : List HeldRows) (eq : ℕ) : Type 0 where
+-- equations, which stand at the place if there is one, and the equation is of its list
+pub record IsFeed (d : Data) (factors : List Discounting) (before : List ℕ) (kinds : List Bool) (held : List HeldRows) (place : Option ℕ) (eq : ℕ) : Type 0 where
   pub equation : IsEquation eq
   pub factors_are : AreRegionFactors (places_of factors) d factors
   pub made : CanBeMade (places_of factors) d 0 (instances d)
   pub counts : before ≡ rows_before d 64
   pub held_are : AreHeld (places_of factors) d held
+  pub place_is : IfSome place (λ i. (i < length held) × ((z : HeldRows) → (slice_index_or held i z).eq ≡ eq))
   pub marks : Marks kinds (all_contents (places_of factors) d)

@@ -1,5 +1,5 @@
 -- A feed of all rows of a model: what they say, and the place among them.
-use Rattle.std.specs.Prelude.{◌≡◌, ℕ, ◌+◌, Bool, List, map, reverse, if◌then◌else◌}
+use Rattle.std.specs.Prelude.{◌≡◌, ℕ, ◌+◌, Bool, List, Option, None, Some, drop, map, reverse, if◌then◌else◌}
 use Rattle.std.specs.List.{enumerate_from}
 use Rattle.model_sets.specs.Data.{Data}
 use Rattle.model_sets.specs.Members.{SetLists}
@@ -57,3 +57,8 @@ all_contents places d = map (contents_at places d) (instances d)
 -- the rows that are ahead after so many: those that are made, the next one last, or what all rows of the equation say
 abbrev pub ahead_after : ℕ → Bool → List Row → List RowContents → List (ℕ × RowContents)
 ahead_after passed made rows contents = enumerate_from (passed + 1) (if made then map contents_of (reverse rows) else contents)
+
+-- the same where the rows may be held: then those after the ones that were taken
+abbrev pub ahead_at : Option ℕ → ℕ → ℕ → Bool → List Row → List RowContents → List (ℕ × RowContents)
+ahead_at (Some place) taken passed made rows contents = enumerate_from (passed + 1) (drop taken contents)
+ahead_at None taken passed made rows contents = ahead_after passed made rows contents

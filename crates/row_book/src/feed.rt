@@ -1,7 +1,7 @@
 //! A feed of rows: those that are held are copied, and all others made again, when they are asked for.
 
-ghost use Rattle.std.specs.Prelude.{◌≡◌, [], map, reverse, true, IfErr, IfOk, OnErr, OnOk};
-ghost use Rattle.std.specs.List.{AllByRecursion};
+ghost use Rattle.std.specs.Prelude.{◌≡◌, ◌+◌, [], drop, map, reverse, true, IfErr, IfOk, OnErr, OnOk};
+ghost use Rattle.std.specs.List.{AllByRecursion, enumerate_from};
 ghost use Rattle.discount_factors.specs.Factors.{IsPlaces};
 ghost use Rattle.named_equations.specs.Instances.{instances};
 ghost use Rattle.named_equations.specs.RegionFactors.{AreRegionFactors, places_of};
@@ -10,11 +10,10 @@ ghost use Rattle.row_source.specs.Contents.{contents_of};
 ghost use Rattle.row_source.specs.Sources.{Answers, AreInOrder, rows_of_equation};
 ghost use Rattle.row_book.specs.Books.{CanBeMade, HasStopped, IsWithinSets, NamesRowWithin};
 ghost use Rattle.row_book.specs.Feeds.{AreContentsOf, HasContentsWithin, ahead_after, equation_contents};
-ghost use Rattle.row_book.specs.Held.{AreHeld};
 
 use crate::factors::region_factors;
 use crate::fail::BookFail;
-use crate::held_rows::{HeldRows, copied_backwards, position_of_rows};
+use crate::held_rows::{HeldRows, copy_of, position_of_rows};
 use crate::made_rows::MadeRows;
 use crate::tally::Tally;
 use crate::tallying::is_marked;
@@ -26,9 +25,9 @@ use row_source::RowSource;
 use std::alloc::{AllocError, Global};
 use std::marker::Model;
 
-/// All rows of a model, in order. Those of an equation are held where they have 8 entries a row or more, and those of the
-/// first equations as long as they have no more than 262,144 entries together; they are copied when they are asked for. The
-/// others are made again then, equation by equation.
+/// All rows of a model, in order. Those of an equation are held where they have 8 entries a row or more, those of the first
+/// equations as long as they have no more than 500,000 entries together, and those of the last ones after 1,500,000; they are
+/// copied one by one when they are asked for. The others are made again then, equation by equation.
 #[derive(Drop)]
 pub struct RowFeed<'a> {
     alloc: Global,
@@ -43,24 +42,27 @@ pub struct RowFeed<'a> {
     /// The equation, and how many rows of all stand before the place.
     eq: u8,
     passed: u64,
-    /// Whether the rows of the equation are made: then those that are ahead, the next one last.
+    /// Where the rows of the equation stand, if they are held: then how many of them were taken.
+    place: Option<usize>,
+    taken: usize,
+    /// Whether the rows of the equation are made, where they aren't held: then those that are ahead, the next one last.
     made: bool,
     rows: Vec<Row>,
 }
 
 impl<'a> Model for RowFeed<'a> {
     ghost use Rattle.named_equations.specs.RegionFactors.{places_of};
-    ghost use Rattle.row_book.specs.Feeds.{Feed, ahead_after, all_contents, equation_contents};
+    ghost use Rattle.row_book.specs.Feeds.{Feed, ahead_at, all_contents, equation_contents};
     ghost use Rattle.row_book.specs.FeedStates.{IsFeed};
 
     ghost Value = { Feed };
 
     ghost view = { λ feed. record {
       rows = all_contents (places_of feed.factors.items) feed.model.now.facts;
-      ahead = ahead_after feed.passed feed.made feed.rows.items (equation_contents (places_of feed.factors.items) feed.model.now.facts feed.eq);
+      ahead = ahead_at feed.place feed.taken feed.passed feed.made feed.rows.items (equation_contents (places_of feed.factors.items) feed.model.now.facts feed.eq);
     } };
 
-    ghost invariant = { λ feed. IsFeed feed.model.now.facts feed.factors.items feed.before.items feed.kinds.items feed.held.items feed.eq };
+    ghost invariant = { λ feed. IsFeed feed.model.now.facts feed.factors.items feed.before.items feed.kinds.items feed.held.items feed.place feed.eq };
 }
 
 impl<'a> RowFeed<'a> {
@@ -107,6 +109,7 @@ impl<'a> RowFeed<'a> {
             Ok(()) => {}
             Err(_) => return Err(BookFail::Memory),
         }
+        let place = position_of_rows(&held, 1);
         let feed = RowFeed {
             alloc,
             model,
@@ -116,6 +119,8 @@ impl<'a> RowFeed<'a> {
             held,
             eq: 1,
             passed: 0,
+            place,
+            taken: 0,
             made: false,
             rows: Vec::new(alloc),
         };
@@ -131,14 +136,24 @@ impl<'a> RowSource for RowFeed<'a> {
     fn start(&mut self, eq: u8) {
         self.passed = self.before[eq as usize - 1];
         self.eq = eq;
+        let place = position_of_rows(&self.held, eq);
+        self.place = place;
+        self.taken = 0;
         self.made = false;
     }
 
     fn next(&mut self) -> Result<Option<(u64, Row)>, AllocError> {
+        match self.place {
+            Some(place) => {
+                let rows = &self.held[place].rows;
+                return next_copy(self.alloc, rows, &mut self.taken, &mut self.passed);
+            }
+            None => {}
+        }
         if self.made {
             return next_row(&mut self.rows, &mut self.passed);
         }
-        self.rows = match rows_again(self.alloc, self.model, &self.factors, &self.held, self.eq) {
+        self.rows = match equation_rows(self.alloc, self.model, &self.factors, self.eq) {
             Ok(rows) => rows,
             Err(fail) => return Err(fail),
         };
@@ -148,27 +163,6 @@ impl<'a> RowSource for RowFeed<'a> {
 
     fn has(&self, eq: u8, kind: u8) -> bool {
         is_marked(&self.kinds, eq, kind)
-    }
-}
-
-/// The rows of an equation, the last one first: copies of those that are held, or rows that are made again. Fails only
-/// where memory runs out.
-fn rows_again(
-    alloc: Global,
-    model: &ModelData,
-    factors: &[Factors],
-    held: &[HeldRows],
-    eq: u8,
-) -> Result<Vec<Row>, AllocError>
-    requires equation { IsEquation eq }
-    requires factors { AreRegionFactors (places_of factors.now) model.now.facts factors.now }
-    requires made { CanBeMade (places_of factors.now) model.now.facts 0 (instances model.now.facts) }
-    requires held { AreHeld (places_of factors.now) model.now.facts held.now }
-    ensures { IfOk result (λ rows. map contents_of (reverse rows.items) ≡ equation_contents (places_of factors.now) model.now.facts eq) }
-{
-    match position_of_rows(held, eq) {
-        Some(place) => copied_backwards(alloc, &held[place].rows),
-        None => equation_rows(alloc, model, factors, eq),
     }
 }
 
@@ -218,4 +212,29 @@ fn next_row(rows: &mut Vec<Row>, passed: &mut u64) -> Result<Option<(u64, Row)>,
             Ok(Some((number, row)))
         }
     }
+}
+
+/// A copy of the row after those that were taken, which is the one after those that are passed.
+fn next_copy(
+    alloc: Global,
+    rows: &[Row],
+    taken: &mut usize,
+    passed: &mut u64,
+) -> Result<Option<(u64, Row)>, AllocError>
+    ensures answers { IfOk result (λ found. Answers
+        (enumerate_from (passed.old + 1) (map contents_of (drop taken.old rows.now))) found (enumerate_from (passed.new + 1) (map contents_of (drop taken.new rows.now)))) }
+    ensures taken_stays { OnErr result (taken.new ≡ taken.old) }
+    ensures passed_stays { OnErr result (passed.new ≡ passed.old) }
+{
+    if *taken >= rows.len() {
+        return Ok(None);
+    }
+    let number = match passed.checked_add(1) {
+        Some(number) => number,
+        None => return Err(AllocError),
+    };
+    let row = copy_of(alloc, &rows[*taken])?;
+    *passed = number;
+    *taken += 1;
+    Ok(Some((number, row)))
 }

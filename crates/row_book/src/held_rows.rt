@@ -1,6 +1,6 @@
 //! Rows that are held, so that they aren't made again, and copied where they are asked for.
 
-ghost use Rattle.std.specs.Prelude.{◌≡◌, ◌<◌, length, map, reverse, slice_index_or, IfOk, IfSome, OnOk};
+ghost use Rattle.std.specs.Prelude.{◌≡◌, ◌<◌, length, slice_index_or, IfOk, IfSome, OnOk};
 ghost use Rattle.row_source.specs.Contents.{contents_of};
 ghost use Rattle.row_book.specs.Held.{KeepsRows};
 ghost use Rattle.row_book.specs.declared.held_rows.HeldRows.{HeldRows};
@@ -10,7 +10,11 @@ use std::alloc::{AllocError, Global};
 
 /// As long as all rows so far have no more entries than this, those of an equation are held, however short they are. So the
 /// rows of a small model are made once, and what is held of short rows takes some tens of megabytes.
-const HELD_ENTRIES: usize = 262_144;
+const HELD_ENTRIES: usize = 500_000;
+
+/// Once all rows so far have more entries than this, those that follow are held as well: a model of this size takes hundreds
+/// of megabytes in any case, and to make so many rows several times takes longest.
+const MANY_ENTRIES: usize = 1_500_000;
 
 /// Rows with this many entries or more on average are held in any case: a long row takes far longer to make than to copy.
 /// All rows have 4,000,000 entries at most.
@@ -34,7 +38,7 @@ pub(crate) fn keep_rows(
 ) -> Result<(), AllocError>
     ensures { OnOk result (KeepsRows eq rows.items held.old.items held.new.items) }
 {
-    if entries <= HELD_ENTRIES || own / LONG_ROW >= rows.len() {
+    if entries <= HELD_ENTRIES || entries > MANY_ENTRIES || own / LONG_ROW >= rows.len() {
         held.push(HeldRows { eq, rows })?;
     }
     Ok(())
@@ -52,29 +56,8 @@ pub(crate) fn position_of_rows(held: &[HeldRows], eq: u8) -> Option<usize>
     None
 }
 
-/// Copies of rows, the last one first.
-pub(crate) fn copied_backwards(alloc: Global, rows: &[Row]) -> Result<Vec<Row>, AllocError>
-    ensures { IfOk result (λ copies. map contents_of (reverse copies.items) ≡ map contents_of rows.now) }
-{
-    let mut copies = copied(alloc, rows)?;
-    copies.reverse();
-    Ok(copies)
-}
-
-/// Copies of rows, in order.
-fn copied(alloc: Global, rows: &[Row]) -> Result<Vec<Row>, AllocError>
-    ensures { IfOk result (λ copies. map contents_of copies.items ≡ map contents_of rows.now) }
-{
-    let mut copies = Vec::with_capacity(alloc, rows.len())?;
-    for row in rows {
-        let copy = copy_of(alloc, row)?;
-        copies.push(copy)?;
-    }
-    Ok(copies)
-}
-
 /// A copy of a row.
-fn copy_of(alloc: Global, row: &Row) -> Result<Row, AllocError>
+pub(crate) fn copy_of(alloc: Global, row: &Row) -> Result<Row, AllocError>
     ensures { IfOk result (λ copy. contents_of copy ≡ contents_of row.now) }
 {
     let entries = Vec::from_slice(alloc, row.entries.as_slice())?;

@@ -1,10 +1,12 @@
-use Rattle.std.proofs.Common.{List, sym, subst, arith}
+use Rattle.std.proofs.Common.{◌≡◌, ◌∙◌, ◌<◌, List, length, sym, subst, arith}
+use Rattle.std.specs.Prelude.{IfSome, slice_index_or}
 use Rattle.discount_factors.specs.Known.{Discounting}
 use Rattle.named_equations.specs.RegionFactors.{AreRegionFactors, places_of}
-use Rattle.row_book.specs.Feeds.{all_contents}
+use Rattle.row_book.specs.Feeds.{all_contents, equation_contents}
 use Rattle.row_book.specs.Tallies.{AreTallied}
+use Rattle.row_book.specs.declared.held_rows.HeldRows.{HeldRows}
 use Rattle.row_book.specs.declared.tally.Tally.{Tally}
-use Rattle.row_book.proofs.FeedLaws.{contents-within, equation-ahead, feed-contents, feed-kept, feed-made, feed-within, in-order}
+use Rattle.row_book.proofs.FeedLaws.{at-start, contents-within, equation-ahead, feed-contents, feed-kept, feed-made, feed-within, in-order}
 use Rattle.row_book.proofs.PlacesOfFactors.{factors-by_places, stopped-by_places}
 use Rattle.row_book.proofs.Within.{stopped-within}
 use Rattle.row_book.proofs.feed.RowFeed.new.Goals as goal
@@ -30,7 +32,8 @@ invariant_of-feed c =
     let are : AreRegionFactors c.args.places d factors = c.in_ok-factors.ensures.factors in
     let tally : Tally = c.add_equations.new.self in
     let tallied : AreTallied (places_of factors) d 64 tally = subst (λ (fs : List Discounting). AreTallied (places_of fs) d 64 tally) c.deref.ensures.value c.in-Ok.ensures.tallied in
-    feed-kept c.args.places d factors tally are tallied
+    feed-kept c.args.places d factors tally are tallied c.position_of_rows-place.result
+    (subst (λ (hs : List HeldRows). IfSome c.position_of_rows-place.result (λ i. (i < length hs) × ((z : HeldRows) → (slice_index_or hs i z).eq ≡ 1))) c.deref-2.ensures.value c.position_of_rows-place.ensures)
 
 pub returns-clause-rows : goal.returns-clause-rows
 returns-clause-rows c =
@@ -42,7 +45,9 @@ returns-clause-rows c =
     feed-contents c.args.places d factors tally c.sort_variables.new.vars.items are tallied c.in-Ok-sort_variables.ensures
 
 pub returns-clause-starts : goal.returns-clause-starts
-returns-clause-starts c = sym (equation-ahead (places_of c.in_ok-factors.factors.items) c.args.model.now.facts 1 (omega arith) (omega arith))
+returns-clause-starts c =
+    at-start c.position_of_rows-place.result 0 c.new-2.result.items (equation_contents (places_of c.in_ok-factors.factors.items) c.args.model.now.facts 1)
+    ∙ sym (equation-ahead (places_of c.in_ok-factors.factors.items) c.args.model.now.facts 1 (omega arith) (omega arith))
 
 pub returns-clause-in_order : goal.returns-clause-in_order
 returns-clause-in_order c = in-order (places_of c.in_ok-factors.factors.items) c.args.model.now.facts

@@ -1,4 +1,4 @@
-use Rattle.std.proofs.Common.{◌≤◌, ◌+◌, ◌∙◌, ◌++◌, Bool, List, nat_eq, length, map, ap, ap₂, sym, subst}
+use Rattle.std.proofs.Common.{◌≤◌, ◌+◌, ◌∙◌, ◌++◌, List, length, map, ap, sym, subst}
 use Rattle.std.specs.List.{AllByRecursion}
 use Rattle.row_core.specs.declared.Row.{Row}
 use Rattle.named_equations.specs.Instances.{instances_of}
