@@ -48,8 +48,8 @@ alike_itself v = same_itself (var_cmp v v) (var_cmp_total.antisymm v v)
 other_before : (v w : Var) → var_cmp v w ≡ Less → is_eq (var_cmp w v) ≡ false
 other_before v w h = ap is_eq (var_cmp_total.antisymm w v ∙ ap ordering_reverse h)
 
-other_behind : (v w : Var) → var_cmp v w ≡ Less → is_eq (var_cmp v w) ≡ false
-other_behind v w h = ap is_eq h
+other_after : (v w : Var) → var_cmp v w ≡ Less → is_eq (var_cmp v w) ≡ false
+other_after v w h = ap is_eq h
 
 -- a variable that stands at one place is found there alone
 pub found_alone : (vars : List Var) (v : Var) (at : ℕ) → ascends var_cmp vars ≡ true → at < length vars → get_or vars at none ≡ v → (k : ℕ) → k < length vars
@@ -63,7 +63,7 @@ found_alone vars v at h inside found k l = elim (cases_order k at) [
     )
     | inr above ↦ inr (
       (λ e. absurd (omega arith)),
-      other_behind v (get_or vars k none) (subst (λ w. var_cmp w (get_or vars k none) ≡ Less) found (less_at vars h at k none above l)),
+      other_after v (get_or vars k none) (subst (λ w. var_cmp w (get_or vars k none) ≡ Less) found (less_at vars h at k none above l)),
     )
   ]
 ]

@@ -92,11 +92,11 @@ alike Equal h = refl
 alike Greater h = absurd (cc h)
 
 -- after a variable none of an ascending list is the same
-nothing_behind : (x : Var → ℤ) (w : Var) (vs : List Var) → ascends var_cmp (w ∷ vs) ≡ true → sum_over vs (λ v. alone v w *ℤ x v) ≡ pos 0
-nothing_behind x w [] h = refl
-nothing_behind x w (v ∷ vs) h =
+nothing_after : (x : Var → ℤ) (w : Var) (vs : List Var) → ascends var_cmp (w ∷ vs) ≡ true → sum_over vs (λ v. alone v w *ℤ x v) ≡ pos 0
+nothing_after x w [] h = refl
+nothing_after x w (v ∷ vs) h =
     let less : var_cmp w v ≡ Less = Less-from_test (var_cmp w v) (both_passed (is_lt (var_cmp w v)) (ascends var_cmp (v ∷ vs)) h).0 in
-    ap₂ (λ o z. ((if is_eq o then pos 1 else pos 0) *ℤ x v) +ℤ z) less (nothing_behind x w vs (ascends-skip var_cmp var_cmp_total w v vs h))
+    ap₂ (λ o z. ((if is_eq o then pos 1 else pos 0) *ℤ x v) +ℤ z) less (nothing_after x w vs (ascends-skip var_cmp var_cmp_total w v vs h))
     ∙ ap (λ z. z +ℤ pos 0) (zero-*ℤ (x v))
 
 -- a variable of an ascending list is found there once
@@ -107,7 +107,7 @@ found_once x w (v ∷ vs) h k = cases (λ l. found_once x w vs (both_passed (bef
     cases : (is_among vs w ≡ true → sum_over vs (λ v. alone v w *ℤ x v) ≡ x w) → (t : Bool) → is_eq (var_cmp w v) ≡ t → (t || is_among vs w) ≡ true → ((if t then pos 1 else pos 0) *ℤ x v) +ℤ sum_over vs (λ v. alone v w *ℤ x v) ≡ x w
     cases later true is k =
         let same : w ≡ v = var_cmp_exact w v (alike (var_cmp w v) is) in
-        ap₂ (λ y z. y +ℤ z) (one-*ℤ (x v)) (nothing_behind x w vs (subst (λ u. ascends var_cmp (u ∷ vs) ≡ true) (sym same) h)) ∙ +ℤ-zero (x v) ∙ ap x (sym same)
+        ap₂ (λ y z. y +ℤ z) (one-*ℤ (x v)) (nothing_after x w vs (subst (λ u. ascends var_cmp (u ∷ vs) ≡ true) (sym same) h)) ∙ +ℤ-zero (x v) ∙ ap x (sym same)
     cases later false is k = ap₂ (λ y z. y +ℤ z) (zero-*ℤ (x v)) (later k) ∙ zero-+ℤ (x w)
 
 -- ---- one row

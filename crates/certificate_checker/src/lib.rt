@@ -1,4 +1,4 @@
-//! Checks of plans and of what proves a bound, a want of plans or a want of bounds, over rows alone.
+//! Checks of plans, and of what proves a bound, that there is no plan, or that there is no bound, over rows alone.
 //!
 //! A check shares nothing with the program that found the plan or the multipliers: its yes is true of all plans, by
 //! linear programming duality.

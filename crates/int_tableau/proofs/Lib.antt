@@ -11,6 +11,7 @@ pub mod LoopLaws
 pub mod NarrowLaws
 pub mod GuessLaws
 pub mod HeadLaws
+mod SizeExamples
 pub mod SizeLaws
 pub mod MarkLaws
 pub mod SwapLaws

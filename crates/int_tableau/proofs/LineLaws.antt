@@ -127,15 +127,15 @@ column_from low high (e ∷ es) (suc i) s h =
     omega arith
 
 -- what stands in a column comes after an entry that stands before it
-pub at-behind : (low high : ℕ) (es : List (ℕ × ℤ)) (i c d : ℕ) → IsSparse low high es → i < length es → (get_or es i no_entry).0 < c → c ≤ d → at es d ≡ at (drop (suc i) es) d
-at-behind low high [] i c d s h k l = absurd (omega arith)
-at-behind low high (e ∷ es) zero c d s h k l = ap (λ t. only t e.1 +ℤ at es d) (eq_no e.0 d (λ q. omega arith)) ∙ zero_plus (at es d)
+pub at-after : (low high : ℕ) (es : List (ℕ × ℤ)) (i c d : ℕ) → IsSparse low high es → i < length es → (get_or es i no_entry).0 < c → c ≤ d → at es d ≡ at (drop (suc i) es) d
+at-after low high [] i c d s h k l = absurd (omega arith)
+at-after low high (e ∷ es) zero c d s h k l = ap (λ t. only t e.1 +ℤ at es d) (eq_no e.0 d (λ q. omega arith)) ∙ zero_plus (at es d)
   where
     zero_plus : (z : ℤ) → pos 0 +ℤ z ≡ z
     zero_plus z = omega (arith, ints)
-at-behind low high (e ∷ es) (suc i) c d s h k l =
+at-after low high (e ∷ es) (suc i) c d s h k l =
     let first : suc e.0 ≤ (get_or es i no_entry).0 = column_from (suc e.0) high es i s.1 (omega arith) in
-    ap (λ t. only t e.1 +ℤ at es d) (eq_no e.0 d (λ q. omega arith)) ∙ zero_plus (at es d) ∙ at-behind (suc e.0) high es i c d s.1 (omega arith) k l
+    ap (λ t. only t e.1 +ℤ at es d) (eq_no e.0 d (λ q. omega arith)) ∙ zero_plus (at es d) ∙ at-after (suc e.0) high es i c d s.1 (omega arith) k l
   where
     zero_plus : (z : ℤ) → pos 0 +ℤ z ≡ z
     zero_plus z = omega (arith, ints)

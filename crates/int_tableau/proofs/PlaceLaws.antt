@@ -285,17 +285,17 @@ place-order low (u ∷ us) v w c d up less h k =
 -- ---- the entries ascend
 
 -- the columns of each variable of the entries are from b on
-abbrev AreBehind : List (Var × ℕ) → ℕ → List (Var × ℤ) → Type 0
-AreBehind places b [] = ⊤
-AreBehind places b (e ∷ es) = ((d : ℕ) → value_at var_cmp places e.0 ≡ Some d → b ≤ d) × AreBehind places b es
+abbrev AreFrom : List (Var × ℕ) → ℕ → List (Var × ℤ) → Type 0
+AreFrom places b [] = ⊤
+AreFrom places b (e ∷ es) = ((d : ℕ) → value_at var_cmp places e.0 ≡ Some d → b ≤ d) × AreFrom places b es
 
-behind_none : (places : List (Var × ℕ)) (es : List (Var × ℤ)) → AreBehind places 0 es
-behind_none places [] = tt
-behind_none places (e ∷ es) = (λ d h. omega arith, behind_none places es)
+AreFrom-zero : (places : List (Var × ℕ)) (es : List (Var × ℤ)) → AreFrom places 0 es
+AreFrom-zero places [] = tt
+AreFrom-zero places (e ∷ es) = (λ d h. omega arith, AreFrom-zero places es)
 
-behind_columns : (vs : List Var) (x : Var) (c : ℕ) (es : List (Var × ℤ)) → ascends var_cmp vs ≡ true → AreAfter x (keys_of es) → value_at var_cmp (placed 0 vs) x ≡ Some c → AreBehind (placed 0 vs) (after_columns (is_split x) c) es
-behind_columns vs x c [] up a h = tt
-behind_columns vs x c (e ∷ es) up a h = (λ d k. place-order 0 vs x e.0 c d up a.0 h k, behind_columns vs x c es up a.1 h)
+after_columns-AreFrom : (vs : List Var) (x : Var) (c : ℕ) (es : List (Var × ℤ)) → ascends var_cmp vs ≡ true → AreAfter x (keys_of es) → value_at var_cmp (placed 0 vs) x ≡ Some c → AreFrom (placed 0 vs) (after_columns (is_split x) c) es
+after_columns-AreFrom vs x c [] up a h = tt
+after_columns-AreFrom vs x c (e ∷ es) up a h = (λ d k. place-order 0 vs x e.0 c d up a.0 h k, after_columns-AreFrom vs x c es up a.1 h)
 
 as_most-fits : (s : Sense) (z : ℤ) → InRange z → InRange (as_most s z)
 as_most-fits Least z h = InRange-neg_ℤ z h
@@ -304,7 +304,7 @@ as_most-fits Most z h = h
 
 -- one variable's entries before those that come after them
 columns-IsSparse : (b : Bool) (low c high : ℕ) (z : ℤ) (rest : List (ℕ × ℤ)) → low ≤ c → after_columns b c ≤ high → InRange z → IsSparse low high rest → IsSparse (after_columns b c) high rest → IsSparse low high (in_columns b c z ++ rest)
-columns-IsSparse b low c high z rest from within fits all behind = cases (is_zero z) refl b within behind
+columns-IsSparse b low c high z rest from within fits all after = cases (is_zero z) refl b within after
   where
     some : is_zero z ≡ false → z ≢ pos 0
     some h e = cc (sym h ∙ ap is_zero e)
@@ -320,22 +320,22 @@ columns-IsSparse b low c high z rest from within fits all behind = cases (is_zer
         opposite n e = n (omega (arith, ints, e))
     cases false h false w k = (record { from = from; below = omega arith; nonzero = some h; fits = fits }, k)
 
-entries-IsSparse : (s : Sense) (vs : List Var) (low : ℕ) (es : List (Var × ℤ)) → ascends var_cmp vs ≡ true → ascends var_cmp (keys_of es) ≡ true → all_fit (numbers_of es) ≡ true → AreBehind (placed 0 vs) low es → IsSparse low (width_of vs) (column_entries s (placed 0 vs) es)
-entries-IsSparse s vs low [] up ups fits behind = tt
-entries-IsSparse s vs low (e ∷ es) up ups fits behind =
+entries-IsSparse : (s : Sense) (vs : List Var) (low : ℕ) (es : List (Var × ℤ)) → ascends var_cmp vs ≡ true → ascends var_cmp (keys_of es) ≡ true → all_fit (numbers_of es) ≡ true → AreFrom (placed 0 vs) low es → IsSparse low (width_of vs) (column_entries s (placed 0 vs) es)
+entries-IsSparse s vs low [] up ups fits after = tt
+entries-IsSparse s vs low (e ∷ es) up ups fits after =
     let parts : (in_range e.1 ≡ true) × (all_fit (numbers_of es) ≡ true) = both_passed (in_range e.1) (all_fit (numbers_of es)) (sym (all_fit-cons e.1 (numbers_of es)) ∙ fits) in
     cases parts.0 (λ low k. entries-IsSparse s vs low es up (ascends-tail var_cmp e.0 (keys_of es) ups) parts.1 k) (value_at var_cmp (placed 0 vs) e.0) refl
   where
-    cases : in_range e.1 ≡ true → ((low : ℕ) → AreBehind (placed 0 vs) low es → IsSparse low (width_of vs) (column_entries s (placed 0 vs) es))
+    cases : in_range e.1 ≡ true → ((low : ℕ) → AreFrom (placed 0 vs) low es → IsSparse low (width_of vs) (column_entries s (placed 0 vs) es))
         → (o : Option ℕ) → value_at var_cmp (placed 0 vs) e.0 ≡ o → IsSparse low (width_of vs) (in_columns_of (is_split e.0) (as_most s e.1) o ++ column_entries s (placed 0 vs) es)
-    cases first rest None h = rest low behind.1
+    cases first rest None h = rest low after.1
     cases first rest (Some c) h =
         columns-IsSparse (is_split e.0) low c (width_of vs) (as_most s e.1) (column_entries s (placed 0 vs) es)
-        (behind.0 c h)
+        (after.0 c h)
         (subst (λ n. after_columns (is_split e.0) c ≤ n) (zero-add (width_of vs)) (place-within 0 vs e.0 c h))
         (as_most-fits s e.1 (InRange-from_test e.1 first))
-        (rest low behind.1)
-        (rest (after_columns (is_split e.0) c) (behind_columns vs e.0 c es up (ascends-AreAfter e.0 (keys_of es) ups) h))
+        (rest low after.1)
+        (rest (after_columns (is_split e.0) c) (after_columns-AreFrom vs e.0 c es up (ascends-AreAfter e.0 (keys_of es) ups) h))
 
 pub column_entries-IsSparse : (s : Sense) (vs : List Var) (es : List (Var × ℤ)) → ascends var_cmp vs ≡ true → ascends var_cmp (keys_of es) ≡ true → all_fit (numbers_of es) ≡ true → IsSparse 0 (width_of vs) (column_entries s (placed 0 vs) es)
-column_entries-IsSparse s vs es up ups fits = entries-IsSparse s vs 0 es up ups fits (behind_none (placed 0 vs) es)
+column_entries-IsSparse s vs es up ups fits = entries-IsSparse s vs 0 es up ups fits (AreFrom-zero (placed 0 vs) es)

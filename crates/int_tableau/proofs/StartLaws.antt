@@ -98,10 +98,10 @@ row_line-seen vs there n i row h up ups fits =
     (three_parts f (width_of vs) n (if there then 1 else 0) (by_column g vs) (slack_entries n i) (x0_entry there (negsuc 0))
     (spread-variables f g vs (λ c l. apart c ∙ ap₂ (λ x y. at es c +ℤ (x +ℤ y)) (ap (λ t. only t (pos 1)) (eq_no ((width_of vs) + i) c (λ q. omega arith))) (x0_column-other there ((width_of vs) + n) c (λ q. omega arith)) ∙ plus_zero (at es c) ∙ column_entries-at row.sense vs row.entries up ups c))
     (spread-slack f (width_of vs) n i h
-    (apart ((width_of vs) + i) ∙ ap₂ ◌+ℤ◌ (behind ((width_of vs) + i) (omega arith)) (ap₂ (λ t y. only t (pos 1) +ℤ y) (eq_yes ((width_of vs) + i) ((width_of vs) + i) refl) (x0_column-other there ((width_of vs) + n) ((width_of vs) + i) (λ q. omega arith))))
-    (λ c k l m. apart c ∙ ap₂ ◌+ℤ◌ (behind c k) (ap₂ (λ t y. only t (pos 1) +ℤ y) (eq_no ((width_of vs) + i) c (λ q. m (sym q))) (x0_column-other there ((width_of vs) + n) c (λ q. omega arith)))))
+    (apart ((width_of vs) + i) ∙ ap₂ ◌+ℤ◌ (past ((width_of vs) + i) (omega arith)) (ap₂ (λ t y. only t (pos 1) +ℤ y) (eq_yes ((width_of vs) + i) ((width_of vs) + i) refl) (x0_column-other there ((width_of vs) + n) ((width_of vs) + i) (λ q. omega arith))))
+    (λ c k l m. apart c ∙ ap₂ ◌+ℤ◌ (past c k) (ap₂ (λ t y. only t (pos 1) +ℤ y) (eq_no ((width_of vs) + i) c (λ q. m (sym q))) (x0_column-other there ((width_of vs) + n) c (λ q. omega arith)))))
     (spread-x0_column f ((width_of vs) + n) there
-    (apart ((width_of vs) + n) ∙ ap₂ (λ x y. x +ℤ (y +ℤ at (x0_column there ((width_of vs) + n)) ((width_of vs) + n))) (behind ((width_of vs) + n) (omega arith)) (ap (λ t. only t (pos 1)) (eq_no ((width_of vs) + i) ((width_of vs) + n) (λ q. omega arith))) ∙ zero_plus (pos 0 +ℤ at (x0_column there ((width_of vs) + n)) ((width_of vs) + n)) ∙ zero_plus (at (x0_column there ((width_of vs) + n)) ((width_of vs) + n)))))
+    (apart ((width_of vs) + n) ∙ ap₂ (λ x y. x +ℤ (y +ℤ at (x0_column there ((width_of vs) + n)) ((width_of vs) + n))) (past ((width_of vs) + n) (omega arith)) (ap (λ t. only t (pos 1)) (eq_no ((width_of vs) + i) ((width_of vs) + n) (λ q. omega arith))) ∙ zero_plus (pos 0 +ℤ at (x0_column there ((width_of vs) + n)) ((width_of vs) + n)) ∙ zero_plus (at (x0_column there ((width_of vs) + n)) ((width_of vs) + n)))))
   where
     g : Var → ℤ
     g v = as_most row.sense (number_at row.entries v)
@@ -115,8 +115,8 @@ row_line-seen vs there n i row h up ups fits =
     apart : (c : ℕ) → f c ≡ at es c +ℤ (only (((width_of vs) + i) == c) (pos 1) +ℤ at (x0_column there ((width_of vs) + n)) c)
     apart c = at-append es (((width_of vs) + i, pos 1) ∷ x0_column there ((width_of vs) + n)) c
 
-    behind : (c : ℕ) → (width_of vs) ≤ c → at es c ≡ pos 0
-    behind c k = at-high 0 (width_of vs) es c (column_entries-IsSparse row.sense vs row.entries up ups fits) k
+    past : (c : ℕ) → (width_of vs) ≤ c → at es c ≡ pos 0
+    past c k = at-high 0 (width_of vs) es c (column_entries-IsSparse row.sense vs row.entries up ups fits) k
 
 pub cost_line-seen : (p : LinearProgram) (there : Bool) → ascends var_cmp p.columns ≡ true → ascends var_cmp (keys_of p.cost) ≡ true → all_fit (numbers_of p.cost) ≡ true
     → line_seen (width_of p.columns + length p.rows + (if there then 1 else 0)) (column_entries Most (placed 0 p.columns) p.cost) p.cost_right p.cost_own ≡ cost_line p there
@@ -124,14 +124,14 @@ cost_line-seen p there up ups fits =
     ap {B = Line} (λ zs. record { entries = zs; right = p.cost_right; own = p.cost_own })
     (three_parts (at es) (width_of p.columns) (length p.rows) (if there then 1 else 0) (by_column (number_at p.cost) p.columns) (zeros (length p.rows)) (x0_entry there (pos 0))
     (spread-variables (at es) (number_at p.cost) p.columns (λ c l. column_entries-at Most p.columns p.cost up ups c))
-    (spread-zeros (at es) (width_of p.columns) (length p.rows) (λ c k l. behind c k))
-    (spread-x0 (at es) ((width_of p.columns) + (length p.rows)) there (pos 0) (behind ((width_of p.columns) + (length p.rows)) (omega arith))))
+    (spread-zeros (at es) (width_of p.columns) (length p.rows) (λ c k l. past c k))
+    (spread-x0 (at es) ((width_of p.columns) + (length p.rows)) there (pos 0) (past ((width_of p.columns) + (length p.rows)) (omega arith))))
   where
     es : List (ℕ × ℤ)
     es = column_entries Most (placed 0 p.columns) p.cost
 
-    behind : (c : ℕ) → (width_of p.columns) ≤ c → at es c ≡ pos 0
-    behind c k = at-high 0 (width_of p.columns) es c (column_entries-IsSparse Most p.columns p.cost up ups fits) k
+    past : (c : ℕ) → (width_of p.columns) ≤ c → at es c ≡ pos 0
+    past c k = at-high 0 (width_of p.columns) es c (column_entries-IsSparse Most p.columns p.cost up ups fits) k
 
 pub artificial_line-seen : (p : LinearProgram) → line_seen (width_of p.columns + length p.rows + 1) ((width_of p.columns + length p.rows, negsuc 0) ∷ []) (pos 0) (pos 1) ≡ artificial_line p
 artificial_line-seen p =

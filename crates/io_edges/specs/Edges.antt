@@ -12,7 +12,7 @@ pub record Opens (files : List (List ℕ × List ℕ)) (name : List ℕ) (rest :
   pub there : IsSome (file_named files name)
   pub whole : rest ≡ file_named files name
 
--- n bytes move from the front of the rest into the front of the room; none only where no byte is left or no room is
+-- n bytes move from the beginning of the rest to the beginning of the room; none only where no byte is left or no room is
 pub record Moves (rest : List ℕ) (n : ℕ) (room : List ℕ) (left : Option (List ℕ)) : Type 0 where
   pub within : n ≤ length rest
   pub front : take n room ≡ take n rest

@@ -91,7 +91,7 @@ impl Sink for MemSink {
 
     ghost faults = { λ sink. sink.faults };
 
-    /// Takes the front of the piece that fits, in no more bytes than a call takes. It needs no memory.
+    /// Takes the prefix of the piece that fits, in no more bytes than a call takes. It needs no memory.
     fn write(&mut self, piece: &[u8]) -> Result<usize, Failed>
         ensures count { IfOk result (λ n. n
             ≡ min self.old.most (min (length piece.now) (self.old.room - length self.old.written))) }

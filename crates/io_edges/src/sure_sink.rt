@@ -1,4 +1,4 @@
-// What was written, in memory, where nothing but a want of room makes a call fail.
+// What was written, in memory, where a call fails only if there is no room left.
 ghost use Rattle.std.specs.Prelude.{◌≡◌, ◌↔◌, ◌-◌, ◌≤◌, ◌<◌, [], length, min, take, Some, IfOk, OnErr, IsErr};
 ghost use Rattle.io_edges.specs.Sure.{sure_written, sure_refused};
 
@@ -64,7 +64,7 @@ impl Sink for SureSink {
 
     ghost faults = { λ sink. sink.faults };
 
-    /// Takes the front of the piece that fits. It needs no memory.
+    /// Takes the prefix of the piece that fits. It needs no memory.
     fn write(&mut self, piece: &[u8]) -> Result<usize, Failed>
         ensures count { IfOk result
             (λ n. n ≡ min (length piece.now) (self.old.room - length self.old.written)) }

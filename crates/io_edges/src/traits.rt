@@ -80,7 +80,7 @@ pub trait Shelf {
         ensures begins { begins self.new ≡ counted (begins self.old) }
         ensures taken { taken self.new ≡ 0 };
 
-    /// Moves a prefix of the rest into the front of the room, and answers its length. In a room that
+    /// Moves a prefix of the rest to the beginning of the room, and answers its length. In a room that
     /// isn't empty, 0 is the end of the file. What stands after it in the room, and in the room of a
     /// refused call, is left open.
     fn read(&mut self, room: &mut [u8]) -> Result<usize, Failed>

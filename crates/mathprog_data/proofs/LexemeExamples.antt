@@ -3,7 +3,7 @@ use Rattle.std.proofs.Common.{◌≡◌, refl, false}
 use Rattle.std.specs.Prelude.{codes}
 use Rattle.mathprog_data.specs.Lexemes.{Bare, Quoted, name_of, undoubled}
 
--- zeros in front of digits aren't part of the name
+-- zeros before digits aren't part of the name
 leading_zeros : name_of (Bare (codes "0042")) ≡ codes "42"
 leading_zeros = refl
 

@@ -11,7 +11,7 @@ use Rattle.mathprog_data.specs.LexingPieces.{Piece, Separator, LineComment, Bloc
 use Rattle.mathprog_data.specs.Lexing.{spellings, AreWhole}
 use Rattle.mathprog_data.proofs.LexingByteLemmas.{at_byte}
 
--- the longest front of bytes that pass a test
+-- the longest prefix of bytes that pass a test
 record Longest (test : ℕ → Bool) (bytes : List ℕ) : Type 0 where
   front : List ℕ
   rest : List ℕ

@@ -1,4 +1,4 @@
--- What may follow so that a statement begins, through its name, in front of these tokens.
+-- What may follow so that a statement begins, through its name, before these tokens.
 use Rattle.std.proofs.Common.{◌≡◌, ℕ, zero, suc, nat_eq, cond, Bool, true, false, List, [], ◌∷◌, ◌++◌, codes, Option, Some, None, refl, subst}
 use Rattle.std.specs.Prelude.{pos, if◌then◌else◌}
 use Rattle.mathprog_data.proofs.SectionsSound.{sound, not_default}
@@ -24,7 +24,7 @@ use Rattle.mathprog_data.specs.Tables.{given, cell_index}
 use Rattle.mathprog_data.specs.Symbols.{Name, Number, IsSign, IsKeyword, IsSymbol, IsNumberToken}
 use Rattle.mathprog_data.proofs.OptionalCommas.{OptionalComma, none, one, comma_of}
 
--- the name after the colon of tabbing data, in front of ws
+-- the name after the colon of tabbing data, before ws
 pub data TabbingName (ws : List Placed) (default : Option Number) : Begun → List Placed → Type 0 where
   tabbing_name_is : {u : Placed} {param : ℕ} → (name : Name) → IsSymbol u name → param_number name ≡ Some param → TabbingName ws default (TabbingBegun param default) (u ∷ ws)
 
@@ -36,7 +36,7 @@ pub data LeadingColon (ws : List Placed) (default : Option Number) (begun : Begu
 pub data LeadingValue (ws : List Placed) (begun : Begun) : List Placed → Type 0 where
   leading_value : {u : Placed} {us : List Placed} {v : Number} → IsNumberToken u v → LeadingColon ws (Some v) begun true us → LeadingValue ws begun (u ∷ us)
 
--- what may follow so that `begun` begins in front of ws
+-- what may follow so that `begun` begins before ws
 abbrev pub BeginsAt : List Placed → Begun → Open → List Placed → Type 0
 BeginsAt ws begun Between ts = Beginning ts ws begun
 BeginsAt ws begun SetRead ts = (t : Placed) → IsKeyword (codes "set") t → Beginning (t ∷ ts) ws begun
@@ -209,7 +209,7 @@ names-all (InRow param slice transposed names row mark left c) t ws (SignSeen si
 names-all (InRow param slice transposed names row mark left c) t ws (SymbolSeen w name n) e = names-cell (InRow param slice transposed names row mark left c) t ws param slice transposed names row mark left w n
 names-all (InRow param slice transposed names row mark left c) t ws x e = tt
 
--- the state before a name at which a statement begins, in front of these tokens
+-- the state before a name at which a statement begins, before these tokens
 data AtName (o : Open) (ts : List Placed) : Open → List Placed → Type 0 where
   at_name : AtName o ts o ts
 

@@ -67,7 +67,7 @@ statements-append : (ss : List Statement) (es fs : List Event) → statements_ev
 statements-append [] es fs = refl
 statements-append (s ∷ ss) es fs = ap (statement_events s) (statements-append ss es fs) ∙ statement-append s (statements_events ss es) fs
 
--- after the beginning of a statement, in front of these tokens
+-- after the beginning of a statement, before these tokens
 abbrev AfterName : Begun → List Placed → Open → List Placed → Type 0
 AfterName begun ws o ts = (o ≡ begun_open begun) × (ts ≡ ws)
 

@@ -1,5 +1,6 @@
 mod ColumnText
 mod ColumnTurns
+mod EntryExamples
 mod GatheredLaws
 mod MpsTextExamples
 mod RearrangedLaws

@@ -10,9 +10,9 @@ use Rattle.std.proofs.lemmas.Cmp.{nat_cmp_total}
 use Rattle.std.proofs.lemmas.List.Elements.{filter-append}
 use Rattle.std.proofs.lemmas.List.Sorted.{IsPermutation-append, IsPermutation-refl, IsPermutation-trans, length_permutation}
 use Rattle.std.proofs.Math.Seq.{take-append_seam}
+use Rattle.row_core.specs.SortKeys.{sort_key}
 use Rattle.mps_writer.specs.declared.entries.Entry.{Entry}
 use Rattle.mps_writer.specs.Entries.{AreSorted, IsRearranged, is_of}
-use Rattle.mps_writer.specs.Keys.{key_of}
 use Rattle.mps_writer.proofs.SameVariables.{same-is}
 
 -- left as they are
@@ -49,7 +49,7 @@ sorted-rearranged entries others sorted rearranged are = record {
 
 -- the number of an entry
 abbrev pub key_of_entry : Entry → ℕ
-key_of_entry e = key_of e.variable
+key_of_entry e = sort_key e.variable
 
 -- where the second test holds wherever the first does, it leaves out none that the first keeps
 kept-twice : (p q : Entry → Bool) → ((e : Entry) → p e ≡ true → q e ≡ true) → (es : List Entry) → filter p (filter q es) ≡ filter p es
@@ -81,6 +81,6 @@ rearranged-by_key entries sorted same stable = record {
       let at_v : Entry = record { variable = v; row = 0; number = pos 0 } in
       let lt = λ (x y : Entry). is_lt (nat_cmp (key_of_entry x) (key_of_entry y)) in
       let holds : (e : Entry) → is_of v e ≡ true → ties lt at_v e ≡ true =
-      λ e is. tie-numbers (key_of v) (key_of e.variable) (ap key_of (sym (same-is e.variable v is))) in
+      λ e is. tie-numbers (sort_key v) (sort_key e.variable) (ap sort_key (sym (same-is e.variable v is))) in
       sym (kept-twice (is_of v) (ties lt at_v) holds sorted) ∙ ap (filter (is_of v)) (stable at_v) ∙ kept-twice (is_of v) (ties lt at_v) holds entries;
 }

@@ -1,6 +1,5 @@
 pub mod Entries
 pub mod Gathered
-pub mod Keys
 pub mod MpsText
 pub mod SectionLines
 pub mod Sent

@@ -1,7 +1,8 @@
 -- The lines of rows in a section, and the equations that have right sides. Only private functions cite these.
-use Rattle.std.specs.Prelude.{◌≡◌, ℕ, ◌<◌, Bool, true, false, List, length, slice_index_or}
+use Rattle.std.specs.Prelude.{◌≡◌, ℕ, ◌<◌, ◌+◌, Bool, true, false, List, length, slice_index_or}
 use Rattle.std.specs.List.{AllByRecursion}
 use Rattle.model_sets.specs.Members.{SetLists}
+use Rattle.row_core.specs.declared.equation_numbers.TheConstants.{EQUATION_COUNT}
 use Rattle.row_core.specs.Numbers.{is_zero}
 use Rattle.row_source.specs.Contents.{RowContents}
 use Rattle.row_source.specs.Sources.{rows_of_equation}
@@ -25,5 +26,5 @@ HasNoSides rows = AllByRecursion (λ r. is_zero r.1.rhs ≡ true) rows
 
 -- an equation whose number is marked with false has no row with a right side that isn't 0
 pub record AreSidesOf (rows : List RowContents) (sides : List Bool) : Type 0 where
-  pub long : length sides ≡ 65
-  pub each : (eq : ℕ) → eq < 65 → slice_index_or sides eq false ≡ false → HasNoSides (rows_of_equation eq rows)
+  pub long : length sides ≡ EQUATION_COUNT + 1
+  pub each : (eq : ℕ) → eq < EQUATION_COUNT + 1 → slice_index_or sides eq false ≡ false → HasNoSides (rows_of_equation eq rows)

@@ -1,12 +1,11 @@
 //! Entries of one kind, sorted piece by piece by a number that rises with their variables in nearly all models.
 //! Numbers compare in one step, and a piece takes little room. The sort by variable then finds long runs.
 
-ghost use Rattle.std.specs.Prelude.{◌≡◌, OnOk};
+ghost use Rattle.std.specs.Prelude.{OnOk};
 ghost use Rattle.mps_writer.specs.Entries.{IsRearranged};
-ghost use Rattle.mps_writer.specs.Keys.{key_of};
 
 use crate::entries::Entry;
-use row_core::Var;
+use row_core::sort_key;
 use std::alloc::{AllocError, Global};
 
 /// So many entries are sorted together.
@@ -30,24 +29,8 @@ pub fn sort_pieces(alloc: Global, entries: &mut [Entry]) -> Result<(), AllocErro
 fn sort_piece(alloc: Global, piece: &mut [Entry]) -> Result<(), AllocError>
     ensures { IsRearranged piece.old piece.new }
 {
-    if piece.is_sorted_by_key(|entry| key_of(entry.variable)) {
+    if piece.is_sorted_by_key(|entry| sort_key(entry.variable)) {
         return Ok(());
     }
-    piece.sort_by_cached_key(alloc, |entry| key_of(entry.variable))
-}
-
-// The number of a variable. It need not tell variables apart: that only leaves more to do for the sort after it.
-fn key_of(var: Var) -> u64
-    ensures { result ≡ key_of var }
-{
-    let index = var.index;
-    let place = index.region as u64 * 70_368_744_177_664
-        + index.other as u64 * 1_099_511_627_776
-        + index.slice as u64 * 17_179_869_184
-        + index.tech as u64 * 4_194_304;
-    let within = index.fuel as u64 * 16_384
-        + index.emission as u64 * 16_384
-        + index.mode as u64 * 128
-        + index.year as u64;
-    place + within
+    piece.sort_by_cached_key(alloc, |entry| sort_key(entry.variable))
 }

@@ -12,7 +12,7 @@ use Rattle.model_sets.specs.declared.param_numbers.TheConstants.{MODEL_PERIOD_EM
 use Rattle.param_tables.specs.Changed.{AreDataWith}
 use Rattle.param_tables.proofs.GivenLaws.{names_same}
 
--- a value given in front of the others counts, and changes no other
+-- a value given before the others counts, and changes no other
 module _ (d : Data) (param : ℕ) (index : List (List ℕ)) (v : ℤ) where
   front : Given
   front = record { param = param; index = index; value = v }

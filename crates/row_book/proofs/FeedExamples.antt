@@ -1,7 +1,8 @@
 -- What a feed of rows tells, and what a first pass through all rows finds: examples, and near misses.
-use Rattle.std.proofs.Common.{◌≡◌, ℕ, ◌<◌, pos, negsuc, Bool, true, false, List, [], ◌∷◌, map, length, refl, sym, ap, ◌∙◌, subst, inl, inr, arith, true≢false}
+use Rattle.std.proofs.Common.{◌≡◌, ℕ, ◌<◌, pos, negsuc, Bool, true, false, List, [], ◌∷◌, ◌++◌, map, length, refl, sym, ap, ap₂, ◌∙◌, subst, inl, inr, arith, true≢false}
 use Rattle.std.specs.Prelude.{None, Option, Some}
-use Rattle.std.specs.List.{list_all}
+use Rattle.std.specs.List.{Contains, list_all}
+use Rattle.std.proofs.lemmas.List.Elements.{Contains-append_left, Contains-append_right}
 use Rattle.row_core.specs.declared.Row.{Row}
 use Rattle.row_core.specs.declared.Sense.TheVariants.{Equal}
 use Rattle.row_core.specs.declared.Var.{Var}
@@ -14,10 +15,10 @@ use Rattle.row_source.specs.Contents.{RowContents, contents_of}
 use Rattle.row_source.specs.Sources.{has_kind}
 use Rattle.row_book.specs.Feeds.{HasContentsWithin, ahead_after, ahead_at, all_contents, contents_at, equation_contents}
 use Rattle.row_book.specs.FeedStates.{IsFeed}
-use Rattle.row_book.specs.Held.{AreHeld, KeepsRows}
+use Rattle.row_book.specs.Held.{AreHeld, KeepsRows, held_variables}
 use Rattle.row_book.specs.KindVariables.{is_before_kind, is_of_kind, next_kind}
-use Rattle.row_book.specs.Tallies.{AreSortedVariables, AreTallied, Counts, Marks, MarksMore, kind_room, marked, names_to, rows_before}
-use Rattle.row_book.specs.Books.{AreRowsOf, row_fits}
+use Rattle.row_book.specs.Tallies.{AreSortedVariables, AreTallied, Counts, Marks, MarksMore, found_variables, kind_room, marked, names_to, rows_before}
+use Rattle.row_book.specs.Books.{AreRowsOf, entry_variables, row_fits}
 use Rattle.row_book.specs.declared.held_rows.HeldRows.{HeldRows}
 use Rattle.row_book.specs.declared.tally.Tally.{Tally}
 use Rattle.discount_factors.specs.Known.{Discounting}
@@ -140,6 +141,23 @@ counted_too_early : (t : Tally) → t.rows ≡ 1 → AreTallied 6 base 0 t → �
 counted_too_early t one is = omega (arith, one, is.number)
 
 -- ---- the variables
+
+-- those that were gathered, and after them those of the rows that are held
+found : (t : Tally) (v : Var) (g h : HeldRows) → t.vars.items ≡ v ∷ [] → t.held.items ≡ g ∷ h ∷ [] → found_variables t ≡ v ∷ (entry_variables g.rows.items ++ (entry_variables h.rows.items ++ []))
+found t v g h gathered held = ap₂ (λ (vs : List Var) (hs : List HeldRows). vs ++ held_variables hs) gathered held
+
+-- before the first equation there are none, neither gathered nor of rows that are held
+no_variable : (rows : List Row) (v : Var) → AreRowsOf 6 base [] rows → Contains (entry_variables rows) v → ⊥
+no_variable [] v are has = let below : has.0 < 0 = has.1 in omega (arith, below)
+no_variable (row ∷ rows) v are has = absurd are
+
+gathered_too_early : (t : Tally) (v : Var) → t.vars.items ≡ v ∷ [] → AreTallied 6 base 0 t → ⊥
+gathered_too_early t v gathered is =
+    let there : Contains (found_variables t) v = Contains-append_left t.vars.items (held_variables t.held.items) v (subst (λ (vs : List Var). Contains vs v) (sym gathered) (0, omega arith, refl)) in
+    no_variable is.all v is.rows ((is.variables v).0 there)
+
+held_too_early : (t : Tally) (v : Var) → Contains (held_variables t.held.items) v → AreTallied 6 base 0 t → ⊥
+held_too_early t v held is = no_variable is.all v is.rows ((is.variables v).0 (Contains-append_right t.vars.items (held_variables t.held.items) v held))
 
 -- each once, in order; a list with one twice doesn't ascend
 sorted : AreSortedVariables (new_capacity 0 0 0 ∷ []) (new_capacity 0 0 0 ∷ [])

@@ -22,7 +22,7 @@ use Rattle.row_book.specs.FeedStates.{IsFeed}
 use Rattle.row_book.specs.Held.{AreHeld}
 use Rattle.row_book.specs.declared.held_rows.HeldRows.{HeldRows}
 use Rattle.row_book.specs.Feeds.{AreContentsOf, HasContentsWithin, ahead_after, ahead_at, all_contents, contents_at, contents_written, equation_contents}
-use Rattle.row_book.specs.Tallies.{AreSortedVariables, AreTallied, Marks, names_to, rows_before}
+use Rattle.row_book.specs.Tallies.{AreSortedVariables, AreTallied, Marks, found_variables, names_to, rows_before}
 use Rattle.row_book.specs.declared.tally.Tally.{Tally}
 use Rattle.row_book.proofs.Instances.{IsInstance, all-instances}
 use Rattle.row_book.proofs.Lists.{AllByRecursion-append, AllByRecursion-map, AllByRecursion-weaker, flat_map-middle}
@@ -195,13 +195,13 @@ feed-kept places d factors t are tallied place there = record {
   marks = subst (Marks t.kinds.items) (all-say (places_of factors) d tallied.all tallied.rows) tallied.kinds;
 }
 
-pub feed-contents : (places : ℕ) (d : Data) (factors : List Discounting) (t : Tally) (vars : List Var) → AreRegionFactors places d factors → AreTallied (places_of factors) d 64 t → AreSortedVariables t.vars.items vars
+pub feed-contents : (places : ℕ) (d : Data) (factors : List Discounting) (t : Tally) (vars : List Var) → AreRegionFactors places d factors → AreTallied (places_of factors) d 64 t → AreSortedVariables (found_variables t) vars
     → AreContentsOf places d (all_contents (places_of factors) d) vars
 feed-contents places d factors t vars are tallied sorted = record {
   rows = tallied.all;
   are_rows = rows-by_places places d factors tallied.all are tallied.rows;
   say = all-say (places_of factors) d tallied.all tallied.rows;
-  are_variables = variables-are tallied.all t.vars.items vars tallied.variables sorted;
+  are_variables = variables-are tallied.all (found_variables t) vars tallied.variables sorted;
 }
 
 pub feed-within : (places : ℕ) (d : Data) (contents : List RowContents) (vars : List Var) → AreContentsOf places d contents vars → AllByRecursion (IsWithinSets d.sets) vars

@@ -15,6 +15,7 @@ mod FeedExamples
 mod FeedLaws
 pub mod GatheredLaws
 pub mod GivenValues
+mod HeldVariables
 pub mod InstanceRows
 pub mod Instances
 pub mod KeptLaws
@@ -33,6 +34,7 @@ pub mod Ranges
 pub mod RatioCells
 pub mod RatioIndices
 pub mod Regions
+mod ReplacedExamples
 pub mod ReplacedLaws
 pub mod RowsAddedLaws
 pub mod RowsOfCells

@@ -19,9 +19,9 @@ use Rattle.named_equations.specs.Instances.{indices, instances, instances_of, na
 use Rattle.row_source.specs.Contents.{RowContents, contents_of}
 use Rattle.row_source.specs.Sources.{has_kind}
 use Rattle.row_book.specs.Books.{AreRowsOf, CanBeMade, HasStopped, entries_in, entry_count, entry_limit, entry_variables, row_fits}
-use Rattle.row_book.specs.Held.{AreHeld, KeepsRows}
+use Rattle.row_book.specs.Held.{AreHeld, KeepsRows, held_variables}
 use Rattle.row_book.specs.declared.held_rows.HeldRows.{HeldRows}
-use Rattle.row_book.specs.Tallies.{AreSameVariables, AreSortedVariables, AreTallied, Marks, MarksMore, TalliesMore, marked, names_to, rows_before, table_room}
+use Rattle.row_book.specs.Tallies.{AreSameVariables, AreSortedVariables, AreTallied, Marks, MarksMore, TalliesMore, found_variables, marked, names_to, rows_before, table_room}
 use Rattle.row_book.specs.declared.fail.BookFail.{BookFail}
 use Rattle.row_book.specs.declared.tally.Tally.{Tally}
 use Rattle.row_book.proofs.Lists.{flat_map-last, flat_map-middle}
@@ -87,6 +87,9 @@ variables-over a b c first second v = (λ has. (second v).0 ((first v).0 has), �
 entry_variables-append : (rows others : List Row) → entry_variables (rows ++ others) ≡ entry_variables rows ++ entry_variables others
 entry_variables-append rows others = flat_map-append (λ (row : Row). map (λ entry. entry.0) row.entries.items) rows others
 
+pub same-from_equal : (vs ws : List Var) → vs ≡ ws → AreSameVariables vs ws
+same-from_equal vs ws is v = (λ has. subst (λ (xs : List Var). Contains xs v) is has, λ has. subst (λ (xs : List Var). Contains xs v) (sym is) has)
+
 pub sorted-same : {A E : Type 0} (outcome : Result A E) (all sorted named : List Var) → AreSameVariables all named → OnOk outcome (AreSortedVariables all sorted) → OnOk outcome (AreSameVariables sorted named)
 sorted-same (Ok x) all sorted named same are = variables-over sorted all named are.same same
 sorted-same (Err fail) all sorted named same are = tt
@@ -131,7 +134,7 @@ nothing-tallied places d t n rows entries before held vars kinds room = record {
     long = ap length kinds ∙ length-replicate n false ∙ room;
     each = λ eq kind within kind_within. ap (λ (table : List Bool). marked table eq kind) kinds ∙ get_or-replicate n (eq * 256 + kind) false false (omega (arith, room, within, kind_within));
   };
-  variables = λ v. (λ has. subst (λ (vs : List Var). Contains vs v) vars has, λ has. subst (λ (vs : List Var). Contains vs v) (sym vars) has);
+  variables = same-from_equal (found_variables t) [] (ap₂ (λ (vs : List Var) (hs : List HeldRows). vs ++ held_variables hs) vars held);
 }
 
 -- ---- rows that are held
@@ -191,7 +194,7 @@ tally-more places d i t u low so_far more =
           ∙ sym (before-more d i low);
       held = held-more places d i more.added t.held.items u.held.items so_far.held more.held more.rows;
       kinds = subst (Marks u.kinds.items) (sym (map-append contents_of so_far.all more.added)) (marks-more t.kinds.items u.kinds.items (map contents_of so_far.all) (map contents_of more.added) so_far.kinds more.counts.kinds);
-      variables = subst (λ (vs : List Var). AreSameVariables u.vars.items vs) (sym (entry_variables-append so_far.all more.added)) (variables-more t.vars.items u.vars.items (entry_variables more.added) (entry_variables so_far.all) so_far.variables more.counts.variables);
+      variables = subst (λ (vs : List Var). AreSameVariables (found_variables u) vs) (sym (entry_variables-append so_far.all more.added)) (variables-more (found_variables t) (found_variables u) (entry_variables more.added) (entry_variables so_far.all) so_far.variables more.variables);
     }
 
 -- what stops an equation stops all

@@ -2,6 +2,7 @@
 use Rattle.std.specs.Prelude.{◌≡◌, ℕ, ◌<◌, Bool, List, Option, IfSome, length, slice_index_or}
 use Rattle.discount_factors.specs.Known.{Discounting}
 use Rattle.model_sets.specs.Data.{Data}
+use Rattle.row_core.specs.declared.equation_numbers.TheConstants.{EQUATION_COUNT}
 use Rattle.row_core.specs.Equations.{IsEquation}
 use Rattle.named_equations.specs.Instances.{instances}
 use Rattle.named_equations.specs.RegionFactors.{AreRegionFactors, places_of}
@@ -17,7 +18,7 @@ pub record IsFeed (d : Data) (factors : List Discounting) (before : List ℕ) (k
   pub equation : IsEquation eq
   pub factors_are : AreRegionFactors (places_of factors) d factors
   pub made : CanBeMade (places_of factors) d 0 (instances d)
-  pub counts : before ≡ rows_before d 64
+  pub counts : before ≡ rows_before d EQUATION_COUNT
   pub held_are : AreHeld (places_of factors) d held
   pub place_is : IfSome place (λ i. (i < length held) × ((z : HeldRows) → (slice_index_or held i z).eq ≡ eq))
   pub marks : Marks kinds (all_contents (places_of factors) d)

@@ -5,7 +5,6 @@ pub mod FeedStates
 pub mod Feeds
 pub mod Held
 pub mod Kept
-pub mod Keys
 pub mod KindVariables
 pub mod Kinds
 pub mod Ratios

@@ -6,14 +6,14 @@ ghost use Rattle.named_equations.specs.Instances.{subscripts_of, variable_of};
 ghost use Rattle.named_equations.specs.Table.{other_trade};
 ghost use Rattle.row_book.specs.Kinds.{defined_kinds, kept, tidied};
 
-use row_core::equation_numbers::{E9, EQ_SPECIFIED_DEMAND};
+use row_core::equation_numbers::{E9, EQ_SPECIFIED_DEMAND, EQUATION_COUNT};
 use row_core::{Index, RowName, Var, kind_numbers as kinds, row_has};
 
 /// Stands for the kind of an equation that defines nothing.
 const NONE: u8 = 0;
 
 /// The kind of the variables that each equation defines, by the equation's number. There is none of number 0.
-static DEFINED_KINDS: [u8; 65] = [
+static DEFINED_KINDS: [u8; EQUATION_COUNT + 1] = [
     NONE,
     kinds::RATE_OF_DEMAND,
     kinds::ACCUMULATED_NEW_CAPACITY,

@@ -13,11 +13,11 @@ ghost use Rattle.row_book.specs.Feeds.{AreContentsOf, HasContentsWithin, ahead_a
 
 use crate::factors::region_factors;
 use crate::fail::BookFail;
+use crate::gathering::complete_variables;
 use crate::held_rows::{HeldRows, copy_of, position_of_rows};
 use crate::made_rows::MadeRows;
 use crate::tally::Tally;
 use crate::tallying::is_marked;
-use crate::variables::sort_variables;
 use discount_factors::Factors;
 use param_tables::ModelData;
 use row_core::{Row, Var};
@@ -105,7 +105,7 @@ impl<'a> RowFeed<'a> {
             mut vars,
             ..
         } = tally;
-        match sort_variables(&mut vars) {
+        match complete_variables(&mut vars, &held) {
             Ok(()) => {}
             Err(_) => return Err(BookFail::Memory),
         }

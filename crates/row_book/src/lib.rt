@@ -9,6 +9,7 @@ mod defined;
 mod factors;
 mod fail;
 mod feed;
+mod gathering;
 mod held_rows;
 mod instance_row;
 mod key_order;

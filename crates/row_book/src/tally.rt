@@ -17,7 +17,7 @@ pub(crate) struct Tally {
     pub(crate) kinds: Vec<bool>,
     /// The rows that are held.
     pub(crate) held: Vec<HeldRows>,
-    /// The variables of all entries.
+    /// The variables of the rows that aren't held.
     pub(crate) vars: Vec<Var>,
     pub(crate) ghost few: { entries ≤ 4000000 },
 }

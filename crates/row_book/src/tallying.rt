@@ -1,37 +1,33 @@
 //! What a first pass through all rows finds of them: how many stand before each equation, which kinds each equation
 //! has, and the variables. It holds rows that are worth it.
 
-ghost use Rattle.std.specs.Prelude.{◌≡◌, ℕ, ◌≤◌, ◌<◌, ◌+◌, ◌-◌, ◌&&◌, ◌++◌, nat_eq, map, length, false, IfErr, IfOk, OnOk};
+ghost use Rattle.std.specs.Prelude.{◌≡◌, ℕ, ◌≤◌, ◌<◌, ◌+◌, ◌-◌, ◌&&◌, nat_eq, map, length, false, IfErr, IfOk, OnOk};
 ghost use Rattle.std.specs.List.{AllByRecursion};
 ghost use Rattle.model_sets.specs.Data.{Data};
+ghost use Rattle.row_core.specs.declared.equation_numbers.TheConstants.{EQUATION_COUNT};
 ghost use Rattle.row_core.specs.Equations.{IsEquation};
 ghost use Rattle.row_source.specs.Contents.{contents_of};
 ghost use Rattle.row_source.specs.Sources.{has_entry_of, has_kind};
 ghost use Rattle.named_equations.specs.Instances.{instances, instances_of};
 ghost use Rattle.named_equations.specs.RegionFactors.{AreRegionFactors, places_of};
-ghost use Rattle.row_book.specs.Books.{HasStopped, entry_variables};
-ghost use Rattle.row_book.specs.Tallies.{AreSameVariables, AreTallied, Counts, MarksMore, TalliesMore, marked, table_room};
+ghost use Rattle.row_book.specs.Books.{HasStopped};
+ghost use Rattle.row_book.specs.Tallies.{AreTallied, Counts, MarksMore, TalliesMore, marked, table_room};
 
 use crate::fail::BookFail;
 use crate::held_rows::keep_rows;
-use crate::kind_variables::add_by_kind;
 use crate::made_rows::MadeRows;
 use crate::tally::Tally;
-use crate::variables::sort_variables;
 use discount_factors::Factors;
 use param_tables::ModelData;
+use row_core::Row;
 use row_core::equation_numbers::EQUATION_COUNT;
-use row_core::{Row, Var};
 use std::alloc::{AllocError, Global};
-
-/// How many variables are gathered at least before they are sorted again.
-const FEW: usize = 65_536;
 
 /// How many kinds the table of kinds has room for at each equation.
 const KIND_ROOM: usize = 256;
 
 /// How much room the table has, for each equation's number.
-const TABLE_ROOM: usize = 16_640;
+const TABLE_ROOM: usize = KIND_ROOM * (EQUATION_COUNT + 1);
 
 impl Tally {
     /// Before any row.
@@ -58,7 +54,7 @@ impl Tally {
     ) -> Result<(), BookFail>
         requires factors { AreRegionFactors (places_of factors.now) model.now.facts factors.now }
         requires none { AreTallied (places_of factors.now) model.now.facts 0 self.old }
-        ensures tallied { OnOk result (AreTallied (places_of factors.now) model.now.facts 64 self.new) }
+        ensures tallied { OnOk result (AreTallied (places_of factors.now) model.now.facts EQUATION_COUNT self.new) }
         ensures stopped { IfErr result (HasStopped (places_of factors.now) model.now.facts 0 (instances model.now.facts)) }
     {
         for eq in 1..EQUATION_COUNT as u8 + 1 {
@@ -70,7 +66,7 @@ impl Tally {
         Ok(())
     }
 
-    /// Makes the rows of an equation, looks at them, and holds them if they are long or few.
+    /// Makes the rows of an equation, looks at them, and holds them or gathers their variables.
     fn add_equation(
         &mut self,
         alloc: Global,
@@ -98,9 +94,10 @@ impl Tally {
             Ok(()) => {}
             Err(_) => return Err(BookFail::Memory),
         }
-        let own = made.entries - self.entries;
-        self.entries = made.entries;
-        match keep_rows(&mut self.held, eq, made.rows, own, made.entries) {
+        let entries = made.entries;
+        let own = entries - self.entries;
+        self.entries = entries;
+        match keep_rows(&mut self.held, &mut self.vars, eq, made.rows, own, entries) {
             Ok(()) => Ok(()),
             Err(_) => Err(BookFail::Memory),
         }
@@ -109,41 +106,26 @@ impl Tally {
     /// Looks at rows.
     fn add_rows(&mut self, rows: &[Row]) -> Result<(), AllocError>
         requires long { length self.old.kinds.items ≡ table_room }
-        requires equations { AllByRecursion (λ row. row.name.eq ≤ 64) rows.now }
+        requires equations { AllByRecursion (λ row. row.name.eq ≤ EQUATION_COUNT) rows.now }
         ensures counts { OnOk result (Counts rows.now self.old self.new) }
         ensures before { OnOk result (self.new.before ≡ self.old.before) }
         ensures entries { OnOk result (self.new.entries ≡ self.old.entries) }
         ensures held { OnOk result (self.new.held ≡ self.old.held) }
+        ensures vars { OnOk result (self.new.vars ≡ self.old.vars) }
     {
         self.rows = match self.rows.checked_add(rows.len() as u64) {
             Some(number) => number,
             None => return Err(AllocError),
         };
         mark_rows(&mut self.kinds, rows);
-        gather_variables(&mut self.vars, rows)
+        Ok(())
     }
-}
-
-/// Adds the variables of rows, and leaves out those that repeat if these rows at least double a long list.
-fn gather_variables(vars: &mut Vec<Var>, rows: &[Row]) -> Result<(), AllocError>
-    ensures { OnOk result (AreSameVariables vars.new.items (vars.old.items ++ entry_variables rows.now)) }
-{
-    let before = vars.len();
-    match add_by_kind(vars, rows) {
-        Ok(()) => {}
-        Err(fail) => return Err(fail),
-    }
-    // At least half of them are of these rows.
-    if vars.len() > FEW && vars.len() / 2 >= before {
-        return sort_variables(vars);
-    }
-    Ok(())
 }
 
 /// Marks the kinds of the entries of rows.
 fn mark_rows(kinds: &mut Vec<bool>, rows: &[Row])
     requires long { length kinds.old.items ≡ table_room }
-    requires equations { AllByRecursion (λ row. row.name.eq ≤ 64) rows.now }
+    requires equations { AllByRecursion (λ row. row.name.eq ≤ EQUATION_COUNT) rows.now }
     ensures { MarksMore kinds.old.items kinds.new.items (λ eq kind. has_kind eq kind (map contents_of rows.now)) }
 {
     for row in rows {
@@ -154,7 +136,7 @@ fn mark_rows(kinds: &mut Vec<bool>, rows: &[Row])
 /// Marks those of a row.
 fn mark_row(kinds: &mut Vec<bool>, row: &Row)
     requires long { length kinds.old.items ≡ table_room }
-    requires equation { row.now.name.eq ≤ 64 }
+    requires equation { row.now.name.eq ≤ EQUATION_COUNT }
     ensures { MarksMore kinds.old.items kinds.new.items (λ eq kind. nat_eq row.now.name.eq eq && has_entry_of kind (contents_of row.now)) }
 {
     for (var, _) in row.entries.as_slice() {
@@ -165,7 +147,7 @@ fn mark_row(kinds: &mut Vec<bool>, row: &Row)
 /// Marks a kind.
 fn mark(kinds: &mut Vec<bool>, eq: u8, kind: u8)
     requires long { length kinds.old.items ≡ table_room }
-    requires equation { eq ≤ 64 }
+    requires equation { eq ≤ EQUATION_COUNT }
     ensures { MarksMore kinds.old.items kinds.new.items (λ e k. nat_eq eq e && nat_eq kind k) }
 {
     kinds[eq as usize * KIND_ROOM + kind as usize] = true;
@@ -174,7 +156,7 @@ fn mark(kinds: &mut Vec<bool>, eq: u8, kind: u8)
 /// The kind is marked.
 pub(crate) fn is_marked(kinds: &[bool], eq: u8, kind: u8) -> bool
     requires long { length kinds.now ≡ table_room }
-    requires equation { eq ≤ 64 }
+    requires equation { eq ≤ EQUATION_COUNT }
     ensures { result ≡ marked kinds.now eq kind }
 {
     kinds[eq as usize * KIND_ROOM + kind as usize]

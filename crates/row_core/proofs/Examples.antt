@@ -7,13 +7,14 @@ use Rattle.std.proofs.lemmas.Nat.Gcd.{dvd_of_mod-eq-zero}
 use Rattle.std.specs.declared.cmp.Ordering.TheVariants.{Less, Greater, Equal as Alike}
 use lib.Pointwise.{pointwise}
 use Rattle.row_core.specs.declared.Var.{Var}
-use Rattle.row_core.specs.declared.kind_numbers.TheConstants.{ANNUAL_EMISSIONS, ANNUAL_FIXED_OPERATING_COST, ANNUAL_TECHNOLOGY_EMISSION, ANNUAL_TECHNOLOGY_EMISSIONS_PENALTY, ANNUAL_TECHNOLOGY_EMISSION_BY_MODE, ANNUAL_TECHNOLOGY_EMISSION_PENALTY_BY_EMISSION, ANNUAL_VARIABLE_OPERATING_COST, CAPITAL_INVESTMENT, DISCOUNTED_CAPITAL_INVESTMENT, DISCOUNTED_OPERATING_COST, DISCOUNTED_SALVAGE_VALUE, DISCOUNTED_TECHNOLOGY_EMISSIONS_PENALTY, KIND_COUNT, MODEL_PERIOD_COST_BY_REGION, MODEL_PERIOD_EMISSIONS, OPERATING_COST, SALVAGE_VALUE, TOTAL_DISCOUNTED_COST, TOTAL_DISCOUNTED_COST_BY_TECHNOLOGY, TRADE, TRADE_ANNUAL}
+use Rattle.row_core.specs.declared.kind_numbers.TheConstants.{ANNUAL_EMISSIONS, ANNUAL_FIXED_OPERATING_COST, ANNUAL_TECHNOLOGY_EMISSION, ANNUAL_TECHNOLOGY_EMISSIONS_PENALTY, ANNUAL_TECHNOLOGY_EMISSION_BY_MODE, ANNUAL_TECHNOLOGY_EMISSION_PENALTY_BY_EMISSION, ANNUAL_VARIABLE_OPERATING_COST, CAPITAL_INVESTMENT, DISCOUNTED_CAPITAL_INVESTMENT, DISCOUNTED_OPERATING_COST, DISCOUNTED_SALVAGE_VALUE, DISCOUNTED_TECHNOLOGY_EMISSIONS_PENALTY, KIND_COUNT, MODEL_PERIOD_COST_BY_REGION, MODEL_PERIOD_EMISSIONS, OPERATING_COST, RATE_OF_ACTIVITY, SALVAGE_VALUE, TOTAL_DISCOUNTED_COST, TOTAL_DISCOUNTED_COST_BY_TECHNOLOGY, TRADE, TRADE_ANNUAL}
 use Rattle.row_core.specs.declared.Sense.TheVariants.{Least, Equal, Most}
 use Rattle.row_core.specs.Equations.{equations, Equation, word_of_equation, equation_has}
 use Rattle.row_core.specs.Kinds.{kinds, Kind, word_of_kind, kind_has, kind_is_free}
 use Rattle.row_core.specs.Names.{new_capacity, accumulated_new_capacity, caa1, caa2}
 use Rattle.row_core.specs.Numbers.{variables_of, numbers_of, ascends, none_zero, in_range, all_in_range, IsLowest}
 use Rattle.row_core.specs.Order.{var_cmp, row_name_cmp}
+use Rattle.row_core.specs.SortKeys.{sort_key}
 use Rattle.row_core.specs.Rows.{number_at, statement_of}
 use Rattle.row_core.specs.Statements.{holds}
 use Rattle.row_core.specs.Words.{is_plain}
@@ -124,6 +125,30 @@ itself = refl
 
 equation_first : row_name_cmp (caa2 0 0 0) (caa1 0 0 9) ≡ Greater
 equation_first = refl
+
+-- ---- the number by which variables are sorted first, each worked out from the places of its bits
+
+abbrev trade : ℕ → ℕ → Var
+trade other slice = record { kind = TRADE; index = record { region = 1; other = other; slice = slice; tech = 0; fuel = 9; emission = 0; mode = 0; year = 11 } }
+
+-- Trade[1,2,5,9,11]
+key_of_trade : sort_key (trade 2 5) ≡ 54115849195372555
+key_of_trade = refl
+
+-- RateOfActivity[1,5,7,4,11]
+key_of_activity : sort_key (record { kind = RATE_OF_ACTIVITY; index = record { region = 1; other = 0; slice = 5; tech = 7; fuel = 0; emission = 0; mode = 4; year = 11 } }) ≡ 18084853182366219
+key_of_activity = refl
+
+-- AnnualTechnologyEmission[0,7,6,11]
+key_of_emission : sort_key (record { kind = ANNUAL_TECHNOLOGY_EMISSION; index = record { region = 0; other = 0; slice = 0; tech = 7; fuel = 0; emission = 6; mode = 0; year = 11 } }) ≡ 576460752332881931
+key_of_emission = refl
+
+-- with up to 64 timeslices it rises with a trade; the next one has the number of the next region's first
+key_of_last_slice : nat_lt (sort_key (trade 2 63)) (sort_key (trade 3 0)) ≡ true
+key_of_last_slice = refl
+
+key_of_next_slice : sort_key (trade 2 64) ≡ sort_key (trade 3 0)
+key_of_next_slice = refl
 
 -- ---- rows
 

@@ -22,7 +22,7 @@ extends_further old mid new first second = record {
   whole = second.whole ∙ ap (λ (front : List ℕ). front ++ second.added) first.whole ∙ append_assoc old first.added second.added;
 }
 
--- the front of a text that begins with another
+-- a prefix of a text that begins with another
 pub front_of : (old new : List ℕ) → Extends old new → take (length old) new ≡ old
 front_of old new e = ap (take (length old)) e.whole ∙ take-append_seam old e.added
 

@@ -150,7 +150,7 @@ IsOver-minus_one s = IsOver-negated s (whole (pos 1)) s (IsOver-one s)
 pub IsOver-zero : (s : ℤ) → IsOver s (whole (pos 0)) (pos 0)
 IsOver-zero s = record { positive = one_positive; cross = zero-*ℤ (pos 1) ∙ sym (zero-*ℤ s) }
 
--- one term in front of others
+-- one term before others
 pub IsSumOver-cons : (s : ℤ) (x : Var → ℤ) (term : Var × Rational) (terms : List (Var × Rational)) (z n : ℤ) → IsOver s term.1 z → IsSumOver s x terms n → IsSumOver s x (term ∷ terms) ((z *ℤ x term.0) +ℤ n)
 IsSumOver-cons s x term terms z n over sum = (z, n, over, sum, refl)
 

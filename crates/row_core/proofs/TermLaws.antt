@@ -145,7 +145,7 @@ terms_ascend terms k at d up below within =
     (subst (λ w. var_cmp (get_or names k d.variable) w ≡ Less) (variables_at terms at d)
     (ascends-AllPairs var_cmp var_cmp_total names up k at d.variable below (subst (λ n. at < n) (sym (variables_many terms)) within)))
 
--- so all in front of one that is of the variable are before the variable
+-- so all that stand before one of the variable are before the variable
 pub AreBefore-same : (terms : List Term) (v : Var) (at : ℕ) → ascends var_cmp (variables_of (map seen terms)) ≡ true → at < length terms → ((d : Term) → (get_or terms at d).variable ≡ v) → AreBefore terms v at
 AreBefore-same terms v at up within same k d below =
     subst (λ w. var_cmp (get_or terms k d).variable w ≡ Less) (same d) (terms_ascend terms k at d up below within)

@@ -6,6 +6,7 @@ pub mod Numbers
 pub mod Order
 pub mod OrderLaws
 pub mod Rows
+pub mod SortKeys
 pub mod Statements
 pub mod Stops
 pub mod Subscripts

@@ -5,7 +5,7 @@ use Rattle.row_core.specs.declared.terms.Term.{Term}
 use Rattle.row_core.specs.declared.Var.{Var}
 use Rattle.row_core.specs.Order.{var_cmp}
 
--- the terms in front of this position are before the variable
+-- the terms that stand before this position are before the variable
 abbrev pub AreBefore : List Term → Var → ℕ → Type 0
 AreBefore terms v at = (k : ℕ) (d : Term) → k < at → var_cmp (slice_index_or terms k d).variable v ≡ Less
 

@@ -23,6 +23,7 @@ mod names;
 mod place;
 mod plans;
 mod searching;
+mod sort_keys;
 mod subscripts;
 mod terms;
 mod writing;
@@ -39,6 +40,7 @@ pub use names::{push_row_name, push_var};
 pub use place::{Place, Stopped};
 pub use plans::{Multipliers, Plan};
 pub use searching::look_up;
+pub use sort_keys::sort_key;
 pub use terms::{Term, Terms};
 pub use writing::write_row;
 

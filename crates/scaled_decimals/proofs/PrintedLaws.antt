@@ -45,7 +45,7 @@ last_digit-is_digit n =
     let e : digit_value (48 + n % 10) + 48 ≡ 48 + n % 10 = digit_value_digit (48 + n % 10) (omega arith, omega arith) in
     omega arith
 
--- the digits of n in front of n's last digit, and n's last digit, read as n
+-- the digits of n before its last digit, and n's last digit, read as n
 pub read_on : (m n : ℕ) → m ≡ n / 10 → m * 10 + digit_value (last_digit n) ≡ n
 read_on m n e =
     let d : digit_value (last_digit n) ≡ n % 10 = last_digit-is_digit n in

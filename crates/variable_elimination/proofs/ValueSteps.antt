@@ -70,20 +70,20 @@ module _ {K : Type 0} (cmp : K → K → Ordering) (total : IsTotalOrder cmp) wh
       same true = refl
       same false = refl
 
-      behind : (t : Bool) → is_eq (cmp e.0 w) ≡ t → cmp v e.0 ≡ Greater → value_in cmp (insert_entry cmp es v r) w ≡ (if is_eq (cmp w v) then r else value_in cmp es w)
+      later : (t : Bool) → is_eq (cmp e.0 w) ≡ t → cmp v e.0 ≡ Greater → value_in cmp (insert_entry cmp es v r) w ≡ (if is_eq (cmp w v) then r else value_in cmp es w)
           → or_zero (if t then Some e.1 else value_at cmp (insert_entry cmp es v r) w) ≡ (if is_eq (cmp w v) then r else or_zero (if t then Some e.1 else value_at cmp es w))
-      behind true is k rest =
+      later true is k rest =
           let before : cmp e.0 v ≡ Less = total.antisymm e.0 v ∙ ap ordering_reverse k in
           let apart : cmp w v ≡ Less = sym (total.congr e.0 w v (alike_by (cmp e.0 w) is)) ∙ before in
           sym (ap (λ o. if is_eq o then r else e.1) apart)
-      behind false is k rest = rest
+      later false is k rest = rest
 
       cases : (o : Ordering) → cmp v e.0 ≡ o → value_in cmp (insert_entry cmp es v r) w ≡ (if is_eq (cmp w v) then r else value_in cmp es w)
           → value_in cmp (match_ordering o ((v, r) ∷ e ∷ es) ((e.0, r) ∷ es) (e ∷ insert_entry cmp es v r)) w ≡ (if is_eq (cmp w v) then r else value_in cmp (e ∷ es) w)
       cases Less is rest = front (is_eq (cmp v w)) (is_eq (cmp w v)) (turned_by v w)
       cases Alike is rest =
           same (is_eq (cmp e.0 w)) ∙ ap (λ t. if t then r else value_in cmp (e ∷ es) w) (ap is_eq (sym (total.congr v e.0 w is)) ∙ turned_by v w)
-      cases Greater is rest = behind (is_eq (cmp e.0 w)) refl is rest
+      cases Greater is rest = later (is_eq (cmp e.0 w)) refl is rest
 
   -- one fraction put in is one value put in
   pub insert-valued : (es : List (K × Frac)) (v : K) (f : Frac) → map {A = K × Frac} valued (insert_entry cmp es v f) ≡ insert_entry cmp (map valued es) v (value_of f)
@@ -108,7 +108,7 @@ module _ {K : Type 0} (cmp : K → K → Ordering) (total : IsTotalOrder cmp) wh
       first_before [] k = Less-from_test (cmp e.0 v) (both_passed (before_first cmp e.0 (v ∷ [])) true k).0
       first_before (f ∷ fs) k = first_before fs (ascends-skip cmp total e.0 f.0 (keys_of (fs ++ (v, a) ∷ [])) k)
 
-  -- the front of an ascending list ascends
+  -- a prefix of an ascending list ascends
   ascends-front : {A : Type 0} (es : List (K × A)) (n : ℕ) → ascends cmp (keys_of es) ≡ true → ascends cmp (keys_of (take n es)) ≡ true
   ascends-front es zero h = refl
   ascends-front [] (suc n) h = refl

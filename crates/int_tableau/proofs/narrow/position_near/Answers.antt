@@ -1,7 +1,7 @@
 -- The entry before is in an earlier column, and the one there isn't.
 use Rattle.std.proofs.Common.{◌≡◌, ℕ, suc, ◌-◌, ◌<◌, length, take, drop, ap, ◌∙◌, subst, arith}
 use Rattle.int_tableau.specs.Entries.{at, IsSparse}
-use Rattle.int_tableau.proofs.LineLaws.{at-behind, IsSparse-drop, IsSparse-take}
+use Rattle.int_tableau.proofs.LineLaws.{at-after, IsSparse-drop, IsSparse-take}
 use Rattle.int_tableau.proofs.narrow.position_near.Goals as goal
 
 pub returns-then-column-entries-clause-before : goal.returns-then-column-entries-clause-before
@@ -24,4 +24,4 @@ returns-then-column-entries-clause-same c d h =
     let k : ℕ = c.args.near - 1 in
     let same : suc k ≡ c.args.near = omega (arith, c.if-near-eq0.false) in
     let inside : c.args.near < length xs = omega (arith, c.if-near-entries.false) in
-    at-behind 0 c.args.columns xs k c.args.column d c.requires (omega arith) c.if-entries-near.true h ∙ ap (λ n. at (drop n xs) d) same
+    at-after 0 c.args.columns xs k c.args.column d c.requires (omega arith) c.if-entries-near.true h ∙ ap (λ n. at (drop n xs) d) same

@@ -2,7 +2,7 @@
 use Rattle.std.proofs.Common.{ℕ, ◌+◌, ◌-◌, ◌/◌, ◌<◌, ◌≤◌, length, get_or, take, drop, sym, ap, ◌∙◌, subst, arith, add-one}
 use Rattle.int_tableau.specs.Entries.{at, IsSparse}
 use Rattle.int_tableau.proofs.DivisionLaws.{no_entry}
-use Rattle.int_tableau.proofs.LineLaws.{at-behind, IsSparse-drop, IsSparse-take}
+use Rattle.int_tableau.proofs.LineLaws.{at-after, IsSparse-drop, IsSparse-take}
 use Rattle.int_tableau.proofs.narrow.position_of.Goals as goal
 
 pub loop-low-preserved-then-entries-middle : goal.loop-low-preserved-then-entries-middle
@@ -20,7 +20,7 @@ loop-low-preserved-then-entries-middle c =
       within = within;
       before = subst (λ n. IsSparse 0 c.args.column (take n xs)) (sym (add-one middle)) (IsSparse-take 0 c.args.columns xs middle c.args.column c.requires (omega arith) before);
       rest = c.loop-low.invariant.rest;
-      same = λ d h. at-behind 0 c.args.columns xs middle c.args.column d c.requires (omega arith) before h ∙ ap (λ n. at (drop n xs) d) (sym (add-one middle));
+      same = λ d h. at-after 0 c.args.columns xs middle c.args.column d c.requires (omega arith) before h ∙ ap (λ n. at (drop n xs) d) (sym (add-one middle));
     }
 
 pub loop-low-preserved : goal.loop-low-preserved

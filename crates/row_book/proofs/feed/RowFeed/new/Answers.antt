@@ -7,6 +7,7 @@ use Rattle.row_book.specs.Tallies.{AreTallied}
 use Rattle.row_book.specs.declared.held_rows.HeldRows.{HeldRows}
 use Rattle.row_book.specs.declared.tally.Tally.{Tally}
 use Rattle.row_book.proofs.FeedLaws.{at-start, contents-within, equation-ahead, feed-contents, feed-kept, feed-made, feed-within, in-order}
+use Rattle.row_book.proofs.HeldVariables.{found-sorted}
 use Rattle.row_book.proofs.PlacesOfFactors.{factors-by_places, stopped-by_places}
 use Rattle.row_book.proofs.Within.{stopped-within}
 use Rattle.row_book.proofs.feed.RowFeed.new.Goals as goal
@@ -33,7 +34,7 @@ invariant_of-feed c =
     let tally : Tally = c.add_equations.new.self in
     let tallied : AreTallied (places_of factors) d 64 tally = subst (λ (fs : List Discounting). AreTallied (places_of fs) d 64 tally) c.deref.ensures.value c.in-Ok.ensures.tallied in
     feed-kept c.args.places d factors tally are tallied c.position_of_rows-place.result
-    (subst (λ (hs : List HeldRows). IfSome c.position_of_rows-place.result (λ i. (i < length hs) × ((z : HeldRows) → (slice_index_or hs i z).eq ≡ 1))) c.deref-2.ensures.value c.position_of_rows-place.ensures)
+    (subst (λ (hs : List HeldRows). IfSome c.position_of_rows-place.result (λ i. (i < length hs) × ((z : HeldRows) → (slice_index_or hs i z).eq ≡ 1))) c.deref-3.ensures.value c.position_of_rows-place.ensures)
 
 pub returns-clause-rows : goal.returns-clause-rows
 returns-clause-rows c =
@@ -42,7 +43,7 @@ returns-clause-rows c =
     let are : AreRegionFactors c.args.places d factors = c.in_ok-factors.ensures.factors in
     let tally : Tally = c.add_equations.new.self in
     let tallied : AreTallied (places_of factors) d 64 tally = subst (λ (fs : List Discounting). AreTallied (places_of fs) d 64 tally) c.deref.ensures.value c.in-Ok.ensures.tallied in
-    feed-contents c.args.places d factors tally c.sort_variables.new.vars.items are tallied c.in-Ok-sort_variables.ensures
+    feed-contents c.args.places d factors tally c.complete_variables.new.vars.items are tallied (found-sorted tally _ _ c.deref-2.ensures.value c.in-Ok-complete_variables.ensures)
 
 pub returns-clause-starts : goal.returns-clause-starts
 returns-clause-starts c =
@@ -62,7 +63,7 @@ returns-clause-within c =
     let are : AreRegionFactors c.args.places d factors = c.in_ok-factors.ensures.factors in
     let tally : Tally = c.add_equations.new.self in
     let tallied : AreTallied (places_of factors) d 64 tally = subst (λ (fs : List Discounting). AreTallied (places_of fs) d 64 tally) c.deref.ensures.value c.in-Ok.ensures.tallied in
-    feed-within c.args.places d (all_contents (places_of factors) d) c.sort_variables.new.vars.items (feed-contents c.args.places d factors tally c.sort_variables.new.vars.items are tallied c.in-Ok-sort_variables.ensures)
+    feed-within c.args.places d (all_contents (places_of factors) d) c.complete_variables.new.vars.items (feed-contents c.args.places d factors tally c.complete_variables.new.vars.items are tallied (found-sorted tally _ _ c.deref-2.ensures.value c.in-Ok-complete_variables.ensures))
 
 pub returns-clause-made : goal.returns-clause-made
 returns-clause-made c =

@@ -1,12 +1,13 @@
-use Rattle.std.proofs.Common.{◌≤◌, ◌+◌, ◌∙◌, ◌++◌, List, length, map, ap, sym, subst}
+use Rattle.std.proofs.Common.{◌≤◌, ◌+◌, ◌∙◌, ◌++◌, List, length, map, ap, ap₂, sym, subst}
 use Rattle.std.specs.List.{AllByRecursion}
 use Rattle.row_core.specs.declared.Row.{Row}
+use Rattle.row_core.specs.declared.Var.{Var}
 use Rattle.named_equations.specs.Instances.{instances_of}
 use Rattle.named_equations.specs.RegionFactors.{places_of}
 use Rattle.row_source.specs.Contents.{contents_of}
 use Rattle.row_source.specs.Sources.{has_kind}
 use Rattle.row_book.specs.Books.{entry_variables}
-use Rattle.row_book.specs.Held.{KeepsRows}
+use Rattle.row_book.specs.Held.{KeepsRows, held_variables}
 use Rattle.row_book.specs.Tallies.{AreSameVariables, MarksMore}
 use Rattle.row_book.specs.declared.held_rows.HeldRows.{HeldRows}
 use Rattle.row_book.specs.declared.tally.Tally.{Tally}
@@ -39,10 +40,12 @@ returns-in-Ok-keep_rows-clause-more c =
       fit = adds.fit;
       entries = adds.counted;
       before = ap (λ v. v.items) c.in-Ok-add_rows.ensures.before ∙ c.in_ok-push.ensures.items;
-      held = subst (λ (held : List HeldRows). KeepsRows c.args.eq rows held c.keep_rows.new.held.items) (ap (λ v. v.items) c.in-Ok-add_rows.ensures.held) c.in-Ok-keep_rows.ensures;
+      held = subst (λ (held : List HeldRows). KeepsRows c.args.eq rows held c.keep_rows.new.held.items) (ap (λ v. v.items) c.in-Ok-add_rows.ensures.held) c.in-Ok-keep_rows.ensures.held;
       counts = record {
         number = counts.number ∙ ap (λ (rs : List Row). old.rows + length rs) is;
         kinds = subst (λ (rs : List Row). MarksMore old.kinds.items new.kinds.items (λ eq kind. has_kind eq kind (map contents_of rs))) is counts.kinds;
-        variables = subst (λ (rs : List Row). AreSameVariables new.vars.items (old.vars.items ++ entry_variables rs)) is counts.variables;
       };
+      variables = subst (λ (vs : List Var). AreSameVariables (c.keep_rows.new.vars.items ++ held_variables c.keep_rows.new.held.items) (vs ++ entry_variables rows))
+          (ap₂ (λ (vs : List Var) (hs : List HeldRows). vs ++ held_variables hs) (ap (λ v. v.items) c.in-Ok-add_rows.ensures.vars) (ap (λ v. v.items) c.in-Ok-add_rows.ensures.held))
+          c.in-Ok-keep_rows.ensures.variables;
     }

@@ -1,7 +1,7 @@
 use Rattle.std.proofs.Common.{◌++◌}
 use Rattle.row_book.specs.Books.{entry_variables}
 use Rattle.row_book.proofs.TallyLaws.{sorted-same}
-use Rattle.row_book.proofs.tallying.gather_variables.Goals as goal
+use Rattle.row_book.proofs.gathering.gather_variables.Goals as goal
 
 pub returns-then-len-before : goal.returns-then-len-before
 returns-then-len-before c =
