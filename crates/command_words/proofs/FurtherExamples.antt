@@ -119,7 +119,23 @@ curve_with_two_faults : asked (codes "curve" ∷ codes "f" ∷ codes "R" ∷ cod
 unfolding limit_of all_of
 curve_with_two_faults = refl
 
+-- a gap belongs to the rounded method: beside the exact one it is a fault of form, before any number is looked at
+gap_of_exact_curve : asked (codes "curve" ∷ codes "f" ∷ codes "R" ∷ codes "CO2" ∷ codes "x" ∷ codes "--gap=y" ∷ []) ≡ Err BadForm
+gap_of_exact_curve = refl
+
+gap_beside_exact : asked (codes "curve" ∷ codes "f" ∷ codes "R" ∷ codes "CO2" ∷ codes "x" ∷ codes "--gap=5" ∷ codes "--method=exact" ∷ []) ≡ Err BadForm
+gap_beside_exact = refl
+
+gap_beside_no_method : asked (codes "curve" ∷ codes "f" ∷ codes "R" ∷ codes "CO2" ∷ codes "x" ∷ codes "--gap=5" ∷ codes "--method=fast" ∷ []) ≡ Err BadForm
+gap_beside_no_method = refl
+
+gap_of_rounded_curve : asked (codes "curve" ∷ codes "f" ∷ codes "R" ∷ codes "CO2" ∷ codes "x" ∷ codes "--gap=5" ∷ codes "--method=rounded" ∷ []) ≡ Err BadNumber
+gap_of_rounded_curve = refl
+
 -- ---- span
+
+gap_of_exact_span : command_after (Some SpanName) (codes "f" ∷ codes "R" ∷ codes "T" ∷ codes "2020" ∷ codes "--gap=3" ∷ []) ≡ Err BadForm
+gap_of_exact_span = refl
 
 span_asked : asked (codes "span" ∷ codes "f" ∷ codes "R" ∷ codes "T" ∷ codes "2020" ∷ []) ≡ Ok (Span (codes "f") (codes "R") (codes "T") (codes "2020") 0 0 20000 6 Exact)
 span_asked = refl

@@ -1,7 +1,7 @@
 -- A command with its parts is the command with what the parts give.
 use Rattle.std.proofs.Common.{◌≡◌, ◌∙◌, ◌&&◌, ◌||◌, arith, ℕ, List, [], ◌∷◌, length, Option, Some, None, is_some, Bool, true, false, cond, refl, sym, true≢false, nat_le}
 use Rattle.std.specs.Prelude.{not, slice_get}
-use Rattle.command_words.specs.Words.{CommandName, allows, command_with, has_option, values_in}
+use Rattle.command_words.specs.Words.{CommandName, allows, command_with, takes, value_in, values_in}
 use Rattle.command_words.specs.WordParts.{OptionName, Gap, Pivots, Places, Show, Method, Slack, Part}
 use Rattle.command_words.specs.WordReading.{command_by, given_by, is_once}
 
@@ -50,15 +50,15 @@ given_is command (Some parts) = go (is_once parts Gap && is_once parts Pivots &&
         let pivots = both_true (is_once parts Gap) (is_once parts Pivots) places.0 in
         rw (
           once,
-          once_allows (values_in Gap parts) (has_option command Gap) pivots.0,
-          once_allows (values_in Pivots parts) (has_option command Pivots) pivots.1,
-          once_allows (values_in Places parts) (has_option command Places) places.1,
-          once_allows (values_in Show parts) (has_option command Show) show.1,
-          once_allows (values_in Method parts) (has_option command Method) method.1,
-          once_allows (values_in Slack parts) (has_option command Slack) slack.1,
+          once_allows (values_in Gap parts) (takes command (value_in Method parts) Gap) pivots.0,
+          once_allows (values_in Pivots parts) (takes command (value_in Method parts) Pivots) pivots.1,
+          once_allows (values_in Places parts) (takes command (value_in Method parts) Places) places.1,
+          once_allows (values_in Show parts) (takes command (value_in Method parts) Show) show.1,
+          once_allows (values_in Method parts) (takes command (value_in Method parts) Method) method.1,
+          once_allows (values_in Slack parts) (takes command (value_in Method parts) Slack) slack.1,
         ) refl
     go false once =
-        let twice = λ (o : OptionName). twice_allows (values_in o parts) (has_option command o) in
+        let twice = λ (o : OptionName). twice_allows (values_in o parts) (takes command (value_in Method parts) o) in
         let none : (allows command parts Gap && allows command parts Pivots && allows command parts Places && allows command parts Show && allows command parts Method && allows command parts Slack) ≡ false =
         both_false (is_once parts Gap && is_once parts Pivots && is_once parts Places && is_once parts Show && is_once parts Method) (is_once parts Slack) (allows command parts Gap && allows command parts Pivots && allows command parts Places && allows command parts Show && allows command parts Method) (allows command parts Slack)
         (both_false (is_once parts Gap && is_once parts Pivots && is_once parts Places && is_once parts Show) (is_once parts Method) (allows command parts Gap && allows command parts Pivots && allows command parts Places && allows command parts Show) (allows command parts Method)

@@ -3,7 +3,7 @@ use Rattle.std.specs.Prelude.{ℕ, Bool, not, ◌&&◌, ◌||◌, nat_le, List, 
 use Rattle.command_words.specs.declared.fault.WordFault.{WordFault}
 use Rattle.command_words.specs.declared.fault.WordFault.TheVariants.{BadForm}
 use Rattle.command_words.specs.declared.parsing.Given.{Given as SlicedGiven}
-use Rattle.command_words.specs.Words.{Request, CommandName, command_of, files_in, has_option, values_in, value_in}
+use Rattle.command_words.specs.Words.{Request, CommandName, command_of, files_in, takes, values_in, value_in}
 use Rattle.command_words.specs.WordParts.{OptionName, Gap, Pivots, Places, Show, Method, Slack, Part}
 
 pub record Given : Type 0 where
@@ -39,12 +39,15 @@ given_by (Some parts) =
     then Some (record { files = files_in parts; gap = value_in Gap parts; pivots = value_in Pivots parts; places = value_in Places parts; show = value_in Show parts; method = value_in Method parts; slack = value_in Slack parts })
     else None
 
--- an option that is given is one of the command's
-abbrev pub may_have : CommandName → OptionName → Option (List ℕ) → Bool
-may_have command o value = not (is_some value) || has_option command o
+-- an option that is given is one that the command takes beside this value of `--method`
+abbrev pub may_have : CommandName → (method : Option (List ℕ)) → OptionName → Option (List ℕ) → Bool
+may_have command method o value = not (is_some value) || takes command method o
 
 abbrev pub is_allowed : CommandName → Given → Bool
-is_allowed command given = may_have command Gap given.gap && may_have command Pivots given.pivots && may_have command Places given.places && may_have command Show given.show && may_have command Method given.method && may_have command Slack given.slack
+is_allowed command given =
+    may_have command given.method Gap given.gap && may_have command given.method Pivots given.pivots
+    && may_have command given.method Places given.places && may_have command given.method Show given.show
+    && may_have command given.method Method given.method && may_have command given.method Slack given.slack
 
 -- the command with these files and values
 abbrev pub command_given : CommandName → Given → Result Request WordFault

@@ -44,7 +44,7 @@ command_named word =
     else if bytes_eq word (codes "make") then Some MakeName
     else None
 
--- the options that a command has
+-- the options that a command has, whatever the value of `--method`
 abbrev pub has_option : CommandName → OptionName → Bool
 has_option MpsName Places = true
 has_option CheckName Gap = true
@@ -57,17 +57,27 @@ has_option SolveName Method = true
 has_option ExplainName Pivots = true
 has_option ExplainName Places = true
 has_option ExplainName Method = true
-has_option CurveName Gap = true
 has_option CurveName Pivots = true
 has_option CurveName Places = true
 has_option CurveName Method = true
-has_option SpanName Gap = true
 has_option SpanName Pivots = true
 has_option SpanName Places = true
 has_option SpanName Method = true
 has_option SpanName Slack = true
 has_option MakeName Show = true
 has_option command o = false
+
+-- the value of `--method` is `rounded`
+abbrev pub asks_for_rounded : Option (List ℕ) → Bool
+asks_for_rounded None = false
+asks_for_rounded (Some method) = bytes_eq method (codes "rounded")
+
+-- The options that a command takes beside this value of `--method`. The exact method of `curve` and `span` leaves no gap between
+-- cost and bound, so `--gap` belongs to their rounded one.
+abbrev pub takes : CommandName → Option (List ℕ) → OptionName → Bool
+takes CurveName method Gap = asks_for_rounded method
+takes SpanName method Gap = asks_for_rounded method
+takes command method o = has_option command o
 
 -- ---- parts
 
@@ -97,9 +107,9 @@ values_in o (Chosen other value ∷ parts) = if is_same o other then value ∷ v
 abbrev pub value_in : OptionName → List Part → Option (List ℕ)
 value_in o parts = slice_get (values_in o parts) 0
 
--- an option that the command has is given at most once, and another one isn't given
+-- an option that the command takes is given at most once, and another one isn't given
 abbrev pub allows : CommandName → List Part → OptionName → Bool
-allows command parts o = nat_le (length (values_in o parts)) (if has_option command o then 1 else 0)
+allows command parts o = nat_le (length (values_in o parts)) (if takes command (value_in Method parts) o then 1 else 0)
 
 abbrev pub allows_all : CommandName → List Part → Bool
 allows_all command parts = allows command parts Gap && allows command parts Pivots && allows command parts Places && allows command parts Show && allows command parts Method && allows command parts Slack

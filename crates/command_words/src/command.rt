@@ -1,8 +1,8 @@
 // The commands with their files and options.
-ghost use Rattle.std.specs.Prelude.{◌≡◌, IfOk, map, option_map};
+ghost use Rattle.std.specs.Prelude.{◌≡◌, ◌||◌, IfOk, is_some, map, not, option_map};
 ghost use Rattle.std.specs.String.{string_bytes};
 ghost use Rattle.command_words.specs.Words.{command_named, asked};
-ghost use Rattle.command_words.specs.Words.{MpsName, CheckName, SolveName, ExplainName, CurveName, SpanName, MakeName, check_of, curve_of, mps_of, span_of};
+ghost use Rattle.command_words.specs.Words.{MpsName, CheckName, SolveName, ExplainName, CurveName, SpanName, MakeName, asks_for_rounded, check_of, curve_of, mps_of, span_of};
 ghost use Rattle.command_words.specs.Commands.{request_of_result, name_of};
 ghost use Rattle.command_words.specs.WordReading.{given_of, command_by, command_given, is_allowed};
 
@@ -10,7 +10,8 @@ use crate::fault::WordFault;
 use crate::limits::limits_of;
 use crate::parsing::{Given, read_given};
 use crate::values::{
-    gap_for, gap_of, make_show_of, method_of, pivots_of, places_of, size_of, solve_show_of,
+    asks_for_rounded, gap_for, gap_of, make_show_of, method_of, pivots_of, places_of, size_of,
+    solve_show_of,
 };
 use std::alloc::{AllocError, Global};
 
@@ -51,7 +52,7 @@ pub enum Command<'a> {
     },
     /// `curve FILE REGION EMISSION LIMITS [--gap PPM] [--pivots N] [--places P] [--method exact|rounded]`: says what each of these limits on
     /// an emission in a region costs. The limits are in billionths, ascending; `pivots` are those of one limit. The exact method's cost
-    /// is its bound, so that it keeps any gap.
+    /// is its bound, so `--gap` is taken beside `--method rounded` alone.
     Curve {
         file: &'a str,
         region: &'a str,
@@ -64,7 +65,7 @@ pub enum Command<'a> {
     },
     /// `span FILE REGION TECHNOLOGY YEAR [--slack PPM] [--gap PPM] [--pivots N] [--places P] [--method exact|rounded]`: says how little and
     /// how much of a technology a plan may build that costs at most `slack` millionths more than the least cost. `pivots` are those of
-    /// one trial. The exact method's cost is its bound, so that it keeps any gap.
+    /// one trial. The exact method's cost is its bound, so `--gap` is taken beside `--method rounded` alone.
     Span {
         file: &'a str,
         region: &'a str,
@@ -119,7 +120,7 @@ enum CommandName {
 
 /// Reads the words. The first fault is answered, in this order: `NoCommand` where there
 /// is no word; `BadCommand` where the first is no command; `BadForm` where an option is unknown, is
-/// none of the command's, is repeated or has no value, or a file or another word is missing or too many;
+/// none of the command's, is repeated or has no value, `curve` or `span` has a gap without the rounded method, or a file or another word is missing or too many;
 /// `BadNumber` where a number, or a list of limits, isn't one of the digits and the range that its place allows; `BadShow` where the value
 /// of `--show`, and then that of `--method`, is none of the command's; `GapAlone` where `check` has a gap and no multipliers. An
 /// option and its value are two words, or one with `=` between. After `--` no word is an option.
@@ -224,8 +225,10 @@ fn is_allowed(name: CommandName, given: &Given<'_>) -> bool
         CommandName::Explain => {
             given.gap.is_none() && given.show.is_none() && given.slack.is_none()
         }
-        CommandName::Curve => given.show.is_none() && given.slack.is_none(),
-        CommandName::Span => given.show.is_none(),
+        CommandName::Curve => {
+            given.show.is_none() && given.slack.is_none() && has_gap_by_guesses(given)
+        }
+        CommandName::Span => given.show.is_none() && has_gap_by_guesses(given),
         CommandName::Make => {
             given.gap.is_none()
                 && given.pivots.is_none()
@@ -234,6 +237,14 @@ fn is_allowed(name: CommandName, given: &Given<'_>) -> bool
                 && given.slack.is_none()
         }
     }
+}
+
+// A gap is given at most where the method is the rounded one.
+fn has_gap_by_guesses(given: &Given<'_>) -> bool
+    ensures { result
+        ≡ (not (is_some (given_of given.now).gap) || asks_for_rounded (given_of given.now).method) }
+{
+    given.gap.is_none() || asks_for_rounded(given.method)
 }
 
 fn mps_given<'a>(given: &Given<'a>) -> Result<Command<'a>, WordFault>

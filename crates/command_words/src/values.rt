@@ -3,6 +3,7 @@ ghost use Rattle.std.specs.Prelude.{◌≡◌, ◌≤◌, option_map};
 ghost use Rattle.std.specs.Char.{is_ascii_digit};
 ghost use Rattle.std.specs.List.{list_all};
 ghost use Rattle.command_words.specs.WordValues.{number_within, gap_of, pivots_of, places_of, size_of, solve_show_of, make_show_of, gap_for, method_of, usual_gap};
+ghost use Rattle.command_words.specs.Words.{asks_for_rounded};
 
 use crate::command::{MakeShow, SolveMethod, SolveShow};
 
@@ -96,6 +97,16 @@ pub fn method_of(text: Option<&str>) -> Option<SolveMethod>
         Some(SolveMethod::Rounded)
     } else {
         None
+    }
+}
+
+/// The value of `--method` is `rounded`.
+pub fn asks_for_rounded(method: Option<&str>) -> bool
+    ensures { result ≡ asks_for_rounded (option_map (λ text. text.now) method.entry) }
+{
+    match method {
+        Some(text) => text == "rounded",
+        None => false,
     }
 }
 
