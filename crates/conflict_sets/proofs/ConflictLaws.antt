@@ -214,6 +214,6 @@ module _ (rows : List Row) (vars : List Var) (m : List (RowName × Rational)) (n
         (filter-ascends needed_name on_list needed (subst (λ (ns : List RowName). ascends row_name_cmp ns ≡ true) known-are s.ascending));
     among = λ u h. s.among u (Contains-from_Has (names_known needed []) u (name-known u (Has-from_Contains names u h)));
     used = used;
-    refuted = record { multipliers = m; printed = printed; refutes = refutes; none = none-left };
+    refuted = record { multipliers = m; some = s.refutation.some; printed = printed; refutes = refutes; none = none-left };
     needed = all-are-needed rows vars names m conflict.members.items conflict.plans.items still e f needed-plan;
   }

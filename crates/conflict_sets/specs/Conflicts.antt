@@ -41,9 +41,11 @@ pub record IsWholePlan (rows : List Row) (vars : List Var) (plan : List (Var × 
   pub some : AreOverSome var_cmp plan
   pub meets : (q : ℕ) (x : Var → ℤ) → AreValuesOver q x plan → MeetsAll rows vars q x
 
--- some multipliers, those of the members among them, refute these rows: so no plan meets them
+-- Some multipliers, those of the members among them, refute these rows: so no plan meets them. They are whole numbers over one denominator, so
+-- that `refutes` speaks of some.
 pub record AreRefuted (rows : List Row) (vars : List Var) (members : List (RowName × Frac)) : Type 0 where
   pub multipliers : List (RowName × Rational)
+  pub some : AreOverSome row_name_cmp multipliers
   pub printed : (member : RowName × Frac) → Contains members member → value_in row_name_cmp multipliers member.0 ≡ value_of member.1
   pub refutes : (s : ℕ) (y : RowName → ℤ) → AreMultipliersOver s y multipliers → Refutes rows vars s y
   pub none : AdmitsNone rows vars

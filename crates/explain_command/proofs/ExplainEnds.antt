@@ -1,5 +1,5 @@
 -- What is due for what the trials found over a book of rows, and for the first stop, over the named equations.
-use Rattle.std.proofs.Common.{◌≡◌, ℕ, List, map, Option, Some, None, inl, inr, refl, sym, ap, ◌∙◌}
+use Rattle.std.proofs.Common.{◌≡◌, ℕ, List, map, Option, Some, None, inl, inr, refl, sym, ap, ◌∙◌, subst}
 use Rattle.exact_num.specs.Steps.{first_wide}
 use Rattle.model_sets.specs.Data.{Data}
 use Rattle.model_sets.specs.Members.{SetLists}
@@ -23,8 +23,10 @@ use Rattle.conflict_sets.specs.Walks.{Explanation, IsStopped, explained, explana
 use Rattle.conflict_sets.specs.declared.conflict.Conflict.{Conflict}
 use Rattle.explain_command.specs.Explain.{DueForTrials}
 use Rattle.explain_command.specs.Outcomes.{TellsFound}
+use Rattle.explain_command.specs.ShownConflicts.{AreShown}
 use Rattle.explain_command.specs.Texts.{conflict_text}
 use Rattle.explain_command.proofs.ConflictNames.{named-conflict, some-feasible}
+use Rattle.explain_command.proofs.ShownLaws.{shown-conflict}
 
 module _ (places : ℕ) (d : Data) (rows : List Row) (vars : List Var) (kept : IsBook rows vars) (book : IsBookOf places d rows vars) (pivots : ℕ) where
   -- where the elimination stops nowhere, the trials say how it ends
@@ -44,6 +46,7 @@ module _ (places : ℕ) (d : Data) (rows : List Row) (vars : List Var) (kept : I
           plans = conflict.plans.items;
           end = ends fits _ (sym end);
           conflict = named-conflict places d rows vars kept book conflict (is conflict refl);
+          shown = subst (λ (vs : List Var). AreShown rows vs (map valued conflict.members.items)) (vars-are places d rows vars book) (shown-conflict rows vars conflict (is conflict refl));
           status_is = told.0;
           text_is = told.1 ∙ ap (λ (ss : SetLists). conflict_text ss (map valued conflict.members.items) conflict.plans.items) same;
         }))

@@ -4,5 +4,6 @@ mod ConflictLists
 mod TrialPlaces
 mod SameExplains
 mod TextLaws
+mod ShownLaws
 mod ExplainEnds
 mod GuessedEnds

@@ -91,6 +91,7 @@ module _ (places : ℕ) (d e : Data) (same : AreSameData d e) where
         plans = found.plans;
         end = ends rows pivots _ found.end;
         conflict = conflict-carries _ found.plans found.conflict;
+        shown = subst (λ (vs : List Var). AreShown rows vs found.members) vars found.shown;
         status_is = found.status_is;
         text_is = found.text_is ∙ ap (λ (ss : SetLists). conflict_text ss found.members found.plans) same.sets;
       }))

@@ -34,12 +34,13 @@ pub record HasFeasible (places : ℕ) (d : Data) (rows : List Row) (pivots : ℕ
   pub status_is : status ≡ Done
   pub text_is : text ≡ feasible_text
 
--- some of them can't be met together
+-- some of them can't be met together, and the multipliers that are printed are part of what shows it
 pub record HasConflict (places : ℕ) (d : Data) (rows : List Row) (pivots : ℕ) (status : Status) (text : List ℕ) : Type 0 where
   pub members : List (RowName × Rational)
   pub plans : List (List (Var × Rational))
   pub end : explanation rows (all_variables d) pivots ≡ IsConflicting members plans
   pub conflict : IsNamedConflict places d (keys_of members) plans
+  pub shown : AreShown rows (all_variables d) members
   pub status_is : status ≡ Infeasible
   pub text_is : text ≡ conflict_text d.sets members plans
 
