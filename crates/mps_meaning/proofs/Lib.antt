@@ -1,0 +1,2 @@
+mod MeetingExamples
+mod ReadingExamples
