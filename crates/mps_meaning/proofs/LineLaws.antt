@@ -1,7 +1,7 @@
 -- What lines that are made of words say: their fields are the words.
-use Rattle.std.proofs.Common.{◌≡◌, ℕ, true, false, List, [], ◌∷◌, ◌++◌, refl, ap, sym, ◌∙◌, append_assoc}
+use Rattle.std.proofs.Common.{Bool, ◌≡◌, ℕ, true, false, List, [], ◌∷◌, ◌++◌, refl, ap, sym, ◌∙◌, append_assoc, not, ◌&&◌}
 use Rattle.std.specs.List.{AllByRecursion}
-use Rattle.mps_meaning.specs.Lines.{Name, ends_line, is_blank, lines, with_byte, fields, with_field}
+use Rattle.mps_meaning.specs.Lines.{Name, ends_line, is_blank, is_one_line, lines, with_byte, fields, with_field}
 use Rattle.mps_meaning.specs.Sections.{Line, lines_that_say, with_line, without_comments}
 
 -- ---- bytes
@@ -30,6 +30,21 @@ pub record IsWord (word : List ℕ) : Type 0 where
 all-append : {A : Type 0} (P : A → Type 0) (xs ys : List A) → AllByRecursion P xs → AllByRecursion P ys → AllByRecursion P (xs ++ ys)
 all-append P [] ys all more = more
 all-append P (x ∷ xs) ys all more = (all.0, all-append P xs ys all.1 more)
+
+-- what the test says
+pub one_line-from_test : (text : List ℕ) → is_one_line text ≡ true → IsOneLine text
+one_line-from_test text passes = record { bytes = each text passes }
+  where
+    each : (text : List ℕ) → is_one_line text ≡ true → AllByRecursion GoesOn text
+    each [] passes = tt
+    each (b ∷ bs) passes = (first (ends_line b) (is_one_line bs) passes, each bs (others (ends_line b) (is_one_line bs) passes))
+      where
+        first : (a b : Bool) → (not a && b) ≡ true → a ≡ false
+        first true b e = absurd (cc e)
+        first false b e = refl
+        others : (a b : Bool) → (not a && b) ≡ true → b ≡ true
+        others true b e = absurd (cc e)
+        others false b e = e
 
 pub one_line-append : (a b : List ℕ) → IsOneLine a → IsOneLine b → IsOneLine (a ++ b)
 one_line-append a b first second = record { bytes = all-append GoesOn a b first.bytes second.bytes }

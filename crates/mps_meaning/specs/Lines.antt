@@ -1,5 +1,6 @@
 -- The lines of a text, and the fields of a line (free MPS: fields are separated by blanks).
-use Rattle.std.specs.Prelude.{ℕ, Bool, true, false, ◌||◌, ◌==◌, List, [], ◌∷◌, if◌then◌else◌}
+use Rattle.std.specs.Prelude.{ℕ, Bool, true, false, ◌||◌, not, ◌==◌, List, [], ◌∷◌, if◌then◌else◌}
+use Rattle.std.specs.List.{list_all}
 
 -- a name or another field, by its bytes
 abbrev pub Name : Type 0
@@ -8,6 +9,10 @@ Name = List ℕ
 -- the byte is a line feed
 abbrev pub ends_line : ℕ → Bool
 ends_line byte = byte == 10
+
+-- no line ends in the text
+abbrev pub is_one_line : List ℕ → Bool
+is_one_line text = list_all (λ byte. not (ends_line byte)) text
 
 -- the byte is a space or a tab
 abbrev pub is_blank : ℕ → Bool
