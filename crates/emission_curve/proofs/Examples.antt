@@ -1,6 +1,6 @@
 -- The definitions, computed: one technology that emits a unit for each unit it makes, at 8, another that emits nothing, at 13, and a demand of 10. So the least cost is
 -- 130 - 5 x at a limit x of at most 10, and 80 above: 110 at 4, 95 at 7, 80 at 20.
-use Rattle.std.proofs.Common.{◌≡◌, ℕ, ℤ, pos, negsuc, ◌+ℤ◌, ◌*ℤ◌, Bool, true, false, List, [], ◌∷◌, refl, ap₂}
+use Rattle.std.proofs.Common.{◌≡◌, ℕ, ℤ, pos, negsuc, ◌+ℤ◌, ◌*ℤ◌, Bool, true, false, List, [], ◌∷◌, refl, ap₂, arith}
 use Rattle.std.specs.Prelude.{int_le}
 use Rattle.exact_num.specs.Gcd.{gcd_of, gcd_within}
 use Rattle.exact_num.specs.Rational.{Rational, lowest, times, whole}
@@ -15,6 +15,7 @@ use Rattle.simplex_core.specs.declared.stops.TrialStop.TheVariants.{Budget, Widt
 use Rattle.named_equations.specs.Variables.{annual_emissions, model_period_emissions, variable}
 use Rattle.exact_solver.specs.MethodEnds as method
 use Rattle.emission_curve.specs.Ends.{HasLine, HasLineBelow, HasNoBound, HasNoPlan, IsStopped, ended}
+use Rattle.emission_curve.specs.Points.{EndIsRounded}
 use Rattle.emission_curve.specs.Slopes.{emissions_entry, entry_at, slope_at}
 
 -- ---- the limit's row
@@ -107,16 +108,10 @@ bound_above = refl
 
 -- a cost of 110 is no cost of 220/2, by the rounded method either
 not_lowest : ¬ (EndIsRounded 10 (HasLineBelow (record { top = pos 220; bottom = pos 2 }) (whole (pos 110)) (whole (negsuc 4))))
-not_lowest h = let coprime : gcd_of 220 2 ≡ 1 = h.1.0.coprime in absurd (two_is_not_one coprime)
-  where
-    two_is_not_one : gcd_of 220 2 ≡ 1 → ⊥
-    unfolding gcd_of gcd_within
-    two_is_not_one e = cc e
+unfolding gcd_of gcd_within
+not_lowest h = let coprime : 2 ≡ 1 = h.1.0.coprime in omega (arith, coprime)
 
 -- nor is a slope of -10/2
 slope_not_lowest : ¬ (EndIsRounded 10 (HasLineBelow (whole (pos 110)) (whole (pos 110)) (record { top = negsuc 9; bottom = pos 2 })))
-slope_not_lowest h = let coprime : gcd_of 10 2 ≡ 1 = h.1.1.1.coprime in absurd (two_is_not_one coprime)
-  where
-    two_is_not_one : gcd_of 10 2 ≡ 1 → ⊥
-    unfolding gcd_of gcd_within
-    two_is_not_one e = cc e
+unfolding gcd_of gcd_within
+slope_not_lowest h = let coprime : 2 ≡ 1 = h.1.1.1.coprime in omega (arith, coprime)

@@ -1,6 +1,7 @@
 //! One limit by the rounded method.
 
 ghost use Rattle.std.specs.Prelude.{◌≡◌, IfOk, IfSome};
+ghost use Rattle.exact_num.specs.Rational.{IsLowest};
 ghost use Rattle.exact_num.specs.Value.{value_of};
 ghost use Rattle.emission_curve.specs.Ends.{HasLineBelow, point_seen};
 ghost use Rattle.emission_curve.specs.Points.{IsPointOf, IsRoundedPoint};
@@ -58,7 +59,9 @@ fn line(
     cost: Frac,
     bound: Frac,
 ) -> Option<Point>
-    ensures { IfSome result (λ point. point_seen point ≡ HasLineBelow (value_of cost) (value_of bound) (slope_at book.now.rows multipliers.now limit)) }
+    ensures line { IfSome result (λ point. point_seen point
+        ≡ HasLineBelow (value_of cost) (value_of bound) (slope_at book.now.rows multipliers.now limit)) }
+    ensures lowest { IfSome result (λ point. IsLowest (slope_at book.now.rows multipliers.now limit)) }
 {
     match slope_of(book.rows(), limit, multipliers) {
         Ok(slope) => Some(Point::Rounded { cost, bound, slope }),

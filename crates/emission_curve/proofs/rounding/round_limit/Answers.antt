@@ -14,7 +14,7 @@ returns-in-Some-Plan-clause-worth c =
     let vars = c.args.book.now.vars in
     let w = c.in-Some-Plan in
     let proved = subst (IsProved rows vars c.args.ppm) w.field-0-is (subst (λ found. IfSome found (IsProved rows vars c.args.ppm)) w.is c.in_ok-multipliers.ensures.proved) in
-    IfSome_then c.line.result c.line.ensures
+    IfSome_then c.line.result c.line.ensures.line
     (λ point is.
     subst (EndIsOf rows vars c.args.limit) (sym is)
     (rounded-worth rows vars c.args.limit w.field-0-0 w.multipliers (value_of w.cost) (value_of w.bound) c.vars.ensures.book proved.0 proved.1))
