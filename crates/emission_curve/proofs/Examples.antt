@@ -109,9 +109,9 @@ bound_above = refl
 -- a cost of 110 is no cost of 220/2, by the rounded method either
 not_lowest : ¬ (EndIsRounded 10 (HasLineBelow (record { top = pos 220; bottom = pos 2 }) (whole (pos 110)) (whole (negsuc 4))))
 unfolding gcd_of gcd_within
-not_lowest h = let coprime : 2 ≡ 1 = h.1.0.coprime in omega (arith, coprime)
+not_lowest h = let coprime : 2 ≡ 1 = h.1.coprime in omega (arith, coprime)
 
 -- nor is a slope of -10/2
 slope_not_lowest : ¬ (EndIsRounded 10 (HasLineBelow (whole (pos 110)) (whole (pos 110)) (record { top = negsuc 9; bottom = pos 2 })))
 unfolding gcd_of gcd_within
-slope_not_lowest h = let coprime : 2 ≡ 1 = h.1.1.1.coprime in omega (arith, coprime)
+slope_not_lowest h = let coprime : 2 ≡ 1 = h.3.coprime in omega (arith, coprime)
