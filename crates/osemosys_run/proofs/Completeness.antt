@@ -1,5 +1,5 @@
 -- A file that can be written is, and a plan that can be accepted is: what is due for them is that.
-use Rattle.std.proofs.Common.{◌≡◌, ◌⊎◌, ◌≤◌, ◌<◌, ◌<ℤ◌, ◌++◌, ℕ, ℤ, pos, inl, inr, List, length, Option, Some, None, Result, false, refl, ap, sym, ◌∙◌, subst, MatchBool, nat_lt, Bool, le-ltb, arith}
+use Rattle.std.proofs.Common.{◌≡◌, ◌⊎◌, ◌<◌, ◌<ℤ◌, ◌++◌, ℕ, ℤ, pos, inl, inr, List, Option, Some, None, Result, refl, ap, sym, ◌∙◌, subst, arith}
 use Rattle.std.proofs.lemmas.Int.{ints}
 use Rattle.std.proofs.lemmas.Option.{same_Some}
 use Rattle.exact_num.specs.Rational.{Rational, whole}
@@ -35,18 +35,17 @@ use Rattle.row_book.specs.Books.{AreRowsOf, CanBeMade, HasStopped}
 use Rattle.row_book.specs.declared.fail.BookFail.{BookFail}
 use Rattle.row_book.specs.declared.fail.BookFail.TheVariants as book
 use Rattle.command_answers.specs.declared.status.Status.{Status}
-use Rattle.command_answers.specs.declared.status.Status.TheVariants.{Done, Refused}
-use Rattle.command_answers.specs.declared.status.Refusal.TheVariants as refusals
+use Rattle.command_answers.specs.declared.status.Status.TheVariants.{Done}
 use Rattle.command_words.specs.declared.fault.WordFault.{WordFault}
-use Rattle.command_answers.specs.Accepted.{Accepted, most_bytes}
+use Rattle.command_answers.specs.Accepted.{Accepted}
 use Rattle.osemosys_run.specs.Complete.{AreInGap, AreThereIfNamed, CanBeAccepted, CanBeWritten}
 use Rattle.osemosys_run.specs.Due.{Due, DueForFile, DueForOptionalFile, DueForRequest}
 use Rattle.command_answers.specs.DueForText.{DueForText}
 use Rattle.check_command.specs.Check.{DueForCheck, DueForMultiplierFile, DueForPlan, DueForPlanFile, IsRejected, TellsMultipliers, check_conditions, multiplier_bound, plan_cost}
-use Rattle.command_answers.specs.Lines.{too_long_line}
 use Rattle.osemosys_run.specs.Mps.{DueForEquations}
 use Rattle.command_answers.specs.NotAccepted.{DueWhereNotAccepted}
 use Rattle.command_words.specs.Words.{Request}
+use Rattle.osemosys_run.proofs.DueFromCauses.{over_short}
 use Rattle.check_command.proofs.OutcomeLaws.{fails-parts, of_bound, of_gap, of_plan}
 
 -- what the laws of acceptance, of plan files and of the book say
@@ -79,12 +78,6 @@ over_accepted laws Over bytes d status text accepted (inl refused) = absurd (law
 over_accepted laws Over bytes d status text accepted (inr said) =
     subst (λ (e : Data). Over accepted.blocks.rounded e status text) (laws.one_data bytes said.0 d said.1 accepted)
     (subst (λ (blocks : Blocks). Over blocks.rounded said.0 status text) (laws.one_reading bytes said.1.blocks accepted.blocks said.1.says accepted.says) said.2)
-
--- over a file that isn't too long what is due is what is due over its bytes
-pub over_short : (Over : List ℕ → Status → List ℕ → Type 0) (number : ℕ) (bytes : List ℕ) (status : Status) (text : List ℕ) → length bytes ≤ most_bytes → DueForFile Over number (Some bytes) status text → Over bytes status text
-over_short Over number bytes status text short due =
-    let not_long : nat_lt most_bytes (length bytes) ≡ false = le-ltb most_bytes (length bytes) short in
-    subst (λ (b : Bool). MatchBool b ((status ≡ Refused (refusals.TooLong number)) × (text ≡ too_long_line number)) (Over bytes status text)) not_long due
 
 -- ---- checking
 
@@ -142,7 +135,7 @@ written_from_due laws words files status text due can =
 
 -- over the file of multipliers, if one is named
 over_named : (Over : Option (List ℕ) → Status → List ℕ → Type 0) (files : List (List ℕ × List ℕ)) (name bytes : Option (List ℕ)) (status : Status) (text : List ℕ)
-    → AreThereIfNamed files name bytes → DueForOptionalFile Over 3 files name status text → Over bytes status text
+    → AreThereIfNamed files name bytes → DueForOptionalFile Over 3 (file_named files) name status text → Over bytes status text
 over_named Over files None bytes status text there due = subst (λ (b : Option (List ℕ)). Over b status text) (sym there) due
 over_named Over files (Some name) bytes status text there due =
     subst (λ (b : Option (List ℕ)). Over b status text) (sym there.1)
@@ -178,7 +171,7 @@ module _ (laws : Laws) (words : List (List ℕ)) (files : List (List ℕ × List
 accepted_from_due : Laws → (words : List (List ℕ)) (files : List (List ℕ × List ℕ)) (status : Status) (text : List ℕ) → Due words files status text → CanBeAccepted words files → status ≡ Done
 accepted_from_due laws words files status text due can =
     let third : List ℕ → List ℕ → Option (List ℕ) → Status → List ℕ → Type 0 = λ bytes plan_bytes multiplier_bytes. DueForText (λ rounded. DueForCheck can.places plan_bytes multiplier_bytes can.gap) bytes in
-    let second : List ℕ → List ℕ → Status → List ℕ → Type 0 = λ bytes plan_bytes. DueForOptionalFile (third bytes plan_bytes) 3 files can.multiplier_name in
+    let second : List ℕ → List ℕ → Status → List ℕ → Type 0 = λ bytes plan_bytes. DueForOptionalFile (third bytes plan_bytes) 3 (file_named files) can.multiplier_name in
     let first : List ℕ → Status → List ℕ → Type 0 = λ bytes. DueForFile (second bytes) 2 (file_named files can.plan_name) in
     let for_files = subst (λ (request : Result Request WordFault). DueForRequest request files status text) can.asks due in
     let for_bytes = over_short first 1 can.bytes status text can.accepted.short (subst (λ (file : Option (List ℕ)). DueForFile first 1 file status text) can.there for_files) in

@@ -26,7 +26,8 @@ use Rattle.curve_command.specs.Trials.{EndsSo, IsTrialOf, Wanted}
 use Rattle.solve_command.specs.Limits.{IsWithinLimits, PassesLimits}
 use Rattle.osemosys_run.specs.Complete.{CanBeDrawn, CanBeTried}
 use Rattle.osemosys_run.specs.Due.{Due, DueForFile, DueForRequest}
-use Rattle.osemosys_run.proofs.Completeness.{Laws, equations_done, over_accepted, over_short}
+use Rattle.osemosys_run.proofs.Completeness.{Laws, equations_done, over_accepted}
+use Rattle.osemosys_run.proofs.DueFromCauses.{over_short}
 
 -- what holds of all holds of one among them
 of_one : {A : Type 0} → (P : A → Type 0) (first : List A) (one : A) (last : List A) → AllByRecursion P (first ++ one ∷ last) → P one

@@ -1,19 +1,17 @@
 -- What is delivered, of an answer and of equations that are written as they are made, and what follows from it.
-use Rattle.std.proofs.Common.{◌≡◌, ◌≢◌, ◌⊎◌, ℕ, inl, inr, List, ◌++◌, Option, Some, refl, sym, ◌∙◌, subst, IsSome, []}
-use Rattle.std.specs.List.{AllByRecursion}
+use Rattle.std.proofs.Common.{◌≡◌, ◌≢◌, ◌⊎◌, ℕ, inl, inr, List, Some, refl, sym, ◌∙◌, subst, IsSome, []}
 use Rattle.io_edges.specs.Count.{Rose}
-use Rattle.io_edges.specs.Told.{WhereTold}
+use Rattle.io_edges.specs.Outputs.{Output, Took}
 use Rattle.command_answers.specs.declared.status.Status.{Status}
 use Rattle.command_answers.specs.declared.status.Status.TheVariants.{Done, Infeasible, Unbounded, Uncertified, Refused, Words, ReadFault, WriteFault, Memory, Rejected}
 use Rattle.command_answers.specs.declared.status.ReadStop.TheVariants as stops
-use Rattle.command_words.specs.Words.{Request, asked, names_of}
-use Rattle.std.proofs.Common.{Ok}
+use Rattle.command_words.specs.Words.{names_of}
 use Rattle.osemosys_run.specs.declared.reply.Reply.{Reply}
 use Rattle.osemosys_run.specs.declared.reply.Reply.TheVariants.{Told, Equations}
 use Rattle.osemosys_run.specs.Causes.{Caused}
 use Rattle.osemosys_run.specs.Due.{AskForEquations}
 use Rattle.osemosys_run.specs.Reading.{Sight}
-use Rattle.osemosys_run.specs.ReadToEnd.{IsReadToEnd, IsThere}
+use Rattle.osemosys_run.specs.ReadToEnd.{AreRead, IsReadToEnd, ReadsWhole}
 use Rattle.osemosys_run.specs.Replies.{CanBeSent, DueForReply, HasPlaces, IsAnswer, IsAsMade, IsAskedBy, IsTold}
 use Rattle.osemosys_run.specs.Sending.{Delivers}
 use Rattle.osemosys_run.proofs.EndsOfFiles.{read_at_write_fault, read_to_end, whole_read}
@@ -22,8 +20,8 @@ use Rattle.osemosys_run.proofs.Outcomes.{failed_read, is_answer}
 -- ---- what is delivered
 
 -- an answer whose text was written is delivered
-pub delivered : (AsMade : Type 0) (due : Status → List ℕ → Type 0) (status : Status) (text : List ℕ) (before after : Option (List ℕ)) (f f' : ℕ) → due status text
-    → IsAnswer status → WhereTold before (λ bytes. after ≡ Some (bytes ++ text)) → Delivers AsMade due status before after f f'
+pub delivered : (AsMade : Type 0) (due : Status → List ℕ → Type 0) (status : Status) (text : List ℕ) (before after : Output) (f f' : ℕ) → due status text
+    → IsAnswer status → Took before after text → Delivers AsMade due status before after f f'
 delivered AsMade due Done text before after f f' d answer written = (text, d, written)
 delivered AsMade due Infeasible text before after f f' d answer written = (text, d, written)
 delivered AsMade due Unbounded text before after f f' d answer written = (text, d, written)
@@ -36,7 +34,7 @@ delivered AsMade due (Rejected rejection) text before after f f' d answer writte
 delivered AsMade due Memory text before after f f' d answer written = absurd (answer.1 refl)
 
 -- what is delivered of one thing that is due is delivered of another that is due wherever the first is
-pub delivers-weaker : (A B : Type 0) (P Q : Status → List ℕ → Type 0) (status : Status) (before after : Option (List ℕ)) (f f' : ℕ) → (A → B)
+pub delivers-weaker : (A B : Type 0) (P Q : Status → List ℕ → Type 0) (status : Status) (before after : Output) (f f' : ℕ) → (A → B)
     → ((s : Status) (text : List ℕ) → P s text → Q s text) → Delivers A P status before after f f' → Delivers B Q status before after f f'
 delivers-weaker A B P Q Done before after f f' made more d = (d.0, more Done d.0 d.1, d.2)
 delivers-weaker A B P Q Infeasible before after f f' made more d = (d.0, more Infeasible d.0 d.1, d.2)
@@ -57,7 +55,7 @@ told_so P said line h status text told = subst (λ (s : Status). P s text) (sym 
 -- ---- what follows from it
 
 -- what was delivered is something due with this status, or a write failed at something due, or memory ran out
-pub by_delivery : (A : Type 0) (P : Status → List ℕ → Type 0) (status : Status) (before after : Option (List ℕ)) (f f' : ℕ) (Goal : Type 0)
+pub by_delivery : (A : Type 0) (P : Status → List ℕ → Type 0) (status : Status) (before after : Output) (f f' : ℕ) (Goal : Type 0)
     → ((text : List ℕ) → status ≢ WriteFault → P status text → Goal)
     → (status ≡ WriteFault → Rose f f' → (other : Status) (text : List ℕ) → P other text → Goal)
     → (status ≡ Memory → Goal)
@@ -73,7 +71,7 @@ by_delivery A P WriteFault before after f f' Goal whole cut memory d = cut refl 
 by_delivery A P (Rejected rejection) before after f f' Goal whole cut memory d = whole d.0 (λ h. cc) d.1
 by_delivery A P Memory before after f f' Goal whole cut memory d = memory refl
 
-pub delivered_read : (A : Type 0) (words : List (List ℕ)) (before after : Sight) (status : Status) (b a : Option (List ℕ)) (f f' : ℕ)
+pub delivered_read : (A : Type 0) (words : List (List ℕ)) (before after : Sight) (status : Status) (b a : Output) (f f' : ℕ)
     → Delivers A (Caused words before after) status b a f f' → IsReadToEnd words before after status
 delivered_read A words before after status b a f f' d =
     by_delivery A (Caused words before after) status b a f f' (IsReadToEnd words before after status)
@@ -84,7 +82,7 @@ delivered_read A words before after status b a f f' d =
     at : (s : Status) → status ≡ s → IsReadToEnd words before after s → IsReadToEnd words before after status
     at s is h = subst (IsReadToEnd words before after) (sym is) h
 
-pub delivered_failed_read : (A : Type 0) (words : List (List ℕ)) (before after : Sight) (status : Status) (b a : Option (List ℕ)) (f f' : ℕ)
+pub delivered_failed_read : (A : Type 0) (words : List (List ℕ)) (before after : Sight) (status : Status) (b a : Output) (f f' : ℕ)
     → Delivers A (Caused words before after) status b a f f' → (number : ℕ) → status ≡ ReadFault (stops.Failed number) → Rose before.faults after.faults
 delivered_failed_read A words before after status b a f f' d number e =
     by_delivery A (Caused words before after) status b a f f' (Rose before.faults after.faults)
@@ -92,7 +90,7 @@ delivered_failed_read A words before after status b a f f' d number e =
     (λ is rose other text caused. let no : WriteFault ≡ ReadFault (stops.Failed number) = sym is ∙ e in cc no)
     (λ is. let no : Memory ≡ ReadFault (stops.Failed number) = sym is ∙ e in cc no) d
 
-pub delivered_failed_write : (A : Type 0) (P : Status → List ℕ → Type 0) (status : Status) (b a : Option (List ℕ)) (f f' : ℕ)
+pub delivered_failed_write : (A : Type 0) (P : Status → List ℕ → Type 0) (status : Status) (b a : Output) (f f' : ℕ)
     → Delivers A P status b a f f' → status ≡ WriteFault → Rose f f'
 delivered_failed_write A P status b a f f' d e =
     by_delivery A P status b a f f' (Rose f f')
@@ -100,17 +98,16 @@ delivered_failed_write A P status b a f f' d e =
     (λ is rose other text due. rose)
     (λ is. let no : Memory ≡ WriteFault = sym is ∙ e in cc no) d
 
-pub delivered_whole : (A : Type 0) (words : List (List ℕ)) (before after : Sight) (status : Status) (files : List (List ℕ × List ℕ)) (b a : Option (List ℕ)) (f f' : ℕ)
-    → Delivers A (Caused words before after) status b a f f' → before.files ≡ Some files → IsSome before.rest → (Rose before.faults after.faults → ⊥)
-    → (request : Request) → asked words ≡ Ok request → names_of request ≢ [] → AllByRecursion (IsThere files) (names_of request) → status ≢ Memory → after.rest ≡ Some []
+pub delivered_whole : (A : Type 0) (words : List (List ℕ)) (before after : Sight) (status : Status) (files : List (List ℕ × List ℕ)) (b a : Output) (f f' : ℕ)
+    → Delivers A (Caused words before after) status b a f f' → before.files ≡ Some files → IsSome before.rest → (Rose before.faults after.faults → ⊥) → ReadsWhole words files status before after
 delivered_whole A words before after status files b a f f' d told rest calm request asks names there other =
-    by_delivery A (Caused words before after) status b a f f' (after.rest ≡ Some [])
+    by_delivery A (Caused words before after) status b a f f' (AreRead (names_of request) before.moved after.moved × (after.rest ≡ Some []))
     (λ text cut caused. whole_read words before after status text files told rest calm caused request asks names there)
     (λ is rose said text caused. whole_read words before after said text files told rest calm caused request asks names there)
     (λ is. absurd (other is)) d
 
 -- over a sink without a fault something due was delivered, unless memory ran out
-pub due_or_memory : (A : Type 0) (P : Status → List ℕ → Type 0) (status : Status) (before after : Option (List ℕ)) (f f' : ℕ)
+pub due_or_memory : (A : Type 0) (P : Status → List ℕ → Type 0) (status : Status) (before after : Output) (f f' : ℕ)
     → Delivers A P status before after f f' → (Rose f f' → ⊥) → ((text : List ℕ) × P status text) ⊎ (status ≡ Memory)
 due_or_memory A P status before after f f' d calm =
     by_delivery A P status before after f f' (((text : List ℕ) × P status text) ⊎ (status ≡ Memory))

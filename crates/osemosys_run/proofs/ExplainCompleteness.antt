@@ -16,7 +16,8 @@ use Rattle.solve_command.specs.Limits.{IsWithinLimits, PassesLimits}
 use Rattle.explain_command.specs.Explain.{DueForExplain, DueForGuesses, DueForMethod, DueForRows, DueForTrials, NothingStops}
 use Rattle.osemosys_run.specs.Complete.{CanBeExplained, IsExplained}
 use Rattle.osemosys_run.specs.Due.{Due, DueForFile, DueForRequest}
-use Rattle.osemosys_run.proofs.Completeness.{Laws, equations_done, over_accepted, over_short}
+use Rattle.osemosys_run.proofs.Completeness.{Laws, equations_done, over_accepted}
+use Rattle.osemosys_run.proofs.DueFromCauses.{over_short}
 
 module _ (laws : Laws) (places pivots : ℕ) (method : SolveMethod) (d : Data) (can_make : CanBeMade places d 0 (instances d))
     (within : (rows : List Row) → AreRowsOf places d (instances d) rows → IsWithinLimits rows (all_variables d))

@@ -1,9 +1,13 @@
--- Files that are read one after another: what is known of the shelf where the next one is begun.
-use Rattle.std.proofs.Common.{◌≡◌, ℕ, ◌≤◌, inl, inr, List, [], Option, Some, None, IsSome, refl, sym, ◌∙◌, subst, arith}
+-- Files that are read one after another: what is known of the shelf where the next one is begun, and what follows from the cause of an answer.
+use Rattle.std.proofs.Common.{◌≡◌, ◌≢◌, ◌⊎◌, ℕ, ◌≤◌, ◌+◌, inl, inr, List, [], ◌∷◌, map, Option, Some, IsSome, refl, ap, sym, ◌∙◌, subst, arith}
+use Rattle.std.specs.List.{AllByRecursion}
+use Rattle.std.specs.Prelude.{⊤}
 use Rattle.io_edges.specs.Count.{Rose}
+use Rattle.io_edges.specs.Moved.{MovedFile}
 use Rattle.command_answers.specs.declared.status.Status.{Status}
-use Rattle.osemosys_run.specs.Causes.{CausedByFile, CausedByOptionalFile, StopsAtFile}
-use Rattle.osemosys_run.specs.Reading.{Sight, BeganOne, HasNothingLeft, IsWholeFile}
+use Rattle.osemosys_run.specs.Causes.{CausedByFiles, StopsAtFile}
+use Rattle.osemosys_run.specs.Reading.{Sight, BeganOne, IsWholeFile}
+use Rattle.osemosys_run.specs.ReadToEnd.{AreRead}
 
 -- some files were begun since: the shelf has the same files and tells as much, and its count of faults didn't fall
 pub record Reaches (before there : Sight) : Type 0 where
@@ -21,31 +25,31 @@ rose-since before there after more rose = omega (arith, more, rose)
 told-at : (o : Option (List ℕ)) → o ≡ Some [] → IsSome o
 told-at o e = subst IsSome (sym e) refl
 
--- what was read to its end has nothing left
-whole-left : (before start there : Sight) (name bytes : List ℕ) → Reaches before start → IsWholeFile start.files name bytes start.rest there.rest there.taken → HasNothingLeft before there
-whole-left before start there name bytes reached whole = λ told. whole.none_left (reached.tells told)
-
-reaches-next : (before start there : Sight) (name bytes : List ℕ) → Reaches before start → BeganOne start there → IsWholeFile start.files name bytes start.rest there.rest there.taken → Reaches before there
+reaches-next : (before start there : Sight) (name bytes : List ℕ) → Reaches before start → BeganOne start there → IsWholeFile start there name bytes → Reaches before there
 reaches-next before start there name bytes reached began whole = record {
   files = began.files ∙ reached.files;
   faults = omega (arith, reached.faults, began.faults);
-  tells = λ told. told-at there.rest (whole-left before start there name bytes reached whole told);
+  tells = λ told. told-at there.rest (whole.none_left (reached.tells told));
 }
 
--- what follows from the causes, file by file: from a file that was read to its end with what came after it, and from one at which the work stopped
-module _ (before after : Sight) (status : Status) (text : List ℕ) (Goal : Type 0) where
-  pub by_file : (Then : Sight → List ℕ → Type 0) (number : ℕ) (name : List ℕ) (start : Sight) → Reaches before start
-      → ((there : Sight) (bytes : List ℕ) → Reaches before there → HasNothingLeft before there → Then there bytes → Goal)
-      → (Reaches before start → StopsAtFile number name start after status text → Goal)
-      → CausedByFile Then number name start after status text → Goal
-  by_file Then number name start reached next stop (inl c) =
-      next c.0 c.1 (reaches-next before start c.0 name c.1 reached c.2 c.3) (whole-left before start c.0 name c.1 reached c.3) c.4
-  by_file Then number name start reached next stop (inr c) = stop reached c.1
+-- what follows from the cause of an answer: where every file was read to its end, and where the work stopped at one, whose name has what all names have
+pub by_files : (before after : Sight) (status : Status) (text : List ℕ) (Goal : Type 0) (Named : List ℕ → Type 0) (Says : List (Option (List ℕ)) → Type 0) (number : ℕ) (names : List (List ℕ)) (start : Sight)
+    → AllByRecursion Named names → Reaches before start
+    → ((contents : List (List ℕ)) → Says (map Some contents) → AreRead names start.moved after.moved
+    → (IsSome start.rest → (start.rest ≡ Some []) ⊎ (names ≢ []) → after.rest ≡ Some []) → Goal)
+    → ((number : ℕ) (name : List ℕ) (at : Sight) → Named name → Reaches before at → StopsAtFile number name at after status text → Goal)
+    → CausedByFiles Says number names start after status text → Goal
+by_files before after status text Goal Named Says number [] start named reached read stop (same, says) =
+    read [] says (ap (λ (s : Sight). s.moved) same) (λ told empty. elim empty [ inl none ↦ ap (λ (s : Sight). s.rest) same ∙ none | inr names ↦ absurd (names refl) ])
+by_files before after status text Goal Named Says number (name ∷ names) start named reached read stop (inl (there, bytes, began, whole, next)) =
+    by_files before after status text Goal Named (λ contents. Says (Some bytes ∷ contents)) (number + 1) names there named.1 (reaches-next before start there name bytes reached began whole)
+    (λ contents says each left.
+    read (bytes ∷ contents) says (bytes, whole.short, subst (λ (moved : List MovedFile). AreRead names moved after.moved) whole.moved each)
+    (λ told some. let none : there.rest ≡ Some [] = whole.none_left told in left (told-at there.rest none) (inl none)))
+    stop next
+by_files before after status text Goal Named Says number (name ∷ names) start named reached read stop (inr (began, stops)) = stop number name start named.0 reached stops
 
-  pub by_optional_file : (Then : Sight → Option (List ℕ) → Type 0) (number : ℕ) (name : Option (List ℕ)) (start : Sight) → Reaches before start → HasNothingLeft before start
-      → ((there : Sight) (bytes : Option (List ℕ)) → HasNothingLeft before there → Then there bytes → Goal)
-      → ((name : List ℕ) → Reaches before start → StopsAtFile number name start after status text → Goal)
-      → CausedByOptionalFile Then number name start after status text → Goal
-  by_optional_file Then number None start reached left next stop c = next start None left c
-  by_optional_file Then number (Some name) start reached left next stop c =
-      by_file (λ there bytes. Then there (Some bytes)) number name start reached (λ there bytes more none then. next there (Some bytes) none then) (stop name) c
+-- of every name something is known that is always known
+pub of_all : (names : List (List ℕ)) → AllByRecursion (λ (name : List ℕ). ⊤) names
+of_all [] = tt
+of_all (name ∷ names) = (tt, of_all names)

@@ -1,5 +1,6 @@
--- From the cause of an answer to what is due, and which statuses an answer has.
-use Rattle.std.proofs.Common.{◌≡◌, ◌≢◌, ◌≤◌, arith, ℕ, ℤ, inl, inr, List, ◌++◌, length, Option, Some, None, Result, Ok, Err, Bool, true, false, refl, sym, ◌∙◌, subst, MatchBool, nat_lt, le-ltb, lt-ltb}
+-- Which statuses an answer has.
+use Rattle.std.specs.Prelude.{⊤}
+use Rattle.std.proofs.Common.{◌≡◌, ◌≢◌, ◌≤◌, ℕ, ℤ, inl, inr, List, map, length, Option, Some, None, Result, Ok, Err, Bool, true, false, sym, ◌∙◌, MatchBool, nat_lt}
 use Rattle.model_sets.specs.Data.{Data}
 use Rattle.model_sets.specs.Members.{SetLists}
 use Rattle.model_sets.specs.declared.set_numbers.TheConstants.{EMISSION, REGION, TECHNOLOGY, YEAR}
@@ -15,9 +16,6 @@ use Rattle.exact_solver.specs.Sizes.{column_count, inequality_count}
 use Rattle.solve_command.specs.declared.solve.Shown.{Shown}
 use Rattle.solve_command.specs.declared.solve.Shown.TheVariants.{Summary}
 use Rattle.io_edges.specs.Count.{Rose}
-use Rattle.io_edges.specs.Edges.{Lacks}
-use Rattle.io_edges.specs.Files.{file_named}
-use Rattle.io_edges.specs.Told.{WhereTold}
 use Rattle.command_answers.specs.declared.status.Status.{Status}
 use Rattle.command_answers.specs.declared.status.Status.TheVariants.{Done, Infeasible, Unbounded, Uncertified, Refused, Words, ReadFault, WriteFault, Memory, Rejected}
 use Rattle.command_answers.specs.declared.status.Refusal.{Refusal}
@@ -28,8 +26,8 @@ use Rattle.command_words.specs.declared.command.MakeShow.{MakeShow}
 use Rattle.command_words.specs.declared.command.MakeShow.TheVariants as makes
 use Rattle.command_words.specs.declared.fault.WordFault.{WordFault}
 use Rattle.model_maker.specs.MadeText.{made_text}
-use Rattle.osemosys_run.specs.Causes.{Caused, CausedByFile, CausedByOptionalFile, CausedByRequest, FollowsFromText, StopsAtFile}
-use Rattle.osemosys_run.specs.Due.{Due, DueForFile, DueForMake, DueForOptionalFile, DueForRequest}
+use Rattle.osemosys_run.specs.Causes.{Caused, StopsAtFile, held_in}
+use Rattle.osemosys_run.specs.Due.{DueForFile, DueForMake, DueForOptionalFile, DueOver, names_asked}
 use Rattle.command_answers.specs.BookFails.{TellsFail}
 use Rattle.command_answers.specs.DueForText.{DueForText}
 use Rattle.check_command.specs.Check.{DueForCheck, DueForMultiplierFile, DueForPlan, DueForPlanFile}
@@ -41,7 +39,7 @@ use Rattle.curve_command.specs.Trials.{Wanted}
 use Rattle.explain_command.specs.Explain.{DueForExplain, DueForMethod as DueForTrialsBy}
 use Rattle.osemosys_run.specs.Mps.{DueForEquations}
 use Rattle.command_answers.specs.NotAccepted.{DueWhereNotAccepted}
-use Rattle.osemosys_run.specs.Reading.{BeganOne, Sight, IsWholeFile}
+use Rattle.osemosys_run.specs.Reading.{Sight}
 use Rattle.command_answers.specs.Accepted.{most_bytes}
 use Rattle.osemosys_run.specs.Replies.{IsAnswer}
 use Rattle.solve_command.specs.Shown.{shown_of}
@@ -52,88 +50,7 @@ use Rattle.span_command.specs.Span.{DueForSpan}
 use Rattle.span_command.specs.Span as spans
 use Rattle.solve_command.specs.Summary.{DueForSummary, default_places, default_pivots}
 use Rattle.command_words.specs.Words.{Request, Check, Curve, Explain, Make, Mps, Solve, Span, asked}
-use Rattle.osemosys_run.proofs.FilesRead.{rose-since}
-
--- ---- what is due
-
--- where the file is known and the shelf had no fault, the answer with its cause is the one due
-pub due_for_file : (Then : Sight → List ℕ → Type 0) (Over : List ℕ → Status → List ℕ → Type 0) (number : ℕ) (name : List ℕ) (before after : Sight)
-    (files : List (List ℕ × List ℕ)) (status : Status) (text : List ℕ) → before.files ≡ Some files → (Rose before.faults after.faults → ⊥)
-    → ((there : Sight) (bytes : List ℕ) → BeganOne before there → Then there bytes → Over bytes status text)
-    → CausedByFile Then number name before after status text → DueForFile Over number (file_named files name) status text
-due_for_file Then Over number name before after files status text told calm follows caused = by_cause caused
-  where
-    TooLong : Type 0
-    TooLong = (status ≡ Refused (refusals.TooLong number)) × (text ≡ too_long_line number)
-
-    whole : (there : Sight) (bytes : List ℕ) → BeganOne before there → IsWholeFile before.files name bytes before.rest there.rest there.taken → Then there bytes
-        → DueForFile Over number (file_named files name) status text
-    whole there bytes began w next =
-        let not_long : nat_lt most_bytes (length bytes) ≡ false = le-ltb most_bytes (length bytes) w.short in
-        subst (λ (o : Option (List ℕ)). DueForFile Over number o status text) (sym (w.named files told))
-        (subst (λ (b : Bool). MatchBool b ((status ≡ Refused (refusals.TooLong number)) × (text ≡ too_long_line number)) (Over bytes status text)) (sym not_long) (follows there bytes began next))
-
-    stopped : StopsAtFile number name before after status text → DueForFile Over number (file_named files name) status text
-    stopped (inl (s, t, l)) =
-        let there = l.longer files told in
-        let is_long : nat_lt most_bytes (length there.0) ≡ true = lt-ltb most_bytes (length there.0) there.2 in
-        subst (λ (o : Option (List ℕ)). DueForFile Over number o status text) (sym there.1)
-        (subst (λ (b : Bool). MatchBool b ((status ≡ Refused (refusals.TooLong number)) × (text ≡ too_long_line number)) (Over there.0 status text)) (sym is_long) (s, t))
-    stopped (inr (inl (s, t, lacks, left))) =
-        let none : file_named files name ≡ None = subst (λ (o : Option (List (List ℕ × List ℕ))). Lacks o name) told lacks in
-        subst (λ (o : Option (List ℕ)). DueForFile Over number o status text) (sym none) (s, t)
-    stopped (inr (inr (s, t, rose))) = absurd (calm rose)
-
-    by_cause : CausedByFile Then number name before after status text → DueForFile Over number (file_named files name) status text
-    by_cause (inl c) = whole c.0 c.1 c.2 c.3 c.4
-    by_cause (inr c) = stopped c.1
-
--- the same of a file that may be named
-due_for_optional : (Then : Sight → Option (List ℕ) → Type 0) (Over : Option (List ℕ) → Status → List ℕ → Type 0) (number : ℕ) (name : Option (List ℕ)) (before after : Sight)
-    (files : List (List ℕ × List ℕ)) (status : Status) (text : List ℕ) → before.files ≡ Some files → (Rose before.faults after.faults → ⊥)
-    → ((there : Sight) (bytes : Option (List ℕ)) → Then there bytes → Over bytes status text)
-    → CausedByOptionalFile Then number name before after status text → DueForOptionalFile Over number files name status text
-due_for_optional Then Over number None before after files status text told calm follows c = follows before None c
-due_for_optional Then Over number (Some name) before after files status text told calm follows c =
-    due_for_file (λ there bytes. Then there (Some bytes)) (λ bytes. Over (Some bytes)) number name before after files status text told calm
-    (λ there bytes began then. follows there (Some bytes) then) c
-
-pub due_from_cause : (words : List (List ℕ)) (before after : Sight) (files : List (List ℕ × List ℕ)) (status : Status) (text : List ℕ)
-    → before.files ≡ Some files → (Rose before.faults after.faults → ⊥) → Caused words before after status text → Due words files status text
-due_from_cause words before after files status text told calm caused = by_request (asked words) caused
-  where
-    by_request : (request : Result Request WordFault) → CausedByRequest request before after status text → DueForRequest request files status text
-    by_request (Err fault) c = (c.0, c.1)
-    by_request (Ok (Mps name places)) c =
-        due_for_file (FollowsFromText (λ rounded. DueForEquations places) after status text) (DueForText (λ rounded. DueForEquations places)) 1 name before after files status text told calm (λ there bytes began follows. follows.1) c
-    by_request (Ok (Make size show)) c = c.0
-    by_request (Ok (Solve name gap pivots places show method)) c =
-        due_for_file (FollowsFromText (DueForSolve places gap pivots (shown_of show) method) after status text) (DueForText (DueForSolve places gap pivots (shown_of show) method)) 1 name before after files status text told calm (λ there bytes began follows. follows.1) c
-    by_request (Ok (Explain name pivots places method)) c =
-        due_for_file (FollowsFromText (λ rounded. DueForExplain places pivots method) after status text) (DueForText (λ rounded. DueForExplain places pivots method)) 1 name before after files status text told calm (λ there bytes began follows. follows.1) c
-    by_request (Ok (Curve name region emission limits gap pivots places method)) c =
-        let Over : ℕ → Data → Status → List ℕ → Type 0 = λ rounded. DueForCurve places (record { method = method; pivots = pivots; gap = gap }) region emission limits in
-        due_for_file (FollowsFromText Over after status text) (DueForText Over) 1 name before after files status text told calm (λ there bytes began follows. follows.1) c
-    by_request (Ok (Span name region technology year slack gap pivots places method)) c =
-        let Over : ℕ → Data → Status → List ℕ → Type 0 = λ rounded. DueForSpan places (record { method = method; slack = slack; gap = gap; pivots = pivots }) rounded region technology year in
-        due_for_file (FollowsFromText Over after status text) (DueForText Over) 1 name before after files status text told calm (λ there bytes began follows. follows.1) c
-    by_request (Ok (Check name plan multipliers gap places)) c =
-        let third : List ℕ → List ℕ → Sight → Option (List ℕ) → Type 0 =
-        λ bytes plan_bytes there multiplier_bytes. FollowsFromText (λ rounded. DueForCheck places plan_bytes multiplier_bytes gap) after status text there bytes in
-        let second_then : List ℕ → Sight → List ℕ → Type 0 = λ bytes second plan_bytes. CausedByOptionalFile (third bytes plan_bytes) 3 multipliers second after status text in
-        let first_then : Sight → List ℕ → Type 0 = λ first bytes. CausedByFile (second_then bytes) 2 plan first after status text in
-        let third_due : List ℕ → List ℕ → Option (List ℕ) → Status → List ℕ → Type 0 = λ bytes plan_bytes multiplier_bytes. DueForText (λ rounded. DueForCheck places plan_bytes multiplier_bytes gap) bytes in
-        let second_due : List ℕ → List ℕ → Status → List ℕ → Type 0 = λ bytes plan_bytes. DueForOptionalFile (third_due bytes plan_bytes) 3 files multipliers in
-        let first_due : List ℕ → Status → List ℕ → Type 0 = λ bytes. DueForFile (second_due bytes) 2 (file_named files plan) in
-        due_for_file first_then first_due 1 name before after files status text told calm
-        (λ first bytes first_began second_cause.
-        due_for_file (second_then bytes) (second_due bytes) 2 plan first after files status text (first_began.files ∙ told)
-        (λ rose. calm (rose-since before first after first_began.faults rose))
-        (λ second plan_bytes second_began third_cause.
-        due_for_optional (third bytes plan_bytes) (third_due bytes plan_bytes) 3 multipliers second after files status text (second_began.files ∙ (first_began.files ∙ told))
-        (λ rose. calm (rose-since before first after first_began.faults (rose-since first second after second_began.faults rose)))
-        (λ there multiplier_bytes follows. follows.1) third_cause)
-        second_cause) c
+use Rattle.osemosys_run.proofs.FilesRead.{Reaches-itself, by_files, of_all, rose-since}
 
 -- ---- which statuses an answer has
 
@@ -294,36 +211,59 @@ stop_is number name before after status text (inr (inr failed)) =
     let same : status ≡ ReadFault (stops.Failed number) = failed.0 in
     (λ h. let e : ReadFault (stops.Failed number) ≡ WriteFault = sym same ∙ h in cc e, λ h. let e : ReadFault (stops.Failed number) ≡ Memory = sym same ∙ h in cc e)
 
+-- what is due over a file isn't that a read failed, where it isn't over the file's bytes
+file_is : (Over : List ℕ → Status → List ℕ → Type 0) (number : ℕ) (file : Option (List ℕ)) (status : Status) (text : List ℕ) → ((bytes : List ℕ) → Over bytes status text → IsOwn status)
+    → DueForFile Over number file status text → IsOwn status
+file_is Over number None status text over_is due = is_other status (ReadFault (stops.NoFile number)) (λ h. cc) (λ h. cc) (λ other h. cc) due.0
+file_is Over number (Some bytes) status text over_is due = by_length (nat_lt most_bytes (length bytes)) due
+  where
+    by_length : (b : Bool) → MatchBool b ((status ≡ Refused (refusals.TooLong number)) × (text ≡ too_long_line number)) (Over bytes status text) → IsOwn status
+    by_length true long = refused_is status (refusals.TooLong number) long.0
+    by_length false over = over_is bytes over
+
+optional_is : (Over : Option (List ℕ) → Status → List ℕ → Type 0) (number : ℕ) (held : List ℕ → Option (List ℕ)) (name : Option (List ℕ)) (status : Status) (text : List ℕ)
+    → ((bytes : Option (List ℕ)) → Over bytes status text → IsOwn status) → DueForOptionalFile Over number held name status text → IsOwn status
+optional_is Over number held None status text over_is due = over_is None due
+optional_is Over number held (Some name) status text over_is due = file_is (λ bytes. Over (Some bytes)) number (held name) status text (λ bytes. over_is (Some bytes)) due
+
+-- what is due for the words, whatever their files hold
+due_is_own : (request : Result Request WordFault) (held : ℕ → List ℕ → Option (List ℕ)) (status : Status) (text : List ℕ) → DueOver request held status text → IsOwn status
+due_is_own (Err fault) held status text due = is_other status (Words fault) (λ h. cc) (λ h. cc) (λ number h. cc) due.0
+due_is_own (Ok (Make size show)) held status text due = make_is size show status text due
+due_is_own (Ok (Mps name places)) held status text due =
+    file_is (DueForText (λ rounded. DueForEquations places)) 1 (held 1 name) status text (λ bytes. text_is (λ rounded. DueForEquations places) (λ rounded. equations_are places) bytes status text) due
+due_is_own (Ok (Solve name gap pivots places show method)) held status text due =
+    file_is (DueForText (DueForSolve places gap pivots (shown_of show) method)) 1 (held 1 name) status text
+    (λ bytes. text_is (DueForSolve places gap pivots (shown_of show) method) (solve_is places gap pivots (shown_of show) method) bytes status text) due
+due_is_own (Ok (Explain name pivots places method)) held status text due =
+    file_is (DueForText (λ rounded. DueForExplain places pivots method)) 1 (held 1 name) status text
+    (λ bytes. text_is (λ rounded. DueForExplain places pivots method) (λ rounded. explain_is places pivots method) bytes status text) due
+due_is_own (Ok (Curve name region emission limits gap pivots places method)) held status text due =
+    let Over : ℕ → Data → Status → List ℕ → Type 0 = λ rounded. DueForCurve places (record { method = method; pivots = pivots; gap = gap }) region emission limits in
+    file_is (DueForText Over) 1 (held 1 name) status text
+    (λ bytes. text_is Over (λ rounded. curve_is places (record { method = method; pivots = pivots; gap = gap }) region emission limits) bytes status text) due
+due_is_own (Ok (Span name region technology year slack gap pivots places method)) held status text due =
+    let Over : ℕ → Data → Status → List ℕ → Type 0 = λ rounded. DueForSpan places (record { method = method; slack = slack; gap = gap; pivots = pivots }) rounded region technology year in
+    file_is (DueForText Over) 1 (held 1 name) status text
+    (λ bytes. text_is Over (λ rounded. span_is places (record { method = method; slack = slack; gap = gap; pivots = pivots }) rounded region technology year) bytes status text) due
+due_is_own (Ok (Check name plan multipliers gap places)) held status text due =
+    let third : List ℕ → List ℕ → Option (List ℕ) → Status → List ℕ → Type 0 = λ bytes plan_bytes multiplier_bytes. DueForText (λ rounded. DueForCheck places plan_bytes multiplier_bytes gap) bytes in
+    let second : List ℕ → List ℕ → Status → List ℕ → Type 0 = λ bytes plan_bytes. DueForOptionalFile (third bytes plan_bytes) 3 (held 3) multipliers in
+    let first : List ℕ → Status → List ℕ → Type 0 = λ bytes. DueForFile (second bytes) 2 (held 2 plan) in
+    file_is first 1 (held 1 name) status text
+    (λ bytes. file_is (second bytes) 2 (held 2 plan) status text
+    (λ plan_bytes. optional_is (third bytes plan_bytes) 3 (held 3) multipliers status text
+    (λ multiplier_bytes. text_is (λ rounded. DueForCheck places plan_bytes multiplier_bytes gap) (λ rounded. check_is places plan_bytes multiplier_bytes gap) bytes status text))) due
+
 -- an answer with a cause isn't that a write failed or that memory ran out
 pub is_answer : (words : List (List ℕ)) (before after : Sight) (status : Status) (text : List ℕ) → Caused words before after status text
     → (status ≢ WriteFault) × (status ≢ Memory)
-is_answer words before after status text caused = by_request (asked words) caused
-  where
-    by_request : (request : Result Request WordFault) → CausedByRequest request before after status text → IsAnswer status
-    by_request (Err fault) c = (is_other status (Words fault) (λ h. cc) (λ h. cc) (λ number h. cc) c.0).0
-    by_request (Ok (Make size show)) c = (make_is size show status text c.0).0
-    by_request (Ok (Mps name places)) (inl whole) = (text_is (λ rounded. DueForEquations places) (λ rounded. equations_are places) whole.1 status text whole.4.1).0
-    by_request (Ok (Mps name places)) (inr stopped) = stop_is 1 name before after status text stopped.1
-    by_request (Ok (Solve name gap pivots places show method)) (inl whole) = (text_is (DueForSolve places gap pivots (shown_of show) method) (solve_is places gap pivots (shown_of show) method) whole.1 status text whole.4.1).0
-    by_request (Ok (Solve name gap pivots places show method)) (inr stopped) = stop_is 1 name before after status text stopped.1
-    by_request (Ok (Explain name pivots places method)) (inl whole) = (text_is (λ rounded. DueForExplain places pivots method) (λ rounded. explain_is places pivots method) whole.1 status text whole.4.1).0
-    by_request (Ok (Explain name pivots places method)) (inr stopped) = stop_is 1 name before after status text stopped.1
-    by_request (Ok (Curve name region emission limits gap pivots places method)) (inl whole) =
-        let Over : ℕ → Data → Status → List ℕ → Type 0 = λ rounded. DueForCurve places (record { method = method; pivots = pivots; gap = gap }) region emission limits in
-        (text_is Over (λ rounded. curve_is places (record { method = method; pivots = pivots; gap = gap }) region emission limits) whole.1 status text whole.4.1).0
-    by_request (Ok (Curve name region emission limits gap pivots places method)) (inr stopped) = stop_is 1 name before after status text stopped.1
-    by_request (Ok (Span name region technology year slack gap pivots places method)) (inl whole) =
-        let Over : ℕ → Data → Status → List ℕ → Type 0 = λ rounded. DueForSpan places (record { method = method; slack = slack; gap = gap; pivots = pivots }) rounded region technology year in
-        (text_is Over (λ rounded. span_is places (record { method = method; slack = slack; gap = gap; pivots = pivots }) rounded region technology year) whole.1 status text whole.4.1).0
-    by_request (Ok (Span name region technology year slack gap pivots places method)) (inr stopped) = stop_is 1 name before after status text stopped.1
-    by_request (Ok (Check name plan multipliers gap places)) (inr stopped) = stop_is 1 name before after status text stopped.1
-    by_request (Ok (Check name plan multipliers gap places)) (inl (first, bytes, began, whole, inr stopped)) = stop_is 2 plan first after status text stopped.1
-    by_request (Ok (Check name plan None gap places)) (inl (first, bytes, began, whole, inl (second, plan_bytes, second_began, second_whole, follows))) =
-        (text_is (λ rounded. DueForCheck places plan_bytes None gap) (λ rounded. check_is places plan_bytes None gap) bytes status text follows.1).0
-    by_request (Ok (Check name plan (Some multipliers) gap places)) (inl (first, bytes, began, whole, inl (second, plan_bytes, second_began, second_whole, inr stopped))) =
-        stop_is 3 multipliers second after status text stopped.1
-    by_request (Ok (Check name plan (Some multipliers) gap places)) (inl (first, bytes, began, whole, inl (second, plan_bytes, second_began, second_whole, inl (third, multiplier_bytes, third_began, third_whole, follows)))) =
-        (text_is (λ rounded. DueForCheck places plan_bytes (Some multiplier_bytes) gap) (λ rounded. check_is places plan_bytes (Some multiplier_bytes) gap) bytes status text follows.1).0
+is_answer words before after status text caused =
+    by_files before after status text (IsAnswer status) (λ name. ⊤) (λ contents. DueOver (asked words) (held_in contents) status text) 1 (names_asked (asked words)) before
+    (of_all (names_asked (asked words))) (Reaches-itself before)
+    (λ contents says each left. (due_is_own (asked words) (held_in (map Some contents)) status text says).0)
+    (λ number name at named reached stops. stop_is number name at after status text stops)
+    caused
 
 -- ---- failed reads
 
@@ -333,40 +273,13 @@ stop_failed : (number : ℕ) (name : List ℕ) (before start after : Sight) (sta
 stop_failed number name before start after status text other more (inl long) e = absurd ((refused_is status (refusals.TooLong number) long.0).1 other e)
 stop_failed number name before start after status text other more (inr (inl missing)) e =
     let no : ReadFault (stops.NoFile number) ≡ ReadFault (stops.Failed other) = sym missing.0 ∙ e in cc no
-stop_failed number name before start after status text other more (inr (inr failed)) e = rose-since before start after more failed.2
+stop_failed number name before start after status text other more (inr (inr failed)) e = rose-since before start after more failed.2.rose
 
 pub failed_read : (words : List (List ℕ)) (before after : Sight) (status : Status) (text : List ℕ) → Caused words before after status text
     → (number : ℕ) → status ≡ ReadFault (stops.Failed number) → Rose before.faults after.faults
-failed_read words before after status text caused number e = by_request (asked words) caused
-  where
-    own : IsOwn status → Rose before.faults after.faults
-    own is = absurd (is.1 number e)
-
-    more : before.faults ≤ before.faults
-    more = omega arith
-
-    by_request : (request : Result Request WordFault) → CausedByRequest request before after status text → Rose before.faults after.faults
-    by_request (Err fault) c = own (is_other status (Words fault) (λ h. cc) (λ h. cc) (λ number h. cc) c.0)
-    by_request (Ok (Make size show)) c = own (make_is size show status text c.0)
-    by_request (Ok (Mps name places)) (inl whole) = own (text_is (λ rounded. DueForEquations places) (λ rounded. equations_are places) whole.1 status text whole.4.1)
-    by_request (Ok (Mps name places)) (inr stopped) = stop_failed 1 name before before after status text number more stopped.1 e
-    by_request (Ok (Solve name gap pivots places show method)) (inl whole) = own (text_is (DueForSolve places gap pivots (shown_of show) method) (solve_is places gap pivots (shown_of show) method) whole.1 status text whole.4.1)
-    by_request (Ok (Solve name gap pivots places show method)) (inr stopped) = stop_failed 1 name before before after status text number more stopped.1 e
-    by_request (Ok (Explain name pivots places method)) (inl whole) = own (text_is (λ rounded. DueForExplain places pivots method) (λ rounded. explain_is places pivots method) whole.1 status text whole.4.1)
-    by_request (Ok (Explain name pivots places method)) (inr stopped) = stop_failed 1 name before before after status text number more stopped.1 e
-    by_request (Ok (Curve name region emission limits gap pivots places method)) (inl whole) =
-        let Over : ℕ → Data → Status → List ℕ → Type 0 = λ rounded. DueForCurve places (record { method = method; pivots = pivots; gap = gap }) region emission limits in
-        own (text_is Over (λ rounded. curve_is places (record { method = method; pivots = pivots; gap = gap }) region emission limits) whole.1 status text whole.4.1)
-    by_request (Ok (Curve name region emission limits gap pivots places method)) (inr stopped) = stop_failed 1 name before before after status text number more stopped.1 e
-    by_request (Ok (Span name region technology year slack gap pivots places method)) (inl whole) =
-        let Over : ℕ → Data → Status → List ℕ → Type 0 = λ rounded. DueForSpan places (record { method = method; slack = slack; gap = gap; pivots = pivots }) rounded region technology year in
-        own (text_is Over (λ rounded. span_is places (record { method = method; slack = slack; gap = gap; pivots = pivots }) rounded region technology year) whole.1 status text whole.4.1)
-    by_request (Ok (Span name region technology year slack gap pivots places method)) (inr stopped) = stop_failed 1 name before before after status text number more stopped.1 e
-    by_request (Ok (Check name plan multipliers gap places)) (inr stopped) = stop_failed 1 name before before after status text number more stopped.1 e
-    by_request (Ok (Check name plan multipliers gap places)) (inl (first, bytes, began, whole, inr stopped)) = stop_failed 2 plan before first after status text number began.faults stopped.1 e
-    by_request (Ok (Check name plan None gap places)) (inl (first, bytes, began, whole, inl (second, plan_bytes, second_began, second_whole, follows))) =
-        own (text_is (λ rounded. DueForCheck places plan_bytes None gap) (λ rounded. check_is places plan_bytes None gap) bytes status text follows.1)
-    by_request (Ok (Check name plan (Some multipliers) gap places)) (inl (first, bytes, began, whole, inl (second, plan_bytes, second_began, second_whole, inr stopped))) =
-        stop_failed 3 multipliers before second after status text number (omega (arith, began.faults, second_began.faults)) stopped.1 e
-    by_request (Ok (Check name plan (Some multipliers) gap places)) (inl (first, bytes, began, whole, inl (second, plan_bytes, second_began, second_whole, inl (third, multiplier_bytes, third_began, third_whole, follows)))) =
-        own (text_is (λ rounded. DueForCheck places plan_bytes (Some multiplier_bytes) gap) (λ rounded. check_is places plan_bytes (Some multiplier_bytes) gap) bytes status text follows.1)
+failed_read words before after status text caused number e =
+    by_files before after status text (Rose before.faults after.faults) (λ name. ⊤) (λ contents. DueOver (asked words) (held_in contents) status text) 1 (names_asked (asked words)) before
+    (of_all (names_asked (asked words))) (Reaches-itself before)
+    (λ contents says each left. absurd ((due_is_own (asked words) (held_in (map Some contents)) status text says).1 number e))
+    (λ n name at named reached stops. stop_failed n name before at after status text number reached.faults stops e)
+    caused

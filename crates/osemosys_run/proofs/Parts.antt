@@ -1,8 +1,14 @@
--- A file that is read room by room: what was read and what is left are the file.
-use Rattle.std.proofs.Common.{◌≡◌, ℕ, ◌+◌, ◌<◌, List, [], ◌++◌, length, take, drop, Option, Some, None, IsSome, refl, subst, ap, sym, ◌∙◌, append_assoc}
-use Rattle.std.proofs.lemmas.List.{take-append-drop, append-nil}
+-- A file that is read room by room: what was read and what is left are the file; and a text that is sent piece by piece.
+use Rattle.std.proofs.Common.{◌≡◌, ℕ, zero, suc, ◌+◌, ◌<◌, ◌≤◌, List, [], ◌∷◌, ◌++◌, length, take, drop, Option, Some, None, IsSome, true, nat_lt, lt-ltb, refl, subst, ap, sym, ◌∙◌, append_assoc, arith}
+use Rattle.std.specs.Prelude.{Result, Ok, Err, OnErr}
+use Rattle.std.proofs.lemmas.List.{take-append-drop, append-nil, take_all}
+use Rattle.std.proofs.Math.Dec.{eqb-suc-zero}
 use Rattle.std.proofs.Math.Seq.{drop-nil, take-append_seam, take-add}
 use Rattle.io_edges.specs.Edges.{Moves}
+use Rattle.io_edges.specs.Moved.{MovedFile, with_read}
+use Rattle.io_edges.specs.Outputs.{Output, Took}
+use Rattle.io_edges.proofs.OutputLaws.{took-both, took-same}
+use Rattle.osemosys_run.specs.Reading.{part_of_file, whole_file}
 
 -- these bytes were read, and with what is left they are the file
 abbrev pub Parts : Option (List ℕ) → List ℕ → Option (List ℕ) → Type 0
@@ -56,9 +62,31 @@ pub front_of_both : (n : ℕ) (xs ys : List ℕ) → n ≡ length xs → take n 
 front_of_both n xs ys e = ap (λ (k : ℕ). take k (xs ++ ys)) e ∙ take-append_seam xs ys
 
 -- a prefix of what was left over comes after the prefix that was sent
-pub sent_more : (before text : List ℕ) (sent n : ℕ) (piece : List ℕ) → piece ≡ drop sent text
-    → (before ++ take sent text) ++ take n piece ≡ before ++ take (sent + n) text
-sent_more before text sent n piece e =
-    ap (λ (rest : List ℕ). (before ++ take sent text) ++ take n rest) e
-    ∙ append_assoc before (take sent text) (take n (drop sent text))
-    ∙ ap (λ (both : List ℕ). before ++ both) (sym (take-add sent n text))
+pub sent_more : (start before after : Output) (text : List ℕ) (sent n : ℕ) (piece : List ℕ) → piece ≡ drop sent text → Took start before (take sent text) → Took before after (take n piece)
+    → Took start after (take (sent + n) text)
+sent_more start before after text sent n piece e first next =
+    took-same start after (take sent text ++ take n piece) (take (sent + n) text) (ap (λ (rest : List ℕ). take sent text ++ take n rest) e ∙ sym (take-add sent n text))
+    (took-both start before after (take sent text) (take n piece) first next)
+
+-- where no more is left, the text was sent
+pub sent_all : (start now : Output) (text : List ℕ) (sent : ℕ) → length text ≤ sent → Took start now (take sent text) → Took start now text
+sent_all start now text sent all took = took-same start now (take sent text) text (take_all sent text all) took
+
+-- what holds anyhow holds at an error
+pub at_error : {T E : Type 0} (outcome : Result T E) (P : Type 0) → P → OnErr outcome P
+at_error (Ok x) P p = tt
+at_error (Err e) P p = p
+
+-- ---- what was moved
+
+-- a read that moved bytes, after which the end isn't seen
+pub moved_on : (name bytes room : List ℕ) (n : ℕ) (before : List MovedFile) → 0 < n → with_read (part_of_file name bytes ∷ before) n room ≡ part_of_file name (bytes ++ take n room) ∷ before
+moved_on name bytes room zero before some = absurd (omega (arith, some))
+moved_on name bytes room (suc n) before some = rw (eqb-suc-zero n) refl
+
+-- a read that saw the end
+pub moved_all : (name bytes room : List ℕ) (n : ℕ) (before : List MovedFile) → n ≡ 0 → 0 < length room → with_read (part_of_file name bytes ∷ before) n room ≡ whole_file name bytes ∷ before
+moved_all name bytes room (suc n) before none room_there = absurd (cc none)
+moved_all name bytes room zero before none room_there =
+    let sees : nat_lt 0 (length room) ≡ true = lt-ltb 0 (length room) room_there in
+    rw (sees, append-nil bytes) refl

@@ -13,6 +13,7 @@ use Rattle.command_words.specs.Words.{Request}
 use Rattle.io_edges.specs.Count.{Rose}
 use Rattle.command_answers.specs.declared.status.Status.{Status}
 use Rattle.command_answers.specs.declared.status.Status.TheVariants.{Done, Infeasible, Unbounded, Uncertified, Refused, Words, ReadFault, WriteFault, Memory, Rejected}
+use Rattle.io_edges.specs.Outputs.{Output}
 use Rattle.osemosys_run.specs.Complete.{AskForMade, CanBeSolved, CanBeSummarized, Completes, IsEnded}
 use Rattle.osemosys_run.specs.Due.{Due, DueForFile, DueForRequest}
 use Rattle.command_answers.specs.DueForText.{DueForText}
@@ -30,7 +31,8 @@ use Rattle.osemosys_run.proofs.CurveCompleteness.{drawn_from_due}
 use Rattle.osemosys_run.proofs.SpanCompleteness.{spanned_from_due}
 use Rattle.osemosys_run.proofs.ExplainCompleteness.{explained_from_due}
 use Rattle.osemosys_run.proofs.Delivery.{due_or_memory}
-use Rattle.osemosys_run.proofs.Completeness.{Laws, done_from_due, equations_done, over_accepted, over_short}
+use Rattle.osemosys_run.proofs.Completeness.{Laws, done_from_due, equations_done, over_accepted}
+use Rattle.osemosys_run.proofs.DueFromCauses.{over_short}
 
 -- ---- solving
 
@@ -103,7 +105,7 @@ summarized_from_due laws words files status text due can =
 
 -- ---- what is delivered
 
-pub completes : Laws → (A : Type 0) (words : List (List ℕ)) (files : List (List ℕ × List ℕ)) (status : Status) (before after : Option (List ℕ)) (f f' : ℕ)
+pub completes : Laws → (A : Type 0) (words : List (List ℕ)) (files : List (List ℕ × List ℕ)) (status : Status) (before after : Output) (f f' : ℕ)
     → Delivers A (Due words files) status before after f f' → (Rose f f' → ⊥) → Completes words files status
 completes laws A words files status before after f f' d calm = elim (due_or_memory A (Due words files) status before after f f' d calm) [
   | inl due ↦ record {

@@ -25,7 +25,8 @@ use Rattle.span_finder.specs.declared.found.SpanFail.TheVariants.{Stopped}
 use Rattle.span_command.specs.Span.{DueBy, DueForEnd, DueForMember, DueForRows, DueForSpan, HasLeastCost, Wanted, built}
 use Rattle.osemosys_run.specs.Complete.{CanBeSpanned, IsEnded, NothingStopsSpan}
 use Rattle.osemosys_run.specs.Due.{Due, DueForFile, DueForRequest}
-use Rattle.osemosys_run.proofs.Completeness.{Laws, equations_done, over_accepted, over_short}
+use Rattle.osemosys_run.proofs.Completeness.{Laws, equations_done, over_accepted}
+use Rattle.osemosys_run.proofs.DueFromCauses.{over_short}
 
 same_member : (found : Option ℕ) (a b : ℕ) → found ≡ Some a → found ≡ Some b → a ≡ b
 same_member found a b h k = cc (h, k)

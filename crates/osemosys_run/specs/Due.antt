@@ -1,5 +1,5 @@
--- Which status and which text are due, in the order of work: the words, the file, its text, and what the command says over accepted data.
-use Rattle.std.specs.Prelude.{◌≡◌, ℕ, List, ◌++◌, length, MatchBool, nat_lt, Option, Some, None, Result, Ok, Err}
+-- Which status and which text are due, in the order of work: the words, the files, the text of the data file, and what the command says over accepted data.
+use Rattle.std.specs.Prelude.{◌≡◌, ℕ, List, [], ◌++◌, length, MatchBool, nat_lt, Option, Some, None, Result, Ok, Err}
 use Rattle.io_edges.specs.Files.{file_named}
 use Rattle.command_answers.specs.declared.status.Status.{Status}
 use Rattle.command_answers.specs.declared.status.Status.TheVariants.{Done, Refused, Words, ReadFault}
@@ -20,7 +20,7 @@ use Rattle.solve_command.specs.Shown.{shown_of}
 use Rattle.solve_command.specs.Solve.{DueForSolve}
 use Rattle.span_command.specs.Span.{DueForSpan}
 use Rattle.solve_command.specs.Summary.{DueForSummary, default_places, made_line}
-use Rattle.command_words.specs.Words.{Request, Check, Curve, Explain, Make, Mps, Solve, Span, asked}
+use Rattle.command_words.specs.Words.{Request, Check, Curve, Explain, Make, Mps, Solve, Span, asked, names_of}
 
 -- over the file of this number, which may be missing or too long: that, or what `Due` has over its bytes
 abbrev pub DueForFile : (List ℕ → Status → List ℕ → Type 0) → ℕ → Option (List ℕ) → Status → List ℕ → Type 0
@@ -31,30 +31,40 @@ DueForFile Due number (Some bytes) status text =
     (Due bytes status text)
 
 -- over the file of this number, if one is named
-abbrev pub DueForOptionalFile : (Option (List ℕ) → Status → List ℕ → Type 0) → ℕ → List (List ℕ × List ℕ) → Option (List ℕ) → Status → List ℕ → Type 0
-DueForOptionalFile Due number files None status text = Due None status text
-DueForOptionalFile Due number files (Some name) status text = DueForFile (λ bytes. Due (Some bytes)) number (file_named files name) status text
+abbrev pub DueForOptionalFile : (Option (List ℕ) → Status → List ℕ → Type 0) → ℕ → (List ℕ → Option (List ℕ)) → Option (List ℕ) → Status → List ℕ → Type 0
+DueForOptionalFile Due number held None status text = Due None status text
+DueForOptionalFile Due number held (Some name) status text = DueForFile (λ bytes. Due (Some bytes)) number (held name) status text
 
 -- for a number of which a model is made, and what is to be shown: its data file, or that number and then what is due over the text of the file
 abbrev pub DueForMake : ℕ → MakeShow → Status → List ℕ → Type 0
 DueForMake size File status text = (status ≡ Done) × (text ≡ made_text size)
 DueForMake size Summary status text = (rest : List ℕ) × DueForText (DueForSummary default_places) (made_text size) status rest × (text ≡ made_line size ++ rest)
 
--- for a request over its files, each of which is looked at before what any of them says, and for a fault of the words
-abbrev pub DueForRequest : Result Request WordFault → List (List ℕ × List ℕ) → Status → List ℕ → Type 0
-DueForRequest (Err fault) files status text = (status ≡ Words fault) × (text ≡ words_line fault)
-DueForRequest (Ok (Mps name places)) files status text = DueForFile (DueForText (λ rounded. DueForEquations places)) 1 (file_named files name) status text
-DueForRequest (Ok (Solve name gap pivots places show method)) files status text = DueForFile (DueForText (DueForSolve places gap pivots (shown_of show) method)) 1 (file_named files name) status text
-DueForRequest (Ok (Explain name pivots places method)) files status text = DueForFile (DueForText (λ rounded. DueForExplain places pivots method)) 1 (file_named files name) status text
-DueForRequest (Ok (Curve name region emission limits gap pivots places method)) files status text =
-    DueForFile (DueForText (λ rounded. DueForCurve places (record { method = method; pivots = pivots; gap = gap }) region emission limits)) 1 (file_named files name) status text
-DueForRequest (Ok (Span name region technology year slack gap pivots places method)) files status text =
-    DueForFile (DueForText (λ rounded. DueForSpan places (record { method = method; slack = slack; gap = gap; pivots = pivots }) rounded region technology year)) 1 (file_named files name) status text
-DueForRequest (Ok (Make size show)) files status text = DueForMake size show status text
-DueForRequest (Ok (Check name plan multipliers gap places)) files status text =
+-- For a request over its files, each of which is looked at before what any of them says, and for a fault of the words. `held` has what the file of a
+-- number and a name holds, if it is there: the data file has number 1, then come a plan's and that of multipliers.
+abbrev pub DueOver : Result Request WordFault → (ℕ → List ℕ → Option (List ℕ)) → Status → List ℕ → Type 0
+DueOver (Err fault) held status text = (status ≡ Words fault) × (text ≡ words_line fault)
+DueOver (Ok (Mps name places)) held status text = DueForFile (DueForText (λ rounded. DueForEquations places)) 1 (held 1 name) status text
+DueOver (Ok (Solve name gap pivots places show method)) held status text = DueForFile (DueForText (DueForSolve places gap pivots (shown_of show) method)) 1 (held 1 name) status text
+DueOver (Ok (Explain name pivots places method)) held status text = DueForFile (DueForText (λ rounded. DueForExplain places pivots method)) 1 (held 1 name) status text
+DueOver (Ok (Curve name region emission limits gap pivots places method)) held status text =
+    DueForFile (DueForText (λ rounded. DueForCurve places (record { method = method; pivots = pivots; gap = gap }) region emission limits)) 1 (held 1 name) status text
+DueOver (Ok (Span name region technology year slack gap pivots places method)) held status text =
+    DueForFile (DueForText (λ rounded. DueForSpan places (record { method = method; slack = slack; gap = gap; pivots = pivots }) rounded region technology year)) 1 (held 1 name) status text
+DueOver (Ok (Make size show)) held status text = DueForMake size show status text
+DueOver (Ok (Check name plan multipliers gap places)) held status text =
     DueForFile (λ bytes. DueForFile (λ plan_bytes. DueForOptionalFile (λ multiplier_bytes.
     DueForText (λ rounded. DueForCheck places plan_bytes multiplier_bytes gap) bytes)
-    3 files multipliers) 2 (file_named files plan)) 1 (file_named files name) status text
+    3 (held 3) multipliers) 2 (held 2 plan)) 1 (held 1 name) status text
+
+-- over a shelf with these files, of which the first of a name counts
+abbrev pub DueForRequest : Result Request WordFault → List (List ℕ × List ℕ) → Status → List ℕ → Type 0
+DueForRequest request files status text = DueOver request (λ number name. file_named files name) status text
+
+-- the names of the files that are asked for, in order
+abbrev pub names_asked : Result Request WordFault → List (List ℕ)
+names_asked (Ok request) = names_of request
+names_asked (Err fault) = []
 
 -- the words ask for the equations, which `mps` writes as they are made
 pub record AskForEquations (words : List (List ℕ)) : Type 0 where

@@ -1,7 +1,9 @@
--- What is seen of a shelf, and what it means that a file was read to its end, or found to be too long.
-use Rattle.std.specs.Prelude.{◌≡◌, ℕ, ◌+◌, ◌<◌, ◌≤◌, List, [], length, Option, Some, IsSome}
-use Rattle.io_edges.specs.Count.{counted}
+-- What is seen of a shelf, and what it means that a file was read to its end, or why its reading stopped.
+use Rattle.std.specs.Prelude.{◌≡◌, ℕ, ◌+◌, ◌<◌, ◌≤◌, true, false, List, [], ◌∷◌, length, Option, Some, IsSome}
+use Rattle.io_edges.specs.Count.{counted, Rose}
+use Rattle.io_edges.specs.Edges.{Lacks}
 use Rattle.io_edges.specs.Files.{file_named}
+use Rattle.io_edges.specs.Moved.{MovedFile}
 use Rattle.io_edges.specs.Told.{WhereTold}
 use Rattle.command_answers.specs.Accepted.{most_bytes}
 
@@ -16,10 +18,23 @@ pub record Sight : Type 0 where
   pub faults : ℕ
   pub begins : ℕ
   pub taken : ℕ
+  pub moved : List MovedFile
 
 -- a sight by its parts
-abbrev pub sight : Option (List (List ℕ × List ℕ)) → Option (List ℕ) → ℕ → ℕ → ℕ → Sight
-sight files rest faults begins taken = record { files = files; rest = rest; faults = faults; begins = begins; taken = taken }
+abbrev pub sight : Option (List (List ℕ × List ℕ)) → Option (List ℕ) → ℕ → ℕ → ℕ → List MovedFile → Sight
+sight files rest faults begins taken moved = record { files = files; rest = rest; faults = faults; begins = begins; taken = taken; moved = moved }
+
+-- a file of this name of which these bytes were read and then its end
+abbrev pub whole_file : List ℕ → List ℕ → MovedFile
+whole_file name bytes = record { name = name; was_begun = true; bytes = bytes; ended = true }
+
+-- one of which these bytes were read and no end
+abbrev pub part_of_file : List ℕ → List ℕ → MovedFile
+part_of_file name bytes = record { name = name; was_begun = true; bytes = bytes; ended = false }
+
+-- one that wasn't begun
+abbrev pub refused_file : List ℕ → MovedFile
+refused_file name = record { name = name; was_begun = false; bytes = []; ended = false }
 
 -- nothing is left to read, where the rest is told from the beginning on
 abbrev pub HasNothingLeft : Sight → Sight → Type 0
@@ -31,15 +46,34 @@ pub record BeganOne (before after : Sight) : Type 0 where
   pub begins : after.begins ≡ counted before.begins
   pub faults : before.faults ≤ after.faults
 
--- These are the bytes of the file of that name, and no more was taken; where the rest is told, from before the call on, none is left.
-pub record IsWholeFile (files : Option (List (List ℕ × List ℕ))) (name bytes : List ℕ) (rest_before rest : Option (List ℕ)) (taken : ℕ) : Type 0 where
+-- The file of this name was begun and read to its end; these bytes were moved, and no others. Where the shelf tells its files, they are the file's; where it tells
+-- the rest, from before the call on, none is left.
+pub record IsWholeFile (before after : Sight) (name bytes : List ℕ) : Type 0 where
+  pub moved : after.moved ≡ whole_file name bytes ∷ before.moved
   pub short : length bytes ≤ most_bytes
-  pub all_taken : taken ≡ length bytes
-  pub named : WhereTold files (λ all. file_named all name ≡ Some bytes)
-  pub none_left : IsSome rest_before → rest ≡ Some []
+  pub all_taken : after.taken ≡ length bytes
+  pub named : WhereTold before.files (λ all. file_named all name ≡ Some bytes)
+  pub none_left : HasNothingLeft before after
 
--- The file of that name has more than the most bytes: more were taken, by at most one room.
-pub record IsTooLong (files : Option (List (List ℕ × List ℕ))) (name : List ℕ) (taken : ℕ) : Type 0 where
-  pub many_taken : most_bytes < taken
-  pub at_once : taken ≤ most_bytes + room_bytes
-  pub longer : WhereTold files (λ all. (bytes : List ℕ) × (file_named all name ≡ Some bytes) × (most_bytes < length bytes))
+-- The file of this name has more than the most bytes: more were moved, by at most one room.
+pub record IsTooLong (before after : Sight) (name : List ℕ) : Type 0 where
+  pub bytes : List ℕ
+  pub moved : after.moved ≡ part_of_file name bytes ∷ before.moved
+  pub many : most_bytes < length bytes
+  pub at_once : length bytes ≤ most_bytes + room_bytes
+  pub all_taken : after.taken ≡ length bytes
+  pub longer : WhereTold before.files (λ all. (whole : List ℕ) × (file_named all name ≡ Some whole) × (most_bytes < length whole))
+
+-- the shelf tells its files, and none has this name
+pub record IsMissing (before after : Sight) (name : List ℕ) : Type 0 where
+  pub moved : after.moved ≡ refused_file name ∷ before.moved
+  pub lacks : Lacks before.files name
+  pub none_left : HasNothingLeft before after
+
+-- the shelf failed at the file of this name, before its end was seen, and counted it
+pub record HasFailed (before after : Sight) (name : List ℕ) : Type 0 where
+  pub file : MovedFile
+  pub moved : after.moved ≡ file ∷ before.moved
+  pub name_is : file.name ≡ name
+  pub not_ended : file.ended ≡ false
+  pub rose : Rose before.faults after.faults

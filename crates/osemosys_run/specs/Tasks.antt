@@ -1,9 +1,13 @@
 -- What is due of a command of one file over its data. Only private functions cite these.
-use Rattle.std.specs.Prelude.{ℕ, List, ⊤}
+use Rattle.std.specs.Prelude.{ℕ, List, [], ◌∷◌, ⊤}
 use Rattle.std.specs.List.{AllByRecursion}
 use Rattle.command_words.specs.LimitLists.{IsLimit}
 use Rattle.curve_command.specs.Curve.{DueForCurve}
 use Rattle.model_sets.specs.Data.{Data}
+use Rattle.command_answers.specs.DueForText.{DueForText}
+use Rattle.osemosys_run.specs.Causes.{CausedByFiles, held_in}
+use Rattle.osemosys_run.specs.Due.{DueForFile}
+use Rattle.osemosys_run.specs.Reading.{Sight}
 use Rattle.osemosys_run.specs.declared.one_file.CurveAsked.{CurveAsked}
 use Rattle.osemosys_run.specs.declared.one_file.SpanAsked.{SpanAsked}
 use Rattle.osemosys_run.specs.declared.one_file.Task.{Task}
@@ -32,3 +36,7 @@ DueForTask (Solve wanted) places rounded = DueForSolve places wanted.gap wanted.
 DueForTask (Explain pivots method) places rounded = DueForExplain places pivots method
 DueForTask (Curve asked) places rounded = DueForAsked asked places
 DueForTask (Span asked) places rounded = DueForSpanAsked asked places rounded
+
+-- the cause of an answer to a request of one file, by what `Over` has of the number of its rounded numbers and over its data
+abbrev pub CausedByOneFile : (ℕ → Data → Status → List ℕ → Type 0) → List ℕ → Sight → Sight → Status → List ℕ → Type 0
+CausedByOneFile Over name before after status text = CausedByFiles (λ contents. DueForFile (DueForText Over) 1 (held_in contents 1 name) status text) 1 (name ∷ []) before after status text

@@ -1,8 +1,10 @@
 // The files of `check`, read whole one after another before anything is answered on what they say: the data file, which is fed to a reader,
 // the plan's, and that of multipliers if one is named.
-ghost use Rattle.std.specs.Prelude.{◌≡◌, ◌≤◌, List, ℕ, length, IfOk, option_map};
+ghost use Rattle.std.specs.Prelude.{◌≡◌, ◌≤◌, ◌∷◌, List, ℕ, length, IfOk, Ok, Some, option_map};
 ghost use Rattle.discount_factors.specs.Factors.{IsPlaces};
-ghost use Rattle.osemosys_run.specs.Causes.{CausedByFile, CausedByOptionalFile, FollowsFromText};
+ghost use Rattle.osemosys_run.specs.Asked.{check_asked, multiplier_names};
+ghost use Rattle.osemosys_run.specs.Causes.{CausedByFiles, CausedByRequest, held_in};
+ghost use Rattle.osemosys_run.specs.Due.{DueOver};
 ghost use Rattle.mathprog_data.specs.Pieces.{StandsFor};
 ghost use Rattle.check_command.specs.Check.{DueForCheck};
 ghost use Rattle.command_answers.specs.DueForText.{DueForText};
@@ -42,17 +44,12 @@ pub fn perform_check<S: Shelf>(
     shelf: &mut S,
 ) -> Result<Answer, AllocError>
     requires { IsPlaces asked.places }
-    ensures caused { IfOk result (λ answer.
-        let after = sight (S.files shelf.new) (S.rest shelf.new)
-        (S.faults shelf.new) (S.begins shelf.new) (S.taken shelf.new) in
-        CausedByFile (λ first bytes. CausedByFile (λ second plan_bytes. CausedByOptionalFile (λ there multiplier_bytes.
-        FollowsFromText (λ rounded. DueForCheck asked.entry.places plan_bytes multiplier_bytes asked.entry.gap) after answer.status answer.text.items there bytes)
-        3 (option_map (λ name. name.now) asked.entry.multipliers) second after answer.status answer.text.items)
-        2 asked.entry.plan.now first after answer.status answer.text.items)
-        1 asked.entry.file.now
-        (sight (S.files shelf.old) (S.rest shelf.old)
-        (S.faults shelf.old) (S.begins shelf.old) (S.taken shelf.old))
-        after answer.status answer.text.items) }
+    ensures caused { IfOk result (λ answer. CausedByRequest (Ok (check_asked asked.entry))
+        (sight (S.files shelf.old) (S.rest shelf.old) (S.faults shelf.old) (S.begins shelf.old)
+        (S.taken shelf.old) (S.moved shelf.old))
+        (sight (S.files shelf.new) (S.rest shelf.new) (S.faults shelf.new) (S.begins shelf.new)
+        (S.taken shelf.new) (S.moved shelf.new))
+        answer.status answer.text.items) }
     ensures files { S.files shelf.new ≡ S.files shelf.old }
     ensures faults { S.faults shelf.old ≤ S.faults shelf.new }
 {
@@ -72,15 +69,13 @@ fn check_plan_file<S: Shelf>(
     requires stands { (text : List ℕ) × StandsFor reader text }
     requires places { IsPlaces asked.places }
     ensures caused { (text : List ℕ) → StandsFor reader text → length text ≤ most_bytes → IfOk result (λ answer.
-        let after = sight (S.files shelf.new) (S.rest shelf.new)
-        (S.faults shelf.new) (S.begins shelf.new) (S.taken shelf.new) in
-        CausedByFile (λ second plan_bytes. CausedByOptionalFile (λ there multiplier_bytes.
-        FollowsFromText (λ rounded. DueForCheck asked.entry.places plan_bytes multiplier_bytes asked.entry.gap) after answer.status answer.text.items there text)
-        3 (option_map (λ name. name.now) asked.entry.multipliers) second after answer.status answer.text.items)
-        2 asked.entry.plan.now
-        (sight (S.files shelf.old) (S.rest shelf.old)
-        (S.faults shelf.old) (S.begins shelf.old) (S.taken shelf.old))
-        after answer.status answer.text.items) }
+        CausedByFiles (λ contents. DueOver (Ok (check_asked asked.entry)) (held_in (Some text ∷ contents)) answer.status answer.text.items)
+        2 (asked.entry.plan.now ∷ multiplier_names asked.entry)
+        (sight (S.files shelf.old) (S.rest shelf.old) (S.faults shelf.old) (S.begins shelf.old)
+        (S.taken shelf.old) (S.moved shelf.old))
+        (sight (S.files shelf.new) (S.rest shelf.new) (S.faults shelf.new) (S.begins shelf.new)
+        (S.taken shelf.new) (S.moved shelf.new))
+        answer.status answer.text.items) }
     ensures files { S.files shelf.new ≡ S.files shelf.old }
     ensures faults { S.faults shelf.old ≤ S.faults shelf.new }
 {
@@ -100,15 +95,14 @@ fn check_multiplier_file<S: Shelf>(
 ) -> Result<Answer, AllocError>
     requires stands { (text : List ℕ) × StandsFor reader text }
     requires places { IsPlaces asked.places }
-    ensures caused { (text : List ℕ) → StandsFor reader text → length text ≤ most_bytes → IfOk result (λ answer.
-        let after = sight (S.files shelf.new) (S.rest shelf.new)
-        (S.faults shelf.new) (S.begins shelf.new) (S.taken shelf.new) in
-        CausedByOptionalFile (λ there multiplier_bytes.
-        FollowsFromText (λ rounded. DueForCheck asked.entry.places plan.now multiplier_bytes asked.entry.gap) after answer.status answer.text.items there text)
-        3 (option_map (λ name. name.now) asked.entry.multipliers)
-        (sight (S.files shelf.old) (S.rest shelf.old)
-        (S.faults shelf.old) (S.begins shelf.old) (S.taken shelf.old))
-        after answer.status answer.text.items) }
+    ensures caused { (text : List ℕ) → StandsFor reader text → length text ≤ most_bytes → length plan.now ≤ most_bytes → IfOk result (λ answer.
+        CausedByFiles (λ contents. DueOver (Ok (check_asked asked.entry)) (held_in (Some text ∷ Some plan.now ∷ contents)) answer.status answer.text.items)
+        3 (multiplier_names asked.entry)
+        (sight (S.files shelf.old) (S.rest shelf.old) (S.faults shelf.old) (S.begins shelf.old)
+        (S.taken shelf.old) (S.moved shelf.old))
+        (sight (S.files shelf.new) (S.rest shelf.new) (S.faults shelf.new) (S.begins shelf.new)
+        (S.taken shelf.new) (S.moved shelf.new))
+        answer.status answer.text.items) }
     ensures files { S.files shelf.new ≡ S.files shelf.old }
     ensures faults { S.faults shelf.old ≤ S.faults shelf.new }
 {

@@ -2,6 +2,7 @@
 ghost use Rattle.std.specs.Prelude.{◌≡◌, ◌≤◌, true, ⊤};
 ghost use Rattle.std.specs.List.{AllByRecursion};
 ghost use Rattle.discount_factors.specs.Factors.{IsPlaces};
+ghost use Rattle.io_edges.specs.Outputs.{output};
 ghost use Rattle.model_sets.specs.Data.{AreSameData, Data};
 ghost use Rattle.mps_writer.specs.MpsText.{rows_text};
 ghost use Rattle.row_book.specs.Books.{IsWithinSets, NamesRowWithin};
@@ -32,7 +33,8 @@ use std::alloc::Global;
 pub fn write_equations<K: Sink>(alloc: Global, model: &ModelData, places: u8, out: &mut K) -> Status
     requires { IsPlaces places }
     ensures delivers { Delivers ⊤ (λ status text. (d : Data) → AreSameData model.now.facts d → DueForEquations places d status text) result
-        (K.written out.old) (K.written out.new) (K.faults out.old) (K.faults out.new) }
+        (output (K.written out.old) (K.accepted out.old)) (output (K.written out.new) (K.accepted out.new))
+        (K.faults out.old) (K.faults out.new) }
     ensures faults { K.faults out.old ≤ K.faults out.new }
 {
     same_data_laws();
@@ -42,7 +44,9 @@ pub fn write_equations<K: Sink>(alloc: Global, model: &ModelData, places: u8, ou
 // The same over the model's own data.
 fn write_model<K: Sink>(alloc: Global, model: &ModelData, places: u8, out: &mut K) -> Status
     requires { IsPlaces places }
-    ensures delivers { Delivers ⊤ (DueForEquations places model.now.facts) result (K.written out.old) (K.written out.new) (K.faults out.old) (K.faults out.new) }
+    ensures delivers { Delivers ⊤ (DueForEquations places model.now.facts) result
+        (output (K.written out.old) (K.accepted out.old)) (output (K.written out.new) (K.accepted out.new))
+        (K.faults out.old) (K.faults out.new) }
     ensures faults { K.faults out.old ≤ K.faults out.new }
 {
     match RowFeed::new(alloc, model, places) {
@@ -64,7 +68,8 @@ fn write_rows<K: Sink>(
     requires within { AllByRecursion (IsWithinSets model.now.facts.sets) vars.now }
     requires ascending { ascends var_cmp vars.now ≡ true }
     ensures delivers { Delivers ⊤ (IsTold Status.Done (rows_text model.now.facts.sets feed.old.rows vars.now)) result
-        (K.written out.old) (K.written out.new) (K.faults out.old) (K.faults out.new) }
+        (output (K.written out.old) (K.accepted out.old)) (output (K.written out.new) (K.accepted out.new))
+        (K.faults out.old) (K.faults out.new) }
     ensures faults { K.faults out.old ≤ K.faults out.new }
 {
     match mps_to(alloc, feed, vars, model.sets(), out) {
@@ -77,7 +82,9 @@ fn write_rows<K: Sink>(
 // The line for the first row that can't be made.
 fn write_refusal<K: Sink>(alloc: Global, model: &ModelData, fail: BookFail, out: &mut K) -> Status
     requires { NamesRowWithin model.now.facts.sets fail }
-    ensures delivers { Delivers ⊥ (TellsFail model.now.facts.sets fail) result (K.written out.old) (K.written out.new) (K.faults out.old) (K.faults out.new) }
+    ensures delivers { Delivers ⊥ (TellsFail model.now.facts.sets fail) result
+        (output (K.written out.old) (K.accepted out.old)) (output (K.written out.new) (K.accepted out.new))
+        (K.faults out.old) (K.faults out.new) }
     ensures faults { K.faults out.old ≤ K.faults out.new }
 {
     match refuse_book(alloc, fail, model.sets()) {

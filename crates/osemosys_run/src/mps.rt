@@ -5,10 +5,10 @@ ghost use Rattle.mathprog_data.specs.Pieces.{StandsFor};
 ghost use Rattle.command_answers.specs.Accepted.{most_bytes};
 ghost use Rattle.command_answers.specs.DueForText.{DueForText};
 ghost use Rattle.command_answers.specs.declared.status.Status.{Status};
-ghost use Rattle.osemosys_run.specs.Causes.{CausedByFile, FollowsFromText};
 ghost use Rattle.osemosys_run.specs.Mps.{DueForEquations};
 ghost use Rattle.osemosys_run.specs.Reading.{sight};
 ghost use Rattle.osemosys_run.specs.Replies.{DueForReply, HasPlaces};
+ghost use Rattle.osemosys_run.specs.Tasks.{CausedByOneFile};
 
 use crate::file_ends::refuse_file;
 use crate::reading::feed_file;
@@ -29,13 +29,13 @@ pub fn perform_mps<S: Shelf>(
     shelf: &mut S,
 ) -> Result<Reply, AllocError>
     requires { IsPlaces places }
-    ensures caused { IfOk result (λ reply. (status : Status) (text : List ℕ) → DueForReply reply status text →
-        let after = sight (S.files shelf.new) (S.rest shelf.new)
-        (S.faults shelf.new) (S.begins shelf.new) (S.taken shelf.new) in
-        CausedByFile (FollowsFromText (λ rounded. DueForEquations places) after status text) DATA_FILE file.now
-        (sight (S.files shelf.old) (S.rest shelf.old)
-        (S.faults shelf.old) (S.begins shelf.old) (S.taken shelf.old))
-        after status text) }
+    ensures caused { IfOk result (λ reply. (status : Status) (text : List ℕ) → DueForReply reply status text
+        → CausedByOneFile (λ rounded. DueForEquations places) file.now
+        (sight (S.files shelf.old) (S.rest shelf.old) (S.faults shelf.old) (S.begins shelf.old)
+        (S.taken shelf.old) (S.moved shelf.old))
+        (sight (S.files shelf.new) (S.rest shelf.new) (S.faults shelf.new) (S.begins shelf.new)
+        (S.taken shelf.new) (S.moved shelf.new))
+        status text) }
     ensures places { IfOk result HasPlaces }
     ensures files { S.files shelf.new ≡ S.files shelf.old }
     ensures faults { S.faults shelf.old ≤ S.faults shelf.new }

@@ -5,12 +5,11 @@ ghost use Rattle.std.specs.List.{AllByRecursion};
 ghost use Rattle.command_words.specs.LimitLists.{IsLimit};
 ghost use Rattle.discount_factors.specs.Factors.{IsPlaces};
 ghost use Rattle.model_sets.specs.Data.{AreSameData, Data};
-ghost use Rattle.osemosys_run.specs.Causes.{CausedByFile, FollowsFromText};
 ghost use Rattle.command_answers.specs.DueForText.{DueForText};
 ghost use Rattle.mathprog_data.specs.Pieces.{StandsFor};
 ghost use Rattle.command_answers.specs.Accepted.{most_bytes};
 ghost use Rattle.osemosys_run.specs.Reading.{sight};
-ghost use Rattle.osemosys_run.specs.Tasks.{DueForAsked, DueForSpanAsked, DueForTask, HasLimits};
+ghost use Rattle.osemosys_run.specs.Tasks.{CausedByOneFile, DueForAsked, DueForSpanAsked, DueForTask, HasLimits};
 
 use crate::file_ends::refuse_file;
 use crate::reading::feed_file;
@@ -77,13 +76,12 @@ pub fn perform_task<S: Shelf>(
 ) -> Result<Answer, AllocError>
     requires places { IsPlaces places }
     requires limits { HasLimits task }
-    ensures caused { IfOk result (λ answer.
-        let after = sight (S.files shelf.new) (S.rest shelf.new)
-        (S.faults shelf.new) (S.begins shelf.new) (S.taken shelf.new) in
-        CausedByFile (FollowsFromText (DueForTask task.entry places) after answer.status answer.text.items) DATA_FILE file.now
-        (sight (S.files shelf.old) (S.rest shelf.old)
-        (S.faults shelf.old) (S.begins shelf.old) (S.taken shelf.old))
-        after answer.status answer.text.items) }
+    ensures caused { IfOk result (λ answer. CausedByOneFile (DueForTask task.entry places) file.now
+        (sight (S.files shelf.old) (S.rest shelf.old) (S.faults shelf.old) (S.begins shelf.old)
+        (S.taken shelf.old) (S.moved shelf.old))
+        (sight (S.files shelf.new) (S.rest shelf.new) (S.faults shelf.new) (S.begins shelf.new)
+        (S.taken shelf.new) (S.moved shelf.new))
+        answer.status answer.text.items) }
     ensures files { S.files shelf.new ≡ S.files shelf.old }
     ensures faults { S.faults shelf.old ≤ S.faults shelf.new }
 {

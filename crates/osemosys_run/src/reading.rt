@@ -1,9 +1,9 @@
 // Whole files, read from a shelf to their ends.
-ghost use Rattle.std.specs.Prelude.{◌≡◌, ◌⊎◌, ◌≤◌, [], IfOk, IsErrOf, IsSome, Some, vec_len};
+ghost use Rattle.std.specs.Prelude.{◌≡◌, ◌⊎◌, ◌≤◌, IfOk, IsErrOf, vec_len};
 ghost use Rattle.io_edges.specs.Count.{counted, Rose};
 ghost use Rattle.io_edges.specs.Edges.{Lacks};
 ghost use Rattle.osemosys_run.specs.FedFiles.{IsFed};
-ghost use Rattle.osemosys_run.specs.Reading.{IsWholeFile, IsTooLong};
+ghost use Rattle.osemosys_run.specs.Reading.{HasFailed, IsMissing, IsTooLong, IsWholeFile, sight};
 ghost use Rattle.osemosys_run.specs.declared.reading.ReadEnd.TheVariants.{Memory};
 
 use io_edges::{OpenFault, Shelf};
@@ -54,17 +54,34 @@ impl From<OpenFault> for ReadEnd {
 
 /// Reads a file to its end, in rooms of 65,536 bytes. Every turn takes a byte, ends the file or fails.
 pub fn read_file<S: Shelf>(alloc: Global, name: &str, shelf: &mut S) -> Result<Vec<u8>, ReadEnd>
-    ensures whole { IfOk result (λ bytes. IsWholeFile (S.files shelf.old) name.now bytes.items
-        (S.rest shelf.old) (S.rest shelf.new) (S.taken shelf.new)) }
+    ensures whole { IfOk result (λ bytes. IsWholeFile
+        (sight (S.files shelf.old) (S.rest shelf.old) (S.faults shelf.old) (S.begins shelf.old)
+        (S.taken shelf.old) (S.moved shelf.old))
+        (sight (S.files shelf.new) (S.rest shelf.new) (S.faults shelf.new) (S.begins shelf.new)
+        (S.taken shelf.new) (S.moved shelf.new))
+        name.now bytes.items) }
 
     // When each refusal comes. That memory runs out has no cause.
-    ensures no_file { IsErrOf result ReadEnd.NoFile → Lacks (S.files shelf.old) name.now }
+    ensures no_file { IsErrOf result ReadEnd.NoFile → IsMissing
+        (sight (S.files shelf.old) (S.rest shelf.old) (S.faults shelf.old) (S.begins shelf.old)
+        (S.taken shelf.old) (S.moved shelf.old))
+        (sight (S.files shelf.new) (S.rest shelf.new) (S.faults shelf.new) (S.begins shelf.new)
+        (S.taken shelf.new) (S.moved shelf.new))
+        name.now }
     ensures missing { Lacks (S.files shelf.old) name.now → ¬ Rose (S.faults shelf.old) (S.faults shelf.new)
         → IsErrOf result ReadEnd.NoFile ⊎ IsErrOf result ReadEnd.Memory }
-    ensures unopened { IsErrOf result ReadEnd.NoFile → IsSome (S.rest shelf.old) → S.rest shelf.new ≡ Some [] }
-    ensures failed { IsErrOf result ReadEnd.Failed → Rose (S.faults shelf.old) (S.faults shelf.new) }
-    ensures too_long { IsErrOf result ReadEnd.TooLong
-        → IsTooLong (S.files shelf.old) name.now (S.taken shelf.new) }
+    ensures failed { IsErrOf result ReadEnd.Failed → HasFailed
+        (sight (S.files shelf.old) (S.rest shelf.old) (S.faults shelf.old) (S.begins shelf.old)
+        (S.taken shelf.old) (S.moved shelf.old))
+        (sight (S.files shelf.new) (S.rest shelf.new) (S.faults shelf.new) (S.begins shelf.new)
+        (S.taken shelf.new) (S.moved shelf.new))
+        name.now }
+    ensures too_long { IsErrOf result ReadEnd.TooLong → IsTooLong
+        (sight (S.files shelf.old) (S.rest shelf.old) (S.faults shelf.old) (S.begins shelf.old)
+        (S.taken shelf.old) (S.moved shelf.old))
+        (sight (S.files shelf.new) (S.rest shelf.new) (S.faults shelf.new) (S.begins shelf.new)
+        (S.taken shelf.new) (S.moved shelf.new))
+        name.now }
 
     // What stays, and what is counted.
     ensures files { S.files shelf.new ≡ S.files shelf.old }
@@ -91,16 +108,34 @@ pub fn read_file<S: Shelf>(alloc: Global, name: &str, shelf: &mut S) -> Result<V
 /// Reads a file to its end and feeds it to a reader of its text, in pieces of at most 65,536 bytes. What the text says, or its fault, is
 /// told when the reader ends.
 pub fn feed_file<S: Shelf>(alloc: Global, name: &str, shelf: &mut S) -> Result<PieceReader, ReadEnd>
-    ensures whole { IfOk result (λ reader. IsFed (S.files shelf.old) name.now reader (S.rest shelf.old) (S.rest shelf.new) (S.taken shelf.new)) }
+    ensures whole { IfOk result (λ reader. IsFed
+        (sight (S.files shelf.old) (S.rest shelf.old) (S.faults shelf.old) (S.begins shelf.old)
+        (S.taken shelf.old) (S.moved shelf.old))
+        (sight (S.files shelf.new) (S.rest shelf.new) (S.faults shelf.new) (S.begins shelf.new)
+        (S.taken shelf.new) (S.moved shelf.new))
+        name.now reader) }
 
     // When each refusal comes. That memory runs out has no cause.
-    ensures no_file { IsErrOf result ReadEnd.NoFile → Lacks (S.files shelf.old) name.now }
+    ensures no_file { IsErrOf result ReadEnd.NoFile → IsMissing
+        (sight (S.files shelf.old) (S.rest shelf.old) (S.faults shelf.old) (S.begins shelf.old)
+        (S.taken shelf.old) (S.moved shelf.old))
+        (sight (S.files shelf.new) (S.rest shelf.new) (S.faults shelf.new) (S.begins shelf.new)
+        (S.taken shelf.new) (S.moved shelf.new))
+        name.now }
     ensures missing { Lacks (S.files shelf.old) name.now → ¬ Rose (S.faults shelf.old) (S.faults shelf.new)
         → IsErrOf result ReadEnd.NoFile ⊎ IsErrOf result ReadEnd.Memory }
-    ensures unopened { IsErrOf result ReadEnd.NoFile → IsSome (S.rest shelf.old) → S.rest shelf.new ≡ Some [] }
-    ensures failed { IsErrOf result ReadEnd.Failed → Rose (S.faults shelf.old) (S.faults shelf.new) }
-    ensures too_long { IsErrOf result ReadEnd.TooLong
-        → IsTooLong (S.files shelf.old) name.now (S.taken shelf.new) }
+    ensures failed { IsErrOf result ReadEnd.Failed → HasFailed
+        (sight (S.files shelf.old) (S.rest shelf.old) (S.faults shelf.old) (S.begins shelf.old)
+        (S.taken shelf.old) (S.moved shelf.old))
+        (sight (S.files shelf.new) (S.rest shelf.new) (S.faults shelf.new) (S.begins shelf.new)
+        (S.taken shelf.new) (S.moved shelf.new))
+        name.now }
+    ensures too_long { IsErrOf result ReadEnd.TooLong → IsTooLong
+        (sight (S.files shelf.old) (S.rest shelf.old) (S.faults shelf.old) (S.begins shelf.old)
+        (S.taken shelf.old) (S.moved shelf.old))
+        (sight (S.files shelf.new) (S.rest shelf.new) (S.faults shelf.new) (S.begins shelf.new)
+        (S.taken shelf.new) (S.moved shelf.new))
+        name.now }
 
     // What stays, and what is counted.
     ensures files { S.files shelf.new ≡ S.files shelf.old }

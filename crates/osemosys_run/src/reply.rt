@@ -1,5 +1,6 @@
 // What is to be sent: an answer, or the equations of a model.
 ghost use Rattle.std.specs.Prelude.{◌≤◌};
+ghost use Rattle.io_edges.specs.Outputs.{output};
 ghost use Rattle.osemosys_run.specs.Replies.{CanBeSent, DueForReply, IsAsMade};
 ghost use Rattle.osemosys_run.specs.Sending.{Delivers};
 
@@ -22,7 +23,9 @@ pub enum Reply {
 /// Writes what is due.
 pub fn deliver<K: Sink>(alloc: Global, reply: Reply, out: &mut K) -> Status
     requires { CanBeSent reply }
-    ensures delivers { Delivers (IsAsMade reply) (DueForReply reply) result (K.written out.old) (K.written out.new) (K.faults out.old) (K.faults out.new) }
+    ensures delivers { Delivers (IsAsMade reply) (DueForReply reply) result
+        (output (K.written out.old) (K.accepted out.old)) (output (K.written out.new) (K.accepted out.new))
+        (K.faults out.old) (K.faults out.new) }
     ensures faults { K.faults out.old ≤ K.faults out.new }
 {
     match reply {

@@ -2,6 +2,7 @@
 ghost use Rattle.std.specs.Prelude.{◌≡◌, ◌≤◌, ◌⊎◌, ◌*ℤ◌, List, ℕ, ℤ, IfOk, map};
 ghost use Rattle.std.specs.String.{string_bytes};
 ghost use Rattle.io_edges.specs.Count.{Rose};
+ghost use Rattle.io_edges.specs.Outputs.{output};
 ghost use Rattle.io_edges.specs.Told.{WhereTold};
 ghost use Rattle.mathprog_data.specs.Meaning.{Blocks};
 ghost use Rattle.mathprog_data.specs.Verdicts.{FaultAt, Says};
@@ -88,21 +89,28 @@ pub fn osemosys<S: Shelf, K: Sink>(
     ensures due { WhereTold (S.files shelf.old) (λ files.
         (Rose (S.faults shelf.old) (S.faults shelf.new) → ⊥)
         → Delivers (AskForEquations (map string_bytes words.now)) (Due (map string_bytes words.now) files) result
-        (K.written out.old) (K.written out.new) (K.faults out.old) (K.faults out.new)) }
+        (output (K.written out.old) (K.accepted out.old)) (output (K.written out.new) (K.accepted out.new))
+        (K.faults out.old) (K.faults out.new)) }
 
-    // Over any shelf and any sink, status and text have their cause.
+    // Over any shelf and any sink, so also over the disk: each file that is asked for was read to its end, and status and the text that
+    // was taken are those that are due for the bytes that were moved; or the reading stopped, and they say where.
     ensures caused { Delivers (AskForEquations (map string_bytes words.now)) (Caused (map string_bytes words.now)
-        (sight (S.files shelf.old) (S.rest shelf.old)
-        (S.faults shelf.old) (S.begins shelf.old) (S.taken shelf.old))
-        (sight (S.files shelf.new) (S.rest shelf.new)
-        (S.faults shelf.new) (S.begins shelf.new) (S.taken shelf.new)))
+        (sight (S.files shelf.old) (S.rest shelf.old) (S.faults shelf.old) (S.begins shelf.old)
+        (S.taken shelf.old) (S.moved shelf.old))
+        (sight (S.files shelf.new) (S.rest shelf.new) (S.faults shelf.new) (S.begins shelf.new)
+        (S.taken shelf.new) (S.moved shelf.new)))
         result
-        (K.written out.old) (K.written out.new) (K.faults out.old) (K.faults out.new) }
+        (output (K.written out.old) (K.accepted out.old)) (output (K.written out.new) (K.accepted out.new))
+        (K.faults out.old) (K.faults out.new) }
 
-    // A file that is there, isn't too long and met no fault was read to its end, unless memory ran out.
+    // Files that are there, aren't too long and met no fault were read to their ends, unless memory ran out.
     ensures read_whole { WhereTold (S.files shelf.old) (λ files.
         (Rose (S.faults shelf.old) (S.faults shelf.new) → ⊥)
-        → ReadsWhole (map string_bytes words.now) files result (S.rest shelf.new)) }
+        → ReadsWhole (map string_bytes words.now) files result
+        (sight (S.files shelf.old) (S.rest shelf.old) (S.faults shelf.old) (S.begins shelf.old)
+        (S.taken shelf.old) (S.moved shelf.old))
+        (sight (S.files shelf.new) (S.rest shelf.new) (S.faults shelf.new) (S.begins shelf.new)
+        (S.taken shelf.new) (S.moved shelf.new))) }
 
     // A data file that isn't refused, and whose rows can be made, is written out; and a feasible plan with multipliers that
     // prove their bound and keep the gap is accepted, where the files are in form and every number that is formed for the
@@ -112,12 +120,12 @@ pub fn osemosys<S: Shelf, K: Sink>(
         (Rose (S.faults shelf.old) (S.faults shelf.new) → ⊥) → (Rose (K.faults out.old) (K.faults out.new) → ⊥)
         → Completes (map string_bytes words.now) files result) }
 
-    // A file was read to its end before any answer on what it says, over any shelf that tells its rest.
+    // Each file that is asked for was read to its end before any answer on what a file says, over any shelf.
     ensures read_to_end { IsReadToEnd (map string_bytes words.now)
-        (sight (S.files shelf.old) (S.rest shelf.old)
-        (S.faults shelf.old) (S.begins shelf.old) (S.taken shelf.old))
-        (sight (S.files shelf.new) (S.rest shelf.new)
-        (S.faults shelf.new) (S.begins shelf.new) (S.taken shelf.new))
+        (sight (S.files shelf.old) (S.rest shelf.old) (S.faults shelf.old) (S.begins shelf.old)
+        (S.taken shelf.old) (S.moved shelf.old))
+        (sight (S.files shelf.new) (S.rest shelf.new) (S.faults shelf.new) (S.begins shelf.new)
+        (S.taken shelf.new) (S.moved shelf.new))
         result }
 
     // What a text says is one thing, or it has one fault, and never both.
@@ -172,10 +180,10 @@ pub fn osemosys<S: Shelf, K: Sink>(
 // What is to be sent for the words, with what the shelf holds.
 fn perform<S: Shelf>(alloc: Global, words: &[String], shelf: &mut S) -> Result<Reply, AllocError>
     ensures caused { IfOk result (λ reply. (status : Status) (text : List ℕ) → DueForReply reply status text → Caused (map string_bytes words.now)
-        (sight (S.files shelf.old) (S.rest shelf.old)
-        (S.faults shelf.old) (S.begins shelf.old) (S.taken shelf.old))
-        (sight (S.files shelf.new) (S.rest shelf.new)
-        (S.faults shelf.new) (S.begins shelf.new) (S.taken shelf.new))
+        (sight (S.files shelf.old) (S.rest shelf.old) (S.faults shelf.old) (S.begins shelf.old)
+        (S.taken shelf.old) (S.moved shelf.old))
+        (sight (S.files shelf.new) (S.rest shelf.new) (S.faults shelf.new) (S.begins shelf.new)
+        (S.taken shelf.new) (S.moved shelf.new))
         status text) }
     ensures asked { IfOk result (IsAskedBy (map string_bytes words.now)) }
     ensures files { S.files shelf.new ≡ S.files shelf.old }

@@ -1,6 +1,7 @@
 use Rattle.std.proofs.Common.{inl, inr, rules}
 use Rattle.std.proofs.lemmas.Result.{IfOk-weaker}
 use Rattle.osemosys_run.specs.Reading.{BeganOne, Sight}
+use Rattle.osemosys_run.proofs.CheckedNames.{caused_by_check}
 use Rattle.osemosys_run.proofs.EndsOfFiles.{stops_at_file}
 use Rattle.osemosys_run.proofs.check_files.perform_check.Goals as goal
 
@@ -9,12 +10,14 @@ returns-in-Ok-clause-caused g c =
     let shelf = g.S.Shelf in
     let old = c.args.shelf.now in
     let there = c.feed_file.new.shelf in
-    let before : Sight = record { files = shelf.files old; rest = shelf.rest old; faults = shelf.faults old; begins = shelf.begins old; taken = shelf.taken old } in
-    let one : Sight = record { files = shelf.files there; rest = shelf.rest there; faults = shelf.faults there; begins = shelf.begins there; taken = shelf.taken there } in
+    let last = c.check_plan_file.new.shelf in
+    let before : Sight = record { files = shelf.files old; rest = shelf.rest old; faults = shelf.faults old; begins = shelf.begins old; taken = shelf.taken old; moved = shelf.moved old } in
+    let one : Sight = record { files = shelf.files there; rest = shelf.rest there; faults = shelf.faults there; begins = shelf.begins there; taken = shelf.taken there; moved = shelf.moved there } in
+    let after : Sight = record { files = shelf.files last; rest = shelf.rest last; faults = shelf.faults last; begins = shelf.begins last; taken = shelf.taken last; moved = shelf.moved last } in
     let began : BeganOne before one = record { files = c.feed_file.ensures.files; begins = c.feed_file.ensures.begins; faults = c.feed_file.ensures.faults } in
     let fed = c.in-Ok.ensures.whole in
     IfOk-weaker c.check_plan_file.result _ _
-    (λ answer caused. inl (one, fed.bytes, began, fed.whole, caused))
+    (λ answer caused. caused_by_check c.args.asked before after answer.status answer.text.items (inl (one, fed.bytes, began, fed.whole, caused)))
     (c.check_plan_file.ensures.caused fed.bytes fed.stands fed.whole.short)
 
 pub check_plan_file-requires-clause-stands : goal.check_plan_file-requires-clause-stands
@@ -25,9 +28,10 @@ returns-in-Err-clause-caused g c =
     let shelf = g.S.Shelf in
     let old = c.args.shelf.now in
     let there = c.feed_file.new.shelf in
-    let before : Sight = record { files = shelf.files old; rest = shelf.rest old; faults = shelf.faults old; begins = shelf.begins old; taken = shelf.taken old } in
-    let one : Sight = record { files = shelf.files there; rest = shelf.rest there; faults = shelf.faults there; begins = shelf.begins there; taken = shelf.taken there } in
+    let before : Sight = record { files = shelf.files old; rest = shelf.rest old; faults = shelf.faults old; begins = shelf.begins old; taken = shelf.taken old; moved = shelf.moved old } in
+    let one : Sight = record { files = shelf.files there; rest = shelf.rest there; faults = shelf.faults there; begins = shelf.begins there; taken = shelf.taken there; moved = shelf.moved there } in
     let began : BeganOne before one = record { files = c.feed_file.ensures.files; begins = c.feed_file.ensures.begins; faults = c.feed_file.ensures.faults } in
     IfOk-weaker c.refuse_file.result _ _
-    (λ answer told. inr (began, stops_at_file 1 c.args.asked.file.now before one c.in-Err.end answer.status answer.text.items told (search rules) (search rules) (search rules) (search rules)))
+    (λ answer told. caused_by_check c.args.asked before one answer.status answer.text.items
+    (inr (began, stops_at_file 1 c.args.asked.file.now before one c.in-Err.end answer.status answer.text.items told (search rules) (search rules) (search rules))))
     c.refuse_file.ensures

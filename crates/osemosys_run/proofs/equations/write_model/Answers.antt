@@ -8,6 +8,7 @@ use Rattle.command_answers.specs.BookFails.{TellsFail}
 use Rattle.command_answers.specs.declared.status.Status.{Status}
 use Rattle.command_answers.specs.declared.status.Status.TheVariants.{Done}
 use Rattle.command_answers.proofs.BookEnds.{refused_told}
+use Rattle.io_edges.specs.Outputs.{output}
 use Rattle.osemosys_run.specs.Mps.{DueForEquations}
 use Rattle.osemosys_run.specs.Replies.{IsTold}
 use Rattle.osemosys_run.proofs.Delivery.{delivers-weaker}
@@ -22,7 +23,7 @@ returns-in-Ok-clause-delivers g c =
     let contents : List RowContents = c.in-Ok.feed.rows in
     let said : AreContentsOf places d contents vars = c.in-Ok.ensures.rows in
     delivers-weaker ⊤ ⊤ (IsTold Done (rows_text d.sets contents c.deref.result.now)) (DueForEquations places d)
-    c.write_rows.result (sink.written c.args.out.now) (sink.written c.write_rows.new.out) (sink.faults c.args.out.now) (sink.faults c.write_rows.new.out)
+    c.write_rows.result (output (sink.written c.args.out.now) (sink.accepted c.args.out.now)) (output (sink.written c.write_rows.new.out) (sink.accepted c.write_rows.new.out)) (sink.faults c.args.out.now) (sink.faults c.write_rows.new.out)
     (λ made. made)
     (λ status text told. inl (record {
       made = c.in-Ok.ensures.made;
@@ -43,7 +44,7 @@ returns-in-Err-clause-delivers g c =
     let d = c.args.model.now.facts in
     let places = c.args.places in
     delivers-weaker ⊥ ⊤ (TellsFail d.sets c.in-Err.fail) (DueForEquations places d)
-    c.write_refusal.result (sink.written c.args.out.now) (sink.written c.write_refusal.new.out) (sink.faults c.args.out.now) (sink.faults c.write_refusal.new.out)
+    c.write_refusal.result (output (sink.written c.args.out.now) (sink.accepted c.args.out.now)) (output (sink.written c.write_refusal.new.out) (sink.accepted c.write_refusal.new.out)) (sink.faults c.args.out.now) (sink.faults c.write_refusal.new.out)
     (λ never. tt)
     (λ status text told. inr (refused_told places d d.sets c.in-Err.fail status text c.in-Err.ensures.stopped refl told))
     c.write_refusal.ensures.delivers

@@ -1,6 +1,7 @@
-use Rattle.std.proofs.Common.{◌≡◌, ℕ, List, inl, refl, subst}
+use Rattle.std.proofs.Common.{inl, refl, subst}
 use Rattle.model_sets.specs.Members.{SetLists}
 use Rattle.command_answers.specs.BookFails.{TellsFail}
+use Rattle.io_edges.specs.Outputs.{output}
 use Rattle.osemosys_run.specs.Replies.{IsTold}
 use Rattle.osemosys_run.proofs.Delivery.{delivers-weaker, told_so}
 use Rattle.osemosys_run.proofs.Outcomes.{fail_is_answer}
@@ -17,7 +18,7 @@ returns-in-Ok-clause-delivers g c =
     let told : TellsFail sets c.args.fail answer.status answer.text.items =
     subst (λ (all : SetLists). TellsFail all c.args.fail answer.status answer.text.items) c.sets.ensures.sets c.in-Ok.ensures in
     delivers-weaker ⊥ ⊥ (IsTold answer.status answer.text.items) (TellsFail sets c.args.fail)
-    c.send_answer.result (sink.written c.args.out.now) (sink.written c.send_answer.new.out) (sink.faults c.args.out.now) (sink.faults c.send_answer.new.out)
+    c.send_answer.result (output (sink.written c.args.out.now) (sink.accepted c.args.out.now)) (output (sink.written c.send_answer.new.out) (sink.accepted c.send_answer.new.out)) (sink.faults c.args.out.now) (sink.faults c.send_answer.new.out)
     (λ never. never)
     (λ status text said. told_so (TellsFail sets c.args.fail) answer.status answer.text.items told status text said)
     c.send_answer.ensures.delivers

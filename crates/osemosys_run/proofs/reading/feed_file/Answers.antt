@@ -1,9 +1,10 @@
-use Rattle.std.proofs.Common.{◌≡◌, ◌+◌, ◌<◌, ◌≤◌, ◌∙◌, ◌++◌, [], List, ℕ, length, take, rules, arith, subst}
+use Rattle.std.proofs.Common.{ap, ◌≡◌, ◌+◌, ◌<◌, ◌≤◌, ◌∙◌, ◌++◌, [], List, ℕ, length, take, rules, arith, subst}
 use Rattle.std.proofs.lemmas.Grind.{common_steps}
-use Rattle.std.proofs.lemmas.List.{length-append}
+use Rattle.std.proofs.lemmas.List.{length-append, length-take-le}
 use Rattle.mathprog_data.specs.Pieces.{StandsFor}
 use Rattle.command_answers.specs.Accepted.{most_bytes}
-use Rattle.osemosys_run.proofs.Parts.{begun, moved, ended, none_left, still_told, front_of_both}
+use Rattle.io_edges.specs.Moved.{MovedFile, with_read}
+use Rattle.osemosys_run.proofs.Parts.{begun, moved, moved_all, moved_on, ended, none_left, still_told, front_of_both}
 use Rattle.osemosys_run.proofs.reading.feed_file.Goals as goal
 
 pub rooms-init : goal.rooms-init
@@ -13,7 +14,7 @@ rooms-init g c =
       room = search rules;
       short = omega (arith, none);
       all_taken = omega (arith, none, c.in_ok-begin.ensures.taken);
-      read = ([], stands, λ all told. let opens = c.in_ok-begin.ensures.opens all told in begun _ _ opens.there opens.whole);
+      read = ([], stands, c.in_ok-begin.ensures.moved, λ all told. let opens = c.in_ok-begin.ensures.opens all told in begun _ _ opens.there opens.whole);
       told = search rules;
       files = search rules;
       begins = search rules;
@@ -23,11 +24,19 @@ rooms-init g c =
 pub returns-then-count-fed-clause-too_long : goal.returns-then-count-fed-clause-too_long
 returns-then-count-fed-clause-too_long g c = λ _.
     let read = c.rooms.invariant.read in
-    let many : most_bytes < c.rooms.reader.fed + c.in-Ok.count = omega (arith, c.fed.ensures.value, c.rooms.invariant.short, c.if-count-fed.true) in record {
-      many_taken = omega (arith, many, c.in-Ok.ensures.taken, c.rooms.invariant.all_taken);
-      at_once = omega (arith, c.in-Ok.ensures.taken, c.in-Ok.ensures.fits, c.rooms.invariant.all_taken, c.rooms.invariant.short, c.read.auto.room, c.deref_mut.ensures.value, c.deref_mut.ensures.len, c.rooms.invariant.room);
+    let many : most_bytes < c.rooms.reader.fed + c.in-Ok.count = omega (arith, c.fed.ensures.value, c.rooms.invariant.short, c.if-count-fed.true) in
+    let fits : c.in-Ok.count ≤ length c.read.new.room = c.in-Ok.ensures.fits in
+    let size : length (read.0 ++ take c.in-Ok.count c.read.new.room) ≡ c.rooms.reader.fed + c.in-Ok.count =
+    length-append read.0 (take c.in-Ok.count c.read.new.room) ∙ omega (arith, read.1.size, length-take-le c.in-Ok.count c.read.new.room fits) in record {
+      bytes = read.0 ++ take c.in-Ok.count c.read.new.room;
+      moved =
+          c.in-Ok.ensures.moved ∙ ap (λ (m : List MovedFile). with_read m c.in-Ok.count c.read.new.room) read.2
+          ∙ moved_on c.args.name.now read.0 c.read.new.room c.in-Ok.count (g.S.Shelf.moved c.args.shelf.now) (omega (arith, many, c.rooms.invariant.short));
+      many = omega (arith, many, size);
+      at_once = omega (arith, size, fits, c.rooms.invariant.short, c.read.auto.room, c.deref_mut.ensures.value, c.deref_mut.ensures.len, c.rooms.invariant.room);
+      all_taken = omega (arith, size, c.in-Ok.ensures.taken, fits, c.rooms.invariant.all_taken, c.rooms.invariant.short, c.read.auto.room, c.deref_mut.ensures.value, c.deref_mut.ensures.len, c.rooms.invariant.room);
       longer = λ all told.
-          let parts = read.2 all told in
+          let parts = read.3 all told in
           let within : c.in-Ok.count ≤ length parts.0 = (c.in-Ok.ensures.moves parts.0 parts.1).within in
           (read.0 ++ parts.0, parts.2, omega (arith, many, within, read.1.size, length-append read.0 parts.0));
     }
@@ -40,9 +49,12 @@ returns-then-count-eq0-clause-whole g c =
       bytes = read.0;
       stands = read.1;
       whole = record {
+        moved =
+            c.in-Ok.ensures.moved ∙ ap (λ (m : List MovedFile). with_read m c.in-Ok.count c.read.new.room) read.2
+            ∙ moved_all c.args.name.now read.0 c.read.new.room c.in-Ok.count (g.S.Shelf.moved c.args.shelf.now) c.if-count-eq0.true room_there;
         short = omega (arith, read.1.size, c.rooms.invariant.short);
         all_taken = omega (arith, c.in-Ok.ensures.taken, c.rooms.invariant.all_taken, c.if-count-eq0.true, read.1.size);
-        named = λ all told. ended _ _ _ _ _ _ (read.2 all told) c.in-Ok.ensures.moves c.if-count-eq0.true room_there;
+        named = λ all told. ended _ _ _ _ _ _ (read.3 all told) c.in-Ok.ensures.moves c.if-count-eq0.true room_there;
         none_left = λ told. none_left _ _ c.read.new.room _ (c.rooms.invariant.told told) c.in-Ok.ensures.moves c.if-count-eq0.true room_there;
       };
     }
@@ -58,7 +70,9 @@ rooms-preserved g c =
       read = (
         read.0 ++ take c.in-Ok.count c.read.new.room,
         subst (λ (room : List ℕ). StandsFor c.feed.new.self (read.0 ++ take c.in-Ok.count room)) same (c.feed.ensures.stands read.0 read.1),
-        λ all told. moved _ _ _ _ _ _ (read.2 all told) c.in-Ok.ensures.moves,
+        c.in-Ok.ensures.moved ∙ ap (λ (m : List MovedFile). with_read m c.in-Ok.count c.read.new.room) read.2
+            ∙ moved_on c.args.name.now read.0 c.read.new.room c.in-Ok.count (g.S.Shelf.moved c.args.shelf.now) (omega arith),
+        λ all told. moved _ _ _ _ _ _ (read.3 all told) c.in-Ok.ensures.moves,
       );
       told = λ told. still_told _ _ c.read.new.room _ (c.rooms.invariant.told told) c.in-Ok.ensures.moves;
       files = search rules;

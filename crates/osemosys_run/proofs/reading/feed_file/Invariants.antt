@@ -1,9 +1,10 @@
-use Rattle.std.proofs.Common.{◌≡◌, ℕ, ◌-◌, ◌≤◌, ◌++◌, List, vec_len, Some, IsSome}
+use Rattle.std.proofs.Common.{◌≡◌, ℕ, ◌-◌, ◌≤◌, ◌∷◌, ◌++◌, List, vec_len, Some, IsSome}
 use Rattle.io_edges.specs.Count.{counted}
 use Rattle.io_edges.specs.Files.{file_named}
 use Rattle.io_edges.specs.Told.{WhereTold}
 use Rattle.mathprog_data.specs.Pieces.{StandsFor}
 use Rattle.command_answers.specs.Accepted.{most_bytes}
+use Rattle.osemosys_run.specs.Reading.{part_of_file}
 use Rattle.osemosys_run.proofs.reading.feed_file.Given as goal
 
 -- what the reader was fed so far and what is left of the file are the file
@@ -14,7 +15,7 @@ invariant-rooms g l =
       room : vec_len l.room ≡ 65536;
       short : l.reader.fed ≤ most_bytes;
       all_taken : shelf.taken l.shelf ≡ l.reader.fed;
-      read : (bytes : List ℕ) × StandsFor l.reader bytes
+      read : (bytes : List ℕ) × StandsFor l.reader bytes × (shelf.moved l.shelf ≡ part_of_file l.name bytes ∷ shelf.moved l.fn.shelf)
           × WhereTold (shelf.files l.fn.shelf) (λ all. (left : List ℕ) × (shelf.rest l.shelf ≡ Some left) × (file_named all l.name ≡ Some (bytes ++ left)));
       told : IsSome (shelf.rest l.fn.shelf) → IsSome (shelf.rest l.shelf);
       files : shelf.files l.shelf ≡ shelf.files l.fn.shelf;

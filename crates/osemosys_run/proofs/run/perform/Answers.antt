@@ -7,12 +7,13 @@ use Rattle.std.specs.String.{string_bytes}
 use Rattle.command_words.specs.declared.fault.WordFault.{WordFault}
 use Rattle.solve_command.specs.declared.solve.Shown.{Shown}
 use Rattle.command_answers.specs.declared.status.Status.{Status}
-use Rattle.osemosys_run.specs.Causes.{CausedByFile, CausedByRequest, FollowsFromText}
+use Rattle.osemosys_run.specs.Causes.{CausedByRequest}
 use Rattle.osemosys_run.specs.Due.{AskForEquations}
 use Rattle.osemosys_run.proofs.Delivery.{asked_by, told_so}
 use Rattle.solve_command.specs.Solve.{DueForSolve}
 use Rattle.command_words.specs.Commands.{request_of_result}
 use Rattle.osemosys_run.specs.Reading.{Sight}
+use Rattle.osemosys_run.specs.Tasks.{CausedByOneFile}
 use Rattle.command_words.specs.Words.{Request, asked}
 use Rattle.command_words.proofs.Requests.{asked_places, check_places, curve_places, explain_places, make_size, solve_places, span_places}
 use Rattle.osemosys_run.proofs.run.perform.Goals as goal
@@ -67,8 +68,8 @@ returns-in-Ok-Mps-clause-caused g c =
     let shelf = g.S.Shelf in
     let old = c.args.shelf.now in
     let new = c.perform_mps.new.shelf in
-    let before : Sight = record { files = shelf.files old; rest = shelf.rest old; faults = shelf.faults old; begins = shelf.begins old; taken = shelf.taken old } in
-    let after : Sight = record { files = shelf.files new; rest = shelf.rest new; faults = shelf.faults new; begins = shelf.begins new; taken = shelf.taken new } in
+    let before : Sight = record { files = shelf.files old; rest = shelf.rest old; faults = shelf.faults old; begins = shelf.begins old; taken = shelf.taken old; moved = shelf.moved old } in
+    let after : Sight = record { files = shelf.files new; rest = shelf.rest new; faults = shelf.faults new; begins = shelf.begins new; taken = shelf.taken new; moved = shelf.moved new } in
     let request = ap request_of_result (sym (c.in-Ok-Mps.is ∙ ap Ok c.in-Ok-Mps.field-0-is)) ∙ c.in_ok-file.ensures in
     IfOk-weaker c.perform_mps.result _ _
     (λ reply caused status text said. subst (λ (r : Result Request WordFault). CausedByRequest r before after status text) request (caused status text said))
@@ -86,14 +87,14 @@ returns-in_ok-answer-in-Ok-Solve-clause-caused g c = λ status text said.
     let shelf = g.S.Shelf in
     let old = c.args.shelf.now in
     let new = c.perform_task.new.shelf in
-    let before : Sight = record { files = shelf.files old; rest = shelf.rest old; faults = shelf.faults old; begins = shelf.begins old; taken = shelf.taken old } in
-    let after : Sight = record { files = shelf.files new; rest = shelf.rest new; faults = shelf.faults new; begins = shelf.begins new; taken = shelf.taken new } in
+    let before : Sight = record { files = shelf.files old; rest = shelf.rest old; faults = shelf.faults old; begins = shelf.begins old; taken = shelf.taken old; moved = shelf.moved old } in
+    let after : Sight = record { files = shelf.files new; rest = shelf.rest new; faults = shelf.faults new; begins = shelf.begins new; taken = shelf.taken new; moved = shelf.moved new } in
     let request = ap request_of_result (sym (c.in-Ok-Solve.is ∙ ap Ok c.in-Ok-Solve.field-0-is)) ∙ c.in_ok-file.ensures in
     let solve = c.in-Ok-Solve in
     let answer = c.in_ok-answer-in-Ok-Solve.answer in
     told_so (λ (s : Status) (t : List ℕ). CausedByRequest (asked (map string_bytes c.args.words.now)) before after s t) answer.status answer.text.items
     (subst (λ (r : Result Request WordFault). CausedByRequest r before after answer.status answer.text.items) request
-    (subst (λ (shown : Shown). CausedByFile (FollowsFromText (DueForSolve solve.places solve.gap solve.pivots shown solve.method) after answer.status answer.text.items) 1 solve.file.now before after answer.status answer.text.items)
+    (subst (λ (shown : Shown). CausedByOneFile (DueForSolve solve.places solve.gap solve.pivots shown solve.method) solve.file.now before after answer.status answer.text.items)
     c.shown_of-show.ensures c.in_ok-answer-in-Ok-Solve.ensures.caused))
     status text said
 
@@ -102,8 +103,8 @@ returns-in_ok-answer-in-Ok-Explain-clause-caused g c = λ status text said.
     let shelf = g.S.Shelf in
     let old = c.args.shelf.now in
     let new = c.perform_task-in-Ok-Explain.new.shelf in
-    let before : Sight = record { files = shelf.files old; rest = shelf.rest old; faults = shelf.faults old; begins = shelf.begins old; taken = shelf.taken old } in
-    let after : Sight = record { files = shelf.files new; rest = shelf.rest new; faults = shelf.faults new; begins = shelf.begins new; taken = shelf.taken new } in
+    let before : Sight = record { files = shelf.files old; rest = shelf.rest old; faults = shelf.faults old; begins = shelf.begins old; taken = shelf.taken old; moved = shelf.moved old } in
+    let after : Sight = record { files = shelf.files new; rest = shelf.rest new; faults = shelf.faults new; begins = shelf.begins new; taken = shelf.taken new; moved = shelf.moved new } in
     let request = ap request_of_result (sym (c.in-Ok-Explain.is ∙ ap Ok c.in-Ok-Explain.field-0-is)) ∙ c.in_ok-file.ensures in
     let answer = c.in_ok-answer-in-Ok-Explain.answer in
     told_so (λ (s : Status) (t : List ℕ). CausedByRequest (asked (map string_bytes c.args.words.now)) before after s t) answer.status answer.text.items
@@ -116,14 +117,14 @@ returns-in_ok-answer-in-Ok-Curve-clause-caused g c = λ status text said.
     let shelf = g.S.Shelf in
     let old = c.args.shelf.now in
     let new = c.perform_task-in-Ok-Curve.new.shelf in
-    let before : Sight = record { files = shelf.files old; rest = shelf.rest old; faults = shelf.faults old; begins = shelf.begins old; taken = shelf.taken old } in
-    let after : Sight = record { files = shelf.files new; rest = shelf.rest new; faults = shelf.faults new; begins = shelf.begins new; taken = shelf.taken new } in
+    let before : Sight = record { files = shelf.files old; rest = shelf.rest old; faults = shelf.faults old; begins = shelf.begins old; taken = shelf.taken old; moved = shelf.moved old } in
+    let after : Sight = record { files = shelf.files new; rest = shelf.rest new; faults = shelf.faults new; begins = shelf.begins new; taken = shelf.taken new; moved = shelf.moved new } in
     let request = ap request_of_result (sym (c.in-Ok-Curve.is ∙ ap Ok c.in-Ok-Curve.field-0-is)) ∙ c.in_ok-file.ensures in
     let curve = c.in-Ok-Curve in
     let answer = c.in_ok-answer-in-Ok-Curve.answer in
     told_so (λ (s : Status) (t : List ℕ). CausedByRequest (asked (map string_bytes c.args.words.now)) before after s t) answer.status answer.text.items
     (subst (λ (r : Result Request WordFault). CausedByRequest r before after answer.status answer.text.items) request
-    (subst (λ (limits : List ℤ). CausedByFile (FollowsFromText (λ rounded. DueForCurve curve.places (record { method = curve.method; pivots = curve.pivots; gap = curve.gap }) curve.region.now curve.emission.now limits) after answer.status answer.text.items) 1 curve.file.now before after answer.status answer.text.items)
+    (subst (λ (limits : List ℤ). CausedByOneFile (λ rounded. DueForCurve curve.places (record { method = curve.method; pivots = curve.pivots; gap = curve.gap }) curve.region.now curve.emission.now limits) curve.file.now before after answer.status answer.text.items)
     c.deref.ensures.value c.in_ok-answer-in-Ok-Curve.ensures.caused))
     status text said
 
@@ -132,8 +133,8 @@ returns-in_ok-answer-in-Ok-Span-clause-caused g c = λ status text said.
     let shelf = g.S.Shelf in
     let old = c.args.shelf.now in
     let new = c.perform_task-in-Ok-Span.new.shelf in
-    let before : Sight = record { files = shelf.files old; rest = shelf.rest old; faults = shelf.faults old; begins = shelf.begins old; taken = shelf.taken old } in
-    let after : Sight = record { files = shelf.files new; rest = shelf.rest new; faults = shelf.faults new; begins = shelf.begins new; taken = shelf.taken new } in
+    let before : Sight = record { files = shelf.files old; rest = shelf.rest old; faults = shelf.faults old; begins = shelf.begins old; taken = shelf.taken old; moved = shelf.moved old } in
+    let after : Sight = record { files = shelf.files new; rest = shelf.rest new; faults = shelf.faults new; begins = shelf.begins new; taken = shelf.taken new; moved = shelf.moved new } in
     let request = ap request_of_result (sym (c.in-Ok-Span.is ∙ ap Ok c.in-Ok-Span.field-0-is)) ∙ c.in_ok-file.ensures in
     let answer = c.in_ok-answer-in-Ok-Span.answer in
     told_so (λ (s : Status) (t : List ℕ). CausedByRequest (asked (map string_bytes c.args.words.now)) before after s t) answer.status answer.text.items
@@ -146,8 +147,8 @@ returns-in_ok-answer-in-Ok-Check-clause-caused g c = λ status text said.
     let shelf = g.S.Shelf in
     let old = c.args.shelf.now in
     let new = c.perform_check.new.shelf in
-    let before : Sight = record { files = shelf.files old; rest = shelf.rest old; faults = shelf.faults old; begins = shelf.begins old; taken = shelf.taken old } in
-    let after : Sight = record { files = shelf.files new; rest = shelf.rest new; faults = shelf.faults new; begins = shelf.begins new; taken = shelf.taken new } in
+    let before : Sight = record { files = shelf.files old; rest = shelf.rest old; faults = shelf.faults old; begins = shelf.begins old; taken = shelf.taken old; moved = shelf.moved old } in
+    let after : Sight = record { files = shelf.files new; rest = shelf.rest new; faults = shelf.faults new; begins = shelf.begins new; taken = shelf.taken new; moved = shelf.moved new } in
     let request = ap request_of_result (sym (c.in-Ok-Check.is ∙ ap Ok c.in-Ok-Check.field-0-is)) ∙ c.in_ok-file.ensures in
     let answer = c.in_ok-answer-in-Ok-Check.answer in
     told_so (λ (s : Status) (t : List ℕ). CausedByRequest (asked (map string_bytes c.args.words.now)) before after s t) answer.status answer.text.items
@@ -159,20 +160,20 @@ pub returns-in_ok-answer-in-Ok-Make-clause-caused : goal.returns-in_ok-answer-in
 returns-in_ok-answer-in-Ok-Make-clause-caused g c = λ status text said.
     let shelf = g.S.Shelf in
     let old = c.args.shelf.now in
-    let before : Sight = record { files = shelf.files old; rest = shelf.rest old; faults = shelf.faults old; begins = shelf.begins old; taken = shelf.taken old } in
+    let before : Sight = record { files = shelf.files old; rest = shelf.rest old; faults = shelf.faults old; begins = shelf.begins old; taken = shelf.taken old; moved = shelf.moved old } in
     let request = ap request_of_result (sym (c.in-Ok-Make.is ∙ ap Ok c.in-Ok-Make.field-0-is)) ∙ c.in_ok-file.ensures in
     let answer = c.in_ok-answer-in-Ok-Make.answer in
     told_so (λ (s : Status) (t : List ℕ). CausedByRequest (asked (map string_bytes c.args.words.now)) before before s t) answer.status answer.text.items
-    (subst (λ (r : Result Request WordFault). CausedByRequest r before before answer.status answer.text.items) request (c.in_ok-answer-in-Ok-Make.ensures, refl))
+    (subst (λ (r : Result Request WordFault). CausedByRequest r before before answer.status answer.text.items) request (refl, c.in_ok-answer-in-Ok-Make.ensures))
     status text said
 
 pub returns-in_ok-answer-in-Err-clause-caused : goal.returns-in_ok-answer-in-Err-clause-caused
 returns-in_ok-answer-in-Err-clause-caused g c = λ status text said.
     let shelf = g.S.Shelf in
     let old = c.args.shelf.now in
-    let before : Sight = record { files = shelf.files old; rest = shelf.rest old; faults = shelf.faults old; begins = shelf.begins old; taken = shelf.taken old } in
+    let before : Sight = record { files = shelf.files old; rest = shelf.rest old; faults = shelf.faults old; begins = shelf.begins old; taken = shelf.taken old; moved = shelf.moved old } in
     let request = ap request_of_result (sym c.in-Err.is) ∙ c.in_ok-file.ensures in
     let answer = c.in_ok-answer-in-Err.answer in
     told_so (λ (s : Status) (t : List ℕ). CausedByRequest (asked (map string_bytes c.args.words.now)) before before s t) answer.status answer.text.items
-    (subst (λ (r : Result Request WordFault). CausedByRequest r before before answer.status answer.text.items) request (c.in_ok-answer-in-Err.ensures.0, c.in_ok-answer-in-Err.ensures.1, refl))
+    (subst (λ (r : Result Request WordFault). CausedByRequest r before before answer.status answer.text.items) request (refl, (c.in_ok-answer-in-Err.ensures.0, c.in_ok-answer-in-Err.ensures.1)))
     status text said

@@ -1,0 +1,139 @@
+-- From the cause of an answer to what is due over a shelf that tells its files.
+use Rattle.std.specs.Prelude.{⊤}
+use Rattle.std.proofs.Common.{◌≡◌, ◌<◌, ◌≤◌, ◌+◌, ℕ, inl, inr, List, [], ◌∷◌, map, length, Option, Some, None, Result, Ok, Err, Bool, sym, ◌∙◌, subst, MatchBool, le-ltb, lt-ltb}
+use Rattle.io_edges.specs.Count.{Rose}
+use Rattle.io_edges.specs.Edges.{Lacks}
+use Rattle.io_edges.specs.Files.{file_named}
+use Rattle.model_sets.specs.Data.{Data}
+use Rattle.command_answers.specs.declared.status.Status.{Status}
+use Rattle.command_answers.specs.declared.status.Status.TheVariants.{Refused, ReadFault}
+use Rattle.command_answers.specs.declared.status.Refusal.TheVariants as refusals
+use Rattle.command_answers.specs.declared.status.ReadStop.TheVariants as stops
+use Rattle.command_answers.specs.Accepted.{most_bytes}
+use Rattle.command_answers.specs.DueForText.{DueForText}
+use Rattle.command_answers.specs.Lines.{stop_line, too_long_line}
+use Rattle.command_words.specs.declared.fault.WordFault.{WordFault}
+use Rattle.command_words.specs.Words.{Request, Check, Curve, Explain, Make, Mps, Solve, Span, asked}
+use Rattle.check_command.specs.Check.{DueForCheck}
+use Rattle.curve_command.specs.Curve.{DueForCurve}
+use Rattle.explain_command.specs.Explain.{DueForExplain}
+use Rattle.solve_command.specs.Shown.{shown_of}
+use Rattle.solve_command.specs.Solve.{DueForSolve}
+use Rattle.span_command.specs.Span.{DueForSpan}
+use Rattle.osemosys_run.specs.Causes.{Caused, CausedByFiles, CausedByRequest, StopsAtFile, held_in}
+use Rattle.osemosys_run.specs.Due.{Due, DueForFile, DueForRequest, DueOver}
+use Rattle.osemosys_run.specs.Mps.{DueForEquations}
+use Rattle.osemosys_run.specs.Reading.{Sight}
+use Rattle.osemosys_run.proofs.FilesRead.{rose-since}
+
+-- ---- one file
+
+-- what is due over the bytes of a file that isn't too long is due over the file
+pub short_file : (Over : List ℕ → Status → List ℕ → Type 0) (number : ℕ) (bytes : List ℕ) (status : Status) (text : List ℕ) → length bytes ≤ most_bytes
+    → Over bytes status text → DueForFile Over number (Some bytes) status text
+short_file Over number bytes status text short over =
+    subst (λ (b : Bool). MatchBool b ((status ≡ Refused (refusals.TooLong number)) × (text ≡ too_long_line number)) (Over bytes status text)) (sym (le-ltb most_bytes (length bytes) short)) over
+
+-- and the other way round
+pub over_short : (Over : List ℕ → Status → List ℕ → Type 0) (number : ℕ) (bytes : List ℕ) (status : Status) (text : List ℕ) → length bytes ≤ most_bytes
+    → DueForFile Over number (Some bytes) status text → Over bytes status text
+over_short Over number bytes status text short due =
+    subst (λ (b : Bool). MatchBool b ((status ≡ Refused (refusals.TooLong number)) × (text ≡ too_long_line number)) (Over bytes status text)) (le-ltb most_bytes (length bytes) short) due
+
+-- what is due over a file that is too long
+long_file : (Over : List ℕ → Status → List ℕ → Type 0) (number : ℕ) (bytes : List ℕ) (status : Status) (text : List ℕ) → most_bytes < length bytes
+    → status ≡ Refused (refusals.TooLong number) → text ≡ too_long_line number → DueForFile Over number (Some bytes) status text
+long_file Over number bytes status text long s t =
+    subst (λ (b : Bool). MatchBool b ((status ≡ Refused (refusals.TooLong number)) × (text ≡ too_long_line number)) (Over bytes status text)) (sym (lt-ltb most_bytes (length bytes) long)) (s, t)
+
+-- ---- files one after another
+
+-- where what is due over the files of these names stops at one that is missing or too long, with numbers from this one on
+abbrev Stops : (List (Option (List ℕ)) → Type 0) → ℕ → List (List ℕ) → Status → List ℕ → Type 0
+Stops Says number [] status text = ⊤
+Stops Says number (name ∷ names) status text =
+    ((rest : List (Option (List ℕ))) → status ≡ ReadFault (stops.NoFile number) → text ≡ stop_line (stops.NoFile number) → Says (None ∷ rest))
+    × ((bytes : List ℕ) (rest : List (Option (List ℕ))) → most_bytes < length bytes → status ≡ Refused (refusals.TooLong number) → text ≡ too_long_line number → Says (Some bytes ∷ rest))
+    × ((bytes : List ℕ) → length bytes ≤ most_bytes → Stops (λ rest. Says (Some bytes ∷ rest)) (number + 1) names status text)
+
+-- where the files are known and the shelf had no fault, the answer with its cause is the one due
+due_of_files : (Says : List (Option (List ℕ)) → Type 0) (number : ℕ) (names : List (List ℕ)) (before after : Sight) (files : List (List ℕ × List ℕ)) (status : Status) (text : List ℕ)
+    → before.files ≡ Some files → (Rose before.faults after.faults → ⊥) → Stops Says number names status text → CausedByFiles Says number names before after status text
+    → Says (map (file_named files) names)
+due_of_files Says number [] before after files status text told calm stops (same, says) = says
+due_of_files Says number (name ∷ names) before after files status text told calm stops (inl (there, bytes, began, whole, next)) =
+    subst (λ (file : Option (List ℕ)). Says (file ∷ map (file_named files) names)) (sym (whole.named files told))
+    (due_of_files (λ rest. Says (Some bytes ∷ rest)) (number + 1) names there after files status text (began.files ∙ told)
+    (λ rose. calm (rose-since before there after began.faults rose)) (stops.2 bytes whole.short) next)
+due_of_files Says number (name ∷ names) before after files status text told calm stops (inr (began, stopped)) = at_stop stopped
+  where
+    rest : List (Option (List ℕ))
+    rest = map (file_named files) names
+
+    at_stop : StopsAtFile number name before after status text → Says (file_named files name ∷ rest)
+    at_stop (inl (s, t, long)) =
+        let whole = long.longer files told in
+        subst (λ (file : Option (List ℕ)). Says (file ∷ rest)) (sym whole.1) (stops.1 whole.0 rest whole.2 s t)
+    at_stop (inr (inl (s, t, missing))) =
+        let none : file_named files name ≡ None = subst (λ (o : Option (List (List ℕ × List ℕ))). Lacks o name) told missing.lacks in
+        subst (λ (file : Option (List ℕ)). Says (file ∷ rest)) (sym none) (stops.0 rest s t)
+    at_stop (inr (inr (s, t, failed))) = absurd (calm failed.rose)
+
+-- a request of one file
+one_file : (Over : List ℕ → Status → List ℕ → Type 0) (name : List ℕ) (status : Status) (text : List ℕ)
+    → Stops (λ contents. DueForFile Over 1 (held_in contents 1 name) status text) 1 (name ∷ []) status text
+one_file Over name status text = (λ rest s t. (s, t), λ bytes rest long s t. long_file Over 1 bytes status text long s t, λ bytes short. tt)
+
+-- ---- requests
+
+pub due_from_cause : (words : List (List ℕ)) (before after : Sight) (files : List (List ℕ × List ℕ)) (status : Status) (text : List ℕ)
+    → before.files ≡ Some files → (Rose before.faults after.faults → ⊥) → Caused words before after status text → Due words files status text
+due_from_cause words before after files status text told calm caused = by_request (asked words) caused
+  where
+    over_one : (Over : ℕ → Data → Status → List ℕ → Type 0) (name : List ℕ)
+        → CausedByFiles (λ contents. DueForFile (DueForText Over) 1 (held_in contents 1 name) status text) 1 (name ∷ []) before after status text
+        → DueForFile (DueForText Over) 1 (file_named files name) status text
+    over_one Over name c =
+        due_of_files (λ contents. DueForFile (DueForText Over) 1 (held_in contents 1 name) status text) 1 (name ∷ []) before after files status text told calm (one_file (DueForText Over) name status text) c
+
+    by_request : (request : Result Request WordFault) → CausedByRequest request before after status text → DueForRequest request files status text
+    by_request (Err fault) c = c.1
+    by_request (Ok (Make size show)) c = c.1
+    by_request (Ok (Mps name places)) c = over_one (λ rounded. DueForEquations places) name c
+    by_request (Ok (Solve name gap pivots places show method)) c = over_one (DueForSolve places gap pivots (shown_of show) method) name c
+    by_request (Ok (Explain name pivots places method)) c = over_one (λ rounded. DueForExplain places pivots method) name c
+    by_request (Ok (Curve name region emission limits gap pivots places method)) c =
+        over_one (λ rounded. DueForCurve places (record { method = method; pivots = pivots; gap = gap }) region emission limits) name c
+    by_request (Ok (Span name region technology year slack gap pivots places method)) c =
+        over_one (λ rounded. DueForSpan places (record { method = method; slack = slack; gap = gap; pivots = pivots }) rounded region technology year) name c
+    by_request (Ok (Check name plan None gap places)) c =
+        let second : List ℕ → List ℕ → Status → List ℕ → Type 0 = λ bytes plan_bytes. DueForText (λ rounded. DueForCheck places plan_bytes None gap) bytes in
+        due_of_files (λ contents. DueOver (Ok (Check name plan None gap places)) (held_in contents) status text) 1 (name ∷ plan ∷ []) before after files status text told calm (
+          λ rest s t. (s, t),
+          λ bytes rest long s t. long_file (λ found. DueForFile (second found) 2 (held_in (Some bytes ∷ rest) 2 plan)) 1 bytes status text long s t,
+          λ bytes short. (
+            λ rest s t. short_file (λ found. DueForFile (second found) 2 None) 1 bytes status text short (s, t),
+            λ plan_bytes rest long s t. short_file (λ found. DueForFile (second found) 2 (Some plan_bytes)) 1 bytes status text short (long_file (second bytes) 2 plan_bytes status text long s t),
+            λ plan_bytes plan_short. tt,
+          ),
+        ) c
+    by_request (Ok (Check name plan (Some multipliers) gap places)) c =
+        let third : List ℕ → List ℕ → List ℕ → Status → List ℕ → Type 0 = λ bytes plan_bytes multiplier_bytes. DueForText (λ rounded. DueForCheck places plan_bytes (Some multiplier_bytes) gap) bytes in
+        let second : Option (List ℕ) → List ℕ → List ℕ → Status → List ℕ → Type 0 = λ file bytes plan_bytes. DueForFile (third bytes plan_bytes) 3 file in
+        let first : Option (List ℕ) → Option (List ℕ) → List ℕ → Status → List ℕ → Type 0 = λ plan_file file bytes. DueForFile (second file bytes) 2 plan_file in
+        due_of_files (λ contents. DueOver (Ok (Check name plan (Some multipliers) gap places)) (held_in contents) status text) 1 (name ∷ plan ∷ multipliers ∷ []) before after files status text told calm (
+          λ rest s t. (s, t),
+          λ bytes rest long s t. long_file (first (held_in (Some bytes ∷ rest) 2 plan) (held_in (Some bytes ∷ rest) 3 multipliers)) 1 bytes status text long s t,
+          λ bytes short. (
+            λ rest s t. short_file (first None (held_in (Some bytes ∷ None ∷ rest) 3 multipliers)) 1 bytes status text short (s, t),
+            λ plan_bytes rest long s t.
+                let file : Option (List ℕ) = held_in (Some bytes ∷ Some plan_bytes ∷ rest) 3 multipliers in
+                short_file (first (Some plan_bytes) file) 1 bytes status text short (long_file (second file bytes) 2 plan_bytes status text long s t),
+            λ plan_bytes plan_short. (
+              λ rest s t. short_file (first (Some plan_bytes) None) 1 bytes status text short (short_file (second None bytes) 2 plan_bytes status text plan_short (s, t)),
+              λ multiplier_bytes rest long s t. short_file (first (Some plan_bytes) (Some multiplier_bytes)) 1 bytes status text short
+                  (short_file (second (Some multiplier_bytes) bytes) 2 plan_bytes status text plan_short (long_file (third bytes plan_bytes) 3 multiplier_bytes status text long s t)),
+              λ multiplier_bytes multiplier_short. tt,
+            ),
+          ),
+        ) c
