@@ -1,6 +1,7 @@
 -- The written factors of years computed on worked examples with 6 decimal places, and on near misses.
-use Rattle.std.proofs.Common.{◌≡◌, ◌+◌, ◌*◌, ◌^◌, refl}
-use Rattle.std.specs.Prelude.{nat_le, nat_lt, true, false}
+use Rattle.std.proofs.Common.{◌≡◌, ◌+◌, ◌*◌, ◌^◌, ◌≤◌, ◌<◌, refl, arith}
+use Rattle.std.specs.Prelude.{nat_le, true, false}
+use Rattle.discount_factors.specs.Closeness.{IsNearHalfPower, IsNearPower}
 use Rattle.discount_factors.specs.Factors.{discounted, capital_factor, half_year_root, root_from, operating_factor, salvage_fraction}
 
 -- ---- rate 0.05
@@ -118,27 +119,21 @@ next_is_above : nat_le (975900072949 * 975900072949 * (10 ^ 9 + 50000000)) (10 ^
 next_is_above = refl
 
 -- ---- closeness: the factor of 5 years is at most the real one and less than 2 below it; the next number is above it, and 2 less is too far below
-five_at_most : nat_le (783526 * (10 ^ 9 + 50000000) ^ 5) (10 ^ 6 * (10 ^ 9) ^ 5) ≡ true
-five_at_most = refl
+five_near : IsNearPower 6 50000000 5 783526
+five_near = record { at_most = omega arith; near = omega arith }
 
-five_near : nat_lt (10 ^ 6 * (10 ^ 9) ^ 5) ((783526 + 2) * (10 ^ 9 + 50000000) ^ 5) ≡ true
-five_near = refl
+next_above : ¬ (IsNearPower 6 50000000 5 783527)
+next_above h = let at_most : 783527 * (10 ^ 9 + 50000000) ^ 5 ≤ 10 ^ 6 * (10 ^ 9) ^ 5 = h.at_most in omega (arith, at_most)
 
-next_above : nat_le (783527 * (10 ^ 9 + 50000000) ^ 5) (10 ^ 6 * (10 ^ 9) ^ 5) ≡ false
-next_above = refl
-
-two_less_far : nat_lt (10 ^ 6 * (10 ^ 9) ^ 5) ((783524 + 2) * (10 ^ 9 + 50000000) ^ 5) ≡ false
-two_less_far = refl
+two_less_far : ¬ (IsNearPower 6 50000000 5 783524)
+two_less_far h = let near : 10 ^ 6 * (10 ^ 9) ^ 5 < 783526 * (10 ^ 9 + 50000000) ^ 5 = h.near in omega (arith, near)
 
 -- the same for the operating factor of no year, by the squares
-half_at_most : nat_le (975900 ^ 2 * (10 ^ 9 + 50000000) ^ 1) (10 ^ 12 * (10 ^ 9) ^ 1) ≡ true
-half_at_most = refl
+half_near : IsNearHalfPower 6 50000000 0 975900
+half_near = record { at_most = omega arith; near = omega arith }
 
-half_near : nat_lt (10 ^ 12 * (10 ^ 9) ^ 1) ((975900 + 2) ^ 2 * (10 ^ 9 + 50000000) ^ 1) ≡ true
-half_near = refl
+half_above : ¬ (IsNearHalfPower 6 50000000 0 975901)
+half_above h = let at_most : 975901 ^ 2 * (10 ^ 9 + 50000000) ^ 1 ≤ 10 ^ 12 * (10 ^ 9) ^ 1 = h.at_most in omega (arith, at_most)
 
-half_above : nat_le (975901 ^ 2 * (10 ^ 9 + 50000000) ^ 1) (10 ^ 12 * (10 ^ 9) ^ 1) ≡ false
-half_above = refl
-
-half_far : nat_lt (10 ^ 12 * (10 ^ 9) ^ 1) ((975898 + 2) ^ 2 * (10 ^ 9 + 50000000) ^ 1) ≡ false
-half_far = refl
+half_far : ¬ (IsNearHalfPower 6 50000000 0 975898)
+half_far h = let near : 10 ^ 12 * (10 ^ 9) ^ 1 < 975900 ^ 2 * (10 ^ 9 + 50000000) ^ 1 = h.near in omega (arith, near)

@@ -1,7 +1,8 @@
 -- The written factors computed with 9 decimal places, and near misses.
-use Rattle.std.proofs.Common.{◌≡◌, ◌+◌, ◌*◌, ◌/◌, ◌^◌, refl}
-use Rattle.std.specs.Prelude.{nat_eq, nat_le, nat_lt, true, false}
-use Rattle.discount_factors.specs.Factors.{unit_of, discounted, capital_factor, half_year_root, root_from, operating_factor, salvage_fraction}
+use Rattle.std.proofs.Common.{◌≡◌, ◌+◌, ◌*◌, ◌/◌, ◌^◌, ◌≤◌, ◌<◌, refl, arith}
+use Rattle.std.specs.Prelude.{nat_eq, false}
+use Rattle.discount_factors.specs.Closeness.{IsNearHalfPower, IsNearPower}
+use Rattle.discount_factors.specs.Factors.{discounted, capital_factor, half_year_root, root_from, operating_factor, salvage_fraction}
 
 -- ---- rate 0.05
 capital_of_5 : capital_factor 9 50000000 5 ≡ 783526166
@@ -60,26 +61,20 @@ unfolding capital_factor discounted
 doubled_capital_of_30 = refl
 
 -- ---- closeness: the factor of 5 years is at most the real one and less than 2 below it; the next number is above it, and 2 less is too far below
-five_at_most : nat_le (783526166 * (10 ^ 9 + 50000000) ^ 5) (unit_of 9 * (10 ^ 9) ^ 5) ≡ true
-five_at_most = refl
+five_near : IsNearPower 9 50000000 5 783526166
+five_near = record { at_most = omega arith; near = omega arith }
 
-five_near : nat_lt (unit_of 9 * (10 ^ 9) ^ 5) ((783526166 + 2) * (10 ^ 9 + 50000000) ^ 5) ≡ true
-five_near = refl
+next_above : ¬ (IsNearPower 9 50000000 5 783526167)
+next_above h = let at_most : 783526167 * (10 ^ 9 + 50000000) ^ 5 ≤ 10 ^ 9 * (10 ^ 9) ^ 5 = h.at_most in omega (arith, at_most)
 
-next_above : nat_le (783526167 * (10 ^ 9 + 50000000) ^ 5) (unit_of 9 * (10 ^ 9) ^ 5) ≡ false
-next_above = refl
+two_less_far : ¬ (IsNearPower 9 50000000 5 783526164)
+two_less_far h = let near : 10 ^ 9 * (10 ^ 9) ^ 5 < 783526166 * (10 ^ 9 + 50000000) ^ 5 = h.near in omega (arith, near)
 
-two_less_far : nat_lt (unit_of 9 * (10 ^ 9) ^ 5) ((783526164 + 2) * (10 ^ 9 + 50000000) ^ 5) ≡ false
-two_less_far = refl
+half_near : IsNearHalfPower 9 50000000 1 929428640
+half_near = record { at_most = omega arith; near = omega arith }
 
-half_at_most : nat_le (929428640 ^ 2 * (10 ^ 9 + 50000000) ^ 3) (unit_of 9 ^ 2 * (10 ^ 9) ^ 3) ≡ true
-half_at_most = refl
+half_above : ¬ (IsNearHalfPower 9 50000000 1 929428641)
+half_above h = let at_most : 929428641 ^ 2 * (10 ^ 9 + 50000000) ^ 3 ≤ 10 ^ 18 * (10 ^ 9) ^ 3 = h.at_most in omega (arith, at_most)
 
-half_near : nat_lt (unit_of 9 ^ 2 * (10 ^ 9) ^ 3) ((929428640 + 2) ^ 2 * (10 ^ 9 + 50000000) ^ 3) ≡ true
-half_near = refl
-
-half_above : nat_le (929428641 ^ 2 * (10 ^ 9 + 50000000) ^ 3) (unit_of 9 ^ 2 * (10 ^ 9) ^ 3) ≡ false
-half_above = refl
-
-half_far : nat_lt (unit_of 9 ^ 2 * (10 ^ 9) ^ 3) ((929428638 + 2) ^ 2 * (10 ^ 9 + 50000000) ^ 3) ≡ false
-half_far = refl
+half_far : ¬ (IsNearHalfPower 9 50000000 1 929428638)
+half_far h = let near : 10 ^ 18 * (10 ^ 9) ^ 3 < 929428640 ^ 2 * (10 ^ 9 + 50000000) ^ 3 = h.near in omega (arith, near)

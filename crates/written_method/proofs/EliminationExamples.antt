@@ -12,19 +12,19 @@ use Rattle.written_method.specs.Eliminated.{unscaled, is_kept, is_column, cost_v
 use Rattle.written_method.specs.Expanded.{expanded}
 
 -- the variable of this kind whose first subscript is r
-abbrev variable : ℕ → ℕ → Var
+abbrev pub variable : ℕ → ℕ → Var
 variable kind r = record { kind = kind; index = record { region = r; other = 0; slice = 0; tech = 0; fuel = 0; emission = 0; mode = 0; year = 0 } }
 
-abbrev x : Var
+abbrev pub x : Var
 x = variable 1 0
 
-abbrev n : Var
+abbrev pub n : Var
 n = variable 2 0
 
-abbrev t : Var
+abbrev pub t : Var
 t = variable 6 0
 
-abbrev c : Var
+abbrev pub c : Var
 c = variable 37 0
 
 -- t - n = 0, and the same with twice t

@@ -13,27 +13,27 @@ use Rattle.written_method.specs.Rounds.{Pivot, due}
 use Rattle.written_method.specs.Runs.{answer, answer_of, run}
 use Rattle.written_method.specs.Solved.{IsOptimal, IsInfeasible, IsUnbounded, IsOutOfPivots, solved}
 
-abbrev first_place : Index
+abbrev pub first_place : Index
 first_place = record { region = 0; other = 0; slice = 0; tech = 0; fuel = 0; emission = 0; mode = 0; year = 0 }
 
-abbrev activity : Var
+abbrev pub activity : Var
 activity = record { kind = 1; index = first_place }
 
-abbrev new_capacity : Var
+abbrev pub new_capacity : Var
 new_capacity = record { kind = 2; index = first_place }
 
 -- activity at most capacity
-abbrev within_capacity : Inequality
+abbrev pub within_capacity : Inequality
 within_capacity = record { sense = Most; entries = (activity, pos 1) ∷ (new_capacity, negsuc 0) ∷ []; right = pos 0 }
 
-abbrev at_least : ℤ → Inequality
+abbrev pub at_least : ℤ → Inequality
 at_least amount = record { sense = Least; entries = (activity, pos 1) ∷ []; right = amount }
 
-abbrev at_most : ℤ → Inequality
+abbrev pub at_most : ℤ → Inequality
 at_most amount = record { sense = Most; entries = (new_capacity, pos 1) ∷ []; right = amount }
 
 -- with a cost of a for each unit of activity and of c for each unit of capacity, z - a x - c n is 0: the numbers here are -a and -c
-abbrev model_of : List Inequality → ℤ → ℤ → LinearProgram
+abbrev pub model_of : List Inequality → ℤ → ℤ → LinearProgram
 model_of rows minus_a minus_c = record {
   rows = rows;
   columns = activity ∷ new_capacity ∷ [];
@@ -42,7 +42,7 @@ model_of rows minus_a minus_c = record {
   cost_own = pos 1;
 }
 
-abbrev base_rows : List Inequality
+abbrev pub base_rows : List Inequality
 base_rows = within_capacity ∷ within_capacity ∷ at_least (pos 10) ∷ at_least (pos 0) ∷ []
 
 abbrev base : LinearProgram

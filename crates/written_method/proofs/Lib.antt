@@ -1,7 +1,11 @@
-mod EliminationExamples
+pub mod EliminationExamples
 mod LiftedExamples
+mod FormedExamples
+mod RunExamples
+pub mod MadeRows
+mod PlaceExamples
 pub mod RunLaws
-mod Examples
+pub mod Examples
 pub mod CombinedLaws
 pub mod PivotLaws
 pub mod BasisLaws
