@@ -42,6 +42,7 @@ one_line-from_test text passes = record { bytes = each text passes }
         first : (a b : Bool) → (not a && b) ≡ true → a ≡ false
         first true b e = absurd (cc e)
         first false b e = refl
+
         others : (a b : Bool) → (not a && b) ≡ true → b ≡ true
         others true b e = absurd (cc e)
         others false b e = e
