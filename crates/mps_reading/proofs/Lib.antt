@@ -1,5 +1,6 @@
 pub mod Places
 pub mod ReadRows
+mod ReadingExamples
 pub mod Sections
 pub mod Sound
 pub mod Stated
