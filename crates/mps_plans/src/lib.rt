@@ -16,7 +16,9 @@ ghost use Rattle.mps_writer.specs.MpsText.{mps_text};
 
 /// Over accepted data the text of a row for each instance, with the variables of the rows as its columns, reads as a program of the plans.
 pub fn plans_law()
-    ensures means { (places : ℕ) (file : List ℕ) (d : Data) (rows : List Row) (columns : List Var) → Accepted file d
-        → AreRowsOf places d (instances d) rows → AreVariablesOf rows columns
-        → (program : Program) × (program_of (mps_text d.sets rows columns) ≡ Some program) × IsProgramOf places d program }
+    ensures means { (places : ℕ) (file : List ℕ) (d : Data) (rows : List Row) (columns : List Var) →
+        Accepted file d → AreRowsOf places d (instances d) rows → AreVariablesOf rows columns →
+        (program : Program)
+        × (program_of (mps_text d.sets rows columns) ≡ Some program)
+        × IsProgramOf places d program }
 {}
