@@ -1,6 +1,7 @@
-mod Places
-mod ReadRows
-mod Sections
-mod Sound
-mod Stated
-mod Whole
+pub mod Places
+pub mod ReadRows
+mod ReadingExamples
+pub mod Sections
+pub mod Sound
+pub mod Stated
+pub mod Whole

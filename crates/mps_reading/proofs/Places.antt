@@ -67,7 +67,7 @@ abbrev pub Among : List Var → Var → Type 0
 Among [] v = ⊥
 Among (w ∷ ws) v = (w ≡ v) ⊎ Among ws v
 
-among-after : (w v : Var) (ws : List Var) → AllAfter w ws → Among ws v → IsBefore w v
+pub among-after : (w v : Var) (ws : List Var) → AllAfter w ws → Among ws v → IsBefore w v
 among-after w v [] after there = absurd there
 among-after w v (u ∷ ws) after (inl e) = subst (IsBefore w) e after.0
 among-after w v (u ∷ ws) after (inr later) = among-after w v ws after.1 later
@@ -85,7 +85,7 @@ place-within v (w ∷ ws) up (inr later) =
     let less = among-after w v ws (all-after w ws up) later in
     omega (arith, place-later w v ws less, place-within v ws (ascends-tail var_cmp w ws up) later)
 
-irreflexive : (v : Var) → IsBefore v v → ⊥
+pub irreflexive : (v : Var) → IsBefore v v → ⊥
 irreflexive v less = cc (before-apart v v less, same-self v)
 
 -- an earlier variable has an earlier place

@@ -72,18 +72,18 @@ among-at [] v k inside e = absurd (omega (arith, inside))
 among-at (w ∷ vs) v zero inside e = inl e
 among-at (w ∷ vs) v (suc k) inside e = inr (among-at vs v k (omega (arith, inside)) e)
 
-among-from : (vs : List Var) (v : Var) → Contains vs v → Among vs v
+pub among-from : (vs : List Var) (v : Var) → Contains vs v → Among vs v
 among-from vs v there = among-at vs v there.0 there.1 there.2
 
-all-left : {A : Type 0} (P : A → Type 0) (xs ys : List A) → AllByRecursion P (xs ++ ys) → AllByRecursion P xs
+pub all-left : {A : Type 0} (P : A → Type 0) (xs ys : List A) → AllByRecursion P (xs ++ ys) → AllByRecursion P xs
 all-left P [] ys all = tt
 all-left P (x ∷ xs) ys all = (all.0, all-left P xs ys all.1)
 
-all-right : {A : Type 0} (P : A → Type 0) (xs ys : List A) → AllByRecursion P (xs ++ ys) → AllByRecursion P ys
+pub all-right : {A : Type 0} (P : A → Type 0) (xs ys : List A) → AllByRecursion P (xs ++ ys) → AllByRecursion P ys
 all-right P [] ys all = all
 all-right P (x ∷ xs) ys all = all-right P xs ys all.1
 
-with-columns : (columns : List Var) (rows : List Row) → AllByRecursion (Contains columns) (entry_variables rows) → AllByRecursion (λ row. IsWithColumns columns (contents_of row)) rows
+pub with-columns : (columns : List Var) (rows : List Row) → AllByRecursion (Contains columns) (entry_variables rows) → AllByRecursion (λ row. IsWithColumns columns (contents_of row)) rows
 with-columns columns [] listed = tt
 with-columns columns (row ∷ rows) listed = (
   record { ascending = row.ascending; among = all-weaker (Contains columns) (Among columns) (among-from columns) (variables_of row.entries.items) (all-left (Contains columns) (variables_of row.entries.items) (entry_variables rows) listed) },

@@ -11,6 +11,7 @@ ghost use Rattle.mps_writer.specs.MpsText.{mps_text};
 
 /// The text of rows reads as their program.
 pub fn reading_law()
-    ensures reads { (sets : SetLists) (rows : List Row) (columns : List Var) → AreReadable sets rows columns
-        → program_of (mps_text sets rows columns) ≡ Some (program_of_rows rows columns) }
+    ensures reads { (sets : SetLists) (rows : List Row) (columns : List Var) →
+        AreReadable sets rows columns →
+        program_of (mps_text sets rows columns) ≡ Some (program_of_rows rows columns) }
 {}

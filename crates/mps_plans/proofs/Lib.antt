@@ -1,0 +1,6 @@
+pub mod AcceptedData
+pub mod AcceptedNames
+pub mod Counts
+pub mod Law
+pub mod NameLines
+pub mod Values
