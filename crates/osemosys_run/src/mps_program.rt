@@ -11,7 +11,8 @@ use mps_plans::plans_law;
 
 /// The text of the equations of accepted data reads as a linear program of their plans.
 pub fn mps_laws()
-    ensures means { (places : ℕ) (file text : List ℕ) (d : Data) → Accepted file d → WritesEquations places d text →
+    ensures means { (places : ℕ) (file text : List ℕ) (d : Data) →
+        Accepted file d → WritesEquations places d text →
         (program : Program) × (program_of text ≡ Some program) × IsProgramOf places d program }
 {
     plans_law();

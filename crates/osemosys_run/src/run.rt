@@ -141,7 +141,8 @@ pub fn osemosys<S: Shelf, K: Sink>(
     // The text that `mps` writes of accepted data is a linear program of the plans: it reads, as free MPS, as one whose columns are the
     // variables that exist and whose rows say what the equations say, which the values of a plan meet exactly where the plan is
     // feasible, and which costs what the plan costs.
-    ensures mps_means { (places : ℕ) (file text : List ℕ) (d : Data) → Accepted file d → WritesEquations places d text →
+    ensures mps_means { (places : ℕ) (file text : List ℕ) (d : Data) →
+        Accepted file d → WritesEquations places d text →
         (program : Program) × (program_of text ≡ Some program) × IsProgramOf places d program }
 
     // The parts that the words after a command say are those that are spelled so.
