@@ -11,6 +11,7 @@ mod equations;
 mod file_ends;
 mod making;
 mod mps;
+mod mps_program;
 mod one_file;
 mod reading;
 mod reply;

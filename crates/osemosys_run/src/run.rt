@@ -1,5 +1,5 @@
 // The top call: words, reading, accepting, answering, sending.
-ghost use Rattle.std.specs.Prelude.{◌≡◌, ◌≤◌, ◌⊎◌, ◌*ℤ◌, List, ℕ, ℤ, IfOk, map};
+ghost use Rattle.std.specs.Prelude.{◌≡◌, ◌≤◌, ◌⊎◌, ◌*ℤ◌, List, ℕ, ℤ, Some, IfOk, map};
 ghost use Rattle.std.specs.String.{string_bytes};
 ghost use Rattle.io_edges.specs.Count.{Rose};
 ghost use Rattle.io_edges.specs.Outputs.{output};
@@ -8,6 +8,9 @@ ghost use Rattle.mathprog_data.specs.Meaning.{Blocks};
 ghost use Rattle.mathprog_data.specs.Verdicts.{FaultAt, Says};
 ghost use Rattle.mathprog_data.specs.declared.blocks.Mark.{Mark};
 ghost use Rattle.model_sets.specs.Data.{Data};
+ghost use Rattle.mps_meaning.specs.Programs.{Program};
+ghost use Rattle.mps_meaning.specs.Reading.{program_of};
+ghost use Rattle.mps_plans.specs.PlanPrograms.{IsProgramOf};
 ghost use Rattle.exact_num.specs.Rational.{Rational};
 ghost use Rattle.named_equations.specs.Instances.{instances};
 ghost use Rattle.named_equations.specs.Notation.{scale_of, sum_over};
@@ -25,6 +28,7 @@ ghost use Rattle.command_answers.specs.Accepted.{Accepted};
 ghost use Rattle.osemosys_run.specs.Causes.{Caused};
 ghost use Rattle.osemosys_run.specs.Complete.{Completes};
 ghost use Rattle.osemosys_run.specs.Due.{AskForEquations, Due};
+ghost use Rattle.osemosys_run.specs.Mps.{WritesEquations};
 ghost use Rattle.command_answers.specs.NotAccepted.{DueWhereNotAccepted};
 ghost use Rattle.solve_command.specs.Promises.{ArePromised};
 ghost use Rattle.osemosys_run.specs.Reading.{sight};
@@ -37,6 +41,7 @@ ghost use Rattle.command_words.specs.WordParts.{HasSpelledParts, Part};
 use crate::check_files::{Asked, perform_check};
 use crate::making::perform_make;
 use crate::mps::perform_mps;
+use crate::mps_program::mps_laws;
 use crate::one_file::{CurveAsked, SpanAsked, Task, perform_task};
 use crate::reply::{Reply, deliver};
 use command_answers::{Status, acceptance_laws, refuse_words};
@@ -141,6 +146,13 @@ pub fn osemosys<S: Shelf, K: Sink>(
         DueWhereNotAccepted text status line → DueWhereNotAccepted text other another → line ≡ another }
     ensures not_accepted { (text : List ℕ) (d : Data) (status : Status) (line : List ℕ) → Accepted text d → DueWhereNotAccepted text status line → ⊥ }
 
+    // The text that `mps` writes of accepted data is a linear program of the plans: it reads, as free MPS, as one whose columns are the
+    // variables that exist and whose rows say what the equations say, which the values of a plan meet exactly where the plan is
+    // feasible, and which costs what the plan costs.
+    ensures mps_means { (places : ℕ) (file text : List ℕ) (d : Data) →
+        Accepted file d → WritesEquations places d text →
+        (program : Program) × (program_of text ≡ Some program) × IsProgramOf places d program }
+
     // The parts that the words after a command say are those that are spelled so.
     ensures spelled_parts { (words : List (List ℕ)) (parts : List Part) → HasSpelledParts words parts }
 
@@ -168,6 +180,7 @@ pub fn osemosys<S: Shelf, K: Sink>(
     acceptance_laws();
     stop_laws();
     telling_laws();
+    mps_laws();
     spelled_parts();
     quantity_laws();
     promise_laws();
