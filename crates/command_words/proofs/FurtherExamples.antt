@@ -130,6 +130,7 @@ gap_beside_no_method : asked (codes "curve" ∷ codes "f" ∷ codes "R" ∷ code
 gap_beside_no_method = refl
 
 gap_of_rounded_curve : asked (codes "curve" ∷ codes "f" ∷ codes "R" ∷ codes "CO2" ∷ codes "x" ∷ codes "--gap=5" ∷ codes "--method=rounded" ∷ []) ≡ Err BadNumber
+unfolding limit_of all_of
 gap_of_rounded_curve = refl
 
 -- ---- span

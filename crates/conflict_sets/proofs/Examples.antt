@@ -1,16 +1,21 @@
 -- The definitions, computed: the list that multipliers make, what is left of it, and its ends.
-use Rattle.std.proofs.Common.{◌≡◌, ◌≤◌, ℕ, pos, negsuc, Bool, true, false, List, [], ◌∷◌, refl, arith}
+use Rattle.std.proofs.Common.{◌≡◌, ◌≤◌, ℕ, pos, negsuc, Bool, true, false, List, [], ◌∷◌, refl, arith, subst}
+use Rattle.std.specs.Prelude.{◌<ℤ◌}
+use Rattle.std.proofs.lemmas.Int.{ints}
 use Rattle.exact_num.specs.Rational.{Rational, whole}
+use Rattle.exact_num.specs.declared.fraction.Frac.{Frac}
 use Rattle.row_core.specs.declared.Row.{Row}
 use Rattle.row_core.specs.declared.RowName.{RowName}
 use Rattle.row_core.specs.declared.Var.{Var}
+use Rattle.row_core.specs.Order.{row_name_cmp}
+use Rattle.certificate_checker.specs.Denominators.{AreOverSome}
 use Rattle.row_core.specs.declared.equation_numbers.TheConstants.{CAA3, CAA4, EBA11, TCC1}
 use Rattle.row_core.specs.declared.place.Place.TheVariants.{CostRow}
 use Rattle.simplex_core.specs.declared.stops.Stop.TheVariants.{Budget, Trial}
 use Rattle.simplex_core.specs.declared.stops.TrialStop.TheVariants as trials
 use Rattle.exact_solver.specs.declared.solutions.SolveStop.TheVariants as stops
 use Rattle.conflict_sets.specs.declared.conflict.ExplainFail.TheVariants.{Stopped}
-use Rattle.conflict_sets.specs.Conflicts.{is_member, is_other_member}
+use Rattle.conflict_sets.specs.Conflicts.{AreRefuted, is_member, is_other_member}
 use Rattle.conflict_sets.specs.Pieces.{is_outside}
 use Rattle.conflict_sets.specs.RoundedStops.{EndsSo, IsStopOfSome}
 use Rattle.conflict_sets.specs.Trials.{HasPlan, IsPivotDue, IsWide, StopsTrial}
@@ -132,3 +137,16 @@ plan_is_no_stop h = cc h
 -- later trials are counted from 1
 none_is_numbered_0 : (rows : List Row) (vars : List Var) → ¬ (IsStopOfSome rows vars 7 (Trial 0 (trials.Budget 7)))
 none_is_numbered_0 rows vars h = let at_least_1 : 1 ≤ 0 = h.0 in omega arith
+
+-- ---- what refutes
+
+-- a multiplier with the denominator 0 beside those of the members, as a list of which nothing could be said
+abbrev without_denominator : List (RowName × Rational)
+without_denominator = (named CAA3, record { top = pos 1; bottom = pos 0 }) ∷ (named CAA4, whole (negsuc 0)) ∷ []
+
+-- it is no number over any denominator, so such a list refutes nothing
+no_denominator : ¬ (AreOverSome row_name_cmp without_denominator)
+no_denominator some = let positive : pos 0 <ℤ pos 0 = (some.each (named CAA3)).positive in omega (arith, ints, positive)
+
+no_denominator_refutes : (rows : List Row) (vars : List Var) (members : List (RowName × Frac)) (refuted : AreRefuted rows vars members) → ¬ (refuted.multipliers ≡ without_denominator)
+no_denominator_refutes rows vars members refuted is = no_denominator (subst (AreOverSome row_name_cmp) is refuted.some)

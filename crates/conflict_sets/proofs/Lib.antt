@@ -15,3 +15,4 @@ pub mod PairLaws
 pub mod StillLaws
 pub mod RoundedLaws
 pub mod Examples
+mod TrialExamples

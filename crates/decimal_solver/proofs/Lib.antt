@@ -8,5 +8,6 @@ pub mod StartLaws
 pub mod EndLaws
 pub mod CheckLaws
 pub mod Examples
+mod TradeExamples
 pub mod CarryLaws
 pub mod AttemptLaws

@@ -102,3 +102,21 @@ steeper_at_two = refl
 -- a bound of 111 with the right slope does too, even where it is
 bound_above : is_at_least (whole (pos 111)) (whole (negsuc 4)) (pos 0) 1 1 (pos 110) ≡ false
 bound_above = refl
+
+-- ---- lowest terms
+
+-- a cost of 110 is no cost of 220/2, by the rounded method either
+not_lowest : ¬ (EndIsRounded 10 (HasLineBelow (record { top = pos 220; bottom = pos 2 }) (whole (pos 110)) (whole (negsuc 4))))
+not_lowest h = let coprime : gcd_of 220 2 ≡ 1 = h.1.0.coprime in absurd (two_is_not_one coprime)
+  where
+    two_is_not_one : gcd_of 220 2 ≡ 1 → ⊥
+    unfolding gcd_of gcd_within
+    two_is_not_one e = cc e
+
+-- nor is a slope of -10/2
+slope_not_lowest : ¬ (EndIsRounded 10 (HasLineBelow (whole (pos 110)) (whole (pos 110)) (record { top = negsuc 9; bottom = pos 2 })))
+slope_not_lowest h = let coprime : gcd_of 10 2 ≡ 1 = h.1.1.1.coprime in absurd (two_is_not_one coprime)
+  where
+    two_is_not_one : gcd_of 10 2 ≡ 1 → ⊥
+    unfolding gcd_of gcd_within
+    two_is_not_one e = cc e

@@ -1,7 +1,7 @@
 -- What a point is worth: in words of the rows, over all plans. A limit that is a over b higher gives the limit's row so much more of the emissions.
 use Rattle.std.specs.Prelude.{ℕ, ◌*◌, ◌<◌, ℤ, pos, ◌+ℤ◌, ◌*ℤ◌, ◌<ℤ◌, ◌≤ℤ◌, List, ⊤, if◌then◌else◌}
 use Rattle.std.specs.Ordering.{is_eq}
-use Rattle.exact_num.specs.Rational.{Rational}
+use Rattle.exact_num.specs.Rational.{IsLowest, Rational}
 use Rattle.row_core.specs.declared.Row.{Row}
 use Rattle.row_core.specs.declared.RowName.{RowName}
 use Rattle.row_core.specs.declared.Var.{Var}
@@ -62,10 +62,11 @@ EndIsOf rows vars limit (IsStopped stop) = ⊤
 abbrev pub IsPointOf : List Row → List Var → RowName → Point → Type 0
 IsPointOf rows vars limit point = EndIsOf rows vars limit (point_seen point)
 
--- what the rounded method may find: a cost that is above the bound by at most so many millionths of the bound's absolute value, or that there is no plan
+-- what the rounded method may find: a cost that is above the bound by at most so many millionths of the bound's absolute value, each number in
+-- lowest terms, as it is printed; or that there is no plan
 abbrev pub EndIsRounded : ℕ → PointEnd → Type 0
 EndIsRounded ppm (HasLine cost slope) = ⊥
-EndIsRounded ppm (HasLineBelow cost bound slope) = Within cost bound ppm
+EndIsRounded ppm (HasLineBelow cost bound slope) = Within cost bound ppm × IsLowest cost × IsLowest bound × IsLowest slope
 EndIsRounded ppm HasNoPlan = ⊤
 EndIsRounded ppm HasNoBound = ⊥
 EndIsRounded ppm (IsStopped stop) = ⊥

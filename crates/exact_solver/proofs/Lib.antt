@@ -15,3 +15,4 @@ pub mod Closed
 pub mod StepEnds
 pub mod CheckEnds
 pub mod Examples
+mod CarryingExamples

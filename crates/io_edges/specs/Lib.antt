@@ -2,6 +2,8 @@ pub mod Count
 pub mod Told
 pub mod Files
 pub mod Edges
+pub mod Moved
+pub mod Outputs
 pub mod Memory
 pub mod Named
 pub mod Disk

@@ -11,6 +11,7 @@ mod failing;
 mod mem_shelf;
 mod mem_sink;
 mod out_sink;
+mod records;
 mod sure_shelf;
 mod sure_sink;
 mod traits;

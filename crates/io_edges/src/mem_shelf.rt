@@ -4,9 +4,10 @@ ghost use Rattle.std.specs.Option.{option_map};
 ghost use Rattle.std.specs.Str.{bytes_eq};
 ghost use Rattle.io_edges.specs.Files.{file_named, put_file};
 ghost use Rattle.io_edges.specs.Named.{contents};
-ghost use Rattle.io_edges.specs.Memory.{fails_next, begun, begin_failed, read_on, read_failed};
+ghost use Rattle.io_edges.specs.Memory.{fails_next, looked_up, look_failed, begun, not_begun, begin_failed, read_on, read_failed};
 
 use crate::failing::Failing;
+use crate::records::ReadRecord;
 use crate::traits::{Failed, OpenFault, Shelf};
 use std::alloc::{AllocError, Global};
 use std::marker::Model;
@@ -31,6 +32,7 @@ pub struct MemShelf {
     failing: Failing,
     begins: u64,
     taken: u64,
+    moved: ReadRecord,
 }
 
 impl Model for MemShelf {
@@ -49,6 +51,7 @@ impl Model for MemShelf {
       faults = s.failing.faults;
       begins = s.begins;
       taken = s.taken;
+      moved = s.moved.moved;
     } };
 
     ghost invariant = { λ s. (s.at ≤ length s.current.items) × (1 ≤ s.most) };
@@ -67,6 +70,7 @@ impl MemShelf {
           faults = 0;
           begins = 0;
           taken = 0;
+          moved = [];
         }) }
     {
         MemShelf::in_pieces(alloc, failing, usize::MAX)
@@ -84,6 +88,7 @@ impl MemShelf {
           faults = 0;
           begins = 0;
           taken = 0;
+          moved = [];
         }) }
     {
         Ok(MemShelf {
@@ -95,6 +100,7 @@ impl MemShelf {
             failing: Failing::new(alloc, failing)?,
             begins: 0,
             taken: 0,
+            moved: ReadRecord::new(),
         })
     }
 
@@ -116,6 +122,33 @@ impl MemShelf {
             bytes: Vec::from_slice(self.alloc, bytes)?,
         };
         place(&mut self.files, file)?;
+        Ok(())
+    }
+}
+
+impl MemShelf {
+    // Looks the file up and has its bytes as the rest; an empty rest where it can't. It is no call yet that was noted.
+    fn open(&mut self, name: &str) -> Result<(), OpenFault>
+        ensures ok { OnOk result (IsSomeAnd (file_named self.old.files name.now)
+            (λ bytes. self.new ≡ looked_up self.old bytes)) }
+        ensures no_file { IsErrOf result OpenFault.NoFile → self.new ≡ looked_up self.old [] }
+        ensures memory { IsErrOf result OpenFault.Memory → self.new ≡ looked_up self.old [] }
+        ensures failed { IsErrOf result OpenFault.Failed → self.new ≡ look_failed self.old }
+
+        // When each refusal comes.
+        ensures fails { IsErrOf result OpenFault.Failed
+            ↔ IsTrue (fails_next self.old.failing self.old.calls) }
+        ensures missing { IsErrOf result OpenFault.NoFile
+            ↔ ((fails_next self.old.failing self.old.calls ≡ false)
+            × (file_named self.old.files name.now ≡ None)) }
+    {
+        self.current.clear();
+        self.at = 0;
+        self.failing.call()?;
+        let Some(bytes) = bytes_of(&self.files, name.as_bytes()) else {
+            return Err(OpenFault::NoFile);
+        };
+        self.current.extend_from_slice(bytes)?;
         Ok(())
     }
 }
@@ -161,14 +194,16 @@ impl Shelf for MemShelf {
 
     ghost taken = { λ shelf. shelf.taken };
 
+    ghost moved = { λ shelf. shelf.moved };
+
     ghost tells_rest = { λ shelf told. refl };
 
     fn begin(&mut self, name: &str) -> Result<(), OpenFault>
         ensures opened { OnOk result (IsSomeAnd (file_named self.old.files name.now)
-            (λ bytes. self.new ≡ begun self.old bytes)) }
-        ensures no_file { IsErrOf result OpenFault.NoFile → self.new ≡ begun self.old [] }
-        ensures memory { IsErrOf result OpenFault.Memory → self.new ≡ begun self.old [] }
-        ensures failed { IsErrOf result OpenFault.Failed → self.new ≡ begin_failed self.old }
+            (λ bytes. self.new ≡ begun self.old name.now bytes)) }
+        ensures no_file { IsErrOf result OpenFault.NoFile → self.new ≡ not_begun self.old name.now }
+        ensures memory { IsErrOf result OpenFault.Memory → self.new ≡ not_begun self.old name.now }
+        ensures failed { IsErrOf result OpenFault.Failed → self.new ≡ begin_failed self.old name.now }
         ensures faults { self.old.faults ≤ self.new.faults }
 
         // When each refusal comes.
@@ -180,14 +215,9 @@ impl Shelf for MemShelf {
     {
         self.begins = self.begins.saturating_add(1);
         self.taken = 0;
-        self.current.clear();
-        self.at = 0;
-        self.failing.call()?;
-        let Some(bytes) = bytes_of(&self.files, name.as_bytes()) else {
-            return Err(OpenFault::NoFile);
-        };
-        self.current.extend_from_slice(bytes)?;
-        Ok(())
+        let opening = self.open(name);
+        self.moved.note_begin(name.as_bytes(), opening.is_ok());
+        opening
     }
 
     fn read(&mut self, room: &mut [u8]) -> Result<usize, Failed>
@@ -198,7 +228,7 @@ impl Shelf for MemShelf {
             (λ n. n ≡ 0 → 0 < length room.new → self.old.rest ≡ []) }
         ensures front { IfOk result (λ n. take n room.new ≡ take n self.old.rest) }
         ensures following { IfOk result (λ n. drop n room.new ≡ drop n room.old) }
-        ensures ok { IfOk result (λ n. self.new ≡ read_on self.old n) }
+        ensures ok { IfOk result (λ n. self.new ≡ read_on self.old n room.new) }
         ensures err { OnErr result (self.new ≡ read_failed self.old) }
         ensures faults { self.old.faults ≤ self.new.faults }
     {
@@ -208,6 +238,7 @@ impl Shelf for MemShelf {
         room[..n].copy_from_slice(&left[..n]);
         self.at += n;
         self.taken = self.taken.saturating_add(n as u64);
+        self.moved.note_read(room, n);
         Ok(n)
     }
 }

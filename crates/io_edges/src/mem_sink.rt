@@ -91,6 +91,8 @@ impl Sink for MemSink {
 
     ghost faults = { λ sink. sink.faults };
 
+    ghost accepted = { λ sink. sink.written };
+
     /// Takes the prefix of the piece that fits, in no more bytes than a call takes. It needs no memory.
     fn write(&mut self, piece: &[u8]) -> Result<usize, Failed>
         ensures count { IfOk result (λ n. n

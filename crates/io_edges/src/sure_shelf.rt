@@ -1,7 +1,7 @@
 // Files in memory, of which every call succeeds but for memory and missing names.
-ghost use Rattle.std.specs.Prelude.{◌≡◌, ◌≢◌, ◌↔◌, refl, [], ℕ, List, length, min, take, drop, Some, None, IfOk, OnOk, OnErr, IsOk, IsErrOf, IsSomeAnd};
+ghost use Rattle.std.specs.Prelude.{◌≡◌, ◌≢◌, ◌↔◌, refl, true, false, [], ℕ, List, length, min, take, drop, Some, None, IfOk, OnOk, OnErr, IsOk, IsErrOf, IsSomeAnd};
 ghost use Rattle.io_edges.specs.Files.{file_named, put_file};
-ghost use Rattle.io_edges.specs.Sure.{sure_begun, sure_read};
+ghost use Rattle.io_edges.specs.Sure.{sure_opened, sure_read};
 
 use crate::mem_shelf::MemShelf;
 use crate::traits::{Failed, OpenFault, Shelf};
@@ -26,6 +26,7 @@ impl Model for SureShelf {
       rest = s.shelf.rest;
       begins = s.shelf.begins;
       taken = s.shelf.taken;
+      moved = s.shelf.moved;
     } };
 
     ghost invariant = { λ s. (s.shelf.failing ≡ []) × (s.shelf.faults ≡ 0)
@@ -40,6 +41,7 @@ impl SureShelf {
           rest = [];
           begins = 0;
           taken = 0;
+          moved = [];
         }) }
     {
         Ok(SureShelf {
@@ -75,12 +77,14 @@ impl Shelf for SureShelf {
 
     ghost taken = { λ shelf. shelf.taken };
 
+    ghost moved = { λ shelf. shelf.moved };
+
     ghost tells_rest = { λ shelf told. refl };
 
     fn begin(&mut self, name: &str) -> Result<(), OpenFault>
         ensures opened { OnOk result (IsSomeAnd (file_named self.old.files name.now)
-            (λ bytes. self.new ≡ sure_begun self.old bytes)) }
-        ensures refused { OnErr result (self.new ≡ sure_begun self.old []) }
+            (λ bytes. self.new ≡ sure_opened self.old name.now bytes true)) }
+        ensures refused { OnErr result (self.new ≡ sure_opened self.old name.now [] false) }
 
         // When each refusal comes. Running out of memory has no cause.
         ensures sure { ¬ IsErrOf result OpenFault.Failed }
@@ -94,7 +98,7 @@ impl Shelf for SureShelf {
         ensures count { IfOk result (λ n. n ≡ min (length room.new) (length self.old.rest)) }
         ensures front { IfOk result (λ n. take n room.new ≡ take n self.old.rest) }
         ensures following { IfOk result (λ n. drop n room.new ≡ drop n room.old) }
-        ensures ok { IfOk result (λ n. self.new ≡ sure_read self.old n) }
+        ensures ok { IfOk result (λ n. self.new ≡ sure_read self.old n room.new) }
     {
         self.shelf.read(room)
     }

@@ -64,6 +64,8 @@ impl Sink for SureSink {
 
     ghost faults = { λ sink. sink.faults };
 
+    ghost accepted = { λ sink. sink.written };
+
     /// Takes the prefix of the piece that fits. It needs no memory.
     fn write(&mut self, piece: &[u8]) -> Result<usize, Failed>
         ensures count { IfOk result

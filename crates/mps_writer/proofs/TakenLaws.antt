@@ -1,13 +1,13 @@
 -- A text that goes into a sink part by part.
-use Rattle.std.proofs.Common.{◌≡◌, ℕ, zero, suc, ◌+◌, ◌≤◌, List, [], ◌++◌, length, length-append, take, drop, Option, Some, refl, ap, sym, ◌∙◌, subst, append_assoc, arith, ◌∷◌}
+use Rattle.std.proofs.Common.{◌≡◌, ℕ, zero, suc, ◌+◌, ◌≤◌, List, [], ◌++◌, length, take, drop, refl, ap, sym, ◌∙◌, subst, append_assoc, arith, ◌∷◌}
 use Rattle.std.specs.List.{flat_map}
 use Rattle.std.specs.Prelude.{Result, Ok, Err, OnErr, OnOk}
 use Rattle.std.proofs.lemmas.List.{append-nil, take-append-drop}
-use Rattle.std.proofs.Math.Seq.{drop-nil, take-append_seam}
+use Rattle.std.proofs.Math.Seq.{drop-nil}
 use Rattle.io_edges.specs.Count.{Rose}
-use Rattle.io_edges.specs.Told.{WhereTold}
-use Rattle.mps_writer.specs.Sent.{HoldsPrefixOf}
-use Rattle.mps_writer.specs.Steps.{CutsOf, Fails, Leaves, LeavesOf, Takes}
+use Rattle.io_edges.specs.Outputs.{Output, Took, TookPrefix}
+use Rattle.io_edges.proofs.OutputLaws.{took-both, took-first, took-nothing, took-same}
+use Rattle.mps_writer.specs.Steps.{CutsOf, Fails, LeavesOf, Takes}
 use Rattle.mps_writer.specs.declared.sending.MpsFail.{MpsFail}
 use Rattle.mps_writer.specs.declared.sending.MpsFail.TheVariants.{Write, Memory}
 
@@ -23,40 +23,35 @@ drop-past zero (x ∷ xs) past = absurd (omega (arith, past))
 drop-past (suc s) (x ∷ xs) past = drop-past s xs (omega (arith, past))
 
 -- nothing is written, and the whole is left
-pub leaves-all : (whole left : List ℕ) (b : Option (List ℕ)) → whole ≡ left → LeavesOf whole b b left
-leaves-all whole left b is bytes told = record { sent = []; written = told ∙ ap (λ (all : List ℕ). Some all) (sym (append-nil bytes)); split = sym is }
+pub leaves-all : (whole left : List ℕ) (b : Output) → whole ≡ left → LeavesOf whole b b left
+leaves-all whole left b is = record { sent = []; took = took-nothing b; split = sym is }
 
-two_parts : (bytes whole part rest left : List ℕ) (a : Option (List ℕ)) (front : List ℕ) → front ++ (part ++ rest) ≡ whole → Leaves (bytes ++ front) part a left
-    → Leaves bytes whole a (left ++ rest)
-two_parts bytes whole part rest left a front is second = record {
-  sent = front ++ second.sent;
-  written = second.written ∙ ap (λ (all : List ℕ). Some all) (append_assoc bytes front second.sent);
+two_parts : (whole part rest first left : List ℕ) (b a c : Output) → (front : LeavesOf whole b a first) → first ≡ part ++ rest → LeavesOf part a c left
+    → LeavesOf whole b c (left ++ rest)
+two_parts whole part rest first left b a c front is second = record {
+  sent = front.sent ++ second.sent;
+  took = took-both b a c front.sent second.sent front.took second.took;
   split =
-      append_assoc front second.sent (left ++ rest)
-      ∙ ap (λ (all : List ℕ). front ++ all) (sym (append_assoc second.sent left rest) ∙ ap (λ (all : List ℕ). all ++ rest) second.split)
-      ∙ is;
+      append_assoc front.sent second.sent (left ++ rest)
+      ∙ ap (λ (all : List ℕ). front.sent ++ all) (sym (append_assoc second.sent left rest) ∙ ap (λ (all : List ℕ). all ++ rest) second.split ∙ sym is)
+      ∙ front.split;
 }
 
 -- one part more is taken, and the rest stays
-pub leaves-more : (whole part rest first left : List ℕ) (b a c : Option (List ℕ)) → LeavesOf whole b a first → first ≡ part ++ rest → LeavesOf part a c left → LeavesOf whole b c (left ++ rest)
-leaves-more whole part rest first left b a c so_far is step bytes told =
-    let front : Leaves bytes whole a first = so_far bytes told in
-    two_parts bytes whole part rest left c front.sent (ap (λ (all : List ℕ). front.sent ++ all) (sym is) ∙ front.split) (step (bytes ++ front.sent) front.written)
+pub leaves-more : (whole part rest first left : List ℕ) (b a c : Output) → LeavesOf whole b a first → first ≡ part ++ rest → LeavesOf part a c left → LeavesOf whole b c (left ++ rest)
+leaves-more whole part rest first left b a c so_far is step = two_parts whole part rest first left b a c so_far is step
 
-pub cuts-more : (whole part rest first : List ℕ) (b a c : Option (List ℕ)) → LeavesOf whole b a first → first ≡ part ++ rest → CutsOf part a c → CutsOf whole b c
-cuts-more whole part rest first b a c so_far is step bytes told =
-    let front : Leaves bytes whole a first = so_far bytes told in
-    let cut : (left : List ℕ) × Leaves (bytes ++ front.sent) part c left = step (bytes ++ front.sent) front.written in
-    (cut.0 ++ rest, two_parts bytes whole part rest cut.0 c front.sent (ap (λ (all : List ℕ). front.sent ++ all) (sym is) ∙ front.split) cut.1)
+pub cuts-more : (whole part rest first : List ℕ) (b a c : Output) → LeavesOf whole b a first → first ≡ part ++ rest → CutsOf part a c → CutsOf whole b c
+cuts-more whole part rest first b a c so_far is step = (step.0 ++ rest, two_parts whole part rest first step.0 b a c so_far is step.1)
 
-pub cuts-now : (whole left : List ℕ) (b a : Option (List ℕ)) → LeavesOf whole b a left → CutsOf whole b a
-cuts-now whole left b a so_far bytes told = (left, so_far bytes told)
+pub cuts-now : (whole left : List ℕ) (b a : Output) → LeavesOf whole b a left → CutsOf whole b a
+cuts-now whole left b a so_far = (left, so_far)
 
 pub rose-earlier : (m n k : ℕ) → m ≤ n → Rose n k → Rose m k
 rose-earlier m n k low rose = omega (arith, low, rose)
 
 -- where the next part fails, all fails
-pub fails-more : (whole part rest first : List ℕ) (fail : MpsFail) (b a c : Option (List ℕ)) (m n k : ℕ)
+pub fails-more : (whole part rest first : List ℕ) (fail : MpsFail) (b a c : Output) (m n k : ℕ)
     → LeavesOf whole b a first → m ≤ n → first ≡ part ++ rest → Fails part fail a c n k → Fails whole fail b c m k
 fails-more whole part rest first Write b a c m n k so_far low is step =
     (cuts-more whole part rest first b a c so_far is step.0, omega (arith, low, step.1), rose-earlier m n k low step.2)
@@ -64,57 +59,49 @@ fails-more whole part rest first Memory b a c m n k so_far low is step =
     (cuts-more whole part rest first b a c so_far is step.0, omega (arith, low, step.1))
 
 -- where memory runs out before it
-pub fails-now : (whole first : List ℕ) (b a : Option (List ℕ)) (m n : ℕ) → LeavesOf whole b a first → m ≤ n → Fails whole Memory b a m n
+pub fails-now : (whole first : List ℕ) (b a : Output) (m n : ℕ) → LeavesOf whole b a first → m ≤ n → Fails whole Memory b a m n
 fails-now whole first b a m n so_far low = (cuts-now whole first b a so_far, low)
 
 -- the same is left of it
-pub leaves-same : (whole x y : List ℕ) (b a c : Option (List ℕ)) → LeavesOf whole b a x → x ≡ y → a ≡ c → LeavesOf whole b c y
-leaves-same whole x y b a c so_far is same = subst (λ (left : List ℕ). LeavesOf whole b c left) is (subst (λ (now : Option (List ℕ)). LeavesOf whole b now x) same so_far)
+pub leaves-same : (whole x y : List ℕ) (b a c : Output) → LeavesOf whole b a x → x ≡ y → a ≡ c → LeavesOf whole b c y
+leaves-same whole x y b a c so_far is same = subst (λ (left : List ℕ). LeavesOf whole b c left) is (subst (λ (now : Output). LeavesOf whole b now x) same so_far)
 
 -- what is cut off is a prefix
-pub prefix-cut : (whole : List ℕ) (b a : Option (List ℕ)) → CutsOf whole b a → (bytes : List ℕ) → b ≡ Some bytes → HoldsPrefixOf whole bytes a
-prefix-cut whole b a cuts bytes told =
-    let cut : (left : List ℕ) × Leaves bytes whole a left = cuts bytes told in
-    let sent : List ℕ = cut.1.sent in
-    (length sent, omega (arith, simp length-append at (ap length cut.1.split)), cut.1.written ∙ ap (λ (all : List ℕ). Some (bytes ++ all)) (sym (take-seam sent cut.0) ∙ ap (take (length sent)) cut.1.split))
-  where
-    take-seam : (s l : List ℕ) → take (length s) (s ++ l) ≡ s
-    take-seam s l = take-append_seam s l
+pub prefix-cut : (whole : List ℕ) (b a : Output) → CutsOf whole b a → TookPrefix b a whole
+prefix-cut whole b a cut = took-first b a whole cut.1.sent cut.0 cut.1.split cut.1.took
 
 -- what fails is cut off
-pub cut-of : (whole : List ℕ) (fail : MpsFail) (b a : Option (List ℕ)) (m n : ℕ) → Fails whole fail b a m n → CutsOf whole b a
+pub cut-of : (whole : List ℕ) (fail : MpsFail) (b a : Output) (m n : ℕ) → Fails whole fail b a m n → CutsOf whole b a
 cut-of whole Write b a m n fails = fails.0
 cut-of whole Memory b a m n fails = fails.0
 
--- what leaves nothing was written
-pub all-written : (whole : List ℕ) (b a : Option (List ℕ)) → LeavesOf whole b a [] → (bytes : List ℕ) → b ≡ Some bytes → a ≡ Some (bytes ++ whole)
-all-written whole b a so_far bytes told =
-    let front : Leaves bytes whole a [] = so_far bytes told in
-    front.written ∙ ap (λ (all : List ℕ). Some (bytes ++ all)) (sym (append-nil front.sent) ∙ front.split)
+-- what leaves nothing was taken
+pub all-written : (whole : List ℕ) (b a : Output) → LeavesOf whole b a [] → Took b a whole
+all-written whole b a front = took-same b a front.sent whole (sym (append-nil front.sent) ∙ front.split) front.took
 
 -- where nothing is left at the end, the text was written, or else a prefix of it
-pub ends-sent : {B : Type 0} (whole left : List ℕ) (outcome : Result B MpsFail) (b a : Option (List ℕ)) (m n : ℕ) → Takes whole outcome b a m n left → OnOk outcome (left ≡ [])
-    → OnOk outcome (WhereTold b (λ bytes. a ≡ Some (bytes ++ whole)))
+pub ends-sent : {B : Type 0} (whole left : List ℕ) (outcome : Result B MpsFail) (b a : Output) (m n : ℕ) → Takes whole outcome b a m n left → OnOk outcome (left ≡ [])
+    → OnOk outcome (Took b a whole)
 ends-sent whole left (Ok u) b a m n taken empty = all-written whole b a (subst (λ (rest : List ℕ). LeavesOf whole b a rest) empty taken.0)
 ends-sent whole left (Err fail) b a m n taken empty = tt
 
-pub ends-cut : {B : Type 0} (whole left : List ℕ) (outcome : Result B MpsFail) (b a : Option (List ℕ)) (m n : ℕ) → Takes whole outcome b a m n left
-    → OnErr outcome (WhereTold b (λ bytes. HoldsPrefixOf whole bytes a))
+pub ends-cut : {B : Type 0} (whole left : List ℕ) (outcome : Result B MpsFail) (b a : Output) (m n : ℕ) → Takes whole outcome b a m n left
+    → OnErr outcome (TookPrefix b a whole)
 ends-cut whole left (Ok u) b a m n taken = tt
 ends-cut whole left (Err fail) b a m n taken = prefix-cut whole b a (cut-of whole fail b a m n taken)
 
 -- ---- one text after another
 
 -- the next text is taken, and what comes after it is left
-pub then-more : (whole buffer x y left : List ℕ) (b a c : Option (List ℕ)) → LeavesOf whole b a (buffer ++ (x ++ y)) → LeavesOf (buffer ++ x) a c left → LeavesOf whole b c (left ++ y)
+pub then-more : (whole buffer x y left : List ℕ) (b a c : Output) → LeavesOf whole b a (buffer ++ (x ++ y)) → LeavesOf (buffer ++ x) a c left → LeavesOf whole b c (left ++ y)
 then-more whole buffer x y left b a c so_far step = leaves-more whole (buffer ++ x) y (buffer ++ (x ++ y)) left b a c so_far (sym (append_assoc buffer x y)) step
 
 -- or it fails, and so does the whole
-pub then-fails : (whole buffer x y : List ℕ) (fail : MpsFail) (b a c : Option (List ℕ)) (m n k : ℕ) → LeavesOf whole b a (buffer ++ (x ++ y)) → m ≤ n → Fails (buffer ++ x) fail a c n k → Fails whole fail b c m k
+pub then-fails : (whole buffer x y : List ℕ) (fail : MpsFail) (b a c : Output) (m n k : ℕ) → LeavesOf whole b a (buffer ++ (x ++ y)) → m ≤ n → Fails (buffer ++ x) fail a c n k → Fails whole fail b c m k
 then-fails whole buffer x y fail b a c m n k so_far low step = fails-more whole (buffer ++ x) y (buffer ++ (x ++ y)) fail b a c m n k so_far low (sym (append_assoc buffer x y)) step
 
 -- the last text
-pub then-last : {B : Type 0} (whole text left : List ℕ) (outcome : Result B MpsFail) (b a c : Option (List ℕ)) (m n k : ℕ) → LeavesOf whole b a text → m ≤ n → Takes text outcome a c n k left → Takes whole outcome b c m k left
+pub then-last : {B : Type 0} (whole text left : List ℕ) (outcome : Result B MpsFail) (b a c : Output) (m n k : ℕ) → LeavesOf whole b a text → m ≤ n → Takes text outcome a c n k left → Takes whole outcome b c m k left
 then-last whole text left (Ok u) b a c m n k so_far low step = (
   subst (λ (all : List ℕ). LeavesOf whole b c all) (append-nil left) (leaves-more whole text [] text left b a c so_far (sym (append-nil text)) step.0),
   omega (arith, low, step.1),
@@ -130,52 +117,44 @@ item-split f x xs all buffer part is own =
     ∙ sym (append_assoc buffer part (flat_map f xs))
 
 -- an element's text is taken
-pub item-taken : {A : Type 0} (f : A → List ℕ) (x : A) (xs all : List A) (whole buffer part left : List ℕ) (b a c : Option (List ℕ)) → all ≡ x ∷ xs → part ≡ f x
+pub item-taken : {A : Type 0} (f : A → List ℕ) (x : A) (xs all : List A) (whole buffer part left : List ℕ) (b a c : Output) → all ≡ x ∷ xs → part ≡ f x
     → LeavesOf whole b a (buffer ++ flat_map f all) → LeavesOf (buffer ++ part) a c left → LeavesOf whole b c (left ++ flat_map f xs)
 item-taken f x xs all whole buffer part left b a c is own so_far step =
     leaves-more whole (buffer ++ part) (flat_map f xs) (buffer ++ flat_map f all) left b a c so_far (item-split f x xs all buffer part is own) step
 
 -- or it fails, and so do all
-pub item-fails : {A : Type 0} (f : A → List ℕ) (x : A) (xs all : List A) (whole buffer part : List ℕ) (fail : MpsFail) (b a c : Option (List ℕ)) (m n k : ℕ)
+pub item-fails : {A : Type 0} (f : A → List ℕ) (x : A) (xs all : List A) (whole buffer part : List ℕ) (fail : MpsFail) (b a c : Output) (m n k : ℕ)
     → all ≡ x ∷ xs → part ≡ f x → LeavesOf whole b a (buffer ++ flat_map f all) → m ≤ n → Fails (buffer ++ part) fail a c n k → Fails whole fail b c m k
 item-fails f x xs all whole buffer part fail b a c m n k is own so_far low step =
     fails-more whole (buffer ++ part) (flat_map f xs) (buffer ++ flat_map f all) fail b a c m n k so_far low (item-split f x xs all buffer part is own) step
 
 -- at the end nothing but the buffer is left
-pub item-end : {A : Type 0} (f : A → List ℕ) (all : List A) (whole buffer : List ℕ) (b a : Option (List ℕ)) → all ≡ [] → LeavesOf whole b a (buffer ++ flat_map f all) → LeavesOf whole b a buffer
+pub item-end : {A : Type 0} (f : A → List ℕ) (all : List A) (whole buffer : List ℕ) (b a : Output) → all ≡ [] → LeavesOf whole b a (buffer ++ flat_map f all) → LeavesOf whole b a buffer
 item-end f all whole buffer b a none so_far =
     subst (λ (left : List ℕ). LeavesOf whole b a left) (ap (λ (items : List _). buffer ++ flat_map f items) none ∙ append-nil buffer) so_far
 
 -- ---- a write
 
 -- what a write takes comes after what was sent
-pub send-more : (text piece : List ℕ) (b a c : Option (List ℕ)) (s n : ℕ) → piece ≡ drop s text → LeavesOf text b a (drop s text) → ((bytes : List ℕ) → a ≡ Some bytes → c ≡ Some (bytes ++ take n piece))
-    → LeavesOf text b c (drop (s + n) text)
-send-more text piece b a c s n is so_far step bytes told =
-    let front : Leaves bytes text a (drop s text) = so_far bytes told in
-    record {
-      sent = front.sent ++ take n (drop s text);
-      written =
-          step (bytes ++ front.sent) front.written
-          ∙ ap (λ (all : List ℕ). Some ((bytes ++ front.sent) ++ take n all)) is
-          ∙ ap (λ (all : List ℕ). Some all) (append_assoc bytes front.sent (take n (drop s text)));
-      split =
-          append_assoc front.sent (take n (drop s text)) (drop (s + n) text)
-          ∙ ap (λ (all : List ℕ). front.sent ++ (take n (drop s text) ++ all)) (drop-both s n text)
-          ∙ ap (λ (all : List ℕ). front.sent ++ all) (take-append-drop n (drop s text))
-          ∙ front.split;
-    }
+pub send-more : (text piece : List ℕ) (b a c : Output) (s n : ℕ) → piece ≡ drop s text → LeavesOf text b a (drop s text) → Took a c (take n piece) → LeavesOf text b c (drop (s + n) text)
+send-more text piece b a c s n is front step = record {
+  sent = front.sent ++ take n (drop s text);
+  took = took-both b a c front.sent (take n (drop s text)) front.took (took-same a c (take n piece) (take n (drop s text)) (ap (take n) is) step);
+  split =
+      append_assoc front.sent (take n (drop s text)) (drop (s + n) text)
+      ∙ ap (λ (all : List ℕ). front.sent ++ (take n (drop s text) ++ all)) (drop-both s n text)
+      ∙ ap (λ (all : List ℕ). front.sent ++ all) (take-append-drop n (drop s text))
+      ∙ front.split;
+}
 
 -- at the end nothing is left
-pub send-end : (text : List ℕ) (s : ℕ) (b a : Option (List ℕ)) → length text ≤ s → LeavesOf text b a (drop s text) → LeavesOf text b a []
+pub send-end : (text : List ℕ) (s : ℕ) (b a : Output) → length text ≤ s → LeavesOf text b a (drop s text) → LeavesOf text b a []
 send-end text s b a past so_far = subst (λ (left : List ℕ). LeavesOf text b a left) (drop-past s text past) so_far
 
 -- a write that failed
-pub stays-cut : (whole left : List ℕ) (b a c : Option (List ℕ)) → LeavesOf whole b a left → c ≡ a → CutsOf whole b c
-stays-cut whole left b a c so_far stays bytes told =
-    let front : Leaves bytes whole a left = so_far bytes told in
-    (left, record { sent = front.sent; written = stays ∙ front.written; split = front.split })
+pub stays-cut : (whole left : List ℕ) (b a c : Output) → LeavesOf whole b a left → c ≡ a → CutsOf whole b c
+stays-cut whole left b a c so_far stays = (left, subst (λ (now : Output). LeavesOf whole b now left) (sym stays) so_far)
 
 -- before any of it
-pub cuts-none : (whole : List ℕ) (b : Option (List ℕ)) → CutsOf whole b b
+pub cuts-none : (whole : List ℕ) (b : Output) → CutsOf whole b b
 cuts-none whole b = cuts-now whole whole b b (leaves-all whole whole b refl)

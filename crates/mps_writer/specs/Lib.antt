@@ -2,5 +2,4 @@ pub mod Entries
 pub mod Gathered
 pub mod MpsText
 pub mod SectionLines
-pub mod Sent
 pub mod Steps

@@ -1,6 +1,7 @@
 //! A buffer between a text and a sink.
 
 ghost use Rattle.std.specs.Prelude.{◌≡◌, [], OnOk};
+ghost use Rattle.io_edges.specs.Outputs.{output};
 ghost use Rattle.mps_writer.specs.Steps.{Takes};
 
 use crate::sending::MpsFail;
@@ -11,7 +12,10 @@ const BUFFER: usize = 65_536;
 
 /// Writes the buffer once it is full.
 pub fn spill<K: Sink>(buffer: &mut Vec<u8>, out: &mut K) -> Result<(), MpsFail>
-    ensures { Takes buffer.old.items result (K.written out.old) (K.written out.new) (K.faults out.old) (K.faults out.new) buffer.new.items }
+    ensures { Takes buffer.old.items result
+        (output (K.written out.old) (K.accepted out.old))
+        (output (K.written out.new) (K.accepted out.new))
+        (K.faults out.old) (K.faults out.new) buffer.new.items }
 {
     if buffer.len() < BUFFER {
         return Ok(());
@@ -21,7 +25,10 @@ pub fn spill<K: Sink>(buffer: &mut Vec<u8>, out: &mut K) -> Result<(), MpsFail>
 
 /// Writes the whole buffer. What a write leaves over is written by the next one.
 pub fn flush<K: Sink>(buffer: &mut Vec<u8>, out: &mut K) -> Result<(), MpsFail>
-    ensures taken { Takes buffer.old.items result (K.written out.old) (K.written out.new) (K.faults out.old) (K.faults out.new) buffer.new.items }
+    ensures taken { Takes buffer.old.items result
+        (output (K.written out.old) (K.accepted out.old))
+        (output (K.written out.new) (K.accepted out.new))
+        (K.faults out.old) (K.faults out.new) buffer.new.items }
     ensures empty { OnOk result (buffer.new.items ≡ []) }
 {
     match send(buffer, out) {
@@ -34,7 +41,10 @@ pub fn flush<K: Sink>(buffer: &mut Vec<u8>, out: &mut K) -> Result<(), MpsFail>
 
 /// Writes all of a text.
 fn send<K: Sink>(text: &[u8], out: &mut K) -> Result<(), MpsFail>
-    ensures { Takes text.now result (K.written out.old) (K.written out.new) (K.faults out.old) (K.faults out.new) [] }
+    ensures { Takes text.now result
+        (output (K.written out.old) (K.accepted out.old))
+        (output (K.written out.new) (K.accepted out.new))
+        (K.faults out.old) (K.faults out.new) [] }
 {
     let mut sent = 0;
     while sent < text.len() {

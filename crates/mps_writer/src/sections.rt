@@ -8,6 +8,7 @@ ghost use Rattle.row_source.specs.Contents.{contents_of};
 ghost use Rattle.row_source.specs.Sources.{AreInOrder, rows_of_equation};
 ghost use Rattle.mps_writer.specs.MpsText.{IsNamedRow, numbered};
 ghost use Rattle.mps_writer.specs.SectionLines.{AreSidesOf, HasNoSides, is_of_sides, lines_in};
+ghost use Rattle.io_edges.specs.Outputs.{output};
 ghost use Rattle.mps_writer.specs.Steps.{Takes};
 
 use crate::buffer::spill;
@@ -57,7 +58,9 @@ pub fn send_section<R: RowSource, K: Sink>(
     requires in_order { AreInOrder (R.rows rows.old) }
     requires sides { AreSidesOf (R.rows rows.old) sides.old }
     ensures taken { Takes (buffer.old.items ++ flat_map (lines_in section sets.now) (numbered (R.rows rows.old))) result
-        (K.written out.old) (K.written out.new) (K.faults out.old) (K.faults out.new) buffer.new.items }
+        (output (K.written out.old) (K.accepted out.old))
+        (output (K.written out.new) (K.accepted out.new))
+        (K.faults out.old) (K.faults out.new) buffer.new.items }
     ensures rows { R.rows rows.new ≡ R.rows rows.old }
     ensures sides { OnOk result (AreSidesOf (R.rows rows.old) sides.new) }
 {
@@ -85,7 +88,9 @@ fn send_equation<R: RowSource, K: Sink>(
     requires named { AllByRecursion (IsNamedRow sets.now) (R.rows rows.old) }
     requires sides { may_have ≡ false → HasNoSides (rows_of_equation eq (R.rows rows.old)) }
     ensures taken { Takes (buffer.old.items ++ flat_map (lines_in section sets.now) (rows_of_equation eq (R.rows rows.old))) result
-        (K.written out.old) (K.written out.new) (K.faults out.old) (K.faults out.new) buffer.new.items }
+        (output (K.written out.old) (K.accepted out.old))
+        (output (K.written out.new) (K.accepted out.new))
+        (K.faults out.old) (K.faults out.new) buffer.new.items }
     ensures rows { R.rows rows.new ≡ R.rows rows.old }
     ensures sides { IfOk result (λ found. found ≡ false → HasNoSides (rows_of_equation eq (R.rows rows.old))) }
 {
@@ -127,7 +132,9 @@ fn send_lines<K: Sink>(
 ) -> Result<(), MpsFail>
     requires { IsNamedRow sets.now (contents_of row.now) }
     ensures { Takes (buffer.old.items ++ lines_in section sets.now (number, contents_of row.now)) result
-        (K.written out.old) (K.written out.new) (K.faults out.old) (K.faults out.new) buffer.new.items }
+        (output (K.written out.old) (K.accepted out.old))
+        (output (K.written out.new) (K.accepted out.new))
+        (K.faults out.old) (K.faults out.new) buffer.new.items }
 {
     match push_lines(section, number, row, sets, buffer) {
         Ok(()) => spill(buffer, out),

@@ -3,13 +3,12 @@
 ghost use Rattle.std.specs.Prelude.{◌≡◌, ◌≤◌, ◌++◌, true, Some, IsErrOf, OnErr, OnOk};
 ghost use Rattle.std.specs.List.{AllByRecursion, flat_map};
 ghost use Rattle.io_edges.specs.Count.{Rose};
-ghost use Rattle.io_edges.specs.Told.{WhereTold};
 ghost use Rattle.row_core.specs.Kinds.{IsKind};
 ghost use Rattle.row_core.specs.Numbers.{ascends};
 ghost use Rattle.row_core.specs.Order.{var_cmp};
 ghost use Rattle.row_source.specs.Sources.{AreInOrder};
 ghost use Rattle.mps_writer.specs.MpsText.{IsNamedRow, IsNamedVariable, bound_line, bounds, numbered, rows_text, sections_text};
-ghost use Rattle.mps_writer.specs.Sent.{HoldsPrefixOf};
+ghost use Rattle.io_edges.specs.Outputs.{output, Took, TookPrefix};
 ghost use Rattle.mps_writer.specs.Steps.{Takes};
 ghost use Rattle.mps_writer.specs.declared.sending.MpsFail.TheVariants.{Memory, Write};
 
@@ -67,11 +66,13 @@ pub fn mps_to<R: RowSource, K: Sink>(
     requires vars { AllByRecursion (IsNamedVariable sets.now) vars.now }
     requires ascending { ascends var_cmp vars.now ≡ true }
 
-    // Over a sink that tells its bytes.
-    ensures sent { OnOk result (WhereTold (K.written out.old) (λ bytes.
-        K.written out.new ≡ Some (bytes ++ rows_text sets.now (R.rows rows.old) vars.now))) }
-    ensures cut { OnErr result (WhereTold (K.written out.old) (λ bytes.
-        HoldsPrefixOf (rows_text sets.now (R.rows rows.old) vars.now) bytes (K.written out.new))) }
+    // What the sink took, or what prefix of it.
+    ensures sent { OnOk result (Took (output (K.written out.old) (K.accepted out.old))
+        (output (K.written out.new) (K.accepted out.new))
+        (rows_text sets.now (R.rows rows.old) vars.now)) }
+    ensures cut { OnErr result (TookPrefix (output (K.written out.old) (K.accepted out.old))
+        (output (K.written out.new) (K.accepted out.new))
+        (rows_text sets.now (R.rows rows.old) vars.now)) }
 
     // When a write failed. That memory runs out has no cause.
     ensures failed { IsErrOf result MpsFail.Write → Rose (K.faults out.old) (K.faults out.new) }
@@ -104,7 +105,9 @@ fn send_sections<R: RowSource, K: Sink>(
     requires vars { AllByRecursion (IsNamedVariable sets.now) vars.now }
     requires ascending { ascends var_cmp vars.now ≡ true }
     ensures taken { Takes (buffer.old.items ++ sections_text sets.now (R.rows rows.old) vars.now) result
-        (K.written out.old) (K.written out.new) (K.faults out.old) (K.faults out.new) buffer.new.items }
+        (output (K.written out.old) (K.accepted out.old))
+        (output (K.written out.new) (K.accepted out.new))
+        (K.faults out.old) (K.faults out.new) buffer.new.items }
     ensures rows_stay { R.rows rows.new ≡ R.rows rows.old }
 {
     // Nothing is known yet of right sides.
@@ -145,7 +148,9 @@ fn send_bounds<K: Sink>(
 ) -> Result<(), MpsFail>
     requires { AllByRecursion (IsNamedVariable sets.now) vars.now }
     ensures { Takes (buffer.old.items ++ bounds (numbered vars.now)) result
-        (K.written out.old) (K.written out.new) (K.faults out.old) (K.faults out.new) buffer.new.items }
+        (output (K.written out.old) (K.accepted out.old))
+        (output (K.written out.new) (K.accepted out.new))
+        (K.faults out.old) (K.faults out.new) buffer.new.items }
 {
     if !any_free(vars, sets) {
         return spill(buffer, out);
@@ -165,7 +170,9 @@ fn send_free_columns<K: Sink>(
 ) -> Result<(), MpsFail>
     requires { AllByRecursion (IsNamedVariable sets.now) vars.now }
     ensures { Takes (buffer.old.items ++ flat_map bound_line (numbered vars.now)) result
-        (K.written out.old) (K.written out.new) (K.faults out.old) (K.faults out.new) buffer.new.items }
+        (output (K.written out.old) (K.accepted out.old))
+        (output (K.written out.new) (K.accepted out.new))
+        (K.faults out.old) (K.faults out.new) buffer.new.items }
 {
     for (place, var) in vars.iter().enumerate() {
         match send_bound(place as u64 + 1, *var, buffer, out) {
@@ -185,7 +192,9 @@ fn send_bound<K: Sink>(
 ) -> Result<(), MpsFail>
     requires { IsKind var.kind }
     ensures { Takes (buffer.old.items ++ bound_line (column, var)) result
-        (K.written out.old) (K.written out.new) (K.faults out.old) (K.faults out.new) buffer.new.items }
+        (output (K.written out.old) (K.accepted out.old))
+        (output (K.written out.new) (K.accepted out.new))
+        (K.faults out.old) (K.faults out.new) buffer.new.items }
 {
     match push_bound(buffer, column, var) {
         Ok(()) => spill(buffer, out),
@@ -196,7 +205,9 @@ fn send_bound<K: Sink>(
 // Writes a piece.
 fn send_piece<K: Sink>(piece: &[u8], buffer: &mut Vec<u8>, out: &mut K) -> Result<(), MpsFail>
     ensures { Takes (buffer.old.items ++ piece.now) result
-        (K.written out.old) (K.written out.new) (K.faults out.old) (K.faults out.new) buffer.new.items }
+        (output (K.written out.old) (K.accepted out.old))
+        (output (K.written out.new) (K.accepted out.new))
+        (K.faults out.old) (K.faults out.new) buffer.new.items }
 {
     match buffer.extend_from_slice(piece) {
         Ok(()) => spill(buffer, out),

@@ -11,6 +11,7 @@ ghost use Rattle.row_source.specs.Sources.{AreInOrder};
 ghost use Rattle.mps_writer.specs.Entries.{HasEquation, following, lines_of};
 ghost use Rattle.mps_writer.specs.Gathered.{Serves};
 ghost use Rattle.mps_writer.specs.MpsText.{IsNamedRow, IsNamedVariable, column_head, column_lines, entry_line, numbered};
+ghost use Rattle.io_edges.specs.Outputs.{output};
 ghost use Rattle.mps_writer.specs.Steps.{Takes};
 
 use crate::buffer::spill;
@@ -47,7 +48,9 @@ pub fn send_columns<R: RowSource, K: Sink>(
     requires vars { AllByRecursion (IsNamedVariable sets.now) vars.now }
     requires ascending { ascends var_cmp vars.now ≡ true }
     ensures taken { Takes (buffer.old.items ++ flat_map (column_lines sets.now (R.rows rows.old)) (numbered vars.now)) result
-        (K.written out.old) (K.written out.new) (K.faults out.old) (K.faults out.new) buffer.new.items }
+        (output (K.written out.old) (K.accepted out.old))
+        (output (K.written out.new) (K.accepted out.new))
+        (K.faults out.old) (K.faults out.new) buffer.new.items }
     ensures rows { R.rows rows.new ≡ R.rows rows.old }
 {
     // No variable is of kind 0.
@@ -117,7 +120,9 @@ fn send_column<K: Sink>(
     requires named { IsNamedVariable sets.now var }
     requires within { from ≤ length entries.now }
     ensures taken { Takes (buffer.old.items ++ (column_head sets.now (column, var) ++ lines_of column var (drop from entries.now))) result
-        (K.written out.old) (K.written out.new) (K.faults out.old) (K.faults out.new) buffer.new.items }
+        (output (K.written out.old) (K.accepted out.old))
+        (output (K.written out.new) (K.accepted out.new))
+        (K.faults out.old) (K.faults out.new) buffer.new.items }
     ensures rest { IfOk result (λ to. drop to entries.now ≡ following var (drop from entries.now)) }
     ensures within { IfOk result (λ to. to ≤ length entries.now) }
 {
@@ -149,7 +154,9 @@ fn send_head<K: Sink>(
 ) -> Result<(), MpsFail>
     requires { IsNamedVariable sets.now var }
     ensures { Takes (buffer.old.items ++ column_head sets.now (column, var)) result
-        (K.written out.old) (K.written out.new) (K.faults out.old) (K.faults out.new) buffer.new.items }
+        (output (K.written out.old) (K.accepted out.old))
+        (output (K.written out.new) (K.accepted out.new))
+        (K.faults out.old) (K.faults out.new) buffer.new.items }
 {
     match push_column_head(buffer, column, var, sets) {
         Ok(()) => spill(buffer, out),
@@ -165,7 +172,9 @@ fn send_entry<K: Sink>(
     out: &mut K,
 ) -> Result<(), MpsFail>
     ensures { Takes (buffer.old.items ++ entry_line column entry.now.row entry.now.number) result
-        (K.written out.old) (K.written out.new) (K.faults out.old) (K.faults out.new) buffer.new.items }
+        (output (K.written out.old) (K.accepted out.old))
+        (output (K.written out.new) (K.accepted out.new))
+        (K.faults out.old) (K.faults out.new) buffer.new.items }
 {
     match push_entry(buffer, column, entry) {
         Ok(()) => spill(buffer, out),

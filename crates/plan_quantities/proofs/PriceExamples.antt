@@ -1,9 +1,10 @@
 -- One technology that makes a fuel, at an investment of 5 and running costs of 3 for each unit, and a demand of 10: the price of the fuel is 8.
-use Rattle.std.proofs.Common.{◌≡◌, ℕ, ◌-◌, ◌*◌, ◌^◌, ℤ, pos, neg_ℤ, ◌+ℤ◌, ◌*ℤ◌, Bool, true, false, List, [], ◌∷◌, map, refl}
+use Rattle.std.proofs.Common.{◌≡◌, ℕ, ◌-◌, ◌*◌, ◌^◌, ℤ, pos, neg_ℤ, ◌*ℤ◌, Bool, true, false, List, [], ◌∷◌, map, refl, arith}
 use Rattle.std.specs.List.{list_all}
 use Rattle.std.specs.Ordering.{is_eq}
-use Rattle.std.specs.Prelude.{◌&&◌, ◌||◌, codes, if◌then◌else◌, int_le, nat_eq, slice_index_or}
-use Rattle.exact_num.specs.Rational.{Rational, whole}
+use Rattle.std.specs.Prelude.{◌&&◌, ◌||◌, codes, if◌then◌else◌, nat_eq, slice_index_or}
+use Rattle.std.proofs.lemmas.Int.{ints}
+use Rattle.exact_num.specs.Rational.{pair, whole}
 use Rattle.discount_factors.specs.Factors.{capital_factor, discounted, half_year_root, operating_factor, root_from, salvage_fraction}
 use Rattle.model_sets.specs.Data.{Data, Default}
 use Rattle.model_sets.specs.declared.param_numbers.TheConstants.{ANNUAL_EMISSION_LIMIT, AVAILABILITY_FACTOR, CAPACITY_FACTOR, CAPACITY_TO_ACTIVITY_UNIT, CAPITAL_COST, DEPRECIATION_METHOD, FIXED_COST, MODEL_PERIOD_EMISSION_LIMIT, OPERATIONAL_LIFE, OUTPUT_ACTIVITY_RATIO, SPECIFIED_ANNUAL_DEMAND, SPECIFIED_DEMAND_PROFILE, TOTAL_ANNUAL_MAX_CAPACITY, TOTAL_ANNUAL_MAX_CAPACITY_INVESTMENT, TOTAL_TECHNOLOGY_ANNUAL_ACTIVITY_UPPER_LIMIT, VARIABLE_COST, YEAR_SPLIT}
@@ -16,7 +17,7 @@ use Rattle.named_equations.specs.Existence.{subscripts_of_kind}
 use Rattle.named_equations.specs.Indices.{at_rlfy}
 use Rattle.named_equations.specs.Instances.{indices, instances}
 use Rattle.named_equations.specs.Plans.{cost, meets}
-use Rattle.plan_quantities.specs.Prices.{balance_at, says_more}
+use Rattle.plan_quantities.specs.Prices.{CostsAtLeast, balance_at, says_more}
 use Rattle.plan_quantities.specs.Quantities.{Quantity, quantities}
 
 -- ---- data
@@ -96,24 +97,27 @@ costs = refl
 
 -- ---- what a price promises
 
--- CostsAtLeast as a test
-abbrev costs_at_least : (Var → ℤ) → Rational → Rational → ℤ → ℕ → Bool
-costs_at_least x bound price a b =
-    int_le ((bound.top *ℤ price.bottom *ℤ pos b +ℤ price.top *ℤ a *ℤ bound.bottom) *ℤ pos 1) (bound.bottom *ℤ price.bottom *ℤ pos b *ℤ cost one_technology x)
-
 -- 80 and 8 for each unit more, or less
-one_more : costs_at_least (making 11) (whole (pos 80)) (whole (pos 8)) (pos 1) 1 ≡ true
-one_more = refl
+one_more : CostsAtLeast one_technology 1 (making 11) (whole (pos 80)) (whole (pos 8)) (pos 1) 1
+one_more = omega (arith, ints)
 
-one_less : costs_at_least (making 9) (whole (pos 80)) (whole (pos 8)) (neg_ℤ (pos 1)) 1 ≡ true
-one_less = refl
+one_less : CostsAtLeast one_technology 1 (making 9) (whole (pos 80)) (whole (pos 8)) (neg_ℤ (pos 1)) 1
+one_less = omega (arith, ints)
+
+-- for half a unit more, of a plan over 2
+half_more : CostsAtLeast one_technology 2 (making 21) (whole (pos 80)) (whole (pos 8)) (pos 1) 2
+half_more = omega (arith, ints)
 
 -- a higher price would promise too much of a unit more, and a lower one of a unit less
-higher : costs_at_least (making 11) (whole (pos 80)) (whole (pos 9)) (pos 1) 1 ≡ false
-higher = refl
+higher : ¬ (CostsAtLeast one_technology 1 (making 11) (whole (pos 80)) (whole (pos 9)) (pos 1) 1)
+higher h = absurd (omega (arith, ints, h))
 
-lower : costs_at_least (making 9) (whole (pos 80)) (whole (pos 7)) (neg_ℤ (pos 1)) 1 ≡ false
-lower = refl
+lower : ¬ (CostsAtLeast one_technology 1 (making 9) (whole (pos 80)) (whole (pos 7)) (neg_ℤ (pos 1)) 1)
+lower h = absurd (omega (arith, ints, h))
+
+-- so would a bound above the cost
+bound_above : ¬ (CostsAtLeast one_technology 1 (making 10) (pair (pos 161) (pos 2)) (whole (pos 8)) (pos 0) 1)
+bound_above h = absurd (omega (arith, ints, h))
 
 -- ---- quantities
 

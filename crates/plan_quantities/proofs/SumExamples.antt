@@ -1,6 +1,7 @@
 -- Plans over two members of each set that is summed over, under either profile: each of their quantities is its defining sum, and with one value raised it
 -- isn't. The values were worked out by a program of another kind, in exact fractions, from the published statements of the equations, step by step.
-use Rattle.std.proofs.Common.{◌≡◌, ℕ, ◌+◌, ◌*◌, ◌^◌, ℤ, pos, negsuc, ◌+ℤ◌, ◌-ℤ◌, ◌*ℤ◌, Bool, true, false, List, [], ◌∷◌, ◌++◌, map, refl}
+use Rattle.std.proofs.Common.{◌≡◌, ℕ, ◌+◌, ◌*◌, ◌^◌, ℤ, pos, negsuc, ◌+ℤ◌, ◌-ℤ◌, ◌*ℤ◌, Bool, true, false, List, [], ◌∷◌, ◌++◌, map, refl, sym, ◌∙◌, true≢false}
+use Rattle.std.proofs.lemmas.Bool.Decides.{Decides-int_eq}
 use Rattle.std.specs.List.{list_all}
 use Rattle.std.specs.Ordering.{int_eq}
 use Rattle.std.specs.Prelude.{codes, if◌then◌else◌, nat_eq, slice_index_or}
@@ -14,7 +15,7 @@ use Rattle.row_core.specs.declared.kind_numbers.TheConstants.{NEW_CAPACITY, RATE
 use Rattle.named_equations.specs.Existence.{exists, subscripts_of_kind}
 use Rattle.named_equations.specs.Instances.{indices}
 use Rattle.named_equations.specs.Variables.{variable}
-use Rattle.plan_quantities.specs.Quantities.{Quantity, quantities}
+use Rattle.plan_quantities.specs.Quantities.{IsSum, Quantity, quantities}
 
 -- ---- data
 
@@ -161,6 +162,16 @@ abbrev is_sum : Data → (Var → ℤ) → Quantity → Index → Bool
 is_sum d x quantity i =
     if exists d (variable quantity.kind i) then int_eq (quantity.scale 6 *ℤ x (variable quantity.kind i)) (quantity.sum 6 d q x i)
     else int_eq (quantity.sum 6 d q x i) (pos 0)
+
+-- where the test says so, it is
+tested : (d : Data) (x : Var → ℤ) (quantity : Quantity) (i : Index) → is_sum d x quantity i ≡ true → IsSum 6 d q x quantity i
+tested d x quantity i test = by_existence (exists d (variable quantity.kind i)) refl test
+  where
+    by_existence : (there : Bool) → exists d (variable quantity.kind i) ≡ there
+        → (if there then int_eq (quantity.scale 6 *ℤ x (variable quantity.kind i)) (quantity.sum 6 d q x i) else int_eq (quantity.sum 6 d q x i) (pos 0)) ≡ true
+        → IsSum 6 d q x quantity i
+    by_existence true is same = record { existing = λ there. (Decides-int_eq (quantity.scale 6 *ℤ x (variable quantity.kind i)) (quantity.sum 6 d q x i)).0 same; missing = λ none. absurd (true≢false (sym is ∙ none)) }
+    by_existence false is none_is = record { existing = λ there. absurd (true≢false (sym there ∙ is)); missing = λ none. (Decides-int_eq (quantity.sum 6 d q x i) (pos 0)).0 none_is }
 
 -- at every index
 abbrev are_sums : Data → (Var → ℤ) → Quantity → Bool

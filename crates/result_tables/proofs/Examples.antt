@@ -1,14 +1,15 @@
 -- The definitions, computed on small models, and on near misses.
-use Rattle.std.proofs.Common.{◌≡◌, ◌^◌, ◌-◌, pos, negsuc, true, false, List, [], ◌∷◌, refl}
+use Rattle.std.proofs.Common.{◌≡◌, ℕ, ◌^◌, ◌-◌, ℤ, pos, negsuc, true, false, List, [], ◌∷◌, map, refl, ap}
 use Rattle.std.specs.Prelude.{codes}
 use Rattle.std.specs.Fmt.{digits}
 use Rattle.csv.specs.Writing.{escaped, fields_text, is_blank}
 use Rattle.exact_num.specs.Formed.{product_formed}
 use Rattle.exact_num.specs.Gcd.{gcd_of, gcd_within}
 use Rattle.exact_num.specs.Range.{all_fit, in_range}
-use Rattle.exact_num.specs.Rational.{lowest, pair, times, whole}
+use Rattle.exact_num.specs.Rational.{Rational, lowest, pair, times, whole}
 use Rattle.model_sets.specs.Members.{SetLists}
 use Rattle.row_core.specs.declared.Index.{Index}
+use Rattle.row_core.specs.declared.Row.{Row}
 use Rattle.row_core.specs.declared.RowName.{RowName}
 use Rattle.row_core.specs.declared.Var.{Var}
 use Rattle.row_core.specs.declared.equation_numbers.TheConstants.{EBA11}
@@ -18,7 +19,7 @@ use Rattle.scaled_decimals.specs.PrintedPlaces.{millionths, millionths_text}
 use Rattle.result_tables.specs.Lines.{amount_line}
 use Rattle.result_tables.specs.Prices.{priced, production_of}
 use Rattle.result_tables.specs.Reports.{infeasible_text, report_text, summary_text, unbounded_text}
-use Rattle.result_tables.specs.Tables.{kind_table, table_text}
+use Rattle.result_tables.specs.Tables.{kind_table, nonzero, price_record, price_table, table_text}
 use Rattle.row_core.specs.Rows.{number_at}
 
 -- ---- a model with one member in each set, the technology's with a comma
@@ -124,6 +125,21 @@ price = refl
 unpriced : priced [] balance (pos 8) ≡ whole (pos 0)
 unfolding times lowest gcd_of gcd_within
 unpriced = refl
+
+-- the record of a price with its value: the region, the timeslice, the fuel and the year of its row, 31/32 times 8 as a fraction, and rounded
+abbrev with_price : List (RowName × Rational) → List (Var × ℤ) → List ℕ
+with_price multipliers es =
+    table_text (record { name = codes "FuelPrice"; records = map (price_record sets) (nonzero ((balance, priced multipliers balance (number_at es production)) ∷ [])) })
+
+price_shown : (row : Row) → row.entries.items ≡ (production, pos 8) ∷ (demand, negsuc 0) ∷ []
+    → table_text (price_table sets (record row { name = balance } ∷ []) ((balance, pair (pos 31) (pos 32)) ∷ [])) ≡ codes "table FuelPrice\nR,D,F,2020,31/4,7.750000\n"
+unfolding times lowest gcd_of gcd_within fields_text is_blank fraction_text millionths millionths_text digits
+price_shown row entries = ap (with_price ((balance, pair (pos 31) (pos 32)) ∷ [])) entries
+
+-- a price of 0 has none
+no_price_shown : (row : Row) → row.entries.items ≡ (production, pos 8) ∷ (demand, negsuc 0) ∷ [] → table_text (price_table sets (record row { name = balance } ∷ []) []) ≡ codes "table FuelPrice\n"
+unfolding times lowest gcd_of gcd_within fields_text is_blank fraction_text millionths millionths_text digits
+no_price_shown row entries = ap (with_price []) entries
 
 -- the greatest number that fits, once and twice
 fitting : all_fit (product_formed (whole (pos (2 ^ 127 - 1))) (whole (pos 1))) ≡ true

@@ -1,5 +1,5 @@
 -- What is found is worth: in the checker's words, over all rows.
-use Rattle.std.specs.Prelude.{◌≡◌, ℕ, List, [], ◌∷◌, ⊤}
+use Rattle.std.specs.Prelude.{◌≡◌, ◌≤◌, ℕ, List, [], ◌∷◌, ⊤}
 use Rattle.exact_num.specs.Rational.{Rational}
 use Rattle.exact_num.specs.Value.{value_of}
 use Rattle.row_core.specs.declared.Row.{Row}
@@ -22,6 +22,11 @@ abbrev pub IsProved : List Row → List Var → ℕ → Rounded → Type 0
 IsProved rows vars ppm (Plan plan multipliers cost bound pivots) =
     IsPlan rows vars plan (value_of cost) × IsBound rows vars multipliers (value_of bound) × IsNear (value_of cost) (value_of bound) ppm
 IsProved rows vars ppm (NoPlan multipliers pivots) = IsRefutation rows vars multipliers
+
+-- the guess made at most so many pivots
+abbrev pub IsMadeWithin : ℕ → Rounded → Type 0
+IsMadeWithin pivots (Plan plan multipliers cost bound made) = made ≤ pivots
+IsMadeWithin pivots (NoPlan multipliers made) = made ≤ pivots
 
 -- a plan has one value for each variable, in order
 abbrev pub IsComplete : List Var → Rounded → Type 0

@@ -1,10 +1,10 @@
 //! Values and multipliers of the linear program, carried back to all rows and checked.
 
-ghost use Rattle.std.specs.Prelude.{◌≡◌, ℕ, IfOk};
+ghost use Rattle.std.specs.Prelude.{◌≡◌, ◌≤◌, ℕ, IfOk};
 ghost use Rattle.row_core.specs.Numbers.{keys_of};
 ghost use Rattle.exact_solver.specs.BookPrograms.{IsProgramOf};
 ghost use Rattle.exact_solver.specs.Solutions.{AreNamedIn};
-ghost use Rattle.rounded_solver.specs.Found.{IsComplete, IsNamed, IsProved};
+ghost use Rattle.rounded_solver.specs.Found.{IsComplete, IsMadeWithin, IsNamed, IsProved};
 
 use crate::checking::{
     checked_bound, checked_gap, checked_plan, checked_refutation, multiplier_laws, plan_laws,
@@ -33,6 +33,7 @@ pub(crate) fn certified(
     ensures proved { IfOk result (IsProved book.now.rows book.now.vars ppm) }
     ensures whole { IfOk result (IsComplete book.now.vars) }
     ensures named { IfOk result (IsNamed book.now.rows) }
+    ensures made { (most : ℕ) → pivots ≤ most → IfOk result (IsMadeWithin most) }
 {
     if lambda.len() != program.reduced.rows.len() {
         return Err(Halt::Nothing);
@@ -57,6 +58,7 @@ fn accepted(
     ensures proved { IfOk result (IsProved book.now.rows book.now.vars ppm) }
     ensures whole { keys_of plan ≡ book.now.vars → IfOk result (IsComplete book.now.vars) }
     ensures named { AreNamedIn book.now.rows multipliers → IfOk result (IsNamed book.now.rows) }
+    ensures made { (most : ℕ) → pivots ≤ most → IfOk result (IsMadeWithin most) }
 {
     let cost = checked_plan(book, &plan)?;
     let bound = checked_bound(alloc, book, &multipliers)?;
@@ -82,6 +84,7 @@ pub(crate) fn refuted(
     ensures proved { (ppm : ℕ) → IfOk result (IsProved book.now.rows book.now.vars ppm) }
     ensures whole { IfOk result (IsComplete book.now.vars) }
     ensures named { IfOk result (IsNamed book.now.rows) }
+    ensures made { (most : ℕ) → pivots ≤ most → IfOk result (IsMadeWithin most) }
 {
     if lambda.len() != program.reduced.rows.len() {
         return Err(Halt::Nothing);
@@ -101,6 +104,7 @@ fn accepted_refutation(
     ensures proved { (ppm : ℕ) → IfOk result (IsProved book.now.rows book.now.vars ppm) }
     ensures whole { IfOk result (IsComplete book.now.vars) }
     ensures named { AreNamedIn book.now.rows multipliers → IfOk result (IsNamed book.now.rows) }
+    ensures made { (most : ℕ) → pivots ≤ most → IfOk result (IsMadeWithin most) }
 {
     checked_refutation(alloc, book, &multipliers)?;
     Ok(Rounded::NoPlan {

@@ -6,7 +6,7 @@
 ghost use Rattle.std.specs.Prelude.{IfOk};
 ghost use Rattle.exact_solver.specs.BookPrograms.{IsProgramOf};
 ghost use Rattle.rounded_solver.specs.Attempts.{IfFound};
-ghost use Rattle.rounded_solver.specs.Found.{IsComplete, IsNamed, IsProved};
+ghost use Rattle.rounded_solver.specs.Found.{IsComplete, IsMadeWithin, IsNamed, IsProved};
 
 use crate::attempt::Attempt;
 use crate::certifying::certified;
@@ -38,6 +38,7 @@ pub(crate) fn costless_plan(
     ensures proved { IfOk result (IfFound (IsProved book.now.rows book.now.vars ppm)) }
     ensures whole { IfOk result (IfFound (IsComplete book.now.vars)) }
     ensures named { IfOk result (IfFound (IsNamed book.now.rows)) }
+    ensures made { IfOk result (IfFound (IsMadeWithin pivots)) }
 {
     let smaller = prepare(alloc, &program.reduced, Aim::Costless)?;
     if smaller.is_false() {

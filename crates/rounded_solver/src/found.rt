@@ -3,7 +3,7 @@
 use exact_num::Frac;
 use row_core::{Multipliers, Plan};
 
-/// What was found, with the number of pivots of all guesses. The checker has said yes to all that stands here.
+/// What was found, with the number of pivots of its guess. All that stands here was accepted by the checker.
 #[derive(Debug, Drop)]
 pub enum Rounded {
     /// A plan, and multipliers that prove that none costs less than `bound`. `cost` is above it by no more than was allowed.

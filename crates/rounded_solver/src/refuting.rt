@@ -1,9 +1,9 @@
 //! Tries at multipliers that show that there is no plan.
 
-ghost use Rattle.std.specs.Prelude.{IfOk, ℕ};
+ghost use Rattle.std.specs.Prelude.{◌≤◌, IfOk, ℕ};
 ghost use Rattle.exact_solver.specs.BookPrograms.{IsProgramOf};
 ghost use Rattle.rounded_solver.specs.Attempts.{IfFound};
-ghost use Rattle.rounded_solver.specs.Found.{IsComplete, IsNamed, IsProved};
+ghost use Rattle.rounded_solver.specs.Found.{IsComplete, IsMadeWithin, IsNamed, IsProved};
 
 use crate::attempt::Attempt;
 use crate::certifying::refuted;
@@ -41,6 +41,7 @@ pub(crate) fn refutation(
     ensures proved { (ppm : ℕ) → IfOk result (IfFound (IsProved book.now.rows book.now.vars ppm)) }
     ensures whole { IfOk result (IfFound (IsComplete book.now.vars)) }
     ensures named { IfOk result (IfFound (IsNamed book.now.rows)) }
+    ensures made { IfOk result (IfFound (IsMadeWithin pivots)) }
 {
     let smaller = prepare(alloc, &program.reduced, Aim::Refutation)?;
     for digits in TRIES {
@@ -68,6 +69,7 @@ fn one_try(
     ensures proved { (ppm : ℕ) → IfOk result (IfFound (IsProved book.now.rows book.now.vars ppm)) }
     ensures whole { IfOk result (IfFound (IsComplete book.now.vars)) }
     ensures named { IfOk result (IfFound (IsNamed book.now.rows)) }
+    ensures made { IfOk result (IfFound (IsMadeWithin pivots)) }
 {
     let guessed = make_guess(alloc, smaller, digits, pivots)?;
     let found = refuted(alloc, book, program, &guessed.lambda, guessed.pivots)?;
@@ -80,7 +82,9 @@ pub(crate) fn make_guess(
     smaller: &Program,
     digits: i32,
     pivots: u64,
-) -> Result<Guessed, Halt> {
+) -> Result<Guessed, Halt>
+    ensures made { IfOk result (λ guessed. guessed.pivots ≤ pivots) }
+{
     let margins = margins_of(alloc, smaller, PLACES, digits)?;
     if smaller.is_false() {
         let lambda = multipliers_of(alloc, smaller, &margins, &[])?;

@@ -3,7 +3,7 @@
 ghost use Rattle.std.specs.Prelude.{IfOk, IfSome};
 ghost use Rattle.exact_solver.specs.BookPrograms.{IsProgramOf};
 ghost use Rattle.rounded_solver.specs.Attempts.{IfFound};
-ghost use Rattle.rounded_solver.specs.Found.{IsComplete, IsNamed, IsProved};
+ghost use Rattle.rounded_solver.specs.Found.{IsComplete, IsMadeWithin, IsNamed, IsProved};
 
 use crate::attempt::Attempt;
 use crate::costless::costless_plan;
@@ -19,7 +19,7 @@ use std::alloc::{AllocError, Global};
 /// show that there is no plan. Each guess may take so many pivots at most.
 ///
 /// Nothing is given to which the checker doesn't say yes. A plan has one value for each variable of the book, in order;
-/// multipliers ascend by the names of rows. When nothing is given isn't defined: then nothing is known of the rows. Refuses only
+/// multipliers ascend by the names of rows; the pivots that are told are those of the guess. When nothing is given isn't defined: then nothing is known of the rows. Refuses only
 /// out of memory.
 pub fn rounded(
     alloc: Global,
@@ -32,6 +32,7 @@ pub fn rounded(
     ensures proved { IfOk result (λ found. IfSome found (IsProved book.now.rows book.now.vars ppm)) }
     ensures whole { IfOk result (λ found. IfSome found (IsComplete book.now.vars)) }
     ensures named { IfOk result (λ found. IfSome found (IsNamed book.now.rows)) }
+    ensures made { IfOk result (λ found. IfSome found (IsMadeWithin pivots)) }
 {
     match attempts(alloc, book, program, ppm, pivots) {
         Ok(Attempt::Found(found)) => Ok(Some(found)),
@@ -55,6 +56,7 @@ fn attempts(
     ensures proved { IfOk result (IfFound (IsProved book.now.rows book.now.vars ppm)) }
     ensures whole { IfOk result (IfFound (IsComplete book.now.vars)) }
     ensures named { IfOk result (IfFound (IsNamed book.now.rows)) }
+    ensures made { IfOk result (IfFound (IsMadeWithin pivots)) }
 {
     match cheapest_plan(alloc, book, program, ppm, pivots)? {
         Attempt::Found(found) => Ok(Attempt::Found(found)),

@@ -1,9 +1,9 @@
 //! Tries at a plan of least cost, each with other numbers of decimals.
 
-ghost use Rattle.std.specs.Prelude.{IfOk};
+ghost use Rattle.std.specs.Prelude.{◌≤◌, IfOk, IfSome};
 ghost use Rattle.exact_solver.specs.BookPrograms.{IsProgramOf};
 ghost use Rattle.rounded_solver.specs.Attempts.{IfFound};
-ghost use Rattle.rounded_solver.specs.Found.{IsComplete, IsNamed, IsProved};
+ghost use Rattle.rounded_solver.specs.Found.{IsComplete, IsMadeWithin, IsNamed, IsProved};
 
 use crate::attempt::Attempt;
 use crate::certifying::certified;
@@ -42,6 +42,7 @@ pub(crate) fn cheapest_plan(
     ensures proved { IfOk result (IfFound (IsProved book.now.rows book.now.vars ppm)) }
     ensures whole { IfOk result (IfFound (IsComplete book.now.vars)) }
     ensures named { IfOk result (IfFound (IsNamed book.now.rows)) }
+    ensures made { IfOk result (IfFound (IsMadeWithin pivots)) }
 {
     let smaller = prepare(alloc, &program.reduced, Aim::Cheapest)?;
     if smaller.is_false() {
@@ -74,6 +75,7 @@ fn one_try(
     ensures proved { IfOk result (IfFound (IsProved book.now.rows book.now.vars ppm)) }
     ensures whole { IfOk result (IfFound (IsComplete book.now.vars)) }
     ensures named { IfOk result (IfFound (IsNamed book.now.rows)) }
+    ensures made { IfOk result (IfFound (IsMadeWithin pivots)) }
 {
     match rounded_end(alloc, smaller, places, digits, pivots)? {
         Some(end) => {
@@ -99,7 +101,9 @@ pub(crate) fn rounded_end(
     places: i32,
     digits: i32,
     pivots: u64,
-) -> Result<Option<RoundedEnd>, Halt> {
+) -> Result<Option<RoundedEnd>, Halt>
+    ensures made { IfOk result (λ end. IfSome end (λ e. e.pivots ≤ pivots)) }
+{
     let margins = margins_of(alloc, smaller, places, digits)?;
     let asked = rounded_program(alloc, smaller, &margins)?;
     match guess(alloc, &asked, TOLERANCE, pivots)? {

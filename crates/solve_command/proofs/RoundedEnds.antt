@@ -21,14 +21,15 @@ use Rattle.solve_command.specs.SolveTexts.{infeasible_shown, solved_shown}
 use Rattle.solve_command.proofs.SolvedEnds.{are, near, refuted, shown-infeasible, shown-optimal}
 
 -- what is found is worth the same as a solution
-pub found-is_by : (rows : List Row) (vars : List Var) (gap : ℕ) (given : Rounded) → rounded.IsProved rows vars gap given → rounded.IsComplete vars given → rounded.IsNamed rows given
-    → IsFoundBy rows vars gap (solution_of given)
-found-is_by rows vars gap (found.Plan plan multipliers cost bound pivots) proved complete named = record { proved = (proved.0, proved.1, proved.2.within); complete = complete; named = named }
-found-is_by rows vars gap (found.NoPlan multipliers pivots) proved complete named = record { proved = proved; complete = complete; named = named }
+pub found-is_by : (rows : List Row) (vars : List Var) (gap most : ℕ) (given : Rounded) → rounded.IsProved rows vars gap given → rounded.IsComplete vars given → rounded.IsNamed rows given
+    → rounded.IsMadeWithin most given
+    → IsFoundBy rows vars gap most (solution_of given)
+found-is_by rows vars gap most (found.Plan plan multipliers cost bound pivots) proved complete named within = record { proved = (proved.0, proved.1, proved.2.within); within = within; complete = complete; named = named }
+found-is_by rows vars gap most (found.NoPlan multipliers pivots) proved complete named within = record { proved = proved; within = within; complete = complete; named = named }
 
-module _ (places : ℕ) (d : Data) (rows : List Row) (vars : List Var) (book : IsBookOf places d rows vars) (sets : SetLists) (same : sets ≡ d.sets) (gap : ℕ) (show : Shown) (rounded : ℕ) (status : Status) (text : List ℕ) where
-  pub due-from_found : (solution : Solution) → IsFoundBy rows vars gap solution → TellsFound sets rows vars show rounded places solution status text
-      → IsFound places d rows gap show rounded third_attempt status text ⊎ IsFoundInfeasible places d rows show rounded third_attempt status text
+module _ (places : ℕ) (d : Data) (rows : List Row) (vars : List Var) (book : IsBookOf places d rows vars) (sets : SetLists) (same : sets ≡ d.sets) (gap pivots : ℕ) (show : Shown) (rounded : ℕ) (status : Status) (text : List ℕ) where
+  pub due-from_found : (solution : Solution) → IsFoundBy rows vars gap pivots solution → TellsFound sets rows vars show rounded places solution status text
+      → IsFound places d rows gap pivots show rounded third_attempt status text ⊎ IsFoundInfeasible places d rows pivots show rounded third_attempt status text
   due-from_found (exact.Optimal plan multipliers cost bound made) found told =
       inl (record {
         plan = plan;
@@ -36,6 +37,7 @@ module _ (places : ℕ) (d : Data) (rows : List Row) (vars : List Var) (book : I
         cost = value_of cost;
         bound = value_of bound;
         made = made;
+        within = found.within;
         optimum = near places d rows vars book plan multipliers (value_of cost) (value_of bound) gap found.proved.0 found.proved.1 found.proved.2 found.complete found.named;
         cost_is = found.proved.0.cost_is ∙ ap (λ vs. plan_cost vs plan) (are places d rows vars book);
         prices_fit = told.fits;
@@ -47,6 +49,7 @@ module _ (places : ℕ) (d : Data) (rows : List Row) (vars : List Var) (book : I
       inr (record {
         multipliers = multipliers;
         made = made;
+        within = found.within;
         refuted = refuted places d rows vars book multipliers found.proved found.named;
         status_is = told.status_is;
         text_is = told.text_is ∙ shown-infeasible show sets rows vars rounded places third_attempt multipliers made

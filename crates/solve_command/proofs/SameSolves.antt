@@ -165,14 +165,15 @@ module _ (places : ℕ) (d e : Data) (same : AreSameData d e) where
     line_is = large.line_is ∙ ap (λ vs. too_large_line (inequality_count rows) (column_count vs)) vars;
   }
 
-  found-carries : (rows : List Row) (gap : ℕ) (show : Shown) (rounded attempt : ℕ) (status : Status) (text : List ℕ) → IsFound places d rows gap show rounded attempt status text
-      → IsFound places e rows gap show rounded attempt status text
-  found-carries rows gap show rounded attempt status text found = record {
+  found-carries : (rows : List Row) (gap pivots : ℕ) (show : Shown) (rounded attempt : ℕ) (status : Status) (text : List ℕ) → IsFound places d rows gap pivots show rounded attempt status text
+      → IsFound places e rows gap pivots show rounded attempt status text
+  found-carries rows gap pivots show rounded attempt status text found = record {
     plan = found.plan;
     multipliers = found.multipliers;
     cost = found.cost;
     bound = found.bound;
     made = found.made;
+    within = found.within;
     optimum = near-carries rows gap found.plan found.multipliers found.cost found.bound found.optimum;
     cost_is = found.cost_is ∙ ap (λ vs. plan_cost vs found.plan) vars;
     prices_fit = found.prices_fit;
@@ -180,11 +181,12 @@ module _ (places : ℕ) (d e : Data) (same : AreSameData d e) where
     text_is = found.text_is ∙ ap₂ (λ (ss : SetLists) (vs : List Var). solved_shown show ss vs found.plan rows found.multipliers found.cost found.bound found.made rounded places attempt) same.sets vars;
   }
 
-  none-found-carries : (rows : List Row) (show : Shown) (rounded attempt : ℕ) (status : Status) (text : List ℕ) → IsFoundInfeasible places d rows show rounded attempt status text
-      → IsFoundInfeasible places e rows show rounded attempt status text
-  none-found-carries rows show rounded attempt status text found = record {
+  none-found-carries : (rows : List Row) (pivots : ℕ) (show : Shown) (rounded attempt : ℕ) (status : Status) (text : List ℕ) → IsFoundInfeasible places d rows pivots show rounded attempt status text
+      → IsFoundInfeasible places e rows pivots show rounded attempt status text
+  none-found-carries rows pivots show rounded attempt status text found = record {
     multipliers = found.multipliers;
     made = found.made;
+    within = found.within;
     refuted = refuted-carries rows found.multipliers found.refuted;
     status_is = found.status_is;
     text_is = found.text_is ∙ ap (λ (ss : SetLists). infeasible_shown show ss found.multipliers found.made rounded places attempt) same.sets;
@@ -193,8 +195,8 @@ module _ (places : ℕ) (d e : Data) (same : AreSameData d e) where
   method-carries : (rows : List Row) (gap pivots : ℕ) (show : Shown) (method : SolveMethod) (rounded : ℕ) (status : Status) (text : List ℕ) → DueForMethod places d rows gap pivots show method rounded status text
       → DueForMethod places e rows gap pivots show method rounded status text
   method-carries rows gap pivots show Exact rounded status text due = end-carries rows gap pivots show rounded status text due
-  method-carries rows gap pivots show Rounded rounded status text (inl found) = inl (found-carries rows gap show rounded third_attempt status text found)
-  method-carries rows gap pivots show Rounded rounded status text (inr (inl found)) = inr (inl (none-found-carries rows show rounded third_attempt status text found))
+  method-carries rows gap pivots show Rounded rounded status text (inl found) = inl (found-carries rows gap pivots show rounded third_attempt status text found)
+  method-carries rows gap pivots show Rounded rounded status text (inr (inl found)) = inr (inl (none-found-carries rows pivots show rounded third_attempt status text found))
   method-carries rows gap pivots show Rounded rounded status text (inr (inr due)) = inr (inr (end-carries rows gap pivots show rounded status text due))
 
   rows-carry : (rows : List Row) (gap pivots : ℕ) (show : Shown) (method : SolveMethod) (rounded : ℕ) (status : Status) (text : List ℕ) → DueForRows places d rows gap pivots show method rounded status text

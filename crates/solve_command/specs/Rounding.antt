@@ -1,5 +1,5 @@
 -- What the rounded method finds, as a solution, and what is told of it.
-use Rattle.std.specs.Prelude.{◌≡◌, ℕ, List}
+use Rattle.std.specs.Prelude.{◌≡◌, ◌≤◌, ℕ, List}
 use Rattle.exact_num.specs.Value.{value_of}
 use Rattle.model_sets.specs.Members.{SetLists}
 use Rattle.row_core.specs.declared.Row.{Row}
@@ -27,9 +27,16 @@ IsProvedWithin rows vars gap (exact.Optimal plan multipliers cost bound pivots) 
 IsProvedWithin rows vars gap (exact.Infeasible multipliers pivots) = IsRefutation rows vars multipliers
 IsProvedWithin rows vars gap (exact.Unbounded plan direction pivots) = ⊥
 
--- with a value for each variable, and multipliers of rows
-pub record IsFoundBy (rows : List Row) (vars : List Var) (gap : ℕ) (solution : Solution) : Type 0 where
+-- so many pivots were made
+abbrev pub pivots_made : Solution → ℕ
+pivots_made (exact.Optimal plan multipliers cost bound pivots) = pivots
+pivots_made (exact.Infeasible multipliers pivots) = pivots
+pivots_made (exact.Unbounded plan direction pivots) = pivots
+
+-- with a value for each variable, and multipliers of rows, by at most so many pivots
+pub record IsFoundBy (rows : List Row) (vars : List Var) (gap pivots : ℕ) (solution : Solution) : Type 0 where
   pub proved : IsProvedWithin rows vars gap solution
+  pub within : pivots_made solution ≤ pivots
   pub complete : IsComplete vars solution
   pub named : IsNamed rows solution
 

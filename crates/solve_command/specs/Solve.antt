@@ -1,6 +1,6 @@
 -- What `solve` says over accepted data: a plan and a bound that no plan undercuts; that there is no plan; that there are plans of any lower cost; or
 -- why the exact method came to none of these ends.
-use Rattle.std.specs.Prelude.{◌≡◌, ℕ, List, ◌⊎◌, None, Some, ⊤, ◌==◌, Option, is_none, if◌then◌else◌}
+use Rattle.std.specs.Prelude.{◌≡◌, ◌≤◌, ℕ, List, ◌⊎◌, None, Some, ⊤, ◌==◌, Option, is_none, if◌then◌else◌}
 use Rattle.exact_num.specs.Rational.{Rational}
 use Rattle.exact_num.specs.Steps.{first_wide}
 use Rattle.model_sets.specs.Data.{Data}
@@ -158,15 +158,16 @@ DueForEnd places d rows gap pivots show rounded status text =
     ⊎ HasWidePrice d rows gap pivots show status text
     ⊎ IsSolvedOnGrid places d rows gap pivots show rounded status text
 
--- ---- what is found in numbers of limited accuracy, and proved
+-- ---- what is found in numbers of limited accuracy, and proved: the pivots that are told are at most those that a guess may make
 
 -- a plan that meets the named equations, and a bound within the gap of its cost that no such plan undercuts
-pub record IsFound (places : ℕ) (d : Data) (rows : List Row) (gap : ℕ) (show : Shown) (rounded attempt : ℕ) (status : Status) (text : List ℕ) : Type 0 where
+pub record IsFound (places : ℕ) (d : Data) (rows : List Row) (gap pivots : ℕ) (show : Shown) (rounded attempt : ℕ) (status : Status) (text : List ℕ) : Type 0 where
   pub plan : List (Var × Rational)
   pub multipliers : List (RowName × Rational)
   pub cost : Rational
   pub bound : Rational
   pub made : ℕ
+  pub within : made ≤ pivots
   pub optimum : IsNearOptimum places d rows gap plan multipliers cost bound
   pub cost_is : cost ≡ plan_cost (all_variables d) plan
   pub prices_fit : PricesFit show rows multipliers
@@ -174,9 +175,10 @@ pub record IsFound (places : ℕ) (d : Data) (rows : List Row) (gap : ℕ) (show
   pub text_is : text ≡ solved_shown show d.sets (all_variables d) plan rows multipliers cost bound made rounded places attempt
 
 -- no plan meets them
-pub record IsFoundInfeasible (places : ℕ) (d : Data) (rows : List Row) (show : Shown) (rounded attempt : ℕ) (status : Status) (text : List ℕ) : Type 0 where
+pub record IsFoundInfeasible (places : ℕ) (d : Data) (rows : List Row) (pivots : ℕ) (show : Shown) (rounded attempt : ℕ) (status : Status) (text : List ℕ) : Type 0 where
   pub multipliers : List (RowName × Rational)
   pub made : ℕ
+  pub within : made ≤ pivots
   pub refuted : IsRefuted places d rows multipliers
   pub status_is : status ≡ Infeasible
   pub text_is : text ≡ infeasible_shown show d.sets multipliers made rounded places attempt
@@ -187,8 +189,8 @@ pub record IsFoundInfeasible (places : ℕ) (d : Data) (rows : List Row) (show :
 abbrev pub DueForMethod : ℕ → Data → List Row → ℕ → ℕ → Shown → SolveMethod → ℕ → Status → List ℕ → Type 0
 DueForMethod places d rows gap pivots show Exact rounded status text = DueForEnd places d rows gap pivots show rounded status text
 DueForMethod places d rows gap pivots show Rounded rounded status text =
-    IsFound places d rows gap show rounded third_attempt status text
-    ⊎ IsFoundInfeasible places d rows show rounded third_attempt status text
+    IsFound places d rows gap pivots show rounded third_attempt status text
+    ⊎ IsFoundInfeasible places d rows pivots show rounded third_attempt status text
     ⊎ DueForEnd places d rows gap pivots show rounded status text
 
 -- over the rows

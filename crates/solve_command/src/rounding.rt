@@ -2,7 +2,7 @@
 ghost use Rattle.std.specs.Prelude.{◌≡◌, ◌⊎◌, IfOk, IfSome, OnOk};
 ghost use Rattle.model_sets.specs.Data.{Data};
 ghost use Rattle.exact_solver.specs.Solutions.{IsComplete, IsNamed};
-ghost use Rattle.rounded_solver.specs.Found.{IsProved};
+ghost use Rattle.rounded_solver.specs.Found.{IsMadeWithin, IsProved};
 ghost use Rattle.command_answers.specs.CheckedPlans.{IsBookOf, IsListedBook};
 ghost use Rattle.solve_command.specs.Rounding.{IsFoundBy, TellsFound, solution_of};
 ghost use Rattle.solve_command.specs.Solve.{IsFound, IsFoundInfeasible, third_attempt};
@@ -34,8 +34,8 @@ pub fn answer_rounded(
     requires { IsListedBook sets.now book.now.rows book.now.vars }
     ensures { (d : Data) → sets.now ≡ d.sets → IsBookOf places d book.now.rows book.now.vars
         → IfOk result (λ found. IfSome found (λ answer.
-        IsFound places d book.now.rows wanted.gap wanted.show rounded third_attempt answer.status answer.text.items
-        ⊎ IsFoundInfeasible places d book.now.rows wanted.show rounded third_attempt answer.status answer.text.items)) }
+        IsFound places d book.now.rows wanted.gap wanted.pivots wanted.show rounded third_attempt answer.status answer.text.items
+        ⊎ IsFoundInfeasible places d book.now.rows wanted.pivots wanted.show rounded third_attempt answer.status answer.text.items)) }
 {
     match rounded_solution(alloc, book, wanted.gap, u64::from(wanted.pivots))? {
         Some(solution) => answer_found(alloc, book, sets, &solution, wanted, rounded, places),
@@ -52,7 +52,7 @@ pub fn rounded_solution(
     gap: u32,
     pivots: u64,
 ) -> Result<Option<Solution>, AllocError>
-    ensures { IfOk result (λ found. IfSome found (IsFoundBy book.now.rows book.now.vars gap)) }
+    ensures { IfOk result (λ found. IfSome found (IsFoundBy book.now.rows book.now.vars gap pivots)) }
 {
     let program = match eliminate_book(alloc, book) {
         Ok(program) => program,
@@ -104,7 +104,7 @@ fn answer_found(
     places: u8,
 ) -> Result<Option<Answer>, AllocError>
     requires listed { IsListedBook sets.now book.now.rows book.now.vars }
-    requires found { IsFoundBy book.now.rows book.now.vars wanted.gap solution.now }
+    requires found { IsFoundBy book.now.rows book.now.vars wanted.gap wanted.pivots solution.now }
     ensures { IfOk result (λ found. IfSome found (λ answer.
         TellsFound sets.now book.now.rows book.now.vars wanted.show rounded places solution.now answer.status answer.text.items)) }
 {

@@ -19,8 +19,8 @@ use Rattle.span_command.specs.Span.{DueForFound}
 use Rattle.span_command.specs.SpanTexts.{rounded_text}
 use Rattle.span_command.proofs.NearRows.{near-high-end, near-low-end}
 
-module _ (places : ℕ) (d : Data) (rows : List Row) (vars : List Var) (book : IsBookOf places d rows vars) (sets : SetLists) (same : sets ≡ d.sets) (var : Var) (slack gap rounded : ℕ) (status : Status) (text : List ℕ) where
-  pub due-from_found : (solution : Solution) → IsFoundBy rows vars gap solution → TellsFound sets rows vars var slack gap rounded places solution status text → DueForFound places d rows var slack gap rounded status text
+module _ (places : ℕ) (d : Data) (rows : List Row) (vars : List Var) (book : IsBookOf places d rows vars) (sets : SetLists) (same : sets ≡ d.sets) (var : Var) (slack gap pivots rounded : ℕ) (status : Status) (text : List ℕ) where
+  pub due-from_found : (solution : Solution) → IsFoundBy rows vars gap pivots solution → TellsFound sets rows vars var slack gap rounded places solution status text → DueForFound places d rows var slack gap pivots rounded status text
   due-from_found (found.Optimal plan multipliers cost bound made) of told =
       let span = told.span in
       let worth = told.worth in
@@ -45,6 +45,7 @@ module _ (places : ℕ) (d : Data) (rows : List Row) (vars : List Var) (book : I
       inr (record {
         multipliers = multipliers;
         made = made;
+        within = of.within;
         refuted = refuted places d rows vars book multipliers of.proved of.named;
         status_is = told.0;
         text_is = told.1;

@@ -212,7 +212,7 @@ module _ (places : ℕ) (d e : Data) (same : AreSameData d e) where
           line_is = is.line_is ∙ ap (λ (ss : SetLists). limited_line ss is.stop) same.sets;
         }))))))
 
-    found-carries : (var : Var) (slack gap rounded : ℕ) (status : Status) (text : List ℕ) → DueForFound places d rows var slack gap rounded status text → DueForFound places e rows var slack gap rounded status text
+    found-carries : (var : Var) (slack gap rounded : ℕ) (status : Status) (text : List ℕ) → DueForFound places d rows var slack gap pivots rounded status text → DueForFound places e rows var slack gap pivots rounded status text
     found-carries var slack gap rounded status text (inl is) =
         let limit = slack_limit is.bound slack in
         inl (record {
@@ -235,6 +235,7 @@ module _ (places : ℕ) (d e : Data) (same : AreSameData d e) where
         inr (record {
           multipliers = is.multipliers;
           made = is.made;
+          within = is.within;
           refuted = refuted-carries rows is.multipliers is.refuted;
           status_is = is.status_is;
           text_is = is.text_is;

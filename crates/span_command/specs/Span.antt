@@ -143,15 +143,15 @@ DueForEnd places d rows var slack pivots rounded status text =
     ⊎ HasStoppedAfter places d rows var slack pivots status text
 
 -- what the rounded method finds
-abbrev pub DueForFound : ℕ → Data → List Row → Var → ℕ → ℕ → ℕ → Status → List ℕ → Type 0
-DueForFound places d rows var slack gap rounded status text =
-    IsSpannedNearly places d rows var slack gap status text ⊎ IsFoundInfeasible places d rows Report rounded third_attempt status text
+abbrev pub DueForFound : ℕ → Data → List Row → Var → ℕ → ℕ → ℕ → ℕ → Status → List ℕ → Type 0
+DueForFound places d rows var slack gap pivots rounded status text =
+    IsSpannedNearly places d rows var slack gap status text ⊎ IsFoundInfeasible places d rows pivots Report rounded third_attempt status text
 
 -- with the rounded method what it finds, and where it finds nothing, as with the exact one, its end
 abbrev pub DueBy : SolveMethod → ℕ → Data → List Row → Var → Wanted → ℕ → Status → List ℕ → Type 0
 DueBy Exact places d rows var wanted rounded status text = DueForEnd places d rows var wanted.slack wanted.pivots rounded status text
 DueBy Rounded places d rows var wanted rounded status text =
-    DueForFound places d rows var wanted.slack wanted.gap rounded status text ⊎ DueForEnd places d rows var wanted.slack wanted.pivots rounded status text
+    DueForFound places d rows var wanted.slack wanted.gap wanted.pivots rounded status text ⊎ DueForEnd places d rows var wanted.slack wanted.pivots rounded status text
 
 abbrev pub DueForMethod : ℕ → Data → List Row → Var → Wanted → ℕ → Status → List ℕ → Type 0
 DueForMethod places d rows var wanted rounded status text = DueBy wanted.method places d rows var wanted rounded status text

@@ -37,7 +37,7 @@ pub fn answer_rounded(
     requires chosen { wanted.var.kind ≡ NEW_CAPACITY }
     requires there { Contains book.now.vars wanted.var }
     ensures { (d : Data) → sets.now ≡ d.sets → IsBookOf places d book.now.rows book.now.vars
-        → IfOk result (λ found. IfSome found (λ answer. DueForFound places d book.now.rows wanted.var wanted.slack wanted.gap rounded answer.status answer.text.items)) }
+        → IfOk result (λ found. IfSome found (λ answer. DueForFound places d book.now.rows wanted.var wanted.slack wanted.gap wanted.pivots rounded answer.status answer.text.items)) }
 {
     match rounded_solution(alloc, book, wanted.gap, wanted.pivots)? {
         Some(solution) => answer_solution(alloc, book, sets, places, wanted, rounded, &solution),
@@ -58,7 +58,7 @@ fn answer_solution(
     requires listed { IsListedBook sets.now book.now.rows book.now.vars }
     requires chosen { wanted.var.kind ≡ NEW_CAPACITY }
     requires there { Contains book.now.vars wanted.var }
-    requires found { IsFoundBy book.now.rows book.now.vars wanted.gap solution.now }
+    requires found { IsFoundBy book.now.rows book.now.vars wanted.gap wanted.pivots solution.now }
     ensures { IfOk result (λ found. IfSome found (λ answer.
         TellsFound sets.now book.now.rows book.now.vars wanted.var wanted.slack wanted.gap rounded places solution.now answer.status answer.text.items)) }
 {

@@ -13,3 +13,4 @@ pub mod RoundedLaws
 pub mod PlainStops
 pub mod CallLaws
 pub mod Examples
+mod OrderExamples

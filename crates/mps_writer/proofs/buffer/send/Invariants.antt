@@ -1,4 +1,5 @@
 use Rattle.std.proofs.Common.{◌-◌, ◌≤◌, length, drop}
+use Rattle.io_edges.specs.Outputs.{output}
 use Rattle.mps_writer.specs.Steps.{LeavesOf}
 use Rattle.mps_writer.proofs.buffer.send.Given as goal
 
@@ -8,7 +9,7 @@ invariant-loop-sent g l =
     let sink = g.K.Sink in
     record {
       within : l.sent ≤ length l.text;
-      taken : LeavesOf l.text (sink.written l.fn.out) (sink.written l.out) (drop l.sent l.text);
+      taken : LeavesOf l.text (output (sink.written l.fn.out) (sink.accepted l.fn.out)) (output (sink.written l.out) (sink.accepted l.out)) (drop l.sent l.text);
       faults : sink.faults l.fn.out ≤ sink.faults l.out;
     }
 

@@ -1,6 +1,7 @@
 use Rattle.std.proofs.Common.{◌≡◌, ◌≤◌, ◌++◌, length, false}
 use Rattle.std.specs.List.{AllByRecursion, flat_map}
 use Rattle.row_source.specs.Sources.{rows_of_equation}
+use Rattle.io_edges.specs.Outputs.{output}
 use Rattle.mps_writer.specs.MpsText.{IsNamedRow}
 use Rattle.mps_writer.specs.SectionLines.{HasNoSides, lines_in}
 use Rattle.mps_writer.specs.Steps.{LeavesOf}
@@ -15,7 +16,7 @@ invariant-rows g l =
       rows : source.rows l.rows ≡ source.rows l.fn.rows;
       named : AllByRecursion (λ r. IsNamedRow l.sets r.1) (source.ahead l.rows);
       taken : LeavesOf (l.fn.buffer.items ++ flat_map (lines_in l.section l.sets) (rows_of_equation l.eq (source.rows l.fn.rows)))
-          (sink.written l.fn.out) (sink.written l.out) (l.buffer.items ++ flat_map (lines_in l.section l.sets) (source.ahead l.rows));
+          (output (sink.written l.fn.out) (sink.accepted l.fn.out)) (output (sink.written l.out) (sink.accepted l.out)) (l.buffer.items ++ flat_map (lines_in l.section l.sets) (source.ahead l.rows));
       faults : sink.faults l.fn.out ≤ sink.faults l.out;
       sides : l.found ≡ false → HasNoSides (source.ahead l.rows) → HasNoSides (rows_of_equation l.eq (source.rows l.fn.rows));
     }

@@ -2,6 +2,7 @@ use Rattle.std.proofs.Common.{◌≡◌, ◌∙◌, ◌+◌, ◌-◌, ◌<◌, �
 use Rattle.std.specs.List.{flat_map, range_with_len}
 use Rattle.row_source.specs.Contents.{RowContents}
 use Rattle.row_source.specs.Sources.{rows_of_equation}
+use Rattle.io_edges.specs.Outputs.{output}
 use Rattle.mps_writer.specs.MpsText.{numbered}
 use Rattle.mps_writer.specs.SectionLines.{HasNoSides, lines_in}
 use Rattle.mps_writer.proofs.SectionLaws.{equation-next, equation_lines, equations-end, section-whole}
@@ -16,7 +17,7 @@ loop-eq-init g c =
       low = omega arith;
       rows = refl;
       sides = c.requires.sides;
-      taken = leaves-all (c.args.buffer.now.items ++ flat_map (lines_in c.args.section c.args.sets.now) (numbered rows)) _ (g.K.Sink.written c.args.out.now)
+      taken = leaves-all (c.args.buffer.now.items ++ flat_map (lines_in c.args.section c.args.sets.now) (numbered rows)) _ (output (g.K.Sink.written c.args.out.now) (g.K.Sink.accepted c.args.out.now))
           (ap (λ (text : List ℕ). c.args.buffer.now.items ++ text) (sym (section-whole c.args.section c.args.sets.now rows c.requires.in_order c.requires.named)));
       faults = omega arith;
     }
@@ -29,7 +30,7 @@ returns-in-Err-clause-taken g c =
     let inside : i < 65 = omega (arith, c.loop-eq-test.true) in
     item-fails f i (range_with_len (i + 1) (65 - (i + 1))) (range_with_len i (65 - i)) (c.args.buffer.now.items ++ flat_map (lines_in c.args.section c.args.sets.now) (numbered rows)) c.loop-eq.buffer.items
     (equation_lines c.args.section c.args.sets.now (g.R.RowSource.rows c.loop-eq.rows) i) c.in-Err.fail
-    (g.K.Sink.written c.args.out.now) (g.K.Sink.written c.loop-eq.out) (g.K.Sink.written c.send_equation.new.out) (g.K.Sink.faults c.args.out.now) (g.K.Sink.faults c.loop-eq.out) (g.K.Sink.faults c.send_equation.new.out)
+    (output (g.K.Sink.written c.args.out.now) (g.K.Sink.accepted c.args.out.now)) (output (g.K.Sink.written c.loop-eq.out) (g.K.Sink.accepted c.loop-eq.out)) (output (g.K.Sink.written c.send_equation.new.out) (g.K.Sink.accepted c.send_equation.new.out)) (g.K.Sink.faults c.args.out.now) (g.K.Sink.faults c.loop-eq.out) (g.K.Sink.faults c.send_equation.new.out)
     (equation-next i inside) (ap (λ (rs : List RowContents). equation_lines c.args.section c.args.sets.now rs i) c.loop-eq.invariant.rows) c.loop-eq.invariant.taken c.loop-eq.invariant.faults c.in-Err.ensures.taken
 
 pub loop-eq-preserved : goal.loop-eq-preserved
@@ -45,7 +46,7 @@ loop-eq-preserved g c =
           (subst (λ (rs : List RowContents). c.in-Ok.some ≡ false → HasNoSides (rows_of_equation i rs)) c.loop-eq.invariant.rows c.in-Ok.ensures.sides);
       taken = item-taken f i (range_with_len (i + 1) (65 - (i + 1))) (range_with_len i (65 - i)) (c.args.buffer.now.items ++ flat_map (lines_in c.args.section c.args.sets.now) (numbered rows)) c.loop-eq.buffer.items
           (equation_lines c.args.section c.args.sets.now (g.R.RowSource.rows c.loop-eq.rows) i) c.send_equation.new.buffer.items
-          (g.K.Sink.written c.args.out.now) (g.K.Sink.written c.loop-eq.out) (g.K.Sink.written c.send_equation.new.out)
+          (output (g.K.Sink.written c.args.out.now) (g.K.Sink.accepted c.args.out.now)) (output (g.K.Sink.written c.loop-eq.out) (g.K.Sink.accepted c.loop-eq.out)) (output (g.K.Sink.written c.send_equation.new.out) (g.K.Sink.accepted c.send_equation.new.out))
           (equation-next i inside) (ap (λ (rs : List RowContents). equation_lines c.args.section c.args.sets.now rs i) c.loop-eq.invariant.rows) c.loop-eq.invariant.taken c.in-Ok.ensures.taken.0;
       faults = omega (arith, c.loop-eq.invariant.faults, c.in-Ok.ensures.taken.1);
     }
@@ -55,7 +56,7 @@ returns-clause-taken g c =
     let rows : List RowContents = g.R.RowSource.rows c.args.rows.now in
     let i : ℕ = c.loop-eq.eq in (
       item-end (equation_lines c.args.section c.args.sets.now rows) (range_with_len i (65 - i)) (c.args.buffer.now.items ++ flat_map (lines_in c.args.section c.args.sets.now) (numbered rows)) c.loop-eq.buffer.items
-          (g.K.Sink.written c.args.out.now) (g.K.Sink.written c.loop-eq.out) (equations-end i (omega (arith, c.loop-eq-test.false))) c.loop-eq.invariant.taken,
+          (output (g.K.Sink.written c.args.out.now) (g.K.Sink.accepted c.args.out.now)) (output (g.K.Sink.written c.loop-eq.out) (g.K.Sink.accepted c.loop-eq.out)) (equations-end i (omega (arith, c.loop-eq-test.false))) c.loop-eq.invariant.taken,
       c.loop-eq.invariant.faults,
     )
 

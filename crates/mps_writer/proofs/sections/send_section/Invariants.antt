@@ -1,5 +1,6 @@
 use Rattle.std.proofs.Common.{◌≡◌, ◌≤◌, ◌-◌, ◌++◌}
 use Rattle.std.specs.List.{flat_map, range_with_len}
+use Rattle.io_edges.specs.Outputs.{output}
 use Rattle.mps_writer.specs.MpsText.{numbered}
 use Rattle.mps_writer.specs.SectionLines.{AreSidesOf, lines_in}
 use Rattle.mps_writer.proofs.SectionLaws.{equation_lines}
@@ -16,7 +17,7 @@ invariant-loop-eq g l =
       rows : source.rows l.rows ≡ source.rows l.fn.rows;
       sides : AreSidesOf (source.rows l.fn.rows) l.sides;
       taken : LeavesOf (l.fn.buffer.items ++ flat_map (lines_in l.section l.sets) (numbered (source.rows l.fn.rows)))
-          (sink.written l.fn.out) (sink.written l.out)
+          (output (sink.written l.fn.out) (sink.accepted l.fn.out)) (output (sink.written l.out) (sink.accepted l.out))
           (l.buffer.items ++ flat_map (equation_lines l.section l.sets (source.rows l.fn.rows)) (range_with_len l.eq (65 - l.eq)));
       faults : sink.faults l.fn.out ≤ sink.faults l.out;
     }

@@ -1,5 +1,6 @@
 use Rattle.std.proofs.Common.{◌++◌, ℕ, List, ap, subst}
 use Rattle.row_source.specs.Contents.{RowContents}
+use Rattle.io_edges.specs.Outputs.{output}
 use Rattle.mps_writer.specs.MpsText.{rows_text, sections_text}
 use Rattle.mps_writer.specs.Steps.{Fails, LeavesOf, Takes}
 use Rattle.mps_writer.proofs.TakenLaws.{cut-of, ends-cut, ends-sent, prefix-cut, then-last}
@@ -10,9 +11,9 @@ returns-in-Err-send_sections-clause-cut g c =
     let sink = g.K.Sink in
     let rows : List RowContents = g.R.RowSource.rows c.args.rows.now in
     let whole : List ℕ = rows_text c.args.sets.now rows c.args.vars.now in
-    prefix-cut whole (sink.written c.args.out.now) (sink.written c.send_sections.new.out)
-    (cut-of whole c.in-Err-send_sections.fail (sink.written c.args.out.now) (sink.written c.send_sections.new.out) (sink.faults c.args.out.now) (sink.faults c.send_sections.new.out)
-    (subst (λ (text : List ℕ). Fails text c.in-Err-send_sections.fail (sink.written c.args.out.now) (sink.written c.send_sections.new.out) (sink.faults c.args.out.now) (sink.faults c.send_sections.new.out))
+    prefix-cut whole (output (sink.written c.args.out.now) (sink.accepted c.args.out.now)) (output (sink.written c.send_sections.new.out) (sink.accepted c.send_sections.new.out))
+    (cut-of whole c.in-Err-send_sections.fail (output (sink.written c.args.out.now) (sink.accepted c.args.out.now)) (output (sink.written c.send_sections.new.out) (sink.accepted c.send_sections.new.out)) (sink.faults c.args.out.now) (sink.faults c.send_sections.new.out)
+    (subst (λ (text : List ℕ). Fails text c.in-Err-send_sections.fail (output (sink.written c.args.out.now) (sink.accepted c.args.out.now)) (output (sink.written c.send_sections.new.out) (sink.accepted c.send_sections.new.out)) (sink.faults c.args.out.now) (sink.faults c.send_sections.new.out))
     (ap (λ (front : List ℕ). front ++ sections_text c.args.sets.now rows c.args.vars.now) c.in-Ok.ensures.items) c.in-Err-send_sections.ensures.taken))
 
 pub returns-clause-sent : goal.returns-clause-sent
@@ -20,27 +21,27 @@ returns-clause-sent g c =
     let sink = g.K.Sink in
     let rows : List RowContents = g.R.RowSource.rows c.args.rows.now in
     let whole : List ℕ = rows_text c.args.sets.now rows c.args.vars.now in
-    let b = sink.written c.args.out.now in
+    let b = output (sink.written c.args.out.now) (sink.accepted c.args.out.now) in
     let left : List ℕ = c.send_sections.new.buffer.items in
-    let so_far : LeavesOf whole b (sink.written c.send_sections.new.out) left =
-    subst (λ (text : List ℕ). LeavesOf text b (sink.written c.send_sections.new.out) left)
+    let so_far : LeavesOf whole b (output (sink.written c.send_sections.new.out) (sink.accepted c.send_sections.new.out)) left =
+    subst (λ (text : List ℕ). LeavesOf text b (output (sink.written c.send_sections.new.out) (sink.accepted c.send_sections.new.out)) left)
     (ap (λ (front : List ℕ). front ++ sections_text c.args.sets.now rows c.args.vars.now) c.in-Ok.ensures.items) c.in-Ok-send_sections.ensures.taken.0 in
-    let taken : Takes whole c.flush.result b (sink.written c.flush.new.out) (sink.faults c.args.out.now) (sink.faults c.flush.new.out) c.flush.new.buffer.items =
-    then-last whole left c.flush.new.buffer.items c.flush.result b (sink.written c.send_sections.new.out) (sink.written c.flush.new.out)
+    let taken : Takes whole c.flush.result b (output (sink.written c.flush.new.out) (sink.accepted c.flush.new.out)) (sink.faults c.args.out.now) (sink.faults c.flush.new.out) c.flush.new.buffer.items =
+    then-last whole left c.flush.new.buffer.items c.flush.result b (output (sink.written c.send_sections.new.out) (sink.accepted c.send_sections.new.out)) (output (sink.written c.flush.new.out) (sink.accepted c.flush.new.out))
     (sink.faults c.args.out.now) (sink.faults c.send_sections.new.out) (sink.faults c.flush.new.out) so_far c.in-Ok-send_sections.ensures.taken.1 c.flush.ensures.taken in
-    ends-sent whole c.flush.new.buffer.items c.flush.result b (sink.written c.flush.new.out) (sink.faults c.args.out.now) (sink.faults c.flush.new.out) taken c.flush.ensures.empty
+    ends-sent whole c.flush.new.buffer.items c.flush.result b (output (sink.written c.flush.new.out) (sink.accepted c.flush.new.out)) (sink.faults c.args.out.now) (sink.faults c.flush.new.out) taken c.flush.ensures.empty
 
 pub returns-clause-cut : goal.returns-clause-cut
 returns-clause-cut g c =
     let sink = g.K.Sink in
     let rows : List RowContents = g.R.RowSource.rows c.args.rows.now in
     let whole : List ℕ = rows_text c.args.sets.now rows c.args.vars.now in
-    let b = sink.written c.args.out.now in
+    let b = output (sink.written c.args.out.now) (sink.accepted c.args.out.now) in
     let left : List ℕ = c.send_sections.new.buffer.items in
-    let so_far : LeavesOf whole b (sink.written c.send_sections.new.out) left =
-    subst (λ (text : List ℕ). LeavesOf text b (sink.written c.send_sections.new.out) left)
+    let so_far : LeavesOf whole b (output (sink.written c.send_sections.new.out) (sink.accepted c.send_sections.new.out)) left =
+    subst (λ (text : List ℕ). LeavesOf text b (output (sink.written c.send_sections.new.out) (sink.accepted c.send_sections.new.out)) left)
     (ap (λ (front : List ℕ). front ++ sections_text c.args.sets.now rows c.args.vars.now) c.in-Ok.ensures.items) c.in-Ok-send_sections.ensures.taken.0 in
-    let taken : Takes whole c.flush.result b (sink.written c.flush.new.out) (sink.faults c.args.out.now) (sink.faults c.flush.new.out) c.flush.new.buffer.items =
-    then-last whole left c.flush.new.buffer.items c.flush.result b (sink.written c.send_sections.new.out) (sink.written c.flush.new.out)
+    let taken : Takes whole c.flush.result b (output (sink.written c.flush.new.out) (sink.accepted c.flush.new.out)) (sink.faults c.args.out.now) (sink.faults c.flush.new.out) c.flush.new.buffer.items =
+    then-last whole left c.flush.new.buffer.items c.flush.result b (output (sink.written c.send_sections.new.out) (sink.accepted c.send_sections.new.out)) (output (sink.written c.flush.new.out) (sink.accepted c.flush.new.out))
     (sink.faults c.args.out.now) (sink.faults c.send_sections.new.out) (sink.faults c.flush.new.out) so_far c.in-Ok-send_sections.ensures.taken.1 c.flush.ensures.taken in
-    ends-cut whole c.flush.new.buffer.items c.flush.result b (sink.written c.flush.new.out) (sink.faults c.args.out.now) (sink.faults c.flush.new.out) taken
+    ends-cut whole c.flush.new.buffer.items c.flush.result b (output (sink.written c.flush.new.out) (sink.accepted c.flush.new.out)) (sink.faults c.args.out.now) (sink.faults c.flush.new.out) taken

@@ -2,6 +2,7 @@ use Rattle.std.proofs.Common.{◌<◌, ◌+◌, ◌++◌, ℕ, List, drop, get_o
 use Rattle.std.specs.List.{enumerate_from, flat_map}
 use Rattle.std.proofs.lemmas.List.{at_drop_all, drop_more}
 use Rattle.row_core.specs.declared.Var.{Var}
+use Rattle.io_edges.specs.Outputs.{output}
 use Rattle.mps_writer.specs.MpsText.{bound_line, numbered}
 use Rattle.mps_writer.proofs.TakenLaws.{item-end, item-fails, item-taken}
 use Rattle.mps_writer.proofs.sending.send_free_columns.Goals as goal
@@ -19,7 +20,7 @@ returns-in-Err g c =
     let v : Var = get_or vars k none in
     item-fails bound_line (k + 1, v) (enumerate_from (k + 1 + 1) (drop (k + 1) vars)) (enumerate_from (k + 1) (drop k vars)) (c.args.buffer.now.items ++ flat_map bound_line (numbered vars)) c.loop-place.buffer.items
     (bound_line (k + 1, v)) c.in-Err.fail
-    (g.K.Sink.written c.args.out.now) (g.K.Sink.written c.loop-place.out) (g.K.Sink.written c.send_bound.new.out) (g.K.Sink.faults c.args.out.now) (g.K.Sink.faults c.loop-place.out) (g.K.Sink.faults c.send_bound.new.out)
+    (output (g.K.Sink.written c.args.out.now) (g.K.Sink.accepted c.args.out.now)) (output (g.K.Sink.written c.loop-place.out) (g.K.Sink.accepted c.loop-place.out)) (output (g.K.Sink.written c.send_bound.new.out) (g.K.Sink.accepted c.send_bound.new.out)) (g.K.Sink.faults c.args.out.now) (g.K.Sink.faults c.loop-place.out) (g.K.Sink.faults c.send_bound.new.out)
     (ap (enumerate_from (k + 1)) (drop_more vars k none less)) refl c.loop-place.invariant.taken c.loop-place.invariant.faults c.in-Err.ensures
 
 pub loop-place-preserved : goal.loop-place-preserved
@@ -32,7 +33,7 @@ loop-place-preserved g c =
     record {
       taken = item-taken bound_line (k + 1, v) (enumerate_from (k + 1 + 1) (drop (k + 1) vars)) (enumerate_from (k + 1) (drop k vars)) (c.args.buffer.now.items ++ flat_map bound_line (numbered vars)) c.loop-place.buffer.items
           (bound_line (k + 1, v)) c.send_bound.new.buffer.items
-          (g.K.Sink.written c.args.out.now) (g.K.Sink.written c.loop-place.out) (g.K.Sink.written c.send_bound.new.out)
+          (output (g.K.Sink.written c.args.out.now) (g.K.Sink.accepted c.args.out.now)) (output (g.K.Sink.written c.loop-place.out) (g.K.Sink.accepted c.loop-place.out)) (output (g.K.Sink.written c.send_bound.new.out) (g.K.Sink.accepted c.send_bound.new.out))
           (ap (enumerate_from (k + 1)) (drop_more vars k none less)) refl c.loop-place.invariant.taken c.in-Ok.ensures.0;
       faults = omega (arith, c.loop-place.invariant.faults, c.in-Ok.ensures.1);
     }
@@ -40,7 +41,7 @@ loop-place-preserved g c =
 pub returns : goal.returns
 returns g c =
     let k : ℕ = c.loop-place.place in (
-      item-end bound_line (enumerate_from (k + 1) (drop k c.args.vars.now)) (c.args.buffer.now.items ++ flat_map bound_line (numbered c.args.vars.now)) c.loop-place.buffer.items (g.K.Sink.written c.args.out.now)
-          (g.K.Sink.written c.loop-place.out) (at_drop_all (enumerate_from (k + 1)) c.args.vars.now k (omega arith)) c.loop-place.invariant.taken,
+      item-end bound_line (enumerate_from (k + 1) (drop k c.args.vars.now)) (c.args.buffer.now.items ++ flat_map bound_line (numbered c.args.vars.now)) c.loop-place.buffer.items (output (g.K.Sink.written c.args.out.now) (g.K.Sink.accepted c.args.out.now))
+          (output (g.K.Sink.written c.loop-place.out) (g.K.Sink.accepted c.loop-place.out)) (at_drop_all (enumerate_from (k + 1)) c.args.vars.now k (omega arith)) c.loop-place.invariant.taken,
       c.loop-place.invariant.faults,
     )

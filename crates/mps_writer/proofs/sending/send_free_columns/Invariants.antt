@@ -1,5 +1,6 @@
 use Rattle.std.proofs.Common.{◌≤◌, ◌+◌, ◌++◌, drop}
 use Rattle.std.specs.List.{enumerate_from, flat_map}
+use Rattle.io_edges.specs.Outputs.{output}
 use Rattle.mps_writer.specs.MpsText.{bound_line, numbered}
 use Rattle.mps_writer.specs.Steps.{LeavesOf}
 use Rattle.mps_writer.proofs.sending.send_free_columns.Given as goal
@@ -9,7 +10,7 @@ abbrev pub invariant-loop-place : goal.invariant-loop-place
 invariant-loop-place g l =
     let sink = g.K.Sink in
     record {
-      taken : LeavesOf (l.fn.buffer.items ++ flat_map bound_line (numbered l.vars)) (sink.written l.fn.out) (sink.written l.out)
+      taken : LeavesOf (l.fn.buffer.items ++ flat_map bound_line (numbered l.vars)) (output (sink.written l.fn.out) (sink.accepted l.fn.out)) (output (sink.written l.out) (sink.accepted l.out))
           (l.buffer.items ++ flat_map bound_line (enumerate_from (l.place + 1) (drop l.place l.vars)));
       faults : sink.faults l.fn.out ≤ sink.faults l.out;
     }

@@ -5,6 +5,7 @@ use Rattle.row_core.specs.declared.Var.{Var}
 use Rattle.row_core.specs.Numbers.{ascends}
 use Rattle.row_core.specs.Order.{var_cmp}
 use Rattle.row_source.specs.Contents.{RowContents}
+use Rattle.io_edges.specs.Outputs.{output}
 use Rattle.mps_writer.specs.declared.entries.Entry.{Entry}
 use Rattle.mps_writer.specs.Entries.{following, lines_of}
 use Rattle.mps_writer.specs.Gathered.{Serves}
@@ -25,7 +26,7 @@ loop-place-init g c =
     record {
       rows = refl;
       serves = none-serves c.args.sets.now rows _ c.args.vars.now refl c.new.ensures.items refl c.requires.vars;
-      taken = leaves-all whole whole (g.K.Sink.written c.args.out.now) refl;
+      taken = leaves-all whole whole (output (g.K.Sink.written c.args.out.now) (g.K.Sink.accepted c.args.out.now)) refl;
       faults = omega arith;
     }
 
@@ -33,7 +34,7 @@ pub returns-in-Err-clause-taken : goal.returns-in-Err-clause-taken
 returns-in-Err-clause-taken g c =
     let f : ℕ × Var → List ℕ = column_lines c.args.sets.now (g.R.RowSource.rows c.args.rows.now) in
     fails-now (c.args.buffer.now.items ++ flat_map f (numbered c.args.vars.now)) (c.loop-place.buffer.items ++ flat_map f (enumerate_from (c.loop-place.place + 1) (drop c.loop-place.place c.args.vars.now)))
-    (g.K.Sink.written c.args.out.now) (g.K.Sink.written c.loop-place.out) (g.K.Sink.faults c.args.out.now) (g.K.Sink.faults c.loop-place.out) c.loop-place.invariant.taken c.loop-place.invariant.faults
+    (output (g.K.Sink.written c.args.out.now) (g.K.Sink.accepted c.args.out.now)) (output (g.K.Sink.written c.loop-place.out) (g.K.Sink.accepted c.loop-place.out)) (g.K.Sink.faults c.args.out.now) (g.K.Sink.faults c.loop-place.out) c.loop-place.invariant.taken c.loop-place.invariant.faults
 
 pub returns-in-Err-send_column-clause-taken : goal.returns-in-Err-send_column-clause-taken
 unfolding none
@@ -56,7 +57,7 @@ returns-in-Err-send_column-clause-taken g c =
     ap (λ (es : List Entry). column_head c.args.sets.now (k + 1, v) ++ lines_of (k + 1) v (drop gathered.passed es)) c.deref.ensures.value
     ∙ column-own c.args.sets.now rows gathered (k + 1) v later (sym c.in-Ok.ensures.kind) serves in
     item-fails f (k + 1, v) (enumerate_from (k + 1 + 1) later) (enumerate_from (k + 1) (drop k vars)) (c.args.buffer.now.items ++ flat_map f (numbered vars)) c.loop-place.buffer.items part c.in-Err-send_column.fail
-    (g.K.Sink.written c.args.out.now) (g.K.Sink.written c.loop-place.out) (g.K.Sink.written c.send_column.new.out) (g.K.Sink.faults c.args.out.now) (g.K.Sink.faults c.loop-place.out) (g.K.Sink.faults c.send_column.new.out)
+    (output (g.K.Sink.written c.args.out.now) (g.K.Sink.accepted c.args.out.now)) (output (g.K.Sink.written c.loop-place.out) (g.K.Sink.accepted c.loop-place.out)) (output (g.K.Sink.written c.send_column.new.out) (g.K.Sink.accepted c.send_column.new.out)) (g.K.Sink.faults c.args.out.now) (g.K.Sink.faults c.loop-place.out) (g.K.Sink.faults c.send_column.new.out)
     (ap (enumerate_from (k + 1)) (drop_more vars k none less)) own c.loop-place.invariant.taken c.loop-place.invariant.faults c.in-Err-send_column.ensures.taken
 
 pub loop-place-preserved : goal.loop-place-preserved
@@ -87,7 +88,7 @@ loop-place-preserved g c =
       rows = c.in-Ok.ensures.rows ∙ c.loop-place.invariant.rows;
       serves = passed-serves rows gathered _ v later ascending refl refl within passed serves;
       taken = item-taken f (k + 1, v) (enumerate_from (k + 1 + 1) later) (enumerate_from (k + 1) (drop k vars)) (c.args.buffer.now.items ++ flat_map f (numbered vars)) c.loop-place.buffer.items part c.send_column.new.buffer.items
-          (g.K.Sink.written c.args.out.now) (g.K.Sink.written c.loop-place.out) (g.K.Sink.written c.send_column.new.out)
+          (output (g.K.Sink.written c.args.out.now) (g.K.Sink.accepted c.args.out.now)) (output (g.K.Sink.written c.loop-place.out) (g.K.Sink.accepted c.loop-place.out)) (output (g.K.Sink.written c.send_column.new.out) (g.K.Sink.accepted c.send_column.new.out))
           (ap (enumerate_from (k + 1)) (drop_more vars k none less)) own c.loop-place.invariant.taken c.in-Ok-send_column.ensures.taken.0;
       faults = omega (arith, c.loop-place.invariant.faults, c.in-Ok-send_column.ensures.taken.1);
     }
@@ -96,7 +97,7 @@ pub returns-clause-taken : goal.returns-clause-taken
 returns-clause-taken g c =
     let f : ℕ × Var → List ℕ = column_lines c.args.sets.now (g.R.RowSource.rows c.args.rows.now) in
     let k : ℕ = c.loop-place.place in (
-      item-end f (enumerate_from (k + 1) (drop k c.args.vars.now)) (c.args.buffer.now.items ++ flat_map f (numbered c.args.vars.now)) c.loop-place.buffer.items (g.K.Sink.written c.args.out.now) (g.K.Sink.written c.loop-place.out)
+      item-end f (enumerate_from (k + 1) (drop k c.args.vars.now)) (c.args.buffer.now.items ++ flat_map f (numbered c.args.vars.now)) c.loop-place.buffer.items (output (g.K.Sink.written c.args.out.now) (g.K.Sink.accepted c.args.out.now)) (output (g.K.Sink.written c.loop-place.out) (g.K.Sink.accepted c.loop-place.out))
           (at_drop_all (enumerate_from (k + 1)) c.args.vars.now k (omega arith)) c.loop-place.invariant.taken,
       c.loop-place.invariant.faults,
     )

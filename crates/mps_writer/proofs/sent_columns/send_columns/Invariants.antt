@@ -1,5 +1,6 @@
 use Rattle.std.proofs.Common.{◌≡◌, ◌≤◌, ◌+◌, ◌++◌, drop}
 use Rattle.std.specs.List.{enumerate_from, flat_map}
+use Rattle.io_edges.specs.Outputs.{output}
 use Rattle.mps_writer.specs.Gathered.{Serves}
 use Rattle.mps_writer.specs.MpsText.{column_lines, numbered}
 use Rattle.mps_writer.specs.Steps.{LeavesOf}
@@ -14,7 +15,7 @@ invariant-loop-place g l =
       rows : source.rows l.rows ≡ source.rows l.fn.rows;
       serves : Serves (source.rows l.fn.rows) l.gathered (drop l.place l.vars);
       taken : LeavesOf (l.fn.buffer.items ++ flat_map (column_lines l.sets (source.rows l.fn.rows)) (numbered l.vars))
-          (sink.written l.fn.out) (sink.written l.out)
+          (output (sink.written l.fn.out) (sink.accepted l.fn.out)) (output (sink.written l.out) (sink.accepted l.out))
           (l.buffer.items ++ flat_map (column_lines l.sets (source.rows l.fn.rows)) (enumerate_from (l.place + 1) (drop l.place l.vars)));
       faults : sink.faults l.fn.out ≤ sink.faults l.out;
     }

@@ -12,8 +12,8 @@ returns-in-Some c = λ d same book.
     let wanted = c.args.wanted in
     let rounded = c.args.rounded in
     let found = subst (λ some. IfSome some (λ (answer : Answer).
-    IsFound places d rows wanted.gap wanted.show rounded third_attempt answer.status answer.text.items
-    ⊎ IsFoundInfeasible places d rows wanted.show rounded third_attempt answer.status answer.text.items))
+    IsFound places d rows wanted.gap wanted.pivots wanted.show rounded third_attempt answer.status answer.text.items
+    ⊎ IsFoundInfeasible places d rows wanted.pivots wanted.show rounded third_attempt answer.status answer.text.items))
     c.in-Some.is (c.in_ok-answer-in-Rounded.ensures d same book) in
     subst (λ (method : SolveMethod). DueForMethod places d rows wanted.gap wanted.pivots wanted.show method rounded c.in-Some.answer.status c.in-Some.answer.text.items)
     (sym c.in-Rounded.is) (elim found [ inl plan ↦ inl plan | inr none ↦ inr (inl none) ])

@@ -20,8 +20,8 @@ returns-in-Some c = λ d same book.
     let rows = c.args.book.now.rows in
     let wanted = c.args.wanted in
     let answer = c.in-Some.answer in
-    let found : DueForFound c.args.places d rows wanted.var wanted.slack wanted.gap c.args.rounded answer.status answer.text.items =
-    subst (λ s. IfSome s (λ (a : Answer). DueForFound c.args.places d rows wanted.var wanted.slack wanted.gap c.args.rounded a.status a.text.items)) c.in-Some.is (c.in_ok-answer-in-Rounded.ensures d same book) in
+    let found : DueForFound c.args.places d rows wanted.var wanted.slack wanted.gap wanted.pivots c.args.rounded answer.status answer.text.items =
+    subst (λ s. IfSome s (λ (a : Answer). DueForFound c.args.places d rows wanted.var wanted.slack wanted.gap wanted.pivots c.args.rounded a.status a.text.items)) c.in-Some.is (c.in_ok-answer-in-Rounded.ensures d same book) in
     subst (λ (way : SolveMethod). DueBy way c.args.places d rows wanted.var (wanted_of wanted) c.args.rounded answer.status answer.text.items) (sym c.in-Rounded.is) (inl found)
 
 pub returns-in-None : goal.returns-in-None

@@ -15,6 +15,7 @@ begin-tells g c = record {
   faults = c.ensures.faults;
   begins = grind (arith, common_steps);
   taken = grind (arith, common_steps);
+  moved = grind (arith, common_steps);
 }
 
 pub read-tells : goal.read-tells
@@ -24,8 +25,10 @@ read-tells g c = record {
   fits = c.ensures.fits;
   moves = grind (arith, common_steps);
   taken = grind (arith, common_steps);
+  moved = grind (arith, common_steps);
   failed = grind (arith, common_steps);
   rest_stays = grind (arith, common_steps);
   taken_stays = grind (arith, common_steps);
+  moved_stays = grind (arith, common_steps);
   faults = c.ensures.faults;
 }

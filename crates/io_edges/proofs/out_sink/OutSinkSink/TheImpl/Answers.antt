@@ -7,7 +7,9 @@ write-tells g c = record {
   fits = c.ensures.fits;
   goes_on = c.ensures.goes_on;
   appends = grind (arith, common_steps);
+  accepted = grind (arith, common_steps);
   failed = grind (arith, common_steps);
   stays = grind (arith, common_steps);
+  accepted_stays = grind (arith, common_steps);
   faults = c.ensures.faults;
 }

@@ -1,0 +1,6 @@
+pub mod LineLaws
+mod MeetingExamples
+pub mod NumberedLaws
+pub mod PrintedLaws
+mod ReadingExamples
+pub mod SectionLaws

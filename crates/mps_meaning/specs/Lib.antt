@@ -1,0 +1,5 @@
+pub mod Lines
+pub mod Sections
+pub mod Programs
+pub mod Statements
+pub mod Reading

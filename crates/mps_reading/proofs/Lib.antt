@@ -1,0 +1,6 @@
+mod Places
+mod ReadRows
+mod Sections
+mod Sound
+mod Stated
+mod Whole
