@@ -74,12 +74,12 @@ pub fn filled_told(alloc: Global, text: &str) -> Result<String, AllocError> {
     let Some(set) = set_of(word) else {
         return String::from_str(alloc, "no set");
     };
-    for number in 1000..3000 {
-        let name = format!(in alloc; "{number}")?;
+    for i in 0..2000u32 {
+        let name = format!(in alloc; "{}", 1000 + i)?;
         match sets.add(set, name.as_bytes()) {
             Ok(_) => {}
             Err(SetFail::Fault(fault)) => {
-                out.push_str(format!(in alloc; "{} fault {} ", number - 1000, fault.no)?.as_str())?;
+                out.push_str(format!(in alloc; "{i} fault {} ", fault.no)?.as_str())?;
                 break;
             }
             Err(SetFail::Memory) => return Err(AllocError),

@@ -1,11 +1,17 @@
 //! Names of variables and rows, and the tables of kinds and equations.
 
-ghost use Rattle.std.specs.Prelude.{◌≤◌, IfSome};
+ghost use Rattle.std.specs.Prelude.{◌≡◌, ◌≤◌, IfSome, length};
+ghost use Rattle.model_sets.specs.Members.{members};
+ghost use Rattle.model_sets.specs.Names.{emission, fuel, mode, region, technology, timeslice, year};
 
 use crate::arguments::next_number;
 use model_sets::Sets;
 use model_sets::set_numbers::{
     DAILYTIMEBRACKET, EMISSION, FUEL, MODE_OF_OPERATION, REGION, TECHNOLOGY, TIMESLICE, YEAR,
+};
+use row_core::equation_numbers::{E1, EQ_SPECIFIED_DEMAND};
+use row_core::kind_numbers::{
+    MODEL_PERIOD_COST_BY_REGION, RATE_OF_PRODUCTION_BY_TECHNOLOGY_BY_MODE, TRADE,
 };
 use row_core::{
     Index, RowName, Var, is_free, push_row_name, push_var, row_has, row_word, var_has, var_word,
@@ -81,9 +87,9 @@ const MEMBERS: [(u8, &[u8]); 9] = [
     (YEAR, b"2030"),
 ];
 
-/// `name|variable|KIND` and `name|row|EQUATION`: the name of the variable or the row of this number in the second region with the first one
-/// as the other, the second timeslice, and the first member of each further set.
-pub fn name_told(alloc: Global, text: &str) -> Result<String, AllocError> {
+/// `name|WORD`: the name of the variable or the row of this word in the second region, with the first one as the other, the second timeslice,
+/// and the first member of each further set.
+pub fn name_told(alloc: Global, word: &str) -> Result<String, AllocError> {
     let mut sets = Sets::new(alloc)?;
     for (set, name) in MEMBERS.iter() {
         if REGION <= *set && *set <= DAILYTIMEBRACKET {
@@ -92,6 +98,30 @@ pub fn name_told(alloc: Global, text: &str) -> Result<String, AllocError> {
             }
         }
     }
+    let mut out = Vec::new(alloc);
+    if sets.count(REGION) == 2 && sets.count(TECHNOLOGY) == 1 && sets.count(FUEL) == 1 {
+        if sets.count(EMISSION) == 1 && sets.count(MODE_OF_OPERATION) == 1 {
+            if sets.count(TIMESLICE) == 2 && sets.count(YEAR) == 1 {
+                push_named(&mut out, &sets, word)?;
+            }
+        }
+    }
+    String::from_str(
+        alloc,
+        std::str::from_utf8(out.as_slice()).unwrap_or("not UTF-8"),
+    )
+}
+
+/// Appends the name of this word, if it is one of these.
+fn push_named(out: &mut Vec<u8>, sets: &Sets, word: &str) -> Result<(), AllocError>
+    requires regions { length (members sets.now region) ≡ 2 }
+    requires technologies { length (members sets.now technology) ≡ 1 }
+    requires fuels { length (members sets.now fuel) ≡ 1 }
+    requires emissions { length (members sets.now emission) ≡ 1 }
+    requires modes { length (members sets.now mode) ≡ 1 }
+    requires slices { length (members sets.now timeslice) ≡ 2 }
+    requires years { length (members sets.now year) ≡ 1 }
+{
     let index = Index {
         region: 1,
         other: 0,
@@ -102,31 +132,20 @@ pub fn name_told(alloc: Global, text: &str) -> Result<String, AllocError> {
         mode: 0,
         year: 0,
     };
-    if !has_all(&sets) {
-        return Err(AllocError);
+    if word == "Trade" {
+        push_var(out, Var { kind: TRADE, index }, sets)
+    } else if word == "RateOfProductionByTechnologyByMode" {
+        let kind = RATE_OF_PRODUCTION_BY_TECHNOLOGY_BY_MODE;
+        push_var(out, Var { kind, index }, sets)
+    } else if word == "ModelPeriodCostByRegion" {
+        let kind = MODEL_PERIOD_COST_BY_REGION;
+        push_var(out, Var { kind, index }, sets)
+    } else if word == "E1" {
+        push_row_name(out, RowName { eq: E1, index }, sets)
+    } else if word == "EQ_SpecifiedDemand" {
+        let eq = EQ_SPECIFIED_DEMAND;
+        push_row_name(out, RowName { eq, index }, sets)
+    } else {
+        out.extend_from_slice(b"no such word")
     }
-    let (what, number) = text.split_once('|').unwrap_or((text, ""));
-    let mut out = Vec::new(alloc);
-    if what == "variable" {
-        if let Some(kind) = within(number, 48) {
-            push_var(&mut out, Var { kind, index }, &sets)?;
-        }
-    } else if let Some(eq) = within(number, 64) {
-        push_row_name(&mut out, RowName { eq, index }, &sets)?;
-    }
-    String::from_str(
-        alloc,
-        std::str::from_utf8(out.as_slice()).unwrap_or("not UTF-8"),
-    )
-}
-
-/// The sets have so many members.
-fn has_all(sets: &Sets) -> bool {
-    sets.count(REGION) == 2
-        && sets.count(TECHNOLOGY) == 1
-        && sets.count(FUEL) == 1
-        && sets.count(EMISSION) == 1
-        && sets.count(MODE_OF_OPERATION) == 1
-        && sets.count(TIMESLICE) == 2
-        && sets.count(YEAR) == 1
 }

@@ -76,7 +76,7 @@ const SIZES: [usize; 4] = [1, 2, 3, 7];
 /// What is read of the text, fed in pieces of so many bytes.
 fn in_pieces(alloc: Global, text: &[u8], size: usize) -> Result<Blocks, ReadFail> {
     let mut reader = PieceReader::new(alloc)?;
-    for piece in text.chunks(size) {
+    for piece in text.chunks(size.max(1)) {
         if reader.fed() > 1_000_000 || piece.len() > 1_000 {
             break;
         }
