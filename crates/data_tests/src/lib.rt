@@ -9,8 +9,6 @@ mod blocks;
 mod pieces;
 mod sections;
 #[cfg(test)]
-mod tokens;
-#[cfg(test)]
 mod values;
 
 pub use base_example::base_text;

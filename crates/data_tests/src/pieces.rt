@@ -1,7 +1,7 @@
 //! Texts that are fed in pieces: what is read of them doesn't depend on where the pieces end.
 
-use crate::blocks::{FAULTS, MEANT, SETS, told};
-use crate::{section, tokens};
+use crate::blocks::SETS;
+use crate::section;
 use mathprog_data::{Blocks, DataFault, Mark, PieceReader, ReadFail, read_blocks};
 use std::alloc::Global;
 use std::test::Fail;
@@ -22,58 +22,6 @@ fn read_in_pieces(alloc: Global, text: &[u8], size: usize) -> Result<Blocks, Rea
         rest = after;
     }
     reader.finish()
-}
-
-#[test]
-fn a_fault_stands_where_it_does_in_the_whole_text(rt: HostRuntime) -> Result<(), Fail> {
-    for size in SIZES {
-        for (text, no, column) in FAULTS {
-            let at = Mark { line: 1, column };
-            assert_eq!(&rt;
-                read_in_pieces(rt.alloc(), text, size).err(),
-                Some(ReadFail::Fault(DataFault { no, at }))
-            );
-        }
-    }
-    Ok(())
-}
-
-#[test]
-fn a_lexical_fault_is_that_of_the_whole_text(rt: HostRuntime) -> Result<(), Fail> {
-    for size in SIZES {
-        for (text, _, _, _) in tokens::FAULTS {
-            assert!(&rt; text.len() <= 100);
-            let whole = read_blocks(rt.alloc(), text).err();
-            assert!(&rt; whole.is_some());
-            assert_eq!(&rt; read_in_pieces(rt.alloc(), text, size).err(), whole);
-        }
-    }
-    Ok(())
-}
-
-#[test]
-fn pieces_say_what_the_whole_text_says(rt: HostRuntime) -> Result<(), Fail> {
-    for size in SIZES {
-        for (text, expected) in MEANT {
-            let blocks = read_in_pieces(rt.alloc(), text, size)?;
-            let found = told(rt.alloc(), &blocks)?;
-            assert_eq!(&rt; found.as_slice(), expected);
-        }
-    }
-    Ok(())
-}
-
-#[test]
-fn a_whole_file_is_read_byte_by_byte(rt: HostRuntime) -> Result<(), Fail> {
-    let mut text = section(rt.alloc(), SETS, "")?;
-    text.push_str("\nend;\n@ [ \u{c8}")?;
-    assert!(&rt; text.len() <= 10_000);
-    let whole = read_blocks(rt.alloc(), text.as_bytes())?;
-    let expected = told(rt.alloc(), &whole)?;
-    let blocks = read_in_pieces(rt.alloc(), text.as_bytes(), 1)?;
-    let found = told(rt.alloc(), &blocks)?;
-    assert_eq!(&rt; found.as_slice(), expected.as_slice());
-    Ok(())
 }
 
 #[test]

@@ -5,28 +5,10 @@
 #[cfg(test)]
 mod base_example;
 #[cfg(test)]
-mod lines;
-#[cfg(test)]
 mod plans;
-#[cfg(test)]
-mod printed;
-#[cfg(test)]
-mod printed_balance;
-#[cfg(test)]
-mod printed_capacity;
-#[cfg(test)]
-mod printed_cost;
-#[cfg(test)]
-mod printed_emission;
-#[cfg(test)]
-mod printed_factors;
-#[cfg(test)]
-mod printed_limit;
 #[cfg(test)]
 mod random;
 #[cfg(test)]
 mod random_models;
 #[cfg(test)]
 mod sections;
-#[cfg(test)]
-mod stops;

@@ -4,9 +4,8 @@
 ghost use Rattle.discount_factors.specs.Factors.{IsPlaces};
 
 use crate::plans::{holds, part_for, random_plan, test_near_plans, zero_plan};
-use crate::printed::book_of;
 use crate::random::{Random, random_section};
-use crate::sections::{model_of, plain_of};
+use crate::sections::{book_of, model_of, plain_of};
 use plain_equations::PlainData;
 use row_book::RowBook;
 use row_core::equation_numbers::CC1;

@@ -1,12 +1,14 @@
 //! Data sections, read as the program reads them and as plain lists.
 
 ghost use Rattle.std.specs.Prelude.{◌<◌, length};
+ghost use Rattle.discount_factors.specs.Factors.{IsPlaces};
 
 use mathprog_data::{Blocks, Values, read_blocks};
 use model_sets::Sets;
 use model_sets::param_numbers::DISCOUNT_RATE_IDV;
 use param_tables::{ModelData, build, sets_of};
 use plain_equations::{PlainData, PlainDefault, PlainValue};
+use row_book::RowBook;
 use std::alloc::{AllocError, Global};
 use std::process::Abort;
 use std::test::Fail;
@@ -19,6 +21,16 @@ pub(crate) fn model_of(rt: &impl Abort, alloc: Global, text: &str) -> Result<Mod
     match build(alloc, &blocks, sets) {
         Ok(model) => Ok(model),
         Err(_) => Err(Fail::from("the data are refused")),
+    }
+}
+
+/// The book of a model, with written factors of so many decimal places.
+pub(crate) fn book_of(alloc: Global, model: &ModelData, places: u8) -> Result<RowBook, Fail>
+    requires { IsPlaces places }
+{
+    match RowBook::new(alloc, model, places) {
+        Ok(book) => Ok(book),
+        Err(_) => Err(Fail::from("no book")),
     }
 }
 

@@ -8,9 +8,8 @@ use model_sets::set_numbers::{
 };
 use row_core::equation_numbers::{E9, EQ_SPECIFIED_DEMAND};
 use row_core::kind_numbers::{MODEL_PERIOD_EMISSIONS, RATE_OF_ACTIVITY};
-use row_core::{Index, Row, RowName, Sense, Var, row_has, row_word, var_has, var_word};
+use row_core::{Index, Place, Row, RowName, Sense, Var, row_has, row_word, var_has, var_word};
 use std::alloc::{AllocError, Global};
-use std::process::Abort;
 
 /// The set over which the subscript at this place of an index runs.
 fn set_at(place: u8) -> u8
@@ -42,78 +41,74 @@ fn subscript(index: Index, place: u8) -> u16 {
 }
 
 /// Appends the name of the member, after a comma where it isn't the first.
-fn push_member(
-    rt: &impl Abort,
-    out: &mut String,
-    sets: &Sets,
-    place: u8,
-    index: Index,
-) -> Result<(), AllocError> {
+fn push_member(out: &mut String, sets: &Sets, place: u8, index: Index) -> Result<(), AllocError> {
     let set = set_at(place);
     let position = subscript(index, place);
-    assert!(rt; position < sets.count(set));
-    let name = std::str::from_utf8(sets.name_of(set, position));
-    assert!(rt; name.is_ok());
+    let name = if position < sets.count(set) {
+        std::str::from_utf8(sets.name_of(set, position)).unwrap_or("?")
+    } else {
+        "?"
+    };
     if !out.ends_with('[') {
         out.push(',')?;
     }
-    out.push_str(name.unwrap_or(""))
+    out.push_str(name)
 }
 
 /// Appends the name of the row.
-fn push_name(
-    rt: &impl Abort,
-    out: &mut String,
-    sets: &Sets,
-    name: RowName,
-) -> Result<(), AllocError> {
-    assert!(rt; EQ_SPECIFIED_DEMAND <= name.eq && name.eq <= E9);
+fn push_name(out: &mut String, sets: &Sets, name: RowName) -> Result<(), AllocError> {
+    if name.eq < EQ_SPECIFIED_DEMAND || name.eq > E9 {
+        return out.push('?');
+    }
     out.push_str(row_word(name.eq))?;
     out.push('[')?;
     for place in 0..8 {
         if row_has(name.eq, place) {
-            push_member(rt, out, sets, place, name.index)?;
+            push_member(out, sets, place, name.index)?;
         }
     }
     out.push(']')
 }
 
 /// Appends the name of the variable.
-fn push_variable(
-    rt: &impl Abort,
-    out: &mut String,
-    sets: &Sets,
-    var: Var,
-) -> Result<(), AllocError> {
-    assert!(rt; RATE_OF_ACTIVITY <= var.kind && var.kind <= MODEL_PERIOD_EMISSIONS);
+fn push_variable(out: &mut String, sets: &Sets, var: Var) -> Result<(), AllocError> {
+    if var.kind < RATE_OF_ACTIVITY || var.kind > MODEL_PERIOD_EMISSIONS {
+        return out.push('?');
+    }
     out.push_str(var_word(var.kind))?;
     out.push('[')?;
     for place in 0..8 {
         if var_has(var.kind, place) {
-            push_member(rt, out, sets, place, var.index)?;
+            push_member(out, sets, place, var.index)?;
         }
     }
     out.push(']')
 }
 
-/// Appends the row as a line.
-pub(crate) fn push_row(
-    rt: &impl Abort,
-    alloc: Global,
-    out: &mut String,
-    sets: &Sets,
-    row: &Row,
-) -> Result<(), AllocError> {
-    push_name(rt, out, sets, row.name)?;
+/// The row as a line.
+pub fn row_told(alloc: Global, sets: &Sets, row: &Row) -> Result<String, AllocError> {
+    let mut out = String::new(alloc);
+    push_name(&mut out, sets, row.name)?;
     out.push(':')?;
     for (variable, number) in row.entries.iter() {
         out.push_str(format!(in alloc; " {number} ")?.as_str())?;
-        push_variable(rt, out, sets, *variable)?;
+        push_variable(&mut out, sets, *variable)?;
     }
     let sense = match row.sense {
         Sense::Least => ">=",
         Sense::Equal => "=",
         Sense::Most => "<=",
     };
-    out.push_str(format!(in alloc; " {sense} {}\n", row.rhs)?.as_str())
+    out.push_str(format!(in alloc; " {sense} {}", row.rhs)?.as_str())?;
+    Ok(out)
+}
+
+/// The name of the row of a place, if it is one's.
+pub fn place_told(alloc: Global, place: &Place, sets: &Sets) -> Result<String, AllocError> {
+    let mut out = String::new(alloc);
+    match place {
+        Place::Row(name) => push_name(&mut out, sets, *name)?,
+        _ => out.push('?')?,
+    }
+    Ok(out)
 }
