@@ -10,7 +10,8 @@ returns-in-Some c = λ d same book.
     let rows = c.args.book.now.rows in
     let vars = c.args.book.now.vars in
     let wanted = c.args.wanted in
-    let found : IsFoundBy rows vars wanted.gap wanted.pivots c.in-Some.solution = subst (λ s. IfSome s (IsFoundBy rows vars wanted.gap wanted.pivots)) c.in-Some.is c.in_ok-solution.ensures in
+    let made : IsFoundBy rows vars wanted.gap c.from.result c.in-Some.solution = subst (λ s. IfSome s (IsFoundBy rows vars wanted.gap c.from.result)) c.in-Some.is c.in_ok-solution.ensures in
+    let found = subst (λ most. IsFoundBy rows vars wanted.gap most c.in-Some.solution) c.from.ensures made in
     IfOk-weaker c.answer_found.result _ _
     (λ some told. IfSome_then some told (λ answer tells.
     due-from_found c.args.places d rows vars book c.args.sets.now same wanted.gap wanted.pivots wanted.show c.args.rounded answer.status answer.text.items c.in-Some.solution found tells))
