@@ -67,32 +67,3 @@ fn a_plan_of_more_than_64_mib_is_too_long(rt: HostRuntime) -> Result<(), Fail> {
     assert_ends(&rt, &ending, 4, "refused too long file 2\n");
     Ok(())
 }
-
-/// Statements of the data, and the status and the line for them where the other files are empty: the data are refused first, then
-/// their rows, then the plan's file.
-static ORDER: [(&str, u8, &str); 3] = [
-    ("set STORAGE := DAM;", 4, "refused Storage\n"),
-    (
-        "param CapacityToActivityUnit default 999999999999999.999999999 := ;
-param YearSplit default 0.999999999 := ;
-param CapacityFactor default 0.999999999 := ;
-param AvailabilityFactor default 0.999999999 := ;",
-        3,
-        "uncertified width row CAb1[R,T,2020]\n",
-    ),
-    ("", 4, "refused plan record 1 BadRecord\n"),
-];
-
-#[test]
-fn the_data_are_refused_before_the_plan_and_it_before_multipliers(
-    rt: HostRuntime,
-) -> Result<(), Fail> {
-    for (statements, code, line) in ORDER.iter() {
-        let ending = call_check(rt.alloc(), CHECK_BOUND, statements, "", "", &[])?;
-        assert_ends(&rt, &ending, *code, line);
-    }
-    let plan = file_of(rt.alloc(), &[PLAN])?;
-    let ending = call_check(rt.alloc(), CHECK_BOUND, "", &plan, "", &[])?;
-    assert_ends(&rt, &ending, 4, "refused multipliers record 1 BadRecord\n");
-    Ok(())
-}

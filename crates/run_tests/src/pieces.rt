@@ -1,9 +1,7 @@
-//! Files that are read byte by byte, a report and a made file that are written byte by byte, and files that are cut short.
+//! Files that are read byte by byte, and a report and a made file that are written byte by byte.
 
 use crate::calls::{CHECK, Ending, MPS, SETS, assert_ends, call, call_check, call_into, call_on};
-use crate::made::MADE_3;
 use crate::plan_records::{PLAN, file_of};
-use crate::solves::{BASE_REPORT, SOLVE};
 use data_tests::{base_text, section};
 use io_edges::{MemShelf, MemSink};
 use std::alloc::Global;
@@ -58,6 +56,39 @@ fn of_two_files_read_byte_by_byte_the_one_that_fails_is_told(rt: HostRuntime) ->
     Ok(())
 }
 
+/// The words that ask for a report.
+const SOLVE: &[&str] = &["solve", "model.dat"];
+
+/// The report of the base example: 10 units of capacity and activity, each 5 and 3.
+const BASE_REPORT: &str = "status solved
+cost 80 80.000000
+bound 80 80.000000
+pivots 3
+rounded 0
+table NewCapacity
+R,T,2020,10,10.000000
+table TotalCapacityAnnual
+R,T,2020,10,10.000000
+table TotalTechnologyAnnualActivity
+R,T,2020,10,10.000000
+table ProductionByTechnologyAnnual
+R,T,F,2020,10,10.000000
+table UseByTechnologyAnnual
+table TradeAnnual
+table AnnualEmissions
+table DiscountedCapitalInvestment
+R,T,2020,50,50.000000
+table DiscountedOperatingCost
+R,T,2020,30,30.000000
+table DiscountedTechnologyEmissionsPenalty
+table DiscountedSalvageValue
+table TotalDiscountedCost
+R,2020,80,80.000000
+table FuelPrice
+R,D,F,2020,8,8.000000
+end
+";
+
 /// How many bytes of the report of the base example are written before the call that fails: of its 611 bytes none, one, its first line, the
 /// first of the next line, and all but the last.
 static WRITTEN: [u16; 5] = [0, 1, 14, 15, 610];
@@ -78,47 +109,25 @@ fn a_report_written_byte_by_byte_stops_at_the_call_that_fails(rt: HostRuntime) -
     Ok(())
 }
 
-/// How many bytes of a made file are written before the call that fails: none, one, its first line, the first of the next line.
-static MADE: [u16; 4] = [0, 1, 6, 7];
+/// What is written of a made file before the call that fails: nothing, one byte, its first line, the first byte of the next line.
+static MADE: [&str; 4] = ["", "d", "data;\n", "data;\ns"];
 
 #[test]
 fn a_made_file_written_byte_by_byte_stops_at_the_call_that_fails(
     rt: HostRuntime,
 ) -> Result<(), Fail> {
-    for count in &MADE {
-        let out = MemSink::in_pieces(rt.alloc(), 8000, &[*count as u64 + 1], 1)?;
-        let (status, out) = call_into(rt.alloc(), &["make", "3"], b"", &[], out)?;
-        assert_eq!(rt; status.code(), 7);
-        assert_eq!(rt; out.bytes().len(), *count as usize);
-        assert!(rt; MADE_3.as_bytes().starts_with(out.bytes()));
+    for prefix in &MADE {
+        let failing = [(prefix.len() as u64).saturating_add(1)];
+        let out = MemSink::in_pieces(rt.alloc(), 8000, &failing, 1)?;
+        let ending = call_into(rt.alloc(), &["make", "3"], b"", &[], out)?;
+        assert_ends(&rt, &ending, 7, prefix);
     }
+    // What a sink holds that takes whole pieces is told by the cases of the program.
+    let whole = call(rt.alloc(), &["make", "3"], b"")?;
     let out = MemSink::in_pieces(rt.alloc(), 8000, &[], 1)?;
-    let ending = call_into(rt.alloc(), &["make", "3"], b"", &[], out)?;
-    assert_ends(&rt, &ending, 0, MADE_3);
-    Ok(())
-}
-
-/// The first bytes of a file of the base example, and the line on where it ends too soon.
-static CUT: [(&str, &str); 5] = [
-    ("dat", "refused line 1 column 1 Unexpected\n"),
-    ("data", "refused line 1 column 5 EndTooSoon\n"),
-    ("data;\nset REG", "refused line 2 column 5 UnknownName\n"),
-    (
-        "data;\nset REGION := R",
-        "refused line 2 column 16 EndTooSoon\n",
-    ),
-    (
-        "data;\nset REGION := R ;",
-        "refused set TECHNOLOGY EmptySet\n",
-    ),
-];
-
-#[test]
-fn a_file_that_is_cut_short_is_refused_where_it_ends(rt: HostRuntime) -> Result<(), Fail> {
-    for (text, line) in &CUT {
-        let ending = call(rt.alloc(), MPS, text.as_bytes())?;
-        assert_ends(&rt, &ending, 4, line);
-    }
+    let (status, out) = call_into(rt.alloc(), &["make", "3"], b"", &[], out)?;
+    assert_eq!(rt; status.code(), 0);
+    assert_eq!(rt; out.bytes(), whole.1.bytes());
     Ok(())
 }
 

@@ -87,21 +87,3 @@ pub(crate) fn file_of(alloc: Global, records: &[&str]) -> Result<String, AllocEr
     }
     Ok(text)
 }
-
-/// The text with one line in the place of another, or without that line where the new one is empty.
-pub(crate) fn with_line(
-    alloc: Global,
-    text: &str,
-    old: &str,
-    new: &str,
-) -> Result<String, AllocError> {
-    let mut changed = String::new(alloc);
-    for line in text.lines() {
-        let kept = if line == old { new } else { line };
-        if !kept.is_empty() {
-            changed.push_str(kept)?;
-            changed.push('\n')?;
-        }
-    }
-    Ok(changed)
-}
