@@ -401,7 +401,7 @@ left rest faults taken moved = record { files = None; rest = rest; faults = faul
 read_out : IsReadToEnd mps_file (left (Some (codes "old")) 0 0 []) (left (Some []) 0 4 (whole_file (codes "FILE") (codes "end;") ∷ [])) Done
 read_out = record { each = (codes "end;", omega arith, refl); none_left = λ names is. refl }
 
--- and not after a part of it
+-- and not where the shelf tells that something is left of it
 stopped_early : IsReadToEnd mps_file (left (Some (codes "old")) 0 0 []) (left (Some (codes "end;")) 0 4 (whole_file (codes "FILE") (codes "end;") ∷ [])) Done → ⊥
 stopped_early h = let none : Some (codes "end;") ≡ Some [] = h.none_left (λ e. cc e) refl in cc none
 
@@ -410,7 +410,7 @@ part_read : IsReadToEnd mps_file (left None 0 0 []) (left None 0 4 (part_of_file
 part_read h = let ends : false ≡ true = ap newest_ended h.each.2 in cc ends
 
 -- a failed write where a part of the file was read has a cause in a fault of the shelf or in the length of the file; where the words name no file nothing was to be read
-cut_after_fault : IsReadToEnd mps_file (left (Some []) 0 0 []) (left (Some (codes "end;")) 1 9 []) WriteFault
+cut_after_fault : IsReadToEnd mps_file (left (Some []) 0 0 []) (left (Some (codes "end;")) 1 9 (part_of_file (codes "FILE") (codes "set YEAR ") ∷ [])) WriteFault
 cut_after_fault = inr (inr (inl (omega arith)))
 
 cut_after_words : IsReadToEnd (codes "mps" ∷ []) (left (Some (codes "x")) 0 0 []) (left (Some (codes "x")) 0 0 []) WriteFault

@@ -1,7 +1,8 @@
 -- That files were read to their ends, by the cause of the answer.
-use Rattle.std.proofs.Common.{◌≡◌, ◌≢◌, ◌<◌, ◌≤◌, ℕ, inl, inr, List, [], length, Option, Some, None, IsSome, Result, Ok, refl, sym, ◌∙◌, subst, arith}
+use Rattle.std.proofs.Common.{◌≡◌, ◌≢◌, ◌<◌, ◌≤◌, ℕ, inl, inr, List, [], ◌∷◌, length, Option, Some, None, IsSome, Result, Ok, refl, sym, ◌∙◌, subst, arith}
 use Rattle.std.specs.List.{AllByRecursion}
-use Rattle.std.specs.Prelude.{⊤}
+use Rattle.std.specs.Prelude.{Contains}
+use Rattle.named_equations.proofs.InstanceTests.{Contains-from_Has, Has}
 use Rattle.command_answers.specs.Accepted.{most_bytes}
 use Rattle.io_edges.specs.Count.{Rose}
 use Rattle.io_edges.specs.Edges.{Lacks}
@@ -19,7 +20,7 @@ use Rattle.osemosys_run.specs.ReadEnds.{TellsEnd}
 use Rattle.osemosys_run.specs.Reading.{Sight, HasFailed, IsMissing, IsTooLong}
 use Rattle.osemosys_run.specs.ReadToEnd.{AreRead, HasReadAll, IsReadAtWriteFault, IsReadToEnd, IsReadToEndFor, IsThere}
 use Rattle.command_words.specs.Words.{Request, asked, names_of}
-use Rattle.osemosys_run.proofs.FilesRead.{Reaches, Reaches-itself, by_files, of_all, rose-since}
+use Rattle.osemosys_run.proofs.FilesRead.{Reaches, Reaches-itself, by_files, rose-since}
 
 -- where the reading of a file ends for a cause, the answer that tells it has that cause
 pub stops_at_file : (number : ℕ) (name : List ℕ) (before after : Sight) (end : ReadEnd) (status : Status) (text : List ℕ) → TellsEnd number end status text
@@ -51,15 +52,21 @@ all_read request before after WriteFault other all = absurd (other refl)
 all_read request before after Memory other all = tt
 all_read request before after (Rejected rejection) other all = all
 
+-- each of these is one of all
+each_among : (all names : List (List ℕ)) → ((name : List ℕ) → Has names name → Has all name) → AllByRecursion (Contains all) names
+each_among all [] within = tt
+each_among all (name ∷ names) within = (Contains-from_Has all name (within name (inl refl)), each_among all names (λ other has. within other (inr has)))
+
 -- either all files of a request were read to their ends, or the work stopped at one
 by_request : (request : Result Request WordFault) (before after : Sight) (status : Status) (text : List ℕ) (Goal : Type 0)
     → (HasReadAll request before after → Goal)
-    → ((number : ℕ) (name : List ℕ) (at : Sight) → Reaches before at → StopsAtFile number name at after status text → Goal)
+    → ((number : ℕ) (name : List ℕ) (at : Sight) → Contains (names_asked request) name → Reaches before at → StopsAtFile number name at after status text → Goal)
     → CausedByRequest request before after status text → Goal
 by_request request before after status text Goal read stop caused =
-    by_files before after status text Goal (λ name. ⊤) (λ contents. DueOver request (held_in contents) status text) 1 (names_asked request) before (of_all (names_asked request)) (Reaches-itself before)
+    by_files before after status text Goal (Contains (names_asked request)) (λ contents. DueOver request (held_in contents) status text) 1 (names_asked request) before
+    (each_among (names_asked request) (names_asked request) (λ name has. has)) (Reaches-itself before)
     (λ contents says each left. read (record { each = each; none_left = λ names told. left told (inr names) }))
-    (λ number name at named reached stops. stop number name at reached stops)
+    stop
     caused
 
 pub read_to_end : (words : List (List ℕ)) (before after : Sight) (status : Status) (text : List ℕ) → status ≢ WriteFault → Caused words before after status text
@@ -67,7 +74,7 @@ pub read_to_end : (words : List (List ℕ)) (before after : Sight) (status : Sta
 read_to_end words before after status text other caused =
     by_request (asked words) before after status text (IsReadToEndFor (asked words) before after status)
     (λ all. all_read (asked words) before after status other all)
-    (λ number name at reached stops. at_file number name at stops)
+    (λ number name at named reached stops. at_file number name at stops)
     caused
   where
     at : (s : Status) → status ≡ s → IsReadToEndFor (asked words) before after s → IsReadToEndFor (asked words) before after status
@@ -82,15 +89,15 @@ read_to_end words before after status text other caused =
 pub read_at_write_fault : (words : List (List ℕ)) (before after : Sight) (status : Status) (text : List ℕ) → Caused words before after status text
     → IsReadAtWriteFault (asked words) before after
 read_at_write_fault words before after status text caused =
-    by_request (asked words) before after status text (IsReadAtWriteFault (asked words) before after) (λ all. inl all) (λ number name at reached stops. stopped number name at reached stops) caused
+    by_request (asked words) before after status text (IsReadAtWriteFault (asked words) before after) (λ all. inl all) stopped caused
   where
-    stopped : (number : ℕ) (name : List ℕ) (start : Sight) → Reaches before start → StopsAtFile number name start after status text → IsReadAtWriteFault (asked words) before after
-    stopped number name start reached (inl long) =
+    stopped : (number : ℕ) (name : List ℕ) (start : Sight) → Contains (names_asked (asked words)) name → Reaches before start → StopsAtFile number name start after status text → IsReadAtWriteFault (asked words) before after
+    stopped number name start named reached (inl long) =
         let more : most_bytes < after.taken = omega (arith, long.2.many, long.2.all_taken) in
         inr (inr (inr more))
-    stopped number name start reached (inr (inl missing)) =
-        inr (inl (record { name = name; lacks = subst (λ (files : Option (List (List ℕ × List ℕ))). Lacks files name) reached.files missing.2.lacks; none_left = λ told. missing.2.none_left (reached.tells told) }))
-    stopped number name start reached (inr (inr failed)) = inr (inr (inl (rose-since before start after reached.faults failed.2.rose)))
+    stopped number name start named reached (inr (inl missing)) =
+        inr (inl (record { name = name; asked_for = named; lacks = subst (λ (files : Option (List (List ℕ × List ℕ))). Lacks files name) reached.files missing.2.lacks; none_left = λ told. missing.2.none_left (reached.tells told) }))
+    stopped number name start named reached (inr (inr failed)) = inr (inr (inl (rose-since before start after reached.faults failed.2.rose)))
 
 same_bytes : (a b : List ℕ) → Some a ≡ Some b → a ≡ b
 same_bytes a b e = cc e

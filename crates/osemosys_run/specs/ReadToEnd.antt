@@ -1,5 +1,5 @@
 -- Each file that is asked for is read to its end before any answer on what a file says.
-use Rattle.std.specs.Prelude.{◌≡◌, ◌≢◌, ℕ, ◌<◌, ◌≤◌, List, [], ◌∷◌, length, ◌⊎◌, Some, Result, Ok, ⊤}
+use Rattle.std.specs.Prelude.{◌≡◌, ◌≢◌, ℕ, ◌<◌, ◌≤◌, Contains, List, [], ◌∷◌, length, ◌⊎◌, Some, Result, Ok, ⊤}
 use Rattle.std.specs.List.{AllByRecursion}
 use Rattle.io_edges.specs.Count.{Rose}
 use Rattle.io_edges.specs.Edges.{Lacks}
@@ -29,15 +29,16 @@ pub record HasReadAll (request : Result Request WordFault) (before after : Sight
   pub none_left : NamesFile request → HasNothingLeft before after
 
 -- the shelf tells its files, none has the name of one that is asked for, and nothing is left to read
-pub record IsOneMissing (before after : Sight) : Type 0 where
+pub record IsOneMissing (request : Result Request WordFault) (before after : Sight) : Type 0 where
   pub name : List ℕ
+  pub asked_for : Contains (names_asked request) name
   pub lacks : Lacks before.files name
   pub none_left : HasNothingLeft before after
 
 -- where a write failed: all were read, or one is missing, or the shelf counted a fault, or too many bytes were taken of one
 abbrev pub IsReadAtWriteFault : Result Request WordFault → Sight → Sight → Type 0
 IsReadAtWriteFault request before after =
-    HasReadAll request before after ⊎ IsOneMissing before after ⊎ Rose before.faults after.faults ⊎ (most_bytes < after.taken)
+    HasReadAll request before after ⊎ IsOneMissing request before after ⊎ Rose before.faults after.faults ⊎ (most_bytes < after.taken)
 
 -- All files that are asked for were read to their ends, over any shelf: at every answer but those on the words, on a file that couldn't be read and on one
 -- that is too long; where memory ran out nothing is claimed.
