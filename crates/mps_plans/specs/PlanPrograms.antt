@@ -1,4 +1,4 @@
--- What a linear program has to do with the plans of the named equations: its solutions are these plans, and its objective is their cost.
+-- What a linear program has to do with the plans of the named equations: the values of a plan meet it exactly where the plan is feasible, and its objective is the plan's cost.
 use Rattle.std.specs.Prelude.{◌≡◌, ℕ, ℤ, true, List, map, ◌↔◌}
 use Rattle.std.specs.List.{AllByRecursion, AllZip, enumerate_from}
 use Rattle.model_sets.specs.Data.{Data}

@@ -1,5 +1,5 @@
-//! The text of the equations of a model, read as free MPS, is a linear program whose solutions are the plans that meet the
-//! equations, and whose objective is their cost.
+//! The text of the equations of a model, read as free MPS, is a linear program which the values of a plan meet exactly where the
+//! plan meets the equations, and whose objective is the plan's cost.
 #![tactic(auto)]
 
 ghost use Rattle.std.specs.Prelude.{◌≡◌, ℕ, List, Some};
