@@ -1,7 +1,0 @@
-//! Tests of the rounded attempt on small models. No crate stands on this one.
-#![tactic(auto)]
-
-#[cfg(test)]
-mod books;
-#[cfg(test)]
-mod small_models;

@@ -1,0 +1,117 @@
+//! What the rounded method finds of a book, beside numbers that were worked out by hand.
+
+ghost use Rattle.std.specs.Prelude.{◌<◌};
+ghost use Rattle.std.specs.List.{AllByRecursion};
+ghost use Rattle.row_core.specs.declared.Row.{Row};
+ghost use Rattle.exact_solver.specs.BookPrograms.{IsProgramOf};
+ghost use Rattle.span_finder.specs.declared.limiting.TheConstants.{SPAN};
+
+use crate::books::capacity_of;
+use crate::numbers::{fraction_of, shown, within};
+use certificate_checker::{Verdict, check_plan};
+use exact_num::{Frac, cmp_frac};
+use exact_solver::BookProgram;
+use rounded_solver::{Rounded, rounded};
+use row_book::RowBook;
+use span_finder::round_span;
+use std::io;
+
+/// The gap, in millionths.
+const GAP: u32 = 10;
+
+/// The most pivots.
+const PIVOTS: u64 = 1000;
+
+/// Prints whether the cost that is found is at least the least one and the bound at most, and whether the checker accepts the plan with
+/// this cost; or that there is no plan.
+pub fn print_rounded(
+    rt: &HostRuntime,
+    book: &RowBook,
+    program: &BookProgram,
+    least: &str,
+) -> io::Result<()>
+    requires { IsProgramOf book.now.rows book.now.vars program.now }
+{
+    match rounded(rt.alloc(), book, program, GAP, PIVOTS)? {
+        Some(
+            Rounded::Plan {
+                plan,
+                multipliers: _multipliers,
+                cost,
+                bound,
+                pivots: _,
+            },
+        ) => {
+            print_side(
+                rt,
+                "cost at least",
+                least,
+                cmp_frac(fraction_of(least), cost).is_le(),
+                cost,
+            )?;
+            print_side(
+                rt,
+                "bound at most",
+                least,
+                cmp_frac(bound, fraction_of(least)).is_le(),
+                bound,
+            )?;
+            if check_plan(book.rows(), book.vars(), &plan) == Verdict::Yes(cost) {
+                println!(rt; "the plan has this cost")?;
+            }
+        }
+        Some(
+            Rounded::NoPlan {
+                multipliers: _multipliers,
+                pivots: _,
+            },
+        ) => println!(rt; "no plan")?,
+        None => println!(rt; "nothing")?,
+    }
+    Ok(())
+}
+
+/// Prints that a number is on its side of another, or else the number.
+fn print_side(
+    rt: &HostRuntime,
+    words: &str,
+    other: &str,
+    holds: bool,
+    number: Frac,
+) -> io::Result<()> {
+    if holds {
+        println!(rt; "{words} {other}")?;
+    } else {
+        println!(rt; "not {words} {other}: {}", shown(rt.alloc(), number)?)?;
+    }
+    Ok(())
+}
+
+/// Prints whether the ends of a technology's NewCapacity, in plans whose cost is at most the limit, lie where they are looked for: `LOW FROM|LOW
+/// TO|HIGH FROM|HIGH TO`.
+pub fn print_span(
+    rt: &HostRuntime,
+    book: &RowBook,
+    technology: u16,
+    limit: &str,
+    ends: &str,
+) -> io::Result<()>
+    requires { AllByRecursion (λ (row : Row). row.name.eq < SPAN) book.now.rows }
+{
+    let Some(var) = capacity_of(book, technology) else {
+        println!(rt; "no such technology")?;
+        return Ok(());
+    };
+    let Some(span) = round_span(rt.alloc(), book, fraction_of(limit), var, GAP, PIVOTS)? else {
+        println!(rt; "nothing")?;
+        return Ok(());
+    };
+    let mut ends = ends.split_ascii_whitespace();
+    let from = ends.next().unwrap_or("");
+    let to = ends.next().unwrap_or("");
+    println!(rt; "low {}", within(rt.alloc(), span.low, from, to)?)?;
+    let from = ends.next().unwrap_or("");
+    let to = ends.next().unwrap_or("");
+    println!(rt; "high {}", within(rt.alloc(), span.high, from, to)?)?;
+    Ok(())
+}
