@@ -143,7 +143,8 @@ def blocks(document):
 
 def shown_runs(document):
     """The commands that a document shows, each with the lines that it is shown to print, if there are any: those after `$ ` in a block of
-    text, those of a block of sh, of which the last one prints the block of text after it, and those of tables."""
+    text, those of a block of sh, of which the last one prints the block of text after it in the same
+    section, and those of tables."""
     found, script = [], None
     for number, kind, lines in blocks(document):
         if kind == "text" and lines and lines[0].startswith("$ "):
@@ -155,7 +156,8 @@ def shown_runs(document):
         elif kind == "sh":
             script = number, [line.split("   #")[0].strip() for line in lines if line.strip()]
             found.append((*script, None))
-        elif kind == "text" and script:
+            after = number + len(lines)
+        elif kind == "text" and script and not any(it.startswith("#") for it in lines_of(document)[after : number - 1]):
             found[-1] = (*script, lines)
         if kind != "sh":
             script = None
