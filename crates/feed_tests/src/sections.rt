@@ -7,7 +7,7 @@ ghost use Rattle.row_book.specs.Feeds.{HasContentsWithin};
 ghost use Rattle.row_core.specs.Equations.{IsEquation};
 ghost use Rattle.row_core.specs.Numbers.{ascends};
 ghost use Rattle.row_core.specs.Order.{var_cmp};
-ghost use Rattle.row_source.specs.Sources.{AreInOrder};
+ghost use Rattle.row_core.specs.Sources.{AreInOrder};
 
 use crate::counted::Counted;
 use data_tests::{base_text, section};
@@ -16,9 +16,8 @@ use mathprog_data::read_blocks;
 use mps_writer::{MpsFail, mps_to};
 use param_tables::{ModelData, build, sets_of};
 use row_book::RowFeed;
-use row_core::Var;
+use row_core::{RowSource, Var};
 use row_core::equation_numbers::CAA4;
-use row_source::RowSource;
 use std::alloc::Global;
 use std::test::Fail;
 

@@ -10,7 +10,7 @@ use Rattle.row_core.specs.declared.Var.{Var}
 use Rattle.row_core.specs.declared.kind_numbers.TheConstants.{TOTAL_DISCOUNTED_COST}
 use Rattle.row_core.specs.NameTexts.{row_name, variable_name}
 use Rattle.row_core.specs.Numbers.{variables_of}
-use Rattle.row_source.specs.Contents.{contents_of}
+use Rattle.row_core.specs.Contents.{contents_of}
 use Rattle.certificate_checker.specs.Plans.{MeetsAll}
 use Rattle.named_equations.specs.Existence.{all_variables, exists}
 use Rattle.named_equations.specs.Instances.{instances}

@@ -15,7 +15,7 @@ use Rattle.row_core.specs.Order.{var_cmp}
 use Rattle.row_core.specs.Rows.{RowHolds, row_sum}
 use Rattle.row_core.specs.Statements.{Stands}
 use Rattle.row_core.proofs.AscendingLaws.{ascends-tail}
-use Rattle.row_source.specs.Contents.{contents_of}
+use Rattle.row_core.specs.Contents.{contents_of}
 use Rattle.certificate_checker.specs.Costs.{cost_of, model_cost}
 use Rattle.certificate_checker.specs.Plans.{AllStand, HaveRightSigns, IsRight}
 use Rattle.mps_meaning.specs.Lines.{Name}

@@ -10,7 +10,7 @@ use Rattle.row_core.specs.declared.kind_numbers.TheConstants.{TOTAL_DISCOUNTED_C
 use Rattle.row_core.specs.Numbers.{all_in_range, ascends, in_range, numbers_of, variables_of}
 use Rattle.row_core.specs.NameTexts.{row_name, variable_name}
 use Rattle.row_core.specs.Order.{var_cmp}
-use Rattle.row_source.specs.Contents.{RowContents, contents_of}
+use Rattle.row_core.specs.Contents.{RowContents, contents_of}
 use Rattle.mps_meaning.specs.Lines.{is_one_line}
 use Rattle.mps_meaning.specs.Reading.{program_of, sound_program}
 use Rattle.mps_meaning.proofs.NumberedLaws.{IsFrom, all-numbered, all-weaker, all-with, numbered-from}

@@ -9,7 +9,7 @@ use Rattle.row_core.specs.declared.Sense.TheVariants.{Equal, Most}
 use Rattle.row_core.specs.declared.Var.{Var}
 use Rattle.row_core.specs.declared.kind_numbers.TheConstants.{TOTAL_DISCOUNTED_COST}
 use Rattle.row_core.specs.Names.{new_capacity, accumulated_new_capacity, total_capacity_annual, caa1, caa2}
-use Rattle.row_source.specs.Contents.{RowContents}
+use Rattle.row_core.specs.Contents.{RowContents}
 use Rattle.mps_meaning.specs.Programs.{Letter, Program}
 use Rattle.mps_meaning.specs.Reading.{program_of}
 use Rattle.mps_reading.specs.RowPrograms.{program_of_contents}

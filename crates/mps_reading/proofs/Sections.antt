@@ -9,7 +9,7 @@ use Rattle.row_core.specs.declared.Sense.TheVariants.{Least, Equal, Most}
 use Rattle.row_core.specs.declared.Var.{Var}
 use Rattle.row_core.specs.NameTexts.{row_name, variable_name}
 use Rattle.row_core.specs.Numbers.{is_zero}
-use Rattle.row_source.specs.Contents.{RowContents}
+use Rattle.row_core.specs.Contents.{RowContents}
 use Rattle.mps_meaning.specs.Lines.{Name, is_one_line}
 use Rattle.mps_meaning.specs.Statements.{NamedRow, ProgramEntry, entry_line, free_line, row_line, side_line}
 use Rattle.mps_meaning.proofs.LineLaws.{IsInWord, IsWord, one_line-from_test, spaced}

@@ -5,7 +5,7 @@ use Rattle.std.specs.List.{AllByRecursion, enumerate_from, flat_map, list_all}
 use Rattle.row_core.specs.declared.Var.{Var}
 use Rattle.row_core.specs.Numbers.{ascends, variables_of}
 use Rattle.row_core.specs.Order.{var_cmp}
-use Rattle.row_source.specs.Contents.{RowContents}
+use Rattle.row_core.specs.Contents.{RowContents}
 use Rattle.mps_meaning.specs.Lines.{Name}
 use Rattle.mps_meaning.specs.Reading.{are_distinct, are_known, are_sound, columns_in, have_distinct_columns, is_among, names_of_rows}
 use Rattle.mps_meaning.proofs.NumberedLaws.{all-among, all-each, all-numbered, all-weaker, chosen, chosen-distinct, distinct-rising, one_if}

@@ -8,7 +8,7 @@ use Rattle.row_core.specs.declared.Var.{Var}
 use Rattle.row_core.specs.declared.kind_numbers.TheConstants.{TOTAL_DISCOUNTED_COST}
 use Rattle.row_core.specs.Numbers.{ascends, is_zero, variables_of}
 use Rattle.row_core.specs.Order.{var_cmp}
-use Rattle.row_source.specs.Contents.{RowContents}
+use Rattle.row_core.specs.Contents.{RowContents}
 use Rattle.mps_meaning.specs.Lines.{Name}
 use Rattle.mps_meaning.specs.Reading.{column_stated, columns_in, entries_at, is_among, program_stated, row_stated, side_at}
 use Rattle.mps_meaning.specs.Statements.{ProgramEntry, Statements}

@@ -5,7 +5,7 @@ use Rattle.std.specs.List.{enumerate_from, flat_map, list_any}
 use Rattle.std.proofs.lemmas.List.{append-nil}
 use Rattle.model_sets.specs.Members.{SetLists}
 use Rattle.row_core.specs.declared.Var.{Var}
-use Rattle.row_source.specs.Contents.{RowContents}
+use Rattle.row_core.specs.Contents.{RowContents}
 use Rattle.mps_meaning.specs.Lines.{Name, is_one_line}
 use Rattle.mps_meaning.specs.Reading.{program_of, program_of_sections, program_of_statements}
 use Rattle.mps_meaning.specs.Sections.{Line, Section, lines_that_say, sections_of, with_line}

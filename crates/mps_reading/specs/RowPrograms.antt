@@ -13,7 +13,7 @@ use Rattle.row_core.specs.Kinds.{kind_is_free}
 use Rattle.row_core.specs.Numbers.{ascends, variables_of}
 use Rattle.row_core.specs.NameTexts.{row_name, variable_name}
 use Rattle.row_core.specs.Order.{var_cmp}
-use Rattle.row_source.specs.Contents.{RowContents, contents_of}
+use Rattle.row_core.specs.Contents.{RowContents, contents_of}
 use Rattle.mps_meaning.specs.Lines.{Name, is_one_line}
 use Rattle.mps_meaning.specs.Programs.{Letter, Numbers, Program, ProgramColumn, ProgramRow}
 

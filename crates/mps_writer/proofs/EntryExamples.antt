@@ -5,8 +5,8 @@ use Rattle.std.proofs.lemmas.List.Sorted.{IsPermutation-swap, length_permutation
 use Rattle.std.proofs.Math.ListN.{replicate}
 use Rattle.row_core.specs.declared.Var.{Var}
 use Rattle.row_core.specs.Names.{new_capacity}
-use Rattle.row_source.specs.Contents.{RowContents}
-use Rattle.row_source.specs.Sources.{rows_of_equation}
+use Rattle.row_core.specs.Contents.{RowContents}
+use Rattle.row_core.specs.Sources.{rows_of_equation}
 use Rattle.mps_writer.specs.declared.entries.Entry.{Entry}
 use Rattle.mps_writer.specs.Entries.{IsRearranged, entry_of, is_of}
 use Rattle.mps_writer.specs.SectionLines.{AreSidesOf, HasNoSides}

@@ -9,9 +9,9 @@ use Rattle.model_sets.specs.Members.{SetLists}
 use Rattle.row_core.specs.declared.Var.{Var}
 use Rattle.row_core.specs.Numbers.{ascends}
 use Rattle.row_core.specs.Order.{var_cmp}
-use Rattle.row_source.specs.Contents.{RowContents}
-use Rattle.row_source.specs.Sources.{AreInOrder, has_entry_of, has_kind, rows_of_equation}
-use Rattle.row_source.proofs.EquationLaws.{equations-in_turn, none-of_kind}
+use Rattle.row_core.specs.Contents.{RowContents}
+use Rattle.row_core.specs.Sources.{AreInOrder, has_entry_of, has_kind, rows_of_equation}
+use Rattle.row_core.proofs.EquationLaws.{equations-in_turn, none-of_kind}
 use Rattle.mps_writer.specs.declared.entries.Entry.{Entry}
 use Rattle.mps_writer.specs.declared.sent_columns.Gathered.{Gathered}
 use Rattle.mps_writer.specs.Entries.{AreSorted, HasEquation, Rises, entries_of, entries_of_kind, entry_of, following, is_of, is_of_kind, lines_of, row_entries}

@@ -11,7 +11,7 @@ use Rattle.row_core.specs.declared.Sense.TheVariants.{Least, Equal, Most}
 use Rattle.row_core.specs.Names.{new_capacity, accumulated_new_capacity, total_capacity_annual, caa1, caa2}
 use Rattle.row_core.specs.NameTexts.{variable_name, row_name}
 use Rattle.model_sets.specs.Members.{SetLists}
-use Rattle.row_source.specs.Contents.{RowContents}
+use Rattle.row_core.specs.Contents.{RowContents}
 use Rattle.mps_writer.specs.MpsText.{mps_text, rows_text, row_lines, column_lines, rhs_line, numbered, bounds}
 
 -- what a row of this name says

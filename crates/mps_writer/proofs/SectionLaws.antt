@@ -3,9 +3,9 @@ use Rattle.std.proofs.Common.{◌≡◌, ℕ, suc, ◌+◌, ◌-◌, ◌<◌, �
 use Rattle.std.specs.List.{AllByRecursion, flat_map, range_with_len}
 use Rattle.std.proofs.lemmas.Grind.{flat_map-append}
 use Rattle.model_sets.specs.Members.{SetLists}
-use Rattle.row_source.specs.Contents.{RowContents}
-use Rattle.row_source.specs.Sources.{AreInOrder, rows_of_equation}
-use Rattle.row_source.proofs.EquationLaws.{equations-in_turn}
+use Rattle.row_core.specs.Contents.{RowContents}
+use Rattle.row_core.specs.Sources.{AreInOrder, rows_of_equation}
+use Rattle.row_core.proofs.EquationLaws.{equations-in_turn}
 use Rattle.mps_writer.specs.Entries.{HasEquation}
 use Rattle.row_core.specs.declared.Var.{Var}
 use Rattle.mps_writer.specs.MpsText.{IsNamedRow, bounds, column_lines, line, numbered, rhs_line, row_lines, sections_text}

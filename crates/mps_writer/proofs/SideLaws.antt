@@ -8,8 +8,8 @@ use Rattle.std.proofs.lemmas.Bool.{cases_lt}
 use Rattle.std.proofs.lemmas.List.{get_or-replicate, get_or-set_other, get_or-set_same, length-replicate, length-set}
 use Rattle.model_sets.specs.Members.{SetLists}
 use Rattle.row_core.specs.Numbers.{is_zero}
-use Rattle.row_source.specs.Contents.{RowContents}
-use Rattle.row_source.specs.Sources.{rows_of_equation}
+use Rattle.row_core.specs.Contents.{RowContents}
+use Rattle.row_core.specs.Sources.{rows_of_equation}
 use Rattle.mps_writer.specs.MpsText.{line, rhs_line, rhs_line_of, row_label}
 use Rattle.mps_writer.specs.SectionLines.{AreSidesOf, HasNoSides, is_of_sides, lines_in}
 use Rattle.mps_writer.specs.declared.sections.Section.{Section}

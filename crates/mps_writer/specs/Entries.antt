@@ -7,7 +7,7 @@ use Rattle.model_sets.specs.Members.{SetLists}
 use Rattle.row_core.specs.declared.Var.{Var}
 use Rattle.row_core.specs.Equations.{IsEquation}
 use Rattle.row_core.specs.Order.{var_cmp}
-use Rattle.row_source.specs.Contents.{RowContents}
+use Rattle.row_core.specs.Contents.{RowContents}
 use Rattle.mps_writer.specs.declared.entries.Entry.{Entry}
 use Rattle.mps_writer.specs.MpsText.{column_head, entry_line, is_same_variable, numbered}
 

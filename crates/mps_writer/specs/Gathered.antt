@@ -2,7 +2,7 @@
 use Rattle.std.specs.Prelude.{◌≡◌, ◌≤◌, List, drop, filter, length}
 use Rattle.std.specs.List.{AllByRecursion}
 use Rattle.row_core.specs.declared.Var.{Var}
-use Rattle.row_source.specs.Contents.{RowContents}
+use Rattle.row_core.specs.Contents.{RowContents}
 use Rattle.mps_writer.specs.Entries.{Rises, entries_of, is_of}
 use Rattle.mps_writer.specs.declared.sent_columns.Gathered.{Gathered}
 

@@ -15,7 +15,7 @@ use Rattle.row_core.specs.Equations.{IsEquation}
 use Rattle.row_core.specs.NameTexts.{variable_name, row_name, VariableIsWithin, RowNameIsWithin}
 use Rattle.row_core.specs.Numbers.{is_zero}
 use Rattle.row_core.specs.Order.{var_cmp}
-use Rattle.row_source.specs.Contents.{RowContents, contents_of}
+use Rattle.row_core.specs.Contents.{RowContents, contents_of}
 
 -- ---- lines
 

@@ -4,8 +4,8 @@ use Rattle.std.specs.List.{AllByRecursion}
 use Rattle.model_sets.specs.Members.{SetLists}
 use Rattle.row_core.specs.declared.equation_numbers.TheConstants.{EQUATION_COUNT}
 use Rattle.row_core.specs.Numbers.{is_zero}
-use Rattle.row_source.specs.Contents.{RowContents}
-use Rattle.row_source.specs.Sources.{rows_of_equation}
+use Rattle.row_core.specs.Contents.{RowContents}
+use Rattle.row_core.specs.Sources.{rows_of_equation}
 use Rattle.mps_writer.specs.MpsText.{rhs_line, row_lines}
 use Rattle.mps_writer.specs.declared.sections.Section.{Section}
 use Rattle.mps_writer.specs.declared.sections.Section.TheVariants.{Rows, RightSides}

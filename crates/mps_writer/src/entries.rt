@@ -1,7 +1,7 @@
 //! All entries of the rows, in the order of their variables.
 
 ghost use Rattle.std.specs.Prelude.{◌≡◌, ◌++◌, IfOk, OnOk, map};
-ghost use Rattle.row_source.specs.Contents.{contents_of};
+ghost use Rattle.row_core.specs.Contents.{contents_of};
 ghost use Rattle.row_core.specs.Order.{var_cmp};
 ghost use Rattle.mps_writer.specs.Entries.{AreSorted, entries_of, row_entries};
 

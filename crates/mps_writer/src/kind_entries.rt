@@ -3,15 +3,14 @@
 ghost use Rattle.std.specs.Prelude.{◌≡◌, ◌++◌, filter, IfOk, OnOk};
 ghost use Rattle.std.specs.List.{AllByRecursion, flat_map};
 ghost use Rattle.row_core.specs.Equations.{IsEquation};
-ghost use Rattle.row_source.specs.Contents.{contents_of};
-ghost use Rattle.row_source.specs.Sources.{AreInOrder, rows_of_equation};
+ghost use Rattle.row_core.specs.Contents.{contents_of};
+ghost use Rattle.row_core.specs.Sources.{AreInOrder, rows_of_equation};
 ghost use Rattle.mps_writer.specs.Entries.{AreSorted, HasEquation, entries_of_kind, is_of_kind, row_entries};
 
 use crate::entries::Entry;
 use crate::key_order::sort_pieces;
-use row_core::Row;
+use row_core::{Row, RowSource};
 use row_core::equation_numbers::EQUATION_COUNT;
-use row_source::RowSource;
 use std::alloc::{AllocError, Global};
 
 /// The entries of a kind by variable, and those of one variable in the order of rows.

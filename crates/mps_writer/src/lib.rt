@@ -6,7 +6,7 @@ ghost use Rattle.std.specs.Prelude.{◌≡◌, ◌++◌, true, map, IfOk, OnOk};
 ghost use Rattle.std.specs.List.{AllByRecursion, flat_map, list_any};
 ghost use Rattle.row_core.specs.Numbers.{ascends};
 ghost use Rattle.row_core.specs.Order.{var_cmp};
-ghost use Rattle.row_source.specs.Contents.{contents_of};
+ghost use Rattle.row_core.specs.Contents.{contents_of};
 ghost use Rattle.mps_writer.specs.MpsText.{IsNamedRow, IsNamedVariable, bound_line, bounds, column_lines, is_free_column, mps_text, numbered, row_lines, rhs_line};
 
 mod buffer;

@@ -1,7 +1,7 @@
 //! The lines of rows, entries, right sides and bounds.
 ghost use Rattle.std.specs.Prelude.{◌≡◌, ◌++◌, OnOk, decimal};
 ghost use Rattle.row_core.specs.Kinds.{IsKind};
-ghost use Rattle.row_source.specs.Contents.{contents_of};
+ghost use Rattle.row_core.specs.Contents.{contents_of};
 ghost use Rattle.mps_writer.specs.MpsText.{IsNamedRow, IsNamedVariable, bound_line, column_head, entry_line, row_lines, rhs_line_of};
 
 use crate::entries::Entry;

@@ -4,8 +4,8 @@ ghost use Rattle.std.specs.Prelude.{◌≡◌, ◌≤◌, ◌++◌, ◌||◌, no
 ghost use Rattle.std.specs.List.{AllByRecursion, flat_map};
 ghost use Rattle.row_core.specs.Equations.{IsEquation};
 ghost use Rattle.row_core.specs.Numbers.{is_zero};
-ghost use Rattle.row_source.specs.Contents.{contents_of};
-ghost use Rattle.row_source.specs.Sources.{AreInOrder, rows_of_equation};
+ghost use Rattle.row_core.specs.Contents.{contents_of};
+ghost use Rattle.row_core.specs.Sources.{AreInOrder, rows_of_equation};
 ghost use Rattle.mps_writer.specs.MpsText.{IsNamedRow, numbered};
 ghost use Rattle.mps_writer.specs.SectionLines.{AreSidesOf, HasNoSides, is_of_sides, lines_in};
 ghost use Rattle.io_edges.specs.Outputs.{output};
@@ -16,9 +16,8 @@ use crate::lines::{push_rhs, push_row};
 use crate::sending::MpsFail;
 use io_edges::Sink;
 use model_sets::Sets;
-use row_core::Row;
+use row_core::{Row, RowSource};
 use row_core::equation_numbers::EQUATION_COUNT;
-use row_source::RowSource;
 use std::alloc::AllocError;
 
 /// A section with lines of rows.

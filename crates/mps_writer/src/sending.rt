@@ -6,7 +6,7 @@ ghost use Rattle.io_edges.specs.Count.{Rose};
 ghost use Rattle.row_core.specs.Kinds.{IsKind};
 ghost use Rattle.row_core.specs.Numbers.{ascends};
 ghost use Rattle.row_core.specs.Order.{var_cmp};
-ghost use Rattle.row_source.specs.Sources.{AreInOrder};
+ghost use Rattle.row_core.specs.Sources.{AreInOrder};
 ghost use Rattle.mps_writer.specs.MpsText.{IsNamedRow, IsNamedVariable, bound_line, bounds, numbered, rows_text, sections_text};
 ghost use Rattle.io_edges.specs.Outputs.{output, Took, TookPrefix};
 ghost use Rattle.mps_writer.specs.Steps.{Takes};
@@ -19,8 +19,7 @@ use crate::sections::{SIDES, Section, send_section};
 use crate::sent_columns::send_columns;
 use io_edges::{Failed, Sink};
 use model_sets::Sets;
-use row_core::Var;
-use row_source::RowSource;
+use row_core::{RowSource, Var};
 use std::alloc::{AllocError, Global};
 
 /// Why a text wasn't written whole.

@@ -7,7 +7,7 @@ ghost use Rattle.model_sets.specs.Members.{SetLists};
 ghost use Rattle.row_core.specs.declared.Var.{Var};
 ghost use Rattle.row_core.specs.Numbers.{ascends};
 ghost use Rattle.row_core.specs.Order.{var_cmp};
-ghost use Rattle.row_source.specs.Sources.{AreInOrder};
+ghost use Rattle.row_core.specs.Sources.{AreInOrder};
 ghost use Rattle.mps_writer.specs.Entries.{HasEquation, following, lines_of};
 ghost use Rattle.mps_writer.specs.Gathered.{Serves};
 ghost use Rattle.mps_writer.specs.MpsText.{IsNamedRow, IsNamedVariable, column_head, column_lines, entry_line, numbered};
@@ -21,8 +21,7 @@ use crate::lines::{push_column_head, push_entry};
 use crate::sending::MpsFail;
 use io_edges::Sink;
 use model_sets::Sets;
-use row_core::Var;
-use row_source::RowSource;
+use row_core::{RowSource, Var};
 use std::alloc::{AllocError, Global};
 use std::cmp::Ordering;
 

@@ -9,7 +9,7 @@ ghost use Rattle.row_book.specs.Books.{IsWithinSets, NamesRowWithin};
 ghost use Rattle.row_book.specs.Feeds.{HasContentsWithin};
 ghost use Rattle.row_core.specs.Numbers.{ascends};
 ghost use Rattle.row_core.specs.Order.{var_cmp};
-ghost use Rattle.row_source.specs.Sources.{AreInOrder};
+ghost use Rattle.row_core.specs.Sources.{AreInOrder};
 ghost use Rattle.command_answers.specs.BookFails.{TellsFail};
 ghost use Rattle.command_answers.specs.declared.status.Status.{Status};
 ghost use Rattle.osemosys_run.specs.Mps.{DueForEquations};

@@ -11,8 +11,8 @@ use Rattle.row_core.specs.declared.kind_numbers.TheConstants.{CAPITAL_INVESTMENT
 use Rattle.exact_num.specs.Gcd.{gcd_of, gcd_within}
 use Rattle.exact_num.specs.Rational.{lowest, plus, times}
 use Rattle.named_equations.specs.Variables.{capital_investment, new_capacity}
-use Rattle.row_source.specs.Contents.{RowContents, contents_of}
-use Rattle.row_source.specs.Sources.{has_kind}
+use Rattle.row_core.specs.Contents.{RowContents, contents_of}
+use Rattle.row_core.specs.Sources.{has_kind}
 use Rattle.row_book.specs.Feeds.{HasContentsWithin, ahead_after, ahead_at, all_contents, contents_at, equation_contents}
 use Rattle.row_book.specs.FeedStates.{IsFeed}
 use Rattle.row_book.specs.Held.{AreHeld, KeepsRows, held_variables}

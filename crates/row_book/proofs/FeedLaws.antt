@@ -14,8 +14,8 @@ use Rattle.row_core.specs.EquationTerms.{IsRowOf}
 use Rattle.discount_factors.specs.Known.{Discounting}
 use Rattle.named_equations.specs.Instances.{instances, instances_of}
 use Rattle.named_equations.specs.RegionFactors.{AreRegionFactors, places_of}
-use Rattle.row_source.specs.Contents.{RowContents, contents_of}
-use Rattle.row_source.specs.Sources.{Answers, AreInOrder, is_of_equation, rows_of_equation}
+use Rattle.row_core.specs.Contents.{RowContents, contents_of}
+use Rattle.row_core.specs.Sources.{Answers, AreInOrder, is_of_equation, rows_of_equation}
 use Rattle.row_book.specs.Books.{AreRowsOf, CanBeMade, IsWithinSets, entries_in, entry_limit}
 use Rattle.row_book.specs.EquationRows.{terms_at}
 use Rattle.row_book.specs.FeedStates.{IsFeed}

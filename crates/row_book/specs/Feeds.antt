@@ -11,7 +11,7 @@ use Rattle.row_core.specs.Equations.{IsEquation}
 use Rattle.row_core.specs.NameTexts.{RowNameIsWithin}
 use Rattle.row_core.specs.Written.{written_entries, written_right}
 use Rattle.named_equations.specs.Instances.{instances, instances_of}
-use Rattle.row_source.specs.Contents.{RowContents, contents_of}
+use Rattle.row_core.specs.Contents.{RowContents, contents_of}
 use Rattle.row_book.specs.Books.{AreRowsOf, AreVariablesOf}
 use Rattle.row_book.specs.EquationRows.{terms_at}
 

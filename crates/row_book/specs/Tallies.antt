@@ -9,8 +9,8 @@ use Rattle.row_core.specs.declared.equation_numbers.TheConstants.{EQUATION_COUNT
 use Rattle.row_core.specs.Numbers.{ascends}
 use Rattle.row_core.specs.Order.{var_cmp}
 use Rattle.named_equations.specs.Instances.{instances_of}
-use Rattle.row_source.specs.Contents.{RowContents, contents_of}
-use Rattle.row_source.specs.Sources.{has_kind}
+use Rattle.row_core.specs.Contents.{RowContents, contents_of}
+use Rattle.row_core.specs.Sources.{has_kind}
 use Rattle.row_book.specs.Books.{AreRowsOf, entries_in, entry_variables, row_fits}
 use Rattle.row_book.specs.Held.{AreHeld, KeepsRows, held_variables}
 use Rattle.row_book.specs.declared.tally.Tally.{Tally}

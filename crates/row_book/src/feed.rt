@@ -6,8 +6,8 @@ ghost use Rattle.discount_factors.specs.Factors.{IsPlaces};
 ghost use Rattle.named_equations.specs.Instances.{instances};
 ghost use Rattle.named_equations.specs.RegionFactors.{AreRegionFactors, places_of};
 ghost use Rattle.row_core.specs.Equations.{IsEquation};
-ghost use Rattle.row_source.specs.Contents.{contents_of};
-ghost use Rattle.row_source.specs.Sources.{Answers, AreInOrder, rows_of_equation};
+ghost use Rattle.row_core.specs.Contents.{contents_of};
+ghost use Rattle.row_core.specs.Sources.{Answers, AreInOrder, rows_of_equation};
 ghost use Rattle.row_book.specs.Books.{CanBeMade, HasStopped, IsWithinSets, NamesRowWithin};
 ghost use Rattle.row_book.specs.Feeds.{AreContentsOf, HasContentsWithin, ahead_after, equation_contents};
 
@@ -20,8 +20,7 @@ use crate::tally::Tally;
 use crate::tallying::is_marked;
 use discount_factors::Factors;
 use param_tables::ModelData;
-use row_core::{Row, Var};
-use row_source::RowSource;
+use row_core::{Row, RowSource, Var};
 use std::alloc::{AllocError, Global};
 use std::marker::Model;
 

@@ -1,7 +1,7 @@
 //! Rows that are held, so that they aren't made again, and copied where they are asked for.
 
 ghost use Rattle.std.specs.Prelude.{◌≡◌, ◌<◌, ◌++◌, length, slice_index_or, IfOk, IfSome, OnOk};
-ghost use Rattle.row_source.specs.Contents.{contents_of};
+ghost use Rattle.row_core.specs.Contents.{contents_of};
 ghost use Rattle.row_book.specs.Books.{entry_variables};
 ghost use Rattle.row_book.specs.Held.{KeepsRows, held_variables};
 ghost use Rattle.row_book.specs.Tallies.{AreSameVariables};

@@ -28,3 +28,5 @@ pub mod EvaluatedLaws
 mod CombinedExamples
 pub mod LookUpLaws
 pub mod PlanValueLaws
+pub mod EquationLaws
+mod SourceExamples

@@ -30,3 +30,5 @@ pub mod Evaluated
 pub mod LookUps
 pub mod Plans
 pub mod Columns
+pub mod Contents
+pub mod Sources

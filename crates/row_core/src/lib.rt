@@ -24,6 +24,7 @@ mod place;
 mod plans;
 mod searching;
 mod sort_keys;
+mod sources;
 mod subscripts;
 mod terms;
 mod writing;
@@ -41,6 +42,7 @@ pub use place::{Place, Stopped};
 pub use plans::{Multipliers, Plan};
 pub use searching::look_up;
 pub use sort_keys::sort_key;
+pub use sources::RowSource;
 pub use terms::{Term, Terms};
 pub use writing::write_row;
 

@@ -1,6 +1,6 @@
 use Rattle.std.proofs.Common.{◌∙◌, ◌++◌, List, ℕ, ap, map}
 use Rattle.std.specs.List.{flat_map}
-use Rattle.row_source.specs.Contents.{contents_of}
+use Rattle.row_core.specs.Contents.{contents_of}
 use Rattle.mps_writer.specs.Entries.{column_text}
 use Rattle.mps_writer.specs.MpsText.{numbered}
 use Rattle.mps_writer.specs.declared.entries.Entry.{Entry}

@@ -1,6 +1,6 @@
 use Rattle.std.proofs.Common.{◌≡◌, ◌+◌, ◌++◌, drop, map}
 use Rattle.std.specs.List.{flat_map, enumerate_from}
-use Rattle.row_source.specs.Contents.{contents_of}
+use Rattle.row_core.specs.Contents.{contents_of}
 use Rattle.mps_writer.specs.MpsText.{rhs_line, numbered}
 use Rattle.mps_writer.proofs.push_right_sides.Given as goal
 

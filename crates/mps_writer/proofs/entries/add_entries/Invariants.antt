@@ -1,5 +1,5 @@
 use Rattle.std.proofs.Common.{◌≡◌, ◌++◌, drop, map}
-use Rattle.row_source.specs.Contents.{contents_of}
+use Rattle.row_core.specs.Contents.{contents_of}
 use Rattle.mps_writer.specs.Entries.{row_entries, entry_of}
 use Rattle.mps_writer.proofs.entries.add_entries.Given as goal
 

@@ -1,7 +1,7 @@
 use Rattle.std.proofs.Common.{◌≡◌, ◌++◌, List, ap, sym, ◌∙◌}
 use Rattle.std.specs.Prelude.{false}
 use Rattle.std.proofs.lemmas.List.{append-nil}
-use Rattle.row_source.specs.Sources.{has_kind}
+use Rattle.row_core.specs.Sources.{has_kind}
 use Rattle.mps_writer.specs.declared.entries.Entry.{Entry}
 use Rattle.mps_writer.proofs.GatheredLaws.{none-gathered}
 use Rattle.mps_writer.proofs.kind_entries.add_equation.Goals as goal

@@ -1,9 +1,9 @@
 use Rattle.std.proofs.Common.{◌≡◌, ◌∙◌, ◌++◌, ℕ, List, [], append-nil, refl, ap, sym, subst, arith}
 use Rattle.std.specs.List.{AllByRecursion, flat_map}
 use Rattle.row_core.specs.Numbers.{is_zero}
-use Rattle.row_source.specs.Contents.{RowContents, contents_of}
-use Rattle.row_source.specs.Sources.{rows_of_equation}
-use Rattle.row_source.proofs.EquationLaws.{all-of_equation}
+use Rattle.row_core.specs.Contents.{RowContents, contents_of}
+use Rattle.row_core.specs.Sources.{rows_of_equation}
+use Rattle.row_core.proofs.EquationLaws.{all-of_equation}
 use Rattle.io_edges.specs.Outputs.{output}
 use Rattle.mps_writer.specs.MpsText.{IsNamedRow}
 use Rattle.mps_writer.specs.SectionLines.{HasNoSides, lines_in}

@@ -1,6 +1,6 @@
 use Rattle.std.proofs.Common.{◌≡◌, ◌≤◌, ◌++◌, length, false}
 use Rattle.std.specs.List.{AllByRecursion, flat_map}
-use Rattle.row_source.specs.Sources.{rows_of_equation}
+use Rattle.row_core.specs.Sources.{rows_of_equation}
 use Rattle.io_edges.specs.Outputs.{output}
 use Rattle.mps_writer.specs.MpsText.{IsNamedRow}
 use Rattle.mps_writer.specs.SectionLines.{HasNoSides, lines_in}

@@ -1,5 +1,5 @@
 use Rattle.std.proofs.Common.{◌++◌, arith}
-use Rattle.row_source.specs.Contents.{contents_of}
+use Rattle.row_core.specs.Contents.{contents_of}
 use Rattle.io_edges.specs.Outputs.{output}
 use Rattle.mps_writer.specs.SectionLines.{lines_in}
 use Rattle.mps_writer.proofs.TakenLaws.{cuts-none}

@@ -1,7 +1,7 @@
 use Rattle.std.proofs.Common.{◌≡◌, ◌∙◌, ◌+◌, ◌-◌, ◌<◌, ◌++◌, ℕ, List, false, refl, ap, sym, subst, arith}
 use Rattle.std.specs.List.{flat_map, range_with_len}
-use Rattle.row_source.specs.Contents.{RowContents}
-use Rattle.row_source.specs.Sources.{rows_of_equation}
+use Rattle.row_core.specs.Contents.{RowContents}
+use Rattle.row_core.specs.Sources.{rows_of_equation}
 use Rattle.io_edges.specs.Outputs.{output}
 use Rattle.mps_writer.specs.MpsText.{numbered}
 use Rattle.mps_writer.specs.SectionLines.{HasNoSides, lines_in}

@@ -1,5 +1,5 @@
 use Rattle.std.proofs.Common.{◌++◌, ℕ, List, ap, subst}
-use Rattle.row_source.specs.Contents.{RowContents}
+use Rattle.row_core.specs.Contents.{RowContents}
 use Rattle.io_edges.specs.Outputs.{output}
 use Rattle.mps_writer.specs.MpsText.{rows_text, sections_text}
 use Rattle.mps_writer.specs.Steps.{Fails, LeavesOf, Takes}

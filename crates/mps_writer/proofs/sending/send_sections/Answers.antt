@@ -1,7 +1,7 @@
 use Rattle.std.proofs.Common.{◌≤◌, ◌++◌, ◌∙◌, ℕ, List, ap, codes, sym, subst, arith}
 use Rattle.std.specs.List.{AllByRecursion, flat_map}
 use Rattle.row_core.specs.declared.Var.{Var}
-use Rattle.row_source.specs.Contents.{RowContents}
+use Rattle.row_core.specs.Contents.{RowContents}
 use Rattle.io_edges.specs.Outputs.{output}
 use Rattle.mps_writer.specs.Entries.{HasEquation}
 use Rattle.mps_writer.specs.MpsText.{bounds, column_lines, line, numbered, rhs_line, row_lines, sections_text}

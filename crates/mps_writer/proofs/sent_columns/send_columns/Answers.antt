@@ -4,7 +4,7 @@ use Rattle.std.proofs.lemmas.List.{at_drop_all, drop_more}
 use Rattle.row_core.specs.declared.Var.{Var}
 use Rattle.row_core.specs.Numbers.{ascends}
 use Rattle.row_core.specs.Order.{var_cmp}
-use Rattle.row_source.specs.Contents.{RowContents}
+use Rattle.row_core.specs.Contents.{RowContents}
 use Rattle.io_edges.specs.Outputs.{output}
 use Rattle.mps_writer.specs.declared.entries.Entry.{Entry}
 use Rattle.mps_writer.specs.Entries.{following, lines_of}

@@ -1,7 +1,7 @@
 use Rattle.std.proofs.Common.{◌≡◌, ◌∙◌, ℕ, List, inl, inr, refl, sym, ap, subst}
 use Rattle.std.specs.Prelude.{⊤}
 use Rattle.row_core.specs.declared.Var.{Var}
-use Rattle.row_source.specs.Contents.{RowContents}
+use Rattle.row_core.specs.Contents.{RowContents}
 use Rattle.mps_writer.specs.MpsText.{rows_text}
 use Rattle.row_book.specs.Feeds.{AreContentsOf}
 use Rattle.command_answers.specs.BookFails.{TellsFail}

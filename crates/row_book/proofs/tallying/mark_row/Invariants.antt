@@ -1,7 +1,7 @@
 use Rattle.std.proofs.Common.{◌≡◌, ℕ, ◌<◌, ◌&&◌, ◌||◌, nat_eq, drop, length}
 use Rattle.std.specs.List.{list_any}
-use Rattle.row_source.specs.Contents.{contents_of}
-use Rattle.row_source.specs.Sources.{has_entry_of}
+use Rattle.row_core.specs.Contents.{contents_of}
+use Rattle.row_core.specs.Sources.{has_entry_of}
 use Rattle.row_book.specs.Tallies.{kind_room, marked}
 use Rattle.row_book.proofs.tallying.mark_row.Given as goal
 

@@ -1,6 +1,6 @@
 use Rattle.std.proofs.Common.{◌≡◌, ℕ, ◌<◌, ◌||◌, drop, length, map}
-use Rattle.row_source.specs.Contents.{contents_of}
-use Rattle.row_source.specs.Sources.{has_kind}
+use Rattle.row_core.specs.Contents.{contents_of}
+use Rattle.row_core.specs.Sources.{has_kind}
 use Rattle.row_book.specs.Tallies.{kind_room, marked}
 use Rattle.row_book.proofs.tallying.mark_rows.Given as goal
 

@@ -5,7 +5,7 @@ use Rattle.discount_factors.specs.Known.{Discounting}
 use Rattle.row_core.specs.declared.Row.{Row}
 use Rattle.named_equations.specs.Instances.{instances}
 use Rattle.named_equations.specs.RegionFactors.{places_of}
-use Rattle.row_source.specs.Contents.{RowContents, contents_of}
+use Rattle.row_core.specs.Contents.{RowContents, contents_of}
 use Rattle.row_book.specs.Books.{CanBeMade}
 use Rattle.row_book.specs.Feeds.{ahead_after, ahead_at, equation_contents}
 use Rattle.row_book.specs.declared.held_rows.HeldRows.{HeldRows}

@@ -4,8 +4,8 @@ use Rattle.row_core.specs.declared.Row.{Row}
 use Rattle.row_core.specs.declared.Var.{Var}
 use Rattle.named_equations.specs.Instances.{instances_of}
 use Rattle.named_equations.specs.RegionFactors.{places_of}
-use Rattle.row_source.specs.Contents.{contents_of}
-use Rattle.row_source.specs.Sources.{has_kind}
+use Rattle.row_core.specs.Contents.{contents_of}
+use Rattle.row_core.specs.Sources.{has_kind}
 use Rattle.row_book.specs.Books.{entry_variables}
 use Rattle.row_book.specs.Held.{KeepsRows, held_variables}
 use Rattle.row_book.specs.Tallies.{AreSameVariables, MarksMore}

@@ -5,8 +5,8 @@ use Rattle.row_core.specs.declared.RowName.{RowName}
 use Rattle.row_core.specs.declared.Sense.TheVariants.{Equal}
 use Rattle.row_core.specs.declared.Var.{Var}
 use Rattle.row_core.specs.Names.{accumulated_new_capacity, caa1, caa2, new_capacity, total_capacity_annual}
-use Rattle.row_source.specs.Contents.{RowContents}
-use Rattle.row_source.specs.Sources.{AreInOrder, has_kind, rows_of_equation}
+use Rattle.row_core.specs.Contents.{RowContents}
+use Rattle.row_core.specs.Sources.{AreInOrder, has_kind, rows_of_equation}
 
 abbrev says : RowName → List (Var × ℤ) → RowContents
 says name entries = record { name = name; sense = Equal; entries = entries; rhs = pos 0 }

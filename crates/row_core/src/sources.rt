@@ -1,12 +1,11 @@
 //! Rows that come one after another, equation by equation, from a source that need not hold them.
-#![tactic(auto)]
 
 ghost use Rattle.std.specs.Prelude.{◌≡◌, ℕ, List, IfOk, OnErr};
 ghost use Rattle.row_core.specs.Equations.{IsEquation};
-ghost use Rattle.row_source.specs.Contents.{RowContents};
-ghost use Rattle.row_source.specs.Sources.{Answers, has_kind, rows_of_equation};
+ghost use Rattle.row_core.specs.Contents.{RowContents};
+ghost use Rattle.row_core.specs.Sources.{Answers, has_kind, rows_of_equation};
 
-use row_core::Row;
+use crate::Row;
 use std::alloc::AllocError;
 
 /// A list of rows, which no call changes, and a place in it: before one of the rows of an equation, or

@@ -2,7 +2,7 @@
 use Rattle.std.specs.Prelude.{◌≡◌, ℕ, ◌≤◌, Bool, ◌==◌, ◌&&◌, List, [], ◌∷◌, filter, ⊤, Option, None, Some}
 use Rattle.std.specs.List.{AllByRecursion, enumerate_from, list_any}
 use Rattle.row_core.specs.declared.Row.{Row}
-use Rattle.row_source.specs.Contents.{RowContents, contents_of}
+use Rattle.row_core.specs.Contents.{RowContents, contents_of}
 
 -- the row is one of the equation of this number
 abbrev pub is_of_equation : ℕ → RowContents → Bool

@@ -1,2 +1,0 @@
-pub mod EquationLaws
-mod SourceExamples
