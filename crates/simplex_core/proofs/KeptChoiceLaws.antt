@@ -12,9 +12,9 @@ use Rattle.written_method.specs.Choices.{greatest_from, first_positive_from, lea
 use Rattle.written_method.specs.Rounds.{Due, Pivot, NoColumn, NoRow}
 use Rattle.written_method.proofs.PivotLaws.{same_or_not}
 use Rattle.written_method.proofs.LeavingLaws.{IsLeast, leaving-IsLeast}
-use Rattle.kept_method.specs.Kept.{IsKept}
-use Rattle.kept_method.specs.KeptRounds.{rough_line, rough_lines, kept_entering, kept_leaving, kept_due}
-use Rattle.kept_method.proofs.StateLaws.{get_or-all_less, lines_length, length-rough}
+use Rattle.simplex_core.specs.Kept.{IsKept}
+use Rattle.simplex_core.specs.KeptRounds.{rough_line, rough_lines, kept_entering, kept_leaving, kept_due}
+use Rattle.simplex_core.proofs.StateLaws.{get_or-all_less, lines_length, length-rough}
 use Rattle.simplex_core.specs.KeptViews.{kept_state, rough_of, kept_basics, candidate_of}
 
 in_lines : (t : Tableau) (h d i : ℕ) → IsKept h d t → i < rows_of t → i < length t.lines

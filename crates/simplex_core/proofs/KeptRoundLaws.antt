@@ -5,16 +5,16 @@ use Rattle.row_core.specs.Numbers.{is_zero}
 use Rattle.written_method.specs.Lines.{Line}
 use Rattle.written_method.specs.Tableaus.{Tableau, line_of, rows_of, pivoted, without_x0}
 use Rattle.written_method.specs.Rounds.{Pivot, after}
-use Rattle.kept_method.proofs.StateLaws.{after-kept, after-left}
+use Rattle.simplex_core.proofs.StateLaws.{after-kept, after-left}
 use Rattle.written_method.specs.Runs.{answer}
-use Rattle.kept_method.specs.Kept.{IsKept, exchanged}
-use Rattle.kept_method.specs.KeptRounds.{KeptState, shown_state, kept_due, rough_line}
-use Rattle.kept_method.proofs.AnswerLaws.{IsDue, kept_due-IsDue, answer-next, answer-left}
+use Rattle.simplex_core.specs.Kept.{IsKept, exchanged}
+use Rattle.simplex_core.specs.KeptRounds.{KeptState, shown_state, kept_due, rough_line}
+use Rattle.simplex_core.proofs.AnswerLaws.{IsDue, kept_due-IsDue, answer-next, answer-left}
 use Rattle.int_tableau.specs.Shapes.{IsNowhere}
 use Rattle.int_tableau.specs.Swaps.{swapped}
 use Rattle.simplex_core.specs.KeptViews.{kept_state, rough_of, second_phase, FitsPivot}
 use Rattle.simplex_core.proofs.KeptSwapLaws.{swapped-pivoted}
-use Rattle.kept_method.specs.KeptRounds.{kept_entering, kept_leaving}
+use Rattle.simplex_core.specs.KeptRounds.{kept_entering, kept_leaving}
 use Rattle.simplex_core.specs.KeptViews.{x0_in}
 use Rattle.simplex_core.specs.KeptEnds.{IsKeptDue}
 use Rattle.simplex_core.specs.declared.kept_due.KeptDue.TheVariants as dues

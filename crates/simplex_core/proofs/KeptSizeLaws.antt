@@ -7,10 +7,10 @@ use Rattle.std.proofs.lemmas.List.{get_or_past}
 use borrow.Author.Tests.{ltb-true, ltb-false}
 use Rattle.written_method.specs.Lines.{Line, entry_of, numbers_of}
 use Rattle.written_method.specs.Tableaus.{Tableau, line_of, rows_of}
-use Rattle.kept_method.specs.Kept.{IsKept}
-use Rattle.kept_method.specs.KeptRounds.{KeptState}
-use Rattle.kept_method.specs.Widths.{AllWithin, late_size, late_entry}
-use Rattle.kept_method.proofs.KeptWidths.{within-all, kept-fits}
+use Rattle.simplex_core.specs.Kept.{IsKept}
+use Rattle.simplex_core.specs.KeptRounds.{KeptState}
+use Rattle.simplex_core.specs.Widths.{AllWithin, late_size, late_entry}
+use Rattle.simplex_core.proofs.KeptWidths.{within-all, kept-fits}
 use Rattle.simplex_core.specs.KeptViews.{x0_in, kept_state, rough_of, FitsPivot, IsWithin, AreSpread}
 use Rattle.simplex_core.specs.declared.kept_choice.Spread.{Spread}
 use Rattle.int_tableau.specs.Sizes.{AreWithin}

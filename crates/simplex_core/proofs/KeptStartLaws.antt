@@ -17,9 +17,9 @@ use Rattle.written_method.proofs.RunLaws.{answer-pivot}
 use Rattle.written_method.proofs.FirstLaws.{IsShaped-first, length-lines, length-tail, rows_of-first, line-row, line-artificial, row_line-x0, artificial-x0, artificial-other, basic_of-first, no_row}
 use Rattle.written_method.proofs.BegunLaws.{IsLowestRow, lowest-IsLowestRow}
 use Rattle.written_method.proofs.DroppedLaws.{entry-negated, each-negated, length-lines-negated}
-use Rattle.kept_method.specs.KeptRounds.{IsFirst, shown_state, start_state}
-use Rattle.kept_method.specs.Widths.{AllWithin}
-use Rattle.kept_method.proofs.WidthLaws.{pivot_formed-fits}
+use Rattle.simplex_core.specs.KeptRounds.{IsFirst, shown_state, start_state}
+use Rattle.simplex_core.specs.Widths.{AllWithin}
+use Rattle.simplex_core.proofs.WidthLaws.{pivot_formed-fits}
 use Rattle.simplex_core.specs.declared.kept_rounds.KeptEnd.{KeptEnd}
 use Rattle.simplex_core.specs.declared.kept_rounds.KeptEnd.TheVariants as ends
 use Rattle.simplex_core.specs.KeptViews.{x0_in, kept_state, IsPlain, advanced}

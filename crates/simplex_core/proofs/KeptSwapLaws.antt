@@ -6,8 +6,8 @@ use Rattle.std.proofs.Math.ListN.{length-set}
 use Rattle.written_method.specs.Lines.{Line}
 use Rattle.written_method.specs.Tableaus.{Tableau, line_of, basic_of, rows_of, no_line, pivoted, negated_line}
 use Rattle.written_method.proofs.PivotLaws.{length-pivoted, rows_of-pivoted, line_of-pivoted}
-use Rattle.kept_method.specs.Kept.{exchanged}
-use Rattle.kept_method.proofs.KeptLaws.{set_turned, same_tableaus}
+use Rattle.simplex_core.specs.Kept.{exchanged}
+use Rattle.simplex_core.proofs.KeptLaws.{set_turned, same_tableaus}
 use Rattle.int_tableau.specs.Swaps.{swapped}
 
 pub swapped-pivoted : (t : Tableau) (h r c : ℕ) → h < length t.lines → r < length t.lines → h < rows_of t → r < rows_of t → r ≢ h → swapped h r (pivoted h c t) ≡ exchanged h r c t

@@ -4,10 +4,10 @@ use Rattle.row_core.specs.Numbers.{is_zero}
 use Rattle.written_method.specs.Tableaus.{Tableau, pivoted, without_x0}
 use Rattle.written_method.specs.Rounds.{State, Due, Pivot, NoColumn, NoRow, due, after}
 use Rattle.written_method.specs.Runs.{Ended, Infeasible, PivotDue, answer}
-use Rattle.kept_method.specs.Kept.{IsKept}
-use Rattle.kept_method.specs.KeptRounds.{KeptState, shown_state, kept_due}
-use Rattle.kept_method.proofs.StateLaws.{due-kept}
-use Rattle.kept_method.proofs.AnswerLaws.{answer-infeasible, answer-budget}
+use Rattle.simplex_core.specs.Kept.{IsKept}
+use Rattle.simplex_core.specs.KeptRounds.{KeptState, shown_state, kept_due}
+use Rattle.simplex_core.proofs.StateLaws.{due-kept}
+use Rattle.simplex_core.proofs.AnswerLaws.{answer-infeasible, answer-budget}
 use Rattle.int_tableau.specs.Counted.{Counted}
 use Rattle.int_tableau.specs.Swaps.{swapped}
 use Rattle.simplex_core.specs.KeptViews.{x0_in, kept_state, rough_of, second_phase, FitsPivot, advanced}

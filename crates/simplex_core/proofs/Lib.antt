@@ -12,3 +12,13 @@ pub mod KeptWayLaws
 pub mod KeptStartLaws
 pub mod KeptReachedLaws
 pub mod ShortLaws
+pub mod PrimitiveLaws
+pub mod ClearedTwice
+pub mod KeptLaws
+pub mod KeepingLaws
+pub mod ScaledChoiceLaws
+pub mod StateLaws
+pub mod WidthLaws
+pub mod KeptWidths
+pub mod AnswerLaws
+pub mod StartLaws

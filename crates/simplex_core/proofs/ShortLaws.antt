@@ -2,7 +2,7 @@
 use Rattle.std.proofs.Common.{◌≡◌, ◌≢◌, ℕ, ◌<◌, ◌-◌, length, sym, ap, ap₂, ◌∙◌, arith}
 use Rattle.written_method.specs.Lines.{entry_of, less}
 use Rattle.written_method.specs.Tableaus.{Tableau, line_of, rows_of}
-use Rattle.kept_method.specs.Kept.{IsKept}
+use Rattle.simplex_core.specs.Kept.{IsKept}
 use Rattle.int_tableau.specs.Shorts.{AreOf}
 use Rattle.int_tableau.specs.declared.short_numbers.ShortNumbers.{ShortNumbers}
 use Rattle.simplex_core.specs.declared.home.Home.{Home}

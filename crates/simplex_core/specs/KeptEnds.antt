@@ -5,8 +5,8 @@ use Rattle.written_method.specs.Rounds as rounds
 use Rattle.written_method.specs.Rounds.{State}
 use Rattle.written_method.specs.Runs.{Ended, answer}
 use Rattle.written_method.specs.Tableaus.{Tableau}
-use Rattle.kept_method.specs.Kept.{IsKept}
-use Rattle.kept_method.specs.KeptRounds.{kept_due, shown_state}
+use Rattle.simplex_core.specs.Kept.{IsKept}
+use Rattle.simplex_core.specs.KeptRounds.{kept_due, shown_state}
 use Rattle.int_tableau.specs.Counted.{Counted}
 use Rattle.simplex_core.specs.declared.running.Finish.{Finish}
 use Rattle.simplex_core.specs.declared.kept_due.KeptDue.{KeptDue}

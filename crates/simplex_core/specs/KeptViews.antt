@@ -7,9 +7,9 @@ use Rattle.written_method.specs.Tableaus.{Tableau, line_of}
 use Rattle.written_method.specs.Choices as choices
 use Rattle.written_method.specs.Rounds as rounds
 use Rattle.written_method.specs.Rounds.{State, Pivot, NoColumn, NoRow, due, after, step_of}
-use Rattle.kept_method.specs.Kept.{IsKept}
-use Rattle.kept_method.specs.KeptRounds.{KeptState, shown_state, rough_line}
-use Rattle.kept_method.specs.Widths.{late_entry, late_size}
+use Rattle.simplex_core.specs.Kept.{IsKept}
+use Rattle.simplex_core.specs.KeptRounds.{KeptState, shown_state, rough_line}
+use Rattle.simplex_core.specs.Widths.{late_entry, late_size}
 use Rattle.int_tableau.specs.Sizes.{AreWithin}
 use Rattle.simplex_core.specs.declared.home.Home.{Home}
 use Rattle.simplex_core.specs.declared.kept_choice.Spread.{Spread}

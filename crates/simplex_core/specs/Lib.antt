@@ -7,3 +7,6 @@ pub mod KeptViews
 pub mod KeptEnds
 pub mod Begun
 pub mod ShortViews
+pub mod Kept
+pub mod KeptRounds
+pub mod Widths

@@ -5,8 +5,8 @@ ghost use Rattle.exact_num.specs.Range.{InRange};
 ghost use Rattle.written_method.specs.Choices.{first_positive_from, greatest_from, rank_of};
 ghost use Rattle.written_method.specs.Lines.{entry_of, less};
 ghost use Rattle.written_method.specs.Tableaus.{line_of, rows_of};
-ghost use Rattle.kept_method.specs.Kept.{IsKept};
-ghost use Rattle.kept_method.specs.KeptRounds.{kept_entering, kept_leaving};
+ghost use Rattle.simplex_core.specs.Kept.{IsKept};
+ghost use Rattle.simplex_core.specs.KeptRounds.{kept_entering, kept_leaving};
 ghost use Rattle.simplex_core.specs.KeptViews.{AreSpread, IsHome, candidate_of, kept_basics, kept_state, rough_of, x0_in};
 ghost use Rattle.simplex_core.specs.Views.{chosen_seen};
 

@@ -2,7 +2,7 @@
 
 ghost use Rattle.std.specs.Prelude.{◌≡◌, ◌<◌};
 ghost use Rattle.row_core.specs.Numbers.{is_zero};
-ghost use Rattle.kept_method.specs.Kept.{IsKept};
+ghost use Rattle.simplex_core.specs.Kept.{IsKept};
 ghost use Rattle.simplex_core.specs.KeptEnds.{IsKeptDue};
 ghost use Rattle.simplex_core.specs.KeptViews.{IsHome, x0_in};
 

@@ -1,7 +1,7 @@
 //! Whether all numbers fit that the method's next pivot forms.
 
 ghost use Rattle.std.specs.Prelude.{◌≡◌, ◌<◌, ◌≤◌, ◌+◌, ◌*◌, ◌^◌, true, length, unsigned_abs, IfSome};
-ghost use Rattle.kept_method.specs.Widths.{late_size};
+ghost use Rattle.simplex_core.specs.Widths.{late_size};
 ghost use Rattle.written_method.specs.Tableaus.{rows_of};
 ghost use Rattle.simplex_core.specs.KeptViews.{AreSpread, FitsPivot, IsHome, IsLineNarrow, kept_state, size_in, x0_in};
 

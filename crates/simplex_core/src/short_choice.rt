@@ -7,7 +7,7 @@ ghost use Rattle.written_method.specs.Choices.{better, leaves_before};
 ghost use Rattle.written_method.specs.Lines.{entry_of};
 ghost use Rattle.written_method.specs.Tableaus.{line_of, rows_of};
 ghost use Rattle.int_tableau.specs.Shorts.{AreOf};
-ghost use Rattle.kept_method.specs.KeptRounds.{kept_leaving};
+ghost use Rattle.simplex_core.specs.KeptRounds.{kept_leaving};
 ghost use Rattle.simplex_core.specs.KeptViews.{AreSpread, IsHome, candidate_of, kept_state, rough_of, x0_in};
 ghost use Rattle.simplex_core.specs.ShortViews.{AreRough, short_candidate_seen, short_chosen_seen};
 ghost use Rattle.simplex_core.specs.Views.{chosen_seen};

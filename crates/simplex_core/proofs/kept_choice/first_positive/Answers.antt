@@ -5,7 +5,7 @@ use Rattle.exact_num.proofs.RangeLaws.{back_in_range}
 use Rattle.written_method.specs.Choices.{first_positive_from}
 use Rattle.std.proofs.Math.ListN.{length-set}
 use Rattle.written_method.specs.Tableaus.{Tableau, line_of, rows_of}
-use Rattle.kept_method.specs.Kept.{IsKept}
+use Rattle.simplex_core.specs.Kept.{IsKept}
 use Rattle.simplex_core.proofs.KeptChoiceLaws.{without-number, without-zeros, without-rest, without-all}
 use Rattle.simplex_core.proofs.ChoiceLaws.{AreZeros, first_positive-next, first_positive-rest}
 use Rattle.simplex_core.proofs.kept_choice.first_positive.Goals as goal

@@ -2,7 +2,7 @@
 use Rattle.std.proofs.Common.{◌≡◌, ap, arith}
 use Rattle.std.specs.Prelude.{unsigned_abs}
 use Rattle.exact_num.proofs.RangeLaws.{back_in_range}
-use Rattle.kept_method.specs.Widths.{late_entry}
+use Rattle.simplex_core.specs.Widths.{late_entry}
 use Rattle.written_method.specs.Lines.{numbers_of}
 use Rattle.written_method.specs.Tableaus.{Tableau, line_of}
 use Rattle.simplex_core.specs.KeptViews.{kept_state, x0_in}

@@ -3,7 +3,7 @@ use Rattle.std.proofs.Common.{◌≡◌, Some, sym, ap, ◌∙◌}
 use Rattle.exact_num.proofs.RangeLaws.{back_in_range}
 use Rattle.row_core.specs.Numbers.{is_zero}
 use Rattle.written_method.specs.Tableaus.{Tableau}
-use Rattle.kept_method.specs.KeptRounds.{kept_entering, kept_leaving}
+use Rattle.simplex_core.specs.KeptRounds.{kept_entering, kept_leaving}
 use Rattle.simplex_core.specs.KeptViews.{kept_state, x0_in}
 use Rattle.simplex_core.specs.Views.{candidate_seen, chosen_seen}
 use Rattle.simplex_core.proofs.KeptChoiceLaws.{leaving-row}

@@ -6,8 +6,8 @@ use Rattle.written_method.specs.Programs.{LinearProgram, program_of}
 use Rattle.written_method.specs.Rounds.{State, right_sides}
 use Rattle.written_method.specs.Tableaus.{Tableau, negated}
 use Rattle.int_tableau.specs.Counted.{Counted}
-use Rattle.kept_method.specs.Kept.{IsKept}
-use Rattle.kept_method.proofs.StartLaws.{IsKept-started}
+use Rattle.simplex_core.specs.Kept.{IsKept}
+use Rattle.simplex_core.proofs.StartLaws.{IsKept-started}
 use Rattle.simplex_core.specs.KeptViews.{x0_in}
 use Rattle.simplex_core.specs.Views.{state_seen}
 use Rattle.simplex_core.proofs.KeptStartLaws.{ArePlain, first-IsFirst, end-first, start-any, start-tableau, start-row, start-lines}

@@ -7,8 +7,8 @@ use Rattle.written_method.specs.Rounds.{State}
 use Rattle.int_tableau.specs.Counted.{Counted, pivoted_once}
 use Rattle.int_tableau.specs.Swaps.{swapped}
 use Rattle.int_tableau.specs.Shapes.{IsNowhere}
-use Rattle.kept_method.specs.Kept.{IsKept}
-use Rattle.kept_method.specs.KeptRounds.{shown_state}
+use Rattle.simplex_core.specs.Kept.{IsKept}
+use Rattle.simplex_core.specs.KeptRounds.{shown_state}
 use Rattle.simplex_core.specs.declared.running.Finish.TheVariants as finishes
 use Rattle.simplex_core.specs.KeptViews.{kept_state, second_phase, x0_in}
 use Rattle.simplex_core.specs.KeptEnds.{IsOnWay, IsSecond}

@@ -2,7 +2,7 @@ use Rattle.std.proofs.Common.{◌≡◌, ◌<◌, ◌^◌, ◌∙◌, sym, ap, a
 use Rattle.std.specs.Prelude.{unsigned_abs}
 use Rattle.exact_num.proofs.RangeLaws.{back_in_range}
 use borrow.Author.Tests.{ltb-true}
-use Rattle.kept_method.specs.Widths.{late_size, late_entry}
+use Rattle.simplex_core.specs.Widths.{late_size, late_entry}
 use Rattle.written_method.specs.Tableaus.{Tableau}
 use Rattle.simplex_core.specs.KeptViews.{kept_state, size_in, x0_in}
 use Rattle.simplex_core.proofs.KeptSizeLaws.{late_entry-is, narrow-by}

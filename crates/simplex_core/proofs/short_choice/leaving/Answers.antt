@@ -2,7 +2,7 @@
 use Rattle.std.proofs.Common.{◌<◌, ◌+◌, Option, Some, length, drop, sym, ap, ◌∙◌, arith}
 use Rattle.written_method.specs.Choices.{leaving_from}
 use Rattle.written_method.specs.Tableaus.{Tableau}
-use Rattle.kept_method.specs.KeptRounds.{rough_lines}
+use Rattle.simplex_core.specs.KeptRounds.{rough_lines}
 use Rattle.simplex_core.specs.declared.candidate.ShortCandidate.{ShortCandidate}
 use Rattle.simplex_core.specs.KeptViews.{kept_state, kept_basics, x0_in}
 use Rattle.simplex_core.specs.ShortViews.{short_chosen_seen, short_candidate_seen}

@@ -10,7 +10,7 @@ use Rattle.exact_num.proofs.Ring.{zero-*ℤ}
 use Rattle.written_method.specs.Lines.{Line, entry_of}
 use Rattle.written_method.specs.Tableaus.{no_line}
 use Rattle.written_method.specs.Choices.{Candidate, greatest_from, first_positive_from, leaves_before, better, rank_of, leaving_from}
-use Rattle.kept_method.proofs.PrimitiveLaws.{AreProportional}
+use Rattle.simplex_core.proofs.PrimitiveLaws.{AreProportional}
 
 -- ---- one number
 

@@ -16,11 +16,11 @@ use Rattle.written_method.specs.Rounds.{State, Phase, One, Two, Due, Pivot, NoCo
 use Rattle.written_method.proofs.CombinedLaws.{IsCleared, cleared-IsCleared}
 use Rattle.written_method.proofs.BasisLaws.{length-cleared}
 use Rattle.written_method.proofs.PivotLaws.{length-pivoted, rows_of-pivoted, line_of-pivoted, line_of-other, basic_of-pivoted, basic_of-other, same_or_not}
-use Rattle.kept_method.specs.Kept.{IsKept, shown, exchanged}
-use Rattle.kept_method.specs.KeptRounds.{KeptState, shown_state, home_line, rough_line, rough_lines, kept_entering, kept_leaving, kept_due, next_kept, left_kept}
-use Rattle.kept_method.proofs.PrimitiveLaws.{AreProportional}
-use Rattle.kept_method.proofs.KeptLaws.{IsChosen, shown-exchanged, shown-last}
-use Rattle.kept_method.proofs.ChoiceLaws.{greatest-scaled, first_positive-scaled, AreSame, leaving-scaled}
+use Rattle.simplex_core.specs.Kept.{IsKept, shown, exchanged}
+use Rattle.simplex_core.specs.KeptRounds.{KeptState, shown_state, home_line, rough_line, rough_lines, kept_entering, kept_leaving, kept_due, next_kept, left_kept}
+use Rattle.simplex_core.proofs.PrimitiveLaws.{AreProportional}
+use Rattle.simplex_core.proofs.KeptLaws.{IsChosen, shown-exchanged, shown-last}
+use Rattle.simplex_core.proofs.ScaledChoiceLaws.{greatest-scaled, first_positive-scaled, AreSame, leaving-scaled}
 
 -- what holds of a kept state
 abbrev pub IsKeptState : KeptState → Type 0

@@ -2,7 +2,7 @@
 use Rattle.std.specs.Prelude.{ℕ, ◌+◌, ◌*◌, ◌<◌, ◌≤◌, ◌≢◌, ◌^◌, ◌==◌, ⊤, length, ℤ, unsigned_abs, List, [], ◌∷◌, slice_index_or, if◌then◌else◌}
 use Rattle.written_method.specs.Lines.{entry_of, numbers_of}
 use Rattle.written_method.specs.Tableaus.{line_of, no_line}
-use Rattle.kept_method.specs.KeptRounds.{KeptState, home_line, rough_lines}
+use Rattle.simplex_core.specs.KeptRounds.{KeptState, home_line, rough_lines}
 
 -- no number of the list is above n
 abbrev pub AllWithin : ℕ → List ℤ → Type 0

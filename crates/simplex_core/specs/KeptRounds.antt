@@ -6,7 +6,7 @@ use Rattle.written_method.specs.Tableaus.{Tableau, line_of, basic_of, rows_of, p
 use Rattle.written_method.specs.Basis.{IsShaped}
 use Rattle.written_method.specs.Choices.{Candidate, greatest_from, first_positive_from, leaving_from}
 use Rattle.written_method.specs.Rounds.{State, Start, degenerate_after, One, Two, Due, Pivot, NoColumn, NoRow}
-use Rattle.kept_method.specs.Kept.{IsPrimitive, IsArtificial, shown, exchanged}
+use Rattle.simplex_core.specs.Kept.{IsPrimitive, IsArtificial, shown, exchanged}
 
 pub record KeptState : Type 0 where
   pub tableau : Tableau

@@ -12,12 +12,12 @@ use Rattle.written_method.specs.Rounds.{Due, Pivot, NoColumn, NoRow, due, step_o
 use Rattle.written_method.specs.Runs.{answer}
 use Rattle.written_method.proofs.PivotLaws.{same_or_not}
 use Rattle.written_method.proofs.RunLaws.{answer-pivot}
-use Rattle.kept_method.specs.Kept.{IsPrimitive, IsArtificial, IsKept}
-use Rattle.kept_method.specs.KeptRounds.{KeptState, shown_state, home_line, rough_line, rough_lines, kept_entering, kept_leaving, kept_due, start_state, started, IsFirst}
-use Rattle.kept_method.proofs.PrimitiveLaws.{negated_line-IsPrimitive}
-use Rattle.kept_method.proofs.ClearedTwice.{length-negated, entry_of-negated}
-use Rattle.kept_method.proofs.StateLaws.{IsKeptState, in_lines, length-rough, lines_length}
-use Rattle.kept_method.proofs.AnswerLaws.{entering-IsEntering}
+use Rattle.simplex_core.specs.Kept.{IsPrimitive, IsArtificial, IsKept}
+use Rattle.simplex_core.specs.KeptRounds.{KeptState, shown_state, home_line, rough_line, rough_lines, kept_entering, kept_leaving, kept_due, start_state, started, IsFirst}
+use Rattle.simplex_core.proofs.PrimitiveLaws.{negated_line-IsPrimitive}
+use Rattle.simplex_core.proofs.ClearedTwice.{length-negated, entry_of-negated}
+use Rattle.simplex_core.proofs.StateLaws.{IsKeptState, in_lines, length-rough, lines_length}
+use Rattle.simplex_core.proofs.AnswerLaws.{entering-IsEntering}
 
 -- ---- the first pivot
 

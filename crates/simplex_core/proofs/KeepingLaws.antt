@@ -9,10 +9,10 @@ use Rattle.written_method.specs.Tableaus.{Tableau, line_of, basic_of, rows_of, n
 use Rattle.written_method.specs.Basis.{IsShaped}
 use Rattle.written_method.proofs.PivotLaws.{length-pivoted, rows_of-pivoted, line_of-pivoted, line_of-other, same_or_not}
 use Rattle.written_method.proofs.BasisLaws.{IsShaped-pivoted}
-use Rattle.kept_method.specs.Kept.{IsPrimitive, IsArtificial, IsKept, exchanged}
-use Rattle.kept_method.proofs.PrimitiveLaws.{cleared-IsPrimitive, negated_line-IsPrimitive}
-use Rattle.kept_method.proofs.ClearedTwice.{turned-positive, length-negated}
-use Rattle.kept_method.proofs.KeptLaws.{IsChosen, chosen-AreReady, length-exchanged, rows_of-exchanged, exchanged-home, exchanged-row, exchanged-other}
+use Rattle.simplex_core.specs.Kept.{IsPrimitive, IsArtificial, IsKept, exchanged}
+use Rattle.simplex_core.proofs.PrimitiveLaws.{cleared-IsPrimitive, negated_line-IsPrimitive}
+use Rattle.simplex_core.proofs.ClearedTwice.{turned-positive, length-negated}
+use Rattle.simplex_core.proofs.KeptLaws.{IsChosen, chosen-AreReady, length-exchanged, rows_of-exchanged, exchanged-home, exchanged-row, exchanged-other}
 
 -- a line without an entry in the column stays
 pub cleared-stays : (c : ℕ) (pivot line : Line) → entry_of line c ≡ pos 0 → cleared c pivot line ≡ line

@@ -14,11 +14,11 @@ use Rattle.written_method.specs.Tableaus.{line_of, rows_of, no_line}
 use Rattle.written_method.specs.Rounds.{step_of}
 use Rattle.written_method.proofs.CombinedLaws.{IsCleared, cleared-IsCleared}
 use Rattle.written_method.proofs.PivotLaws.{length-pivoted, line_of-pivoted, line_of-other, same_or_not}
-use Rattle.kept_method.specs.Kept.{shown}
-use Rattle.kept_method.specs.KeptRounds.{KeptState, shown_state, home_line, rough_line, rough_lines}
-use Rattle.kept_method.specs.Widths.{AllWithin, AreSizes, late_size, late_entry, IsNarrow, IsNarrowByBits}
-use Rattle.kept_method.proofs.StateLaws.{IsKeptState, in_lines, get_or-all_less, lines_length}
-use Rattle.kept_method.proofs.WidthLaws.{size-times, size-minus, pivot_formed-fits}
+use Rattle.simplex_core.specs.Kept.{shown}
+use Rattle.simplex_core.specs.KeptRounds.{KeptState, shown_state, home_line, rough_line, rough_lines}
+use Rattle.simplex_core.specs.Widths.{AllWithin, AreSizes, late_size, late_entry, IsNarrow, IsNarrowByBits}
+use Rattle.simplex_core.proofs.StateLaws.{IsKeptState, in_lines, get_or-all_less, lines_length}
+use Rattle.simplex_core.proofs.WidthLaws.{size-times, size-minus, pivot_formed-fits}
 
 -- ---- lists
 

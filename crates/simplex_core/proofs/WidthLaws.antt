@@ -14,7 +14,7 @@ use Rattle.exact_num.proofs.StepLaws.{all_fit-nil, all_fit-cons, all_fit-append}
 use Rattle.row_core.specs.Numbers.{is_zero}
 use Rattle.written_method.specs.Lines.{Line, entry_of, numbers_of, factor_of, less_formed, all_less_formed, cleared_formed}
 use Rattle.written_method.specs.Tableaus.{Tableau, line_of, no_line, others, pivot_formed}
-use Rattle.kept_method.specs.Widths.{AllWithin}
+use Rattle.simplex_core.specs.Widths.{AllWithin}
 
 -- ---- one number
 

@@ -12,12 +12,12 @@ use Rattle.written_method.specs.Rounds.{Due, Pivot, NoColumn, NoRow, step_of}
 use Rattle.written_method.specs.Runs.{Infeasible, PivotDue, Ended, answer}
 use Rattle.written_method.proofs.LeavingLaws.{IsLeast, leaving-IsLeast}
 use Rattle.written_method.proofs.RunLaws.{answer-pivot, answer-no_column, answer-due}
-use Rattle.kept_method.specs.KeptRounds.{KeptState, shown_state, home_line, rough_line, rough_lines, kept_entering, kept_leaving, kept_due, next_kept, left_kept}
-use Rattle.kept_method.proofs.PrimitiveLaws.{AreProportional}
-use Rattle.kept_method.proofs.KeptLaws.{IsChosen}
-use Rattle.kept_method.proofs.KeepingLaws.{IsKept-exchanged}
-use Rattle.kept_method.proofs.ChoiceLaws.{lt_fact, less_scaled}
-use Rattle.kept_method.proofs.StateLaws.{IsKeptState, in_lines, rough-AreProportional, due-kept, after-kept, after-left}
+use Rattle.simplex_core.specs.KeptRounds.{KeptState, shown_state, home_line, rough_line, rough_lines, kept_entering, kept_leaving, kept_due, next_kept, left_kept}
+use Rattle.simplex_core.proofs.PrimitiveLaws.{AreProportional}
+use Rattle.simplex_core.proofs.KeptLaws.{IsChosen}
+use Rattle.simplex_core.proofs.KeepingLaws.{IsKept-exchanged}
+use Rattle.simplex_core.proofs.ScaledChoiceLaws.{lt_fact, less_scaled}
+use Rattle.simplex_core.proofs.StateLaws.{IsKeptState, in_lines, rough-AreProportional, due-kept, after-kept, after-left}
 use Rattle.exact_num.proofs.Ring.{zero-*ℤ}
 
 -- ---- what a choice shows

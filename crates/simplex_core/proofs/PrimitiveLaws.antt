@@ -15,7 +15,7 @@ use Rattle.row_core.proofs.RowLaws.{times_all}
 use Rattle.row_core.proofs.WrittenLaws.{row_divisor-is, numbers_divided, times_all-divided}
 use Rattle.written_method.specs.Lines.{Line, entry_of, numbers_of, factor_of, line_less, lowest_line, cleared}
 use Rattle.written_method.specs.Tableaus.{negated_line}
-use Rattle.kept_method.specs.Kept.{IsPrimitive}
+use Rattle.simplex_core.specs.Kept.{IsPrimitive}
 
 -- ---- lists
 

@@ -6,8 +6,8 @@ use Rattle.std.proofs.Math.ListN.{length-set}
 use Rattle.written_method.specs.Lines.{Line, entry_of, cleared}
 use Rattle.written_method.specs.Tableaus.{Tableau, line_of, basic_of, rows_of, no_line, pivoted, negated_line}
 use Rattle.written_method.proofs.PivotLaws.{length-pivoted, line_of-pivoted, line_of-other, same_or_not}
-use Rattle.kept_method.specs.Kept.{IsKept, shown, exchanged}
-use Rattle.kept_method.proofs.ClearedTwice.{AreReady, turned, cleared-other, cleared-row, cleared-home, cleared-last}
+use Rattle.simplex_core.specs.Kept.{IsKept, shown, exchanged}
+use Rattle.simplex_core.proofs.ClearedTwice.{AreReady, turned, cleared-other, cleared-row, cleared-home, cleared-last}
 
 -- ---- lists and tableaus
 

@@ -8,8 +8,8 @@ use Rattle.written_method.specs.Lines.{Line, entry_of, cleared}
 use Rattle.written_method.specs.Tableaus.{negated_line}
 use Rattle.written_method.proofs.CombinedLaws.{IsCleared, cleared-IsCleared}
 use Rattle.written_method.proofs.BasisLaws.{length-cleared}
-use Rattle.kept_method.specs.Kept.{IsPrimitive}
-use Rattle.kept_method.proofs.PrimitiveLaws.{same_lines, cleared-IsPrimitive, negated_line-IsPrimitive}
+use Rattle.simplex_core.specs.Kept.{IsPrimitive}
+use Rattle.simplex_core.proofs.PrimitiveLaws.{same_lines, cleared-IsPrimitive, negated_line-IsPrimitive}
 
 -- ---- identities; r, k and l are the numbers of x0's row, of the row that the method pivots in, and of the line: in columns c, d and j
 
