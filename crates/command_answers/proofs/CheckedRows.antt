@@ -11,7 +11,7 @@ use Rattle.row_core.specs.Values.{IsOver}
 use Rattle.named_equations.specs.Existence.{all_variables}
 use Rattle.named_equations.specs.Instances.{instances}
 use Rattle.named_equations.specs.Plans.{Feasible, MeetsEach, cost}
-use Rattle.named_equations.proofs.InstanceTests.{Has, Has-from_Contains, Contains-from_Has}
+use Rattle.row_core.proofs.Members.{Has, Has-from_Contains, Contains-from_Has}
 use Rattle.row_book.specs.Books.{AreRowsOf}
 use Rattle.certificate_checker.specs.Certificates.{AdmitsNone, BoundsAll}
 use Rattle.certificate_checker.specs.Costs.{cost_of, model_cost}

@@ -13,7 +13,8 @@ use Rattle.row_core.proofs.AscendingLaws.{both_passed}
 use Rattle.named_equations.specs.Existence.{exists, exists_at, kind_numbers, subscripts_of_kind}
 use Rattle.named_equations.specs.Instances.{equation_numbers, instances, is_index, is_instance, is_one_of, is_value_at, set_at, stands_at, subscripts_of}
 use Rattle.named_equations.specs.Positions.{count_of}
-use Rattle.named_equations.proofs.InstanceTests.{Has, Has-instances}
+use Rattle.row_core.proofs.Members.{Has}
+use Rattle.named_equations.proofs.InstanceTests.{Has-instances}
 use Rattle.row_book.specs.Books.{AreRowsOf, HasNameWithin, IsWithinSets}
 use Rattle.plan_files.specs.Listed.{HasUnusedZero, IsListedRow, IsListedVariable, name_of_row}
 

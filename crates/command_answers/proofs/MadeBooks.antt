@@ -9,7 +9,7 @@ use Rattle.row_core.specs.Numbers.{ascends}
 use Rattle.row_core.specs.Order.{var_cmp}
 use Rattle.named_equations.specs.Existence.{exists}
 use Rattle.named_equations.specs.Instances.{instances}
-use Rattle.named_equations.proofs.InstanceTests.{Has-from_Contains}
+use Rattle.row_core.proofs.Members.{Has-from_Contains}
 use Rattle.row_book.specs.Books.{AreRowsOf, HasNameWithin, IsWithinSets}
 use Rattle.row_book.proofs.Lists.{all-has}
 use Rattle.command_answers.specs.CheckedPlans.{IsBookOf, IsListedBook}

@@ -24,7 +24,8 @@ use Rattle.named_equations.specs.Plans.{cost}
 use Rattle.named_equations.specs.Positions.{regions, all_years}
 use Rattle.named_equations.specs.Variables.{total_discounted_cost, variable}
 use Rattle.named_equations.proofs.InstanceOrder.{variables-ascend, from_rr, from_l, from_t, from_f, from_e, from_m, from_y}
-use Rattle.named_equations.proofs.InstanceTests.{Has, Has-from_Contains, Contains-from_Has, Contains-variables}
+use Rattle.row_core.proofs.Members.{Has, Has-from_Contains, Contains-from_Has}
+use Rattle.named_equations.proofs.InstanceTests.{Contains-variables}
 
 -- ---- one list of variables
 

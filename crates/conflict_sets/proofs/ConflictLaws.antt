@@ -17,7 +17,7 @@ use Rattle.row_core.specs.Order.{row_name_cmp}
 use Rattle.row_core.specs.Plans.{value_in, valued}
 use Rattle.row_core.specs.Values.{IsOver}
 use Rattle.row_core.proofs.AscendingLaws.{both_passed}
-use Rattle.named_equations.proofs.InstanceTests.{Contains-from_Has, Has, Has-from_Contains, filter_parts}
+use Rattle.row_core.proofs.Members.{Contains-from_Has, Has, Has-from_Contains, filter_parts}
 use Rattle.row_book.specs.Kept.{IsBook}
 use Rattle.certificate_checker.specs.Certificates.{AdmitsNone, AreMultipliersOver, Refutes}
 use Rattle.certificate_checker.specs.Sums.{HasVariablesOf}

@@ -18,8 +18,8 @@ use Rattle.certificate_checker.specs.Certificates.{AreMultipliersOver}
 use Rattle.certificate_checker.specs.Denominators.{AreOverSome}
 use Rattle.simplex_core.specs.Outcomes.{MeetAll, RefuteAll}
 use Rattle.std.proofs.lemmas.List.{length-map}
-use Rattle.named_equations.proofs.InstanceTests.{Contains-from_Has, Has, Has-from_Contains}
-use Rattle.row_book.specs.Books.{entry_variables}
+use Rattle.row_core.proofs.Members.{Contains-from_Has, Has, Has-from_Contains}
+use Rattle.row_core.specs.RowLists.{entry_variables, names_of}
 use Rattle.written_method.specs.Definitions.{Definition, defined, definitions_of, others_of, rows_of}
 use Rattle.written_method.specs.Lifted.{lifted, right_side}
 use Rattle.variable_elimination.specs.Certified.{CarriesSum}
@@ -38,7 +38,6 @@ use Rattle.exact_solver.proofs.BookLaws.{book_known, book_signs, book_triangular
 use Rattle.exact_solver.proofs.CarriedWords.{becomes_plan, becomes_refutation}
 use Rattle.conflict_sets.specs.Pieces.{IsTriedOf, tests_of}
 use Rattle.written_method.specs.Multiplied.{multiplier_steps, named_multipliers}
-use Rattle.variable_elimination.specs.RowNames.{names_of}
 use Rattle.exact_solver.specs.Programs.{name_left, scale_left}
 use Rattle.conflict_sets.specs.Trials.{rows_tried, rows_with, tried_multipliers, tried_steps}
 use Rattle.conflict_sets.proofs.PlannedLaws.{carries-tried}

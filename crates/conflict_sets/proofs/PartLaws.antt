@@ -11,7 +11,7 @@ use Rattle.row_core.specs.declared.Var.{Var}
 use Rattle.row_core.specs.Kinds.{kind_is_free}
 use Rattle.row_core.specs.Numbers.{variables_of}
 use Rattle.row_core.specs.Rows.{number_at}
-use Rattle.named_equations.proofs.InstanceTests.{Contains-from_Has, Has, Has-append_left, Has-append_right, Has-from_Contains}
+use Rattle.row_core.proofs.Members.{Contains-from_Has, Has, Has-append_left, Has-append_right, Has-from_Contains}
 use Rattle.certificate_checker.specs.Certificates.{AreSigned, AreWithin, IsWithin, Refutes}
 use Rattle.certificate_checker.specs.Costs.{no_cost}
 use Rattle.certificate_checker.specs.Plans.{AllStand, MeetsAll}

@@ -10,7 +10,7 @@ use Rattle.row_core.specs.Numbers.{ascends, before_first}
 use Rattle.row_core.specs.Order.{row_name_cmp}
 use Rattle.row_core.proofs.AscendingLaws.{ascends-first, ascends-skip, ascends-tail, both_passed, test-from_Less}
 use Rattle.row_core.proofs.Orders.{row_name_cmp_exact, row_name_cmp_total}
-use Rattle.named_equations.proofs.InstanceTests.{Contains-from_Has, Has, filter_parts}
+use Rattle.row_core.proofs.Members.{Contains-from_Has, Has, filter_parts}
 use Rattle.variable_elimination.proofs.LiftLaws.{alike}
 use Rattle.exact_solver.specs.Sizes.{is_unequal}
 use Rattle.conflict_sets.specs.Conflicts.{inequalities}

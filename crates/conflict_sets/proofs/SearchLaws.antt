@@ -10,7 +10,7 @@ use Rattle.row_core.specs.declared.Var.{Var}
 use Rattle.row_core.specs.Numbers.{ascends, keys_of}
 use Rattle.row_core.specs.Order.{row_name_cmp}
 use Rattle.row_core.proofs.AscendingLaws.{both_passed}
-use Rattle.named_equations.proofs.InstanceTests.{Contains-from_Has, Has, Has-from_Contains, filter_parts}
+use Rattle.row_core.proofs.Members.{Contains-from_Has, Has, Has-from_Contains, filter_parts}
 use Rattle.row_book.specs.Kept.{IsBook}
 use Rattle.exact_solver.specs.MethodEnds.{plan_cost}
 use Rattle.exact_solver.specs.Sizes.{is_unequal}

@@ -6,7 +6,7 @@ use Rattle.row_core.specs.declared.Row.{Row}
 use Rattle.row_core.specs.declared.RowName.{RowName}
 use Rattle.row_core.specs.declared.Var.{Var}
 use Rattle.row_core.specs.Order.{row_name_cmp}
-use Rattle.named_equations.proofs.InstanceTests.{Contains-from_Has, Has}
+use Rattle.row_core.proofs.Members.{Contains-from_Has, Has}
 use Rattle.row_book.specs.Kept.{IsBook}
 use Rattle.certificate_checker.specs.Certificates.{AreMultipliersOver, Refutes}
 use Rattle.certificate_checker.specs.Plans.{MeetsAll}

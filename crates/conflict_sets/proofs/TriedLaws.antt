@@ -23,7 +23,7 @@ use Rattle.variable_elimination.specs.Eliminations.{AreAmongReductions, IsPartOf
 use Rattle.variable_elimination.specs.Left.{AvoidAll}
 use Rattle.variable_elimination.specs.ReducedRows.{AreReductions, IsReduction, Shape, shape_of}
 use Rattle.variable_elimination.specs.Reductions.{multiples_of}
-use Rattle.variable_elimination.specs.RowNames.{names_of}
+use Rattle.row_core.specs.RowLists.{names_of}
 use Rattle.exact_solver.specs.BookPrograms.{IsProgramOf}
 use Rattle.exact_solver.specs.Programs.{inequality_in, name_left, program_left, rows_left, scale_left}
 use Rattle.exact_solver.specs.declared.books.BookProgram.{BookProgram}

@@ -13,8 +13,8 @@ use Rattle.row_core.specs.Numbers.{ascends, is_zero, keys_of}
 use Rattle.row_core.specs.Order.{row_name_cmp}
 use Rattle.row_core.specs.Plans.{or_zero, value_in}
 use Rattle.row_core.proofs.AscendingLaws.{ascends-tail}
-use Rattle.named_equations.proofs.InstanceTests.{Has, Has-from_Contains, filter_parts}
-use Rattle.row_book.specs.Books.{names_of}
+use Rattle.row_core.proofs.Members.{Has, Has-from_Contains, filter_parts}
+use Rattle.row_core.specs.RowLists.{names_of}
 use Rattle.row_book.specs.Kept.{IsBook}
 use Rattle.written_method.specs.Definitions.{Definition, definitions_of, AreTriangular}
 use Rattle.written_method.specs.Eliminated.{ReducedRow}

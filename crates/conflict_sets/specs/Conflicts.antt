@@ -11,7 +11,7 @@ use Rattle.row_core.specs.declared.Var.{Var}
 use Rattle.row_core.specs.Numbers.{ascends, keys_of}
 use Rattle.row_core.specs.Order.{row_name_cmp, var_cmp}
 use Rattle.row_core.specs.Plans.{value_in}
-use Rattle.row_book.specs.Books.{names_of}
+use Rattle.row_core.specs.RowLists.{names_of}
 use Rattle.certificate_checker.specs.Certificates.{AdmitsNone, AreMultipliersOver, Refutes}
 use Rattle.certificate_checker.specs.Denominators.{AreOverSome}
 use Rattle.certificate_checker.specs.Plans.{AreValuesOver, MeetsAll}

@@ -9,7 +9,7 @@ use Rattle.row_core.specs.declared.Var.{Var}
 use Rattle.row_core.specs.Numbers.{is_zero}
 use Rattle.row_core.specs.Order.{row_name_cmp}
 use Rattle.row_core.specs.Plans.{value_in, valued}
-use Rattle.row_book.specs.Books.{names_of}
+use Rattle.row_core.specs.RowLists.{names_of}
 use Rattle.simplex_core.specs.declared.stops.Stop.{Stop}
 use Rattle.simplex_core.specs.declared.stops.Stop.TheVariants.{Budget, Width, Trial}
 use Rattle.simplex_core.specs.declared.stops.TrialStop.TheVariants as trials

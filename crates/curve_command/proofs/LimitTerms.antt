@@ -16,7 +16,8 @@ use Rattle.row_core.specs.Order.{row_name_cmp}
 use Rattle.named_equations.specs.Instances.{equation_numbers, indices, instances, instances_of, is_index, is_instance, name_at, stands_at, subscripts_of}
 use Rattle.named_equations.specs.Plans.{says}
 use Rattle.named_equations.specs.Within.{IsEmission, IsRegion}
-use Rattle.named_equations.proofs.InstanceTests.{Has, indices-pass, range_parts}
+use Rattle.row_core.proofs.Members.{Has}
+use Rattle.named_equations.proofs.InstanceTests.{indices-pass, range_parts}
 use Rattle.named_equations.proofs.SameValues.{◌also◌}
 use Rattle.named_equations.proofs.TermMeaning.{EachFrom, at_number}
 use Rattle.plan_quantities.proofs.MovedRows.{name-itself, same-name}

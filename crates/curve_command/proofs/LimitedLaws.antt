@@ -34,7 +34,8 @@ use Rattle.named_equations.specs.Plans.{Feasible, Meets, MeetsEach, says}
 use Rattle.named_equations.specs.Variables.{model_period_emissions}
 use Rattle.named_equations.specs.Where.{is_limit}
 use Rattle.named_equations.specs.Within.{IsEmission, IsRegion}
-use Rattle.named_equations.proofs.InstanceTests.{Has, Has-instances, any_has, range_parts}
+use Rattle.row_core.proofs.Members.{Has}
+use Rattle.named_equations.proofs.InstanceTests.{Has-instances, any_has, range_parts}
 use Rattle.named_equations.proofs.PositionsInSets.{are_in_sets}
 use Rattle.named_equations.proofs.SameValues.{◌also◌}
 use Rattle.named_equations.proofs.TermMeaning.{EachFrom, at_number}

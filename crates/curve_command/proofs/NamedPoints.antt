@@ -25,7 +25,8 @@ use Rattle.named_equations.specs.Plans.{Meets}
 use Rattle.named_equations.specs.RowMeaning.{IsNamedRow}
 use Rattle.named_equations.specs.Variables.{model_period_emissions, variable}
 use Rattle.named_equations.specs.Within.{IsEmission, IsRegion}
-use Rattle.named_equations.proofs.InstanceTests.{Contains-from_Has, Has, Has-instances}
+use Rattle.row_core.proofs.Members.{Contains-from_Has, Has}
+use Rattle.named_equations.proofs.InstanceTests.{Has-instances}
 use Rattle.named_equations.proofs.TermMeaning.{alone-self}
 use Rattle.plan_quantities.proofs.MovedRows.{name-itself, same-name}
 use Rattle.plan_quantities.proofs.PriceLaws.{entry_at, lessened, row-lessened, row-wider}

@@ -18,7 +18,8 @@ use Rattle.named_equations.specs.Instances.{instances, is_instance}
 use Rattle.named_equations.specs.Plans.{says}
 use Rattle.named_equations.specs.RowMeaning.{IsNamedRow}
 use Rattle.named_equations.proofs.InstanceOrder.{Sorted-instances}
-use Rattle.named_equations.proofs.InstanceTests.{Has, Has-instances}
+use Rattle.row_core.proofs.Members.{Has}
+use Rattle.named_equations.proofs.InstanceTests.{Has-instances}
 use Rattle.named_equations.proofs.SortedLists.{Every, Sorted}
 use Rattle.plan_quantities.proofs.MovedRows.{name-itself, same-name}
 use Rattle.row_book.specs.Books.{AreRowsOf, CanBeMade, entries_in, entry_count, entry_limit, row_fits}

@@ -29,7 +29,7 @@ use Rattle.certificate_checker.proofs.DualityLaws.{weak_duality, weighted-right}
 use Rattle.certificate_checker.proofs.SumLaws.{sum_over-same, sum_over-times}
 use Rattle.simplex_core.specs.declared.stops.TrialStop.TheVariants.{Width}
 use Rattle.exact_solver.specs.Solutions.{IsBound, IsPlan}
-use Rattle.named_equations.proofs.InstanceTests.{Has}
+use Rattle.row_core.proofs.Members.{Has}
 use Rattle.plan_quantities.proofs.MovedRows.{at_name, is_eq-reversed, later, names, same-name, weighted-none, weighted-plus}
 use Rattle.plan_quantities.proofs.PriceLaws.{fractions}
 use Rattle.emission_curve.specs.Ends.{HasLine, HasLineBelow, IsStopped, optimum_end}

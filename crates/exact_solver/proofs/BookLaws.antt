@@ -16,8 +16,8 @@ use Rattle.row_core.specs.Rows.{number_at}
 use Rattle.named_equations.specs.Instances.{subscripts_of, variable_of}
 use Rattle.named_equations.specs.Table.{other_trade}
 use Rattle.named_equations.specs.Variables.{trade, variable}
-use Rattle.named_equations.proofs.InstanceTests.{Contains-from_Has, Has, Has-flat_map, Has-from_Contains}
-use Rattle.row_book.specs.Books.{entry_variables}
+use Rattle.row_core.proofs.Members.{Contains-from_Has, Has, Has-flat_map, Has-from_Contains}
+use Rattle.row_core.specs.RowLists.{entry_variables}
 use Rattle.row_book.specs.Definitions.{IsAt, IsChosen, IsDefinedIn}
 use Rattle.row_book.specs.Kept.{IsBook}
 use Rattle.row_book.specs.Kinds.{tidied}

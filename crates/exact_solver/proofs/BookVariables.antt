@@ -6,8 +6,8 @@ use Rattle.row_core.specs.declared.Row.{Row}
 use Rattle.row_core.specs.declared.Var.{Var}
 use Rattle.row_core.specs.Numbers.{variables_of}
 use Rattle.row_core.specs.Rows.{number_at}
-use Rattle.named_equations.proofs.InstanceTests.{Contains-from_Has, Has, Has-append_left, Has-append_right, Has-from_Contains}
-use Rattle.row_book.specs.Books.{entry_variables}
+use Rattle.row_core.proofs.Members.{Contains-from_Has, Has, Has-append_left, Has-append_right, Has-from_Contains}
+use Rattle.row_core.specs.RowLists.{entry_variables}
 use Rattle.row_book.specs.Kept.{IsBook}
 use Rattle.written_method.specs.Definitions.{definitions_of, defined, is_among}
 use Rattle.written_method.specs.Eliminated.{column_entries, is_column}

@@ -25,8 +25,8 @@ use Rattle.row_core.specs.Rows.{number_at, row_sum}
 use Rattle.row_core.specs.Statements.{Stands}
 use Rattle.row_core.specs.Values.{IsOver}
 use Rattle.row_core.proofs.SumLaws.{IsOver-agree}
-use Rattle.row_book.specs.Books.{entry_variables}
-use Rattle.named_equations.proofs.InstanceTests.{Has}
+use Rattle.row_core.specs.RowLists.{entry_variables}
+use Rattle.row_core.proofs.Members.{Has}
 use Rattle.written_method.specs.declared.reduced.Reduced.{Reduced}
 use Rattle.written_method.specs.Certificates as solver
 use Rattle.written_method.specs.Definitions.{is_among}

@@ -14,8 +14,8 @@ use Rattle.row_core.specs.Numbers.{ascends, keys_of}
 use Rattle.row_core.specs.Order.{row_name_cmp, var_cmp}
 use Rattle.row_core.specs.Plans.{value_in}
 use Rattle.row_core.proofs.Orders.{var_cmp_exact}
-use Rattle.named_equations.proofs.InstanceTests.{Contains-from_Has, Has, Has-from_Contains}
-use Rattle.row_book.specs.Books.{names_of}
+use Rattle.row_core.proofs.Members.{Contains-from_Has, Has, Has-from_Contains}
+use Rattle.row_core.specs.RowLists.{names_of}
 use Rattle.row_book.specs.Kept.{IsBook}
 use Rattle.written_method.specs.Definitions.{Definition, definitions_of, defined, others_of}
 use Rattle.written_method.specs.Eliminated.{expanded_all, is_column, is_kept, reduced_row, reduced_rows}

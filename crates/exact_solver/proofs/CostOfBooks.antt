@@ -12,7 +12,7 @@ use Rattle.row_core.specs.Numbers.{ascends}
 use Rattle.row_core.specs.Order.{var_cmp}
 use Rattle.row_core.specs.Rows.{row_sum}
 use Rattle.row_core.specs.Values.{alone}
-use Rattle.named_equations.proofs.InstanceTests.{Has}
+use Rattle.row_core.proofs.Members.{Has}
 use Rattle.row_book.specs.Kept.{IsBook}
 use Rattle.written_method.specs.declared.reduced.Reduced.{Reduced}
 use Rattle.written_method.specs.Definitions.{defined, is_among}

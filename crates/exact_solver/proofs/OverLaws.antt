@@ -19,7 +19,7 @@ use Rattle.row_core.specs.Plans.{or_zero, value_in, valued}
 use Rattle.row_core.specs.Values.{IsOver}
 use Rattle.row_core.proofs.AscendingLaws.{ascends-tail}
 use Rattle.row_core.proofs.SumLaws.{IsOver-multiplied, IsOver-own}
-use Rattle.named_equations.proofs.InstanceTests.{Has}
+use Rattle.row_core.proofs.Members.{Has}
 use Rattle.written_method.specs.Certificates.{AreOverFrom, ValuesAreOver}
 use Rattle.certificate_checker.specs.Certificates.{AreMultipliersOver}
 use Rattle.variable_elimination.proofs.VariableLaws.{itself}

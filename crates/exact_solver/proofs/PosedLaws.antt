@@ -19,7 +19,7 @@ use Rattle.row_core.specs.Statements.{stands}
 use Rattle.row_core.specs.Values.{alone}
 use Rattle.row_core.proofs.AscendingLaws.{both_passed}
 use Rattle.row_core.proofs.MeaningLaws.{row_sum-alone}
-use Rattle.named_equations.proofs.InstanceTests.{Has, Has-from_Contains}
+use Rattle.row_core.proofs.Members.{Has, Has-from_Contains}
 use Rattle.row_book.specs.Definitions.{IsRepeatedIn}
 use Rattle.row_book.specs.Kept.{IsBook}
 use Rattle.written_method.specs.declared.reduced.Reduced.{Reduced}

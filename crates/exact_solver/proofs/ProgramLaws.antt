@@ -12,7 +12,7 @@ use Rattle.written_method.specs.Programs.{Inequality, LinearProgram, program_of}
 use Rattle.variable_elimination.specs.Columns.{AreColumns}
 use Rattle.variable_elimination.specs.CostRows.{IsCostOf}
 use Rattle.variable_elimination.specs.ReducedRows.{AreThese, Shape, scale_in, scale_worth, shape, shape_of}
-use Rattle.variable_elimination.specs.RowNames.{names_of}
+use Rattle.row_core.specs.RowLists.{names_of}
 use Rattle.exact_solver.specs.Programs.{cost_left, kept_scale, name_left, program_left, rows_left, scale_left}
 use Rattle.exact_solver.proofs.BookVariables.{columns-are}
 

@@ -8,7 +8,7 @@ use Rattle.row_core.specs.Numbers.{ascends, before_first}
 use Rattle.row_core.specs.Order.{var_cmp}
 use Rattle.row_core.proofs.AscendingLaws.{ascends-first, ascends-tail, test-from_Less}
 use Rattle.row_core.proofs.Orders.{var_cmp_total}
-use Rattle.named_equations.proofs.InstanceTests.{Has, Contains-from_Has}
+use Rattle.row_core.proofs.Members.{Has, Contains-from_Has}
 
 -- the first of an ascending list is before each other member
 pub first-before : (v : Var) (vs : List Var) (w : Var) → ascends var_cmp (v ∷ vs) ≡ true → Has vs w → var_cmp v w ≡ Less

@@ -10,7 +10,7 @@ use Rattle.written_method.specs.Ready.{IsPosed, IsReady}
 use Rattle.variable_elimination.specs.Columns.{AreColumns}
 use Rattle.variable_elimination.specs.Eliminations.{IsWhole}
 use Rattle.variable_elimination.specs.ReducedRows.{AreReductions}
-use Rattle.variable_elimination.specs.RowNames.{names_of}
+use Rattle.row_core.specs.RowLists.{names_of}
 use Rattle.exact_solver.specs.Definers.{definers}
 use Rattle.exact_solver.specs.Programs.{name_left, program_left, rows_left, scale_left}
 use Rattle.exact_solver.specs.declared.books.BookProgram.{BookProgram}

@@ -8,7 +8,7 @@ use Rattle.row_core.specs.declared.Var.{Var}
 use Rattle.row_core.specs.Numbers.{ascends, keys_of}
 use Rattle.row_core.specs.Order.{row_name_cmp, var_cmp}
 use Rattle.row_core.specs.Values.{IsOver}
-use Rattle.row_book.specs.Books.{names_of}
+use Rattle.row_core.specs.RowLists.{names_of}
 use Rattle.certificate_checker.specs.Certificates.{AdmitsNone, AreMultipliersOver, BoundsAll, CostsLess, Descends, Proves, Refutes, bound_of}
 use Rattle.certificate_checker.specs.Conditions.{AllPass}
 use Rattle.certificate_checker.specs.Costs.{cost_of, model_cost}

@@ -10,7 +10,7 @@ use Rattle.row_core.specs.declared.Var.{Var}
 use Rattle.row_core.specs.Kinds.{IsKind}
 use Rattle.row_core.specs.NameTexts.{VariableIsWithin}
 use Rattle.row_core.specs.Numbers.{keys_of}
-use Rattle.named_equations.proofs.InstanceTests.{Contains-from_Has, Has, Has-from_Contains}
+use Rattle.row_core.proofs.Members.{Contains-from_Has, Has, Has-from_Contains}
 use Rattle.row_book.proofs.Lists.{all-has}
 use Rattle.row_book.specs.Books.{HasNameWithin}
 use Rattle.command_answers.specs.CheckedPlans.{IsListedBook}

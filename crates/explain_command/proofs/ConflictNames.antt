@@ -10,7 +10,7 @@ use Rattle.row_core.specs.declared.Var.{Var}
 use Rattle.row_core.specs.Numbers.{keys_of}
 use Rattle.row_core.specs.Plans.{valued}
 use Rattle.named_equations.specs.Instances.{instances, variable_of}
-use Rattle.named_equations.proofs.InstanceTests.{Contains-from_Has, Has, Has-from_Contains}
+use Rattle.row_core.proofs.Members.{Contains-from_Has, Has, Has-from_Contains}
 use Rattle.row_book.specs.Books.{AreRowsOf}
 use Rattle.row_book.specs.Kept.{IsBook}
 use Rattle.exact_solver.specs.Sizes.{is_unequal}

@@ -11,7 +11,8 @@ use Rattle.row_core.specs.Statements.{Holds}
 use Rattle.named_equations.specs.Existence.{all_variables}
 use Rattle.named_equations.specs.Instances.{instances}
 use Rattle.named_equations.specs.Plans.{says}
-use Rattle.named_equations.proofs.InstanceTests.{Has, Has-instances}
+use Rattle.row_core.proofs.Members.{Has}
+use Rattle.named_equations.proofs.InstanceTests.{Has-instances}
 use Rattle.named_equations.proofs.SameInstances.{back, same-exists, same-feasible, same-instances, same-says}
 use Rattle.exact_solver.specs.Sizes.{column_count, inequality_count}
 use Rattle.command_answers.specs.declared.status.Status.{Status}

@@ -9,7 +9,7 @@ use Rattle.row_core.specs.declared.Var.{Var}
 use Rattle.row_core.specs.Numbers.{ascends}
 use Rattle.row_core.specs.Order.{row_name_cmp}
 use Rattle.row_core.specs.Plans.{value_in, valued}
-use Rattle.named_equations.proofs.InstanceTests.{Contains-from_Has, Has, Has-from_Contains}
+use Rattle.row_core.proofs.Members.{Contains-from_Has, Has, Has-from_Contains}
 use Rattle.certificate_checker.specs.Certificates.{Refutes}
 use Rattle.conflict_sets.specs.Conflicts.{IsConflict, is_member}
 use Rattle.conflict_sets.specs.Trials.{rows_with}

@@ -15,8 +15,9 @@ use Rattle.certificate_checker.specs.Plans.{MeetsAll}
 use Rattle.named_equations.specs.Existence.{all_variables, exists}
 use Rattle.named_equations.specs.Instances.{instances}
 use Rattle.named_equations.specs.Plans.{Feasible}
-use Rattle.named_equations.proofs.InstanceTests.{Contains-from_Has, Has}
-use Rattle.row_book.specs.Books.{AreRowsOf, AreVariablesOf, entry_variables}
+use Rattle.row_core.proofs.Members.{Contains-from_Has, Has}
+use Rattle.row_core.specs.RowLists.{AreVariablesOf, entry_variables}
+use Rattle.row_book.specs.Books.{AreRowsOf}
 use Rattle.row_book.proofs.Columns.{all-stand}
 use Rattle.row_book.proofs.Within.{variables-exist}
 use Rattle.command_answers.specs.CheckedPlans.{IsBookOf}

@@ -19,7 +19,8 @@ use Rattle.named_equations.specs.Plans.{Feasible, MeetsEach, meets, says}
 use Rattle.named_equations.specs.Variables.{new_capacity}
 use Rattle.named_equations.proofs.BaseFile.{base, base_sets, data_of, default, whole}
 use Rattle.named_equations.proofs.BasePlan.{best, best_meets_all}
-use Rattle.named_equations.proofs.InstanceTests.{Has, Has-variables}
+use Rattle.row_core.proofs.Members.{Has}
+use Rattle.named_equations.proofs.InstanceTests.{Has-variables}
 use Rattle.named_equations.proofs.Tables.{meets_all, tabled}
 use Rattle.named_equations.proofs.Trades.{both_ways, meets_both_ways, regional, routes_both_ways}
 

@@ -15,7 +15,8 @@ use Rattle.row_core.specs.Statements.{Holds}
 use Rattle.named_equations.specs.Existence.{defines_kind, definers, exists, exists_at, exists_everywhere, kind_numbers, subscripts_of_kind}
 use Rattle.named_equations.specs.Instances.{equation_numbers, indices, instances, instances_of, is_index, is_instance, name_at, stands_at, subscripts_of}
 use Rattle.named_equations.specs.Plans.{cost, Feasible, MeetsEach, says}
-use Rattle.named_equations.proofs.InstanceTests.{Has, any_has, filter_parts, Has-instances, indices-pass, range_parts}
+use Rattle.row_core.proofs.Members.{Has, filter_parts}
+use Rattle.named_equations.proofs.InstanceTests.{any_has, Has-instances, indices-pass, range_parts}
 use Rattle.named_equations.proofs.PositionsInSets.{AreInSets, are_in_sets}
 use Rattle.named_equations.proofs.SameEquations.{SaysSame, all-say}
 use Rattle.named_equations.proofs.SameStands.{StandsSame, all-stand}

@@ -8,7 +8,7 @@ use Rattle.model_sets.specs.Members.{SetLists, members}
 use Rattle.model_sets.specs.Params.{subscript_sets}
 use Rattle.named_equations.specs.Notation.{sum_over}
 use Rattle.named_equations.specs.Parameters.{value_of}
-use Rattle.named_equations.proofs.InstanceTests.{Has, Has-flat_map, Has-map, Contains-from_Has}
+use Rattle.row_core.proofs.Members.{Has, Has-flat_map, Has-map, Contains-from_Has}
 
 infixr 3 ◌also◌
 -- both of two facts, or what follows and more

@@ -2,7 +2,7 @@
 use Rattle.std.proofs.Common.{◌≡◌, ◌≢◌, ◌<◌, ◌≤◌, ℕ, inl, inr, List, [], ◌∷◌, length, Option, Some, None, IsSome, Result, Ok, refl, sym, ◌∙◌, subst, arith}
 use Rattle.std.specs.List.{AllByRecursion}
 use Rattle.std.specs.Prelude.{Contains}
-use Rattle.named_equations.proofs.InstanceTests.{Contains-from_Has, Has}
+use Rattle.row_core.proofs.Members.{Contains-from_Has, Has}
 use Rattle.command_answers.specs.Accepted.{most_bytes}
 use Rattle.io_edges.specs.Count.{Rose}
 use Rattle.io_edges.specs.Edges.{Lacks}

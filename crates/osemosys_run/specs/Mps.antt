@@ -3,7 +3,8 @@ use Rattle.std.specs.Prelude.{◌≡◌, ℕ, List, ◌⊎◌}
 use Rattle.model_sets.specs.Data.{Data}
 use Rattle.mps_writer.specs.MpsText.{mps_text}
 use Rattle.named_equations.specs.Instances.{instances}
-use Rattle.row_book.specs.Books.{AreRowsOf, AreVariablesOf, CanBeMade}
+use Rattle.row_core.specs.RowLists.{AreVariablesOf}
+use Rattle.row_book.specs.Books.{AreRowsOf, CanBeMade}
 use Rattle.row_core.specs.declared.Row.{Row}
 use Rattle.row_core.specs.declared.Var.{Var}
 use Rattle.command_answers.specs.declared.status.Status.{Status}

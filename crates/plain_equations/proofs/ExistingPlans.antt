@@ -15,7 +15,8 @@ use Rattle.named_equations.specs.Notation.{sum_over}
 use Rattle.named_equations.specs.Plans.{Feasible, MeetsEach, cost, says}
 use Rattle.named_equations.specs.Positions.{all_years, count_of}
 use Rattle.named_equations.specs.Variables.{total_discounted_cost}
-use Rattle.named_equations.proofs.InstanceTests.{Has, Has-instances}
+use Rattle.row_core.proofs.Members.{Has}
+use Rattle.named_equations.proofs.InstanceTests.{Has-instances}
 use Rattle.plain_equations.specs.Occurrences.{AgreeOnExisting}
 
 -- at its instances the equation says the same of two plans that agree on the variables that exist

@@ -23,7 +23,8 @@ use Rattle.named_equations.specs.Salvage.{has_sv1, has_sv2}
 use Rattle.named_equations.specs.Variables.{rate_of_activity, new_capacity, trade, accumulated_new_capacity, total_capacity_annual, rate_of_total_activity, rate_of_production_by_technology_by_mode, rate_of_production_by_technology, rate_of_use_by_technology_by_mode, rate_of_use_by_technology, trade_annual, production_by_technology, use_by_technology, total_annual_technology_activity_by_mode, capital_investment, discounted_capital_investment, salvage_value, discounted_salvage_value, annual_variable_operating_cost, annual_fixed_operating_cost, operating_cost, discounted_operating_cost, annual_technology_emission_by_mode, annual_technology_emission, annual_technology_emission_penalty_by_emission, annual_technology_emissions_penalty, discounted_technology_emissions_penalty, total_discounted_cost_by_technology, total_discounted_cost, total_technology_annual_activity, production_by_technology_annual, use_by_technology_annual, annual_emissions}
 use Rattle.named_equations.specs.Where.{emits_in_mode, emitting_modes, produces, produces_in_mode, producing_modes, uses, uses_in_mode, using_modes}
 use Rattle.named_equations.specs.WrittenFactors.{annuity_of, capital_factor_of, operating_factor_of, recovery_factor_of, salvage_fraction_of}
-use Rattle.named_equations.proofs.InstanceTests.{Has, Has-instances}
+use Rattle.row_core.proofs.Members.{Has}
+use Rattle.named_equations.proofs.InstanceTests.{Has-instances}
 use Rattle.plan_quantities.specs.CostSums.{paid_for_one, part_left, two_factors}
 use Rattle.row_book.proofs.Subscripts.{AreValues, In, index-from_values, values-rltfmy, values-rltfy, values-rlty, values-rrrfy, values-rtfy, values-rtemy, values-rtey, values-rtmy, values-rty, values-rey, values-ry}
 

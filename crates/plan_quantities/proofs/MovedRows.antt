@@ -20,7 +20,7 @@ use Rattle.row_core.specs.Values.{alone}
 use Rattle.row_core.proofs.AscendingLaws.{ascends-first, ascends-tail}
 use Rattle.row_core.proofs.Orders.{row_name_cmp_exact, row_name_cmp_total}
 use Rattle.certificate_checker.specs.Sums.{weighted}
-use Rattle.named_equations.proofs.InstanceTests.{Contains-from_Has, Has, Has-map}
+use Rattle.row_core.proofs.Members.{Contains-from_Has, Has, Has-map}
 
 -- ---- one row
 

@@ -39,13 +39,15 @@ use Rattle.named_equations.specs.Positions.{all_years, regions}
 use Rattle.named_equations.specs.RowMeaning.{IsNamedRow}
 use Rattle.named_equations.specs.Variables.{demand, production, total_discounted_cost, trade, use_of_fuel, variable}
 use Rattle.named_equations.proofs.InstanceOrder.{instances-ascend, variables-ascend}
-use Rattle.named_equations.proofs.InstanceTests.{Contains-from_Has, Contains-variables, Has, Has-from_Contains, Has-instances, Has-map, Has-variables}
+use Rattle.row_core.proofs.Members.{Contains-from_Has, Has, Has-from_Contains, Has-map}
+use Rattle.named_equations.proofs.InstanceTests.{Contains-variables, Has-instances, Has-variables}
 use Rattle.named_equations.proofs.TermMeaning.{alone-self, sum_over-same, sum_over-times}
 use Rattle.plan_quantities.specs.Prices.{FeasibleWithMore, IsPromised, balance_at, price_of, price_over, production_entry, says_more}
 use Rattle.plan_quantities.proofs.ModelCost.{cost-of_all}
 use Rattle.plan_quantities.proofs.MovedRows.{Stands-moved, at_name, moved, name-itself, names, row_sum-moved, same-name, weighted-one, weighted-plus}
 use Rattle.row_book.proofs.Subscripts.{index-tidied, values-from_index}
-use Rattle.row_book.specs.Books.{AreRowsOf, entry_variables}
+use Rattle.row_core.specs.RowLists.{entry_variables}
+use Rattle.row_book.specs.Books.{AreRowsOf}
 use Rattle.row_book.specs.EquationRows.{terms_at}
 use Rattle.row_book.proofs.Instances.{instance-parts}
 use Rattle.row_book.proofs.Lists.{all-has}

@@ -11,8 +11,8 @@ use Rattle.row_core.specs.Rows.{number_at}
 use Rattle.row_core.proofs.Orders.{var_cmp_exact}
 use Rattle.named_equations.specs.Instances.{variable_of}
 use Rattle.named_equations.specs.Variables.{capital_investment, new_capacity, production, rate_of_production, trade}
-use Rattle.named_equations.proofs.InstanceTests.{Contains-from_Has, Has, Has-from_Contains}
-use Rattle.row_book.specs.Books.{entry_variables}
+use Rattle.row_core.proofs.Members.{Contains-from_Has, Has, Has-from_Contains}
+use Rattle.row_core.specs.RowLists.{entry_variables}
 use Rattle.row_book.specs.Definitions.{Defines}
 use Rattle.row_book.specs.Kept.{IsBook, IsDefinedAt}
 use Rattle.row_book.specs.Signs.{IsBounded, IsMadeOfParts}

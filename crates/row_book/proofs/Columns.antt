@@ -30,10 +30,11 @@ use Rattle.named_equations.specs.RowMeaning.{IsNamedRow}
 use Rattle.named_equations.specs.TermShapes.{is_made_of, sum_away}
 use Rattle.named_equations.specs.Variables.{accumulated_new_capacity, new_capacity, rate_of_activity, rate_of_total_activity, trade, variable}
 use Rattle.named_equations.specs.WrittenFactors.{life_of}
-use Rattle.named_equations.proofs.InstanceTests.{Has}
+use Rattle.row_core.proofs.Members.{Has}
 use Rattle.named_equations.proofs.TermMeaning.{alone-self}
 use Rattle.param_tables.specs.Built.{AreComplete}
-use Rattle.row_book.specs.Books.{AreRowsOf, entry_variables}
+use Rattle.row_core.specs.RowLists.{entry_variables}
+use Rattle.row_book.specs.Books.{AreRowsOf}
 use Rattle.row_book.specs.Definitions.{IsChosen}
 use Rattle.row_book.specs.EquationRows.{terms_at}
 use Rattle.row_book.proofs.Definers.{exists-within, is-found}

@@ -18,7 +18,7 @@ use Rattle.named_equations.specs.Salvage.{by_sinking_fund, by_straight_line, has
 use Rattle.named_equations.specs.Table.{other_trade}
 use Rattle.named_equations.specs.Variables.{trade, variable}
 use Rattle.named_equations.specs.WrittenFactors.{method_of, rate_of}
-use Rattle.named_equations.proofs.InstanceTests.{Has}
+use Rattle.row_core.proofs.Members.{Has}
 use Rattle.named_equations.proofs.TermMeaning.{EachFrom, at_number}
 use Rattle.row_book.specs.Definitions.{IsChosen}
 use Rattle.row_book.specs.EquationRows.{terms_at}

@@ -1,6 +1,6 @@
 -- Being an element of what a filter keeps, and of what is mapped.
 use Rattle.std.proofs.Common.{◌≡◌, Bool, true, false, cond, ◌⊎◌, inl, inr, List, [], ◌∷◌, map, filter, ap, sym, ◌∙◌, refl, subst}
-use Rattle.named_equations.proofs.InstanceTests.{Has}
+use Rattle.row_core.proofs.Members.{Has}
 
 has_kept : {A : Type 0} (b : Bool) (z x : A) (ys : List A) → Has ys x → Has (cond b (z ∷ ys) ys) x
 has_kept true z x ys h = inr h

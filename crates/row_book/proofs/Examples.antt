@@ -19,7 +19,8 @@ use Rattle.row_core.specs.Order.{row_name_cmp, var_cmp}
 use Rattle.named_equations.specs.Indices.{at_rrrlfy, by_rltfmy, index}
 use Rattle.named_equations.specs.Instances.{instances, name_at, variable_of}
 use Rattle.named_equations.specs.Variables.{new_capacity, rate_of_production_by_technology_by_mode, trade, variable}
-use Rattle.row_book.specs.Books.{AreRowsOf, AreVariablesOf, CanBeMade, HasTooMany, IsTooWide, entries_in, row_fits}
+use Rattle.row_core.specs.RowLists.{AreVariablesOf}
+use Rattle.row_book.specs.Books.{AreRowsOf, CanBeMade, HasTooMany, IsTooWide, entries_in, row_fits}
 use Rattle.row_book.specs.Definitions.{AreTriangular, Defines, IsChosen, cost_of}
 use Rattle.row_book.specs.EquationRows.{is_from, terms_at}
 use Rattle.row_book.specs.Ratios.{cells_of_ratio, cells_of_some_mode}

@@ -18,7 +18,8 @@ use Rattle.row_book.specs.FeedStates.{IsFeed}
 use Rattle.row_book.specs.Held.{AreHeld, KeepsRows, held_variables}
 use Rattle.row_book.specs.KindVariables.{is_before_kind, is_of_kind, next_kind}
 use Rattle.row_book.specs.Tallies.{AreSortedVariables, AreTallied, Counts, Marks, MarksMore, found_variables, kind_room, marked, names_to, rows_before}
-use Rattle.row_book.specs.Books.{AreRowsOf, entry_variables, row_fits}
+use Rattle.row_core.specs.RowLists.{entry_variables}
+use Rattle.row_book.specs.Books.{AreRowsOf, row_fits}
 use Rattle.row_book.specs.declared.held_rows.HeldRows.{HeldRows}
 use Rattle.row_book.specs.declared.tally.Tally.{Tally}
 use Rattle.discount_factors.specs.Known.{Discounting}

@@ -11,7 +11,7 @@ use Rattle.model_sets.specs.declared.param_numbers.TheConstants.{OPERATIONAL_LIF
 use Rattle.model_sets.specs.Params.{range_of, subscript_sets}
 use Rattle.named_equations.specs.Parameters.{region_name, technology_name, value_of}
 use Rattle.named_equations.specs.WrittenFactors.{life_of}
-use Rattle.named_equations.proofs.InstanceTests.{Contains-from_Has, Has}
+use Rattle.row_core.proofs.Members.{Contains-from_Has, Has}
 use Rattle.param_tables.specs.Built.{AreComplete, IsValueIn}
 use Rattle.param_tables.specs.Ranges.{IsInRange, billion}
 use Rattle.model_sets.specs.declared.params.Range.{Range}

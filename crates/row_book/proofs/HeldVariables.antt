@@ -5,7 +5,7 @@ use Rattle.std.proofs.lemmas.List.{append-nil, drop_all, drop_more}
 use Rattle.std.proofs.lemmas.List.Elements.{Contains-append_cases, Contains-append_left, Contains-append_right}
 use Rattle.row_core.specs.declared.Row.{Row}
 use Rattle.row_core.specs.declared.Var.{Var}
-use Rattle.row_book.specs.Books.{entry_variables}
+use Rattle.row_core.specs.RowLists.{entry_variables}
 use Rattle.row_book.specs.Held.{held_variables}
 use Rattle.row_book.specs.Tallies.{AreSameVariables, AreSortedVariables, found_variables}
 use Rattle.row_book.specs.declared.held_rows.HeldRows.{HeldRows}

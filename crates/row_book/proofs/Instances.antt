@@ -13,7 +13,8 @@ use Rattle.row_core.specs.Equations.{IsEquation}
 use Rattle.row_core.specs.Order.{row_name_cmp}
 use Rattle.row_core.proofs.Orders.{row_name_cmp_total}
 use Rattle.named_equations.specs.Instances.{equation_numbers, instances, is_index, is_instance, stands_at, subscripts_of}
-use Rattle.named_equations.proofs.InstanceTests.{Has, Has-instances}
+use Rattle.row_core.proofs.Members.{Has}
+use Rattle.named_equations.proofs.InstanceTests.{Has-instances}
 use Rattle.named_equations.proofs.SortedLists.{Every, Sorted}
 use Rattle.row_book.proofs.Lists.{all-from}
 use Rattle.row_book.proofs.Numbers.{from-range, in-range}

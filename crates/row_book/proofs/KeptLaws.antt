@@ -9,7 +9,8 @@ use Rattle.row_core.specs.Order.{row_name_cmp}
 use Rattle.named_equations.specs.Instances.{instances, variable_of}
 use Rattle.named_equations.proofs.InstanceOrder.{instances-ascend}
 use Rattle.param_tables.specs.Built.{AreComplete}
-use Rattle.row_book.specs.Books.{AreRowsOf, AreVariablesOf}
+use Rattle.row_core.specs.RowLists.{AreVariablesOf}
+use Rattle.row_book.specs.Books.{AreRowsOf}
 use Rattle.row_book.specs.Definitions.{Defines, IsAt}
 use Rattle.row_book.specs.Kept.{IsBook, IsDefinedAt}
 use Rattle.row_book.proofs.DefinitionSigns.{all-signs}

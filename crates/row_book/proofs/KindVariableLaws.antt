@@ -8,7 +8,7 @@ use Rattle.param_tables.proofs.AscendingLaws.{contains_cases, contains_filter, c
 use Rattle.row_core.specs.Numbers.{variables_of}
 use Rattle.row_core.specs.declared.Row.{Row}
 use Rattle.row_core.specs.declared.Var.{Var}
-use Rattle.row_book.specs.Books.{entry_variables}
+use Rattle.row_core.specs.RowLists.{entry_variables}
 use Rattle.row_book.specs.KindVariables.{is_before_kind, is_of_kind, lesser_kind, next_kind}
 use Rattle.row_book.specs.Tallies.{AreSameVariables}
 

@@ -4,7 +4,7 @@ use Rattle.std.specs.List.{list_all, list_any, range_with_len}
 use Rattle.std.specs.Prelude.{if◌then◌else◌}
 use Rattle.std.proofs.Math.Nat.{eq-or-lt_of_le}
 use Rattle.std.proofs.lemmas.Bool.{and_parts, or_cases}
-use Rattle.named_equations.proofs.InstanceTests.{Has}
+use Rattle.row_core.proofs.Members.{Has}
 
 or_later : (a b : Bool) → b ≡ true → (a || b) ≡ true
 or_later true b e = refl

@@ -10,7 +10,7 @@ use Rattle.std.specs.Ordering.{is_lt, nat_cmp, ord_max}
 use Rattle.std.proofs.lemmas.Bool.{cases_order}
 use Rattle.exact_num.proofs.OrderLaws.{nat_cmp-equal, nat_cmp-greater, nat_cmp-less}
 use Rattle.model_sets.specs.Years.{is_year, number_of}
-use Rattle.named_equations.proofs.InstanceTests.{Has, Has-from_Contains}
+use Rattle.row_core.proofs.Members.{Has, Has-from_Contains}
 
 -- ---- years
 

@@ -22,7 +22,7 @@ use Rattle.named_equations.specs.Indices.{at_r, index}
 use Rattle.named_equations.specs.Instances.{values_at}
 use Rattle.named_equations.specs.Positions.{modes}
 use Rattle.named_equations.proofs.InstanceOrder.{from_e, from_f, from_m, from_y, sorted_t}
-use Rattle.named_equations.proofs.InstanceTests.{Contains-from_Has, Has, Has-flat_map, Has-from_Contains, flat_map_parts}
+use Rattle.row_core.proofs.Members.{Contains-from_Has, Has, Has-flat_map, Has-from_Contains, flat_map_parts}
 use Rattle.named_equations.proofs.SortedLists.{Every, Sorted, Sorted-filter}
 use Rattle.row_book.specs.Ratios.{cells_of_ratio, cells_of_some_mode, has_ratio, has_some_ratio, ratio_subscripts, subscripts_but_mode, with_mode}
 use Rattle.row_book.specs.Walks.{inner_subscripts, walk}

@@ -12,8 +12,8 @@ use Rattle.row_core.specs.Numbers.{ascends, variables_of}
 use Rattle.row_core.specs.Order.{row_name_cmp, var_cmp}
 use Rattle.row_core.proofs.Orders.{var_cmp_exact}
 use Rattle.named_equations.specs.Instances.{variable_of}
-use Rattle.named_equations.proofs.InstanceTests.{Contains-from_Has, Has, Has-from_Contains}
-use Rattle.row_book.specs.Books.{AreVariablesOf, entry_variables, names_of}
+use Rattle.row_core.proofs.Members.{Contains-from_Has, Has, Has-from_Contains}
+use Rattle.row_core.specs.RowLists.{AreVariablesOf, entry_variables, names_of}
 use Rattle.row_book.specs.Definitions.{AreTriangular, Defines, IsAt, IsDefinedIn, IsRepeatedIn}
 use Rattle.row_book.specs.Kept.{IsBook}
 use Rattle.row_book.specs.Replaced.{AreTwins, IsReplaced, same_variables}

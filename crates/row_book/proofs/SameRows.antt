@@ -16,7 +16,8 @@ use Rattle.row_core.specs.Statements.{Holds, Statement}
 use Rattle.named_equations.specs.Instances.{instances, is_instance, subscripts_of}
 use Rattle.named_equations.specs.Plans.{says}
 use Rattle.named_equations.specs.RowMeaning.{IsNamedRow}
-use Rattle.named_equations.proofs.InstanceTests.{Has, Has-append_left, Has-append_right, Has-instances}
+use Rattle.row_core.proofs.Members.{Has, Has-append_left, Has-append_right}
+use Rattle.named_equations.proofs.InstanceTests.{Has-instances}
 use Rattle.named_equations.proofs.PositionsInSets.{are_in_sets}
 use Rattle.named_equations.proofs.SameInstances.{agree, back, same-instances, same-says, with_sets}
 use Rattle.named_equations.proofs.SameValues.{Agree, with_values}

@@ -25,7 +25,7 @@ use Rattle.row_book.specs.Signs.{IsBounded, IsMadeOfParts}
 use Rattle.row_book.proofs.EntryVariables.{entries-from_terms}
 use Rattle.row_book.proofs.GatheredLaws.{gathered-keep, terms-positive, value_of_amount-IsLowest}
 use Rattle.row_book.proofs.Lists.{AllByRecursion-weaker, all-has}
-use Rattle.named_equations.proofs.InstanceTests.{Has-from_Contains}
+use Rattle.row_core.proofs.Members.{Has-from_Contains}
 use Rattle.row_core.specs.Numbers.{variables_of}
 
 -- ---- whole numbers

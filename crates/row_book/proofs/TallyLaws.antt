@@ -18,7 +18,8 @@ use Rattle.row_core.specs.declared.Var.{Var}
 use Rattle.named_equations.specs.Instances.{indices, instances, instances_of, name_at, stands_at, subscripts_of}
 use Rattle.row_core.specs.Contents.{RowContents, contents_of}
 use Rattle.row_core.specs.Sources.{has_kind}
-use Rattle.row_book.specs.Books.{AreRowsOf, CanBeMade, HasStopped, entries_in, entry_count, entry_limit, entry_variables, row_fits}
+use Rattle.row_core.specs.RowLists.{entry_variables}
+use Rattle.row_book.specs.Books.{AreRowsOf, CanBeMade, HasStopped, entries_in, entry_count, entry_limit, row_fits}
 use Rattle.row_book.specs.Held.{AreHeld, KeepsRows, held_variables}
 use Rattle.row_book.specs.declared.held_rows.HeldRows.{HeldRows}
 use Rattle.row_book.specs.Tallies.{AreSameVariables, AreSortedVariables, AreTallied, Marks, MarksMore, TalliesMore, found_variables, marked, names_to, rows_before, table_room}

@@ -25,8 +25,9 @@ use Rattle.named_equations.specs.Instances.{instances, is_index, name_at, subscr
 use Rattle.named_equations.specs.RowMeaning.{IsNamedRow}
 use Rattle.named_equations.specs.Variables.{trade}
 use Rattle.named_equations.proofs.InstanceOrder.{Sorted-instances, less_then}
-use Rattle.named_equations.proofs.InstanceTests.{Contains-from_Has, Has, Has-from_Contains}
-use Rattle.row_book.specs.Books.{AreRowsOf, entry_variables}
+use Rattle.row_core.proofs.Members.{Contains-from_Has, Has, Has-from_Contains}
+use Rattle.row_core.specs.RowLists.{entry_variables}
+use Rattle.row_book.specs.Books.{AreRowsOf}
 use Rattle.row_book.specs.Definitions.{AreTriangular, Defines, IsAt}
 use Rattle.row_book.specs.EquationRows.{terms_at}
 use Rattle.row_book.proofs.AllTerms.{has-terms}

@@ -15,7 +15,7 @@ use Rattle.row_core.specs.declared.Var.{Var}
 use Rattle.row_core.specs.Numbers.{ascends, before_first}
 use Rattle.row_core.specs.Order.{var_cmp}
 use Rattle.row_core.proofs.Orders.{var_cmp_exact, var_cmp_total}
-use Rattle.row_book.specs.Books.{AreVariablesOf, entry_variables}
+use Rattle.row_core.specs.RowLists.{AreVariablesOf, entry_variables}
 use Rattle.row_book.specs.Tallies.{AreSameVariables, AreSortedVariables}
 
 first_passes : (v : Var) (vs : List Var) → AllByRecursion (λ w. var_cmp v w ≡ Less) vs → before_first var_cmp v vs ≡ true

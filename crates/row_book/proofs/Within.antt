@@ -12,12 +12,13 @@ use Rattle.row_core.specs.Equations.{IsEquation}
 use Rattle.row_core.specs.NameTexts.{IsWithin, RowNameIsWithin}
 use Rattle.named_equations.specs.Existence.{exists, kind_numbers, subscripts_of_kind}
 use Rattle.named_equations.specs.Instances.{equation_numbers, instances, is_one_of, subscripts_of}
-use Rattle.named_equations.proofs.InstanceTests.{Contains-from_Has, Has, Has-from_Contains}
+use Rattle.row_core.proofs.Members.{Contains-from_Has, Has, Has-from_Contains}
 use Rattle.named_equations.proofs.TermMeaning.{EachFrom, at_number}
 use Rattle.row_book.specs.declared.fail.BookFail.{BookFail}
 use Rattle.row_book.specs.declared.fail.BookFail.TheVariants.{Width, TooManyEntries, Memory}
 use Rattle.row_core.specs.declared.place.Place.{Place}
-use Rattle.row_book.specs.Books.{AreRowsOf, AreVariablesOf, HasNameWithin, HasStopped, IsWithinSets, NamesRowWithin, entry_variables, names_of}
+use Rattle.row_core.specs.RowLists.{AreVariablesOf, entry_variables, names_of}
+use Rattle.row_book.specs.Books.{AreRowsOf, HasNameWithin, HasStopped, IsWithinSets, NamesRowWithin}
 use Rattle.row_book.proofs.Definers.{exists-kind, exists-within}
 use Rattle.row_book.proofs.Instances.{IsInstance, all-instances}
 use Rattle.row_book.proofs.Lists.{all-from, all-has}

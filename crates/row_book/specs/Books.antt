@@ -1,6 +1,6 @@
 -- What the book of rows of a model holds, and why there is none.
-use Rattle.std.specs.Prelude.{◌≡◌, ℕ, ◌+◌, ◌<◌, ◌≤◌, Bool, true, false, List, [], ◌∷◌, ◌++◌, map, length, sum_by, Contains, ◌↔◌, ⊤}
-use Rattle.std.specs.List.{flat_map, list_all}
+use Rattle.std.specs.Prelude.{◌≡◌, ℕ, ◌+◌, ◌<◌, ◌≤◌, Bool, true, false, List, [], ◌∷◌, ◌++◌, length, sum_by, ⊤}
+use Rattle.std.specs.List.{list_all}
 use Rattle.exact_num.specs.Range.{all_fit}
 use Rattle.model_sets.specs.Data.{Data}
 use Rattle.model_sets.specs.Members.{SetLists}
@@ -12,8 +12,6 @@ use Rattle.row_core.specs.EquationTerms.{equation_formed, terms_of, right_of}
 use Rattle.row_core.specs.Equations.{IsEquation}
 use Rattle.row_core.specs.Kinds.{IsKind}
 use Rattle.row_core.specs.NameTexts.{RowNameIsWithin, VariableIsWithin}
-use Rattle.row_core.specs.Numbers.{ascends, variables_of}
-use Rattle.row_core.specs.Order.{var_cmp}
 use Rattle.row_core.specs.Written.{written_entries}
 use Rattle.named_equations.specs.RowMeaning.{IsNamedRow}
 use Rattle.row_book.specs.declared.fail.BookFail.{BookFail}
@@ -28,19 +26,6 @@ AreRowsOf places d [] [] = ⊤
 AreRowsOf places d [] (row ∷ rows) = ⊥
 AreRowsOf places d (name ∷ names) [] = ⊥
 AreRowsOf places d (name ∷ names) (row ∷ rows) = IsNamedRow places d name (terms_at places d name) row × AreRowsOf places d names rows
-
--- the names of the rows
-abbrev pub names_of : List Row → List RowName
-names_of rows = map (λ row. row.name) rows
-
--- the variables of all entries, row by row
-abbrev pub entry_variables : List Row → List Var
-entry_variables rows = flat_map (λ row. variables_of row.entries.items) rows
-
--- the list ascends strictly, and has a variable exactly where some row has an entry at it
-pub record AreVariablesOf (rows : List Row) (vars : List Var) : Type 0 where
-  pub ascending : ascends var_cmp vars ≡ true
-  pub each : (v : Var) → Contains vars v ↔ Contains (entry_variables rows) v
 
 -- ---- names
 

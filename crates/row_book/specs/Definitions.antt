@@ -7,7 +7,7 @@ use Rattle.row_core.specs.declared.kind_numbers.TheConstants.{RATE_OF_ACTIVITY, 
 use Rattle.row_core.specs.Numbers.{variables_of}
 use Rattle.row_core.specs.Rows.{number_at}
 use Rattle.named_equations.specs.Instances.{variable_of}
-use Rattle.row_book.specs.Books.{entry_variables}
+use Rattle.row_core.specs.RowLists.{entry_variables}
 
 -- the row defines the variable: the named equation that it is the row of does
 abbrev pub Defines : Row → Var → Type 0

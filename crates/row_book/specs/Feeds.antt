@@ -12,7 +12,8 @@ use Rattle.row_core.specs.NameTexts.{RowNameIsWithin}
 use Rattle.row_core.specs.Written.{written_entries, written_right}
 use Rattle.named_equations.specs.Instances.{instances, instances_of}
 use Rattle.row_core.specs.Contents.{RowContents, contents_of}
-use Rattle.row_book.specs.Books.{AreRowsOf, AreVariablesOf}
+use Rattle.row_core.specs.RowLists.{AreVariablesOf}
+use Rattle.row_book.specs.Books.{AreRowsOf}
 use Rattle.row_book.specs.EquationRows.{terms_at}
 
 -- what the rows say, and the rows of an equation that are ahead, each with its position among all rows

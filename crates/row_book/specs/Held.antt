@@ -5,7 +5,8 @@ use Rattle.model_sets.specs.Data.{Data}
 use Rattle.row_core.specs.declared.Row.{Row}
 use Rattle.row_core.specs.declared.Var.{Var}
 use Rattle.named_equations.specs.Instances.{instances_of}
-use Rattle.row_book.specs.Books.{AreRowsOf, entry_variables}
+use Rattle.row_core.specs.RowLists.{entry_variables}
+use Rattle.row_book.specs.Books.{AreRowsOf}
 use Rattle.row_book.specs.declared.held_rows.HeldRows.{HeldRows}
 
 -- each list holds the rows of its equation

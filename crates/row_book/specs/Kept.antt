@@ -6,7 +6,7 @@ use Rattle.row_core.specs.declared.Var.{Var}
 use Rattle.row_core.specs.Numbers.{ascends}
 use Rattle.row_core.specs.Order.{row_name_cmp}
 use Rattle.row_core.specs.Rows.{number_at}
-use Rattle.row_book.specs.Books.{AreVariablesOf, names_of}
+use Rattle.row_core.specs.RowLists.{AreVariablesOf, names_of}
 use Rattle.row_book.specs.Definitions.{AreTriangular, Defines, IsAt}
 use Rattle.row_book.specs.Signs.{HaveSigns}
 

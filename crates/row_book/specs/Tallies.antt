@@ -11,7 +11,8 @@ use Rattle.row_core.specs.Order.{var_cmp}
 use Rattle.named_equations.specs.Instances.{instances_of}
 use Rattle.row_core.specs.Contents.{RowContents, contents_of}
 use Rattle.row_core.specs.Sources.{has_kind}
-use Rattle.row_book.specs.Books.{AreRowsOf, entries_in, entry_variables, row_fits}
+use Rattle.row_core.specs.RowLists.{entry_variables}
+use Rattle.row_book.specs.Books.{AreRowsOf, entries_in, row_fits}
 use Rattle.row_book.specs.Held.{AreHeld, KeepsRows, held_variables}
 use Rattle.row_book.specs.declared.tally.Tally.{Tally}
 

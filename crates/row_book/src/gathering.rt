@@ -2,7 +2,7 @@
 //! taken from them at the end, so that no list of these takes memory while rows are made.
 
 ghost use Rattle.std.specs.Prelude.{◌++◌, OnOk};
-ghost use Rattle.row_book.specs.Books.{entry_variables};
+ghost use Rattle.row_core.specs.RowLists.{entry_variables};
 ghost use Rattle.row_book.specs.Held.{held_variables};
 ghost use Rattle.row_book.specs.Tallies.{AreSameVariables, AreSortedVariables};
 

@@ -2,7 +2,7 @@
 
 ghost use Rattle.std.specs.Prelude.{◌≡◌, ◌<◌, ◌++◌, length, slice_index_or, IfOk, IfSome, OnOk};
 ghost use Rattle.row_core.specs.Contents.{contents_of};
-ghost use Rattle.row_book.specs.Books.{entry_variables};
+ghost use Rattle.row_core.specs.RowLists.{entry_variables};
 ghost use Rattle.row_book.specs.Held.{KeepsRows, held_variables};
 ghost use Rattle.row_book.specs.Tallies.{AreSameVariables};
 ghost use Rattle.row_book.specs.declared.held_rows.HeldRows.{HeldRows};

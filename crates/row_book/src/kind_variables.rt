@@ -3,7 +3,7 @@
 
 ghost use Rattle.std.specs.Prelude.{◌≡◌, ◌<◌, ◌++◌, ◌∷◌, [], filter, None, IfOk, OnOk};
 ghost use Rattle.row_core.specs.Numbers.{variables_of};
-ghost use Rattle.row_book.specs.Books.{entry_variables};
+ghost use Rattle.row_core.specs.RowLists.{entry_variables};
 ghost use Rattle.row_book.specs.KindVariables.{is_of_kind, lesser_kind, next_kind};
 ghost use Rattle.row_book.specs.Tallies.{AreSameVariables};
 

@@ -2,7 +2,7 @@
 
 ghost use Rattle.std.specs.Prelude.{◌≡◌, ◌++◌, IfOk, OnOk};
 ghost use Rattle.row_core.specs.Numbers.{variables_of};
-ghost use Rattle.row_book.specs.Books.{AreVariablesOf, entry_variables};
+ghost use Rattle.row_core.specs.RowLists.{AreVariablesOf, entry_variables};
 ghost use Rattle.row_book.specs.Tallies.{AreSortedVariables};
 
 use crate::key_order::sort_pieces;

@@ -30,3 +30,4 @@ pub mod LookUpLaws
 pub mod PlanValueLaws
 pub mod EquationLaws
 mod SourceExamples
+pub mod Members

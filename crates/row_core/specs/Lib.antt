@@ -32,3 +32,4 @@ pub mod Plans
 pub mod Columns
 pub mod Contents
 pub mod Sources
+pub mod RowLists

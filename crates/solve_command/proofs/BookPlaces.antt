@@ -15,8 +15,9 @@ use Rattle.row_core.specs.Kinds.{IsKind}
 use Rattle.row_core.specs.NameTexts.{RowNameIsWithin, VariableIsWithin}
 use Rattle.row_core.specs.Numbers.{keys_of, variables_of}
 use Rattle.row_core.specs.Rows.{number_at}
-use Rattle.named_equations.proofs.InstanceTests.{Contains-from_Has, Has, Has-flat_map, Has-from_Contains}
-use Rattle.row_book.specs.Books.{HasNameWithin, IsWithinSets, names_of}
+use Rattle.row_core.proofs.Members.{Contains-from_Has, Has, Has-flat_map, Has-from_Contains}
+use Rattle.row_core.specs.RowLists.{names_of}
+use Rattle.row_book.specs.Books.{HasNameWithin, IsWithinSets}
 use Rattle.row_book.specs.Kept.{IsBook}
 use Rattle.row_book.proofs.Columns.{has-entry}
 use Rattle.row_book.proofs.Lists.{AllByRecursion-filter, AllByRecursion-map, AllByRecursion-weaker, all-from, all-has}

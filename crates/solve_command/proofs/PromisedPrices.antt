@@ -10,7 +10,7 @@ use Rattle.row_core.specs.declared.Var.{Var}
 use Rattle.row_core.specs.Values.{IsOver}
 use Rattle.named_equations.specs.Existence.{all_variables}
 use Rattle.named_equations.specs.Instances.{instances}
-use Rattle.named_equations.proofs.InstanceTests.{Contains-from_Has, Has, Has-from_Contains}
+use Rattle.row_core.proofs.Members.{Contains-from_Has, Has, Has-from_Contains}
 use Rattle.row_book.specs.Books.{AreRowsOf}
 use Rattle.certificate_checker.specs.Certificates.{AreMultipliersOver, Proves, bound_of}
 use Rattle.certificate_checker.specs.Costs.{model_cost}

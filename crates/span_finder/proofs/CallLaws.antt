@@ -16,7 +16,7 @@ use Rattle.written_method.specs.declared.reduced.Reduced.{Reduced}
 use Rattle.written_method.specs.Definitions.{definitions_of}
 use Rattle.written_method.specs.Lifted.{lifted, lifted_steps, no_right_side, right_side}
 use Rattle.written_method.specs.Multiplied.{multiplier_steps, named_multipliers}
-use Rattle.variable_elimination.specs.RowNames.{names_of}
+use Rattle.row_core.specs.RowLists.{names_of}
 use Rattle.exact_solver.specs.Definers.{definers}
 use Rattle.exact_solver.specs.Programs.{carried_direction, carried_multipliers, carried_plan, carrying_steps, definitions_in, direction_steps, name_left, plan_steps, rows_left, scale_left}
 use Rattle.span_finder.specs.SpanEnds.{sign_of, trial_cost}

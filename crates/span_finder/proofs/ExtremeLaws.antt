@@ -24,7 +24,7 @@ use Rattle.row_core.specs.Rows.{number_at, row_sum}
 use Rattle.row_core.specs.Values.{IsOver, alone}
 use Rattle.row_core.proofs.Orders.{var_cmp_exact}
 use Rattle.row_core.proofs.SumLaws.{IsOver-agree}
-use Rattle.named_equations.proofs.InstanceTests.{Has, Has-from_Contains}
+use Rattle.row_core.proofs.Members.{Has, Has-from_Contains}
 use Rattle.written_method.specs.declared.reduced.Reduced.{Reduced}
 use Rattle.written_method.specs.Certificates as solver
 use Rattle.written_method.specs.Definitions.{AreTriangular, Definition, defined, definitions_of, is_among}

@@ -20,7 +20,7 @@ use Rattle.row_core.specs.Rows.{number_at, row_sum}
 use Rattle.row_core.specs.Statements.{Stands}
 use Rattle.row_core.specs.Values.{alone}
 use Rattle.row_core.proofs.MeaningLaws.{row_sum-alone}
-use Rattle.named_equations.proofs.InstanceTests.{Has}
+use Rattle.row_core.proofs.Members.{Has}
 use Rattle.written_method.specs.declared.reduced.Reduced.{Reduced}
 use Rattle.written_method.specs.Certificates.{HasSign, HaveSigns, IsWithin, Refutes}
 use Rattle.written_method.specs.Definitions.{AreTriangular, Definition, definitions_of, others_of, rows_of}

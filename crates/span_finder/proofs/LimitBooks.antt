@@ -17,8 +17,8 @@ use Rattle.row_core.specs.Rows.{RowHolds, number_at, row_sum}
 use Rattle.row_core.specs.Statements.{Stands}
 use Rattle.row_core.proofs.AscendingLaws.{both_passed}
 use Rattle.named_equations.specs.Instances.{variable_of}
-use Rattle.named_equations.proofs.InstanceTests.{Contains-from_Has, Has, Has-append_left, Has-append_right, Has-from_Contains}
-use Rattle.row_book.specs.Books.{AreVariablesOf, entry_variables, names_of}
+use Rattle.row_core.proofs.Members.{Contains-from_Has, Has, Has-append_left, Has-append_right, Has-from_Contains}
+use Rattle.row_core.specs.RowLists.{AreVariablesOf, entry_variables, names_of}
 use Rattle.row_book.specs.Definitions.{AreTriangular, Defines, IsAt, IsChosen, IsDefinedIn, IsRepeatedIn}
 use Rattle.row_book.specs.Kept.{IsBook}
 use Rattle.row_book.specs.Signs.{HaveSigns}

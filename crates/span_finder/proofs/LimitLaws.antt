@@ -19,7 +19,7 @@ use Rattle.row_core.specs.Values.{IsSumOver, SaysTheSame}
 use Rattle.row_core.specs.Written.{kept, written_entries, written_right}
 use Rattle.row_core.proofs.SumLaws.{IsOver-one, IsOver-own, IsSumOver-gathered}
 use Rattle.certificate_checker.specs.Costs.{cost_of, model_cost}
-use Rattle.named_equations.proofs.InstanceTests.{Has}
+use Rattle.row_core.proofs.Members.{Has}
 use Rattle.span_finder.specs.LimitRows.{CostsAtMost, IsLimitRow, cost_terms, is_cost, span_name}
 
 -- ---- what it says

@@ -15,7 +15,7 @@ use Rattle.row_core.specs.declared.place.Stopped.TheVariants as parts
 use Rattle.row_core.specs.Order.{var_cmp}
 use Rattle.row_core.specs.Plans.{value_in}
 use Rattle.named_equations.specs.Instances.{variable_of}
-use Rattle.named_equations.proofs.InstanceTests.{Has-from_Contains}
+use Rattle.row_core.proofs.Members.{Has-from_Contains}
 use Rattle.row_book.specs.Kept.{IsBook}
 use Rattle.row_book.proofs.KindLaws.{nothing-defined}
 use Rattle.written_method.specs.declared.reduced.Reduced.{Reduced}

@@ -10,7 +10,7 @@ use Rattle.row_core.specs.declared.kind_numbers.TheConstants.{NEW_CAPACITY, RATE
 use Rattle.row_core.specs.Kinds.{kind_is_free}
 use Rattle.row_core.specs.Numbers.{ascends, numbers_of, variables_of}
 use Rattle.row_core.specs.Order.{var_cmp}
-use Rattle.named_equations.proofs.InstanceTests.{Has, Has-from_Contains}
+use Rattle.row_core.proofs.Members.{Has, Has-from_Contains}
 use Rattle.written_method.specs.declared.reduced.Reduced.{Reduced}
 use Rattle.written_method.specs.Definitions.{definitions_of, others_of, rows_of}
 use Rattle.written_method.specs.Eliminated.{is_column}

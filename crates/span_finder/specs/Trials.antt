@@ -20,7 +20,7 @@ use Rattle.certificate_checker.specs.Plans.{MeetsAll}
 use Rattle.variable_elimination.specs.Columns.{AreColumns}
 use Rattle.variable_elimination.specs.Left.{AvoidAll}
 use Rattle.variable_elimination.specs.ReducedRows.{AreReductions}
-use Rattle.variable_elimination.specs.RowNames.{names_of}
+use Rattle.row_core.specs.RowLists.{names_of}
 use Rattle.exact_solver.specs.Definers.{definers}
 use Rattle.exact_solver.specs.MethodEnds.{plan_cost}
 use Rattle.exact_solver.specs.Programs.{inequality_in, name_left, rows_left, scale_left}

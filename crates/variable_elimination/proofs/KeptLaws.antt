@@ -27,7 +27,7 @@ use Rattle.variable_elimination.specs.Eliminations.{IsPartOf, IsWhole}
 use Rattle.variable_elimination.specs.Left.{AvoidAll}
 use Rattle.variable_elimination.specs.Meaning.{AreMet}
 use Rattle.variable_elimination.specs.Reductions.{multiples_of}
-use Rattle.variable_elimination.specs.RowNames.{names_of}
+use Rattle.row_core.specs.RowLists.{names_of}
 use Rattle.variable_elimination.proofs.CarriedLaws.{total, column_kept, bound_kept}
 use Rattle.variable_elimination.proofs.CostLaws.{keys-minus}
 use Rattle.variable_elimination.proofs.CostSums.{cost_entries, cost-defined, cost-other, cost-met, price-alone}

@@ -27,7 +27,7 @@ use Rattle.variable_elimination.specs.Certified.{weighted, AreSigned, AreNamedOv
 use Rattle.variable_elimination.specs.Eliminations.{AreAmongReductions}
 use Rattle.variable_elimination.specs.Meaning.{excess, AreMet}
 use Rattle.variable_elimination.specs.Reductions.{multiples_of, IsReduced}
-use Rattle.variable_elimination.specs.RowNames.{names_of}
+use Rattle.row_core.specs.RowLists.{names_of}
 use Rattle.variable_elimination.proofs.LiftLaws.{product_down}
 use Rattle.variable_elimination.proofs.ReductionLaws.{IsReduced-met}
 use Rattle.variable_elimination.proofs.RowNameLaws.{NamesAscend, RowIn, names-rest, first_apart, later_apart, name_itself}

@@ -24,7 +24,7 @@ use Rattle.written_method.specs.Definitions.{Definition, definitions_of, AreTria
 use Rattle.written_method.specs.Multiplied.{coefficient, scaled_multipliers, scaled_steps, defined_multipliers, defined_steps, multiplier_formed}
 use Rattle.written_method.specs.SolvedFor.{solved_for, solved_formed}
 use Rattle.variable_elimination.specs.Multiplying.{AreScaling, AreDone}
-use Rattle.variable_elimination.specs.RowNames.{names_of}
+use Rattle.row_core.specs.RowLists.{names_of}
 use Rattle.variable_elimination.specs.Valued.{values_in}
 use Rattle.variable_elimination.proofs.DefinitionSteps.{no_definition_left}
 

@@ -14,7 +14,7 @@ use Rattle.row_core.proofs.AscendingLaws.{both_passed, Less-from_test, ascends-s
 use Rattle.row_core.proofs.Orders.{row_name_cmp_exact, row_name_cmp_total}
 use Rattle.written_method.specs.Definitions.{Definition, definitions_of, others_of}
 use Rattle.variable_elimination.specs.Certified.{weighted}
-use Rattle.variable_elimination.specs.RowNames.{names_of}
+use Rattle.row_core.specs.RowLists.{names_of}
 use Rattle.variable_elimination.proofs.LiftLaws.{alike}
 use Rattle.variable_elimination.proofs.SolvedLaws.{alone_by}
 

@@ -10,7 +10,6 @@ pub mod Left
 pub mod Valued
 pub mod Lifting
 pub mod Lifts
-pub mod RowNames
 pub mod Eliminations
 pub mod Certified
 pub mod Cells

@@ -10,7 +10,7 @@ use Rattle.row_core.specs.declared.RowName.{RowName}
 use Rattle.row_core.specs.declared.Var.{Var}
 use Rattle.written_method.specs.Definitions.{definitions_of}
 use Rattle.written_method.specs.Multiplied.{scaled_multipliers, scaled_steps, defined_multipliers, defined_steps}
-use Rattle.variable_elimination.specs.RowNames.{names_of}
+use Rattle.row_core.specs.RowLists.{names_of}
 use Rattle.variable_elimination.specs.Valued.{values_in}
 
 -- what all reduced rows make and form is what those that are left make and form

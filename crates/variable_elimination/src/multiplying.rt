@@ -19,7 +19,7 @@ ghost use Rattle.written_method.specs.SolvedFor.{solved_for, solved_formed};
 ghost use Rattle.variable_elimination.specs.Cells.{HaveColumns};
 ghost use Rattle.variable_elimination.specs.Certified.{CarriesBound, CarriesSum};
 ghost use Rattle.variable_elimination.specs.Eliminations.{IsPartOf, IsWhole};
-ghost use Rattle.variable_elimination.specs.RowNames.{names_of};
+ghost use Rattle.row_core.specs.RowLists.{names_of};
 ghost use Rattle.variable_elimination.specs.SoFar.{IsFirst};
 ghost use Rattle.variable_elimination.specs.Valued.{values_in};
 

@@ -7,14 +7,13 @@ use Rattle.exact_num.specs.Value.{value_of}
 use Rattle.row_core.specs.declared.RowName.{RowName}
 use Rattle.row_core.specs.declared.place.Place.{Place}
 use Rattle.row_core.specs.declared.Var.{Var}
-use Rattle.named_equations.proofs.InstanceTests.{Contains-from_Has, Has, Has-from_Contains}
-use Rattle.row_book.specs.Books.{entry_variables}
+use Rattle.row_core.proofs.Members.{Contains-from_Has, Has, Has-from_Contains}
+use Rattle.row_core.specs.RowLists.{entry_variables, names_of}
 use Rattle.written_method.specs.Definitions.{definitions_of, others_of, rows_of, defined, AreTriangular}
 use Rattle.written_method.specs.Multiplied.{multiplier_steps, named_multipliers}
 use Rattle.variable_elimination.specs.Certified.{CarriesBound, CarriesSum}
 use Rattle.variable_elimination.specs.Eliminations.{IsPartOf, IsWhole}
 use Rattle.variable_elimination.specs.Left.{AreKnown}
-use Rattle.variable_elimination.specs.RowNames.{names_of}
 use Rattle.variable_elimination.specs.SoFar.{IsFirst}
 use Rattle.exact_solver.specs.Definers.{definers}
 use Rattle.exact_solver.specs.Programs.{carried_multipliers, carrying_steps, definitions_in}

@@ -2,7 +2,7 @@ use Rattle.std.proofs.Common.{List, ◌++◌, subst, arith}
 use Rattle.std.proofs.lemmas.Result.{on_ok_weaker}
 use Rattle.row_core.specs.declared.Row.{Row}
 use Rattle.row_core.specs.declared.Var.{Var}
-use Rattle.row_book.specs.Books.{entry_variables}
+use Rattle.row_core.specs.RowLists.{entry_variables}
 use Rattle.row_book.specs.Held.{held_variables}
 use Rattle.row_book.specs.Tallies.{AreSameVariables}
 use Rattle.row_book.proofs.HeldVariables.{completed-more, completed-sorted}

@@ -1,5 +1,5 @@
 use Rattle.std.proofs.Common.{◌++◌}
-use Rattle.row_book.specs.Books.{entry_variables}
+use Rattle.row_core.specs.RowLists.{entry_variables}
 use Rattle.row_book.proofs.TallyLaws.{sorted-same}
 use Rattle.row_book.proofs.gathering.gather_variables.Goals as goal
 

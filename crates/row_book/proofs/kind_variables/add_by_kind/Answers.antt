@@ -1,7 +1,7 @@
 use Rattle.std.proofs.Common.{◌<◌, ◌∙◌, ◌++◌, ℕ, List, subst, sym, arith}
 use Rattle.std.specs.Prelude.{filter}
 use Rattle.row_core.specs.declared.Var.{Var}
-use Rattle.row_book.specs.Books.{entry_variables}
+use Rattle.row_core.specs.RowLists.{entry_variables}
 use Rattle.row_book.specs.KindVariables.{is_before_kind}
 use Rattle.row_book.specs.Tallies.{AreSameVariables}
 use Rattle.row_book.proofs.KindVariableLaws.{all-added, kind-added, later, none-added}

@@ -1,6 +1,6 @@
 use Rattle.std.proofs.Common.{◌++◌, ◌-◌}
 use Rattle.std.specs.Prelude.{filter}
-use Rattle.row_book.specs.Books.{entry_variables}
+use Rattle.row_core.specs.RowLists.{entry_variables}
 use Rattle.row_book.specs.KindVariables.{is_before_kind}
 use Rattle.row_book.specs.Tallies.{AreSameVariables}
 use Rattle.row_book.proofs.kind_variables.add_by_kind.Given as goal

@@ -5,7 +5,7 @@ use Rattle.exact_num.specs.Value.{value_of}
 use Rattle.row_core.specs.declared.Var.{Var}
 use Rattle.row_core.specs.Numbers.{ascends, keys_of}
 use Rattle.row_core.specs.Order.{var_cmp}
-use Rattle.named_equations.proofs.InstanceTests.{Has-from_Contains}
+use Rattle.row_core.proofs.Members.{Has-from_Contains}
 use Rattle.written_method.specs.Definitions.{AreTriangular, definitions_of}
 use Rattle.exact_solver.specs.Programs.{carried_plan}
 use Rattle.exact_solver.proofs.BookLaws.{book_triangular}

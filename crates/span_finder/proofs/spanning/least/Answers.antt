@@ -1,6 +1,6 @@
 -- The first trial.
 use Rattle.std.proofs.Common.{◌≡◌, ap, sym, ◌∙◌, subst}
-use Rattle.named_equations.proofs.InstanceTests.{Has-from_Contains}
+use Rattle.row_core.proofs.Members.{Has-from_Contains}
 use Rattle.span_finder.specs.declared.trial.Goal.TheVariants.{Least}
 use Rattle.span_finder.specs.SpanEnds.{HasExtreme, trial_end}
 use Rattle.span_finder.specs.Trials.{IsExtreme, IsFound, IsRise, end_found}

@@ -12,7 +12,7 @@ use Rattle.written_method.specs.declared.reduced.Reduced.{Reduced}
 use Rattle.written_method.specs.Definitions.{definitions_of, defined}
 use Rattle.written_method.specs.Multiplied.{scaled_multipliers, scaled_steps, defined_multipliers, defined_steps, named_multipliers, multiplier_steps}
 use Rattle.variable_elimination.specs.Certified.{CarriesBound, CarriesSum}
-use Rattle.variable_elimination.specs.RowNames.{names_of}
+use Rattle.row_core.specs.RowLists.{names_of}
 use Rattle.variable_elimination.specs.Valued.{values_in}
 use Rattle.variable_elimination.proofs.EliminationLaws.{IsFirst-more}
 use Rattle.variable_elimination.proofs.KeptLaws.{keeps_sum, keeps_bound}

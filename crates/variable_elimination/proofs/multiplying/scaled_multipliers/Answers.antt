@@ -9,7 +9,7 @@ use Rattle.exact_num.specs.Value.{value_of}
 use Rattle.row_core.specs.declared.Row.{Row}
 use Rattle.row_core.specs.declared.place.Place.TheVariants.{LiftMultiplier}
 use Rattle.written_method.specs.Multiplied.{scaled_steps}
-use Rattle.variable_elimination.specs.RowNames.{names_of}
+use Rattle.row_core.specs.RowLists.{names_of}
 use Rattle.variable_elimination.proofs.GrowthLaws.{IsFirst-from}
 use Rattle.variable_elimination.proofs.MultiplyingSteps.{next_item, scaling-next, scaling-stop, scaling-end}
 use Rattle.variable_elimination.proofs.multiplying.scaled_multipliers.Goals as goal

@@ -6,7 +6,7 @@ use Rattle.named_equations.specs.Instances.{instances_of}
 use Rattle.named_equations.specs.RegionFactors.{places_of}
 use Rattle.row_core.specs.Contents.{contents_of}
 use Rattle.row_core.specs.Sources.{has_kind}
-use Rattle.row_book.specs.Books.{entry_variables}
+use Rattle.row_core.specs.RowLists.{entry_variables}
 use Rattle.row_book.specs.Held.{KeepsRows, held_variables}
 use Rattle.row_book.specs.Tallies.{AreSameVariables, MarksMore}
 use Rattle.row_book.specs.declared.held_rows.HeldRows.{HeldRows}
