@@ -31,3 +31,4 @@ pub mod PlanValueLaws
 pub mod EquationLaws
 mod SourceExamples
 pub mod Members
+pub mod CopyLaws

@@ -33,3 +33,4 @@ pub mod Columns
 pub mod Contents
 pub mod Sources
 pub mod RowLists
+pub mod CostLimits

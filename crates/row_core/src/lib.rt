@@ -10,6 +10,8 @@ ghost use Rattle.row_core.specs.Order.{var_cmp};
 
 mod amounts;
 mod combining;
+mod copying;
+mod cost_limit;
 mod dividing;
 pub mod equation_numbers;
 mod equations;
@@ -31,6 +33,8 @@ mod writing;
 
 pub use amounts::{minus_one, negative, one, plus, times, zero};
 pub use combining::combine;
+pub use copying::{copy_row, copy_rows};
+pub use cost_limit::{SPAN, SPAN_NAME};
 pub use dividing::{divide_all, divisor_of, quotient};
 pub use equations::{row_has, row_word};
 pub use evaluating::{add_term, eval, eval_against, fraction};
@@ -76,8 +80,8 @@ pub struct Var {
     pub index: Index,
 }
 
-/// The name of a row: the number of its equation, from 1 to 64, and its subscripts. Ordered by
-/// equation, then by subscripts.
+/// The name of a row: the number of its equation, from 1 to 64, and its subscripts; 65 is the number
+/// of the row that limits the cost, `SPAN`. Ordered by equation, then by subscripts.
 #[derive(Clone, Copy, Debug, PartialEq, Eq, PartialOrd, Ord)]
 pub struct RowName {
     pub eq: u8,

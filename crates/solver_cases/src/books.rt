@@ -7,7 +7,7 @@ ghost use Rattle.row_core.specs.declared.kind_numbers.TheConstants.{NEW_CAPACITY
 ghost use Rattle.written_method.specs.Programs.{program_of};
 ghost use Rattle.simplex_core.specs.Outcomes.{IsProved};
 ghost use Rattle.exact_solver.specs.BookPrograms.{IsProgramOf};
-ghost use Rattle.span_finder.specs.declared.limiting.TheConstants.{SPAN};
+ghost use Rattle.row_core.specs.declared.cost_limit.TheConstants.{SPAN};
 
 use exact_solver::BookProgram;
 use mathprog_data::read_blocks;

@@ -4,7 +4,7 @@ ghost use Rattle.std.specs.Prelude.{◌<◌};
 ghost use Rattle.std.specs.List.{AllByRecursion};
 ghost use Rattle.row_core.specs.declared.Row.{Row};
 ghost use Rattle.exact_solver.specs.BookPrograms.{IsProgramOf};
-ghost use Rattle.span_finder.specs.declared.limiting.TheConstants.{SPAN};
+ghost use Rattle.row_core.specs.declared.cost_limit.TheConstants.{SPAN};
 
 use crate::books::{book_of, solve_program};
 use crate::checks::COST;

@@ -16,7 +16,7 @@ use Rattle.command_answers.specs.CheckedPlans.{IsListedBook}
 use Rattle.command_answers.specs.PlacesWithin.{IsVariableOfSets}
 use Rattle.command_answers.proofs.ListedBooks.{rows-named}
 use Rattle.solve_command.proofs.BookPlaces.{plan-named}
-use Rattle.span_finder.specs.declared.limiting.TheConstants.{SPAN}
+use Rattle.row_core.specs.declared.cost_limit.TheConstants.{SPAN}
 use Rattle.span_finder.specs.Spans.{IsHighEnd}
 use Rattle.span_command.specs.Span.{built}
 

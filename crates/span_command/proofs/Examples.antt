@@ -13,7 +13,7 @@ use Rattle.std.specs.Str.{bytes_eq}
 use Rattle.row_core.specs.declared.place.Place.{Place}
 use Rattle.simplex_core.specs.declared.stops.Stop.TheVariants.{Budget, Trial, Width}
 use Rattle.simplex_core.specs.declared.stops.TrialStop.TheVariants as trials
-use Rattle.span_finder.specs.LimitRows.{span_name}
+use Rattle.row_core.specs.CostLimits.{span_name}
 use Rattle.row_core.specs.declared.Var.{Var}
 use Rattle.span_command.specs.NearBest.{IsNearHighEnd, IsNearLowEnd}
 use Rattle.span_command.specs.Span.{built}

@@ -28,7 +28,8 @@ use Rattle.command_answers.specs.PlacesWithin.{IsRowOfSets, IsVariableOfSets, Pl
 use Rattle.command_answers.proofs.ListedBooks.{vars-named}
 use Rattle.solve_command.proofs.BookPlaces.{define-within}
 use Rattle.solve_command.proofs.MethodPlaces.{DefinesWithin, OutcomeIsWithin, solved-within}
-use Rattle.span_finder.specs.LimitRows.{HasLimitRow, span_name}
+use Rattle.row_core.specs.CostLimits.{span_name}
+use Rattle.span_finder.specs.LimitRows.{HasLimitRow}
 use Rattle.span_finder.specs.SpanEnds.{HasExtreme, HasNoEnd, HasNoPlan, IsBounded, IsNothing, IsPivotDue, IsRising, IsStopped, IsWide, SpanEnd, Stops, TrialEnd, both_trials, carried_trial, greatest_end, least_end, spanned, trial_cost, trial_end, trial_program, unless_stopped, unless_wide}
 use Rattle.span_finder.specs.declared.found.SpanFail.TheVariants.{Stopped}
 use Rattle.span_command.specs.LimitedPlaces.{NameIsLimited, PlaceKeeps, StopIsLimited, StopKeeps}

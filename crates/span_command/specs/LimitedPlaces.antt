@@ -9,7 +9,7 @@ use Rattle.simplex_core.specs.declared.stops.Stop.TheVariants.{Budget, Width, Tr
 use Rattle.simplex_core.specs.declared.stops.TrialStop.{TrialStop}
 use Rattle.simplex_core.specs.declared.stops.TrialStop.TheVariants as trials
 use Rattle.command_answers.specs.PlacesWithin.{IsRowOfSets, IsVariableOfSets}
-use Rattle.span_finder.specs.declared.limiting.TheConstants.{SPAN}
+use Rattle.row_core.specs.declared.cost_limit.TheConstants.{SPAN}
 
 -- a place whose row passes the test
 abbrev pub PlaceKeeps : SetLists → (RowName → Type 0) → Place → Type 0

@@ -19,7 +19,7 @@ use Rattle.simplex_core.specs.declared.stops.Stop.TheVariants.{Budget, Width, Tr
 use Rattle.simplex_core.specs.declared.stops.TrialStop.{TrialStop}
 use Rattle.simplex_core.specs.declared.stops.TrialStop.TheVariants as trials
 use Rattle.command_answers.specs.Lines.{place_text}
-use Rattle.span_finder.specs.declared.limiting.TheConstants.{SPAN}
+use Rattle.row_core.specs.declared.cost_limit.TheConstants.{SPAN}
 
 -- ---- tables
 

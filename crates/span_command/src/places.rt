@@ -5,8 +5,7 @@ ghost use Rattle.span_command.specs.SpanTexts.{limited_name, limited_place, limi
 
 use command_answers::{TrialStop, push_with_number, push_with_row, push_with_var};
 use model_sets::Sets;
-use row_core::{Place, RowName};
-use span_finder::SPAN;
+use row_core::{Place, RowName, SPAN};
 use std::alloc::AllocError;
 
 /// Appends why a trial stopped: `budget N` or `width PLACE`.

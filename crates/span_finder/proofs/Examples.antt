@@ -16,9 +16,10 @@ use Rattle.simplex_core.specs.declared.stops.Stop.TheVariants.{Budget, Trial, Wi
 use Rattle.simplex_core.specs.declared.stops.TrialStop.TheVariants as trials
 use Rattle.exact_solver.specs.declared.solutions.SolveStop.TheVariants as stops
 use Rattle.span_finder.specs.declared.found.SpanFail.TheVariants.{Stopped}
-use Rattle.span_finder.specs.declared.limiting.TheConstants.{SPAN}
+use Rattle.row_core.specs.declared.cost_limit.TheConstants.{SPAN}
 use Rattle.span_finder.specs.declared.trial.Goal.TheVariants.{Least, Greatest}
-use Rattle.span_finder.specs.LimitRows.{CostsAtMost, cost_terms, span_name}
+use Rattle.row_core.specs.CostLimits.{span_name}
+use Rattle.span_finder.specs.LimitRows.{CostsAtMost, cost_terms}
 use Rattle.span_finder.specs.RoundedSpans.{LieWithin, measure_of}
 use Rattle.span_finder.specs.Slacks.{slack_limit}
 use Rattle.span_finder.specs.SpanEnds.{HasExtreme, HasNoEnd, IsBounded, IsNothing, IsPivotDue, IsPlainStop, IsRising, IsStopped, IsWide, StopsAt, end_seen, greatest_end, least_end, trial_cost, trial_fail, unless_stopped}

@@ -26,8 +26,9 @@ use Rattle.row_book.proofs.KindLaws.{nothing-defined}
 use Rattle.certificate_checker.specs.Plans.{AllStand, MeetsAll}
 use Rattle.variable_elimination.specs.ReducedRows.{Shape, shape_of}
 use Rattle.exact_solver.proofs.BookLaws.{placed}
-use Rattle.span_finder.specs.declared.limiting.TheConstants.{SPAN}
-use Rattle.span_finder.specs.LimitRows.{HasLimitRow, span_name}
+use Rattle.row_core.specs.declared.cost_limit.TheConstants.{SPAN}
+use Rattle.row_core.specs.CostLimits.{span_name}
+use Rattle.span_finder.specs.LimitRows.{HasLimitRow}
 use Rattle.span_finder.specs.Spans.{HasNearBest, HasPlan, IsNearBest}
 use Rattle.span_finder.proofs.LimitLaws.{limit-has}
 

@@ -20,7 +20,8 @@ use Rattle.row_core.specs.Written.{kept, written_entries, written_right}
 use Rattle.row_core.proofs.SumLaws.{IsOver-one, IsOver-own, IsSumOver-gathered}
 use Rattle.certificate_checker.specs.Costs.{cost_of, model_cost}
 use Rattle.row_core.proofs.Members.{Has}
-use Rattle.span_finder.specs.LimitRows.{CostsAtMost, IsLimitRow, cost_terms, is_cost, span_name}
+use Rattle.row_core.specs.CostLimits.{span_name}
+use Rattle.span_finder.specs.LimitRows.{CostsAtMost, IsLimitRow, cost_terms, is_cost}
 
 -- ---- what it says
 

@@ -19,7 +19,8 @@ use Rattle.simplex_core.specs.declared.stops.Stop.{Stop}
 use Rattle.simplex_core.specs.declared.stops.Stop.TheVariants.{Budget, Trial, Width}
 use Rattle.variable_elimination.specs.ReducedRows.{Shape, shape_of}
 use Rattle.exact_solver.specs.Definers.{definer, definers}
-use Rattle.span_finder.specs.LimitRows.{HasLimitRow, span_name}
+use Rattle.row_core.specs.CostLimits.{span_name}
+use Rattle.span_finder.specs.LimitRows.{HasLimitRow}
 use Rattle.span_finder.specs.SpanEnds.{HasExtreme, HasNoEnd, HasNoPlan, IsBounded, IsNothing, IsPivotDue, IsPlainStop, IsRising, IsStopped, IsWide, SpanEnd, Stops, TrialEnd, both_trials, greatest_end, least_end, trial_end}
 use Rattle.span_finder.specs.declared.found.Span.{Span}
 use Rattle.span_finder.specs.declared.found.SpanFail.{SpanFail}

@@ -41,7 +41,8 @@ use Rattle.span_finder.specs.declared.found.SpanFail.TheVariants as fails
 use Rattle.span_finder.specs.declared.trial.Goal.TheVariants.{Least, Greatest}
 use Rattle.exact_num.specs.Range.{all_fit}
 use Rattle.row_core.specs.Stops.{IsStop}
-use Rattle.span_finder.specs.LimitRows.{HasLimitRow, limit_formed, span_name}
+use Rattle.row_core.specs.CostLimits.{span_name}
+use Rattle.span_finder.specs.LimitRows.{HasLimitRow, limit_formed}
 use Rattle.span_finder.specs.SpanEnds.{EndsSo, HasExtreme, IsStopped, SpanEnd, Stops, StopsAt, StopsTrial, TrialEnd, both_trials, greatest_end, least_end, plain_fail, span_seen, spanned, trial_end, trial_fail, unless_stopped}
 use Rattle.span_finder.specs.Spans.{IsHighEnd, IsNearPlan, IsSpan}
 use Rattle.span_finder.specs.Trials.{AreFound, IsColumnOf, IsExtreme, IsHighFound, IsLeftOf}

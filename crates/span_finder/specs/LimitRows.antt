@@ -3,7 +3,6 @@ use Rattle.std.specs.Prelude.{◌≡◌, ◌↔◌, ℕ, ℤ, pos, ◌*ℤ◌, �
 use Rattle.exact_num.specs.Range.{all_fit}
 use Rattle.exact_num.specs.Rational.{Rational, whole}
 use Rattle.row_core.specs.declared.Row.{Row}
-use Rattle.row_core.specs.declared.RowName.{RowName}
 use Rattle.row_core.specs.declared.Sense.TheVariants.{Most}
 use Rattle.row_core.specs.declared.Var.{Var}
 use Rattle.row_core.specs.declared.kind_numbers.TheConstants.{TOTAL_DISCOUNTED_COST}
@@ -13,11 +12,7 @@ use Rattle.row_core.specs.Terms.{gathered, gathered_formed}
 use Rattle.row_core.specs.Written.{kept, written_entries, written_formed, written_right}
 use Rattle.certificate_checker.specs.Costs.{cost_of, model_cost}
 use Rattle.variable_elimination.specs.ReducedRows.{shape_of}
-use Rattle.span_finder.specs.declared.limiting.TheConstants.{SPAN}
-
--- its name has no subscripts
-abbrev pub span_name : RowName
-span_name = record { eq = SPAN; index = record { region = 0; other = 0; slice = 0; tech = 0; fuel = 0; emission = 0; mode = 0; year = 0 } }
+use Rattle.row_core.specs.CostLimits.{span_name}
 
 -- ---- how it is written
 

@@ -24,7 +24,8 @@ use Rattle.exact_solver.specs.Definers.{definers}
 use Rattle.exact_solver.specs.Programs.{carried_direction, carried_multipliers, carried_plan, carrying_steps, direction_steps, inequality_in, plan_steps, rows_left}
 use Rattle.exact_solver.specs.declared.solutions.SolveStop.{SolveStop}
 use Rattle.exact_solver.specs.declared.solutions.SolveStop.TheVariants as stops
-use Rattle.span_finder.specs.LimitRows.{HasLimitRow, limit_formed, span_name}
+use Rattle.row_core.specs.CostLimits.{span_name}
+use Rattle.span_finder.specs.LimitRows.{HasLimitRow, limit_formed}
 use Rattle.span_finder.specs.declared.found.Span.{Span}
 use Rattle.span_finder.specs.declared.found.SpanFail.{SpanFail}
 use Rattle.span_finder.specs.declared.found.SpanFail.TheVariants as fails

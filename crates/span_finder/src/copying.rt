@@ -7,7 +7,8 @@ ghost use Rattle.row_core.specs.Stops.{IsStop};
 ghost use Rattle.row_core.specs.declared.place.Place.{Place};
 ghost use Rattle.variable_elimination.specs.ReducedRows.{shape_of};
 ghost use Rattle.exact_solver.specs.Definers.{definers};
-ghost use Rattle.span_finder.specs.LimitRows.{HasLimitRow, limit_formed, span_name};
+ghost use Rattle.row_core.specs.CostLimits.{span_name};
+ghost use Rattle.span_finder.specs.LimitRows.{HasLimitRow, limit_formed};
 
 use crate::limiting::limit_row;
 use exact_num::Frac;

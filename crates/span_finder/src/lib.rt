@@ -16,7 +16,6 @@ mod spanning;
 mod trial;
 
 pub use found::{RoundedSpan, Span, SpanFail};
-pub use limiting::SPAN;
 pub use rounding::round_span;
 pub use slack::slack_limit;
 pub use spanning::find_span;

@@ -4,7 +4,7 @@ ghost use Rattle.std.specs.Prelude.{◌<◌, IfErr, IfOk};
 ghost use Rattle.std.specs.List.{AllByRecursion};
 ghost use Rattle.exact_num.specs.Value.{value_of};
 ghost use Rattle.row_core.specs.declared.Row.{Row};
-ghost use Rattle.span_finder.specs.declared.limiting.TheConstants.{SPAN};
+ghost use Rattle.row_core.specs.declared.cost_limit.TheConstants.{SPAN};
 ghost use Rattle.span_finder.specs.LimitedBooks.{IsLimitedBook, StopsBefore};
 
 use crate::copying::{limited_definers, limited_rows};

@@ -6,30 +6,13 @@ ghost use Rattle.exact_num.specs.Value.{value_of};
 ghost use Rattle.row_core.specs.Stops.{IsStop};
 ghost use Rattle.row_core.specs.Terms.{gathered, gathered_formed, term_formed, with_term};
 ghost use Rattle.row_core.specs.declared.place.Place.{Place};
-ghost use Rattle.span_finder.specs.LimitRows.{IsLimitRow, cost_term, cost_terms, is_cost, limit_formed, span_name};
+ghost use Rattle.row_core.specs.CostLimits.{span_name};
+ghost use Rattle.span_finder.specs.LimitRows.{IsLimitRow, cost_term, cost_terms, is_cost, limit_formed};
 
 use exact_num::Frac;
 use row_core::kind_numbers::TOTAL_DISCOUNTED_COST;
-use row_core::{Index, Place, Row, RowName, Sense, Stopped, Term, Terms, Var, fraction, write_row};
+use row_core::{Place, Row, SPAN_NAME, Sense, Stopped, Term, Terms, Var, fraction, write_row};
 use std::alloc::Global;
-
-/// The number of the row that limits the cost. It is no number of a named equation.
-pub const SPAN: u8 = 65;
-
-/// The name of that row, which has no subscripts.
-const SPAN_NAME: RowName = RowName {
-    eq: SPAN,
-    index: Index {
-        region: 0,
-        other: 0,
-        slice: 0,
-        tech: 0,
-        fuel: 0,
-        emission: 0,
-        mode: 0,
-        year: 0,
-    },
-};
 
 /// The row that says that the sum of all TotalDiscountedCost is at most the limit. `Width` comes exactly where a number that is
 /// formed doesn't fit; any other refusal means that memory ran out.

@@ -6,7 +6,7 @@ ghost use Rattle.exact_num.specs.Value.{value_of};
 ghost use Rattle.row_core.specs.declared.Row.{Row};
 ghost use Rattle.row_core.specs.declared.kind_numbers.TheConstants.{NEW_CAPACITY};
 ghost use Rattle.exact_solver.specs.Definers.{definers};
-ghost use Rattle.span_finder.specs.declared.limiting.TheConstants.{SPAN};
+ghost use Rattle.row_core.specs.declared.cost_limit.TheConstants.{SPAN};
 ghost use Rattle.span_finder.specs.RoundedSpans.{IsRoundedSpan};
 ghost use Rattle.span_finder.specs.RoundedTrials.{AreRoundedEnds};
 ghost use Rattle.span_finder.specs.Trials.{IsColumnOf, IsLeftOf};

@@ -12,7 +12,7 @@ ghost use Rattle.row_core.specs.Plans.{value_in};
 ghost use Rattle.row_core.specs.declared.kind_numbers.TheConstants.{NEW_CAPACITY};
 ghost use Rattle.written_method.specs.Eliminated.{elimination_steps};
 ghost use Rattle.exact_solver.specs.Definers.{definers};
-ghost use Rattle.span_finder.specs.declared.limiting.TheConstants.{SPAN};
+ghost use Rattle.row_core.specs.declared.cost_limit.TheConstants.{SPAN};
 ghost use Rattle.span_finder.specs.declared.trial.Goal.TheVariants.{Least, Greatest};
 ghost use Rattle.span_finder.specs.SpanEnds.{EndsSo, HasExtreme, IsPlainStop, SpanEnd, Stops, StopsAt, both_trials, greatest_end, least_end, span_seen, trial_end, trial_fail};
 ghost use Rattle.span_finder.specs.Spans.{HasNearBest, HasPlan, IsSpan};

@@ -3,7 +3,7 @@ use Rattle.std.proofs.Common.{◌<◌, arith}
 use Rattle.row_core.specs.declared.Row.{Row}
 use Rattle.row_book.specs.Books.{HasNameWithin}
 use Rattle.row_book.proofs.Lists.{AllByRecursion-weaker}
-use Rattle.span_finder.specs.declared.limiting.TheConstants.{SPAN}
+use Rattle.row_core.specs.declared.cost_limit.TheConstants.{SPAN}
 use Rattle.solver_cases.proofs.books.book_of.Goals as goal
 
 pub returns-in-Ok-new : goal.returns-in-Ok-new

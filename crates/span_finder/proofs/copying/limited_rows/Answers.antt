@@ -5,7 +5,8 @@ use Rattle.exact_num.specs.Range.{all_fit}
 use Rattle.exact_num.specs.Value.{value_of}
 use Rattle.row_core.specs.Stops.{IsStop}
 use Rattle.row_core.specs.declared.place.Place.{Place}
-use Rattle.span_finder.specs.LimitRows.{limit_formed, span_name}
+use Rattle.row_core.specs.CostLimits.{span_name}
+use Rattle.span_finder.specs.LimitRows.{limit_formed}
 use Rattle.span_finder.proofs.CopyLaws.{copied-with, has-limit-row}
 use Rattle.span_finder.proofs.copying.limited_rows.Goals as goal
 

@@ -10,7 +10,8 @@ use Rattle.row_core.specs.declared.place.Place.{Place}
 use Rattle.row_core.specs.Stops.{IsStop}
 use Rattle.row_core.specs.Terms.{gathered, gathered_formed}
 use Rattle.row_core.specs.Written.{written_formed}
-use Rattle.span_finder.specs.LimitRows.{cost_terms, limit_formed, span_name}
+use Rattle.row_core.specs.CostLimits.{span_name}
+use Rattle.span_finder.specs.LimitRows.{cost_terms, limit_formed}
 use Rattle.span_finder.proofs.LimitLaws.{row-answer}
 use Rattle.span_finder.proofs.LimitSteps.{fits-first, same-stop, stops-first}
 use Rattle.span_finder.proofs.limiting.limit_row.Goals as goal

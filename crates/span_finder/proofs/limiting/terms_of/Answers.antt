@@ -2,7 +2,7 @@
 use Rattle.std.proofs.lemmas.Result.{err_from_is_err_and}
 use Rattle.row_core.specs.declared.Var.{Var}
 use Rattle.row_core.specs.declared.place.Place.{Place}
-use Rattle.span_finder.specs.LimitRows.{span_name}
+use Rattle.row_core.specs.CostLimits.{span_name}
 use Rattle.span_finder.proofs.LimitSteps.{formed-all, formed-next, terms-all, terms-next, terms-stop}
 use Rattle.span_finder.proofs.limiting.terms_of.Goals as goal
 
