@@ -1,0 +1,57 @@
+-- What is certified of rows: in the checker's words, over all rows.
+use Rattle.std.specs.Prelude.{◌≡◌, ℕ, ◌≤◌, true, Contains, List, ⊤}
+use Rattle.exact_num.specs.Rational.{Rational}
+use Rattle.exact_num.specs.Value.{value_of}
+use Rattle.row_core.specs.declared.Row.{Row}
+use Rattle.row_core.specs.declared.RowName.{RowName}
+use Rattle.row_core.specs.declared.Var.{Var}
+use Rattle.row_core.specs.Numbers.{ascends, keys_of}
+use Rattle.row_core.specs.Order.{row_name_cmp}
+use Rattle.row_core.specs.RowLists.{names_of}
+use Rattle.certified_answers.specs.Worth.{IsBound, IsClosed, IsDescent, IsNear, IsPlan, IsRefutation, plan_cost}
+use Rattle.certified_answers.specs.declared.answers.Certified.{Certified}
+use Rattle.certified_answers.specs.declared.answers.Certified.TheVariants.{Optimal, Infeasible, Unbounded}
+
+-- ---- by the exact method, at the model's cost
+
+abbrev pub IsProved : List Row → List Var → Certified → Type 0
+IsProved rows vars (Optimal plan multipliers cost bound pivots) =
+    IsPlan rows vars plan (value_of cost) × IsBound rows vars multipliers (value_of bound) × IsClosed (value_of cost) (value_of bound)
+IsProved rows vars (Infeasible multipliers pivots) = IsRefutation rows vars multipliers
+IsProved rows vars (Unbounded plan direction pivots) = IsPlan rows vars plan (plan_cost vars plan) × IsDescent rows vars direction
+
+-- ---- by guesses, within a gap
+
+abbrev pub IsProvedWithin : List Row → List Var → ℕ → Certified → Type 0
+IsProvedWithin rows vars ppm (Optimal plan multipliers cost bound pivots) =
+    IsPlan rows vars plan (value_of cost) × IsBound rows vars multipliers (value_of bound) × IsNear (value_of cost) (value_of bound) ppm
+IsProvedWithin rows vars ppm (Infeasible multipliers pivots) = IsRefutation rows vars multipliers
+IsProvedWithin rows vars ppm (Unbounded plan direction pivots) = ⊥
+
+-- so many pivots were made
+abbrev pub pivots_made : Certified → ℕ
+pivots_made (Optimal plan multipliers cost bound pivots) = pivots
+pivots_made (Infeasible multipliers pivots) = pivots
+pivots_made (Unbounded plan direction pivots) = pivots
+
+abbrev pub IsMadeWithin : ℕ → Certified → Type 0
+IsMadeWithin most found = pivots_made found ≤ most
+
+-- ---- what it has
+
+-- plan and direction have one value for each variable, in order
+abbrev pub IsComplete : List Var → Certified → Type 0
+IsComplete vars (Optimal plan multipliers cost bound pivots) = keys_of plan ≡ vars
+IsComplete vars (Infeasible multipliers pivots) = ⊤
+IsComplete vars (Unbounded plan direction pivots) = (keys_of plan ≡ vars) × (keys_of direction ≡ vars)
+
+-- the names ascend strictly, and each is that of a row
+pub record AreNamedIn (rows : List Row) (multipliers : List (RowName × Rational)) : Type 0 where
+  pub ascending : ascends row_name_cmp (keys_of multipliers) ≡ true
+  pub among : (name : RowName) → Contains (keys_of multipliers) name → Contains (names_of rows) name
+
+-- and so are those of the multipliers, where there are some
+abbrev pub IsNamed : List Row → Certified → Type 0
+IsNamed rows (Optimal plan multipliers cost bound pivots) = AreNamedIn rows multipliers
+IsNamed rows (Infeasible multipliers pivots) = AreNamedIn rows multipliers
+IsNamed rows (Unbounded plan direction pivots) = ⊤

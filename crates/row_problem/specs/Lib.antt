@@ -1,0 +1,5 @@
+pub mod Problems
+pub mod Programs
+pub mod ProgramsOf
+pub mod CarriedBack
+pub mod Sizes
