@@ -1,24 +1,51 @@
 -- What is certified of rows: in the checker's words, over all rows.
 use Rattle.std.specs.Prelude.{◌≡◌, ℕ, ◌≤◌, true, Contains, List, ⊤}
-use Rattle.exact_num.specs.Rational.{Rational}
+use Rattle.exact_num.specs.Rational.{Rational, negated}
 use Rattle.exact_num.specs.Value.{value_of}
 use Rattle.row_core.specs.declared.Row.{Row}
 use Rattle.row_core.specs.declared.RowName.{RowName}
 use Rattle.row_core.specs.declared.Var.{Var}
 use Rattle.row_core.specs.Numbers.{ascends, keys_of}
-use Rattle.row_core.specs.Order.{row_name_cmp}
+use Rattle.row_core.specs.Order.{row_name_cmp, var_cmp}
+use Rattle.row_core.specs.Plans.{value_in}
 use Rattle.row_core.specs.RowLists.{names_of}
-use Rattle.certified_answers.specs.Worth.{IsBound, IsClosed, IsDescent, IsNear, IsPlan, IsRefutation, plan_cost}
+use Rattle.certified_answers.specs.Costs.{weight_of}
+use Rattle.certified_answers.specs.Worth.{IsBound, IsBoundFor, IsClosed, IsDescent, IsDescentFor, IsNear, IsPlan, IsRefutation, plan_cost}
 use Rattle.certified_answers.specs.declared.answers.Certified.{Certified}
 use Rattle.certified_answers.specs.declared.answers.Certified.TheVariants.{Optimal, Infeasible, Unbounded}
+use Rattle.certified_answers.specs.declared.costs.Cost.{Cost}
+use Rattle.certified_answers.specs.declared.costs.Cost.TheVariants.{Model, Nothing, One}
+use Rattle.certified_answers.specs.declared.costs.Goal.{Goal}
+use Rattle.certified_answers.specs.declared.costs.Goal.TheVariants.{Least, Greatest}
 
--- ---- by the exact method, at the model's cost
+-- ---- by the exact method
 
+-- the value for the least of a variable, and that turned for the greatest
+abbrev pub turned : Goal → Rational → Rational
+turned Least value = value
+turned Greatest value = negated value
+
+-- an optimum: of the model's cost a plan and a bound that is its cost; at no cost a plan; of one variable a plan, and a bound that is the variable's value in it
+abbrev pub IsOptimumFor : Cost → List Row → List Var → List (Var × Rational) → List (RowName × Rational) → Rational → Rational → Type 0
+IsOptimumFor Model rows vars plan multipliers cost bound = IsPlan rows vars plan cost × IsBound rows vars multipliers bound × IsClosed cost bound
+IsOptimumFor Nothing rows vars plan multipliers cost bound = IsPlan rows vars plan (plan_cost vars plan)
+IsOptimumFor (One var goal) rows vars plan multipliers cost bound =
+    IsPlan rows vars plan (plan_cost vars plan) × IsBoundFor (weight_of (One var goal)) rows vars multipliers bound × (bound ≡ turned goal (value_in var_cmp plan var))
+
+-- a direction: of the model's cost one along which plans cost less than any whole number
+abbrev pub IsDescentAt : Cost → List Row → List Var → List (Var × Rational) → Type 0
+IsDescentAt Model rows vars direction = IsDescent rows vars direction
+IsDescentAt Nothing rows vars direction = IsDescentFor (weight_of Nothing) rows vars direction
+IsDescentAt (One var goal) rows vars direction = IsDescentFor (weight_of (One var goal)) rows vars direction
+
+abbrev pub IsProvedFor : Cost → List Row → List Var → Certified → Type 0
+IsProvedFor cost rows vars (Optimal plan multipliers amount bound pivots) = IsOptimumFor cost rows vars plan multipliers (value_of amount) (value_of bound)
+IsProvedFor cost rows vars (Infeasible multipliers pivots) = IsRefutation rows vars multipliers
+IsProvedFor cost rows vars (Unbounded plan direction pivots) = IsPlan rows vars plan (plan_cost vars plan) × IsDescentAt cost rows vars direction
+
+-- at the model's cost
 abbrev pub IsProved : List Row → List Var → Certified → Type 0
-IsProved rows vars (Optimal plan multipliers cost bound pivots) =
-    IsPlan rows vars plan (value_of cost) × IsBound rows vars multipliers (value_of bound) × IsClosed (value_of cost) (value_of bound)
-IsProved rows vars (Infeasible multipliers pivots) = IsRefutation rows vars multipliers
-IsProved rows vars (Unbounded plan direction pivots) = IsPlan rows vars plan (plan_cost vars plan) × IsDescent rows vars direction
+IsProved rows vars found = IsProvedFor Model rows vars found
 
 -- ---- by guesses, within a gap
 

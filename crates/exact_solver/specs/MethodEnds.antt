@@ -6,24 +6,26 @@ use Rattle.row_core.specs.declared.Row.{Row}
 use Rattle.row_core.specs.declared.RowName.{RowName}
 use Rattle.row_core.specs.declared.Var.{Var}
 use Rattle.row_core.specs.declared.place.Place.{Place}
-use Rattle.row_core.specs.Order.{row_name_cmp, var_cmp}
-use Rattle.row_core.specs.Plans.{value_in}
 use Rattle.written_method.specs.Eliminated.{elimination_steps}
 use Rattle.written_method.specs.Solved.{Outcome, IsOptimal, IsInfeasible, IsUnbounded, IsOutOfPivots, IsTooWide, solved}
 use Rattle.certificate_checker.specs.Conditions.{steps}
-use Rattle.certificate_checker.specs.Costs.{cost_value, model_cost}
+use Rattle.certificate_checker.specs.Costs.{model_cost}
 use Rattle.certificate_checker.specs.Gaps.{gap_condition}
-use Rattle.certificate_checker.specs.MultiplierChecks.{bound_conditions, bound_value, infeasible_conditions}
+use Rattle.certificate_checker.specs.MultiplierChecks.{bound_conditions, infeasible_conditions}
 use Rattle.certificate_checker.specs.PlanChecks.{direction_conditions, plan_conditions}
-use Rattle.exact_solver.specs.Definers.{definers}
-use Rattle.exact_solver.specs.Programs.{carried_direction, carried_multipliers, carried_plan, carrying_steps, direction_steps, plan_steps, program_left}
-use Rattle.exact_solver.specs.declared.solutions.Solution.{Solution}
-use Rattle.exact_solver.specs.declared.solutions.Solution.TheVariants as found
-use Rattle.exact_solver.specs.declared.solutions.SolveStop.{SolveStop}
-use Rattle.exact_solver.specs.declared.solutions.SolveStop.TheVariants as stops
+use Rattle.certified_answers.specs.Costs.{weight_of}
+use Rattle.certified_answers.specs.Worth.{multiplier_bound, plan_cost}
+use Rattle.certified_answers.specs.declared.answers.Certified.{Certified}
+use Rattle.certified_answers.specs.declared.answers.Certified.TheVariants as found
+use Rattle.certified_answers.specs.declared.answers.NoAnswer.{NoAnswer}
+use Rattle.certified_answers.specs.declared.answers.NoAnswer.TheVariants as stops
+use Rattle.certified_answers.specs.declared.costs.Cost.{Cost}
+use Rattle.certified_answers.specs.declared.costs.Cost.TheVariants.{Model, Nothing, One}
+use Rattle.certified_answers.specs.declared.costs.Goal.{Goal}
+use Rattle.row_problem.specs.Programs.{carried_direction, carried_multipliers, carried_plan, carrying_steps, direction_steps, plan_steps, program_left}
 
--- with a plan of least cost, and multipliers that prove it; with no plan, and multipliers that prove that; with a plan and a direction along which
--- the cost falls without end; with a pivot that is due after the last; or at the place of the first step that forms a number that doesn't fit
+-- with a plan of least cost, and multipliers that prove it, of which there are none at no cost; with no plan, and multipliers that prove that; with a plan and a
+-- direction along which the cost falls without end; with a pivot that is due after the last; or at the place of the first step that forms a number that doesn't fit
 pub data MethodEnd : Type 0 where
   HasOptimum : (plan : List (Var × Rational)) (multipliers : List (RowName × Rational)) (pivots : ℕ) → MethodEnd
   HasNoPlan : (multipliers : List (RowName × Rational)) (pivots : ℕ) → MethodEnd
@@ -33,28 +35,30 @@ pub data MethodEnd : Type 0 where
 
 -- ---- the checks
 
--- what the plan costs, and what the multipliers sum up to
-abbrev pub plan_cost : List Var → List (Var × Rational) → Rational
-plan_cost vars plan = cost_value model_cost vars (value_in var_cmp plan)
+-- of a plan
+abbrev pub plan_checks : List Row → List Var → List (Var × Rational) → List (Step Place)
+plan_checks rows vars plan = steps (plan_conditions model_cost rows vars plan)
 
-abbrev pub multiplier_bound : List Row → List (RowName × Rational) → Rational
-multiplier_bound rows multipliers = bound_value rows (value_in row_name_cmp multipliers)
-
--- the checks of a plan, of multipliers that prove a bound, and of the gap between them, of which nothing is allowed
+-- of a plan, of multipliers that prove a bound, and of the gap between them, of which nothing is allowed
 abbrev pub optimum_checks : List Row → List Var → List (Var × Rational) → List (RowName × Rational) → List (Step Place)
 optimum_checks rows vars plan multipliers =
-    steps (plan_conditions model_cost rows vars plan)
+    plan_checks rows vars plan
     ++ (steps (bound_conditions model_cost rows vars multipliers)
     ++ steps (gap_condition (plan_cost vars plan) (multiplier_bound rows multipliers) 0 ∷ []))
 
--- the check of multipliers that prove that there is no plan
+-- of a plan, and of multipliers that prove a bound of one variable's value
+abbrev pub extreme_checks : Var → Goal → List Row → List Var → List (Var × Rational) → List (RowName × Rational) → List (Step Place)
+extreme_checks var goal rows vars plan multipliers =
+    plan_checks rows vars plan ++ steps (bound_conditions (weight_of (One var goal)) rows vars multipliers)
+
+-- of multipliers that prove that there is no plan
 abbrev pub refutation_checks : List Row → List Var → List (RowName × Rational) → List (Step Place)
 refutation_checks rows vars multipliers = steps (infeasible_conditions rows vars multipliers)
 
--- the checks of a plan, and of a direction along which the cost falls
-abbrev pub descent_checks : List Row → List Var → List (Var × Rational) → List (Var × Rational) → List (Step Place)
-descent_checks rows vars plan direction =
-    steps (plan_conditions model_cost rows vars plan) ++ steps (direction_conditions model_cost rows vars direction)
+-- of a plan, and of a direction along which the cost falls
+abbrev pub descent_checks : Cost → List Row → List Var → List (Var × Rational) → List (Var × Rational) → List (Step Place)
+descent_checks cost rows vars plan direction =
+    plan_checks rows vars plan ++ steps (direction_conditions (weight_of cost) rows vars direction)
 
 -- ---- the end
 
@@ -63,42 +67,76 @@ abbrev pub unless_wide : Option Place → MethodEnd → MethodEnd
 unless_wide None end = end
 unless_wide (Some place) end = IsWide place
 
--- after the simplex: what it found is carried back, the plan first, and then checked
-abbrev pub carried_end : List Row → List Var → Outcome → MethodEnd
-carried_end rows vars (IsOptimal values lambda pivots) =
-    unless_wide
-    (first_wide
-    (plan_steps rows values
-    ++ (carrying_steps true rows lambda ++ optimum_checks rows vars (carried_plan rows values) (carried_multipliers true rows lambda))))
-    (HasOptimum (carried_plan rows values) (carried_multipliers true rows lambda) pivots)
-carried_end rows vars (IsInfeasible lambda pivots) =
-    unless_wide
-    (first_wide (carrying_steps false rows lambda ++ refutation_checks rows vars (carried_multipliers false rows lambda)))
-    (HasNoPlan (carried_multipliers false rows lambda) pivots)
-carried_end rows vars (IsUnbounded values direction pivots) =
-    unless_wide
-    (first_wide
-    (plan_steps rows values
-    ++ (direction_steps rows direction ++ descent_checks rows vars (carried_plan rows values) (carried_direction rows direction))))
-    (HasNoBound (carried_plan rows values) (carried_direction rows direction) pivots)
-carried_end rows vars IsOutOfPivots = IsPivotDue
-carried_end rows vars (IsTooWide place) = IsWide place
+-- values of the columns are carried back to a plan, and checked: all that is asked for at no cost
+abbrev pub planned_end : List Row → List (Option Var) → List Var → List (Var × Rational) → ℕ → MethodEnd
+planned_end rows defs vars values pivots =
+    unless_wide (first_wide (plan_steps rows defs values ++ plan_checks rows vars (carried_plan rows defs values))) (HasOptimum (carried_plan rows defs values) [] pivots)
 
--- the end with so many pivots at most
-unfoldable pub method_end : List Row → List Var → ℕ → MethodEnd
-method_end rows vars pivots =
-    unless_wide (first_wide (elimination_steps rows (definers rows))) (carried_end rows vars (solved pivots (program_left rows vars)))
+-- the plan is carried back first, then the multipliers, with the model's cost and without that of one variable; then both are checked
+abbrev pub optimal_end : Cost → List Row → List (Option Var) → List Var → List (Var × Rational) → List Rational → ℕ → MethodEnd
+optimal_end Model rows defs vars values lambda pivots =
+    unless_wide
+    (first_wide
+    (plan_steps rows defs values
+    ++ (carrying_steps true rows defs lambda ++ optimum_checks rows vars (carried_plan rows defs values) (carried_multipliers true rows defs lambda))))
+    (HasOptimum (carried_plan rows defs values) (carried_multipliers true rows defs lambda) pivots)
+optimal_end Nothing rows defs vars values lambda pivots = planned_end rows defs vars values pivots
+optimal_end (One var goal) rows defs vars values lambda pivots =
+    unless_wide
+    (first_wide
+    (plan_steps rows defs values
+    ++ (carrying_steps false rows defs lambda ++ extreme_checks var goal rows vars (carried_plan rows defs values) (carried_multipliers false rows defs lambda))))
+    (HasOptimum (carried_plan rows defs values) (carried_multipliers false rows defs lambda) pivots)
+
+-- the multipliers are carried back, and checked
+abbrev pub infeasible_end : List Row → List (Option Var) → List Var → List Rational → ℕ → MethodEnd
+infeasible_end rows defs vars lambda pivots =
+    unless_wide
+    (first_wide (carrying_steps false rows defs lambda ++ refutation_checks rows vars (carried_multipliers false rows defs lambda)))
+    (HasNoPlan (carried_multipliers false rows defs lambda) pivots)
+
+-- the plan is carried back, then the direction; then both are checked
+abbrev pub falling_end : Cost → List Row → List (Option Var) → List Var → List (Var × Rational) → List (Var × Rational) → ℕ → MethodEnd
+falling_end cost rows defs vars values direction pivots =
+    unless_wide
+    (first_wide
+    (plan_steps rows defs values
+    ++ (direction_steps rows defs direction ++ descent_checks cost rows vars (carried_plan rows defs values) (carried_direction rows defs direction))))
+    (HasNoBound (carried_plan rows defs values) (carried_direction rows defs direction) pivots)
+
+-- at no cost nothing falls without end, and values that meet the rows are a plan all the same
+abbrev pub unbounded_end : Cost → List Row → List (Option Var) → List Var → List (Var × Rational) → List (Var × Rational) → ℕ → MethodEnd
+unbounded_end Model rows defs vars values direction pivots = falling_end Model rows defs vars values direction pivots
+unbounded_end Nothing rows defs vars values direction pivots = planned_end rows defs vars values pivots
+unbounded_end (One var goal) rows defs vars values direction pivots = falling_end (One var goal) rows defs vars values direction pivots
+
+-- after the simplex: what it found is carried back, and then checked
+abbrev pub carried_end : Cost → List Row → List (Option Var) → List Var → Outcome → MethodEnd
+carried_end cost rows defs vars (IsOptimal values lambda pivots) = optimal_end cost rows defs vars values lambda pivots
+carried_end cost rows defs vars (IsInfeasible lambda pivots) = infeasible_end rows defs vars lambda pivots
+carried_end cost rows defs vars (IsUnbounded values direction pivots) = unbounded_end cost rows defs vars values direction pivots
+carried_end cost rows defs vars IsOutOfPivots = IsPivotDue
+carried_end cost rows defs vars (IsTooWide place) = IsWide place
+
+-- the end on what is left of rows, with so many pivots at most
+unfoldable pub solved_end : List Row → List (Option Var) → List Var → Cost → ℕ → MethodEnd
+solved_end rows defs vars cost pivots = carried_end cost rows defs vars (solved pivots (program_left rows defs vars cost))
+
+-- the end at the model's cost, with the elimination before it
+unfoldable pub method_end : List Row → List (Option Var) → List Var → ℕ → MethodEnd
+method_end rows defs vars pivots = unless_wide (first_wide (elimination_steps rows defs)) (solved_end rows defs vars Model pivots)
 
 -- ---- what is answered
 
--- a solution, as an end of the method
-abbrev pub end_seen : Solution → MethodEnd
+-- an answer, as an end of the method
+abbrev pub end_seen : Certified → MethodEnd
 end_seen (found.Optimal plan multipliers cost bound pivots) = HasOptimum plan multipliers pivots
 end_seen (found.Infeasible multipliers pivots) = HasNoPlan multipliers pivots
 end_seen (found.Unbounded plan direction pivots) = HasNoBound plan direction pivots
 
 -- a pivot is due after the last that may be made; the place is that of the first step that forms a number that doesn't fit; out of memory has no cause
-abbrev pub IsStopOf : MethodEnd → SolveStop → Type 0
+abbrev pub IsStopOf : MethodEnd → NoAnswer → Type 0
+IsStopOf end stops.Nothing = ⊥
 IsStopOf end stops.Budget = end ≡ IsPivotDue
 IsStopOf end (stops.Width place) = end ≡ IsWide place
 IsStopOf end stops.Memory = ⊤
