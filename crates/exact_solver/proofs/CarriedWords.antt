@@ -43,7 +43,7 @@ use Rattle.variable_elimination.specs.Lifts as lifts
 use Rattle.variable_elimination.specs.ReducedRows.{AreReductions}
 use Rattle.variable_elimination.proofs.FormLaws.{HaveOnly}
 use Rattle.variable_elimination.proofs.LiftLaws.{neither}
-use Rattle.variable_elimination.proofs.ProvenLaws.{proves, refutes}
+use Rattle.variable_elimination.proofs.ProvenLaws.{chosen-columns, proves, refutes}
 use Rattle.variable_elimination.proofs.ReadyLaws.{IsColumnBeyond, RowsHaveOnly, known_columns}
 use Rattle.variable_elimination.proofs.VariableLaws.{turned}
 use Rattle.exact_solver.specs.CarriedBack.{BecomesPlan, BecomesDirection, BecomesProof, BecomesRefutation}
@@ -210,7 +210,7 @@ module _ (rows : List Row) (vars others : List Var) (reduced : Reduced) (known :
       let keep = carries (pos s) y l (positive s over.0) over.1 from in
       record {
         proves = λ bounds.
-            let proved = proves rows others reduced y l are (pos s) own keep bounds in
+            let proved = proves rows others reduced y l (chosen-columns rows reduced.columns.items are) (pos s) own keep bounds in
             record { signs = signed y rows proved.signs; columns = all_within y rows (λ v. model_cost v *ℤ pos s) vars (λ v h. proved.within v (is_known v h)) };
         bound = ap (λ z. reduced.cost_own *ℤ z) (sym (sum_same y (λ row. row.rhs) rows)) ∙ keep.bound;
       }
@@ -218,7 +218,7 @@ module _ (rows : List Row) (vars others : List Var) (reduced : Reduced) (known :
   pub becomes_refutation : (lambda : List Frac) (made : List (RowName × Rational)) → carried.CarriesSum rows others reduced lambda made → BecomesRefutation rows vars reduced lambda made
   becomes_refutation lambda made carries s y l over from refute =
       let keep = carries (pos s) y l (positive s over.0) over.1 from in
-      let proved = refutes rows others reduced y l are keep refute in
+      let proved = refutes rows others reduced y l (chosen-columns rows reduced.columns.items are) keep refute in
       record {
         proves = record {
           signs = signed y rows proved.signs;

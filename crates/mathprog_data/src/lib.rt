@@ -26,6 +26,7 @@ mod words;
 
 pub use blocks::{Blocks, Mark, Name, ParamBlock, SetBlock};
 pub use fault::{DataFault, ReadFail};
+pub use model_sets::{param_word, set_word};
 pub use pieces::PieceReader;
 pub use reading::{read_blocks, verdict_laws};
 pub use token::Token;

@@ -21,7 +21,7 @@ use Rattle.written_method.specs.Multiplied.{coefficient}
 use Rattle.written_method.specs.Programs.{is_split, program_of}
 use Rattle.written_method.specs.Ready.{IsAmong}
 use Rattle.variable_elimination.specs.Certified.{column_sum, KeepBound, KeepSum, IsKnown, ProvesBound, RefutesRows}
-use Rattle.variable_elimination.specs.Columns.{AreColumns}
+use Rattle.variable_elimination.specs.Columns.{AreChosen, AreColumns}
 use Rattle.variable_elimination.proofs.ReadyLaws.{among-from_contains, contains-from_among}
 
 -- ---- columns are freely chosen
@@ -53,8 +53,8 @@ row_chosen (row ∷ rows) v h =
     cases (inl k) later = entry_chosen (variables_of row.entries.items) v k
     cases (inr k) later = later k
 
-column_chosen : (rows : List Row) (columns : List Var) (v : Var) → AreColumns rows columns → IsAmong v columns → is_column v ≡ true
-column_chosen rows columns v are h = row_chosen rows v (among-from_contains (column_entries rows) v ((are.each v).0 (contains-from_among columns v h)))
+pub chosen-columns : (rows : List Row) (columns : List Var) → AreColumns rows columns → AreChosen columns
+chosen-columns rows columns are v h = row_chosen rows v (among-from_contains (column_entries rows) v ((are.each v).0 h))
 
 -- a freely chosen variable isn't of the cost, and may be negative where it is split
 abbrev IsPlain : ℕ → Type 0
@@ -86,7 +86,7 @@ within-kept false own column sum s n h e k =
     let zero_is = zero-*ℤ own in
     ≤ℤ_cancel column (pos 0) own h (omega (arith, ints))
 
-module _ (rows : List Row) (vars : List Var) (reduced : Reduced) (y : RowName → ℤ) (l : ℕ → ℤ) (are : AreColumns rows reduced.columns.items) where
+module _ (rows : List Row) (vars : List Var) (reduced : Reduced) (y : RowName → ℤ) (l : ℕ → ℤ) (are : AreChosen reduced.columns.items) where
   abbrev Right : ℤ → Var → Type 0
   Right c v = IsWithin (kind_is_free v.kind) (column_sum y rows v) c
 
@@ -98,7 +98,7 @@ module _ (rows : List Row) (vars : List Var) (reduced : Reduced) (y : RowName �
 
       as_column : (v : Var) → IsAmong v reduced.columns.items → is_among vars v ≡ false → Right (coefficient true v *ℤ s) v
       as_column v c h =
-          let kind : IsPlain v.kind = chosen_plain v (column_chosen rows reduced.columns.items v are c) in
+          let kind : IsPlain v.kind = chosen_plain v (are v (contains-from_among reduced.columns.items v c)) in
           let below : IsWithin (is_split v) (column_sum y rows v) (pos 0) =
           within-kept (is_split v) reduced.cost_own (column_sum y rows v) (number_sum l 0 (program_of reduced).rows v) s (number_at reduced.cost.items v) positive (keep.columns v h) (bounds.columns v c) in
           subst (λ z. Right z v) (sym (ap (λ z. z *ℤ s) kind.1 ∙ zero-*ℤ s)) (subst (λ t. IsWithin t (column_sum y rows v) (pos 0)) kind.0 below)
@@ -119,7 +119,7 @@ module _ (rows : List Row) (vars : List Var) (reduced : Reduced) (y : RowName �
 
       as_column : (v : Var) → IsAmong v reduced.columns.items → is_among vars v ≡ false → Right (pos 0) v
       as_column v c h =
-          let kind : IsPlain v.kind = chosen_plain v (column_chosen rows reduced.columns.items v are c) in
+          let kind : IsPlain v.kind = chosen_plain v (are v (contains-from_among reduced.columns.items v c)) in
           subst (λ t. IsWithin t (column_sum y rows v) (pos 0)) kind.0 (subst (λ z. IsWithin (is_split v) z (pos 0)) (sym (keep.columns v h)) (refute.columns v c))
 
       known : (v : Var) → IsKnown vars reduced.columns.items v → Right (pos 0) v

@@ -17,3 +17,4 @@ pub use eliminating::eliminate;
 pub use laws::certificate_laws;
 pub use lifting::{lift_direction, lift_plan};
 pub use multiplying::lift_multipliers;
+pub use written_method::Reduced;
