@@ -1,19 +1,25 @@
 //! The checks of what was found. Where what is found is what the checker asks for, a number that doesn't fit is the one cause of a
 //! refusal; else what is refused is what the checker refuses.
 
-ghost use Rattle.std.specs.Prelude.{◌≡◌, ◌∷◌, [], IsTrue, IfErr, IfOk, OnOk};
+ghost use Rattle.std.specs.Prelude.{◌≡◌, ◌∷◌, [], ℕ, ℤ, pos, IsTrue, IfErr, IfOk, OnOk};
 ghost use Rattle.exact_num.specs.Value.{value_of};
+ghost use Rattle.row_core.specs.declared.RowName.{RowName};
 ghost use Rattle.row_core.specs.Numbers.{ascends};
 ghost use Rattle.row_core.specs.Order.{var_cmp};
-ghost use Rattle.certificate_checker.specs.Costs.{model_cost};
+ghost use Rattle.row_core.specs.Plans.{value_in};
+ghost use Rattle.row_core.specs.Values.{IsOver};
+ghost use Rattle.certificate_checker.specs.Certificates.{AreMultipliersOver, BoundsAll, CostsLess, Descends, Proves, bound_of};
+ghost use Rattle.certificate_checker.specs.Costs.{cost_of, cost_value, model_cost};
 ghost use Rattle.certificate_checker.specs.Gaps.{gap_condition};
 ghost use Rattle.certificate_checker.specs.Sums.{HasVariablesOf};
 ghost use Rattle.certificate_checker.specs.MultiplierChecks.{bound_conditions, infeasible_conditions};
 ghost use Rattle.certificate_checker.specs.PlanChecks.{direction_conditions, plan_conditions};
+ghost use Rattle.certificate_checker.specs.Plans.{AreValuesOver, MeetsAll};
+ghost use Rattle.certificate_checker.specs.Verdicts.{IfYes, IsVerdict, OnNo, OnYes};
 ghost use Rattle.certified_answers.specs.Costs.{weight_of};
 ghost use Rattle.certified_answers.specs.Found.{IsFoundBoundFor, IsFoundDescentFor, IsFoundPlan, IsFoundRefutation};
 ghost use Rattle.certified_answers.specs.Refusals.{IsRefused, IsWidthOf};
-ghost use Rattle.certified_answers.specs.Worth.{IsBoundFor, IsDescentFor, IsNear, IsPlan, IsRefutation};
+ghost use Rattle.certified_answers.specs.Worth.{IsBoundFor, IsDescentFor, IsNear, IsPlan, IsRefutation, multiplier_bound};
 
 use crate::answers::NoAnswer;
 use crate::costs::{Cost, sign_of};
@@ -24,7 +30,7 @@ use certificate_checker::{
 };
 use exact_num::Frac;
 use row_core::{Multipliers, Plan, Row, Var};
-use std::alloc::Global;
+use std::alloc::{AllocError, Global};
 
 /// The model's cost of a plan that the checker accepts.
 pub fn accepted_plan(rows: &[Row], vars: &[Var], plan: &Plan) -> Result<Frac, NoAnswer>
@@ -55,17 +61,35 @@ pub fn accepted_bound(
     ensures refused { IfErr result (IsRefused (bound_conditions (weight_of cost) rows.now vars.now multipliers.now)) }
 {
     multiplier_laws(multipliers);
-    let verdict = match cost {
-        Cost::Model => check_bound(alloc, rows, vars, multipliers)?,
-        Cost::Nothing => check_bound_of(alloc, rows, vars, &[], multipliers)?,
-        Cost::One(var, goal) => {
-            check_bound_of(alloc, rows, vars, &[(var, sign_of(goal))], multipliers)?
-        }
-    };
+    let verdict = bound_verdict(alloc, rows, vars, cost, multipliers)?;
     match verdict {
         Verdict::Yes(bound) => Ok(bound),
         Verdict::Width(place) => Err(NoAnswer::Width(place)),
         Verdict::No(_) => Err(NoAnswer::Nothing),
+    }
+}
+
+/// What the checker says of multipliers at a cost.
+fn bound_verdict(
+    alloc: Global,
+    rows: &[Row],
+    vars: &[Var],
+    cost: Cost,
+    multipliers: &Multipliers,
+) -> Result<Verdict, AllocError>
+    requires { IsTrue (ascends var_cmp vars.now) }
+    ensures answer { IfOk result (IsVerdict (bound_conditions (weight_of cost) rows.now vars.now multipliers.now) (multiplier_bound rows.now multipliers.now)) }
+    ensures yes { (s : ℕ) (y : RowName → ℤ) → AreMultipliersOver s y multipliers.now
+        → IfOk result (λ v. IfYes v (λ bound. Proves (weight_of cost) rows.now vars.now s y × IsOver (pos s) (value_of bound) (bound_of y rows.now))) }
+    ensures no { (s : ℕ) (y : RowName → ℤ) → AreMultipliersOver s y multipliers.now → IfOk result (λ v. OnNo v (¬ (Proves (weight_of cost) rows.now vars.now s y))) }
+    ensures bounds { HasVariablesOf rows.now vars.now → IfOk result (λ v. IfYes v (λ bound. BoundsAll (weight_of cost) rows.now vars.now (value_of bound))) }
+{
+    match cost {
+        Cost::Model => check_bound(alloc, rows, vars, multipliers),
+        Cost::Nothing => check_bound_of(alloc, rows, vars, &[], multipliers),
+        Cost::One(var, goal) => {
+            check_bound_of(alloc, rows, vars, &[(var, sign_of(goal))], multipliers)
+        }
     }
 }
 
@@ -116,16 +140,26 @@ pub fn accepted_direction(
     ensures refused { IfErr result (IsRefused (direction_conditions (weight_of cost) rows.now vars.now direction.now)) }
 {
     plan_laws(direction);
-    let verdict = match cost {
+    match direction_verdict(rows, vars, cost, direction) {
+        Verdict::Yes(_) => Ok(()),
+        Verdict::Width(place) => Err(NoAnswer::Width(place)),
+        Verdict::No(_) => Err(NoAnswer::Nothing),
+    }
+}
+
+/// What the checker says of a direction at a cost.
+fn direction_verdict(rows: &[Row], vars: &[Var], cost: Cost, direction: &Plan) -> Verdict
+    ensures answer { IsVerdict (direction_conditions (weight_of cost) rows.now vars.now direction.now) (cost_value (weight_of cost) vars.now (value_in var_cmp direction.now)) result }
+    ensures yes { (q : ℕ) (d : Var → ℤ) → AreValuesOver q d direction.now
+        → IfYes result (λ sum. Descends (weight_of cost) rows.now vars.now d × IsOver (pos q) (value_of sum) (cost_of (weight_of cost) vars.now d)) }
+    ensures no { (q : ℕ) (d : Var → ℤ) → AreValuesOver q d direction.now → OnNo result (¬ (Descends (weight_of cost) rows.now vars.now d)) }
+    ensures endless { (q : ℕ) (x : Var → ℤ) (n : ℤ) → MeetsAll rows.now vars.now q x → OnYes result (CostsLess (weight_of cost) rows.now vars.now n) }
+{
+    match cost {
         Cost::Model => check_direction(rows, vars, direction),
         Cost::Nothing => check_direction_of(rows, vars, &[], direction),
         Cost::One(var, goal) => {
             check_direction_of(rows, vars, &[(var, sign_of(goal))], direction)
         }
-    };
-    match verdict {
-        Verdict::Yes(_) => Ok(()),
-        Verdict::Width(place) => Err(NoAnswer::Width(place)),
-        Verdict::No(_) => Err(NoAnswer::Nothing),
     }
 }

@@ -1,0 +1,11 @@
+use Rattle.std.proofs.Common.{subst}
+use Rattle.row_core.specs.Order.{var_cmp}
+use Rattle.certificate_checker.specs.Denominators.{AreOverSome}
+use Rattle.certified_answers.proofs.KeyedLaws.{ascends-valued}
+use Rattle.certified_answers.proofs.laws.plan_laws.Goals as goal
+
+pub returns-clause-ascending : goal.returns-clause-ascending
+returns-clause-ascending c = ascends-valued var_cmp c.entries-values.result.now c.args.plan.now c.entries-values.ensures.values c.entries-values.ensures.ascending
+
+pub returns-clause-some : goal.returns-clause-some
+returns-clause-some c = subst (λ values. AreOverSome var_cmp values) c.entries-values.ensures.values (c.denominator_laws.ensures.plans c.entries-values.result.now)
