@@ -1,4 +1,4 @@
--- What is carried back has a value for each variable of a book, in order; and multipliers for names of its rows alone.
+-- What is carried back has a value for each variable, in order; and multipliers for names of its rows alone.
 use Rattle.std.proofs.Common.{◌≡◌, ℤ, Bool, true, false, List, [], ◌∷◌, ◌⊎◌, inl, inr, map, filter, refl, sym, ◌∙◌, subst, if◌then◌else◌}
 use Rattle.std.specs.Prelude.{Option, Some, None}
 use Rattle.std.specs.BTreeMap.{insert_entry}
@@ -16,17 +16,16 @@ use Rattle.row_core.specs.Plans.{value_in}
 use Rattle.row_core.proofs.Orders.{var_cmp_exact}
 use Rattle.row_core.proofs.Members.{Contains-from_Has, Has, Has-from_Contains}
 use Rattle.row_core.specs.RowLists.{names_of}
-use Rattle.row_book.specs.Kept.{IsBook}
 use Rattle.written_method.specs.Definitions.{Definition, definitions_of, defined, others_of}
 use Rattle.written_method.specs.Eliminated.{expanded_all, is_column, is_kept, reduced_row, reduced_rows}
 use Rattle.written_method.specs.Lifted.{lifted, lifted_value, no_right_side, right_side}
 use Rattle.written_method.specs.Multiplied.{defined_multipliers, multiplier_of, scaled_multipliers}
 use Rattle.exact_num.specs.Rational.{times}
-use Rattle.exact_solver.specs.Definers.{definers}
-use Rattle.exact_solver.specs.Programs.{carried_direction, carried_multipliers, carried_plan, definitions_in, name_left, rows_left, scale_left}
-use Rattle.exact_solver.specs.Solutions.{AreNamedIn}
-use Rattle.exact_solver.proofs.BookVariables.{Has-from_test, definer-has, defined-has, variable-known}
-use Rattle.exact_solver.proofs.SameLists.{Has-filter_from, Has-filter_to, same-list}
+use Rattle.certified_answers.specs.Answers.{AreNamedIn}
+use Rattle.row_problem.specs.Problems.{IsProblem}
+use Rattle.row_problem.specs.Programs.{carried_direction, carried_multipliers, carried_plan, name_left, rows_left, scale_left}
+use Rattle.row_problem.proofs.ProblemLaws.{Has-from_test, defined-has, variable-known}
+use Rattle.row_problem.proofs.SameLists.{Has-filter_from, Has-filter_to, same-list}
 
 -- ---- one key more
 
@@ -87,28 +86,28 @@ has-lifted right (d ∷ ds) values u h =
     cases (inl (inr k)) put = inl k
     cases (inr k) put = inr (put (inr k))
 
-module _ (rows : List Row) (vars : List Var) (book : IsBook rows vars) (values : List (Var × Rational)) (keyed : keys_of values ≡ filter is_column vars) where
-  complete : (right : Definition → ℤ) → ascends var_cmp (keys_of (lifted right (definitions_in rows) values)) ≡ true → keys_of (lifted right (definitions_in rows) values) ≡ vars
-  complete right up = same-list (keys_of (lifted right (definitions_in rows) values)) vars up book.variables.ascending to back
+module _ (rows : List Row) (defs : List (Option Var)) (vars : List Var) (problem : IsProblem rows defs vars) (values : List (Var × Rational)) (keyed : keys_of values ≡ filter is_column vars) where
+  complete : (right : Definition → ℤ) → ascends var_cmp (keys_of (lifted right (definitions_of rows defs) values)) ≡ true → keys_of (lifted right (definitions_of rows defs) values) ≡ vars
+  complete right up = same-list (keys_of (lifted right (definitions_of rows defs) values)) vars up problem.ascending to back
     where
-      to : (u : Var) → Has (keys_of (lifted right (definitions_in rows) values)) u → Has vars u
-      to u h = elim (lifted-has right (definitions_in rows) values u h) [
-        | inl k ↦ definer-has rows vars book u (defined-has rows u k)
+      to : (u : Var) → Has (keys_of (lifted right (definitions_of rows defs) values)) u → Has vars u
+      to u h = elim (lifted-has right (definitions_of rows defs) values u h) [
+        | inl k ↦ defined-has rows defs vars problem u k
         | inr k ↦ (Has-filter_to is_column vars u (subst (λ ks. Has ks u) keyed k)).0
       ]
 
-      back : (u : Var) → Has vars u → Has (keys_of (lifted right (definitions_in rows) values)) u
+      back : (u : Var) → Has vars u → Has (keys_of (lifted right (definitions_of rows defs) values)) u
       back u h =
-          has-lifted right (definitions_in rows) values u (elim (variable-known rows vars book u h) [
-            | inl k ↦ inl (Has-from_test (defined (definitions_in rows)) u k)
+          has-lifted right (definitions_of rows defs) values u (elim (variable-known rows defs vars problem u h) [
+            | inl k ↦ inl (Has-from_test (defined (definitions_of rows defs)) u k)
             | inr k ↦ inr (subst (λ ks. Has ks u) (sym keyed) (Has-filter_from is_column vars u h k))
           ])
 
-  pub plan-complete : ascends var_cmp (keys_of (carried_plan rows values)) ≡ true → keys_of (carried_plan rows values) ≡ vars
+  pub plan-complete : ascends var_cmp (keys_of (carried_plan rows defs values)) ≡ true → keys_of (carried_plan rows defs values) ≡ vars
   unfolding carried_plan
   plan-complete up = complete right_side up
 
-  pub direction-complete : ascends var_cmp (keys_of (carried_direction rows values)) ≡ true → keys_of (carried_direction rows values) ≡ vars
+  pub direction-complete : ascends var_cmp (keys_of (carried_direction rows defs values)) ≡ true → keys_of (carried_direction rows defs values) ≡ vars
   unfolding carried_direction
   direction-complete up = complete no_right_side up
 
@@ -163,21 +162,21 @@ multiplied-has with_cost rows (d ∷ ds) made u h =
     cases (inl a) f = inl (inl a)
     cases (inr b) f = elim (f b) [ inl c ↦ inl (inr c) | inr d ↦ inr d ]
 
-named-has : (with_cost : Bool) (rows : List Row) (lambda : List Rational) (u : RowName) → Has (keys_of (carried_multipliers with_cost rows lambda)) u → Has (names_of rows) u
+named-has : (with_cost : Bool) (rows : List Row) (defs : List (Option Var)) (lambda : List Rational) (u : RowName) → Has (keys_of (carried_multipliers with_cost rows defs lambda)) u → Has (names_of rows) u
 unfolding carried_multipliers
-named-has with_cost rows lambda u h =
-    let names = map name_left (rows_left rows) in
-    let scales = map scale_left (rows_left rows) in
-    elim (multiplied-has with_cost rows (definitions_in rows) (scaled_multipliers names scales lambda []) u h) [
-      | inl k ↦ definitions-named rows (definers rows) u k
+named-has with_cost rows defs lambda u h =
+    let names = map name_left (rows_left rows defs) in
+    let scales = map scale_left (rows_left rows defs) in
+    elim (multiplied-has with_cost rows (definitions_of rows defs) (scaled_multipliers names scales lambda []) u h) [
+      | inl k ↦ definitions-named rows defs u k
       | inr k ↦ elim (scaled-has names scales lambda [] u k) [
-        | inl l ↦ others-named rows (definers rows) u (left-named (expanded_all [] (definitions_in rows)) (others_of rows (definers rows)) u l)
+        | inl l ↦ others-named rows defs u (left-named (expanded_all [] (definitions_of rows defs)) (others_of rows defs) u l)
         | inr l ↦ absurd l
       ]
     ]
 
-pub multipliers-named : (with_cost : Bool) (rows : List Row) (lambda : List Rational) → ascends row_name_cmp (keys_of (carried_multipliers with_cost rows lambda)) ≡ true → AreNamedIn rows (carried_multipliers with_cost rows lambda)
-multipliers-named with_cost rows lambda up = record {
+pub multipliers-named : (with_cost : Bool) (rows : List Row) (defs : List (Option Var)) (lambda : List Rational) → ascends row_name_cmp (keys_of (carried_multipliers with_cost rows defs lambda)) ≡ true → AreNamedIn rows (carried_multipliers with_cost rows defs lambda)
+multipliers-named with_cost rows defs lambda up = record {
   ascending = up;
-  among = λ u h. Contains-from_Has (names_of rows) u (named-has with_cost rows lambda u (Has-from_Contains (keys_of (carried_multipliers with_cost rows lambda)) u h));
+  among = λ u h. Contains-from_Has (names_of rows) u (named-has with_cost rows defs lambda u (Has-from_Contains (keys_of (carried_multipliers with_cost rows defs lambda)) u h));
 }

@@ -1,4 +1,4 @@
--- No equation is left of a book: one that defines nothing says what a definition says, so that it is reduced to 0 = 0, which isn't kept. So what is left is a linear program of inequalities.
+-- No equation is left of a problem: one that defines nothing says what a definition says, so that it is reduced to 0 = 0, which isn't kept. So what is left is a linear program of inequalities.
 use Rattle.std.proofs.Common.{◌≡◌, ◌≢◌, ℤ, pos, ◌-ℤ◌, ◌*ℤ◌, Bool, true, false, not, ◌||◌, List, [], ◌∷◌, ◌⊎◌, inl, inr, map, filter, refl, sym, ap, ap₂, ◌∙◌, subst, arith, if◌then◌else◌}
 use Rattle.std.specs.Prelude.{Option, Some, None, ⊤, ◌<ℤ◌}
 use Rattle.std.specs.Ordering.{is_eq}
@@ -19,9 +19,7 @@ use Rattle.row_core.specs.Statements.{stands}
 use Rattle.row_core.specs.Values.{alone}
 use Rattle.row_core.proofs.AscendingLaws.{both_passed}
 use Rattle.row_core.proofs.MeaningLaws.{row_sum-alone}
-use Rattle.row_core.proofs.Members.{Has, Has-from_Contains}
-use Rattle.row_book.specs.Definitions.{IsRepeatedIn}
-use Rattle.row_book.specs.Kept.{IsBook}
+use Rattle.row_core.proofs.Members.{Contains-from_Has, Has, Has-from_Contains}
 use Rattle.written_method.specs.declared.reduced.Reduced.{Reduced}
 use Rattle.written_method.specs.Definitions.{Definition, definitions_of, others_of, rows_of, defined, avoids, AreTriangular}
 use Rattle.written_method.specs.Eliminated.{ReducedRow, has_entries, is_kept}
@@ -35,38 +33,18 @@ use Rattle.variable_elimination.proofs.LeftLaws.{avoids-from_none}
 use Rattle.variable_elimination.proofs.LiftLaws.{met_by_some, row_sum-avoids, row_sum-times}
 use Rattle.variable_elimination.proofs.ReductionLaws.{IsReduced-met}
 use Rattle.variable_elimination.proofs.VariableLaws.{itself}
-use Rattle.exact_solver.specs.Definers.{definer, definers}
-use Rattle.exact_solver.proofs.BookLaws.{book_triangular, placed}
+use Rattle.row_problem.specs.Problems.{IsProblem, IsRepeatedBy}
 
 -- ---- rows that say what a definition says
 
-met_at : (rows : List Row) (other : Row) (v : Var) (q : ℤ) (x : Var → ℤ) → Has rows other → definer other ≡ Some v → AreMet (definitions_of rows (definers rows)) q x → excess other q x ≡ pos 0
-met_at [] other v q x h d met = absurd h
-met_at (row ∷ rows) other v q x h d met = cases (definer row) refl h met (λ k m. met_at rows other v q x k d m)
-  where
-    cases : (o : Option Var) → definer row ≡ o → (row ≡ other) ⊎ Has rows other → AreMet (definitions_of (row ∷ rows) (o ∷ definers rows)) q x
-        → (Has rows other → AreMet (definitions_of rows (definers rows)) q x → excess other q x ≡ pos 0) → excess other q x ≡ pos 0
-    cases None is (inl e) m rest = let none : None ≡ Some v = sym is ∙ ap definer e ∙ d in absurd (cc none)
-    cases None is (inr k) m rest = rest k m
-    cases (Some w) is (inl e) m rest = subst (λ (r : Row). excess r q x ≡ pos 0) e m.0
-    cases (Some w) is (inr k) m rest = rest k m.1
+met_among : (ds : List Definition) (d : Definition) (q : ℤ) (x : Var → ℤ) → Has ds d → AreMet ds q x → excess d.row q x ≡ pos 0
+met_among [] d q x h met = absurd h
+met_among (first ∷ ds) d q x (inl e) met = subst (λ (k : Definition). excess k.row q x ≡ pos 0) e met.0
+met_among (first ∷ ds) d q x (inr h) met = met_among ds d q x h met.1
 
-repeated_met : (rows : List Row) (row : Row) (q : ℤ) (x : Var → ℤ) → IsRepeatedIn rows row → AreMet (definitions_of rows (definers rows)) q x → excess row q x ≡ pos 0
-repeated_met rows row q x r met =
-    ap₂ (λ (es : List (Var × ℤ)) z. row_sum x es -ℤ (z *ℤ q)) (sym r.entries) (sym r.right_side) ∙ met_at rows r.other r.variable q x (Has-from_Contains rows r.other r.among) r.defines met
-
--- a row that defines nothing is one of the others
-others_none : (rows : List Row) (row : Row) → Has (others_of rows (definers rows)) row → Has rows row × (definer row ≡ None)
-others_none [] row h = absurd h
-others_none (first ∷ rows) row h = cases (definer first) refl h (others_none rows row)
-  where
-    later : Has rows row × (definer row ≡ None) → Has (first ∷ rows) row × (definer row ≡ None)
-    later p = (inr p.0, p.1)
-
-    cases : (o : Option Var) → definer first ≡ o → Has (others_of (first ∷ rows) (o ∷ definers rows)) row → (Has (others_of rows (definers rows)) row → Has rows row × (definer row ≡ None)) → Has (first ∷ rows) row × (definer row ≡ None)
-    cases None is (inl e) rest = (inl e, ap definer (sym e) ∙ is)
-    cases None is (inr k) rest = later (rest k)
-    cases (Some w) is k rest = later (rest k)
+repeated_met : (ds : List Definition) (row : Row) (q : ℤ) (x : Var → ℤ) → IsRepeatedBy ds row → AreMet ds q x → excess row q x ≡ pos 0
+repeated_met ds row q x r met =
+    ap₂ (λ (es : List (Var × ℤ)) z. row_sum x es -ℤ (z *ℤ q)) (sym r.entries) (sym r.right_side) ∙ met_among ds r.definition q x (Has-from_Contains ds r.definition r.among) met
 
 -- ---- what they are reduced to
 
@@ -141,26 +119,23 @@ all_stay (r ∷ rs) (row ∷ rows) h = cases (is_kept r) refl h (all_stay rs (ro
 
 -- ---- the linear program
 
-module _ (rows : List Row) (vars : List Var) (book : IsBook rows vars) (columns : List Var) where
+module _ (rows : List Row) (defs : List (Option Var)) (vars : List Var) (problem : IsProblem rows defs vars) (columns : List Var) where
   abbrev ds : List Definition
-  ds = definitions_of rows (definers rows)
+  ds = definitions_of rows defs
 
   -- an equation that defines nothing holds wherever the definitions do
-  equation_met : (row : Row) → Has (others_of rows (definers rows)) row → row.sense ≡ Equal → (q : ℤ) (x : Var → ℤ) → AreMet ds q x → excess row q x ≡ pos 0
-  equation_met row h equal q x met =
-      let here = others_none rows row h in
-      let p = placed rows row here.0 in
-      repeated_met rows row q x (book.definitions.repeated p.place row p.at equal here.1) met
+  equation_met : (row : Row) → Has (others_of rows defs) row → row.sense ≡ Equal → (q : ℤ) (x : Var → ℤ) → AreMet ds q x → excess row q x ≡ pos 0
+  equation_met row h equal q x met = repeated_met ds row q x (problem.repeated row (Contains-from_Has (others_of rows defs) row h) equal) met
 
-  no_equation : (named new : Row) (scale : Rational) → Has (others_of rows (definers rows)) named → new.sense ≡ named.sense → IsReduced (rows_of ds) named scale new → avoids (defined ds) new.entries.items ≡ true → stays new ≡ true → new.sense ≢ Equal
+  no_equation : (named new : Row) (scale : Rational) → Has (others_of rows defs) named → new.sense ≡ named.sense → IsReduced (rows_of ds) named scale new → avoids (defined ds) new.entries.items ≡ true → stays new ≡ true → new.sense ≢ Equal
   no_equation named new scale h sense r apart stay equal =
       let holds = reduced_holds ds named new scale r (equation_met named h (sym sense ∙ equal)) in
-      let triangular = book_triangular rows vars book in
+      let triangular = problem.triangular in
       let gone : stays new ≡ false =
       ap₂ (λ es z. kept_by es new.sense z) (no_entries ds triangular new apart holds) (no_right_side ds triangular new apart holds) ∙ ap (λ s. kept_by [] s (pos 0)) equal in
       absurd (cc (stay, gone))
 
-  posed_rows : (others left : List Row) (scales : List Frac) → ((r : Row) → Has others r → Has (others_of rows (definers rows)) r) → AreReductions (rows_of ds) others left scales → AvoidAll (defined ds) left → AllStay left → RowsAreAmong columns left
+  posed_rows : (others left : List Row) (scales : List Frac) → ((r : Row) → Has others r → Has (others_of rows defs) r) → AreReductions (rows_of ds) others left scales → AvoidAll (defined ds) left → AllStay left → RowsAreAmong columns left
       → ArePosed columns (map inequality_of left)
   posed_rows [] left scales into h apart stay among = subst (λ (rs : List Row). ArePosed columns (map inequality_of rs)) (sym h.0) tt
   posed_rows (named ∷ others) left scales into (inl h) apart stay among = posed_rows others left scales (λ r k. into r (inr k)) h.1 apart stay among
@@ -172,13 +147,13 @@ module _ (rows : List Row) (vars : List Var) (book : IsBook rows vars) (columns 
       subst (λ (rs : List Row). ArePosed columns (map inequality_of rs)) (sym e)
       (no_equation named new (value_of scale) (into named (inl refl)) r.sense r.reduced apart_new.0 stay_new.0, new.ascending, among_new.0, later)
 
--- what is left of a book, where the rows are those of the written method
-pub posed : (rows : List Row) (vars : List Var) (made : Reduced) (kept : List ReducedRow) → IsBook rows vars
-    → AreReductions (rows_of (definitions_of rows (definers rows))) (others_of rows (definers rows)) made.rows.items made.scales.items → AvoidAll (defined (definitions_of rows (definers rows))) made.rows.items
+-- what is left of a problem, where the rows are those of the written method
+pub posed : (rows : List Row) (defs : List (Option Var)) (vars : List Var) (made : Reduced) (kept : List ReducedRow) → IsProblem rows defs vars
+    → AreReductions (rows_of (definitions_of rows defs)) (others_of rows defs) made.rows.items made.scales.items → AvoidAll (defined (definitions_of rows defs)) made.rows.items
     → map shape_of made.rows.items ≡ map shape (filter is_kept kept) → IsReady made → IsPosed (program_of made)
-posed rows vars made kept book reductions apart same ready = record {
+posed rows defs vars made kept problem reductions apart same ready = record {
   columns = ready.columns;
-  rows = posed_rows rows vars book made.columns.items (others_of rows (definers rows)) made.rows.items made.scales.items (λ r k. k) reductions apart (all_stay kept made.rows.items same) ready.rows_among;
+  rows = posed_rows rows defs vars problem made.columns.items (others_of rows defs) made.rows.items made.scales.items (λ r k. k) reductions apart (all_stay kept made.rows.items same) ready.rows_among;
   cost_ascends = ready.cost_ascends;
   cost_among = ready.cost_among;
   cost_positive = ready.own_positive;

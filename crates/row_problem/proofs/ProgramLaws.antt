@@ -1,20 +1,19 @@
--- What is left of a book is the written method's linear program.
-use Rattle.std.proofs.Common.{◌≡◌, List, [], ◌∷◌, map, refl, sym, ap, ◌∙◌}
+-- What is left of rows is the written method's linear program.
+use Rattle.std.proofs.Common.{◌≡◌, List, [], ◌∷◌, map, filter, refl, sym, ap, ◌∙◌}
 use Rattle.exact_num.specs.Value.{value_of}
 use Rattle.exact_num.specs.declared.fraction.Frac.{Frac}
 use Rattle.row_core.specs.declared.Row.{Row}
 use Rattle.row_core.specs.declared.RowName.{RowName}
+use Rattle.std.specs.Prelude.{Option}
 use Rattle.row_core.specs.declared.Var.{Var}
-use Rattle.row_book.specs.Kept.{IsBook}
 use Rattle.written_method.specs.declared.reduced.Reduced.{Reduced}
-use Rattle.written_method.specs.Eliminated.{ReducedRow}
+use Rattle.written_method.specs.Eliminated.{ReducedRow, is_column}
 use Rattle.written_method.specs.Programs.{Inequality, LinearProgram, program_of}
-use Rattle.variable_elimination.specs.Columns.{AreColumns}
 use Rattle.variable_elimination.specs.CostRows.{IsCostOf}
 use Rattle.variable_elimination.specs.ReducedRows.{AreThese, Shape, scale_in, scale_worth, shape, shape_of}
 use Rattle.row_core.specs.RowLists.{names_of}
-use Rattle.exact_solver.specs.Programs.{cost_left, kept_scale, name_left, program_left, rows_left, scale_left}
-use Rattle.exact_solver.proofs.BookVariables.{columns-are}
+use Rattle.certified_answers.specs.declared.costs.Cost.TheVariants.{Model}
+use Rattle.row_problem.specs.Programs.{cost_left, kept_scale, name_left, program_left, rows_left, scale_left}
 
 -- what is made of equal things that two lists are mapped to is equal
 map-after : {A S C : Type 0} (f : A → S) (k : S → C) (xs : List A) → map (λ x. k (f x)) xs ≡ map k (map f xs)
@@ -38,12 +37,11 @@ shape_inequality s = record { sense = s.sense; entries = s.form.entries; right =
 abbrev shape_name : Shape → RowName
 shape_name s = s.name
 
-pub program-is : (rows : List Row) (vars : List Var) (reduced : Reduced) → IsBook rows vars → AreThese (rows_left rows) reduced.rows.items reduced.scales.items → AreColumns rows reduced.columns.items → IsCostOf (cost_left rows) reduced
-    → program_of reduced ≡ program_left rows vars
+pub program-is : (rows : List Row) (defs : List (Option Var)) (vars : List Var) (reduced : Reduced) → reduced.columns.items ≡ filter is_column vars → AreThese (rows_left rows defs) reduced.rows.items reduced.scales.items
+    → IsCostOf (cost_left rows defs) reduced → program_of reduced ≡ program_left rows defs vars Model
 unfolding program_left
-program-is rows vars reduced book these are of =
-    same-program (program_of reduced) (program_left rows vars) (same-after shape_of shape shape_inequality reduced.rows.items (rows_left rows) these.rows_are)
-    (columns-are rows vars book reduced.columns.items are) of.cost of.right_side of.own
+program-is rows defs vars reduced columns these of =
+    same-program (program_of reduced) (program_left rows defs vars Model) (same-after shape_of shape shape_inequality reduced.rows.items (rows_left rows defs) these.rows_are) columns of.cost of.right_side of.own
 
 pub names-are : (left : List ReducedRow) (rows : List Row) (scales : List Frac) → AreThese left rows scales → names_of rows ≡ map name_left left
 names-are left rows scales these = same-after shape_of shape shape_name rows left these.rows_are

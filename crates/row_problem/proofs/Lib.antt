@@ -1,0 +1,5 @@
+pub mod SameLists
+pub mod ProblemLaws
+pub mod PosedLaws
+pub mod ProgramLaws
+pub mod CompletePlans
