@@ -60,7 +60,7 @@ kept false z x ys h = h
 pub kept_first : {A : Type 0} (b : Bool) (z x : A) (ys : List A) → b ≡ true → z ≡ x → Has (cond b (z ∷ ys) ys) x
 kept_first b z x ys passes e = subst (λ c. Has (cond c (z ∷ ys) ys) x) (sym passes) (inl e)
 
-Has-filter : {A : Type 0} (test : A → Bool) (xs : List A) (x : A) → Has xs x → test x ≡ true → Has (filter test xs) x
+pub Has-filter : {A : Type 0} (test : A → Bool) (xs : List A) (x : A) → Has xs x → test x ≡ true → Has (filter test xs) x
 Has-filter test [] x h passes = absurd h
 Has-filter test (z ∷ xs) x (inl e) passes = kept_first (test z) z x (filter test xs) (ap test e ∙ passes) e
 Has-filter test (z ∷ xs) x (inr h) passes = kept (test z) z x (filter test xs) (Has-filter test xs x h passes)
