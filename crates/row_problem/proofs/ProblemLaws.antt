@@ -1,6 +1,6 @@
 -- What a problem is meets what the elimination asks for; and its variables are those that its rows define, and the columns that are left.
 use Rattle.std.proofs.Common.{◌≡◌, ℤ, pos, Bool, true, false, ◌||◌, List, [], ◌∷◌, ◌⊎◌, inl, inr, filter, refl, sym, ap, ◌∙◌, subst, arith}
-use Rattle.std.specs.Prelude.{Contains, Option, Some, None, ◌<ℤ◌}
+use Rattle.std.specs.Prelude.{Option, Some, None, ◌<ℤ◌}
 use Rattle.std.specs.Cmp.Derive.{both_true}
 use Rattle.std.specs.Ordering.{is_eq}
 use Rattle.std.proofs.lemmas.Int.{ints}
@@ -10,7 +10,7 @@ use Rattle.row_core.specs.Numbers.{variables_of}
 use Rattle.row_core.specs.Order.{var_cmp}
 use Rattle.row_core.specs.RowLists.{AreVariablesOf, entry_variables}
 use Rattle.row_core.specs.Rows.{number_at}
-use Rattle.row_core.proofs.Members.{Contains-from_Has, Has, Has-flat_map, Has-from_Contains, append_parts, filter_parts, flat_map_parts}
+use Rattle.row_core.proofs.Members.{Contains-from_Has, Has, Has-flat_map, Has-from_Contains, filter_parts, flat_map_parts}
 use Rattle.row_core.proofs.Orders.{var_cmp_exact}
 use Rattle.written_method.specs.Definitions.{AreTriangular, Definition, definitions_of, defined, is_among, own_of}
 use Rattle.written_method.specs.Eliminated.{column_entries, is_column}

@@ -29,11 +29,17 @@ rows_left rows defs = reduced_rows (expanded_all [] (definitions_of rows defs)) 
 abbrev pub cost_left : List Row → List (Option Var) → Form
 cost_left rows defs = cost_row (expanded_all [] (definitions_of rows defs)) defs
 
+-- the entries of z less a cost that takes the place of the model's
+abbrev pub aim_entries : Cost → List (Var × ℤ)
+aim_entries Model = []
+aim_entries Nothing = []
+aim_entries (One var goal) = (var, neg_ℤ (sign_of goal)) ∷ []
+
 -- z less the cost, which the linear program says is a number: of the model's cost what is left of its row; at no cost nothing; and one variable
 abbrev pub cost_entries_left : Cost → List Row → List (Option Var) → List (Var × ℤ)
 cost_entries_left Model rows defs = other_entries var_cmp cost_variable (cost_left rows defs).entries
-cost_entries_left Nothing rows defs = []
-cost_entries_left (One var goal) rows defs = (var, neg_ℤ (sign_of goal)) ∷ []
+cost_entries_left Nothing rows defs = aim_entries Nothing
+cost_entries_left (One var goal) rows defs = aim_entries (One var goal)
 
 abbrev pub cost_right_left : Cost → List Row → List (Option Var) → ℤ
 cost_right_left Model rows defs = (cost_left rows defs).right

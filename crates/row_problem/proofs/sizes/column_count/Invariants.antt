@@ -1,7 +1,7 @@
 -- The variables so far are counted.
 use Rattle.std.proofs.Common.{◌≡◌, ◌*◌, ◌≤◌, take}
-use Rattle.exact_solver.specs.Sizes.{column_count}
-use Rattle.exact_solver.proofs.sizes.column_count.Given as goal
+use Rattle.row_problem.specs.Sizes.{column_count}
+use Rattle.row_problem.proofs.sizes.column_count.Given as goal
 
 abbrev pub invariant-loop-var : goal.invariant-loop-var
 invariant-loop-var l = (l.count ≡ column_count (take l.var-index l.vars)) × (l.count ≤ 2 * l.var-index)

@@ -1,7 +1,7 @@
 -- The rows so far are counted.
 use Rattle.std.proofs.Common.{◌≡◌, ◌≤◌, take}
-use Rattle.exact_solver.specs.Sizes.{inequality_count}
-use Rattle.exact_solver.proofs.sizes.inequality_count.Given as goal
+use Rattle.row_problem.specs.Sizes.{inequality_count}
+use Rattle.row_problem.proofs.sizes.inequality_count.Given as goal
 
 abbrev pub invariant-loop-row : goal.invariant-loop-row
 invariant-loop-row l = (l.count ≡ inequality_count (take l.row-index l.rows)) × (l.count ≤ l.row-index)
