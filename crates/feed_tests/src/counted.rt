@@ -1,8 +1,8 @@
 //! A feed that counts how often the rows of an equation are begun.
 
 use row_book::RowFeed;
-use row_core::{Row, RowSource};
 use row_core::equation_numbers::CAA1;
+use row_core::{Row, RowSource};
 use std::alloc::AllocError;
 
 /// A feed, and how often the rows of CAa1 were begun.

@@ -16,8 +16,8 @@ use mathprog_data::read_blocks;
 use mps_writer::{MpsFail, mps_to};
 use param_tables::{ModelData, build, sets_of};
 use row_book::RowFeed;
-use row_core::{RowSource, Var};
 use row_core::equation_numbers::CAA4;
+use row_core::{RowSource, Var};
 use std::alloc::Global;
 use std::test::Fail;
 

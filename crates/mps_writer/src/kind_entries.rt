@@ -9,8 +9,8 @@ ghost use Rattle.mps_writer.specs.Entries.{AreSorted, HasEquation, entries_of_ki
 
 use crate::entries::Entry;
 use crate::key_order::sort_pieces;
-use row_core::{Row, RowSource};
 use row_core::equation_numbers::EQUATION_COUNT;
+use row_core::{Row, RowSource};
 use std::alloc::{AllocError, Global};
 
 /// The entries of a kind by variable, and those of one variable in the order of rows.

@@ -16,8 +16,8 @@ use crate::lines::{push_rhs, push_row};
 use crate::sending::MpsFail;
 use io_edges::Sink;
 use model_sets::Sets;
-use row_core::{Row, RowSource};
 use row_core::equation_numbers::EQUATION_COUNT;
+use row_core::{Row, RowSource};
 use std::alloc::AllocError;
 
 /// A section with lines of rows.
