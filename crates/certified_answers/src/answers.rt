@@ -1,9 +1,9 @@
 //! What is certified, and why nothing is.
 
 ghost use Rattle.std.specs.Prelude.{◌≡◌};
-ghost use Rattle.certified_answers.specs.declared.answers.NoAnswer.TheVariants.{Memory};
+ghost use Rattle.certified_answers.specs.declared.answers.NoAnswer.TheVariants.{Memory, Nothing};
 
-use exact_num::Frac;
+use exact_num::{Frac, TooWide};
 use row_core::{Multipliers, Place, Plan, Stopped};
 use std::alloc::{AllocError, AllocFailed};
 
@@ -42,6 +42,15 @@ pub enum NoAnswer {
     Width(Place),
     /// Memory ran out.
     Memory,
+}
+
+/// A number that doesn't fit, at no place that is told, gives nothing.
+impl From<TooWide> for NoAnswer {
+    ghost from_gives = { λ _ answer. answer ≡ Nothing };
+
+    fn from(_: TooWide) -> NoAnswer {
+        NoAnswer::Nothing
+    }
 }
 
 impl From<AllocError> for NoAnswer {
