@@ -2,22 +2,20 @@
 use Rattle.std.proofs.Common.{◌≡◌, ℕ, Bool, true, false, List, [], ◌∷◌, Option, Some, None, ap, ap₂, sym, ◌∙◌, refl, if◌then◌else◌}
 use Rattle.std.specs.Prelude.{◌&&◌, is_none}
 use Rattle.exact_num.specs.Rational.{Rational}
-use Rattle.exact_num.specs.Steps.{first_wide}
 use Rattle.row_core.specs.declared.Row.{Row}
 use Rattle.row_core.specs.declared.RowName.{RowName}
 use Rattle.row_core.specs.declared.Var.{Var}
-use Rattle.row_core.specs.declared.place.Place.{Place}
-use Rattle.certificate_checker.specs.Conditions.{AllPass, Condition, FailsFor, first_failing, steps}
+use Rattle.certificate_checker.specs.Conditions.{AllPass, Condition}
 use Rattle.certificate_checker.specs.Costs.{model_cost}
 use Rattle.certificate_checker.specs.Gaps.{gap_condition}
 use Rattle.certificate_checker.specs.MultiplierChecks.{bound_conditions}
 use Rattle.certificate_checker.specs.PlanChecks.{plan_conditions}
-use Rattle.certificate_checker.specs.Reasons.{Reason}
-use Rattle.exact_solver.specs.MethodEnds.{multiplier_bound, plan_cost}
-use Rattle.decimal_solver.specs.declared.stops.Stop.{Stop}
-use Rattle.decimal_solver.specs.declared.stops.Stop.TheVariants.{Nothing, Memory}
-use Rattle.decimal_solver.specs.Attempts.{Attempt, checked, passes}
-use Rattle.decimal_solver.specs.Views.{IsNothing, IsRefused}
+use Rattle.certified_answers.specs.Worth.{multiplier_bound, plan_cost}
+use Rattle.certified_answers.specs.Refusals.{IsRefused, passes}
+use Rattle.certified_answers.specs.declared.answers.NoAnswer.{NoAnswer}
+use Rattle.certified_answers.specs.declared.answers.NoAnswer.TheVariants.{Nothing, Budget, Width, Memory}
+use Rattle.decimal_solver.specs.Attempts.{Attempt, checked}
+use Rattle.decimal_solver.specs.Views.{IsNothing}
 
 and_false : (b : Bool) → (b && false) ≡ false
 and_false true = refl
@@ -25,12 +23,6 @@ and_false false = refl
 
 pub passes-yes : (cs : List Condition) → AllPass cs → passes cs ≡ true
 passes-yes cs h = ap₂ (λ a b. is_none a && is_none b) h.fit h.hold
-
-pub passes-no : (cs : List Condition) (reason : Reason) → FailsFor cs reason → passes cs ≡ false
-passes-no cs reason h = ap (λ b. is_none (first_wide (steps cs)) && is_none b) h.fails ∙ and_false (is_none (first_wide (steps cs)))
-
-pub passes-wide : (cs : List Condition) (place : Place) → first_wide (steps cs) ≡ Some place → passes cs ≡ false
-passes-wide cs place h = ap (λ a. is_none a && is_none (first_failing cs)) h
 
 -- ---- three checks one after another
 
@@ -63,16 +55,23 @@ module _ (rows : List Row) (vars : List Var) (ppm : ℕ) (plan : List (Var × Ra
   abbrev given : Option Attempt
   given = Some (record { plan = plan; multipliers = multipliers; cost = plan_cost vars plan; bound = multiplier_bound rows multipliers; pivots = pivots })
 
-  pub no_plan : (stop : Stop) → IsRefused plan_passes stop → IsNothing (checked rows vars ppm plan multipliers pivots) stop
+  pub no_plan : (stop : NoAnswer) → IsRefused (plan_conditions model_cost rows vars plan) stop → IsNothing (checked rows vars ppm plan multipliers pivots) stop
   no_plan Nothing h = no_first plan_passes bound_passes (gap_passes (plan_cost vars plan) (multiplier_bound rows multipliers)) given h
+  no_plan Budget h = absurd h
+  no_plan (Width place) h = no_first plan_passes bound_passes (gap_passes (plan_cost vars plan) (multiplier_bound rows multipliers)) given h
   no_plan Memory h = tt
 
-  pub no_bound : (stop : Stop) → IsRefused bound_passes stop → IsNothing (checked rows vars ppm plan multipliers pivots) stop
+  pub no_bound : (stop : NoAnswer) → IsRefused (bound_conditions model_cost rows vars multipliers) stop → IsNothing (checked rows vars ppm plan multipliers pivots) stop
   no_bound Nothing h = no_second plan_passes bound_passes (gap_passes (plan_cost vars plan) (multiplier_bound rows multipliers)) given h
+  no_bound Budget h = absurd h
+  no_bound (Width place) h = no_second plan_passes bound_passes (gap_passes (plan_cost vars plan) (multiplier_bound rows multipliers)) given h
   no_bound Memory h = tt
 
-  pub no_gap : (cost bound : Rational) → cost ≡ plan_cost vars plan → bound ≡ multiplier_bound rows multipliers → (stop : Stop) → IsRefused (gap_passes cost bound) stop → IsNothing (checked rows vars ppm plan multipliers pivots) stop
+  pub no_gap : (cost bound : Rational) → cost ≡ plan_cost vars plan → bound ≡ multiplier_bound rows multipliers → (stop : NoAnswer) → IsRefused (gap_condition cost bound ppm ∷ []) stop → IsNothing (checked rows vars ppm plan multipliers pivots) stop
   no_gap cost bound e f Nothing h =
+      no_third plan_passes bound_passes (gap_passes (plan_cost vars plan) (multiplier_bound rows multipliers)) given (sym (ap₂ gap_passes e f) ∙ h)
+  no_gap cost bound e f Budget h = absurd h
+  no_gap cost bound e f (Width place) h =
       no_third plan_passes bound_passes (gap_passes (plan_cost vars plan) (multiplier_bound rows multipliers)) given (sym (ap₂ gap_passes e f) ∙ h)
   no_gap cost bound e f Memory h = tt
 

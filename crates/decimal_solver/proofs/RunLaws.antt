@@ -51,6 +51,15 @@ after-is s r c pivot rows cost artificial p o q w =
     ∙ ap (λ x. and_then x (λ cost. and_then (cleared c pivot s.artificial) (λ artificial. Some (finished s r c pivot rows cost artificial)))) q
     ∙ ap (λ x. and_then cost (λ cost. and_then x (λ artificial. Some (finished s r c pivot rows cost artificial)))) w
 
+pub after-no_pivot : (s : State) (r c : ℕ) → pivot_line (factor_in s.phase) c s.columns (row_at s.rows r).line ≡ None → after s r c ≡ None
+after-no_pivot s r c p =
+    ap (λ x. and_then x (λ pivot. and_then (others_cleared r c pivot 0 [] s.rows) (λ rows. and_then (cleared c pivot s.cost) (λ cost. and_then (cleared c pivot s.artificial) (λ artificial. Some (finished s r c pivot rows cost artificial)))))) p
+
+pub after-no_rows : (s : State) (r c : ℕ) (pivot : Line) → pivot_line (factor_in s.phase) c s.columns (row_at s.rows r).line ≡ Some pivot → others_cleared r c pivot 0 [] s.rows ≡ None → after s r c ≡ None
+after-no_rows s r c pivot p o =
+    ap (λ x. and_then x (λ pivot. and_then (others_cleared r c pivot 0 [] s.rows) (λ rows. and_then (cleared c pivot s.cost) (λ cost. and_then (cleared c pivot s.artificial) (λ artificial. Some (finished s r c pivot rows cost artificial)))))) p
+    ∙ ap (λ x. and_then x (λ rows. and_then (cleared c pivot s.cost) (λ cost. and_then (cleared c pivot s.artificial) (λ artificial. Some (finished s r c pivot rows cost artificial))))) o
+
 pub after-no_cost : (s : State) (r c : ℕ) (pivot : Line) (rows : List GridRow)
     → pivot_line (factor_in s.phase) c s.columns (row_at s.rows r).line ≡ Some pivot → others_cleared r c pivot 0 [] s.rows ≡ Some rows → cleared c pivot s.cost ≡ None → after s r c ≡ None
 after-no_cost s r c pivot rows p o q = after-is s r c pivot rows None (cleared c pivot s.artificial) p o q refl

@@ -1,26 +1,19 @@
 -- What an attempt's answer is worth: in the checker's words, over all rows.
-use Rattle.std.specs.Prelude.{◌≡◌, ℕ, List, [], ◌∷◌, Option, Some, None, ⊤}
-use Rattle.exact_num.specs.Rational.{Rational}
+use Rattle.std.specs.Prelude.{◌≡◌, ℕ, List, Option, Some, None, ⊤}
 use Rattle.exact_num.specs.Value.{value_of}
 use Rattle.row_core.specs.declared.Row.{Row}
 use Rattle.row_core.specs.declared.Var.{Var}
 use Rattle.row_core.specs.Numbers.{keys_of}
-use Rattle.certificate_checker.specs.Conditions.{AllPass}
-use Rattle.certificate_checker.specs.Gaps.{Within, gap_condition}
-use Rattle.exact_solver.specs.Solutions.{AreNamedIn, IsBound, IsPlan}
+use Rattle.certified_answers.specs.Answers.{AreNamedIn}
+use Rattle.certified_answers.specs.Worth.{IsBound, IsNear, IsPlan}
 use Rattle.decimal_solver.specs.declared.attempts.Found.{Found}
 use Rattle.decimal_solver.specs.Attempts.{Attempt}
-
--- it says yes to the gap: the cost is above the bound by at most so many millionths of the bound's absolute value
-pub record IsWithin (cost bound : Rational) (ppm : ℕ) : Type 0 where
-  pub pass : AllPass (gap_condition cost bound ppm ∷ [])
-  pub within : Within cost bound ppm
 
 -- it says yes to the plan, to the bound and to the gap
 pub record IsProved (rows : List Row) (vars : List Var) (ppm : ℕ) (found : Found) : Type 0 where
   pub plan : IsPlan rows vars found.plan (value_of found.cost)
   pub bound : IsBound rows vars found.multipliers (value_of found.bound)
-  pub gap : IsWithin (value_of found.cost) (value_of found.bound) ppm
+  pub gap : IsNear (value_of found.cost) (value_of found.bound) ppm
 
 -- the plan has one value for each variable, in order
 abbrev pub IsComplete : List Var → Found → Type 0

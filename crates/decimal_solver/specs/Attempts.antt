@@ -1,18 +1,19 @@
 -- How the attempt ends over all rows: its values and multipliers carried back to them, and the checker's yes.
-use Rattle.std.specs.Prelude.{ℕ, ◌&&◌, pos, Bool, true, List, [], ◌∷◌, replicate, Option, Some, None, is_none, if◌then◌else◌}
+use Rattle.std.specs.Prelude.{ℕ, ◌&&◌, pos, true, List, [], ◌∷◌, replicate, Option, Some, None, is_none, if◌then◌else◌}
 use Rattle.exact_num.specs.Rational.{Rational, whole}
 use Rattle.exact_num.specs.Steps.{first_wide}
 use Rattle.row_core.specs.declared.Row.{Row}
 use Rattle.row_core.specs.declared.RowName.{RowName}
 use Rattle.row_core.specs.declared.Var.{Var}
 use Rattle.written_method.specs.Programs.{LinearProgram}
-use Rattle.certificate_checker.specs.Conditions.{Condition, first_failing, steps}
 use Rattle.certificate_checker.specs.Costs.{model_cost}
 use Rattle.certificate_checker.specs.Gaps.{gap_condition}
 use Rattle.certificate_checker.specs.MultiplierChecks.{bound_conditions}
 use Rattle.certificate_checker.specs.PlanChecks.{plan_conditions}
-use Rattle.exact_solver.specs.MethodEnds.{multiplier_bound, plan_cost}
-use Rattle.exact_solver.specs.Programs.{carried_multipliers, carried_plan, carrying_steps, plan_steps, program_left}
+use Rattle.certified_answers.specs.Worth.{multiplier_bound, plan_cost}
+use Rattle.certified_answers.specs.Refusals.{passes}
+use Rattle.certified_answers.specs.declared.costs.Cost.TheVariants.{Model}
+use Rattle.row_problem.specs.Programs.{carried_multipliers, carried_plan, carrying_steps, plan_steps, program_left}
 use Rattle.decimal_solver.specs.Ends.{column_values, row_multipliers, spread, variable_values}
 use Rattle.decimal_solver.specs.Numbers.{and_then}
 use Rattle.decimal_solver.specs.Rounds.{run}
@@ -26,10 +27,6 @@ pub record Attempt : Type 0 where
   pub bound : Rational
   pub pivots : ℕ
 
--- all conditions of a check hold, and every number that is formed for them fits
-abbrev pub passes : List Condition → Bool
-passes conditions = is_none (first_wide (steps conditions)) && is_none (first_failing conditions)
-
 -- the plan and the multipliers, where the checker says yes to the plan, to the bound, and to the gap between them
 abbrev pub checked : List Row → List Var → ℕ → List (Var × Rational) → List (RowName × Rational) → ℕ → Option Attempt
 checked rows vars ppm plan multipliers pivots =
@@ -40,23 +37,23 @@ checked rows vars ppm plan multipliers pivots =
     else None
 
 -- values and multipliers of the linear program, carried back to all rows
-abbrev pub carried : List Row → List Var → ℕ → List (Var × Rational) → List Rational → ℕ → Option Attempt
-carried rows vars ppm values lambda pivots =
-    if is_none (first_wide (plan_steps rows values)) && is_none (first_wide (carrying_steps true rows lambda))
-    then checked rows vars ppm (carried_plan rows values) (carried_multipliers true rows lambda) pivots
+abbrev pub carried : List Row → List (Option Var) → List Var → ℕ → List (Var × Rational) → List Rational → ℕ → Option Attempt
+carried rows defs vars ppm values lambda pivots =
+    if is_none (first_wide (plan_steps rows defs values)) && is_none (first_wide (carrying_steps true rows defs lambda))
+    then checked rows vars ppm (carried_plan rows defs values) (carried_multipliers true rows defs lambda) pivots
     else None
 
 -- the last state's values and multipliers
-abbrev pub state_end : List Row → List Var → ℕ → LinearProgram → State → Option Attempt
-state_end rows vars ppm p s =
+abbrev pub state_end : List Row → List (Option Var) → List Var → ℕ → LinearProgram → State → Option Attempt
+state_end rows defs vars ppm p s =
     and_then (variable_values (column_values (replicate s.columns (whole (pos 0))) s.rows) 0 [] p.columns)
     (λ values. and_then (row_multipliers (spread (replicate s.columns (pos 0)) s.cost.entries) s.slack [] s.rows)
-    (λ lambda. carried rows vars ppm values lambda s.pivots))
+    (λ lambda. carried rows defs vars ppm values lambda s.pivots))
 
 -- the attempt on a linear program that is left of rows
-abbrev pub program_end : List Row → List Var → ℕ → ℕ → LinearProgram → Option Attempt
-program_end rows vars ppm pivots p = and_then (first_state p) (λ first. and_then (run pivots first) (λ last. state_end rows vars ppm p last))
+abbrev pub program_end : List Row → List (Option Var) → List Var → ℕ → ℕ → LinearProgram → Option Attempt
+program_end rows defs vars ppm pivots p = and_then (first_state p) (λ first. and_then (run pivots first) (λ last. state_end rows defs vars ppm p last))
 
 -- the attempt on rows and their variables: to within so many millionths of the bound, with so many pivots at most
-unfoldable pub grid_end : List Row → List Var → ℕ → ℕ → Option Attempt
-grid_end rows vars ppm pivots = program_end rows vars ppm pivots (program_left rows vars)
+unfoldable pub grid_end : List Row → List (Option Var) → List Var → ℕ → ℕ → Option Attempt
+grid_end rows defs vars ppm pivots = program_end rows defs vars ppm pivots (program_left rows defs vars Model)

@@ -5,6 +5,5 @@ pub mod Rounds
 pub mod Starts
 pub mod Ends
 pub mod Views
-pub mod Stops
 pub mod Attempts
 pub mod Answers

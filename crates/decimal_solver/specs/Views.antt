@@ -1,5 +1,5 @@
 -- The code's values as those of the definitions.
-use Rattle.std.specs.Prelude.{◌≡◌, ℕ, ◌+◌, ◌-◌, ◌<◌, ℤ, Bool, false, List, drop, length, map, Option, Some, None, ⊤}
+use Rattle.std.specs.Prelude.{◌≡◌, ℕ, ◌+◌, ◌-◌, ◌<◌, ℤ, List, drop, length, map, Option, Some, None, ⊤}
 use Rattle.decimal_solver.specs.declared.states.Entry.{Entry}
 use Rattle.decimal_solver.specs.declared.states.Number.{Number}
 use Rattle.decimal_solver.specs.declared.states.Line.{Line}
@@ -9,8 +9,8 @@ use Rattle.decimal_solver.specs.declared.states.Phase.TheVariants as phases
 use Rattle.decimal_solver.specs.declared.states.Due.{Due}
 use Rattle.decimal_solver.specs.declared.states.Due.TheVariants as dues
 use Rattle.decimal_solver.specs.declared.states.State.{State}
-use Rattle.decimal_solver.specs.declared.stops.Stop.{Stop}
-use Rattle.decimal_solver.specs.declared.stops.Stop.TheVariants.{Nothing, Memory}
+use Rattle.certified_answers.specs.declared.answers.NoAnswer.{NoAnswer}
+use Rattle.certified_answers.specs.declared.answers.NoAnswer.TheVariants.{Nothing, Budget, Width, Memory}
 use Rattle.exact_num.specs.Value.{value_of}
 use Rattle.decimal_solver.specs.declared.choosing.Candidate.{Candidate}
 use Rattle.decimal_solver.specs.declared.states.Merging.{Merging}
@@ -20,8 +20,10 @@ use Rattle.decimal_solver.specs.Rounds as rounds
 use Rattle.decimal_solver.specs.States as states
 
 -- the definition gives nothing; out of memory has no cause
-abbrev pub IsNothing : {A : Type 0} → Option A → Stop → Type 0
+abbrev pub IsNothing : {A : Type 0} → Option A → NoAnswer → Type 0
 IsNothing given Nothing = given ≡ None
+IsNothing given Budget = given ≡ None
+IsNothing given (Width place) = given ≡ None
 IsNothing given Memory = ⊤
 
 abbrev pub entry_seen : Entry → ℕ × ℤ
@@ -83,10 +85,5 @@ IsMerging q line left pivot right None = (made : Entries) → merged q made (ent
 IsMerging q line left pivot right (Some next) = IsNextMerging q line left pivot right next
 
 -- a number of the next entry doesn't fit; out of memory has no cause
-abbrev pub IsNoMerge : ℤ → List Entry → ℕ → List Entry → ℕ → Stop → Type 0
+abbrev pub IsNoMerge : ℤ → List Entry → ℕ → List Entry → ℕ → NoAnswer → Type 0
 IsNoMerge q line left pivot right stop = (made : Entries) → IsNothing (merged q made (entries_seen (drop left line)) (entries_seen (drop right pivot))) stop
-
--- the checker doesn't say yes; out of memory has no cause
-abbrev pub IsRefused : Bool → Stop → Type 0
-IsRefused passed Nothing = passed ≡ false
-IsRefused passed Memory = ⊤

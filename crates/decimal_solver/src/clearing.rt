@@ -8,7 +8,7 @@ ghost use Rattle.decimal_solver.specs.Views.{IsMerging, IsNoMerge, IsNothing, en
 use crate::lines::{entry_at, entry_in, push_entry};
 use crate::numbers::{reduced_number, scaled_number};
 use crate::states::{Entry, Line, Merging};
-use crate::stops::Stop;
+use certified_answers::NoAnswer;
 use std::alloc::Global;
 
 /// `near(f * a / d)` for each entry `a` in the columns before `limit`.
@@ -18,7 +18,7 @@ fn scaled_entries(
     d: u128,
     limit: usize,
     entries: &[Entry],
-) -> Result<Vec<Entry>, Stop>
+) -> Result<Vec<Entry>, NoAnswer>
     ensures value { IfOk result (λ made. scaled_entries f d limit [] (entries_seen entries.now) ≡ Some (entries_seen made.items)) }
     ensures nothing { IfErr result (IsNothing (scaled_entries f d limit [] (entries_seen entries.now))) }
 {
@@ -39,7 +39,7 @@ pub(crate) fn pivot_line(
     column: usize,
     limit: usize,
     line: &Line,
-) -> Result<Line, Stop>
+) -> Result<Line, NoAnswer>
     ensures value { IfOk result (λ made. pivot_line f column limit (line_seen line.now) ≡ Some (line_seen made)) }
     ensures nothing { IfErr result (IsNothing (pivot_line f column limit (line_seen line.now))) }
 {
@@ -56,7 +56,7 @@ fn next_merged(
     left: usize,
     pivot: &[Entry],
     right: usize,
-) -> Result<Option<Merging>, Stop>
+) -> Result<Option<Merging>, NoAnswer>
     ensures next { IfOk result (IsMerging q line.now left pivot.now right) }
     ensures nothing { IfErr result (IsNoMerge q line.now left pivot.now right) }
 {
@@ -106,7 +106,7 @@ fn next_merged(
 }
 
 /// The entries of a line less `q` times those of the pivot row.
-fn merged(alloc: Global, q: i128, line: &[Entry], pivot: &[Entry]) -> Result<Vec<Entry>, Stop>
+fn merged(alloc: Global, q: i128, line: &[Entry], pivot: &[Entry]) -> Result<Vec<Entry>, NoAnswer>
     ensures value { IfOk result (λ made. merged q [] (entries_seen line.now) (entries_seen pivot.now) ≡ Some (entries_seen made.items)) }
     ensures nothing { IfErr result (IsNothing (merged q [] (entries_seen line.now) (entries_seen pivot.now))) }
 {
@@ -122,7 +122,12 @@ fn merged(alloc: Global, q: i128, line: &[Entry], pivot: &[Entry]) -> Result<Vec
 }
 
 /// Takes from a line its entry in the column, by the pivot row's new line. A line without an entry there stays.
-pub(crate) fn clear(alloc: Global, column: usize, pivot: &Line, line: &mut Line) -> Result<(), Stop>
+pub(crate) fn clear(
+    alloc: Global,
+    column: usize,
+    pivot: &Line,
+    line: &mut Line,
+) -> Result<(), NoAnswer>
     ensures value { OnOk result (cleared column (line_seen pivot.now) (line_seen line.old) ≡ Some (line_seen line.new)) }
     ensures nothing { IfErr result (IsNothing (cleared column (line_seen pivot.now) (line_seen line.old))) }
 {

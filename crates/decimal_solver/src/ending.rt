@@ -13,7 +13,7 @@ ghost use Rattle.decimal_solver.specs.Views.{IsNothing, entries_seen, number_see
 use crate::choosing::clipped;
 use crate::numbers::UNIT;
 use crate::states::{Entry, GridRow, Number};
-use crate::stops::Stop;
+use certified_answers::NoAnswer;
 use exact_num::{Frac, product, ratio, sub};
 use int_tableau::{column_after, is_split};
 use row_core::{Plan, Var, fraction};
@@ -48,7 +48,7 @@ fn value_at(values: &[Frac], column: usize) -> Frac
 }
 
 /// The value of a variable whose first column is this one.
-fn variable_value(values: &[Frac], column: usize, variable: Var) -> Result<Frac, Stop>
+fn variable_value(values: &[Frac], column: usize, variable: Var) -> Result<Frac, NoAnswer>
     requires { column + 1 < 2 ^ 64 }
     ensures value { IfOk result (λ x. variable_value (map value_of values.now) column variable ≡ Some (value_of x)) }
     ensures nothing { IfErr result (IsNothing (variable_value (map value_of values.now) column variable)) }
@@ -66,7 +66,7 @@ pub(crate) fn variable_values(
     alloc: Global,
     values: &[Frac],
     variables: &[Var],
-) -> Result<Plan, Stop>
+) -> Result<Plan, NoAnswer>
     requires ascending { ascends var_cmp variables.now ≡ true }
     requires countable { width_of variables.now + 1 < 2 ^ 64 }
     ensures value { IfOk result (λ plan. variable_values (map value_of values.now) 0 [] variables.now ≡ Some plan) }
@@ -123,14 +123,14 @@ fn number_at(numbers: &[Number], column: usize) -> i128
 }
 
 /// The multiplier of a row by the number of its slack, over a billion times the row's scale.
-fn row_multiplier(number: i128, scale: i128) -> Result<Frac, Stop>
+fn row_multiplier(number: i128, scale: i128) -> Result<Frac, NoAnswer>
     requires { InRange number }
     ensures value { IfOk result (λ made. row_multiplier number scale ≡ Some (value_of made)) }
     ensures nothing { IfErr result (IsNothing (row_multiplier number scale)) }
 {
     let d = product(UNIT, scale)?;
     if d == 0 {
-        return Err(Stop::Nothing);
+        return Err(NoAnswer::Nothing);
     }
     Ok(ratio(number, d))
 }
@@ -141,7 +141,7 @@ pub(crate) fn row_multipliers(
     numbers: &[Number],
     first: usize,
     rows: &[GridRow],
-) -> Result<Vec<Frac>, Stop>
+) -> Result<Vec<Frac>, NoAnswer>
     requires { first + length rows.now < 2 ^ 64 }
     ensures counted { IfOk result (λ made. length made.items ≡ length rows.now) }
     ensures value { IfOk result (λ made. row_multipliers (map number_seen numbers.now) first [] (rows_seen rows.now) ≡ Some (map value_of made.items)) }

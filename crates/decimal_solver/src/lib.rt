@@ -3,7 +3,6 @@
 #![tactic(auto)]
 
 mod attempts;
-mod checking;
 mod choosing;
 mod clearing;
 mod ending;
@@ -13,6 +12,5 @@ mod pivoting;
 mod running;
 mod starting;
 mod states;
-mod stops;
 
 pub use attempts::{Found, second};

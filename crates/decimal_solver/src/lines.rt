@@ -2,12 +2,12 @@
 
 ghost use Rattle.std.specs.Prelude.{◌≡◌, ◌+◌, ◌<◌, ◌^◌, ◌∷◌, [], drop, IfErr, IfNone, IfSome, OnOk};
 ghost use Rattle.exact_num.specs.Range.{InRange};
-ghost use Rattle.decimal_solver.specs.declared.stops.Stop.TheVariants.{Memory};
+ghost use Rattle.certified_answers.specs.declared.answers.NoAnswer.TheVariants.{Memory};
 ghost use Rattle.decimal_solver.specs.Lines.{entry_in, with_entry};
 ghost use Rattle.decimal_solver.specs.Views.{entries_seen};
 
 use crate::states::Entry;
-use crate::stops::Stop;
+use certified_answers::NoAnswer;
 
 /// The number in a column.
 pub(crate) fn entry_in(column: usize, entries: &[Entry]) -> i128
@@ -27,7 +27,11 @@ pub(crate) fn entry_in(column: usize, entries: &[Entry]) -> i128
 }
 
 /// Appends an entry, unless it is 0.
-pub(crate) fn push_entry(entries: &mut Vec<Entry>, column: usize, number: i128) -> Result<(), Stop>
+pub(crate) fn push_entry(
+    entries: &mut Vec<Entry>,
+    column: usize,
+    number: i128,
+) -> Result<(), NoAnswer>
     requires { InRange number }
     ensures pushed { OnOk result (entries_seen entries.new.items ≡ with_entry (entries_seen entries.old.items) column number) }
     ensures memory { IfErr result (λ e. e ≡ Memory) }

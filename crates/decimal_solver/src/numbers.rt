@@ -6,7 +6,7 @@ ghost use Rattle.scaled_decimals.specs.Rounding.{nearest};
 ghost use Rattle.decimal_solver.specs.Numbers.{formed, lowered, near, raised, reduced_number, scaled_number};
 ghost use Rattle.decimal_solver.specs.Views.{IsNothing};
 
-use crate::stops::Stop;
+use certified_answers::NoAnswer;
 use exact_num::{difference, product, total};
 
 /// How many stand for 1.
@@ -47,20 +47,20 @@ fn near(a: i128, b: u128) -> i128
 }
 
 /// `near(f * a / d)`.
-pub(crate) fn scaled_number(f: i128, a: i128, d: u128) -> Result<i128, Stop>
+pub(crate) fn scaled_number(f: i128, a: i128, d: u128) -> Result<i128, NoAnswer>
     ensures value { IfOk result (λ z. scaled_number f a d ≡ Some z) }
     ensures range { IfOk result (λ z. InRange z) }
     ensures nothing { IfErr result (IsNothing (scaled_number f a d)) }
 {
     if d == 0 {
-        return Err(Stop::Nothing);
+        return Err(NoAnswer::Nothing);
     }
     let number = product(f, a)?;
     Ok(near(number, d))
 }
 
 /// `a - near(q * r / 10^9)`.
-pub(crate) fn reduced_number(q: i128, r: i128, a: i128) -> Result<i128, Stop>
+pub(crate) fn reduced_number(q: i128, r: i128, a: i128) -> Result<i128, NoAnswer>
     ensures value { IfOk result (λ z. reduced_number q r a ≡ Some z) }
     ensures range { IfOk result (λ z. InRange z) }
     ensures nothing { IfErr result (IsNothing (reduced_number q r a)) }
@@ -70,7 +70,7 @@ pub(crate) fn reduced_number(q: i128, r: i128, a: i128) -> Result<i128, Stop>
 }
 
 /// A right side set off.
-pub(crate) fn lowered(z: i128) -> Result<i128, Stop>
+pub(crate) fn lowered(z: i128) -> Result<i128, NoAnswer>
     ensures value { IfOk result (λ y. lowered z ≡ Some y) }
     ensures range { IfOk result (λ y. InRange y) }
     ensures nothing { IfErr result (IsNothing (lowered z)) }
@@ -79,7 +79,7 @@ pub(crate) fn lowered(z: i128) -> Result<i128, Stop>
 }
 
 /// A cost set off, as it stands in the line of z.
-pub(crate) fn raised(z: i128) -> Result<i128, Stop>
+pub(crate) fn raised(z: i128) -> Result<i128, NoAnswer>
     ensures value { IfOk result (λ y. raised z ≡ Some y) }
     ensures range { IfOk result (λ y. InRange y) }
     ensures nothing { IfErr result (IsNothing (raised z)) }

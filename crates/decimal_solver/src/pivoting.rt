@@ -7,7 +7,7 @@ ghost use Rattle.decimal_solver.specs.Views.{IsNothing, line_seen, phase_seen, r
 use crate::clearing::{clear, pivot_line};
 use crate::numbers::UNIT;
 use crate::states::{GridRow, Line, Phase, State, no_line};
-use crate::stops::Stop;
+use certified_answers::NoAnswer;
 use std::alloc::Global;
 
 /// A pivot is degenerate where its row's right side is at most this.
@@ -68,7 +68,7 @@ fn clear_others(
     row: usize,
     column: usize,
     pivot: &Line,
-) -> Result<(), Stop>
+) -> Result<(), NoAnswer>
     ensures value { OnOk result (others_cleared row column (line_seen pivot.now) 0 [] (rows_seen rows.old.items) ≡ Some (rows_seen rows.new.items)) }
     ensures counted { OnOk result (length rows.new.items ≡ length rows.old.items) }
     ensures nothing { IfErr result (IsNothing (others_cleared row column (line_seen pivot.now) 0 [] (rows_seen rows.old.items))) }
@@ -82,7 +82,12 @@ fn clear_others(
 }
 
 /// The state after the pivot in this row and this column.
-pub(crate) fn after(alloc: Global, state: State, row: usize, column: usize) -> Result<State, Stop>
+pub(crate) fn after(
+    alloc: Global,
+    state: State,
+    row: usize,
+    column: usize,
+) -> Result<State, NoAnswer>
     requires countable { state.pivots + 1 < 2 ^ 64 }
     requires degenerate { state.degenerate ≤ state.pivots }
     ensures value { IfOk result (λ next. after (state_seen state) row column ≡ Some (state_seen next)) }
@@ -93,7 +98,7 @@ pub(crate) fn after(alloc: Global, state: State, row: usize, column: usize) -> R
     ensures few { IfOk result (λ next. next.degenerate ≤ next.pivots) }
 {
     if row >= state.rows.len() {
-        return Err(Stop::Nothing);
+        return Err(NoAnswer::Nothing);
     }
     let pivot = pivot_line(
         alloc,

@@ -7,11 +7,11 @@ ghost use Rattle.decimal_solver.specs.Views.{IsNothing, state_seen};
 use crate::choosing::due;
 use crate::pivoting::after;
 use crate::states::{Due, State};
-use crate::stops::Stop;
+use certified_answers::NoAnswer;
 use std::alloc::Global;
 
 /// The state in which no column can enter any more, with so many pivots at most.
-pub(crate) fn run(alloc: Global, first: State, pivots: u64) -> Result<State, Stop>
+pub(crate) fn run(alloc: Global, first: State, pivots: u64) -> Result<State, NoAnswer>
     requires none_made { first.pivots ≡ 0 }
     requires degenerate { first.degenerate ≡ 0 }
     ensures value { IfOk result (λ last. run pivots (state_seen first) ≡ Some (state_seen last)) }
@@ -23,10 +23,10 @@ pub(crate) fn run(alloc: Global, first: State, pivots: u64) -> Result<State, Sto
     'rounds: loop {
         match due(&state) {
             Due::Optimal => return Ok(state),
-            Due::Stuck => return Err(Stop::Nothing),
+            Due::Stuck => return Err(NoAnswer::Nothing),
             Due::Pivot(row, column) => {
                 if state.pivots >= pivots {
-                    return Err(Stop::Nothing);
+                    return Err(NoAnswer::Nothing);
                 }
                 state = after(alloc, state, row, column)?;
             }

@@ -9,7 +9,7 @@ ghost use Rattle.written_method.specs.FirstTableau.{width_of};
 ghost use Rattle.written_method.specs.Programs.{inequality_of, is_split, program_of};
 ghost use Rattle.written_method.specs.Ready.{IsReady};
 ghost use Rattle.int_tableau.specs.Starts.{in_columns, in_columns_of, placed};
-ghost use Rattle.decimal_solver.specs.declared.stops.Stop.TheVariants.{Memory};
+ghost use Rattle.certified_answers.specs.declared.answers.NoAnswer.TheVariants.{Memory};
 ghost use Rattle.decimal_solver.specs.Starts.{cost_entries, first_entries, first_row, first_rows, first_state, greatest_entry};
 ghost use Rattle.decimal_solver.specs.Views.{IsNothing, entries_seen, row_seen, rows_seen, state_seen};
 
@@ -17,7 +17,7 @@ use crate::choosing::least_right;
 use crate::lines::push_entry;
 use crate::numbers::{UNIT, lowered, opposite, raised, scaled_number};
 use crate::states::{Entry, GridRow, Line, Phase, State};
-use crate::stops::Stop;
+use certified_answers::NoAnswer;
 use int_tableau::{as_most, column_after, is_split};
 use row_core::{Row, Var, look_up, number_of};
 use std::alloc::{AllocError, Global};
@@ -80,7 +80,7 @@ fn push_columns(
     split: bool,
     column: usize,
     number: i128,
-) -> Result<(), Stop>
+) -> Result<(), NoAnswer>
     requires range { InRange number }
     requires countable { column + 1 < 2 ^ 64 }
     ensures pushed { OnOk result (entries_seen entries.new.items ≡ entries_seen entries.old.items ++ in_columns split column number) }
@@ -104,7 +104,7 @@ fn push_variable(
     layout: &Layout,
     variable: Var,
     number: i128,
-) -> Result<(), Stop>
+) -> Result<(), NoAnswer>
     requires { InRange number }
     ensures pushed { OnOk result (entries_seen entries.new.items ≡ entries_seen entries.old.items ++ in_columns_of (is_split variable) number (value_at var_cmp layout.now.places.items variable)) }
     ensures memory { IfErr result (λ e. e ≡ Memory) }
@@ -122,7 +122,7 @@ fn first_entries(
     m: u128,
     layout: &Layout,
     numbers: &[(Var, i128)],
-) -> Result<Vec<Entry>, Stop>
+) -> Result<Vec<Entry>, NoAnswer>
     requires { all_fit (numbers_of numbers.now) ≡ true }
     ensures value { IfOk result (λ made. first_entries f m layout.now.places.items [] numbers.now ≡ Some (entries_seen made.items)) }
     ensures nothing { IfErr result (IsNothing (first_entries f m layout.now.places.items [] numbers.now)) }
@@ -136,7 +136,12 @@ fn first_entries(
 }
 
 /// A row, as it reads at most.
-fn first_row(alloc: Global, layout: &Layout, position: usize, row: &Row) -> Result<GridRow, Stop>
+fn first_row(
+    alloc: Global,
+    layout: &Layout,
+    position: usize,
+    row: &Row,
+) -> Result<GridRow, NoAnswer>
     requires { position < layout.now.rows }
     ensures value { IfOk result (λ made. first_row layout.now.places.items layout.now.width layout.now.rows position (inequality_of row.now) ≡ Some (row_seen made)) }
     ensures nothing { IfErr result (IsNothing (first_row layout.now.places.items layout.now.width layout.now.rows position (inequality_of row.now))) }
@@ -161,7 +166,7 @@ fn first_row(alloc: Global, layout: &Layout, position: usize, row: &Row) -> Resu
 }
 
 /// All rows.
-fn first_rows(alloc: Global, layout: &Layout, rows: &[Row]) -> Result<Vec<GridRow>, Stop>
+fn first_rows(alloc: Global, layout: &Layout, rows: &[Row]) -> Result<Vec<GridRow>, NoAnswer>
     requires { length rows.now ≡ layout.now.rows }
     ensures value { IfOk result (λ made. first_rows layout.now.places.items layout.now.width layout.now.rows 0 [] (map inequality_of rows.now) ≡ Some (rows_seen made.items)) }
     ensures counted { IfOk result (λ made. length made.items ≡ length rows.now) }
@@ -180,7 +185,7 @@ fn cost_entries(
     layout: &Layout,
     cost: &[(Var, i128)],
     own: u128,
-) -> Result<Vec<Entry>, Stop>
+) -> Result<Vec<Entry>, NoAnswer>
     requires ascending { IsTrue (ascends var_cmp (keys_of cost.now)) }
     requires fits { all_fit (numbers_of cost.now) ≡ true }
     ensures value { IfOk result (λ made. cost_entries cost.now own [] layout.now.places.items ≡ Some (entries_seen made.items)) }
@@ -200,7 +205,7 @@ fn cost_entries(
 }
 
 /// The first state of a linear program.
-pub(crate) fn first_state(alloc: Global, reduced: &Reduced) -> Result<State, Stop>
+pub(crate) fn first_state(alloc: Global, reduced: &Reduced) -> Result<State, NoAnswer>
     requires { IsReady reduced.now }
     ensures value { IfOk result (λ state. first_state (program_of reduced.now) ≡ Some (state_seen state)) }
     ensures nothing { IfErr result (IsNothing (first_state (program_of reduced.now))) }

@@ -12,7 +12,7 @@ use Rattle.decimal_solver.specs.States as states
 use Rattle.decimal_solver.specs.States.{Phase, Start, One, Two}
 use Rattle.decimal_solver.specs.Views.{entries_seen, line_seen, row_seen, rows_seen, state_seen}
 use Rattle.decimal_solver.proofs.Nothing.{nothing-later}
-use Rattle.decimal_solver.proofs.RunLaws.{after-beyond, after-is, after-made, after-no_cost, rows-pivot}
+use Rattle.decimal_solver.proofs.RunLaws.{after-beyond, after-is, after-made, after-no_cost, after-no_pivot, after-no_rows, rows-pivot}
 use Rattle.decimal_solver.proofs.pivoting.after.Goals as goal
 use Rattle.decimal_solver.proofs.pivoting.after.Goals.{then-leaves, else-leaves, then-leaves-2, else-leaves-2}
 
@@ -28,6 +28,34 @@ row-is rows r row h e = get_or-map row_seen rows r row no_row h ∙ ap row_seen 
 pub returns-then-row-len-clause-nothing : goal.returns-then-row-len-clause-nothing
 returns-then-row-len-clause-nothing c =
     after-beyond (state_seen c.args.state) c.args.row c.args.column (omega (arith, length-map c.args.state.rows.items row_seen, c.len.ensures, c.if-row-len.true))
+
+pub returns-in_err-pivot-clause-nothing : goal.returns-in_err-pivot-clause-nothing
+returns-in_err-pivot-clause-nothing c =
+    let s : states.State = state_seen c.args.state in
+    let r = c.args.row in
+    let k = c.args.column in
+    let within : r < length c.args.state.rows.items = omega (arith, c.len.ensures, c.if-row-len.false) in
+    let factor : to_z w128 (of_z w128 c.factor_in.result) ≡ factor_in s.phase = ap (λ z. to_z w128 (of_z w128 z)) c.factor_in.ensures ∙ factor-back s.phase in
+    let row : row_at s.rows r ≡ row_seen c.index.result.now = row-is c.args.state.rows.items r c.index.result.now within c.index.ensures in
+    let q = err_from_is_err_and c.from_residual.result c.from_residual.ensures.1 in
+    rw (q.1, q.2)
+    (nothing-later _ (after s r k) c.in_err-pivot.field-0.0
+    (λ h. after-no_pivot s r k (ap₂ (λ f (x : states.GridRow). pivot_line f k s.columns x.line) (sym factor) row ∙ h)) c.in_err-pivot.ensures.nothing)
+
+pub returns-in_err-clear_others-clause-nothing : goal.returns-in_err-clear_others-clause-nothing
+returns-in_err-clear_others-clause-nothing c =
+    let s : states.State = state_seen c.args.state in
+    let r = c.args.row in
+    let k = c.args.column in
+    let pivot : Line = line_seen c.in_ok-pivot.pivot in
+    let within : r < length c.args.state.rows.items = omega (arith, c.len.ensures, c.if-row-len.false) in
+    let factor : to_z w128 (of_z w128 c.factor_in.result) ≡ factor_in s.phase = ap (λ z. to_z w128 (of_z w128 z)) c.factor_in.ensures ∙ factor-back s.phase in
+    let row : row_at s.rows r ≡ row_seen c.index.result.now = row-is c.args.state.rows.items r c.index.result.now within c.index.ensures in
+    let pivot_is : pivot_line (factor_in s.phase) k s.columns (row_at s.rows r).line ≡ Some pivot =
+    ap₂ (λ f (x : states.GridRow). pivot_line f k s.columns x.line) (sym factor) row ∙ c.in_ok-pivot.ensures.value in
+    let q = err_from_is_err_and c.from_residual-in_err-clear_others.result c.from_residual-in_err-clear_others.ensures.1 in
+    rw (q.1, q.2)
+    (nothing-later _ (after s r k) c.in_err-clear_others.field-0.0 (λ h. after-no_rows s r k pivot pivot_is h) c.in_err-clear_others.ensures.nothing)
 
 pub returns-in_err-clear-clause-nothing : goal.returns-in_err-clear-clause-nothing
 returns-in_err-clear-clause-nothing c =
