@@ -8,6 +8,7 @@ pub mod FailingLaws
 pub mod ValueMeaning
 pub mod SumLaws
 pub mod DualityLaws
+pub mod NamedSums
 pub mod DirectionLaws
 pub mod DenominatorLaws
 pub mod PlanMeaning

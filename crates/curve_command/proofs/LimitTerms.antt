@@ -20,7 +20,7 @@ use Rattle.row_core.proofs.Members.{Has}
 use Rattle.named_equations.proofs.InstanceTests.{indices-pass, range_parts}
 use Rattle.named_equations.proofs.SameValues.{◌also◌}
 use Rattle.named_equations.proofs.TermMeaning.{EachFrom, at_number}
-use Rattle.plan_quantities.proofs.MovedRows.{name-itself, same-name}
+use Rattle.certificate_checker.proofs.NamedSums.{name-itself, same-name}
 use Rattle.row_book.specs.EquationRows.{terms_at}
 use Rattle.row_book.proofs.Instances.{instance-parts}
 use Rattle.row_book.proofs.Numbers.{from-range}

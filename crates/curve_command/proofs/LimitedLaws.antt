@@ -39,7 +39,7 @@ use Rattle.named_equations.proofs.InstanceTests.{Has-instances, any_has, range_p
 use Rattle.named_equations.proofs.PositionsInSets.{are_in_sets}
 use Rattle.named_equations.proofs.SameValues.{◌also◌}
 use Rattle.named_equations.proofs.TermMeaning.{EachFrom, at_number}
-use Rattle.plan_quantities.proofs.MovedRows.{name-itself, same-name}
+use Rattle.certificate_checker.proofs.NamedSums.{name-itself, same-name}
 use Rattle.row_book.proofs.Instances.{instance-parts}
 use Rattle.row_book.proofs.Subscripts.{index-from_values, index-tidied, values-from_index, values-re}
 use Rattle.curve_command.specs.Limited.{FeasibleWithin, given_limit, limit_at, limit_names, with_limit}

@@ -28,7 +28,7 @@ use Rattle.named_equations.specs.Within.{IsEmission, IsRegion}
 use Rattle.row_core.proofs.Members.{Contains-from_Has, Has}
 use Rattle.named_equations.proofs.InstanceTests.{Has-instances}
 use Rattle.named_equations.proofs.TermMeaning.{alone-self}
-use Rattle.plan_quantities.proofs.MovedRows.{name-itself, same-name}
+use Rattle.certificate_checker.proofs.NamedSums.{name-itself, same-name}
 use Rattle.plan_quantities.proofs.PriceLaws.{entry_at, lessened, row-lessened, row-wider}
 use Rattle.row_book.specs.Books.{AreRowsOf}
 use Rattle.row_book.specs.EquationRows.{terms_at}

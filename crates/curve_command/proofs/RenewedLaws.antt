@@ -21,7 +21,7 @@ use Rattle.named_equations.proofs.InstanceOrder.{Sorted-instances}
 use Rattle.row_core.proofs.Members.{Has}
 use Rattle.named_equations.proofs.InstanceTests.{Has-instances}
 use Rattle.named_equations.proofs.SortedLists.{Every, Sorted}
-use Rattle.plan_quantities.proofs.MovedRows.{name-itself, same-name}
+use Rattle.certificate_checker.proofs.NamedSums.{name-itself, same-name}
 use Rattle.row_book.specs.Books.{AreRowsOf, CanBeMade, entries_in, entry_count, entry_limit, row_fits}
 use Rattle.row_book.specs.EquationRows.{terms_at}
 use Rattle.row_book.specs.Replaced.{AreTwins, same_variables}

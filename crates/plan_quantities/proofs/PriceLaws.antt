@@ -1,12 +1,12 @@
 -- A plan that covers more of a fuel costs at least the bound and the price of what is more: with that much less Production it meets every row, at its
 -- scale, and in the row of the fuel's balance less Production is more on the right side.
 use Rattle.std.proofs.Common.{◌≡◌, ◌≢◌, ℕ, ◌*◌, ◌<◌, ℤ, pos, neg_ℤ, ◌+ℤ◌, ◌*ℤ◌, Bool, true, false, List, [], ◌∷◌, refl, sym, ap, ap₂, ◌∙◌, subst, inl, inr, arith, true≢false}
-use Rattle.std.specs.Prelude.{◌<ℤ◌, ◌≤ℤ◌, Contains, if◌then◌else◌}
+use Rattle.std.specs.Prelude.{◌≤ℤ◌, Contains, if◌then◌else◌}
 use Rattle.std.specs.Ordering.{is_eq}
 use Rattle.std.proofs.lemmas.Int.{ints}
 use Rattle.exact_num.specs.Rational.{Rational, whole}
-use Rattle.exact_num.proofs.Integers.{*ℤ_nonnegative, ≤ℤ-*ℤ, ≤ℤ_cancel}
-use Rattle.exact_num.proofs.Ring.{ring, products, *ℤ_assoc, *ℤ-one, +ℤ-zero}
+use Rattle.exact_num.proofs.Integers.{*ℤ_nonnegative}
+use Rattle.exact_num.proofs.Ring.{ring, *ℤ_assoc, *ℤ-one, +ℤ-zero}
 use Rattle.model_sets.specs.Data.{Data}
 use Rattle.row_core.specs.declared.Index.{Index}
 use Rattle.row_core.specs.declared.Row.{Row}
@@ -44,9 +44,10 @@ use Rattle.named_equations.proofs.InstanceTests.{Contains-variables, Has-instanc
 use Rattle.named_equations.proofs.TermMeaning.{alone-self, sum_over-same, sum_over-times}
 use Rattle.plan_quantities.specs.Prices.{FeasibleWithMore, IsPromised, balance_at, price_of, price_over, production_entry, says_more}
 use Rattle.plan_quantities.proofs.ModelCost.{cost-of_all}
-use Rattle.plan_quantities.proofs.MovedRows.{Stands-moved, at_name, moved, name-itself, names, row_sum-moved, same-name, weighted-one, weighted-plus}
+use Rattle.certificate_checker.proofs.NamedSums.{at_name, fractions, name-itself, same-name, weighted-one, weighted-plus}
+use Rattle.plan_quantities.proofs.MovedRows.{Stands-moved, moved, row_sum-moved}
 use Rattle.row_book.proofs.Subscripts.{index-tidied, values-from_index}
-use Rattle.row_core.specs.RowLists.{entry_variables}
+use Rattle.row_core.specs.RowLists.{entry_variables, names_of}
 use Rattle.row_book.specs.Books.{AreRowsOf}
 use Rattle.row_book.specs.EquationRows.{terms_at}
 use Rattle.row_book.proofs.Instances.{instance-parts}
@@ -183,7 +184,7 @@ module _ (places : ℕ) (d : Data) (a : ℤ) (b q : ℕ) (x : Var → ℤ) (posi
     price-at rows s w row are proves has named =
         let p : Var = production r l f y in
         let entry : Row → ℤ = λ other. number_at other.entries.items p *ℤ (a *ℤ pos q) in
-        let up : ascends row_name_cmp (names rows) ≡ true = subst (λ ns. ascends row_name_cmp ns ≡ true) (sym (names-of_rows places d (instances d) rows are)) (instances-ascend d) in
+        let up : ascends row_name_cmp (names_of rows) ≡ true = subst (λ ns. ascends row_name_cmp ns ≡ true) (sym (names-of_rows places d (instances d) rows are)) (instances-ascend d) in
         let of_book : HasVariablesOf rows (all_variables d) =
         λ v given. (Contains-variables d v).1 (all-has (IsThere d) (entry_variables rows) v (all-there places d rows are) (Has-from_Contains (entry_variables rows) v given)) in
         let least =
@@ -222,26 +223,6 @@ balance-row places d rows index are instance =
     (found.0, Contains-from_Has rows found.0 found.1.0, found.1.1.written.named)
 
 -- ---- in fractions
-
--- both sides are divided by s
-pub fractions : (s b q a c low lb top tb n p : ℤ) → pos 0 <ℤ s → pos 0 <ℤ lb → pos 0 <ℤ tb → n *ℤ lb ≡ low *ℤ s → p *ℤ tb ≡ top *ℤ s
-    → ((n *ℤ b +ℤ p *ℤ a) *ℤ q) ≤ℤ (s *ℤ b *ℤ c) → ((low *ℤ tb *ℤ b +ℤ top *ℤ a *ℤ lb) *ℤ q) ≤ℤ (lb *ℤ tb *ℤ b *ℤ c)
-fractions s b q a c low lb top tb n p s_positive lb_positive tb_positive bound price least =
-    let wide : ((lb *ℤ tb) *ℤ ((n *ℤ b +ℤ p *ℤ a) *ℤ q)) ≤ℤ ((lb *ℤ tb) *ℤ (s *ℤ b *ℤ c)) =
-    ≤ℤ-*ℤ ((n *ℤ b +ℤ p *ℤ a) *ℤ q) (s *ℤ b *ℤ c) (lb *ℤ tb) (*ℤ_nonnegative lb tb (omega (arith, ints, lb_positive)) (omega (arith, ints, tb_positive))) least in
-    let left : (lb *ℤ tb) *ℤ ((n *ℤ b +ℤ p *ℤ a) *ℤ q) ≡ ((low *ℤ tb *ℤ b +ℤ top *ℤ a *ℤ lb) *ℤ q) *ℤ s =
-    apart n lb p tb a b q ∙ ap₂ (λ u v. (u *ℤ tb *ℤ b +ℤ v *ℤ a *ℤ lb) *ℤ q) bound price ∙ together low tb top lb a b q s in
-    ≤ℤ_cancel ((low *ℤ tb *ℤ b +ℤ top *ℤ a *ℤ lb) *ℤ q) (lb *ℤ tb *ℤ b *ℤ c) s s_positive
-    (subst (λ z. z ≤ℤ ((lb *ℤ tb *ℤ b *ℤ c) *ℤ s)) left (subst (λ z. ((lb *ℤ tb) *ℤ ((n *ℤ b +ℤ p *ℤ a) *ℤ q)) ≤ℤ z) (sorted lb tb s b c) wide))
-  where
-    apart : (n lb p tb a b q : ℤ) → (lb *ℤ tb) *ℤ ((n *ℤ b +ℤ p *ℤ a) *ℤ q) ≡ ((n *ℤ lb) *ℤ tb *ℤ b +ℤ (p *ℤ tb) *ℤ a *ℤ lb) *ℤ q
-    apart n lb p tb a b q = simp ring
-
-    together : (low tb top lb a b q s : ℤ) → ((low *ℤ s) *ℤ tb *ℤ b +ℤ (top *ℤ s) *ℤ a *ℤ lb) *ℤ q ≡ ((low *ℤ tb *ℤ b +ℤ top *ℤ a *ℤ lb) *ℤ q) *ℤ s
-    together low tb top lb a b q s = simp ring
-
-    sorted : (lb tb s b c : ℤ) → (lb *ℤ tb) *ℤ (s *ℤ b *ℤ c) ≡ (lb *ℤ tb *ℤ b *ℤ c) *ℤ s
-    sorted lb tb s b c = simp products
 
 pub promise-holds : (places : ℕ) (d : Data) (rows : List Row) (s : ℕ) (y : RowName → ℤ) (multipliers : List (RowName × Rational)) (bound : Rational) (row : Row) (index : Index)
     → AreRowsOf places d (instances d) rows → Proves model_cost rows (all_variables d) s y → AreMultipliersOver s y multipliers → IsOver (pos s) bound (bound_of y rows)
