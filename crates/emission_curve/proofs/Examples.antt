@@ -8,15 +8,14 @@ use Rattle.row_core.specs.declared.Row.{Row}
 use Rattle.row_core.specs.declared.RowName.{RowName}
 use Rattle.row_core.specs.declared.Var.{Var}
 use Rattle.row_core.specs.declared.equation_numbers.TheConstants.{E9}
-use Rattle.row_core.specs.declared.kind_numbers.TheConstants.{MODEL_PERIOD_EMISSIONS}
+use Rattle.row_core.specs.declared.kind_numbers.TheConstants.{ANNUAL_EMISSIONS, MODEL_PERIOD_EMISSIONS}
 use Rattle.row_core.specs.declared.place.Place.TheVariants.{CostRow}
 use Rattle.row_core.specs.Rows.{number_at}
 use Rattle.simplex_core.specs.declared.stops.TrialStop.TheVariants.{Budget, Width}
-use Rattle.named_equations.specs.Variables.{annual_emissions, model_period_emissions, variable}
 use Rattle.exact_solver.specs.MethodEnds as method
 use Rattle.emission_curve.specs.Ends.{HasLine, HasLineBelow, HasNoBound, HasNoPlan, IsStopped, ended}
 use Rattle.emission_curve.specs.Points.{EndIsRounded}
-use Rattle.emission_curve.specs.Slopes.{emissions_entry, entry_at, slope_at}
+use Rattle.emission_curve.specs.Slopes.{emissions_entry, emissions_of, entry_at, slope_at}
 
 -- ---- the limit's row
 
@@ -27,13 +26,17 @@ named eq = record { eq = eq; index = record { region = 0; other = 0; slice = 0; 
 abbrev limit : RowName
 limit = named E9
 
+-- the variable of a kind that has its subscripts
+abbrev at_first : ℕ → Var
+at_first kind = record { kind = kind; index = limit.index }
+
 -- 10^9 times the emissions are at most 2.5 * 10^9: 2 times them are at most 5
-twice : (row : Row) → row.name ≡ limit → row.entries.items ≡ (model_period_emissions 0 0, pos 2) ∷ [] → emissions_entry row ≡ pos 2
-twice row name entries = ap₂ (λ (es : List (Var × ℤ)) (n : RowName). number_at es (variable MODEL_PERIOD_EMISSIONS n.index)) entries name
+twice : (row : Row) → row.name ≡ limit → row.entries.items ≡ (at_first MODEL_PERIOD_EMISSIONS, pos 2) ∷ [] → emissions_entry row ≡ pos 2
+twice row name entries = ap₂ (λ (es : List (Var × ℤ)) (n : RowName). number_at es (emissions_of n)) entries name
 
 -- a row that says nothing of them has 0 there
-other_emissions : (row : Row) → row.name ≡ limit → row.entries.items ≡ (annual_emissions 0 0 0, pos 2) ∷ [] → emissions_entry row ≡ pos 0
-other_emissions row name entries = ap₂ (λ (es : List (Var × ℤ)) (n : RowName). number_at es (variable MODEL_PERIOD_EMISSIONS n.index)) entries name
+other_emissions : (row : Row) → row.name ≡ limit → row.entries.items ≡ (at_first ANNUAL_EMISSIONS, pos 2) ∷ [] → emissions_entry row ≡ pos 0
+other_emissions row name entries = ap₂ (λ (es : List (Var × ℤ)) (n : RowName). number_at es (emissions_of n)) entries name
 
 -- where no row has the name there is no entry, and the slope is 0
 no_row : entry_at [] limit ≡ pos 0

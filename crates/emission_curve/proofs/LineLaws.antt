@@ -1,6 +1,6 @@
 -- Multipliers that prove a bound make a line that lies below all plans, whatever the limit: in the row of the limit, so much more of the emissions is the slope times
 -- that more in the sum of multiplier times right side.
-use Rattle.std.proofs.Common.{◌≡◌, ℕ, ◌*◌, ◌<◌, ℤ, pos, ◌+ℤ◌, ◌*ℤ◌, Bool, true, false, List, [], ◌∷◌, refl, sym, ap, ap₂, ◌∙◌, subst, arith}
+use Rattle.std.proofs.Common.{◌≡◌, ℕ, ◌*◌, ◌<◌, ℤ, pos, ◌+ℤ◌, ◌*ℤ◌, Bool, true, false, List, Option, [], ◌∷◌, refl, sym, ap, ap₂, ◌∙◌, subst, arith}
 use Rattle.std.specs.Prelude.{◌≤ℤ◌, if◌then◌else◌}
 use Rattle.std.specs.Ordering.{is_eq}
 use Rattle.std.proofs.lemmas.Int.{ints}
@@ -16,22 +16,21 @@ use Rattle.row_core.specs.Kinds.{kind_is_free}
 use Rattle.row_core.specs.Numbers.{ascends}
 use Rattle.row_core.specs.Order.{row_name_cmp}
 use Rattle.row_core.specs.Plans.{value_in}
+use Rattle.row_core.specs.RowLists.{names_of}
 use Rattle.row_core.specs.Values.{IsOver}
 use Rattle.row_core.proofs.AscendingLaws.{ascends-tail}
-use Rattle.row_core.proofs.Orders.{row_name_cmp_total}
 use Rattle.row_core.proofs.SumLaws.{IsOver-times}
-use Rattle.row_book.specs.Kept.{IsBook}
 use Rattle.certificate_checker.specs.Certificates.{AreMultipliersOver, Proves, bound_of}
 use Rattle.certificate_checker.specs.Costs.{cost_of, model_cost}
 use Rattle.certificate_checker.specs.Plans.{AreValuesOver, HaveRightSigns, IsRight}
 use Rattle.certificate_checker.specs.Sums.{weighted}
 use Rattle.certificate_checker.proofs.DualityLaws.{weak_duality, weighted-right}
+use Rattle.certificate_checker.proofs.NamedSums.{at_name, earlier, fractions, same-name, weighted-none, weighted-plus}
 use Rattle.certificate_checker.proofs.SumLaws.{sum_over-same, sum_over-times}
 use Rattle.simplex_core.specs.declared.stops.TrialStop.TheVariants.{Width}
-use Rattle.exact_solver.specs.Solutions.{IsBound, IsPlan}
+use Rattle.certified_answers.specs.Worth.{IsBound, IsPlan}
+use Rattle.row_problem.specs.Problems.{IsProblem}
 use Rattle.row_core.proofs.Members.{Has}
-use Rattle.plan_quantities.proofs.MovedRows.{at_name, is_eq-reversed, later, names, same-name, weighted-none, weighted-plus}
-use Rattle.plan_quantities.proofs.PriceLaws.{fractions}
 use Rattle.emission_curve.specs.Ends.{HasLine, HasLineBelow, IsStopped, optimum_end}
 use Rattle.emission_curve.specs.Points.{EndIsOf, IsLineBelow, IsReached, MeetsWithMore, right_with_more}
 use Rattle.emission_curve.specs.Slopes.{emissions_entry, entry_at, slope_at, slope_formed}
@@ -39,17 +38,17 @@ use Rattle.emission_curve.specs.Slopes.{emissions_entry, entry_at, slope_at, slo
 -- ---- the sum of multiplier times what is more
 
 -- the later rows have other names than the first
-others : (row : Row) (rows : List Row) (limit : RowName) → ascends row_name_cmp (names (row ∷ rows)) ≡ true → is_eq (row_name_cmp row.name limit) ≡ true
+others : (row : Row) (rows : List Row) (limit : RowName) → ascends row_name_cmp (names_of (row ∷ rows)) ≡ true → is_eq (row_name_cmp row.name limit) ≡ true
     → (other : Row) → Has rows other → is_eq (row_name_cmp other.name limit) ≡ false
 others row rows limit up same other has =
     subst (λ (n : RowName). is_eq (row_name_cmp other.name n) ≡ false) (same-name row.name limit same)
-    (ap is_eq (row_name_cmp_total.antisymm other.name row.name) ∙ is_eq-reversed (row_name_cmp row.name other.name) ∙ later row other rows up has)
+    (earlier row other rows up has)
 
 -- of rows whose names ascend, that of the limit alone
-weighted-limit : (y : RowName → ℤ) (limit : RowName) (k : ℤ) (rows : List Row) → ascends row_name_cmp (names rows) ≡ true
+weighted-limit : (y : RowName → ℤ) (limit : RowName) (k : ℤ) (rows : List Row) → ascends row_name_cmp (names_of rows) ≡ true
     → weighted y (at_name limit (λ row. emissions_entry row *ℤ k)) rows ≡ (y limit *ℤ entry_at rows limit) *ℤ k
 weighted-limit y limit k [] up = sym (ap (λ z. z *ℤ k) (*ℤ-zero (y limit)) ∙ zero-*ℤ k)
-weighted-limit y limit k (row ∷ rows) up = by_test (is_eq (row_name_cmp row.name limit)) refl (weighted-limit y limit k rows (ascends-tail row_name_cmp row.name (names rows) up))
+weighted-limit y limit k (row ∷ rows) up = by_test (is_eq (row_name_cmp row.name limit)) refl (weighted-limit y limit k rows (ascends-tail row_name_cmp row.name (names_of rows) up))
   where
     f : Row → ℤ
     f other = emissions_entry other *ℤ k
@@ -88,18 +87,18 @@ wider-cost b x vars =
 
 -- ---- lines
 
-module _ (rows : List Row) (vars : List Var) (limit : RowName) (book : IsBook rows vars) where
+module _ (rows : List Row) (defs : List (Option Var)) (vars : List Var) (limit : RowName) (problem : IsProblem rows defs vars) where
   -- over whole numbers
   whole-line : (s : ℕ) (y : RowName → ℤ) (a : ℤ) (b q : ℕ) (x : Var → ℤ) → Proves model_cost rows vars s y → MeetsWithMore rows vars limit a b q x
       → ((bound_of y rows *ℤ pos b +ℤ (y limit *ℤ entry_at rows limit) *ℤ a) *ℤ pos q) ≤ℤ (pos s *ℤ pos b *ℤ cost_of model_cost vars x)
   whole-line s y a b q x proves plan =
       let wider : Var → ℤ = λ v. pos b *ℤ x v in
       let least =
-      weak_duality model_cost rows vars s y (right_with_more limit a b q) wider book.variables.ascending (λ v given. (book.variables.each v).1 given) proves plan.rows_hold
+      weak_duality model_cost rows vars s y (right_with_more limit a b q) wider problem.ascending problem.listed proves plan.rows_hold
       (wider-signs b x vars plan.signs) in
       let left : weighted y (right_with_more limit a b q) rows ≡ (bound_of y rows *ℤ pos b +ℤ (y limit *ℤ entry_at rows limit) *ℤ a) *ℤ pos q =
       weighted-plus y (λ row. row.rhs *ℤ pos (b * q)) (at_name limit (λ row. emissions_entry row *ℤ (a *ℤ pos q))) rows
-      ∙ ap₂ (λ u v. u +ℤ v) (weighted-right y (b * q) rows) (weighted-limit y limit (a *ℤ pos q) rows book.ascending)
+      ∙ ap₂ (λ u v. u +ℤ v) (weighted-right y (b * q) rows) (weighted-limit y limit (a *ℤ pos q) rows problem.named)
       ∙ together (bound_of y rows) (pos b) (pos q) (y limit *ℤ entry_at rows limit) a in
       let right : pos s *ℤ cost_of model_cost vars wider ≡ pos s *ℤ pos b *ℤ cost_of model_cost vars x =
       ap (λ z. pos s *ℤ z) (wider-cost b x vars) ∙ grouped (pos s) (pos b) (cost_of model_cost vars x) in
@@ -142,18 +141,18 @@ reached rows vars plan cost is =
     record { over = is.some.over; plan = is.some.number; meets = is.meets is.some.over is.some.number over; costs = is.costs is.some.over is.some.number over }
 
 -- the optimum of the exact method
-pub optimum-worth : (rows : List Row) (vars : List Var) (limit : RowName) (plan : List (Var × Rational)) (multipliers : List (RowName × Rational)) (cost bound : Rational)
-    → IsBook rows vars → IsPlan rows vars plan cost → IsBound rows vars multipliers bound → cost ≡ bound → EndIsOf rows vars limit (optimum_end rows limit multipliers cost)
-optimum-worth rows vars limit plan multipliers cost bound book planned bounded same = by_test (all_fit (slope_formed rows multipliers limit))
+pub optimum-worth : (rows : List Row) (defs : List (Option Var)) (vars : List Var) (limit : RowName) (plan : List (Var × Rational)) (multipliers : List (RowName × Rational)) (cost bound : Rational)
+    → IsProblem rows defs vars → IsPlan rows vars plan cost → IsBound rows vars multipliers bound → cost ≡ bound → EndIsOf rows vars limit (optimum_end rows limit multipliers cost)
+optimum-worth rows defs vars limit plan multipliers cost bound problem planned bounded same = by_test (all_fit (slope_formed rows multipliers limit))
   where
     by_test : (fits : Bool) → EndIsOf rows vars limit (if fits then HasLine cost (slope_at rows multipliers limit) else IsStopped (Width (Price limit)))
     by_test true = (
       reached rows vars plan cost planned,
-      subst (λ (c : Rational). IsLineBelow rows vars limit c (slope_at rows multipliers limit)) (sym same) (line-below rows vars limit book multipliers bound bounded),
+      subst (λ (c : Rational). IsLineBelow rows vars limit c (slope_at rows multipliers limit)) (sym same) (line-below rows defs vars limit problem multipliers bound bounded),
     )
     by_test false = tt
 
 -- what the rounded method finds
-pub rounded-worth : (rows : List Row) (vars : List Var) (limit : RowName) (plan : List (Var × Rational)) (multipliers : List (RowName × Rational)) (cost bound : Rational)
-    → IsBook rows vars → IsPlan rows vars plan cost → IsBound rows vars multipliers bound → EndIsOf rows vars limit (HasLineBelow cost bound (slope_at rows multipliers limit))
-rounded-worth rows vars limit plan multipliers cost bound book planned bounded = (reached rows vars plan cost planned, line-below rows vars limit book multipliers bound bounded)
+pub rounded-worth : (rows : List Row) (defs : List (Option Var)) (vars : List Var) (limit : RowName) (plan : List (Var × Rational)) (multipliers : List (RowName × Rational)) (cost bound : Rational)
+    → IsProblem rows defs vars → IsPlan rows vars plan cost → IsBound rows vars multipliers bound → EndIsOf rows vars limit (HasLineBelow cost bound (slope_at rows multipliers limit))
+rounded-worth rows defs vars limit plan multipliers cost bound problem planned bounded = (reached rows vars plan cost planned, line-below rows defs vars limit problem multipliers bound bounded)

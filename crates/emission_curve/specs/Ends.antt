@@ -1,5 +1,5 @@
 -- How the exact method ends at a limit on the emissions of the model period.
-use Rattle.std.specs.Prelude.{ℕ, List, if◌then◌else◌}
+use Rattle.std.specs.Prelude.{ℕ, List, Option, if◌then◌else◌}
 use Rattle.exact_num.specs.Range.{all_fit}
 use Rattle.exact_num.specs.Rational.{Rational}
 use Rattle.exact_num.specs.Value.{value_of}
@@ -9,7 +9,8 @@ use Rattle.row_core.specs.declared.Var.{Var}
 use Rattle.row_core.specs.declared.place.Place.TheVariants.{Price}
 use Rattle.simplex_core.specs.declared.stops.TrialStop.{TrialStop}
 use Rattle.simplex_core.specs.declared.stops.TrialStop.TheVariants.{Budget, Width}
-use Rattle.exact_solver.specs.MethodEnds.{MethodEnd, method_end, plan_cost}
+use Rattle.certified_answers.specs.Worth.{plan_cost}
+use Rattle.exact_solver.specs.MethodEnds.{MethodEnd, method_end}
 use Rattle.exact_solver.specs.MethodEnds as method
 use Rattle.emission_curve.specs.Slopes.{slope_at, slope_formed}
 use Rattle.emission_curve.specs.declared.point.Point.{Point}
@@ -37,8 +38,8 @@ ended rows vars limit pivots method.IsPivotDue = IsStopped (Budget pivots)
 ended rows vars limit pivots (method.IsWide place) = IsStopped (Width place)
 
 -- how a limit's rows end, with so many pivots at most
-abbrev pub point_end : List Row → List Var → RowName → ℕ → PointEnd
-point_end rows vars limit pivots = ended rows vars limit pivots (method_end rows vars pivots)
+abbrev pub point_end : List Row → List (Option Var) → List Var → RowName → ℕ → PointEnd
+point_end rows defs vars limit pivots = ended rows vars limit pivots (method_end rows defs vars pivots)
 
 -- what is found, as such an end
 abbrev pub point_seen : Point → PointEnd

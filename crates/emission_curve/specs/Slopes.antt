@@ -6,15 +6,19 @@ use Rattle.exact_num.specs.Formed.{product_formed}
 use Rattle.exact_num.specs.Rational.{Rational, times, whole}
 use Rattle.row_core.specs.declared.Row.{Row}
 use Rattle.row_core.specs.declared.RowName.{RowName}
+use Rattle.row_core.specs.declared.Var.{Var}
 use Rattle.row_core.specs.declared.kind_numbers.TheConstants.{MODEL_PERIOD_EMISSIONS}
 use Rattle.row_core.specs.Order.{row_name_cmp}
 use Rattle.row_core.specs.Plans.{value_in}
 use Rattle.row_core.specs.Rows.{number_at}
-use Rattle.named_equations.specs.Variables.{variable}
 
--- what a row has at the emissions of the model period with its own subscripts
+-- the emissions of the model period with the subscripts of a row
+abbrev pub emissions_of : RowName → Var
+emissions_of name = record { kind = MODEL_PERIOD_EMISSIONS; index = name.index }
+
+-- what a row has at those with its own subscripts
 abbrev pub emissions_entry : Row → ℤ
-emissions_entry row = number_at row.entries.items (variable MODEL_PERIOD_EMISSIONS row.name.index)
+emissions_entry row = number_at row.entries.items (emissions_of row.name)
 
 -- what the first row of a name has there, 0 where there is no such row
 abbrev pub entry_at : List Row → RowName → ℤ

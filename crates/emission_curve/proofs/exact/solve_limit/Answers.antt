@@ -1,16 +1,16 @@
 -- The least cost and the multipliers that prove it make a line below all plans.
 use Rattle.std.proofs.Common.{sym, subst}
 use Rattle.exact_num.specs.Value.{value_of}
-use Rattle.exact_solver.specs.Solutions.{IsProved}
+use Rattle.certified_answers.specs.Answers.{IsProved}
 use Rattle.emission_curve.specs.Points.{EndIsOf}
 use Rattle.emission_curve.proofs.LineLaws.{optimum-worth}
 use Rattle.emission_curve.proofs.exact.solve_limit.Goals as goal
 
 pub returns-in-Ok-Optimal-clause-worth : goal.returns-in-Ok-Optimal-clause-worth
 returns-in-Ok-Optimal-clause-worth c =
-    let rows = c.args.book.now.rows in
-    let vars = c.args.book.now.vars in
+    let rows = c.args.rows.now in
+    let vars = c.args.vars.now in
     let w = c.in-Ok-Optimal in
     let proved = subst (IsProved rows vars) w.field-0-is w.ensures.proved in
     subst (EndIsOf rows vars c.args.limit) (sym c.optimum.ensures)
-    (optimum-worth rows vars c.args.limit w.field-0-0 w.multipliers (value_of w.cost) (value_of w.field-0-3) c.vars.ensures.book proved.0 proved.1 proved.2.same)
+    (optimum-worth rows c.args.defs.now vars c.args.limit w.field-0-0 w.multipliers (value_of w.cost) (value_of w.field-0-3) c.requires.problem proved.0 proved.1 proved.2.same)
