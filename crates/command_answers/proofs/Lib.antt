@@ -13,3 +13,5 @@ pub mod PlanCosts
 pub mod SameData
 pub mod SamePlans
 pub mod StepNames
+pub mod RowPositions
+pub mod BookProblems

@@ -10,3 +10,6 @@ pub mod NotAccepted
 pub mod PlacesWithin
 pub mod PlanFaultLines
 pub mod RefusalLines
+pub mod Definers
+pub mod BookMethods
+pub mod BookPrograms

@@ -11,6 +11,7 @@ mod amounts;
 mod answer;
 mod books;
 mod lines;
+mod methods;
 mod named_members;
 mod places;
 mod plan_fault_lines;
@@ -24,6 +25,9 @@ pub use answer::{Answer, refuse_words};
 pub use books::{refuse_book, refuse_size};
 pub use command_words::WordFault;
 pub use lines::{push_trial_stop, stop_line, too_long_line};
+pub use methods::{
+    BookProgram, definers, eliminate_book, guess_book, problem_laws, problem_of, second_book, solve_book,
+};
 pub use named_members::find_member;
 pub use places::{push_place, push_with_row, push_with_var};
 pub use plan_fault_lines::{multiplier_fault_line, plan_fault_line};

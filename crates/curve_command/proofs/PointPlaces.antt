@@ -11,11 +11,13 @@ use Rattle.row_core.specs.declared.place.Place.TheVariants.{Price}
 use Rattle.row_book.specs.Kept.{IsBook}
 use Rattle.simplex_core.specs.declared.stops.TrialStop.{TrialStop}
 use Rattle.simplex_core.specs.declared.stops.TrialStop.TheVariants.{Budget, Width}
-use Rattle.exact_solver.specs.MethodEnds.{MethodEnd, method_end}
+use Rattle.exact_solver.specs.MethodEnds.{MethodEnd}
+use Rattle.command_answers.specs.BookMethods.{method_end}
 use Rattle.exact_solver.specs.MethodEnds as method
 use Rattle.command_answers.specs.CheckedPlans.{IsListedBook}
 use Rattle.command_answers.specs.PlacesWithin.{IsRowOfSets, TrialIsWithin}
 use Rattle.solve_command.proofs.BookPlaces.{stop-within}
+use Rattle.command_answers.specs.Definers.{definers}
 use Rattle.emission_curve.specs.Ends.{HasLine, IsStopped, ended, point_end, point_seen}
 use Rattle.emission_curve.specs.Points.{IsRoundedPoint}
 use Rattle.emission_curve.specs.Slopes.{slope_at, slope_formed}
@@ -37,7 +39,7 @@ module _ (sets : SetLists) (rows : List Row) (vars : List Var) (listed : IsListe
   end-stop method.IsPivotDue at stop is = let same : Budget pivots ≡ stop = cc is in subst (TrialIsWithin sets) same tt
   end-stop (method.IsWide place) at stop is = let same : Width place ≡ stop = cc is in subst (TrialIsWithin sets) same (stop-within sets rows vars listed book pivots place at)
 
-  pub exact-within : (point : Point) → point_seen point ≡ point_end rows vars limit pivots → PointIsWithin sets point
+  pub exact-within : (point : Point) → point_seen point ≡ point_end rows (definers rows) vars limit pivots → PointIsWithin sets point
   exact-within (points.Solved cost slope) is = tt
   exact-within (points.Rounded cost bound slope) is = tt
   exact-within points.Infeasible is = tt

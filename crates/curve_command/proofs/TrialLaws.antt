@@ -22,8 +22,9 @@ use Rattle.command_answers.specs.PlacesWithin.{PlaceIsWithin}
 use Rattle.command_answers.proofs.CheckedRows.{vars-are}
 use Rattle.command_answers.proofs.SameData.{SameLaws}
 use Rattle.command_words.specs.declared.command.SolveMethod.TheVariants.{Rounded}
-use Rattle.exact_solver.specs.Sizes.{column_count, inequality_count}
+use Rattle.row_problem.specs.Sizes.{column_count, inequality_count}
 use Rattle.solve_command.specs.Limits.{IsWithinLimits, PassesLimits, most_columns, most_rows}
+use Rattle.command_answers.specs.Definers.{definers}
 use Rattle.emission_curve.specs.Ends.{IsStopped, point_end, point_seen}
 use Rattle.emission_curve.specs.Points.{IsRoundedPoint}
 use Rattle.emission_curve.specs.declared.point.Point.{Point}
@@ -59,11 +60,11 @@ module _ (places : ℕ) (d changed : Data) (r e : ℕ) (wanted : Wanted) (z : �
     made-for : (P : List Row → Type 0) → P rows → IsMadeFor places limited P
     made-for P due = record { made = (laws.made 0).0 made; rows = rows; are_rows = book.are_rows; due = due }
 
-    cause-of : (point : Point) → IsWithinLimits rows vars → (point_seen point ≡ point_end rows vars (limit_at r e) wanted.pivots) ⊎ ((wanted.method ≡ Rounded) × IsRoundedPoint wanted.gap point)
+    cause-of : (point : Point) → IsWithinLimits rows vars → (point_seen point ≡ point_end rows (definers rows) vars (limit_at r e) wanted.pivots) ⊎ ((wanted.method ≡ Rounded) × IsRoundedPoint wanted.gap point)
         → EndsSo places limited (limit_at r e) wanted (point_seen point)
     cause-of point limits (inl is) =
-        inr (inl (made-for (λ rs. IsWithinLimits rs (all_variables limited) × (point_seen point ≡ point_end rs (all_variables limited) (limit_at r e) wanted.pivots))
-        (subst (IsWithinLimits rows) vars_are limits, subst (λ vs. point_seen point ≡ point_end rows vs (limit_at r e) wanted.pivots) vars_are is)))
+        inr (inl (made-for (λ rs. IsWithinLimits rs (all_variables limited) × (point_seen point ≡ point_end rs (definers rs) (all_variables limited) (limit_at r e) wanted.pivots))
+        (subst (IsWithinLimits rows) vars_are limits, subst (λ vs. point_seen point ≡ point_end rows (definers rows) vs (limit_at r e) wanted.pivots) vars_are is)))
     cause-of point limits (inr is) =
         inr (inr (record { asked = is.0; rows = made-for (λ rs. IsWithinLimits rs (all_variables limited)) (subst (IsWithinLimits rows) vars_are limits); rounded = is.1 }))
 

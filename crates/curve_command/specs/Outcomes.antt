@@ -13,6 +13,7 @@ use Rattle.command_answers.specs.declared.status.Refusal.TheVariants.{TooLarge, 
 use Rattle.command_answers.specs.Lines.{entries_line, too_large_line}
 use Rattle.command_answers.specs.PlacesWithin.{PlaceIsWithin, TrialIsWithin}
 use Rattle.command_words.specs.declared.command.SolveMethod.TheVariants.{Rounded}
+use Rattle.command_answers.specs.Definers.{definers}
 use Rattle.emission_curve.specs.Ends.{point_end, point_seen}
 use Rattle.emission_curve.specs.Points.{IsPointOf, IsRoundedPoint}
 use Rattle.emission_curve.specs.declared.point.Point.{Point}
@@ -20,7 +21,7 @@ use Rattle.emission_curve.specs.declared.point.Point.TheVariants as points
 use Rattle.row_book.specs.declared.fail.BookFail.{BookFail}
 use Rattle.row_book.specs.declared.fail.BookFail.TheVariants as fails
 use Rattle.simplex_core.specs.declared.stops.TrialStop.TheVariants.{Width}
-use Rattle.exact_solver.specs.Sizes.{column_count, inequality_count}
+use Rattle.row_problem.specs.Sizes.{column_count, inequality_count}
 use Rattle.solve_command.specs.Limits.{IsWithinLimits, most_columns, most_rows}
 use Rattle.curve_command.specs.Curve.{limits_in}
 use Rattle.curve_command.specs.CurveTexts as texts
@@ -49,7 +50,7 @@ PointIsWithin sets (points.Stopped stop) = TrialIsWithin sets stop
 -- a point of the rows, by the exact method, or by the rounded one where that is asked for
 pub record IsPointBy (rows : List Row) (vars : List Var) (limit : RowName) (wanted : Wanted) (point : Point) : Type 0 where
   pub worth : IsPointOf rows vars limit point
-  pub cause : (point_seen point ≡ point_end rows vars limit wanted.pivots) ⊎ ((wanted.method ≡ Rounded) × IsRoundedPoint wanted.gap point)
+  pub cause : (point_seen point ≡ point_end rows (definers rows) vars limit wanted.pivots) ⊎ ((wanted.method ≡ Rounded) × IsRoundedPoint wanted.gap point)
 
 -- the linear program is too large, and the answer says so
 pub record IsTooLargeFor (rows : List Row) (vars : List Var) (status : Status) (text : List ℕ) : Type 0 where

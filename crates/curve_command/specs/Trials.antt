@@ -12,6 +12,7 @@ use Rattle.command_answers.specs.MadeRows.{IsMadeFor, IsTooLarge}
 use Rattle.command_words.specs.declared.command.SolveMethod.{SolveMethod}
 use Rattle.command_words.specs.declared.command.SolveMethod.TheVariants.{Rounded}
 use Rattle.solve_command.specs.Limits.{IsWithinLimits, PassesLimits}
+use Rattle.command_answers.specs.Definers.{definers}
 use Rattle.emission_curve.specs.Ends.{IsStopped, PointEnd, point_end}
 use Rattle.emission_curve.specs.Points.{EndIsRounded}
 use Rattle.curve_command.specs.CurvePoints.{EndIsTrue}
@@ -33,7 +34,7 @@ pub record HasWideRow (places : ℕ) (d : Data) (end : PointEnd) : Type 0 where
 -- the rows can be made, their linear program isn't too large, and the exact method ends on them so
 abbrev pub EndsExactly : ℕ → Data → RowName → ℕ → PointEnd → Type 0
 EndsExactly places d limit pivots end =
-    IsMadeFor places d (λ rows. IsWithinLimits rows (all_variables d) × (end ≡ point_end rows (all_variables d) limit pivots))
+    IsMadeFor places d (λ rows. IsWithinLimits rows (all_variables d) × (end ≡ point_end rows (definers rows) (all_variables d) limit pivots))
 
 -- or the rounded method is asked for, and finds so much
 pub record EndsRounded (places : ℕ) (d : Data) (wanted : Wanted) (end : PointEnd) : Type 0 where

@@ -2,6 +2,7 @@
 //! bound on the cost at every other limit.
 #![tactic(auto)]
 
+mod book_points;
 mod books;
 mod curve;
 mod laws;

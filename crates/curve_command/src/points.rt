@@ -4,14 +4,15 @@ ghost use Rattle.command_answers.specs.CheckedPlans.{IsListedBook};
 ghost use Rattle.command_answers.specs.PlacesWithin.{IsRowOfSets};
 ghost use Rattle.curve_command.specs.Outcomes.{BookTells, IsPointBy, PointIsWithin, wanted_of};
 
+use crate::book_points::{round_book_limit, solve_book_limit};
 use crate::trials::{Trial, Wanted};
 use command_answers::refuse_size;
 use command_words::SolveMethod;
-use emission_curve::{Point, round_limit, solve_limit};
-use exact_solver::size_of;
+use emission_curve::Point;
 use model_sets::Sets;
 use row_book::RowBook;
 use row_core::RowName;
+use row_problem::size_of;
 use std::alloc::{AllocError, Global};
 
 /// The most inequalities that a linear program may have.
@@ -32,7 +33,7 @@ pub fn book_trial(
     requires limit { IsRowOfSets sets.now limit }
     ensures { IfOk result (BookTells sets.now book.now.rows book.now.vars limit (wanted_of wanted)) }
 {
-    let size = size_of(book);
+    let size = size_of(book.rows(), book.vars());
     if size.rows > MOST_ROWS || size.columns > MOST_COLUMNS {
         let answer = refuse_size(alloc, size.rows, size.columns)?;
         return Ok(Trial::Refused(answer));
@@ -58,7 +59,7 @@ fn book_point(
         SolveMethod::Exact => exact_point(alloc, book, sets, limit, wanted),
         SolveMethod::Rounded => {
             let pivots = u64::from(wanted.pivots);
-            match round_limit(alloc, book, limit, wanted.gap, pivots)? {
+            match round_book_limit(alloc, book, limit, wanted.gap, pivots)? {
                 Some(point) => Ok(point),
                 None => exact_point(alloc, book, sets, limit, wanted),
             }
@@ -81,6 +82,6 @@ fn exact_point(
 {
     // The rows and the variables of a book are what the places of the method speak of.
     let _ = book.vars();
-    let point = solve_limit(alloc, book, limit, u64::from(wanted.pivots))?;
+    let point = solve_book_limit(alloc, book, limit, u64::from(wanted.pivots))?;
     Ok(point)
 }

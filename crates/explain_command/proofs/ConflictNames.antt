@@ -13,8 +13,8 @@ use Rattle.named_equations.specs.Instances.{instances, variable_of}
 use Rattle.row_core.proofs.Members.{Contains-from_Has, Has, Has-from_Contains}
 use Rattle.row_book.specs.Books.{AreRowsOf}
 use Rattle.row_book.specs.Kept.{IsBook}
-use Rattle.exact_solver.specs.Sizes.{is_unequal}
-use Rattle.exact_solver.proofs.BookLaws.{placed}
+use Rattle.row_problem.specs.Sizes.{is_unequal}
+use Rattle.command_answers.proofs.BookProblems.{placed}
 use Rattle.command_answers.specs.CheckedPlans.{IsBookOf}
 use Rattle.command_answers.proofs.CheckedRows.{feasible-from_rows as feasible-from_all, vars-are}
 use Rattle.conflict_sets.specs.Conflicts.{AdmitsSome, AreNeeded, IsConflict, inequalities, is_member}

@@ -10,7 +10,7 @@ use Rattle.row_core.specs.Plans.{valued}
 use Rattle.row_book.specs.Kept.{IsBook}
 use Rattle.named_equations.specs.Existence.{all_variables}
 use Rattle.written_method.specs.Eliminated.{elimination_steps}
-use Rattle.exact_solver.specs.Definers.{definers}
+use Rattle.command_answers.specs.Definers.{definers}
 use Rattle.simplex_core.specs.declared.stops.Stop.{Stop}
 use Rattle.simplex_core.specs.declared.stops.Stop.TheVariants.{Width}
 use Rattle.command_answers.specs.declared.status.Status.{Status}
@@ -30,13 +30,13 @@ use Rattle.explain_command.proofs.ShownLaws.{shown-conflict}
 
 module _ (places : ℕ) (d : Data) (rows : List Row) (vars : List Var) (kept : IsBook rows vars) (book : IsBookOf places d rows vars) (pivots : ℕ) where
   -- where the elimination stops nowhere, the trials say how it ends
-  ends : first_wide (elimination_steps rows (definers rows)) ≡ None → (end : Explanation) → explained rows vars pivots ≡ end → explanation rows (all_variables d) pivots ≡ end
+  ends : first_wide (elimination_steps rows (definers rows)) ≡ None → (end : Explanation) → explained rows (definers rows) vars pivots ≡ end → explanation rows (definers rows) (all_variables d) pivots ≡ end
   ends fits end is =
-      ap (λ (wide : Option Place). elim wide as (λ _. Explanation) [ None ↦ explained rows (all_variables d) pivots | Some place ↦ IsStopped (Width place) ]) fits
-      ∙ ap (λ (vs : List Var). explained rows vs pivots) (sym (vars-are places d rows vars book)) ∙ is
+      ap (λ (wide : Option Place). elim wide as (λ _. Explanation) [ None ↦ explained rows (definers rows) (all_variables d) pivots | Some place ↦ IsStopped (Width place) ]) fits
+      ∙ ap (λ (vs : List Var). explained rows (definers rows) vs pivots) (sym (vars-are places d rows vars book)) ∙ is
 
   module _ (sets : SetLists) (same : sets ≡ d.sets) (status : Status) (text : List ℕ) where
-    pub due-from_found : first_wide (elimination_steps rows (definers rows)) ≡ None → (found : Option Conflict) → explanation_seen found ≡ explained rows vars pivots
+    pub due-from_found : first_wide (elimination_steps rows (definers rows)) ≡ None → (found : Option Conflict) → explanation_seen found ≡ explained rows (definers rows) vars pivots
         → ((conflict : Conflict) → found ≡ Some conflict → IsConflict rows vars conflict) → (found ≡ None → AdmitsSome rows vars) → TellsFound sets found status text → DueForTrials places d rows pivots status text
     due-from_found fits None end conflict feasible told =
         inl (record { end = ends fits _ (sym end); some = some-feasible places d rows vars kept book (feasible refl); status_is = told.0; text_is = told.1 })
@@ -51,7 +51,7 @@ module _ (places : ℕ) (d : Data) (rows : List Row) (vars : List Var) (kept : I
           text_is = told.1 ∙ ap (λ (ss : SetLists). conflict_text ss (map valued conflict.members.items) conflict.plans.items) same;
         }))
 
-    pub due-from_stop : first_wide (elimination_steps rows (definers rows)) ≡ None → (stop : Stop) → explained rows vars pivots ≡ IsStopped stop
+    pub due-from_stop : first_wide (elimination_steps rows (definers rows)) ≡ None → (stop : Stop) → explained rows (definers rows) vars pivots ≡ IsStopped stop
         → status ≡ Uncertified stop → text ≡ uncertified_line sets stop → DueForTrials places d rows pivots status text
     due-from_stop fits stop end status_is line_is =
         inr (inr (record { stop = stop; end = ends fits _ end; status_is = status_is; line_is = line_is ∙ ap (λ (ss : SetLists). uncertified_line ss stop) same }))
@@ -61,7 +61,7 @@ module _ (places : ℕ) (d : Data) (rows : List Row) (vars : List Var) (kept : I
     due-from_elimination place wide status_is line_is =
         inr (inr (record {
           stop = Width place;
-          end = ap (λ (o : Option Place). elim o as (λ _. Explanation) [ None ↦ explained rows (all_variables d) pivots | Some place ↦ IsStopped (Width place) ]) wide;
+          end = ap (λ (o : Option Place). elim o as (λ _. Explanation) [ None ↦ explained rows (definers rows) (all_variables d) pivots | Some place ↦ IsStopped (Width place) ]) wide;
           status_is = status_is;
           line_is = line_is ∙ ap (λ (ss : SetLists). uncertified_line ss (Width place)) same;
         }))

@@ -11,7 +11,7 @@ use Rattle.row_core.specs.declared.place.Place.{Place}
 use Rattle.row_core.specs.Plans.{valued}
 use Rattle.row_book.specs.Kept.{IsBook}
 use Rattle.written_method.specs.Eliminated.{elimination_steps}
-use Rattle.exact_solver.specs.Definers.{definers}
+use Rattle.command_answers.specs.Definers.{definers}
 use Rattle.simplex_core.specs.declared.stops.Stop.{Stop}
 use Rattle.simplex_core.specs.declared.stops.Stop.TheVariants.{Width}
 use Rattle.command_answers.specs.declared.status.Status.{Status}
@@ -49,13 +49,13 @@ module _ (places : ℕ) (d : Data) (rows : List Row) (vars : List Var) (kept : I
   guesses-from_elimination place wide status_is line_is =
       inr (inr (inl (record { place = place; wide = wide; status_is = status_is; line_is = line_is ∙ ap (λ (ss : SetLists). uncertified_line ss (Width place)) same })))
 
-  pub guesses-from_stop : first_wide (elimination_steps rows (definers rows)) ≡ None → (stop : Stop) → IsStopOfSome rows vars pivots stop → status ≡ Uncertified stop → text ≡ uncertified_line sets stop
+  pub guesses-from_stop : first_wide (elimination_steps rows (definers rows)) ≡ None → (stop : Stop) → IsStopOfSome rows (definers rows) vars pivots stop → status ≡ Uncertified stop → text ≡ uncertified_line sets stop
       → DueForGuesses places d rows pivots status text
   guesses-from_stop fits stop stops status_is line_is =
       inr (inr (inr (record {
         stop = stop;
         eliminated = fits;
-        stops = subst (λ (vs : List Var). IsStopOfSome rows vs pivots stop) (vars-are places d rows vars book) stops;
+        stops = subst (λ (vs : List Var). IsStopOfSome rows (definers rows) vs pivots stop) (vars-are places d rows vars book) stops;
         status_is = status_is;
         line_is = line_is ∙ ap (λ (ss : SetLists). uncertified_line ss stop) same;
       })))

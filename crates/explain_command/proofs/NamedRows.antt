@@ -16,8 +16,8 @@ use Rattle.row_book.specs.Books.{AreRowsOf}
 use Rattle.row_book.specs.Definitions.{IsRepeatedIn}
 use Rattle.row_book.specs.Kept.{IsBook}
 use Rattle.certificate_checker.specs.Plans.{AllStand, MeetsAll}
-use Rattle.exact_solver.specs.Sizes.{is_unequal}
-use Rattle.exact_solver.proofs.BookLaws.{placed}
+use Rattle.row_problem.specs.Sizes.{is_unequal}
+use Rattle.command_answers.proofs.BookProblems.{placed}
 use Rattle.command_answers.specs.CheckedPlans.{IsBookOf}
 use Rattle.command_answers.proofs.CheckedRows.{sign-at, signs-each}
 use Rattle.conflict_sets.specs.Pieces.{is_taken}

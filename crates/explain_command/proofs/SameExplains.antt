@@ -14,7 +14,7 @@ use Rattle.named_equations.specs.Plans.{says}
 use Rattle.row_core.proofs.Members.{Has}
 use Rattle.named_equations.proofs.InstanceTests.{Has-instances}
 use Rattle.named_equations.proofs.SameInstances.{back, same-exists, same-feasible, same-instances, same-says}
-use Rattle.exact_solver.specs.Sizes.{column_count, inequality_count}
+use Rattle.row_problem.specs.Sizes.{column_count, inequality_count}
 use Rattle.command_answers.specs.declared.status.Status.{Status}
 use Rattle.command_answers.specs.declared.status.Status.TheVariants.{Refused}
 use Rattle.command_answers.specs.declared.status.Refusal.TheVariants.{TooLarge}
@@ -22,6 +22,7 @@ use Rattle.command_answers.specs.Lines.{too_large_line, uncertified_line}
 use Rattle.command_answers.proofs.SameData.{SameLaws, many_carries, wide_carries}
 use Rattle.command_answers.proofs.SamePlans.{vars-same}
 use Rattle.solve_command.specs.Limits.{IsWithinLimits, PassesLimits, most_columns, most_rows}
+use Rattle.command_answers.specs.Definers.{definers}
 use Rattle.conflict_sets.specs.Conflicts.{is_member, is_other_member}
 use Rattle.conflict_sets.specs.Walks.{Explanation, explanation}
 use Rattle.command_words.specs.declared.command.SolveMethod.{SolveMethod}
@@ -80,8 +81,8 @@ module _ (places : ℕ) (d e : Data) (same : AreSameData d e) where
 
   -- ---- what is due
 
-  ends : (rows : List Row) (pivots : ℕ) (end : Explanation) → explanation rows (all_variables d) pivots ≡ end → explanation rows (all_variables e) pivots ≡ end
-  ends rows pivots end is = subst (λ (vs : List Var). explanation rows vs pivots ≡ end) vars is
+  ends : (rows : List Row) (pivots : ℕ) (end : Explanation) → explanation rows (definers rows) (all_variables d) pivots ≡ end → explanation rows (definers rows) (all_variables e) pivots ≡ end
+  ends rows pivots end is = subst (λ (vs : List Var). explanation rows (definers rows) vs pivots ≡ end) vars is
 
   trials-carry : (rows : List Row) (pivots : ℕ) (status : Status) (text : List ℕ) → DueForTrials places d rows pivots status text → DueForTrials places e rows pivots status text
   trials-carry rows pivots status text (inl feasible) =
@@ -126,7 +127,7 @@ module _ (places : ℕ) (d e : Data) (same : AreSameData d e) where
       inr (inr (inr (record {
         stop = stopped.stop;
         eliminated = stopped.eliminated;
-        stops = subst (λ (vs : List Var). IsStopOfSome rows vs pivots stopped.stop) vars stopped.stops;
+        stops = subst (λ (vs : List Var). IsStopOfSome rows (definers rows) vs pivots stopped.stop) vars stopped.stops;
         status_is = stopped.status_is;
         line_is = stopped.line_is ∙ ap (λ (ss : SetLists). uncertified_line ss stopped.stop) same.sets;
       })))

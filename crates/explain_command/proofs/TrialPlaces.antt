@@ -20,8 +20,8 @@ use Rattle.written_method.specs.Solved.{IsInfeasible, IsOptimal, IsOutOfPivots, 
 use Rattle.simplex_core.specs.declared.stops.Stop.{Stop}
 use Rattle.simplex_core.specs.declared.stops.Stop.TheVariants.{Budget, Width, Trial}
 use Rattle.simplex_core.specs.declared.stops.TrialStop.TheVariants as trials
-use Rattle.exact_solver.specs.Definers.{definers}
-use Rattle.exact_solver.specs.Programs.{carried_plan, name_left, plan_steps, rows_left, scale_left}
+use Rattle.command_answers.specs.Definers.{definers}
+use Rattle.row_problem.specs.Programs.{carried_plan, name_left, plan_steps, rows_left, scale_left}
 use Rattle.command_answers.specs.PlacesWithin.{IsRowOfSets, IsVariableOfSets, PlaceIsWithin}
 use Rattle.command_answers.proofs.StepNames.{AreStepsWithin, both-within, plan-formed, steps-within, wide-within}
 use Rattle.solve_command.proofs.EndPlaces.{defined-within, names-left, plan-steps-within, refutation-checked, scaled-within}
@@ -47,21 +47,21 @@ module _ (sets : SetLists) (rows : List Row) (vars : List Var) (define : AllByRe
     plan-checked : (plan : List (Var × Rational)) → AreStepsWithin sets (plan_checks listed rows vars plan)
     plan-checked plan = steps-within sets (plan_conditions model_cost (rows_with listed rows) vars plan) (plan-formed sets (rows_with listed rows) vars trial-named listed_vars model_cost plan)
 
-    names-tried : AllByRecursion (IsRowOfSets sets) (map name_left (rows_tried listed rows))
+    names-tried : AllByRecursion (IsRowOfSets sets) (map name_left (rows_tried listed rows (definers rows)))
     names-tried =
-        AllByRecursion-map (IsRowOfSets sets) name_left (rows_tried listed rows)
-        (AllByRecursion-weaker (λ (r : ReducedRow). IsRowOfSets sets r.name × (listed r.name ≡ true)) (λ r. IsRowOfSets sets r.name) (λ r of. of.0) (rows_tried listed rows)
-        (AllByRecursion-filter (λ (r : ReducedRow). IsRowOfSets sets r.name) (λ (r : ReducedRow). listed r.name) (rows_left rows) (from-map (rows_left rows) (names-left sets rows vars define listed_vars))))
+        AllByRecursion-map (IsRowOfSets sets) name_left (rows_tried listed rows (definers rows))
+        (AllByRecursion-weaker (λ (r : ReducedRow). IsRowOfSets sets r.name × (listed r.name ≡ true)) (λ r. IsRowOfSets sets r.name) (λ r of. of.0) (rows_tried listed rows (definers rows))
+        (AllByRecursion-filter (λ (r : ReducedRow). IsRowOfSets sets r.name) (λ (r : ReducedRow). listed r.name) (rows_left rows (definers rows)) (from-map (rows_left rows (definers rows)) (names-left sets rows vars define listed_vars))))
       where
         from-map : (rs : List ReducedRow) → AllByRecursion (IsRowOfSets sets) (map name_left rs) → AllByRecursion (λ (r : ReducedRow). IsRowOfSets sets r.name) rs
         from-map [] h = tt
         from-map (r ∷ rs) h = (h.0, from-map rs h.1)
 
-    tried-within : (lambda : List Rational) → AreStepsWithin sets (tried_steps listed rows lambda)
+    tried-within : (lambda : List Rational) → AreStepsWithin sets (tried_steps listed rows (definers rows) lambda)
     unfolding tried_steps
     tried-within lambda =
-        let names = map name_left (rows_tried listed rows) in
-        let scales = map scale_left (rows_tried listed rows) in
+        let names = map name_left (rows_tried listed rows (definers rows)) in
+        let scales = map scale_left (rows_tried listed rows (definers rows)) in
         both-within sets (scaled_steps names scales lambda) _ (scaled-within sets names scales lambda names-tried)
         (defined-within sets false rows (definitions_of rows (definers rows)) (scaled_multipliers names scales lambda []) (definitions-within sets rows define))
 
@@ -78,26 +78,26 @@ module _ (sets : SetLists) (rows : List Row) (vars : List Var) (define : AllByRe
         cases None is = ends
         cases (Some place) is = wide-within sets ss place within is
 
-    planned-named : (values : List (Var × Rational)) → TrialIsNamed (unless_stopped (first_wide (plan_steps rows values ++ plan_checks listed rows vars (carried_plan rows values))) (HasPlan (carried_plan rows values)))
-    planned-named values = unless-named _ (HasPlan (carried_plan rows values)) (both-within sets _ _ (plan-steps-within sets rows vars define listed_vars values) (plan-checked (carried_plan rows values))) tt
+    planned-named : (values : List (Var × Rational)) → TrialIsNamed (unless_stopped (first_wide (plan_steps rows (definers rows) values ++ plan_checks listed rows vars (carried_plan rows (definers rows) values))) (HasPlan (carried_plan rows (definers rows) values)))
+    planned-named values = unless-named _ (HasPlan (carried_plan rows (definers rows) values)) (both-within sets _ _ (plan-steps-within sets rows vars define listed_vars values) (plan-checked (carried_plan rows (definers rows) values))) tt
 
-    carried-named : (outcome : Outcome) → OutcomeIsWithin sets outcome → TrialIsNamed (carried_trial listed rows vars outcome)
+    carried-named : (outcome : Outcome) → OutcomeIsWithin sets outcome → TrialIsNamed (carried_trial listed rows (definers rows) vars outcome)
     carried-named (IsOptimal values lambda pivots) of = planned-named values
     carried-named (IsInfeasible lambda pivots) of =
-        unless-named _ (HasNone (tried_multipliers listed rows lambda)) (both-within sets _ _ (tried-within lambda) (refutation-checked sets rows vars define listed_vars (tried_multipliers listed rows lambda))) tt
+        unless-named _ (HasNone (tried_multipliers listed rows (definers rows) lambda)) (both-within sets _ _ (tried-within lambda) (refutation-checked sets rows vars define listed_vars (tried_multipliers listed rows (definers rows) lambda))) tt
     carried-named (IsUnbounded values direction pivots) of = planned-named values
     carried-named IsOutOfPivots of = tt
     carried-named (IsTooWide place) of = of
 
-    columns-within : AllByRecursion (IsVariableOfSets sets) (trial_program listed rows vars).columns
+    columns-within : AllByRecursion (IsVariableOfSets sets) (trial_program listed rows (definers rows) vars).columns
     unfolding trial_program
     columns-within =
         AllByRecursion-weaker (λ v. IsVariableOfSets sets v × (is_column v ≡ true)) (IsVariableOfSets sets) (λ v of. of.0) (filter is_column vars)
         (AllByRecursion-filter (IsVariableOfSets sets) is_column vars listed_vars)
 
-    trial-named_end : (pivots : ℕ) → TrialIsNamed (trial_end listed rows vars pivots)
+    trial-named_end : (pivots : ℕ) → TrialIsNamed (trial_end listed rows (definers rows) vars pivots)
     unfolding trial_end
-    trial-named_end pivots = carried-named (solved pivots (trial_program listed rows vars)) (solved-within sets (trial_program listed rows vars) columns-within pivots)
+    trial-named_end pivots = carried-named (solved pivots (trial_program listed rows (definers rows) vars)) (solved-within sets (trial_program listed rows (definers rows) vars) columns-within pivots)
 
   -- ---- all trials
 
@@ -106,40 +106,40 @@ module _ (sets : SetLists) (rows : List Row) (vars : List Var) (define : AllByRe
   ExplanationIsNamed (IsConflicting members plans) = ⊤
   ExplanationIsNamed (IsStopped stop) = StopIsWithin sets stop
 
-  walk-named : (pivots k : ℕ) (names : List RowName) (m : List (RowName × Rational)) (needed : List Needed) → ExplanationIsNamed (walk rows vars pivots k names m needed)
+  walk-named : (pivots k : ℕ) (names : List RowName) (m : List (RowName × Rational)) (needed : List Needed) → ExplanationIsNamed (walk rows (definers rows) vars pivots k names m needed)
   unfolding walk
   walk-named pivots k [] m needed = tt
   walk-named pivots k (name ∷ names) m needed =
-      cases (is_listed m name) (trial_end (is_other m name) rows vars pivots) (trial-named_end (is_other m name) pivots)
+      cases (is_listed m name) (trial_end (is_other m name) rows (definers rows) vars pivots) (trial-named_end (is_other m name) pivots)
       (λ plan. walk-named pivots (k + 1) names m (needed ++ (name, plan) ∷ [])) (λ made. walk-named pivots (k + 1) names made needed) (walk-named pivots k names m needed)
     where
       cases : (t : Bool) (end : TrialEnd) → TrialIsNamed (is_other m name) end
-          → ((plan : List (Var × Rational)) → ExplanationIsNamed (walk rows vars pivots (k + 1) names m (needed ++ (name, plan) ∷ [])))
-          → ((made : List (RowName × Rational)) → ExplanationIsNamed (walk rows vars pivots (k + 1) names made needed)) → ExplanationIsNamed (walk rows vars pivots k names m needed)
+          → ((plan : List (Var × Rational)) → ExplanationIsNamed (walk rows (definers rows) vars pivots (k + 1) names m (needed ++ (name, plan) ∷ [])))
+          → ((made : List (RowName × Rational)) → ExplanationIsNamed (walk rows (definers rows) vars pivots (k + 1) names made needed)) → ExplanationIsNamed (walk rows (definers rows) vars pivots k names m needed)
           → ExplanationIsNamed
           (if t
           then elim end as (λ _. Explanation) [
-            | HasPlan plan ↦ walk rows vars pivots (k + 1) names m (needed ++ (name, plan) ∷ [])
-            | HasNone made ↦ walk rows vars pivots (k + 1) names made needed
+            | HasPlan plan ↦ walk rows (definers rows) vars pivots (k + 1) names m (needed ++ (name, plan) ∷ [])
+            | HasNone made ↦ walk rows (definers rows) vars pivots (k + 1) names made needed
             | IsPivotDue ↦ IsStopped (Trial k (trials.Budget pivots))
             | IsWide place ↦ IsStopped (Trial k (trials.Width place))
           ]
-          else walk rows vars pivots k names m needed)
+          else walk rows (definers rows) vars pivots k names m needed)
       cases true (HasPlan plan) of plans mades skip = plans plan
       cases true (HasNone made) of plans mades skip = mades made
       cases true IsPivotDue of plans mades skip = tt
       cases true (IsWide place) of plans mades skip = of
       cases false end of plans mades skip = skip
 
-  explained-named : (pivots : ℕ) → ExplanationIsNamed (explained rows vars pivots)
+  explained-named : (pivots : ℕ) → ExplanationIsNamed (explained rows (definers rows) vars pivots)
   unfolding explained
-  explained-named pivots = cases (trial_end every rows vars pivots) (trial-named_end every pivots)
+  explained-named pivots = cases (trial_end every rows (definers rows) vars pivots) (trial-named_end every pivots)
     where
       cases : (end : TrialEnd) → TrialIsNamed every end
           → ExplanationIsNamed
           (elim end as (λ _. Explanation) [
             | HasPlan plan ↦ IsFeasible
-            | HasNone made ↦ walk rows vars pivots 1 (listed_names made rows) made []
+            | HasNone made ↦ walk rows (definers rows) vars pivots 1 (listed_names made rows) made []
             | IsPivotDue ↦ IsStopped (Budget pivots)
             | IsWide place ↦ IsStopped (Width place)
           ])
@@ -148,11 +148,11 @@ module _ (sets : SetLists) (rows : List Row) (vars : List Var) (define : AllByRe
       cases IsPivotDue of = tt
       cases (IsWide place) of = of
 
-  pub stop-named : (pivots : ℕ) (stop : Stop) → explained rows vars pivots ≡ IsStopped stop → StopIsWithin sets stop
+  pub stop-named : (pivots : ℕ) (stop : Stop) → explained rows (definers rows) vars pivots ≡ IsStopped stop → StopIsWithin sets stop
   stop-named pivots stop is = subst ExplanationIsNamed is (explained-named pivots)
 
   -- by guesses first, the trial that stops is an exact one
-  pub some-stop-named : (pivots : ℕ) (stop : Stop) → IsStopOfSome rows vars pivots stop → StopIsWithin sets stop
+  pub some-stop-named : (pivots : ℕ) (stop : Stop) → IsStopOfSome rows (definers rows) vars pivots stop → StopIsWithin sets stop
   some-stop-named pivots (Budget most) h = tt
   some-stop-named pivots (Width place) h = subst (TrialIsNamed every) h (trial-named_end every pivots)
   some-stop-named pivots (Trial number (trials.Budget most)) h = tt

@@ -11,7 +11,7 @@ use Rattle.row_core.specs.Numbers.{keys_of}
 use Rattle.named_equations.specs.Existence.{all_variables}
 use Rattle.row_core.specs.declared.place.Place.{Place}
 use Rattle.written_method.specs.Eliminated.{elimination_steps}
-use Rattle.exact_solver.specs.Definers.{definers}
+use Rattle.command_answers.specs.Definers.{definers}
 use Rattle.simplex_core.specs.declared.stops.Stop.{Stop}
 use Rattle.simplex_core.specs.declared.stops.Stop.TheVariants.{Width}
 use Rattle.command_answers.specs.declared.status.Status.{Status}
@@ -29,7 +29,7 @@ use Rattle.solve_command.specs.Limits.{IsWithinLimits, PassesLimits}
 
 -- some plan meets the named equations
 pub record HasFeasible (places : ℕ) (d : Data) (rows : List Row) (pivots : ℕ) (status : Status) (text : List ℕ) : Type 0 where
-  pub end : explanation rows (all_variables d) pivots ≡ IsFeasible
+  pub end : explanation rows (definers rows) (all_variables d) pivots ≡ IsFeasible
   pub some : SomeIsFeasible places d
   pub status_is : status ≡ Done
   pub text_is : text ≡ feasible_text
@@ -38,7 +38,7 @@ pub record HasFeasible (places : ℕ) (d : Data) (rows : List Row) (pivots : ℕ
 pub record HasConflict (places : ℕ) (d : Data) (rows : List Row) (pivots : ℕ) (status : Status) (text : List ℕ) : Type 0 where
   pub members : List (RowName × Rational)
   pub plans : List (List (Var × Rational))
-  pub end : explanation rows (all_variables d) pivots ≡ IsConflicting members plans
+  pub end : explanation rows (definers rows) (all_variables d) pivots ≡ IsConflicting members plans
   pub conflict : IsNamedConflict places d (keys_of members) plans
   pub shown : AreShown rows (all_variables d) members
   pub status_is : status ≡ Infeasible
@@ -47,7 +47,7 @@ pub record HasConflict (places : ℕ) (d : Data) (rows : List Row) (pivots : ℕ
 -- the elimination, or the first trial that didn't end, stopped: a pivot is due after the last that it may make, or a number doesn't fit
 pub record HasStopped (d : Data) (rows : List Row) (pivots : ℕ) (status : Status) (text : List ℕ) : Type 0 where
   pub stop : Stop
-  pub end : explanation rows (all_variables d) pivots ≡ IsStopped stop
+  pub end : explanation rows (definers rows) (all_variables d) pivots ≡ IsStopped stop
   pub status_is : status ≡ Uncertified stop
   pub line_is : text ≡ uncertified_line d.sets stop
 
@@ -84,7 +84,7 @@ pub record HasStoppedBefore (d : Data) (rows : List Row) (status : Status) (text
 pub record HasStoppedInTrial (d : Data) (rows : List Row) (pivots : ℕ) (status : Status) (text : List ℕ) : Type 0 where
   pub stop : Stop
   pub eliminated : first_wide (elimination_steps rows (definers rows)) ≡ None
-  pub stops : IsStopOfSome rows (all_variables d) pivots stop
+  pub stops : IsStopOfSome rows (definers rows) (all_variables d) pivots stop
   pub status_is : status ≡ Uncertified stop
   pub line_is : text ≡ uncertified_line d.sets stop
 
@@ -97,8 +97,8 @@ DueForGuesses places d rows pivots status text =
 
 -- nothing stops the method that is asked for: by the exact one no trial stops; by the rounded one the elimination doesn't, and no exact trial that may come does
 abbrev pub NothingStops : SolveMethod → List Row → List Var → ℕ → Type 0
-NothingStops Exact rows vars pivots = (stop : Stop) → explanation rows vars pivots ≡ IsStopped stop → ⊥
-NothingStops Rounded rows vars pivots = (first_wide (elimination_steps rows (definers rows)) ≡ None) × ((stop : Stop) → IsStopOfSome rows vars pivots stop → ⊥)
+NothingStops Exact rows vars pivots = (stop : Stop) → explanation rows (definers rows) vars pivots ≡ IsStopped stop → ⊥
+NothingStops Rounded rows vars pivots = (first_wide (elimination_steps rows (definers rows)) ≡ None) × ((stop : Stop) → IsStopOfSome rows (definers rows) vars pivots stop → ⊥)
 
 -- ---- what is due
 

@@ -4,21 +4,21 @@ ghost use Rattle.exact_num.specs.Steps.{first_wide};
 ghost use Rattle.discount_factors.specs.Factors.{IsPlaces};
 ghost use Rattle.model_sets.specs.Data.{AreSameData, Data};
 ghost use Rattle.written_method.specs.Eliminated.{elimination_steps};
-ghost use Rattle.exact_solver.specs.BookPrograms.{IsProgramOf};
-ghost use Rattle.exact_solver.specs.Definers.{definers};
+ghost use Rattle.command_answers.specs.BookPrograms.{IsProgramOf};
+ghost use Rattle.command_answers.specs.Definers.{definers};
 ghost use Rattle.command_answers.specs.CheckedPlans.{IsBookOf, IsListedBook};
 ghost use Rattle.explain_command.specs.Explain.{DueForExplain, DueForMethod, DueForRows, DueForTrials};
 
 use crate::ends::{answer_found, answer_stop};
 use crate::rounding::answer_guesses;
-use command_answers::{Answer, refuse_book, refuse_size, stop_at};
+use command_answers::{Answer, BookProgram, eliminate_book, problem_of, refuse_book, refuse_size, stop_at};
 use command_words::SolveMethod;
 use conflict_sets::{ExplainFail, explain};
-use exact_solver::{BookProgram, eliminate_book, size_of};
 use model_sets::Sets;
 use param_tables::ModelData;
 use row_book::{RowBook, same_data_laws};
 use row_core::Stopped;
+use row_problem::{Problem, size_of};
 use std::alloc::{AllocError, Global};
 
 /// The most inequalities that a linear program may have.
@@ -73,7 +73,7 @@ fn answer_book(
     ensures { (places : ℕ) (d : Data) → sets.now ≡ d.sets → IsBookOf places d book.now.rows book.now.vars
         → IfOk result (λ answer. DueForRows places d book.now.rows pivots method answer.status answer.text.items) }
 {
-    let size = size_of(book);
+    let size = size_of(book.rows(), book.vars());
     if size.rows > MOST_ROWS || size.columns > MOST_COLUMNS {
         return refuse_size(alloc, size.rows, size.columns);
     }
@@ -132,7 +132,8 @@ fn answer_program(
     ensures { (places : ℕ) (d : Data) → sets.now ≡ d.sets → IsBookOf places d book.now.rows book.now.vars
         → IfOk result (λ answer. DueForTrials places d book.now.rows pivots answer.status answer.text.items) }
 {
-    match explain(alloc, book, program, pivots) {
+    let problem = problem_of(book, program);
+    match explain(alloc, &problem, pivots) {
         Ok(found) => answer_found(alloc, book, sets, &found),
         Err(ExplainFail::Stopped(stop)) => answer_stop(alloc, stop, sets),
         Err(ExplainFail::Memory) => Err(AllocError),

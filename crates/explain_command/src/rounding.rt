@@ -3,15 +3,14 @@ ghost use Rattle.std.specs.Prelude.{◌≡◌, ℕ, None, IfOk};
 ghost use Rattle.exact_num.specs.Steps.{first_wide};
 ghost use Rattle.model_sets.specs.Data.{Data};
 ghost use Rattle.written_method.specs.Eliminated.{elimination_steps};
-ghost use Rattle.exact_solver.specs.BookPrograms.{IsProgramOf};
-ghost use Rattle.exact_solver.specs.Definers.{definers};
+ghost use Rattle.command_answers.specs.BookPrograms.{IsProgramOf};
+ghost use Rattle.command_answers.specs.Definers.{definers};
 ghost use Rattle.command_answers.specs.CheckedPlans.{IsBookOf, IsListedBook};
 ghost use Rattle.explain_command.specs.Explain.{DueForGuesses};
 
 use crate::ends::{answer_found, answer_stop};
-use command_answers::{Answer, stop_at};
+use command_answers::{Answer, BookProgram, eliminate_book, problem_of, stop_at};
 use conflict_sets::{ExplainFail, explain_rounded};
-use exact_solver::{BookProgram, eliminate_book};
 use model_sets::Sets;
 use row_book::RowBook;
 use row_core::Stopped;
@@ -51,7 +50,8 @@ fn answer_guessed(
     ensures { (places : ℕ) (d : Data) → sets.now ≡ d.sets → IsBookOf places d book.now.rows book.now.vars
         → IfOk result (λ answer. DueForGuesses places d book.now.rows pivots answer.status answer.text.items) }
 {
-    match explain_rounded(alloc, book, program, pivots) {
+    let problem = problem_of(book, program);
+    match explain_rounded(alloc, &problem, pivots) {
         Ok(found) => answer_found(alloc, book, sets, &found),
         Err(ExplainFail::Stopped(stop)) => answer_stop(alloc, stop, sets),
         Err(ExplainFail::Memory) => Err(AllocError),

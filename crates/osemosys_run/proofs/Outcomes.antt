@@ -12,7 +12,7 @@ use Rattle.row_core.specs.declared.place.Place.{Place}
 use Rattle.named_equations.specs.Existence.{all_variables}
 use Rattle.row_book.specs.declared.fail.BookFail.{BookFail}
 use Rattle.row_book.specs.declared.fail.BookFail.TheVariants as fails
-use Rattle.exact_solver.specs.Sizes.{column_count, inequality_count}
+use Rattle.row_problem.specs.Sizes.{column_count, inequality_count}
 use Rattle.solve_command.specs.declared.solve.Shown.{Shown}
 use Rattle.solve_command.specs.declared.solve.Shown.TheVariants.{Summary}
 use Rattle.io_edges.specs.Count.{Rose}

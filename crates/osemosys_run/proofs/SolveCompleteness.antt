@@ -5,7 +5,8 @@ use Rattle.row_core.specs.declared.Row.{Row}
 use Rattle.named_equations.specs.Existence.{all_variables}
 use Rattle.named_equations.specs.Instances.{instances}
 use Rattle.row_book.specs.Books.{AreRowsOf, CanBeMade}
-use Rattle.exact_solver.specs.MethodEnds.{HasOptimum, IsPivotDue, IsWide, MethodEnd, method_end}
+use Rattle.exact_solver.specs.MethodEnds.{HasOptimum, IsPivotDue, IsWide, MethodEnd}
+use Rattle.command_answers.specs.BookMethods.{method_end}
 use Rattle.solve_command.specs.declared.solve.Shown.{Shown}
 use Rattle.solve_command.specs.declared.solve.Shown.TheVariants.{Summary}
 use Rattle.command_words.specs.declared.fault.WordFault.{WordFault}

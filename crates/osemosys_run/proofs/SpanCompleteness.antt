@@ -10,7 +10,7 @@ use Rattle.row_core.specs.declared.Var.{Var}
 use Rattle.named_equations.specs.Existence.{all_variables}
 use Rattle.named_equations.specs.Instances.{instances}
 use Rattle.row_book.specs.Books.{AreRowsOf, CanBeMade}
-use Rattle.exact_solver.specs.MethodEnds.{multiplier_bound}
+use Rattle.certified_answers.specs.Worth.{multiplier_bound}
 use Rattle.command_words.specs.declared.command.SolveMethod.{SolveMethod}
 use Rattle.command_words.specs.declared.command.SolveMethod.TheVariants.{Exact, Rounded}
 use Rattle.command_words.specs.declared.fault.WordFault.{WordFault}

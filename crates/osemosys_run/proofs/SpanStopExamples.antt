@@ -6,7 +6,9 @@ use Rattle.row_core.specs.declared.Row.{Row}
 use Rattle.row_core.specs.declared.RowName.{RowName}
 use Rattle.row_core.specs.declared.Var.{Var}
 use Rattle.row_core.specs.declared.place.Place.{Place}
-use Rattle.exact_solver.specs.MethodEnds.{HasNoPlan, HasOptimum, IsPivotDue, IsWide, method_end, multiplier_bound as bound_of}
+use Rattle.exact_solver.specs.MethodEnds.{HasNoPlan, HasOptimum, IsPivotDue, IsWide}
+use Rattle.command_answers.specs.BookMethods.{method_end}
+use Rattle.certified_answers.specs.Worth.{multiplier_bound as bound_of}
 use Rattle.simplex_core.specs.declared.stops.Stop.{Stop}
 use Rattle.span_finder.specs.Slacks.{slack_formed, slack_limit}
 use Rattle.span_finder.specs.SpanEnds.{Stops}

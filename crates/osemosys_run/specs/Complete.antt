@@ -22,7 +22,9 @@ use Rattle.certificate_checker.specs.Gaps.{Within}
 use Rattle.certificate_checker.specs.Plans.{AreValuesOver}
 use Rattle.plan_files.specs.Answers.{IsPlan}
 use Rattle.plan_files.specs.Files.{records_of}
-use Rattle.exact_solver.specs.MethodEnds.{HasOptimum, IsPivotDue, IsWide, method_end, multiplier_bound as bound_of}
+use Rattle.exact_solver.specs.MethodEnds.{HasOptimum, IsPivotDue, IsWide}
+use Rattle.command_answers.specs.BookMethods.{method_end}
+use Rattle.certified_answers.specs.Worth.{multiplier_bound as bound_of}
 use Rattle.command_words.specs.declared.command.MakeShow.TheVariants.{File}
 use Rattle.command_words.specs.declared.command.MakeShow.TheVariants as makes
 use Rattle.command_words.specs.declared.command.SolveMethod.{SolveMethod}

@@ -21,12 +21,13 @@ use Rattle.row_book.specs.Books.{HasNameWithin, IsWithinSets}
 use Rattle.row_book.specs.Kept.{IsBook}
 use Rattle.row_book.proofs.Columns.{has-entry}
 use Rattle.row_book.proofs.Lists.{AllByRecursion-filter, AllByRecursion-map, AllByRecursion-weaker, all-from, all-has}
-use Rattle.exact_solver.specs.Definers.{definer}
-use Rattle.exact_solver.specs.MethodEnds.{IsWide, method_end}
-use Rattle.exact_solver.specs.Solutions.{AreNamedIn}
-use Rattle.exact_solver.specs.declared.solutions.Solution.{Solution}
-use Rattle.exact_solver.specs.declared.solutions.Solution.TheVariants as found
-use Rattle.exact_solver.proofs.BookLaws.{placed}
+use Rattle.command_answers.specs.Definers.{definer}
+use Rattle.exact_solver.specs.MethodEnds.{IsWide}
+use Rattle.command_answers.specs.BookMethods.{method_end}
+use Rattle.certified_answers.specs.Answers.{AreNamedIn}
+use Rattle.certified_answers.specs.declared.answers.Certified.{Certified}
+use Rattle.certified_answers.specs.declared.answers.Certified.TheVariants as found
+use Rattle.command_answers.proofs.BookProblems.{placed}
 use Rattle.solve_command.specs.declared.solve.Shown.{Shown}
 use Rattle.result_tables.specs.Prices.{balances, is_balance, price_step, price_steps}
 use Rattle.command_answers.specs.CheckedPlans.{IsListedBook}
@@ -78,7 +79,7 @@ module _ (sets : SetLists) (rows : List Row) (vars : List Var) (listed : IsListe
   price-within multipliers place wide = wide-within sets (price_steps rows multipliers) place (prices-within multipliers) wide
 
   -- and that at which a solution isn't shown
-  pub shown-within : (show : Shown) (solution : Solution) (place : Place) → HasPriceWideAt show rows solution place → PlaceIsWithin sets place
+  pub shown-within : (show : Shown) (solution : Certified) (place : Place) → HasPriceWideAt show rows solution place → PlaceIsWithin sets place
   shown-within show (found.Optimal plan multipliers cost bound made) place wide = price-within multipliers place wide.1
   shown-within show (found.Infeasible multipliers made) place wide = absurd wide
   shown-within show (found.Unbounded plan direction made) place wide = absurd wide

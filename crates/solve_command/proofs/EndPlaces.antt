@@ -25,9 +25,13 @@ use Rattle.written_method.specs.Lifted.{lifted_steps, lifted_value, no_right_sid
 use Rattle.written_method.specs.Multiplied.{defined_steps, scaled_multipliers, scaled_steps}
 use Rattle.written_method.specs.Solved.{IsInfeasible, IsOptimal, IsOutOfPivots, IsTooWide, IsUnbounded, Outcome, solved}
 use Rattle.std.specs.BTreeMap.{insert_entry}
-use Rattle.exact_solver.specs.Definers.{definers}
-use Rattle.exact_solver.specs.MethodEnds.{HasNoBound, HasNoPlan, HasOptimum, IsPivotDue, IsWide, MethodEnd, carried_end, method_end, multiplier_bound, plan_cost, refutation_checks, unless_wide}
-use Rattle.exact_solver.specs.Programs.{carried_direction, carried_multipliers, carried_plan, carrying_steps, direction_steps, name_left, plan_steps, program_left, rows_left, scale_left}
+use Rattle.command_answers.specs.Definers.{definers}
+use Rattle.exact_solver.specs.MethodEnds.{HasNoBound, HasNoPlan, HasOptimum, IsPivotDue, IsWide, MethodEnd, carried_end, refutation_checks, unless_wide}
+use Rattle.command_answers.specs.BookMethods.{method_end}
+use Rattle.certified_answers.specs.declared.costs.Cost.TheVariants.{Model}
+use Rattle.exact_solver.specs.MethodEnds as exact
+use Rattle.certified_answers.specs.Worth.{multiplier_bound, plan_cost}
+use Rattle.row_problem.specs.Programs.{carried_direction, carried_multipliers, carried_plan, carrying_steps, direction_steps, name_left, plan_steps, program_left, rows_left, scale_left}
 use Rattle.command_answers.specs.PlacesWithin.{IsRowOfSets, IsVariableOfSets, PlaceIsWithin}
 use Rattle.solve_command.proofs.MethodPlaces.{DefinesWithin, IsDefinitionWithin, OutcomeIsWithin, definitions-within, elimination-within, others-within, solved-within}
 use Rattle.command_answers.proofs.StepNames.{AreStepsWithin, both-within, bound-formed, direction-formed, plan-formed, refutation-formed, steps-within, wide-within}
@@ -59,27 +63,27 @@ module _ (sets : SetLists) where
     named : AllByRecursion (HasNameWithin sets) rows
     named = AllByRecursion-weaker (DefinesWithin sets) (HasNameWithin sets) (λ row of. of.0) rows define
 
-    pub plan-steps-within : (values : List (Var × Rational)) → AreStepsWithin sets (plan_steps rows values)
+    pub plan-steps-within : (values : List (Var × Rational)) → AreStepsWithin sets (plan_steps rows (definers rows) values)
     unfolding plan_steps
     plan-steps-within values = lifted-within right_side LiftPlan (definitions_of rows (definers rows)) values (λ v of. of) (definitions-within sets rows define)
 
-    direction-steps-within : (values : List (Var × Rational)) → AreStepsWithin sets (direction_steps rows values)
+    direction-steps-within : (values : List (Var × Rational)) → AreStepsWithin sets (direction_steps rows (definers rows) values)
     unfolding direction_steps
     direction-steps-within values = lifted-within no_right_side LiftDirection (definitions_of rows (definers rows)) values (λ v of. of) (definitions-within sets rows define)
 
-    pub names-left : AllByRecursion (IsRowOfSets sets) (map name_left (rows_left rows))
+    pub names-left : AllByRecursion (IsRowOfSets sets) (map name_left (rows_left rows (definers rows)))
     names-left =
         let forms = expanded_all [] (definitions_of rows (definers rows)) in
-        AllByRecursion-map (IsRowOfSets sets) name_left (rows_left rows)
-        (AllByRecursion-weaker (λ (r : ReducedRow). IsRowOfSets sets r.name × (is_kept r ≡ true)) (λ r. IsRowOfSets sets r.name) (λ r of. of.0) (rows_left rows)
+        AllByRecursion-map (IsRowOfSets sets) name_left (rows_left rows (definers rows))
+        (AllByRecursion-weaker (λ (r : ReducedRow). IsRowOfSets sets r.name × (is_kept r ≡ true)) (λ r. IsRowOfSets sets r.name) (λ r of. of.0) (rows_left rows (definers rows))
         (AllByRecursion-filter (λ (r : ReducedRow). IsRowOfSets sets r.name) is_kept (map (reduced_row forms) (others_of rows (definers rows)))
         (AllByRecursion-map (λ (r : ReducedRow). IsRowOfSets sets r.name) (reduced_row forms) (others_of rows (definers rows)) (others-within sets rows define))))
 
-    carrying-within : (with_cost : Bool) (lambda : List Rational) → AreStepsWithin sets (carrying_steps with_cost rows lambda)
+    carrying-within : (with_cost : Bool) (lambda : List Rational) → AreStepsWithin sets (carrying_steps with_cost rows (definers rows) lambda)
     unfolding carrying_steps
     carrying-within with_cost lambda =
-        let names = map name_left (rows_left rows) in
-        let scales = map scale_left (rows_left rows) in
+        let names = map name_left (rows_left rows (definers rows)) in
+        let scales = map scale_left (rows_left rows (definers rows)) in
         both-within sets (scaled_steps names scales lambda) _ (scaled-within names scales lambda names-left)
         (defined-within with_cost rows (definitions_of rows (definers rows)) (scaled_multipliers names scales lambda []) (definitions-within sets rows define))
 
@@ -119,10 +123,10 @@ module _ (sets : SetLists) where
         cases None is = ends
         cases (Some place) is = wide-within sets ss place within is
 
-    carried-within : (outcome : Outcome) → OutcomeIsWithin sets outcome → EndIsWithin (carried_end rows vars outcome)
+    carried-within : (outcome : Outcome) → OutcomeIsWithin sets outcome → EndIsWithin (carried_end Model rows (definers rows) vars outcome)
     carried-within (IsOptimal values lambda pivots) of =
-        let plan = carried_plan rows values in
-        let multipliers = carried_multipliers true rows lambda in
+        let plan = carried_plan rows (definers rows) values in
+        let multipliers = carried_multipliers true rows (definers rows) lambda in
         unless-within _ (HasOptimum plan multipliers pivots)
         (both-within sets _ _ (plan-steps-within values)
         (both-within sets _ _ (carrying-within true lambda)
@@ -130,25 +134,29 @@ module _ (sets : SetLists) where
         (both-within sets _ _ (bound-checked multipliers) (gap-checked (plan_cost vars plan) (multiplier_bound rows multipliers))))))
         tt
     carried-within (IsInfeasible lambda pivots) of =
-        let multipliers = carried_multipliers false rows lambda in
+        let multipliers = carried_multipliers false rows (definers rows) lambda in
         unless-within _ (HasNoPlan multipliers pivots) (both-within sets _ _ (carrying-within false lambda) (refutation-checked multipliers)) tt
     carried-within (IsUnbounded values direction pivots) of =
-        let plan = carried_plan rows values in
-        let along = carried_direction rows direction in
+        let plan = carried_plan rows (definers rows) values in
+        let along = carried_direction rows (definers rows) direction in
         unless-within _ (HasNoBound plan along pivots)
         (both-within sets _ _ (plan-steps-within values) (both-within sets _ _ (direction-steps-within direction) (both-within sets _ _ (plan-checked plan) (direction-checked along))))
         tt
     carried-within IsOutOfPivots of = tt
     carried-within (IsTooWide place) of = of
 
-    columns-within : AllByRecursion (IsVariableOfSets sets) (program_left rows vars).columns
+    columns-within : AllByRecursion (IsVariableOfSets sets) (program_left rows (definers rows) vars Model).columns
     unfolding program_left
     columns-within =
         AllByRecursion-weaker (λ v. IsVariableOfSets sets v × (is_column v ≡ true)) (IsVariableOfSets sets) (λ v of. of.0) (filter is_column vars)
         (AllByRecursion-filter (IsVariableOfSets sets) is_column vars listed)
 
+    solved_within : (pivots : ℕ) → EndIsWithin (exact.solved_end rows (definers rows) vars Model pivots)
+    unfolding exact.solved_end
+    solved_within pivots =
+        carried-within (solved pivots (program_left rows (definers rows) vars Model)) (solved-within sets (program_left rows (definers rows) vars Model) columns-within pivots)
+
     pub end-within : (pivots : ℕ) → EndIsWithin (method_end rows vars pivots)
-    unfolding method_end
+    unfolding exact.method_end
     end-within pivots =
-        unless-within (elimination_steps rows (definers rows)) (carried_end rows vars (solved pivots (program_left rows vars))) (elimination-within sets rows define)
-        (carried-within (solved pivots (program_left rows vars)) (solved-within sets (program_left rows vars) columns-within pivots))
+        unless-within (elimination_steps rows (definers rows)) (exact.solved_end rows (definers rows) vars Model pivots) (elimination-within sets rows define) (solved_within pivots)

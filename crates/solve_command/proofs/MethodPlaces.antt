@@ -19,7 +19,7 @@ use Rattle.written_method.specs.Rounds.{Due, NoColumn, NoRow, Pivot, State, afte
 use Rattle.written_method.specs.Runs.{Answer, End, Ended, Infeasible, Optimal, PivotDue, RanOut, Unbounded, Run, answer, answer_of, ended, no_column, run}
 use Rattle.written_method.specs.Solved.{IsTooWide, Outcome, checked_end, end_steps, outcome_of, outcome_of_end, solved}
 use Rattle.written_method.specs.Values.{by_variable_steps, column_direction, column_value}
-use Rattle.exact_solver.specs.Definers.{definer, definers}
+use Rattle.command_answers.specs.Definers.{definer, definers}
 use Rattle.command_answers.specs.PlacesWithin.{IsRowOfSets, IsVariableOfSets, PlaceIsWithin}
 use Rattle.command_answers.proofs.StepNames.{AreStepsWithin, both-within, wide-within}
 

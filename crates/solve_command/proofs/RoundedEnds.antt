@@ -6,29 +6,20 @@ use Rattle.model_sets.specs.Data.{Data}
 use Rattle.model_sets.specs.Members.{SetLists}
 use Rattle.row_core.specs.declared.Row.{Row}
 use Rattle.row_core.specs.declared.Var.{Var}
-use Rattle.exact_solver.specs.declared.solutions.Solution.{Solution}
-use Rattle.exact_solver.specs.declared.solutions.Solution.TheVariants as exact
-use Rattle.exact_solver.specs.MethodEnds.{plan_cost}
-use Rattle.rounded_solver.specs.Found as rounded
-use Rattle.rounded_solver.specs.declared.found.Rounded.{Rounded}
-use Rattle.rounded_solver.specs.declared.found.Rounded.TheVariants as found
+use Rattle.certified_answers.specs.declared.answers.Certified.{Certified}
+use Rattle.certified_answers.specs.declared.answers.Certified.TheVariants as exact
+use Rattle.certified_answers.specs.Worth.{plan_cost}
 use Rattle.command_answers.specs.CheckedPlans.{IsBookOf}
 use Rattle.command_answers.specs.declared.status.Status.{Status}
 use Rattle.solve_command.specs.declared.solve.Shown.{Shown}
-use Rattle.solve_command.specs.Rounding.{IsFoundBy, TellsFound, solution_of}
+use Rattle.command_answers.specs.BookMethods.{IsFoundBy}
+use Rattle.solve_command.specs.Rounding.{TellsFound}
 use Rattle.solve_command.specs.Solve.{IsFound, IsFoundInfeasible, third_attempt}
 use Rattle.solve_command.specs.SolveTexts.{infeasible_shown, solved_shown}
 use Rattle.solve_command.proofs.SolvedEnds.{are, near, refuted, shown-infeasible, shown-optimal}
 
--- what is found is worth the same as a solution
-pub found-is_by : (rows : List Row) (vars : List Var) (gap most : ℕ) (given : Rounded) → rounded.IsProved rows vars gap given → rounded.IsComplete vars given → rounded.IsNamed rows given
-    → rounded.IsMadeWithin most given
-    → IsFoundBy rows vars gap most (solution_of given)
-found-is_by rows vars gap most (found.Plan plan multipliers cost bound pivots) proved complete named within = record { proved = (proved.0, proved.1, proved.2.within); within = within; complete = complete; named = named }
-found-is_by rows vars gap most (found.NoPlan multipliers pivots) proved complete named within = record { proved = proved; within = within; complete = complete; named = named }
-
 module _ (places : ℕ) (d : Data) (rows : List Row) (vars : List Var) (book : IsBookOf places d rows vars) (sets : SetLists) (same : sets ≡ d.sets) (gap pivots : ℕ) (show : Shown) (rounded : ℕ) (status : Status) (text : List ℕ) where
-  pub due-from_found : (solution : Solution) → IsFoundBy rows vars gap pivots solution → TellsFound sets rows vars show rounded places solution status text
+  pub due-from_found : (solution : Certified) → IsFoundBy rows vars gap pivots solution → TellsFound sets rows vars show rounded places solution status text
       → IsFound places d rows gap pivots show rounded third_attempt status text ⊎ IsFoundInfeasible places d rows pivots show rounded third_attempt status text
   due-from_found (exact.Optimal plan multipliers cost bound made) found told =
       inl (record {
@@ -38,7 +29,7 @@ module _ (places : ℕ) (d : Data) (rows : List Row) (vars : List Var) (book : I
         bound = value_of bound;
         made = made;
         within = found.within;
-        optimum = near places d rows vars book plan multipliers (value_of cost) (value_of bound) gap found.proved.0 found.proved.1 found.proved.2 found.complete found.named;
+        optimum = near places d rows vars book plan multipliers (value_of cost) (value_of bound) gap found.proved.0 found.proved.1 found.proved.2.within found.complete found.named;
         cost_is = found.proved.0.cost_is ∙ ap (λ vs. plan_cost vs plan) (are places d rows vars book);
         prices_fit = told.fits;
         status_is = told.status_is;

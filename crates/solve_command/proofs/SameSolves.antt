@@ -9,9 +9,11 @@ use Rattle.row_core.specs.declared.RowName.{RowName}
 use Rattle.row_core.specs.declared.Var.{Var}
 use Rattle.named_equations.specs.Existence.{all_variables}
 use Rattle.named_equations.proofs.SameInstances.{same-cost, same-feasible}
-use Rattle.exact_solver.specs.MethodEnds.{MethodEnd, method_end, plan_cost}
-use Rattle.exact_solver.specs.Sizes.{column_count, inequality_count}
-use Rattle.exact_solver.specs.Solutions.{IsBound, IsDescent, IsRefutation}
+use Rattle.exact_solver.specs.MethodEnds.{MethodEnd}
+use Rattle.command_answers.specs.BookMethods.{method_end}
+use Rattle.certified_answers.specs.Worth.{plan_cost}
+use Rattle.row_problem.specs.Sizes.{column_count, inequality_count}
+use Rattle.certified_answers.specs.Worth.{IsBound, IsDescent, IsRefutation}
 use Rattle.solve_command.specs.declared.solve.Shown.{Shown}
 use Rattle.solve_command.specs.declared.solve.Shown.TheVariants.{Summary}
 use Rattle.command_answers.specs.declared.status.Status.{Status}

@@ -7,9 +7,9 @@ use Rattle.model_sets.specs.Members.{SetLists}
 use Rattle.row_core.specs.declared.Row.{Row}
 use Rattle.row_core.specs.declared.Var.{Var}
 use Rattle.written_method.specs.Eliminated.{elimination_steps}
-use Rattle.exact_solver.specs.Definers.{definers}
+use Rattle.command_answers.specs.Definers.{definers}
 use Rattle.decimal_solver.specs.Answers.{attempt_seen}
-use Rattle.decimal_solver.specs.Attempts.{grid_end}
+use Rattle.command_answers.specs.BookMethods.{grid_end}
 use Rattle.decimal_solver.specs.Answers as grid
 use Rattle.decimal_solver.specs.declared.attempts.Found.{Found}
 use Rattle.result_tables.specs.Prices.{price_steps}

@@ -3,7 +3,7 @@ use Rattle.std.proofs.Common.{◌≡◌, ℕ, pos, [], ◌∷◌, refl, arith}
 use Rattle.model_sets.specs.Data.{Data}
 use Rattle.named_equations.specs.Variables.{new_capacity, rate_of_activity, trade}
 use Rattle.exact_solver.specs.MethodEnds.{HasNoPlan, IsPivotDue}
-use Rattle.exact_solver.specs.Sizes.{column_count}
+use Rattle.row_problem.specs.Sizes.{column_count}
 use Rattle.solve_command.specs.declared.solve.Shown.TheVariants.{Report}
 use Rattle.solve_command.specs.Limits.{IsWithinLimits}
 use Rattle.solve_command.specs.Solve.{ComesToEnd}

@@ -14,12 +14,15 @@ use Rattle.row_core.specs.Numbers.{keys_of}
 use Rattle.result_tables.specs.Prices.{price_steps}
 use Rattle.named_equations.specs.Existence.{all_variables}
 use Rattle.certificate_checker.specs.Gaps.{Within}
-use Rattle.exact_solver.specs.MethodEnds.{HasNoBound, HasNoPlan, HasOptimum, IsPivotDue, IsStopOf, IsWide, MethodEnd, end_seen, method_end, plan_cost}
-use Rattle.exact_solver.specs.Solutions.{AreNamedIn, IsBound, IsClosed, IsComplete, IsDescent, IsNamed, IsPlan, IsProved, IsRefutation}
-use Rattle.exact_solver.specs.declared.solutions.Solution.{Solution}
-use Rattle.exact_solver.specs.declared.solutions.Solution.TheVariants as found
-use Rattle.exact_solver.specs.declared.solutions.SolveStop.{SolveStop}
-use Rattle.exact_solver.specs.declared.solutions.SolveStop.TheVariants as stops
+use Rattle.exact_solver.specs.MethodEnds.{HasNoBound, HasNoPlan, HasOptimum, IsPivotDue, IsStopOf, IsWide, MethodEnd, end_seen}
+use Rattle.command_answers.specs.BookMethods.{method_end}
+use Rattle.certified_answers.specs.Worth.{plan_cost}
+use Rattle.certified_answers.specs.Answers.{AreNamedIn, IsComplete, IsNamed, IsProved}
+use Rattle.certified_answers.specs.Worth.{IsBound, IsClosed, IsDescent, IsPlan, IsRefutation}
+use Rattle.certified_answers.specs.declared.answers.Certified.{Certified}
+use Rattle.certified_answers.specs.declared.answers.Certified.TheVariants as found
+use Rattle.certified_answers.specs.declared.answers.NoAnswer.{NoAnswer}
+use Rattle.certified_answers.specs.declared.answers.NoAnswer.TheVariants as stops
 use Rattle.solve_command.specs.declared.solve.Shown.{Shown}
 use Rattle.solve_command.specs.declared.solve.Shown.TheVariants.{Report, Plan, Multipliers, Summary}
 use Rattle.command_answers.specs.declared.status.Status.{Status}
@@ -135,7 +138,7 @@ module _ (places : ℕ) (d : Data) (rows : List Row) (vars : List Var) (book : I
     none : second_end rows vars gap pivots ≡ None → second_end rows (all_variables d) gap pivots ≡ None
     none is = subst (λ vs. second_end rows vs gap pivots ≡ None) are is
 
-    pub due-from_solution : (solution : Solution) → end_seen solution ≡ method_end rows vars pivots → IsProved rows vars solution → IsComplete vars solution → IsNamed rows solution
+    pub due-from_solution : (solution : Certified) → end_seen solution ≡ method_end rows vars pivots → IsProved rows vars solution → IsComplete vars solution → IsNamed rows solution
         → TellsExactly sets rows vars gap pivots show rounded places solution status text → DueForEnd places d rows gap pivots show rounded status text
     due-from_solution (found.Optimal plan multipliers cost bound made) end proved whole named (inl told) =
         inl (record {
@@ -190,13 +193,15 @@ module _ (places : ℕ) (d : Data) (rows : List Row) (vars : List Var) (book : I
     due-from_solution (found.Unbounded plan direction made) end proved whole named (inr told) = absurd told.1
 
     -- a stop that is told is no end
-    pub stop_comes : (stop : SolveStop) (first : Status) (line : List ℕ) → IsStopOf (method_end rows vars pivots) stop → TellsStop sets pivots stop first line → ComesToEnd show rows (method_end rows vars pivots) → ⊥
+    pub stop_comes : (stop : NoAnswer) (first : Status) (line : List ℕ) → IsStopOf (method_end rows vars pivots) stop → TellsStop sets pivots stop first line → ComesToEnd show rows (method_end rows vars pivots) → ⊥
+    stop_comes stops.Nothing first line stopped told comes = told
     stop_comes stops.Budget first line stopped told comes = subst (ComesToEnd show rows) stopped comes
     stop_comes (stops.Width place) first line stopped told comes = subst (ComesToEnd show rows) stopped comes
     stop_comes stops.Memory first line stopped told comes = told
 
-    pub due-from_stop : (stop : SolveStop) → IsStopOf (method_end rows vars pivots) stop → second_end rows vars gap pivots ≡ None → TellsStop sets pivots stop status text
+    pub due-from_stop : (stop : NoAnswer) → IsStopOf (method_end rows vars pivots) stop → second_end rows vars gap pivots ≡ None → TellsStop sets pivots stop status text
         → DueForEnd places d rows gap pivots show rounded status text
+    due-from_stop stops.Nothing stopped no_second told = absurd told
     due-from_stop stops.Budget stopped no_second told =
         inr (inr (inr (inl (record { end = ends IsPivotDue (sym stopped); no_second = none no_second; status_is = told.0; line_is = told.1 ∙ ap (λ ss. uncertified_line ss (Budget pivots)) same }))))
     due-from_stop (stops.Width place) stopped no_second told =

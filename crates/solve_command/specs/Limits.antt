@@ -4,7 +4,7 @@ use Rattle.model_sets.specs.Data.{Data}
 use Rattle.row_core.specs.declared.Row.{Row}
 use Rattle.row_core.specs.declared.Var.{Var}
 use Rattle.named_equations.specs.Existence.{all_variables}
-use Rattle.exact_solver.specs.Sizes.{column_count, inequality_count}
+use Rattle.row_problem.specs.Sizes.{column_count, inequality_count}
 use Rattle.command_answers.specs.declared.status.Status.{Status}
 use Rattle.command_answers.specs.declared.status.Status.TheVariants.{Refused}
 use Rattle.command_answers.specs.declared.status.Refusal.TheVariants.{TooLarge}

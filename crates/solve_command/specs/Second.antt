@@ -8,9 +8,10 @@ use Rattle.row_core.specs.declared.Var.{Var}
 use Rattle.row_core.specs.declared.place.Place.{Place}
 use Rattle.row_core.specs.Numbers.{keys_of}
 use Rattle.certificate_checker.specs.Gaps.{Within}
-use Rattle.exact_solver.specs.Solutions.{AreNamedIn, IsBound, IsPlan}
-use Rattle.exact_solver.specs.declared.solutions.Solution.{Solution}
-use Rattle.exact_solver.specs.declared.solutions.Solution.TheVariants as exact
+use Rattle.certified_answers.specs.Answers.{AreNamedIn}
+use Rattle.certified_answers.specs.Worth.{IsBound, IsPlan}
+use Rattle.certified_answers.specs.declared.answers.Certified.{Certified}
+use Rattle.certified_answers.specs.declared.answers.Certified.TheVariants as exact
 use Rattle.decimal_solver.specs.Attempts.{Attempt}
 use Rattle.decimal_solver.specs.declared.attempts.Found.{Found}
 use Rattle.result_tables.specs.Prices.{price_steps}
@@ -25,7 +26,7 @@ use Rattle.solve_command.specs.SolveOutcomes.{HasPriceWideAt, PricesFitIn, solut
 use Rattle.solve_command.specs.SolveTexts.{solved_shown}
 
 -- what was found, as a solution of the exact method
-abbrev pub found_solution : Found → Solution
+abbrev pub found_solution : Found → Certified
 found_solution found = exact.Optimal found.plan found.multipliers found.cost found.bound found.pivots
 
 -- what it says of the rows: a plan that meets them, with a value for each variable, multipliers of rows that prove the bound, and a cost within the gap of it
@@ -63,7 +64,7 @@ IsLastOf sets rows vars gap pivots show rounded places first last =
     ⊎ ((second_end rows vars gap pivots ≡ None) × (last.status ≡ first.status) × (last.text.items ≡ first.text.items))
 
 -- a solution is told, or at which of its prices a number doesn't fit where the second attempt gives nothing, or what that gives
-abbrev pub TellsExactly : SetLists → List Row → List Var → ℕ → ℕ → Shown → ℕ → ℕ → Solution → Status → List ℕ → Type 0
+abbrev pub TellsExactly : SetLists → List Row → List Var → ℕ → ℕ → Shown → ℕ → ℕ → Certified → Status → List ℕ → Type 0
 TellsExactly sets rows vars gap pivots show rounded places solution status text =
     (PricesFitIn show rows solution × (status ≡ status_of solution) × (text ≡ solution_shown show sets rows vars rounded places 1 solution))
     ⊎ ((place : Place) × HasPriceWideAt show rows solution place

@@ -10,9 +10,11 @@ use Rattle.row_core.specs.declared.Var.{Var}
 use Rattle.row_core.specs.declared.place.Place.{Place}
 use Rattle.named_equations.specs.Existence.{all_variables}
 use Rattle.written_method.specs.Eliminated.{elimination_steps}
-use Rattle.decimal_solver.specs.Attempts.{Attempt, grid_end}
-use Rattle.exact_solver.specs.Definers.{definers}
-use Rattle.exact_solver.specs.MethodEnds.{HasNoBound, HasNoPlan, HasOptimum, IsPivotDue, IsWide, MethodEnd, method_end, plan_cost}
+use Rattle.decimal_solver.specs.Attempts.{Attempt}
+use Rattle.command_answers.specs.Definers.{definers}
+use Rattle.exact_solver.specs.MethodEnds.{HasNoBound, HasNoPlan, HasOptimum, IsPivotDue, IsWide, MethodEnd}
+use Rattle.command_answers.specs.BookMethods.{grid_end, method_end}
+use Rattle.certified_answers.specs.Worth.{plan_cost}
 use Rattle.result_tables.specs.Prices.{price_steps}
 use Rattle.solve_command.specs.declared.solve.Shown.{Shown}
 use Rattle.solve_command.specs.declared.solve.Shown.TheVariants.{Report, Plan, Multipliers, Summary}

@@ -9,7 +9,8 @@ use Rattle.row_core.specs.Numbers.{keys_of}
 use Rattle.named_equations.specs.Existence.{all_variables}
 use Rattle.named_equations.specs.Plans.{Feasible, cost}
 use Rattle.certificate_checker.specs.Gaps.{Within}
-use Rattle.exact_solver.specs.Solutions.{AreNamedIn, IsBound, IsDescent, IsRefutation}
+use Rattle.certified_answers.specs.Answers.{AreNamedIn}
+use Rattle.certified_answers.specs.Worth.{IsBound, IsDescent, IsRefutation}
 use Rattle.command_answers.specs.CheckedPlans.{AreFeasible, BoundsFeasible, NoneIsFeasible}
 
 -- ---- plans

@@ -1,19 +1,17 @@
 // The answer of the rounded method, where it finds one.
 ghost use Rattle.std.specs.Prelude.{◌≡◌, ◌⊎◌, IfOk, IfSome, OnOk};
 ghost use Rattle.model_sets.specs.Data.{Data};
-ghost use Rattle.exact_solver.specs.Solutions.{IsComplete, IsNamed};
-ghost use Rattle.rounded_solver.specs.Found.{IsMadeWithin, IsProved};
+ghost use Rattle.command_answers.specs.BookMethods.{IsFoundBy};
 ghost use Rattle.command_answers.specs.CheckedPlans.{IsBookOf, IsListedBook};
-ghost use Rattle.solve_command.specs.Rounding.{IsFoundBy, TellsFound, solution_of};
+ghost use Rattle.solve_command.specs.Rounding.{TellsFound};
 ghost use Rattle.solve_command.specs.Solve.{IsFound, IsFoundInfeasible, third_attempt};
 
 use crate::ends::status_of;
 use crate::solve::Wanted;
 use crate::texts::solution_text;
-use command_answers::Answer;
-use exact_solver::{Solution, eliminate_book};
+use certified_answers::Certified;
+use command_answers::{Answer, guess_book};
 use model_sets::Sets;
-use rounded_solver::{Rounded, rounded as round};
 use row_book::RowBook;
 use row_core::Stopped;
 use std::alloc::{AllocError, Global};
@@ -37,59 +35,9 @@ pub fn answer_rounded(
         IsFound places d book.now.rows wanted.gap wanted.pivots wanted.show rounded third_attempt answer.status answer.text.items
         ⊎ IsFoundInfeasible places d book.now.rows wanted.pivots wanted.show rounded third_attempt answer.status answer.text.items)) }
 {
-    match rounded_solution(alloc, book, wanted.gap, u64::from(wanted.pivots))? {
+    match guess_book(alloc, book, wanted.gap, u64::from(wanted.pivots))? {
         Some(solution) => answer_found(alloc, book, sets, &solution, wanted, rounded, places),
         None => Ok(None),
-    }
-}
-
-/// What the rounded method finds over a book, as a solution: a plan whose cost is above a proved bound by at most so many millionths of
-/// the bound, or that there is no plan. Each guess may take so many pivots at most. Rows whose defined variables can't be removed have
-/// no such solution; when else there is none isn't defined. Refuses only out of memory.
-pub fn rounded_solution(
-    alloc: Global,
-    book: &RowBook,
-    gap: u32,
-    pivots: u64,
-) -> Result<Option<Solution>, AllocError>
-    ensures { IfOk result (λ found. IfSome found (IsFoundBy book.now.rows book.now.vars gap pivots)) }
-{
-    let program = match eliminate_book(alloc, book) {
-        Ok(program) => program,
-        Err(Stopped::Width(_)) => return Ok(None),
-        Err(Stopped::Memory) => return Err(AllocError),
-    };
-    match round(alloc, book, &program, gap, pivots)? {
-        Some(found) => Ok(Some(solution_of(found))),
-        None => Ok(None),
-    }
-}
-
-// The same as a solution of the exact method.
-fn solution_of(found: Rounded) -> Solution
-    ensures { result ≡ solution_of found }
-{
-    match found {
-        Rounded::Plan {
-            plan,
-            multipliers,
-            cost,
-            bound,
-            pivots,
-        } => Solution::Optimal {
-            plan,
-            multipliers,
-            cost,
-            bound,
-            pivots,
-        },
-        Rounded::NoPlan {
-            multipliers,
-            pivots,
-        } => Solution::Infeasible {
-            multipliers,
-            pivots,
-        },
     }
 }
 
@@ -98,7 +46,7 @@ fn answer_found(
     alloc: Global,
     book: &RowBook,
     sets: &Sets,
-    solution: &Solution,
+    solution: &Certified,
     wanted: Wanted,
     rounded: u64,
     places: u8,

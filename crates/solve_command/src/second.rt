@@ -2,16 +2,17 @@
 ghost use Rattle.std.specs.Prelude.{◌≡◌, IfOk};
 ghost use Rattle.exact_num.specs.Value.{value_of};
 ghost use Rattle.row_core.specs.Numbers.{keys_of};
-ghost use Rattle.exact_solver.specs.Solutions.{AreNamedIn, IsPlan};
+ghost use Rattle.certified_answers.specs.Answers.{AreNamedIn};
+ghost use Rattle.certified_answers.specs.Worth.{IsPlan};
 ghost use Rattle.command_answers.specs.CheckedPlans.{IsListedBook};
 ghost use Rattle.solve_command.specs.Second.{IsLastOf, TellsGrid, TellsSecond, found_solution};
 ghost use Rattle.solve_command.specs.Solve.{second_attempt};
 
 use crate::solve::{Shown, Wanted};
 use crate::texts::{shown_beside, solution_text};
-use command_answers::{Answer, Status};
-use decimal_solver::{Found, second};
-use exact_solver::{Solution, eliminate_book};
+use certified_answers::Certified;
+use command_answers::{Answer, Status, eliminate_book, second_book};
+use decimal_solver::Found;
 use model_sets::Sets;
 use row_book::RowBook;
 use row_core::Stopped;
@@ -60,7 +61,7 @@ fn answer_second(
         Err(Stopped::Memory) => return Err(AllocError),
     };
     let pivots = u64::from(wanted.pivots);
-    match second(alloc, book, &program, wanted.gap, pivots)? {
+    match second_book(alloc, book, &program, wanted.gap, pivots)? {
         Some(found) => answer_grid(alloc, book, sets, found, wanted.show, rounded, places),
         None => Ok(None),
     }
@@ -103,7 +104,7 @@ fn answer_grid(
 }
 
 // What was found, as a solution of the exact method.
-fn solution_of(found: Found) -> Solution
+fn solution_of(found: Found) -> Certified
     ensures { result ≡ found_solution found }
 {
     let Found {
@@ -113,7 +114,7 @@ fn solution_of(found: Found) -> Solution
         bound,
         pivots,
     } = found;
-    Solution::Optimal {
+    Certified::Optimal {
         plan,
         multipliers,
         cost,

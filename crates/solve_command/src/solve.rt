@@ -2,8 +2,8 @@
 ghost use Rattle.std.specs.Prelude.{◌≡◌, ℕ, IfOk};
 ghost use Rattle.discount_factors.specs.Factors.{IsPlaces};
 ghost use Rattle.model_sets.specs.Data.{AreSameData, Data};
-ghost use Rattle.exact_solver.specs.Solutions.{IsComplete, IsNamed};
-ghost use Rattle.exact_solver.specs.Sizes.{column_count, inequality_count};
+ghost use Rattle.certified_answers.specs.Answers.{IsComplete, IsNamed};
+ghost use Rattle.row_problem.specs.Sizes.{column_count, inequality_count};
 ghost use Rattle.command_answers.specs.CheckedPlans.{IsBookOf, IsListedBook};
 ghost use Rattle.solve_command.specs.Shown.{shown_of};
 ghost use Rattle.solve_command.specs.Solve.{DueForEnd, DueForMethod, DueForRows, DueForSolve};
@@ -14,13 +14,14 @@ use crate::ends::{answer_stop, status_of};
 use crate::rounding::answer_rounded;
 use crate::second::or_second;
 use crate::texts::solution_text;
-use command_answers::{Answer, refuse_book, refuse_size, stop_at};
+use certified_answers::Certified;
+use command_answers::{Answer, refuse_book, refuse_size, solve_book, stop_at};
 use command_words::{SolveMethod, SolveShow};
-use exact_solver::{Solution, size_of, solve_book};
 use model_sets::Sets;
 use param_tables::ModelData;
 use row_book::{RowBook, same_data_laws};
 use row_core::Stopped;
+use row_problem::size_of;
 use std::alloc::{AllocError, Global};
 
 /// The most inequalities that a linear program may have.
@@ -109,7 +110,7 @@ pub fn answer_book(
     ensures { (d : Data) → sets.now ≡ d.sets → IsBookOf places d book.now.rows book.now.vars
         → IfOk result (λ answer. DueForRows places d book.now.rows wanted.gap wanted.pivots wanted.show wanted.method rounded answer.status answer.text.items) }
 {
-    let size = size_of(book);
+    let size = size_of(book.rows(), book.vars());
     if size.rows > MOST_ROWS || size.columns > MOST_COLUMNS {
         return refuse_size(alloc, size.rows, size.columns);
     }
@@ -169,7 +170,7 @@ fn answer_end(
     places: u8,
     wanted: Wanted,
     rounded: u64,
-    solution: &Solution,
+    solution: &Certified,
 ) -> Result<Answer, AllocError>
     requires listed { IsListedBook sets.now book.now.rows book.now.vars }
     requires complete { IsComplete book.now.vars solution.now }

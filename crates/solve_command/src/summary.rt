@@ -8,10 +8,10 @@ ghost use Rattle.solve_command.specs.Summary.{DueAfterCounts, DueForSummary, cou
 use crate::solve::{Shown, Wanted, answer_book};
 use command_answers::{Answer, push_count, refuse_book};
 use command_words::SolveMethod;
-use exact_solver::size_of;
 use model_sets::Sets;
 use param_tables::ModelData;
 use row_book::{RowBook, same_data_laws};
+use row_problem::size_of;
 use std::alloc::{AllocError, Global};
 
 /// What is due over any data that have the model's sets and values, with written factors of 6 or 9 decimal places.
@@ -65,7 +65,7 @@ fn summarize_book(
 fn counts_text(alloc: Global, book: &RowBook) -> Result<Vec<u8>, AllocError>
     ensures { IfOk result (λ text. text.items ≡ counts_text book.now.rows book.now.vars) }
 {
-    let size = size_of(book);
+    let size = size_of(book.rows(), book.vars());
     let mut text = Vec::new(alloc);
     push_count(&mut text, b"equations ", book.rows().len() as u64)?;
     push_count(&mut text, b"variables ", book.vars().len() as u64)?;

@@ -1,16 +1,16 @@
 // What is shown of a solution: a report, its plan, its multipliers or a few lines.
 ghost use Rattle.std.specs.Prelude.{◌≡◌, ℕ, [], IfErr, IfOk, OnOk};
 ghost use Rattle.exact_num.specs.Value.{value_of};
-ghost use Rattle.exact_solver.specs.Solutions.{IsComplete, IsNamed};
+ghost use Rattle.certified_answers.specs.Answers.{IsComplete, IsNamed};
 ghost use Rattle.command_answers.specs.CheckedPlans.{IsListedBook};
 ghost use Rattle.solve_command.specs.SolveOutcomes.{PricesAreStopped, PricesFitIn, multipliers_shown, plan_shown, report_shown, solution_shown, summary_shown};
 ghost use Rattle.solve_command.specs.SolveTexts.{multiplier_file, plan_file, solved_lines};
 ghost use Rattle.solve_command.specs.declared.solve.Shown.TheVariants as shows;
 
 use crate::solve::Shown;
+use certified_answers::Certified;
 use command_answers::{push_amount, push_with_number};
 use exact_num::Frac;
-use exact_solver::Solution;
 use model_sets::Sets;
 use plan_files::{multiplier_text, plan_text};
 use result_tables::{infeasible_report, report, unbounded_report};
@@ -26,7 +26,7 @@ pub fn solution_text(
     alloc: Global,
     book: &RowBook,
     sets: &Sets,
-    solution: &Solution,
+    solution: &Certified,
     show: Shown,
     rounded: u64,
     places: u8,
@@ -52,7 +52,7 @@ pub fn shown_beside(
     alloc: Global,
     book: &RowBook,
     sets: &Sets,
-    solution: &Solution,
+    solution: &Certified,
     show: Shown,
     report: Vec<u8>,
 ) -> Result<Vec<u8>, AllocError>
@@ -75,7 +75,7 @@ fn report_of(
     alloc: Global,
     book: &RowBook,
     sets: &Sets,
-    solution: &Solution,
+    solution: &Certified,
     rounded: u64,
     places: u8,
     attempt: u8,
@@ -87,7 +87,7 @@ fn report_of(
     ensures stopped { IfErr result (PricesAreStopped shows.Report book.now.rows solution.now) }
 {
     match solution {
-        Solution::Optimal {
+        Certified::Optimal {
             plan,
             multipliers,
             cost,
@@ -107,10 +107,10 @@ fn report_of(
             attempt,
             sets,
         ),
-        Solution::Infeasible { pivots, .. } => Ok(infeasible_report(
+        Certified::Infeasible { pivots, .. } => Ok(infeasible_report(
             alloc, *pivots, rounded, places, attempt,
         )?),
-        Solution::Unbounded {
+        Certified::Unbounded {
             direction,
             pivots,
             ..
@@ -123,7 +123,7 @@ fn summary_of(
     alloc: Global,
     book: &RowBook,
     sets: &Sets,
-    solution: &Solution,
+    solution: &Certified,
     rounded: u64,
     places: u8,
     attempt: u8,
@@ -139,18 +139,18 @@ fn summary_of(
 }
 
 // Its text.
-fn summary_text(alloc: Global, solution: &Solution) -> Result<Vec<u8>, AllocError>
+fn summary_text(alloc: Global, solution: &Certified) -> Result<Vec<u8>, AllocError>
     ensures { IfOk result (λ text. text.items ≡ summary_shown solution.now) }
 {
     match solution {
-        Solution::Optimal {
+        Certified::Optimal {
             cost,
             bound,
             pivots,
             ..
         } => solved_lines(alloc, *cost, *bound, *pivots),
-        Solution::Infeasible { .. } => Vec::from_slice(alloc, b"status infeasible\n"),
-        Solution::Unbounded { .. } => Vec::from_slice(alloc, b"status unbounded\n"),
+        Certified::Infeasible { .. } => Vec::from_slice(alloc, b"status infeasible\n"),
+        Certified::Unbounded { .. } => Vec::from_slice(alloc, b"status unbounded\n"),
     }
 }
 
@@ -171,17 +171,17 @@ fn plan_of(
     alloc: Global,
     book: &RowBook,
     sets: &Sets,
-    solution: &Solution,
+    solution: &Certified,
 ) -> Result<Vec<u8>, AllocError>
     requires listed { IsListedBook sets.now book.now.rows book.now.vars }
     requires complete { IsComplete book.now.vars solution.now }
     ensures { IfOk result (λ text. text.items ≡ plan_shown sets.now solution.now) }
 {
     match solution {
-        Solution::Optimal { plan, .. } | Solution::Unbounded { plan, .. } => {
+        Certified::Optimal { plan, .. } | Certified::Unbounded { plan, .. } => {
             plan_text(alloc, plan, sets)
         }
-        Solution::Infeasible { .. } => no_plan(alloc, sets),
+        Certified::Infeasible { .. } => no_plan(alloc, sets),
     }
 }
 
@@ -198,17 +198,17 @@ fn multipliers_of(
     alloc: Global,
     book: &RowBook,
     sets: &Sets,
-    solution: &Solution,
+    solution: &Certified,
 ) -> Result<Vec<u8>, AllocError>
     requires listed { IsListedBook sets.now book.now.rows book.now.vars }
     requires named { IsNamed book.now.rows solution.now }
     ensures { IfOk result (λ text. text.items ≡ multipliers_shown sets.now solution.now) }
 {
     match solution {
-        Solution::Optimal { multipliers, .. } | Solution::Infeasible { multipliers, .. } => {
+        Certified::Optimal { multipliers, .. } | Certified::Infeasible { multipliers, .. } => {
             multiplier_text(alloc, multipliers, sets)
         }
-        Solution::Unbounded { .. } => no_multipliers(alloc, sets),
+        Certified::Unbounded { .. } => no_multipliers(alloc, sets),
     }
 }
 

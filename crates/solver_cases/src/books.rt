@@ -6,10 +6,10 @@ ghost use Rattle.row_core.specs.declared.Row.{Row};
 ghost use Rattle.row_core.specs.declared.kind_numbers.TheConstants.{NEW_CAPACITY};
 ghost use Rattle.written_method.specs.Programs.{program_of};
 ghost use Rattle.simplex_core.specs.Outcomes.{IsProved};
-ghost use Rattle.exact_solver.specs.BookPrograms.{IsProgramOf};
+ghost use Rattle.command_answers.specs.BookPrograms.{IsProgramOf};
 ghost use Rattle.row_core.specs.declared.cost_limit.TheConstants.{SPAN};
 
-use exact_solver::BookProgram;
+use command_answers::BookProgram;
 use mathprog_data::read_blocks;
 use param_tables::{build, sets_of};
 use row_book::RowBook;

@@ -3,7 +3,7 @@
 ghost use Rattle.std.specs.Prelude.{◌<◌};
 ghost use Rattle.std.specs.List.{AllByRecursion};
 ghost use Rattle.row_core.specs.declared.Row.{Row};
-ghost use Rattle.exact_solver.specs.BookPrograms.{IsProgramOf};
+ghost use Rattle.command_answers.specs.BookPrograms.{IsProgramOf};
 ghost use Rattle.row_core.specs.declared.cost_limit.TheConstants.{SPAN};
 
 use crate::books::{book_of, solve_program};
@@ -12,9 +12,10 @@ use crate::lines::{multiplier_lines, program_lines};
 use crate::numbers::{fractions_of, next_fraction, shown};
 use crate::rounded_ends::{print_rounded, print_span};
 use crate::small_rows::{ACTIVITY, CAPACITY};
-use exact_solver::{BookProgram, carry_direction, carry_multipliers, eliminate_book, size_of};
+use command_answers::{BookProgram, eliminate_book, problem_of};
 use row_book::RowBook;
 use row_core::Plan;
+use row_problem::{carry_direction, carry_multipliers, size_of};
 use simplex_core::{End, kept_pivots};
 use std::{fs, io};
 
@@ -47,13 +48,13 @@ pub fn print_model(rt: &HostRuntime, line: &str) -> io::Result<()> {
         "pivots" => print_pivots(rt, &book, &program),
         "multipliers" => print_multipliers(rt, &book, &program, first),
         "direction" => print_direction(rt, &book, &program, first),
-        _ => print_rounded(rt, &book, &program, first),
+        _ => print_rounded(rt, &book, first),
     }
 }
 
 /// Prints how large the linear program may be.
 fn print_size(rt: &HostRuntime, book: &RowBook) -> io::Result<()> {
-    let size = size_of(book);
+    let size = size_of(book.rows(), book.vars());
     println!(rt; "{} inequalities, {} columns", size.rows, size.columns)?;
     Ok(())
 }
@@ -98,7 +99,8 @@ fn print_multipliers(
         println!(rt; "{} rows are left", program.reduced.rows.len())?;
         return Ok(());
     }
-    match carry_multipliers(rt.alloc(), book, program, &lambda, true) {
+    let problem = problem_of(book, program);
+    match carry_multipliers(rt.alloc(), &problem, &lambda, true) {
         Ok(made) => print!(rt; "{}", multiplier_lines(rt.alloc(), &made)?)?,
         Err(_) => println!(rt; "stopped")?,
     }
@@ -118,7 +120,8 @@ fn print_direction(
     let activity = next_fraction(words.next());
     let capacity = next_fraction(words.next());
     let values = Plan::of(vec![in rt.alloc(); (ACTIVITY, activity), (CAPACITY, capacity)]?);
-    match carry_direction(rt.alloc(), book, program, &values) {
+    let problem = problem_of(book, program);
+    match carry_direction(rt.alloc(), &problem, &values) {
         Ok(direction) => println!(rt; "cost {}", shown(rt.alloc(), direction.value(COST))?)?,
         Err(_) => println!(rt; "stopped")?,
     }

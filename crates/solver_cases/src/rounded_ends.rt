@@ -3,15 +3,14 @@
 ghost use Rattle.std.specs.Prelude.{◌<◌};
 ghost use Rattle.std.specs.List.{AllByRecursion};
 ghost use Rattle.row_core.specs.declared.Row.{Row};
-ghost use Rattle.exact_solver.specs.BookPrograms.{IsProgramOf};
 ghost use Rattle.row_core.specs.declared.cost_limit.TheConstants.{SPAN};
 
 use crate::books::capacity_of;
 use crate::numbers::{fraction_of, shown, within};
 use certificate_checker::{Verdict, check_plan};
+use certified_answers::Certified;
+use command_answers::{definers, guess_book, problem_laws};
 use exact_num::{Frac, cmp_frac};
-use exact_solver::BookProgram;
-use rounded_solver::{Rounded, rounded};
 use row_book::RowBook;
 use span_finder::round_span;
 use std::io;
@@ -27,14 +26,11 @@ const PIVOTS: u64 = 1000;
 pub fn print_rounded(
     rt: &HostRuntime,
     book: &RowBook,
-    program: &BookProgram,
     least: &str,
-) -> io::Result<()>
-    requires { IsProgramOf book.now.rows book.now.vars program.now }
-{
-    match rounded(rt.alloc(), book, program, GAP, PIVOTS)? {
+) -> io::Result<()> {
+    match guess_book(rt.alloc(), book, GAP, PIVOTS)? {
         Some(
-            Rounded::Plan {
+            Certified::Optimal {
                 plan,
                 multipliers: _multipliers,
                 cost,
@@ -61,11 +57,18 @@ pub fn print_rounded(
             }
         }
         Some(
-            Rounded::NoPlan {
+            Certified::Infeasible {
                 multipliers: _multipliers,
                 pivots: _,
             },
         ) => println!(rt; "no plan")?,
+        Some(
+            Certified::Unbounded {
+                plan: _plan,
+                direction: _direction,
+                pivots: _,
+            },
+        ) => println!(rt; "no bound")?,
         None => println!(rt; "nothing")?,
     }
     Ok(())
@@ -102,7 +105,11 @@ pub fn print_span(
         println!(rt; "no such technology")?;
         return Ok(());
     };
-    let Some(span) = round_span(rt.alloc(), book, fraction_of(limit), var, GAP, PIVOTS)? else {
+    let defs = definers(rt.alloc(), book)?;
+    problem_laws(book);
+    let limit = fraction_of(limit);
+    let (rows, vars) = (book.rows(), book.vars());
+    let Some(span) = round_span(rt.alloc(), rows, &defs, vars, limit, var, GAP, PIVOTS)? else {
         println!(rt; "nothing")?;
         return Ok(());
     };

@@ -6,12 +6,12 @@ use Rattle.model_sets.specs.Data.{Data}
 use Rattle.model_sets.specs.Members.{SetLists}
 use Rattle.row_core.specs.declared.Row.{Row}
 use Rattle.row_core.specs.declared.Var.{Var}
-use Rattle.exact_solver.specs.MethodEnds.{plan_cost}
-use Rattle.exact_solver.specs.declared.solutions.Solution.{Solution}
-use Rattle.exact_solver.specs.declared.solutions.Solution.TheVariants as found
+use Rattle.certified_answers.specs.Worth.{plan_cost}
+use Rattle.certified_answers.specs.declared.answers.Certified.{Certified}
+use Rattle.certified_answers.specs.declared.answers.Certified.TheVariants as found
 use Rattle.command_answers.specs.CheckedPlans.{IsBookOf}
 use Rattle.command_answers.specs.declared.status.Status.{Status}
-use Rattle.solve_command.specs.Rounding.{IsFoundBy}
+use Rattle.command_answers.specs.BookMethods.{IsFoundBy}
 use Rattle.solve_command.proofs.SolvedEnds.{are, near, refuted}
 use Rattle.span_finder.specs.Slacks.{slack_limit}
 use Rattle.span_command.specs.Outcomes.{TellsFound}
@@ -20,7 +20,7 @@ use Rattle.span_command.specs.SpanTexts.{rounded_text}
 use Rattle.span_command.proofs.NearRows.{near-high-end, near-low-end}
 
 module _ (places : ℕ) (d : Data) (rows : List Row) (vars : List Var) (book : IsBookOf places d rows vars) (sets : SetLists) (same : sets ≡ d.sets) (var : Var) (slack gap pivots rounded : ℕ) (status : Status) (text : List ℕ) where
-  pub due-from_found : (solution : Solution) → IsFoundBy rows vars gap pivots solution → TellsFound sets rows vars var slack gap rounded places solution status text → DueForFound places d rows var slack gap pivots rounded status text
+  pub due-from_found : (solution : Certified) → IsFoundBy rows vars gap pivots solution → TellsFound sets rows vars var slack gap rounded places solution status text → DueForFound places d rows var slack gap pivots rounded status text
   due-from_found (found.Optimal plan multipliers cost bound made) of told =
       let span = told.span in
       let worth = told.worth in

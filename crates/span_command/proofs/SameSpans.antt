@@ -10,9 +10,11 @@ use Rattle.row_core.specs.declared.Var.{Var}
 use Rattle.row_core.specs.declared.place.Place.TheVariants.{SumGap}
 use Rattle.named_equations.specs.Existence.{all_variables}
 use Rattle.named_equations.proofs.SameInstances.{same-cost, same-feasible}
-use Rattle.exact_solver.specs.MethodEnds.{MethodEnd, method_end, plan_cost}
-use Rattle.exact_solver.specs.Sizes.{column_count, inequality_count}
-use Rattle.exact_solver.specs.Solutions.{IsBound, IsDescent, IsRefutation}
+use Rattle.exact_solver.specs.MethodEnds.{MethodEnd}
+use Rattle.command_answers.specs.BookMethods.{method_end}
+use Rattle.certified_answers.specs.Worth.{plan_cost}
+use Rattle.row_problem.specs.Sizes.{column_count, inequality_count}
+use Rattle.certified_answers.specs.Worth.{IsBound, IsDescent, IsRefutation}
 use Rattle.result_tables.specs.Reports.{unbounded_text}
 use Rattle.simplex_core.specs.declared.stops.Stop.{Stop}
 use Rattle.simplex_core.specs.declared.stops.Stop.TheVariants.{Width}
@@ -26,6 +28,7 @@ use Rattle.solve_command.specs.Limits.{IsWithinLimits, PassesLimits, most_column
 use Rattle.command_words.specs.declared.command.SolveMethod.{SolveMethod}
 use Rattle.command_words.specs.declared.command.SolveMethod.TheVariants.{Exact, Rounded}
 use Rattle.solve_command.specs.SolvedPlans.{AreUnbounded, HasNoLeastCost, IsNearOptimum, IsOptimum, IsRefuted}
+use Rattle.command_answers.specs.Definers.{definers}
 use Rattle.span_finder.specs.SpanEnds.{EndsSo, SpanEnd, Stops}
 use Rattle.span_finder.specs.declared.found.SpanFail.{SpanFail}
 use Rattle.span_finder.specs.Slacks.{slack_limit}
@@ -134,8 +137,8 @@ module _ (places : ℕ) (d e : Data) (same : AreSameData d e) where
       optimum = optimum-carries rows 0 is.plan is.multipliers cost is.bound is.optimum;
     }
 
-    spans : (limit : Rational) (var : Var) (end : SpanEnd) → EndsSo rows (all_variables d) limit var pivots end → EndsSo rows (all_variables e) limit var pivots end
-    spans limit var end so = subst (λ (vs : List Var). EndsSo rows vs limit var pivots end) vars so
+    spans : (limit : Rational) (var : Var) (end : SpanEnd) → EndsSo rows (definers rows) (all_variables d) limit var pivots end → EndsSo rows (definers rows) (all_variables e) limit var pivots end
+    spans limit var end so = subst (λ (vs : List Var). EndsSo rows (definers rows) vs limit var pivots end) vars so
 
     end-carries : (var : Var) (slack rounded : ℕ) (status : Status) (text : List ℕ) → DueForEnd places d rows var slack pivots rounded status text → DueForEnd places e rows var slack pivots rounded status text
     end-carries var slack rounded status text (inl is) =
@@ -207,7 +210,7 @@ module _ (places : ℕ) (d e : Data) (same : AreSameData d e) where
           stop = is.stop;
           least = least-carries is.cost is.least;
           fits = is.fits;
-          stops = subst (λ (vs : List Var). Stops rows vs (slack_limit is.cost slack) var pivots (SpanFail.Stopped is.stop)) vars is.stops;
+          stops = subst (λ (vs : List Var). Stops rows (definers rows) vs (slack_limit is.cost slack) var pivots (SpanFail.Stopped is.stop)) vars is.stops;
           status_is = is.status_is;
           line_is = is.line_is ∙ ap (λ (ss : SetLists). limited_line ss is.stop) same.sets;
         }))))))

@@ -20,8 +20,8 @@ use Rattle.certificate_checker.specs.Costs.{model_cost}
 use Rattle.variable_elimination.specs.ReducedRows.{Shape, shape_of}
 use Rattle.written_method.specs.Eliminated.{elimination_steps, is_column}
 use Rattle.written_method.specs.Solved.{IsInfeasible, IsOptimal, IsOutOfPivots, IsTooWide, IsUnbounded, Outcome, solved}
-use Rattle.exact_solver.specs.Definers.{definer, definers}
-use Rattle.exact_solver.specs.Programs.{carried_direction, carried_multipliers, carried_plan}
+use Rattle.command_answers.specs.Definers.{definer, definers}
+use Rattle.row_problem.specs.Programs.{carried_direction, carried_multipliers, carried_plan}
 use Rattle.simplex_core.specs.declared.stops.Stop.{Stop}
 use Rattle.command_answers.specs.CheckedPlans.{IsListedBook}
 use Rattle.command_answers.specs.PlacesWithin.{IsRowOfSets, IsVariableOfSets, PlaceIsWithin}
@@ -175,7 +175,7 @@ module _ (sets : SetLists) (rows : List Row) (vars : List Var) (listed : IsListe
       (AllByRecursion-append (λ (r : Row). IsNamed r.name) rows (of.row ∷ [])
       (AllByRecursion-weaker (DefinesWithin sets) (λ (r : Row). IsNamed r.name) (λ row d. (inr d.0, d.1)) rows (define-within sets rows vars listed book)) (last-named of.row of.is.name, tt))
 
-  pub stop-limited : (limit : Rational) (var : Var) (pivots : ℕ) (stop : Stop) → Stops rows vars limit var pivots (Stopped stop) → StopIsLimited sets stop
+  pub stop-limited : (limit : Rational) (var : Var) (pivots : ℕ) (stop : Stop) → Stops rows (definers rows) vars limit var pivots (Stopped stop) → StopIsLimited sets stop
   stop-limited limit var pivots stop (inl w) = subst (StopIsLimited sets) (sym w.is) (inl refl)
   stop-limited limit var pivots stop (inr e) =
       stop-kept sets (NameIsLimited sets) (λ name of. inr of) e.all vars (define-limited limit e.all e.limited) (vars-named sets rows vars listed) var pivots stop e.ends

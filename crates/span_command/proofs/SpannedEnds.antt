@@ -12,12 +12,15 @@ use Rattle.row_core.specs.declared.Var.{Var}
 use Rattle.row_core.specs.Order.{var_cmp}
 use Rattle.row_core.specs.Plans.{value_in}
 use Rattle.named_equations.specs.Existence.{all_variables}
-use Rattle.exact_solver.specs.MethodEnds.{HasNoBound, HasNoPlan, HasOptimum, IsPivotDue, IsStopOf, IsWide, MethodEnd, end_seen, method_end, plan_cost}
-use Rattle.exact_solver.specs.Solutions.{IsComplete, IsDescent, IsNamed, IsProved}
-use Rattle.exact_solver.specs.declared.solutions.Solution.{Solution}
-use Rattle.exact_solver.specs.declared.solutions.Solution.TheVariants as found
-use Rattle.exact_solver.specs.declared.solutions.SolveStop.{SolveStop}
-use Rattle.exact_solver.specs.declared.solutions.SolveStop.TheVariants as stops
+use Rattle.exact_solver.specs.MethodEnds.{HasNoBound, HasNoPlan, HasOptimum, IsPivotDue, IsStopOf, IsWide, MethodEnd, end_seen}
+use Rattle.command_answers.specs.BookMethods.{method_end}
+use Rattle.certified_answers.specs.Worth.{plan_cost}
+use Rattle.certified_answers.specs.Answers.{IsComplete, IsNamed, IsProved}
+use Rattle.certified_answers.specs.Worth.{IsDescent}
+use Rattle.certified_answers.specs.declared.answers.Certified.{Certified}
+use Rattle.certified_answers.specs.declared.answers.Certified.TheVariants as found
+use Rattle.certified_answers.specs.declared.answers.NoAnswer.{NoAnswer}
+use Rattle.certified_answers.specs.declared.answers.NoAnswer.TheVariants as stops
 use Rattle.row_core.specs.declared.place.Place.TheVariants.{SumGap}
 use Rattle.result_tables.specs.Lines.{amount_line}
 use Rattle.result_tables.specs.Reports.{end_line, unbounded_text}
@@ -30,6 +33,7 @@ use Rattle.command_answers.proofs.CheckedRows.{are-feasible, vars-are}
 use Rattle.solve_command.specs.SolveOutcomes.{TellsStop}
 use Rattle.solve_command.proofs.SolvedEnds.{near, refuted}
 use Rattle.solve_command.proofs.SolvedRows.{no-least}
+use Rattle.command_answers.specs.Definers.{definers}
 use Rattle.span_finder.specs.SpanEnds as trials
 use Rattle.span_finder.specs.SpanEnds.{EndsSo, SpanEnd, Stops}
 use Rattle.span_finder.specs.Slacks.{slack_formed, slack_limit}
@@ -55,11 +59,11 @@ module _ (places : ℕ) (d : Data) (rows : List Row) (vars : List Var) (book : I
     abbrev limit : Rational
     limit = slack_limit cost slack
 
-    spans : (end : SpanEnd) → EndsSo rows vars limit var pivots end → EndsSo rows (all_variables d) limit var pivots end
-    spans end so = subst (λ (vs : List Var). EndsSo rows vs limit var pivots end) are so
+    spans : (end : SpanEnd) → EndsSo rows (definers rows) vars limit var pivots end → EndsSo rows (definers rows) (all_variables d) limit var pivots end
+    spans end so = subst (λ (vs : List Var). EndsSo rows (definers rows) vs limit var pivots end) are so
 
     due-from_high : (low plan : List (Var × Rational)) (high : Option Frac) (direction : Option (List (Var × Rational)))
-        → EndsSo rows vars limit var pivots (trials.end_seen low plan direction) → IsLowEnd places d limit var low → IsNearPlan rows vars limit plan
+        → EndsSo rows (definers rows) vars limit var pivots (trials.end_seen low plan direction) → IsLowEnd places d limit var low → IsNearPlan rows vars limit plan
         → over_rows.IsHighEnd rows vars limit var plan high direction → status ≡ Done → text ≡ span_lines sets cost limit (value_in var_cmp low var) low plan high direction
         → DueForEnd places d rows var slack pivots rounded status text
     due-from_high low plan (Some high) None so low_end near_plan is status_is text_is =
@@ -108,7 +112,7 @@ module _ (places : ℕ) (d : Data) (rows : List Row) (vars : List Var) (book : I
           stop = told.stop;
           least = least;
           fits = fits;
-          stops = subst (λ (vs : List Var). Stops rows vs limit var pivots (SpanFail.Stopped told.stop)) are told.stops;
+          stops = subst (λ (vs : List Var). Stops rows (definers rows) vs limit var pivots (SpanFail.Stopped told.stop)) are told.stops;
           status_is = told.status_is;
           line_is = told.line_is ∙ ap (λ (ss : SetLists). limited_line ss told.stop) same;
         }))))))
@@ -127,7 +131,7 @@ module _ (places : ℕ) (d : Data) (rows : List Row) (vars : List Var) (book : I
 
   -- ---- solutions
 
-  pub due-from_solution : (solution : Solution) → end_seen solution ≡ method_end rows vars pivots → IsProved rows vars solution → IsComplete vars solution → IsNamed rows solution
+  pub due-from_solution : (solution : Certified) → end_seen solution ≡ method_end rows vars pivots → IsProved rows vars solution → IsComplete vars solution → IsNamed rows solution
       → TellsSolution sets rows vars var slack pivots rounded places solution status text → DueForEnd places d rows var slack pivots rounded status text
   due-from_solution (found.Optimal plan multipliers cost bound made) end proved whole named told =
       due-from_near (value_of cost)
@@ -169,7 +173,7 @@ module _ (places : ℕ) (d : Data) (rows : List Row) (vars : List Var) (book : I
 
   -- ---- stops before the least cost
 
-  pub due-from_stop : (stop : SolveStop) → IsStopOf (method_end rows vars pivots) stop → TellsStop sets pivots stop status text → DueForEnd places d rows var slack pivots rounded status text
+  pub due-from_stop : (stop : NoAnswer) → IsStopOf (method_end rows vars pivots) stop → TellsStop sets pivots stop status text → DueForEnd places d rows var slack pivots rounded status text
   due-from_stop stops.Budget stopped told =
       inr (inr (inr (inr (inl (record {
         stop = Budget pivots;

@@ -25,8 +25,8 @@ use Rattle.written_method.specs.Eliminated.{ReducedRow, definition_steps, elimin
 use Rattle.written_method.specs.Expanded.{expanded}
 use Rattle.written_method.specs.Lifted.{lifted_steps, lifted_value, no_right_side, right_side}
 use Rattle.written_method.specs.Multiplied.{defined_steps, scaled_multipliers, scaled_steps}
-use Rattle.exact_solver.specs.Definers.{definer, definers}
-use Rattle.exact_solver.specs.Programs.{carrying_steps, direction_steps, name_left, plan_steps, rows_left, scale_left}
+use Rattle.command_answers.specs.Definers.{definer, definers}
+use Rattle.row_problem.specs.Programs.{carrying_steps, direction_steps, name_left, plan_steps, rows_left, scale_left}
 use Rattle.command_answers.specs.PlacesWithin.{IsVariableOfSets}
 use Rattle.span_command.specs.LimitedPlaces.{PlaceKeeps}
 

@@ -9,8 +9,8 @@ use Rattle.mps_writer.specs.MpsText.{line}
 use Rattle.row_core.specs.declared.Row.{Row}
 use Rattle.row_core.specs.declared.Var.{Var}
 use Rattle.row_core.specs.declared.place.Place.TheVariants.{SumGap}
-use Rattle.exact_solver.specs.declared.solutions.Solution.{Solution}
-use Rattle.exact_solver.specs.declared.solutions.Solution.TheVariants as found
+use Rattle.certified_answers.specs.declared.answers.Certified.{Certified}
+use Rattle.certified_answers.specs.declared.answers.Certified.TheVariants as found
 use Rattle.result_tables.specs.Lines.{amount_line}
 use Rattle.result_tables.specs.Reports.{end_line, infeasible_text, unbounded_text}
 use Rattle.simplex_core.specs.declared.stops.Stop.{Stop}
@@ -19,6 +19,7 @@ use Rattle.command_answers.specs.declared.status.Status.{Status}
 use Rattle.command_answers.specs.declared.status.Status.TheVariants.{Done, Infeasible, Unbounded, Uncertified}
 use Rattle.command_answers.specs.Lines.{uncertified_line}
 use Rattle.solve_command.specs.Solve.{first_attempt, third_attempt}
+use Rattle.command_answers.specs.Definers.{definers}
 use Rattle.span_finder.specs.SpanEnds.{EndsSo, Stops, span_seen}
 use Rattle.span_finder.specs.Slacks.{slack_formed, slack_limit}
 use Rattle.span_finder.specs.Spans.{IsSpan}
@@ -58,7 +59,7 @@ span_text sets cost limit span = span_lines sets cost limit (value_of span.low) 
 -- a span
 pub record IsToldSpan (sets : SetLists) (rows : List Row) (vars : List Var) (cost limit : Rational) (var : Var) (pivots : ℕ) (status : Status) (text : List ℕ) : Type 0 where
   pub span : Span
-  pub ends : EndsSo rows vars limit var pivots (span_seen span)
+  pub ends : EndsSo rows (definers rows) vars limit var pivots (span_seen span)
   pub proved : IsSpan rows vars limit var span
   pub status_is : status ≡ Done
   pub text_is : text ≡ span_text sets cost limit span
@@ -66,7 +67,7 @@ pub record IsToldSpan (sets : SetLists) (rows : List Row) (vars : List Var) (cos
 -- or why there is none
 pub record IsToldStop (sets : SetLists) (rows : List Row) (vars : List Var) (limit : Rational) (var : Var) (pivots : ℕ) (status : Status) (text : List ℕ) : Type 0 where
   pub stop : Stop
-  pub stops : Stops rows vars limit var pivots (Stopped stop)
+  pub stops : Stops rows (definers rows) vars limit var pivots (Stopped stop)
   pub status_is : status ≡ Uncertified stop
   pub line_is : text ≡ limited_line sets stop
 
@@ -85,7 +86,7 @@ TellsNear sets rows vars cost var slack pivots status text =
     ⊎ ((all_fit (slack_formed cost slack) ≡ true) × TellsSpan sets rows vars cost (slack_limit cost slack) var pivots status text)
 
 -- for a solution
-abbrev pub TellsSolution : SetLists → List Row → List Var → Var → ℕ → ℕ → ℕ → ℕ → Solution → Status → List ℕ → Type 0
+abbrev pub TellsSolution : SetLists → List Row → List Var → Var → ℕ → ℕ → ℕ → ℕ → Certified → Status → List ℕ → Type 0
 TellsSolution sets rows vars var slack pivots rounded places (found.Optimal plan multipliers cost bound made) status text = TellsNear sets rows vars (value_of cost) var slack pivots status text
 TellsSolution sets rows vars var slack pivots rounded places (found.Infeasible multipliers made) status text = (status ≡ Infeasible) × (text ≡ infeasible_text made rounded places first_attempt)
 TellsSolution sets rows vars var slack pivots rounded places (found.Unbounded plan direction made) status text = (status ≡ Unbounded) × (text ≡ unbounded_text sets direction made rounded places)
@@ -104,7 +105,7 @@ pub record IsToldNearly (sets : SetLists) (rows : List Row) (vars : List Var) (c
   pub text_is : text ≡ near_text sets cost bound (slack_limit bound slack) span
 
 -- for what it finds
-abbrev pub TellsFound : SetLists → List Row → List Var → Var → ℕ → ℕ → ℕ → ℕ → Solution → Status → List ℕ → Type 0
+abbrev pub TellsFound : SetLists → List Row → List Var → Var → ℕ → ℕ → ℕ → ℕ → Certified → Status → List ℕ → Type 0
 TellsFound sets rows vars var slack gap rounded places (found.Optimal plan multipliers cost bound made) status text = IsToldNearly sets rows vars (value_of cost) (value_of bound) var slack gap status text
 TellsFound sets rows vars var slack gap rounded places (found.Infeasible multipliers made) status text = (status ≡ Infeasible) × (text ≡ infeasible_text made rounded places third_attempt)
 TellsFound sets rows vars var slack gap rounded places (found.Unbounded plan direction made) status text = ⊥

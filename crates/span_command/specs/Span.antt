@@ -14,7 +14,9 @@ use Rattle.row_core.specs.declared.kind_numbers.TheConstants.{NEW_CAPACITY}
 use Rattle.named_equations.specs.Existence.{all_variables}
 use Rattle.simplex_core.specs.declared.stops.Stop.{Stop}
 use Rattle.simplex_core.specs.declared.stops.Stop.TheVariants.{Budget, Width}
-use Rattle.exact_solver.specs.MethodEnds.{HasOptimum, IsPivotDue, IsWide, method_end, plan_cost}
+use Rattle.exact_solver.specs.MethodEnds.{HasOptimum, IsPivotDue, IsWide}
+use Rattle.command_answers.specs.BookMethods.{method_end}
+use Rattle.certified_answers.specs.Worth.{plan_cost}
 use Rattle.command_answers.specs.declared.status.Status.{Status}
 use Rattle.command_answers.specs.declared.status.Status.TheVariants.{Done, Uncertified}
 use Rattle.command_answers.specs.Lines.{uncertified_line}
@@ -26,6 +28,7 @@ use Rattle.command_words.specs.declared.command.SolveMethod.TheVariants.{Exact, 
 use Rattle.solve_command.specs.Solve.{IsFoundInfeasible, IsInfeasible, IsUnbounded, third_attempt}
 use Rattle.solve_command.specs.SolvedPlans.{IsNearOptimum, IsOptimum}
 use Rattle.solve_command.specs.declared.solve.Shown.TheVariants.{Report}
+use Rattle.command_answers.specs.Definers.{definers}
 use Rattle.span_finder.specs.SpanEnds.{EndsSo, IsBounded, IsRising, Stops}
 use Rattle.span_finder.specs.declared.found.SpanFail.TheVariants.{Stopped}
 use Rattle.span_finder.specs.Slacks.{slack_formed, slack_limit}
@@ -71,7 +74,7 @@ pub record IsSpanned (places : ℕ) (d : Data) (rows : List Row) (var : Var) (sl
   pub high : List (Var × Rational)
   pub least : HasLeastCost places d rows pivots cost
   pub fits : all_fit (slack_formed cost slack) ≡ true
-  pub ends : EndsSo rows (all_variables d) (slack_limit cost slack) var pivots (IsBounded low high)
+  pub ends : EndsSo rows (definers rows) (all_variables d) (slack_limit cost slack) var pivots (IsBounded low high)
   pub low_end : IsLowEnd places d (slack_limit cost slack) var low
   pub high_end : IsHighEnd places d (slack_limit cost slack) var high
   pub status_is : status ≡ Done
@@ -85,7 +88,7 @@ pub record IsEndless (places : ℕ) (d : Data) (rows : List Row) (var : Var) (sl
   pub direction : List (Var × Rational)
   pub least : HasLeastCost places d rows pivots cost
   pub fits : all_fit (slack_formed cost slack) ≡ true
-  pub ends : EndsSo rows (all_variables d) (slack_limit cost slack) var pivots (IsRising low high direction)
+  pub ends : EndsSo rows (definers rows) (all_variables d) (slack_limit cost slack) var pivots (IsRising low high direction)
   pub low_end : IsLowEnd places d (slack_limit cost slack) var low
   pub no_high_end : HasNoHighEnd places d (slack_limit cost slack) var high
   pub status_is : status ≡ Done
@@ -97,7 +100,7 @@ pub record HasStoppedAfter (places : ℕ) (d : Data) (rows : List Row) (var : Va
   pub stop : Stop
   pub least : HasLeastCost places d rows pivots cost
   pub fits : all_fit (slack_formed cost slack) ≡ true
-  pub stops : Stops rows (all_variables d) (slack_limit cost slack) var pivots (Stopped stop)
+  pub stops : Stops rows (definers rows) (all_variables d) (slack_limit cost slack) var pivots (Stopped stop)
   pub status_is : status ≡ Uncertified stop
   pub line_is : text ≡ limited_line d.sets stop
 

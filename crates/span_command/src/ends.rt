@@ -3,7 +3,8 @@ ghost use Rattle.std.specs.Prelude.{◌≡◌, IfOk, IfSome, OnOk};
 ghost use Rattle.std.specs.List.{AllByRecursion};
 ghost use Rattle.exact_num.specs.Value.{value_of};
 ghost use Rattle.row_core.specs.declared.Row.{Row};
-ghost use Rattle.exact_solver.specs.MethodEnds.{IsStopOf, method_end};
+ghost use Rattle.exact_solver.specs.MethodEnds.{IsStopOf};
+ghost use Rattle.command_answers.specs.BookMethods.{method_end};
 ghost use Rattle.command_answers.specs.declared.status.Status.{Status};
 ghost use Rattle.command_answers.specs.CheckedPlans.{IsListedBook};
 ghost use Rattle.solve_command.specs.SolveOutcomes.{TellsStop};
@@ -16,9 +17,9 @@ ghost use Rattle.span_command.specs.SpanTexts.{limited_line};
 use crate::places::{push_place, push_trial_stop};
 use crate::texts::{near_text, span_text};
 use crate::wanted::Wanted;
+use certified_answers::NoAnswer;
 use command_answers::{Answer, Status, Stop, TrialStop, push_with_number, stop_at, stop_at_budget};
 use exact_num::Frac;
-use exact_solver::SolveStop;
 use model_sets::Sets;
 use row_book::RowBook;
 use row_core::{Place, Var};
@@ -75,7 +76,7 @@ pub fn answer_stop(
     alloc: Global,
     book: &RowBook,
     sets: &Sets,
-    stop: SolveStop,
+    stop: NoAnswer,
     pivots: u64,
 ) -> Result<Answer, AllocError>
     requires listed { IsListedBook sets.now book.now.rows book.now.vars }
@@ -85,9 +86,10 @@ pub fn answer_stop(
     // The rows and the variables of a book are what the places of the method speak of.
     let _ = book.vars();
     match stop {
-        SolveStop::Budget => stop_at_budget(alloc, pivots, sets),
-        SolveStop::Width(place) => stop_at(alloc, place, sets),
-        SolveStop::Memory => Err(AllocError),
+        NoAnswer::Nothing => unreachable!(),
+        NoAnswer::Budget => stop_at_budget(alloc, pivots, sets),
+        NoAnswer::Width(place) => stop_at(alloc, place, sets),
+        NoAnswer::Memory => Err(AllocError),
     }
 }
 

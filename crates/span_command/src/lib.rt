@@ -6,6 +6,7 @@
 //! places, with the row that limits the cost).
 #![tactic(auto)]
 
+mod book_spans;
 mod ends;
 mod method;
 mod places;

@@ -3,25 +3,29 @@ ghost use Rattle.std.specs.Prelude.{◌≡◌, ℕ, Contains, IfOk};
 ghost use Rattle.exact_num.specs.Value.{value_of};
 ghost use Rattle.model_sets.specs.Data.{Data};
 ghost use Rattle.row_core.specs.declared.kind_numbers.TheConstants.{NEW_CAPACITY};
-ghost use Rattle.exact_solver.specs.Solutions.{IsComplete, IsPlan, IsProved};
+ghost use Rattle.certified_answers.specs.Answers.{IsComplete, IsProved};
+ghost use Rattle.certified_answers.specs.Worth.{IsPlan};
 ghost use Rattle.command_answers.specs.CheckedPlans.{IsBookOf, IsListedBook};
+ghost use Rattle.command_answers.specs.Definers.{definers};
 ghost use Rattle.span_finder.specs.SpanEnds.{Stops};
 ghost use Rattle.span_finder.specs.Spans.{HasNearBest};
 ghost use Rattle.span_command.specs.Outcomes.{IsToldStop, TellsNear, TellsSolution, TellsSpan, wanted_of};
 ghost use Rattle.span_command.specs.Span.{DueForEnd, DueForMethod, DueForRows};
 
+use crate::book_spans::span_of_book;
 use crate::ends::{answer_found, answer_limited, answer_stop};
 use crate::rounding::answer_rounded;
 use crate::wanted::Wanted;
-use command_answers::{Answer, Status, refuse_size, stop_at};
+use certified_answers::Certified;
+use command_answers::{Answer, Status, refuse_size, solve_book, stop_at};
 use command_words::SolveMethod;
 use exact_num::Frac;
-use exact_solver::{Solution, size_of, solve_book};
 use model_sets::Sets;
 use result_tables::{infeasible_report, unbounded_report};
 use row_book::RowBook;
 use row_core::{Place, Plan};
-use span_finder::{SpanFail, find_span, slack_limit};
+use row_problem::size_of;
+use span_finder::{SpanFail, slack_limit};
 use std::alloc::{AllocError, Global};
 
 /// The most inequalities that a linear program may have.
@@ -48,7 +52,7 @@ pub fn answer_book(
     ensures { (d : Data) → sets.now ≡ d.sets → IsBookOf places d book.now.rows book.now.vars
         → IfOk result (λ answer. DueForRows places d book.now.rows wanted.var (wanted_of wanted) rounded answer.status answer.text.items) }
 {
-    let size = size_of(book);
+    let size = size_of(book.rows(), book.vars());
     if size.rows > MOST_ROWS || size.columns > MOST_COLUMNS {
         return refuse_size(alloc, size.rows, size.columns);
     }
@@ -110,7 +114,7 @@ fn answer_solution(
     places: u8,
     wanted: Wanted,
     rounded: u64,
-    solution: &Solution,
+    solution: &Certified,
 ) -> Result<Answer, AllocError>
     requires listed { IsListedBook sets.now book.now.rows book.now.vars }
     requires chosen { wanted.var.kind ≡ NEW_CAPACITY }
@@ -120,12 +124,12 @@ fn answer_solution(
     ensures { IfOk result (λ answer. TellsSolution sets.now book.now.rows book.now.vars wanted.var wanted.slack wanted.pivots rounded places solution.now answer.status answer.text.items) }
 {
     match solution {
-        Solution::Optimal { plan, cost, .. } => answer_near(alloc, book, sets, wanted, plan, *cost),
-        Solution::Infeasible { pivots, .. } => Ok(Answer {
+        Certified::Optimal { plan, cost, .. } => answer_near(alloc, book, sets, wanted, plan, *cost),
+        Certified::Infeasible { pivots, .. } => Ok(Answer {
             status: Status::Infeasible,
             text: infeasible_report(alloc, *pivots, rounded, places, FIRST_ATTEMPT)?,
         }),
-        Solution::Unbounded {
+        Certified::Unbounded {
             direction,
             pivots,
             ..
@@ -172,7 +176,7 @@ fn answer_within(
     requires near { HasNearBest book.now.rows book.now.vars (value_of limit) }
     ensures { IfOk result (λ answer. TellsSpan sets.now book.now.rows book.now.vars (value_of cost) (value_of limit) wanted.var wanted.pivots answer.status answer.text.items) }
 {
-    match find_span(alloc, book, limit, wanted.var, wanted.pivots) {
+    match span_of_book(alloc, book, limit, wanted.var, wanted.pivots) {
         Ok(span) => answer_found(alloc, book, sets, cost, limit, wanted.var, &span),
         Err(fail) => answer_fail(alloc, book, sets, wanted, limit, fail),
     }
@@ -188,7 +192,7 @@ fn answer_fail(
     fail: SpanFail,
 ) -> Result<Answer, AllocError>
     requires listed { IsListedBook sets.now book.now.rows book.now.vars }
-    requires stops { Stops book.now.rows book.now.vars (value_of limit) wanted.var wanted.pivots fail }
+    requires stops { Stops book.now.rows (definers book.now.rows) book.now.vars (value_of limit) wanted.var wanted.pivots fail }
     ensures { IfOk result (λ answer. IsToldStop sets.now book.now.rows book.now.vars (value_of limit) wanted.var wanted.pivots answer.status answer.text.items) }
 {
     // The rows and the variables of a book are what the places of the trials speak of.

@@ -4,20 +4,20 @@ ghost use Rattle.exact_num.specs.Value.{value_of};
 ghost use Rattle.model_sets.specs.Data.{Data};
 ghost use Rattle.row_core.specs.declared.kind_numbers.TheConstants.{NEW_CAPACITY};
 ghost use Rattle.command_answers.specs.CheckedPlans.{IsBookOf, IsListedBook};
-ghost use Rattle.solve_command.specs.Rounding.{IsFoundBy};
+ghost use Rattle.command_answers.specs.BookMethods.{IsFoundBy};
 ghost use Rattle.span_command.specs.Outcomes.{IsToldNearly, TellsFound};
 ghost use Rattle.span_command.specs.Span.{DueForFound};
 
+use crate::book_spans::rounded_span_of_book;
 use crate::ends::answer_near_ends;
 use crate::wanted::Wanted;
-use command_answers::{Answer, Status};
+use certified_answers::Certified;
+use command_answers::{Answer, Status, guess_book};
 use exact_num::Frac;
-use exact_solver::Solution;
 use model_sets::Sets;
 use result_tables::infeasible_report;
 use row_book::RowBook;
-use solve_command::rounded_solution;
-use span_finder::{round_span, slack_limit};
+use span_finder::slack_limit;
 use std::alloc::{AllocError, Global};
 
 /// The number of the attempt that the rounded method is.
@@ -39,7 +39,7 @@ pub fn answer_rounded(
     ensures { (d : Data) → sets.now ≡ d.sets → IsBookOf places d book.now.rows book.now.vars
         → IfOk result (λ found. IfSome found (λ answer. DueForFound places d book.now.rows wanted.var wanted.slack wanted.gap wanted.pivots rounded answer.status answer.text.items)) }
 {
-    match rounded_solution(alloc, book, wanted.gap, wanted.pivots)? {
+    match guess_book(alloc, book, wanted.gap, wanted.pivots)? {
         Some(solution) => answer_solution(alloc, book, sets, places, wanted, rounded, &solution),
         None => Ok(None),
     }
@@ -53,7 +53,7 @@ fn answer_solution(
     places: u8,
     wanted: Wanted,
     rounded: u64,
-    solution: &Solution,
+    solution: &Certified,
 ) -> Result<Option<Answer>, AllocError>
     requires listed { IsListedBook sets.now book.now.rows book.now.vars }
     requires chosen { wanted.var.kind ≡ NEW_CAPACITY }
@@ -63,14 +63,14 @@ fn answer_solution(
         TellsFound sets.now book.now.rows book.now.vars wanted.var wanted.slack wanted.gap rounded places solution.now answer.status answer.text.items)) }
 {
     match solution {
-        Solution::Optimal { cost, bound, .. } => {
+        Certified::Optimal { cost, bound, .. } => {
             answer_near(alloc, book, sets, wanted, *cost, *bound)
         }
-        Solution::Infeasible { pivots, .. } => Ok(Some(Answer {
+        Certified::Infeasible { pivots, .. } => Ok(Some(Answer {
             status: Status::Infeasible,
             text: infeasible_report(alloc, *pivots, rounded, places, THIRD_ATTEMPT)?,
         })),
-        Solution::Unbounded { .. } => Ok(None),
+        Certified::Unbounded { .. } => Ok(None),
     }
 }
 
@@ -92,7 +92,7 @@ fn answer_near(
     let Ok(limit) = slack_limit(bound, wanted.slack) else {
         return Ok(None);
     };
-    match round_span(alloc, book, limit, wanted.var, wanted.gap, wanted.pivots)? {
+    match rounded_span_of_book(alloc, book, limit, wanted.var, wanted.gap, wanted.pivots)? {
         Some(span) => {
             let answer = answer_near_ends(alloc, book, sets, cost, bound, limit, wanted, &span)?;
             Ok(Some(answer))

@@ -3,6 +3,7 @@ use Rattle.std.specs.Prelude.{IfSome, IfNone}
 use Rattle.std.proofs.lemmas.Result.{IfOk-weaker}
 use Rattle.command_answers.proofs.ListedBooks.{vars-named}
 use Rattle.solve_command.proofs.BookPlaces.{define-within}
+use Rattle.command_answers.specs.Definers.{definers}
 use Rattle.conflict_sets.specs.Conflicts.{AdmitsSome, IsConflict}
 use Rattle.conflict_sets.specs.Walks.{IsStopped, Stops, explained}
 use Rattle.explain_command.proofs.ExplainEnds.{due-from_found, due-from_stop}
@@ -14,7 +15,7 @@ answer_stop-requires c =
     let rows = c.args.book.now.rows in
     let vars = c.args.book.now.vars in
     let sets = c.args.sets.now in
-    let end : explained rows vars c.args.pivots ≡ IsStopped c.in-Err-Stopped.stop = subst (Stops (explained rows vars c.args.pivots)) c.in-Err-Stopped.field-0-is c.in-Err-Stopped.ensures.stopped in
+    let end : explained rows (definers rows) vars c.args.pivots ≡ IsStopped c.in-Err-Stopped.stop = subst (Stops (explained rows (definers rows) vars c.args.pivots)) c.in-Err-Stopped.field-0-is c.in-Err-Stopped.ensures.stopped in
     stop-named sets rows vars (define-within sets rows vars c.requires.listed c.requires.program.book) (vars-named sets rows vars c.requires.listed) c.args.pivots c.in-Err-Stopped.stop end
 
 pub returns-in-Ok : goal.returns-in-Ok
@@ -31,7 +32,7 @@ pub returns-in-Err-Stopped : goal.returns-in-Err-Stopped
 returns-in-Err-Stopped c = λ places d same book.
     let rows = c.args.book.now.rows in
     let vars = c.args.book.now.vars in
-    let end : explained rows vars c.args.pivots ≡ IsStopped c.in-Err-Stopped.stop = subst (Stops (explained rows vars c.args.pivots)) c.in-Err-Stopped.field-0-is c.in-Err-Stopped.ensures.stopped in
+    let end : explained rows (definers rows) vars c.args.pivots ≡ IsStopped c.in-Err-Stopped.stop = subst (Stops (explained rows (definers rows) vars c.args.pivots)) c.in-Err-Stopped.field-0-is c.in-Err-Stopped.ensures.stopped in
     IfOk-weaker c.answer_stop.result _ _
     (λ answer told. due-from_stop places d rows vars c.requires.program.book book c.args.pivots c.args.sets.now same answer.status answer.text.items c.requires.fits c.in-Err-Stopped.stop end told.0 told.1)
     c.answer_stop.ensures

@@ -3,7 +3,7 @@ use Rattle.std.specs.Prelude.{Some}
 use Rattle.std.proofs.lemmas.Result.{IfOk-weaker}
 use Rattle.exact_num.specs.Steps.{first_wide}
 use Rattle.written_method.specs.Eliminated.{elimination_steps}
-use Rattle.exact_solver.specs.Definers.{definers}
+use Rattle.command_answers.specs.Definers.{definers}
 use Rattle.variable_elimination.specs.SoFar.{IsFirst}
 use Rattle.command_answers.proofs.ListedBooks.{vars-named}
 use Rattle.solve_command.proofs.BookPlaces.{define-within}

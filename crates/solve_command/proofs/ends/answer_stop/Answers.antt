@@ -1,5 +1,6 @@
 use Rattle.std.proofs.Common.{subst}
-use Rattle.exact_solver.specs.MethodEnds.{IsStopOf, method_end}
+use Rattle.exact_solver.specs.MethodEnds.{IsStopOf}
+use Rattle.command_answers.specs.BookMethods.{method_end}
 use Rattle.solve_command.proofs.BookPlaces.{stop-within}
 use Rattle.solve_command.proofs.ends.answer_stop.Goals as goal
 

@@ -1,7 +1,7 @@
 use Rattle.std.proofs.Common.{◌≡◌, ◌∙◌, Some, ap, sym, subst}
 use Rattle.std.proofs.lemmas.Result.{IfOk-weaker}
 use Rattle.decimal_solver.specs.Answers.{AllOfFound, IsComplete, IsNamed, IsProved, attempt_seen, end_seen}
-use Rattle.decimal_solver.specs.Attempts.{grid_end}
+use Rattle.command_answers.specs.BookMethods.{grid_end}
 use Rattle.solve_command.proofs.SecondEnds.{second-told}
 use Rattle.solve_command.proofs.second.answer_second.Goals as goal
 

@@ -1,6 +1,7 @@
 use Rattle.std.proofs.Common.{◌≡◌, List, ℕ, inl, inr, sym, subst}
 use Rattle.std.proofs.lemmas.Result.{IfOk-weaker}
-use Rattle.exact_solver.specs.MethodEnds.{IsStopOf, end_seen, method_end}
+use Rattle.exact_solver.specs.MethodEnds.{IsStopOf, end_seen}
+use Rattle.command_answers.specs.BookMethods.{method_end}
 use Rattle.command_answers.specs.declared.status.Status.{Status}
 use Rattle.solve_command.specs.SolveOutcomes.{TellsStop}
 use Rattle.solve_command.proofs.SolvedEnds.{due-from_second, due-from_solution, due-from_stop, stop_comes}

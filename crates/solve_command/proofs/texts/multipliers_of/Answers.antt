@@ -1,5 +1,5 @@
 use Rattle.std.proofs.Common.{inl, inr, subst}
-use Rattle.exact_solver.specs.Solutions.{IsNamed}
+use Rattle.certified_answers.specs.Answers.{IsNamed}
 use Rattle.solve_command.proofs.BookPlaces.{multipliers-named}
 use Rattle.solve_command.proofs.texts.multipliers_of.Goals as goal
 

@@ -1,5 +1,5 @@
 use Rattle.std.proofs.Common.{inl, inr, subst}
-use Rattle.exact_solver.specs.Solutions.{IsComplete}
+use Rattle.certified_answers.specs.Answers.{IsComplete}
 use Rattle.solve_command.proofs.BookPlaces.{plan-named}
 use Rattle.solve_command.proofs.texts.plan_of.Goals as goal
 

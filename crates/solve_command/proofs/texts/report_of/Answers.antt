@@ -1,7 +1,7 @@
 use Rattle.std.proofs.Common.{◌∙◌, ap, ap₂, sym, subst}
 use Rattle.std.proofs.lemmas.Result.{IfOk-weaker}
 use Rattle.exact_num.specs.Value.{value_of}
-use Rattle.exact_solver.specs.Solutions.{IsComplete}
+use Rattle.certified_answers.specs.Answers.{IsComplete}
 use Rattle.result_tables.specs.Reports.{report_text}
 use Rattle.solve_command.specs.SolveOutcomes.{report_shown}
 use Rattle.solve_command.proofs.BookPlaces.{plan-named}

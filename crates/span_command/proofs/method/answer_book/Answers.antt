@@ -2,7 +2,7 @@ use Rattle.std.proofs.Common.{◌≡◌, ◌<◌, inl, inr, ap, ap₂, ◌∙◌
 use Rattle.std.specs.Prelude.{◌⊎◌, ◌≤◌}
 use Rattle.std.proofs.lemmas.Result.{IfOk-weaker}
 use Rattle.named_equations.specs.Existence.{all_variables}
-use Rattle.exact_solver.specs.Sizes.{column_count, inequality_count}
+use Rattle.row_problem.specs.Sizes.{column_count, inequality_count}
 use Rattle.command_answers.specs.declared.status.Status.TheVariants.{Refused}
 use Rattle.command_answers.specs.declared.status.Refusal.TheVariants.{TooLarge}
 use Rattle.command_answers.specs.Lines.{too_large_line}

@@ -1,5 +1,5 @@
 use Rattle.std.proofs.Common.{subst}
-use Rattle.exact_solver.specs.Solutions.{IsComplete}
+use Rattle.certified_answers.specs.Answers.{IsComplete}
 use Rattle.solve_command.proofs.BookPlaces.{plan-named}
 use Rattle.span_command.proofs.method.answer_solution.Goals as goal
 

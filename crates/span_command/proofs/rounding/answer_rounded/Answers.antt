@@ -1,7 +1,7 @@
 use Rattle.std.proofs.Common.{IfSome, subst}
 use Rattle.std.proofs.lemmas.Option.{IfSome_then}
 use Rattle.std.proofs.lemmas.Result.{IfOk-weaker}
-use Rattle.solve_command.specs.Rounding.{IsFoundBy}
+use Rattle.command_answers.specs.BookMethods.{IsFoundBy}
 use Rattle.span_command.proofs.FoundEnds.{due-from_found}
 use Rattle.span_command.proofs.rounding.answer_rounded.Goals as goal
 
