@@ -1,8 +1,7 @@
 -- Values and multipliers as whole numbers over common denominators.
 use Rattle.std.proofs.Common.{◌≡◌, ℕ, zero, suc, ◌*◌, ◌<◌, ℤ, pos, ◌*ℤ◌, true, List, [], ◌∷◌, map, refl, sym, ap, ◌∙◌, subst, inl, inr, arith, if◌then◌else◌}
-use Rattle.std.specs.Prelude.{◌<ℤ◌, unsigned_abs, Some, IsTrue}
+use Rattle.std.specs.Prelude.{◌<ℤ◌, unsigned_abs, Some}
 use Rattle.std.specs.Ordering.{is_eq}
-use Rattle.std.specs.declared.cmp.Ordering.{Ordering}
 use Rattle.std.proofs.lemmas.Int.{ints}
 use Rattle.exact_num.specs.Rational.{Rational}
 use Rattle.exact_num.specs.Value.{value_of}
@@ -15,7 +14,7 @@ use Rattle.row_core.specs.Evaluated.{AreOver}
 use Rattle.row_core.specs.LookUps.{value_at}
 use Rattle.row_core.specs.Numbers.{ascends, keys_of}
 use Rattle.row_core.specs.Order.{row_name_cmp, var_cmp}
-use Rattle.row_core.specs.Plans.{or_zero, value_in, valued}
+use Rattle.row_core.specs.Plans.{or_zero, value_in}
 use Rattle.row_core.specs.Values.{IsOver}
 use Rattle.row_core.proofs.AscendingLaws.{ascends-tail}
 use Rattle.row_core.proofs.SumLaws.{IsOver-multiplied, IsOver-own}
@@ -23,7 +22,7 @@ use Rattle.row_core.proofs.Members.{Has}
 use Rattle.written_method.specs.Certificates.{AreOverFrom, ValuesAreOver}
 use Rattle.certificate_checker.specs.Certificates.{AreMultipliersOver}
 use Rattle.variable_elimination.proofs.VariableLaws.{itself}
-use Rattle.exact_solver.proofs.SameLists.{first-before}
+use Rattle.row_problem.proofs.SameLists.{first-before}
 
 -- ---- a list of fractions
 
@@ -80,15 +79,6 @@ multipliers-more k s y multipliers h over = (
   where
     more : (a b : ℕ) → 0 < a → 0 < b → 0 < a * b
     more a b h k = let both = *ℤ_pos (pos a) (pos b) (omega (arith, ints)) (omega (arith, ints)) in omega (arith, ints, both)
-
--- ---- lists of fractions by key
-
-keys-valued : {K : Type 0} (es : List (K × Frac)) → keys_of (map valued es) ≡ keys_of es
-keys-valued [] = refl
-keys-valued {K} (e ∷ es) = ap {B = List K} (λ ks. e.0 ∷ ks) (keys-valued es)
-
-pub ascends-valued : {K : Type 0} (cmp : K → K → Ordering) (es : List (K × Frac)) (values : List (K × Rational)) → map valued es ≡ values → IsTrue (ascends cmp (keys_of es)) → IsTrue (ascends cmp (keys_of values))
-ascends-valued cmp es values e h = subst (λ vs. IsTrue (ascends cmp (keys_of vs))) e (subst (λ ks. IsTrue (ascends cmp ks)) (sym (keys-valued es)) h)
 
 -- ---- values by variable
 

@@ -6,3 +6,4 @@ pub mod CompletePlans
 pub mod CostLaws
 pub mod CarriedWords
 pub mod AimLaws
+mod SizeExamples
