@@ -27,37 +27,16 @@ use Rattle.certificate_checker.specs.Costs.{cost_of}
 use Rattle.certificate_checker.specs.Denominators.{AreOverSome}
 use Rattle.variable_elimination.proofs.LiftLaws.{row_sum-avoids, row_sum-times}
 use Rattle.variable_elimination.proofs.LiftedLaws.{direction_met, lifted-others, lifted_meet, plan_met}
-use Rattle.simplex_core.specs.Outcomes.{BoundCost, DescendAlong, MeetAll, RefuteAll}
+use Rattle.simplex_core.specs.Outcomes.{BoundCost, DescendAlong, MeetAll}
 use Rattle.certified_answers.specs.Costs.{weight_of}
 use Rattle.certified_answers.specs.declared.costs.Cost.{Cost}
-use Rattle.certified_answers.specs.Found.{IsFoundDescentFor, IsFoundOptimumFor, IsFoundPlan, IsFoundRefutation}
-use Rattle.row_problem.specs.CarriedBack.{BecomesDirection, BecomesPlan, BecomesProof, BecomesRefutation}
+use Rattle.certified_answers.specs.Found.{IsFoundDescentFor, IsFoundOptimumFor}
+use Rattle.row_problem.specs.CarriedBack.{BecomesDirection, BecomesPlan, BecomesProof}
 use Rattle.row_problem.specs.Programs.{carried_direction, carried_plan}
 use Rattle.row_problem.specs.ProgramsOf.{IsProgramOf}
 use Rattle.row_problem.proofs.CostLaws.{IsCostRow, cost-row}
-use Rattle.exact_solver.proofs.OverLaws.{IsOverSome, multipliers-more, over-multiplied, values-listed}
-
-pub positive : (n : ℕ) → 0 < n → pos 0 <ℤ pos n
-positive n h = omega (arith, ints, h)
-
--- ---- common denominators
-
--- multipliers of rows and a list of fractions, over one number
-record AreOverOne (multipliers : List (RowName × Rational)) (numbers : List Rational) : Type 0 where
-  over : ℕ
-  named : RowName → ℤ
-  number : ℕ → ℤ
-  are : AreMultipliersOver over named multipliers
-  from : AreOverFrom (pos over) number 0 numbers
-
-over-one : (multipliers : List (RowName × Rational)) (numbers : List Rational) → AreOverSome row_name_cmp multipliers → IsOverSome numbers → AreOverOne multipliers numbers
-over-one multipliers numbers m o = record {
-  over = o.over * m.over;
-  named = λ name. pos o.over *ℤ m.number name;
-  number = λ j. pos m.over *ℤ o.number j;
-  are = multipliers-more o.over m.over m.number multipliers o.positive (m.positive, m.each);
-  from = subst (λ t. AreOverFrom t (λ j. pos m.over *ℤ o.number j) 0 numbers) (*ℤ_comm (pos m.over) (pos o.over)) (over-multiplied (pos m.over) (pos o.over) o.number 0 numbers o.each);
-}
+use Rattle.row_problem.proofs.FoundWords.{found-plan, over-one, positive}
+use Rattle.row_problem.proofs.OverLaws.{IsOverSome, values-listed}
 
 -- ---- arithmetic
 
@@ -119,17 +98,6 @@ module _ (rows : List Row) (defs : List (Option Var)) (vars : List Var) (cost : 
   row : IsCostRow (weight_of cost) rows defs vars reduced
   row = cost-row rows defs vars cost reduced program
 
-  abbrev pub found-plan : (values plan : List (Var × Rational)) → keys_of values ≡ reduced.columns.items → ascends var_cmp (keys_of values) ≡ true → AreOverSome var_cmp values → AreOverSome var_cmp plan → MeetAll (program_of reduced) values → BecomesPlan rows vars reduced values plan
-      → IsFoundPlan rows vars plan
-  found-plan values plan keyed up some made meet becomes = record {
-    over = made.over;
-    number = made.number;
-    are = (made.positive, made.each);
-    meets =
-        becomes some.over made.over some.number made.number keyed (some.positive, some.each) (made.positive, made.each)
-        (meet (pos some.over) some.number (positive some.over some.positive) (values-listed values (pos some.over) some.number up some.each));
-  }
-
   -- the entries of the row of the cost have the same sum of the values and of what is made of them, but for the number over which they are written
   cost-kept : (values made : List (Var × Rational)) (q p : ℕ) (x z : Var → ℤ) → ((v : Var) → is_among (defined ds) v ≡ false → value_in var_cmp made v ≡ value_in var_cmp values v)
       → AreOver (pos q) x (value_in var_cmp values) → AreOver (pos p) z (value_in var_cmp made) → row_sum z reduced.cost.items *ℤ pos q ≡ row_sum x reduced.cost.items *ℤ pos p
@@ -155,7 +123,7 @@ module _ (rows : List Row) (defs : List (Option Var)) (vars : List Var) (cost : 
       let p = positive made.over made.positive in
       let met = plan_met ds (pos made.over) made.number (lifted_meet right_side ds values (pos made.over) made.number p triangular made.each) in
       record {
-        plan_found = found-plan values (lifted right_side ds values) keyed up some made meet becomes;
+        plan_found = found-plan rows vars reduced values (lifted right_side ds values) keyed up some made meet becomes;
         bound_found = record { over = one.over; number = one.named; are = one.are; proves = proof.proves both.0 };
         closed =
             closed-by reduced.cost_own (cost_of (weight_of cost) vars made.number) (row_sum made.number reduced.cost.items) reduced.cost_rhs (pos made.over) (row_sum some.number reduced.cost.items) (pos some.over)
@@ -163,17 +131,6 @@ module _ (rows : List Row) (defs : List (Option Var)) (vars : List Var) (cost : 
             (row.says (pos made.over) made.number met)
             (cost-kept values (lifted right_side ds values) some.over made.over some.number made.number (lifted-others right_side ds values) some.each made.each)
             both.1 proof.bound;
-      }
-
-  pub found-refutation : (lambda : List Frac) (multipliers : List (RowName × Rational)) → AreOverSome row_name_cmp multipliers → IsOverSome (map value_of lambda) → RefuteAll (program_of reduced) (map value_of lambda) → BecomesRefutation rows vars reduced lambda multipliers
-      → IsFoundRefutation rows vars multipliers
-  found-refutation lambda multipliers some_multipliers some_lambda refute becomes =
-      let one = over-one multipliers (map value_of lambda) some_multipliers some_lambda in
-      record {
-        over = one.over;
-        number = one.named;
-        are = one.are;
-        refutes = becomes one.over one.named one.number one.are one.from (refute (pos one.over) one.number (positive one.over one.are.0) one.from);
       }
 
   pub found-descent : (direction : List (Var × Rational)) → keys_of direction ≡ reduced.columns.items → ascends var_cmp (keys_of direction) ≡ true → AreOverSome var_cmp direction → AreOverSome var_cmp (carried_direction rows defs direction)

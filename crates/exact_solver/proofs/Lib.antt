@@ -1,4 +1,3 @@
-pub mod OverLaws
 pub mod Closed
 pub mod StepEnds
 pub mod SolvedLaws

@@ -7,3 +7,6 @@ pub mod CostLaws
 pub mod CarriedWords
 pub mod AimLaws
 mod SizeExamples
+pub mod OverLaws
+pub mod SolvedLaws
+pub mod FoundWords

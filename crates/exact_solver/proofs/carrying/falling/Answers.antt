@@ -14,7 +14,8 @@ use Rattle.row_problem.specs.CarriedBack.{BecomesDirection}
 use Rattle.row_problem.specs.Programs.{carried_direction, carried_plan, direction_steps, plan_steps}
 use Rattle.row_problem.proofs.CompletePlans.{direction-complete, plan-complete}
 use Rattle.exact_solver.specs.MethodEnds.{HasNoBound, IsEndOf, descent_checks, unless_wide}
-use Rattle.exact_solver.proofs.FoundLaws.{found-descent, found-plan}
+use Rattle.row_problem.proofs.FoundWords.{found-plan}
+use Rattle.exact_solver.proofs.FoundLaws.{found-descent}
 use Rattle.exact_solver.proofs.StepEnds.{of-part, passes-first, stops-after, stops-first}
 use Rattle.exact_solver.proofs.carrying.falling.Goals as goal
 
@@ -44,7 +45,7 @@ returns-in_err-along-clause-end c =
 pub checked_descent-requires-clause-plan : goal.checked_descent-requires-clause-plan
 checked_descent-requires-clause-plan c =
     let p = c.args.problem.now in
-    found-plan p.rows.now p.defs.now p.vars.now p.cost p.reduced.now c.requires.posed c.args.values.now c.in_ok-plan.plan c.requires.ended.0.0 c.plan_laws.ensures.ascending c.plan_laws.ensures.some c.plan_laws-3.ensures.some
+    found-plan p.rows.now p.vars.now p.reduced.now c.args.values.now c.in_ok-plan.plan c.requires.ended.0.0 c.plan_laws.ensures.ascending c.plan_laws.ensures.some c.plan_laws-3.ensures.some
     c.requires.ended.1.0 c.in_ok-plan.ensures.worth
 
 pub checked_descent-requires-clause-direction : goal.checked_descent-requires-clause-direction

@@ -10,7 +10,7 @@ use Rattle.certified_answers.specs.Refusals.{stop_of}
 use Rattle.row_problem.specs.Programs.{carried_plan, plan_steps}
 use Rattle.row_problem.proofs.CompletePlans.{plan-complete}
 use Rattle.exact_solver.specs.MethodEnds.{HasOptimum, IsEndOf, plan_checks, unless_wide}
-use Rattle.exact_solver.proofs.FoundLaws.{found-plan}
+use Rattle.row_problem.proofs.FoundWords.{found-plan}
 use Rattle.exact_solver.proofs.StepEnds.{of-part, passes-first, stops-first}
 use Rattle.exact_solver.proofs.carrying.planned.Goals as goal
 
@@ -26,7 +26,7 @@ returns-in_err-plan-clause-end c =
 pub checked_plan-requires-clause-found : goal.checked_plan-requires-clause-found
 checked_plan-requires-clause-found c =
     let p = c.args.problem.now in
-    found-plan p.rows.now p.defs.now p.vars.now p.cost p.reduced.now c.requires.posed c.args.values.now c.in_ok-plan.plan c.requires.keyed c.plan_laws.ensures.ascending c.plan_laws.ensures.some c.plan_laws-2.ensures.some c.requires.meet
+    found-plan p.rows.now p.vars.now p.reduced.now c.args.values.now c.in_ok-plan.plan c.requires.keyed c.plan_laws.ensures.ascending c.plan_laws.ensures.some c.plan_laws-2.ensures.some c.requires.meet
     c.in_ok-plan.ensures.worth
 
 pub checked_plan-requires-clause-complete : goal.checked_plan-requires-clause-complete

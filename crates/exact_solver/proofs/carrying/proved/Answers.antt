@@ -24,7 +24,7 @@ use Rattle.row_problem.specs.Programs.{carried_multipliers, carried_plan, carryi
 use Rattle.row_problem.proofs.CompletePlans.{multipliers-named, plan-complete}
 use Rattle.exact_solver.specs.MethodEnds.{HasOptimum, IsEndOf, optimum_checks, unless_wide}
 use Rattle.exact_solver.proofs.FoundLaws.{found-optimum}
-use Rattle.exact_solver.proofs.OverLaws.{some-over}
+use Rattle.row_problem.proofs.OverLaws.{some-over}
 use Rattle.exact_solver.proofs.StepEnds.{of-part, passes-first, stops-after, stops-first}
 use Rattle.exact_solver.proofs.carrying.proved.Goals as goal
 

@@ -17,8 +17,8 @@ use Rattle.certified_answers.specs.Refusals.{stop_of}
 use Rattle.row_problem.specs.Programs.{carried_multipliers, carrying_steps}
 use Rattle.row_problem.proofs.CompletePlans.{multipliers-named}
 use Rattle.exact_solver.specs.MethodEnds.{HasNoPlan, IsEndOf, refutation_checks, unless_wide}
-use Rattle.exact_solver.proofs.FoundLaws.{found-refutation}
-use Rattle.exact_solver.proofs.OverLaws.{some-over}
+use Rattle.row_problem.proofs.FoundWords.{found-refutation}
+use Rattle.row_problem.proofs.OverLaws.{some-over}
 use Rattle.exact_solver.proofs.StepEnds.{of-part, passes-first, stops-first}
 use Rattle.exact_solver.proofs.carrying.refutation.Goals as goal
 
@@ -39,7 +39,7 @@ pub checked_refutation-requires-clause-found : goal.checked_refutation-requires-
 checked_refutation-requires-clause-found c =
     let p = c.args.problem.now in
     let fs = c.entries.result.now in
-    found-refutation p.rows.now p.defs.now p.vars.now p.cost p.reduced.now c.requires.posed fs c.in_ok-multipliers.multipliers c.multiplier_laws.ensures.some (some-over fs)
+    found-refutation p.rows.now p.vars.now p.reduced.now fs c.in_ok-multipliers.multipliers c.multiplier_laws.ensures.some (some-over fs)
     (subst (λ (ls : List Rational). RefuteAll (program_of p.reduced.now) ls) (sym c.entries.ensures) c.requires.ended.1) (c.in_ok-multipliers.ensures.refutes refl)
 
 pub checked_refutation-requires-clause-named : goal.checked_refutation-requires-clause-named
