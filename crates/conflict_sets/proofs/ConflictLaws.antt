@@ -1,6 +1,6 @@
 -- Where every inequality of the list was tried, what is left of it is a conflict.
 use Rattle.std.proofs.Common.{◌≡◌, ◌≢◌, ℕ, ℤ, pos, ◌*ℤ◌, Bool, true, false, not, ◌||◌, ◌&&◌, List, [], ◌∷◌, inl, inr, map, refl, sym, ap, ap₂, ◌∙◌, subst, append-nil, arith}
-use Rattle.std.specs.Prelude.{Contains, unsigned_abs}
+use Rattle.std.specs.Prelude.{Contains, Option, unsigned_abs}
 use Rattle.std.proofs.lemmas.Bool.{eqb-true}
 use Rattle.std.proofs.lemmas.Int.{ints}
 use Rattle.std.specs.Ordering.{is_eq}
@@ -17,12 +17,12 @@ use Rattle.row_core.specs.Order.{row_name_cmp}
 use Rattle.row_core.specs.Plans.{value_in, valued}
 use Rattle.row_core.specs.Values.{IsOver}
 use Rattle.row_core.proofs.AscendingLaws.{both_passed}
-use Rattle.row_core.proofs.Members.{Contains-from_Has, Has, Has-from_Contains, filter_parts}
-use Rattle.row_book.specs.Kept.{IsBook}
+use Rattle.row_core.proofs.Members.{Contains-from_Has, Has, Has-filter, Has-from_Contains, Has-map, filter_parts, map_parts}
+use Rattle.row_problem.specs.Problems.{IsProblem}
 use Rattle.certificate_checker.specs.Certificates.{AdmitsNone, AreMultipliersOver, Refutes}
 use Rattle.certificate_checker.specs.Sums.{HasVariablesOf}
 use Rattle.certificate_checker.proofs.DualityLaws.{Refutes-none}
-use Rattle.exact_solver.specs.Sizes.{is_unequal}
+use Rattle.row_problem.specs.Sizes.{is_unequal}
 use Rattle.conflict_sets.specs.Conflicts.{AreNeeded, IsConflict, IsWholePlan, inequalities, is_member, is_other_member}
 use Rattle.conflict_sets.specs.Searches.{IsSearched, names_known, needed_name}
 use Rattle.conflict_sets.specs.Pieces.{is_taken}
@@ -30,7 +30,7 @@ use Rattle.conflict_sets.specs.Trials.{rows_with}
 use Rattle.conflict_sets.specs.Walks.{Needed, is_listed, is_other, member_of, plan_of, still_needed}
 use Rattle.conflict_sets.specs.declared.conflict.Conflict.{Conflict}
 use Rattle.conflict_sets.proofs.PartLaws.{fewer-met, part-refuted, part-variables}
-use Rattle.conflict_sets.proofs.RowLists.{filter-ascends, filter-has, filter-names, inequality-named, itself, map-has, mapped-has, same-name}
+use Rattle.conflict_sets.proofs.RowLists.{filter-ascends, filter-names, inequality-named, itself, same-name}
 
 -- ---- members
 
@@ -116,7 +116,7 @@ zero-over m u s y h over =
 
 -- ---- the conflict
 
-module _ (rows : List Row) (vars : List Var) (m : List (RowName × Rational)) (needed : List Needed) (book : IsBook rows vars) (s : IsSearched rows vars m needed []) (conflict : Conflict)
+module _ (rows : List Row) (defs : List (Option Var)) (vars : List Var) (m : List (RowName × Rational)) (needed : List Needed) (problem : IsProblem rows defs vars) (s : IsSearched rows vars m needed []) (conflict : Conflict)
     (e : map valued conflict.members.items ≡ map (member_of m) (still_needed m needed)) (f : conflict.plans.items ≡ map plan_of (still_needed m needed)) where
   abbrev still : List Needed
   still = still_needed m needed
@@ -139,14 +139,14 @@ module _ (rows : List Row) (vars : List Var) (m : List (RowName × Rational)) (n
   -- an inequality on the list is a member
   listed-member : (u : RowName) → Has (inequalities rows) u → is_listed m u ≡ true → Has names u
   listed-member u there is =
-      let one = mapped-has needed_name needed u (subst (λ (ns : List RowName). Has ns u) known-are (Has-from_Contains (names_known needed []) u (s.listed u (Contains-from_Has (inequalities rows) u there) is))) in
+      let one = map_parts needed_name needed u (subst (λ (ns : List RowName). Has ns u) known-are (Has-from_Contains (names_known needed []) u (s.listed u (Contains-from_Has (inequalities rows) u there) is))) in
       let listed : on_list one.0 ≡ true = ap (is_listed m) one.2 ∙ is in
-      subst (λ (ns : List RowName). Has ns u) (sym names-are) (subst (Has (map needed_name still)) one.2 (map-has needed_name still one.0 (filter-has on_list needed one.0 one.1 listed)))
+      subst (λ (ns : List RowName). Has ns u) (sym names-are) (subst (Has (map needed_name still)) one.2 (Has-map needed_name still one.0 (Has-filter on_list needed one.0 one.1 listed)))
 
   -- and a member is on it
   member-listed : (u : RowName) → Has names u → is_listed m u ≡ true
   member-listed u h =
-      let one = mapped-has needed_name still u (subst (λ (ns : List RowName). Has ns u) names-are h) in
+      let one = map_parts needed_name still u (subst (λ (ns : List RowName). Has ns u) names-are h) in
       ap (is_listed m) (sym one.2) ∙ (filter_parts on_list needed one.0 one.1).1
 
   member-is : (member : RowName × Frac) → Contains conflict.members.items member → (one : Needed) × Has still one × (member_of m one ≡ valued member)
@@ -186,12 +186,12 @@ module _ (rows : List Row) (vars : List Var) (m : List (RowName × Rational)) (n
   refutes n y over = part-refuted rows vars taken n y (nothing-else n y over) (s.refutation.refutes n y over)
 
   variables-there : HasVariablesOf (rows_with (is_member names) rows) vars
-  variables-there = part-variables taken rows vars (λ v h. (book.variables.each v).1 h)
+  variables-there = part-variables taken rows vars problem.listed
 
   none-left : AdmitsNone (rows_with (is_member names) rows) vars
   none-left q x =
       let some = s.refutation.some in
-      Refutes-none (rows_with (is_member names) rows) vars some.over some.number q x book.variables.ascending variables-there (refutes some.over some.number (some.positive, some.each))
+      Refutes-none (rows_with (is_member names) rows) vars some.over some.number q x problem.ascending variables-there (refutes some.over some.number (some.positive, some.each))
 
   needed-plan : (one : Needed) → Has still one → IsWholePlan (rows_with (is_other_member names one.0) rows) vars one.1
   needed-plan one h =

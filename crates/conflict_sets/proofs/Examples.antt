@@ -1,6 +1,6 @@
 -- The definitions, computed: the list that multipliers make, what is left of it, and its ends.
 use Rattle.std.proofs.Common.{◌≡◌, ◌≤◌, ℕ, pos, negsuc, Bool, true, false, List, [], ◌∷◌, refl, arith, subst}
-use Rattle.std.specs.Prelude.{◌<ℤ◌}
+use Rattle.std.specs.Prelude.{◌<ℤ◌, Option}
 use Rattle.std.proofs.lemmas.Int.{ints}
 use Rattle.exact_num.specs.Rational.{Rational, whole}
 use Rattle.exact_num.specs.declared.fraction.Frac.{Frac}
@@ -13,7 +13,7 @@ use Rattle.row_core.specs.declared.equation_numbers.TheConstants.{CAA3, CAA4, EB
 use Rattle.row_core.specs.declared.place.Place.TheVariants.{CostRow}
 use Rattle.simplex_core.specs.declared.stops.Stop.TheVariants.{Budget, Trial}
 use Rattle.simplex_core.specs.declared.stops.TrialStop.TheVariants as trials
-use Rattle.exact_solver.specs.declared.solutions.SolveStop.TheVariants as stops
+use Rattle.certified_answers.specs.declared.answers.NoAnswer.TheVariants as stops
 use Rattle.conflict_sets.specs.declared.conflict.ExplainFail.TheVariants.{Stopped}
 use Rattle.conflict_sets.specs.Conflicts.{AreRefuted, is_member, is_other_member}
 use Rattle.conflict_sets.specs.Pieces.{is_outside}
@@ -117,6 +117,10 @@ told = refl
 not_told : ¬ (Stops (IsStopped (Trial 2 (trials.Width CostRow))) (Stopped (Trial 1 (trials.Width CostRow))))
 not_told h = cc h
 
+-- no trial ends with nothing
+never_nothing : ¬ (StopsTrial IsPivotDue stops.Nothing)
+never_nothing h = h
+
 -- a plan stops nothing
 no_stop : ¬ (StopsTrial (HasPlan []) stops.Budget)
 no_stop h = cc h
@@ -135,8 +139,8 @@ plan_is_no_stop : ¬ (EndsSo (HasPlan []) 7 (trials.Width CostRow))
 plan_is_no_stop h = cc h
 
 -- later trials are counted from 1
-none_is_numbered_0 : (rows : List Row) (vars : List Var) → ¬ (IsStopOfSome rows vars 7 (Trial 0 (trials.Budget 7)))
-none_is_numbered_0 rows vars h = let at_least_1 : 1 ≤ 0 = h.0 in omega arith
+none_is_numbered_0 : (rows : List Row) (defs : List (Option Var)) (vars : List Var) → ¬ (IsStopOfSome rows defs vars 7 (Trial 0 (trials.Budget 7)))
+none_is_numbered_0 rows defs vars h = let at_least_1 : 1 ≤ 0 = h.0 in omega arith
 
 -- ---- what refutes
 

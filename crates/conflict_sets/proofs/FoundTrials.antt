@@ -16,36 +16,27 @@ use Rattle.written_method.specs.Certificates.{AreOverFrom}
 use Rattle.written_method.specs.Programs.{program_of}
 use Rattle.certificate_checker.specs.Certificates.{AreMultipliersOver}
 use Rattle.certificate_checker.specs.Denominators.{AreOverSome}
-use Rattle.simplex_core.specs.Outcomes.{MeetAll, RefuteAll}
-use Rattle.std.proofs.lemmas.List.{length-map}
-use Rattle.row_core.proofs.Members.{Contains-from_Has, Has, Has-from_Contains}
-use Rattle.row_core.specs.RowLists.{entry_variables, names_of}
-use Rattle.written_method.specs.Definitions.{Definition, defined, definitions_of, others_of, rows_of}
+use Rattle.simplex_core.specs.declared.ends.Halt.{Halt}
+use Rattle.simplex_core.specs.Outcomes.{IsHalt, MeetAll, RefuteAll}
+use Rattle.written_method.specs.Solved.{Outcome, solved}
+use Rattle.row_core.specs.RowLists.{names_of}
+use Rattle.written_method.specs.Definitions.{Definition, defined, definitions_of}
 use Rattle.written_method.specs.Lifted.{lifted, right_side}
 use Rattle.variable_elimination.specs.Certified.{CarriesSum}
-use Rattle.variable_elimination.specs.Columns.{AreColumns}
-use Rattle.variable_elimination.specs.Left.{AvoidAll}
-use Rattle.variable_elimination.specs.ReducedRows.{AreReductions, shape_of}
 use Rattle.variable_elimination.proofs.LiftedLaws.{lifted-others, plan_right}
-use Rattle.certificate_checker.specs.Costs.{model_cost}
-use Rattle.certificate_checker.specs.PlanChecks.{plan_conditions}
-use Rattle.certificate_checker.specs.Plans.{MeetsAll}
-use Rattle.exact_solver.specs.BookPrograms.{IsProgramOf}
-use Rattle.exact_solver.specs.Definers.{definer, definers}
-use Rattle.exact_solver.specs.Programs.{carried_plan, definitions_in}
-use Rattle.exact_solver.specs.declared.books.BookProgram.{BookProgram}
-use Rattle.exact_solver.proofs.BookLaws.{book_known, book_signs, book_triangular}
-use Rattle.exact_solver.proofs.CarriedWords.{becomes_plan, becomes_refutation}
-use Rattle.conflict_sets.specs.Pieces.{IsTriedOf, tests_of}
+use Rattle.row_problem.specs.Programs.{carried_plan}
+use Rattle.row_problem.specs.ProgramsOf.{IsPosedProblem}
+use Rattle.row_problem.specs.declared.problem.Problem.{Problem}
+use Rattle.row_problem.proofs.CarriedWords.{becomes_plan, becomes_refutation}
+use Rattle.conflict_sets.specs.Pieces.{IsTriedOf}
 use Rattle.written_method.specs.Multiplied.{multiplier_steps, named_multipliers}
-use Rattle.exact_solver.specs.Programs.{name_left, scale_left}
-use Rattle.conflict_sets.specs.Trials.{rows_tried, rows_with, tried_multipliers, tried_steps}
+use Rattle.conflict_sets.specs.Trials.{StopsTrial, carried_trial, rows_with, stop_at, trial_end, tried_multipliers, tried_steps}
 use Rattle.conflict_sets.proofs.PlannedLaws.{carries-tried}
-use Rattle.conflict_sets.proofs.ShapeLaws.{same-conditions, same-meets}
-use Rattle.conflict_sets.proofs.TriedLaws.{avoid-selected, names-tried, scales-tried}
-use Rattle.exact_solver.specs.CarriedBack.{BecomesPlan, BecomesRefutation}
-use Rattle.exact_solver.specs.Found.{IsFoundPlan, IsFoundRefutation}
-use Rattle.exact_solver.proofs.OverLaws.{IsOverSome, multipliers-more, over-multiplied, values-listed}
+use Rattle.conflict_sets.proofs.TriedLaws.{names-tried, part-tried, program-tried, scales-tried}
+use Rattle.conflict_sets.proofs.TrialEnds.{trial-ends, trial-halts}
+use Rattle.row_problem.specs.CarriedBack.{BecomesPlan, BecomesRefutation}
+use Rattle.certified_answers.specs.Found.{IsFoundPlan, IsFoundRefutation}
+use Rattle.row_problem.proofs.OverLaws.{IsOverSome, multipliers-more, over-multiplied, values-listed}
 
 positive : (n : ℕ) → 0 < n → pos 0 <ℤ pos n
 positive n h = omega (arith, ints, h)
@@ -76,69 +67,52 @@ found-refutation rows vars reduced lambda multipliers m o refute becomes =
       refutes = becomes over named number are from (refute (pos over) number (positive over are.0) from);
     }
 
--- ---- a trial of a book
+-- ---- a trial
 
-module _ (listed : RowName → Bool) (rows : List Row) (vars : List Var) (program : BookProgram) (of : IsProgramOf rows vars program) (made : Reduced) (tried : IsTriedOf listed program.reduced made) where
+module _ (listed : RowName → Bool) (problem : Problem) (of : IsPosedProblem problem) (made : Reduced) (tried : IsTriedOf listed problem.reduced.now made) where
+  abbrev rows : List Row
+  rows = problem.rows.now
+
+  abbrev defs : List (Option Var)
+  defs = problem.defs.now
+
+  abbrev vars : List Var
+  vars = problem.vars.now
+
   abbrev ds : List Definition
-  ds = definitions_in rows
+  ds = definitions_of rows defs
 
   abbrev whole : Reduced
-  whole = program.reduced
+  whole = problem.reduced.now
 
-  reductions : AreReductions (rows_of ds) (others_of rows (definers rows)) whole.rows.items whole.scales.items
-  reductions = subst (λ defs. AreReductions (rows_of (definitions_of rows defs)) (others_of rows defs) whole.rows.items whole.scales.items) of.defs of.reductions
-
-  avoid : AvoidAll (defined ds) made.rows.items
-  avoid =
-      avoid-selected (defined ds) (tests_of listed whole.rows.items) whole.rows.items made.rows.items tried.rows
-      (subst (λ defs. AvoidAll (defined (definitions_of rows defs)) whole.rows.items) of.defs of.whole.part.without)
-
-  pub trial-plan : (values plan : List (Var × Rational)) → plan ≡ carried_plan rows values → keys_of values ≡ made.columns.items → ascends var_cmp (keys_of values) ≡ true → AreOverSome var_cmp values → AreOverSome var_cmp plan
+  pub trial-plan : (values plan : List (Var × Rational)) → plan ≡ carried_plan rows defs values → keys_of values ≡ made.columns.items → ascends var_cmp (keys_of values) ≡ true → AreOverSome var_cmp values → AreOverSome var_cmp plan
       → MeetAll (program_of made) values → IsFoundPlan (rows_with listed rows) vars plan
   unfolding carried_plan
   trial-plan values plan is keyed up some some_made meet =
       let made_plan : List (Var × Rational) = lifted right_side ds values in
-      let carries = carries-tried listed whole.columns.items rows (definers rows) values whole.rows.items whole.scales.items made.rows.items (length-map rows definer) (book_triangular rows vars of.book) reductions of.posed.rows tried.rows avoid in
+      let carries = carries-tried listed whole.columns.items rows defs values whole.rows.items whole.scales.items made.rows.items of.problem.same of.problem.triangular of.reductions of.posed.rows tried.rows (part-tried listed problem of made tried).without in
       let becomes : BecomesPlan (rows_with listed rows) vars made values made_plan =
-      becomes_plan (rows_with listed rows) vars (defined ds) made values made_plan (lifted-others right_side ds values) (plan_right ds values (book_triangular rows vars of.book) (book_signs rows vars of.book)) carries in
+      becomes_plan (rows_with listed rows) vars (defined ds) made values made_plan (lifted-others right_side ds values) (plan_right ds values of.problem.triangular of.problem.signs) carries in
       subst (λ (p : List (Var × Rational)). IsFoundPlan (rows_with listed rows) vars p) (sym is)
       (found-plan (rows_with listed rows) vars made values made_plan keyed up some (subst (λ (p : List (Var × Rational)). AreOverSome var_cmp p) is some_made) meet becomes)
 
   pub trial-refutation : (lambda : List Frac) (multipliers : List (RowName × Rational)) → CarriesSum rows (defined ds) made lambda multipliers → AreOverSome row_name_cmp multipliers → IsOverSome (map value_of lambda)
       → RefuteAll (program_of made) (map value_of lambda) → IsFoundRefutation rows vars multipliers
   trial-refutation lambda multipliers carries m o refute =
-      let columns : AreColumns rows made.columns.items = subst (λ (cs : List Var). AreColumns rows cs) (sym tried.columns) of.columns in
-      let there = λ (v : Var) (h : Has vars v). Has-from_Contains (entry_variables rows) v ((of.book.variables.each v).0 (Contains-from_Has vars v h)) in
-      found-refutation rows vars made lambda multipliers m o refute (becomes_refutation rows vars (defined ds) made (book_known rows vars of.book) columns there lambda multipliers carries)
+      found-refutation rows vars made lambda multipliers m o refute (becomes_refutation rows defs vars of.problem made (tried.columns ∙ of.columns) lambda multipliers carries)
 
   -- what the call that lifts multipliers gives is what the definitions say
-  pub lifted-are : (found : List Row) (defs : List (Option Var)) (fs : List Frac) (lambda : List Rational) → found ≡ rows → defs ≡ definers rows → map value_of fs ≡ lambda
-      → named_multipliers false found (definitions_of found defs) (names_of made.rows.items) (map value_of made.scales.items) (map value_of fs) ≡ tried_multipliers listed rows lambda
+  pub lifted-are : (fs : List Frac) → named_multipliers false rows ds (names_of made.rows.items) (map value_of made.scales.items) (map value_of fs) ≡ tried_multipliers listed rows defs (map value_of fs)
   unfolding tried_multipliers
-  lifted-are found defs fs lambda e f g =
-      ap₂ (λ rs os. named_multipliers false rs (definitions_of rs os) (names_of made.rows.items) (map value_of made.scales.items) (map value_of fs)) e f
-      ∙ ap₂ (λ names scales. named_multipliers false rows ds names scales (map value_of fs)) (names-tried listed rows vars program of made tried) (scales-tried listed rows vars program of made tried)
-      ∙ ap (λ ls. named_multipliers false rows ds (map name_left (rows_tried listed rows)) (map scale_left (rows_tried listed rows)) ls) g
+  lifted-are fs = ap₂ (λ names scales. named_multipliers false rows ds names scales (map value_of fs)) (names-tried listed problem of made tried) (scales-tried listed problem of made tried)
 
-  pub steps-are : (found : List Row) (defs : List (Option Var)) (fs : List Frac) (lambda : List Rational) → found ≡ rows → defs ≡ definers rows → map value_of fs ≡ lambda
-      → multiplier_steps false found (definitions_of found defs) (names_of made.rows.items) (map value_of made.scales.items) (map value_of fs) ≡ tried_steps listed rows lambda
+  pub steps-are : (fs : List Frac) → multiplier_steps false rows ds (names_of made.rows.items) (map value_of made.scales.items) (map value_of fs) ≡ tried_steps listed rows defs (map value_of fs)
   unfolding tried_steps
-  steps-are found defs fs lambda e f g =
-      ap₂ (λ rs os. multiplier_steps false rs (definitions_of rs os) (names_of made.rows.items) (map value_of made.scales.items) (map value_of fs)) e f
-      ∙ ap₂ (λ names scales. multiplier_steps false rows ds names scales (map value_of fs)) (names-tried listed rows vars program of made tried) (scales-tried listed rows vars program of made tried)
-      ∙ ap (λ ls. multiplier_steps false rows ds (map name_left (rows_tried listed rows)) (map scale_left (rows_tried listed rows)) ls) g
+  steps-are fs = ap₂ (λ names scales. multiplier_steps false rows ds names scales (map value_of fs)) (names-tried listed problem of made tried) (scales-tried listed problem of made tried)
 
--- ---- the rows that are checked
+  -- the end of the simplex, as that of the trial
+  pub trial-ended : (n : ℕ) (outcome : Outcome) → outcome ≡ solved n (program_of made) → carried_trial listed rows defs vars outcome ≡ trial_end listed rows defs vars n
+  trial-ended n outcome e = trial-ends listed rows defs vars n outcome (e ∙ ap (solved n) (program-tried listed problem of made tried))
 
-pub checked-conditions : (listed : RowName → Bool) (rows copies : List Row) (vars same : List Var) (plan : List (Var × Rational)) → map shape_of copies ≡ map shape_of (rows_with listed rows) → same ≡ vars
-    → plan_conditions model_cost copies same plan ≡ plan_conditions model_cost (rows_with listed rows) vars plan
-checked-conditions listed rows copies vars same plan e f =
-    ap (λ vs. plan_conditions model_cost copies vs plan) f ∙ same-conditions model_cost vars plan copies (rows_with listed rows) e
-
-pub checked-meets : (listed : RowName → Bool) (rows copies : List Row) (vars same : List Var) (q : ℕ) (x : Var → ℤ) → map shape_of copies ≡ map shape_of (rows_with listed rows) → same ≡ vars
-    → MeetsAll copies same q x → MeetsAll (rows_with listed rows) vars q x
-checked-meets listed rows copies vars same q x e f h = same-meets vars q x copies (rows_with listed rows) e (subst (λ vs. MeetsAll copies vs q x) f h)
-
-pub copies-meet : (listed : RowName → Bool) (rows copies : List Row) (vars same : List Var) (q : ℕ) (x : Var → ℤ) → map shape_of copies ≡ map shape_of (rows_with listed rows) → same ≡ vars
-    → MeetsAll (rows_with listed rows) vars q x → MeetsAll copies same q x
-copies-meet listed rows copies vars same q x e f h = subst (λ vs. MeetsAll copies vs q x) (sym f) (same-meets vars q x (rows_with listed rows) copies (sym e) h)
+  pub trial-halted : (n : ℕ) (e : Halt) → IsHalt (solved n (program_of made)) e → StopsTrial (trial_end listed rows defs vars n) (stop_at e)
+  trial-halted n e h = trial-halts listed rows defs vars n (solved n (program_of made)) e (ap (solved n) (program-tried listed problem of made tried)) h

@@ -1,6 +1,6 @@
 pub mod SelectedLaws
 pub mod LoopLaws
-pub mod ShapeLaws
+pub mod CopiedLaws
 pub mod TriedLaws
 pub mod PlannedLaws
 pub mod WalkLaws

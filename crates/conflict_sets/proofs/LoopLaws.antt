@@ -5,8 +5,8 @@ use Rattle.std.proofs.lemmas.List.{at_drop_all, drop_more}
 use Rattle.exact_num.specs.Rational.{Rational}
 use Rattle.row_core.specs.declared.Row.{Row}
 use Rattle.row_core.specs.declared.RowName.{RowName}
-use Rattle.exact_solver.specs.Sizes.{is_unequal}
-use Rattle.variable_elimination.specs.ReducedRows.{Shape, shape_of}
+use Rattle.row_problem.specs.Sizes.{is_unequal}
+use Rattle.row_core.specs.Contents.{RowContents, contents_of}
 use Rattle.conflict_sets.specs.Pieces.{is_taken, selected, tests_of}
 use Rattle.conflict_sets.specs.Trials.{rows_with}
 use Rattle.conflict_sets.specs.Walks.{is_listed, listed_names}
@@ -19,35 +19,35 @@ next-of {A} xs i x h e = drop_more xs i x h ∙ ap {B = List A} (λ y. y ∷ dro
 joined : {A : Type 0} (old new more rest all : List A) → new ≡ old ++ more → old ++ (more ++ rest) ≡ all → new ++ rest ≡ all
 joined old new more rest all e h = ap (λ xs. xs ++ rest) e ∙ append_assoc old more rest ∙ h
 
--- the shape of a row stands at its place among the shapes
-pub shape-at : (rows : List Row) (i : ℕ) (row : Row) → i < length rows → row ≡ get_or rows i row → shape_of row ≡ get_or (map shape_of rows) i (shape_of row)
-shape-at [] i row h e = absurd (omega arith)
-shape-at (r ∷ rows) zero row h e = ap shape_of e
-shape-at (r ∷ rows) (suc i) row h e = shape-at rows i row (omega arith) e
+-- the contents of a row stand at its place among those of all rows
+pub contents-at : (rows : List Row) (i : ℕ) (row : Row) → i < length rows → row ≡ get_or rows i row → contents_of row ≡ get_or (map contents_of rows) i (contents_of row)
+contents-at [] i row h e = absurd (omega arith)
+contents-at (r ∷ rows) zero row h e = ap contents_of e
+contents-at (r ∷ rows) (suc i) row h e = contents-at rows i row (omega arith) e
 
 -- ---- rows of a trial
 
 module _ (listed : RowName → Bool) where
-  abbrev shapes : List Row → List Shape
-  shapes rows = map shape_of (rows_with listed rows)
+  abbrev all_contents : List Row → List RowContents
+  all_contents rows = map contents_of (rows_with listed rows)
 
-  abbrev taken_shape : Row → List Shape
-  taken_shape row = if is_taken listed row then (shape_of row ∷ []) else []
+  abbrev taken_contents : Row → List RowContents
+  taken_contents row = if is_taken listed row then (contents_of row ∷ []) else []
 
-  shapes-first : (row : Row) (rows : List Row) → shapes (row ∷ rows) ≡ taken_shape row ++ shapes rows
-  shapes-first row rows = cases (is_taken listed row)
+  all_contents-first : (row : Row) (rows : List Row) → all_contents (row ∷ rows) ≡ taken_contents row ++ all_contents rows
+  all_contents-first row rows = cases (is_taken listed row)
     where
-      cases : (t : Bool) → map shape_of (if t then (row ∷ rows_with listed rows) else rows_with listed rows) ≡ (if t then (shape_of row ∷ []) else []) ++ shapes rows
+      cases : (t : Bool) → map contents_of (if t then (row ∷ rows_with listed rows) else rows_with listed rows) ≡ (if t then (contents_of row ∷ []) else []) ++ all_contents rows
       cases true = refl
       cases false = refl
 
-  pub taken-next : (rows : List Row) (i : ℕ) (row : Row) (old new : List Shape) → i < length rows → row ≡ get_or rows i row → new ≡ old ++ taken_shape row → old ++ shapes (drop i rows) ≡ shapes rows → new ++ shapes (drop (i + 1) rows) ≡ shapes rows
+  pub taken-next : (rows : List Row) (i : ℕ) (row : Row) (old new : List RowContents) → i < length rows → row ≡ get_or rows i row → new ≡ old ++ taken_contents row → old ++ all_contents (drop i rows) ≡ all_contents rows → new ++ all_contents (drop (i + 1) rows) ≡ all_contents rows
   taken-next rows i row old new h e pushed so_far =
-      joined old new (taken_shape row) (shapes (drop (i + 1) rows)) (shapes rows) pushed
-      (ap (λ ss. old ++ ss) (sym (ap shapes (next-of rows i row h e) ∙ shapes-first row (drop (i + 1) rows))) ∙ so_far)
+      joined old new (taken_contents row) (all_contents (drop (i + 1) rows)) (all_contents rows) pushed
+      (ap (λ ss. old ++ ss) (sym (ap all_contents (next-of rows i row h e) ∙ all_contents-first row (drop (i + 1) rows))) ∙ so_far)
 
-  pub taken-all : (rows : List Row) (i : ℕ) (made : List Shape) → length rows ≤ i → made ++ shapes (drop i rows) ≡ shapes rows → made ≡ shapes rows
-  taken-all rows i made h so_far = sym (ap (λ ss. made ++ ss) (at_drop_all shapes rows i h) ∙ append-nil made) ∙ so_far
+  pub taken-all : (rows : List Row) (i : ℕ) (made : List RowContents) → length rows ≤ i → made ++ all_contents (drop i rows) ≡ all_contents rows → made ≡ all_contents rows
+  taken-all rows i made h so_far = sym (ap (λ ss. made ++ ss) (at_drop_all all_contents rows i h) ∙ append-nil made) ∙ so_far
 
   -- ---- rows that are tried, with something for each
 

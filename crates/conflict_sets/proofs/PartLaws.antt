@@ -11,16 +11,16 @@ use Rattle.row_core.specs.declared.Var.{Var}
 use Rattle.row_core.specs.Kinds.{kind_is_free}
 use Rattle.row_core.specs.Numbers.{variables_of}
 use Rattle.row_core.specs.Rows.{number_at}
-use Rattle.row_core.proofs.Members.{Contains-from_Has, Has, Has-append_left, Has-append_right, Has-from_Contains}
+use Rattle.row_core.proofs.Members.{Contains-from_Has, Has, Has-append_left, Has-append_right, Has-from_Contains, append_parts}
 use Rattle.certificate_checker.specs.Certificates.{AreSigned, AreWithin, IsWithin, Refutes}
 use Rattle.certificate_checker.specs.Costs.{no_cost}
 use Rattle.certificate_checker.specs.Plans.{AllStand, MeetsAll}
 use Rattle.certificate_checker.specs.Sums.{HasVariablesOf, column_sum, weighted}
-use Rattle.exact_solver.specs.Sizes.{is_unequal}
+use Rattle.row_problem.specs.Sizes.{is_unequal}
 use Rattle.conflict_sets.specs.Pieces.{is_taken}
 use Rattle.conflict_sets.specs.Trials.{rows_with}
 use Rattle.conflict_sets.specs.Walks.{every}
-use Rattle.conflict_sets.proofs.RowLists.{Takes, append-either, taken-too}
+use Rattle.conflict_sets.proofs.RowLists.{Takes, taken-too}
 
 -- ---- plans
 
@@ -113,7 +113,7 @@ fewer-variables p (row ∷ rows) v h = subst (λ vs. Has vs v) (sym (flat_map-co
   where
     cases : (t : Bool) → Has (variables_in (if t then (row ∷ filter p rows) else filter p rows)) v → (Has (variables_in (filter p rows)) v → Has (variables_in rows) v) → Has (variables_of row.entries.items ++ variables_in rows) v
     cases true k rest =
-        elim (append-either (variables_of row.entries.items) (variables_in (filter p rows)) v (subst (λ vs. Has vs v) (flat_map-cons (λ (r : Row). variables_of r.entries.items) row (filter p rows)) k)) [
+        elim (append_parts (variables_of row.entries.items) (variables_in (filter p rows)) v (subst (λ vs. Has vs v) (flat_map-cons (λ (r : Row). variables_of r.entries.items) row (filter p rows)) k)) [
           | inl here ↦ Has-append_left (variables_of row.entries.items) (variables_in rows) v here
           | inr there ↦ Has-append_right (variables_of row.entries.items) (variables_in rows) v (rest there)
         ]

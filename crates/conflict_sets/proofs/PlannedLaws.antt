@@ -26,11 +26,12 @@ use Rattle.written_method.specs.Ready.{ArePosed}
 use Rattle.variable_elimination.specs.Left.{AvoidAll}
 use Rattle.variable_elimination.specs.Lifts.{AllStand, CarriesPlan, right_times}
 use Rattle.variable_elimination.specs.Meaning.{AreMet, excess}
-use Rattle.variable_elimination.specs.ReducedRows.{AreReductions, shape_of}
+use Rattle.row_core.specs.Contents.{contents_of}
+use Rattle.variable_elimination.specs.ReducedRows.{AreReductions}
 use Rattle.variable_elimination.proofs.LiftedLaws.{lifted-others, lifted_meet, plan_met, reduced_hold}
 use Rattle.variable_elimination.proofs.LiftLaws.{at_most, product_down}
 use Rattle.variable_elimination.proofs.ReductionLaws.{reduced_says}
-use Rattle.exact_solver.specs.Sizes.{is_unequal}
+use Rattle.row_problem.specs.Sizes.{is_unequal}
 use Rattle.conflict_sets.specs.Pieces.{is_taken, selected, tests_of}
 use Rattle.conflict_sets.specs.Trials.{rows_with}
 use Rattle.conflict_sets.proofs.TriedLaws.{reduction-copied}
@@ -69,7 +70,7 @@ empty-holds row q x h k = subst (λ z. Stands row.sense z (row.rhs *ℤ pos q)) 
 
 -- rows that define nothing: each was dropped, or is tried, or isn't on the list
 others-tried : (listed : RowName → Bool) (columns : List Var) (ds : List Definition) (others rows : List Row) (scales : List Frac) (made : List Row) (p : ℕ) (z : Var → ℤ)
-    → AreReductions (rows_of ds) others rows scales → ArePosed columns (map inequality_of rows) → map shape_of made ≡ selected (tests_of listed rows) (map shape_of rows)
+    → AreReductions (rows_of ds) others rows scales → ArePosed columns (map inequality_of rows) → map contents_of made ≡ selected (tests_of listed rows) (map contents_of rows)
     → AreMet ds (pos p) z → AllHold made p z → AllHold (rows_with listed others) p z
 others-tried listed columns ds [] rows scales made p z r posed e met holds = tt
 others-tried listed columns ds (named ∷ others) rows scales made p z (inl (dropped, r)) posed e met holds =
@@ -77,17 +78,17 @@ others-tried listed columns ds (named ∷ others) rows scales made p z (inl (dro
     ((reduced_says ds named (value_of dropped.scale) dropped.new p z dropped.reduction.reduced dropped.reduction.sense met).0 (empty-holds dropped.new p z dropped.empty dropped.holds))
     (others-tried listed columns ds others rows scales made p z r posed e met holds)
 others-tried listed columns ds (named ∷ others) rows scales made p z (inr (new, scale, more, more_scales, ee, ff, r, h)) posed e met holds =
-    cases (listed new.name) refl made (e ∙ ap (λ (rs : List Row). selected (tests_of listed rs) (map shape_of rs)) ee) holds (λ ks i k. others-tried listed columns ds others more more_scales ks p z h posed_new.3 i met k)
+    cases (listed new.name) refl made (e ∙ ap (λ (rs : List Row). selected (tests_of listed rs) (map contents_of rs)) ee) holds (λ ks i k. others-tried listed columns ds others more more_scales ks p z h posed_new.3 i met k)
   where
     posed_new : ArePosed columns (map inequality_of (new ∷ more))
     posed_new = subst (λ (rs : List Row). ArePosed columns (map inequality_of rs)) ee posed
 
-    cases : (t : Bool) → listed new.name ≡ t → (made : List Row) → map shape_of made ≡ selected (t ∷ tests_of listed more) (shape_of new ∷ map shape_of more) → AllHold made p z
-        → ((ks : List Row) → map shape_of ks ≡ selected (tests_of listed more) (map shape_of more) → AllHold ks p z → AllHold (rows_with listed others) p z) → AllHold (rows_with listed (named ∷ others)) p z
+    cases : (t : Bool) → listed new.name ≡ t → (made : List Row) → map contents_of made ≡ selected (t ∷ tests_of listed more) (contents_of new ∷ map contents_of more) → AllHold made p z
+        → ((ks : List Row) → map contents_of ks ≡ selected (tests_of listed more) (map contents_of more) → AllHold ks p z → AllHold (rows_with listed others) p z) → AllHold (rows_with listed (named ∷ others)) p z
     cases true is [] e holds rest = absurd (cc e)
     cases true is (m ∷ made) e holds rest =
-        let first : shape_of m ≡ shape_of new = cc e in
-        let later : map shape_of made ≡ selected (tests_of listed more) (map shape_of more) = cc e in
+        let first : contents_of m ≡ contents_of new = cc e in
+        let later : map contents_of made ≡ selected (tests_of listed more) (map contents_of more) = cc e in
         let copied = reduction-copied (rows_of ds) named (value_of scale) new m first r in
         either-hold named (rows_with listed others) (is_taken listed named) p z ((reduced_says ds named (value_of scale) m p z copied.reduced copied.sense met).0 holds.0) (rest made later holds.1)
     cases false is made e holds rest =
@@ -115,7 +116,7 @@ all-tried listed (row ∷ rows) (Some v ∷ defs) p z same h met others =
 
 pub carries-tried : (listed : RowName → Bool) (columns : List Var) (rows : List Row) (defs : List (Option Var)) (values : List (Var × Rational)) (reduced : List Row) (scales : List Frac) (made : List Row)
     → length defs ≡ length rows → AreTriangular (definitions_of rows defs) → AreReductions (rows_of (definitions_of rows defs)) (others_of rows defs) reduced scales → ArePosed columns (map inequality_of reduced)
-    → map shape_of made ≡ selected (tests_of listed reduced) (map shape_of reduced) → AvoidAll (defined (definitions_of rows defs)) made
+    → map contents_of made ≡ selected (tests_of listed reduced) (map contents_of reduced) → AvoidAll (defined (definitions_of rows defs)) made
     → CarriesPlan (rows_with listed rows) made values (lifted right_side (definitions_of rows defs) values)
 carries-tried listed columns rows defs values reduced scales made same triangular r posed e apart q p x z hq hp over over_made holds =
     let ds : List Definition = definitions_of rows defs in

@@ -1,5 +1,5 @@
 -- Rows of a trial, among those of another.
-use Rattle.std.proofs.Common.{◌≡◌, Bool, true, false, not, ◌||◌, List, [], ◌∷◌, ◌++◌, ◌⊎◌, inl, inr, map, filter, refl, sym, ap, ◌∙◌, subst, if◌then◌else◌}
+use Rattle.std.proofs.Common.{◌≡◌, Bool, true, false, not, ◌||◌, List, [], ◌∷◌, ◌++◌, inl, inr, map, filter, refl, sym, ap, ◌∙◌, subst, if◌then◌else◌}
 use Rattle.std.specs.Ordering.{is_eq, is_lt, ordering_reverse}
 use Rattle.std.specs.declared.cmp.Ordering.{Ordering}
 use Rattle.std.specs.declared.cmp.Ordering.TheVariants.{Less, Equal as Alike, Greater}
@@ -10,9 +10,9 @@ use Rattle.row_core.specs.Numbers.{ascends, before_first}
 use Rattle.row_core.specs.Order.{row_name_cmp}
 use Rattle.row_core.proofs.AscendingLaws.{ascends-first, ascends-skip, ascends-tail, both_passed, test-from_Less}
 use Rattle.row_core.proofs.Orders.{row_name_cmp_exact, row_name_cmp_total}
-use Rattle.row_core.proofs.Members.{Contains-from_Has, Has, filter_parts}
+use Rattle.row_core.proofs.Members.{Contains-from_Has, Has, Has-filter, Has-map, filter_parts, map_parts}
 use Rattle.variable_elimination.proofs.LiftLaws.{alike}
-use Rattle.exact_solver.specs.Sizes.{is_unequal}
+use Rattle.row_problem.specs.Sizes.{is_unequal}
 use Rattle.conflict_sets.specs.Conflicts.{inequalities}
 use Rattle.conflict_sets.specs.Pieces.{is_taken}
 
@@ -72,39 +72,15 @@ filter-ascends name p (x ∷ xs) up = cases (p x) (filter-ascends name p xs (asc
     cases true rest = both_true (before-all (name x) (map name (filter p xs)) (λ u h. first-before (name x) (map name xs) u up (filter-names name p xs u h))) rest
     cases false rest = rest
 
-pub filter-has : {A : Type 0} (p : A → Bool) (xs : List A) (x : A) → Has xs x → p x ≡ true → Has (filter p xs) x
-filter-has p [] x h k = absurd h
-filter-has p (y ∷ xs) x (inl e) k = subst (λ t. Has (if t then (y ∷ filter p xs) else filter p xs) x) (sym (ap p e ∙ k)) (inl e)
-filter-has p (y ∷ xs) x (inr h) k = cases (p y) (filter-has p xs x h k)
-  where
-    cases : (t : Bool) → Has (filter p xs) x → Has (if t then (y ∷ filter p xs) else filter p xs) x
-    cases true rest = inr rest
-    cases false rest = rest
-
-pub mapped-has : {A : Type 0} (name : A → RowName) (xs : List A) (u : RowName) → Has (map name xs) u → (x : A) × Has xs x × (name x ≡ u)
-mapped-has name [] u h = absurd h
-mapped-has name (x ∷ xs) u (inl e) = (x, inl refl, e)
-mapped-has name (x ∷ xs) u (inr h) = let rest = mapped-has name xs u h in (rest.0, inr rest.1, rest.2)
-
-pub map-has : {A B : Type 0} (f : A → B) (xs : List A) (x : A) → Has xs x → Has (map f xs) (f x)
-map-has f [] x h = absurd h
-map-has f (y ∷ xs) x (inl e) = inl (ap f e)
-map-has f (y ∷ xs) x (inr h) = inr (map-has f xs x h)
-
-pub append-either : {A : Type 0} (xs ys : List A) (x : A) → Has (xs ++ ys) x → Has xs x ⊎ Has ys x
-append-either [] ys x h = inr h
-append-either (z ∷ xs) ys x (inl e) = inl (inl e)
-append-either (z ∷ xs) ys x (inr h) = elim (append-either xs ys x h) [ inl l ↦ inl (inr l) | inr r ↦ inr r ]
-
 -- ---- rows of a trial
 
 -- the name of an inequality of rows
 pub inequality-named : (rows : List Row) (row : Row) → Has rows row → is_unequal row.sense ≡ true → Has (inequalities rows) row.name
-inequality-named rows row h k = map-has (λ (r : Row). r.name) (filter (λ (r : Row). is_unequal r.sense) rows) row (filter-has (λ (r : Row). is_unequal r.sense) rows row h k)
+inequality-named rows row h k = Has-map (λ (r : Row). r.name) (filter (λ (r : Row). is_unequal r.sense) rows) row (Has-filter (λ (r : Row). is_unequal r.sense) rows row h k)
 
 pub inequality-row : (rows : List Row) (u : RowName) → Has (inequalities rows) u → (row : Row) × Has rows row × (is_unequal row.sense ≡ true) × (row.name ≡ u)
 inequality-row rows u h =
-    let found = mapped-has (λ (r : Row). r.name) (filter (λ (r : Row). is_unequal r.sense) rows) u h in
+    let found = map_parts (λ (r : Row). r.name) (filter (λ (r : Row). is_unequal r.sense) rows) u h in
     let parts = filter_parts (λ (r : Row). is_unequal r.sense) rows found.0 found.1 in
     (found.0, parts.0, parts.1, found.2)
 

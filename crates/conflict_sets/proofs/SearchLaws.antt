@@ -1,6 +1,6 @@
 -- What is known goes on from trial to trial.
 use Rattle.std.proofs.Common.{◌≡◌, Bool, true, false, not, ◌&&◌, List, [], ◌∷◌, ◌++◌, inl, inr, map, filter, sym, ap, ap₂, ◌∙◌, subst, append_assoc}
-use Rattle.std.specs.Prelude.{Contains}
+use Rattle.std.specs.Prelude.{Contains, Option}
 use Rattle.std.specs.Ordering.{is_eq}
 use Rattle.std.proofs.lemmas.List.{map-append}
 use Rattle.exact_num.specs.Rational.{Rational}
@@ -10,18 +10,17 @@ use Rattle.row_core.specs.declared.Var.{Var}
 use Rattle.row_core.specs.Numbers.{ascends, keys_of}
 use Rattle.row_core.specs.Order.{row_name_cmp}
 use Rattle.row_core.proofs.AscendingLaws.{both_passed}
-use Rattle.row_core.proofs.Members.{Contains-from_Has, Has, Has-from_Contains, filter_parts}
-use Rattle.row_book.specs.Kept.{IsBook}
-use Rattle.exact_solver.specs.MethodEnds.{plan_cost}
-use Rattle.exact_solver.specs.Sizes.{is_unequal}
-use Rattle.exact_solver.specs.Solutions.{IsPlan, IsRefutation}
+use Rattle.row_core.proofs.Members.{Contains-from_Has, Has, Has-filter, Has-from_Contains, Has-map, append_parts, filter_parts, map_parts}
+use Rattle.row_problem.specs.Problems.{IsProblem}
+use Rattle.row_problem.specs.Sizes.{is_unequal}
+use Rattle.certified_answers.specs.Worth.{IsPlan, IsRefutation, plan_cost}
 use Rattle.conflict_sets.specs.Conflicts.{IsWholePlan, inequalities}
 use Rattle.conflict_sets.specs.Pieces.{AreWithin}
 use Rattle.conflict_sets.specs.Searches.{IsSearched, names_known, needed_name}
 use Rattle.conflict_sets.specs.Trials.{rows_with}
 use Rattle.conflict_sets.specs.Walks.{Needed, is_listed, is_other, listed_names}
 use Rattle.conflict_sets.proofs.PartLaws.{fewer-met}
-use Rattle.conflict_sets.proofs.RowLists.{append-either, filter-ascends, filter-has, inequality-named, inequality-row, itself, map-has, mapped-has, without-one}
+use Rattle.conflict_sets.proofs.RowLists.{filter-ascends, inequality-named, inequality-row, itself, without-one}
 
 has-more : (xs : List RowName) (c : RowName) (ws : List RowName) (u : RowName) → Has (xs ++ ws) u → Has (xs ++ c ∷ ws) u
 has-more [] c ws u h = inr h
@@ -88,7 +87,7 @@ module _ (rows : List Row) (vars : List Var) (multipliers : List (RowName × Rat
     ascending = subst (λ (ns : List RowName). ascends row_name_cmp ns ≡ true) (sym (moved plan)) s.ascending;
     among = λ u k. s.among u (subst (λ (ns : List RowName). Contains ns u) (moved plan) k);
     listed = λ u there is. subst (λ (ns : List RowName). Contains ns u) (sym (moved plan)) (s.listed u there is);
-    plans = λ one k. elim (append-either needed ((name, plan) ∷ []) one (Has-from_Contains (needed ++ (name, plan) ∷ []) one k)) [
+    plans = λ one k. elim (append_parts needed ((name, plan) ∷ []) one (Has-from_Contains (needed ++ (name, plan) ∷ []) one k)) [
       | inl before ↦ s.plans one (Contains-from_Has needed one before)
       | inr now ↦ last one now
     ];
@@ -99,19 +98,19 @@ module _ (rows : List Row) (vars : List Var) (multipliers : List (RowName × Rat
       last one (inr h) = absurd h
 
 -- the first list
-pub search-starts : (rows : List Row) (vars : List Var) (made : List (RowName × Rational)) → IsBook rows vars → IsRefutation rows vars made → IsSearched rows vars made [] (listed_names made rows)
-search-starts rows vars made book refuted = record {
+pub search-starts : (rows : List Row) (defs : List (Option Var)) (vars : List Var) (made : List (RowName × Rational)) → IsProblem rows defs vars → IsRefutation rows vars made → IsSearched rows vars made [] (listed_names made rows)
+search-starts rows defs vars made problem refuted = record {
   refutation = refuted;
-  ascending = filter-ascends (λ (r : Row). r.name) test rows book.ascending;
+  ascending = filter-ascends (λ (r : Row). r.name) test rows problem.named;
   among = λ u k.
-      let found = mapped-has (λ (r : Row). r.name) (filter test rows) u (Has-from_Contains (listed_names made rows) u k) in
+      let found = map_parts (λ (r : Row). r.name) (filter test rows) u (Has-from_Contains (listed_names made rows) u k) in
       let parts = filter_parts test rows found.0 found.1 in
       let unequal = both_passed (is_unequal found.0.sense) (is_listed made found.0.name) parts.1 in
       Contains-from_Has (inequalities rows) u (subst (Has (inequalities rows)) found.2 (inequality-named rows found.0 parts.0 unequal.0));
   listed = λ u there is.
       let row = inequality-row rows u (Has-from_Contains (inequalities rows) u there) in
       let passes : test row.0 ≡ true = ap₂ (λ a b. a && b) row.2 (ap (is_listed made) row.3 ∙ is) in
-      Contains-from_Has (listed_names made rows) u (subst (Has (listed_names made rows)) row.3 (map-has (λ (r : Row). r.name) (filter test rows) row.0 (filter-has test rows row.0 row.1 passes)));
+      Contains-from_Has (listed_names made rows) u (subst (Has (listed_names made rows)) row.3 (Has-map (λ (r : Row). r.name) (filter test rows) row.0 (Has-filter test rows row.0 row.1 passes)));
   plans = λ one k. absurd (Has-from_Contains [] one k);
 }
   where

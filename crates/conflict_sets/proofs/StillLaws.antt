@@ -1,22 +1,28 @@
 -- An inequality that was needed stays on the list: without it the others have a plan, so that no later refutation does without it.
-use Rattle.std.proofs.Common.{◌≡◌, ℕ, ℤ, pos, Bool, true, false, not, ◌||◌, ◌&&◌, List, [], ◌∷◌, inl, inr, filter, refl, ap, ap₂, ◌∙◌, if◌then◌else◌}
+use Rattle.std.proofs.Common.{◌≡◌, ℕ, ℤ, pos, Bool, true, false, not, ◌||◌, ◌&&◌, List, [], ◌∷◌, inl, inr, filter, refl, ap, ap₂, ◌∙◌, if◌then◌else◌, length, map, sym}
+use Rattle.std.specs.Prelude.{Option, Some}
 use Rattle.std.specs.Ordering.{is_eq}
 use Rattle.exact_num.specs.Rational.{Rational}
 use Rattle.row_core.specs.declared.Row.{Row}
 use Rattle.row_core.specs.declared.RowName.{RowName}
 use Rattle.row_core.specs.declared.Var.{Var}
 use Rattle.row_core.specs.Order.{row_name_cmp}
+use Rattle.row_core.specs.Plans.{valued}
 use Rattle.row_core.proofs.Members.{Contains-from_Has, Has}
-use Rattle.row_book.specs.Kept.{IsBook}
+use Rattle.row_problem.specs.Problems.{IsProblem}
 use Rattle.certificate_checker.specs.Certificates.{AreMultipliersOver, Refutes}
 use Rattle.certificate_checker.specs.Plans.{MeetsAll}
 use Rattle.certificate_checker.proofs.DualityLaws.{Refutes-none}
-use Rattle.exact_solver.specs.Sizes.{is_unequal}
+use Rattle.row_problem.specs.Sizes.{is_unequal}
 use Rattle.conflict_sets.specs.Pieces.{is_taken}
-use Rattle.conflict_sets.specs.Searches.{IsSearched}
+use Rattle.conflict_sets.specs.Conflicts.{IsConflict}
+use Rattle.conflict_sets.specs.Searches.{IsSearched, SearchIs, all_needed, member_named}
 use Rattle.conflict_sets.specs.Trials.{rows_with}
-use Rattle.conflict_sets.specs.Walks.{Needed, is_listed, is_other, still_needed}
-use Rattle.conflict_sets.proofs.ConflictLaws.{zero-over}
+use Rattle.conflict_sets.specs.Walks.{IsConflicting, Needed, explanation_seen, found, is_listed, is_other, member_of, plan_of, still_needed}
+use Rattle.conflict_sets.specs.declared.conflict.Conflict.{Conflict}
+use Rattle.conflict_sets.specs.declared.searching.Search.{Search}
+use Rattle.conflict_sets.proofs.ConflictLaws.{conflict-found, zero-over}
+use Rattle.conflict_sets.proofs.PairLaws.{paired-members, paired-plans}
 use Rattle.conflict_sets.proofs.PartLaws.{fewer-met, part-refuted, part-variables}
 use Rattle.conflict_sets.proofs.RowLists.{same-name}
 
@@ -28,7 +34,7 @@ filter-all {A} p (x ∷ xs) h = cases (p x) (h x (inl refl)) (filter-all p xs (�
     cases true is e = ap {B = List A} (λ ys. x ∷ ys) e
     cases false is e = absurd (cc is)
 
-module _ (rows : List Row) (vars : List Var) (m : List (RowName × Rational)) (needed : List Needed) (book : IsBook rows vars) (s : IsSearched rows vars m needed []) where
+module _ (rows : List Row) (defs : List (Option Var)) (vars : List Var) (m : List (RowName × Rational)) (needed : List Needed) (problem : IsProblem rows defs vars) (s : IsSearched rows vars m needed []) where
   abbrev taken : Row → Bool
   taken = is_taken (is_listed m)
 
@@ -46,7 +52,7 @@ module _ (rows : List Row) (vars : List Var) (m : List (RowName × Rational)) (n
       let some = s.refutation.some in
       let refutes : Refutes (rows_with (is_listed m) rows) vars some.over some.number =
       part-refuted rows vars taken some.over some.number (nothing-else some.over some.number (some.positive, some.each)) (s.refutation.refutes some.over some.number (some.positive, some.each)) in
-      Refutes-none (rows_with (is_listed m) rows) vars some.over some.number q x book.variables.ascending (part-variables taken rows vars (λ v h. (book.variables.each v).1 h)) refutes
+      Refutes-none (rows_with (is_listed m) rows) vars some.over some.number q x problem.ascending (part-variables taken rows vars problem.listed) refutes
 
   -- a listed name isn't one that isn't listed
   apart : (c u : RowName) → is_listed m c ≡ false → is_listed m u ≡ true → is_other m c u ≡ true
@@ -70,3 +76,29 @@ module _ (rows : List Row) (vars : List Var) (m : List (RowName × Rational)) (n
 
   pub still-all : still_needed m needed ≡ needed
   still-all = filter-all (λ one. is_listed m one.0) needed still-listed
+
+-- ---- at the end of a search
+
+module _ (rows : List Row) (defs : List (Option Var)) (vars : List Var) (problem : IsProblem rows defs vars) (search : Search) (even : length search.names.items ≡ length search.plans.items) (known : SearchIs rows vars search []) (conflict : Conflict)
+    (e : map valued conflict.members.items ≡ map (member_named search.multipliers) search.names.items) (f : conflict.plans.items ≡ search.plans.items) where
+  abbrev last : List (RowName × Rational)
+  last = search.multipliers
+
+  abbrev all : List Needed
+  all = all_needed search
+
+  still : still_needed last all ≡ all
+  still = still-all rows defs vars last all problem known
+
+  members : map valued conflict.members.items ≡ map (member_of last) (still_needed last all)
+  members = e ∙ sym (paired-members last search.names.items search.plans.items even) ∙ ap (map (member_of last)) (sym still)
+
+  plans : conflict.plans.items ≡ map plan_of (still_needed last all)
+  plans = f ∙ sym (paired-plans search.names.items search.plans.items even) ∙ ap (map plan_of) (sym still)
+
+  -- what is left of the list is what was found, and is a conflict
+  pub search-found : explanation_seen (Some conflict) ≡ found last all
+  search-found = ap₂ IsConflicting members plans
+
+  pub search-conflict : IsConflict rows vars conflict
+  search-conflict = conflict-found rows defs vars last all problem known conflict members plans

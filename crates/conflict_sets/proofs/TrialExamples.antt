@@ -1,6 +1,7 @@
 -- Conflicts, trial by trial: which inequality each trial leaves out, and what its multipliers strike off the list.
 use Rattle.std.proofs.Common.{◌≡◌, ℕ, ℤ, pos, negsuc, List, [], ◌∷◌, refl}
 use Rattle.std.specs.Global.{Vec}
+use Rattle.std.specs.Prelude.{Option, Some, None}
 use Rattle.exact_num.specs.Formed.{difference_formed, product_formed, quotient_formed, sum_formed}
 use Rattle.exact_num.specs.Gcd.{gcd_of, gcd_within}
 use Rattle.exact_num.specs.Range.{all_fit, in_range}
@@ -12,10 +13,11 @@ use Rattle.row_core.specs.declared.Sense.TheVariants.{Equal, Least, Most}
 use Rattle.row_core.specs.declared.Var.{Var}
 use Rattle.row_core.specs.declared.equation_numbers.TheConstants.{CAA4, EBA11, TCC1, TDC2}
 use Rattle.row_core.specs.declared.kind_numbers.TheConstants.{NEW_CAPACITY, RATE_OF_ACTIVITY, TOTAL_DISCOUNTED_COST}
-use Rattle.simplex_core.specs.declared.stops.Stop.TheVariants.{Budget}
+use Rattle.simplex_core.specs.declared.stops.Stop.TheVariants.{Budget, Trial}
+use Rattle.simplex_core.specs.declared.stops.TrialStop.TheVariants as trials
 use Rattle.written_method.specs.Runs.{answer, answer_of, run}
 use Rattle.written_method.proofs.MadeRows.{made_row}
-use Rattle.exact_solver.specs.Programs.{carried_plan, plan_steps}
+use Rattle.row_problem.specs.Programs.{carried_plan, plan_steps}
 use Rattle.conflict_sets.specs.Trials.{HasPlan, trial_end, trial_program, tried_multipliers, tried_steps}
 use Rattle.conflict_sets.specs.Walks.{IsConflicting, IsStopped, every, explained, walk}
 
@@ -38,6 +40,10 @@ cost = of_kind TOTAL_DISCOUNTED_COST
 abbrev vars : List Var
 vars = activity ∷ built ∷ cost ∷ []
 
+-- the third of four rows is that of the cost
+abbrev defs : List (Option Var)
+defs = None ∷ None ∷ Some cost ∷ None ∷ []
+
 abbrev plan : ℕ → ℕ → ℕ → List (Var × Rational)
 plan x n c = (activity, whole (pos x)) ∷ (built, whole (pos n)) ∷ (cost, whole (pos c)) ∷ []
 
@@ -58,13 +64,13 @@ module _ (v : Vec (Var × ℤ)) where
   -- ---- three that are needed
 
   -- what is built is at most 9. Each of the three is needed: without the first nothing has to be built, without the second nothing is wanted, and without the third ten are built
-  all_needed : explained (within_built ∷ ten_wanted ∷ costing ∷ made_row v (named TCC1) Most ((built, pos 1) ∷ []) (pos 9) refl ∷ []) vars 9
+  all_needed : explained (within_built ∷ ten_wanted ∷ costing ∷ made_row v (named TCC1) Most ((built, pos 1) ∷ []) (pos 9) refl ∷ []) defs vars 9
       ≡ IsConflicting ((named CAA4, whole (negsuc 0)) ∷ (named EBA11, whole (pos 1)) ∷ (named TCC1, whole (negsuc 0)) ∷ []) (plan 10 0 20 ∷ plan 0 0 0 ∷ plan 10 10 80 ∷ [])
   unfolding explained walk trial_end trial_program tried_multipliers tried_steps run answer_of answer plan_steps carried_plan gcd_of gcd_within lowest plus minus times divided order_of product_formed sum_formed difference_formed quotient_formed first_wide all_fit in_range
   all_needed = refl
 
   -- a third pivot is due in the first trial
-  out_of_pivots : explained (within_built ∷ ten_wanted ∷ costing ∷ made_row v (named TCC1) Most ((built, pos 1) ∷ []) (pos 9) refl ∷ []) vars 2 ≡ IsStopped (Budget 2)
+  out_of_pivots : explained (within_built ∷ ten_wanted ∷ costing ∷ made_row v (named TCC1) Most ((built, pos 1) ∷ []) (pos 9) refl ∷ []) defs vars 2 ≡ IsStopped (Budget 2)
   unfolding explained walk trial_end trial_program tried_multipliers tried_steps run answer_of answer plan_steps carried_plan gcd_of gcd_within lowest plus minus times divided order_of product_formed sum_formed difference_formed quotient_formed first_wide all_fit in_range
   out_of_pivots = refl
 
@@ -72,21 +78,35 @@ module _ (v : Vec (Var × ℤ)) where
 
   -- What is built is at most -1, which nothing meets. The first trial leaves out the first of the three, and needs the limit alone: that strikes the demand off the list, which isn't
   -- tried any more. The next leaves out the limit: nothing is on the list then, so its plan has nothing. With the limit left out first, its plan would have had 4.
-  struck_together : explained (within_built ∷ four_wanted ∷ costing ∷ made_row v (named TCC1) Most ((built, pos 1) ∷ []) (negsuc 0) refl ∷ []) vars 9
+  struck_together : explained (within_built ∷ four_wanted ∷ costing ∷ made_row v (named TCC1) Most ((built, pos 1) ∷ []) (negsuc 0) refl ∷ []) defs vars 9
       ≡ IsConflicting ((named TCC1, whole (negsuc 0)) ∷ []) (plan 0 0 0 ∷ [])
   unfolding explained walk trial_end trial_program tried_multipliers tried_steps run answer_of answer plan_steps carried_plan gcd_of gcd_within lowest plus minus times divided order_of product_formed sum_formed difference_formed quotient_formed first_wide all_fit in_range
   struck_together = refl
 
   -- The activity is at most -1. The first refutation doesn't use the first of the three; the first trial leaves out the demand, and strikes it
-  struck_alone : explained (within_built ∷ four_wanted ∷ costing ∷ made_row v (named TCC1) Most ((activity, pos 1) ∷ []) (negsuc 0) refl ∷ []) vars 9
+  struck_alone : explained (within_built ∷ four_wanted ∷ costing ∷ made_row v (named TCC1) Most ((activity, pos 1) ∷ []) (negsuc 0) refl ∷ []) defs vars 9
       ≡ IsConflicting ((named TCC1, whole (negsuc 0)) ∷ []) (plan 0 0 0 ∷ [])
   unfolding explained walk trial_end trial_program tried_multipliers tried_steps run answer_of answer plan_steps carried_plan gcd_of gcd_within lowest plus minus times divided order_of product_formed sum_formed difference_formed quotient_formed first_wide all_fit in_range
   struck_alone = refl
 
+  -- ---- off the list
+
+  -- a limit that isn't on the list any more is passed over: no pivot may be made, so that any trial with the demand would stop
+  passed_over : walk (within_built ∷ ten_wanted ∷ costing ∷ made_row v (named TCC1) Most ((activity, pos 1) ∷ []) (pos 4) refl ∷ []) defs vars 0 2 (named TCC1 ∷ []) ((named EBA11, whole (pos 1)) ∷ []) ((named EBA11, plan 0 0 0) ∷ [])
+      ≡ IsConflicting ((named EBA11, whole (pos 1)) ∷ []) (plan 0 0 0 ∷ [])
+  unfolding walk
+  passed_over = refl
+
+  -- and while it is on the list, it is tried
+  not_passed_over : walk (within_built ∷ ten_wanted ∷ costing ∷ made_row v (named TCC1) Most ((activity, pos 1) ∷ []) (pos 4) refl ∷ []) defs vars 0 2 (named TCC1 ∷ []) ((named EBA11, whole (pos 1)) ∷ (named TCC1, whole (negsuc 0)) ∷ []) ((named EBA11, plan 0 0 0) ∷ [])
+      ≡ IsStopped (Trial 2 (trials.Budget 0))
+  unfolding explained walk trial_end trial_program tried_multipliers tried_steps run answer_of answer plan_steps carried_plan gcd_of gcd_within lowest plus minus times divided order_of product_formed sum_formed difference_formed quotient_formed first_wide all_fit in_range
+  not_passed_over = refl
+
   -- ---- the cost of a trial
 
   -- ten of the two together are wanted, at 2 and at 1: a trial costs nothing, so it ends with ten of the first, and not with ten of the cheaper
-  no_cost : trial_end every (made_row v (named EBA11) Least ((activity, pos 1) ∷ (built, pos 1) ∷ []) (pos 10) refl ∷ made_row v (named TDC2) Equal ((activity, negsuc 1) ∷ (built, negsuc 0) ∷ (cost, pos 1) ∷ []) (pos 0) refl ∷ []) vars 9
+  no_cost : trial_end every (made_row v (named EBA11) Least ((activity, pos 1) ∷ (built, pos 1) ∷ []) (pos 10) refl ∷ made_row v (named TDC2) Equal ((activity, negsuc 1) ∷ (built, negsuc 0) ∷ (cost, pos 1) ∷ []) (pos 0) refl ∷ []) (None ∷ Some cost ∷ []) vars 9
       ≡ HasPlan (plan 10 0 20)
   unfolding trial_end trial_program tried_multipliers tried_steps run answer_of answer plan_steps carried_plan gcd_of gcd_within lowest plus minus times divided order_of product_formed sum_formed difference_formed quotient_formed first_wide all_fit in_range
   no_cost = refl

@@ -1,80 +1,83 @@
 -- The walk, one inequality after another.
 use Rattle.std.proofs.Common.{◌≡◌, ℕ, ◌+◌, true, false, List, [], ◌∷◌, ◌++◌, refl, sym, ap, ◌∙◌, if◌then◌else◌}
+use Rattle.std.specs.Prelude.{Option}
 use Rattle.exact_num.specs.Rational.{Rational}
 use Rattle.row_core.specs.declared.Row.{Row}
 use Rattle.row_core.specs.declared.RowName.{RowName}
 use Rattle.row_core.specs.declared.Var.{Var}
 use Rattle.simplex_core.specs.declared.stops.Stop.TheVariants.{Budget, Width, Trial}
 use Rattle.simplex_core.specs.declared.stops.TrialStop.TheVariants as trials
-use Rattle.exact_solver.specs.declared.solutions.SolveStop.{SolveStop}
-use Rattle.exact_solver.specs.declared.solutions.SolveStop.TheVariants as stops
+use Rattle.certified_answers.specs.declared.answers.NoAnswer.{NoAnswer}
+use Rattle.certified_answers.specs.declared.answers.NoAnswer.TheVariants as stops
 use Rattle.conflict_sets.specs.Trials.{HasNone, HasPlan, IsPivotDue, IsWide, StopsTrial, TrialEnd, trial_end}
 use Rattle.conflict_sets.specs.Walks.{Explanation, IsFeasible, IsStopped, Needed, Stops, every, explained, first_failed, found, is_listed, is_other, listed_names, trial_failed, walk}
 
-module _ (rows : List Row) (vars : List Var) (n k : ℕ) (name : RowName) (left : List RowName) (multipliers : List (RowName × Rational)) (needed : List Needed) where
+module _ (rows : List Row) (defs : List (Option Var)) (vars : List Var) (n k : ℕ) (name : RowName) (left : List RowName) (multipliers : List (RowName × Rational)) (needed : List Needed) where
   abbrev end_now : TrialEnd
-  end_now = trial_end (is_other multipliers name) rows vars n
+  end_now = trial_end (is_other multipliers name) rows defs vars n
 
   abbrev here : Explanation
-  here = walk rows vars n k (name ∷ left) multipliers needed
+  here = walk rows defs vars n k (name ∷ left) multipliers needed
 
   -- what a trial's end leads to
   abbrev after : TrialEnd → Explanation
   after end =
       elim end [
-        | HasPlan plan ↦ walk rows vars n (k + 1) left multipliers (needed ++ (name, plan) ∷ [])
-        | HasNone made ↦ walk rows vars n (k + 1) left made needed
+        | HasPlan plan ↦ walk rows defs vars n (k + 1) left multipliers (needed ++ (name, plan) ∷ [])
+        | HasNone made ↦ walk rows defs vars n (k + 1) left made needed
         | IsPivotDue ↦ IsStopped (Trial k (trials.Budget n))
         | IsWide place ↦ IsStopped (Trial k (trials.Width place))
       ]
 
-  pub walk-skips : is_listed multipliers name ≡ false → here ≡ walk rows vars n k left multipliers needed
+  pub walk-skips : is_listed multipliers name ≡ false → here ≡ walk rows defs vars n k left multipliers needed
   unfolding walk
-  walk-skips h = ap (λ t. if t then after end_now else walk rows vars n k left multipliers needed) h
+  walk-skips h = ap (λ t. if t then after end_now else walk rows defs vars n k left multipliers needed) h
 
   tried : is_listed multipliers name ≡ true → here ≡ after end_now
   unfolding walk
-  tried h = ap (λ t. if t then after end_now else walk rows vars n k left multipliers needed) h
+  tried h = ap (λ t. if t then after end_now else walk rows defs vars n k left multipliers needed) h
 
-  pub walk-needs : (plan : List (Var × Rational)) → is_listed multipliers name ≡ true → HasPlan plan ≡ end_now → here ≡ walk rows vars n (k + 1) left multipliers (needed ++ (name, plan) ∷ [])
+  pub walk-needs : (plan : List (Var × Rational)) → is_listed multipliers name ≡ true → HasPlan plan ≡ end_now → here ≡ walk rows defs vars n (k + 1) left multipliers (needed ++ (name, plan) ∷ [])
   walk-needs plan h e = tried h ∙ ap after (sym e)
 
-  pub walk-drops : (made : List (RowName × Rational)) → is_listed multipliers name ≡ true → HasNone made ≡ end_now → here ≡ walk rows vars n (k + 1) left made needed
+  pub walk-drops : (made : List (RowName × Rational)) → is_listed multipliers name ≡ true → HasNone made ≡ end_now → here ≡ walk rows defs vars n (k + 1) left made needed
   walk-drops made h e = tried h ∙ ap after (sym e)
 
-  pub walk-stops : (stop : SolveStop) → is_listed multipliers name ≡ true → StopsTrial end_now stop → Stops here (trial_failed k n stop)
+  pub walk-stops : (stop : NoAnswer) → is_listed multipliers name ≡ true → StopsTrial end_now stop → Stops here (trial_failed k n stop)
+  walk-stops stops.Nothing h s = absurd s
   walk-stops stops.Budget h s = tried h ∙ ap after s
   walk-stops (stops.Width place) h s = tried h ∙ ap after s
   walk-stops stops.Memory h s = tt
 
-module _ (rows : List Row) (vars : List Var) (n : ℕ) where
+module _ (rows : List Row) (defs : List (Option Var)) (vars : List Var) (n : ℕ) where
   abbrev first_end : TrialEnd
-  first_end = trial_end every rows vars n
+  first_end = trial_end every rows defs vars n
 
   abbrev after_first : TrialEnd → Explanation
   after_first end =
       elim end [
         | HasPlan plan ↦ IsFeasible
-        | HasNone made ↦ walk rows vars n 1 (listed_names made rows) made []
+        | HasNone made ↦ walk rows defs vars n 1 (listed_names made rows) made []
         | IsPivotDue ↦ IsStopped (Budget n)
         | IsWide place ↦ IsStopped (Width place)
       ]
 
-  explained-is : explained rows vars n ≡ after_first first_end
+  explained-is : explained rows defs vars n ≡ after_first first_end
   unfolding explained
   explained-is = refl
 
-  pub explained-feasible : (plan : List (Var × Rational)) → HasPlan plan ≡ first_end → explained rows vars n ≡ IsFeasible
+  pub explained-feasible : (plan : List (Var × Rational)) → HasPlan plan ≡ first_end → explained rows defs vars n ≡ IsFeasible
   explained-feasible plan e = explained-is ∙ ap after_first (sym e)
 
-  pub explained-walk : (made : List (RowName × Rational)) → HasNone made ≡ first_end → explained rows vars n ≡ walk rows vars n 1 (listed_names made rows) made []
+  pub explained-walk : (made : List (RowName × Rational)) → HasNone made ≡ first_end → explained rows defs vars n ≡ walk rows defs vars n 1 (listed_names made rows) made []
   explained-walk made e = explained-is ∙ ap after_first (sym e)
 
-  pub explained-stops : (stop : SolveStop) → StopsTrial first_end stop → Stops (explained rows vars n) (first_failed n stop)
+  pub explained-stops : (stop : NoAnswer) → StopsTrial first_end stop → Stops (explained rows defs vars n) (first_failed n stop)
+  explained-stops stops.Nothing s = absurd s
   explained-stops stops.Budget s = explained-is ∙ ap after_first s
   explained-stops (stops.Width place) s = explained-is ∙ ap after_first s
   explained-stops stops.Memory s = tt
 
-pub walk-ends : (rows : List Row) (vars : List Var) (n k : ℕ) (multipliers : List (RowName × Rational)) (needed : List Needed) → walk rows vars n k [] multipliers needed ≡ found multipliers needed
+pub walk-ends : (rows : List Row) (defs : List (Option Var)) (vars : List Var) (n k : ℕ) (multipliers : List (RowName × Rational)) (needed : List Needed) → walk rows defs vars n k [] multipliers needed ≡ found multipliers needed
 unfolding walk
-walk-ends rows vars n k multipliers needed = refl
+walk-ends rows defs vars n k multipliers needed = refl

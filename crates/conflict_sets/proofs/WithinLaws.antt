@@ -13,22 +13,20 @@ use Rattle.row_core.specs.Numbers.{ascends, is_zero, keys_of}
 use Rattle.row_core.specs.Order.{row_name_cmp}
 use Rattle.row_core.specs.Plans.{or_zero, value_in}
 use Rattle.row_core.proofs.AscendingLaws.{ascends-tail}
-use Rattle.row_core.proofs.Members.{Has, Has-from_Contains, filter_parts}
+use Rattle.row_core.proofs.Members.{Has, Has-from_Contains, Has-map, filter_parts, map_parts}
 use Rattle.row_core.specs.RowLists.{names_of}
-use Rattle.row_book.specs.Kept.{IsBook}
+use Rattle.row_problem.specs.Problems.{IsProblem}
 use Rattle.written_method.specs.Definitions.{Definition, definitions_of, AreTriangular}
 use Rattle.written_method.specs.Eliminated.{ReducedRow}
 use Rattle.written_method.specs.Multiplied.{defined_multipliers, multiplier_of, scaled_multipliers}
-use Rattle.exact_solver.specs.Definers.{definers}
-use Rattle.exact_solver.specs.Programs.{definitions_in, name_left, rows_left, scale_left}
-use Rattle.exact_solver.specs.Sizes.{is_unequal}
-use Rattle.exact_solver.proofs.BookLaws.{book_triangular}
-use Rattle.exact_solver.proofs.CompletePlans.{insert-has}
+use Rattle.row_problem.specs.Programs.{name_left, rows_left, scale_left}
+use Rattle.row_problem.specs.Sizes.{is_unequal}
+use Rattle.row_problem.proofs.CompletePlans.{insert-has}
 use Rattle.conflict_sets.specs.Conflicts.{inequalities}
 use Rattle.conflict_sets.specs.Pieces.{AreWithin}
 use Rattle.conflict_sets.specs.Trials.{rows_tried, tried_multipliers}
 use Rattle.conflict_sets.specs.Walks.{is_listed}
-use Rattle.conflict_sets.proofs.RowLists.{inequality-row, mapped-has, not-again, same-name}
+use Rattle.conflict_sets.proofs.RowLists.{inequality-row, not-again, same-name}
 
 -- a value other than 0 is that of a key
 listed-key : (values : List (RowName × Rational)) (u : RowName) → is_listed values u ≡ true → Has (keys_of values) u
@@ -74,39 +72,34 @@ definition-row (row ∷ rows) (None ∷ defs) u h k = let rest = definition-row 
 definition-row (row ∷ rows) (Some v ∷ defs) u h (inl e) = (row, inl refl, h.0.equal, e)
 definition-row (row ∷ rows) (Some v ∷ defs) u h (inr k) = let rest = definition-row rows defs u h.3 k in (rest.0, inr rest.1, rest.2, rest.3)
 
-named-has : (rows : List Row) (row : Row) → Has rows row → Has (names_of rows) row.name
-named-has [] row h = absurd h
-named-has (r ∷ rows) row (inl e) = inl (ap (λ (t : Row). t.name) e)
-named-has (r ∷ rows) row (inr h) = inr (named-has rows row h)
-
 -- rows of one name are one row
 one-row : (rows : List Row) (a b : Row) → ascends row_name_cmp (names_of rows) ≡ true → Has rows a → Has rows b → a.name ≡ b.name → a ≡ b
 one-row [] a b up h k e = absurd h
 one-row (row ∷ rows) a b up (inl i) (inl j) e = sym i ∙ j
-one-row (row ∷ rows) a b up (inl i) (inr k) e = absurd (not-again row.name (names_of rows) up (subst (Has (names_of rows)) (sym (ap (λ (t : Row). t.name) i ∙ e)) (named-has rows b k)))
-one-row (row ∷ rows) a b up (inr h) (inl j) e = absurd (not-again row.name (names_of rows) up (subst (Has (names_of rows)) (e ∙ sym (ap (λ (t : Row). t.name) j)) (named-has rows a h)))
+one-row (row ∷ rows) a b up (inl i) (inr k) e = absurd (not-again row.name (names_of rows) up (subst (Has (names_of rows)) (sym (ap (λ (t : Row). t.name) i ∙ e)) (Has-map (λ (r : Row). r.name) rows b k)))
+one-row (row ∷ rows) a b up (inr h) (inl j) e = absurd (not-again row.name (names_of rows) up (subst (Has (names_of rows)) (e ∙ sym (ap (λ (t : Row). t.name) j)) (Has-map (λ (r : Row). r.name) rows a h)))
 one-row (row ∷ rows) a b up (inr h) (inr k) e = one-row rows a b (ascends-tail row_name_cmp row.name (names_of rows) up) h k e
 
 tried-listed : (listed : RowName → Bool) (left : List ReducedRow) (u : RowName) → Has (map name_left (filter (λ (r : ReducedRow). listed r.name) left)) u → listed u ≡ true
 tried-listed listed left u h =
-    let found = mapped-has name_left (filter (λ (r : ReducedRow). listed r.name) left) u h in
+    let found = map_parts name_left (filter (λ (r : ReducedRow). listed r.name) left) u h in
     let parts = filter_parts (λ (r : ReducedRow). listed r.name) left found.0 found.1 in
     ap listed (sym found.2) ∙ parts.1
 
-pub multipliers-within : (listed : RowName → Bool) (rows : List Row) (vars : List Var) (lambda : List Rational) → IsBook rows vars → AreWithin listed rows (tried_multipliers listed rows lambda)
+pub multipliers-within : (listed : RowName → Bool) (rows : List Row) (defs : List (Option Var)) (vars : List Var) (lambda : List Rational) → IsProblem rows defs vars → AreWithin listed rows (tried_multipliers listed rows defs lambda)
 unfolding tried_multipliers
-multipliers-within listed rows vars lambda book u there is =
-    let names = map name_left (rows_tried listed rows) in
-    let scales = map scale_left (rows_tried listed rows) in
+multipliers-within listed rows defs vars lambda problem u there is =
+    let names = map name_left (rows_tried listed rows defs) in
+    let scales = map scale_left (rows_tried listed rows defs) in
     let inequality = inequality-row rows u (Has-from_Contains (inequalities rows) u there) in
-    elim (multiplied-has rows (definitions_in rows) (scaled_multipliers names scales lambda []) u (listed-key (tried_multipliers listed rows lambda) u is)) [
+    elim (multiplied-has rows (definitions_of rows defs) (scaled_multipliers names scales lambda []) u (listed-key (tried_multipliers listed rows defs lambda) u is)) [
       | inl defined ↦
-          let definition = definition-row rows (definers rows) u (book_triangular rows vars book) defined in
-          let same : inequality.0 ≡ definition.0 = one-row rows inequality.0 definition.0 book.ascending inequality.1 definition.1 (inequality.3 ∙ sym definition.3) in
+          let definition = definition-row rows defs u problem.triangular defined in
+          let same : inequality.0 ≡ definition.0 = one-row rows inequality.0 definition.0 problem.named inequality.1 definition.1 (inequality.3 ∙ sym definition.3) in
           let equal : is_unequal inequality.0.sense ≡ false = ap (λ (r : Row). is_unequal r.sense) same ∙ ap is_unequal definition.2 in
           absurd (cc (inequality.2, equal))
       | inr scaled ↦ elim (scaled-has names scales lambda [] u scaled) [
-        | inl k ↦ tried-listed listed (rows_left rows) u k
+        | inl k ↦ tried-listed listed (rows_left rows defs) u k
         | inr k ↦ absurd k
       ]
     ]

@@ -15,7 +15,7 @@ use Rattle.row_core.specs.RowLists.{names_of}
 use Rattle.certificate_checker.specs.Certificates.{AdmitsNone, AreMultipliersOver, Refutes}
 use Rattle.certificate_checker.specs.Denominators.{AreOverSome}
 use Rattle.certificate_checker.specs.Plans.{AreValuesOver, MeetsAll}
-use Rattle.exact_solver.specs.Sizes.{is_unequal}
+use Rattle.row_problem.specs.Sizes.{is_unequal}
 use Rattle.conflict_sets.specs.Trials.{rows_with}
 use Rattle.conflict_sets.specs.declared.conflict.Conflict.{Conflict}
 

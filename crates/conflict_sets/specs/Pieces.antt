@@ -7,11 +7,10 @@ use Rattle.row_core.specs.declared.Var.{Var}
 use Rattle.row_core.specs.Order.{row_name_cmp}
 use Rattle.std.specs.Ordering.{is_lt}
 use Rattle.written_method.specs.declared.reduced.Reduced.{Reduced}
-use Rattle.variable_elimination.specs.ReducedRows.{shape_of}
-use Rattle.exact_solver.specs.Solutions.{IsPlan, IsRefutation}
-use Rattle.exact_solver.specs.MethodEnds.{plan_cost}
+use Rattle.row_core.specs.Contents.{contents_of}
+use Rattle.certified_answers.specs.Worth.{IsPlan, IsRefutation, plan_cost}
 use Rattle.row_core.specs.Numbers.{keys_of}
-use Rattle.exact_solver.specs.Sizes.{is_unequal}
+use Rattle.row_problem.specs.Sizes.{is_unequal}
 use Rattle.conflict_sets.specs.Trials.{HasNone, HasPlan, TrialEnd, rows_with}
 use Rattle.conflict_sets.specs.Conflicts.{inequalities}
 use Rattle.conflict_sets.specs.Walks.{every, is_listed, is_other}
@@ -47,7 +46,7 @@ tests_of listed rows = map (λ row. listed row.name) rows
 
 -- the linear program with the listed rows alone, and without a cost
 pub record IsTriedOf (listed : RowName → Bool) (whole made : Reduced) : Type 0 where
-  pub rows : map shape_of made.rows.items ≡ selected (tests_of listed whole.rows.items) (map shape_of whole.rows.items)
+  pub rows : map contents_of made.rows.items ≡ selected (tests_of listed whole.rows.items) (map contents_of whole.rows.items)
   pub scales : made.scales.items ≡ selected (tests_of listed whole.rows.items) whole.scales.items
   pub columns : made.columns.items ≡ whole.columns.items
   pub cost : made.cost.items ≡ []

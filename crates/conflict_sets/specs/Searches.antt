@@ -1,5 +1,5 @@
 -- What is known between two trials.
-use Rattle.std.specs.Prelude.{◌≡◌, ℕ, ◌+◌, true, Contains, List, [], ◌∷◌, ◌++◌, map}
+use Rattle.std.specs.Prelude.{◌≡◌, ℕ, ◌+◌, true, Contains, List, [], ◌∷◌, ◌++◌, map, Option}
 use Rattle.exact_num.specs.Rational.{Rational}
 use Rattle.row_core.specs.declared.Row.{Row}
 use Rattle.row_core.specs.declared.RowName.{RowName}
@@ -7,7 +7,7 @@ use Rattle.row_core.specs.declared.Var.{Var}
 use Rattle.row_core.specs.Numbers.{ascends}
 use Rattle.row_core.specs.Order.{row_name_cmp}
 use Rattle.row_core.specs.Plans.{value_in}
-use Rattle.exact_solver.specs.Solutions.{IsRefutation}
+use Rattle.certified_answers.specs.Worth.{IsRefutation}
 use Rattle.conflict_sets.specs.Conflicts.{IsWholePlan, inequalities}
 use Rattle.conflict_sets.specs.Trials.{rows_with}
 use Rattle.conflict_sets.specs.Walks.{Explanation, Needed, is_listed, is_other, walk}
@@ -27,8 +27,8 @@ abbrev pub member_named : List (RowName × Rational) → RowName → RowName × 
 member_named multipliers name = (name, value_in row_name_cmp multipliers name)
 
 -- what the trials that are left, of these inequalities, come to
-abbrev pub walk_from : List Row → List Var → ℕ → Search → List RowName → Explanation
-walk_from rows vars pivots search left = walk rows vars pivots (search.trials + 1) left search.multipliers (all_needed search)
+abbrev pub walk_from : List Row → List (Option Var) → List Var → ℕ → Search → List RowName → Explanation
+walk_from rows defs vars pivots search left = walk rows defs vars pivots (search.trials + 1) left search.multipliers (all_needed search)
 
 abbrev pub needed_name : Needed → RowName
 needed_name one = one.0

@@ -14,10 +14,9 @@ use Rattle.simplex_core.specs.declared.stops.Stop.{Stop}
 use Rattle.simplex_core.specs.declared.stops.Stop.TheVariants.{Budget, Width, Trial}
 use Rattle.simplex_core.specs.declared.stops.TrialStop.TheVariants as trials
 use Rattle.written_method.specs.Eliminated.{elimination_steps}
-use Rattle.exact_solver.specs.Definers.{definers}
-use Rattle.exact_solver.specs.Sizes.{is_unequal}
-use Rattle.exact_solver.specs.declared.solutions.SolveStop.{SolveStop}
-use Rattle.exact_solver.specs.declared.solutions.SolveStop.TheVariants as stops
+use Rattle.row_problem.specs.Sizes.{is_unequal}
+use Rattle.certified_answers.specs.declared.answers.NoAnswer.{NoAnswer}
+use Rattle.certified_answers.specs.declared.answers.NoAnswer.TheVariants as stops
 use Rattle.conflict_sets.specs.Trials.{HasNone, HasPlan, IsPivotDue, IsWide, trial_end}
 use Rattle.conflict_sets.specs.declared.conflict.Conflict.{Conflict}
 use Rattle.conflict_sets.specs.declared.conflict.ExplainFail.{ExplainFail}
@@ -70,24 +69,24 @@ found multipliers needed = IsConflicting (map (member_of multipliers) (still_nee
 
 -- Each of these inequalities in turn, where it is still on the list, is left out in a trial, the next of which has the number k. Where the others have no plan, the multipliers
 -- that refute them make the new list; else the inequality is needed.
-unfoldable pub walk : List Row → List Var → ℕ → ℕ → List RowName → List (RowName × Rational) → List Needed → Explanation
-walk rows vars pivots k [] multipliers needed = found multipliers needed
-walk rows vars pivots k (name ∷ names) multipliers needed =
+unfoldable pub walk : List Row → List (Option Var) → List Var → ℕ → ℕ → List RowName → List (RowName × Rational) → List Needed → Explanation
+walk rows defs vars pivots k [] multipliers needed = found multipliers needed
+walk rows defs vars pivots k (name ∷ names) multipliers needed =
     if is_listed multipliers name
-    then elim (trial_end (is_other multipliers name) rows vars pivots) [
-      | HasPlan plan ↦ walk rows vars pivots (k + 1) names multipliers (needed ++ (name, plan) ∷ [])
-      | HasNone made ↦ walk rows vars pivots (k + 1) names made needed
+    then elim (trial_end (is_other multipliers name) rows defs vars pivots) [
+      | HasPlan plan ↦ walk rows defs vars pivots (k + 1) names multipliers (needed ++ (name, plan) ∷ [])
+      | HasNone made ↦ walk rows defs vars pivots (k + 1) names made needed
       | IsPivotDue ↦ IsStopped (Trial k (trials.Budget pivots))
       | IsWide place ↦ IsStopped (Trial k (trials.Width place))
     ]
-    else walk rows vars pivots k names multipliers needed
+    else walk rows defs vars pivots k names multipliers needed
 
 -- trial 0 has every inequality, and its refutation makes the first list
-unfoldable pub explained : List Row → List Var → ℕ → Explanation
-explained rows vars pivots =
-    elim (trial_end every rows vars pivots) [
+unfoldable pub explained : List Row → List (Option Var) → List Var → ℕ → Explanation
+explained rows defs vars pivots =
+    elim (trial_end every rows defs vars pivots) [
       | HasPlan plan ↦ IsFeasible
-      | HasNone made ↦ walk rows vars pivots 1 (listed_names made rows) made []
+      | HasNone made ↦ walk rows defs vars pivots 1 (listed_names made rows) made []
       | IsPivotDue ↦ IsStopped (Budget pivots)
       | IsWide place ↦ IsStopped (Width place)
     ]
@@ -103,19 +102,21 @@ abbrev pub Stops : Explanation → ExplainFail → Type 0
 Stops end (fails.Stopped stop) = end ≡ IsStopped stop
 Stops end fails.Memory = ⊤
 
--- why the trial of this number stopped, and why the first did
-abbrev pub trial_failed : ℕ → ℕ → SolveStop → ExplainFail
+-- why the trial of this number stopped, and why the first did; no trial ends with nothing
+abbrev pub trial_failed : ℕ → ℕ → NoAnswer → ExplainFail
 trial_failed k pivots stops.Budget = fails.Stopped (Trial k (trials.Budget pivots))
 trial_failed k pivots (stops.Width place) = fails.Stopped (Trial k (trials.Width place))
+trial_failed k pivots stops.Nothing = fails.Memory
 trial_failed k pivots stops.Memory = fails.Memory
 
-abbrev pub first_failed : ℕ → SolveStop → ExplainFail
+abbrev pub first_failed : ℕ → NoAnswer → ExplainFail
 first_failed pivots stops.Budget = fails.Stopped (Budget pivots)
 first_failed pivots (stops.Width place) = fails.Stopped (Width place)
+first_failed pivots stops.Nothing = fails.Memory
 first_failed pivots stops.Memory = fails.Memory
 
 -- ---- with the elimination before
 
 -- the elimination is made once, before all trials
-abbrev pub explanation : List Row → List Var → ℕ → Explanation
-explanation rows vars pivots = elim (first_wide (elimination_steps rows (definers rows))) [ None ↦ explained rows vars pivots | Some place ↦ IsStopped (Width place) ]
+abbrev pub explanation : List Row → List (Option Var) → List Var → ℕ → Explanation
+explanation rows defs vars pivots = elim (first_wide (elimination_steps rows defs)) [ None ↦ explained rows defs vars pivots | Some place ↦ IsStopped (Width place) ]

@@ -1,27 +1,15 @@
 //! The rows of a trial, and its linear program.
 
 ghost use Rattle.std.specs.Prelude.{◌≡◌, ◌++◌, ◌∷◌, [], if◌then◌else◌, IfOk, OnOk, map, length};
-ghost use Rattle.variable_elimination.specs.ReducedRows.{shape_of};
+ghost use Rattle.row_core.specs.Contents.{contents_of};
 ghost use Rattle.conflict_sets.specs.Pieces.{IsTriedOf, is_taken, listed_by, selected, tests_of};
 ghost use Rattle.conflict_sets.specs.Trials.{rows_with};
 
 use crate::listing::{Listing, is_listed_by, is_unequal};
 use exact_num::Frac;
-use row_core::Row;
+use row_core::{Row, copy_row};
 use std::alloc::{AllocError, Global};
 use written_method::Reduced;
-
-/// A copy of a row.
-fn copy_of(alloc: Global, row: &Row) -> Result<Row, AllocError>
-    ensures { IfOk result (λ copy. shape_of copy ≡ shape_of row.now) }
-{
-    Ok(Row {
-        name: row.name,
-        sense: row.sense,
-        entries: Vec::from_slice(alloc, row.entries.as_slice())?,
-        rhs: row.rhs,
-    })
-}
 
 /// Copies of the rows of a trial: every equation, and the inequalities that are listed.
 pub(crate) fn trial_rows(
@@ -29,7 +17,7 @@ pub(crate) fn trial_rows(
     rows: &[Row],
     listing: &Listing<'_>,
 ) -> Result<Vec<Row>, AllocError>
-    ensures { IfOk result (λ copies. map shape_of copies.items ≡ map shape_of (rows_with (listed_by listing.now) rows.now)) }
+    ensures { IfOk result (λ copies. map contents_of copies.items ≡ map contents_of (rows_with (listed_by listing.now) rows.now)) }
 {
     let mut copies = Vec::new(alloc);
     for row in rows {
@@ -45,7 +33,7 @@ fn push_taken(
     listing: &Listing<'_>,
     copies: &mut Vec<Row>,
 ) -> Result<(), AllocError>
-    ensures { OnOk result (map shape_of copies.new.items ≡ map shape_of copies.old.items ++ (if is_taken (listed_by listing.now) row.now then (shape_of row.now ∷ []) else [])) }
+    ensures { OnOk result (map contents_of copies.new.items ≡ map contents_of copies.old.items ++ (if is_taken (listed_by listing.now) row.now then (contents_of row.now ∷ []) else [])) }
 {
     if is_unequal(row) && !is_listed_by(listing, row.name) {
         return Ok(());
@@ -55,9 +43,9 @@ fn push_taken(
 
 /// Appends a copy of a row.
 fn push_copy(alloc: Global, row: &Row, copies: &mut Vec<Row>) -> Result<(), AllocError>
-    ensures { OnOk result (map shape_of copies.new.items ≡ map shape_of copies.old.items ++ shape_of row.now ∷ []) }
+    ensures { OnOk result (map contents_of copies.new.items ≡ map contents_of copies.old.items ++ contents_of row.now ∷ []) }
 {
-    let copy = copy_of(alloc, row)?;
+    let copy = copy_row(alloc, row)?;
     copies.push(copy)?;
     Ok(())
 }
@@ -91,7 +79,7 @@ fn tried_rows(
     listing: &Listing<'_>,
 ) -> Result<(Vec<Row>, Vec<Frac>), AllocError>
     requires { length scales.now ≡ length rows.now }
-    ensures rows { IfOk result (λ made. map shape_of made.0.items ≡ selected (tests_of (listed_by listing.now) rows.now) (map shape_of rows.now)) }
+    ensures rows { IfOk result (λ made. map contents_of made.0.items ≡ selected (tests_of (listed_by listing.now) rows.now) (map contents_of rows.now)) }
     ensures scales { IfOk result (λ made. made.1.items ≡ selected (tests_of (listed_by listing.now) rows.now) scales.now) }
 {
     let mut copies = Vec::new(alloc);
@@ -111,7 +99,7 @@ fn push_tried(
     copies: &mut Vec<Row>,
     kept: &mut Vec<Frac>,
 ) -> Result<(), AllocError>
-    ensures row { OnOk result (map shape_of copies.new.items ≡ map shape_of copies.old.items ++ (if listed_by listing.now row.now.name then (shape_of row.now ∷ []) else [])) }
+    ensures row { OnOk result (map contents_of copies.new.items ≡ map contents_of copies.old.items ++ (if listed_by listing.now row.now.name then (contents_of row.now ∷ []) else [])) }
     ensures scale { OnOk result (kept.new.items ≡ kept.old.items ++ (if listed_by listing.now row.now.name then (scale ∷ []) else [])) }
 {
     if !is_listed_by(listing, row.name) {

@@ -2,19 +2,17 @@
 
 ghost use Rattle.std.specs.Prelude.{◌≡◌, IfOk, IfSome, length};
 ghost use Rattle.row_core.specs.Numbers.{keys_of};
-ghost use Rattle.exact_solver.specs.BookPrograms.{IsProgramOf};
+ghost use Rattle.row_problem.specs.ProgramsOf.{IsPosedProblem};
 ghost use Rattle.conflict_sets.specs.Pieces.{IsFinding, IsTriedOf, listed_by};
 
 use crate::copying::{trial_program, trial_rows};
-use crate::laws::{multiplier_laws, plan_laws};
 use crate::listing::Listing;
 use crate::trial::Finding;
-use certificate_checker::{Verdict, check_infeasible, check_plan};
+use certified_answers::{NoAnswer, accepted_plan, accepted_refutation, multiplier_laws, plan_laws};
 use exact_num::Frac;
-use exact_solver::{BookProgram, carry_plan};
 use rounded_solver::{Guess, guess_multipliers, guess_values};
-use row_book::RowBook;
 use row_core::{Plan, Stopped};
+use row_problem::{Problem, carry_plan};
 use std::alloc::{AllocError, Global};
 use variable_elimination::lift_multipliers;
 use written_method::Reduced;
@@ -25,57 +23,54 @@ const PLACES: [i32; 3] = [7, 5, 4];
 /// The significant digits of multipliers, try by try.
 const DIGITS: [i32; 3] = [9, 7, 5];
 
-/// A plan of the equations of a book and those of its inequalities that are listed, or multipliers that show that there is none, by
+/// A plan of the equations and those of its inequalities that are listed, or multipliers that show that there is none, by
 /// guesses that take so many pivots each at most. None where no guess is accepted: then nothing is known of these rows.
 pub(crate) fn guessed(
     alloc: Global,
-    book: &RowBook,
-    program: &BookProgram,
+    problem: &Problem<'_>,
     listing: &Listing<'_>,
     pivots: u64,
 ) -> Result<Option<Finding>, AllocError>
-    requires { IsProgramOf book.now.rows book.now.vars program.now }
-    ensures worth { IfOk result (λ found. IfSome found (IsFinding (listed_by listing.now) book.now.rows book.now.vars)) }
+    requires { IsPosedProblem problem.now }
+    ensures worth { IfOk result (λ found. IfSome found (IsFinding (listed_by listing.now) problem.now.rows.now problem.now.vars.now)) }
 {
-    let tried = trial_program(alloc, &program.reduced, listing)?;
-    match guessed_plan(alloc, book, program, listing, &tried, pivots)? {
+    let tried = trial_program(alloc, problem.reduced, listing)?;
+    match guessed_plan(alloc, problem, listing, &tried, pivots)? {
         Some(finding) => Ok(Some(finding)),
-        None => guessed_refutation(alloc, book, program, listing, &tried, pivots),
+        None => guessed_refutation(alloc, problem, listing, &tried, pivots),
     }
 }
 
-/// Multipliers that show that the equations of a book and those of its inequalities that are listed have no plan, by guesses alone.
+/// Multipliers that show that the equations and those of its inequalities that are listed have no plan, by guesses alone.
 pub(crate) fn refuted_by_guess(
     alloc: Global,
-    book: &RowBook,
-    program: &BookProgram,
+    problem: &Problem<'_>,
     listing: &Listing<'_>,
     pivots: u64,
 ) -> Result<Option<Finding>, AllocError>
-    requires { IsProgramOf book.now.rows book.now.vars program.now }
-    ensures worth { IfOk result (λ found. IfSome found (IsFinding (listed_by listing.now) book.now.rows book.now.vars)) }
+    requires { IsPosedProblem problem.now }
+    ensures worth { IfOk result (λ found. IfSome found (IsFinding (listed_by listing.now) problem.now.rows.now problem.now.vars.now)) }
 {
-    let tried = trial_program(alloc, &program.reduced, listing)?;
-    guessed_refutation(alloc, book, program, listing, &tried, pivots)
+    let tried = trial_program(alloc, problem.reduced, listing)?;
+    guessed_refutation(alloc, problem, listing, &tried, pivots)
 }
 
 /// The plan of the first guess that the checker accepts.
 fn guessed_plan(
     alloc: Global,
-    book: &RowBook,
-    program: &BookProgram,
+    problem: &Problem<'_>,
     listing: &Listing<'_>,
     tried: &Reduced,
     pivots: u64,
 ) -> Result<Option<Finding>, AllocError>
-    requires program { IsProgramOf book.now.rows book.now.vars program.now }
-    requires tried { IsTriedOf (listed_by listing.now) program.now.reduced tried.now }
-    ensures worth { IfOk result (λ found. IfSome found (IsFinding (listed_by listing.now) book.now.rows book.now.vars)) }
+    requires problem { IsPosedProblem problem.now }
+    requires tried { IsTriedOf (listed_by listing.now) problem.now.reduced.now tried.now }
+    ensures worth { IfOk result (λ found. IfSome found (IsFinding (listed_by listing.now) problem.now.rows.now problem.now.vars.now)) }
 {
     for places in PLACES {
         match guess_values(alloc, tried, places, pivots)? {
             Guess::Values(values) => {
-                match accepted_plan(alloc, book, program, listing, tried, &values)? {
+                match checked_values(alloc, problem, listing, tried, &values)? {
                     Some(finding) => return Ok(Some(finding)),
                     None => {}
                 }
@@ -88,50 +83,47 @@ fn guessed_plan(
 }
 
 /// The plan of guessed values, carried back, where the checker accepts it over the rows of the trial.
-fn accepted_plan(
+fn checked_values(
     alloc: Global,
-    book: &RowBook,
-    program: &BookProgram,
+    problem: &Problem<'_>,
     listing: &Listing<'_>,
     tried: &Reduced,
     values: &Plan,
 ) -> Result<Option<Finding>, AllocError>
-    requires program { IsProgramOf book.now.rows book.now.vars program.now }
-    requires tried { IsTriedOf (listed_by listing.now) program.now.reduced tried.now }
+    requires problem { IsPosedProblem problem.now }
+    requires tried { IsTriedOf (listed_by listing.now) problem.now.reduced.now tried.now }
     requires keyed { keys_of values.now ≡ tried.now.columns.items }
-    ensures worth { IfOk result (λ found. IfSome found (IsFinding (listed_by listing.now) book.now.rows book.now.vars)) }
+    ensures worth { IfOk result (λ found. IfSome found (IsFinding (listed_by listing.now) problem.now.rows.now problem.now.vars.now)) }
 {
-    let plan = match carry_plan(alloc, book, program, values) {
+    let plan = match carry_plan(alloc, problem, values) {
         Ok(plan) => plan,
         Err(Stopped::Width(_)) => return Ok(None),
         Err(Stopped::Memory) => return Err(AllocError),
     };
     plan_laws(&plan);
-    let rows = trial_rows(alloc, book.rows(), listing)?;
-    match check_plan(&rows, book.vars(), &plan) {
-        Verdict::Yes(_) => Ok(Some(Finding::Plan(plan))),
-        Verdict::No(_) => Ok(None),
-        Verdict::Width(_) => Ok(None),
+    let rows = trial_rows(alloc, problem.rows, listing)?;
+    match accepted_plan(&rows, problem.vars, &plan) {
+        Ok(_) => Ok(Some(Finding::Plan(plan))),
+        Err(_) => Ok(None),
     }
 }
 
 /// The multipliers of the first guess that the checker accepts.
 fn guessed_refutation(
     alloc: Global,
-    book: &RowBook,
-    program: &BookProgram,
+    problem: &Problem<'_>,
     listing: &Listing<'_>,
     tried: &Reduced,
     pivots: u64,
 ) -> Result<Option<Finding>, AllocError>
-    requires program { IsProgramOf book.now.rows book.now.vars program.now }
-    requires tried { IsTriedOf (listed_by listing.now) program.now.reduced tried.now }
-    ensures worth { IfOk result (λ found. IfSome found (IsFinding (listed_by listing.now) book.now.rows book.now.vars)) }
+    requires problem { IsPosedProblem problem.now }
+    requires tried { IsTriedOf (listed_by listing.now) problem.now.reduced.now tried.now }
+    ensures worth { IfOk result (λ found. IfSome found (IsFinding (listed_by listing.now) problem.now.rows.now problem.now.vars.now)) }
 {
     for digits in DIGITS {
         match guess_multipliers(alloc, tried, digits, pivots)? {
             Some(lambda) => {
-                match accepted_refutation(alloc, book, program, listing, tried, &lambda)? {
+                match checked_multipliers(alloc, problem, listing, tried, &lambda)? {
                     Some(finding) => return Ok(Some(finding)),
                     None => {}
                 }
@@ -143,23 +135,22 @@ fn guessed_refutation(
 }
 
 /// Guessed multipliers, carried back to all rows, where the checker accepts that they show that there is no plan.
-fn accepted_refutation(
+fn checked_multipliers(
     alloc: Global,
-    book: &RowBook,
-    program: &BookProgram,
+    problem: &Problem<'_>,
     listing: &Listing<'_>,
     tried: &Reduced,
     lambda: &[Frac],
 ) -> Result<Option<Finding>, AllocError>
-    requires program { IsProgramOf book.now.rows book.now.vars program.now }
-    requires tried { IsTriedOf (listed_by listing.now) program.now.reduced tried.now }
+    requires problem { IsPosedProblem problem.now }
+    requires tried { IsTriedOf (listed_by listing.now) problem.now.reduced.now tried.now }
     requires counted { length lambda.now ≡ length tried.now.rows.items }
-    ensures worth { IfOk result (λ found. IfSome found (IsFinding (listed_by listing.now) book.now.rows book.now.vars)) }
+    ensures worth { IfOk result (λ found. IfSome found (IsFinding (listed_by listing.now) problem.now.rows.now problem.now.vars.now)) }
 {
     let multipliers = match lift_multipliers(
         alloc,
-        book.rows(),
-        &program.defs,
+        problem.rows,
+        problem.defs,
         tried,
         lambda,
         false,
@@ -169,10 +160,9 @@ fn accepted_refutation(
         Err(Stopped::Memory) => return Err(AllocError),
     };
     multiplier_laws(&multipliers);
-    let verdict = check_infeasible(alloc, book.rows(), book.vars(), &multipliers)?;
-    match verdict {
-        Verdict::Yes(_) => Ok(Some(Finding::Refutation(multipliers))),
-        Verdict::No(_) => Ok(None),
-        Verdict::Width(_) => Ok(None),
+    match accepted_refutation(alloc, problem.rows, problem.vars, &multipliers) {
+        Ok(()) => Ok(Some(Finding::Refutation(multipliers))),
+        Err(NoAnswer::Memory) => Err(AllocError),
+        Err(_) => Ok(None),
     }
 }

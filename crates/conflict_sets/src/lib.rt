@@ -1,11 +1,10 @@
-//! Why no plan exists: a few inequalities of a book that can't be met together, each of them shown to be needed for that.
+//! Why no plan exists: a few inequalities that can't be met together, each of them shown to be needed for that.
 #![tactic(auto)]
 
 mod conflict;
 mod copying;
 mod explaining;
 mod guessing;
-mod laws;
 mod listing;
 mod rounding;
 mod searching;

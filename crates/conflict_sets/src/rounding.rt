@@ -1,9 +1,9 @@
-//! Why no plan meets the rows of a book, by guesses that the checker accepts, and by the exact method where there are none.
+//! Why no plan meets the rows, by guesses that the checker accepts, and by the exact method where there are none.
 
 ghost use Rattle.std.specs.Prelude.{◌≡◌, ◌∷◌, List, Some, length, IfOk, IfErr, IfSome, IfNone, OnOk};
 ghost use Rattle.row_core.specs.declared.RowName.{RowName};
-ghost use Rattle.exact_solver.specs.BookPrograms.{IsProgramOf};
-ghost use Rattle.exact_solver.specs.Solutions.{IsRefutation};
+ghost use Rattle.row_problem.specs.ProgramsOf.{IsPosedProblem};
+ghost use Rattle.certified_answers.specs.Worth.{IsRefutation};
 ghost use Rattle.conflict_sets.specs.Conflicts.{AdmitsSome, IsConflict};
 ghost use Rattle.conflict_sets.specs.Pieces.{IsFinding, listed_by};
 ghost use Rattle.conflict_sets.specs.RoundedStops.{StopsSome};
@@ -18,12 +18,12 @@ use crate::listing::{Listing, is_listed, listed_names};
 use crate::searching::{Search, trial_fail};
 use crate::shrinking::Shrinking;
 use crate::trial::{Finding, trial};
-use exact_solver::{BookProgram, SolveStop};
-use row_book::RowBook;
+use certified_answers::NoAnswer;
 use row_core::{Multipliers, RowName};
+use row_problem::Problem;
 use std::alloc::Global;
 
-/// As `explain`, by guesses in numbers of limited accuracy first: a few inequalities of a book that can't be met together, each of them
+/// As `explain`, by guesses in numbers of limited accuracy first: a few inequalities that can't be met together, each of them
 /// needed for that, or `None` where some plan meets all rows. Plans and multipliers are checked as those of `explain` are.
 ///
 /// Each trial is made by guesses, and by the exact method where the checker accepts none of them; each guess and each exact trial may
@@ -35,91 +35,87 @@ use std::alloc::Global;
 /// those of the first step too, the first after the first trial as 1. Any other refusal means that memory ran out.
 pub fn explain_rounded(
     alloc: Global,
-    book: &RowBook,
-    program: &BookProgram,
+    problem: &Problem<'_>,
     pivots: u64,
 ) -> Result<Option<Conflict>, ExplainFail>
-    requires { IsProgramOf book.now.rows book.now.vars program.now }
-    ensures stopped { IfErr result (StopsSome book.now.rows book.now.vars pivots) }
-    ensures conflict { IfOk result (λ found. IfSome found (IsConflict book.now.rows book.now.vars)) }
-    ensures feasible { IfOk result (λ found. IfNone found (AdmitsSome book.now.rows book.now.vars)) }
+    requires { IsPosedProblem problem.now }
+    ensures stopped { IfErr result (StopsSome problem.now.rows.now problem.now.defs.now problem.now.vars.now pivots) }
+    ensures conflict { IfOk result (λ found. IfSome found (IsConflict problem.now.rows.now problem.now.vars.now)) }
+    ensures feasible { IfOk result (λ found. IfNone found (AdmitsSome problem.now.rows.now problem.now.vars.now)) }
 {
-    match rounded_trial(alloc, book, program, &Listing::Every, pivots) {
+    match rounded_trial(alloc, problem, &Listing::Every, pivots) {
         Ok(Finding::Plan(_)) => Ok(None),
         Ok(Finding::Refutation(multipliers)) => {
-            let conflict = shortened(alloc, book, program, multipliers, pivots)?;
+            let conflict = shortened(alloc, problem, multipliers, pivots)?;
             Ok(Some(conflict))
         }
         Err(stop) => Err(first_fail(stop, pivots)),
     }
 }
 
-/// Tries the equations of a book and those of its inequalities that are listed: by guesses, and by the exact method where none is
+/// Tries the equations and those of its inequalities that are listed: by guesses, and by the exact method where none is
 /// accepted.
 fn rounded_trial(
     alloc: Global,
-    book: &RowBook,
-    program: &BookProgram,
+    problem: &Problem<'_>,
     listing: &Listing<'_>,
     pivots: u64,
-) -> Result<Finding, SolveStop>
-    requires { IsProgramOf book.now.rows book.now.vars program.now }
-    ensures stopped { IfErr result (StopsTrial (trial_end (listed_by listing.now) book.now.rows book.now.vars pivots)) }
-    ensures worth { IfOk result (IsFinding (listed_by listing.now) book.now.rows book.now.vars) }
+) -> Result<Finding, NoAnswer>
+    requires { IsPosedProblem problem.now }
+    ensures stopped { IfErr result (StopsTrial (trial_end (listed_by listing.now) problem.now.rows.now problem.now.defs.now problem.now.vars.now pivots)) }
+    ensures worth { IfOk result (IsFinding (listed_by listing.now) problem.now.rows.now problem.now.vars.now) }
 {
-    match guessed(alloc, book, program, listing, pivots) {
+    match guessed(alloc, problem, listing, pivots) {
         Ok(Some(finding)) => Ok(finding),
-        Ok(None) => trial(alloc, book, program, listing, pivots),
-        Err(_) => Err(SolveStop::Memory),
+        Ok(None) => trial(alloc, problem, listing, pivots),
+        Err(_) => Err(NoAnswer::Memory),
     }
 }
 
 /// The conflict that is left of the list of a refutation.
 fn shortened(
     alloc: Global,
-    book: &RowBook,
-    program: &BookProgram,
+    problem: &Problem<'_>,
     multipliers: Multipliers,
     pivots: u64,
 ) -> Result<Conflict, ExplainFail>
-    requires program { IsProgramOf book.now.rows book.now.vars program.now }
-    requires refutation { IsRefutation book.now.rows book.now.vars multipliers }
-    ensures stopped { IfErr result (StopsSome book.now.rows book.now.vars pivots) }
-    ensures conflict { IfOk result (IsConflict book.now.rows book.now.vars) }
+    requires problem { IsPosedProblem problem.now }
+    requires refutation { IsRefutation problem.now.rows.now problem.now.vars.now multipliers }
+    ensures stopped { IfErr result (StopsSome problem.now.rows.now problem.now.defs.now problem.now.vars.now pivots) }
+    ensures conflict { IfOk result (IsConflict problem.now.rows.now problem.now.vars.now) }
 {
     let mut shrinking = Shrinking {
         multipliers,
         trials: 0,
     };
-    shrinking.shrink(alloc, book, program, pivots)?;
-    let names = listed_names(alloc, book.rows(), &shrinking.multipliers)?;
+    shrinking.shrink(alloc, problem, pivots)?;
+    let names = listed_names(alloc, problem.rows, &shrinking.multipliers)?;
     let search = Search {
         multipliers: shrinking.multipliers,
         names: Vec::new(alloc),
         plans: Vec::new(alloc),
         trials: shrinking.trials,
     };
-    searched(alloc, book, program, search, &names, pivots)
+    searched(alloc, problem, search, &names, pivots)
 }
 
 /// What is left of the list when each of these inequalities was tried.
 fn searched(
     alloc: Global,
-    book: &RowBook,
-    program: &BookProgram,
+    problem: &Problem<'_>,
     search: Search,
     names: &[RowName],
     pivots: u64,
 ) -> Result<Conflict, ExplainFail>
-    requires program { IsProgramOf book.now.rows book.now.vars program.now }
+    requires problem { IsPosedProblem problem.now }
     requires even { length search.names.items ≡ length search.plans.items }
-    requires searched { SearchIs book.now.rows book.now.vars search names.now }
-    ensures stopped { IfErr result (StopsSome book.now.rows book.now.vars pivots) }
-    ensures conflict { IfOk result (IsConflict book.now.rows book.now.vars) }
+    requires searched { SearchIs problem.now.rows.now problem.now.vars.now search names.now }
+    ensures stopped { IfErr result (StopsSome problem.now.rows.now problem.now.defs.now problem.now.vars.now pivots) }
+    ensures conflict { IfOk result (IsConflict problem.now.rows.now problem.now.vars.now) }
 {
     let mut search = search;
     for name in names {
-        leave_out(alloc, book, program, &mut search, *name, pivots)?;
+        leave_out(alloc, problem, &mut search, *name, pivots)?;
     }
     Ok(search.conflict(alloc)?)
 }
@@ -127,18 +123,17 @@ fn searched(
 /// Tries the list without this inequality, where it is still on it.
 fn leave_out(
     alloc: Global,
-    book: &RowBook,
-    program: &BookProgram,
+    problem: &Problem<'_>,
     search: &mut Search,
     name: RowName,
     pivots: u64,
 ) -> Result<(), ExplainFail>
-    requires program { IsProgramOf book.now.rows book.now.vars program.now }
+    requires problem { IsPosedProblem problem.now }
     requires even { length search.old.names.items ≡ length search.old.plans.items }
-    requires refutation { IsRefutation book.now.rows book.now.vars search.old.multipliers }
+    requires refutation { IsRefutation problem.now.rows.now problem.now.vars.now search.old.multipliers }
     ensures even { OnOk result (length search.new.names.items ≡ length search.new.plans.items) }
-    ensures stopped { IfErr result (StopsSome book.now.rows book.now.vars pivots) }
-    ensures searched { OnOk result ((left : List RowName) → SearchIs book.now.rows book.now.vars search.old (name ∷ left) → SearchIs book.now.rows book.now.vars search.new left) }
+    ensures stopped { IfErr result (StopsSome problem.now.rows.now problem.now.defs.now problem.now.vars.now pivots) }
+    ensures searched { OnOk result ((left : List RowName) → SearchIs problem.now.rows.now problem.now.vars.now search.old (name ∷ left) → SearchIs problem.now.rows.now problem.now.vars.now search.new left) }
 {
     if !is_listed(&search.multipliers, name) {
         return Ok(());
@@ -146,7 +141,7 @@ fn leave_out(
     // A count of trials that are made one after another never comes near its end.
     search.trials = search.trials.saturating_add(1);
     let listing = Listing::Others(&search.multipliers, name);
-    match rounded_trial(alloc, book, program, &listing, pivots) {
+    match rounded_trial(alloc, problem, &listing, pivots) {
         Ok(Finding::Plan(plan)) => {
             search.names.push(name)?;
             search.plans.push(plan)?;

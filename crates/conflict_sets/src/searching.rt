@@ -3,17 +3,17 @@
 ghost use Rattle.std.specs.Prelude.{◌≡◌, ◌+◌, ◌<◌, ◌≤◌, ◌^◌, ◌∷◌, List, length, map, IfOk, IfErr, OnOk};
 ghost use Rattle.row_core.specs.declared.RowName.{RowName};
 ghost use Rattle.row_core.specs.Plans.{valued};
-ghost use Rattle.exact_solver.specs.BookPrograms.{IsProgramOf};
+ghost use Rattle.row_problem.specs.ProgramsOf.{IsPosedProblem};
 ghost use Rattle.conflict_sets.specs.Searches.{SearchIs, member_named, walk_from};
 ghost use Rattle.conflict_sets.specs.Walks.{Stops, trial_failed};
 
 use crate::conflict::{Conflict, ExplainFail};
 use crate::listing::{Listing, is_listed};
 use crate::trial::{Finding, trial};
+use certified_answers::NoAnswer;
 use exact_num::Frac;
-use exact_solver::{BookProgram, SolveStop};
-use row_book::RowBook;
 use row_core::{Multipliers, Plan, RowName};
+use row_problem::Problem;
 use simplex_core::{Stop, TrialStop};
 use std::alloc::{AllocError, Global};
 
@@ -35,26 +35,25 @@ impl Search {
     pub fn leave_out(
         &mut self,
         alloc: Global,
-        book: &RowBook,
-        program: &BookProgram,
+        problem: &Problem<'_>,
         name: RowName,
         pivots: u64,
     ) -> Result<(), ExplainFail>
-        requires program { IsProgramOf book.now.rows book.now.vars program.now }
+        requires problem { IsPosedProblem problem.now }
         requires counted { self.old.trials + 1 < 2 ^ 64 }
         requires even { length self.old.names.items ≡ length self.old.plans.items }
         ensures counted { OnOk result (self.new.trials ≤ self.old.trials + 1) }
         ensures even { OnOk result (length self.new.names.items ≡ length self.new.plans.items) }
-        ensures walks { OnOk result ((left : List RowName) → walk_from book.now.rows book.now.vars pivots self.old (name ∷ left) ≡ walk_from book.now.rows book.now.vars pivots self.new left) }
-        ensures stopped { IfErr result (λ fail. (left : List RowName) → Stops (walk_from book.now.rows book.now.vars pivots self.old (name ∷ left)) fail) }
-        ensures searched { OnOk result ((left : List RowName) → SearchIs book.now.rows book.now.vars self.old (name ∷ left) → SearchIs book.now.rows book.now.vars self.new left) }
+        ensures walks { OnOk result ((left : List RowName) → walk_from problem.now.rows.now problem.now.defs.now problem.now.vars.now pivots self.old (name ∷ left) ≡ walk_from problem.now.rows.now problem.now.defs.now problem.now.vars.now pivots self.new left) }
+        ensures stopped { IfErr result (λ fail. (left : List RowName) → Stops (walk_from problem.now.rows.now problem.now.defs.now problem.now.vars.now pivots self.old (name ∷ left)) fail) }
+        ensures searched { OnOk result ((left : List RowName) → SearchIs problem.now.rows.now problem.now.vars.now self.old (name ∷ left) → SearchIs problem.now.rows.now problem.now.vars.now self.new left) }
     {
         if !is_listed(&self.multipliers, name) {
             return Ok(());
         }
         self.trials += 1;
         let listing = Listing::Others(&self.multipliers, name);
-        match trial(alloc, book, program, &listing, pivots) {
+        match trial(alloc, problem, &listing, pivots) {
             Ok(Finding::Plan(plan)) => {
                 self.names.push(name)?;
                 self.plans.push(plan)?;
@@ -97,14 +96,14 @@ fn members_of(
 }
 
 /// Why the trial of this number stopped.
-pub(crate) fn trial_fail(stop: SolveStop, trial: u64, pivots: u64) -> ExplainFail
+pub(crate) fn trial_fail(stop: NoAnswer, trial: u64, pivots: u64) -> ExplainFail
     ensures { result ≡ trial_failed trial pivots stop }
 {
     match stop {
-        SolveStop::Budget => ExplainFail::Stopped(Stop::Trial(trial, TrialStop::Budget(pivots))),
-        SolveStop::Width(place) => {
+        NoAnswer::Budget => ExplainFail::Stopped(Stop::Trial(trial, TrialStop::Budget(pivots))),
+        NoAnswer::Width(place) => {
             ExplainFail::Stopped(Stop::Trial(trial, TrialStop::Width(place)))
         }
-        SolveStop::Memory => ExplainFail::Memory,
+        NoAnswer::Nothing | NoAnswer::Memory => ExplainFail::Memory,
     }
 }

@@ -1,15 +1,14 @@
 //! A long list made shorter before its inequalities are tried one by one.
 
 ghost use Rattle.std.specs.Prelude.{IfOk, OnOk};
-ghost use Rattle.exact_solver.specs.BookPrograms.{IsProgramOf};
-ghost use Rattle.exact_solver.specs.Solutions.{IsRefutation};
+ghost use Rattle.row_problem.specs.ProgramsOf.{IsPosedProblem};
+ghost use Rattle.certified_answers.specs.Worth.{IsRefutation};
 
 use crate::guessing::refuted_by_guess;
 use crate::listing::{Listing, listed_names};
 use crate::trial::Finding;
-use exact_solver::BookProgram;
-use row_book::RowBook;
 use row_core::{Multipliers, RowName};
+use row_problem::Problem;
 use std::alloc::{AllocError, Global};
 
 /// How often the parts are halved at most.
@@ -32,22 +31,21 @@ impl Shrinking {
     pub fn shrink(
         &mut self,
         alloc: Global,
-        book: &RowBook,
-        program: &BookProgram,
+        problem: &Problem<'_>,
         pivots: u64,
     ) -> Result<(), AllocError>
-        requires program { IsProgramOf book.now.rows book.now.vars program.now }
-        requires refutation { IsRefutation book.now.rows book.now.vars self.old.multipliers }
-        ensures refutation { OnOk result (IsRefutation book.now.rows book.now.vars self.new.multipliers) }
+        requires problem { IsPosedProblem problem.now }
+        requires refutation { IsRefutation problem.now.rows.now problem.now.vars.now self.old.multipliers }
+        ensures refutation { OnOk result (IsRefutation problem.now.rows.now problem.now.vars.now self.new.multipliers) }
     {
         let mut size = usize::MAX;
         for _ in 0..ROUNDS {
-            let names = listed_names(alloc, book.rows(), &self.multipliers)?;
+            let names = listed_names(alloc, problem.rows, &self.multipliers)?;
             size = (size / 2).min(names.len() / 2);
             if size < LEAST {
                 return Ok(());
             }
-            self.leave_out_parts(alloc, book, program, &names, size, pivots)?;
+            self.leave_out_parts(alloc, problem, &names, size, pivots)?;
         }
         Ok(())
     }
@@ -56,15 +54,14 @@ impl Shrinking {
     fn leave_out_parts(
         &mut self,
         alloc: Global,
-        book: &RowBook,
-        program: &BookProgram,
+        problem: &Problem<'_>,
         names: &[RowName],
         size: usize,
         pivots: u64,
     ) -> Result<(), AllocError>
-        requires program { IsProgramOf book.now.rows book.now.vars program.now }
-        requires refutation { IsRefutation book.now.rows book.now.vars self.old.multipliers }
-        ensures refutation { OnOk result (IsRefutation book.now.rows book.now.vars self.new.multipliers) }
+        requires problem { IsPosedProblem problem.now }
+        requires refutation { IsRefutation problem.now.rows.now problem.now.vars.now self.old.multipliers }
+        ensures refutation { OnOk result (IsRefutation problem.now.rows.now problem.now.vars.now self.new.multipliers) }
     {
         let mut first: Option<RowName> = None;
         let mut count: usize = 0;
@@ -72,7 +69,7 @@ impl Shrinking {
             let start = first.unwrap_or(*name);
             count = count.saturating_add(1);
             if count >= size {
-                self.leave_out_part(alloc, book, program, start, *name, pivots)?;
+                self.leave_out_part(alloc, problem, start, *name, pivots)?;
                 first = None;
                 count = 0;
             } else {
@@ -86,20 +83,19 @@ impl Shrinking {
     fn leave_out_part(
         &mut self,
         alloc: Global,
-        book: &RowBook,
-        program: &BookProgram,
+        problem: &Problem<'_>,
         first: RowName,
         last: RowName,
         pivots: u64,
     ) -> Result<(), AllocError>
-        requires program { IsProgramOf book.now.rows book.now.vars program.now }
-        requires refutation { IsRefutation book.now.rows book.now.vars self.old.multipliers }
-        ensures refutation { OnOk result (IsRefutation book.now.rows book.now.vars self.new.multipliers) }
+        requires problem { IsPosedProblem problem.now }
+        requires refutation { IsRefutation problem.now.rows.now problem.now.vars.now self.old.multipliers }
+        ensures refutation { OnOk result (IsRefutation problem.now.rows.now problem.now.vars.now self.new.multipliers) }
     {
         // A count of trials that are made one after another never comes near its end.
         self.trials = self.trials.saturating_add(1);
         let listing = Listing::Outside(&self.multipliers, first, last);
-        match refuted_by_guess(alloc, book, program, &listing, pivots)? {
+        match refuted_by_guess(alloc, problem, &listing, pivots)? {
             Some(Finding::Refutation(multipliers)) => self.multipliers = multipliers,
             Some(Finding::Plan(_plan)) => {}
             None => {}

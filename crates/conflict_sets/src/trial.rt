@@ -4,18 +4,16 @@ ghost use Rattle.std.specs.Prelude.{◌≡◌, IfOk, IfErr, length};
 ghost use Rattle.row_core.specs.Numbers.{keys_of};
 ghost use Rattle.written_method.specs.Programs.{program_of};
 ghost use Rattle.simplex_core.specs.Outcomes.{MeetAll, RefuteAll};
-ghost use Rattle.exact_solver.specs.BookPrograms.{IsProgramOf};
+ghost use Rattle.row_problem.specs.ProgramsOf.{IsPosedProblem};
 ghost use Rattle.conflict_sets.specs.Pieces.{IsFinding, IsTriedOf, end_found, listed_by};
-ghost use Rattle.conflict_sets.specs.Trials.{StopsTrial, planned_end, refuted_end, trial_end};
+ghost use Rattle.conflict_sets.specs.Trials.{StopsTrial, planned_end, refuted_end, stop_at, trial_end};
 
 use crate::copying::{trial_program, trial_rows};
-use crate::laws::{multiplier_laws, plan_laws};
 use crate::listing::Listing;
-use certificate_checker::{Verdict, check_infeasible, check_plan};
-use exact_solver::{BookProgram, SolveStop, carry_plan};
-use row_book::RowBook;
+use certified_answers::{NoAnswer, accepted_plan, accepted_refutation, multiplier_laws, plan_laws};
 use row_core::{Multipliers, Plan};
-use simplex_core::{End, Lambda, solve};
+use row_problem::{Problem, carry_plan};
+use simplex_core::{End, Halt, Lambda, solve};
 use std::alloc::Global;
 use variable_elimination::lift_multipliers;
 use written_method::Reduced;
@@ -29,86 +27,90 @@ pub(crate) enum Finding {
     Refutation(Multipliers),
 }
 
-/// Tries the equations of a book and those of its inequalities that are listed, with so many pivots at most.
+/// Tries the equations and those of its inequalities that are listed, with so many pivots at most.
 pub(crate) fn trial(
     alloc: Global,
-    book: &RowBook,
-    program: &BookProgram,
+    problem: &Problem<'_>,
     listing: &Listing<'_>,
     pivots: u64,
-) -> Result<Finding, SolveStop>
-    requires { IsProgramOf book.now.rows book.now.vars program.now }
-    ensures end { IfOk result (λ finding. end_found finding ≡ trial_end (listed_by listing.now) book.now.rows book.now.vars pivots) }
-    ensures stopped { IfErr result (StopsTrial (trial_end (listed_by listing.now) book.now.rows book.now.vars pivots)) }
-    ensures worth { IfOk result (IsFinding (listed_by listing.now) book.now.rows book.now.vars) }
+) -> Result<Finding, NoAnswer>
+    requires { IsPosedProblem problem.now }
+    ensures end { IfOk result (λ finding. end_found finding ≡ trial_end (listed_by listing.now) problem.now.rows.now problem.now.defs.now problem.now.vars.now pivots) }
+    ensures stopped { IfErr result (StopsTrial (trial_end (listed_by listing.now) problem.now.rows.now problem.now.defs.now problem.now.vars.now pivots)) }
+    ensures worth { IfOk result (IsFinding (listed_by listing.now) problem.now.rows.now problem.now.vars.now) }
 {
-    let tried = trial_program(alloc, &program.reduced, listing)?;
-    let end = solve(alloc, &tried, pivots)?;
+    let tried = trial_program(alloc, problem.reduced, listing)?;
+    let end = match solve(alloc, &tried, pivots) {
+        Ok(end) => end,
+        Err(halt) => return Err(stop_at(halt)),
+    };
     match end {
-        End::Optimal { values, .. } => planned(alloc, book, program, listing, &tried, &values),
-        End::Unbounded { values, .. } => planned(alloc, book, program, listing, &tried, &values),
-        End::Infeasible { lambda, .. } => refuted(alloc, book, program, listing, &tried, &lambda),
+        End::Optimal { values, .. } => planned(alloc, problem, listing, &tried, &values),
+        End::Unbounded { values, .. } => planned(alloc, problem, listing, &tried, &values),
+        End::Infeasible { lambda, .. } => refuted(alloc, problem, listing, &tried, &lambda),
+    }
+}
+
+/// Why the simplex stops, as the reason why a trial does.
+fn stop_at(halt: Halt) -> NoAnswer
+    ensures { result ≡ stop_at halt }
+{
+    match halt {
+        Halt::Budget => NoAnswer::Budget,
+        Halt::Width(place) => NoAnswer::Width(place),
+        Halt::Memory => NoAnswer::Memory,
     }
 }
 
 /// The plan of values that meet the linear program of a trial, carried back and checked over the rows of the trial.
 fn planned(
     alloc: Global,
-    book: &RowBook,
-    program: &BookProgram,
+    problem: &Problem<'_>,
     listing: &Listing<'_>,
     tried: &Reduced,
     values: &Plan,
-) -> Result<Finding, SolveStop>
-    requires program { IsProgramOf book.now.rows book.now.vars program.now }
-    requires tried { IsTriedOf (listed_by listing.now) program.now.reduced tried.now }
+) -> Result<Finding, NoAnswer>
+    requires problem { IsPosedProblem problem.now }
+    requires tried { IsTriedOf (listed_by listing.now) problem.now.reduced.now tried.now }
     requires keyed { keys_of values.now ≡ tried.now.columns.items }
     requires meet { MeetAll (program_of tried.now) values.now }
-    ensures end { IfOk result (λ finding. end_found finding ≡ planned_end (listed_by listing.now) book.now.rows book.now.vars values.now) }
-    ensures stopped { IfErr result (StopsTrial (planned_end (listed_by listing.now) book.now.rows book.now.vars values.now)) }
-    ensures worth { IfOk result (IsFinding (listed_by listing.now) book.now.rows book.now.vars) }
+    ensures end { IfOk result (λ finding. end_found finding ≡ planned_end (listed_by listing.now) problem.now.rows.now problem.now.defs.now problem.now.vars.now values.now) }
+    ensures stopped { IfErr result (StopsTrial (planned_end (listed_by listing.now) problem.now.rows.now problem.now.defs.now problem.now.vars.now values.now)) }
+    ensures worth { IfOk result (IsFinding (listed_by listing.now) problem.now.rows.now problem.now.vars.now) }
 {
     plan_laws(values);
-    let plan = carry_plan(alloc, book, program, values)?;
+    let plan = carry_plan(alloc, problem, values)?;
     plan_laws(&plan);
-    let rows = trial_rows(alloc, book.rows(), listing)?;
-    match check_plan(&rows, book.vars(), &plan) {
-        Verdict::Yes(_) => Ok(Finding::Plan(plan)),
-        Verdict::Width(place) => Err(SolveStop::Width(place)),
-        Verdict::No(_) => unreachable!(),
-    }
+    let rows = trial_rows(alloc, problem.rows, listing)?;
+    accepted_plan(&rows, problem.vars, &plan)?;
+    Ok(Finding::Plan(plan))
 }
 
 /// The multipliers that refute the linear program of a trial, carried back to all rows and checked.
 fn refuted(
     alloc: Global,
-    book: &RowBook,
-    program: &BookProgram,
+    problem: &Problem<'_>,
     listing: &Listing<'_>,
     tried: &Reduced,
     lambda: &Lambda,
-) -> Result<Finding, SolveStop>
-    requires program { IsProgramOf book.now.rows book.now.vars program.now }
-    requires tried { IsTriedOf (listed_by listing.now) program.now.reduced tried.now }
+) -> Result<Finding, NoAnswer>
+    requires problem { IsPosedProblem problem.now }
+    requires tried { IsTriedOf (listed_by listing.now) problem.now.reduced.now tried.now }
     requires counted { length lambda.now ≡ length tried.now.rows.items }
     requires refute { RefuteAll (program_of tried.now) lambda.now }
-    ensures end { IfOk result (λ finding. end_found finding ≡ refuted_end (listed_by listing.now) book.now.rows book.now.vars lambda.now) }
-    ensures stopped { IfErr result (StopsTrial (refuted_end (listed_by listing.now) book.now.rows book.now.vars lambda.now)) }
-    ensures worth { IfOk result (IsFinding (listed_by listing.now) book.now.rows book.now.vars) }
+    ensures end { IfOk result (λ finding. end_found finding ≡ refuted_end (listed_by listing.now) problem.now.rows.now problem.now.defs.now problem.now.vars.now lambda.now) }
+    ensures stopped { IfErr result (StopsTrial (refuted_end (listed_by listing.now) problem.now.rows.now problem.now.defs.now problem.now.vars.now lambda.now)) }
+    ensures worth { IfOk result (IsFinding (listed_by listing.now) problem.now.rows.now problem.now.vars.now) }
 {
     let multipliers = lift_multipliers(
         alloc,
-        book.rows(),
-        &program.defs,
+        problem.rows,
+        problem.defs,
         tried,
         lambda.entries(),
         false,
     )?;
     multiplier_laws(&multipliers);
-    let verdict = check_infeasible(alloc, book.rows(), book.vars(), &multipliers)?;
-    match verdict {
-        Verdict::Yes(_) => Ok(Finding::Refutation(multipliers)),
-        Verdict::Width(place) => Err(SolveStop::Width(place)),
-        Verdict::No(_) => unreachable!(),
-    }
+    accepted_refutation(alloc, problem.rows, problem.vars, &multipliers)?;
+    Ok(Finding::Refutation(multipliers))
 }

@@ -1,5 +1,6 @@
 -- The order in which what the simplex found is carried back and checked: where numbers of two steps don't fit, the place of the first is told.
 use Rattle.std.proofs.Common.{◌≡◌, ℕ, ◌-◌, ◌^◌, ℤ, pos, negsuc, neg_ℤ, true, List, [], ◌∷◌, refl}
+use Rattle.std.specs.Prelude.{Option, Some, None}
 use Rattle.std.specs.Global.{Vec}
 use Rattle.exact_num.specs.Formed.{difference_formed, product_formed, quotient_formed, sum_formed}
 use Rattle.exact_num.specs.Gcd.{gcd_of, gcd_within}
@@ -15,8 +16,9 @@ use Rattle.row_core.specs.declared.kind_numbers.TheConstants.{NEW_CAPACITY, RATE
 use Rattle.row_core.specs.declared.place.Place.TheVariants.{Check, LiftDirection, LiftMultiplier, LiftPlan}
 use Rattle.written_method.specs.Solved.{IsOptimal, IsUnbounded}
 use Rattle.written_method.proofs.MadeRows.{made_row}
+use Rattle.certified_answers.specs.declared.costs.Cost.TheVariants.{Model}
 use Rattle.exact_solver.specs.MethodEnds.{HasOptimum, IsWide, MethodEnd, carried_end}
-use Rattle.exact_solver.specs.Programs.{carried_direction, carried_multipliers, carried_plan, carrying_steps, direction_steps, plan_steps}
+use Rattle.row_problem.specs.Programs.{carried_direction, carried_multipliers, carried_plan, carrying_steps, direction_steps, plan_steps}
 
 -- the variable, and the row, of this number at the first members
 abbrev of_kind : ℕ → Var
@@ -47,12 +49,15 @@ module _ (v : Vec (Var × ℤ)) where
   abbrev rows : List Row
   rows = made_row v (named CAA2) Equal ((built, negsuc 0) ∷ (total, pos 2) ∷ []) (pos 0) refl ∷ made_row v (named CAA4) Most ((activity, pos 1) ∷ (total, negsuc 0) ∷ []) (pos 0) refl ∷ []
 
+  abbrev defs : List (Option Var)
+  defs = Some total ∷ None ∷ []
+
   abbrev vars : List Var
   vars = activity ∷ built ∷ total ∷ []
 
   -- with these values of the activity and of what is built, and this multiplier
   abbrev optimal : Rational → Rational → ℤ → MethodEnd
-  optimal x n lambda = carried_end rows vars (IsOptimal ((activity, x) ∷ (built, n) ∷ []) (whole lambda ∷ []) 3)
+  optimal x n lambda = carried_end Model rows defs vars (IsOptimal ((activity, x) ∷ (built, n) ∷ []) (whole lambda ∷ []) 3)
 
   -- half of the least fraction doesn't fit, and neither does twice the greatest number: the plan is carried back first
   plan_first : optimal (whole (pos 0)) least (neg_ℤ greatest) ≡ IsWide (LiftPlan total)
@@ -78,13 +83,13 @@ module _ (v : Vec (Var × ℤ)) where
   unfolding plan_steps carried_plan carrying_steps carried_multipliers gcd_of gcd_within lowest plus minus times divided order_of product_formed sum_formed difference_formed quotient_formed first_wide all_fit in_range
   carried = refl
 
-  carried_multiplier : carried_multipliers true rows (whole (negsuc 2) ∷ []) ≡ (named CAA2, whole (negsuc 2)) ∷ (named CAA4, whole (negsuc 5)) ∷ []
+  carried_multiplier : carried_multipliers true rows defs (whole (negsuc 2) ∷ []) ≡ (named CAA2, whole (negsuc 2)) ∷ (named CAA4, whole (negsuc 5)) ∷ []
   unfolding carried_multipliers gcd_of gcd_within lowest plus minus times divided
   carried_multiplier = refl
 
   -- an unbounded end: the plan before the direction
   abbrev unbounded : Rational → Rational → MethodEnd
-  unbounded n d = carried_end rows vars (IsUnbounded ((activity, whole (pos 0)) ∷ (built, n) ∷ []) ((activity, whole (pos 0)) ∷ (built, d) ∷ []) 3)
+  unbounded n d = carried_end Model rows defs vars (IsUnbounded ((activity, whole (pos 0)) ∷ (built, n) ∷ []) ((activity, whole (pos 0)) ∷ (built, d) ∷ []) 3)
 
   plan_before_direction : unbounded least least ≡ IsWide (LiftPlan total)
   unfolding plan_steps carried_plan direction_steps carried_direction gcd_of gcd_within lowest plus minus times divided order_of product_formed sum_formed difference_formed quotient_formed first_wide all_fit in_range

@@ -1,6 +1,6 @@
 -- What is carried back from the simplex is what makes the checks say yes.
 use Rattle.std.proofs.Common.{◌≡◌, ℕ, ◌*◌, ◌<◌, ℤ, pos, neg_ℤ, ◌+ℤ◌, ◌*ℤ◌, true, false, List, map, sym, ap, ◌∙◌, subst, arith}
-use Rattle.std.specs.Prelude.{◌<ℤ◌}
+use Rattle.std.specs.Prelude.{◌<ℤ◌, Option}
 use Rattle.std.proofs.lemmas.Int.{ints}
 use Rattle.exact_num.specs.Rational.{Rational}
 use Rattle.exact_num.specs.Value.{value_of}
@@ -17,48 +17,26 @@ use Rattle.row_core.specs.Plans.{value_in}
 use Rattle.row_core.specs.Rows.{row_sum}
 use Rattle.row_core.specs.Values.{IsOver}
 use Rattle.row_core.proofs.SumLaws.{IsOver-agree}
-use Rattle.row_book.specs.Kept.{IsBook}
 use Rattle.written_method.specs.declared.reduced.Reduced.{Reduced}
 use Rattle.written_method.specs.Certificates.{AreOverFrom, right_sum}
-use Rattle.written_method.specs.Definitions.{Definition, defined, is_among}
+use Rattle.written_method.specs.Definitions.{AreTriangular, Definition, defined, definitions_of, is_among}
 use Rattle.written_method.specs.Lifted.{lifted, no_right_side, right_side}
 use Rattle.written_method.specs.Programs.{program_of}
 use Rattle.certificate_checker.specs.Certificates.{AreMultipliersOver, bound_of}
-use Rattle.certificate_checker.specs.Costs.{cost_of, model_cost}
+use Rattle.certificate_checker.specs.Costs.{cost_of}
 use Rattle.certificate_checker.specs.Denominators.{AreOverSome}
-use Rattle.variable_elimination.specs.Eliminations.{IsWhole}
 use Rattle.variable_elimination.proofs.LiftLaws.{row_sum-avoids, row_sum-times}
 use Rattle.variable_elimination.proofs.LiftedLaws.{direction_met, lifted-others, lifted_meet, plan_met}
-use Rattle.simplex_core.specs.Outcomes.{BoundCost, DescendAlong, MeetAll, RefuteAll}
-use Rattle.exact_solver.specs.CarriedBack.{BecomesDirection, BecomesPlan, BecomesProof, BecomesRefutation}
-use Rattle.exact_solver.specs.Definers.{definers}
-use Rattle.exact_solver.specs.Found.{IsFoundDescent, IsFoundOptimum, IsFoundPlan, IsFoundRefutation}
-use Rattle.exact_solver.specs.Programs.{carried_direction, carried_plan, definitions_in}
-use Rattle.exact_solver.proofs.BookLaws.{book_triangular}
-use Rattle.exact_solver.proofs.CostOfBooks.{cost-row}
-use Rattle.exact_solver.proofs.OverLaws.{IsOverSome, multipliers-more, over-multiplied, values-listed}
-
-pub positive : (n : ℕ) → 0 < n → pos 0 <ℤ pos n
-positive n h = omega (arith, ints, h)
-
--- ---- common denominators
-
--- multipliers of rows and a list of fractions, over one number
-record AreOverOne (multipliers : List (RowName × Rational)) (numbers : List Rational) : Type 0 where
-  over : ℕ
-  named : RowName → ℤ
-  number : ℕ → ℤ
-  are : AreMultipliersOver over named multipliers
-  from : AreOverFrom (pos over) number 0 numbers
-
-over-one : (multipliers : List (RowName × Rational)) (numbers : List Rational) → AreOverSome row_name_cmp multipliers → IsOverSome numbers → AreOverOne multipliers numbers
-over-one multipliers numbers m o = record {
-  over = o.over * m.over;
-  named = λ name. pos o.over *ℤ m.number name;
-  number = λ j. pos m.over *ℤ o.number j;
-  are = multipliers-more o.over m.over m.number multipliers o.positive (m.positive, m.each);
-  from = subst (λ t. AreOverFrom t (λ j. pos m.over *ℤ o.number j) 0 numbers) (*ℤ_comm (pos m.over) (pos o.over)) (over-multiplied (pos m.over) (pos o.over) o.number 0 numbers o.each);
-}
+use Rattle.simplex_core.specs.Outcomes.{BoundCost, DescendAlong, MeetAll}
+use Rattle.certified_answers.specs.Costs.{weight_of}
+use Rattle.certified_answers.specs.declared.costs.Cost.{Cost}
+use Rattle.certified_answers.specs.Found.{IsFoundDescentFor, IsFoundOptimumFor}
+use Rattle.row_problem.specs.CarriedBack.{BecomesDirection, BecomesPlan, BecomesProof}
+use Rattle.row_problem.specs.Programs.{carried_direction, carried_plan}
+use Rattle.row_problem.specs.ProgramsOf.{IsProgramOf}
+use Rattle.row_problem.proofs.CostLaws.{IsCostRow, cost-row}
+use Rattle.row_problem.proofs.FoundWords.{found-plan, over-one, positive}
+use Rattle.row_problem.proofs.OverLaws.{IsOverSome, values-listed}
 
 -- ---- arithmetic
 
@@ -110,20 +88,15 @@ falls-by own c r right p x q hown hq hp hx met kept =
 
 -- ---- what is found
 
-module _ (rows : List Row) (vars : List Var) (book : IsBook rows vars) (reduced : Reduced) (whole : IsWhole rows (definers rows) reduced) where
+module _ (rows : List Row) (defs : List (Option Var)) (vars : List Var) (cost : Cost) (reduced : Reduced) (program : IsProgramOf rows defs vars cost reduced) where
   abbrev ds : List Definition
-  ds = definitions_in rows
+  ds = definitions_of rows defs
 
-  abbrev pub found-plan : (values plan : List (Var × Rational)) → keys_of values ≡ reduced.columns.items → ascends var_cmp (keys_of values) ≡ true → AreOverSome var_cmp values → AreOverSome var_cmp plan → MeetAll (program_of reduced) values → BecomesPlan rows vars reduced values plan
-      → IsFoundPlan rows vars plan
-  found-plan values plan keyed up some made meet becomes = record {
-    over = made.over;
-    number = made.number;
-    are = (made.positive, made.each);
-    meets =
-        becomes some.over made.over some.number made.number keyed (some.positive, some.each) (made.positive, made.each)
-        (meet (pos some.over) some.number (positive some.over some.positive) (values-listed values (pos some.over) some.number up some.each));
-  }
+  triangular : AreTriangular ds
+  triangular = program.problem.triangular
+
+  row : IsCostRow (weight_of cost) rows defs vars reduced
+  row = cost-row rows defs vars cost reduced program
 
   -- the entries of the row of the cost have the same sum of the values and of what is made of them, but for the number over which they are written
   cost-kept : (values made : List (Var × Rational)) (q p : ℕ) (x z : Var → ℤ) → ((v : Var) → is_among (defined ds) v ≡ false → value_in var_cmp made v ≡ value_in var_cmp values v)
@@ -133,13 +106,13 @@ module _ (rows : List Row) (vars : List Var) (book : IsBook rows vars) (reduced 
       let agree : (v : Var) → is_among (defined ds) v ≡ false → z v *ℤ pos q ≡ x v *ℤ pos p
       = λ v k. IsOver-agree (pos p) (pos q) (value_in var_cmp values v) (z v) (x v) (subst (λ r. IsOver (pos p) r (z v)) (others v k) (over_z v)) (over_x v) in
       *ℤ_comm (row_sum z es) (pos q) ∙ sym (row_sum-times (pos q) z es)
-      ∙ row_sum-avoids (λ v. pos q *ℤ z v) (λ v. pos p *ℤ x v) (defined ds) es whole.without (λ v k. *ℤ_comm (pos q) (z v) ∙ agree v k ∙ *ℤ_comm (x v) (pos p))
+      ∙ row_sum-avoids (λ v. pos q *ℤ z v) (λ v. pos p *ℤ x v) (defined ds) es row.without (λ v k. *ℤ_comm (pos q) (z v) ∙ agree v k ∙ *ℤ_comm (x v) (pos p))
       ∙ row_sum-times (pos p) x es ∙ *ℤ_comm (pos p) (row_sum x es)
 
   pub found-optimum : (values : List (Var × Rational)) (lambda : List Frac) (multipliers : List (RowName × Rational)) → keys_of values ≡ reduced.columns.items → ascends var_cmp (keys_of values) ≡ true
-      → AreOverSome var_cmp values → AreOverSome var_cmp (carried_plan rows values) → AreOverSome row_name_cmp multipliers → IsOverSome (map value_of lambda)
-      → MeetAll (program_of reduced) values → BoundCost (program_of reduced) values (map value_of lambda) → BecomesPlan rows vars reduced values (carried_plan rows values) → BecomesProof rows vars reduced lambda multipliers
-      → IsFoundOptimum rows vars (carried_plan rows values) multipliers
+      → AreOverSome var_cmp values → AreOverSome var_cmp (carried_plan rows defs values) → AreOverSome row_name_cmp multipliers → IsOverSome (map value_of lambda)
+      → MeetAll (program_of reduced) values → BoundCost (program_of reduced) values (map value_of lambda) → BecomesPlan rows vars reduced values (carried_plan rows defs values) → BecomesProof (weight_of cost) rows vars reduced lambda multipliers
+      → IsFoundOptimumFor (weight_of cost) rows vars (carried_plan rows defs values) multipliers
   unfolding carried_plan
   found-optimum values lambda multipliers keyed up some made some_multipliers some_lambda meet bounds becomes proves =
       let one = over-one multipliers (map value_of lambda) some_multipliers some_lambda in
@@ -148,38 +121,27 @@ module _ (rows : List Row) (vars : List Var) (book : IsBook rows vars) (reduced 
       let q = positive some.over some.positive in
       let both = bounds (pos some.over) some.number (pos one.over) one.number q (values-listed values (pos some.over) some.number up some.each) d one.from in
       let p = positive made.over made.positive in
-      let met = plan_met ds (pos made.over) made.number (lifted_meet right_side ds values (pos made.over) made.number p (book_triangular rows vars book) made.each) in
+      let met = plan_met ds (pos made.over) made.number (lifted_meet right_side ds values (pos made.over) made.number p triangular made.each) in
       record {
-        plan_found = found-plan values (lifted right_side ds values) keyed up some made meet becomes;
+        plan_found = found-plan rows vars reduced values (lifted right_side ds values) keyed up some made meet becomes;
         bound_found = record { over = one.over; number = one.named; are = one.are; proves = proof.proves both.0 };
         closed =
-            closed-by reduced.cost_own (cost_of model_cost vars made.number) (row_sum made.number reduced.cost.items) reduced.cost_rhs (pos made.over) (row_sum some.number reduced.cost.items) (pos some.over)
-            (pos one.over) (right_sum one.number 0 (program_of reduced).rows) (bound_of one.named rows) whole.own q
-            (cost-row rows vars book reduced (pos made.over) made.number whole met)
+            closed-by reduced.cost_own (cost_of (weight_of cost) vars made.number) (row_sum made.number reduced.cost.items) reduced.cost_rhs (pos made.over) (row_sum some.number reduced.cost.items) (pos some.over)
+            (pos one.over) (right_sum one.number 0 (program_of reduced).rows) (bound_of one.named rows) row.own q
+            (row.says (pos made.over) made.number met)
             (cost-kept values (lifted right_side ds values) some.over made.over some.number made.number (lifted-others right_side ds values) some.each made.each)
             both.1 proof.bound;
       }
 
-  pub found-refutation : (lambda : List Frac) (multipliers : List (RowName × Rational)) → AreOverSome row_name_cmp multipliers → IsOverSome (map value_of lambda) → RefuteAll (program_of reduced) (map value_of lambda) → BecomesRefutation rows vars reduced lambda multipliers
-      → IsFoundRefutation rows vars multipliers
-  found-refutation lambda multipliers some_multipliers some_lambda refute becomes =
-      let one = over-one multipliers (map value_of lambda) some_multipliers some_lambda in
-      record {
-        over = one.over;
-        number = one.named;
-        are = one.are;
-        refutes = becomes one.over one.named one.number one.are one.from (refute (pos one.over) one.number (positive one.over one.are.0) one.from);
-      }
-
-  pub found-descent : (direction : List (Var × Rational)) → keys_of direction ≡ reduced.columns.items → ascends var_cmp (keys_of direction) ≡ true → AreOverSome var_cmp direction → AreOverSome var_cmp (carried_direction rows direction)
-      → DescendAlong (program_of reduced) direction → BecomesDirection rows vars reduced direction (carried_direction rows direction) → IsFoundDescent rows vars (carried_direction rows direction)
+  pub found-descent : (direction : List (Var × Rational)) → keys_of direction ≡ reduced.columns.items → ascends var_cmp (keys_of direction) ≡ true → AreOverSome var_cmp direction → AreOverSome var_cmp (carried_direction rows defs direction)
+      → DescendAlong (program_of reduced) direction → BecomesDirection rows vars reduced direction (carried_direction rows defs direction) → IsFoundDescentFor (weight_of cost) rows vars (carried_direction rows defs direction)
   unfolding carried_direction
   found-descent direction keyed up some made along becomes =
       let q = positive some.over some.positive in
       let p = positive made.over made.positive in
       let two = along (pos some.over) some.number q (values-listed direction (pos some.over) some.number up some.each) in
       let stand = becomes some.over made.over some.number made.number keyed (some.positive, some.each) (made.positive, made.each) two.0 in
-      let met = direction_met ds (pos made.over) made.number (lifted_meet no_right_side ds direction (pos made.over) made.number p (book_triangular rows vars book) made.each) in
+      let met = direction_met ds (pos made.over) made.number (lifted_meet no_right_side ds direction (pos made.over) made.number p triangular made.each) in
       record {
         over = made.over;
         number = made.number;
@@ -188,8 +150,8 @@ module _ (rows : List Row) (vars : List Var) (book : IsBook rows vars) (reduced 
           rows_stand = stand.0;
           signs = stand.1;
           falls =
-              falls-by reduced.cost_own (cost_of model_cost vars made.number) (row_sum made.number reduced.cost.items) reduced.cost_rhs (pos made.over) (row_sum some.number reduced.cost.items) (pos some.over) whole.own q p two.1
-              (cost-row rows vars book reduced (pos 0) made.number whole met)
+              falls-by reduced.cost_own (cost_of (weight_of cost) vars made.number) (row_sum made.number reduced.cost.items) reduced.cost_rhs (pos made.over) (row_sum some.number reduced.cost.items) (pos some.over) row.own q p two.1
+              (row.says (pos 0) made.number met)
               (cost-kept direction (lifted no_right_side ds direction) some.over made.over some.number made.number (lifted-others no_right_side ds direction) some.each made.each);
         };
       }

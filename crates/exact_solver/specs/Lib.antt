@@ -1,9 +1,2 @@
-pub mod Definers
-pub mod Sizes
-pub mod Programs
-pub mod BookPrograms
-pub mod CarriedBack
 pub mod MethodEnds
-pub mod Stops
-pub mod Solutions
-pub mod Found
+pub mod SimplexEnds

@@ -1,5 +1,5 @@
 -- How the exact method ends on rows: elimination, simplex, carrying back, and the checks of all that was found, in this order.
-use Rattle.std.specs.Prelude.{◌≡◌, ℕ, true, false, List, [], ◌∷◌, ◌++◌, Option, Some, None, ⊤}
+use Rattle.std.specs.Prelude.{◌≡◌, ℕ, Bool, true, false, List, [], ◌∷◌, ◌++◌, Option, Some, None, Result, Ok, Err, ⊤, if◌then◌else◌}
 use Rattle.exact_num.specs.Rational.{Rational}
 use Rattle.exact_num.specs.Steps.{Step, first_wide}
 use Rattle.row_core.specs.declared.Row.{Row}
@@ -13,7 +13,10 @@ use Rattle.certificate_checker.specs.Costs.{model_cost}
 use Rattle.certificate_checker.specs.Gaps.{gap_condition}
 use Rattle.certificate_checker.specs.MultiplierChecks.{bound_conditions, infeasible_conditions}
 use Rattle.certificate_checker.specs.PlanChecks.{direction_conditions, plan_conditions}
-use Rattle.certified_answers.specs.Costs.{weight_of}
+use Rattle.simplex_core.specs.declared.ends.Halt.{Halt}
+use Rattle.simplex_core.specs.declared.ends.Halt.TheVariants as halts
+use Rattle.certified_answers.specs.Answers.{IsComplete, IsNamed, IsProvedFor}
+use Rattle.certified_answers.specs.Costs.{is_model, weight_of}
 use Rattle.certified_answers.specs.Worth.{multiplier_bound, plan_cost}
 use Rattle.certified_answers.specs.declared.answers.Certified.{Certified}
 use Rattle.certified_answers.specs.declared.answers.Certified.TheVariants as found
@@ -21,7 +24,6 @@ use Rattle.certified_answers.specs.declared.answers.NoAnswer.{NoAnswer}
 use Rattle.certified_answers.specs.declared.answers.NoAnswer.TheVariants as stops
 use Rattle.certified_answers.specs.declared.costs.Cost.{Cost}
 use Rattle.certified_answers.specs.declared.costs.Cost.TheVariants.{Model, Nothing, One}
-use Rattle.certified_answers.specs.declared.costs.Goal.{Goal}
 use Rattle.row_problem.specs.Programs.{carried_direction, carried_multipliers, carried_plan, carrying_steps, direction_steps, plan_steps, program_left}
 
 -- with a plan of least cost, and multipliers that prove it, of which there are none at no cost; with no plan, and multipliers that prove that; with a plan and a
@@ -39,17 +41,18 @@ pub data MethodEnd : Type 0 where
 abbrev pub plan_checks : List Row → List Var → List (Var × Rational) → List (Step Place)
 plan_checks rows vars plan = steps (plan_conditions model_cost rows vars plan)
 
--- of a plan, of multipliers that prove a bound, and of the gap between them, of which nothing is allowed
-abbrev pub optimum_checks : List Row → List Var → List (Var × Rational) → List (RowName × Rational) → List (Step Place)
-optimum_checks rows vars plan multipliers =
-    plan_checks rows vars plan
-    ++ (steps (bound_conditions model_cost rows vars multipliers)
-    ++ steps (gap_condition (plan_cost vars plan) (multiplier_bound rows multipliers) 0 ∷ []))
+-- at the model's cost, of the gap between the cost of a plan and a bound, of which nothing is allowed
+abbrev pub closing_checks : Cost → Rational → Rational → List (Step Place)
+closing_checks Model amount bound = steps (gap_condition amount bound 0 ∷ [])
+closing_checks Nothing amount bound = []
+closing_checks (One var goal) amount bound = []
 
--- of a plan, and of multipliers that prove a bound of one variable's value
-abbrev pub extreme_checks : Var → Goal → List Row → List Var → List (Var × Rational) → List (RowName × Rational) → List (Step Place)
-extreme_checks var goal rows vars plan multipliers =
-    plan_checks rows vars plan ++ steps (bound_conditions (weight_of (One var goal)) rows vars multipliers)
+-- of a plan, of multipliers that prove a bound, and of the gap between them
+abbrev pub optimum_checks : Cost → List Row → List Var → List (Var × Rational) → List (RowName × Rational) → List (Step Place)
+optimum_checks cost rows vars plan multipliers =
+    plan_checks rows vars plan
+    ++ (steps (bound_conditions (weight_of cost) rows vars multipliers)
+    ++ closing_checks cost (plan_cost vars plan) (multiplier_bound rows multipliers))
 
 -- of multipliers that prove that there is no plan
 abbrev pub refutation_checks : List Row → List Var → List (RowName × Rational) → List (Step Place)
@@ -72,21 +75,25 @@ abbrev pub planned_end : List Row → List (Option Var) → List Var → List (V
 planned_end rows defs vars values pivots =
     unless_wide (first_wide (plan_steps rows defs values ++ plan_checks rows vars (carried_plan rows defs values))) (HasOptimum (carried_plan rows defs values) [] pivots)
 
--- the plan is carried back first, then the multipliers, with the model's cost and without that of one variable; then both are checked
+-- the plan is carried back first, then the multipliers, with the model's cost and without another; then both are checked
+abbrev pub proved_end : Cost → List Row → List (Option Var) → List Var → List (Var × Rational) → List Rational → ℕ → MethodEnd
+proved_end cost rows defs vars values lambda pivots =
+    unless_wide
+    (first_wide
+    (plan_steps rows defs values
+    ++ (carrying_steps (is_model cost) rows defs lambda ++ optimum_checks cost rows vars (carried_plan rows defs values) (carried_multipliers (is_model cost) rows defs lambda))))
+    (HasOptimum (carried_plan rows defs values) (carried_multipliers (is_model cost) rows defs lambda) pivots)
+
+-- nothing is to be as little as it can be
+abbrev pub is_nothing : Cost → Bool
+is_nothing Model = false
+is_nothing Nothing = true
+is_nothing (One var goal) = false
+
+-- at no cost any plan will do
 abbrev pub optimal_end : Cost → List Row → List (Option Var) → List Var → List (Var × Rational) → List Rational → ℕ → MethodEnd
-optimal_end Model rows defs vars values lambda pivots =
-    unless_wide
-    (first_wide
-    (plan_steps rows defs values
-    ++ (carrying_steps true rows defs lambda ++ optimum_checks rows vars (carried_plan rows defs values) (carried_multipliers true rows defs lambda))))
-    (HasOptimum (carried_plan rows defs values) (carried_multipliers true rows defs lambda) pivots)
-optimal_end Nothing rows defs vars values lambda pivots = planned_end rows defs vars values pivots
-optimal_end (One var goal) rows defs vars values lambda pivots =
-    unless_wide
-    (first_wide
-    (plan_steps rows defs values
-    ++ (carrying_steps false rows defs lambda ++ extreme_checks var goal rows vars (carried_plan rows defs values) (carried_multipliers false rows defs lambda))))
-    (HasOptimum (carried_plan rows defs values) (carried_multipliers false rows defs lambda) pivots)
+optimal_end cost rows defs vars values lambda pivots =
+    if is_nothing cost then planned_end rows defs vars values pivots else proved_end cost rows defs vars values lambda pivots
 
 -- the multipliers are carried back, and checked
 abbrev pub infeasible_end : List Row → List (Option Var) → List Var → List Rational → ℕ → MethodEnd
@@ -106,9 +113,8 @@ falling_end cost rows defs vars values direction pivots =
 
 -- at no cost nothing falls without end, and values that meet the rows are a plan all the same
 abbrev pub unbounded_end : Cost → List Row → List (Option Var) → List Var → List (Var × Rational) → List (Var × Rational) → ℕ → MethodEnd
-unbounded_end Model rows defs vars values direction pivots = falling_end Model rows defs vars values direction pivots
-unbounded_end Nothing rows defs vars values direction pivots = planned_end rows defs vars values pivots
-unbounded_end (One var goal) rows defs vars values direction pivots = falling_end (One var goal) rows defs vars values direction pivots
+unbounded_end cost rows defs vars values direction pivots =
+    if is_nothing cost then planned_end rows defs vars values pivots else falling_end cost rows defs vars values direction pivots
 
 -- after the simplex: what it found is carried back, and then checked
 abbrev pub carried_end : Cost → List Row → List (Option Var) → List Var → Outcome → MethodEnd
@@ -140,3 +146,20 @@ IsStopOf end stops.Nothing = ⊥
 IsStopOf end stops.Budget = end ≡ IsPivotDue
 IsStopOf end (stops.Width place) = end ≡ IsWide place
 IsStopOf end stops.Memory = ⊤
+
+-- what is answered is this end
+abbrev pub IsEndOf : MethodEnd → Result Certified NoAnswer → Type 0
+IsEndOf end (Ok found) = end_seen found ≡ end
+IsEndOf end (Err answer) = IsStopOf end answer
+
+-- a stop of the simplex method, as that of the whole
+abbrev pub stop_at : Halt → NoAnswer
+stop_at halts.Budget = stops.Budget
+stop_at (halts.Width place) = stops.Width place
+stop_at halts.Memory = stops.Memory
+
+-- all that an answer is worth
+pub record IsWorth (cost : Cost) (rows : List Row) (vars : List Var) (found : Certified) : Type 0 where
+  pub proved : IsProvedFor cost rows vars found
+  pub whole : IsComplete vars found
+  pub named : IsNamed rows found

@@ -1,124 +1,138 @@
-//! The checks of what the method found. What is asked of it makes each of them say yes; a number that doesn't fit is the one cause
-//! of another answer.
+//! The checks of what was carried back. What is asked of it makes each of them say yes; a number that doesn't fit is the one cause of
+//! another answer.
 
-ghost use Rattle.std.specs.Prelude.{◌≡◌, ◌∷◌, [], IsTrue, IfErr, IfOk, OnOk};
+ghost use Rattle.std.specs.Prelude.{◌≡◌, true, [], None, IfErr, IfOk, OnOk};
 ghost use Rattle.exact_num.specs.Steps.{first_wide};
 ghost use Rattle.exact_num.specs.Value.{value_of};
-ghost use Rattle.row_core.specs.Numbers.{ascends, keys_of};
-ghost use Rattle.row_core.specs.Order.{row_name_cmp, var_cmp};
-ghost use Rattle.certificate_checker.specs.Conditions.{steps};
-ghost use Rattle.certificate_checker.specs.Costs.{model_cost};
-ghost use Rattle.certificate_checker.specs.Denominators.{AreOverSome};
-ghost use Rattle.certificate_checker.specs.Gaps.{gap_condition};
-ghost use Rattle.certificate_checker.specs.MultiplierChecks.{bound_conditions, infeasible_conditions};
-ghost use Rattle.certificate_checker.specs.PlanChecks.{direction_conditions, plan_conditions};
-ghost use Rattle.variable_elimination.specs.SoFar.{IsFirst};
-ghost use Rattle.exact_solver.specs.Found.{IsFoundBound, IsFoundDescent, IsFoundPlan, IsFoundRefutation};
-ghost use Rattle.exact_solver.specs.Solutions.{IsBound, IsClosed, IsDescent, IsPlan, IsRefutation};
+ghost use Rattle.row_core.specs.Numbers.{keys_of};
+ghost use Rattle.certified_answers.specs.Answers.{AreNamedIn};
+ghost use Rattle.certified_answers.specs.Costs.{weight_of};
+ghost use Rattle.certified_answers.specs.declared.costs.Cost.TheVariants.{Model};
+ghost use Rattle.certified_answers.specs.Found.{IsFoundDescentFor, IsFoundOptimumFor, IsFoundPlan, IsFoundRefutation};
+ghost use Rattle.certified_answers.specs.Refusals.{IsWidthAt};
+ghost use Rattle.certified_answers.specs.Worth.{IsClosed};
+ghost use Rattle.row_problem.specs.ProgramsOf.{IsPosedProblem};
+ghost use Rattle.exact_solver.specs.MethodEnds.{HasNoBound, HasNoPlan, HasOptimum, IsEndOf, IsWorth, closing_checks, descent_checks, is_nothing, optimum_checks, plan_checks, refutation_checks, unless_wide};
 
-use certificate_checker::{
-    Verdict, check_bound, check_direction, check_gap, check_infeasible, check_plan,
-    denominator_laws,
+use certified_answers::{
+    Certified, Cost, NoAnswer, accepted_bound, accepted_direction, accepted_gap, accepted_plan,
+    accepted_refutation, plan_laws,
 };
 use exact_num::Frac;
-use row_book::RowBook;
-use row_core::{Multipliers, Plan, Stopped};
+use row_core::{Multipliers, Plan, fraction};
+use row_problem::Problem;
 use std::alloc::Global;
 
-/// The values of a plan are fractions, so they are whole numbers over one denominator.
-pub(crate) fn plan_laws(plan: &Plan)
-    ensures ascending { IsTrue (ascends var_cmp (keys_of plan.now)) }
-    ensures some { AreOverSome var_cmp plan.now }
-{
-    denominator_laws();
-    let _values = plan.entries();
-}
-
-/// The same of multipliers.
-pub(crate) fn multiplier_laws(multipliers: &Multipliers)
-    ensures ascending { IsTrue (ascends row_name_cmp (keys_of multipliers.now)) }
-    ensures some { AreOverSome row_name_cmp multipliers.now }
-{
-    denominator_laws();
-    let _values = multipliers.entries();
-}
-
-/// The cost of a plan to which the checker says yes.
-pub(crate) fn passed_plan(book: &RowBook, plan: &Plan) -> Result<Frac, Stopped>
-    requires { IsFoundPlan book.now.rows book.now.vars plan.now }
-    ensures plan { IfOk result (λ cost. IsPlan book.now.rows book.now.vars plan.now (value_of cost)) }
-    ensures stopped { IfErr result (IsFirst (first_wide (steps (plan_conditions model_cost book.now.rows book.now.vars plan.now)))) }
-{
-    plan_laws(plan);
-    match check_plan(book.rows(), book.vars(), plan) {
-        Verdict::Yes(cost) => Ok(cost),
-        Verdict::Width(place) => Err(Stopped::Width(place)),
-        Verdict::No(_) => unreachable!(),
-    }
-}
-
-/// The bound of multipliers to which the checker says yes.
-pub(crate) fn passed_bound(
+/// A plan, checked: an optimum where there is no cost.
+pub(crate) fn checked_plan(
     alloc: Global,
-    book: &RowBook,
-    multipliers: &Multipliers,
-) -> Result<Frac, Stopped>
-    requires { IsFoundBound book.now.rows book.now.vars multipliers.now }
-    ensures bound { IfOk result (λ bound. IsBound book.now.rows book.now.vars multipliers.now (value_of bound)) }
-    ensures stopped { IfErr result (IsFirst (first_wide (steps (bound_conditions model_cost book.now.rows book.now.vars multipliers.now)))) }
+    problem: &Problem<'_>,
+    plan: Plan,
+    pivots: u64,
+) -> Result<Certified, NoAnswer>
+    requires nothing { is_nothing problem.now.cost ≡ true }
+    requires found { IsFoundPlan problem.now.rows.now problem.now.vars.now plan }
+    requires complete { keys_of plan ≡ problem.now.vars.now }
+    ensures end { IsEndOf (unless_wide (first_wide (plan_checks problem.now.rows.now problem.now.vars.now plan)) (HasOptimum plan [] pivots)) result }
+    ensures worth { IfOk result (IsWorth problem.now.cost problem.now.rows.now problem.now.vars.now) }
 {
-    multiplier_laws(multipliers);
-    let verdict = check_bound(alloc, book.rows(), book.vars(), multipliers)?;
-    match verdict {
-        Verdict::Yes(bound) => Ok(bound),
-        Verdict::Width(place) => Err(Stopped::Width(place)),
-        Verdict::No(_) => unreachable!(),
-    }
+    accepted_plan(problem.rows, problem.vars, &plan)?;
+    Ok(Certified::Optimal {
+        plan,
+        multipliers: Multipliers::of(Vec::new(alloc)),
+        cost: fraction(0),
+        bound: fraction(0),
+        pivots,
+    })
 }
 
-/// Nothing lies between a cost and the bound that it is.
-pub(crate) fn passed_gap(cost: Frac, bound: Frac) -> Result<(), Stopped>
-    requires { value_of cost ≡ value_of bound }
-    ensures closed { OnOk result (IsClosed (value_of cost) (value_of bound)) }
-    ensures stopped { IfErr result (IsFirst (first_wide (steps (gap_condition (value_of cost) (value_of bound) 0 ∷ [])))) }
-{
-    match check_gap(cost, bound, 0) {
-        Verdict::Yes(_) => Ok(()),
-        Verdict::Width(place) => Err(Stopped::Width(place)),
-        Verdict::No(_) => unreachable!(),
-    }
-}
-
-/// The checker says yes to multipliers that show that there is no plan.
-pub(crate) fn passed_refutation(
+/// A plan and the multipliers that prove that none costs less, checked.
+pub(crate) fn checked_optimum(
     alloc: Global,
-    book: &RowBook,
-    multipliers: &Multipliers,
-) -> Result<(), Stopped>
-    requires { IsFoundRefutation book.now.rows book.now.vars multipliers.now }
-    ensures refutation { OnOk result (IsRefutation book.now.rows book.now.vars multipliers.now) }
-    ensures stopped { IfErr result (IsFirst (first_wide (steps (infeasible_conditions book.now.rows book.now.vars multipliers.now)))) }
+    problem: &Problem<'_>,
+    plan: Plan,
+    multipliers: Multipliers,
+    pivots: u64,
+) -> Result<Certified, NoAnswer>
+    requires posed { IsPosedProblem problem.now }
+    requires found { IsFoundOptimumFor (weight_of problem.now.cost) problem.now.rows.now problem.now.vars.now plan multipliers }
+    requires complete { keys_of plan ≡ problem.now.vars.now }
+    requires named { AreNamedIn problem.now.rows.now multipliers }
+    ensures end { IsEndOf (unless_wide (first_wide (optimum_checks problem.now.cost problem.now.rows.now problem.now.vars.now plan multipliers)) (HasOptimum plan multipliers pivots)) result }
+    ensures worth { IfOk result (IsWorth problem.now.cost problem.now.rows.now problem.now.vars.now) }
 {
-    multiplier_laws(multipliers);
-    let verdict = check_infeasible(alloc, book.rows(), book.vars(), multipliers)?;
-    match verdict {
-        Verdict::Yes(_) => Ok(()),
-        Verdict::Width(place) => Err(Stopped::Width(place)),
-        Verdict::No(_) => unreachable!(),
+    plan_laws(&plan);
+    let cost = accepted_plan(problem.rows, problem.vars, &plan)?;
+    let bound = accepted_bound(
+        alloc,
+        problem.rows,
+        problem.vars,
+        problem.cost,
+        &multipliers,
+    )?;
+    closed(problem.cost, cost, bound)?;
+    Ok(Certified::Optimal {
+        plan,
+        multipliers,
+        cost,
+        bound,
+        pivots,
+    })
+}
+
+/// At the model's cost, nothing lies between the cost of a plan and the bound that it is.
+fn closed(cost: Cost, amount: Frac, bound: Frac) -> Result<(), NoAnswer>
+    requires { cost ≡ Model → value_of amount ≡ value_of bound }
+    ensures closed { OnOk result (cost ≡ Model → IsClosed (value_of amount) (value_of bound)) }
+    ensures fits { OnOk result (first_wide (closing_checks cost (value_of amount) (value_of bound)) ≡ None) }
+    ensures stopped { IfErr result (IsWidthAt (first_wide (closing_checks cost (value_of amount) (value_of bound)))) }
+{
+    match cost {
+        Cost::Model => accepted_gap(amount, bound, 0),
+        Cost::Nothing => Ok(()),
+        Cost::One(_, _) => Ok(()),
     }
 }
 
-/// The checker says yes to a direction along which the cost of some plan falls without end.
-pub(crate) fn passed_direction(book: &RowBook, plan: &Plan, direction: &Plan) -> Result<(), Stopped>
-    requires plan { IsFoundPlan book.now.rows book.now.vars plan.now }
-    requires direction { IsFoundDescent book.now.rows book.now.vars direction.now }
-    ensures descent { OnOk result (IsDescent book.now.rows book.now.vars direction.now) }
-    ensures stopped { IfErr result (IsFirst (first_wide (steps (direction_conditions model_cost book.now.rows book.now.vars direction.now)))) }
+/// Multipliers that show that no plan exists, checked.
+pub(crate) fn checked_refutation(
+    alloc: Global,
+    problem: &Problem<'_>,
+    multipliers: Multipliers,
+    pivots: u64,
+) -> Result<Certified, NoAnswer>
+    requires posed { IsPosedProblem problem.now }
+    requires found { IsFoundRefutation problem.now.rows.now problem.now.vars.now multipliers }
+    requires named { AreNamedIn problem.now.rows.now multipliers }
+    ensures end { IsEndOf (unless_wide (first_wide (refutation_checks problem.now.rows.now problem.now.vars.now multipliers)) (HasNoPlan multipliers pivots)) result }
+    ensures worth { IfOk result (IsWorth problem.now.cost problem.now.rows.now problem.now.vars.now) }
 {
-    plan_laws(direction);
-    match check_direction(book.rows(), book.vars(), direction) {
-        Verdict::Yes(_) => Ok(()),
-        Verdict::Width(place) => Err(Stopped::Width(place)),
-        Verdict::No(_) => unreachable!(),
-    }
+    accepted_refutation(alloc, problem.rows, problem.vars, &multipliers)?;
+    Ok(Certified::Infeasible {
+        multipliers,
+        pivots,
+    })
+}
+
+/// A plan and a direction along which the cost falls without end, checked.
+pub(crate) fn checked_descent(
+    problem: &Problem<'_>,
+    plan: Plan,
+    direction: Plan,
+    pivots: u64,
+) -> Result<Certified, NoAnswer>
+    requires plan { IsFoundPlan problem.now.rows.now problem.now.vars.now plan }
+    requires direction { IsFoundDescentFor (weight_of problem.now.cost) problem.now.rows.now problem.now.vars.now direction }
+    requires complete { keys_of plan ≡ problem.now.vars.now }
+    requires along { keys_of direction ≡ problem.now.vars.now }
+    ensures end { IsEndOf (unless_wide (first_wide (descent_checks problem.now.cost problem.now.rows.now problem.now.vars.now plan direction)) (HasNoBound plan direction pivots)) result }
+    ensures worth { IfOk result (IsWorth problem.now.cost problem.now.rows.now problem.now.vars.now) }
+{
+    accepted_plan(problem.rows, problem.vars, &plan)?;
+    accepted_direction(problem.rows, problem.vars, problem.cost, &direction)?;
+    Ok(Certified::Unbounded {
+        plan,
+        direction,
+        pivots,
+    })
 }

@@ -1,13 +1,8 @@
-//! The exact method over the rows of a book: elimination, simplex, carrying back, and the checks of all that is found.
+//! The exact method over rows: the simplex method on what is left of them, carrying back, and the checks of all that is found.
 #![tactic(auto)]
 
-mod books;
+mod carrying;
 mod checking;
-mod sizes;
-mod solutions;
 mod solving;
 
-pub use books::{BookProgram, carry_direction, carry_multipliers, carry_plan, eliminate_book};
-pub use sizes::{Size, size_of};
-pub use solutions::{Solution, SolveStop};
-pub use solving::solve_book;
+pub use solving::{exact, solve_rows};

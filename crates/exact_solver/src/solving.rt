@@ -1,209 +1,95 @@
-//! The exact method over the rows of a book, from the elimination to the checks.
+//! The exact method over rows, from the elimination to the checks.
 
-ghost use Rattle.std.specs.Prelude.{◌≡◌, length, IfErr, IfOk};
-ghost use Rattle.exact_num.specs.Steps.{first_wide};
-ghost use Rattle.row_core.specs.Numbers.{keys_of};
+ghost use Rattle.std.specs.Prelude.{◌≡◌, IfErr, IfOk};
+ghost use Rattle.row_core.specs.RowLists.{AreVariablesOf};
 ghost use Rattle.written_method.specs.Programs.{program_of};
-ghost use Rattle.written_method.specs.Solved.{IsInfeasible, IsOptimal, IsUnbounded};
-ghost use Rattle.simplex_core.specs.Outcomes.{BoundCost, DescendAlong, MeetAll, RefuteAll};
-ghost use Rattle.exact_solver.specs.BookPrograms.{IsProgramOf};
-ghost use Rattle.exact_solver.specs.Found.{IsFoundDescent, IsFoundOptimum, IsFoundPlan, IsFoundRefutation};
-ghost use Rattle.exact_solver.specs.MethodEnds.{HasNoBound, HasNoPlan, HasOptimum, IsStopOf, carried_end, descent_checks, end_seen, method_end, optimum_checks, refutation_checks, unless_wide};
-ghost use Rattle.exact_solver.specs.Solutions.{AreNamedIn, IsComplete, IsNamed, IsProved};
+ghost use Rattle.written_method.specs.Solved.{solved};
+ghost use Rattle.simplex_core.specs.Outcomes.{outcome_seen};
+ghost use Rattle.certified_answers.specs.Answers.{IsComplete, IsNamed, IsProved, IsProvedFor};
+ghost use Rattle.row_problem.specs.Problems.{IsProblem};
+ghost use Rattle.row_problem.specs.Programs.{program_left};
+ghost use Rattle.row_problem.specs.ProgramsOf.{IsPosedProblem};
+ghost use Rattle.exact_solver.specs.MethodEnds.{IsStopOf, carried_end, end_seen, method_end, solved_end, stop_at};
+ghost use Rattle.exact_solver.specs.SimplexEnds.{IsEnded};
 
-use crate::books::{BookProgram, carry_direction, carry_multipliers, carry_plan, eliminate_book};
-use crate::checking::{
-    multiplier_laws, passed_bound, passed_direction, passed_gap, passed_plan, passed_refutation,
-    plan_laws,
-};
-use crate::solutions::{Solution, SolveStop};
-use row_book::RowBook;
-use row_core::{Multipliers, Plan};
-use simplex_core::{End, Lambda, solve};
+use crate::carrying::carried;
+use certified_answers::{Certified, Cost, NoAnswer};
+use row_core::{Row, Var};
+use row_problem::{Problem, left_of};
+use simplex_core::{End, Halt, solve};
 use std::alloc::Global;
 
-/// Solves the rows of a book, with so many pivots at most.
+/// Solves a problem, with so many pivots at most.
 ///
-/// All defined variables are removed, the linear program that is left is solved by the simplex method, and plan, multipliers and
-/// direction are carried back to all rows. Nothing is answered to which the checker doesn't say yes: a plan of least cost with
-/// multipliers that prove that none costs less, multipliers that prove that no plan exists, or a plan with a direction along which
-/// the cost falls without end. A plan and a direction have one value for each variable of the book, in order; multipliers ascend by
-/// the names of rows.
+/// The linear program that is left of its rows is solved by the simplex method, and plan, multipliers and direction are carried back to
+/// all rows. Nothing is answered to which the checker doesn't say yes: a plan of least cost with multipliers that prove that none costs
+/// less, multipliers that prove that no plan exists, or a plan with a direction along which the cost falls without end. At no cost a plan
+/// is an optimum, with no multipliers and the bound 0. A plan and a direction have one value for each variable, in order; multipliers
+/// ascend by the names of rows.
 ///
 /// `Budget` comes exactly where a pivot is due after the last that may be made, `Width` exactly at the place of the first step that
-/// forms a number that doesn't fit: of the elimination, the pivots, what is carried back, and the checks, in this order. Any other
-/// refusal means that memory ran out.
-pub fn solve_book(alloc: Global, book: &RowBook, pivots: u64) -> Result<Solution, SolveStop>
-    ensures end { IfOk result (λ solution. end_seen solution ≡ method_end book.now.rows book.now.vars pivots) }
-    ensures stopped { IfErr result (IsStopOf (method_end book.now.rows book.now.vars pivots)) }
-    ensures proved { IfOk result (IsProved book.now.rows book.now.vars) }
-    ensures whole { IfOk result (IsComplete book.now.vars) }
-    ensures named { IfOk result (IsNamed book.now.rows) }
+/// forms a number that doesn't fit: of the pivots, what is carried back, and the checks, in this order. `Nothing` never comes, and
+/// `Memory` where memory ran out.
+pub fn exact(alloc: Global, problem: &Problem<'_>, pivots: u64) -> Result<Certified, NoAnswer>
+    requires { IsPosedProblem problem.now }
+    ensures end { IfOk result (λ found. end_seen found ≡ solved_end problem.now.rows.now problem.now.defs.now problem.now.vars.now problem.now.cost pivots) }
+    ensures stopped { IfErr result (IsStopOf (solved_end problem.now.rows.now problem.now.defs.now problem.now.vars.now problem.now.cost pivots)) }
+    ensures proved { IfOk result (IsProvedFor problem.now.cost problem.now.rows.now problem.now.vars.now) }
+    ensures whole { IfOk result (IsComplete problem.now.vars.now) }
+    ensures named { IfOk result (IsNamed problem.now.rows.now) }
 {
-    let program = eliminate_book(alloc, book)?;
-    let end = solve(alloc, &program.reduced, pivots)?;
-    match end {
-        End::Optimal {
-            values,
-            lambda,
-            pivots,
-        } => optimum(alloc, book, &program, &values, &lambda, pivots),
-        End::Infeasible { lambda, pivots } => refutation(alloc, book, &program, &lambda, pivots),
-        End::Unbounded {
-            values,
-            direction,
-            pivots,
-        } => descent(alloc, book, &program, &values, &direction, pivots),
+    let end = ended(alloc, problem, pivots)?;
+    carried(alloc, problem, end)
+}
+
+/// Solves rows at the model's cost, with so many pivots at most. `defs` says of each row which variable it defines, if it defines one,
+/// and `vars` are the variables of the rows. All defined variables are removed first; then all is as `exact` does it.
+pub fn solve_rows(
+    alloc: Global,
+    rows: &[Row],
+    defs: &[Option<Var>],
+    vars: &[Var],
+    pivots: u64,
+) -> Result<Certified, NoAnswer>
+    requires problem { IsProblem rows.now defs.now vars.now }
+    requires variables { AreVariablesOf rows.now vars.now }
+    ensures end { IfOk result (λ found. end_seen found ≡ method_end rows.now defs.now vars.now pivots) }
+    ensures stopped { IfErr result (IsStopOf (method_end rows.now defs.now vars.now pivots)) }
+    ensures proved { IfOk result (IsProved rows.now vars.now) }
+    ensures whole { IfOk result (IsComplete vars.now) }
+    ensures named { IfOk result (IsNamed rows.now) }
+{
+    let reduced = left_of(alloc, rows, defs, vars)?;
+    let problem = Problem {
+        rows,
+        defs,
+        vars,
+        reduced: &reduced,
+        cost: Cost::Model,
+    };
+    exact(alloc, &problem, pivots)
+}
+
+/// How the simplex method ends on what is left of a problem's rows.
+fn ended(alloc: Global, problem: &Problem<'_>, pivots: u64) -> Result<End, NoAnswer>
+    requires { IsPosedProblem problem.now }
+    ensures outcome { IfOk result (λ end. outcome_seen end ≡ solved pivots (program_left problem.now.rows.now problem.now.defs.now problem.now.vars.now problem.now.cost)) }
+    ensures ended { IfOk result (IsEnded (program_of problem.now.reduced.now)) }
+    ensures stopped { IfErr result (IsStopOf (solved_end problem.now.rows.now problem.now.defs.now problem.now.vars.now problem.now.cost pivots)) }
+{
+    match solve(alloc, problem.reduced, pivots) {
+        Ok(end) => Ok(end),
+        Err(halt) => Err(stop_at(halt)),
     }
 }
 
-/// The plan of an optimal end's values and the multipliers that prove it, carried back to all rows and checked.
-fn optimum(
-    alloc: Global,
-    book: &RowBook,
-    program: &BookProgram,
-    values: &Plan,
-    lambda: &Lambda,
-    pivots: u64,
-) -> Result<Solution, SolveStop>
-    requires program { IsProgramOf book.now.rows book.now.vars program.now }
-    requires keyed { keys_of values.now ≡ program.now.reduced.columns.items }
-    requires counted { length lambda.now ≡ length program.now.reduced.rows.items }
-    requires meet { MeetAll (program_of program.now.reduced) values.now }
-    requires bound { BoundCost (program_of program.now.reduced) values.now lambda.now }
-    ensures end { IfOk result (λ solution. end_seen solution ≡ carried_end book.now.rows book.now.vars (IsOptimal values.now lambda.now pivots)) }
-    ensures stopped { IfErr result (IsStopOf (carried_end book.now.rows book.now.vars (IsOptimal values.now lambda.now pivots))) }
-    ensures proved { IfOk result (IsProved book.now.rows book.now.vars) }
-    ensures whole { IfOk result (IsComplete book.now.vars) }
-    ensures named { IfOk result (IsNamed book.now.rows) }
+/// A stop of the simplex method, as that of the whole.
+fn stop_at(halt: Halt) -> NoAnswer
+    ensures { result ≡ stop_at halt }
 {
-    plan_laws(values);
-    let plan = carry_plan(alloc, book, program, values)?;
-    plan_laws(&plan);
-    let multipliers = carry_multipliers(alloc, book, program, lambda.entries(), true)?;
-    multiplier_laws(&multipliers);
-    checked_optimum(alloc, book, plan, multipliers, pivots)
-}
-
-/// A plan and the multipliers that prove that none costs less, checked.
-fn checked_optimum(
-    alloc: Global,
-    book: &RowBook,
-    plan: Plan,
-    multipliers: Multipliers,
-    pivots: u64,
-) -> Result<Solution, SolveStop>
-    requires { IsFoundOptimum book.now.rows book.now.vars plan multipliers }
-    ensures end { IfOk result (λ solution. end_seen solution ≡ unless_wide (first_wide (optimum_checks book.now.rows book.now.vars plan multipliers)) (HasOptimum plan multipliers pivots)) }
-    ensures stopped { IfErr result (IsStopOf (unless_wide (first_wide (optimum_checks book.now.rows book.now.vars plan multipliers)) (HasOptimum plan multipliers pivots))) }
-    ensures proved { IfOk result (IsProved book.now.rows book.now.vars) }
-    ensures whole { keys_of plan ≡ book.now.vars → IfOk result (IsComplete book.now.vars) }
-    ensures named { AreNamedIn book.now.rows multipliers → IfOk result (IsNamed book.now.rows) }
-{
-    let cost = passed_plan(book, &plan)?;
-    let bound = passed_bound(alloc, book, &multipliers)?;
-    passed_gap(cost, bound)?;
-    Ok(Solution::Optimal {
-        plan,
-        multipliers,
-        cost,
-        bound,
-        pivots,
-    })
-}
-
-/// The multipliers of an infeasible end, carried back to all rows and checked.
-fn refutation(
-    alloc: Global,
-    book: &RowBook,
-    program: &BookProgram,
-    lambda: &Lambda,
-    pivots: u64,
-) -> Result<Solution, SolveStop>
-    requires program { IsProgramOf book.now.rows book.now.vars program.now }
-    requires counted { length lambda.now ≡ length program.now.reduced.rows.items }
-    requires refute { RefuteAll (program_of program.now.reduced) lambda.now }
-    ensures end { IfOk result (λ solution. end_seen solution ≡ carried_end book.now.rows book.now.vars (IsInfeasible lambda.now pivots)) }
-    ensures stopped { IfErr result (IsStopOf (carried_end book.now.rows book.now.vars (IsInfeasible lambda.now pivots))) }
-    ensures proved { IfOk result (IsProved book.now.rows book.now.vars) }
-    ensures whole { IfOk result (IsComplete book.now.vars) }
-    ensures named { IfOk result (IsNamed book.now.rows) }
-{
-    let multipliers = carry_multipliers(alloc, book, program, lambda.entries(), false)?;
-    multiplier_laws(&multipliers);
-    checked_refutation(alloc, book, multipliers, pivots)
-}
-
-/// Multipliers that show that no plan exists, checked.
-fn checked_refutation(
-    alloc: Global,
-    book: &RowBook,
-    multipliers: Multipliers,
-    pivots: u64,
-) -> Result<Solution, SolveStop>
-    requires { IsFoundRefutation book.now.rows book.now.vars multipliers }
-    ensures end { IfOk result (λ solution. end_seen solution ≡ unless_wide (first_wide (refutation_checks book.now.rows book.now.vars multipliers)) (HasNoPlan multipliers pivots)) }
-    ensures stopped { IfErr result (IsStopOf (unless_wide (first_wide (refutation_checks book.now.rows book.now.vars multipliers)) (HasNoPlan multipliers pivots))) }
-    ensures proved { IfOk result (IsProved book.now.rows book.now.vars) }
-    ensures whole { IfOk result (IsComplete book.now.vars) }
-    ensures named { AreNamedIn book.now.rows multipliers → IfOk result (IsNamed book.now.rows) }
-{
-    passed_refutation(alloc, book, &multipliers)?;
-    Ok(Solution::Infeasible {
-        multipliers,
-        pivots,
-    })
-}
-
-/// The plan and the direction of an unbounded end, carried back to all rows and checked.
-fn descent(
-    alloc: Global,
-    book: &RowBook,
-    program: &BookProgram,
-    values: &Plan,
-    direction: &Plan,
-    pivots: u64,
-) -> Result<Solution, SolveStop>
-    requires program { IsProgramOf book.now.rows book.now.vars program.now }
-    requires keyed { keys_of values.now ≡ program.now.reduced.columns.items }
-    requires along { keys_of direction.now ≡ program.now.reduced.columns.items }
-    requires meet { MeetAll (program_of program.now.reduced) values.now }
-    requires descend { DescendAlong (program_of program.now.reduced) direction.now }
-    ensures end { IfOk result (λ solution. end_seen solution ≡ carried_end book.now.rows book.now.vars (IsUnbounded values.now direction.now pivots)) }
-    ensures stopped { IfErr result (IsStopOf (carried_end book.now.rows book.now.vars (IsUnbounded values.now direction.now pivots))) }
-    ensures proved { IfOk result (IsProved book.now.rows book.now.vars) }
-    ensures whole { IfOk result (IsComplete book.now.vars) }
-    ensures named { IfOk result (IsNamed book.now.rows) }
-{
-    plan_laws(values);
-    plan_laws(direction);
-    let plan = carry_plan(alloc, book, program, values)?;
-    plan_laws(&plan);
-    let along = carry_direction(alloc, book, program, direction)?;
-    plan_laws(&along);
-    checked_descent(book, plan, along, pivots)
-}
-
-/// A plan and a direction along which the cost falls without end, checked.
-fn checked_descent(
-    book: &RowBook,
-    plan: Plan,
-    direction: Plan,
-    pivots: u64,
-) -> Result<Solution, SolveStop>
-    requires plan { IsFoundPlan book.now.rows book.now.vars plan }
-    requires direction { IsFoundDescent book.now.rows book.now.vars direction }
-    ensures end { IfOk result (λ solution. end_seen solution ≡ unless_wide (first_wide (descent_checks book.now.rows book.now.vars plan direction)) (HasNoBound plan direction pivots)) }
-    ensures stopped { IfErr result (IsStopOf (unless_wide (first_wide (descent_checks book.now.rows book.now.vars plan direction)) (HasNoBound plan direction pivots))) }
-    ensures proved { IfOk result (IsProved book.now.rows book.now.vars) }
-    ensures whole { keys_of plan ≡ book.now.vars → keys_of direction ≡ book.now.vars → IfOk result (IsComplete book.now.vars) }
-    ensures named { IfOk result (IsNamed book.now.rows) }
-{
-    passed_plan(book, &plan)?;
-    passed_direction(book, &plan, &direction)?;
-    Ok(Solution::Unbounded {
-        plan,
-        direction,
-        pivots,
-    })
+    match halt {
+        Halt::Budget => NoAnswer::Budget,
+        Halt::Width(place) => NoAnswer::Width(place),
+        Halt::Memory => NoAnswer::Memory,
+    }
 }

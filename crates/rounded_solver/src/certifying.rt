@@ -2,68 +2,65 @@
 
 ghost use Rattle.std.specs.Prelude.{◌≡◌, ◌≤◌, ℕ, IfOk};
 ghost use Rattle.row_core.specs.Numbers.{keys_of};
-ghost use Rattle.exact_solver.specs.BookPrograms.{IsProgramOf};
-ghost use Rattle.exact_solver.specs.Solutions.{AreNamedIn};
-ghost use Rattle.rounded_solver.specs.Found.{IsComplete, IsMadeWithin, IsNamed, IsProved};
+ghost use Rattle.certified_answers.specs.Answers.{AreNamedIn, IsComplete, IsMadeWithin, IsNamed, IsProvedWithin};
+ghost use Rattle.row_problem.specs.ProgramsOf.{IsPosedProblem};
 
-use crate::checking::{
-    checked_bound, checked_gap, checked_plan, checked_refutation, multiplier_laws, plan_laws,
-};
-use crate::found::Rounded;
-use crate::halts::Halt;
 use crate::plans::plan_of;
+use certified_answers::{
+    Certified, Cost, NoAnswer, accepted_bound, accepted_gap, accepted_plan, accepted_refutation,
+    multiplier_laws, plan_laws,
+};
 use exact_num::Frac;
-use exact_solver::{BookProgram, carry_multipliers, carry_plan};
-use row_book::RowBook;
 use row_core::{Multipliers, Plan};
+use row_problem::{Problem, carry_multipliers, carry_plan};
 use std::alloc::Global;
 
 /// The plan of values of the columns and the multipliers of the rows, carried back to all rows, where the checker accepts both
 /// and the gap between cost and bound.
 pub(crate) fn certified(
     alloc: Global,
-    book: &RowBook,
-    program: &BookProgram,
+    problem: &Problem<'_>,
     values: &[Frac],
     lambda: &[Frac],
     ppm: u32,
     pivots: u64,
-) -> Result<Rounded, Halt>
-    requires { IsProgramOf book.now.rows book.now.vars program.now }
-    ensures proved { IfOk result (IsProved book.now.rows book.now.vars ppm) }
-    ensures whole { IfOk result (IsComplete book.now.vars) }
-    ensures named { IfOk result (IsNamed book.now.rows) }
+) -> Result<Certified, NoAnswer>
+    requires { IsPosedProblem problem.now }
+    ensures proved { IfOk result (IsProvedWithin problem.now.rows.now problem.now.vars.now ppm) }
+    ensures whole { IfOk result (IsComplete problem.now.vars.now) }
+    ensures named { IfOk result (IsNamed problem.now.rows.now) }
     ensures made { (most : ℕ) → pivots ≤ most → IfOk result (IsMadeWithin most) }
 {
-    if lambda.len() != program.reduced.rows.len() {
-        return Err(Halt::Nothing);
+    if lambda.len() != problem.reduced.rows.len() {
+        return Err(NoAnswer::Nothing);
     }
-    let of_columns = plan_of(alloc, program.reduced.columns.as_slice(), values)?;
-    let plan = carry_plan(alloc, book, program, &of_columns)?;
+    let of_columns = plan_of(alloc, problem.reduced.columns.as_slice(), values)?;
+    let plan = carry_plan(alloc, problem, &of_columns)?;
     plan_laws(&plan);
-    let multipliers = carry_multipliers(alloc, book, program, lambda, true)?;
+    let multipliers = carry_multipliers(alloc, problem, lambda, true)?;
     multiplier_laws(&multipliers);
-    accepted(alloc, book, plan, multipliers, ppm, pivots)
+    accepted(alloc, problem, plan, multipliers, ppm, pivots)
 }
 
 /// A plan and multipliers, where the checker accepts them and the gap.
 fn accepted(
     alloc: Global,
-    book: &RowBook,
+    problem: &Problem<'_>,
     plan: Plan,
     multipliers: Multipliers,
     ppm: u32,
     pivots: u64,
-) -> Result<Rounded, Halt>
-    ensures proved { IfOk result (IsProved book.now.rows book.now.vars ppm) }
-    ensures whole { keys_of plan ≡ book.now.vars → IfOk result (IsComplete book.now.vars) }
-    ensures named { AreNamedIn book.now.rows multipliers → IfOk result (IsNamed book.now.rows) }
+) -> Result<Certified, NoAnswer>
+    requires { IsPosedProblem problem.now }
+    ensures proved { IfOk result (IsProvedWithin problem.now.rows.now problem.now.vars.now ppm) }
+    ensures whole { keys_of plan ≡ problem.now.vars.now → IfOk result (IsComplete problem.now.vars.now) }
+    ensures named { AreNamedIn problem.now.rows.now multipliers → IfOk result (IsNamed problem.now.rows.now) }
     ensures made { (most : ℕ) → pivots ≤ most → IfOk result (IsMadeWithin most) }
 {
-    let cost = checked_plan(book, &plan)?;
-    let bound = checked_bound(alloc, book, &multipliers)?;
-    checked_gap(cost, bound, ppm)?;
-    Ok(Rounded::Plan {
+    let cost = accepted_plan(problem.rows, problem.vars, &plan)?;
+    let bound = accepted_bound(alloc, problem.rows, problem.vars, Cost::Model, &multipliers)?;
+    accepted_gap(cost, bound, ppm)?;
+    Ok(Certified::Optimal {
         plan,
         multipliers,
         cost,
@@ -75,39 +72,23 @@ fn accepted(
 /// The multipliers of the rows, carried back to all rows, where the checker accepts that they show that there is no plan.
 pub(crate) fn refuted(
     alloc: Global,
-    book: &RowBook,
-    program: &BookProgram,
+    problem: &Problem<'_>,
     lambda: &[Frac],
     pivots: u64,
-) -> Result<Rounded, Halt>
-    requires { IsProgramOf book.now.rows book.now.vars program.now }
-    ensures proved { (ppm : ℕ) → IfOk result (IsProved book.now.rows book.now.vars ppm) }
-    ensures whole { IfOk result (IsComplete book.now.vars) }
-    ensures named { IfOk result (IsNamed book.now.rows) }
+) -> Result<Certified, NoAnswer>
+    requires { IsPosedProblem problem.now }
+    ensures proved { (ppm : ℕ) → IfOk result (IsProvedWithin problem.now.rows.now problem.now.vars.now ppm) }
+    ensures whole { IfOk result (IsComplete problem.now.vars.now) }
+    ensures named { IfOk result (IsNamed problem.now.rows.now) }
     ensures made { (most : ℕ) → pivots ≤ most → IfOk result (IsMadeWithin most) }
 {
-    if lambda.len() != program.reduced.rows.len() {
-        return Err(Halt::Nothing);
+    if lambda.len() != problem.reduced.rows.len() {
+        return Err(NoAnswer::Nothing);
     }
-    let multipliers = carry_multipliers(alloc, book, program, lambda, false)?;
+    let multipliers = carry_multipliers(alloc, problem, lambda, false)?;
     multiplier_laws(&multipliers);
-    accepted_refutation(alloc, book, multipliers, pivots)
-}
-
-/// Multipliers, where the checker accepts that they show that there is no plan.
-fn accepted_refutation(
-    alloc: Global,
-    book: &RowBook,
-    multipliers: Multipliers,
-    pivots: u64,
-) -> Result<Rounded, Halt>
-    ensures proved { (ppm : ℕ) → IfOk result (IsProved book.now.rows book.now.vars ppm) }
-    ensures whole { IfOk result (IsComplete book.now.vars) }
-    ensures named { AreNamedIn book.now.rows multipliers → IfOk result (IsNamed book.now.rows) }
-    ensures made { (most : ℕ) → pivots ≤ most → IfOk result (IsMadeWithin most) }
-{
-    checked_refutation(alloc, book, &multipliers)?;
-    Ok(Rounded::NoPlan {
+    accepted_refutation(alloc, problem.rows, problem.vars, &multipliers)?;
+    Ok(Certified::Infeasible {
         multipliers,
         pivots,
     })

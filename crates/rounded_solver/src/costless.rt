@@ -3,23 +3,23 @@
 //! No gap in millionths can be kept beside a bound of 0. So the columns that cost something stay 0, the rest is solved, and all
 //! multipliers are 0.
 
-ghost use Rattle.std.specs.Prelude.{IfOk};
-ghost use Rattle.exact_solver.specs.BookPrograms.{IsProgramOf};
+ghost use Rattle.std.specs.Prelude.{◌≤◌, IfOk};
+ghost use Rattle.row_problem.specs.ProgramsOf.{IsPosedProblem};
 ghost use Rattle.rounded_solver.specs.Attempts.{IfFound};
-ghost use Rattle.rounded_solver.specs.Found.{IsComplete, IsMadeWithin, IsNamed, IsProved};
+ghost use Rattle.certified_answers.specs.Answers.{IsComplete, IsMadeWithin, IsNamed, IsProvedWithin};
 
-use crate::attempt::Attempt;
+use crate::attempt::{Attempt, no_guess};
 use crate::certifying::certified;
-use crate::halts::Halt;
-use crate::tries::TOLERANCE;
+use crate::tries::{RoundedEnd, TOLERANCE};
+use certified_answers::NoAnswer;
 use exact_num::Frac;
-use exact_solver::BookProgram;
-use presolved_program::{Aim, prepare};
+use presolved_program::{Aim, Stop, prepare};
 use rounded_program::{margins_of, rounded_program, values_of};
 use rounded_simplex::{Answer, guess};
-use row_book::RowBook;
 use row_core::fraction;
+use row_problem::Problem;
 use std::alloc::{AllocError, Global};
+use written_method::Reduced;
 
 /// The decimals of values, and the significant digits of multipliers, which are all 0.
 const PLACES: i32 = 7;
@@ -29,32 +29,43 @@ const DIGITS: i32 = 9;
 /// The plan that costs nothing, where the checker accepts it.
 pub(crate) fn costless_plan(
     alloc: Global,
-    book: &RowBook,
-    program: &BookProgram,
+    problem: &Problem<'_>,
     ppm: u32,
     pivots: u64,
-) -> Result<Attempt, Halt>
-    requires { IsProgramOf book.now.rows book.now.vars program.now }
-    ensures proved { IfOk result (IfFound (IsProved book.now.rows book.now.vars ppm)) }
-    ensures whole { IfOk result (IfFound (IsComplete book.now.vars)) }
-    ensures named { IfOk result (IfFound (IsNamed book.now.rows)) }
+) -> Result<Attempt, NoAnswer>
+    requires { IsPosedProblem problem.now }
+    ensures proved { IfOk result (IfFound (IsProvedWithin problem.now.rows.now problem.now.vars.now ppm)) }
+    ensures whole { IfOk result (IfFound (IsComplete problem.now.vars.now)) }
+    ensures named { IfOk result (IfFound (IsNamed problem.now.rows.now)) }
     ensures made { IfOk result (IfFound (IsMadeWithin pivots)) }
 {
-    let smaller = prepare(alloc, &program.reduced, Aim::Costless)?;
+    let end = costless_end(alloc, problem.reduced, pivots).map_err(no_guess)?;
+    let found = certified(alloc, problem, &end.values, &end.lambda, ppm, end.pivots)?;
+    Ok(Attempt::Found(found))
+}
+
+/// The end of a guess at what costs nothing, with multipliers that are all 0.
+fn costless_end(alloc: Global, reduced: &Reduced, pivots: u64) -> Result<RoundedEnd, Stop>
+    ensures made { IfOk result (λ end. end.pivots ≤ pivots) }
+{
+    let smaller = prepare(alloc, reduced, Aim::Costless)?;
     if smaller.is_false() {
-        return Ok(Attempt::Nothing);
+        return Err(Stop::GivenUp);
     }
     let margins = margins_of(alloc, &smaller, PLACES, DIGITS)?;
     let asked = rounded_program(alloc, &smaller, &margins)?;
     match guess(alloc, &asked, TOLERANCE, pivots)? {
         Answer::Solved(guess) => {
             let values = values_of(alloc, &smaller, &margins, &guess.values)?;
-            let lambda = zeros(alloc, program.reduced.rows.len())?;
-            let found = certified(alloc, book, program, &values, &lambda, ppm, guess.pivots)?;
-            Ok(Attempt::Found(found))
+            let lambda = zeros(alloc, reduced.rows.len())?;
+            Ok(RoundedEnd {
+                values,
+                lambda,
+                pivots: guess.pivots,
+            })
         }
-        Answer::NoPlan => Ok(Attempt::Nothing),
-        Answer::GivenUp => Ok(Attempt::Nothing),
+        Answer::NoPlan => Err(Stop::GivenUp),
+        Answer::GivenUp => Err(Stop::GivenUp),
     }
 }
 

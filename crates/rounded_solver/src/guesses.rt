@@ -5,12 +5,11 @@ ghost use Rattle.row_core.specs.Numbers.{ascends, keys_of};
 ghost use Rattle.row_core.specs.Order.{var_cmp};
 ghost use Rattle.rounded_solver.specs.Guesses.{IfValues};
 
-use crate::halts::Halt;
 use crate::plans::plan_of;
 use crate::refuting::make_guess;
 use crate::tries::{TOLERANCE, rounded_end};
 use exact_num::Frac;
-use presolved_program::{Aim, prepare};
+use presolved_program::{Aim, Stop, prepare};
 use rounded_program::{margins_of, rounded_program, values_of};
 use rounded_simplex::{Answer, guess};
 use row_core::Plan;
@@ -54,13 +53,13 @@ pub fn guess_values(
 {
     match values_guessed(alloc, reduced, places, pivots) {
         Ok(guessed) => Ok(guessed),
-        Err(Halt::Nothing) => Ok(Guess::Nothing),
-        Err(Halt::Memory) => Err(AllocError),
+        Err(Stop::GivenUp) => Ok(Guess::Nothing),
+        Err(Stop::Memory) => Err(AllocError),
     }
 }
 
 /// The same, where every number fits.
-fn values_guessed(alloc: Global, reduced: &Reduced, places: i32, pivots: u64) -> Result<Guess, Halt>
+fn values_guessed(alloc: Global, reduced: &Reduced, places: i32, pivots: u64) -> Result<Guess, Stop>
     requires { ascends var_cmp reduced.now.columns.items ≡ true }
     ensures { IfOk result (IfValues reduced.now.columns.items) }
 {
@@ -105,8 +104,8 @@ pub fn guess_optimum(
                 Ok(None)
             }
         }
-        Err(Halt::Nothing) => Ok(None),
-        Err(Halt::Memory) => Err(AllocError),
+        Err(Stop::GivenUp) => Ok(None),
+        Err(Stop::Memory) => Err(AllocError),
     }
 }
 
@@ -117,16 +116,16 @@ fn optimum_guessed(
     places: i32,
     digits: i32,
     pivots: u64,
-) -> Result<GuessedOptimum, Halt>
+) -> Result<GuessedOptimum, Stop>
     requires { ascends var_cmp reduced.now.columns.items ≡ true }
     ensures { IfOk result (λ guessed. keys_of guessed.values ≡ reduced.now.columns.items) }
 {
     let smaller = prepare(alloc, reduced, Aim::Cheapest)?;
     if smaller.is_false() {
-        return Err(Halt::Nothing);
+        return Err(Stop::GivenUp);
     }
     let Some(end) = rounded_end(alloc, &smaller, places, digits, pivots)? else {
-        return Err(Halt::Nothing);
+        return Err(Stop::GivenUp);
     };
     let values = plan_of(alloc, reduced.columns.as_slice(), &end.values)?;
     Ok(GuessedOptimum {
@@ -155,8 +154,8 @@ pub fn guess_multipliers(
                 Ok(None)
             }
         }
-        Err(Halt::Nothing) => Ok(None),
-        Err(Halt::Memory) => Err(AllocError),
+        Err(Stop::GivenUp) => Ok(None),
+        Err(Stop::Memory) => Err(AllocError),
     }
 }
 
@@ -166,7 +165,7 @@ fn multipliers_guessed(
     reduced: &Reduced,
     digits: i32,
     pivots: u64,
-) -> Result<Vec<Frac>, Halt> {
+) -> Result<Vec<Frac>, Stop> {
     let smaller = prepare(alloc, reduced, Aim::Refutation)?;
     let guessed = make_guess(alloc, &smaller, digits, pivots)?;
     Ok(guessed.lambda)

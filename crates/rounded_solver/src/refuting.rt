@@ -1,20 +1,19 @@
 //! Tries at multipliers that show that there is no plan.
 
 ghost use Rattle.std.specs.Prelude.{◌≤◌, IfOk, ℕ};
-ghost use Rattle.exact_solver.specs.BookPrograms.{IsProgramOf};
+ghost use Rattle.row_problem.specs.ProgramsOf.{IsPosedProblem};
 ghost use Rattle.rounded_solver.specs.Attempts.{IfFound};
-ghost use Rattle.rounded_solver.specs.Found.{IsComplete, IsMadeWithin, IsNamed, IsProved};
+ghost use Rattle.certified_answers.specs.Answers.{IsComplete, IsMadeWithin, IsNamed, IsProvedWithin};
 
-use crate::attempt::Attempt;
+use crate::attempt::{Attempt, no_guess};
 use crate::certifying::refuted;
-use crate::halts::Halt;
 use crate::tries::TOLERANCE;
+use certified_answers::NoAnswer;
 use exact_num::Frac;
-use exact_solver::BookProgram;
-use presolved_program::{Aim, Program, prepare};
+use presolved_program::{Aim, Program, Stop, prepare};
 use rounded_program::{elastic_program, margins_of, multipliers_of};
 use rounded_simplex::{Answer, guess};
-use row_book::RowBook;
+use row_problem::Problem;
 use std::alloc::Global;
 
 /// The significant digits of multipliers, try by try.
@@ -25,7 +24,7 @@ const PLACES: i32 = 7;
 
 /// Multipliers, and the pivots that they took.
 #[derive(Drop)]
-pub(crate) struct Guessed {
+pub(crate) struct Refuting {
     pub(crate) lambda: Vec<Frac>,
     pub(crate) pivots: u64,
 }
@@ -33,24 +32,23 @@ pub(crate) struct Guessed {
 /// The first try that the checker accepts.
 pub(crate) fn refutation(
     alloc: Global,
-    book: &RowBook,
-    program: &BookProgram,
+    problem: &Problem<'_>,
     pivots: u64,
-) -> Result<Attempt, Halt>
-    requires { IsProgramOf book.now.rows book.now.vars program.now }
-    ensures proved { (ppm : ℕ) → IfOk result (IfFound (IsProved book.now.rows book.now.vars ppm)) }
-    ensures whole { IfOk result (IfFound (IsComplete book.now.vars)) }
-    ensures named { IfOk result (IfFound (IsNamed book.now.rows)) }
+) -> Result<Attempt, NoAnswer>
+    requires { IsPosedProblem problem.now }
+    ensures proved { (ppm : ℕ) → IfOk result (IfFound (IsProvedWithin problem.now.rows.now problem.now.vars.now ppm)) }
+    ensures whole { IfOk result (IfFound (IsComplete problem.now.vars.now)) }
+    ensures named { IfOk result (IfFound (IsNamed problem.now.rows.now)) }
     ensures made { IfOk result (IfFound (IsMadeWithin pivots)) }
 {
-    let smaller = prepare(alloc, &program.reduced, Aim::Refutation)?;
+    let smaller = prepare(alloc, problem.reduced, Aim::Refutation).map_err(no_guess)?;
     for digits in TRIES {
-        match one_try(alloc, book, program, &smaller, digits, pivots) {
+        match one_try(alloc, problem, &smaller, digits, pivots) {
             Ok(Attempt::Found(found)) => return Ok(Attempt::Found(found)),
             Ok(Attempt::NoPlan) => {}
             Ok(Attempt::Nothing) => {}
-            Err(Halt::Nothing) => {}
-            Err(Halt::Memory) => return Err(Halt::Memory),
+            Err(NoAnswer::Memory) => return Err(NoAnswer::Memory),
+            Err(_) => {}
         }
     }
     Ok(Attempt::Nothing)
@@ -59,20 +57,19 @@ pub(crate) fn refutation(
 /// One try, with so many significant digits.
 fn one_try(
     alloc: Global,
-    book: &RowBook,
-    program: &BookProgram,
+    problem: &Problem<'_>,
     smaller: &Program,
     digits: i32,
     pivots: u64,
-) -> Result<Attempt, Halt>
-    requires { IsProgramOf book.now.rows book.now.vars program.now }
-    ensures proved { (ppm : ℕ) → IfOk result (IfFound (IsProved book.now.rows book.now.vars ppm)) }
-    ensures whole { IfOk result (IfFound (IsComplete book.now.vars)) }
-    ensures named { IfOk result (IfFound (IsNamed book.now.rows)) }
+) -> Result<Attempt, NoAnswer>
+    requires { IsPosedProblem problem.now }
+    ensures proved { (ppm : ℕ) → IfOk result (IfFound (IsProvedWithin problem.now.rows.now problem.now.vars.now ppm)) }
+    ensures whole { IfOk result (IfFound (IsComplete problem.now.vars.now)) }
+    ensures named { IfOk result (IfFound (IsNamed problem.now.rows.now)) }
     ensures made { IfOk result (IfFound (IsMadeWithin pivots)) }
 {
-    let guessed = make_guess(alloc, smaller, digits, pivots)?;
-    let found = refuted(alloc, book, program, &guessed.lambda, guessed.pivots)?;
+    let guessed = make_guess(alloc, smaller, digits, pivots).map_err(no_guess)?;
+    let found = refuted(alloc, problem, &guessed.lambda, guessed.pivots)?;
     Ok(Attempt::Found(found))
 }
 
@@ -82,24 +79,24 @@ pub(crate) fn make_guess(
     smaller: &Program,
     digits: i32,
     pivots: u64,
-) -> Result<Guessed, Halt>
+) -> Result<Refuting, Stop>
     ensures made { IfOk result (λ guessed. guessed.pivots ≤ pivots) }
 {
     let margins = margins_of(alloc, smaller, PLACES, digits)?;
     if smaller.is_false() {
         let lambda = multipliers_of(alloc, smaller, &margins, &[])?;
-        return Ok(Guessed { lambda, pivots: 0 });
+        return Ok(Refuting { lambda, pivots: 0 });
     }
     let asked = elastic_program(alloc, smaller, &margins)?;
     match guess(alloc, &asked, TOLERANCE, pivots)? {
         Answer::Solved(guess) => {
             let lambda = multipliers_of(alloc, smaller, &margins, &guess.multipliers)?;
-            Ok(Guessed {
+            Ok(Refuting {
                 lambda,
                 pivots: guess.pivots,
             })
         }
-        Answer::NoPlan => Err(Halt::Nothing),
-        Answer::GivenUp => Err(Halt::Nothing),
+        Answer::NoPlan => Err(Stop::GivenUp),
+        Answer::GivenUp => Err(Stop::GivenUp),
     }
 }

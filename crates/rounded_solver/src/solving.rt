@@ -1,45 +1,44 @@
-//! The attempt over the rows of a book.
+//! The attempt over the rows of a problem.
 
-ghost use Rattle.std.specs.Prelude.{IfOk, IfSome};
-ghost use Rattle.exact_solver.specs.BookPrograms.{IsProgramOf};
+ghost use Rattle.std.specs.Prelude.{◌≡◌, IfOk, IfSome};
+ghost use Rattle.row_problem.specs.ProgramsOf.{IsPosedProblem};
 ghost use Rattle.rounded_solver.specs.Attempts.{IfFound};
-ghost use Rattle.rounded_solver.specs.Found.{IsComplete, IsMadeWithin, IsNamed, IsProved};
+ghost use Rattle.certified_answers.specs.Answers.{IsComplete, IsMadeWithin, IsNamed, IsProvedWithin};
+ghost use Rattle.certified_answers.specs.declared.costs.Cost.TheVariants.{Model};
 
 use crate::attempt::Attempt;
 use crate::costless::costless_plan;
-use crate::found::Rounded;
-use crate::halts::Halt;
 use crate::refuting::refutation;
 use crate::tries::cheapest_plan;
-use exact_solver::BookProgram;
-use row_book::RowBook;
+use certified_answers::{Certified, NoAnswer};
+use row_problem::Problem;
 use std::alloc::{AllocError, Global};
 
 /// Looks for a plan whose cost is above a proved bound by at most so many millionths of the bound, or for multipliers that
 /// show that there is no plan. Each guess may take so many pivots at most.
 ///
-/// Nothing is given to which the checker doesn't say yes. A plan has one value for each variable of the book, in order;
-/// multipliers ascend by the names of rows; the pivots that are told are those of the guess. When nothing is given isn't defined: then nothing is known of the rows. Refuses only
-/// out of memory.
-pub fn rounded(
+/// Nothing is given to which the checker doesn't say yes. A plan has one value for each variable, in order; multipliers ascend by the
+/// names of rows; the pivots that are told are those of the guess. When nothing is given isn't defined: then nothing is known of the
+/// rows. Refuses only out of memory.
+pub fn guessed(
     alloc: Global,
-    book: &RowBook,
-    program: &BookProgram,
+    problem: &Problem<'_>,
     ppm: u32,
     pivots: u64,
-) -> Result<Option<Rounded>, AllocError>
-    requires { IsProgramOf book.now.rows book.now.vars program.now }
-    ensures proved { IfOk result (λ found. IfSome found (IsProved book.now.rows book.now.vars ppm)) }
-    ensures whole { IfOk result (λ found. IfSome found (IsComplete book.now.vars)) }
-    ensures named { IfOk result (λ found. IfSome found (IsNamed book.now.rows)) }
+) -> Result<Option<Certified>, AllocError>
+    requires problem { IsPosedProblem problem.now }
+    requires model { problem.now.cost ≡ Model }
+    ensures proved { IfOk result (λ found. IfSome found (IsProvedWithin problem.now.rows.now problem.now.vars.now ppm)) }
+    ensures whole { IfOk result (λ found. IfSome found (IsComplete problem.now.vars.now)) }
+    ensures named { IfOk result (λ found. IfSome found (IsNamed problem.now.rows.now)) }
     ensures made { IfOk result (λ found. IfSome found (IsMadeWithin pivots)) }
 {
-    match attempts(alloc, book, program, ppm, pivots) {
+    match attempts(alloc, problem, ppm, pivots) {
         Ok(Attempt::Found(found)) => Ok(Some(found)),
         Ok(Attempt::NoPlan) => Ok(None),
         Ok(Attempt::Nothing) => Ok(None),
-        Err(Halt::Nothing) => Ok(None),
-        Err(Halt::Memory) => Err(AllocError),
+        Err(NoAnswer::Memory) => Err(AllocError),
+        Err(_) => Ok(None),
     }
 }
 
@@ -47,20 +46,19 @@ pub fn rounded(
 /// that costs nothing.
 fn attempts(
     alloc: Global,
-    book: &RowBook,
-    program: &BookProgram,
+    problem: &Problem<'_>,
     ppm: u32,
     pivots: u64,
-) -> Result<Attempt, Halt>
-    requires { IsProgramOf book.now.rows book.now.vars program.now }
-    ensures proved { IfOk result (IfFound (IsProved book.now.rows book.now.vars ppm)) }
-    ensures whole { IfOk result (IfFound (IsComplete book.now.vars)) }
-    ensures named { IfOk result (IfFound (IsNamed book.now.rows)) }
+) -> Result<Attempt, NoAnswer>
+    requires { IsPosedProblem problem.now }
+    ensures proved { IfOk result (IfFound (IsProvedWithin problem.now.rows.now problem.now.vars.now ppm)) }
+    ensures whole { IfOk result (IfFound (IsComplete problem.now.vars.now)) }
+    ensures named { IfOk result (IfFound (IsNamed problem.now.rows.now)) }
     ensures made { IfOk result (IfFound (IsMadeWithin pivots)) }
 {
-    match cheapest_plan(alloc, book, program, ppm, pivots)? {
+    match cheapest_plan(alloc, problem, ppm, pivots)? {
         Attempt::Found(found) => Ok(Attempt::Found(found)),
-        Attempt::NoPlan => refutation(alloc, book, program, pivots),
-        Attempt::Nothing => costless_plan(alloc, book, program, ppm, pivots),
+        Attempt::NoPlan => refutation(alloc, problem, pivots),
+        Attempt::Nothing => costless_plan(alloc, problem, ppm, pivots),
     }
 }

@@ -1,19 +1,18 @@
 //! Tries at a plan of least cost, each with other numbers of decimals.
 
 ghost use Rattle.std.specs.Prelude.{◌≤◌, IfOk, IfSome};
-ghost use Rattle.exact_solver.specs.BookPrograms.{IsProgramOf};
+ghost use Rattle.row_problem.specs.ProgramsOf.{IsPosedProblem};
 ghost use Rattle.rounded_solver.specs.Attempts.{IfFound};
-ghost use Rattle.rounded_solver.specs.Found.{IsComplete, IsMadeWithin, IsNamed, IsProved};
+ghost use Rattle.certified_answers.specs.Answers.{IsComplete, IsMadeWithin, IsNamed, IsProvedWithin};
 
-use crate::attempt::Attempt;
+use crate::attempt::{Attempt, no_guess};
 use crate::certifying::certified;
-use crate::halts::Halt;
+use certified_answers::NoAnswer;
 use exact_num::Frac;
-use exact_solver::BookProgram;
-use presolved_program::{Aim, Program, prepare};
+use presolved_program::{Aim, Program, Stop, prepare};
 use rounded_program::{margins_of, multipliers_of, rounded_program, values_of};
 use rounded_simplex::{Answer, guess};
-use row_book::RowBook;
+use row_problem::Problem;
 use std::alloc::Global;
 
 /// A tenth of 2^-34: what the guess may miss a row by. The margins have twenty times that.
@@ -33,28 +32,27 @@ pub(crate) struct RoundedEnd {
 /// The first try that the checker accepts.
 pub(crate) fn cheapest_plan(
     alloc: Global,
-    book: &RowBook,
-    program: &BookProgram,
+    problem: &Problem<'_>,
     ppm: u32,
     pivots: u64,
-) -> Result<Attempt, Halt>
-    requires { IsProgramOf book.now.rows book.now.vars program.now }
-    ensures proved { IfOk result (IfFound (IsProved book.now.rows book.now.vars ppm)) }
-    ensures whole { IfOk result (IfFound (IsComplete book.now.vars)) }
-    ensures named { IfOk result (IfFound (IsNamed book.now.rows)) }
+) -> Result<Attempt, NoAnswer>
+    requires { IsPosedProblem problem.now }
+    ensures proved { IfOk result (IfFound (IsProvedWithin problem.now.rows.now problem.now.vars.now ppm)) }
+    ensures whole { IfOk result (IfFound (IsComplete problem.now.vars.now)) }
+    ensures named { IfOk result (IfFound (IsNamed problem.now.rows.now)) }
     ensures made { IfOk result (IfFound (IsMadeWithin pivots)) }
 {
-    let smaller = prepare(alloc, &program.reduced, Aim::Cheapest)?;
+    let smaller = prepare(alloc, problem.reduced, Aim::Cheapest).map_err(no_guess)?;
     if smaller.is_false() {
         return Ok(Attempt::NoPlan);
     }
     for (places, digits) in TRIES {
-        match one_try(alloc, book, program, &smaller, places, digits, ppm, pivots) {
+        match one_try(alloc, problem, &smaller, places, digits, ppm, pivots) {
             Ok(Attempt::Found(found)) => return Ok(Attempt::Found(found)),
             Ok(Attempt::NoPlan) => return Ok(Attempt::NoPlan),
             Ok(Attempt::Nothing) => {}
-            Err(Halt::Nothing) => {}
-            Err(Halt::Memory) => return Err(Halt::Memory),
+            Err(NoAnswer::Memory) => return Err(NoAnswer::Memory),
+            Err(_) => {}
         }
     }
     Ok(Attempt::Nothing)
@@ -63,34 +61,26 @@ pub(crate) fn cheapest_plan(
 /// One try, with so many decimals.
 fn one_try(
     alloc: Global,
-    book: &RowBook,
-    program: &BookProgram,
+    problem: &Problem<'_>,
     smaller: &Program,
     places: i32,
     digits: i32,
     ppm: u32,
     pivots: u64,
-) -> Result<Attempt, Halt>
-    requires { IsProgramOf book.now.rows book.now.vars program.now }
-    ensures proved { IfOk result (IfFound (IsProved book.now.rows book.now.vars ppm)) }
-    ensures whole { IfOk result (IfFound (IsComplete book.now.vars)) }
-    ensures named { IfOk result (IfFound (IsNamed book.now.rows)) }
+) -> Result<Attempt, NoAnswer>
+    requires { IsPosedProblem problem.now }
+    ensures proved { IfOk result (IfFound (IsProvedWithin problem.now.rows.now problem.now.vars.now ppm)) }
+    ensures whole { IfOk result (IfFound (IsComplete problem.now.vars.now)) }
+    ensures named { IfOk result (IfFound (IsNamed problem.now.rows.now)) }
     ensures made { IfOk result (IfFound (IsMadeWithin pivots)) }
 {
-    match rounded_end(alloc, smaller, places, digits, pivots)? {
-        Some(end) => {
-            let found = certified(
-                alloc,
-                book,
-                program,
-                &end.values,
-                &end.lambda,
-                ppm,
-                end.pivots,
-            )?;
+    match rounded_end(alloc, smaller, places, digits, pivots) {
+        Ok(Some(end)) => {
+            let found = certified(alloc, problem, &end.values, &end.lambda, ppm, end.pivots)?;
             Ok(Attempt::Found(found))
         }
-        None => Ok(Attempt::NoPlan),
+        Ok(None) => Ok(Attempt::NoPlan),
+        Err(stop) => Err(no_guess(stop)),
     }
 }
 
@@ -101,7 +91,7 @@ pub(crate) fn rounded_end(
     places: i32,
     digits: i32,
     pivots: u64,
-) -> Result<Option<RoundedEnd>, Halt>
+) -> Result<Option<RoundedEnd>, Stop>
     ensures made { IfOk result (λ end. IfSome end (λ e. e.pivots ≤ pivots)) }
 {
     let margins = margins_of(alloc, smaller, places, digits)?;
@@ -117,6 +107,6 @@ pub(crate) fn rounded_end(
             }))
         }
         Answer::NoPlan => Ok(None),
-        Answer::GivenUp => Err(Halt::Nothing),
+        Answer::GivenUp => Err(Stop::GivenUp),
     }
 }

@@ -1,5 +1,5 @@
 -- What the calls that carry back say, in the words of those who solve the linear program and of those who check the rows.
-use Rattle.std.proofs.Common.{◌≡◌, ℕ, suc, ◌<◌, ℤ, pos, neg_ℤ, ◌+ℤ◌, ◌*ℤ◌, Bool, true, false, List, [], ◌∷◌, inl, inr, length, map, refl, sym, ap, ◌∙◌, subst, arith}
+use Rattle.std.proofs.Common.{◌≡◌, ℕ, suc, ◌<◌, ℤ, pos, neg_ℤ, ◌+ℤ◌, ◌*ℤ◌, Bool, true, false, List, [], ◌∷◌, inl, inr, length, map, filter, refl, sym, ap, ◌∙◌, subst, arith}
 use Rattle.std.specs.Prelude.{◌<ℤ◌, ◌≤ℤ◌, Option, Result, Ok, Err, IfOk, Some, if◌then◌else◌}
 use Rattle.std.specs.Ordering.{is_eq}
 use Rattle.std.proofs.lemmas.Bool.{eqb-true}
@@ -48,6 +48,7 @@ use Rattle.certified_answers.specs.Costs.{is_model, weight_of}
 use Rattle.certified_answers.specs.declared.costs.Cost.{Cost}
 use Rattle.certified_answers.specs.declared.costs.Cost.TheVariants.{Model, Nothing, One}
 use Rattle.row_problem.specs.CarriedBack.{BecomesPlan, BecomesDirection, BecomesProof, BecomesRefutation}
+use Rattle.row_problem.specs.Problems.{IsProblem}
 use Rattle.row_problem.specs.ProgramsOf.{IsProgramOf}
 use Rattle.row_problem.proofs.CostLaws.{IsOtherCost, chosen-plain, other-cost}
 use Rattle.row_problem.proofs.ProblemLaws.{Has-from_test, IsAmong-from_Has, variable-known}
@@ -251,15 +252,40 @@ module _ (rows : List Row) (defs : List (Option Var)) (vars : List Var) (reduced
               one_is : (z : ℤ) → pos 1 *ℤ z ≡ z
               one_is z = omega (arith, ints)
 
+module _ (rows : List Row) (defs : List (Option Var)) (vars : List Var) (problem : IsProblem rows defs vars) (reduced : Reduced) (columns : reduced.columns.items ≡ filter is_column vars) where
+  abbrev removed : List Var
+  removed = defined (definitions_of rows defs)
+
+  column-in : (v : Var) → Has vars v → is_column v ≡ true → IsAmong v reduced.columns.items
+  column-in v h c = IsAmong-from_Has reduced.columns.items v (subst (λ vs. Has vs v) (sym columns) (Has-filter_from is_column vars v h c))
+
+  chosen : AreChosen reduced.columns.items
+  chosen v h = (Has-filter_to is_column vars v (subst (λ vs. Has vs v) columns (Has-from_Contains reduced.columns.items v h))).1
+
+  pub becomes_refutation : (lambda : List Frac) (made : List (RowName × Rational)) → carried.CarriesSum rows removed reduced lambda made → BecomesRefutation rows vars reduced lambda made
+  becomes_refutation lambda made carries s y l over from refute =
+      let keep = carries (pos s) y l (positive s over.0) over.1 from in
+      let proved = refutes rows removed reduced y l chosen keep refute in
+      record {
+        proves = record {
+          signs = signed y rows proved.signs;
+          columns = all_within y rows (λ v. no_cost v *ℤ pos s) vars (λ v h.
+              subst (checker.IsWithin (kind_is_free v.kind) (carried.column_sum y rows v)) (sym (zero-*ℤ (pos s)))
+              (to-checker (kind_is_free v.kind) (carried.column_sum y rows v) (pos 0) (proved.within v (known v h))));
+        };
+        positive = subst (λ z. pos 0 <ℤ z) (sum_same y (λ row. row.rhs) rows) proved.positive;
+      }
+    where
+      known : (v : Var) → Has vars v → carried.IsKnown removed reduced.columns.items v
+      known v h = elim (variable-known rows defs vars problem v h) [ inl there ↦ inl there | inr c ↦ inr (column-in v h c) ]
+
+  pub refutation_answer : (lambda : List Frac) (answer : Result (List (RowName × Rational)) Stopped) → IfOk answer (carried.CarriesSum rows removed reduced lambda) → IfOk answer (BecomesRefutation rows vars reduced lambda)
+  refutation_answer lambda (Ok made) carries = becomes_refutation lambda made carries
+  refutation_answer lambda (Err e) carries = tt
+
 module _ (rows : List Row) (defs : List (Option Var)) (vars : List Var) (cost : Cost) (reduced : Reduced) (program : IsProgramOf rows defs vars cost reduced) where
   abbrev others : List Var
   others = defined (definitions_of rows defs)
-
-  column-in : (v : Var) → Has vars v → is_column v ≡ true → IsAmong v reduced.columns.items
-  column-in v h c = IsAmong-from_Has reduced.columns.items v (subst (λ vs. Has vs v) (sym program.columns) (Has-filter_from is_column vars v h c))
-
-  chosen : AreChosen reduced.columns.items
-  chosen v h = (Has-filter_to is_column vars v (subst (λ vs. Has vs v) program.columns (Has-from_Contains reduced.columns.items v h))).1
 
   becomes_proof : (lambda : List Frac) (made : List (RowName × Rational))
       → ((s : ℤ) (y : RowName → ℤ) (l : ℕ → ℤ) → pos 0 <ℤ s → carried.AreNamedOver s y (value_in row_name_cmp made) → solver.AreOverFrom s l 0 (map value_of lambda) → KeepCost (weight_of cost) rows others reduced s y l)
@@ -283,25 +309,8 @@ module _ (rows : List Row) (defs : List (Option Var)) (vars : List Var) (cost : 
         | inl there ↦ absurd (cc (is, there))
         | inr c ↦
             subst (λ t. checker.IsWithin t (carried.column_sum y rows v) (weight_of cost v *ℤ pos s)) (chosen-plain v c).0
-            (kept-within (is_split v) reduced.cost_own (carried.column_sum y rows v) (solver.number_sum l 0 (program_of reduced).rows v) (pos s *ℤ number_at reduced.cost.items v) (weight_of cost v *ℤ pos s) program.ready.own_positive (keep.on_columns v is c) (bounds.columns v (column-in v h c)))
+            (kept-within (is_split v) reduced.cost_own (carried.column_sum y rows v) (solver.number_sum l 0 (program_of reduced).rows v) (pos s *ℤ number_at reduced.cost.items v) (weight_of cost v *ℤ pos s) program.ready.own_positive (keep.on_columns v is c) (bounds.columns v (column-in rows defs vars program.problem reduced program.columns v h c)))
       ]
-
-  becomes_refutation : (lambda : List Frac) (made : List (RowName × Rational)) → carried.CarriesSum rows others reduced lambda made → BecomesRefutation rows vars reduced lambda made
-  becomes_refutation lambda made carries s y l over from refute =
-      let keep = carries (pos s) y l (positive s over.0) over.1 from in
-      let proved = refutes rows others reduced y l chosen keep refute in
-      record {
-        proves = record {
-          signs = signed y rows proved.signs;
-          columns = all_within y rows (λ v. no_cost v *ℤ pos s) vars (λ v h.
-              subst (checker.IsWithin (kind_is_free v.kind) (carried.column_sum y rows v)) (sym (zero-*ℤ (pos s)))
-              (to-checker (kind_is_free v.kind) (carried.column_sum y rows v) (pos 0) (proved.within v (known v h))));
-        };
-        positive = subst (λ z. pos 0 <ℤ z) (sum_same y (λ row. row.rhs) rows) proved.positive;
-      }
-    where
-      known : (v : Var) → Has vars v → carried.IsKnown others reduced.columns.items v
-      known v h = elim (variable-known rows defs vars program.problem v h) [ inl there ↦ inl there | inr c ↦ inr (column-in v h c) ]
 
   pub proof_answer : (with_cost : Bool) (lambda : List Frac) (answer : Result (List (RowName × Rational)) Stopped) → with_cost ≡ is_model cost → (with_cost ≡ true → IsWhole rows defs reduced → IfOk answer (carried.CarriesBound rows others reduced lambda))
       → (with_cost ≡ false → IsPartOf rows defs reduced → IfOk answer (carried.CarriesSum rows others reduced lambda)) → IfOk answer (BecomesProof (weight_of cost) rows vars reduced lambda)
@@ -318,7 +327,3 @@ module _ (rows : List Row) (defs : List (Option Var)) (vars : List Var) (cost : 
           subst (λ k. KeepCost (weight_of k) rows others reduced s y l) (sym e) (keep-model rows defs vars reduced s y l (bounds (is ∙ ap is_model e) (program.whole e) s y l h over from))
       by_cost Nothing e = without Nothing refl e
       by_cost (One var goal) e = without (One var goal) refl e
-
-  pub refutation_answer : (lambda : List Frac) (answer : Result (List (RowName × Rational)) Stopped) → IfOk answer (carried.CarriesSum rows others reduced lambda) → IfOk answer (BecomesRefutation rows vars reduced lambda)
-  refutation_answer lambda (Ok made) carries = becomes_refutation lambda made carries
-  refutation_answer lambda (Err e) carries = tt

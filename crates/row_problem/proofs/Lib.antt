@@ -6,3 +6,7 @@ pub mod CompletePlans
 pub mod CostLaws
 pub mod CarriedWords
 pub mod AimLaws
+mod SizeExamples
+pub mod OverLaws
+pub mod SolvedLaws
+pub mod FoundWords

@@ -8,21 +8,22 @@ use Rattle.exact_num.specs.Rational.{Rational, lowest, minus, order_of, plus, ti
 use Rattle.row_core.specs.declared.Var.{Var}
 use Rattle.row_core.specs.declared.kind_numbers.TheConstants.{NEW_CAPACITY, TOTAL_DISCOUNTED_COST}
 use Rattle.row_core.specs.declared.place.Place.TheVariants.{CostRow, Expand, Row}
-use Rattle.row_core.specs.Rows.{number_at}
 use Rattle.row_core.specs.Terms.{gathered}
 use Rattle.row_core.specs.Written.{written_entries, written_right}
-use Rattle.named_equations.specs.Instances.{variable_of}
+use Rattle.certified_answers.specs.Costs.{weight_of}
+use Rattle.certified_answers.specs.declared.answers.NoAnswer.TheVariants as answers
+use Rattle.certified_answers.specs.declared.costs.Cost.TheVariants.{One}
+use Rattle.certified_answers.specs.declared.costs.Goal.TheVariants.{Least, Greatest}
+use Rattle.exact_solver.specs.MethodEnds.{HasNoBound, HasOptimum, IsPivotDue, IsWide}
 use Rattle.simplex_core.specs.declared.stops.Stop.TheVariants.{Budget, Trial, Width}
 use Rattle.simplex_core.specs.declared.stops.TrialStop.TheVariants as trials
-use Rattle.exact_solver.specs.declared.solutions.SolveStop.TheVariants as stops
 use Rattle.span_finder.specs.declared.found.SpanFail.TheVariants.{Stopped}
 use Rattle.row_core.specs.declared.cost_limit.TheConstants.{SPAN}
-use Rattle.span_finder.specs.declared.trial.Goal.TheVariants.{Least, Greatest}
 use Rattle.row_core.specs.CostLimits.{span_name}
 use Rattle.span_finder.specs.LimitRows.{CostsAtMost, cost_terms}
 use Rattle.span_finder.specs.RoundedSpans.{LieWithin, measure_of}
 use Rattle.span_finder.specs.Slacks.{slack_limit}
-use Rattle.span_finder.specs.SpanEnds.{HasExtreme, HasNoEnd, IsBounded, IsNothing, IsPivotDue, IsPlainStop, IsRising, IsStopped, IsWide, StopsAt, end_seen, greatest_end, least_end, trial_cost, trial_fail, unless_stopped}
+use Rattle.span_finder.specs.SpanEnds.{IsBounded, IsNothing, IsPlainStop, IsRising, IsStopped, StopsAt, end_seen, greatest_end, least_end, trial_fail, unless_stopped}
 
 -- a variable of a kind, of this technology
 abbrev of_kind : ℕ → ℕ → Var
@@ -42,12 +43,9 @@ variables = built_t ∷ built_u ∷ total_cost ∷ []
 
 -- ---- the row that limits the cost
 
--- it has no number of a named equation, and defines nothing
+-- it has no number of a named equation
 beyond : SPAN ≡ 65
 beyond = refl
-
-defines_nothing : variable_of span_name ≡ None
-defines_nothing = refl
 
 -- a limit of 88: the cost is at most 88; and of 177/2: twice the cost is at most 177
 entries_whole : written_entries (gathered (cost_terms variables)) (whole (pos 88)) ≡ (total_cost, pos 1) ∷ []
@@ -94,13 +92,13 @@ no_slack = refl
 
 -- ---- costs of trials
 
-least_counts : number_at (trial_cost built_t Least) built_t ≡ pos 1
+least_counts : weight_of (One built_t Least) built_t ≡ pos 1
 least_counts = refl
 
-greatest_counts : number_at (trial_cost built_t Greatest) built_t ≡ negsuc 0
+greatest_counts : weight_of (One built_t Greatest) built_t ≡ negsuc 0
 greatest_counts = refl
 
-others_cost_nothing : number_at (trial_cost built_t Least) built_u ≡ pos 0
+others_cost_nothing : weight_of (One built_t Least) built_u ≡ pos 0
 others_cost_nothing = refl
 
 -- ---- ends
@@ -109,10 +107,10 @@ abbrev plan_of : ℤ → List (Var × Rational)
 plan_of n = (built_t, whole n) ∷ []
 
 -- both trials end: the first with the least value, the second with the greatest, and not the other way round
-bounded : least_end 9 (λ low. greatest_end 9 low (HasExtreme (plan_of (pos 11)))) (HasExtreme (plan_of (pos 8))) ≡ IsBounded (plan_of (pos 8)) (plan_of (pos 11))
+bounded : least_end 9 (λ low. greatest_end 9 low (HasOptimum (plan_of (pos 11)) [] 2)) (HasOptimum (plan_of (pos 8)) [] 3) ≡ IsBounded (plan_of (pos 8)) (plan_of (pos 11))
 bounded = refl
 
-rising : greatest_end 9 (plan_of (pos 8)) (HasNoEnd (plan_of (pos 10)) (plan_of (pos 1))) ≡ IsRising (plan_of (pos 8)) (plan_of (pos 10)) (plan_of (pos 1))
+rising : greatest_end 9 (plan_of (pos 8)) (HasNoBound (plan_of (pos 10)) (plan_of (pos 1)) 2) ≡ IsRising (plan_of (pos 8)) (plan_of (pos 10)) (plan_of (pos 1))
 rising = refl
 
 -- there is no greatest value only where the second trial has no end, and not where it stops
@@ -132,7 +130,7 @@ seen_bounded = refl
 
 -- ---- stops
 
-second_out_of_pivots : trial_fail 2 9 stops.Budget ≡ Stopped (Trial 2 (trials.Budget 9))
+second_out_of_pivots : trial_fail 2 9 answers.Budget ≡ Stopped (Trial 2 (trials.Budget 9))
 second_out_of_pivots = refl
 
 told : StopsAt (IsStopped (Trial 2 (trials.Budget 9))) (Stopped (Trial 2 (trials.Budget 9)))

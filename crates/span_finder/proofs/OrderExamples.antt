@@ -1,6 +1,7 @@
 -- The order of the trials and of what each of them carries back and checks: where numbers of two steps don't fit, the place of the first is told. And the numbers of the limit.
 use Rattle.std.proofs.Common.{◌≡◌, ℕ, ◌-◌, ◌^◌, ℤ, pos, negsuc, neg_ℤ, List, [], ◌∷◌, refl}
 use Rattle.std.specs.Global.{Vec}
+use Rattle.std.specs.Prelude.{Some, None}
 use Rattle.exact_num.specs.Formed.{difference_formed, product_formed, quotient_formed, sum_formed}
 use Rattle.exact_num.specs.Gcd.{gcd_of, gcd_within}
 use Rattle.exact_num.specs.Range.{all_fit, in_range}
@@ -17,11 +18,13 @@ use Rattle.simplex_core.specs.declared.stops.Stop.TheVariants.{Trial}
 use Rattle.simplex_core.specs.declared.stops.TrialStop.TheVariants as trials
 use Rattle.written_method.specs.Runs.{answer, answer_of, run}
 use Rattle.written_method.proofs.MadeRows.{made_row}
-use Rattle.exact_solver.specs.Programs.{carried_direction, carried_multipliers, carried_plan, carrying_steps, direction_steps, plan_steps}
-use Rattle.span_finder.specs.declared.trial.Goal.{Goal}
-use Rattle.span_finder.specs.declared.trial.Goal.TheVariants.{Least, Greatest}
+use Rattle.certified_answers.specs.declared.costs.Cost.TheVariants.{One}
+use Rattle.certified_answers.specs.declared.costs.Goal.{Goal}
+use Rattle.certified_answers.specs.declared.costs.Goal.TheVariants.{Least, Greatest}
+use Rattle.row_problem.specs.Programs.{carried_direction, carried_multipliers, carried_plan, carrying_steps, direction_steps, plan_steps, program_left}
+use Rattle.exact_solver.specs.MethodEnds.{MethodEnd, HasOptimum, IsWide, falling_end, optimal_end, solved_end}
 use Rattle.span_finder.specs.Slacks.{slack_formed}
-use Rattle.span_finder.specs.SpanEnds.{HasExtreme, IsBounded, IsStopped, IsWide, TrialEnd, both_trials, endless_end, extreme_end, spanned, trial_end, trial_program}
+use Rattle.span_finder.specs.SpanEnds.{IsBounded, IsStopped, both_trials, spanned}
 
 -- the variable, and the row, of this number at the first members
 abbrev of_kind : ℕ → Var
@@ -65,18 +68,18 @@ module _ (v : Vec (Var × ℤ)) where
   abbrev limits : List Row
   limits = made_row v (named NCC1) senses.Most ((built, pos 1) ∷ []) (pos 8) refl ∷ made_row v (named NCC2) senses.Least ((built, pos 1) ∷ []) (pos 3) refl ∷ []
 
-  from_three_to_eight : spanned limits (built ∷ []) built 3 ≡ IsBounded ((built, whole (pos 3)) ∷ []) ((built, whole (pos 8)) ∷ [])
-  unfolding spanned both_trials trial_end trial_program run answer_of answer plan_steps carried_plan carrying_steps carried_multipliers gcd_of gcd_within lowest plus minus times divided order_of product_formed sum_formed difference_formed quotient_formed first_wide all_fit in_range
+  from_three_to_eight : spanned limits (None ∷ None ∷ []) (built ∷ []) built 3 ≡ IsBounded ((built, whole (pos 3)) ∷ []) ((built, whole (pos 8)) ∷ [])
+  unfolding spanned both_trials solved_end program_left run answer_of answer plan_steps carried_plan carrying_steps carried_multipliers gcd_of gcd_within lowest plus minus times divided order_of product_formed sum_formed difference_formed quotient_formed first_wide all_fit in_range
   from_three_to_eight = refl
 
   -- with two pivots the least value is found, and the greatest isn't
-  second_stops : spanned limits (built ∷ []) built 2 ≡ IsStopped (Trial 2 (trials.Budget 2))
-  unfolding spanned both_trials trial_end trial_program run answer_of answer plan_steps carried_plan carrying_steps carried_multipliers gcd_of gcd_within lowest plus minus times divided order_of product_formed sum_formed difference_formed quotient_formed first_wide all_fit in_range
+  second_stops : spanned limits (None ∷ None ∷ []) (built ∷ []) built 2 ≡ IsStopped (Trial 2 (trials.Budget 2))
+  unfolding spanned both_trials solved_end program_left run answer_of answer plan_steps carried_plan carrying_steps carried_multipliers gcd_of gcd_within lowest plus minus times divided order_of product_formed sum_formed difference_formed quotient_formed first_wide all_fit in_range
   second_stops = refl
 
   -- with none both trials stop, and the first is told
-  first_stops : spanned limits (built ∷ []) built 0 ≡ IsStopped (Trial 1 (trials.Budget 0))
-  unfolding spanned both_trials trial_end trial_program run answer_of answer plan_steps carried_plan carrying_steps carried_multipliers gcd_of gcd_within lowest plus minus times divided order_of product_formed sum_formed difference_formed quotient_formed first_wide all_fit in_range
+  first_stops : spanned limits (None ∷ None ∷ []) (built ∷ []) built 0 ≡ IsStopped (Trial 1 (trials.Budget 0))
+  unfolding spanned both_trials solved_end program_left run answer_of answer plan_steps carried_plan carrying_steps carried_multipliers gcd_of gcd_within lowest plus minus times divided order_of product_formed sum_formed difference_formed quotient_formed first_wide all_fit in_range
   first_stops = refl
 
   -- ---- in a trial
@@ -87,8 +90,8 @@ module _ (v : Vec (Var × ℤ)) where
   rows = made_row v (named CAA2) senses.Equal ((built, negsuc 0) ∷ (total, pos 2) ∷ []) (pos 0) refl ∷ made_row v (named CAA4) senses.Most ((activity, pos 1) ∷ (total, negsuc 0) ∷ []) (pos 0) refl ∷ []
 
   -- with these values of the activity and of what is built, and this multiplier
-  abbrev extreme : Goal → Rational → Rational → Rational → TrialEnd
-  extreme goal x n lambda = extreme_end rows (activity ∷ built ∷ total ∷ []) built goal ((activity, x) ∷ (built, n) ∷ []) (lambda ∷ [])
+  abbrev extreme : Goal → Rational → Rational → Rational → MethodEnd
+  extreme goal x n lambda = optimal_end (One built goal) rows (Some total ∷ None ∷ []) (activity ∷ built ∷ total ∷ []) ((activity, x) ∷ (built, n) ∷ []) (lambda ∷ []) 5
 
   -- half of the least fraction doesn't fit, and neither does twice the greatest number: the plan is carried back first
   plan_first : extreme Least (whole (pos 0)) least (whole (neg_ℤ greatest)) ≡ IsWide (LiftPlan total)
@@ -110,13 +113,14 @@ module _ (v : Vec (Var × ℤ)) where
   unfolding plan_steps carried_plan carrying_steps carried_multipliers gcd_of gcd_within lowest plus minus times divided order_of product_formed sum_formed difference_formed quotient_formed first_wide all_fit in_range
   multipliers_checked = refl
 
-  nothing_wide : extreme Least (whole (pos 0)) (whole (pos 1)) (pair (neg_ℤ greatest) (pos 2)) ≡ HasExtreme ((activity, whole (pos 0)) ∷ (built, whole (pos 1)) ∷ (total, pair (pos 1) (pos 2)) ∷ [])
+  nothing_wide : extreme Least (whole (pos 0)) (whole (pos 1)) (pair (neg_ℤ greatest) (pos 2))
+      ≡ HasOptimum ((activity, whole (pos 0)) ∷ (built, whole (pos 1)) ∷ (total, pair (pos 1) (pos 2)) ∷ []) ((named CAA2, pair (neg_ℤ greatest) (pos 2)) ∷ (named CAA4, whole (neg_ℤ greatest)) ∷ []) 5
   unfolding plan_steps carried_plan carrying_steps carried_multipliers gcd_of gcd_within lowest plus minus times divided order_of product_formed sum_formed difference_formed quotient_formed first_wide all_fit in_range
   nothing_wide = refl
 
   -- the plan before the direction, and both before the checks
-  abbrev endless : Rational → Rational → Rational → TrialEnd
-  endless x n d = endless_end rows (activity ∷ built ∷ total ∷ []) built Greatest ((activity, x) ∷ (built, n) ∷ []) ((activity, whole (pos 0)) ∷ (built, d) ∷ [])
+  abbrev endless : Rational → Rational → Rational → MethodEnd
+  endless x n d = falling_end (One built Greatest) rows (Some total ∷ None ∷ []) (activity ∷ built ∷ total ∷ []) ((activity, x) ∷ (built, n) ∷ []) ((activity, whole (pos 0)) ∷ (built, d) ∷ []) 5
 
   plan_before_direction : endless (whole (pos 0)) least least ≡ IsWide (LiftPlan total)
   unfolding plan_steps carried_plan direction_steps carried_direction gcd_of gcd_within lowest plus minus times divided order_of product_formed sum_formed difference_formed quotient_formed first_wide all_fit in_range

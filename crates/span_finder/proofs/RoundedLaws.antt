@@ -1,49 +1,44 @@
 -- What the ends that the rounded method finds are worth: no plan passes them, neither of the rows with the limit's, nor near the best.
-use Rattle.std.proofs.Common.{◌≡◌, ℕ, pos, negsuc, neg_ℤ, ◌*ℤ◌, Bool, true, false, List, ◌∙◌, subst, arith, if◌then◌else◌}
+use Rattle.std.proofs.Common.{◌≡◌, ℕ, pos, ◌*ℤ◌, Bool, true, false, List, arith, if◌then◌else◌}
 use Rattle.std.specs.Prelude.{Result, Ok, Err, IfOk, int_lt, ◌≤ℤ◌}
 use Rattle.std.proofs.lemmas.Int.{ints}
 use Rattle.exact_num.specs.Rational.{Rational, whole}
 use Rattle.exact_num.specs.Value.{value_of}
-use Rattle.exact_num.proofs.Ring.{*ℤ-one, neg_ℤ-*ℤ, one-*ℤ, zero-*ℤ}
+use Rattle.exact_num.proofs.Ring.{*ℤ-one, zero-*ℤ}
 use Rattle.row_core.specs.declared.Row.{Row}
 use Rattle.row_core.specs.declared.Var.{Var}
 use Rattle.row_core.specs.Kinds.{kind_is_free}
 use Rattle.row_core.specs.Numbers.{ascends}
 use Rattle.row_core.specs.Order.{var_cmp}
-use Rattle.row_core.specs.Rows.{number_at}
 use Rattle.row_core.proofs.Members.{Has}
 use Rattle.certificate_checker.specs.Certificates.{BoundsAll}
+use Rattle.certified_answers.specs.Costs.{weight_of}
+use Rattle.certified_answers.specs.declared.costs.Cost.TheVariants.{One}
+use Rattle.certified_answers.specs.declared.costs.Goal.{Goal}
+use Rattle.certified_answers.specs.declared.costs.Goal.TheVariants.{Least, Greatest}
 use Rattle.span_finder.specs.LimitRows.{HasLimitRow}
 use Rattle.span_finder.specs.RoundedSpans.{IsRoundedSpan}
 use Rattle.span_finder.specs.RoundedTrials.{AreRoundedEnds, IsEndNear, end_of}
-use Rattle.span_finder.specs.SpanEnds.{trial_cost}
 use Rattle.span_finder.specs.Spans.{IsNearPlan}
 use Rattle.span_finder.specs.Trials.{NonePasses}
 use Rattle.span_finder.specs.declared.found.RoundedSpan.{RoundedSpan}
-use Rattle.span_finder.specs.declared.trial.Goal.{Goal}
-use Rattle.span_finder.specs.declared.trial.Goal.TheVariants.{Least, Greatest}
-use Rattle.span_finder.proofs.ExtremeLaws.{cost-is, minus}
-use Rattle.span_finder.proofs.FeasibleLaws.{sign-at}
-use Rattle.span_finder.proofs.LimitBooks.{near-from, near-to}
+use Rattle.span_finder.proofs.LimitedLaws.{near-from, near-to}
+use Rattle.span_finder.proofs.ValueLaws.{bound-passes, least-from_zero}
 
 -- ---- the end that a bound leaves
 
 module _ (rows : List Row) (vars : List Var) (var : Var) (up : ascends var_cmp vars ≡ true) (listed : Has vars var) (bounded : kind_is_free var.kind ≡ false) where
-  pub end-passes : (goal : Goal) (bound : Rational) → BoundsAll (number_at (trial_cost var goal)) rows vars bound → NonePasses goal rows vars var (end_of goal bound)
+  pub end-passes : (goal : Goal) (bound : Rational) → BoundsAll (weight_of (One var goal)) rows vars bound → NonePasses goal rows vars var (end_of goal bound)
   end-passes Least bound h = cases (int_lt bound.top (pos 0))
     where
       cases : (b : Bool) → NonePasses Least rows vars var (if b then whole (pos 0) else bound)
       cases true = λ q x meets.
-          let least : pos 0 ≤ℤ x var = sign-at vars x var meets.signs listed bounded in
+          let least : pos 0 ≤ℤ x var = least-from_zero rows vars var up listed bounded q x meets in
           let none : pos 0 *ℤ pos q ≡ pos 0 = zero-*ℤ (pos q) in
           let one : x var *ℤ pos 1 ≡ x var = *ℤ-one (x var) in
           omega (arith, ints)
-      cases false = λ q x meets. subst (λ z. (bound.top *ℤ pos q) ≤ℤ (z *ℤ bound.bottom)) (cost-is vars var (pos 1) x up listed ∙ one-*ℤ (x var)) (h q x meets)
-  end-passes Greatest bound h = λ q x meets.
-      let costs : (bound.top *ℤ pos q) ≤ℤ (neg_ℤ (x var) *ℤ bound.bottom) = subst (λ z. (bound.top *ℤ pos q) ≤ℤ (z *ℤ bound.bottom)) (cost-is vars var (negsuc 0) x up listed ∙ minus (x var)) (h q x meets) in
-      let value : neg_ℤ (x var) *ℤ bound.bottom ≡ neg_ℤ (x var *ℤ bound.bottom) = neg_ℤ-*ℤ (x var) bound.bottom in
-      let end : neg_ℤ bound.top *ℤ pos q ≡ neg_ℤ (bound.top *ℤ pos q) = neg_ℤ-*ℤ bound.top (pos q) in
-      omega (arith, ints)
+      cases false = bound-passes rows vars var up listed Least bound h
+  end-passes Greatest bound h = bound-passes rows vars var up listed Greatest bound h
 
 -- ---- near the best
 

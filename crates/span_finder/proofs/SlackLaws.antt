@@ -16,7 +16,7 @@ use Rattle.row_core.specs.Values.{IsOver}
 use Rattle.row_core.proofs.SumLaws.{IsOver-multiplied, IsOver-own, IsOver-plus, IsOver-ratio, IsOver-times}
 use Rattle.certificate_checker.specs.Costs.{cost_of, model_cost}
 use Rattle.certificate_checker.specs.PlanChecks.{absolute}
-use Rattle.exact_solver.specs.Solutions.{IsPlan}
+use Rattle.certified_answers.specs.Worth.{IsPlan}
 use Rattle.span_finder.specs.Slacks.{slack_formed, slack_limit, slack_of}
 use Rattle.span_finder.specs.Spans.{HasNearBest}
 use Rattle.span_finder.proofs.LimitSteps.{fits-first}

@@ -2,8 +2,7 @@ pub mod LimitRows
 pub mod Spans
 pub mod RoundedSpans
 pub mod Slacks
-pub mod Worth
 pub mod SpanEnds
 pub mod Trials
-pub mod LimitedBooks
+pub mod LimitedRows
 pub mod RoundedTrials

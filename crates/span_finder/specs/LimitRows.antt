@@ -1,4 +1,4 @@
--- The row that says that the cost, the sum of all TotalDiscountedCost, is at most a limit; and the rows of a book with this row after them.
+-- The row that says that the cost, the sum of all TotalDiscountedCost, is at most a limit; and rows with this row after them.
 use Rattle.std.specs.Prelude.{◌≡◌, ◌↔◌, ℕ, ℤ, pos, ◌*ℤ◌, ◌≤ℤ◌, Bool, true, ◌==◌, List, [], ◌∷◌, ◌++◌, map, if◌then◌else◌}
 use Rattle.exact_num.specs.Range.{all_fit}
 use Rattle.exact_num.specs.Rational.{Rational, whole}
@@ -6,13 +6,13 @@ use Rattle.row_core.specs.declared.Row.{Row}
 use Rattle.row_core.specs.declared.Sense.TheVariants.{Most}
 use Rattle.row_core.specs.declared.Var.{Var}
 use Rattle.row_core.specs.declared.kind_numbers.TheConstants.{TOTAL_DISCOUNTED_COST}
+use Rattle.row_core.specs.Contents.{contents_of}
+use Rattle.row_core.specs.CostLimits.{span_name}
 use Rattle.row_core.specs.Numbers.{variables_of}
 use Rattle.row_core.specs.Rows.{RowHolds}
 use Rattle.row_core.specs.Terms.{gathered, gathered_formed}
 use Rattle.row_core.specs.Written.{kept, written_entries, written_formed, written_right}
 use Rattle.certificate_checker.specs.Costs.{cost_of, model_cost}
-use Rattle.variable_elimination.specs.ReducedRows.{shape_of}
-use Rattle.row_core.specs.CostLimits.{span_name}
 
 -- ---- how it is written
 
@@ -48,11 +48,11 @@ pub record IsLimitRow (vars : List Var) (limit : Rational) (row : Row) : Type 0 
   pub variables : variables_of row.entries.items ≡ variables_of (kept (gathered (cost_terms vars)))
   pub says : (q : ℕ) (x : Var → ℤ) → RowHolds row q x ↔ CostsAtMost vars limit q x
 
--- ---- with the rows of a book
+-- ---- after other rows
 
--- rows of the same names, senses, entries and right sides as those of the book, and after them that row
+-- what these rows say, and after them that row
 pub record HasLimitRow (rows : List Row) (vars : List Var) (limit : Rational) (all : List Row) : Type 0 where
   pub row : Row
   pub is : IsLimitRow vars limit row
-  pub shapes : map shape_of all ≡ map shape_of (rows ++ row ∷ [])
+  pub contents : map contents_of all ≡ map contents_of (rows ++ row ∷ [])
   pub fits : all_fit (limit_formed vars limit) ≡ true

@@ -7,15 +7,14 @@ use Rattle.row_core.specs.declared.Var.{Var}
 use Rattle.row_core.specs.Numbers.{keys_of}
 use Rattle.row_core.specs.Order.{var_cmp}
 use Rattle.row_core.specs.Plans.{value_in}
-use Rattle.exact_solver.specs.MethodEnds.{plan_cost}
-use Rattle.exact_solver.specs.Solutions.{IsPlan}
+use Rattle.certified_answers.specs.Worth.{IsPlan, plan_cost}
+use Rattle.certified_answers.specs.declared.costs.Goal.{Goal}
+use Rattle.certified_answers.specs.declared.costs.Goal.TheVariants.{Least, Greatest}
+use Rattle.row_problem.specs.declared.problem.Problem.{Problem}
 use Rattle.span_finder.specs.RoundedSpans.{LieWithin}
 use Rattle.span_finder.specs.Trials.{NonePasses}
 use Rattle.span_finder.specs.declared.found.RoundedSpan.{RoundedSpan}
 use Rattle.span_finder.specs.declared.rounded_trial.RoundedEnd.{RoundedEnd}
-use Rattle.span_finder.specs.declared.trial.Goal.{Goal}
-use Rattle.span_finder.specs.declared.trial.Goal.TheVariants.{Least, Greatest}
-use Rattle.span_finder.specs.declared.trial.Problem.{Problem}
 
 -- the least value is at least the bound, and at least 0; the cost of the other trial is the value turned, so the greatest value is at most the bound turned
 abbrev pub end_of : Goal → Rational → Rational
@@ -35,8 +34,8 @@ pub record IsEndNear (rows : List Row) (vars : List Var) (var : Var) (goal : Goa
   pub close : IsClose goal ppm (value_in var_cmp plan var) end
 
 -- what a trial finds
-abbrev pub IsRoundedEnd : Problem → ℕ → RoundedEnd → Type 0
-IsRoundedEnd problem ppm found = IsEndNear problem.rows.now problem.vars.now problem.var problem.goal ppm found.plan (value_of found.end)
+abbrev pub IsRoundedEnd : Problem → Var → Goal → ℕ → RoundedEnd → Type 0
+IsRoundedEnd problem var goal ppm found = IsEndNear problem.rows.now problem.vars.now var goal ppm found.plan (value_of found.end)
 
 -- what both find
 pub record AreRoundedEnds (rows : List Row) (vars : List Var) (var : Var) (ppm : ℕ) (span : RoundedSpan) : Type 0 where

@@ -1,11 +1,7 @@
 //! How far the capacity that is built can go, up and down, in plans that cost at most a limit.
 #![tactic(auto)]
 
-mod checking;
-mod copying;
 mod found;
-mod halts;
-mod laws;
 mod limited;
 mod limiting;
 mod near;
@@ -13,7 +9,6 @@ mod rounded_trial;
 mod rounding;
 mod slack;
 mod spanning;
-mod trial;
 
 pub use found::{RoundedSpan, Span, SpanFail};
 pub use rounding::round_span;

@@ -3,25 +3,16 @@
 ghost use Rattle.std.specs.Prelude.{◌≡◌, IfOk, OnOk, length};
 ghost use Rattle.exact_num.specs.Value.{value_of};
 ghost use Rattle.row_core.specs.Numbers.{keys_of};
-ghost use Rattle.row_core.specs.Rows.{number_at};
-ghost use Rattle.row_book.specs.Kept.{IsBook};
-ghost use Rattle.certificate_checker.specs.Certificates.{BoundsAll};
-ghost use Rattle.exact_solver.specs.MethodEnds.{plan_cost};
-ghost use Rattle.exact_solver.specs.Solutions.{IsPlan};
 ghost use Rattle.span_finder.specs.RoundedTrials.{IsClose, IsRoundedEnd, end_of};
-ghost use Rattle.span_finder.specs.SpanEnds.{trial_cost};
 ghost use Rattle.span_finder.specs.Trials.{IsTrial};
 
-use crate::halts::Halt;
-use crate::laws::{multiplier_laws, plan_laws};
 use crate::near::checked_near;
-use crate::trial::{Goal, Problem, sign_of};
-use certificate_checker::{Verdict, check_bound_of, check_plan};
+use certified_answers::{Goal, NoAnswer, accepted_bound, accepted_plan, plan_laws};
 use exact_num::Frac;
 use rounded_solver::{TRIES, guess_optimum};
-use row_core::{Multipliers, Plan, fraction};
+use row_core::{Plan, Var, fraction};
+use row_problem::{Problem, carry_multipliers, carry_plan};
 use std::alloc::Global;
-use variable_elimination::{lift_multipliers, lift_plan};
 
 /// What a trial finds. The checker has said yes to it.
 #[derive(Debug, Drop)]
@@ -36,37 +27,49 @@ pub(crate) struct RoundedEnd {
 pub(crate) fn rounded_trial(
     alloc: Global,
     problem: &Problem<'_>,
+    var: Var,
+    goal: Goal,
     ppm: u32,
     pivots: u64,
-) -> Result<RoundedEnd, Halt>
-    requires { IsTrial problem.now }
-    ensures { IfOk result (IsRoundedEnd problem.now ppm) }
+) -> Result<RoundedEnd, NoAnswer>
+    requires { IsTrial problem.now var goal }
+    ensures { IfOk result (IsRoundedEnd problem.now var goal ppm) }
 {
     for (places, digits) in TRIES {
-        match one_try(alloc, problem, places, digits, ppm, pivots) {
+        match one_try(alloc, problem, var, goal, places, digits, ppm, pivots) {
             Ok(found) => return Ok(found),
-            Err(Halt::Nothing) => {}
-            Err(Halt::Memory) => return Err(Halt::Memory),
+            Err(NoAnswer::Memory) => return Err(NoAnswer::Memory),
+            Err(_) => {}
         }
     }
-    Err(Halt::Nothing)
+    Err(NoAnswer::Nothing)
 }
 
 /// One try, with so many decimals of values and significant digits of multipliers.
 fn one_try(
     alloc: Global,
     problem: &Problem<'_>,
+    var: Var,
+    goal: Goal,
     places: i32,
     digits: i32,
     ppm: u32,
     pivots: u64,
-) -> Result<RoundedEnd, Halt>
-    requires { IsTrial problem.now }
-    ensures { IfOk result (IsRoundedEnd problem.now ppm) }
+) -> Result<RoundedEnd, NoAnswer>
+    requires { IsTrial problem.now var goal }
+    ensures { IfOk result (IsRoundedEnd problem.now var goal ppm) }
 {
-    match guess_optimum(alloc, problem.tried, places, digits, pivots)? {
-        Some(guessed) => carried(alloc, problem, &guessed.values, &guessed.multipliers, ppm),
-        None => Err(Halt::Nothing),
+    match guess_optimum(alloc, problem.reduced, places, digits, pivots)? {
+        Some(guessed) => carried(
+            alloc,
+            problem,
+            var,
+            goal,
+            &guessed.values,
+            &guessed.multipliers,
+            ppm,
+        ),
+        None => Err(NoAnswer::Nothing),
     }
 }
 
@@ -74,61 +77,31 @@ fn one_try(
 fn carried(
     alloc: Global,
     problem: &Problem<'_>,
+    var: Var,
+    goal: Goal,
     values: &Plan,
     lambda: &[Frac],
     ppm: u32,
-) -> Result<RoundedEnd, Halt>
-    requires trial { IsTrial problem.now }
-    requires keyed { keys_of values.now ≡ problem.now.tried.now.columns.items }
-    requires counted { length lambda.now ≡ length problem.now.tried.now.rows.items }
-    ensures { IfOk result (IsRoundedEnd problem.now ppm) }
+) -> Result<RoundedEnd, NoAnswer>
+    requires trial { IsTrial problem.now var goal }
+    requires keyed { keys_of values.now ≡ problem.now.reduced.now.columns.items }
+    requires counted { length lambda.now ≡ length problem.now.reduced.now.rows.items }
+    ensures { IfOk result (IsRoundedEnd problem.now var goal ppm) }
 {
-    let plan = lift_plan(alloc, problem.rows, problem.defs, values)?;
+    let plan = carry_plan(alloc, problem, values)?;
     plan_laws(&plan);
-    let multipliers = lift_multipliers(
+    let multipliers = carry_multipliers(alloc, problem, lambda, false)?;
+    accepted_plan(problem.rows, problem.vars, &plan)?;
+    let bound = accepted_bound(
         alloc,
         problem.rows,
-        problem.defs,
-        problem.tried,
-        lambda,
-        false,
+        problem.vars,
+        problem.cost,
+        &multipliers,
     )?;
-    accepted_plan(problem, &plan)?;
-    let bound = accepted_bound(alloc, problem, &multipliers)?;
-    let end = end_of(problem.goal, bound);
-    checked_close(problem.goal, ppm, plan.value(problem.var), end)?;
+    let end = end_of(goal, bound);
+    checked_close(goal, ppm, plan.value(var), end)?;
     Ok(RoundedEnd { end, plan })
-}
-
-/// The checker says yes to a plan.
-fn accepted_plan(problem: &Problem<'_>, plan: &Plan) -> Result<(), Halt>
-    ensures { OnOk result (IsPlan problem.now.rows.now problem.now.vars.now plan.now (plan_cost problem.now.vars.now plan.now)) }
-{
-    plan_laws(plan);
-    match check_plan(problem.rows, problem.vars, plan) {
-        Verdict::Yes(_) => Ok(()),
-        Verdict::No(_) => Err(Halt::Nothing),
-        Verdict::Width(_) => Err(Halt::Nothing),
-    }
-}
-
-/// The bound of a trial's cost that the checker accepts.
-fn accepted_bound(
-    alloc: Global,
-    problem: &Problem<'_>,
-    multipliers: &Multipliers,
-) -> Result<Frac, Halt>
-    requires { IsBook problem.now.rows.now problem.now.vars.now }
-    ensures { IfOk result (λ bound. BoundsAll (number_at (trial_cost problem.now.var problem.now.goal)) problem.now.rows.now problem.now.vars.now (value_of bound)) }
-{
-    multiplier_laws(multipliers);
-    let cost = [(problem.var, sign_of(problem.goal))];
-    let verdict = check_bound_of(alloc, problem.rows, problem.vars, &cost, multipliers)?;
-    match verdict {
-        Verdict::Yes(bound) => Ok(bound),
-        Verdict::No(_) => Err(Halt::Nothing),
-        Verdict::Width(_) => Err(Halt::Nothing),
-    }
 }
 
 /// The end of the values that a bound of a trial's cost leaves. The least value isn't below 0, since no capacity is.
@@ -145,7 +118,7 @@ fn end_of(goal: Goal, bound: Frac) -> Frac
 }
 
 /// The value of a plan is within so many millionths of the end.
-fn checked_close(goal: Goal, ppm: u32, value: Frac, end: Frac) -> Result<(), Halt>
+fn checked_close(goal: Goal, ppm: u32, value: Frac, end: Frac) -> Result<(), NoAnswer>
     ensures { OnOk result (IsClose goal ppm (value_of value) (value_of end)) }
 {
     match goal {

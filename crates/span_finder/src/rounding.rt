@@ -1,113 +1,120 @@
-//! Between which values a variable lies in plans of a book that cost at most a limit, by the rounded method.
+//! Between which values a variable lies in plans that meet rows and cost at most a limit, by the rounded method.
 
 ghost use Rattle.std.specs.Prelude.{◌≡◌, ◌<◌, Contains, IfOk, IfSome};
 ghost use Rattle.std.specs.List.{AllByRecursion};
 ghost use Rattle.exact_num.specs.Value.{value_of};
+ghost use Rattle.row_core.specs.RowLists.{AreVariablesOf};
 ghost use Rattle.row_core.specs.declared.Row.{Row};
-ghost use Rattle.row_core.specs.declared.kind_numbers.TheConstants.{NEW_CAPACITY};
-ghost use Rattle.exact_solver.specs.Definers.{definers};
 ghost use Rattle.row_core.specs.declared.cost_limit.TheConstants.{SPAN};
+ghost use Rattle.row_core.specs.declared.kind_numbers.TheConstants.{NEW_CAPACITY};
+ghost use Rattle.certified_answers.specs.declared.costs.Cost.TheVariants.{Model};
+ghost use Rattle.row_problem.specs.Problems.{IsProblem};
+ghost use Rattle.row_problem.specs.ProgramsOf.{IsProgramOf};
 ghost use Rattle.span_finder.specs.RoundedSpans.{IsRoundedSpan};
 ghost use Rattle.span_finder.specs.RoundedTrials.{AreRoundedEnds};
-ghost use Rattle.span_finder.specs.Trials.{IsColumnOf, IsLeftOf};
+ghost use Rattle.span_finder.specs.Trials.{IsCapacityOf};
 
 use crate::found::RoundedSpan;
-use crate::halts::Halt;
-use crate::limited::{LimitedBook, limited_book};
+use crate::limited::{LimitedRows, limited_rows};
 use crate::rounded_trial::rounded_trial;
-use crate::trial::{Goal, Problem, aimed};
+use certified_answers::{Cost, Goal, NoAnswer};
 use exact_num::Frac;
-use row_book::RowBook;
 use row_core::{Row, Var};
+use row_problem::{Problem, aimed};
 use std::alloc::{AllocError, Global};
 use written_method::Reduced;
 
-/// Looks for values between which a NewCapacity lies in the plans that meet all rows of a book with right signs and cost at most a
-/// limit, by the rounded method: no such plan has less than `low` or more than `high`, and two such plans are given whose values lie
-/// within so many millionths of the ends, of the absolute value of an end or of 1 where that is greater. Each guess may take so many
-/// pivots at most.
+/// Looks for values between which a NewCapacity lies in the plans that meet all rows with right signs and cost at most a limit, by the
+/// rounded method: no such plan has less than `low` or more than `high`, and two such plans are given whose values lie within so many
+/// millionths of the ends, of the absolute value of an end or of 1 where that is greater. Each guess may take so many pivots at most.
+/// `defs` says of each row which variable it defines, if it defines one, and `vars` are the variables of the rows.
 ///
 /// Nothing is given to which the checker doesn't say yes. When nothing is given isn't defined: then nothing is known of the values.
 /// Refuses only out of memory.
 pub fn round_span(
     alloc: Global,
-    book: &RowBook,
+    rows: &[Row],
+    defs: &[Option<Var>],
+    vars: &[Var],
     limit: Frac,
     var: Var,
     ppm: u32,
     pivots: u64,
 ) -> Result<Option<RoundedSpan>, AllocError>
-    requires named { AllByRecursion (λ (row : Row). row.name.eq < SPAN) book.now.rows }
+    requires problem { IsProblem rows.now defs.now vars.now }
+    requires variables { AreVariablesOf rows.now vars.now }
+    requires named { AllByRecursion (λ (row : Row). row.name.eq < SPAN) rows.now }
     requires chosen { var.kind ≡ NEW_CAPACITY }
-    requires listed { Contains book.now.vars var }
-    ensures { IfOk result (λ found. IfSome found (IsRoundedSpan book.now.rows book.now.vars (value_of limit) var ppm)) }
+    requires listed { Contains vars.now var }
+    ensures { IfOk result (λ found. IfSome found (IsRoundedSpan rows.now vars.now (value_of limit) var ppm)) }
 {
-    match rounded_span(alloc, book, limit, var, ppm, pivots) {
+    match rounded_span(alloc, rows, defs, vars, limit, var, ppm, pivots) {
         Ok(span) => Ok(Some(span)),
-        Err(Halt::Nothing) => Ok(None),
-        Err(Halt::Memory) => Err(AllocError),
+        Err(NoAnswer::Memory) => Err(AllocError),
+        Err(_) => Ok(None),
     }
 }
 
 /// The same, where every step comes to something.
 fn rounded_span(
     alloc: Global,
-    book: &RowBook,
+    rows: &[Row],
+    defs: &[Option<Var>],
+    vars: &[Var],
     limit: Frac,
     var: Var,
     ppm: u32,
     pivots: u64,
-) -> Result<RoundedSpan, Halt>
-    requires named { AllByRecursion (λ (row : Row). row.name.eq < SPAN) book.now.rows }
-    requires chosen { var.kind ≡ NEW_CAPACITY }
-    requires listed { Contains book.now.vars var }
-    ensures { IfOk result (IsRoundedSpan book.now.rows book.now.vars (value_of limit) var ppm) }
+) -> Result<RoundedSpan, NoAnswer>
+    requires problem { IsProblem rows.now defs.now vars.now }
+    requires variables { AreVariablesOf rows.now vars.now }
+    requires named { AllByRecursion (λ (row : Row). row.name.eq < SPAN) rows.now }
+    requires capacity { IsCapacityOf vars.now var }
+    ensures { IfOk result (IsRoundedSpan rows.now vars.now (value_of limit) var ppm) }
 {
-    let variables = book.vars();
-    let LimitedBook {
-        rows,
-        defs,
+    let LimitedRows {
+        rows: all,
+        defs: all_defs,
         reduced,
-    } = limited_book(alloc, book, limit)?;
-    both_ends(alloc, &rows, variables, &defs, reduced, var, ppm, pivots)
+    } = limited_rows(alloc, rows, defs, vars, limit)?;
+    both_ends(alloc, &all, &all_defs, vars, reduced, var, ppm, pivots)
 }
 
 /// Both ends, over rows of which this is left.
 fn both_ends(
     alloc: Global,
     rows: &[Row],
-    vars: &[Var],
     defs: &[Option<Var>],
+    vars: &[Var],
     reduced: Reduced,
     var: Var,
     ppm: u32,
     pivots: u64,
-) -> Result<RoundedSpan, Halt>
-    requires left { IsLeftOf rows.now vars.now reduced }
-    requires defs { defs.now ≡ definers rows.now }
-    requires column { IsColumnOf rows.now vars.now var }
+) -> Result<RoundedSpan, NoAnswer>
+    requires program { IsProgramOf rows.now defs.now vars.now Model reduced }
+    requires capacity { IsCapacityOf vars.now var }
     ensures { IfOk result (AreRoundedEnds rows.now vars.now var ppm) }
 {
-    let first = aimed(alloc, reduced, var, Goal::Least)?;
+    let cost = Cost::One(var, Goal::Least);
+    let first = aimed(alloc, reduced, cost)?;
     let problem = Problem {
         rows,
-        vars,
         defs,
-        tried: &first,
-        var,
-        goal: Goal::Least,
+        vars,
+        reduced: &first,
+        cost,
     };
-    let low = rounded_trial(alloc, &problem, ppm, pivots)?;
-    let second = aimed(alloc, first, var, Goal::Greatest)?;
+    let low = rounded_trial(alloc, &problem, var, Goal::Least, ppm, pivots)?;
+    let cost = Cost::One(var, Goal::Greatest);
+    let second = aimed(alloc, first, cost)?;
     let problem = Problem {
         rows,
-        vars,
         defs,
-        tried: &second,
-        var,
-        goal: Goal::Greatest,
+        vars,
+        reduced: &second,
+        cost,
     };
-    let high = rounded_trial(alloc, &problem, ppm, pivots)?;
+    let high = rounded_trial(alloc, &problem, var, Goal::Greatest, ppm, pivots)?;
     Ok(RoundedSpan {
         low: low.end,
         low_plan: low.plan,

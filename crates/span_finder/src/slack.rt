@@ -7,7 +7,7 @@ ghost use Rattle.exact_num.specs.Value.{value_of};
 ghost use Rattle.row_core.specs.declared.Row.{Row};
 ghost use Rattle.row_core.specs.declared.Var.{Var};
 ghost use Rattle.certificate_checker.specs.PlanChecks.{absolute};
-ghost use Rattle.exact_solver.specs.Solutions.{IsPlan};
+ghost use Rattle.certified_answers.specs.Worth.{IsPlan};
 ghost use Rattle.span_finder.specs.Slacks.{slack_formed, slack_limit};
 ghost use Rattle.span_finder.specs.Spans.{HasNearBest};
 

@@ -1,9 +1,9 @@
 -- With the rows that are left, the copies so far are those of all rows.
 use Rattle.std.proofs.Common.{◌≡◌, ◌++◌, drop, map}
-use Rattle.variable_elimination.specs.ReducedRows.{shape_of}
+use Rattle.row_core.specs.Contents.{contents_of}
 use Rattle.conflict_sets.specs.Pieces.{listed_by}
 use Rattle.conflict_sets.specs.Trials.{rows_with}
 use Rattle.conflict_sets.proofs.copying.trial_rows.Given as goal
 
 abbrev pub invariant-loop-row : goal.invariant-loop-row
-invariant-loop-row l = map shape_of l.copies.items ++ map shape_of (rows_with (listed_by l.listing) (drop l.row-index l.rows)) ≡ map shape_of (rows_with (listed_by l.listing) l.rows)
+invariant-loop-row l = map contents_of l.copies.items ++ map contents_of (rows_with (listed_by l.listing) (drop l.row-index l.rows)) ≡ map contents_of (rows_with (listed_by l.listing) l.rows)

@@ -7,6 +7,6 @@ abbrev pub invariant-loop-name : goal.invariant-loop-name
 invariant-loop-name l = record {
   few : l.search.trials ≤ l.name-index;
   even : length l.search.names.items ≡ length l.search.plans.items;
-  walks : walk_from l.book.rows l.book.vars l.pivots l.search (drop l.name-index l.names) ≡ walk_from l.book.rows l.book.vars l.pivots l.fn.search l.names;
-  searched : SearchIs l.book.rows l.book.vars l.search (drop l.name-index l.names);
+  walks : walk_from l.problem.rows.now l.problem.defs.now l.problem.vars.now l.pivots l.search (drop l.name-index l.names) ≡ walk_from l.problem.rows.now l.problem.defs.now l.problem.vars.now l.pivots l.fn.search l.names;
+  searched : SearchIs l.problem.rows.now l.problem.vars.now l.search (drop l.name-index l.names);
 }

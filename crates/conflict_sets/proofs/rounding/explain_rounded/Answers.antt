@@ -7,8 +7,8 @@ use Rattle.conflict_sets.proofs.rounding.explain_rounded.Goals as goal
 
 pub returns-in-Ok-Plan-clause-feasible : goal.returns-in-Ok-Plan-clause-feasible
 returns-in-Ok-Plan-clause-feasible c =
-    let rows = c.args.book.now.rows in
-    let vars = c.args.book.now.vars in
+    let rows = c.args.problem.now.rows.now in
+    let vars = c.args.problem.now.vars.now in
     let worth = subst (IsFinding every rows vars) c.in-Ok-Plan.field-0-is c.in-Ok-Plan.ensures.worth in
     let some = worth.0.some in
     record { over = some.over; plan = some.number; meets = all-met rows vars every some.over some.number every-taken (worth.0.meets some.over some.number (some.positive, some.each)) }

@@ -10,12 +10,12 @@ use Rattle.conflict_sets.proofs.rounding.leave_out.Goals as goal
 pub returns-then-not-is_listed-clause-searched : goal.returns-then-not-is_listed-clause-searched
 returns-then-not-is_listed-clause-searched c = λ left known.
     let s = c.args.search.now in
-    search-skips c.args.book.now.rows c.args.book.now.vars s.multipliers (all_needed s) c.args.name left known (sym c.is_listed.ensures ∙ c.if-not-is_listed.true)
+    search-skips c.args.problem.now.rows.now c.args.problem.now.vars.now s.multipliers (all_needed s) c.args.name left known (sym c.is_listed.ensures ∙ c.if-not-is_listed.true)
 
 pub returns-in_ok-push-in-Ok-Plan-2-clause-searched : goal.returns-in_ok-push-in-Ok-Plan-2-clause-searched
 returns-in_ok-push-in-Ok-Plan-2-clause-searched c = λ left known.
-    let rows = c.args.book.now.rows in
-    let vars = c.args.book.now.vars in
+    let rows = c.args.problem.now.rows.now in
+    let vars = c.args.problem.now.vars.now in
     let s = c.args.search.now in
     let plan = c.in-Ok-Plan.plan in
     let worth = subst (IsFinding (is_other s.multipliers c.args.name) rows vars) c.in-Ok-Plan.field-0-is c.in-Ok-Plan.ensures.worth in
@@ -26,8 +26,8 @@ returns-in_ok-push-in-Ok-Plan-2-clause-searched c = λ left known.
 
 pub returns-in-Ok-Refutation-clause-searched : goal.returns-in-Ok-Refutation-clause-searched
 returns-in-Ok-Refutation-clause-searched c = λ left known.
-    let rows = c.args.book.now.rows in
-    let vars = c.args.book.now.vars in
+    let rows = c.args.problem.now.rows.now in
+    let vars = c.args.problem.now.vars.now in
     let s = c.args.search.now in
     let worth = subst (IsFinding (is_other s.multipliers c.args.name) rows vars) c.in-Ok-Refutation.field-0-is c.in-Ok-Refutation.ensures.worth in
     search-drops rows vars s.multipliers (all_needed s) c.args.name left known c.in-Ok-Refutation.multipliers worth.0 worth.1

@@ -6,5 +6,5 @@ use Rattle.conflict_sets.proofs.rounding.searched.Given as goal
 abbrev pub invariant-loop-name : goal.invariant-loop-name
 invariant-loop-name l = record {
   even : length l.search.names.items ≡ length l.search.plans.items;
-  searched : SearchIs l.book.rows l.book.vars l.search (drop l.name-index l.names);
+  searched : SearchIs l.problem.rows.now l.problem.vars.now l.search (drop l.name-index l.names);
 }

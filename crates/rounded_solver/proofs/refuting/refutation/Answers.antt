@@ -1,7 +1,7 @@
 -- A refutation says nothing of a gap, so it is proved for every one.
 use Rattle.std.proofs.Common.{◌≡◌, subst}
 use Rattle.rounded_solver.specs.Attempts.{IfFound}
-use Rattle.rounded_solver.specs.Found.{IsProved}
+use Rattle.certified_answers.specs.Answers.{IsProvedWithin}
 use Rattle.rounded_solver.specs.declared.attempt.Attempt.{Attempt}
 use Rattle.rounded_solver.specs.declared.attempt.Attempt.TheVariants.{Found}
 use Rattle.rounded_solver.proofs.refuting.refutation.Goals as goal
@@ -9,4 +9,4 @@ use Rattle.rounded_solver.proofs.refuting.refutation.Goals as goal
 pub returns-in-Ok-Found-clause-proved : goal.returns-in-Ok-Found-clause-proved
 returns-in-Ok-Found-clause-proved c = λ ppm.
     let e : c.in-Ok-Found.field-0 ≡ Found c.in-Ok-Found.found = cc in
-    subst (λ (a : Attempt). IfFound (IsProved c.args.book.now.rows c.args.book.now.vars ppm) a) e (c.in-Ok-Found.ensures.proved ppm)
+    subst (λ (a : Attempt). IfFound (IsProvedWithin c.args.problem.now.rows.now c.args.problem.now.vars.now ppm) a) e (c.in-Ok-Found.ensures.proved ppm)

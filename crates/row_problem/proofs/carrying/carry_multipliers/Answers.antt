@@ -26,7 +26,7 @@ returns-clause-proves c is =
 pub returns-clause-refutes : goal.returns-clause-refutes
 returns-clause-refutes c without =
     let p = c.args.problem.now in
-    refutation_answer p.rows.now p.defs.now p.vars.now p.cost p.reduced.now c.requires.problem c.args.lambda.now c.lift_multipliers.result (c.lift_multipliers.ensures.refutes without c.requires.problem.part)
+    refutation_answer p.rows.now p.defs.now p.vars.now c.requires.problem.problem p.reduced.now c.requires.problem.columns c.args.lambda.now c.lift_multipliers.result (c.lift_multipliers.ensures.refutes without c.requires.problem.part)
 
 pub returns-clause-multipliers : goal.returns-clause-multipliers
 unfolding carried_multipliers

@@ -1,22 +1,34 @@
 -- One trial after the other, over the same rows with another cost.
-use Rattle.span_finder.proofs.TrialLaws.{left-same}
+use Rattle.std.proofs.Common.{refl}
+use Rattle.certified_answers.specs.declared.costs.Cost.{Cost}
+use Rattle.certified_answers.specs.declared.costs.Cost.TheVariants.{Model, One}
+use Rattle.certified_answers.specs.declared.costs.Goal.TheVariants.{Least}
+use Rattle.row_problem.specs.ProgramsOf.{IsProgramOf}
+use Rattle.span_finder.proofs.ValueLaws.{capacity-among}
 use Rattle.span_finder.proofs.rounding.both_ends.Goals as goal
 
 pub rounded_trial-requires : goal.rounded_trial-requires
-rounded_trial-requires c = record {
-  left = left-same c.args.rows.now c.args.vars.now c.args.reduced c.in_ok-first.first c.in_ok-first.ensures.same c.requires.left;
-  defs = c.requires.defs;
-  aimed = c.in_ok-first.ensures.aimed;
-  column = c.requires.column;
-}
+rounded_trial-requires c =
+    let rows = c.args.rows.now in
+    let defs = c.args.defs.now in
+    let vars = c.args.vars.now in
+    let program = c.requires.program in
+    record {
+      posed = c.in_ok-first.ensures.program rows defs vars Model program (capacity-among rows defs vars Model c.args.reduced c.args.var program c.requires.capacity);
+      cost = refl;
+      capacity = c.requires.capacity;
+    }
 
 pub rounded_trial-requires-2 : goal.rounded_trial-requires-2
 rounded_trial-requires-2 c =
     let rows = c.args.rows.now in
+    let defs = c.args.defs.now in
     let vars = c.args.vars.now in
+    let program = c.requires.program in
+    let cost : Cost = One c.args.var Least in
+    let first : IsProgramOf rows defs vars cost c.in_ok-first.first = c.in_ok-first.ensures.program rows defs vars Model program (capacity-among rows defs vars Model c.args.reduced c.args.var program c.requires.capacity) in
     record {
-      left = left-same rows vars c.in_ok-first.first c.in_ok-second.second c.in_ok-second.ensures.same (left-same rows vars c.args.reduced c.in_ok-first.first c.in_ok-first.ensures.same c.requires.left);
-      defs = c.requires.defs;
-      aimed = c.in_ok-second.ensures.aimed;
-      column = c.requires.column;
+      posed = c.in_ok-second.ensures.program rows defs vars cost first (capacity-among rows defs vars cost c.in_ok-first.first c.args.var first c.requires.capacity);
+      cost = refl;
+      capacity = c.requires.capacity;
     }

@@ -1,44 +1,56 @@
 -- One trial after the other, over the same rows with another cost.
-use Rattle.std.proofs.Common.{◌≡◌, subst}
+use Rattle.std.proofs.Common.{◌≡◌, refl, subst}
 use Rattle.std.proofs.lemmas.Result.{err_from_is_err_and}
 use Rattle.std.specs.Prelude.{IfErr, IfOk}
+use Rattle.certified_answers.specs.declared.costs.Cost.{Cost}
+use Rattle.certified_answers.specs.declared.costs.Cost.TheVariants.{Model, One}
+use Rattle.certified_answers.specs.declared.costs.Goal.TheVariants.{Least}
+use Rattle.row_problem.specs.ProgramsOf.{IsProgramOf}
 use Rattle.span_finder.specs.SpanEnds.{SpanEnd, StopsAt, span_seen}
 use Rattle.span_finder.proofs.SpanLaws.{both-end, both-found, both-stop}
-use Rattle.span_finder.proofs.TrialLaws.{left-same}
+use Rattle.span_finder.proofs.ValueLaws.{capacity-among}
 use Rattle.span_finder.proofs.spanning.both_trials.Goals as goal
 
 pub least-requires-clause-trial : goal.least-requires-clause-trial
-least-requires-clause-trial c = record {
-  left = left-same c.args.rows.now c.args.vars.now c.args.reduced c.in_ok-first.first c.in_ok-first.ensures.same c.requires.left;
-  defs = c.requires.defs;
-  aimed = c.in_ok-first.ensures.aimed;
-  column = c.requires.column;
-}
+least-requires-clause-trial c =
+    let rows = c.args.rows.now in
+    let defs = c.args.defs.now in
+    let vars = c.args.vars.now in
+    let program = c.requires.program in
+    record {
+      posed = c.in_ok-first.ensures.program rows defs vars Model program (capacity-among rows defs vars Model c.args.reduced c.args.var program c.requires.capacity);
+      cost = refl;
+      capacity = c.requires.capacity;
+    }
 
 pub returns-in_err-low_plan-clause-stopped : goal.returns-in_err-low_plan-clause-stopped
 returns-in_err-low_plan-clause-stopped c =
     let q = err_from_is_err_and c.from_residual-in_err-low_plan.result c.from_residual-in_err-low_plan.ensures.1 in
-    rw (q.1, q.2) (both-stop c.args.rows.now c.args.vars.now c.args.var c.args.pivots c.in_err-low_plan.field-0.0 c.in_err-low_plan.ensures.stopped)
+    rw (q.1, q.2) (both-stop c.args.rows.now c.args.defs.now c.args.vars.now c.args.var c.args.pivots c.in_err-low_plan.field-0.0 c.in_err-low_plan.ensures.stopped)
 
 pub greatest-requires-clause-trial : goal.greatest-requires-clause-trial
 greatest-requires-clause-trial c =
     let rows = c.args.rows.now in
+    let defs = c.args.defs.now in
     let vars = c.args.vars.now in
+    let program = c.requires.program in
+    let cost : Cost = One c.args.var Least in
+    let first : IsProgramOf rows defs vars cost c.in_ok-first.first = c.in_ok-first.ensures.program rows defs vars Model program (capacity-among rows defs vars Model c.args.reduced c.args.var program c.requires.capacity) in
     record {
-      left = left-same rows vars c.in_ok-first.first c.in_ok-second.second c.in_ok-second.ensures.same (left-same rows vars c.args.reduced c.in_ok-first.first c.in_ok-first.ensures.same c.requires.left);
-      defs = c.requires.defs;
-      aimed = c.in_ok-second.ensures.aimed;
-      column = c.requires.column;
+      posed = c.in_ok-second.ensures.program rows defs vars cost first (capacity-among rows defs vars cost c.in_ok-first.first c.args.var first c.requires.capacity);
+      cost = refl;
+      capacity = c.requires.capacity;
     }
 
 pub returns-clause-end : goal.returns-clause-end
 returns-clause-end c =
-    subst (λ (end : SpanEnd). IfOk c.greatest.result (λ span. span_seen span ≡ end)) (both-end c.args.rows.now c.args.vars.now c.args.var c.args.pivots c.in_ok-low_plan.low_plan c.in_ok-low_plan.ensures.end) c.greatest.ensures.end
+    subst (λ (end : SpanEnd). IfOk c.greatest.result (λ span. span_seen span ≡ end))
+    (both-end c.args.rows.now c.args.defs.now c.args.vars.now c.args.var c.args.pivots c.in_ok-low_plan.low_plan c.in_ok-low_plan.ensures.end) c.greatest.ensures.end
 
 pub returns-clause-stopped : goal.returns-clause-stopped
 returns-clause-stopped c =
-    subst (λ (end : SpanEnd). IfErr c.greatest.result (StopsAt end)) (both-end c.args.rows.now c.args.vars.now c.args.var c.args.pivots c.in_ok-low_plan.low_plan c.in_ok-low_plan.ensures.end) c.greatest.ensures.stopped
+    subst (λ (end : SpanEnd). IfErr c.greatest.result (StopsAt end))
+    (both-end c.args.rows.now c.args.defs.now c.args.vars.now c.args.var c.args.pivots c.in_ok-low_plan.low_plan c.in_ok-low_plan.ensures.end) c.greatest.ensures.stopped
 
 pub returns-clause-found : goal.returns-clause-found
-returns-clause-found c =
-    both-found c.args.rows.now c.args.vars.now c.args.var c.args.pivots c.in_ok-low_plan.low_plan c.greatest.result c.in_ok-low_plan.ensures.worth c.greatest.ensures.low c.greatest.ensures.high
+returns-clause-found c = both-found c.args.rows.now c.args.vars.now c.args.var c.in_ok-low_plan.low_plan c.greatest.result c.in_ok-low_plan.ensures.worth c.greatest.ensures.low c.greatest.ensures.high

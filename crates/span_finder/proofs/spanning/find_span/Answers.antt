@@ -4,4 +4,5 @@ use Rattle.span_finder.proofs.PlainStops.{answer-plain}
 use Rattle.span_finder.proofs.spanning.find_span.Goals as goal
 
 pub returns-clause-plain : goal.returns-clause-plain
-returns-clause-plain c = answer-plain c.args.book.now.rows c.args.book.now.vars (value_of c.args.limit) c.args.var c.args.pivots c.found_span.result c.found_span.ensures.stopped
+returns-clause-plain c =
+    λ own. answer-plain c.args.rows.now c.args.defs.now c.args.vars.now (value_of c.args.limit) c.args.var c.args.pivots c.requires.problem.same own c.found_span.result c.found_span.ensures.stopped

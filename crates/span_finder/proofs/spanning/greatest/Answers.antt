@@ -1,30 +1,31 @@
 -- The second trial.
-use Rattle.std.proofs.Common.{◌≡◌, ap, sym, ◌∙◌, subst}
-use Rattle.span_finder.specs.SpanEnds.{HasExtreme, HasNoEnd, greatest_end, trial_end}
-use Rattle.span_finder.specs.Trials.{IsExtreme, IsFound, IsRise, end_found}
+use Rattle.std.proofs.Common.{ap, refl}
+use Rattle.certified_answers.specs.declared.answers.Certified.TheVariants.{Optimal, Unbounded}
+use Rattle.certified_answers.specs.declared.costs.Goal.TheVariants.{Greatest}
+use Rattle.span_finder.specs.SpanEnds.{greatest_end}
+use Rattle.span_finder.proofs.ValueLaws.{trial-end, trial-extreme, trial-rises}
 use Rattle.span_finder.proofs.spanning.greatest.Goals as goal
 
-pub returns-in-Ok-Reached-clause-end : goal.returns-in-Ok-Reached-clause-end
-returns-in-Ok-Reached-clause-end c =
-    let p = c.args.problem.now in
-    let ends : HasExtreme c.in-Ok-Reached.high_plan ≡ trial_end p.rows.now p.vars.now p.var p.goal c.args.pivots = sym (ap end_found c.in-Ok-Reached.field-0-is) ∙ c.in-Ok-Reached.ensures.end in
-    ap (greatest_end c.args.pivots c.args.low_plan) (ends ∙ ap (λ g. trial_end p.rows.now p.vars.now p.var g c.args.pivots) c.requires.goal)
+pub returns-in-Ok-Optimal-clause-end : goal.returns-in-Ok-Optimal-clause-end
+returns-in-Ok-Optimal-clause-end c =
+    let f = c.in-Ok-Optimal in
+    ap (greatest_end c.args.pivots c.args.low_plan)
+    (trial-end c.args.problem.now c.args.var Greatest c.requires.trial f.field-0 c.args.pivots (Optimal f.plan f.field-0-1 f.field-0-2 f.field-0-3 f.field-0-4) f.field-0-is f.ensures.end)
 
-pub returns-in-Ok-Reached-clause-high : goal.returns-in-Ok-Reached-clause-high
-returns-in-Ok-Reached-clause-high c =
-    let p = c.args.problem.now in
-    let plan = c.in-Ok-Reached.high_plan in
-    let worth : IsExtreme p.rows.now p.vars.now p.var p.goal plan = subst (IsFound p) c.in-Ok-Reached.field-0-is c.in-Ok-Reached.ensures.worth in
-    (c.value.ensures, subst (λ g. IsExtreme p.rows.now p.vars.now p.var g plan) c.requires.goal worth)
+pub returns-in-Ok-Optimal-clause-high : goal.returns-in-Ok-Optimal-clause-high
+returns-in-Ok-Optimal-clause-high c =
+    let f = c.in-Ok-Optimal in (
+      c.value.ensures,
+      trial-extreme c.args.problem.now c.args.var Greatest c.requires.trial f.field-0 f.ensures.proved f.ensures.whole f.plan f.field-0-1 f.field-0-2 f.field-0-3 f.field-0-4 f.field-0-is,
+    )
 
-pub returns-in-Ok-Endless-clause-end : goal.returns-in-Ok-Endless-clause-end
-returns-in-Ok-Endless-clause-end c =
-    let p = c.args.problem.now in
-    let ends : HasNoEnd c.in-Ok-Endless.high_plan c.in-Ok-Endless.direction ≡ trial_end p.rows.now p.vars.now p.var p.goal c.args.pivots = sym (ap end_found c.in-Ok-Endless.field-0-is) ∙ c.in-Ok-Endless.ensures.end in
-    ap (greatest_end c.args.pivots c.args.low_plan) (ends ∙ ap (λ g. trial_end p.rows.now p.vars.now p.var g c.args.pivots) c.requires.goal)
+pub returns-in-Ok-Unbounded-clause-end : goal.returns-in-Ok-Unbounded-clause-end
+returns-in-Ok-Unbounded-clause-end c =
+    let f = c.in-Ok-Unbounded in
+    ap (greatest_end c.args.pivots c.args.low_plan)
+    (trial-end c.args.problem.now c.args.var Greatest c.requires.trial f.field-0 c.args.pivots (Unbounded f.plan f.direction f.field-0-2) f.field-0-is f.ensures.end)
 
-pub returns-in-Ok-Endless-clause-high : goal.returns-in-Ok-Endless-clause-high
-returns-in-Ok-Endless-clause-high c =
-    let p = c.args.problem.now in
-    let worth : IsRise p.rows.now p.vars.now p.var p.goal c.in-Ok-Endless.high_plan c.in-Ok-Endless.direction = subst (IsFound p) c.in-Ok-Endless.field-0-is c.in-Ok-Endless.ensures.worth in
-    subst (λ g. IsRise p.rows.now p.vars.now p.var g c.in-Ok-Endless.high_plan c.in-Ok-Endless.direction) c.requires.goal worth
+pub returns-in-Ok-Unbounded-clause-high : goal.returns-in-Ok-Unbounded-clause-high
+returns-in-Ok-Unbounded-clause-high c =
+    let f = c.in-Ok-Unbounded in
+    trial-rises c.args.problem.now c.args.var Greatest c.requires.trial f.field-0 f.ensures.proved f.ensures.whole f.plan f.direction f.field-0-2 refl f.field-0-is

@@ -1,6 +1,6 @@
 -- The multipliers so far refute the rows.
-use Rattle.exact_solver.specs.Solutions.{IsRefutation}
+use Rattle.certified_answers.specs.Worth.{IsRefutation}
 use Rattle.conflict_sets.proofs.shrinking.Shrinking.shrink.Given as goal
 
 abbrev pub invariant-loop : goal.invariant-loop
-invariant-loop l = IsRefutation l.book.rows l.book.vars l.self.multipliers
+invariant-loop l = IsRefutation l.problem.rows.now l.problem.vars.now l.self.multipliers

@@ -1,0 +1,28 @@
+-- What the checker accepts refutes the rows, and gives the rows that aren't tried the multiplier 0.
+use Rattle.std.proofs.Common.{◌≡◌, List, map, sym, ◌∙◌, subst}
+use Rattle.exact_num.specs.Rational.{Rational}
+use Rattle.exact_num.specs.Value.{value_of}
+use Rattle.row_core.specs.declared.RowName.{RowName}
+use Rattle.conflict_sets.specs.Pieces.{AreWithin, listed_by}
+use Rattle.conflict_sets.specs.Trials.{tried_multipliers}
+use Rattle.conflict_sets.proofs.FoundTrials.{lifted-are}
+use Rattle.conflict_sets.proofs.TriedLaws.{as-many}
+use Rattle.conflict_sets.proofs.WithinLaws.{multipliers-within}
+use Rattle.conflict_sets.proofs.guessing.checked_multipliers.Goals as goal
+
+pub lift_multipliers-requires-clause-scaled : goal.lift_multipliers-requires-clause-scaled
+lift_multipliers-requires-clause-scaled c = as-many (listed_by c.args.listing.now) c.args.problem.now c.requires.problem c.args.tried.now c.requires.tried
+
+pub returns-in-Ok-accepted_refutation : goal.returns-in-Ok-accepted_refutation
+returns-in-Ok-accepted_refutation c =
+    let problem = c.args.problem.now in
+    let listed = listed_by c.args.listing.now in
+    let lambda = map value_of c.args.lambda.now in
+    let m = c.in-Ok.multipliers in
+    let is : m ≡ tried_multipliers listed problem.rows.now problem.defs.now lambda = c.in-Ok.ensures.multipliers ∙ lifted-are listed problem c.requires.problem c.args.tried.now c.requires.tried c.args.lambda.now in
+    record {
+      worth = (
+        c.in-Ok-accepted_refutation.ensures.refutation,
+        subst (λ (made : List (RowName × Rational)). AreWithin listed problem.rows.now made) (sym is) (multipliers-within listed problem.rows.now problem.defs.now problem.vars.now lambda c.requires.problem.problem),
+      );
+    }
