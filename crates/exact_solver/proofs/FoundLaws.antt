@@ -1,5 +1,5 @@
 -- What is carried back from the simplex is what makes the checks say yes.
-use Rattle.std.proofs.Common.{◌≡◌, ℕ, ◌*◌, ◌<◌, ℤ, pos, neg_ℤ, ◌+ℤ◌, ◌*ℤ◌, true, false, List, map, sym, ap, ◌∙◌, subst, arith}
+use Rattle.std.proofs.Common.{◌≡◌, ℕ, ℤ, pos, neg_ℤ, ◌+ℤ◌, ◌*ℤ◌, true, false, List, map, sym, ap, ◌∙◌, subst, arith}
 use Rattle.std.specs.Prelude.{◌<ℤ◌, Option}
 use Rattle.std.proofs.lemmas.Int.{ints}
 use Rattle.exact_num.specs.Rational.{Rational}
@@ -18,11 +18,11 @@ use Rattle.row_core.specs.Rows.{row_sum}
 use Rattle.row_core.specs.Values.{IsOver}
 use Rattle.row_core.proofs.SumLaws.{IsOver-agree}
 use Rattle.written_method.specs.declared.reduced.Reduced.{Reduced}
-use Rattle.written_method.specs.Certificates.{AreOverFrom, right_sum}
+use Rattle.written_method.specs.Certificates.{right_sum}
 use Rattle.written_method.specs.Definitions.{AreTriangular, Definition, defined, definitions_of, is_among}
 use Rattle.written_method.specs.Lifted.{lifted, no_right_side, right_side}
 use Rattle.written_method.specs.Programs.{program_of}
-use Rattle.certificate_checker.specs.Certificates.{AreMultipliersOver, bound_of}
+use Rattle.certificate_checker.specs.Certificates.{bound_of}
 use Rattle.certificate_checker.specs.Costs.{cost_of}
 use Rattle.certificate_checker.specs.Denominators.{AreOverSome}
 use Rattle.variable_elimination.proofs.LiftLaws.{row_sum-avoids, row_sum-times}

@@ -10,3 +10,4 @@ mod SizeExamples
 pub mod OverLaws
 pub mod SolvedLaws
 pub mod FoundWords
+mod Examples

@@ -1,0 +1,97 @@
+-- The definitions, computed: each with a near miss.
+use Rattle.std.proofs.Common.{◌≡◌, ℕ, pos, negsuc, false, List, [], ◌∷◌, refl, sym, ap, inl, inr, arith}
+use Rattle.std.specs.Global.{Vec}
+use Rattle.std.specs.Prelude.{ℤ, Some, None}
+use Rattle.row_core.specs.declared.Row.{Row}
+use Rattle.row_core.specs.declared.RowName.{RowName}
+use Rattle.row_core.specs.declared.Sense.TheVariants.{Equal}
+use Rattle.row_core.specs.declared.Var.{Var}
+use Rattle.row_core.specs.declared.kind_numbers.TheConstants.{RATE_OF_ACTIVITY, TOTAL_CAPACITY_ANNUAL}
+use Rattle.row_core.proofs.Members.{Contains-from_Has, Has-from_Contains}
+use Rattle.written_method.specs.Eliminated.{is_column}
+use Rattle.written_method.specs.Programs.{LinearProgram}
+use Rattle.written_method.proofs.MadeRows.{made_row}
+use Rattle.certified_answers.specs.declared.costs.Cost.TheVariants.{Model, One}
+use Rattle.certified_answers.specs.declared.costs.Goal.TheVariants.{Least, Greatest}
+use Rattle.row_problem.specs.Problems.{IsProblem}
+use Rattle.row_problem.specs.Programs.{aim_entries, program_left}
+use Rattle.row_problem.specs.ProgramsOf.{MayAim}
+
+-- the variable of this kind at the first members
+abbrev of_kind : ℕ → Var
+of_kind kind = record { kind = kind; index = record { region = 0; other = 0; slice = 0; tech = 0; fuel = 0; emission = 0; mode = 0; year = 0 } }
+
+abbrev named : ℕ → RowName
+named eq = record { eq = eq; index = (of_kind 0).index }
+
+abbrev activity : Var
+activity = of_kind RATE_OF_ACTIVITY
+
+abbrev total : Var
+total = of_kind TOTAL_CAPACITY_ANNUAL
+
+-- ---- another cost
+
+-- z less the value, and less the value turned
+least_entries : aim_entries (One activity Least) ≡ (activity, negsuc 0) ∷ []
+least_entries = refl
+
+greatest_entries : aim_entries (One activity Greatest) ≡ (activity, pos 1) ∷ []
+greatest_entries = refl
+
+-- without rows: the columns are those of the variables that a plan chooses
+left_of_nothing : program_left [] [] (activity ∷ total ∷ []) (One activity Least)
+    ≡ (let p : LinearProgram = record { rows = []; columns = activity ∷ []; cost = (activity, negsuc 0) ∷ []; cost_right = pos 0; cost_own = pos 1 } in p)
+unfolding program_left
+left_of_nothing = refl
+
+-- only a column's value may take the place of another cost
+may_aim : MayAim (activity ∷ []) (One activity Greatest)
+may_aim = Contains-from_Has (activity ∷ []) activity (inl refl)
+
+may_not : ¬ (MayAim (activity ∷ []) (One total Greatest))
+may_not h = elim (Has-from_Contains (activity ∷ []) total h) [ inl e ↦ let kinds : RATE_OF_ACTIVITY ≡ TOTAL_CAPACITY_ANNUAL = ap (λ (w : Var). w.kind) e in absurd (omega (arith, kinds)) | inr k ↦ k ]
+
+may_not_model : ¬ (MayAim (activity ∷ []) Model)
+may_not_model h = h
+
+-- ---- problems
+
+-- an activity that nothing is said of
+alone : IsProblem [] [] (activity ∷ [])
+alone = record {
+  same = refl;
+  named = refl;
+  ascending = refl;
+  listed = λ v h. absurd (Has-from_Contains [] v h);
+  known = λ v h. elim (Has-from_Contains (activity ∷ []) v h) [ inl e ↦ inr (ap is_column (sym e)) | inr k ↦ absurd k ];
+  apart = λ v h. absurd (cc h);
+  triangular = tt;
+  plain = tt;
+  signs = tt;
+  repeated = λ row h. absurd (Has-from_Contains [] row h);
+}
+
+-- a plan doesn't choose the total capacity, and nothing defines it
+not_known : ¬ (IsProblem [] [] (total ∷ []))
+not_known h = elim (h.known total (Contains-from_Has (total ∷ []) total (inl refl))) [ inl e ↦ cc e | inr e ↦ cc e ]
+
+module _ (v : Vec (Var × ℤ)) where
+  abbrev rows : List Row
+  rows = made_row v (named 1) Equal ((activity, pos 1) ∷ []) (pos 0) refl ∷ []
+
+  -- the row has an entry at a variable that isn't listed
+  not_listed : ¬ (IsProblem rows (None ∷ []) [])
+  not_listed h = Has-from_Contains [] activity (h.listed activity (Contains-from_Has (activity ∷ []) activity (inl refl)))
+
+  -- it defines a variable that a plan chooses
+  not_apart : ¬ (IsProblem rows (Some activity ∷ []) (activity ∷ []))
+  not_apart h = let chosen : is_column activity ≡ false = h.apart activity refl in cc chosen
+
+  -- it says that the activity is 0, which no definition says
+  not_repeated : ¬ (IsProblem rows (None ∷ []) (activity ∷ []))
+  not_repeated h = Has-from_Contains [] _ ((h.repeated _ (Contains-from_Has rows _ (inl refl)) refl).among)
+
+  -- what it defines isn't told
+  not_same : ¬ (IsProblem rows [] (activity ∷ []))
+  not_same h = cc h.same
