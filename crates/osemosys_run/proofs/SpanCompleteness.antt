@@ -15,6 +15,7 @@ use Rattle.command_words.specs.declared.command.SolveMethod.{SolveMethod}
 use Rattle.command_words.specs.declared.command.SolveMethod.TheVariants.{Exact, Rounded}
 use Rattle.command_words.specs.declared.fault.WordFault.{WordFault}
 use Rattle.command_words.specs.Words.{Request}
+use Rattle.command_answers.specs.Definers.{definers}
 use Rattle.command_answers.specs.declared.status.Status.{Status}
 use Rattle.command_answers.specs.DueForText.{DueForText}
 use Rattle.command_answers.specs.MadeRows.{IsTooLarge, IsUncertified}
@@ -60,7 +61,7 @@ module _ (laws : Laws) (places : ℕ) (d : Data) (var : Var) (wanted : Wanted) (
   end_comes rows rounded status text never (inr (inr (inr (inr (inr (inr after)))))) =
       let least = after.least in
       absurd (never.never least.plan least.multipliers least.made least.end after.stop
-      (subst (λ (c : Rational). Stops rows (all_variables d) (slack_limit c wanted.slack) var wanted.pivots (Stopped after.stop)) (sym (cost-bound rows after.cost least)) after.stops))
+      (subst (λ (c : Rational). Stops rows (definers rows) (all_variables d) (slack_limit c wanted.slack) var wanted.pivots (Stopped after.stop)) (sym (cost-bound rows after.cost least)) after.stops))
 
   method_comes : (method : SolveMethod) (rows : List Row) (rounded : ℕ) (status : Status) (text : List ℕ) → NothingStopsSpan rows (all_variables d) var wanted.slack wanted.pivots
       → DueBy method places d rows var wanted rounded status text → IsEnded status

@@ -7,6 +7,7 @@ use Rattle.row_core.specs.declared.RowName.{RowName}
 use Rattle.row_core.specs.declared.Var.{Var}
 use Rattle.row_core.specs.declared.place.Place.{Place}
 use Rattle.exact_solver.specs.MethodEnds.{HasNoPlan, HasOptimum, IsPivotDue, IsWide}
+use Rattle.command_answers.specs.Definers.{definers}
 use Rattle.command_answers.specs.BookMethods.{method_end}
 use Rattle.certified_answers.specs.Worth.{multiplier_bound as bound_of}
 use Rattle.simplex_core.specs.declared.stops.Stop.{Stop}
@@ -38,5 +39,5 @@ module _ (rows : List Row) (vars : List Var) (var : Var) (slack pivots : ℕ) wh
     limit_too_wide wide nothing = true≢false (sym (nothing.limit_fits plan multipliers made found) ∙ wide)
 
     -- and whatever stops the row that limits the cost, the elimination with it, or a trial
-    stopped : (stop : Stop) → Stops rows vars (slack_limit (bound_of rows multipliers) slack) var pivots (Stopped stop) → NothingStopsSpan rows vars var slack pivots → ⊥
+    stopped : (stop : Stop) → Stops rows (definers rows) vars (slack_limit (bound_of rows multipliers) slack) var pivots (Stopped stop) → NothingStopsSpan rows vars var slack pivots → ⊥
     stopped stop stops nothing = nothing.never plan multipliers made found stop stops

@@ -23,6 +23,7 @@ use Rattle.certificate_checker.specs.Plans.{AreValuesOver}
 use Rattle.plan_files.specs.Answers.{IsPlan}
 use Rattle.plan_files.specs.Files.{records_of}
 use Rattle.exact_solver.specs.MethodEnds.{HasOptimum, IsPivotDue, IsWide}
+use Rattle.command_answers.specs.Definers.{definers}
 use Rattle.command_answers.specs.BookMethods.{method_end}
 use Rattle.certified_answers.specs.Worth.{multiplier_bound as bound_of}
 use Rattle.command_words.specs.declared.command.MakeShow.TheVariants.{File}
@@ -141,7 +142,7 @@ pub record CanBeTried (places : ℕ) (d : Data) (r e pivots : ℕ) (limit : ℤ)
   pub made : CanBeMade places (with_limit d r e limit) 0 (instances (with_limit d r e limit))
   pub within : (rows : List Row) → AreRowsOf places (with_limit d r e limit) (instances (with_limit d r e limit)) rows → IsWithinLimits rows (all_variables (with_limit d r e limit))
   pub ends : (rows : List Row) → AreRowsOf places (with_limit d r e limit) (instances (with_limit d r e limit)) rows
-      → (stop : TrialStop) → point_end rows (all_variables (with_limit d r e limit)) (limit_at r e) pivots ≢ IsStopped stop
+      → (stop : TrialStop) → point_end rows (definers rows) (all_variables (with_limit d r e limit)) (limit_at r e) pivots ≢ IsStopped stop
 
 -- The words ask for `curve` of a file that is there, for a region and an emission that its data have; its text is accepted; and each limit can be tried.
 pub record CanBeDrawn (words : List (List ℕ)) (files : List (List ℕ × List ℕ)) : Type 0 where
@@ -172,7 +173,7 @@ pub record NothingStopsSpan (rows : List Row) (vars : List Var) (var : Var) (sla
   pub limit_fits : (plan : List (Var × Rational)) (multipliers : List (RowName × Rational)) (made : ℕ) → method_end rows vars pivots ≡ HasOptimum plan multipliers made
       → all_fit (slack_formed (bound_of rows multipliers) slack) ≡ true
   pub never : (plan : List (Var × Rational)) (multipliers : List (RowName × Rational)) (made : ℕ) → method_end rows vars pivots ≡ HasOptimum plan multipliers made
-      → (stop : Stop) → ¬ (Stops rows vars (slack_limit (bound_of rows multipliers) slack) var pivots (Stopped stop))
+      → (stop : Stop) → ¬ (Stops rows (definers rows) vars (slack_limit (bound_of rows multipliers) slack) var pivots (Stopped stop))
 
 -- The words ask for `span` of a file that is there, for a region, a technology and a year that its data have; its text is accepted, and every row of the named equations over its data
 -- can be made; the linear program is within the limits; and nothing stops the work.
