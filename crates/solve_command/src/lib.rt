@@ -15,6 +15,5 @@ mod summary;
 mod texts;
 
 pub use promises::promise_laws;
-pub use rounding::rounded_solution;
 pub use solve::{Shown, Wanted, answer_book, answer_solve, shown_of};
 pub use summary::answer_summary;
