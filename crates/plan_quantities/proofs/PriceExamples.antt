@@ -29,7 +29,7 @@ use Rattle.named_equations.specs.Variables.{capital_investment, demand, discount
 use Rattle.named_equations.proofs.InstanceTests.{Has-instances, Has-variables}
 use Rattle.plan_quantities.specs.Prices.{CostsAtLeast, FeasibleWithMore, IsPromised, balance_at, says_more}
 use Rattle.plan_quantities.specs.Quantities.{Quantity, quantities}
-use Rattle.plan_quantities.proofs.MovedRows.{same-name}
+use Rattle.certificate_checker.proofs.NamedSums.{same-name}
 use Rattle.plan_quantities.proofs.WholeTests.{all_at}
 
 -- ---- data

@@ -174,6 +174,7 @@ module _ (places : ℕ) (d : Data) (rows : List Row) (vars : List Var) (book : I
   -- ---- stops before the least cost
 
   pub due-from_stop : (stop : NoAnswer) → IsStopOf (method_end rows vars pivots) stop → TellsStop sets pivots stop status text → DueForEnd places d rows var slack pivots rounded status text
+  due-from_stop stops.Nothing stopped told = absurd stopped
   due-from_stop stops.Budget stopped told =
       inr (inr (inr (inr (inl (record {
         stop = Budget pivots;

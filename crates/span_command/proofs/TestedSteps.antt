@@ -18,7 +18,7 @@ use Rattle.row_core.specs.Plans.{value_in}
 use Rattle.row_book.specs.Books.{IsWithinSets}
 use Rattle.row_book.proofs.Lists.{AllByRecursion-append, AllByRecursion-filter, AllByRecursion-map, AllByRecursion-weaker}
 use Rattle.certificate_checker.specs.Conditions.{Condition, steps}
-use Rattle.certificate_checker.specs.MultiplierChecks.{bound_conditions}
+use Rattle.certificate_checker.specs.MultiplierChecks.{bound_conditions, infeasible_conditions}
 use Rattle.certificate_checker.specs.PlanChecks.{direction_conditions, plan_conditions}
 use Rattle.written_method.specs.Definitions.{Definition, definitions_of, others_of}
 use Rattle.written_method.specs.Eliminated.{ReducedRow, definition_steps, elimination_steps, expanded_all, is_kept, reduced_row, row_steps, unscaled}
@@ -84,6 +84,9 @@ module _ (sets : SetLists) (Passes : RowName → Type 0) where
     pub bound-kept : (cost : Var → ℤ) (multipliers : List (RowName × Rational)) → AreStepsKept (steps (bound_conditions cost rows vars multipliers))
     bound-kept cost multipliers = steps-kept (bound_conditions cost rows vars multipliers) (three-formed _ _ _ (λ row of. (tt, tt)) (λ v of. ((of, tt), (of, tt))) ((tt, tt), tt))
 
+    pub refutation-kept : (multipliers : List (RowName × Rational)) → AreStepsKept (steps (infeasible_conditions rows vars multipliers))
+    refutation-kept multipliers = steps-kept (infeasible_conditions rows vars multipliers) (three-formed _ _ _ (λ row of. (tt, tt)) (λ v of. ((of, tt), (of, tt))) ((tt, tt), tt))
+
   -- ---- definitions
 
   -- the row passes, and a variable that it defines is of the sets
@@ -148,26 +151,26 @@ module _ (sets : SetLists) (Passes : RowName → Type 0) where
     pub all-passed : AllByRecursion IsPassed rows
     all-passed = AllByRecursion-weaker DefinesKept IsPassed (λ row of. of.0) rows define
 
-    pub plan-steps-kept : (values : List (Var × Rational)) → AreStepsKept (plan_steps rows values)
+    pub plan-steps-kept : (values : List (Var × Rational)) → AreStepsKept (plan_steps rows (definers rows) values)
     unfolding plan_steps
     plan-steps-kept values = lifted-kept right_side LiftPlan (definitions_of rows (definers rows)) values (λ v of. of) (definitions-kept rows define)
 
-    pub direction-steps-kept : (values : List (Var × Rational)) → AreStepsKept (direction_steps rows values)
+    pub direction-steps-kept : (values : List (Var × Rational)) → AreStepsKept (direction_steps rows (definers rows) values)
     unfolding direction_steps
     direction-steps-kept values = lifted-kept no_right_side LiftDirection (definitions_of rows (definers rows)) values (λ v of. of) (definitions-kept rows define)
 
-    names-left : AllByRecursion Passes (map name_left (rows_left rows))
+    names-left : AllByRecursion Passes (map name_left (rows_left rows (definers rows)))
     names-left =
         let forms = expanded_all [] (definitions_of rows (definers rows)) in
-        AllByRecursion-map Passes name_left (rows_left rows)
-        (AllByRecursion-weaker (λ (r : ReducedRow). Passes r.name × (is_kept r ≡ true)) (λ r. Passes r.name) (λ r of. of.0) (rows_left rows)
+        AllByRecursion-map Passes name_left (rows_left rows (definers rows))
+        (AllByRecursion-weaker (λ (r : ReducedRow). Passes r.name × (is_kept r ≡ true)) (λ r. Passes r.name) (λ r of. of.0) (rows_left rows (definers rows))
         (AllByRecursion-filter (λ (r : ReducedRow). Passes r.name) is_kept (map (reduced_row forms) (others_of rows (definers rows)))
         (AllByRecursion-map (λ (r : ReducedRow). Passes r.name) (reduced_row forms) (others_of rows (definers rows)) (others-kept rows define))))
 
-    pub carrying-kept : (with_cost : Bool) (lambda : List Rational) → AreStepsKept (carrying_steps with_cost rows lambda)
+    pub carrying-kept : (with_cost : Bool) (lambda : List Rational) → AreStepsKept (carrying_steps with_cost rows (definers rows) lambda)
     unfolding carrying_steps
     carrying-kept with_cost lambda =
-        let names = map name_left (rows_left rows) in
-        let scales = map scale_left (rows_left rows) in
+        let names = map name_left (rows_left rows (definers rows)) in
+        let scales = map scale_left (rows_left rows (definers rows)) in
         both-kept (scaled_steps names scales lambda) _ (scaled-kept names scales lambda names-left)
         (defined-kept with_cost rows (definitions_of rows (definers rows)) (scaled_multipliers names scales lambda []) (definitions-kept rows define))

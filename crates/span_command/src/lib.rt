@@ -2,8 +2,8 @@
 //! in all plans near the least cost, each shown by a plan.
 //!
 //! `span` takes the words and makes the book of rows; `method` solves it and looks for the span, or first `rounding` by the rounded
-//! method. Then come `ends` (the answer for a span, and for each stop), `texts` (what is written of a span) and `places` (the names of
-//! places, with the row that limits the cost).
+//! method, both over the rows of the book (`book_spans`). Then come `ends` (the answer for a span, and for each stop), `texts` (what is
+//! written of a span) and `places` (the names of places, with the row that limits the cost).
 #![tactic(auto)]
 
 mod book_spans;

@@ -3,8 +3,8 @@ use Rattle.std.proofs.lemmas.Result.{IfOk-weaker}
 use Rattle.span_command.proofs.BuiltCapacities.{rows-below}
 use Rattle.span_command.proofs.method.answer_within.Goals as goal
 
-pub find_span-requires-clause-named : goal.find_span-requires-clause-named
-find_span-requires-clause-named c = rows-below c.args.sets.now c.args.book.now.rows c.args.book.now.vars c.requires.listed
+pub span_of_book-requires-clause-named : goal.span_of_book-requires-clause-named
+span_of_book-requires-clause-named c = rows-below c.args.sets.now c.args.book.now.rows c.args.book.now.vars c.requires.listed
 
 pub returns-in-Ok : goal.returns-in-Ok
 returns-in-Ok c =

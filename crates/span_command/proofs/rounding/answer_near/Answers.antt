@@ -8,8 +8,8 @@ use Rattle.span_command.specs.Outcomes.{near_text}
 use Rattle.span_command.proofs.BuiltCapacities.{rows-below}
 use Rattle.span_command.proofs.rounding.answer_near.Goals as goal
 
-pub round_span-requires-clause-named : goal.round_span-requires-clause-named
-round_span-requires-clause-named c = rows-below c.args.sets.now c.args.book.now.rows c.args.book.now.vars c.requires.listed
+pub rounded_span_of_book-requires-clause-named : goal.rounded_span_of_book-requires-clause-named
+rounded_span_of_book-requires-clause-named c = rows-below c.args.sets.now c.args.book.now.rows c.args.book.now.vars c.requires.listed
 
 pub returns-in_ok-answer-in-Some : goal.returns-in_ok-answer-in-Some
 returns-in_ok-answer-in-Some c =
