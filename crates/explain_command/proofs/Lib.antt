@@ -1,3 +1,4 @@
+mod BookLists
 mod NamedRows
 mod ConflictNames
 mod ConflictLists

@@ -11,14 +11,16 @@ ghost use Rattle.explain_command.specs.Explain.{DueForExplain, DueForMethod, Due
 
 use crate::ends::{answer_found, answer_stop};
 use crate::rounding::answer_guesses;
-use command_answers::{Answer, BookProgram, eliminate_book, problem_of, refuse_book, refuse_size, stop_at};
+use command_answers::{
+    Answer, BookProgram, eliminate_book, problem_of, refuse_book, refuse_size, stop_at,
+};
 use command_words::SolveMethod;
 use conflict_sets::{ExplainFail, explain};
 use model_sets::Sets;
 use param_tables::ModelData;
 use row_book::{RowBook, same_data_laws};
 use row_core::Stopped;
-use row_problem::{Problem, size_of};
+use row_problem::size_of;
 use std::alloc::{AllocError, Global};
 
 /// The most inequalities that a linear program may have.
@@ -132,6 +134,8 @@ fn answer_program(
     ensures { (places : ℕ) (d : Data) → sets.now ≡ d.sets → IsBookOf places d book.now.rows book.now.vars
         → IfOk result (λ answer. DueForTrials places d book.now.rows pivots answer.status answer.text.items) }
 {
+    // The rows and the variables of a book are what the places of the trials speak of.
+    let _ = book.vars();
     let problem = problem_of(book, program);
     match explain(alloc, &problem, pivots) {
         Ok(found) => answer_found(alloc, book, sets, &found),

@@ -50,6 +50,8 @@ fn answer_guessed(
     ensures { (places : ℕ) (d : Data) → sets.now ≡ d.sets → IsBookOf places d book.now.rows book.now.vars
         → IfOk result (λ answer. DueForGuesses places d book.now.rows pivots answer.status answer.text.items) }
 {
+    // The rows and the variables of a book are what the places of the trials speak of.
+    let _ = book.vars();
     let problem = problem_of(book, program);
     match explain_rounded(alloc, &problem, pivots) {
         Ok(found) => answer_found(alloc, book, sets, &found),

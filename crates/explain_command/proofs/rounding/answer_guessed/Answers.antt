@@ -6,33 +6,46 @@ use Rattle.solve_command.proofs.BookPlaces.{define-within}
 use Rattle.command_answers.specs.Definers.{definers}
 use Rattle.conflict_sets.specs.Conflicts.{AdmitsSome, IsConflict}
 use Rattle.conflict_sets.specs.RoundedStops.{IsStopOfSome, StopsSome}
+use Rattle.explain_command.proofs.BookLists.{of-book}
 use Rattle.explain_command.proofs.GuessedEnds.{guesses-from_found, guesses-from_stop}
 use Rattle.explain_command.proofs.TrialPlaces.{some-stop-named}
 use Rattle.explain_command.proofs.rounding.answer_guessed.Goals as goal
+
+pub answer_found-requires-clause-conflict : goal.answer_found-requires-clause-conflict
+answer_found-requires-clause-conflict c =
+    let same = c.problem_of-problem.ensures in
+    of-book (λ rows defs vars. IfSome c.in-Ok.found (IsConflict rows vars)) same.rows same.defs same.vars c.in-Ok.ensures.conflict
 
 pub answer_stop-requires : goal.answer_stop-requires
 answer_stop-requires c =
     let rows = c.args.book.now.rows in
     let vars = c.args.book.now.vars in
     let sets = c.args.sets.now in
-    let stops : IsStopOfSome rows (definers rows) vars c.args.pivots c.in-Err-Stopped.stop = subst (StopsSome rows (definers rows) vars c.args.pivots) c.in-Err-Stopped.field-0-is c.in-Err-Stopped.ensures.stopped in
-    some-stop-named sets rows vars (define-within sets rows vars c.requires.listed c.requires.program.book) (vars-named sets rows vars c.requires.listed) c.args.pivots c.in-Err-Stopped.stop stops
+    let stop = c.in-Err-Stopped.stop in
+    let same = c.problem_of-problem.ensures in
+    let stops : IsStopOfSome rows (definers rows) vars c.args.pivots stop = of-book (λ rows defs vars. IsStopOfSome rows defs vars c.args.pivots stop) same.rows same.defs same.vars (subst (StopsSome _ _ _ c.args.pivots) c.in-Err-Stopped.field-0-is c.in-Err-Stopped.ensures.stopped) in
+    some-stop-named sets rows vars (define-within sets rows vars c.requires.listed c.vars.ensures.book) (vars-named sets rows vars c.requires.listed) c.args.pivots stop stops
 
 pub returns-in-Ok : goal.returns-in-Ok
-returns-in-Ok c = λ places d same book.
+returns-in-Ok c = λ places d same_sets book.
     let rows = c.args.book.now.rows in
     let vars = c.args.book.now.vars in
     let found = c.in-Ok.found in
+    let same = c.problem_of-problem.ensures in
+    let conflict : IfSome found (IsConflict rows vars) = of-book (λ rows defs vars. IfSome found (IsConflict rows vars)) same.rows same.defs same.vars c.in-Ok.ensures.conflict in
+    let feasible : IfNone found (AdmitsSome rows vars) = of-book (λ rows defs vars. IfNone found (AdmitsSome rows vars)) same.rows same.defs same.vars c.in-Ok.ensures.feasible in
     IfOk-weaker c.answer_found.result _ _
-    (λ answer told. guesses-from_found places d rows vars c.requires.program.book book c.args.pivots c.args.sets.now same answer.status answer.text.items found
-    (λ conflict is. subst (λ f. IfSome f (IsConflict rows vars)) is c.in-Ok.ensures.conflict) (λ is. subst (λ f. IfNone f (AdmitsSome rows vars)) is c.in-Ok.ensures.feasible) told)
+    (λ answer told. guesses-from_found places d rows vars c.vars.ensures.book book c.args.pivots c.args.sets.now same_sets answer.status answer.text.items found
+    (λ a is. subst (λ f. IfSome f (IsConflict rows vars)) is conflict) (λ is. subst (λ f. IfNone f (AdmitsSome rows vars)) is feasible) told)
     c.answer_found.ensures
 
 pub returns-in-Err-Stopped : goal.returns-in-Err-Stopped
-returns-in-Err-Stopped c = λ places d same book.
+returns-in-Err-Stopped c = λ places d same_sets book.
     let rows = c.args.book.now.rows in
     let vars = c.args.book.now.vars in
-    let stops : IsStopOfSome rows (definers rows) vars c.args.pivots c.in-Err-Stopped.stop = subst (StopsSome rows (definers rows) vars c.args.pivots) c.in-Err-Stopped.field-0-is c.in-Err-Stopped.ensures.stopped in
+    let stop = c.in-Err-Stopped.stop in
+    let same = c.problem_of-problem.ensures in
+    let stops : IsStopOfSome rows (definers rows) vars c.args.pivots stop = of-book (λ rows defs vars. IsStopOfSome rows defs vars c.args.pivots stop) same.rows same.defs same.vars (subst (StopsSome _ _ _ c.args.pivots) c.in-Err-Stopped.field-0-is c.in-Err-Stopped.ensures.stopped) in
     IfOk-weaker c.answer_stop.result _ _
-    (λ answer told. guesses-from_stop places d rows vars c.requires.program.book book c.args.pivots c.args.sets.now same answer.status answer.text.items c.requires.fits c.in-Err-Stopped.stop stops told.0 told.1)
+    (λ answer told. guesses-from_stop places d rows vars c.vars.ensures.book book c.args.pivots c.args.sets.now same_sets answer.status answer.text.items c.requires.fits stop stops told.0 told.1)
     c.answer_stop.ensures
