@@ -23,11 +23,7 @@ const PIVOTS: u64 = 1000;
 
 /// Prints whether the cost that is found is at least the least one and the bound at most, and whether the checker accepts the plan with
 /// this cost; or that there is no plan.
-pub fn print_rounded(
-    rt: &HostRuntime,
-    book: &RowBook,
-    least: &str,
-) -> io::Result<()> {
+pub fn print_rounded(rt: &HostRuntime, book: &RowBook, least: &str) -> io::Result<()> {
     match guess_book(rt.alloc(), book, GAP, PIVOTS)? {
         Some(
             Certified::Optimal {

@@ -124,7 +124,9 @@ fn answer_solution(
     ensures { IfOk result (λ answer. TellsSolution sets.now book.now.rows book.now.vars wanted.var wanted.slack wanted.pivots rounded places solution.now answer.status answer.text.items) }
 {
     match solution {
-        Certified::Optimal { plan, cost, .. } => answer_near(alloc, book, sets, wanted, plan, *cost),
+        Certified::Optimal { plan, cost, .. } => answer_near(
+            alloc, book, sets, wanted, plan, *cost,
+        ),
         Certified::Infeasible { pivots, .. } => Ok(Answer {
             status: Status::Infeasible,
             text: infeasible_report(alloc, *pivots, rounded, places, FIRST_ATTEMPT)?,
