@@ -1,5 +1,5 @@
 // What is due over a book of rows: the least cost, a limit near it, and the span within the limit.
-ghost use Rattle.std.specs.Prelude.{◌≡◌, ℕ, Contains, IfOk};
+ghost use Rattle.std.specs.Prelude.{◌≡◌, Contains, IfOk};
 ghost use Rattle.exact_num.specs.Value.{value_of};
 ghost use Rattle.model_sets.specs.Data.{Data};
 ghost use Rattle.row_core.specs.declared.kind_numbers.TheConstants.{NEW_CAPACITY};
@@ -124,7 +124,9 @@ fn answer_solution(
     ensures { IfOk result (λ answer. TellsSolution sets.now book.now.rows book.now.vars wanted.var wanted.slack wanted.pivots rounded places solution.now answer.status answer.text.items) }
 {
     match solution {
-        Certified::Optimal { plan, cost, .. } => answer_near(alloc, book, sets, wanted, plan, *cost),
+        Certified::Optimal { plan, cost, .. } => answer_near(
+            alloc, book, sets, wanted, plan, *cost,
+        ),
         Certified::Infeasible { pivots, .. } => Ok(Answer {
             status: Status::Infeasible,
             text: infeasible_report(alloc, *pivots, rounded, places, FIRST_ATTEMPT)?,
