@@ -1,5 +1,5 @@
 -- The rows of a book, with what each of them defines, are a problem: all that the solver asks for.
-use Rattle.std.proofs.Common.{◌≡◌, ◌≢◌, ℕ, zero, suc, ◌+◌, ◌<◌, pos, Bool, true, false, ◌&&◌, ◌||◌, List, [], ◌∷◌, ◌++◌, ◌⊎◌, inl, inr, length, get_or, take, nat_eq, nat_lt, nat_le, refl, sym, ap, ap₂, ◌∙◌, subst, arith, eq-eqb, if◌then◌else◌}
+use Rattle.std.proofs.Common.{◌≡◌, ◌≢◌, ℕ, zero, suc, ◌+◌, ◌<◌, ◌≤◌, ◌≤◌, pos, Bool, true, false, ◌&&◌, ◌||◌, List, [], ◌∷◌, ◌++◌, ◌⊎◌, inl, inr, length, get_or, take, nat_eq, nat_lt, nat_le, refl, sym, ap, ap₂, ◌∙◌, subst, arith, eq-eqb, if◌then◌else◌}
 use Rattle.std.specs.Prelude.{Option, Some, None, slice_get, Contains, ◌==◌}
 use Rattle.std.specs.List.{list_all}
 use Rattle.std.specs.Ordering.{is_eq}
@@ -162,21 +162,20 @@ defined-has (row ∷ rows) v h = cases (definer row) refl h (defined-has rows v)
     cases (Some w) is k rest = either w (is_eq (var_cmp v w)) is refl k rest
 
 -- a row that defines a variable is a definition of it
-definition-has : (rows : List Row) (row : Row) (v : Var) → Has rows row → definer row ≡ Some v
-    → let d : Definition = record { row = row; variable = v } in Has (definitions_of rows (definers rows)) d
+abbrev definition_at : Row → Var → Definition
+definition_at row v = record { row = row; variable = v }
+
+definition-has : (rows : List Row) (row : Row) (v : Var) → Has rows row → definer row ≡ Some v → Has (definitions_of rows (definers rows)) (definition_at row v)
 definition-has [] row v h d = absurd h
 definition-has (first ∷ rows) row v h d = cases (definer first) refl h (λ k. definition-has rows row v k d)
   where
-    abbrev it : Definition
-    it = record { row = row; variable = v }
-
-    cases : (o : Option Var) → definer first ≡ o → (first ≡ row) ⊎ Has rows row → (Has rows row → Has (definitions_of rows (definers rows)) it) → Has (definitions_of (first ∷ rows) (o ∷ definers rows)) it
+    cases : (o : Option Var) → definer first ≡ o → (first ≡ row) ⊎ Has rows row → (Has rows row → Has (definitions_of rows (definers rows)) (definition_at row v)) → Has (definitions_of (first ∷ rows) (o ∷ definers rows)) (definition_at row v)
     cases None is (inl e) rest = let none : None ≡ Some v = sym is ∙ ap definer e ∙ d in absurd (cc none)
     cases None is (inr k) rest = rest k
     cases (Some w) is (inl e) rest =
         let same : Some w ≡ Some v = sym is ∙ ap definer e ∙ d in
         let variables : w ≡ v = cc same in
-        inl (ap₂ (λ (r : Row) (u : Var). let made : Definition = record { row = r; variable = u } in made) e variables)
+        inl (ap₂ (λ (r : Row) (u : Var). definition_at r u) e variables)
     cases (Some w) is (inr k) rest = inr (rest k)
 
 -- a row that defines nothing is one of the others

@@ -15,10 +15,11 @@ use Rattle.command_words.specs.Words.{Curve, Explain, Span, SpanName, asked, com
 explain_rounded : asked (codes "explain" ∷ codes "f" ∷ codes "--method=rounded" ∷ []) ≡ Ok (Explain (codes "f") 20000 6 Rounded)
 explain_rounded = refl
 
--- the numbers come before the method
+-- `fast` is no method
 explain_by_another_method : asked (codes "explain" ∷ codes "f" ∷ codes "--method=fast" ∷ []) ≡ Err BadShow
 explain_by_another_method = refl
 
+-- the numbers come before the method
 explain_with_two_faults : asked (codes "explain" ∷ codes "f" ∷ codes "--method=fast" ∷ codes "--places=8" ∷ []) ≡ Err BadNumber
 explain_with_two_faults = refl
 
@@ -126,9 +127,11 @@ gap_of_exact_curve = refl
 gap_beside_exact : asked (codes "curve" ∷ codes "f" ∷ codes "R" ∷ codes "CO2" ∷ codes "x" ∷ codes "--gap=5" ∷ codes "--method=exact" ∷ []) ≡ Err BadForm
 gap_beside_exact = refl
 
-gap_beside_no_method : asked (codes "curve" ∷ codes "f" ∷ codes "R" ∷ codes "CO2" ∷ codes "x" ∷ codes "--gap=5" ∷ codes "--method=fast" ∷ []) ≡ Err BadForm
-gap_beside_no_method = refl
+-- beside a word that is no method too, and this comes before the fault of that word
+gap_beside_another_method : asked (codes "curve" ∷ codes "f" ∷ codes "R" ∷ codes "CO2" ∷ codes "x" ∷ codes "--gap=5" ∷ codes "--method=fast" ∷ []) ≡ Err BadForm
+gap_beside_another_method = refl
 
+-- beside the rounded method it may stand: the first fault is that of the limits
 gap_of_rounded_curve : asked (codes "curve" ∷ codes "f" ∷ codes "R" ∷ codes "CO2" ∷ codes "x" ∷ codes "--gap=5" ∷ codes "--method=rounded" ∷ []) ≡ Err BadNumber
 unfolding limit_of all_of
 gap_of_rounded_curve = refl

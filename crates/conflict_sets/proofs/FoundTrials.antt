@@ -1,20 +1,16 @@
 -- What the simplex found of a trial makes the checker say yes.
-use Rattle.std.proofs.Common.{◌≡◌, ℕ, ◌*◌, ◌<◌, ℤ, pos, ◌*ℤ◌, Bool, true, false, List, map, sym, ap, ap₂, ◌∙◌, subst, arith}
-use Rattle.std.specs.Prelude.{◌<ℤ◌, Option}
-use Rattle.std.proofs.lemmas.Int.{ints}
+use Rattle.std.proofs.Common.{◌≡◌, ℕ, Bool, true, false, List, map, sym, ap, ap₂, ◌∙◌, subst}
+use Rattle.std.specs.Prelude.{Option}
 use Rattle.exact_num.specs.Rational.{Rational}
 use Rattle.exact_num.specs.Value.{value_of}
 use Rattle.exact_num.specs.declared.fraction.Frac.{Frac}
-use Rattle.exact_num.proofs.Ring.{*ℤ_comm}
 use Rattle.row_core.specs.declared.Row.{Row}
 use Rattle.row_core.specs.declared.RowName.{RowName}
 use Rattle.row_core.specs.declared.Var.{Var}
 use Rattle.row_core.specs.Numbers.{ascends, keys_of}
 use Rattle.row_core.specs.Order.{row_name_cmp, var_cmp}
 use Rattle.written_method.specs.declared.reduced.Reduced.{Reduced}
-use Rattle.written_method.specs.Certificates.{AreOverFrom}
 use Rattle.written_method.specs.Programs.{program_of}
-use Rattle.certificate_checker.specs.Certificates.{AreMultipliersOver}
 use Rattle.certificate_checker.specs.Denominators.{AreOverSome}
 use Rattle.simplex_core.specs.declared.ends.Halt.{Halt}
 use Rattle.simplex_core.specs.Outcomes.{IsHalt, MeetAll, RefuteAll}
@@ -34,40 +30,10 @@ use Rattle.conflict_sets.specs.Trials.{StopsTrial, carried_trial, rows_with, sto
 use Rattle.conflict_sets.proofs.PlannedLaws.{carries-tried}
 use Rattle.conflict_sets.proofs.TriedLaws.{names-tried, part-tried, program-tried, scales-tried}
 use Rattle.conflict_sets.proofs.TrialEnds.{trial-ends, trial-halts}
-use Rattle.row_problem.specs.CarriedBack.{BecomesPlan, BecomesRefutation}
+use Rattle.row_problem.specs.CarriedBack.{BecomesPlan}
 use Rattle.certified_answers.specs.Found.{IsFoundPlan, IsFoundRefutation}
-use Rattle.row_problem.proofs.OverLaws.{IsOverSome, multipliers-more, over-multiplied, values-listed}
-
-positive : (n : ℕ) → 0 < n → pos 0 <ℤ pos n
-positive n h = omega (arith, ints, h)
-
-pub found-plan : (rows : List Row) (vars : List Var) (reduced : Reduced) (values plan : List (Var × Rational)) → keys_of values ≡ reduced.columns.items → ascends var_cmp (keys_of values) ≡ true
-    → AreOverSome var_cmp values → AreOverSome var_cmp plan → MeetAll (program_of reduced) values → BecomesPlan rows vars reduced values plan → IsFoundPlan rows vars plan
-found-plan rows vars reduced values plan keyed up some made meet becomes = record {
-  over = made.over;
-  number = made.number;
-  are = (made.positive, made.each);
-  meets =
-      becomes some.over made.over some.number made.number keyed (some.positive, some.each) (made.positive, made.each)
-      (meet (pos some.over) some.number (positive some.over some.positive) (values-listed values (pos some.over) some.number up some.each));
-}
-
-pub found-refutation : (rows : List Row) (vars : List Var) (reduced : Reduced) (lambda : List Frac) (multipliers : List (RowName × Rational)) → AreOverSome row_name_cmp multipliers → IsOverSome (map value_of lambda)
-    → RefuteAll (program_of reduced) (map value_of lambda) → BecomesRefutation rows vars reduced lambda multipliers → IsFoundRefutation rows vars multipliers
-found-refutation rows vars reduced lambda multipliers m o refute becomes =
-    let over : ℕ = o.over * m.over in
-    let named : RowName → ℤ = λ name. pos o.over *ℤ m.number name in
-    let number : ℕ → ℤ = λ j. pos m.over *ℤ o.number j in
-    let are : AreMultipliersOver over named multipliers = multipliers-more o.over m.over m.number multipliers o.positive (m.positive, m.each) in
-    let from : AreOverFrom (pos over) number 0 (map value_of lambda) = subst (λ t. AreOverFrom t number 0 (map value_of lambda)) (*ℤ_comm (pos m.over) (pos o.over)) (over-multiplied (pos m.over) (pos o.over) o.number 0 (map value_of lambda) o.each) in
-    record {
-      over = over;
-      number = named;
-      are = are;
-      refutes = becomes over named number are from (refute (pos over) number (positive over are.0) from);
-    }
-
--- ---- a trial
+use Rattle.row_problem.proofs.FoundWords.{found-plan, found-refutation}
+use Rattle.row_problem.proofs.OverLaws.{IsOverSome}
 
 module _ (listed : RowName → Bool) (problem : Problem) (of : IsPosedProblem problem) (made : Reduced) (tried : IsTriedOf listed problem.reduced.now made) where
   abbrev rows : List Row

@@ -15,8 +15,10 @@ use Rattle.row_problem.specs.Problems.{IsProblem}
 use Rattle.row_problem.specs.Sizes.{is_unequal}
 use Rattle.certified_answers.specs.Worth.{IsPlan, IsRefutation, plan_cost}
 use Rattle.conflict_sets.specs.Conflicts.{IsWholePlan, inequalities}
-use Rattle.conflict_sets.specs.Pieces.{AreWithin}
-use Rattle.conflict_sets.specs.Searches.{IsSearched, names_known, needed_name}
+use Rattle.conflict_sets.specs.Pieces.{AreWithin, IsFinding}
+use Rattle.conflict_sets.specs.declared.trial.Finding.{Finding}
+use Rattle.conflict_sets.specs.declared.trial.Finding.TheVariants.{Plan, Refutation}
+use Rattle.conflict_sets.specs.Searches.{IsSearched, list_after, names_known, needed_after, needed_name}
 use Rattle.conflict_sets.specs.Trials.{rows_with}
 use Rattle.conflict_sets.specs.Walks.{Needed, is_listed, is_other, listed_names}
 use Rattle.conflict_sets.proofs.PartLaws.{fewer-met}
@@ -55,7 +57,7 @@ module _ (rows : List Row) (vars : List Var) (multipliers : List (RowName × Rat
     plans = s.plans;
   }
 
-  pub search-drops : (made : List (RowName × Rational)) → IsRefutation rows vars made → AreWithin (is_other multipliers name) rows made → IsSearched rows vars made needed left
+  search-drops : (made : List (RowName × Rational)) → IsRefutation rows vars made → AreWithin (is_other multipliers name) rows made → IsSearched rows vars made needed left
   search-drops made refuted within = record {
     refutation = refuted;
     ascending = without-one (map needed_name needed) name left s.ascending;
@@ -81,7 +83,7 @@ module _ (rows : List Row) (vars : List Var) (multipliers : List (RowName × Rat
   moved : (plan : List (Var × Rational)) → names_known (needed ++ (name, plan) ∷ []) left ≡ names_known needed (name ∷ left)
   moved plan = ap (λ ns. ns ++ left) (map-append needed_name needed ((name, plan) ∷ [])) ∙ append_assoc (map needed_name needed) (name ∷ []) left
 
-  pub search-needs : (plan : List (Var × Rational)) → IsPlan (rows_with (is_other multipliers name) rows) vars plan (plan_cost vars plan) → keys_of plan ≡ vars → IsSearched rows vars multipliers (needed ++ (name, plan) ∷ []) left
+  search-needs : (plan : List (Var × Rational)) → IsPlan (rows_with (is_other multipliers name) rows) vars plan (plan_cost vars plan) → keys_of plan ≡ vars → IsSearched rows vars multipliers (needed ++ (name, plan) ∷ []) left
   search-needs plan found whole = record {
     refutation = s.refutation;
     ascending = subst (λ (ns : List RowName). ascends row_name_cmp ns ≡ true) (sym (moved plan)) s.ascending;
@@ -96,6 +98,14 @@ module _ (rows : List Row) (vars : List Var) (multipliers : List (RowName × Rat
       last : (one : Needed) → Has ((name, plan) ∷ []) one → IsWholePlan (rows_with (is_other multipliers one.0) rows) vars one.1
       last one (inl e) = subst (λ (n : Needed). IsWholePlan (rows_with (is_other multipliers n.0) rows) vars n.1) e (record { whole = whole; some = found.some; meets = found.meets })
       last one (inr h) = absurd h
+
+  goes : (finding : Finding) → IsFinding (is_other multipliers name) rows vars finding → IsSearched rows vars (list_after finding multipliers) (needed_after name finding needed) left
+  goes (Plan plan) worth = search-needs plan worth.0 worth.1
+  goes (Refutation made) worth = search-drops made worth.0 worth.1
+
+  pub search-goes : (finding : Finding) (new : List (RowName × Rational)) (now : List Needed) → new ≡ list_after finding multipliers → now ≡ needed_after name finding needed → IsFinding (is_other multipliers name) rows vars finding
+      → IsSearched rows vars new now left
+  search-goes finding new now e f worth = subst (λ (m : List (RowName × Rational)). IsSearched rows vars m now left) (sym e) (subst (λ (ones : List Needed). IsSearched rows vars (list_after finding multipliers) ones left) (sym f) (goes finding worth))
 
 -- the first list
 pub search-starts : (rows : List Row) (defs : List (Option Var)) (vars : List Var) (made : List (RowName × Rational)) → IsProblem rows defs vars → IsRefutation rows vars made → IsSearched rows vars made [] (listed_names made rows)

@@ -1,5 +1,5 @@
 -- The linear program of a trial is that of the definitions, is ready to be solved, and its rows are some of those that are left.
-use Rattle.std.proofs.Common.{◌≡◌, ◌+◌, ◌<◌, ◌≤◌, ◌^◌, ℤ, pos, ◌+ℤ◌, ◌*ℤ◌, Bool, true, false, List, [], ◌∷◌, inl, inr, length, map, refl, sym, ap, ap₂, ◌∙◌, subst, arith}
+use Rattle.std.proofs.Common.{◌≡◌, ◌+◌, ◌<◌, ◌≤◌, ◌^◌, ℤ, pos, ◌+ℤ◌, ◌*ℤ◌, Bool, true, false, List, [], ◌∷◌, inl, inr, length, map, filter, refl, sym, ap, ap₂, ◌∙◌, subst, arith}
 use Rattle.std.specs.Prelude.{◌<ℤ◌, IsTrue, Option}
 use Rattle.std.proofs.lemmas.Int.{ints}
 use Rattle.std.proofs.lemmas.List.{length-map}
@@ -15,7 +15,7 @@ use Rattle.row_core.specs.Order.{var_cmp}
 use Rattle.row_core.specs.Rows.{row_sum}
 use Rattle.written_method.specs.declared.reduced.Reduced.{Reduced}
 use Rattle.written_method.specs.Definitions.{avoids, definitions_of, defined, others_of, rows_of}
-use Rattle.written_method.specs.Eliminated.{ReducedRow}
+use Rattle.written_method.specs.Eliminated.{ReducedRow, is_column}
 use Rattle.written_method.specs.FirstTableau.{width_of}
 use Rattle.written_method.specs.Programs.{Inequality, LinearProgram, inequality_of, program_of}
 use Rattle.written_method.specs.Ready.{AreAmong, ArePosed, IsPosed, IsReady, RowsAreAmong}
@@ -136,20 +136,12 @@ module _ (listed : RowName → Bool) (problem : Problem) (of : IsPosedProblem pr
   unfolding program_left
   left-rows = sym (ap (λ (p : LinearProgram). p.rows) of.left)
 
-  same-program : (a b : LinearProgram) → a.rows ≡ b.rows → a.columns ≡ b.columns → a.cost ≡ b.cost → a.cost_right ≡ b.cost_right → a.cost_own ≡ b.cost_own → a ≡ b
-  same-program a b rs cs ks ri ow =
-      ap (λ r. let p : LinearProgram = record { rows = r; columns = a.columns; cost = a.cost; cost_right = a.cost_right; cost_own = a.cost_own } in p) rs
-      ∙ ap (λ c. let p : LinearProgram = record { rows = b.rows; columns = c; cost = a.cost; cost_right = a.cost_right; cost_own = a.cost_own } in p) cs
-      ∙ ap (λ c. let p : LinearProgram = record { rows = b.rows; columns = b.columns; cost = c; cost_right = a.cost_right; cost_own = a.cost_own } in p) ks
-      ∙ ap (λ r. let p : LinearProgram = record { rows = b.rows; columns = b.columns; cost = b.cost; cost_right = r; cost_own = a.cost_own } in p) ri
-      ∙ ap (λ o. let p : LinearProgram = record { rows = b.rows; columns = b.columns; cost = b.cost; cost_right = b.cost_right; cost_own = o } in p) ow
-
   pub program-tried : program_of made ≡ trial_program listed rows defs vars
   unfolding trial_program program_left
   program-tried =
-      same-program (program_of made) (trial_program listed rows defs vars)
-      (inequalities-made ∙ sym (tried-are inequality_in (map inequality_of whole.rows.items) left-rows))
-      (tried.columns ∙ of.columns) tried.cost tried.cost_right tried.cost_own
+      let same_rows : map inequality_of made.rows.items ≡ map inequality_in (rows_tried listed rows defs) = inequalities-made ∙ sym (tried-are inequality_in (map inequality_of whole.rows.items) left-rows) in
+      let same_columns : made.columns.items ≡ filter is_column vars = tried.columns ∙ of.columns in
+      cc (tried.cost, tried.cost_right, tried.cost_own)
 
   pub names-tried : names_of made.rows.items ≡ map name_left (rows_tried listed rows defs)
   names-tried =

@@ -9,6 +9,10 @@ use Rattle.simplex_core.specs.declared.stops.Stop.TheVariants.{Budget, Width, Tr
 use Rattle.simplex_core.specs.declared.stops.TrialStop.TheVariants as trials
 use Rattle.certified_answers.specs.declared.answers.NoAnswer.{NoAnswer}
 use Rattle.certified_answers.specs.declared.answers.NoAnswer.TheVariants as stops
+use Rattle.conflict_sets.specs.Pieces.{end_found}
+use Rattle.conflict_sets.specs.Searches.{list_after, needed_after}
+use Rattle.conflict_sets.specs.declared.trial.Finding.{Finding}
+use Rattle.conflict_sets.specs.declared.trial.Finding.TheVariants.{Plan, Refutation}
 use Rattle.conflict_sets.specs.Trials.{HasNone, HasPlan, IsPivotDue, IsWide, StopsTrial, TrialEnd, trial_end}
 use Rattle.conflict_sets.specs.Walks.{Explanation, IsFeasible, IsStopped, Needed, Stops, every, explained, first_failed, found, is_listed, is_other, listed_names, trial_failed, walk}
 
@@ -37,11 +41,9 @@ module _ (rows : List Row) (defs : List (Option Var)) (vars : List Var) (n k : �
   unfolding walk
   tried h = ap (λ t. if t then after end_now else walk rows defs vars n k left multipliers needed) h
 
-  pub walk-needs : (plan : List (Var × Rational)) → is_listed multipliers name ≡ true → HasPlan plan ≡ end_now → here ≡ walk rows defs vars n (k + 1) left multipliers (needed ++ (name, plan) ∷ [])
-  walk-needs plan h e = tried h ∙ ap after (sym e)
-
-  pub walk-drops : (made : List (RowName × Rational)) → is_listed multipliers name ≡ true → HasNone made ≡ end_now → here ≡ walk rows defs vars n (k + 1) left made needed
-  walk-drops made h e = tried h ∙ ap after (sym e)
+  pub walk-goes : (finding : Finding) → is_listed multipliers name ≡ true → end_found finding ≡ end_now → here ≡ walk rows defs vars n (k + 1) left (list_after finding multipliers) (needed_after name finding needed)
+  walk-goes (Plan plan) h e = tried h ∙ ap after (sym e)
+  walk-goes (Refutation made) h e = tried h ∙ ap after (sym e)
 
   pub walk-stops : (stop : NoAnswer) → is_listed multipliers name ≡ true → StopsTrial end_now stop → Stops here (trial_failed k n stop)
   walk-stops stops.Nothing h s = absurd s

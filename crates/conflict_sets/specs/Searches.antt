@@ -12,6 +12,8 @@ use Rattle.conflict_sets.specs.Conflicts.{IsWholePlan, inequalities}
 use Rattle.conflict_sets.specs.Trials.{rows_with}
 use Rattle.conflict_sets.specs.Walks.{Explanation, Needed, is_listed, is_other, walk}
 use Rattle.conflict_sets.specs.declared.searching.Search.{Search}
+use Rattle.conflict_sets.specs.declared.trial.Finding.{Finding}
+use Rattle.conflict_sets.specs.declared.trial.Finding.TheVariants.{Plan, Refutation}
 
 -- each name with the plan at its place
 abbrev pub paired : List RowName → List (List (Var × Rational)) → List Needed
@@ -36,6 +38,15 @@ needed_name one = one.0
 -- the inequalities that are needed, and those that are left
 abbrev pub names_known : List Needed → List RowName → List RowName
 names_known needed left = map needed_name needed ++ left
+
+-- after a trial of the list without this inequality, which found this: the list, and what is needed
+abbrev pub list_after : Finding → List (RowName × Rational) → List (RowName × Rational)
+list_after (Plan plan) multipliers = multipliers
+list_after (Refutation made) multipliers = made
+
+abbrev pub needed_after : RowName → Finding → List Needed → List Needed
+needed_after name (Plan plan) needed = needed ++ (name, plan) ∷ []
+needed_after name (Refutation made) needed = needed
 
 -- The multipliers refute the rows. The inequalities that are needed and those that are left ascend, and those on the list are among them. And each that is needed has a plan of the others on the list.
 pub record IsSearched (rows : List Row) (vars : List Var) (multipliers : List (RowName × Rational)) (needed : List Needed) (left : List RowName) : Type 0 where

@@ -142,13 +142,8 @@ fn leave_out(
     search.trials = search.trials.saturating_add(1);
     let listing = Listing::Others(&search.multipliers, name);
     match rounded_trial(alloc, problem, &listing, pivots) {
-        Ok(Finding::Plan(plan)) => {
-            search.names.push(name)?;
-            search.plans.push(plan)?;
-            Ok(())
-        }
-        Ok(Finding::Refutation(multipliers)) => {
-            search.multipliers = multipliers;
+        Ok(finding) => {
+            search.learn(name, finding)?;
             Ok(())
         }
         Err(stop) => Err(trial_fail(stop, search.trials, pivots)),

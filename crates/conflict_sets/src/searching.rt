@@ -4,7 +4,7 @@ ghost use Rattle.std.specs.Prelude.{◌≡◌, ◌+◌, ◌<◌, ◌≤◌, ◌^
 ghost use Rattle.row_core.specs.declared.RowName.{RowName};
 ghost use Rattle.row_core.specs.Plans.{valued};
 ghost use Rattle.row_problem.specs.ProgramsOf.{IsPosedProblem};
-ghost use Rattle.conflict_sets.specs.Searches.{SearchIs, member_named, walk_from};
+ghost use Rattle.conflict_sets.specs.Searches.{SearchIs, all_needed, list_after, member_named, needed_after, walk_from};
 ghost use Rattle.conflict_sets.specs.Walks.{Stops, trial_failed};
 
 use crate::conflict::{Conflict, ExplainFail};
@@ -54,17 +54,31 @@ impl Search {
         self.trials += 1;
         let listing = Listing::Others(&self.multipliers, name);
         match trial(alloc, problem, &listing, pivots) {
-            Ok(Finding::Plan(plan)) => {
-                self.names.push(name)?;
-                self.plans.push(plan)?;
-                Ok(())
-            }
-            Ok(Finding::Refutation(multipliers)) => {
-                self.multipliers = multipliers;
+            Ok(finding) => {
+                self.learn(name, finding)?;
                 Ok(())
             }
             Err(stop) => Err(trial_fail(stop, self.trials, pivots)),
         }
+    }
+
+    /// What is known after a trial of the list without this inequality: with a plan it is needed, and with a refutation there is a new
+    /// list.
+    pub fn learn(&mut self, name: RowName, finding: Finding) -> Result<(), AllocError>
+        requires even { length self.old.names.items ≡ length self.old.plans.items }
+        ensures counted { OnOk result (self.new.trials ≡ self.old.trials) }
+        ensures even { OnOk result (length self.new.names.items ≡ length self.new.plans.items) }
+        ensures multipliers { OnOk result (self.new.multipliers ≡ list_after finding self.old.multipliers) }
+        ensures needed { OnOk result (all_needed self.new ≡ needed_after name finding (all_needed self.old)) }
+    {
+        match finding {
+            Finding::Plan(plan) => {
+                self.names.push(name)?;
+                self.plans.push(plan)?;
+            }
+            Finding::Refutation(multipliers) => self.multipliers = multipliers,
+        }
+        Ok(())
     }
 
     /// The inequalities that are needed, each with its multiplier and its plan.

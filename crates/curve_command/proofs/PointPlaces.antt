@@ -12,12 +12,12 @@ use Rattle.row_book.specs.Kept.{IsBook}
 use Rattle.simplex_core.specs.declared.stops.TrialStop.{TrialStop}
 use Rattle.simplex_core.specs.declared.stops.TrialStop.TheVariants.{Budget, Width}
 use Rattle.exact_solver.specs.MethodEnds.{MethodEnd}
-use Rattle.command_answers.specs.BookMethods.{method_end}
 use Rattle.exact_solver.specs.MethodEnds as method
+use Rattle.command_answers.specs.BookMethods.{method_end}
 use Rattle.command_answers.specs.CheckedPlans.{IsListedBook}
+use Rattle.command_answers.specs.Definers.{definers}
 use Rattle.command_answers.specs.PlacesWithin.{IsRowOfSets, TrialIsWithin}
 use Rattle.solve_command.proofs.BookPlaces.{stop-within}
-use Rattle.command_answers.specs.Definers.{definers}
 use Rattle.emission_curve.specs.Ends.{HasLine, IsStopped, ended, point_end, point_seen}
 use Rattle.emission_curve.specs.Points.{IsRoundedPoint}
 use Rattle.emission_curve.specs.Slopes.{slope_at, slope_formed}

@@ -132,11 +132,17 @@ second_free_row = refl
 side_twice : program_of (head ++ columns ++ codes "RHS\n RHS R2 120\n RHS R2 -7\n" ++ bounds ++ end) ≡ None
 side_twice = refl
 
+side_of_unknown_row : program_of (head ++ columns ++ codes "RHS\n RHS R2 120\n RHS R4 -7\n" ++ bounds ++ end) ≡ None
+side_of_unknown_row = refl
+
 side_of_costs : program_of (head ++ columns ++ codes "RHS\n RHS COST 120\n" ++ bounds ++ end) ≡ None
 side_of_costs = refl
 
 bound_of_unknown : program_of (head ++ columns ++ sides ++ codes "BOUNDS\n FR BND C4\n" ++ end) ≡ None
 bound_of_unknown = refl
+
+bound_twice : program_of (head ++ columns ++ sides ++ codes "BOUNDS\n FR BND C2\n FR BND C2\n" ++ end) ≡ None
+bound_twice = refl
 
 bound_of_another_kind : program_of (head ++ columns ++ sides ++ codes "BOUNDS\n UP BND C2 7\n" ++ end) ≡ None
 bound_of_another_kind = refl

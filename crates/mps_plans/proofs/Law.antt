@@ -35,7 +35,7 @@ use Rattle.mps_writer.specs.MpsText.{mps_text}
 use Rattle.mps_plans.specs.PlanPrograms.{AreValuesOf, HaveOneLineNames, IsProgramOf, PlanWithValues, RowSays}
 use Rattle.mps_plans.proofs.Counts.{few-instances, few-variables}
 use Rattle.mps_plans.proofs.NameLines.{row_name-line, variable_name-line}
-use Rattle.mps_plans.proofs.Values.{bounds-are, costs-are, row-holds, rows-hold, values-for}
+use Rattle.mps_plans.proofs.Values.{bounds-are, costs-are, plan-for, row-holds, rows-hold, values-for}
 
 -- ---- lists
 
@@ -120,6 +120,7 @@ module _ (places : ℕ) (d : Data) (rows : List Row) (columns : List Var) (compl
     rows = λ both valued. each-says both (valued-by both.plan both.values valued) 1 (instances d) rows are among-each;
     feasible = λ q x values valued. solutions q x values (valued-by x values valued);
     costs = λ x values valued. costs-are 1 x values columns (valued-by x values valued) ∙ cost-is d columns listed.ascending exist whole x;
+    planned = λ values. let found = plan-for columns listed.ascending values in (found.0, subst (λ vs. AreValuesOf vs found.0 values) columns-all found.1);
   }
 
   pub means : (program : Program) × (program_of (mps_text d.sets rows columns) ≡ Some program) × IsProgramOf places d program

@@ -4,3 +4,4 @@ pub mod Counts
 pub mod Law
 pub mod NameLines
 pub mod Values
+mod ProgramExamples

@@ -20,9 +20,9 @@ use Rattle.certificate_checker.specs.Costs.{cost_of, model_cost}
 use Rattle.certificate_checker.specs.Plans.{AllStand, HaveRightSigns, IsRight}
 use Rattle.mps_meaning.specs.Lines.{Name}
 use Rattle.mps_meaning.specs.Programs.{EachHolds, EachIsAtLeast, HoldsOf, IsAtLeast, Numbers, StandsTo, sum_of}
-use Rattle.mps_meaning.proofs.NumberedLaws.{IsFrom, all-with, lettered-apart, name-itself, numbered-from}
+use Rattle.mps_meaning.proofs.NumberedLaws.{IsFrom, all-numbered, all-with, lettered-apart, name-itself, numbered-from}
 use Rattle.mps_reading.specs.RowPrograms.{column_of, cost_of_column, letter_of, name_of_column, place_of, program_column, program_row}
-use Rattle.mps_reading.proofs.Places.{Among, all-after, among-after, place-first, place-later}
+use Rattle.mps_reading.proofs.Places.{Among, IsBefore, all-after, among-after, place-first, place-later}
 use Rattle.mps_plans.specs.PlanPrograms.{AreValuesOf}
 
 -- ---- the value of a variable's column
@@ -112,3 +112,23 @@ by-name x k (w ∷ ws) few =
 
 pub values-for : (columns : List Var) → 1 + length columns ≤ 10 ^ 64 → (x : Var → ℤ) → (values : Name → ℤ) × AreValuesOf columns x values
 values-for columns few x = (λ name. value_by_name x name (enumerate_from 1 columns), by-name x 1 columns few)
+
+-- ---- a plan for values
+
+plan-at : (value : Name → ℤ) (k : ℕ) (ws : List Var) → ascends var_cmp ws ≡ true
+    → AllByRecursion (λ c. value (name_of_column c.0) ≡ value (name_of_column (k + place_of c.1 ws))) (enumerate_from k ws)
+plan-at value k [] up = tt
+plan-at value k (w ∷ ws) up =
+    let first : k ≡ k + place_of w (w ∷ ws) = omega (arith, place-first w ws) in (
+      ap (λ n. value (name_of_column n)) first,
+      all-with (λ c. IsBefore w c.1) _ _ later (enumerate_from (k + 1) ws) (all-numbered (IsBefore w) (k + 1) ws (all-after w ws up)) (plan-at value (k + 1) ws (ascends-tail var_cmp w ws up)),
+    )
+  where
+    later : (c : ℕ × Var) → IsBefore w c.1 → value (name_of_column c.0) ≡ value (name_of_column (k + 1 + place_of c.1 ws))
+        → value (name_of_column c.0) ≡ value (name_of_column (k + place_of c.1 (w ∷ ws)))
+    later c after is =
+        let count : k + 1 + place_of c.1 ws ≡ k + place_of c.1 (w ∷ ws) = omega (arith, place-later w c.1 ws after) in
+        is ∙ ap (λ n. value (name_of_column n)) count
+
+pub plan-for : (columns : List Var) → ascends var_cmp columns ≡ true → (value : Name → ℤ) → (x : Var → ℤ) × AreValuesOf columns x value
+plan-for columns up value = (λ v. value (column_of columns v), plan-at value 1 columns up)

@@ -42,3 +42,5 @@ pub record IsProgramOf (places : ℕ) (d : Data) (program : Program) : Type 0 wh
   pub feasible : (q : ℕ) (x : Var → ℤ) (values : Name → ℤ) → AreValuesOf (all_variables d) x values → MeetsProgram program q values ↔ Feasible places d q x
   -- and cost what the plan costs
   pub costs : (x : Var → ℤ) (values : Name → ℤ) → AreValuesOf (all_variables d) x values → objective_of program values ≡ cost d x
+  -- all values are those of a plan: that of their columns for the variables that exist
+  pub planned : (values : Name → ℤ) → (x : Var → ℤ) × AreValuesOf (all_variables d) x values

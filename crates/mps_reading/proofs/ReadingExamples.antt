@@ -68,7 +68,7 @@ broken_names : program_of (rows_text (sets (codes "X\nY")) rows columns) ≡ Non
 unfolding digits
 broken_names = refl
 
--- a column without a number is nowhere in the text
+-- a column with no entry but a cost: the text has it, by its line of the row of costs
 abbrev one_more : List Var
 one_more = columns ++ total_discounted_cost 0 1 ∷ []
 
@@ -76,6 +76,7 @@ costs_alone : program_of (rows_text (sets (codes "X")) rows one_more) ≡ Some (
 unfolding digits
 costs_alone = refl
 
+-- a column with neither an entry nor a cost, the third of four: no line of the text is its, so that the program that is read has none of this name
 unused_column : program_of (rows_text (sets (codes "X")) rows (new_capacity 0 0 0 ∷ accumulated_new_capacity 0 0 0 ∷ total_capacity_annual 0 0 0 ∷ total_discounted_cost 0 0 ∷ [])) ≡ Some (record {
   costs = (codes "C4", pos 1) ∷ [];
   rows =

@@ -6,5 +6,6 @@ mod QuantityLaws
 pub mod ModelCost
 pub mod MovedRows
 pub mod PriceLaws
+mod WholeTests
 mod SumExamples
 mod PriceExamples

@@ -1,8 +1,10 @@
 -- Plans over two members of each set that is summed over, under either profile: each of their quantities is its defining sum, and with one value raised it
 -- isn't. The values were worked out by a program of another kind, in exact fractions, from the published statements of the equations, step by step.
-use Rattle.std.proofs.Common.{◌≡◌, ℕ, ◌+◌, ◌*◌, ◌^◌, ℤ, pos, negsuc, ◌+ℤ◌, ◌-ℤ◌, ◌*ℤ◌, Bool, true, false, List, [], ◌∷◌, ◌++◌, map, refl, sym, ◌∙◌, true≢false}
+use Rattle.std.proofs.Common.{◌≡◌, ℕ, ◌+◌, ◌*◌, ◌^◌, ℤ, pos, negsuc, ◌+ℤ◌, ◌-ℤ◌, ◌*ℤ◌, Bool, true, false, List, [], ◌∷◌, ◌++◌, map, refl, sym, ap, ◌∙◌, arith, true≢false}
+use Rattle.std.proofs.lemmas.Bool.{and_parts}
 use Rattle.std.proofs.lemmas.Bool.Decides.{Decides-int_eq}
-use Rattle.std.specs.List.{list_all}
+use Rattle.std.proofs.lemmas.Int.{ints}
+use Rattle.std.specs.List.{AllByRecursion, list_all}
 use Rattle.std.specs.Ordering.{int_eq}
 use Rattle.std.specs.Prelude.{codes, if◌then◌else◌, nat_eq, slice_index_or}
 use Rattle.discount_factors.specs.Factors.{annuity, capital_factor, discounted, half_year_root, operating_factor, recovery_factor, root_from, salvage_fraction}
@@ -13,9 +15,12 @@ use Rattle.row_core.specs.declared.Index.{Index}
 use Rattle.row_core.specs.declared.Var.{Var}
 use Rattle.row_core.specs.declared.kind_numbers.TheConstants.{NEW_CAPACITY, RATE_OF_ACTIVITY, TRADE, TRADE_ANNUAL}
 use Rattle.named_equations.specs.Existence.{exists, subscripts_of_kind}
+use Rattle.named_equations.specs.Indices.{at_rrrfy}
 use Rattle.named_equations.specs.Instances.{indices}
 use Rattle.named_equations.specs.Variables.{variable}
-use Rattle.plan_quantities.specs.Quantities.{IsSum, Quantity, quantities}
+use Rattle.named_equations.proofs.InstanceTests.{Has-indices}
+use Rattle.plan_quantities.specs.Quantities.{AreQuantities, AreSums, IsSum, Quantity, quantities}
+use Rattle.plan_quantities.proofs.WholeTests.{all_at}
 
 -- ---- data
 
@@ -192,6 +197,24 @@ second_are : which second_profile second_plan ≡ all_twelve
 unfolding annuity capital_factor discounted half_year_root operating_factor recovery_factor root_from salvage_fraction
 second_are = refl
 
+-- where the tests pass, every quantity is its sum at every index
+sums_by : (d : Data) (x : Var → ℤ) (quantity : Quantity) → are_sums d x quantity ≡ true → AreSums 6 d q x quantity
+sums_by d x quantity passes i is =
+    let subscripts = subscripts_of_kind quantity.kind in
+    tested d x quantity i (all_at (is_sum d x quantity) (indices d subscripts) i passes (Has-indices d subscripts i is))
+
+each_by : (d : Data) (x : Var → ℤ) (some : List Quantity) → list_all (λ is. is) (map (are_sums d x) some) ≡ true → AllByRecursion (AreSums 6 d q x) some
+each_by d x [] passes = tt
+each_by d x (quantity ∷ others) passes =
+    let parts = and_parts (are_sums d x quantity) (list_all (λ is. is) (map (are_sums d x) others)) passes in
+    (sums_by d x quantity parts.0, each_by d x others parts.1)
+
+first_quantities : AreQuantities 6 first_profile q first_plan
+first_quantities = each_by first_profile first_plan quantities (ap (list_all (λ is. is)) first_are)
+
+second_quantities : AreQuantities 6 second_profile q second_plan
+second_quantities = each_by second_profile second_plan quantities (ap (list_all (λ is. is)) second_are)
+
 -- ---- near misses
 
 -- the plan of profile 1 under profile 2: the investment and the total cost are others
@@ -207,6 +230,10 @@ raised kind v = if nat_eq v.kind kind then first_plan v +ℤ pos 1 else first_pl
 trade_raised : which first_profile (raised TRADE_ANNUAL) ≡ true ∷ true ∷ true ∷ true ∷ true ∷ false ∷ true ∷ true ∷ true ∷ true ∷ true ∷ true ∷ []
 unfolding annuity capital_factor discounted half_year_root operating_factor recovery_factor root_from salvage_fraction
 trade_raised = refl
+
+-- so these aren't the quantities: what the first region gives the second in the first year is said to be more than its sum
+not_traded : ¬ (AreQuantities 6 first_profile q (raised TRADE_ANNUAL))
+not_traded are = absurd (omega (arith, ints, (are.1.1.1.1.1.0 (at_rrrfy 0 1 0 0) refl).existing refl))
 
 -- a new capacity raised: all that depends on what is built
 capacity_raised : which first_profile (raised NEW_CAPACITY) ≡ true ∷ false ∷ true ∷ true ∷ true ∷ true ∷ true ∷ false ∷ false ∷ true ∷ false ∷ false ∷ []
