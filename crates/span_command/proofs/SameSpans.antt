@@ -16,7 +16,6 @@ use Rattle.certified_answers.specs.Worth.{plan_cost}
 use Rattle.row_problem.specs.Sizes.{column_count, inequality_count}
 use Rattle.certified_answers.specs.Worth.{IsBound, IsDescent, IsRefutation}
 use Rattle.result_tables.specs.Reports.{unbounded_text}
-use Rattle.simplex_core.specs.declared.stops.Stop.{Stop}
 use Rattle.simplex_core.specs.declared.stops.Stop.TheVariants.{Width}
 use Rattle.command_answers.specs.declared.status.Status.{Status}
 use Rattle.command_answers.specs.declared.status.Status.TheVariants.{Refused}

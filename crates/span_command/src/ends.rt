@@ -1,8 +1,6 @@
 // The answers for a span, and for each stop before it.
-ghost use Rattle.std.specs.Prelude.{◌≡◌, IfOk, IfSome, OnOk};
-ghost use Rattle.std.specs.List.{AllByRecursion};
+ghost use Rattle.std.specs.Prelude.{◌≡◌, IfOk};
 ghost use Rattle.exact_num.specs.Value.{value_of};
-ghost use Rattle.row_core.specs.declared.Row.{Row};
 ghost use Rattle.exact_solver.specs.MethodEnds.{IsStopOf};
 ghost use Rattle.command_answers.specs.BookMethods.{method_end};
 ghost use Rattle.command_answers.specs.declared.status.Status.{Status};

@@ -21,16 +21,17 @@ returns-then-size-gt-MOST_ROWS c = λ d same book.
     let rows = c.args.book.now.rows in
     let are = vars-are places d rows c.args.book.now.vars book in
     let size = c.size_of-size.ensures in
-    let columns : c.size_of-size.result.columns ≡ column_count (all_variables d) = size.columns ∙ ap column_count are in
+    let counted : c.size_of-size.result.rows ≡ inequality_count rows = size.rows ∙ ap inequality_count c.rows.ensures.rows in
+    let columns : c.size_of-size.result.columns ≡ column_count (all_variables d) = size.columns ∙ ap column_count (c.vars.ensures.variables ∙ are) in
     let passed : (most_rows < inequality_count rows) ⊎ (most_columns < column_count (all_variables d)) = elim c.then-size-gt-MOST_ROWS.branch [
-      | then-size-gt-MOST_ROWS-via-then-size-gt-MOST_ROWS w ↦ inl (subst (λ n. most_rows < n) size.rows w.if-size-gt-MOST_ROWS.true)
+      | then-size-gt-MOST_ROWS-via-then-size-gt-MOST_ROWS w ↦ inl (subst (λ n. most_rows < n) counted w.if-size-gt-MOST_ROWS.true)
       | then-size-gt-MOST_ROWS-via-else-size-gt-MOST_ROWS+then-size-gt-MOST_COLUMNS w ↦ inr (subst (λ n. most_columns < n) columns w.if-size-gt-MOST_COLUMNS.true)
     ] in
     IfOk-weaker c.refuse_size.result _ _
     (λ answer told. inl (record {
       passed = passed;
-      status_is = told.0 ∙ ap₂ (λ r n. Refused (TooLarge r n)) size.rows columns;
-      line_is = told.1 ∙ ap₂ (λ r n. too_large_line r n) size.rows columns;
+      status_is = told.0 ∙ ap₂ (λ r n. Refused (TooLarge r n)) counted columns;
+      line_is = told.1 ∙ ap₂ (λ r n. too_large_line r n) counted columns;
     }))
     c.refuse_size.ensures
 
@@ -40,6 +41,7 @@ returns c = λ d same book.
     let rows = c.args.book.now.rows in
     let vars = c.args.book.now.vars in
     let size = c.size_of-size.ensures in
-    let limits : IsWithinLimits rows vars = within-limits c.size_of-size.result.rows c.size_of-size.result.columns (inequality_count rows) (column_count vars) size.rows size.columns
+    let limits : IsWithinLimits rows vars = within-limits c.size_of-size.result.rows c.size_of-size.result.columns (inequality_count rows) (column_count vars)
+    (size.rows ∙ ap inequality_count c.rows.ensures.rows) (size.columns ∙ ap column_count c.vars.ensures.variables)
     c.if-size-gt-MOST_ROWS.false c.if-size-gt-MOST_COLUMNS.false in
     IfOk-weaker c.answer_method.result _ _ (λ answer due. inr (subst (IsWithinLimits rows) (vars-are places d rows vars book) limits, due)) (c.answer_method.ensures d same book)
