@@ -1,14 +1,16 @@
 -- Demand, energy balance and accounting of the OSeMOSYS long code as terms: the rows of EQ_SpecifiedDemand, EBa1 to EBb4, and Acc1 to Acc3.
 use Rattle.std.specs.Prelude.{ℕ, [], ◌∷◌}
 use Rattle.model_sets.specs.Data.{Data}
+use Rattle.param_tables.specs.Ratios.{nonzero_modes, nonzero_technologies}
 use Rattle.row_core.specs.declared.Sense.TheVariants.{Least, Equal}
 use Rattle.row_core.specs.Amounts.{Billionths, Product, Negative}
 use Rattle.row_core.specs.EquationTerms.{EquationTerms, once, less, each, nothing}
-use Rattle.named_equations.specs.Parameters.{year_split, specified_annual_demand, specified_demand_profile, trade_route, accumulated_annual_demand, input_activity_ratio, output_activity_ratio}
+use Rattle.named_equations.specs.Parameters.{year_split, specified_annual_demand, specified_demand_profile, trade_route, accumulated_annual_demand}
 use Rattle.named_equations.specs.Positions.{regions, timeslices}
 use Rattle.named_equations.specs.TermShapes.{is_made_of, is_times, sum_away, products_away}
-use Rattle.named_equations.specs.Variables.{rate_of_activity, trade, rate_of_demand, rate_of_production_by_technology_by_mode, rate_of_production_by_technology, rate_of_production, rate_of_use_by_technology_by_mode, rate_of_use_by_technology, rate_of_use, production, use_of_fuel, demand, production_annual, use_annual, trade_annual, production_by_technology, use_by_technology, total_annual_technology_activity_by_mode}
-use Rattle.named_equations.specs.Where.{producing_modes, producing_technologies, using_modes, using_technologies}
+use Rattle.named_equations.specs.Variables.{rate_of_activity, trade, rate_of_demand, rate_of_production_by_technology, rate_of_production, rate_of_use_by_technology, rate_of_use, production, use_of_fuel, demand, production_annual, use_annual, trade_annual, production_by_technology, use_by_technology, total_annual_technology_activity_by_mode}
+use Rattle.balance_rows.specs.declared.flows.Flow.{Flow}
+use Rattle.balance_rows.specs.Flows.{ratio_of, value_of_ratio, rate_in_mode, rate_of_technology, rate_of_all}
 
 -- ---- demand
 
@@ -22,29 +24,19 @@ eq_specified_demand d r l f y = record {
 
 -- ---- production and use
 
--- EBa1[r,l,t,f,m,y]: RateOfProductionByTechnologyByMode = RateOfActivity * OutputActivityRatio
-abbrev pub eba1 : Data → ℕ → ℕ → ℕ → ℕ → ℕ → ℕ → EquationTerms
-eba1 d r l t f m y = is_times (rate_of_production_by_technology_by_mode r l t f m y) (rate_of_activity r l t m y) (Billionths (output_activity_ratio d r t f m y))
+-- EBa1 and EBa4[r,l,t,f,m,y]: the rate in a mode = RateOfActivity * the ratio
+abbrev pub mode_flow : Flow → Data → ℕ → ℕ → ℕ → ℕ → ℕ → ℕ → EquationTerms
+mode_flow flow d r l t f m y = is_times (rate_in_mode flow r l t f m y) (rate_of_activity r l t m y) (Billionths (value_of_ratio flow d r t f m y))
 
--- EBa2[r,l,t,f,y]: RateOfProductionByTechnology is its sum over the producing modes
-abbrev pub eba2 : Data → ℕ → ℕ → ℕ → ℕ → ℕ → EquationTerms
-eba2 d r l t f y = is_made_of (rate_of_production_by_technology r l t f y) (sum_away (producing_modes d r t f y) (λ m. rate_of_production_by_technology_by_mode r l t f m y))
+-- EBa2 and EBa5[r,l,t,f,y]: the rate of a technology is its sum over the modes in which the ratio isn't 0
+abbrev pub technology_flow : Flow → Data → ℕ → ℕ → ℕ → ℕ → ℕ → EquationTerms
+technology_flow flow d r l t f y =
+    is_made_of (rate_of_technology flow r l t f y) (sum_away (nonzero_modes d (ratio_of flow) r t f y) (λ m. rate_in_mode flow r l t f m y))
 
--- EBa3[r,l,f,y]: RateOfProduction is its sum over the producing technologies
-abbrev pub eba3 : Data → ℕ → ℕ → ℕ → ℕ → EquationTerms
-eba3 d r l f y = is_made_of (rate_of_production r l f y) (sum_away (producing_technologies d r f y) (λ t. rate_of_production_by_technology r l t f y))
-
--- EBa4[r,l,t,f,m,y]: RateOfUseByTechnologyByMode = RateOfActivity * InputActivityRatio
-abbrev pub eba4 : Data → ℕ → ℕ → ℕ → ℕ → ℕ → ℕ → EquationTerms
-eba4 d r l t f m y = is_times (rate_of_use_by_technology_by_mode r l t f m y) (rate_of_activity r l t m y) (Billionths (input_activity_ratio d r t f m y))
-
--- EBa5[r,l,t,f,y]: RateOfUseByTechnology is its sum over the using modes
-abbrev pub eba5 : Data → ℕ → ℕ → ℕ → ℕ → ℕ → EquationTerms
-eba5 d r l t f y = is_made_of (rate_of_use_by_technology r l t f y) (sum_away (using_modes d r t f y) (λ m. rate_of_use_by_technology_by_mode r l t f m y))
-
--- EBa6[r,l,f,y]: RateOfUse is its sum over the using technologies
-abbrev pub eba6 : Data → ℕ → ℕ → ℕ → ℕ → EquationTerms
-eba6 d r l f y = is_made_of (rate_of_use r l f y) (sum_away (using_technologies d r f y) (λ t. rate_of_use_by_technology r l t f y))
+-- EBa3 and EBa6[r,l,f,y]: the rate of all is its sum over the technologies that have such a mode
+abbrev pub all_flow : Flow → Data → ℕ → ℕ → ℕ → ℕ → EquationTerms
+all_flow flow d r l f y =
+    is_made_of (rate_of_all flow r l f y) (sum_away (nonzero_technologies d (ratio_of flow) r f y) (λ t. rate_of_technology flow r l t f y))
 
 -- ---- each timeslice
 

@@ -1,2 +1,3 @@
 pub mod Balance
+pub mod Flows
 pub mod Rows

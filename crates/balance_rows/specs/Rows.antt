@@ -6,7 +6,8 @@ use Rattle.row_core.specs.declared.Index.{Index}
 use Rattle.row_core.specs.declared.RowName.{RowName}
 use Rattle.row_core.specs.EquationTerms.{EquationTerms}
 use Rattle.named_equations.specs.Indices.{by_rfy, by_rlfy, by_rltfmy, by_rltfy, by_rrrfy, by_rrrlfy, by_rtmy}
-use Rattle.balance_rows.specs.Balance.{eq_specified_demand, eba1, eba2, eba3, eba4, eba5, eba6, eba7, eba8, eba9, eba10, eba11, ebb1, ebb2, ebb3, ebb4, acc1, acc2, acc3}
+use Rattle.balance_rows.specs.declared.flows.Flow.TheVariants.{Made, Taken}
+use Rattle.balance_rows.specs.Balance.{eq_specified_demand, mode_flow, technology_flow, all_flow, eba7, eba8, eba9, eba10, eba11, ebb1, ebb2, ebb3, ebb4, acc1, acc2, acc3}
 
 -- the equations are number 1 and numbers 7 to 24
 abbrev pub IsBalanceEquation : ℕ → Type 0
@@ -16,8 +17,8 @@ IsBalanceEquation eq = (eq ≡ EQ_SPECIFIED_DEMAND) ⊎ ((EBA1 ≤ eq) × (eq �
 abbrev pub balance_terms : Data → List (Index → EquationTerms)
 balance_terms d =
     by_rlfy (eq_specified_demand d)
-    ∷ by_rltfmy (eba1 d) ∷ by_rltfy (eba2 d) ∷ by_rlfy (eba3 d)
-    ∷ by_rltfmy (eba4 d) ∷ by_rltfy (eba5 d) ∷ by_rlfy (eba6 d)
+    ∷ by_rltfmy (mode_flow Made d) ∷ by_rltfy (technology_flow Made d) ∷ by_rlfy (all_flow Made d)
+    ∷ by_rltfmy (mode_flow Taken d) ∷ by_rltfy (technology_flow Taken d) ∷ by_rlfy (all_flow Taken d)
     ∷ by_rlfy (eba7 d) ∷ by_rlfy (eba8 d) ∷ by_rlfy (eba9 d) ∷ by_rrrlfy (eba10 d) ∷ by_rlfy (eba11 d)
     ∷ by_rfy (ebb1 d) ∷ by_rfy (ebb2 d) ∷ by_rrrfy (ebb3 d) ∷ by_rfy (ebb4 d)
     ∷ by_rltfy (acc1 d) ∷ by_rltfy (acc2 d) ∷ by_rtmy (acc3 d) ∷ []

@@ -4,6 +4,7 @@
 
 mod accounting;
 mod demand;
+mod flows;
 mod production;
 mod rows;
 mod timeslices;

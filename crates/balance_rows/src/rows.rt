@@ -13,9 +13,11 @@ ghost use Rattle.balance_rows.specs.Rows.{IsBalanceEquation, terms_at};
 
 use crate::accounting::{acc1, acc2, acc3};
 use crate::demand::eq_specified_demand;
-use crate::production::{eba1, eba2, eba3, eba4, eba5, eba6};
+use crate::flows::Flow::{Made, Taken};
+use crate::production::{all_flow, mode_flow, technology_flow};
 use crate::timeslices::{eba7, eba8, eba9, eba10, eba11};
 use crate::years::{ebb1, ebb2, ebb3, ebb4};
+use equation_parts::instances::row_where;
 use equation_parts::ratios::{produces, produces_in_mode, uses, uses_in_mode};
 use param_tables::ModelData;
 use row_core::equation_numbers::{
@@ -43,13 +45,8 @@ pub fn rows_of(alloc: Global, model: &ModelData, eq: u8, at: Index) -> Result<Op
     ensures fits { IfOk result (λ found. IfSome found (λ row. all_fit (equation_formed (terms_at model.now.facts (name_at eq at))) ≡ true)) }
     ensures stopped { IfErr result (IsStop (Place.Row (name_at eq at)) (not (stands_at model.now.facts eq at) || all_fit (equation_formed (terms_at model.now.facts (name_at eq at))))) }
 {
-    if !stands(model, eq, at) {
-        return Ok(None);
-    }
-    match row_of(alloc, model, RowName { eq, index: at }) {
-        Ok(row) => Ok(Some(row)),
-        Err(stopped) => Err(stopped),
-    }
+    let name = RowName { eq, index: at };
+    row_where(stands(model, eq, at), || row_of(alloc, model, name))
 }
 
 /// Whether the equation has an instance at the index.
@@ -86,12 +83,12 @@ fn row_of(alloc: Global, model: &ModelData, name: RowName) -> Result<Row, Stoppe
 {
     match name.eq {
         EQ_SPECIFIED_DEMAND => eq_specified_demand(alloc, model, name),
-        EBA1 => eba1(alloc, model, name),
-        EBA2 => eba2(alloc, model, name),
-        EBA3 => eba3(alloc, model, name),
-        EBA4 => eba4(alloc, model, name),
-        EBA5 => eba5(alloc, model, name),
-        EBA6 => eba6(alloc, model, name),
+        EBA1 => mode_flow(alloc, model, name, Made),
+        EBA2 => technology_flow(alloc, model, name, Made),
+        EBA3 => all_flow(alloc, model, name, Made),
+        EBA4 => mode_flow(alloc, model, name, Taken),
+        EBA5 => technology_flow(alloc, model, name, Taken),
+        EBA6 => all_flow(alloc, model, name, Taken),
         EBA7 => eba7(alloc, model, name),
         EBA8 => eba8(alloc, model, name),
         EBA9 => eba9(alloc, model, name),

@@ -1,6 +1,8 @@
 -- The definitions, computed: each with a near miss.
-use Rattle.std.proofs.Common.{◌≡◌, ℕ, pos, negsuc, true, false, List, [], ◌∷◌, refl, ap, inl}
+use Rattle.std.proofs.Common.{◌≡◌, ◌∙◌, ◌^◌, ℕ, pos, negsuc, true, false, List, [], ◌∷◌, refl, ap, inl, arith}
+use Rattle.std.proofs.lemmas.Int.{ints}
 use Rattle.std.specs.Prelude.{Some, None}
+use Rattle.exact_num.specs.Range.{all_fit, in_range}
 use Rattle.exact_num.specs.Rational.{Rational, pair, whole}
 use Rattle.exact_num.specs.Steps.{first_wide}
 use Rattle.row_core.specs.declared.Row.{Row}
@@ -10,14 +12,15 @@ use Rattle.row_core.specs.declared.place.Place.TheVariants.{CostRow, SumGap}
 use Rattle.row_core.specs.declared.place.Stopped.TheVariants as parts
 use Rattle.row_core.specs.declared.kind_numbers.TheConstants.{NEW_CAPACITY, RATE_OF_ACTIVITY, TOTAL_DISCOUNTED_COST}
 use Rattle.row_core.proofs.Members.{Contains-from_Has, Has-from_Contains}
-use Rattle.certificate_checker.specs.Conditions.{Condition}
+use Rattle.certificate_checker.specs.Conditions.{Condition, formed_at}
 use Rattle.certificate_checker.specs.Reasons.{Reason}
-use Rattle.certified_answers.specs.Answers.{AreNamedIn, IsComplete, IsOptimumFor, IsProvedWithin, pivots_made, turned}
+use Rattle.certified_answers.specs.Answers.{AreNamedIn, IsComplete, IsMadeWithin, IsOptimumFor, IsProvedWithin, turned}
 use Rattle.certified_answers.specs.Costs.{is_model, weight_of}
+use Rattle.certified_answers.specs.Worth.{IsClosed, IsNear, plan_cost}
 use Rattle.certified_answers.specs.Refusals.{IsRefused, IsWidthAt, passes, stop_of}
 use Rattle.certified_answers.specs.declared.answers.Certified.TheVariants.{Infeasible, Unbounded}
-use Rattle.certified_answers.specs.declared.answers.NoAnswer.TheVariants.{Nothing as NotFound, Budget, Width}
-use Rattle.certified_answers.specs.declared.costs.Cost.TheVariants.{Model, Nothing, One}
+use Rattle.certified_answers.specs.declared.answers.NoAnswer.TheVariants.{Nothing, Budget, Width}
+use Rattle.certified_answers.specs.declared.costs.Cost.TheVariants.{Model, One}
 use Rattle.certified_answers.specs.declared.costs.Goal.TheVariants.{Least, Greatest}
 
 -- the variable, and the row, of this number at the first members
@@ -40,9 +43,6 @@ other_weight = refl
 
 model_weight : weight_of Model (of_kind TOTAL_DISCOUNTED_COST) ≡ pos 1
 model_weight = refl
-
-no_weight : weight_of Nothing (of_kind TOTAL_DISCOUNTED_COST) ≡ pos 0
-no_weight = refl
 
 not_model : is_model (One (of_kind TOTAL_DISCOUNTED_COST) Least) ≡ false
 not_model = refl
@@ -72,13 +72,30 @@ nothing_asked : passes [] ≡ true
 unfolding first_wide
 nothing_asked = refl
 
-one_fails : (reason : Reason) → IsRefused (failing reason ∷ []) NotFound
+one_fails : (reason : Reason) → IsRefused (failing reason ∷ []) Nothing
 unfolding first_wide
 one_fails reason = refl
 
-none_fails : ¬ (IsRefused [] NotFound)
+none_fails : ¬ (IsRefused [] Nothing)
 unfolding first_wide
 none_fails h = cc h
+
+-- a condition that forms a number that doesn't fit is refused at its place, and at no other
+abbrev too_wide : Reason → Condition
+too_wide reason = record { seen = formed_at CostRow (pos (2 ^ 127) ∷ []); holds = true; reason = reason; amount = [] }
+
+refused_there : (reason : Reason) → IsRefused (too_wide reason ∷ []) (Width CostRow)
+unfolding first_wide all_fit in_range
+refused_there reason = refl
+
+not_refused_elsewhere : (reason : Reason) → ¬ (IsRefused (too_wide reason ∷ []) (Width SumGap))
+unfolding first_wide all_fit in_range
+not_refused_elsewhere reason h = cc h
+
+-- nor is what holds and fits refused at a place, or what fails without a number
+not_too_wide : (reason : Reason) → ¬ (IsRefused (failing reason ∷ []) (Width CostRow))
+unfolding first_wide
+not_too_wide reason h = cc h
 
 -- ---- answers
 
@@ -89,12 +106,26 @@ turned_half = refl
 not_turned : (rows : List Row) (vars : List Var) (amount : Rational) → ¬ (IsOptimumFor (One (of_kind NEW_CAPACITY) Greatest) rows vars ((of_kind NEW_CAPACITY, whole (pos 1)) ∷ []) [] amount (whole (pos 1)))
 not_turned rows vars amount h = let top : pos 1 ≡ negsuc 0 = ap (λ (r : Rational). r.top) h.2 in cc top
 
+-- 3 isn't within a millionth of 2, and neither 2 nor -2 is closed to 3
+not_near : ¬ (IsNear (whole (pos 3)) (whole (pos 2)) 1)
+not_near h = omega (arith, ints, h.within)
+
+not_closed : ¬ (IsClosed (whole (pos 3)) (whole (pos 2)))
+not_closed h = let top : pos 3 ≡ pos 2 = ap (λ (r : Rational). r.top) h.same in cc top
+
+-- of one variable too the cost is the plan's
+not_its_cost : (vars : List Var) (plan : List (Var × Rational)) (amount bound : Rational) → plan_cost vars plan ≡ whole (pos 1) → ¬ (IsOptimumFor (One (of_kind NEW_CAPACITY) Least) [] vars plan [] (whole (pos 2)) bound)
+not_its_cost vars plan amount bound is h = let top : pos 2 ≡ pos 1 = ap (λ (r : Rational). r.top) (h.0.cost_is ∙ is) in cc top
+
 -- a guess has no direction
 no_direction : (rows : List Row) (vars : List Var) (ppm : ℕ) → ¬ (IsProvedWithin rows vars ppm (Unbounded [] [] 0))
 no_direction rows vars ppm h = h
 
-three_made : pivots_made (Infeasible [] 3) ≡ 3
-three_made = refl
+three_made : IsMadeWithin 3 (Infeasible [] 3)
+three_made = omega arith
+
+four_made : ¬ (IsMadeWithin 3 (Infeasible [] 4))
+four_made h = omega (arith, h)
 
 -- a value is missing
 not_complete : ¬ (IsComplete (of_kind NEW_CAPACITY ∷ []) (Unbounded ((of_kind NEW_CAPACITY, whole (pos 1)) ∷ []) [] 0))

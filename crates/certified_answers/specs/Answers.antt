@@ -14,7 +14,7 @@ use Rattle.certified_answers.specs.Worth.{IsBound, IsBoundFor, IsClosed, IsDesce
 use Rattle.certified_answers.specs.declared.answers.Certified.{Certified}
 use Rattle.certified_answers.specs.declared.answers.Certified.TheVariants.{Optimal, Infeasible, Unbounded}
 use Rattle.certified_answers.specs.declared.costs.Cost.{Cost}
-use Rattle.certified_answers.specs.declared.costs.Cost.TheVariants.{Model, Nothing, One}
+use Rattle.certified_answers.specs.declared.costs.Cost.TheVariants.{Model, One}
 use Rattle.certified_answers.specs.declared.costs.Goal.{Goal}
 use Rattle.certified_answers.specs.declared.costs.Goal.TheVariants.{Least, Greatest}
 
@@ -25,17 +25,15 @@ abbrev pub turned : Goal → Rational → Rational
 turned Least value = value
 turned Greatest value = negated value
 
--- an optimum: of the model's cost a plan and a bound that is its cost; at no cost a plan; of one variable a plan, and a bound that is the variable's value in it
+-- an optimum: a plan, which costs the model so much, and a bound: of the model's cost one that is the plan's, of one variable one that is the variable's value in the plan
 abbrev pub IsOptimumFor : Cost → List Row → List Var → List (Var × Rational) → List (RowName × Rational) → Rational → Rational → Type 0
 IsOptimumFor Model rows vars plan multipliers cost bound = IsPlan rows vars plan cost × IsBound rows vars multipliers bound × IsClosed cost bound
-IsOptimumFor Nothing rows vars plan multipliers cost bound = IsPlan rows vars plan (plan_cost vars plan)
 IsOptimumFor (One var goal) rows vars plan multipliers cost bound =
-    IsPlan rows vars plan (plan_cost vars plan) × IsBoundFor (weight_of (One var goal)) rows vars multipliers bound × (bound ≡ turned goal (value_in var_cmp plan var))
+    IsPlan rows vars plan cost × IsBoundFor (weight_of (One var goal)) rows vars multipliers bound × (bound ≡ turned goal (value_in var_cmp plan var))
 
 -- a direction: of the model's cost one along which plans cost less than any whole number
 abbrev pub IsDescentAt : Cost → List Row → List Var → List (Var × Rational) → Type 0
 IsDescentAt Model rows vars direction = IsDescent rows vars direction
-IsDescentAt Nothing rows vars direction = IsDescentFor (weight_of Nothing) rows vars direction
 IsDescentAt (One var goal) rows vars direction = IsDescentFor (weight_of (One var goal)) rows vars direction
 
 abbrev pub IsProvedFor : Cost → List Row → List Var → Certified → Type 0

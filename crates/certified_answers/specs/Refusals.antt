@@ -4,7 +4,7 @@ use Rattle.exact_num.specs.Steps.{first_wide}
 use Rattle.row_core.specs.declared.place.Place.{Place}
 use Rattle.row_core.specs.declared.place.Stopped.{Stopped}
 use Rattle.row_core.specs.declared.place.Stopped.TheVariants as parts
-use Rattle.certificate_checker.specs.Conditions.{Condition, first_failing, steps}
+use Rattle.certificate_checker.specs.Conditions.{Condition, IsWideAt, first_failing, steps}
 use Rattle.certified_answers.specs.declared.answers.NoAnswer.{NoAnswer}
 use Rattle.certified_answers.specs.declared.answers.NoAnswer.TheVariants.{Nothing, Budget, Width, Memory}
 
@@ -28,9 +28,9 @@ IsWidthOf conditions answer = IsWidthAt (first_wide (steps conditions)) answer
 abbrev pub passes : List Condition → Bool
 passes conditions = is_none (first_wide (steps conditions)) && is_none (first_failing conditions)
 
--- they don't; out of memory has no cause
+-- they don't; the place is that of the first number that doesn't fit; out of memory has no cause
 abbrev pub IsRefused : List Condition → NoAnswer → Type 0
 IsRefused conditions Nothing = passes conditions ≡ false
 IsRefused conditions Budget = ⊥
-IsRefused conditions (Width place) = passes conditions ≡ false
+IsRefused conditions (Width place) = IsWideAt conditions place
 IsRefused conditions Memory = ⊤

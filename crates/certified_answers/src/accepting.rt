@@ -1,7 +1,7 @@
 //! The checks of what was found. Where what is found is what the checker asks for, a number that doesn't fit is the one cause of a
-//! refusal; else what is refused is what the checker refuses.
+//! refusal; else what is refused is what the checker refuses. Plans, directions and gaps take no memory.
 
-ghost use Rattle.std.specs.Prelude.{◌≡◌, ◌∷◌, [], ℕ, ℤ, pos, IsTrue, IfErr, IfOk, OnOk};
+ghost use Rattle.std.specs.Prelude.{◌≡◌, ◌≢◌, [], ◌∷◌, ℕ, ℤ, pos, IsTrue, IfErr, IfOk, OnOk};
 ghost use Rattle.exact_num.specs.Value.{value_of};
 ghost use Rattle.row_core.specs.declared.RowName.{RowName};
 ghost use Rattle.row_core.specs.Numbers.{ascends};
@@ -19,6 +19,7 @@ ghost use Rattle.certificate_checker.specs.Verdicts.{IfYes, IsVerdict, OnNo, OnY
 ghost use Rattle.certified_answers.specs.Costs.{weight_of};
 ghost use Rattle.certified_answers.specs.Found.{IsFoundBoundFor, IsFoundDescentFor, IsFoundPlan, IsFoundRefutation};
 ghost use Rattle.certified_answers.specs.Refusals.{IsRefused, IsWidthOf};
+ghost use Rattle.certified_answers.specs.declared.answers.NoAnswer.TheVariants.{Memory};
 ghost use Rattle.certified_answers.specs.Worth.{IsBoundFor, IsDescentFor, IsNear, IsPlan, IsRefutation, multiplier_bound};
 
 use crate::answers::NoAnswer;
@@ -37,6 +38,7 @@ pub fn accepted_plan(rows: &[Row], vars: &[Var], plan: &Plan) -> Result<Frac, No
     ensures plan { IfOk result (λ cost. IsPlan rows.now vars.now plan.now (value_of cost)) }
     ensures found { IsFoundPlan rows.now vars.now plan.now → IfErr result (IsWidthOf (plan_conditions model_cost rows.now vars.now plan.now)) }
     ensures refused { IfErr result (IsRefused (plan_conditions model_cost rows.now vars.now plan.now)) }
+    ensures enough { IfErr result (λ stop. stop ≢ Memory) }
 {
     plan_laws(plan);
     match check_plan(rows, vars, plan) {
@@ -86,7 +88,6 @@ fn bound_verdict(
 {
     match cost {
         Cost::Model => check_bound(alloc, rows, vars, multipliers),
-        Cost::Nothing => check_bound_of(alloc, rows, vars, &[], multipliers),
         Cost::One(var, goal) => {
             check_bound_of(alloc, rows, vars, &[(var, sign_of(goal))], multipliers)
         }
@@ -98,6 +99,7 @@ pub fn accepted_gap(cost: Frac, bound: Frac, ppm: u32) -> Result<(), NoAnswer>
     ensures near { OnOk result (IsNear (value_of cost) (value_of bound) ppm) }
     ensures found { value_of cost ≡ value_of bound → IfErr result (IsWidthOf (gap_condition (value_of cost) (value_of bound) ppm ∷ [])) }
     ensures refused { IfErr result (IsRefused (gap_condition (value_of cost) (value_of bound) ppm ∷ [])) }
+    ensures enough { IfErr result (λ stop. stop ≢ Memory) }
 {
     match check_gap(cost, bound, ppm) {
         Verdict::Yes(_) => Ok(()),
@@ -138,6 +140,7 @@ pub fn accepted_direction(
     ensures descent { OnOk result (IsDescentFor (weight_of cost) rows.now vars.now direction.now) }
     ensures found { IsFoundDescentFor (weight_of cost) rows.now vars.now direction.now → IfErr result (IsWidthOf (direction_conditions (weight_of cost) rows.now vars.now direction.now)) }
     ensures refused { IfErr result (IsRefused (direction_conditions (weight_of cost) rows.now vars.now direction.now)) }
+    ensures enough { IfErr result (λ stop. stop ≢ Memory) }
 {
     plan_laws(direction);
     match direction_verdict(rows, vars, cost, direction) {
@@ -157,7 +160,6 @@ fn direction_verdict(rows: &[Row], vars: &[Var], cost: Cost, direction: &Plan) -
 {
     match cost {
         Cost::Model => check_direction(rows, vars, direction),
-        Cost::Nothing => check_direction_of(rows, vars, &[], direction),
         Cost::One(var, goal) => {
             check_direction_of(rows, vars, &[(var, sign_of(goal))], direction)
         }

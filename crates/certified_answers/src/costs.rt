@@ -19,8 +19,6 @@ pub enum Goal {
 pub enum Cost {
     /// The model's cost: the sum of all TotalDiscountedCost.
     Model,
-    /// Nothing: any plan will do.
-    Nothing,
     /// The value of one variable, or for the greatest value that value turned.
     One(Var, Goal),
 }

@@ -29,7 +29,7 @@ module _ (sets : SetLists) where
   first-within names all fault (inl none) = subst (FaultIsWithin sets) (sym none.1) tt
   first-within names all fault (inr b) = breaks-within names all fault b
 
-  found-within : (test : Var → Bool) (vars : List Var) (v : Var) → AllByRecursion (IsListedVariable sets) vars → find test vars ≡ Some v → IsVariableOfSets sets v
+  pub found-within : (test : Var → Bool) (vars : List Var) (v : Var) → AllByRecursion (IsListedVariable sets) vars → find test vars ≡ Some v → IsVariableOfSets sets v
   found-within test [] v listed found = absurd (cc found)
   found-within test (w ∷ ws) v listed found = cases (found-within test ws v listed.1) (test w) found
     where

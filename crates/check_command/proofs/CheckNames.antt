@@ -19,15 +19,15 @@ use Rattle.certificate_checker.specs.Gaps.{gap_condition}
 use Rattle.certificate_checker.specs.MultiplierChecks.{bound_conditions, column_condition, multiplier_condition}
 use Rattle.certificate_checker.specs.PlanChecks.{plan_conditions, sign_condition}
 use Rattle.certificate_checker.specs.Reasons.{Reason, reason_of}
-use Rattle.command_answers.specs.PlacesWithin.{PlaceIsWithin, ReasonIsWithin, RejectionIsWithin}
-use Rattle.command_answers.proofs.StepNames.{AreFormedWithin, steps-within, wide-within}
+use Rattle.command_answers.specs.PlacesWithin.{IsRowOfSets, PlaceIsWithin, ReasonIsWithin, RejectionIsWithin}
+use Rattle.command_answers.proofs.KeptPlaces.{AreFormedKept, steps-kept, wide-kept}
 
 -- ---- conditions
 
 module _ (sets : SetLists) where
   -- what is computed is at places of the sets, and so is what is said where the condition can fail
   pub record IsConditionWithin (c : Condition) : Type 0 where
-    pub formed : AreFormedWithin sets c
+    pub formed : AreFormedKept sets (IsRowOfSets sets) c
     pub said : (c.holds ≡ true) ⊎ ReasonIsWithin sets c.reason
 
   fails-within : (cs : List Condition) (reason : Reason) → AllByRecursion IsConditionWithin cs → first_failing cs ≡ Some reason → ReasonIsWithin sets reason
@@ -74,4 +74,4 @@ module _ (sets : SetLists) where
 
   pub wide-named : (cs : List Condition) (place : Place) → AllByRecursion IsConditionWithin cs → IsWideAt cs place → PlaceIsWithin sets place
   wide-named cs place within wide =
-      wide-within sets (steps cs) place (steps-within sets cs (AllByRecursion-weaker IsConditionWithin (AreFormedWithin sets) (λ c of. of.formed) cs within)) wide
+      wide-kept sets (IsRowOfSets sets) (steps cs) place (steps-kept sets (IsRowOfSets sets) cs (AllByRecursion-weaker IsConditionWithin (AreFormedKept sets (IsRowOfSets sets)) (λ c of. of.formed) cs within)) wide

@@ -1,6 +1,10 @@
+pub mod AcceptedProofs
 mod CheckExamples
 mod CheckFiles
 mod CheckNames
 mod DueOfPlans
 pub mod OutcomeLaws
-mod SameChecks
+mod ProofExamples
+mod ProofLaws
+mod ProofNames
+mod RowContents

@@ -63,17 +63,17 @@ module _ (places : ℕ) (d : Data) (rows : List Row) (vars : List Var) (book : I
 -- ---- some conditions after others
 
 module _ (cs ds : List Condition) where
-  fails-first : (reason : Reason) → FailsFor cs reason → FailsFor (cs ++ ds) reason
+  pub fails-first : (reason : Reason) → FailsFor cs reason → FailsFor (cs ++ ds) reason
   fails-first reason h =
       let both = fails_before cs ds reason h.fails in
       record { fit = ap first_wide both.0 ∙ h.fit; fails = both.1 }
 
-  fails-after : (reason : Reason) → AllPass cs → FailsFor ds reason → FailsFor (cs ++ ds) reason
+  pub fails-after : (reason : Reason) → AllPass cs → FailsFor ds reason → FailsFor (cs ++ ds) reason
   fails-after reason pass h =
       let so_far = passed_first cs ds pass in
       record { fit = so_far.wide ∙ h.fit; fails = so_far.failing ∙ h.fails }
 
-  wide-after : (place : Place) → AllPass cs → IsWideAt ds place → IsWideAt (cs ++ ds) place
+  pub wide-after : (place : Place) → AllPass cs → IsWideAt ds place → IsWideAt (cs ++ ds) place
   wide-after place pass h = (passed_first cs ds pass).wide ∙ h
 
   -- where all together fail, the first ones fail, or they pass and the others fail
@@ -88,7 +88,7 @@ module _ (cs ds : List Condition) where
           let so_far = passed_first cs ds pass in
           inr (pass, record { fit = sym so_far.wide ∙ h.fit; fails = sym so_far.failing ∙ h.fails })
 
-  pass-after : AllPass cs → AllPass ds → AllPass (cs ++ ds)
+  pub pass-after : AllPass cs → AllPass ds → AllPass (cs ++ ds)
   pass-after pass h = passes_all (cs ++ ds) ds (passed_first cs ds pass) h
 
 -- ---- the conditions of `check`

@@ -1,3 +1,5 @@
 pub mod Check
 pub mod CheckLines
 pub mod CheckOutcomes
+pub mod CheckProof
+pub mod ProofVerdicts

@@ -6,9 +6,8 @@ ghost use Rattle.model_sets.specs.Data.{AreSameData, Data};
 ghost use Rattle.check_command.specs.Check.{DueForCheck};
 
 use crate::files::answer_plan_file;
-use command_answers::{Answer, refuse_book};
+use command_answers::{Answer, made_book};
 use param_tables::ModelData;
-use row_book::{RowBook, same_data_laws};
 use std::alloc::{AllocError, Global};
 
 /// What is to be checked: the text of a plan's file, that of a file of multipliers if there is one, and how many millionths of
@@ -28,26 +27,11 @@ pub fn answer_check(
     claim: Claim<'_, '_>,
 ) -> Result<Answer, AllocError>
     requires { IsPlaces places }
-    ensures { IfOk result (λ answer. (d : Data) → AreSameData model.now.facts d
-        → DueForCheck places claim.entry.plan.now (option_map (λ text. text.now) claim.entry.multipliers) claim.entry.gap d answer.status answer.text.items) }
+    ensures { (d : Data) → AreSameData model.now.facts d → IfOk result (λ answer.
+        DueForCheck places claim.entry.plan.now (option_map (λ text. text.now) claim.entry.multipliers) claim.entry.gap d answer.status answer.text.items) }
 {
-    same_data_laws();
-    answer_claim(alloc, model, places, claim)
-}
-
-// The same over the model's own data.
-fn answer_claim(
-    alloc: Global,
-    model: &ModelData,
-    places: u8,
-    claim: Claim<'_, '_>,
-) -> Result<Answer, AllocError>
-    requires { IsPlaces places }
-    ensures { IfOk result (λ answer.
-        DueForCheck places claim.entry.plan.now (option_map (λ text. text.now) claim.entry.multipliers) claim.entry.gap model.now.facts answer.status answer.text.items) }
-{
-    match RowBook::new(alloc, model, places) {
+    match made_book(alloc, model, places)? {
         Ok(book) => answer_plan_file(alloc, &book, model.sets(), claim),
-        Err(fail) => refuse_book(alloc, fail, model.sets()),
+        Err(answer) => Ok(answer),
     }
 }

@@ -5,10 +5,10 @@ ghost use Rattle.exact_num.specs.Value.{value_of};
 ghost use Rattle.model_sets.specs.Data.{Data};
 ghost use Rattle.check_command.specs.Check.{DueForMultiplierFile, DueForPlan, DueForPlanFile};
 ghost use Rattle.command_answers.specs.CheckedPlans.{IsBookOf, IsListedBook};
-ghost use Rattle.check_command.specs.CheckLines.{accepted_text, rejected_line};
+ghost use Rattle.check_command.specs.CheckLines.{CanBeSaid, accepted_text, rejected_line};
 ghost use Rattle.command_answers.specs.PlanFaultLines.{multiplier_fault_line, plan_fault_line};
 ghost use Rattle.check_command.specs.CheckOutcomes.{OutcomeIsWithin, TellsOutcome, bound_values};
-ghost use Rattle.command_answers.specs.PlacesWithin.{FaultIsWithin, RejectionIsWithin};
+ghost use Rattle.command_answers.specs.PlacesWithin.{FaultIsWithin};
 
 use crate::check::Claim;
 use crate::lines::{accepted_text, rejected_line};
@@ -62,8 +62,8 @@ fn answer_multiplier_file(
     }
 }
 
-// The same where all files were read.
-fn answer_values(
+/// What is due of a plan and of multipliers that were read.
+pub fn answer_values(
     alloc: Global,
     book: &RowBook,
     sets: &Sets,
@@ -100,9 +100,9 @@ fn accept_plan(alloc: Global, cost: Frac, bound: Option<Bound>) -> Result<Answer
     Ok(Answer { status, text })
 }
 
-// The answer to a plan or to multipliers of which a condition fails.
-fn reject_plan(alloc: Global, rejection: Rejection, sets: &Sets) -> Result<Answer, AllocError>
-    requires { RejectionIsWithin sets.now rejection }
+/// The answer to a plan, to multipliers or to a direction of which a condition fails.
+pub fn reject_plan(alloc: Global, rejection: Rejection, sets: &Sets) -> Result<Answer, AllocError>
+    requires { CanBeSaid sets.now rejection }
     ensures { IfOk result (λ answer. (answer.status ≡ Status.Rejected rejection) × (answer.text.items ≡ rejected_line sets.now rejection)) }
 {
     let text = rejected_line(alloc, rejection, sets)?;

@@ -9,5 +9,7 @@ mod check;
 mod files;
 mod lines;
 mod outcome;
+mod proof;
 
 pub use check::{Claim, answer_check};
+pub use proof::answer_proof;

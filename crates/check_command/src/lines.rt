@@ -2,9 +2,8 @@
 ghost use Rattle.std.specs.Prelude.{◌≡◌, ◌++◌, IfOk, OnOk, codes, option_map};
 ghost use Rattle.exact_num.specs.Value.{value_of};
 ghost use Rattle.scaled_decimals.specs.PrintedFraction.{fraction_text};
-ghost use Rattle.check_command.specs.CheckLines.{accepted_text, rejected_line, rejection_text};
+ghost use Rattle.check_command.specs.CheckLines.{CanBeSaid, accepted_text, rejected_line, rejection_text};
 ghost use Rattle.check_command.specs.CheckOutcomes.{bound_values};
-ghost use Rattle.command_answers.specs.PlacesWithin.{RejectionIsWithin};
 
 use crate::outcome::Bound;
 use certificate_checker::Rejection;
@@ -28,13 +27,13 @@ pub fn accepted_text(alloc: Global, cost: Frac, bound: Option<Bound>) -> Result<
 }
 
 /// The line for the first condition that fails: `rejected violates EQ by Q`, `rejected sign VAR`, `rejected multiplier EQ`,
-/// `rejected column VAR by Q` or `rejected gap Q`.
+/// `rejected column VAR by Q`, `rejected not negative`, `rejected not positive` or `rejected gap Q`.
 pub fn rejected_line(
     alloc: Global,
     rejection: Rejection,
     sets: &Sets,
 ) -> Result<Vec<u8>, AllocError>
-    requires { RejectionIsWithin sets.now rejection }
+    requires { CanBeSaid sets.now rejection }
     ensures { IfOk result (λ text. text.items ≡ rejected_line sets.now rejection) }
 {
     let mut text = Vec::from_slice(alloc, b"rejected ")?;
@@ -45,7 +44,7 @@ pub fn rejected_line(
 
 // Appends why a check says no.
 fn push_rejection(out: &mut Vec<u8>, rejection: Rejection, sets: &Sets) -> Result<(), AllocError>
-    requires { RejectionIsWithin sets.now rejection }
+    requires { CanBeSaid sets.now rejection }
     ensures { OnOk result (out.new.items ≡ out.old.items ++ rejection_text sets.now rejection) }
 {
     match rejection {
@@ -63,7 +62,8 @@ fn push_rejection(out: &mut Vec<u8>, rejection: Rejection, sets: &Sets) -> Resul
             out.extend_from_slice(b"gap ")?;
             push_frac(out, amount)
         }
-        Rejection::NotNegative | Rejection::NotPositive => Ok(()),
+        Rejection::NotNegative => out.extend_from_slice(b"not negative"),
+        Rejection::NotPositive => out.extend_from_slice(b"not positive"),
     }
 }
 

@@ -3,6 +3,7 @@ pub mod AcceptedExample
 pub mod AcceptedText
 pub mod BookEnds
 pub mod CheckedRows
+mod ClosedGaps
 mod DefaultTexts
 pub mod LineExamples
 pub mod ListedBooks
@@ -11,7 +12,9 @@ pub mod MadeBooks
 mod MemberNames
 pub mod PlanCosts
 pub mod SameData
-pub mod SamePlans
-pub mod StepNames
+pub mod SolvedRows
+pub mod KeptPlaces
+pub mod BookLists
+pub mod BookPlaces
 pub mod RowPositions
 pub mod BookProblems

@@ -1,5 +1,5 @@
 -- What is due over some data is due over any with the same sets and values.
-use Rattle.std.proofs.Common.{ℕ, List, ap, ◌∙◌}
+use Rattle.std.proofs.Common.{ℕ, List, refl, ap, ◌∙◌}
 use Rattle.std.specs.Prelude.{◌↔◌}
 use Rattle.model_sets.specs.Data.{AreSameData, Data}
 use Rattle.model_sets.specs.Members.{SetLists}
@@ -12,6 +12,10 @@ use Rattle.command_answers.specs.declared.status.Status.{Status}
 use Rattle.simplex_core.specs.declared.stops.Stop.{Stop}
 use Rattle.command_answers.specs.Lines.{uncertified_line}
 use Rattle.command_answers.specs.MadeRows.{IsTooLarge, IsUncertified}
+
+-- each is the same as itself
+pub same-itself : (d : Data) → AreSameData d d
+same-itself d = record { sets = refl; second = refl; values = λ param used index has. refl }
 
 -- what the laws of the book say of two data that are the same
 pub record SameLaws (places : ℕ) (d e : Data) : Type 0 where

@@ -11,6 +11,8 @@ use Rattle.row_core.specs.NameTexts.{RowNameIsWithin, VariableIsWithin}
 use Rattle.certificate_checker.specs.declared.verdicts.Rejection.{Rejection}
 use Rattle.certificate_checker.specs.Reasons.{Reason, reason_of}
 use Rattle.certificate_checker.specs.Reasons as reasons
+use Rattle.simplex_core.specs.declared.stops.Stop.{Stop}
+use Rattle.simplex_core.specs.declared.stops.Stop.TheVariants as stops
 use Rattle.simplex_core.specs.declared.stops.TrialStop.{TrialStop}
 use Rattle.simplex_core.specs.declared.stops.TrialStop.TheVariants as trials
 use Rattle.plan_files.specs.declared.faults.PlanFault.{PlanFault}
@@ -22,26 +24,47 @@ IsRowOfSets sets name = IsEquation name.eq × RowNameIsWithin sets name
 abbrev pub IsVariableOfSets : SetLists → Var → Type 0
 IsVariableOfSets sets v = IsKind v.kind × VariableIsWithin sets v
 
--- a place of which the name can be written
-abbrev pub PlaceIsWithin : SetLists → Place → Type 0
-PlaceIsWithin sets (Place.Row name) = IsRowOfSets sets name
-PlaceIsWithin sets (Expand name) = IsRowOfSets sets name
-PlaceIsWithin sets CostRow = ⊤
-PlaceIsWithin sets (Pivot number) = ⊤
-PlaceIsWithin sets (LiftPlan v) = IsVariableOfSets sets v
-PlaceIsWithin sets (LiftMultiplier name) = IsRowOfSets sets name
-PlaceIsWithin sets (LiftDirection v) = IsVariableOfSets sets v
-PlaceIsWithin sets (Check name) = IsRowOfSets sets name
-PlaceIsWithin sets (Column v) = IsVariableOfSets sets v
-PlaceIsWithin sets SumCost = ⊤
-PlaceIsWithin sets SumBound = ⊤
-PlaceIsWithin sets SumGap = ⊤
-PlaceIsWithin sets (Price name) = IsRowOfSets sets name
+-- ---- places
 
--- the stop of a trial of which the place, if there is one, can be named
+-- the rows of a place pass a test of names, and its variables are of the sets
+abbrev pub PlaceKeeps : SetLists → (RowName → Type 0) → Place → Type 0
+PlaceKeeps sets Passes (Place.Row name) = Passes name
+PlaceKeeps sets Passes (Expand name) = Passes name
+PlaceKeeps sets Passes CostRow = ⊤
+PlaceKeeps sets Passes (Pivot number) = ⊤
+PlaceKeeps sets Passes (LiftPlan v) = IsVariableOfSets sets v
+PlaceKeeps sets Passes (LiftMultiplier name) = Passes name
+PlaceKeeps sets Passes (LiftDirection v) = IsVariableOfSets sets v
+PlaceKeeps sets Passes (Check name) = Passes name
+PlaceKeeps sets Passes (Column v) = IsVariableOfSets sets v
+PlaceKeeps sets Passes SumCost = ⊤
+PlaceKeeps sets Passes SumBound = ⊤
+PlaceKeeps sets Passes SumGap = ⊤
+PlaceKeeps sets Passes (Price name) = Passes name
+
+-- the stop of a trial, and any stop, with such a place, if it has one
+abbrev pub TrialKeeps : SetLists → (RowName → Type 0) → TrialStop → Type 0
+TrialKeeps sets Passes (trials.Budget pivots) = ⊤
+TrialKeeps sets Passes (trials.Width place) = PlaceKeeps sets Passes place
+
+abbrev pub StopKeeps : SetLists → (RowName → Type 0) → Stop → Type 0
+StopKeeps sets Passes (stops.Budget pivots) = ⊤
+StopKeeps sets Passes (stops.Width place) = PlaceKeeps sets Passes place
+StopKeeps sets Passes (stops.Trial number stop) = TrialKeeps sets Passes stop
+
+-- ---- of rows of the sets
+
+-- a place of which the name can be written, and a stop with such a place, if it has one
+abbrev pub PlaceIsWithin : SetLists → Place → Type 0
+PlaceIsWithin sets place = PlaceKeeps sets (IsRowOfSets sets) place
+
 abbrev pub TrialIsWithin : SetLists → TrialStop → Type 0
-TrialIsWithin sets (trials.Budget pivots) = ⊤
-TrialIsWithin sets (trials.Width place) = PlaceIsWithin sets place
+TrialIsWithin sets stop = TrialKeeps sets (IsRowOfSets sets) stop
+
+abbrev pub StopIsWithin : SetLists → Stop → Type 0
+StopIsWithin sets stop = StopKeeps sets (IsRowOfSets sets) stop
+
+-- ---- rejections and faults
 
 -- what a check of plans and bounds says: nothing of directions, and nothing of plans that don't exist
 abbrev pub ReasonIsWithin : SetLists → Reason → Type 0

@@ -1,4 +1,4 @@
--- The lines that say why a file of a plan, or of multipliers, is refused.
+-- The lines that say why a file of a plan, of multipliers, or of a proof is refused.
 use Rattle.std.specs.Prelude.{ℕ, List, ◌++◌, codes}
 use Rattle.std.specs.Fmt.{decimal}
 use Rattle.model_sets.specs.Members.{SetLists}
@@ -24,3 +24,6 @@ plan_fault_line sets fault = line (codes "refused plan " ++ fault_text sets faul
 
 abbrev pub multiplier_fault_line : SetLists → PlanFault → List ℕ
 multiplier_fault_line sets fault = line (codes "refused multipliers " ++ fault_text sets fault)
+
+abbrev pub proof_fault_line : SetLists → PlanFault → List ℕ
+proof_fault_line sets fault = line (codes "refused proof " ++ fault_text sets fault)

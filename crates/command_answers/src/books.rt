@@ -1,16 +1,78 @@
-// The answers where the rows of the named equations can't be made, or are too many to be solved: the same for every command.
+// The book of rows of a model, and the answers where the rows of the named equations can't be made, or are too many to be solved: the same for every command.
 ghost use Rattle.std.specs.Prelude.{◌≡◌, IfOk};
+ghost use Rattle.discount_factors.specs.Factors.{IsPlaces};
+ghost use Rattle.model_sets.specs.Data.{AreSameData, Data};
 ghost use Rattle.row_book.specs.Books.{NamesRowWithin};
 ghost use Rattle.command_answers.specs.BookFails.{TellsFail};
+ghost use Rattle.command_answers.specs.Limits.{TellsLimits};
 ghost use Rattle.command_answers.specs.Lines.{entries_line, too_large_line};
+ghost use Rattle.command_answers.specs.MadeBooks.{TellsMade, TellsSized};
 
 use crate::answer::Answer;
 use crate::lines::{entries_line, too_large_line};
 use crate::status::{Refusal, Status};
 use crate::stops::stop_at;
 use model_sets::Sets;
-use row_book::BookFail;
+use param_tables::ModelData;
+use row_book::{BookFail, RowBook, same_data_laws};
+use row_problem::size_of;
 use std::alloc::{AllocError, Global};
+
+/// The most inequalities that a linear program may have.
+const MOST_ROWS: u64 = 20_000;
+
+/// The most columns that it may have.
+const MOST_COLUMNS: u64 = 40_000;
+
+/// The book of rows of a model, with written factors of 6 or 9 decimal places, or the answer where a row can't be made. Either is that
+/// of any data that have the model's sets and values.
+pub fn made_book(
+    alloc: Global,
+    model: &ModelData,
+    places: u8,
+) -> Result<Result<RowBook, Answer>, AllocError>
+    requires { IsPlaces places }
+    ensures { (d : Data) → AreSameData model.now.facts d → IfOk result (TellsMade places d) }
+{
+    same_data_laws();
+    match RowBook::new(alloc, model, places) {
+        Ok(book) => Ok(Ok(book)),
+        Err(fail) => {
+            let answer = refuse_book(alloc, fail, model.sets())?;
+            Ok(Err(answer))
+        }
+    }
+}
+
+/// The book of rows of a model whose linear program isn't too large, or the answer where a row can't be made or it is, as of `made_book`.
+pub fn sized_book(
+    alloc: Global,
+    model: &ModelData,
+    places: u8,
+) -> Result<Result<RowBook, Answer>, AllocError>
+    requires { IsPlaces places }
+    ensures { (d : Data) → AreSameData model.now.facts d → IfOk result (TellsSized places d) }
+{
+    match made_book(alloc, model, places)? {
+        Ok(book) => match refuse_large(alloc, &book)? {
+            Some(answer) => Ok(Err(answer)),
+            None => Ok(Ok(book)),
+        },
+        Err(answer) => Ok(Err(answer)),
+    }
+}
+
+/// The answer to a book whose linear program is too large; none where it isn't.
+pub fn refuse_large(alloc: Global, book: &RowBook) -> Result<Option<Answer>, AllocError>
+    ensures { IfOk result (TellsLimits book.now.rows book.now.vars) }
+{
+    let size = size_of(book.rows(), book.vars());
+    if size.rows > MOST_ROWS || size.columns > MOST_COLUMNS {
+        let answer = refuse_size(alloc, size.rows, size.columns)?;
+        return Ok(Some(answer));
+    }
+    Ok(None)
+}
 
 /// The answer where rows can't be made; none where memory ran out.
 pub fn refuse_book(alloc: Global, fail: BookFail, sets: &Sets) -> Result<Answer, AllocError>
@@ -34,8 +96,8 @@ fn refuse_entries(alloc: Global) -> Result<Answer, AllocError>
     Ok(Answer { status, text })
 }
 
-/// The answer to a linear program that is too large, which has so many inequalities and so many columns.
-pub fn refuse_size(alloc: Global, rows: u64, columns: u64) -> Result<Answer, AllocError>
+// The answer to a linear program that is too large, which has so many inequalities and so many columns.
+fn refuse_size(alloc: Global, rows: u64, columns: u64) -> Result<Answer, AllocError>
     ensures { IfOk result (λ answer. (answer.status ≡ Status.Refused (Refusal.TooLarge rows columns))
         × (answer.text.items ≡ too_large_line rows columns)) }
 {

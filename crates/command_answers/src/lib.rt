@@ -22,7 +22,7 @@ mod stops;
 pub use accepting::{accept, accept_read, acceptance_laws};
 pub use amounts::{push_amount, push_count, push_with_number};
 pub use answer::{Answer, refuse_words};
-pub use books::{refuse_book, refuse_size};
+pub use books::{made_book, refuse_book, refuse_large, sized_book};
 pub use command_words::WordFault;
 pub use lines::{push_trial_stop, stop_line, too_long_line};
 pub use methods::{
@@ -31,7 +31,7 @@ pub use methods::{
 };
 pub use named_members::find_member;
 pub use places::{push_place, push_with_row, push_with_var};
-pub use plan_fault_lines::{multiplier_fault_line, plan_fault_line};
+pub use plan_fault_lines::{multiplier_fault_line, plan_fault_line, proof_fault_line};
 pub use simplex_core::{Stop, TrialStop};
 pub use status::{ReadStop, Refusal, Status};
-pub use stops::{stop_at, stop_at_budget, stop_at_trial};
+pub use stops::{stop_at, stop_at_budget, stop_at_trial, stop_on_book, stop_on_elimination};

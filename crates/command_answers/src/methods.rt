@@ -17,7 +17,7 @@ ghost use Rattle.command_answers.specs.Definers.{definers};
 
 use certified_answers::{Certified, Cost, NoAnswer};
 use decimal_solver::{Found, second};
-use exact_solver::solve_rows;
+use exact_solver::exact;
 use rounded_solver::guessed;
 use row_book::RowBook;
 use row_core::{Stopped, Var};
@@ -86,36 +86,39 @@ pub fn problem_of<'a>(book: &'a RowBook, program: &'a BookProgram) -> Problem<'a
     }
 }
 
-/// Solves the rows of a book by the exact method, with so many pivots at most: as `solve_rows` does.
-pub fn solve_book(alloc: Global, book: &RowBook, pivots: u64) -> Result<Certified, NoAnswer>
+/// Solves the rows of a book, of which this is left, by the exact method, with so many pivots at most.
+pub fn solve_book(
+    alloc: Global,
+    book: &RowBook,
+    program: &BookProgram,
+    pivots: u64,
+) -> Result<Certified, NoAnswer>
+    requires program { IsProgramOf book.now.rows book.now.vars program.now }
+    requires fits { first_wide (elimination_steps book.now.rows (definers book.now.rows)) ≡ None }
     ensures end { IfOk result (λ found. end_seen found ≡ method_end book.now.rows book.now.vars pivots) }
     ensures stopped { IfErr result (IsStopOf (method_end book.now.rows book.now.vars pivots)) }
     ensures proved { IfOk result (IsProved book.now.rows book.now.vars) }
     ensures whole { IfOk result (IsComplete book.now.vars) }
     ensures named { IfOk result (IsNamed book.now.rows) }
 {
-    let defs = definers(alloc, book)?;
-    problem_laws(book);
-    solve_rows(alloc, book.rows(), &defs, book.vars(), pivots)
+    let problem = problem_of(book, program);
+    exact(alloc, &problem, pivots)
 }
 
-/// What guesses give over a book: a plan whose cost is above a proved bound by at most so many millionths of the bound, or that there is
-/// no plan. Each guess may take so many pivots at most. Rows whose defined variables can't be removed have no such answer; when else
-/// there is none isn't defined. Refuses only out of memory.
+/// What guesses give over a book of which this is left: a plan whose cost is above a proved bound by at most so many millionths of the
+/// bound, or that there is no plan. Each guess may take so many pivots at most. When there is no such answer isn't defined. Refuses only
+/// out of memory.
 pub fn guess_book(
     alloc: Global,
     book: &RowBook,
+    program: &BookProgram,
     gap: u32,
     pivots: u64,
 ) -> Result<Option<Certified>, AllocError>
+    requires { IsProgramOf book.now.rows book.now.vars program.now }
     ensures { IfOk result (λ found. IfSome found (IsFoundBy book.now.rows book.now.vars gap pivots)) }
 {
-    let program = match eliminate_book(alloc, book) {
-        Ok(program) => program,
-        Err(Stopped::Width(_)) => return Ok(None),
-        Err(Stopped::Memory) => return Err(AllocError),
-    };
-    let problem = problem_of(book, &program);
+    let problem = problem_of(book, program);
     guessed(alloc, &problem, gap, pivots)
 }
 

@@ -1,7 +1,7 @@
-// The lines that say why a file of a plan, or of multipliers, is refused.
+// The lines that say why a file of a plan, of multipliers, or of a proof is refused.
 ghost use Rattle.std.specs.Prelude.{◌≡◌, ◌++◌, IfOk, OnOk};
 ghost use Rattle.command_answers.specs.PlacesWithin.{FaultIsWithin};
-ghost use Rattle.command_answers.specs.PlanFaultLines.{fault_text, multiplier_fault_line, plan_fault_line, record_fault_text};
+ghost use Rattle.command_answers.specs.PlanFaultLines.{fault_text, multiplier_fault_line, plan_fault_line, proof_fault_line, record_fault_text};
 
 use crate::amounts::push_with_number;
 use crate::places::push_with_var;
@@ -30,6 +30,17 @@ pub fn multiplier_fault_line(
     ensures { IfOk result (λ text. text.items ≡ multiplier_fault_line sets.now fault) }
 {
     let mut text = Vec::from_slice(alloc, b"refused multipliers ")?;
+    push_fault(&mut text, fault, sets)?;
+    text.extend_from_slice(b"\n")?;
+    Ok(text)
+}
+
+/// The line for a rule that the file of a proof breaks: `refused proof record N FAULT` or `refused proof Missing VAR`.
+pub fn proof_fault_line(alloc: Global, fault: PlanFault, sets: &Sets) -> Result<Vec<u8>, AllocError>
+    requires { FaultIsWithin sets.now fault }
+    ensures { IfOk result (λ text. text.items ≡ proof_fault_line sets.now fault) }
+{
+    let mut text = Vec::from_slice(alloc, b"refused proof ")?;
     push_fault(&mut text, fault, sets)?;
     text.extend_from_slice(b"\n")?;
     Ok(text)

@@ -48,6 +48,8 @@ pub enum Refusal {
     PlanFile(PlanFault),
     /// The file of multipliers breaks this rule first.
     MultiplierFile(PlanFault),
+    /// The file of a proof breaks this rule first.
+    ProofFile(PlanFault),
     /// The file of this number has more than 64 MiB.
     TooLong(u8),
     /// The rows of the equations have more than 4,000,000 entries.

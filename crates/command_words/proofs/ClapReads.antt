@@ -13,7 +13,7 @@ use Rattle.clap.specs.Faults.{default_fault, defaults_fault, fault_of, walk_faul
 use Rattle.clap.proofs.FaultLemmas.{leaf_fault}
 use Rattle.command_words.specs.ClapWords.{app, clap_rows, is_fault}
 use Rattle.command_words.specs.Words.{files_in, values_in}
-use Rattle.command_words.specs.WordParts.{OptionName, Gap, Pivots, Places, Show, Method, Slack, Part, File, Chosen, parts_from, parts_of}
+use Rattle.command_words.specs.WordParts.{OptionName, Gap, Pivots, Places, Show, Method, Slack, Proof, Part, File, Chosen, parts_from, parts_of}
 use Rattle.command_words.specs.WordReading.{Given, given_by}
 use Rattle.command_words.proofs.ClapTurns.{at, chosen, file, id_of, rules, settling, shape}
 use Rattle.command_words.proofs.ClapOptions.{or_else_nil}
@@ -33,9 +33,9 @@ all_values o value parts = earlier value ++ values_in o parts
 abbrev is_one : List Text → Bool
 is_one values = nat_le (length values) 1
 
-abbrev together : List Text → Option Text → Option Text → Option Text → Option Text → Option Text → Option Text → List Part → Option Given
-together files gap pivots places show method slack parts =
-    cond (is_one (all_values Gap gap parts) && is_one (all_values Pivots pivots parts) && is_one (all_values Places places parts) && is_one (all_values Show show parts) && is_one (all_values Method method parts) && is_one (all_values Slack slack parts))
+abbrev together : List Text → Option Text → Option Text → Option Text → Option Text → Option Text → Option Text → Option Text → List Part → Option Given
+together files gap pivots places show method slack proof parts =
+    cond (is_one (all_values Gap gap parts) && is_one (all_values Pivots pivots parts) && is_one (all_values Places places parts) && is_one (all_values Show show parts) && is_one (all_values Method method parts) && is_one (all_values Slack slack parts) && is_one (all_values Proof proof parts))
     (Some (record {
       files = files ++ files_in parts;
       gap = slice_get (all_values Gap gap parts) 0;
@@ -44,6 +44,7 @@ together files gap pivots places show method slack parts =
       show = slice_get (all_values Show show parts) 0;
       method = slice_get (all_values Method method parts) 0;
       slack = slice_get (all_values Slack slack parts) 0;
+      proof = slice_get (all_values Proof proof parts) 0;
     })) None
 
 two_are_not_one : (x y : Text) (zs : List Text) → is_one (x ∷ y ∷ zs) ≡ false
@@ -62,40 +63,43 @@ still : (value : Option Text) → slice_get (earlier value ++ []) 0 ≡ value
 still None = refl
 still (Some value) = refl
 
-gathered_all : (files : List Text) (gap pivots places show method slack : Option Text)
-    → Some (record { files = files; gap = gap; pivots = pivots; places = places; show = show; method = method; slack = slack }) ≡ together files gap pivots places show method slack []
-gathered_all files gap pivots places show method slack =
-    rw (no_more gap, no_more pivots, no_more places, no_more show, no_more method, no_more slack, still gap, still pivots, still places, still show, still method, still slack, append-nil files) refl
+gathered_all : (files : List Text) (gap pivots places show method slack proof : Option Text)
+    → Some (record { files = files; gap = gap; pivots = pivots; places = places; show = show; method = method; slack = slack; proof = proof }) ≡ together files gap pivots places show method slack proof []
+gathered_all files gap pivots places show method slack proof =
+    rw (no_more gap, no_more pivots, no_more places, no_more show, no_more method, no_more slack, no_more proof, still gap, still pivots, still places, still show, still method, still slack, still proof, append-nil files) refl
 
-gathered_is : (parts : List Part) (files : List Text) (gap pivots places show method slack : Option Text)
-    → gathered (record { files = files; gap = gap; pivots = pivots; places = places; show = show; method = method; slack = slack }) parts ≡ together files gap pivots places show method slack parts
-gathered_is [] files gap pivots places show method slack = gathered_all files gap pivots places show method slack
-gathered_is (File name ∷ parts) files gap pivots places show method slack =
-    gathered_is parts (files ++ name ∷ []) gap pivots places show method slack
-    ∙ ap (λ all. cond (is_one (all_values Gap gap parts) && is_one (all_values Pivots pivots parts) && is_one (all_values Places places parts) && is_one (all_values Show show parts) && is_one (all_values Method method parts) && is_one (all_values Slack slack parts))
-    (Some (record { files = all; gap = slice_get (all_values Gap gap parts) 0; pivots = slice_get (all_values Pivots pivots parts) 0; places = slice_get (all_values Places places parts) 0; show = slice_get (all_values Show show parts) 0; method = slice_get (all_values Method method parts) 0; slack = slice_get (all_values Slack slack parts) 0 })) None)
+gathered_is : (parts : List Part) (files : List Text) (gap pivots places show method slack proof : Option Text)
+    → gathered (record { files = files; gap = gap; pivots = pivots; places = places; show = show; method = method; slack = slack; proof = proof }) parts ≡ together files gap pivots places show method slack proof parts
+gathered_is [] files gap pivots places show method slack proof = gathered_all files gap pivots places show method slack proof
+gathered_is (File name ∷ parts) files gap pivots places show method slack proof =
+    gathered_is parts (files ++ name ∷ []) gap pivots places show method slack proof
+    ∙ ap (λ all. cond (is_one (all_values Gap gap parts) && is_one (all_values Pivots pivots parts) && is_one (all_values Places places parts) && is_one (all_values Show show parts) && is_one (all_values Method method parts) && is_one (all_values Slack slack parts) && is_one (all_values Proof proof parts))
+    (Some (record { files = all; gap = slice_get (all_values Gap gap parts) 0; pivots = slice_get (all_values Pivots pivots parts) 0; places = slice_get (all_values Places places parts) 0; show = slice_get (all_values Show show parts) 0; method = slice_get (all_values Method method parts) 0; slack = slice_get (all_values Slack slack parts) 0; proof = slice_get (all_values Proof proof parts) 0 })) None)
     (append_assoc files (name ∷ []) (files_in parts))
-gathered_is (Chosen Gap value ∷ parts) files None pivots places show method slack = gathered_is parts files (Some value) pivots places show method slack
-gathered_is (Chosen Gap value ∷ parts) files (Some a) pivots places show method slack = rw (two_are_not_one a value (values_in Gap parts)) refl
-gathered_is (Chosen Pivots value ∷ parts) files gap None places show method slack = gathered_is parts files gap (Some value) places show method slack
-gathered_is (Chosen Pivots value ∷ parts) files gap (Some b) places show method slack =
+gathered_is (Chosen Gap value ∷ parts) files None pivots places show method slack proof = gathered_is parts files (Some value) pivots places show method slack proof
+gathered_is (Chosen Gap value ∷ parts) files (Some a) pivots places show method slack proof = rw (two_are_not_one a value (values_in Gap parts)) refl
+gathered_is (Chosen Pivots value ∷ parts) files gap None places show method slack proof = gathered_is parts files gap (Some value) places show method slack proof
+gathered_is (Chosen Pivots value ∷ parts) files gap (Some b) places show method slack proof =
     rw (two_are_not_one b value (values_in Pivots parts), second_false (is_one (all_values Gap gap parts))) refl
-gathered_is (Chosen Places value ∷ parts) files gap pivots None show method slack = gathered_is parts files gap pivots (Some value) show method slack
-gathered_is (Chosen Places value ∷ parts) files gap pivots (Some c) show method slack =
+gathered_is (Chosen Places value ∷ parts) files gap pivots None show method slack proof = gathered_is parts files gap pivots (Some value) show method slack proof
+gathered_is (Chosen Places value ∷ parts) files gap pivots (Some c) show method slack proof =
     rw (two_are_not_one c value (values_in Places parts), second_false (is_one (all_values Gap gap parts) && is_one (all_values Pivots pivots parts))) refl
-gathered_is (Chosen Show value ∷ parts) files gap pivots places None method slack = gathered_is parts files gap pivots places (Some value) method slack
-gathered_is (Chosen Show value ∷ parts) files gap pivots places (Some d) method slack =
+gathered_is (Chosen Show value ∷ parts) files gap pivots places None method slack proof = gathered_is parts files gap pivots places (Some value) method slack proof
+gathered_is (Chosen Show value ∷ parts) files gap pivots places (Some d) method slack proof =
     rw (two_are_not_one d value (values_in Show parts), second_false (is_one (all_values Gap gap parts) && is_one (all_values Pivots pivots parts) && is_one (all_values Places places parts))) refl
-gathered_is (Chosen Method value ∷ parts) files gap pivots places show None slack = gathered_is parts files gap pivots places show (Some value) slack
-gathered_is (Chosen Method value ∷ parts) files gap pivots places show (Some e) slack =
+gathered_is (Chosen Method value ∷ parts) files gap pivots places show None slack proof = gathered_is parts files gap pivots places show (Some value) slack proof
+gathered_is (Chosen Method value ∷ parts) files gap pivots places show (Some e) slack proof =
     rw (two_are_not_one e value (values_in Method parts), second_false (is_one (all_values Gap gap parts) && is_one (all_values Pivots pivots parts) && is_one (all_values Places places parts) && is_one (all_values Show show parts))) refl
-gathered_is (Chosen Slack value ∷ parts) files gap pivots places show method None = gathered_is parts files gap pivots places show method (Some value)
-gathered_is (Chosen Slack value ∷ parts) files gap pivots places show method (Some f) =
+gathered_is (Chosen Slack value ∷ parts) files gap pivots places show method None proof = gathered_is parts files gap pivots places show method (Some value) proof
+gathered_is (Chosen Slack value ∷ parts) files gap pivots places show method (Some f) proof =
     rw (two_are_not_one f value (values_in Slack parts), second_false (is_one (all_values Gap gap parts) && is_one (all_values Pivots pivots parts) && is_one (all_values Places places parts) && is_one (all_values Show show parts) && is_one (all_values Method method parts))) refl
+gathered_is (Chosen Proof value ∷ parts) files gap pivots places show method slack None = gathered_is parts files gap pivots places show method slack (Some value)
+gathered_is (Chosen Proof value ∷ parts) files gap pivots places show method slack (Some g) =
+    rw (two_are_not_one g value (values_in Proof parts), second_false (is_one (all_values Gap gap parts) && is_one (all_values Pivots pivots parts) && is_one (all_values Places places parts) && is_one (all_values Show show parts) && is_one (all_values Method method parts) && is_one (all_values Slack slack parts))) refl
 
 gathers_is : (parts : Option (List Part)) → gathers nothing_given parts ≡ given_by parts
 gathers_is None = refl
-gathers_is (Some parts) = gathered_is parts [] None None None None None None
+gathers_is (Some parts) = gathered_is parts [] None None None None None None None
 
 -- ---- what clap's rows give
 
@@ -108,6 +112,7 @@ given_rows rows = record {
   show = first_of (codes "show") rows;
   method = first_of (codes "method") rows;
   slack = first_of (codes "slack") rows;
+  proof = first_of (codes "proof") rows;
 }
 
 first_is : (id : Text) (rows : List Row) → first_of id rows ≡ option_and_then (λ values. slice_get values 0) (all_of id rows)
@@ -118,7 +123,7 @@ first_is id rows = go (find (λ r. bytes_eq r.id id) rows)
     go (Some r) = refl
 
 says_is : (rows : List Row) (g : Given) → Says rows g → given_rows rows ≡ g
-says_is rows g s = λ i. record { files = files i; gap = value Gap i; pivots = value Pivots i; places = value Places i; show = value Show i; method = value Method i; slack = value Slack i }
+says_is rows g s = λ i. record { files = files i; gap = value Gap i; pivots = value Pivots i; places = value Places i; show = value Show i; method = value Method i; slack = value Slack i; proof = value Proof i }
   where
     unlisted : (xs : List Text) → unwrap_or (listed xs) [] ≡ xs
     unlisted [] = refl
@@ -155,6 +160,7 @@ no_default rows = (rw (either (has_row (codes "file") rows)) refl, of)
     of Show = rw (either (has_row (codes "show") rows)) refl
     of Method = rw (either (has_row (codes "method") rows)) refl
     of Slack = rw (either (has_row (codes "slack") rows)) refl
+    of Proof = rw (either (has_row (codes "proof") rows)) refl
 
 no_defaults : (rows : List Row) → defaults_fault rows rules ≡ []
 unfolding defaults_fault
@@ -165,18 +171,20 @@ no_defaults rows =
     let after_places = with_default after_pivots (chosen Places) in
     let after_show = with_default after_places (chosen Show) in
     let after_method = with_default after_show (chosen Method) in
+    let after_slack = with_default after_method (chosen Slack) in
     ap₂ or_else (no_default rows).0
-    (ap₂ or_else ((no_default after_file).1 Gap) (ap₂ or_else ((no_default after_gap).1 Pivots) (ap₂ or_else ((no_default after_pivots).1 Places) (ap₂ or_else ((no_default after_places).1 Show) (ap₂ or_else ((no_default after_show).1 Method) (ap₂ or_else ((no_default after_method).1 Slack) refl))))))
+    (ap₂ or_else ((no_default after_file).1 Gap) (ap₂ or_else ((no_default after_gap).1 Pivots) (ap₂ or_else ((no_default after_pivots).1 Places) (ap₂ or_else ((no_default after_places).1 Show) (ap₂ or_else ((no_default after_show).1 Method) (ap₂ or_else ((no_default after_method).1 Slack) (ap₂ or_else ((no_default after_slack).1 Proof) refl)))))))
 
 kept : (rows : List Row) → fold with_default rows rules ≡ rows
 kept rows =
-    ap (λ r. with_default (with_default (with_default (with_default (with_default (with_default r (chosen Gap)) (chosen Pivots)) (chosen Places)) (chosen Show)) (chosen Method)) (chosen Slack)) (both_same (has_row (codes "file") rows) rows)
-    ∙ ap (λ r. with_default (with_default (with_default (with_default (with_default r (chosen Pivots)) (chosen Places)) (chosen Show)) (chosen Method)) (chosen Slack)) (both_same (has_row (codes "gap") rows) rows)
-    ∙ ap (λ r. with_default (with_default (with_default (with_default r (chosen Places)) (chosen Show)) (chosen Method)) (chosen Slack)) (both_same (has_row (codes "pivots") rows) rows)
-    ∙ ap (λ r. with_default (with_default (with_default r (chosen Show)) (chosen Method)) (chosen Slack)) (both_same (has_row (codes "places") rows) rows)
-    ∙ ap (λ r. with_default (with_default r (chosen Method)) (chosen Slack)) (both_same (has_row (codes "show") rows) rows)
-    ∙ ap (λ r. with_default r (chosen Slack)) (both_same (has_row (codes "method") rows) rows)
-    ∙ both_same (has_row (codes "slack") rows) rows
+    ap (λ r. with_default (with_default (with_default (with_default (with_default (with_default (with_default r (chosen Gap)) (chosen Pivots)) (chosen Places)) (chosen Show)) (chosen Method)) (chosen Slack)) (chosen Proof)) (both_same (has_row (codes "file") rows) rows)
+    ∙ ap (λ r. with_default (with_default (with_default (with_default (with_default (with_default r (chosen Pivots)) (chosen Places)) (chosen Show)) (chosen Method)) (chosen Slack)) (chosen Proof)) (both_same (has_row (codes "gap") rows) rows)
+    ∙ ap (λ r. with_default (with_default (with_default (with_default (with_default r (chosen Places)) (chosen Show)) (chosen Method)) (chosen Slack)) (chosen Proof)) (both_same (has_row (codes "pivots") rows) rows)
+    ∙ ap (λ r. with_default (with_default (with_default (with_default r (chosen Show)) (chosen Method)) (chosen Slack)) (chosen Proof)) (both_same (has_row (codes "places") rows) rows)
+    ∙ ap (λ r. with_default (with_default (with_default r (chosen Method)) (chosen Slack)) (chosen Proof)) (both_same (has_row (codes "show") rows) rows)
+    ∙ ap (λ r. with_default (with_default r (chosen Slack)) (chosen Proof)) (both_same (has_row (codes "method") rows) rows)
+    ∙ ap (λ r. with_default r (chosen Proof)) (both_same (has_row (codes "slack") rows) rows)
+    ∙ both_same (has_row (codes "proof") rows) rows
 
 fault_is : (words : List Text) → fault_of app words ≡ faults (at nothing_held idle) words
 fault_is words =

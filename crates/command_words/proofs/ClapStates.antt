@@ -4,7 +4,7 @@ use Rattle.std.specs.Prelude.{codes, unwrap_or}
 use Rattle.std.specs.Str.{bytes_eq}
 use Rattle.clap.specs.Walk.{Held, Row, Text, all_of, has_row, nothing_held, reading_by, settled, used, with_values}
 use Rattle.clap.specs.declared.parser.matches.ValueSource.TheVariants.{CommandLine}
-use Rattle.command_words.specs.WordParts.{OptionName, Gap, Pivots, Places, Show, Method, Slack}
+use Rattle.command_words.specs.WordParts.{OptionName, Gap, Pivots, Places, Show, Method, Slack, Proof}
 use Rattle.command_words.specs.WordReading.{Given}
 use Rattle.command_words.proofs.ClapRows.{added_here, added_elsewhere, has_row_is, without_none}
 use Rattle.command_words.proofs.ClapTurns.{chosen, file, id_of, rules, settling, with_due, with_file, with_joined, with_value}
@@ -13,7 +13,7 @@ use Rattle.command_words.proofs.ClapOptions.{Fails, using}
 -- ---- what was given so far
 
 abbrev pub nothing_given : Given
-nothing_given = record { files = []; gap = None; pivots = None; places = None; show = None; method = None; slack = None }
+nothing_given = record { files = []; gap = None; pivots = None; places = None; show = None; method = None; slack = None; proof = None }
 
 -- the value of an option
 abbrev pub value_of : OptionName → Given → Option Text
@@ -23,6 +23,7 @@ value_of Places g = g.places
 value_of Show g = g.show
 value_of Method g = g.method
 value_of Slack g = g.slack
+value_of Proof g = g.proof
 
 -- with one more file
 abbrev pub file_added : Text → Given → Given
@@ -36,6 +37,7 @@ value_added Places value g = record g { places = Some value }
 value_added Show value g = record g { show = Some value }
 value_added Method value g = record g { method = Some value }
 value_added Slack value g = record g { slack = Some value }
+value_added Proof value g = record g { proof = Some value }
 
 -- ---- clap's rows
 
@@ -60,6 +62,7 @@ same_id Places = refl
 same_id Show = refl
 same_id Method = refl
 same_id Slack = refl
+same_id Proof = refl
 
 file_apart : (o : OptionName) → bytes_eq (codes "file") (id_of o) ≡ false
 file_apart Gap = refl
@@ -68,6 +71,7 @@ file_apart Places = refl
 file_apart Show = refl
 file_apart Method = refl
 file_apart Slack = refl
+file_apart Proof = refl
 
 apart_file : (o : OptionName) → bytes_eq (id_of o) (codes "file") ≡ false
 apart_file Gap = refl
@@ -76,6 +80,7 @@ apart_file Places = refl
 apart_file Show = refl
 apart_file Method = refl
 apart_file Slack = refl
+apart_file Proof = refl
 
 -- after one more file
 pub says_file : (rows : List Row) (g : Given) (name : Text) → Says rows g → Says (used file (name ∷ []) rows) (file_added name g)
@@ -91,6 +96,7 @@ says_file rows g name s = record {
     stays Show = refl
     stays Method = refl
     stays Slack = refl
+    stays Proof = refl
 
 -- an option that wasn't given has no row
 no_row : (rows : List Row) (g : Given) (o : OptionName) → Says rows g → value_of o g ≡ None → has_row (id_of o) rows ≡ false
@@ -104,6 +110,7 @@ first_value rows g Places value s none = rw (no_row rows g Places s none) refl
 first_value rows g Show value s none = rw (no_row rows g Show s none) refl
 first_value rows g Method value s none = rw (no_row rows g Method s none) refl
 first_value rows g Slack value s none = rw (no_row rows g Slack s none) refl
+first_value rows g Proof value s none = rw (no_row rows g Proof s none) refl
 
 -- and a second one is
 pub second_value : (rows : List Row) (g : Given) (o : OptionName) (value first : Text) → Says rows g → value_of o g ≡ Some first → Fails (using o value rows)
@@ -119,6 +126,7 @@ second_value rows g o value first s given = go o given
     go Show given = rw (row Show given) refl
     go Method given = rw (row Method given) refl
     go Slack given = rw (row Slack given) refl
+    go Proof given = rw (row Proof given) refl
 
 module _ (rows : List Row) (g : Given) (value : Text) (s : Says rows g) where
   -- the option's own row, and another one
@@ -144,6 +152,7 @@ module _ (rows : List Row) (g : Given) (value : Text) (s : Says rows g) where
       files Show none = other_row Show (codes "file") none refl ∙ s.files
       files Method none = other_row Method (codes "file") none refl ∙ s.files
       files Slack none = other_row Slack (codes "file") none refl ∙ s.files
+      files Proof none = other_row Proof (codes "file") none refl ∙ s.files
 
       options : (o : OptionName) → value_of o g ≡ None → (other : OptionName)
           → all_of (id_of other) (used (chosen o) (value ∷ []) rows) ≡ option_map (λ value. value ∷ []) (value_of other (value_added o value g))
@@ -153,36 +162,49 @@ module _ (rows : List Row) (g : Given) (value : Text) (s : Says rows g) where
       options Gap none Show = other_row Gap (id_of Show) none refl ∙ s.options Show
       options Gap none Method = other_row Gap (id_of Method) none refl ∙ s.options Method
       options Gap none Slack = other_row Gap (id_of Slack) none refl ∙ s.options Slack
+      options Gap none Proof = other_row Gap (id_of Proof) none refl ∙ s.options Proof
       options Pivots none Gap = other_row Pivots (id_of Gap) none refl ∙ s.options Gap
       options Pivots none Pivots = own_row Pivots none
       options Pivots none Places = other_row Pivots (id_of Places) none refl ∙ s.options Places
       options Pivots none Show = other_row Pivots (id_of Show) none refl ∙ s.options Show
       options Pivots none Method = other_row Pivots (id_of Method) none refl ∙ s.options Method
       options Pivots none Slack = other_row Pivots (id_of Slack) none refl ∙ s.options Slack
+      options Pivots none Proof = other_row Pivots (id_of Proof) none refl ∙ s.options Proof
       options Places none Gap = other_row Places (id_of Gap) none refl ∙ s.options Gap
       options Places none Pivots = other_row Places (id_of Pivots) none refl ∙ s.options Pivots
       options Places none Places = own_row Places none
       options Places none Show = other_row Places (id_of Show) none refl ∙ s.options Show
       options Places none Method = other_row Places (id_of Method) none refl ∙ s.options Method
       options Places none Slack = other_row Places (id_of Slack) none refl ∙ s.options Slack
+      options Places none Proof = other_row Places (id_of Proof) none refl ∙ s.options Proof
       options Show none Gap = other_row Show (id_of Gap) none refl ∙ s.options Gap
       options Show none Pivots = other_row Show (id_of Pivots) none refl ∙ s.options Pivots
       options Show none Places = other_row Show (id_of Places) none refl ∙ s.options Places
       options Show none Show = own_row Show none
       options Show none Method = other_row Show (id_of Method) none refl ∙ s.options Method
       options Show none Slack = other_row Show (id_of Slack) none refl ∙ s.options Slack
+      options Show none Proof = other_row Show (id_of Proof) none refl ∙ s.options Proof
       options Method none Gap = other_row Method (id_of Gap) none refl ∙ s.options Gap
       options Method none Pivots = other_row Method (id_of Pivots) none refl ∙ s.options Pivots
       options Method none Places = other_row Method (id_of Places) none refl ∙ s.options Places
       options Method none Show = other_row Method (id_of Show) none refl ∙ s.options Show
       options Method none Method = own_row Method none
       options Method none Slack = other_row Method (id_of Slack) none refl ∙ s.options Slack
+      options Method none Proof = other_row Method (id_of Proof) none refl ∙ s.options Proof
       options Slack none Gap = other_row Slack (id_of Gap) none refl ∙ s.options Gap
       options Slack none Pivots = other_row Slack (id_of Pivots) none refl ∙ s.options Pivots
       options Slack none Places = other_row Slack (id_of Places) none refl ∙ s.options Places
       options Slack none Show = other_row Slack (id_of Show) none refl ∙ s.options Show
       options Slack none Method = other_row Slack (id_of Method) none refl ∙ s.options Method
       options Slack none Slack = own_row Slack none
+      options Slack none Proof = other_row Slack (id_of Proof) none refl ∙ s.options Proof
+      options Proof none Gap = other_row Proof (id_of Gap) none refl ∙ s.options Gap
+      options Proof none Pivots = other_row Proof (id_of Pivots) none refl ∙ s.options Pivots
+      options Proof none Places = other_row Proof (id_of Places) none refl ∙ s.options Places
+      options Proof none Show = other_row Proof (id_of Show) none refl ∙ s.options Show
+      options Proof none Method = other_row Proof (id_of Method) none refl ∙ s.options Method
+      options Proof none Slack = other_row Proof (id_of Slack) none refl ∙ s.options Slack
+      options Proof none Proof = own_row Proof none
 
 -- ---- what is held
 
@@ -205,6 +227,7 @@ settle_value h Places value = refl
 settle_value h Show value = refl
 settle_value h Method value = refl
 settle_value h Slack value = refl
+settle_value h Proof value = refl
 
 settled_value : (h : Held) (o : OptionName) (value : Text) → (settled rules (with_value o value h)).rows ≡ used (chosen o) (value ∷ []) (settled rules h).rows
 settled_value h Gap value = refl
@@ -213,6 +236,7 @@ settled_value h Places value = refl
 settled_value h Show value = refl
 settled_value h Method value = refl
 settled_value h Slack value = refl
+settled_value h Proof value = refl
 
 pub fine_value : (h : Held) (g : Given) (o : OptionName) (value : Text) → IsFine h g → value_of o g ≡ None → IsFine (with_value o value h) (value_added o value g)
 fine_value h g o value fine none = record {
@@ -229,6 +253,7 @@ due_fails h Places = refl
 due_fails h Show = refl
 due_fails h Method = refl
 due_fails h Slack = refl
+due_fails h Proof = refl
 
 pub fine_start : IsFine nothing_held nothing_given
 fine_start = record { skip = refl; settles = refl; says = record { files = refl; options = none } }
@@ -240,3 +265,4 @@ fine_start = record { skip = refl; settles = refl; says = record { files = refl;
     none Show = refl
     none Method = refl
     none Slack = refl
+    none Proof = refl

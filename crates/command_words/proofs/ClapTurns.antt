@@ -9,7 +9,7 @@ use Rattle.clap.specs.Kinds.{Kinds}
 use Rattle.clap.specs.Faults.{settle_fault, turn_fault}
 use Rattle.clap.specs.declared.builder.value_parser.ValueParser.TheVariants as vp
 use Rattle.command_words.specs.ClapWords.{app, file_rule, option_rule}
-use Rattle.command_words.specs.WordParts.{OptionName, Gap, Pivots, Places, Show, Method, Slack, is_option}
+use Rattle.command_words.specs.WordParts.{OptionName, Gap, Pivots, Places, Show, Method, Slack, Proof, is_option}
 
 -- what building makes of an argument: one value a use
 abbrev filled_with : Rule → Option ℕ → Rule
@@ -26,12 +26,13 @@ id_of Places = codes "places"
 id_of Show = codes "show"
 id_of Method = codes "method"
 id_of Slack = codes "slack"
+id_of Proof = codes "proof"
 
 abbrev pub chosen : OptionName → Rule
 chosen o = filled_with (option_rule (id_of o)) None
 
 abbrev pub rules : List Rule
-rules = file ∷ chosen Gap ∷ chosen Pivots ∷ chosen Places ∷ chosen Show ∷ chosen Method ∷ chosen Slack ∷ []
+rules = file ∷ chosen Gap ∷ chosen Pivots ∷ chosen Places ∷ chosen Show ∷ chosen Method ∷ chosen Slack ∷ chosen Proof ∷ []
 
 abbrev pub shape : Shape
 shape = record (built app).top { rules = rules }
@@ -147,6 +148,7 @@ value_turn Places word h e = let p = is_plain word e in rw (p.no_end, p.no_long,
 value_turn Show word h e = let p = is_plain word e in rw (p.no_end, p.no_long, p.no_short) refl
 value_turn Method word h e = let p = is_plain word e in rw (p.no_end, p.no_long, p.no_short) refl
 value_turn Slack word h e = let p = is_plain word e in rw (p.no_end, p.no_long, p.no_short) refl
+value_turn Proof word h e = let p = is_plain word e in rw (p.no_end, p.no_long, p.no_short) refl
 
 pub value_next : (o : OptionName) (word : Text) (h : Held) → is_option word ≡ false → next (due o h) word ≡ at (with_value o word h) idle
 unfolding walked
@@ -156,3 +158,4 @@ value_next Places word h e = let p = is_plain word e in rw (p.no_end, p.no_long,
 value_next Show word h e = let p = is_plain word e in rw (p.no_end, p.no_long, p.no_short) refl
 value_next Method word h e = let p = is_plain word e in rw (p.no_end, p.no_long, p.no_short) refl
 value_next Slack word h e = let p = is_plain word e in rw (p.no_end, p.no_long, p.no_short) refl
+value_next Proof word h e = let p = is_plain word e in rw (p.no_end, p.no_long, p.no_short) refl

@@ -9,6 +9,7 @@ mod FurtherExamples
 mod GivenParts
 pub mod LimitLaws
 mod LimitTurns
+mod ProofWords
 pub mod Requests
 mod WordExamples
 mod WordSpelling

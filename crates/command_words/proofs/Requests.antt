@@ -14,8 +14,8 @@ use Rattle.command_words.specs.declared.command.SolveShow.{SolveShow}
 use Rattle.command_words.specs.declared.command.SolveMethod.{SolveMethod}
 use Rattle.command_words.specs.LimitLists.{AreLimits, limits_of}
 use Rattle.command_words.proofs.LimitLaws.{AreLimitsIfRead, are_limits}
-use Rattle.command_words.specs.Words.{Request, Check, Mps, Solve, Explain, Curve, Span, Make, CommandName, MpsName, CheckName, SolveName, ExplainName, CurveName, SpanName, MakeName, allows_all, check_of, command_after, command_named, command_of, command_with, asked, curve_of, explain_of, files_in, make_of, mps_of, or_fault, solve_of, span_of, value_in}
-use Rattle.command_words.specs.WordParts.{Gap, Pivots, Places, Show, Method, Slack, Part, parts_of}
+use Rattle.command_words.specs.Words.{Request, Check, CheckProof, Mps, Solve, Explain, Curve, Span, Make, CommandName, MpsName, CheckName, SolveName, ExplainName, CurveName, SpanName, MakeName, allows_all, check_of, check_proof_of, command_after, command_named, command_of, command_with, asked, curve_of, explain_of, files_in, make_of, mps_of, or_fault, solve_of, span_of, value_in}
+use Rattle.command_words.specs.WordParts.{Gap, Pivots, Places, Show, Method, Slack, Proof, Part, parts_of}
 use Rattle.command_words.specs.WordValues.{gap_for, gap_of, make_show_of, method_of, pivots_of, places_of, size_of, solve_show_of}
 
 -- the size of a made file
@@ -26,6 +26,7 @@ IsSize size = (3 ≤ size) × (size ≤ 122)
 abbrev IsInRange : Result Request WordFault → Type 0
 IsInRange (Ok (Mps file places)) = IsPlaces places
 IsInRange (Ok (Check file plan multipliers gap places)) = IsPlaces places
+IsInRange (Ok (CheckProof file proof gap places)) = IsPlaces places
 IsInRange (Ok (Solve file gap pivots places show method)) = IsPlaces places
 IsInRange (Ok (Explain file pivots places method)) = IsPlaces places
 IsInRange (Ok (Curve file region emission limits gap pivots places method)) = IsPlaces places × AreLimits limits
@@ -80,6 +81,14 @@ of_check file plan multipliers gap value = go (gap_of gap) (places_of value) (is
     go (Some n) None alone one = tt
     go (Some n) (Some places) true one = tt
     go (Some n) (Some places) false one = one
+
+of_check_proof : (file proof : List ℕ) (gap value : Option (List ℕ)) → IsInRange (check_proof_of file proof gap value)
+of_check_proof file proof gap value = go (gap_of gap) (places_of value) (places-one value)
+  where
+    go : (ppm found : Option ℕ) → IsOne found → IsInRange (or_fault BadNumber ppm (λ n. or_fault BadNumber found (λ decimals. Ok (CheckProof file proof n decimals))))
+    go None found one = tt
+    go (Some n) None one = tt
+    go (Some n) (Some places) one = one
 
 of_solve : (file : List ℕ) (gap pivots value show method : Option (List ℕ)) → IsInRange (solve_of file gap pivots value show method)
 of_solve file gap pivots value show method = go (gap_of gap) (pivots_of pivots) (places_of value) (solve_show_of show) (method_of method) (places-one value)
@@ -138,56 +147,61 @@ of_make size show = go (size_of size) (make_show_of show) (size-one size)
     go (Some n) None one = tt
     go (Some n) (Some s) one = one
 
-of_mps_files : (files : List (List ℕ)) (gap pivots value show method slack : Option (List ℕ)) → IsInRange (command_of MpsName files gap pivots value show method slack)
-of_mps_files [] gap pivots value show method slack = tt
-of_mps_files (file ∷ []) gap pivots value show method slack = of_mps file value
-of_mps_files (file ∷ other ∷ files) gap pivots value show method slack = tt
+of_mps_files : (files : List (List ℕ)) (gap pivots value show method slack proof : Option (List ℕ)) → IsInRange (command_of MpsName files gap pivots value show method slack proof)
+of_mps_files [] gap pivots value show method slack proof = tt
+of_mps_files (file ∷ []) gap pivots value show method slack proof = of_mps file value
+of_mps_files (file ∷ other ∷ files) gap pivots value show method slack proof = tt
 
-of_check_files : (files : List (List ℕ)) (gap pivots value show method slack : Option (List ℕ)) → IsInRange (command_of CheckName files gap pivots value show method slack)
-of_check_files [] gap pivots value show method slack = tt
-of_check_files (file ∷ []) gap pivots value show method slack = tt
-of_check_files (file ∷ plan ∷ []) gap pivots value show method slack = of_check file plan None gap value
-of_check_files (file ∷ plan ∷ multipliers ∷ []) gap pivots value show method slack = of_check file plan (Some multipliers) gap value
-of_check_files (file ∷ plan ∷ multipliers ∷ other ∷ files) gap pivots value show method slack = tt
+of_check_files : (files : List (List ℕ)) (gap pivots value show method slack proof : Option (List ℕ)) → IsInRange (command_of CheckName files gap pivots value show method slack proof)
+of_check_files [] gap pivots value show method slack None = tt
+of_check_files [] gap pivots value show method slack (Some proof) = tt
+of_check_files (file ∷ []) gap pivots value show method slack None = tt
+of_check_files (file ∷ []) gap pivots value show method slack (Some proof) = of_check_proof file proof gap value
+of_check_files (file ∷ plan ∷ []) gap pivots value show method slack None = of_check file plan None gap value
+of_check_files (file ∷ plan ∷ []) gap pivots value show method slack (Some proof) = tt
+of_check_files (file ∷ plan ∷ multipliers ∷ []) gap pivots value show method slack None = of_check file plan (Some multipliers) gap value
+of_check_files (file ∷ plan ∷ multipliers ∷ []) gap pivots value show method slack (Some proof) = tt
+of_check_files (file ∷ plan ∷ multipliers ∷ other ∷ files) gap pivots value show method slack None = tt
+of_check_files (file ∷ plan ∷ multipliers ∷ other ∷ files) gap pivots value show method slack (Some proof) = tt
 
-of_solve_files : (files : List (List ℕ)) (gap pivots value show method slack : Option (List ℕ)) → IsInRange (command_of SolveName files gap pivots value show method slack)
-of_solve_files [] gap pivots value show method slack = tt
-of_solve_files (file ∷ []) gap pivots value show method slack = of_solve file gap pivots value show method
-of_solve_files (file ∷ other ∷ files) gap pivots value show method slack = tt
+of_solve_files : (files : List (List ℕ)) (gap pivots value show method slack proof : Option (List ℕ)) → IsInRange (command_of SolveName files gap pivots value show method slack proof)
+of_solve_files [] gap pivots value show method slack proof = tt
+of_solve_files (file ∷ []) gap pivots value show method slack proof = of_solve file gap pivots value show method
+of_solve_files (file ∷ other ∷ files) gap pivots value show method slack proof = tt
 
-of_explain_files : (files : List (List ℕ)) (gap pivots value show method slack : Option (List ℕ)) → IsInRange (command_of ExplainName files gap pivots value show method slack)
-of_explain_files [] gap pivots value show method slack = tt
-of_explain_files (file ∷ []) gap pivots value show method slack = of_explain file pivots value method
-of_explain_files (file ∷ other ∷ files) gap pivots value show method slack = tt
+of_explain_files : (files : List (List ℕ)) (gap pivots value show method slack proof : Option (List ℕ)) → IsInRange (command_of ExplainName files gap pivots value show method slack proof)
+of_explain_files [] gap pivots value show method slack proof = tt
+of_explain_files (file ∷ []) gap pivots value show method slack proof = of_explain file pivots value method
+of_explain_files (file ∷ other ∷ files) gap pivots value show method slack proof = tt
 
-of_curve_files : (files : List (List ℕ)) (gap pivots value show method slack : Option (List ℕ)) → IsInRange (command_of CurveName files gap pivots value show method slack)
-of_curve_files [] gap pivots value show method slack = tt
-of_curve_files (file ∷ []) gap pivots value show method slack = tt
-of_curve_files (file ∷ region ∷ []) gap pivots value show method slack = tt
-of_curve_files (file ∷ region ∷ emission ∷ []) gap pivots value show method slack = tt
-of_curve_files (file ∷ region ∷ emission ∷ limits ∷ []) gap pivots value show method slack = of_curve file region emission limits gap pivots value method
-of_curve_files (file ∷ region ∷ emission ∷ limits ∷ other ∷ files) gap pivots value show method slack = tt
+of_curve_files : (files : List (List ℕ)) (gap pivots value show method slack proof : Option (List ℕ)) → IsInRange (command_of CurveName files gap pivots value show method slack proof)
+of_curve_files [] gap pivots value show method slack proof = tt
+of_curve_files (file ∷ []) gap pivots value show method slack proof = tt
+of_curve_files (file ∷ region ∷ []) gap pivots value show method slack proof = tt
+of_curve_files (file ∷ region ∷ emission ∷ []) gap pivots value show method slack proof = tt
+of_curve_files (file ∷ region ∷ emission ∷ limits ∷ []) gap pivots value show method slack proof = of_curve file region emission limits gap pivots value method
+of_curve_files (file ∷ region ∷ emission ∷ limits ∷ other ∷ files) gap pivots value show method slack proof = tt
 
-of_span_files : (files : List (List ℕ)) (gap pivots value show method slack : Option (List ℕ)) → IsInRange (command_of SpanName files gap pivots value show method slack)
-of_span_files [] gap pivots value show method slack = tt
-of_span_files (file ∷ []) gap pivots value show method slack = tt
-of_span_files (file ∷ region ∷ []) gap pivots value show method slack = tt
-of_span_files (file ∷ region ∷ technology ∷ []) gap pivots value show method slack = tt
-of_span_files (file ∷ region ∷ technology ∷ year ∷ []) gap pivots value show method slack = of_span file region technology year gap pivots value slack method
-of_span_files (file ∷ region ∷ technology ∷ year ∷ other ∷ files) gap pivots value show method slack = tt
+of_span_files : (files : List (List ℕ)) (gap pivots value show method slack proof : Option (List ℕ)) → IsInRange (command_of SpanName files gap pivots value show method slack proof)
+of_span_files [] gap pivots value show method slack proof = tt
+of_span_files (file ∷ []) gap pivots value show method slack proof = tt
+of_span_files (file ∷ region ∷ []) gap pivots value show method slack proof = tt
+of_span_files (file ∷ region ∷ technology ∷ []) gap pivots value show method slack proof = tt
+of_span_files (file ∷ region ∷ technology ∷ year ∷ []) gap pivots value show method slack proof = of_span file region technology year gap pivots value slack method
+of_span_files (file ∷ region ∷ technology ∷ year ∷ other ∷ files) gap pivots value show method slack proof = tt
 
-of_make_files : (files : List (List ℕ)) (gap pivots value show method slack : Option (List ℕ)) → IsInRange (command_of MakeName files gap pivots value show method slack)
-of_make_files [] gap pivots value show method slack = tt
-of_make_files (size ∷ []) gap pivots value show method slack = of_make size show
-of_make_files (size ∷ other ∷ files) gap pivots value show method slack = tt
+of_make_files : (files : List (List ℕ)) (gap pivots value show method slack proof : Option (List ℕ)) → IsInRange (command_of MakeName files gap pivots value show method slack proof)
+of_make_files [] gap pivots value show method slack proof = tt
+of_make_files (size ∷ []) gap pivots value show method slack proof = of_make size show
+of_make_files (size ∷ other ∷ files) gap pivots value show method slack proof = tt
 
-of_parts : (name : CommandName) → ((files : List (List ℕ)) (gap pivots value show method slack : Option (List ℕ)) → IsInRange (command_of name files gap pivots value show method slack))
+of_parts : (name : CommandName) → ((files : List (List ℕ)) (gap pivots value show method slack proof : Option (List ℕ)) → IsInRange (command_of name files gap pivots value show method slack proof))
     → (parts : Option (List Part)) → IsInRange (command_with name parts)
 of_parts name of_files None = tt
 of_parts name of_files (Some parts) = go (allows_all name parts)
   where
-    go : (b : Bool) → IsInRange (cond b (command_of name (files_in parts) (value_in Gap parts) (value_in Pivots parts) (value_in Places parts) (value_in Show parts) (value_in Method parts) (value_in Slack parts)) (Err BadForm))
-    go true = of_files (files_in parts) (value_in Gap parts) (value_in Pivots parts) (value_in Places parts) (value_in Show parts) (value_in Method parts) (value_in Slack parts)
+    go : (b : Bool) → IsInRange (cond b (command_of name (files_in parts) (value_in Gap parts) (value_in Pivots parts) (value_in Places parts) (value_in Show parts) (value_in Method parts) (value_in Slack parts) (value_in Proof parts)) (Err BadForm))
+    go true = of_files (files_in parts) (value_in Gap parts) (value_in Pivots parts) (value_in Places parts) (value_in Show parts) (value_in Method parts) (value_in Slack parts) (value_in Proof parts)
     go false = tt
 
 of_command : (command : Option CommandName) (words : List (List ℕ)) → IsInRange (command_after command words)
@@ -209,6 +223,9 @@ asked_places words name places e = subst IsInRange e (in_range words)
 
 pub check_places : (words : List (List ℕ)) (file plan : List ℕ) (multipliers : Option (List ℕ)) (gap places : ℕ) → asked words ≡ Ok (Check file plan multipliers gap places) → IsPlaces places
 check_places words file plan multipliers gap places e = subst IsInRange e (in_range words)
+
+pub check_proof_places : (words : List (List ℕ)) (file proof : List ℕ) (gap places : ℕ) → asked words ≡ Ok (CheckProof file proof gap places) → IsPlaces places
+check_proof_places words file proof gap places e = subst IsInRange e (in_range words)
 
 pub solve_places : (words : List (List ℕ)) (file : List ℕ) (gap pivots places : ℕ) (show : SolveShow) (method : SolveMethod) → asked words ≡ Ok (Solve file gap pivots places show method) → IsPlaces places
 solve_places words file gap pivots places show method e = subst IsInRange e (in_range words)

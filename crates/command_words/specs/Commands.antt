@@ -5,12 +5,13 @@ use Rattle.command_words.specs.declared.command.Command.TheVariants as code
 use Rattle.command_words.specs.declared.command.CommandName.{CommandName as CodeName}
 use Rattle.command_words.specs.declared.command.CommandName.TheVariants as names
 use Rattle.command_words.specs.declared.fault.WordFault.{WordFault}
-use Rattle.command_words.specs.Words.{Request, Mps, Check, Solve, Explain, Curve, Span, Make, CommandName, MpsName, CheckName, SolveName, ExplainName, CurveName, SpanName, MakeName}
+use Rattle.command_words.specs.Words.{Request, Mps, Check, CheckProof, Solve, Explain, Curve, Span, Make, CommandName, MpsName, CheckName, SolveName, ExplainName, CurveName, SpanName, MakeName}
 
 -- the request of a command, without where the names of its files lie in memory
 abbrev pub request_of : Command → Request
 request_of (code.Mps file places) = Mps file.now places
 request_of (code.Check file plan multipliers gap places) = Check file.now plan.now (option_map (λ name. name.now) multipliers) gap places
+request_of (code.CheckProof file proof gap places) = CheckProof file.now proof.now gap places
 request_of (code.Solve file gap pivots places show method) = Solve file.now gap pivots places show method
 request_of (code.Explain file pivots places method) = Explain file.now pivots places method
 request_of (code.Curve file region emission limits gap pivots places method) = Curve file.now region.now emission.now limits.items gap pivots places method

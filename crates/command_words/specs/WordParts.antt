@@ -23,6 +23,7 @@ pub data OptionName : Type 0 where
   Show : OptionName
   Method : OptionName
   Slack : OptionName
+  Proof : OptionName
 
 -- an option's word
 abbrev pub option_word : OptionName → List ℕ
@@ -32,6 +33,7 @@ option_word Places = codes "--places"
 option_word Show = codes "--show"
 option_word Method = codes "--method"
 option_word Slack = codes "--slack"
+option_word Proof = codes "--proof"
 
 -- the option of this word, if it is one's
 abbrev pub option_named : List ℕ → Option OptionName
@@ -42,6 +44,7 @@ option_named word =
     else if bytes_eq (option_word Show) word then Some Show
     else if bytes_eq (option_word Method) word then Some Method
     else if bytes_eq (option_word Slack) word then Some Slack
+    else if bytes_eq (option_word Proof) word then Some Proof
     else None
 
 -- the sign '=', which may join an option and its value

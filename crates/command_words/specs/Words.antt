@@ -6,7 +6,7 @@ use Rattle.command_words.specs.declared.fault.WordFault.TheVariants.{NoCommand, 
 use Rattle.command_words.specs.declared.command.SolveShow.{SolveShow}
 use Rattle.command_words.specs.declared.command.MakeShow.{MakeShow}
 use Rattle.command_words.specs.declared.command.SolveMethod.{SolveMethod}
-use Rattle.command_words.specs.WordParts.{OptionName, Gap, Pivots, Places, Show, Method, Slack, Part, File, Chosen, parts_of}
+use Rattle.command_words.specs.WordParts.{OptionName, Gap, Pivots, Places, Show, Method, Slack, Proof, Part, File, Chosen, parts_of}
 use Rattle.command_words.specs.LimitLists.{limits_of}
 use Rattle.command_words.specs.WordValues.{gap_for, gap_of, pivots_of, places_of, size_of, solve_show_of, make_show_of, method_of}
 
@@ -14,6 +14,7 @@ use Rattle.command_words.specs.WordValues.{gap_for, gap_of, pivots_of, places_of
 pub data Request : Type 0 where
   Mps : (file : List ℕ) (places : ℕ) → Request
   Check : (file plan : List ℕ) (multipliers : Option (List ℕ)) (gap places : ℕ) → Request
+  CheckProof : (file proof : List ℕ) (gap places : ℕ) → Request
   Solve : (file : List ℕ) (gap pivots places : ℕ) (show : SolveShow) (method : SolveMethod) → Request
   Explain : (file : List ℕ) (pivots places : ℕ) (method : SolveMethod) → Request
   Curve : (file region emission : List ℕ) (limits : List ℤ) (gap pivots places : ℕ) (method : SolveMethod) → Request
@@ -49,6 +50,7 @@ abbrev pub has_option : CommandName → OptionName → Bool
 has_option MpsName Places = true
 has_option CheckName Gap = true
 has_option CheckName Places = true
+has_option CheckName Proof = true
 has_option SolveName Gap = true
 has_option SolveName Pivots = true
 has_option SolveName Places = true
@@ -95,6 +97,7 @@ is_same Places Places = true
 is_same Show Show = true
 is_same Method Method = true
 is_same Slack Slack = true
+is_same Proof Proof = true
 is_same o other = false
 
 -- the values that are given for an option
@@ -112,7 +115,7 @@ abbrev pub allows : CommandName → List Part → OptionName → Bool
 allows command parts o = nat_le (length (values_in o parts)) (if takes command (value_in Method parts) o then 1 else 0)
 
 abbrev pub allows_all : CommandName → List Part → Bool
-allows_all command parts = allows command parts Gap && allows command parts Pivots && allows command parts Places && allows command parts Show && allows command parts Method && allows command parts Slack
+allows_all command parts = allows command parts Gap && allows command parts Pivots && allows command parts Places && allows command parts Show && allows command parts Method && allows command parts Slack && allows command parts Proof
 
 -- ---- commands with their values
 
@@ -131,6 +134,12 @@ check_of file plan multipliers gap places =
     or_fault BadNumber (places_of places) (λ decimals.
     if is_some gap && not (is_some multipliers) then Err GapAlone
     else Ok (Check file plan multipliers ppm decimals)))
+
+-- `check` of a proof
+abbrev pub check_proof_of : List ℕ → List ℕ → Option (List ℕ) → Option (List ℕ) → Result Request WordFault
+check_proof_of file proof gap places =
+    or_fault BadNumber (gap_of gap) (λ ppm.
+    or_fault BadNumber (places_of places) (λ decimals. Ok (CheckProof file proof ppm decimals)))
 
 abbrev pub solve_of : List ℕ → Option (List ℕ) → Option (List ℕ) → Option (List ℕ) → Option (List ℕ) → Option (List ℕ) → Result Request WordFault
 solve_of file gap pivots places show method =
@@ -168,24 +177,26 @@ make_of size show =
     or_fault BadNumber (size_of size) (λ n.
     or_fault BadShow (make_show_of show) (λ shown. Ok (Make n shown)))
 
--- the command with these files and these values of `--gap`, `--pivots`, `--places`, `--show`, `--method` and `--slack`: a file that is missing or too many is a fault of form
-abbrev pub command_of : CommandName → List (List ℕ) → (gap pivots places show method slack : Option (List ℕ)) → Result Request WordFault
-command_of MpsName (file ∷ []) gap pivots places show method slack = mps_of file places
-command_of CheckName (file ∷ plan ∷ []) gap pivots places show method slack = check_of file plan None gap places
-command_of CheckName (file ∷ plan ∷ multipliers ∷ []) gap pivots places show method slack = check_of file plan (Some multipliers) gap places
-command_of SolveName (file ∷ []) gap pivots places show method slack = solve_of file gap pivots places show method
-command_of ExplainName (file ∷ []) gap pivots places show method slack = explain_of file pivots places method
-command_of CurveName (file ∷ region ∷ emission ∷ limits ∷ []) gap pivots places show method slack = curve_of file region emission limits gap pivots places method
-command_of SpanName (file ∷ region ∷ technology ∷ year ∷ []) gap pivots places show method slack = span_of file region technology year gap pivots places slack method
-command_of MakeName (size ∷ []) gap pivots places show method slack = make_of size show
-command_of command files gap pivots places show method slack = Err BadForm
+-- the command with these files and these values of `--gap`, `--pivots`, `--places`, `--show`, `--method`, `--slack` and `--proof`: a file that is missing or
+-- too many is a fault of form, and so is a plan beside a proof
+abbrev pub command_of : CommandName → List (List ℕ) → (gap pivots places show method slack proof : Option (List ℕ)) → Result Request WordFault
+command_of MpsName (file ∷ []) gap pivots places show method slack proof = mps_of file places
+command_of CheckName (file ∷ []) gap pivots places show method slack (Some proof) = check_proof_of file proof gap places
+command_of CheckName (file ∷ plan ∷ []) gap pivots places show method slack None = check_of file plan None gap places
+command_of CheckName (file ∷ plan ∷ multipliers ∷ []) gap pivots places show method slack None = check_of file plan (Some multipliers) gap places
+command_of SolveName (file ∷ []) gap pivots places show method slack proof = solve_of file gap pivots places show method
+command_of ExplainName (file ∷ []) gap pivots places show method slack proof = explain_of file pivots places method
+command_of CurveName (file ∷ region ∷ emission ∷ limits ∷ []) gap pivots places show method slack proof = curve_of file region emission limits gap pivots places method
+command_of SpanName (file ∷ region ∷ technology ∷ year ∷ []) gap pivots places show method slack proof = span_of file region technology year gap pivots places slack method
+command_of MakeName (size ∷ []) gap pivots places show method slack proof = make_of size show
+command_of command files gap pivots places show method slack proof = Err BadForm
 
 -- the command with the parts of the words after it
 abbrev pub command_with : CommandName → Option (List Part) → Result Request WordFault
 command_with command None = Err BadForm
 command_with command (Some parts) =
     if allows_all command parts
-    then command_of command (files_in parts) (value_in Gap parts) (value_in Pivots parts) (value_in Places parts) (value_in Show parts) (value_in Method parts) (value_in Slack parts)
+    then command_of command (files_in parts) (value_in Gap parts) (value_in Pivots parts) (value_in Places parts) (value_in Show parts) (value_in Method parts) (value_in Slack parts) (value_in Proof parts)
     else Err BadForm
 
 -- the command of a first word, with the words after it
@@ -203,6 +214,7 @@ abbrev pub names_of : Request → List (List ℕ)
 names_of (Mps file places) = file ∷ []
 names_of (Check file plan None gap places) = file ∷ plan ∷ []
 names_of (Check file plan (Some multipliers) gap places) = file ∷ plan ∷ multipliers ∷ []
+names_of (CheckProof file proof gap places) = file ∷ proof ∷ []
 names_of (Solve file gap pivots places show method) = file ∷ []
 names_of (Explain file pivots places method) = file ∷ []
 names_of (Curve file region emission limits gap pivots places method) = file ∷ []

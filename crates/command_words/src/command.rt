@@ -2,7 +2,7 @@
 ghost use Rattle.std.specs.Prelude.{◌≡◌, ◌||◌, IfOk, is_some, map, not, option_map};
 ghost use Rattle.std.specs.String.{string_bytes};
 ghost use Rattle.command_words.specs.Words.{command_named, asked};
-ghost use Rattle.command_words.specs.Words.{MpsName, CheckName, SolveName, ExplainName, CurveName, SpanName, MakeName, asks_for_rounded, check_of, curve_of, mps_of, span_of};
+ghost use Rattle.command_words.specs.Words.{MpsName, CheckName, SolveName, ExplainName, CurveName, SpanName, MakeName, asks_for_rounded, check_of, check_proof_of, curve_of, mps_of, span_of};
 ghost use Rattle.command_words.specs.Commands.{request_of_result, name_of};
 ghost use Rattle.command_words.specs.WordReading.{given_of, command_by, command_given, is_allowed};
 
@@ -33,7 +33,14 @@ pub enum Command<'a> {
         gap: u32,
         places: u8,
     },
-    /// `solve FILE [--gap PPM] [--pivots N] [--places P] [--show report|plan|multipliers] [--method exact|rounded]`: solves.
+    /// `check FILE --proof PROOF [--gap PPM] [--places P]`: checks what a file of a proof holds.
+    CheckProof {
+        file: &'a str,
+        proof: &'a str,
+        gap: u32,
+        places: u8,
+    },
+    /// `solve FILE [--gap PPM] [--pivots N] [--places P] [--show report|plan|multipliers|proof] [--method exact|rounded]`: solves.
     Solve {
         file: &'a str,
         gap: u32,
@@ -91,6 +98,7 @@ pub enum SolveShow {
     Report,
     Plan,
     Multipliers,
+    Proof,
 }
 
 /// Which method `solve`, `explain`, `curve` and `span` begin with.
@@ -214,6 +222,7 @@ fn is_allowed(name: CommandName, given: &Given<'_>) -> bool
                 && given.show.is_none()
                 && given.method.is_none()
                 && given.slack.is_none()
+                && given.proof.is_none()
         }
         CommandName::Check => {
             given.pivots.is_none()
@@ -221,20 +230,29 @@ fn is_allowed(name: CommandName, given: &Given<'_>) -> bool
                 && given.method.is_none()
                 && given.slack.is_none()
         }
-        CommandName::Solve => given.slack.is_none(),
+        CommandName::Solve => given.slack.is_none() && given.proof.is_none(),
         CommandName::Explain => {
-            given.gap.is_none() && given.show.is_none() && given.slack.is_none()
+            given.gap.is_none()
+                && given.show.is_none()
+                && given.slack.is_none()
+                && given.proof.is_none()
         }
         CommandName::Curve => {
-            given.show.is_none() && given.slack.is_none() && has_gap_by_guesses(given)
+            given.show.is_none()
+                && given.slack.is_none()
+                && given.proof.is_none()
+                && has_gap_by_guesses(given)
         }
-        CommandName::Span => given.show.is_none() && has_gap_by_guesses(given),
+        CommandName::Span => {
+            given.show.is_none() && given.proof.is_none() && has_gap_by_guesses(given)
+        }
         CommandName::Make => {
             given.gap.is_none()
                 && given.pivots.is_none()
                 && given.places.is_none()
                 && given.method.is_none()
                 && given.slack.is_none()
+                && given.proof.is_none()
         }
     }
 }
@@ -269,13 +287,34 @@ fn mps<'a>(file: &'a str, places: Option<&'a str>) -> Result<Command<'a>, WordFa
 fn check_given<'a>(given: &Given<'a>) -> Result<Command<'a>, WordFault>
     ensures { request_of_result result ≡ command_given CheckName (given_of given.now) }
 {
-    match given.files.as_slice() {
-        [file, plan] => check(*file, *plan, None, given.gap, given.places),
-        [file, plan, multipliers] => {
+    match (given.files.as_slice(), given.proof) {
+        ([file], Some(proof)) => check_proof(*file, proof, given.gap, given.places),
+        ([file, plan], None) => check(*file, *plan, None, given.gap, given.places),
+        ([file, plan, multipliers], None) => {
             check(*file, *plan, Some(*multipliers), given.gap, given.places)
         }
         _ => Err(WordFault::BadForm),
     }
+}
+
+fn check_proof<'a>(
+    file: &'a str,
+    proof: &'a str,
+    gap: Option<&'a str>,
+    places: Option<&'a str>,
+) -> Result<Command<'a>, WordFault>
+    ensures { request_of_result result
+        ≡ check_proof_of file.entry.now proof.entry.now (option_map (λ value. value.now) gap.entry) (option_map (λ value. value.now) places.entry) }
+{
+    let (Some(gap), Some(places)) = (gap_of(gap), places_of(places)) else {
+        return Err(WordFault::BadNumber);
+    };
+    Ok(Command::CheckProof {
+        file,
+        proof,
+        gap,
+        places,
+    })
 }
 
 fn check<'a>(

@@ -20,6 +20,7 @@ pub struct Given<'a> {
     pub show: Option<&'a str>,
     pub method: Option<&'a str>,
     pub slack: Option<&'a str>,
+    pub proof: Option<&'a str>,
 }
 
 /// Reads the words after a command. `None` where an option is unknown, is repeated or has no value.
@@ -38,6 +39,7 @@ pub fn read_given<'a>(alloc: Global, words: &'a [String]) -> Result<Option<Given
         show: matches.get_str("show"),
         method: matches.get_str("method"),
         slack: matches.get_str("slack"),
+        proof: matches.get_str("proof"),
     };
     Ok(Some(given))
 }
@@ -77,7 +79,8 @@ fn any_options<'a>(alloc: Global) -> Result<Command<'a>, AllocError>
     let command = with_option(alloc, command, "places")?;
     let command = with_option(alloc, command, "show")?;
     let command = with_option(alloc, command, "method")?;
-    with_option(alloc, command, "slack")
+    let command = with_option(alloc, command, "slack")?;
+    with_option(alloc, command, "proof")
 }
 
 // Files in any number, wherever they stand. No program's name stands before the words, and there is no help.

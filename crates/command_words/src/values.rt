@@ -63,6 +63,8 @@ pub fn solve_show_of(text: Option<&str>) -> Option<SolveShow>
         Some(SolveShow::Plan)
     } else if text == "multipliers" {
         Some(SolveShow::Multipliers)
+    } else if text == "proof" {
+        Some(SolveShow::Proof)
     } else {
         None
     }

@@ -1,5 +1,5 @@
 -- Where every inequality of the list was tried, what is left of it is a conflict.
-use Rattle.std.proofs.Common.{◌≡◌, ◌≢◌, ℕ, ℤ, pos, ◌*ℤ◌, Bool, true, false, not, ◌||◌, ◌&&◌, List, [], ◌∷◌, inl, inr, map, refl, sym, ap, ap₂, ◌∙◌, subst, append-nil, arith}
+use Rattle.std.proofs.Common.{◌≡◌, ◌≢◌, ℕ, ℤ, pos, ◌*ℤ◌, Bool, true, false, not, ◌&&◌, List, [], ◌∷◌, inl, inr, map, refl, sym, ap, ap₂, ◌∙◌, subst, append-nil, arith}
 use Rattle.std.specs.Prelude.{Contains, Option, unsigned_abs}
 use Rattle.std.proofs.lemmas.Bool.{eqb-true}
 use Rattle.std.proofs.lemmas.Int.{ints}
@@ -12,7 +12,7 @@ use Rattle.exact_num.proofs.Ring.{zero-*ℤ}
 use Rattle.row_core.specs.declared.Row.{Row}
 use Rattle.row_core.specs.declared.RowName.{RowName}
 use Rattle.row_core.specs.declared.Var.{Var}
-use Rattle.row_core.specs.Numbers.{ascends, is_zero, keys_of}
+use Rattle.row_core.specs.Numbers.{is_zero, keys_of}
 use Rattle.row_core.specs.Order.{row_name_cmp}
 use Rattle.row_core.specs.Plans.{value_in, valued}
 use Rattle.row_core.specs.Values.{IsOver}
@@ -31,25 +31,18 @@ use Rattle.conflict_sets.specs.Walks.{Needed, is_listed, is_other, member_of, pl
 use Rattle.conflict_sets.specs.declared.conflict.Conflict.{Conflict}
 use Rattle.conflict_sets.proofs.PartLaws.{fewer-met, part-refuted, part-variables}
 use Rattle.conflict_sets.proofs.RowLists.{filter-ascends, filter-names, inequality-named, itself, same-name}
+use Rattle.conflict_sets.proofs.Tests.{by_test}
 
 -- ---- members
 
 member-has : (names : List RowName) (u : RowName) → is_member names u ≡ true → Has names u
 member-has [] u h = absurd (cc h)
-member-has (name ∷ names) u h = cases (is_eq (row_name_cmp u name)) refl h (member-has names u)
-  where
-    cases : (t : Bool) → is_eq (row_name_cmp u name) ≡ t → (t || is_member names u) ≡ true → (is_member names u ≡ true → Has names u) → Has (name ∷ names) u
-    cases true is k rest = inl (sym (same-name u name is))
-    cases false is k rest = inr (rest k)
+member-has (name ∷ names) u h = by_test (is_eq (row_name_cmp u name)) (λ is. inl (sym (same-name u name is))) (λ is. inr (member-has names u (rw is at h)))
 
 has-member : (names : List RowName) (u : RowName) → Has names u → is_member names u ≡ true
 has-member [] u h = absurd h
-has-member (name ∷ names) u (inl e) = ap (λ t. t || is_member names u) (subst (λ (w : RowName). is_eq (row_name_cmp u w) ≡ true) (sym e) (itself u))
-has-member (name ∷ names) u (inr h) = cases (is_eq (row_name_cmp u name)) (has-member names u h)
-  where
-    cases : (t : Bool) → is_member names u ≡ true → (t || is_member names u) ≡ true
-    cases true k = refl
-    cases false k = k
+has-member (name ∷ names) u (inl e) = rw (e, itself u) refl
+has-member (name ∷ names) u (inr h) = rw (has-member names u h) (by_test (is_eq (row_name_cmp u name)) (λ is. rw is refl) (λ is. rw is refl))
 
 -- ---- lists of members
 
@@ -134,23 +127,23 @@ module _ (rows : List Row) (defs : List (Option Var)) (vars : List Var) (m : Lis
   known-are = append-nil (map needed_name needed)
 
   name-known : (u : RowName) → Has names u → Has (names_known needed []) u
-  name-known u h = subst (λ (ns : List RowName). Has ns u) (sym known-are) (filter-names needed_name on_list needed u (subst (λ (ns : List RowName). Has ns u) names-are h))
+  name-known u h = rw known-are (filter-names needed_name on_list needed u (rw names-are at h))
 
   -- an inequality on the list is a member
   listed-member : (u : RowName) → Has (inequalities rows) u → is_listed m u ≡ true → Has names u
   listed-member u there is =
-      let one = map_parts needed_name needed u (subst (λ (ns : List RowName). Has ns u) known-are (Has-from_Contains (names_known needed []) u (s.listed u (Contains-from_Has (inequalities rows) u there) is))) in
+      let one = map_parts needed_name needed u (rw known-are at (Has-from_Contains (names_known needed []) u (s.listed u (Contains-from_Has (inequalities rows) u there) is))) in
       let listed : on_list one.0 ≡ true = ap (is_listed m) one.2 ∙ is in
-      subst (λ (ns : List RowName). Has ns u) (sym names-are) (subst (Has (map needed_name still)) one.2 (Has-map needed_name still one.0 (Has-filter on_list needed one.0 one.1 listed)))
+      rw names-are (subst (Has (map needed_name still)) one.2 (Has-map needed_name still one.0 (Has-filter on_list needed one.0 one.1 listed)))
 
   -- and a member is on it
   member-listed : (u : RowName) → Has names u → is_listed m u ≡ true
   member-listed u h =
-      let one = map_parts needed_name still u (subst (λ (ns : List RowName). Has ns u) names-are h) in
+      let one = map_parts needed_name still u (rw names-are at h) in
       ap (is_listed m) (sym one.2) ∙ (filter_parts on_list needed one.0 one.1).1
 
   member-is : (member : RowName × Frac) → Contains conflict.members.items member → (one : Needed) × Has still one × (member_of m one ≡ valued member)
-  member-is member h = members-from m still (valued member) (subst (λ (es : List (RowName × Rational)). Has es (valued member)) e (has-valued conflict.members.items member (Has-from_Contains conflict.members.items member h)))
+  member-is member h = members-from m still (valued member) (rw e at (has-valued conflict.members.items member (Has-from_Contains conflict.members.items member h)))
 
   printed : (member : RowName × Frac) → Contains conflict.members.items member → value_in row_name_cmp m member.0 ≡ value_of member.1
   printed member h =
@@ -172,15 +165,12 @@ module _ (rows : List Row) (defs : List (Option Var)) (vars : List Var) (m : Lis
 
   -- the rows that aren't taken have the multiplier 0
   nothing-else : (n : ℕ) (y : RowName → ℤ) → AreMultipliersOver n y m → (row : Row) → Has rows row → taken row ≡ false → y row.name ≡ pos 0
-  nothing-else n y over row there out = cases (is_unequal row.sense) (is_member names row.name) (is_listed m row.name) refl refl refl out
-    where
-      cases : (a b c : Bool) → is_unequal row.sense ≡ a → is_member names row.name ≡ b → is_listed m row.name ≡ c → (not a || b) ≡ false → y row.name ≡ pos 0
-      cases false b c is_a is_b is_c k = absurd (cc k)
-      cases true true c is_a is_b is_c k = absurd (cc k)
-      cases true false true is_a is_b is_c k =
-          let member : is_member names row.name ≡ true = has-member names row.name (listed-member row.name (inequality-named rows row there is_a) is_c) in
-          absurd (cc (is_b, member))
-      cases true false false is_a is_b is_c k = zero-over m row.name (pos n) (y row.name) is_c (over.1 row.name)
+  nothing-else n y over row there out =
+      by_test (is_unequal row.sense)
+      (λ is_a. by_test (is_listed m row.name)
+      (λ is_c. let member = has-member names row.name (listed-member row.name (inequality-named rows row there is_a) is_c) in absurd (cc (rw (is_a, member) at out)))
+      (λ is_c. zero-over m row.name (pos n) (y row.name) is_c (over.1 row.name)))
+      (λ is_a. absurd (cc (rw is_a at out)))
 
   refutes : (n : ℕ) (y : RowName → ℤ) → AreMultipliersOver n y m → Refutes (rows_with (is_member names) rows) vars n y
   refutes n y over = part-refuted rows vars taken n y (nothing-else n y over) (s.refutation.refutes n y over)
@@ -210,8 +200,7 @@ module _ (rows : List Row) (defs : List (Option Var)) (vars : List Var) (m : Lis
   pub conflict-found : IsConflict rows vars conflict
   conflict-found = record {
     ascending =
-        subst (λ (ns : List RowName). ascends row_name_cmp ns ≡ true) (sym names-are)
-        (filter-ascends needed_name on_list needed (subst (λ (ns : List RowName). ascends row_name_cmp ns ≡ true) known-are s.ascending));
+        rw names-are (filter-ascends needed_name on_list needed (rw known-are at s.ascending));
     among = λ u h. s.among u (Contains-from_Has (names_known needed []) u (name-known u (Has-from_Contains names u h)));
     used = used;
     refuted = record { multipliers = m; some = s.refutation.some; printed = printed; refutes = refutes; none = none-left };

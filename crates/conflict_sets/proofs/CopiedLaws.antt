@@ -9,9 +9,8 @@ use Rattle.row_core.specs.Order.{var_cmp}
 use Rattle.row_core.specs.Plans.{value_in}
 use Rattle.row_core.specs.Rows.{row_sum}
 use Rattle.row_core.specs.Statements.{Stands, stands}
-use Rattle.row_core.specs.Values.{IsOver}
 use Rattle.certificate_checker.specs.Conditions.{AllPass, Condition, formed_at}
-use Rattle.certificate_checker.specs.Costs.{cost_of, model_cost}
+use Rattle.certificate_checker.specs.Costs.{model_cost}
 use Rattle.certified_answers.specs.Found.{IsFoundPlan}
 use Rattle.certified_answers.specs.Worth.{IsPlan, plan_cost}
 use Rattle.certificate_checker.specs.PlanChecks.{absolute, plan_conditions}
@@ -56,7 +55,7 @@ copied-plan vars plan cost copies rows e h = record {
   pass = subst AllPass (copied-conditions model_cost vars plan copies rows e) h.pass;
   some = h.some;
   meets = λ q x are. copied-meets vars q x copies rows e (h.meets q x are);
-  costs = λ q x are. subst (λ r. IsOver (pos q) r (cost_of model_cost vars x)) h.cost_is (h.costs q x are);
+  costs = λ q x are. rw h.cost_is at (h.costs q x are);
   cost_is = refl;
 }
 

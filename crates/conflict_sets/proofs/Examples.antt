@@ -14,12 +14,12 @@ use Rattle.row_core.specs.declared.place.Place.TheVariants.{CostRow}
 use Rattle.simplex_core.specs.declared.stops.Stop.TheVariants.{Budget, Trial}
 use Rattle.simplex_core.specs.declared.stops.TrialStop.TheVariants as trials
 use Rattle.certified_answers.specs.declared.answers.NoAnswer.TheVariants as stops
-use Rattle.conflict_sets.specs.declared.conflict.ExplainFail.TheVariants.{Stopped}
+use Rattle.conflict_sets.specs.declared.conflict.ExplainFail.TheVariants.{Memory, Stopped}
 use Rattle.conflict_sets.specs.Conflicts.{AreRefuted, is_member, is_other_member}
 use Rattle.conflict_sets.specs.Pieces.{is_outside}
 use Rattle.conflict_sets.specs.RoundedStops.{EndsSo, IsStopOfSome}
 use Rattle.conflict_sets.specs.Trials.{HasPlan, IsPivotDue, IsWide, StopsTrial}
-use Rattle.conflict_sets.specs.Walks.{IsConflicting, IsStopped, Stops, every, first_failed, found, is_listed, is_other, trial_failed}
+use Rattle.conflict_sets.specs.Walks.{IsConflicting, IsFirstFail, IsStopped, IsTrialFail, Stops, every, found, is_listed, is_other}
 
 -- the row of this equation; all subscripts are 0
 abbrev named : ℕ → RowName
@@ -104,11 +104,15 @@ one_left = refl
 -- ---- stops
 
 -- of the first trial, and of a later one
-first_out_of_pivots : first_failed 7 stops.Budget ≡ Stopped (Budget 7)
+first_out_of_pivots : IsFirstFail 7 stops.Budget (Stopped (Budget 7))
 first_out_of_pivots = refl
 
-later_out_of_pivots : trial_failed 2 7 stops.Budget ≡ Stopped (Trial 2 (trials.Budget 7))
+later_out_of_pivots : IsTrialFail 2 7 stops.Budget (Stopped (Trial 2 (trials.Budget 7)))
 later_out_of_pivots = refl
+
+-- that nothing was found is no reason, out of memory neither
+nothing_is_no_fail : ¬ (IsTrialFail 2 7 stops.Nothing Memory)
+nothing_is_no_fail h = h
 
 -- a stop is told as it is, and not as another
 told : Stops (IsStopped (Trial 2 (trials.Width CostRow))) (Stopped (Trial 2 (trials.Width CostRow)))

@@ -1,5 +1,5 @@
 -- What the simplex found of a trial makes the checker say yes.
-use Rattle.std.proofs.Common.{◌≡◌, ℕ, Bool, true, false, List, map, sym, ap, ap₂, ◌∙◌, subst}
+use Rattle.std.proofs.Common.{◌≡◌, ℕ, Bool, true, false, List, map, refl, sym, ap, ap₂, ◌∙◌}
 use Rattle.std.specs.Prelude.{Option}
 use Rattle.exact_num.specs.Rational.{Rational}
 use Rattle.exact_num.specs.Value.{value_of}
@@ -13,6 +13,7 @@ use Rattle.written_method.specs.declared.reduced.Reduced.{Reduced}
 use Rattle.written_method.specs.Programs.{program_of}
 use Rattle.certificate_checker.specs.Denominators.{AreOverSome}
 use Rattle.simplex_core.specs.declared.ends.Halt.{Halt}
+use Rattle.simplex_core.specs.declared.ends.Halt.TheVariants as halts
 use Rattle.simplex_core.specs.Outcomes.{IsHalt, MeetAll, RefuteAll}
 use Rattle.written_method.specs.Solved.{Outcome, solved}
 use Rattle.row_core.specs.RowLists.{names_of}
@@ -26,10 +27,10 @@ use Rattle.row_problem.specs.declared.problem.Problem.{Problem}
 use Rattle.row_problem.proofs.CarriedWords.{becomes_plan, becomes_refutation}
 use Rattle.conflict_sets.specs.Pieces.{IsTriedOf}
 use Rattle.written_method.specs.Multiplied.{multiplier_steps, named_multipliers}
-use Rattle.conflict_sets.specs.Trials.{StopsTrial, carried_trial, rows_with, stop_at, trial_end, tried_multipliers, tried_steps}
+use Rattle.conflict_sets.specs.Trials.{StopsTrial, carried_trial, rows_with, trial_end, tried_multipliers, tried_steps}
+use Rattle.exact_solver.specs.MethodEnds.{stop_at}
 use Rattle.conflict_sets.proofs.PlannedLaws.{carries-tried}
 use Rattle.conflict_sets.proofs.TriedLaws.{names-tried, part-tried, program-tried, scales-tried}
-use Rattle.conflict_sets.proofs.TrialEnds.{trial-ends, trial-halts}
 use Rattle.row_problem.specs.CarriedBack.{BecomesPlan}
 use Rattle.certified_answers.specs.Found.{IsFoundPlan, IsFoundRefutation}
 use Rattle.row_problem.proofs.FoundWords.{found-plan, found-refutation}
@@ -59,8 +60,8 @@ module _ (listed : RowName → Bool) (problem : Problem) (of : IsPosedProblem pr
       let carries = carries-tried listed whole.columns.items rows defs values whole.rows.items whole.scales.items made.rows.items of.problem.same of.problem.triangular of.reductions of.posed.rows tried.rows (part-tried listed problem of made tried).without in
       let becomes : BecomesPlan (rows_with listed rows) vars made values made_plan =
       becomes_plan (rows_with listed rows) vars (defined ds) made values made_plan (lifted-others right_side ds values) (plan_right ds values of.problem.triangular of.problem.signs) carries in
-      subst (λ (p : List (Var × Rational)). IsFoundPlan (rows_with listed rows) vars p) (sym is)
-      (found-plan (rows_with listed rows) vars made values made_plan keyed up some (subst (λ (p : List (Var × Rational)). AreOverSome var_cmp p) is some_made) meet becomes)
+      rw is
+      (found-plan (rows_with listed rows) vars made values made_plan keyed up some (rw is at some_made) meet becomes)
 
   pub trial-refutation : (lambda : List Frac) (multipliers : List (RowName × Rational)) → CarriesSum rows (defined ds) made lambda multipliers → AreOverSome row_name_cmp multipliers → IsOverSome (map value_of lambda)
       → RefuteAll (program_of made) (map value_of lambda) → IsFoundRefutation rows vars multipliers
@@ -78,7 +79,10 @@ module _ (listed : RowName → Bool) (problem : Problem) (of : IsPosedProblem pr
 
   -- the end of the simplex, as that of the trial
   pub trial-ended : (n : ℕ) (outcome : Outcome) → outcome ≡ solved n (program_of made) → carried_trial listed rows defs vars outcome ≡ trial_end listed rows defs vars n
-  trial-ended n outcome e = trial-ends listed rows defs vars n outcome (e ∙ ap (solved n) (program-tried listed problem of made tried))
+  unfolding trial_end
+  trial-ended n outcome e = ap (carried_trial listed rows defs vars) (e ∙ ap (solved n) (program-tried listed problem of made tried))
 
   pub trial-halted : (n : ℕ) (e : Halt) → IsHalt (solved n (program_of made)) e → StopsTrial (trial_end listed rows defs vars n) (stop_at e)
-  trial-halted n e h = trial-halts listed rows defs vars n (solved n (program_of made)) e (ap (solved n) (program-tried listed problem of made tried)) h
+  trial-halted n halts.Budget h = sym (trial-ended n (solved n (program_of made)) refl) ∙ ap (carried_trial listed rows defs vars) h
+  trial-halted n (halts.Width place) h = sym (trial-ended n (solved n (program_of made)) refl) ∙ ap (carried_trial listed rows defs vars) h
+  trial-halted n halts.Memory h = tt

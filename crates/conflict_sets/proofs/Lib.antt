@@ -1,3 +1,4 @@
+pub mod Tests
 pub mod SelectedLaws
 pub mod LoopLaws
 pub mod CopiedLaws

@@ -35,6 +35,7 @@ use Rattle.row_problem.specs.Sizes.{is_unequal}
 use Rattle.conflict_sets.specs.Pieces.{is_taken, selected, tests_of}
 use Rattle.conflict_sets.specs.Trials.{rows_with}
 use Rattle.conflict_sets.proofs.TriedLaws.{reduction-copied}
+use Rattle.conflict_sets.proofs.Tests.{by_test}
 
 abbrev AllHold : List Row → ℕ → (Var → ℤ) → Type 0
 AllHold rows q x = AllStand (right_times q) rows x
@@ -81,7 +82,7 @@ others-tried listed columns ds (named ∷ others) rows scales made p z (inr (new
     cases (listed new.name) refl made (e ∙ ap (λ (rs : List Row). selected (tests_of listed rs) (map contents_of rs)) ee) holds (λ ks i k. others-tried listed columns ds others more more_scales ks p z h posed_new.3 i met k)
   where
     posed_new : ArePosed columns (map inequality_of (new ∷ more))
-    posed_new = subst (λ (rs : List Row). ArePosed columns (map inequality_of rs)) ee posed
+    posed_new = rw ee at posed
 
     cases : (t : Bool) → listed new.name ≡ t → (made : List Row) → map contents_of made ≡ selected (t ∷ tests_of listed more) (contents_of new ∷ map contents_of more) → AllHold made p z
         → ((ks : List Row) → map contents_of ks ≡ selected (tests_of listed more) (map contents_of more) → AllHold ks p z → AllHold (rows_with listed others) p z) → AllHold (rows_with listed (named ∷ others)) p z
@@ -94,23 +95,21 @@ others-tried listed columns ds (named ∷ others) rows scales made p z (inr (new
     cases false is made e holds rest =
         let left_out : is_taken listed named ≡ false =
         ap₂ (λ a b. not a || b) (ap is_unequal (sym r.sense) ∙ not-equal new.sense posed_new.0) (ap listed (sym r.name) ∙ is) in
-        subst (λ t. AllHold (if t then (named ∷ rows_with listed others) else rows_with listed others) p z) (sym left_out) (rest made e holds)
+        rw left_out (rest made e holds)
 
 definition_holds : (row : Row) (p : ℕ) (z : Var → ℤ) → row.sense ≡ Equal → excess row (pos p) z ≡ pos 0 → RowHolds row p z
 definition_holds row p z e met =
     let same : row_sum z row.entries.items ≡ row.rhs *ℤ pos p = omega (arith, ints) in
-    subst (λ s. Stands s (row_sum z row.entries.items) (row.rhs *ℤ pos p)) (sym e) same
+    rw e same
 
 all-tried : (listed : RowName → Bool) (rows : List Row) (defs : List (Option Var)) (p : ℕ) (z : Var → ℤ) → length defs ≡ length rows → AreTriangular (definitions_of rows defs) → AreMet (definitions_of rows defs) (pos p) z
     → AllHold (rows_with listed (others_of rows defs)) p z → AllHold (rows_with listed rows) p z
 all-tried listed [] defs p z same h met others = tt
 all-tried listed (row ∷ rows) [] p z same h met others = absurd (omega arith)
-all-tried listed (row ∷ rows) (None ∷ defs) p z same h met others = cases (is_taken listed row) others (λ k. all-tried listed rows defs p z (omega arith) h met k)
-  where
-    cases : (t : Bool) → AllHold (if t then (row ∷ rows_with listed (others_of rows defs)) else rows_with listed (others_of rows defs)) p z → (AllHold (rows_with listed (others_of rows defs)) p z → AllHold (rows_with listed rows) p z)
-        → AllHold (if t then (row ∷ rows_with listed rows) else rows_with listed rows) p z
-    cases true h rest = (h.0, rest h.1)
-    cases false h rest = rest h
+all-tried listed (row ∷ rows) (None ∷ defs) p z same h met others =
+    by_test (is_taken listed row)
+    (λ is. let k = rw is at others in rw is (k.0, all-tried listed rows defs p z (omega arith) h met k.1))
+    (λ is. rw is (all-tried listed rows defs p z (omega arith) h met (rw is at others)))
 all-tried listed (row ∷ rows) (Some v ∷ defs) p z same h met others =
     either-hold row (rows_with listed rows) (is_taken listed row) p z (definition_holds row p z h.0.equal met.0) (all-tried listed rows defs p z (omega arith) h.3 met.1 others)
 

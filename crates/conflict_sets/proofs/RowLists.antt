@@ -1,5 +1,5 @@
 -- Rows of a trial, among those of another.
-use Rattle.std.proofs.Common.{◌≡◌, Bool, true, false, not, ◌||◌, List, [], ◌∷◌, ◌++◌, inl, inr, map, filter, refl, sym, ap, ◌∙◌, subst, if◌then◌else◌}
+use Rattle.std.proofs.Common.{◌≡◌, Bool, true, List, [], ◌∷◌, ◌++◌, inl, inr, map, filter, refl, sym, ap, ◌∙◌, subst}
 use Rattle.std.specs.Ordering.{is_eq, is_lt, ordering_reverse}
 use Rattle.std.specs.declared.cmp.Ordering.{Ordering}
 use Rattle.std.specs.declared.cmp.Ordering.TheVariants.{Less, Equal as Alike, Greater}
@@ -15,6 +15,7 @@ use Rattle.variable_elimination.proofs.LiftLaws.{alike}
 use Rattle.row_problem.specs.Sizes.{is_unequal}
 use Rattle.conflict_sets.specs.Conflicts.{inequalities}
 use Rattle.conflict_sets.specs.Pieces.{is_taken}
+use Rattle.conflict_sets.proofs.Tests.{by_test}
 
 -- ---- names
 
@@ -57,20 +58,13 @@ without-one (v ∷ w ∷ vs) c ws up =
 -- those of a list that pass a test
 pub filter-names : {A : Type 0} (name : A → RowName) (p : A → Bool) (xs : List A) (u : RowName) → Has (map name (filter p xs)) u → Has (map name xs) u
 filter-names name p [] u h = absurd h
-filter-names name p (x ∷ xs) u h = cases (p x) h (filter-names name p xs u)
-  where
-    cases : (t : Bool) → Has (map name (if t then (x ∷ filter p xs) else filter p xs)) u → (Has (map name (filter p xs)) u → Has (map name xs) u) → Has (map name (x ∷ xs)) u
-    cases true (inl e) rest = inl e
-    cases true (inr k) rest = inr (rest k)
-    cases false k rest = inr (rest k)
+filter-names name p (x ∷ xs) u h = by_test (p x) (λ is. elim (rw is at h) [ inl e ↦ inl e | inr k ↦ inr (filter-names name p xs u k) ]) (λ is. inr (filter-names name p xs u (rw is at h)))
 
 pub filter-ascends : {A : Type 0} (name : A → RowName) (p : A → Bool) (xs : List A) → ascends row_name_cmp (map name xs) ≡ true → ascends row_name_cmp (map name (filter p xs)) ≡ true
 filter-ascends name p [] up = refl
-filter-ascends name p (x ∷ xs) up = cases (p x) (filter-ascends name p xs (ascends-tail row_name_cmp (name x) (map name xs) up))
-  where
-    cases : (t : Bool) → ascends row_name_cmp (map name (filter p xs)) ≡ true → ascends row_name_cmp (map name (if t then (x ∷ filter p xs) else filter p xs)) ≡ true
-    cases true rest = both_true (before-all (name x) (map name (filter p xs)) (λ u h. first-before (name x) (map name xs) u up (filter-names name p xs u h))) rest
-    cases false rest = rest
+filter-ascends name p (x ∷ xs) up =
+    let rest = filter-ascends name p xs (ascends-tail row_name_cmp (name x) (map name xs) up) in
+    by_test (p x) (λ is. rw is (both_true (before-all (name x) (map name (filter p xs)) (λ u h. first-before (name x) (map name xs) u up (filter-names name p xs u h))) rest)) (λ is. rw is rest)
 
 -- ---- rows of a trial
 
@@ -89,8 +83,4 @@ abbrev pub Takes : (rows : List Row) (fewer more : RowName → Bool) → Type 0
 Takes rows fewer more = (name : RowName) → Has (inequalities rows) name → fewer name ≡ true → more name ≡ true
 
 pub taken-too : (rows : List Row) (fewer more : RowName → Bool) (row : Row) → Has rows row → Takes rows fewer more → is_taken fewer row ≡ true → is_taken more row ≡ true
-taken-too rows fewer more row h takes k = cases (is_unequal row.sense) refl k
-  where
-    cases : (t : Bool) → is_unequal row.sense ≡ t → (not t || fewer row.name) ≡ true → (not (is_unequal row.sense) || more row.name) ≡ true
-    cases true is k = ap (λ b. not b || more row.name) is ∙ takes row.name (inequality-named rows row h is) k
-    cases false is k = ap (λ b. not b || more row.name) is
+taken-too rows fewer more row h takes k = by_test (is_unequal row.sense) (λ is. rw is (takes row.name (inequality-named rows row h is) (rw is at k))) (λ is. rw is refl)

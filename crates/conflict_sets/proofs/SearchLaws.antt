@@ -1,5 +1,5 @@
 -- What is known goes on from trial to trial.
-use Rattle.std.proofs.Common.{◌≡◌, Bool, true, false, not, ◌&&◌, List, [], ◌∷◌, ◌++◌, inl, inr, map, filter, sym, ap, ap₂, ◌∙◌, subst, append_assoc}
+use Rattle.std.proofs.Common.{◌≡◌, Bool, true, false, not, ◌&&◌, List, [], ◌∷◌, ◌++◌, inl, inr, map, filter, ap, ap₂, ◌∙◌, subst, append_assoc}
 use Rattle.std.specs.Prelude.{Contains, Option}
 use Rattle.std.specs.Ordering.{is_eq}
 use Rattle.std.proofs.lemmas.List.{map-append}
@@ -7,7 +7,7 @@ use Rattle.exact_num.specs.Rational.{Rational}
 use Rattle.row_core.specs.declared.Row.{Row}
 use Rattle.row_core.specs.declared.RowName.{RowName}
 use Rattle.row_core.specs.declared.Var.{Var}
-use Rattle.row_core.specs.Numbers.{ascends, keys_of}
+use Rattle.row_core.specs.Numbers.{keys_of}
 use Rattle.row_core.specs.Order.{row_name_cmp}
 use Rattle.row_core.proofs.AscendingLaws.{both_passed}
 use Rattle.row_core.proofs.Members.{Contains-from_Has, Has, Has-filter, Has-from_Contains, Has-map, append_parts, filter_parts, map_parts}
@@ -45,7 +45,7 @@ fewer needed c left u apart h = Contains-from_Has (names_known needed left) u (h
 pub other-parts : (multipliers : List (RowName × Rational)) (c u : RowName) → is_other multipliers c u ≡ true → (is_listed multipliers u ≡ true) × (c ≡ u → ⊥)
 other-parts multipliers c u h =
     let parts = both_passed (is_listed multipliers u) (not (is_eq (row_name_cmp u c))) h in
-    (parts.0, λ e. let alike : is_eq (row_name_cmp u c) ≡ true = subst (λ (w : RowName). is_eq (row_name_cmp u w) ≡ true) (sym e) (itself u) in absurd (cc (parts.1, ap not alike)))
+    (parts.0, λ e. let alike : is_eq (row_name_cmp u c) ≡ true = rw e (itself u) in absurd (cc (parts.1, ap not alike)))
 
 module _ (rows : List Row) (vars : List Var) (multipliers : List (RowName × Rational)) (needed : List Needed) (name : RowName) (left : List RowName) (s : IsSearched rows vars multipliers needed (name ∷ left)) where
   pub search-skips : is_listed multipliers name ≡ false → IsSearched rows vars multipliers needed left
@@ -53,7 +53,7 @@ module _ (rows : List Row) (vars : List Var) (multipliers : List (RowName × Rat
     refutation = s.refutation;
     ascending = without-one (map needed_name needed) name left s.ascending;
     among = λ u k. s.among u (more needed name left u k);
-    listed = λ u there is. fewer needed name left u (λ e. let no : is_listed multipliers u ≡ false = subst (λ (w : RowName). is_listed multipliers w ≡ false) e h in absurd (cc (is, no))) (s.listed u there is);
+    listed = λ u there is. fewer needed name left u (λ e. let no : is_listed multipliers u ≡ false = rw e at h in absurd (cc (is, no))) (s.listed u there is);
     plans = s.plans;
   }
 
@@ -86,9 +86,9 @@ module _ (rows : List Row) (vars : List Var) (multipliers : List (RowName × Rat
   search-needs : (plan : List (Var × Rational)) → IsPlan (rows_with (is_other multipliers name) rows) vars plan (plan_cost vars plan) → keys_of plan ≡ vars → IsSearched rows vars multipliers (needed ++ (name, plan) ∷ []) left
   search-needs plan found whole = record {
     refutation = s.refutation;
-    ascending = subst (λ (ns : List RowName). ascends row_name_cmp ns ≡ true) (sym (moved plan)) s.ascending;
-    among = λ u k. s.among u (subst (λ (ns : List RowName). Contains ns u) (moved plan) k);
-    listed = λ u there is. subst (λ (ns : List RowName). Contains ns u) (sym (moved plan)) (s.listed u there is);
+    ascending = rw (moved plan) s.ascending;
+    among = λ u k. s.among u (rw (moved plan) at k);
+    listed = λ u there is. rw (moved plan) (s.listed u there is);
     plans = λ one k. elim (append_parts needed ((name, plan) ∷ []) one (Has-from_Contains (needed ++ (name, plan) ∷ []) one k)) [
       | inl before ↦ s.plans one (Contains-from_Has needed one before)
       | inr now ↦ last one now
@@ -105,7 +105,7 @@ module _ (rows : List Row) (vars : List Var) (multipliers : List (RowName × Rat
 
   pub search-goes : (finding : Finding) (new : List (RowName × Rational)) (now : List Needed) → new ≡ list_after finding multipliers → now ≡ needed_after name finding needed → IsFinding (is_other multipliers name) rows vars finding
       → IsSearched rows vars new now left
-  search-goes finding new now e f worth = subst (λ (m : List (RowName × Rational)). IsSearched rows vars m now left) (sym e) (subst (λ (ones : List Needed). IsSearched rows vars (list_after finding multipliers) ones left) (sym f) (goes finding worth))
+  search-goes finding new now e f worth = rw (e, f) (goes finding worth)
 
 -- the first list
 pub search-starts : (rows : List Row) (defs : List (Option Var)) (vars : List Var) (made : List (RowName × Rational)) → IsProblem rows defs vars → IsRefutation rows vars made → IsSearched rows vars made [] (listed_names made rows)

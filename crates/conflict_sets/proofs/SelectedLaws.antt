@@ -1,6 +1,7 @@
 -- What a list of tests selects.
 use Rattle.std.proofs.Common.{◌≡◌, ◌≤◌, suc, Bool, true, false, List, [], ◌∷◌, ◌++◌, length, map, filter, refl, ap, arith, if◌then◌else◌}
 use Rattle.conflict_sets.specs.Pieces.{selected}
+use Rattle.conflict_sets.proofs.Tests.{by_test}
 
 pub map-map : {A B C : Type 0} (g : B → C) (f : A → B) (xs : List A) → map (λ x. g (f x)) xs ≡ map g (map f xs)
 map-map g f [] = refl
@@ -9,11 +10,7 @@ map-map {C = C} g f (x ∷ xs) = ap {B = List C} (λ ys. g (f x) ∷ ys) (map-ma
 -- a filter selects by its tests
 pub map-filter : {A B : Type 0} (p : A → Bool) (f : A → B) (xs : List A) → map f (filter p xs) ≡ selected (map p xs) (map f xs)
 map-filter p f [] = refl
-map-filter {A} {B} p f (x ∷ xs) = cases (p x) (map-filter p f xs)
-  where
-    cases : (t : Bool) → map f (filter p xs) ≡ selected (map p xs) (map f xs) → map f (if t then (x ∷ filter p xs) else filter p xs) ≡ selected (t ∷ map p xs) (f x ∷ map f xs)
-    cases true e = ap {B = List B} (λ ys. f x ∷ ys) e
-    cases false e = e
+map-filter {A} {B} p f (x ∷ xs) = by_test (p x) (λ is. rw is (ap {B = List B} (λ ys. f x ∷ ys) (map-filter p f xs))) (λ is. rw is (map-filter p f xs))
 
 pub map-selected : {A B : Type 0} (f : A → B) (ts : List Bool) (xs : List A) → map f (selected ts xs) ≡ selected ts (map f xs)
 map-selected f [] xs = refl

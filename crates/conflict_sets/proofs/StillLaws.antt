@@ -1,5 +1,5 @@
 -- An inequality that was needed stays on the list: without it the others have a plan, so that no later refutation does without it.
-use Rattle.std.proofs.Common.{◌≡◌, ℕ, ℤ, pos, Bool, true, false, not, ◌||◌, ◌&&◌, List, [], ◌∷◌, inl, inr, filter, refl, ap, ap₂, ◌∙◌, if◌then◌else◌, length, map, sym}
+use Rattle.std.proofs.Common.{◌≡◌, ℕ, ℤ, pos, Bool, true, false, not, ◌&&◌, List, [], ◌∷◌, inl, inr, filter, refl, ap, ap₂, ◌∙◌, length, map, sym}
 use Rattle.std.specs.Prelude.{Option, Some}
 use Rattle.std.specs.Ordering.{is_eq}
 use Rattle.exact_num.specs.Rational.{Rational}
@@ -25,26 +25,20 @@ use Rattle.conflict_sets.proofs.ConflictLaws.{conflict-found, zero-over}
 use Rattle.conflict_sets.proofs.PairLaws.{paired-members, paired-plans}
 use Rattle.conflict_sets.proofs.PartLaws.{fewer-met, part-refuted, part-variables}
 use Rattle.conflict_sets.proofs.RowLists.{same-name}
+use Rattle.conflict_sets.proofs.Tests.{by_test}
 
 filter-all : {A : Type 0} (p : A → Bool) (xs : List A) → ((x : A) → Has xs x → p x ≡ true) → filter p xs ≡ xs
 filter-all p [] h = refl
-filter-all {A} p (x ∷ xs) h = cases (p x) (h x (inl refl)) (filter-all p xs (λ y k. h y (inr k)))
-  where
-    cases : (t : Bool) → t ≡ true → filter p xs ≡ xs → (if t then (x ∷ filter p xs) else filter p xs) ≡ x ∷ xs
-    cases true is e = ap {B = List A} (λ ys. x ∷ ys) e
-    cases false is e = absurd (cc is)
+filter-all {A} p (x ∷ xs) h = rw (h x (inl refl)) (ap {B = List A} (λ ys. x ∷ ys) (filter-all p xs (λ y k. h y (inr k))))
 
 module _ (rows : List Row) (defs : List (Option Var)) (vars : List Var) (m : List (RowName × Rational)) (needed : List Needed) (problem : IsProblem rows defs vars) (s : IsSearched rows vars m needed []) where
   abbrev taken : Row → Bool
   taken = is_taken (is_listed m)
 
   nothing-else : (n : ℕ) (y : RowName → ℤ) → AreMultipliersOver n y m → (row : Row) → Has rows row → taken row ≡ false → y row.name ≡ pos 0
-  nothing-else n y over row there out = cases (is_unequal row.sense) (is_listed m row.name) refl out
-    where
-      cases : (a c : Bool) → is_listed m row.name ≡ c → (not a || c) ≡ false → y row.name ≡ pos 0
-      cases false c is_c k = absurd (cc k)
-      cases true true is_c k = absurd (cc k)
-      cases true false is_c k = zero-over m row.name (pos n) (y row.name) is_c (over.1 row.name)
+  nothing-else n y over row there out = by_test (is_listed m row.name)
+      (λ is. absurd (by_test (is_unequal row.sense) (λ t. cc (rw (t, is) at out)) (λ t. cc (rw t at out))))
+      (λ is. zero-over m row.name (pos n) (y row.name) is (over.1 row.name))
 
   -- no plan meets the equations and the list
   none-left : (q : ℕ) (x : Var → ℤ) → ¬ (MeetsAll (rows_with (is_listed m) rows) vars q x)
@@ -56,23 +50,18 @@ module _ (rows : List Row) (defs : List (Option Var)) (vars : List Var) (m : Lis
 
   -- a listed name isn't one that isn't listed
   apart : (c u : RowName) → is_listed m c ≡ false → is_listed m u ≡ true → is_other m c u ≡ true
-  apart c u out is = cases (is_eq (row_name_cmp u c)) refl
-    where
-      cases : (t : Bool) → is_eq (row_name_cmp u c) ≡ t → is_other m c u ≡ true
-      cases true same = let no : is_listed m u ≡ false = ap (is_listed m) (same-name u c same) ∙ out in absurd (cc (is, no))
-      cases false same = ap₂ (λ a b. a && not b) is same
+  apart c u out is = by_test (is_eq (row_name_cmp u c))
+      (λ same. let no : is_listed m u ≡ false = ap (is_listed m) (same-name u c same) ∙ out in absurd (cc (is, no)))
+      (λ same. ap₂ (λ a b. a && not b) is same)
 
   still-listed : (one : Needed) → Has needed one → is_listed m one.0 ≡ true
-  still-listed one h = cases (is_listed m one.0) refl
-    where
-      cases : (t : Bool) → is_listed m one.0 ≡ t → t ≡ true
-      cases true is = refl
-      cases false is =
-          let plan = s.plans one (Contains-from_Has needed one h) in
-          let some = plan.some in
-          absurd
-          (none-left some.over some.number
-          (fewer-met rows vars (is_listed m) (is_other m one.0) some.over some.number (λ u there listed. apart one.0 u is listed) (plan.meets some.over some.number (some.positive, some.each))))
+  still-listed one h = by_test (is_listed m one.0) (λ is. is)
+      (λ is.
+      let plan = s.plans one (Contains-from_Has needed one h) in
+      let some = plan.some in
+      absurd
+      (none-left some.over some.number
+      (fewer-met rows vars (is_listed m) (is_other m one.0) some.over some.number (λ u there listed. apart one.0 u is listed) (plan.meets some.over some.number (some.positive, some.each)))))
 
   pub still-all : still_needed m needed ≡ needed
   still-all = filter-all (λ one. is_listed m one.0) needed still-listed

@@ -1,29 +1,25 @@
 -- The linear program of a trial is that of the definitions, is ready to be solved, and its rows are some of those that are left.
-use Rattle.std.proofs.Common.{◌≡◌, ◌+◌, ◌<◌, ◌≤◌, ◌^◌, ℤ, pos, ◌+ℤ◌, ◌*ℤ◌, Bool, true, false, List, [], ◌∷◌, inl, inr, length, map, filter, refl, sym, ap, ap₂, ◌∙◌, subst, arith}
-use Rattle.std.specs.Prelude.{◌<ℤ◌, IsTrue, Option}
+use Rattle.std.proofs.Common.{◌≡◌, ◌+◌, ◌<◌, ◌≤◌, ◌^◌, Bool, true, false, List, [], ◌∷◌, inl, inr, length, map, filter, refl, sym, ap, ap₂, ◌∙◌, arith}
+use Rattle.std.specs.Prelude.{Option}
 use Rattle.std.proofs.lemmas.Int.{ints}
 use Rattle.std.proofs.lemmas.List.{length-map}
-use Rattle.exact_num.specs.Range.{InRange, all_fit}
+use Rattle.exact_num.specs.Range.{all_fit}
 use Rattle.exact_num.specs.Rational.{Rational}
 use Rattle.exact_num.specs.Value.{value_of}
 use Rattle.exact_num.specs.declared.fraction.Frac.{Frac}
 use Rattle.row_core.specs.declared.Row.{Row}
 use Rattle.row_core.specs.declared.RowName.{RowName}
 use Rattle.row_core.specs.declared.Var.{Var}
-use Rattle.row_core.specs.Numbers.{ascends, numbers_of, variables_of}
-use Rattle.row_core.specs.Order.{var_cmp}
-use Rattle.row_core.specs.Rows.{row_sum}
 use Rattle.written_method.specs.declared.reduced.Reduced.{Reduced}
-use Rattle.written_method.specs.Definitions.{avoids, definitions_of, defined, others_of, rows_of}
+use Rattle.written_method.specs.Definitions.{definitions_of, defined, others_of, rows_of}
 use Rattle.written_method.specs.Eliminated.{ReducedRow, is_column}
 use Rattle.written_method.specs.FirstTableau.{width_of}
 use Rattle.written_method.specs.Programs.{Inequality, LinearProgram, inequality_of, program_of}
-use Rattle.written_method.specs.Ready.{AreAmong, ArePosed, IsPosed, IsReady, RowsAreAmong}
+use Rattle.written_method.specs.Ready.{ArePosed, IsPosed, IsReady, RowsAreAmong}
 use Rattle.variable_elimination.specs.Eliminations.{AreAmongReductions, IsPartOf}
 use Rattle.variable_elimination.specs.Left.{AvoidAll}
 use Rattle.row_core.specs.Contents.{RowContents, contents_of}
 use Rattle.variable_elimination.specs.ReducedRows.{AreReductions, IsReduction}
-use Rattle.variable_elimination.specs.Reductions.{multiples_of}
 use Rattle.row_core.specs.RowLists.{names_of}
 use Rattle.row_problem.specs.Programs.{inequality_in, name_left, program_left, rows_left, scale_left}
 use Rattle.row_problem.specs.ProgramsOf.{IsPosedProblem}
@@ -50,8 +46,8 @@ reduction-copied definitions named scale new copy e r = record {
     over_positive = r.reduced.over_positive;
     scale_positive = r.reduced.scale_positive;
     bottom_positive = r.reduced.bottom_positive;
-    sums = λ x. subst (λ (s : RowContents). row_sum x s.entries *ℤ (scale.bottom *ℤ r.reduced.over) ≡ ((scale.top *ℤ r.reduced.over) *ℤ row_sum x named.entries.items) +ℤ multiples_of 0 r.reduced.multiple (λ row. row_sum x row.entries.items) definitions) (sym e) (r.reduced.sums x);
-    right_side = subst (λ (s : RowContents). s.rhs *ℤ (scale.bottom *ℤ r.reduced.over) ≡ ((scale.top *ℤ r.reduced.over) *ℤ named.rhs) +ℤ multiples_of 0 r.reduced.multiple (λ row. row.rhs) definitions) (sym e) r.reduced.right_side;
+    sums = λ x. rw (ap (λ (s : RowContents). s.entries) e) (r.reduced.sums x);
+    right_side = rw (ap (λ (s : RowContents). s.rhs) e) r.reduced.right_side;
   };
 }
 
@@ -83,7 +79,7 @@ avoid-selected vars (t ∷ ts) [] (m ∷ made) e h = absurd (cc e)
 avoid-selected vars (true ∷ ts) (row ∷ rows) (m ∷ made) e h =
     let first : contents_of m ≡ contents_of row = cc e in
     let rest : map contents_of made ≡ selected ts (map contents_of rows) = cc e in
-    (subst (λ (s : RowContents). IsTrue (avoids vars s.entries)) (sym first) h.0, avoid-selected vars ts rows made rest h.1)
+    (rw (ap (λ (s : RowContents). s.entries) first) h.0, avoid-selected vars ts rows made rest h.1)
 avoid-selected vars (false ∷ ts) (row ∷ rows) (m ∷ made) e h = avoid-selected vars ts rows (m ∷ made) e h.1
 
 posed-selected : (columns : List Var) (ts : List Bool) (rows : List Inequality) → ArePosed columns rows → ArePosed columns (selected ts rows)
@@ -162,11 +158,11 @@ module _ (listed : RowName → Bool) (problem : Problem) (of : IsPosedProblem pr
 
   pub posed-tried : IsPosed (program_of made)
   posed-tried = record {
-    columns = subst (λ (cs : List Var). ascends var_cmp cs ≡ true) (sym tried.columns) of.posed.columns;
-    rows = subst (λ (cs : List Var). ArePosed cs (map inequality_of made.rows.items)) (sym tried.columns) (subst (ArePosed whole.columns.items) (sym inequalities-made) (posed-selected whole.columns.items tests (map inequality_of whole.rows.items) of.posed.rows));
-    cost_ascends = subst (λ (es : List (Var × ℤ)). ascends var_cmp (variables_of es) ≡ true) (sym tried.cost) refl;
-    cost_among = subst (AreAmong made.columns.items) (sym tried.cost) tt;
-    cost_positive = subst (λ z. pos 0 <ℤ z) (sym tried.cost_own) (omega (arith, ints));
+    columns = rw tried.columns of.posed.columns;
+    rows = rw (tried.columns, inequalities-made) (posed-selected whole.columns.items tests (map inequality_of whole.rows.items) of.posed.rows);
+    cost_ascends = rw tried.cost refl;
+    cost_among = rw tried.cost tt;
+    cost_positive = rw tried.cost_own (omega (arith, ints));
   }
 
   pub ready-tried : IsReady made
@@ -176,16 +172,16 @@ module _ (listed : RowName → Bool) (problem : Problem) (of : IsPosedProblem pr
     rows_among = among-posed made.columns.items made.rows.items posed-tried.rows;
     cost_ascends = posed-tried.cost_ascends;
     cost_among = posed-tried.cost_among;
-    cost_fits = subst (λ (es : List (Var × ℤ)). all_fit (numbers_of es) ≡ true) (sym tried.cost) refl;
-    right_fits = subst InRange (sym tried.cost_right) (omega arith);
-    own_fits = subst InRange (sym tried.cost_own) (omega arith);
+    cost_fits = rw tried.cost refl;
+    right_fits = rw tried.cost_right (omega arith);
+    own_fits = rw tried.cost_own (omega arith);
     own_positive = posed-tried.cost_positive;
     countable = countable;
   }
     where
       countable : width_of made.columns.items + length made.rows.items + 1 < 2 ^ 64
       countable =
-          let few : length made.rows.items ≤ length whole.rows.items = subst (λ n. n ≤ length whole.rows.items) (sym rows-many) (length-selected tests whole.rows.items) in
+          let few : length made.rows.items ≤ length whole.rows.items = rw rows-many (length-selected tests whole.rows.items) in
           let before : width_of whole.columns.items + length whole.rows.items + 1 < 2 ^ 64 = of.ready.countable in
           let same : width_of made.columns.items ≡ width_of whole.columns.items = ap width_of tried.columns in
           omega arith

@@ -1,71 +1,39 @@
 -- Of the inequalities those that were tried alone have a multiplier other than 0.
-use Rattle.std.proofs.Common.{◌≡◌, Bool, true, false, not, List, [], ◌∷◌, ◌⊎◌, inl, inr, map, filter, refl, sym, ap, ◌∙◌, subst, if◌then◌else◌}
+use Rattle.std.proofs.Common.{◌≡◌, Bool, true, false, List, [], ◌∷◌, inl, inr, map, filter, refl, sym, ap, ◌∙◌, subst}
 use Rattle.std.specs.Prelude.{Option, Some, None}
-use Rattle.std.specs.BTreeMap.{insert_entry}
 use Rattle.std.specs.Ordering.{is_eq}
-use Rattle.exact_num.specs.Rational.{Rational, times}
+use Rattle.exact_num.specs.Rational.{Rational}
 use Rattle.row_core.specs.declared.Row.{Row}
 use Rattle.row_core.specs.declared.RowName.{RowName}
 use Rattle.row_core.specs.declared.Sense.TheVariants.{Equal}
 use Rattle.row_core.specs.declared.Var.{Var}
-use Rattle.row_core.specs.LookUps.{value_at}
-use Rattle.row_core.specs.Numbers.{ascends, is_zero, keys_of}
+use Rattle.row_core.specs.Numbers.{ascends, keys_of}
 use Rattle.row_core.specs.Order.{row_name_cmp}
-use Rattle.row_core.specs.Plans.{or_zero, value_in}
 use Rattle.row_core.proofs.AscendingLaws.{ascends-tail}
 use Rattle.row_core.proofs.Members.{Has, Has-from_Contains, Has-map, filter_parts, map_parts}
 use Rattle.row_core.specs.RowLists.{names_of}
 use Rattle.row_problem.specs.Problems.{IsProblem}
-use Rattle.written_method.specs.Definitions.{Definition, definitions_of, AreTriangular}
+use Rattle.written_method.specs.Definitions.{definitions_of, AreTriangular}
 use Rattle.written_method.specs.Eliminated.{ReducedRow}
-use Rattle.written_method.specs.Multiplied.{defined_multipliers, multiplier_of, scaled_multipliers}
+use Rattle.written_method.specs.Multiplied.{scaled_multipliers}
 use Rattle.row_problem.specs.Programs.{name_left, rows_left, scale_left}
 use Rattle.row_problem.specs.Sizes.{is_unequal}
-use Rattle.row_problem.proofs.CompletePlans.{insert-has}
+use Rattle.row_problem.proofs.CompletePlans.{definition_names, multiplied-has, scaled-has}
 use Rattle.conflict_sets.specs.Conflicts.{inequalities}
 use Rattle.conflict_sets.specs.Pieces.{AreWithin}
 use Rattle.conflict_sets.specs.Trials.{rows_tried, tried_multipliers}
 use Rattle.conflict_sets.specs.Walks.{is_listed}
 use Rattle.conflict_sets.proofs.RowLists.{inequality-row, not-again, same-name}
+use Rattle.conflict_sets.proofs.Tests.{by_test}
 
 -- a value other than 0 is that of a key
 listed-key : (values : List (RowName × Rational)) (u : RowName) → is_listed values u ≡ true → Has (keys_of values) u
 listed-key [] u h = absurd (cc h)
-listed-key (e ∷ values) u h = cases (is_eq (row_name_cmp e.0 u)) refl h (listed-key values u)
-  where
-    cases : (t : Bool) → is_eq (row_name_cmp e.0 u) ≡ t → not (is_zero (or_zero (if t then Some e.1 else value_at row_name_cmp values u)).top) ≡ true → (is_listed values u ≡ true → Has (keys_of values) u) → Has (keys_of (e ∷ values)) u
-    cases true is k rest = inl (same-name e.0 u is)
-    cases false is k rest = inr (rest k)
-
--- ---- the keys
-
-scaled-has : (names : List RowName) (scales multipliers : List Rational) (made : List (RowName × Rational)) (u : RowName) → Has (keys_of (scaled_multipliers names scales multipliers made)) u → Has names u ⊎ Has (keys_of made) u
-scaled-has [] scales multipliers made u h = inr h
-scaled-has (name ∷ names) [] multipliers made u h = inr h
-scaled-has (name ∷ names) (scale ∷ scales) [] made u h = inr h
-scaled-has (name ∷ names) (scale ∷ scales) (multiplier ∷ multipliers) made u h =
-    cases (scaled-has names scales multipliers (insert_entry row_name_cmp made name (times multiplier scale)) u h) (insert-has row_name_cmp made name (times multiplier scale) u)
-  where
-    cases : {A B C D : Type 0} → A ⊎ B → (B → C ⊎ D) → (C ⊎ A) ⊎ D
-    cases (inl a) f = inl (inr a)
-    cases (inr b) f = elim (f b) [ inl c ↦ inl (inl c) | inr d ↦ inr d ]
-
-abbrev definition_name : Definition → RowName
-definition_name d = d.row.name
-
-multiplied-has : (rows : List Row) (ds : List Definition) (made : List (RowName × Rational)) (u : RowName) → Has (keys_of (defined_multipliers false rows ds made)) u → Has (map definition_name ds) u ⊎ Has (keys_of made) u
-multiplied-has rows [] made u h = inr h
-multiplied-has rows (d ∷ ds) made u h =
-    let before = defined_multipliers false rows ds made in
-    cases (insert-has row_name_cmp before d.row.name (multiplier_of false rows (value_in row_name_cmp before) d) u h) (multiplied-has rows ds made u)
-  where
-    cases : {A B C D : Type 0} → A ⊎ B → (B → C ⊎ D) → (A ⊎ C) ⊎ D
-    cases (inl a) f = inl (inl a)
-    cases (inr b) f = elim (f b) [ inl c ↦ inl (inr c) | inr d ↦ inr d ]
+listed-key (e ∷ values) u h = by_test (is_eq (row_name_cmp e.0 u)) (λ is. inl (same-name e.0 u is)) (λ is. inr (listed-key values u (rw is at h)))
 
 -- ---- definitions are no inequalities
 
-definition-row : (rows : List Row) (defs : List (Option Var)) (u : RowName) → AreTriangular (definitions_of rows defs) → Has (map definition_name (definitions_of rows defs)) u → (row : Row) × Has rows row × (row.sense ≡ Equal) × (row.name ≡ u)
+definition-row : (rows : List Row) (defs : List (Option Var)) (u : RowName) → AreTriangular (definitions_of rows defs) → Has (definition_names (definitions_of rows defs)) u → (row : Row) × Has rows row × (row.sense ≡ Equal) × (row.name ≡ u)
 definition-row [] defs u h k = absurd k
 definition-row (row ∷ rows) [] u h k = absurd k
 definition-row (row ∷ rows) (None ∷ defs) u h k = let rest = definition-row rows defs u h k in (rest.0, inr rest.1, rest.2, rest.3)
@@ -92,7 +60,7 @@ multipliers-within listed rows defs vars lambda problem u there is =
     let names = map name_left (rows_tried listed rows defs) in
     let scales = map scale_left (rows_tried listed rows defs) in
     let inequality = inequality-row rows u (Has-from_Contains (inequalities rows) u there) in
-    elim (multiplied-has rows (definitions_of rows defs) (scaled_multipliers names scales lambda []) u (listed-key (tried_multipliers listed rows defs lambda) u is)) [
+    elim (multiplied-has false rows (definitions_of rows defs) (scaled_multipliers names scales lambda []) u (listed-key (tried_multipliers listed rows defs lambda) u is)) [
       | inl defined ↦
           let definition = definition-row rows defs u problem.triangular defined in
           let same : inequality.0 ≡ definition.0 = one-row rows inequality.0 definition.0 problem.named inequality.1 definition.1 (inequality.3 ∙ sym definition.3) in

@@ -11,12 +11,8 @@ use Rattle.written_method.specs.Eliminated.{ReducedRow, is_column}
 use Rattle.written_method.specs.Multiplied.{multiplier_steps, named_multipliers}
 use Rattle.written_method.specs.Programs.{LinearProgram}
 use Rattle.written_method.specs.Solved.{Outcome, IsOptimal, IsInfeasible, IsUnbounded, IsOutOfPivots, IsTooWide, solved}
-use Rattle.certificate_checker.specs.Conditions.{steps}
-use Rattle.certificate_checker.specs.Costs.{model_cost}
-use Rattle.certificate_checker.specs.MultiplierChecks.{infeasible_conditions}
-use Rattle.certificate_checker.specs.PlanChecks.{plan_conditions}
-use Rattle.simplex_core.specs.declared.ends.Halt.{Halt}
-use Rattle.simplex_core.specs.declared.ends.Halt.TheVariants as halts
+use Rattle.exact_solver.specs.MethodEnds as method
+use Rattle.exact_solver.specs.MethodEnds.{refutation_checks}
 use Rattle.row_problem.specs.Programs.{carried_plan, inequality_in, name_left, plan_steps, rows_left, scale_left}
 use Rattle.row_problem.specs.Sizes.{is_unequal}
 use Rattle.certified_answers.specs.declared.answers.NoAnswer.{NoAnswer}
@@ -47,11 +43,7 @@ tried_steps listed rows defs lambda =
 
 -- the check of a plan, over the rows of the trial
 abbrev pub plan_checks : (RowName → Bool) → List Row → List Var → List (Var × Rational) → List (Step Place)
-plan_checks listed rows vars plan = steps (plan_conditions model_cost (rows_with listed rows) vars plan)
-
--- the check of multipliers, over all rows
-abbrev pub refutation_checks : List Row → List Var → List (RowName × Rational) → List (Step Place)
-refutation_checks rows vars multipliers = steps (infeasible_conditions rows vars multipliers)
+plan_checks listed rows vars plan = method.plan_checks (rows_with listed rows) vars plan
 
 -- ---- how a trial ends
 
@@ -72,7 +64,7 @@ abbrev pub planned_end : (RowName → Bool) → List Row → List (Option Var) �
 planned_end listed rows defs vars values =
     unless_stopped (first_wide (plan_steps rows defs values ++ plan_checks listed rows vars (carried_plan rows defs values))) (HasPlan (carried_plan rows defs values))
 
--- multipliers of the rows that are tried are carried back to all rows, and checked
+-- multipliers of the rows that are tried are carried back to all rows, and checked over all rows
 abbrev pub refuted_end : (RowName → Bool) → List Row → List (Option Var) → List Var → List Rational → TrialEnd
 refuted_end listed rows defs vars lambda =
     unless_stopped (first_wide (tried_steps listed rows defs lambda ++ refutation_checks rows vars (tried_multipliers listed rows defs lambda))) (HasNone (tried_multipliers listed rows defs lambda))
@@ -88,12 +80,6 @@ carried_trial listed rows defs vars (IsTooWide place) = IsWide place
 -- the end with so many pivots at most
 unfoldable pub trial_end : (RowName → Bool) → List Row → List (Option Var) → List Var → ℕ → TrialEnd
 trial_end listed rows defs vars pivots = carried_trial listed rows defs vars (solved pivots (trial_program listed rows defs vars))
-
--- why the simplex stops, as the reason why a trial does
-abbrev pub stop_at : Halt → NoAnswer
-stop_at halts.Budget = stops.Budget
-stop_at (halts.Width place) = stops.Width place
-stop_at halts.Memory = stops.Memory
 
 -- why a trial stops: a pivot is due after the last that may be made, or the place is that of the first step that forms a number that doesn't fit; out of memory has no cause
 abbrev pub StopsTrial : TrialEnd → NoAnswer → Type 0

@@ -102,18 +102,18 @@ abbrev pub Stops : Explanation → ExplainFail → Type 0
 Stops end (fails.Stopped stop) = end ≡ IsStopped stop
 Stops end fails.Memory = ⊤
 
--- why the trial of this number stopped, and why the first did; no trial ends with nothing
-abbrev pub trial_failed : ℕ → ℕ → NoAnswer → ExplainFail
-trial_failed k pivots stops.Budget = fails.Stopped (Trial k (trials.Budget pivots))
-trial_failed k pivots (stops.Width place) = fails.Stopped (Trial k (trials.Width place))
-trial_failed k pivots stops.Nothing = fails.Memory
-trial_failed k pivots stops.Memory = fails.Memory
+-- why the trial of this number stopped, and why the first did; no trial stops with nothing
+abbrev pub IsTrialFail : ℕ → ℕ → NoAnswer → ExplainFail → Type 0
+IsTrialFail k pivots stops.Nothing fail = ⊥
+IsTrialFail k pivots stops.Budget fail = fail ≡ fails.Stopped (Trial k (trials.Budget pivots))
+IsTrialFail k pivots (stops.Width place) fail = fail ≡ fails.Stopped (Trial k (trials.Width place))
+IsTrialFail k pivots stops.Memory fail = fail ≡ fails.Memory
 
-abbrev pub first_failed : ℕ → NoAnswer → ExplainFail
-first_failed pivots stops.Budget = fails.Stopped (Budget pivots)
-first_failed pivots (stops.Width place) = fails.Stopped (Width place)
-first_failed pivots stops.Nothing = fails.Memory
-first_failed pivots stops.Memory = fails.Memory
+abbrev pub IsFirstFail : ℕ → NoAnswer → ExplainFail → Type 0
+IsFirstFail pivots stops.Nothing fail = ⊥
+IsFirstFail pivots stops.Budget fail = fail ≡ fails.Stopped (Budget pivots)
+IsFirstFail pivots (stops.Width place) fail = fail ≡ fails.Stopped (Width place)
+IsFirstFail pivots stops.Memory fail = fail ≡ fails.Memory
 
 -- ---- with the elimination before
 

@@ -1,6 +1,6 @@
 //! The rows of a trial, and its linear program.
 
-ghost use Rattle.std.specs.Prelude.{◌≡◌, ◌++◌, ◌∷◌, [], if◌then◌else◌, IfOk, OnOk, map, length};
+ghost use Rattle.std.specs.Prelude.{◌≡◌, ◌++◌, [], ◌∷◌, if◌then◌else◌, IfOk, OnOk, map, length};
 ghost use Rattle.row_core.specs.Contents.{contents_of};
 ghost use Rattle.conflict_sets.specs.Pieces.{IsTriedOf, is_taken, listed_by, selected, tests_of};
 ghost use Rattle.conflict_sets.specs.Trials.{rows_with};

@@ -1,10 +1,11 @@
 //! Why no plan meets the rows of a problem.
 
-ghost use Rattle.std.specs.Prelude.{◌≡◌, Some, length, IfOk, IfErr, IfSome, IfNone};
+ghost use Rattle.std.specs.Prelude.{◌≡◌, ◌≢◌, Some, length, IfOk, IfErr, IfSome, IfNone};
+ghost use Rattle.certified_answers.specs.declared.answers.NoAnswer.TheVariants.{Nothing};
 ghost use Rattle.row_problem.specs.ProgramsOf.{IsPosedProblem};
 ghost use Rattle.conflict_sets.specs.Conflicts.{AdmitsSome, IsConflict};
 ghost use Rattle.conflict_sets.specs.Searches.{SearchIs, walk_from};
-ghost use Rattle.conflict_sets.specs.Walks.{Stops, explained, explanation_seen, first_failed};
+ghost use Rattle.conflict_sets.specs.Walks.{IsFirstFail, Stops, explained, explanation_seen};
 
 use crate::conflict::{Conflict, ExplainFail};
 use crate::listing::{Listing, listed_names};
@@ -78,12 +79,13 @@ fn searched(
 
 /// Why the first trial, which has every inequality, stopped.
 pub(crate) fn first_fail(stop: NoAnswer, pivots: u64) -> ExplainFail
-    ensures { result ≡ first_failed pivots stop }
+    requires { stop ≢ Nothing }
+    ensures { IsFirstFail pivots stop result }
 {
     match stop {
+        NoAnswer::Nothing => unreachable!(),
         NoAnswer::Budget => ExplainFail::Stopped(Stop::Budget(pivots)),
         NoAnswer::Width(place) => ExplainFail::Stopped(Stop::Width(place)),
-        // No trial ends without an answer for any other reason.
-        NoAnswer::Nothing | NoAnswer::Memory => ExplainFail::Memory,
+        NoAnswer::Memory => ExplainFail::Memory,
     }
 }

@@ -1,6 +1,6 @@
 //! Which inequalities a trial has.
 
-ghost use Rattle.std.specs.Prelude.{◌≡◌, ◌++◌, ◌∷◌, [], ◌&&◌, if◌then◌else◌, IfOk, OnOk};
+ghost use Rattle.std.specs.Prelude.{◌≡◌, ◌++◌, [], ◌∷◌, ◌&&◌, if◌then◌else◌, IfOk, OnOk};
 ghost use Rattle.row_problem.specs.Sizes.{is_unequal};
 ghost use Rattle.conflict_sets.specs.Pieces.{is_outside, listed_by};
 ghost use Rattle.conflict_sets.specs.Walks.{is_listed, listed_names};

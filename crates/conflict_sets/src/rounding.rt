@@ -9,7 +9,6 @@ ghost use Rattle.conflict_sets.specs.Pieces.{IsFinding, listed_by};
 ghost use Rattle.conflict_sets.specs.RoundedStops.{StopsSome};
 ghost use Rattle.conflict_sets.specs.Searches.{SearchIs};
 ghost use Rattle.conflict_sets.specs.Trials.{StopsTrial, trial_end};
-ghost use Rattle.conflict_sets.specs.Walks.{first_failed, trial_failed};
 
 use crate::conflict::{Conflict, ExplainFail};
 use crate::explaining::first_fail;

@@ -1,11 +1,12 @@
 //! The list of inequalities that a refutation uses, as one after another is tried.
 
-ghost use Rattle.std.specs.Prelude.{◌≡◌, ◌+◌, ◌<◌, ◌≤◌, ◌^◌, ◌∷◌, List, length, map, IfOk, IfErr, OnOk};
+ghost use Rattle.std.specs.Prelude.{◌≡◌, ◌≢◌, ◌+◌, ◌<◌, ◌≤◌, ◌^◌, ◌∷◌, List, length, map, IfOk, IfErr, OnOk};
 ghost use Rattle.row_core.specs.declared.RowName.{RowName};
 ghost use Rattle.row_core.specs.Plans.{valued};
+ghost use Rattle.certified_answers.specs.declared.answers.NoAnswer.TheVariants.{Nothing};
 ghost use Rattle.row_problem.specs.ProgramsOf.{IsPosedProblem};
 ghost use Rattle.conflict_sets.specs.Searches.{SearchIs, all_needed, list_after, member_named, needed_after, walk_from};
-ghost use Rattle.conflict_sets.specs.Walks.{Stops, trial_failed};
+ghost use Rattle.conflict_sets.specs.Walks.{IsTrialFail, Stops};
 
 use crate::conflict::{Conflict, ExplainFail};
 use crate::listing::{Listing, is_listed};
@@ -111,13 +112,15 @@ fn members_of(
 
 /// Why the trial of this number stopped.
 pub(crate) fn trial_fail(stop: NoAnswer, trial: u64, pivots: u64) -> ExplainFail
-    ensures { result ≡ trial_failed trial pivots stop }
+    requires { stop ≢ Nothing }
+    ensures { IsTrialFail trial pivots stop result }
 {
     match stop {
+        NoAnswer::Nothing => unreachable!(),
         NoAnswer::Budget => ExplainFail::Stopped(Stop::Trial(trial, TrialStop::Budget(pivots))),
         NoAnswer::Width(place) => {
             ExplainFail::Stopped(Stop::Trial(trial, TrialStop::Width(place)))
         }
-        NoAnswer::Nothing | NoAnswer::Memory => ExplainFail::Memory,
+        NoAnswer::Memory => ExplainFail::Memory,
     }
 }

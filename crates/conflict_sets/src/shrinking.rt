@@ -1,6 +1,6 @@
 //! A long list made shorter before its inequalities are tried one by one.
 
-ghost use Rattle.std.specs.Prelude.{IfOk, OnOk};
+ghost use Rattle.std.specs.Prelude.{OnOk};
 ghost use Rattle.row_problem.specs.ProgramsOf.{IsPosedProblem};
 ghost use Rattle.certified_answers.specs.Worth.{IsRefutation};
 

@@ -3,17 +3,19 @@
 ghost use Rattle.std.specs.Prelude.{◌≡◌, IfOk, IfErr, length};
 ghost use Rattle.row_core.specs.Numbers.{keys_of};
 ghost use Rattle.written_method.specs.Programs.{program_of};
-ghost use Rattle.simplex_core.specs.Outcomes.{MeetAll, RefuteAll};
+ghost use Rattle.simplex_core.specs.Outcomes.{MeetAll, RefuteAll, outcome_seen};
 ghost use Rattle.row_problem.specs.ProgramsOf.{IsPosedProblem};
+ghost use Rattle.exact_solver.specs.SimplexEnds.{IsEnded};
 ghost use Rattle.conflict_sets.specs.Pieces.{IsFinding, IsTriedOf, end_found, listed_by};
-ghost use Rattle.conflict_sets.specs.Trials.{StopsTrial, planned_end, refuted_end, stop_at, trial_end};
+ghost use Rattle.conflict_sets.specs.Trials.{StopsTrial, carried_trial, planned_end, refuted_end, trial_end};
 
 use crate::copying::{trial_program, trial_rows};
 use crate::listing::Listing;
 use certified_answers::{NoAnswer, accepted_plan, accepted_refutation, multiplier_laws, plan_laws};
+use exact_solver::stop_at;
 use row_core::{Multipliers, Plan};
 use row_problem::{Problem, carry_plan};
-use simplex_core::{End, Halt, Lambda, solve};
+use simplex_core::{End, Lambda, solve};
 use std::alloc::Global;
 use variable_elimination::lift_multipliers;
 use written_method::Reduced;
@@ -40,25 +42,31 @@ pub(crate) fn trial(
     ensures worth { IfOk result (IsFinding (listed_by listing.now) problem.now.rows.now problem.now.vars.now) }
 {
     let tried = trial_program(alloc, problem.reduced, listing)?;
-    let end = match solve(alloc, &tried, pivots) {
-        Ok(end) => end,
-        Err(halt) => return Err(stop_at(halt)),
-    };
-    match end {
-        End::Optimal { values, .. } => planned(alloc, problem, listing, &tried, &values),
-        End::Unbounded { values, .. } => planned(alloc, problem, listing, &tried, &values),
-        End::Infeasible { lambda, .. } => refuted(alloc, problem, listing, &tried, &lambda),
+    match solve(alloc, &tried, pivots) {
+        Ok(end) => carried(alloc, problem, listing, &tried, end),
+        Err(halt) => Err(stop_at(halt)),
     }
 }
 
-/// Why the simplex stops, as the reason why a trial does.
-fn stop_at(halt: Halt) -> NoAnswer
-    ensures { result ≡ stop_at halt }
+/// An end of the simplex method on the linear program of a trial, carried back and checked.
+fn carried(
+    alloc: Global,
+    problem: &Problem<'_>,
+    listing: &Listing<'_>,
+    tried: &Reduced,
+    end: End,
+) -> Result<Finding, NoAnswer>
+    requires problem { IsPosedProblem problem.now }
+    requires tried { IsTriedOf (listed_by listing.now) problem.now.reduced.now tried.now }
+    requires ended { IsEnded (program_of tried.now) end }
+    ensures end { IfOk result (λ finding. end_found finding ≡ carried_trial (listed_by listing.now) problem.now.rows.now problem.now.defs.now problem.now.vars.now (outcome_seen end)) }
+    ensures stopped { IfErr result (StopsTrial (carried_trial (listed_by listing.now) problem.now.rows.now problem.now.defs.now problem.now.vars.now (outcome_seen end))) }
+    ensures worth { IfOk result (IsFinding (listed_by listing.now) problem.now.rows.now problem.now.vars.now) }
 {
-    match halt {
-        Halt::Budget => NoAnswer::Budget,
-        Halt::Width(place) => NoAnswer::Width(place),
-        Halt::Memory => NoAnswer::Memory,
+    match end {
+        End::Optimal { values, .. } => planned(alloc, problem, listing, tried, &values),
+        End::Unbounded { values, .. } => planned(alloc, problem, listing, tried, &values),
+        End::Infeasible { lambda, .. } => refuted(alloc, problem, listing, tried, &lambda),
     }
 }
 

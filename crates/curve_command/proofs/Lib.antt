@@ -1,6 +1,5 @@
+pub mod LimitValues
 pub mod LimitedLaws
-pub mod LimitedData
-pub mod LimitTerms
 pub mod RenewedLaws
 pub mod KeptBooks
 pub mod NamedPoints
@@ -9,5 +8,4 @@ pub mod TrialLaws
 pub mod TextLaws
 mod LimitExamples
 mod TextExamples
-pub mod DataLaws
 pub mod TrialLists

@@ -100,31 +100,12 @@ is_within exogenous a b x =
     list_all (λ name. is_eq (row_name_cmp name (limit_at 0 0)) || meets 6 (two_technologies exogenous) 1 x name) (instances (two_technologies exogenous))
     && int_le (pos b *ℤ x (model_period_emissions 0 0)) (a *ℤ pos 1)
 
-four_at_four : is_within 0 (pos 4) 1 (making 0 4) ≡ true
+-- with so much exogenous emission, at the limit a over b, when the first makes so many units: at 4 four keep it and five don't, and neither do five at 9/2; ten do at 20. Beside 5
+-- that come whatever is made no plan keeps a limit of 4; four units keep one of 9.
+keeps : map (λ (t : ℕ × ℕ × ℕ × ℕ). is_within t.0 (pos t.1) t.2 (making t.0 t.3)) ((0, 4, 1, 4) ∷ (0, 4, 1, 5) ∷ (0, 9, 2, 5) ∷ (0, 20, 1, 10) ∷ (5, 4, 1, 0) ∷ (5, 9, 1, 4) ∷ [])
+    ≡ true ∷ false ∷ false ∷ true ∷ false ∷ true ∷ []
 unfolding discounted capital_factor root_from half_year_root operating_factor salvage_fraction
-four_at_four = refl
-
--- five are too many there, and at 9/2, and not at 5
-five_at_four : is_within 0 (pos 4) 1 (making 0 5) ≡ false
-unfolding discounted capital_factor root_from half_year_root operating_factor salvage_fraction
-five_at_four = refl
-
-five_at_nine_halves : is_within 0 (pos 9) 2 (making 0 5) ≡ false
-unfolding discounted capital_factor root_from half_year_root operating_factor salvage_fraction
-five_at_nine_halves = refl
-
-ten_at_twenty : is_within 0 (pos 20) 1 (making 0 10) ≡ true
-unfolding discounted capital_factor root_from half_year_root operating_factor salvage_fraction
-ten_at_twenty = refl
-
--- beside 5 that come whatever is made no plan keeps a limit of 4; four units keep one of 9
-none_at_four : is_within 5 (pos 4) 1 (making 5 0) ≡ false
-unfolding discounted capital_factor root_from half_year_root operating_factor salvage_fraction
-none_at_four = refl
-
-four_at_nine : is_within 5 (pos 9) 1 (making 5 4) ≡ true
-unfolding discounted capital_factor root_from half_year_root operating_factor salvage_fraction
-four_at_nine = refl
+keeps = refl
 
 costs : map (λ n. cost (two_technologies 0) (making 0 n)) (4 ∷ 7 ∷ 10 ∷ []) ≡ pos 110 ∷ pos 95 ∷ pos 80 ∷ []
 costs = refl
@@ -137,30 +118,14 @@ costs_at_least x bound slope limit a b =
     let more : ℤ = above_limit (pos (limit * 10 ^ 9)) a b in
     int_le ((bound.top *ℤ slope.bottom *ℤ pos (10 ^ 9 * b) +ℤ slope.top *ℤ more *ℤ bound.bottom) *ℤ pos 1) (bound.bottom *ℤ slope.bottom *ℤ pos (10 ^ 9 * b) *ℤ cost (two_technologies 0) x)
 
--- through 110 at 4 with the slope -5: what four, seven and ten units cost at limits that they keep
-at_four : costs_at_least (making 0 4) (whole (pos 110)) (whole (negsuc 4)) 4 (pos 4) 1 ≡ true
-at_four = refl
+-- what so many units cost is at least the line, at limits that they keep: through 110 at 4 with the slope -5, and through 80 at 20 with a slope of 0
+below : map (λ (t : ℕ × ℕ × ℤ × ℕ × ℕ × ℕ). costs_at_least (making 0 t.0) (whole (pos t.1)) (whole t.2) t.3 (pos t.4) t.5)
+    ((4, 110, negsuc 4, 4, 4, 1) ∷ (7, 110, negsuc 4, 4, 15, 2) ∷ (10, 110, negsuc 4, 4, 20, 1) ∷ (4, 80, pos 0, 20, 4, 1) ∷ (10, 80, pos 0, 20, 10, 1) ∷ [])
+    ≡ true ∷ true ∷ true ∷ true ∷ true ∷ []
+below = refl
 
-at_fifteen_halves : costs_at_least (making 0 7) (whole (pos 110)) (whole (negsuc 4)) 4 (pos 15) 2 ≡ true
-at_fifteen_halves = refl
-
-at_twenty : costs_at_least (making 0 10) (whole (pos 110)) (whole (negsuc 4)) 4 (pos 20) 1 ≡ true
-at_twenty = refl
-
--- with a slope of 0 the line is too high at 20, with one of -4 at 7
-no_slope : costs_at_least (making 0 10) (whole (pos 110)) (whole (pos 0)) 4 (pos 20) 1 ≡ false
-no_slope = refl
-
-flatter : costs_at_least (making 0 7) (whole (pos 110)) (whole (negsuc 3)) 4 (pos 7) 1 ≡ false
-flatter = refl
-
--- through 80 at 20 the slope is 0
-level : costs_at_least (making 0 4) (whole (pos 80)) (whole (pos 0)) 20 (pos 4) 1 ≡ true
-level = refl
-
-level_at_ten : costs_at_least (making 0 10) (whole (pos 80)) (whole (pos 0)) 20 (pos 10) 1 ≡ true
-level_at_ten = refl
-
--- with one of -5 it is too high at 10
-falling : costs_at_least (making 0 10) (whole (pos 80)) (whole (negsuc 4)) 20 (pos 10) 1 ≡ false
-falling = refl
+-- through 110 at 4 a slope of 0 is too high at 20, and one of -4 at 7; through 80 at 20 one of -5 is too high at 10
+too_high : map (λ (t : ℕ × ℕ × ℤ × ℕ × ℕ × ℕ). costs_at_least (making 0 t.0) (whole (pos t.1)) (whole t.2) t.3 (pos t.4) t.5)
+    ((10, 110, pos 0, 4, 20, 1) ∷ (7, 110, negsuc 3, 4, 7, 1) ∷ (10, 80, negsuc 4, 20, 10, 1) ∷ [])
+    ≡ false ∷ false ∷ false ∷ []
+too_high = refl

@@ -7,7 +7,6 @@ use Rattle.exact_num.specs.Rational.{Rational}
 use Rattle.exact_num.proofs.Integers.{≤ℤ-*ℤ}
 use Rattle.exact_num.proofs.Ring.{ring, +ℤ-zero}
 use Rattle.model_sets.specs.Data.{Data}
-use Rattle.model_sets.specs.Members.{AreSets}
 use Rattle.param_tables.specs.Ranges.{billion}
 use Rattle.row_core.specs.declared.Row.{Row}
 use Rattle.row_core.specs.declared.RowName.{RowName}
@@ -24,7 +23,6 @@ use Rattle.named_equations.specs.Parameters.{model_period_emission_limit}
 use Rattle.named_equations.specs.Plans.{Meets}
 use Rattle.named_equations.specs.RowMeaning.{IsNamedRow}
 use Rattle.named_equations.specs.Variables.{model_period_emissions, variable}
-use Rattle.named_equations.specs.Within.{IsEmission, IsRegion}
 use Rattle.row_core.proofs.Members.{Contains-from_Has, Has}
 use Rattle.named_equations.proofs.InstanceTests.{Has-instances}
 use Rattle.named_equations.proofs.TermMeaning.{alone-self}
@@ -34,13 +32,14 @@ use Rattle.row_book.specs.Books.{AreRowsOf}
 use Rattle.row_book.specs.EquationRows.{terms_at}
 use Rattle.command_answers.specs.CheckedPlans.{IsBookOf}
 use Rattle.command_answers.proofs.CheckedRows.{costs-same, feasible-from_rows, rows-from_feasible, signs-each}
-use Rattle.solve_command.proofs.SolvedRows.{no-least}
+use Rattle.command_answers.proofs.SolvedRows.{no-least}
 use Rattle.emission_curve.specs.Ends.{HasLine, HasLineBelow, HasNoBound, HasNoPlan, IsStopped, PointEnd}
 use Rattle.emission_curve.specs.Points as over_rows
 use Rattle.emission_curve.specs.Slopes.{emissions_entry}
 use Rattle.curve_command.specs.CurvePoints.{EndIsTrue, IsLineBelow, IsReachedAt, NoneIsWithin, above_limit}
 use Rattle.curve_command.specs.Limited.{FeasibleWithin, limit_at, with_limit}
-use Rattle.curve_command.proofs.LimitedLaws.{exists-alike, feasible-from_within, instance-alike, limit-here, says-alike, within-higher}
+use Rattle.curve_command.proofs.LimitValues.{IsPlace, limit-here}
+use Rattle.curve_command.proofs.LimitedLaws.{exists-alike, feasible-from_within, instance-alike, says-alike, within-higher}
 
 -- ---- the equation of the limit, of the plan with less emissions
 
@@ -49,13 +48,10 @@ lowered : (k b m z a q : ℤ) → pos 0 ≤ℤ k → (b *ℤ m) ≤ℤ (a *ℤ q
 lowered k b m z a q least within =
     let one : (k *ℤ (b *ℤ m)) ≤ℤ (k *ℤ (a *ℤ q)) = ≤ℤ-*ℤ (b *ℤ m) (a *ℤ q) k least within in
     let two : (k *ℤ (k *ℤ (b *ℤ m))) ≤ℤ (k *ℤ (k *ℤ (a *ℤ q))) = ≤ℤ-*ℤ (k *ℤ (b *ℤ m)) (k *ℤ (a *ℤ q)) k least one in
-    let left : k *ℤ (k *ℤ b *ℤ m +ℤ pos 1 *ℤ neg_ℤ ((a *ℤ k +ℤ neg_ℤ (z *ℤ b)) *ℤ q)) ≡ k *ℤ (k *ℤ (b *ℤ m)) +ℤ (neg_ℤ (k *ℤ (k *ℤ (a *ℤ q))) +ℤ z *ℤ (k *ℤ b *ℤ q)) = apart k b m z a q in
+    let left : k *ℤ (k *ℤ b *ℤ m +ℤ pos 1 *ℤ neg_ℤ ((a *ℤ k +ℤ neg_ℤ (z *ℤ b)) *ℤ q)) ≡ k *ℤ (k *ℤ (b *ℤ m)) +ℤ (neg_ℤ (k *ℤ (k *ℤ (a *ℤ q))) +ℤ z *ℤ (k *ℤ b *ℤ q)) = simp ring in
     omega (arith, ints, two, left)
-  where
-    apart : (k b m z a q : ℤ) → k *ℤ (k *ℤ b *ℤ m +ℤ pos 1 *ℤ neg_ℤ ((a *ℤ k +ℤ neg_ℤ (z *ℤ b)) *ℤ q)) ≡ k *ℤ (k *ℤ (b *ℤ m)) +ℤ (neg_ℤ (k *ℤ (k *ℤ (a *ℤ q))) +ℤ z *ℤ (k *ℤ b *ℤ q))
-    apart k b m z a q = simp ring
 
-module _ (places : ℕ) (d : Data) (r e : ℕ) (z : ℤ) (are : AreSets d.sets) (in_r : IsRegion d r) (in_e : IsEmission d e) where
+module _ (places : ℕ) (d : Data) (r e : ℕ) (z : ℤ) (at : IsPlace d r e) where
   abbrev limited : Data
   limited = with_limit d r e z
 
@@ -103,10 +99,10 @@ module _ (places : ℕ) (d : Data) (r e : ℕ) (z : ℤ) (are : AreSets d.sets) 
             (row-lessened places d more under q x under-positive row emissions ((is.says (under * q) less).1 (subst (Meets places limited (under * q) less) (sym of_name) less-meets)))
         by_test false other =
             let apart : name ≢ limit = λ same. true≢false (sym (name-itself row.name limit (is.written.named ∙ same)) ∙ other) in
-            let of_data : is_instance d name ≡ true = instance-alike d r e z are in_r in_e name apart ∙ there in
+            let of_data : is_instance d name ≡ true = instance-alike d r e z at name apart ∙ there in
             subst (Stands row.sense (row_sum (λ v. pos under *ℤ x v) row.entries.items)) (sym (+ℤ-zero (row.rhs *ℤ pos (under * q))))
             (row-wider places d more under q x under-positive row
-            ((is.says q x).1 (subst Holds (says-alike d r e z are in_r in_e places q x name of_data apart) (plan.others name of_data apart))))
+            ((is.says q x).1 (subst Holds (says-alike d r e z at places q x name of_data apart) (plan.others name of_data apart))))
 
     rows-stand : (names : List RowName) (rows : List Row) → ((name : RowName) → Has names name → is_instance limited name ≡ true) → AreRowsOf places limited names rows
         → AllStand (over_rows.right_with_more limit more under q) rows (λ v. pos under *ℤ x v)
@@ -147,7 +143,7 @@ module _ (places : ℕ) (d : Data) (r e : ℕ) (z : ℤ) (are : AreSets d.sets) 
     none-named none a b q x positive low plan =
         none q x
         (rows-from_feasible places limited rows vars book q x
-        (feasible-from_within d r e z are in_r in_e places q x (within-higher places d r e z a b q x positive low plan)))
+        (feasible-from_within d r e z at places q x (within-higher places d r e z a b q x positive low plan)))
 
     -- what an end says of the rows it says of the named equations
     pub end-named : (end : PointEnd) → over_rows.EndIsOf rows vars limit end → EndIsTrue places d r e z end

@@ -1,5 +1,5 @@
 -- Lines, texts and statuses, computed.
-use Rattle.std.proofs.Common.{◌≡◌, ◌*◌, ◌^◌, pos, negsuc, [], ◌∷◌, codes, refl}
+use Rattle.std.proofs.Common.{◌≡◌, ◌*◌, ◌^◌, pos, negsuc, [], ◌∷◌, codes, map, refl}
 use Rattle.exact_num.specs.Gcd.{gcd_of, gcd_within}
 use Rattle.exact_num.specs.Rational.{lowest, whole}
 use Rattle.model_sets.specs.Members.{no_members}
@@ -15,30 +15,18 @@ use Rattle.curve_command.specs.CurveTexts.{curve_status, curve_text, limit_line}
 
 -- ---- lines
 
-four : limit_line no_members (pos (4 * 10 ^ 9), HasLine (whole (pos 110)) (whole (negsuc 4))) ≡ codes "limit 4 cost 110 110.000000 slope -5\n"
-unfolding lowest gcd_of gcd_within fraction_text millionths_text millionths digits
-four = refl
-
 -- a limit that isn't whole is a fraction
-half : limit_line no_members (pos (5 * 10 ^ 8), HasNoPlan) ≡ codes "limit 1/2 infeasible\n"
-unfolding lowest gcd_of gcd_within fraction_text digits
-half = refl
-
-no_limit_at_all : limit_line no_members (pos 0, HasNoBound) ≡ codes "limit 0 unbounded\n"
-unfolding lowest gcd_of gcd_within fraction_text digits
-no_limit_at_all = refl
-
-rounded : limit_line no_members (pos (7 * 10 ^ 9), HasLineBelow (whole (pos 96)) (whole (pos 95)) (whole (negsuc 4))) ≡ codes "limit 7 cost 96 96.000000 bound 95 95.000000 slope -5\n"
+lines : map (limit_line no_members)
+    ((pos (4 * 10 ^ 9), HasLine (whole (pos 110)) (whole (negsuc 4)))
+    ∷ (pos (5 * 10 ^ 8), HasNoPlan) ∷ (pos 0, HasNoBound)
+    ∷ (pos (7 * 10 ^ 9), HasLineBelow (whole (pos 96)) (whole (pos 95)) (whole (negsuc 4)))
+    ∷ (pos (10 ^ 9), IsStopped (Budget 3)) ∷ (pos (10 ^ 9), IsStopped (Width CostRow)) ∷ [])
+    ≡ codes "limit 4 cost 110 110.000000 slope -5\n"
+    ∷ codes "limit 1/2 infeasible\n" ∷ codes "limit 0 unbounded\n"
+    ∷ codes "limit 7 cost 96 96.000000 bound 95 95.000000 slope -5\n"
+    ∷ codes "limit 1 uncertified budget 3\n" ∷ codes "limit 1 uncertified width cost row\n" ∷ []
 unfolding lowest gcd_of gcd_within fraction_text millionths_text millionths digits
-rounded = refl
-
-stopped : limit_line no_members (pos (10 ^ 9), IsStopped (Budget 3)) ≡ codes "limit 1 uncertified budget 3\n"
-unfolding lowest gcd_of gcd_within fraction_text digits
-stopped = refl
-
-wide : limit_line no_members (pos (10 ^ 9), IsStopped (Width CostRow)) ≡ codes "limit 1 uncertified width cost row\n"
-unfolding lowest gcd_of gcd_within fraction_text digits
-wide = refl
+lines = refl
 
 two : curve_text no_members ((pos (10 ^ 9), HasNoPlan) ∷ (pos (2 * 10 ^ 9), HasNoBound) ∷ []) ≡ codes "limit 1 infeasible\nlimit 2 unbounded\nend\n"
 unfolding lowest gcd_of gcd_within fraction_text digits

@@ -7,7 +7,7 @@ use Rattle.row_core.specs.declared.Var.{Var}
 use Rattle.row_core.specs.Values.{IsOver}
 use Rattle.named_equations.specs.Plans.{Feasible, cost}
 use Rattle.plan_quantities.specs.Prices.{CostsAtLeast}
-use Rattle.solve_command.specs.SolvedPlans.{HasNoLeastCost}
+use Rattle.command_answers.specs.SolvedPlans.{HasNoLeastCost}
 use Rattle.emission_curve.specs.Ends.{HasLine, HasLineBelow, HasNoBound, HasNoPlan, IsStopped, PointEnd}
 use Rattle.curve_command.specs.Limited.{FeasibleWithin, with_limit}
 

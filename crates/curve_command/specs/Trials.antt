@@ -11,7 +11,7 @@ use Rattle.command_answers.specs.declared.status.Status.{Status}
 use Rattle.command_answers.specs.MadeRows.{IsMadeFor, IsTooLarge}
 use Rattle.command_words.specs.declared.command.SolveMethod.{SolveMethod}
 use Rattle.command_words.specs.declared.command.SolveMethod.TheVariants.{Rounded}
-use Rattle.solve_command.specs.Limits.{IsWithinLimits, PassesLimits}
+use Rattle.command_answers.specs.Limits.{IsWithinLimits, PassesLimits}
 use Rattle.command_answers.specs.Definers.{definers}
 use Rattle.emission_curve.specs.Ends.{IsStopped, PointEnd, point_end}
 use Rattle.emission_curve.specs.Points.{EndIsRounded}
@@ -53,4 +53,4 @@ pub record IsTrialOf (places : ℕ) (d : Data) (r e : ℕ) (wanted : Wanted) (fo
 
 -- the trial refuses: its rows have too many entries, or their linear program is too large
 abbrev pub RefusesTrial : ℕ → Data → Status → List ℕ → Type 0
-RefusesTrial places d status text = IsTooLarge places d status text ⊎ IsMadeFor places d (λ rows. PassesLimits d rows status text)
+RefusesTrial places d status text = IsTooLarge places d status text ⊎ IsMadeFor places d (λ rows. PassesLimits rows (all_variables d) status text)

@@ -1,43 +1,37 @@
 // The rows of a trial. Of the data with one limit and with another all rows but that of the limit are the same, so they are made once.
-ghost use Rattle.std.specs.Prelude.{◌<◌, IfErr, IfOk, IfSome, length};
-ghost use Rattle.command_words.specs.LimitLists.{IsLimit};
+ghost use Rattle.std.specs.Prelude.{IfErr, IfOk, IfSome};
 ghost use Rattle.discount_factors.specs.Factors.{IsPlaces};
-ghost use Rattle.model_sets.specs.Members.{members};
-ghost use Rattle.row_book.specs.Books.{NamesRowWithin};
-ghost use Rattle.curve_command.specs.KeptRows.{HasNoBookAt, IsBookAt, IsBookAtSome, IsRenewed};
-ghost use Rattle.curve_command.specs.Limited.{limit_at};
+ghost use Rattle.model_sets.specs.Data.{AreSameData, Data};
+ghost use Rattle.named_equations.specs.Instances.{instances};
+ghost use Rattle.param_tables.specs.Built.{AreComplete};
+ghost use Rattle.row_book.specs.Books.{HasStopped, NamesRowWithin};
+ghost use Rattle.command_answers.specs.MadeBooks.{IsMadeBook};
+ghost use Rattle.curve_command.specs.KeptRows.{IsBookAtSome, IsLimitOf, IsMemberOf, IsRenewed, limit_of, limited};
 
-use crate::trials::{Member, limit_row};
+use crate::trials::{Limit, Member, limit_row};
 use model_sets::param_numbers::MODEL_PERIOD_EMISSION_LIMIT;
-use model_sets::set_numbers::{EMISSION, REGION};
 use param_tables::ModelData;
-use row_book::{BookFail, RowBook, row_at, same_data_laws};
-use row_core::RowName;
-use std::alloc::Global;
+use row_book::{BookFail, RowBook, row_at};
+use std::alloc::{AllocError, Global};
 
-/// The book of the data with a limit, in billionths, from that of the data with another limit, where there is one.
+/// The book of the data with a limit, from that of the data with another limit, where there is one.
 pub fn limited_book(
     alloc: Global,
     model: &ModelData,
     places: u8,
-    member: Member,
-    limit: i128,
+    limit: Limit,
     before: Option<RowBook>,
 ) -> Result<RowBook, BookFail>
     requires places { IsPlaces places }
-    requires region { member.region < length (members model.now.facts.sets REGION) }
-    requires emission { member.emission < length (members model.now.facts.sets EMISSION) }
-    requires limit { IsLimit limit }
-    requires before { IfSome before (IsBookAtSome places model.now.facts member.region member.emission) }
-    ensures book { IfOk result (IsBookAt places model.now.facts member.region member.emission limit) }
-    ensures stopped { IfErr result (HasNoBookAt places model.now.facts member.region member.emission limit) }
+    requires limit { IsLimitOf model.now.facts.sets limit }
+    requires before { (d : Data) → AreSameData model.now.facts d → IfSome before (IsBookAtSome places d limit.member) }
+    ensures book { (d : Data) → AreSameData model.now.facts d → IfOk result (IsMadeBook places (limited d limit)) }
+    ensures stopped { (d : Data) → AreSameData model.now.facts d → IfErr result (HasStopped places (limited d limit) 0 (instances (limited d limit))) }
     ensures place { IfErr result (NamesRowWithin model.now.facts.sets) }
 {
-    same_data_laws();
-    let index = [member.region, member.emission];
-    let limited = model.with_value(alloc, MODEL_PERIOD_EMISSION_LIMIT, &index, limit)?;
+    let limited = limited_model(alloc, model, limit)?;
     if let Some(book) = before {
-        if let Some(book) = renewed(alloc, book, &limited, places, member) {
+        if let Some(book) = renewed(alloc, book, &limited, places, limit.member) {
             return Ok(book);
         }
     }
@@ -45,6 +39,16 @@ pub fn limited_book(
         Ok(book) => Ok(book),
         Err(fail) => Err(fail),
     }
+}
+
+// The model with the limit in the place of its own.
+fn limited_model(alloc: Global, model: &ModelData, limit: Limit) -> Result<ModelData, AllocError>
+    requires { IsLimitOf model.now.facts.sets limit }
+    ensures facts { (d : Data) → AreSameData model.now.facts d → IfOk result (λ changed. AreSameData changed.facts (limited d limit)) }
+    ensures complete { IfOk result (λ changed. AreComplete changed.facts) }
+{
+    let index = [limit.member.region, limit.member.emission];
+    model.with_value(alloc, MODEL_PERIOD_EMISSION_LIMIT, &index, limit.most)
 }
 
 // The book with the row of the limit over other data in the place of the one that it has. There is none where that row can't be made:
@@ -57,9 +61,8 @@ fn renewed(
     member: Member,
 ) -> Option<RowBook>
     requires places { IsPlaces places }
-    requires region { member.region < length (members limited.now.facts.sets REGION) }
-    requires emission { member.emission < length (members limited.now.facts.sets EMISSION) }
-    ensures { IfSome result (IsRenewed places limited.now.facts (limit_at member.region member.emission) book) }
+    requires member { IsMemberOf limited.now.facts.sets member }
+    ensures { IfSome result (IsRenewed places limited.now.facts (limit_of member) book) }
 {
     let limit = limit_row(member);
     let row = match row_at(alloc, limited, places, limit) {

@@ -1,11 +1,11 @@
 // The answer over accepted data.
-ghost use Rattle.std.specs.Prelude.{◌<◌, IfOk, length};
+ghost use Rattle.std.specs.Prelude.{IfOk};
 ghost use Rattle.std.specs.List.{AllByRecursion};
 ghost use Rattle.command_words.specs.LimitLists.{IsLimit};
 ghost use Rattle.discount_factors.specs.Factors.{IsPlaces};
 ghost use Rattle.model_sets.specs.Data.{AreSameData, Data};
-ghost use Rattle.model_sets.specs.Members.{members};
 ghost use Rattle.curve_command.specs.Curve.{DueForCurve, DueForLimits};
+ghost use Rattle.curve_command.specs.KeptRows.{IsMemberOf};
 ghost use Rattle.curve_command.specs.Outcomes.{wanted_of};
 
 use crate::texts::{curve_status, curve_text};
@@ -35,29 +35,6 @@ pub fn answer_curve(
     ensures { (d : Data) → AreSameData model.now.facts d → IfOk result (λ answer.
         DueForCurve places (record { method = method; pivots = pivots; gap = gap }) region.now emission.now limits.now d answer.status answer.text.items) }
 {
-    let wanted = Wanted {
-        method,
-        pivots,
-        gap,
-    };
-    answer_words(alloc, model, places, region, emission, limits, wanted)
-}
-
-// The same of what is wanted.
-fn answer_words(
-    alloc: Global,
-    model: &ModelData,
-    places: u8,
-    region: &str,
-    emission: &str,
-    limits: &[i128],
-    wanted: Wanted,
-) -> Result<Answer, AllocError>
-    requires places { IsPlaces places }
-    requires limits { AllByRecursion IsLimit limits.now }
-    ensures { (d : Data) → AreSameData model.now.facts d → IfOk result (λ answer.
-        DueForCurve places (wanted_of wanted) region.now emission.now limits.now d answer.status answer.text.items) }
-{
     let region = match find_member(alloc, model.sets(), REGION, region)? {
         Ok(region) => region,
         Err(answer) => return Ok(answer),
@@ -67,6 +44,11 @@ fn answer_words(
         Err(answer) => return Ok(answer),
     };
     let member = Member { region, emission };
+    let wanted = Wanted {
+        method,
+        pivots,
+        gap,
+    };
     answer_limits(alloc, model, places, member, limits, wanted)
 }
 
@@ -80,8 +62,7 @@ fn answer_limits(
     wanted: Wanted,
 ) -> Result<Answer, AllocError>
     requires places { IsPlaces places }
-    requires region { member.region < length (members model.now.facts.sets REGION) }
-    requires emission { member.emission < length (members model.now.facts.sets EMISSION) }
+    requires member { IsMemberOf model.now.facts.sets member }
     requires limits { AllByRecursion IsLimit limits.now }
     ensures { (d : Data) → AreSameData model.now.facts d → IfOk result (λ answer.
         DueForLimits places d member.region member.emission (wanted_of wanted) limits.now answer.status answer.text.items) }

@@ -2,7 +2,6 @@
 //! bound on the cost at every other limit.
 #![tactic(auto)]
 
-mod book_points;
 mod books;
 mod curve;
 mod laws;

@@ -2,10 +2,9 @@
 ghost use Rattle.std.specs.Prelude.{◌≡◌, ◌++◌, IfOk, OnOk, length, map};
 ghost use Rattle.std.specs.List.{AllByRecursion, flat_map};
 ghost use Rattle.exact_num.specs.Value.{value_of};
-ghost use Rattle.command_words.specs.LimitLists.{IsLimit};
 ghost use Rattle.emission_curve.specs.Ends.{point_seen};
 ghost use Rattle.curve_command.specs.CurveTexts.{amount_text, curve_status, curve_text, end_text, first_stop, limit_line, slope_text};
-ghost use Rattle.curve_command.specs.Outcomes.{PointIsWithin, found_seen};
+ghost use Rattle.curve_command.specs.Outcomes.{EndIsWithin, IsPrintable, found_seen};
 
 use crate::trials::Found;
 use command_answers::{Status, Stop, push_trial_stop};
@@ -20,8 +19,7 @@ const BILLION: i128 = 1_000_000_000;
 
 /// A line for each limit, and the end.
 pub fn curve_text(alloc: Global, sets: &Sets, all: &[Found]) -> Result<Vec<u8>, AllocError>
-    requires within { AllByRecursion (λ found. PointIsWithin sets.now found.point) all.now }
-    requires limits { AllByRecursion (λ found. IsLimit found.limit) all.now }
+    requires { AllByRecursion (IsPrintable sets.now) all.now }
     ensures { IfOk result (λ text. text.items ≡ curve_text sets.now (map found_seen all.now)) }
 {
     let mut out = Vec::new(alloc);
@@ -32,8 +30,7 @@ pub fn curve_text(alloc: Global, sets: &Sets, all: &[Found]) -> Result<Vec<u8>, 
 
 // Appends the line of each limit.
 fn push_limits(out: &mut Vec<u8>, sets: &Sets, all: &[Found]) -> Result<(), AllocError>
-    requires within { AllByRecursion (λ found. PointIsWithin sets.now found.point) all.now }
-    requires limits { AllByRecursion (λ found. IsLimit found.limit) all.now }
+    requires { AllByRecursion (IsPrintable sets.now) all.now }
     ensures { OnOk result (out.new.items ≡ out.old.items ++ flat_map (limit_line sets.now) (map found_seen all.now)) }
 {
     for found in all {
@@ -44,8 +41,7 @@ fn push_limits(out: &mut Vec<u8>, sets: &Sets, all: &[Found]) -> Result<(), Allo
 
 // Appends the line of a limit.
 fn push_limit(out: &mut Vec<u8>, sets: &Sets, found: Found) -> Result<(), AllocError>
-    requires within { PointIsWithin sets.now found.point }
-    requires limit { IsLimit found.limit }
+    requires { IsPrintable sets.now found }
     ensures { OnOk result (out.new.items ≡ out.old.items ++ limit_line sets.now (found_seen found)) }
 {
     out.extend_from_slice(b"limit ")?;
@@ -57,7 +53,7 @@ fn push_limit(out: &mut Vec<u8>, sets: &Sets, found: Found) -> Result<(), AllocE
 
 // Appends what was found at a limit.
 fn push_end(out: &mut Vec<u8>, sets: &Sets, point: Point) -> Result<(), AllocError>
-    requires { PointIsWithin sets.now point }
+    requires { EndIsWithin sets.now (point_seen point) }
     ensures { OnOk result (out.new.items ≡ out.old.items ++ end_text sets.now (point_seen point)) }
 {
     match point {

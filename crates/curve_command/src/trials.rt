@@ -1,14 +1,12 @@
 // The trials of limits, one after another.
-ghost use Rattle.std.specs.Prelude.{◌≡◌, ◌<◌, IfOk, IfSome, length};
+ghost use Rattle.std.specs.Prelude.{◌≡◌, IfOk, IfSome};
 ghost use Rattle.std.specs.List.{AllByRecursion};
 ghost use Rattle.command_words.specs.LimitLists.{IsLimit};
 ghost use Rattle.discount_factors.specs.Factors.{IsPlaces};
 ghost use Rattle.model_sets.specs.Data.{AreSameData, Data};
-ghost use Rattle.model_sets.specs.Members.{members};
 ghost use Rattle.row_book.specs.Books.{NamesRowWithin};
-ghost use Rattle.curve_command.specs.KeptRows.{IsBookAtSome};
-ghost use Rattle.curve_command.specs.Limited.{limit_at};
-ghost use Rattle.curve_command.specs.Outcomes.{FailTells, OutcomeTells, TrialTells, wanted_of};
+ghost use Rattle.curve_command.specs.KeptRows.{IsBookAtSome, IsLimitOf, IsMemberOf, limit_of};
+ghost use Rattle.curve_command.specs.Outcomes.{FailTells, OutcomeTells, TriedTells, wanted_of};
 
 use crate::books::limited_book;
 use crate::points::book_trial;
@@ -16,9 +14,8 @@ use command_answers::{Answer, TrialStop, refuse_book};
 use command_words::SolveMethod;
 use emission_curve::Point;
 use model_sets::Sets;
-use model_sets::set_numbers::{EMISSION, REGION};
 use param_tables::ModelData;
-use row_book::{BookFail, RowBook, same_data_laws};
+use row_book::{BookFail, RowBook};
 use row_core::equation_numbers::E9;
 use row_core::{Index, RowName};
 use std::alloc::{AllocError, Global};
@@ -28,6 +25,13 @@ use std::alloc::{AllocError, Global};
 pub struct Member {
     pub region: u16,
     pub emission: u16,
+}
+
+/// A limit on the emissions of the model period, in billionths.
+#[derive(Clone, Copy)]
+pub struct Limit {
+    pub member: Member,
+    pub most: i128,
 }
 
 /// The method, the most pivots of a trial, and how many millionths of a bound the rounded method may leave a cost above it.
@@ -80,19 +84,23 @@ pub fn trials(
     wanted: Wanted,
 ) -> Result<Outcome, AllocError>
     requires places { IsPlaces places }
-    requires region { member.region < length (members model.now.facts.sets REGION) }
-    requires emission { member.emission < length (members model.now.facts.sets EMISSION) }
+    requires member { IsMemberOf model.now.facts.sets member }
     requires limits { AllByRecursion IsLimit limits.now }
-    ensures { (d : Data) → AreSameData model.now.facts d → IfOk result (OutcomeTells places d member.region member.emission (wanted_of wanted) limits.now) }
+    ensures { (d : Data) → AreSameData model.now.facts d → IfOk result (OutcomeTells places d member (wanted_of wanted) limits.now) }
 {
     let mut all = Vec::with_capacity(alloc, limits.len())?;
     let mut book = None;
-    for limit in limits {
-        let Tried { trial, book: made } = limit_trial(
-            alloc, model, places, member, *limit, wanted, book,
-        )?;
+    for most in limits {
+        let limit = Limit {
+            member,
+            most: *most,
+        };
+        let Tried { trial, book: made } = limit_trial(alloc, model, places, limit, wanted, book)?;
         match trial {
-            Trial::Ended(point) => all.push(found_at(*limit, point))?,
+            Trial::Ended(point) => all.push(Found {
+                limit: *most,
+                point,
+            })?,
             Trial::Refused(answer) => return Ok(Outcome::Refused(answer)),
         }
         book = made;
@@ -100,36 +108,24 @@ pub fn trials(
     Ok(Outcome::Ended(all))
 }
 
-// What was found at a limit.
-fn found_at(limit: i128, point: Point) -> Found
-    ensures limit { result.limit ≡ limit }
-    ensures point { result.point ≡ point }
-{
-    Found { limit, point }
-}
-
-// The trial of a limit, in billionths: over the data with that limit. `before` are the rows of another limit's trial.
+// The trial of a limit: over the data with that limit. `before` are the rows of another limit's trial.
 fn limit_trial(
     alloc: Global,
     model: &ModelData,
     places: u8,
-    member: Member,
-    limit: i128,
+    limit: Limit,
     wanted: Wanted,
     before: Option<RowBook>,
 ) -> Result<Tried, AllocError>
     requires places { IsPlaces places }
-    requires region { member.region < length (members model.now.facts.sets REGION) }
-    requires emission { member.emission < length (members model.now.facts.sets EMISSION) }
-    requires limit { IsLimit limit }
-    requires before { IfSome before (IsBookAtSome places model.now.facts member.region member.emission) }
-    ensures trial { (d : Data) → AreSameData model.now.facts d → IfOk result (λ tried. TrialTells places d member.region member.emission (wanted_of wanted) limit tried.trial) }
-    ensures book { IfOk result (λ tried. IfSome tried.book (IsBookAtSome places model.now.facts member.region member.emission)) }
+    requires limit { IsLimitOf model.now.facts.sets limit }
+    requires before { (d : Data) → AreSameData model.now.facts d → IfSome before (IsBookAtSome places d limit.member) }
+    ensures { (d : Data) → AreSameData model.now.facts d → IfOk result (TriedTells places d limit (wanted_of wanted)) }
 {
-    same_data_laws();
-    match limited_book(alloc, model, places, member, limit, before) {
+    match limited_book(alloc, model, places, limit, before) {
         Ok(book) => {
-            let trial = book_trial(alloc, &book, model.sets(), limit_row(member), wanted)?;
+            let row = limit_row(limit.member);
+            let trial = book_trial(alloc, &book, model.sets(), row, wanted)?;
             Ok(Tried {
                 trial,
                 book: Some(book),
@@ -142,9 +138,9 @@ fn limit_trial(
     }
 }
 
-/// The row of the limit.
+/// The row of the limits of a member.
 pub fn limit_row(member: Member) -> RowName
-    ensures { result ≡ limit_at member.region member.emission }
+    ensures { result ≡ limit_of member }
 {
     RowName {
         eq: E9,

@@ -1,7 +1,7 @@
 pub mod Nothing
+pub mod FoldLaws
 pub mod LineLaws
 pub mod MergeLaws
-pub mod ChoiceLaws
 pub mod RowLaws
 pub mod RunLaws
 pub mod StartLaws

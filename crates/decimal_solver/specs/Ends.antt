@@ -1,5 +1,6 @@
 -- Values and multipliers of the last state.
-use Rattle.std.specs.Prelude.{ℕ, suc, ℤ, pos, ◌*ℤ◌, int_lt, List, [], ◌∷◌, ◌++◌, slice_index_or, slice_set, Option, Some, None, if◌then◌else◌}
+use Rattle.std.specs.Prelude.{ℕ, suc, ◌+◌, ℤ, pos, ◌*ℤ◌, int_lt, List, [], ◌∷◌, ◌++◌, length, slice_index_or, slice_set, Option, Some, None, if◌then◌else◌}
+use Rattle.std.specs.List.{fold}
 use Rattle.exact_num.specs.Formed.{difference_formed}
 use Rattle.exact_num.specs.Range.{all_fit}
 use Rattle.exact_num.specs.Rational.{Rational, lowest, minus, whole}
@@ -7,15 +8,19 @@ use Rattle.row_core.specs.declared.Var.{Var}
 use Rattle.row_core.specs.Numbers.{is_zero}
 use Rattle.written_method.specs.Programs.{is_split}
 use Rattle.int_tableau.specs.Starts.{after_columns}
+use Rattle.decimal_solver.specs.Folds.{folded}
 use Rattle.decimal_solver.specs.Lines.{Entries}
 use Rattle.decimal_solver.specs.Numbers.{and_then, formed, unit}
 use Rattle.decimal_solver.specs.Rounds.{clipped}
 use Rattle.decimal_solver.specs.States.{GridRow}
 
+-- the values with that of a row
+abbrev pub with_basic : List Rational → GridRow → List Rational
+with_basic values row = slice_set values row.basic (lowest (clipped row.line.right) (pos unit))
+
 -- a basic column's value is its right side over 10^9, or 0 where that is negative; all others are 0
 unfoldable pub column_values : List Rational → List GridRow → List Rational
-column_values values [] = values
-column_values values (row ∷ rows) = column_values (slice_set values row.basic (lowest (clipped row.line.right) (pos unit))) rows
+column_values values rows = fold with_basic values rows
 
 -- a difference of fractions that is formed
 abbrev pub difference : Rational → Rational → Option Rational
@@ -28,15 +33,21 @@ value_in_column values c = slice_index_or values c (whole (pos 0))
 abbrev pub variable_value : List Rational → ℕ → Var → Option Rational
 variable_value values c v = if is_split v then difference (value_in_column values c) (value_in_column values (suc c)) else Some (value_in_column values c)
 
+-- the next column, and the values so far
+abbrev pub with_value : List Rational → ℕ × List (Var × Rational) → Var → Option (ℕ × List (Var × Rational))
+with_value values s v = and_then (variable_value values s.0 v) (λ x. Some (after_columns (is_split v) s.0, s.1 ++ (v, x) ∷ []))
+
 -- the values of variables from column c on
 unfoldable pub variable_values : List Rational → ℕ → List (Var × Rational) → List Var → Option (List (Var × Rational))
-variable_values values c made [] = Some made
-variable_values values c made (v ∷ vs) = and_then (variable_value values c v) (λ x. variable_values values (after_columns (is_split v) c) (made ++ (v, x) ∷ []) vs)
+variable_values values c made vs = and_then (folded (with_value values) (c, made) vs) (λ s. Some s.1)
+
+-- the numbers with that of an entry
+abbrev pub with_number : List ℤ → ℕ × ℤ → List ℤ
+with_number numbers e = slice_set numbers e.0 e.1
 
 -- the entries as a list with a number for each column
 unfoldable pub spread : List ℤ → Entries → List ℤ
-spread numbers [] = numbers
-spread numbers (e ∷ es) = spread (slice_set numbers e.0 e.1) es
+spread numbers es = fold with_number numbers es
 
 -- an entry above 0 counts as 0
 abbrev pub at_most_0 : ℤ → ℤ
@@ -46,8 +57,10 @@ at_most_0 z = if int_lt (pos 0) z then pos 0 else z
 abbrev pub row_multiplier : ℤ → ℤ → Option Rational
 row_multiplier y scale = and_then (formed (pos unit *ℤ scale)) (λ d. if is_zero d then None else Some (lowest y d))
 
+-- the multipliers with that of one more row, whose slack stands after those of the rows before
+abbrev pub with_multiplier : List ℤ → ℕ → List Rational → GridRow → Option (List Rational)
+with_multiplier numbers c made row = and_then (row_multiplier (at_most_0 (slice_index_or numbers (c + length made) (pos 0))) row.scale) (λ x. Some (made ++ x ∷ []))
+
 -- the multipliers of rows whose slacks stand from column c on
 unfoldable pub row_multipliers : List ℤ → ℕ → List Rational → List GridRow → Option (List Rational)
-row_multipliers numbers c made [] = Some made
-row_multipliers numbers c made (row ∷ rows) =
-    and_then (row_multiplier (at_most_0 (slice_index_or numbers c (pos 0))) row.scale) (λ x. row_multipliers numbers (suc c) (made ++ x ∷ []) rows)
+row_multipliers numbers c made rows = folded (with_multiplier numbers c) made rows

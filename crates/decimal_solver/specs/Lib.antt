@@ -1,4 +1,5 @@
 pub mod Numbers
+pub mod Folds
 pub mod Lines
 pub mod States
 pub mod Rounds

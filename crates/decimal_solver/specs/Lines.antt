@@ -2,6 +2,7 @@
 -- where the pivot row has 0 too, so these are all numbers of a line.
 use Rattle.std.specs.Prelude.{ℕ, ◌==◌, nat_lt, ℤ, pos, unsigned_abs, List, [], ◌∷◌, ◌++◌, Option, Some, if◌then◌else◌}
 use Rattle.row_core.specs.Numbers.{is_zero}
+use Rattle.decimal_solver.specs.Folds.{folded}
 use Rattle.decimal_solver.specs.Numbers.{and_then, reduced_number, scaled_number}
 
 abbrev pub Entries : Type 0
@@ -22,13 +23,13 @@ entry_in c (e ∷ es) = if nat_lt e.0 c then entry_in c es else (if e.0 == c the
 
 -- ---- the pivot row
 
+-- the entries with one more of these
+abbrev pub with_scaled : ℤ → ℕ → ℕ → Entries → ℕ × ℤ → Option Entries
+with_scaled f d limit made e = if nat_lt e.0 limit then and_then (scaled_number f e.1 d) (λ z. Some (with_entry made e.0 z)) else Some made
+
 -- near (f * a / d) for each entry a in the columns before `limit`, after those that were made
 unfoldable pub scaled_entries : ℤ → ℕ → ℕ → Entries → Entries → Option Entries
-scaled_entries f d limit made [] = Some made
-scaled_entries f d limit made (e ∷ es) =
-    if nat_lt e.0 limit
-    then and_then (scaled_number f e.1 d) (λ z. scaled_entries f d limit (with_entry made e.0 z) es)
-    else scaled_entries f d limit made es
+scaled_entries f d limit made es = folded (with_scaled f d limit) made es
 
 -- the line, whose entry in column c becomes 1: each number a becomes near (f * a / p), where p is that entry without its sign, and f is 10^9, or -10^9 where the line is multiplied by -1 before
 abbrev pub pivot_line : ℤ → ℕ → ℕ → Line → Option Line

@@ -1,21 +1,23 @@
 -- The rounds on the grid: which column enters, which row leaves, the state after a pivot, and all rounds.
-use Rattle.std.specs.Prelude.{ℕ, zero, suc, ◌-◌, ◌==◌, nat_lt, ℤ, pos, negsuc, int_lt, int_le, Bool, true, false, ◌&&◌, ◌||◌, List, [], ◌∷◌, ◌++◌, slice_index_or, slice_set, Option, Some, None, is_none, if◌then◌else◌}
+use Rattle.std.specs.Prelude.{ℕ, zero, suc, ◌+◌, ◌-◌, ◌==◌, nat_lt, ℤ, pos, negsuc, int_lt, int_le, Bool, true, false, ◌&&◌, ◌||◌, List, [], ◌∷◌, ◌++◌, length, slice_index_or, slice_set, Option, Some, None, is_none, if◌then◌else◌}
+use Rattle.std.specs.List.{fold}
 use Rattle.std.specs.declared.cmp.Ordering.TheVariants.{Less, Equal, Greater}
 use Rattle.exact_num.specs.Rational.{Rational, lowest, order_of}
 use Rattle.written_method.specs.Choices.{rank_of}
+use Rattle.decimal_solver.specs.Folds.{folded}
 use Rattle.decimal_solver.specs.Lines.{Entries, Line, cleared, entry_in, pivot_line}
 use Rattle.decimal_solver.specs.Numbers.{and_then}
 use Rattle.decimal_solver.specs.States.{GridRow, Phase, Start, One, Two, State}
 
 -- ---- the column that enters
 
+-- the greatest entry so far and its column, by one more entry
+abbrev pub entered : Bool → ℕ → ℤ × Option ℕ → ℕ × ℤ → ℤ × Option ℕ
+entered greedy limit s e = if nat_lt e.0 limit && (int_lt s.0 e.1 && (greedy || is_none s.1)) then (e.1, Some e.0) else s
+
 -- the column with the greatest entry above `best` in the columns before `limit`, the first of those; or, not greedily, the first with such an entry
 unfoldable pub entering_from : Bool → ℕ → ℤ → Option ℕ → Entries → Option ℕ
-entering_from greedy limit best chosen [] = chosen
-entering_from greedy limit best chosen (e ∷ es) =
-    if nat_lt e.0 limit && (int_lt best e.1 && (greedy || is_none chosen))
-    then entering_from greedy limit e.1 (Some e.0) es
-    else entering_from greedy limit best chosen es
+entering_from greedy limit best chosen es = (fold {B = ℤ × Option ℕ} (entered greedy limit) (best, chosen) es).1
 
 -- a column can enter where its entry is above 10; after 50 degenerate pivots in a row the first that can does
 abbrev pub entering : ℕ → ℕ → Line → Option ℕ
@@ -48,16 +50,21 @@ abbrev pub chosen_with : Option ℕ → ℕ → ℕ → Option Candidate → Gri
 chosen_with x0 c at chosen row =
     if int_lt (pos 1000) (entry_in c row.line.entries) then Some (better chosen (candidate_at x0 at (entry_in c row.line.entries) row)) else chosen
 
+-- the next row, and the one that leaves so far
+abbrev pub with_candidate : Option ℕ → ℕ → ℕ × Option Candidate → GridRow → ℕ × Option Candidate
+with_candidate x0 c s row = (s.0 + 1, chosen_with x0 c s.0 s.1 row)
+
 -- the one with the least quotient leaves; at a tie x0, then the least basic column
 unfoldable pub leaving_from : Option ℕ → ℕ → ℕ → Option Candidate → List GridRow → Option Candidate
-leaving_from x0 c at chosen [] = chosen
-leaving_from x0 c at chosen (row ∷ rows) = leaving_from x0 c (suc at) (chosen_with x0 c at chosen row) rows
+leaving_from x0 c at chosen rows = (fold {B = ℕ × Option Candidate} (with_candidate x0 c) (at, chosen) rows).1
+
+-- the next row, the least right side so far and its row, by one more row
+abbrev pub lesser : ℕ × ℤ × Option ℕ → GridRow → ℕ × ℤ × Option ℕ
+lesser s row = if int_lt row.line.right s.1 then (s.0 + 1, row.line.right, Some s.0) else (s.0 + 1, s.1, s.2)
 
 -- the row with the least right side below `best`, the first of those
 unfoldable pub least_right : ℕ → ℤ → Option ℕ → List GridRow → Option ℕ
-least_right at best chosen [] = chosen
-least_right at best chosen (row ∷ rows) =
-    if int_lt row.line.right best then least_right (suc at) row.line.right (Some at) rows else least_right (suc at) best chosen rows
+least_right at best chosen rows = (fold {B = ℕ × ℤ × Option ℕ} lesser (at, best, chosen) rows).2
 
 -- ---- what is due
 
@@ -86,13 +93,16 @@ no_row = record { line = record { entries = []; right = pos 0 }; basic = 0; scal
 abbrev pub row_at : List GridRow → ℕ → GridRow
 row_at rows r = slice_index_or rows r no_row
 
+-- one more row, which is row r or is cleared in column c
+abbrev pub with_cleared : ℕ → ℕ → Line → List GridRow → GridRow → Option (List GridRow)
+with_cleared r c pivot made row =
+    if length made == r
+    then Some (made ++ row ∷ [])
+    else and_then (cleared c pivot row.line) (λ line. Some (made ++ record { line = line; basic = row.basic; scale = row.scale } ∷ []))
+
 -- the rows by the new line of row r, each other one cleared in column c
-unfoldable pub others_cleared : ℕ → ℕ → Line → ℕ → List GridRow → List GridRow → Option (List GridRow)
-others_cleared r c pivot at made [] = Some made
-others_cleared r c pivot at made (row ∷ rows) =
-    if at == r
-    then others_cleared r c pivot (suc at) (made ++ row ∷ []) rows
-    else and_then (cleared c pivot row.line) (λ line. others_cleared r c pivot (suc at) (made ++ record { line = line; basic = row.basic; scale = row.scale } ∷ []) rows)
+unfoldable pub others_cleared : ℕ → ℕ → Line → List GridRow → List GridRow → Option (List GridRow)
+others_cleared r c pivot made rows = folded (with_cleared r c pivot) made rows
 
 -- with the new line in row r, in which c is basic
 abbrev pub with_pivot : ℕ → ℕ → Line → ℤ → List GridRow → List GridRow
@@ -128,7 +138,7 @@ columns_after s r = if x0_leaves s r then s.columns - 1 else s.columns
 abbrev pub after : State → ℕ → ℕ → Option State
 after s r c =
     and_then (pivot_line (factor_in s.phase) c s.columns (row_at s.rows r).line)
-    (λ pivot. and_then (others_cleared r c pivot 0 [] s.rows)
+    (λ pivot. and_then (others_cleared r c pivot [] s.rows)
     (λ rows. and_then (cleared c pivot s.cost)
     (λ cost. and_then (cleared c pivot s.artificial)
     (λ artificial. Some (record {

@@ -1,5 +1,6 @@
 -- The first tableau of the grid, of a linear program.
 use Rattle.std.specs.Prelude.{ℕ, suc, ◌+◌, nat_lt, ℤ, pos, neg_ℤ, unsigned_abs, List, [], ◌∷◌, ◌++◌, length, Option, Some, None, if◌then◌else◌}
+use Rattle.std.specs.List.{fold}
 use Rattle.row_core.specs.declared.Var.{Var}
 use Rattle.row_core.specs.LookUps.{value_at}
 use Rattle.row_core.specs.Order.{var_cmp}
@@ -7,21 +8,27 @@ use Rattle.row_core.specs.Rows.{number_at}
 use Rattle.written_method.specs.FirstTableau.{as_most, width_of}
 use Rattle.written_method.specs.Programs.{Inequality, LinearProgram, is_split}
 use Rattle.int_tableau.specs.Starts.{in_columns_of, placed}
+use Rattle.decimal_solver.specs.Folds.{folded}
 use Rattle.decimal_solver.specs.Lines.{Entries, with_entry}
 use Rattle.decimal_solver.specs.Numbers.{and_then, lowered, raised, scaled_number, unit}
 use Rattle.decimal_solver.specs.Rounds.{least_right}
 use Rattle.decimal_solver.specs.States.{GridRow, Phase, Start, Two, State}
 
+-- the greater of the greatest so far and one more
+abbrev pub greater : ℕ → Var × ℤ → ℕ
+greater so_far e = if nat_lt so_far (unsigned_abs e.1) then unsigned_abs e.1 else so_far
+
 -- the greatest of some absolute values and `so_far`
 unfoldable pub greatest_entry : ℕ → List (Var × ℤ) → ℕ
-greatest_entry so_far [] = so_far
-greatest_entry so_far (e ∷ es) = greatest_entry (if nat_lt so_far (unsigned_abs e.1) then unsigned_abs e.1 else so_far) es
+greatest_entry so_far es = fold greater so_far es
+
+-- the entries with those of one more
+abbrev pub with_first : ℤ → ℕ → List (Var × ℕ) → Entries → Var × ℤ → Option Entries
+with_first f m places made e = and_then (scaled_number f e.1 m) (λ z. Some (made ++ in_columns_of (is_split e.0) z (value_at var_cmp places e.0)))
 
 -- near (f * e / m) of each entry e, in the columns of its variable: one that may be negative has a second column, with the number negated
 unfoldable pub first_entries : ℤ → ℕ → List (Var × ℕ) → Entries → List (Var × ℤ) → Option Entries
-first_entries f m places made [] = Some made
-first_entries f m places made (e ∷ es) =
-    and_then (scaled_number f e.1 m) (λ z. first_entries f m places (made ++ in_columns_of (is_split e.0) z (value_at var_cmp places e.0)) es)
+first_entries f m places made es = folded (with_first f m places) made es
 
 -- row i of n: its variables, its slack, and -10^9 at x0. Its numbers are divided by its greatest entry; its right side is lowered
 abbrev pub first_row : List (Var × ℕ) → ℕ → ℕ → ℕ → Inequality → Option GridRow
@@ -37,18 +44,23 @@ first_row places width n i row =
       scale = as_most row.sense (pos m);
     }))))
 
-unfoldable pub first_rows : List (Var × ℕ) → ℕ → ℕ → ℕ → List GridRow → List Inequality → Option (List GridRow)
-first_rows places width n i made [] = Some made
-first_rows places width n i made (row ∷ rows) = and_then (first_row places width n i row) (λ r. first_rows places width n (suc i) (made ++ r ∷ []) rows)
+-- the rows with one more, whose number is how many were made
+abbrev pub with_row : List (Var × ℕ) → ℕ → ℕ → List GridRow → Inequality → Option (List GridRow)
+with_row places width n made row = and_then (first_row places width n (length made) row) (λ r. Some (made ++ r ∷ []))
+
+unfoldable pub first_rows : List (Var × ℕ) → ℕ → ℕ → List GridRow → List Inequality → Option (List GridRow)
+first_rows places width n made rows = folded (with_row places width n) made rows
 
 -- the line of z: of each column's cost, -near (10^9 * k / own) lowered, the number negated; the cost of a variable that may be negative isn't lowered
-unfoldable pub cost_entries : List (Var × ℤ) → ℕ → Entries → List (Var × ℕ) → Option Entries
-cost_entries cost own made [] = Some made
-cost_entries cost own made (p ∷ ps) =
+abbrev pub with_cost : List (Var × ℤ) → ℕ → Entries → Var × ℕ → Option Entries
+with_cost cost own made p =
     and_then (scaled_number (pos unit) (number_at cost p.0) own)
     (λ z. if is_split p.0
-    then cost_entries cost own (with_entry (with_entry made p.1 z) (suc p.1) (neg_ℤ z)) ps
-    else and_then (raised z) (λ y. cost_entries cost own (with_entry made p.1 y) ps))
+    then Some (with_entry (with_entry made p.1 z) (p.1 + 1) (neg_ℤ z))
+    else and_then (raised z) (λ y. Some (with_entry made p.1 y)))
+
+unfoldable pub cost_entries : List (Var × ℤ) → ℕ → Entries → List (Var × ℕ) → Option Entries
+cost_entries cost own made ps = folded (with_cost cost own) made ps
 
 -- x0 is there where some right side is negative
 abbrev pub first_phase : Option ℕ → Phase
@@ -65,7 +77,7 @@ first_state p =
     let places : List (Var × ℕ) = placed 0 p.columns in
     let width : ℕ = width_of p.columns in
     let n : ℕ = length p.rows in
-    and_then (first_rows places width n 0 [] p.rows)
+    and_then (first_rows places width n [] p.rows)
     (λ rows. and_then (cost_entries p.cost (unsigned_abs p.cost_own) [] places)
     (λ cost. Some (record {
       rows = rows;

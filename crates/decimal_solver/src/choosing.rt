@@ -28,6 +28,7 @@ fn enters(greedy: bool, limit: usize, best: i128, chosen: Option<usize>, entry: 
 }
 
 /// The column with the greatest entry that can enter, the first of those; or, not greedily, the first that can.
+#[tactic(auto, unfolding(crate::specs::Rounds::entering_from))]
 fn entering_from(greedy: bool, limit: usize, entries: &[Entry]) -> Option<usize>
     ensures { result ≡ entering_from greedy limit (pos 10) None (entries_seen entries.now) }
 {
@@ -125,6 +126,7 @@ fn with_row(
 }
 
 /// The row that leaves for a column, if one can.
+#[tactic(auto, unfolding(crate::specs::Rounds::leaving_from))]
 fn leaving_from(x0: Option<usize>, column: usize, rows: &[GridRow]) -> Option<Candidate>
     ensures { chosen_seen result ≡ leaving_from x0 column 0 None (rows_seen rows.now) }
 {
@@ -146,6 +148,7 @@ fn leaving(x0: Option<usize>, column: usize, rows: &[GridRow]) -> Due
 }
 
 /// The row with the least right side below 0, the first of those.
+#[tactic(auto, unfolding(crate::specs::Rounds::least_right))]
 pub(crate) fn least_right(rows: &[GridRow]) -> Option<usize>
     ensures { result ≡ least_right 0 (pos 0) None (rows_seen rows.now) }
 {

@@ -1,7 +1,6 @@
 //! A line after a pivot.
 
-ghost use Rattle.std.specs.Prelude.{◌≡◌, [], Some, OnOk, IfOk, IfErr};
-ghost use Rattle.exact_num.specs.Range.{InRange};
+ghost use Rattle.std.specs.Prelude.{[], ◌≡◌, Some, OnOk, IfOk, IfErr};
 ghost use Rattle.decimal_solver.specs.Lines.{cleared, merged, pivot_line, scaled_entries};
 ghost use Rattle.decimal_solver.specs.Views.{IsMerging, IsNoMerge, IsNothing, entries_seen, line_seen};
 
@@ -12,6 +11,7 @@ use certified_answers::NoAnswer;
 use std::alloc::Global;
 
 /// `near(f * a / d)` for each entry `a` in the columns before `limit`.
+#[tactic(auto, unfolding(crate::specs::Lines::scaled_entries))]
 fn scaled_entries(
     alloc: Global,
     f: i128,

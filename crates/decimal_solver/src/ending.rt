@@ -1,13 +1,13 @@
 //! Values and multipliers of the last state.
 
-ghost use Rattle.std.specs.Prelude.{◌≡◌, ◌+◌, ◌<◌, ◌^◌, true, [], length, pos, map, replicate, slice_index_or, Some, IfOk, IfErr};
+ghost use Rattle.std.specs.Prelude.{[], ◌≡◌, ◌+◌, ◌<◌, ◌^◌, true, length, pos, map, replicate, slice_index_or, Some, IfOk, IfErr};
 ghost use Rattle.exact_num.specs.Range.{InRange};
 ghost use Rattle.exact_num.specs.Rational.{whole};
 ghost use Rattle.exact_num.specs.Value.{value_of};
 ghost use Rattle.row_core.specs.Numbers.{ascends, keys_of};
 ghost use Rattle.row_core.specs.Order.{var_cmp};
 ghost use Rattle.written_method.specs.FirstTableau.{width_of};
-ghost use Rattle.decimal_solver.specs.Ends.{at_most_0, column_values, difference, row_multiplier, row_multipliers, spread, value_in_column, variable_value, variable_values};
+ghost use Rattle.decimal_solver.specs.Ends.{at_most_0, column_values, row_multiplier, row_multipliers, spread, value_in_column, variable_value, variable_values};
 ghost use Rattle.decimal_solver.specs.Views.{IsNothing, entries_seen, number_seen, rows_seen};
 
 use crate::choosing::clipped;
@@ -136,6 +136,7 @@ fn row_multiplier(number: i128, scale: i128) -> Result<Frac, NoAnswer>
 }
 
 /// The multipliers of rows whose slacks stand from a column on.
+#[tactic(auto, unfolding(crate::specs::Ends::row_multipliers))]
 pub(crate) fn row_multipliers(
     alloc: Global,
     numbers: &[Number],

@@ -1,9 +1,9 @@
 //! The arithmetic of the grid.
 
-ghost use Rattle.std.specs.Prelude.{◌≡◌, ◌≤◌, ◌<◌, pos, unsigned_abs, neg_ℤ, IfOk, OnOk, IfErr};
+ghost use Rattle.std.specs.Prelude.{◌≡◌, ◌≤◌, ◌<◌, unsigned_abs, neg_ℤ, IfOk, IfErr};
 ghost use Rattle.exact_num.specs.Range.{InRange};
 ghost use Rattle.scaled_decimals.specs.Rounding.{nearest};
-ghost use Rattle.decimal_solver.specs.Numbers.{formed, lowered, near, raised, reduced_number, scaled_number};
+ghost use Rattle.decimal_solver.specs.Numbers.{lowered, near, raised, reduced_number, scaled_number};
 ghost use Rattle.decimal_solver.specs.Views.{IsNothing};
 
 use certified_answers::NoAnswer;

@@ -1,6 +1,6 @@
 //! The state after a pivot.
 
-ghost use Rattle.std.specs.Prelude.{◌≡◌, ◌+◌, ◌≤◌, ◌<◌, ◌^◌, [], length, Some, OnOk, IfOk, IfErr};
+ghost use Rattle.std.specs.Prelude.{[], ◌≡◌, ◌+◌, ◌≤◌, ◌<◌, ◌^◌, length, Some, OnOk, IfOk, IfErr};
 ghost use Rattle.decimal_solver.specs.Rounds.{after, degenerate_after, factor_in, is_degenerate, others_cleared, phase_by, x0_leaves};
 ghost use Rattle.decimal_solver.specs.Views.{IsNothing, line_seen, phase_seen, rows_seen, state_seen};
 
@@ -62,6 +62,7 @@ fn x0_leaves(state: &State, row: usize) -> bool
 }
 
 /// Clears a column in each row but one, by the new line of that.
+#[tactic(auto, unfolding(crate::specs::Rounds::others_cleared))]
 fn clear_others(
     alloc: Global,
     rows: &mut Vec<GridRow>,
@@ -69,9 +70,9 @@ fn clear_others(
     column: usize,
     pivot: &Line,
 ) -> Result<(), NoAnswer>
-    ensures value { OnOk result (others_cleared row column (line_seen pivot.now) 0 [] (rows_seen rows.old.items) ≡ Some (rows_seen rows.new.items)) }
+    ensures value { OnOk result (others_cleared row column (line_seen pivot.now) [] (rows_seen rows.old.items) ≡ Some (rows_seen rows.new.items)) }
     ensures counted { OnOk result (length rows.new.items ≡ length rows.old.items) }
-    ensures nothing { IfErr result (IsNothing (others_cleared row column (line_seen pivot.now) 0 [] (rows_seen rows.old.items))) }
+    ensures nothing { IfErr result (IsNothing (others_cleared row column (line_seen pivot.now) [] (rows_seen rows.old.items))) }
 {
     for (position, other) in rows.iter_mut().enumerate() {
         if position != row {

@@ -1,6 +1,6 @@
 //! The first tableau of the grid.
 
-ghost use Rattle.std.specs.Prelude.{◌≡◌, ◌+◌, ◌<◌, ◌≤◌, ◌^◌, true, [], ◌++◌, pos, map, length, Some, IfOk, IfErr, IsTrue, OnOk, unsigned_abs};
+ghost use Rattle.std.specs.Prelude.{[], ◌≡◌, ◌+◌, ◌<◌, ◌^◌, true, ◌++◌, map, length, Some, IfOk, IfErr, IsTrue, OnOk, unsigned_abs};
 ghost use Rattle.exact_num.specs.Range.{InRange, all_fit};
 ghost use Rattle.row_core.specs.LookUps.{value_at};
 ghost use Rattle.row_core.specs.Numbers.{ascends, keys_of, numbers_of};
@@ -59,6 +59,7 @@ fn layout_of(alloc: Global, variables: &[Var], rows: usize) -> Result<Layout, Al
 }
 
 /// The greatest absolute value of some numbers.
+#[tactic(auto, unfolding(crate::specs::Starts::greatest_entry))]
 fn greatest_entry(entries: &[(Var, i128)]) -> u128
     requires { all_fit (numbers_of entries.now) ≡ true }
     ensures value { result ≡ greatest_entry 0 entries.now }
@@ -116,6 +117,7 @@ fn push_variable(
 }
 
 /// The entries of a row in the columns of variables: each is divided by `m`, after it was multiplied by `f`.
+#[tactic(auto, unfolding(crate::specs::Starts::first_entries))]
 fn first_entries(
     alloc: Global,
     f: i128,
@@ -166,11 +168,12 @@ fn first_row(
 }
 
 /// All rows.
+#[tactic(auto, unfolding(crate::specs::Starts::first_rows))]
 fn first_rows(alloc: Global, layout: &Layout, rows: &[Row]) -> Result<Vec<GridRow>, NoAnswer>
     requires { length rows.now ≡ layout.now.rows }
-    ensures value { IfOk result (λ made. first_rows layout.now.places.items layout.now.width layout.now.rows 0 [] (map inequality_of rows.now) ≡ Some (rows_seen made.items)) }
+    ensures value { IfOk result (λ made. first_rows layout.now.places.items layout.now.width layout.now.rows [] (map inequality_of rows.now) ≡ Some (rows_seen made.items)) }
     ensures counted { IfOk result (λ made. length made.items ≡ length rows.now) }
-    ensures nothing { IfErr result (IsNothing (first_rows layout.now.places.items layout.now.width layout.now.rows 0 [] (map inequality_of rows.now))) }
+    ensures nothing { IfErr result (IsNothing (first_rows layout.now.places.items layout.now.width layout.now.rows [] (map inequality_of rows.now))) }
 {
     let mut made = Vec::with_capacity(alloc, rows.len())?;
     for (position, row) in rows.iter().enumerate() {
@@ -180,6 +183,7 @@ fn first_rows(alloc: Global, layout: &Layout, rows: &[Row]) -> Result<Vec<GridRo
 }
 
 /// The entries of the line of z.
+#[tactic(auto, unfolding(crate::specs::Starts::cost_entries))]
 fn cost_entries(
     alloc: Global,
     layout: &Layout,

@@ -1,6 +1,6 @@
 //! The grid's tableau.
 
-ghost use Rattle.std.specs.Prelude.{◌≡◌, [], pos};
+ghost use Rattle.std.specs.Prelude.{[], ◌≡◌, pos};
 ghost use Rattle.exact_num.specs.Range.{InRange};
 
 use std::alloc::Global;

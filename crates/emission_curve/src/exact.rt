@@ -48,8 +48,9 @@ pub fn solve_limit(
         Ok(Certified::Unbounded { .. }) => Ok(Point::Unbounded),
         Err(NoAnswer::Budget) => Ok(Point::Stopped(TrialStop::Budget(pivots))),
         Err(NoAnswer::Width(place)) => Ok(Point::Stopped(TrialStop::Width(place))),
-        // Out of memory, since `Nothing` never comes.
-        Err(_) => Err(AllocError),
+        Err(NoAnswer::Memory) => Err(AllocError),
+        // The exact method always finds an end.
+        Err(NoAnswer::Nothing) => unreachable!(),
     }
 }
 

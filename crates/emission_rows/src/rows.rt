@@ -13,6 +13,7 @@ ghost use Rattle.emission_rows.specs.Rows.{IsEmissionEquation, terms_at};
 use crate::regions::{e6, e7, e8, e9, has_e8, has_e9};
 use crate::technologies::{e1, e2, e3, e4, e5};
 use discount_factors::Factors;
+use equation_parts::instances::row_where;
 use equation_parts::ratios::emits_in_mode;
 use param_tables::ModelData;
 use row_core::equation_numbers::{E1, E2, E3, E4, E5, E6, E7, E8, E9};
@@ -47,13 +48,11 @@ pub fn rows_of(
     ensures fits { IfOk result (λ found. IfSome found (λ row. all_fit (equation_formed (terms_at (places_of factors.now) model.now.facts (name_at eq at))) ≡ true)) }
     ensures stopped { IfErr result (IsStop (Place.Row (name_at eq at)) (not (stands_at model.now.facts eq at) || all_fit (equation_formed (terms_at (places_of factors.now) model.now.facts (name_at eq at))))) }
 {
-    if !stands(model, eq, at) {
-        return Ok(None);
-    }
-    match row_of(alloc, model, factors, RowName { eq, index: at }) {
-        Ok(row) => Ok(Some(row)),
-        Err(stopped) => Err(stopped),
-    }
+    let name = RowName { eq, index: at };
+    row_where(
+        stands(model, eq, at),
+        || row_of(alloc, model, factors, name),
+    )
 }
 
 /// Whether the equation has an instance at the index.

@@ -1,4 +1,5 @@
 pub mod FactorLaws
+pub mod InstanceLaws
 pub mod Rates
 pub mod Splits
 pub mod ValueLaws

@@ -5,6 +5,7 @@
 
 pub mod factors;
 mod indices;
+pub mod instances;
 pub mod limits;
 pub mod parameters;
 pub mod ratios;

@@ -12,12 +12,13 @@ use Rattle.row_core.specs.declared.RowName.{RowName}
 use Rattle.row_core.specs.declared.Sense.TheVariants.{Equal, Most}
 use Rattle.row_core.specs.declared.Var.{Var}
 use Rattle.row_core.specs.declared.equation_numbers.TheConstants.{CAA2, CAA4}
-use Rattle.row_core.specs.declared.kind_numbers.TheConstants.{NEW_CAPACITY, RATE_OF_ACTIVITY, TOTAL_CAPACITY_ANNUAL}
-use Rattle.row_core.specs.declared.place.Place.TheVariants.{Check, LiftDirection, LiftMultiplier, LiftPlan}
+use Rattle.row_core.specs.declared.kind_numbers.TheConstants.{NEW_CAPACITY, RATE_OF_ACTIVITY, TOTAL_CAPACITY_ANNUAL, TOTAL_DISCOUNTED_COST}
+use Rattle.row_core.specs.declared.place.Place.{Place}
+use Rattle.row_core.specs.declared.place.Place.TheVariants.{Check, Column, LiftDirection, LiftMultiplier, LiftPlan, SumGap}
 use Rattle.written_method.specs.Solved.{IsOptimal, IsUnbounded}
 use Rattle.written_method.proofs.MadeRows.{made_row}
 use Rattle.certified_answers.specs.declared.costs.Cost.TheVariants.{Model}
-use Rattle.exact_solver.specs.MethodEnds.{HasOptimum, IsWide, MethodEnd, carried_end}
+use Rattle.exact_solver.specs.MethodEnds.{HasOptimum, IsWide, MethodEnd, carried_end, optimum_checks}
 use Rattle.row_problem.specs.Programs.{carried_direction, carried_multipliers, carried_plan, carrying_steps, direction_steps, plan_steps}
 
 -- the variable, and the row, of this number at the first members
@@ -32,6 +33,9 @@ activity = of_kind RATE_OF_ACTIVITY
 
 abbrev built : Var
 built = of_kind NEW_CAPACITY
+
+abbrev cost : Var
+cost = of_kind TOTAL_DISCOUNTED_COST
 
 abbrev total : Var
 total = of_kind TOTAL_CAPACITY_ANNUAL
@@ -86,6 +90,31 @@ module _ (v : Vec (Var × ℤ)) where
   carried_multiplier : carried_multipliers true rows defs (whole (negsuc 2) ∷ []) ≡ (named CAA2, whole (negsuc 2)) ∷ (named CAA4, whole (negsuc 5)) ∷ []
   unfolding carried_multipliers gcd_of gcd_within lowest plus minus times divided
   carried_multiplier = refl
+
+  -- At the model's cost the plan is checked before the multipliers, and the gap last. The activity is at most 1, twice over; 1 more than the greatest number doesn't
+  -- fit, and neither does twice that: it is formed in the check of the plan at the activity, in its column by the multipliers, and in the gap of the cost by the bound.
+  abbrev checked : ℤ → ℤ → ℤ → Option Place
+  checked x y z =
+      first_wide
+      (optimum_checks Model
+      (made_row v (named CAA2) Most ((activity, pos 1) ∷ []) (pos 1) refl ∷ made_row v (named CAA4) Most ((activity, pos 1) ∷ []) (pos 1) refl ∷ [])
+      (activity ∷ cost ∷ []) ((activity, whole x) ∷ (cost, whole greatest) ∷ []) ((named CAA2, whole y) ∷ (named CAA4, whole z) ∷ []))
+
+  plan_checked_first : checked (neg_ℤ greatest) (neg_ℤ greatest) (neg_ℤ greatest) ≡ Some (Check (named CAA2))
+  unfolding gcd_of gcd_within lowest plus minus times divided order_of product_formed sum_formed difference_formed quotient_formed first_wide all_fit in_range
+  plan_checked_first = refl
+
+  bound_checked_next : checked (pos 0) (neg_ℤ greatest) (neg_ℤ greatest) ≡ Some (Column activity)
+  unfolding gcd_of gcd_within lowest plus minus times divided order_of product_formed sum_formed difference_formed quotient_formed first_wide all_fit in_range
+  bound_checked_next = refl
+
+  gap_checked_last : checked (pos 0) (negsuc 0) (pos 0) ≡ Some SumGap
+  unfolding gcd_of gcd_within lowest plus minus times divided order_of product_formed sum_formed difference_formed quotient_formed first_wide all_fit in_range
+  gap_checked_last = refl
+
+  all_checked : checked (pos 0) (pos 0) (pos 0) ≡ None
+  unfolding gcd_of gcd_within lowest plus minus times divided order_of product_formed sum_formed difference_formed quotient_formed first_wide all_fit in_range
+  all_checked = refl
 
   -- an unbounded end: the plan before the direction
   abbrev unbounded : Rational → Rational → MethodEnd

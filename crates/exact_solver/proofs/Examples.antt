@@ -13,7 +13,7 @@ use Rattle.row_core.specs.declared.kind_numbers.TheConstants.{RATE_OF_ACTIVITY}
 use Rattle.written_method.specs.Runs.{answer, answer_of, run}
 use Rattle.written_method.specs.Solved.{IsOutOfPivots, IsTooWide}
 use Rattle.certified_answers.specs.declared.answers.NoAnswer.TheVariants.{Budget, Width}
-use Rattle.certified_answers.specs.declared.costs.Cost.TheVariants.{Model, Nothing, One}
+use Rattle.certified_answers.specs.declared.costs.Cost.TheVariants.{Model, One}
 use Rattle.certified_answers.specs.declared.costs.Goal.TheVariants.{Least as LeastValue, Greatest}
 use Rattle.row_problem.specs.Programs.{carried_direction, carried_multipliers, carried_plan, carrying_steps, direction_steps, plan_steps, program_left}
 use Rattle.exact_solver.specs.MethodEnds.{HasNoBound, HasNoPlan, HasOptimum, IsPivotDue, IsStopOf, IsWide, carried_end, method_end, solved_end, unless_wide}
@@ -32,11 +32,7 @@ nothing_asked : method_end [] [] (activity ∷ []) 0 ≡ HasOptimum ((activity, 
 unfolding method_end solved_end program_left carried_plan plan_steps carried_multipliers carrying_steps difference_formed gcd_of gcd_within all_fit in_range first_wide lowest minus plus times order_of run answer_of answer
 nothing_asked = refl
 
--- at no cost neither, and there is nothing to prove; nor where the least of the activity is looked for
-nothing_to_prove : solved_end [] [] (activity ∷ []) Nothing 0 ≡ HasOptimum ((activity, whole (pos 0)) ∷ []) [] 0
-unfolding solved_end program_left carried_plan plan_steps carried_multipliers carrying_steps difference_formed gcd_of gcd_within all_fit in_range first_wide lowest minus plus times order_of run answer_of answer
-nothing_to_prove = refl
-
+-- nor where the least of the activity is looked for
 least_activity : solved_end [] [] (activity ∷ []) (One activity LeastValue) 0 ≡ HasOptimum ((activity, whole (pos 0)) ∷ []) [] 0
 unfolding solved_end program_left carried_plan plan_steps carried_multipliers carrying_steps difference_formed gcd_of gcd_within all_fit in_range first_wide lowest minus plus times order_of run answer_of answer
 least_activity = refl

@@ -1,5 +1,5 @@
 -- What the checks say of a plan, multipliers and a direction is what an answer is worth at the problem's cost.
-use Rattle.std.proofs.Common.{◌≡◌, ℤ, pos, neg_ℤ, ◌*ℤ◌, true, List, [], refl, sym, ap, ◌∙◌, subst}
+use Rattle.std.proofs.Common.{◌≡◌, ℤ, pos, neg_ℤ, ◌*ℤ◌, List, refl, sym, ap, ◌∙◌}
 use Rattle.std.specs.Prelude.{Option}
 use Rattle.exact_num.specs.Rational.{IsLowest, Rational}
 use Rattle.exact_num.proofs.RationalLaws.{negated-IsLowest}
@@ -12,18 +12,16 @@ use Rattle.row_core.specs.Plans.{value_in}
 use Rattle.row_core.specs.Values.{IsOver}
 use Rattle.written_method.specs.declared.reduced.Reduced.{Reduced}
 use Rattle.certificate_checker.specs.Certificates.{bound_of}
-use Rattle.certified_answers.specs.Answers.{AreNamedIn, IsDescentAt, IsOptimumFor, turned}
+use Rattle.certified_answers.specs.Answers.{IsDescentAt, IsOptimumFor, turned}
 use Rattle.certified_answers.specs.Costs.{sign_of, weight_of}
 use Rattle.certified_answers.specs.declared.costs.Cost.{Cost}
-use Rattle.certified_answers.specs.declared.costs.Cost.TheVariants.{Model, Nothing, One}
+use Rattle.certified_answers.specs.declared.costs.Cost.TheVariants.{Model, One}
 use Rattle.certified_answers.specs.declared.costs.Goal.{Goal}
 use Rattle.certified_answers.specs.declared.costs.Goal.TheVariants.{Least, Greatest}
 use Rattle.certified_answers.specs.Found.{IsFoundOptimumFor, IsFoundPlan}
 use Rattle.certified_answers.specs.Worth.{IsBoundFor, IsClosed, IsDescentFor, IsPlan}
 use Rattle.row_problem.specs.ProgramsOf.{IsProgramOf}
 use Rattle.row_problem.proofs.CostLaws.{aimed-column, cost-is}
-use Rattle.row_core.proofs.Members.{Has-from_Contains}
-use Rattle.exact_solver.specs.MethodEnds.{is_nothing}
 use Rattle.exact_solver.proofs.Closed.{same-value}
 
 -- ---- the value of one variable
@@ -57,8 +55,7 @@ module _ (rows : List Row) (defs : List (Option Var)) (vars : List Var) (reduced
   pub optimum-is : (cost : Cost) → IsProgramOf rows defs vars cost reduced → ((v : Var) → IsLowest (value_in var_cmp plan v)) → IsBoundFor (weight_of cost) rows vars multipliers bound → IsFoundOptimumFor (weight_of cost) rows vars plan multipliers
       → (cost ≡ Model → IsClosed amount bound) → IsOptimumFor cost rows vars plan multipliers amount bound
   optimum-is Model program lowest is_bound found closed = (is_plan, is_bound, closed refl)
-  optimum-is Nothing program lowest is_bound found closed = subst (IsPlan rows vars plan) is_plan.cost_is is_plan
-  optimum-is (One var goal) program lowest is_bound found closed = (subst (IsPlan rows vars plan) is_plan.cost_is is_plan, is_bound, bound-is var goal program (lowest var) is_bound found)
+  optimum-is (One var goal) program lowest is_bound found closed = (is_plan, is_bound, bound-is var goal program (lowest var) is_bound found)
 
 -- at the model's cost nothing lies between the cost and the bound
 pub costs-bound : (cost : Cost) (rows : List Row) (vars : List Var) (plan : List (Var × Rational)) (multipliers : List (RowName × Rational)) (amount bound : Rational) → IsLowest amount → IsLowest bound → IsPlan rows vars plan amount → IsBoundFor (weight_of cost) rows vars multipliers bound
@@ -67,20 +64,9 @@ costs-bound Model rows vars plan multipliers amount bound lowest_amount lowest_b
     let p = found.plan_found in
     let b = found.bound_found in
     same-value amount bound _ _ p.over b.over lowest_amount lowest_bound p.are.0 b.are.0 (is_plan.costs p.over p.number p.are) (is_bound.sums b.over b.number b.are) found.closed
-costs-bound Nothing rows vars plan multipliers amount bound lowest_amount lowest_bound is_plan is_bound found e = absurd (cc e)
 costs-bound (One var goal) rows vars plan multipliers amount bound lowest_amount lowest_bound is_plan is_bound found e = absurd (cc e)
 
 -- a direction
 pub descent-at : (cost : Cost) (rows : List Row) (vars : List Var) (plan direction : List (Var × Rational)) → IsFoundPlan rows vars plan → IsDescentFor (weight_of cost) rows vars direction → IsDescentAt cost rows vars direction
 descent-at Model rows vars plan direction found is = record { pass = is.pass; some = is.some; descends = is.descends; endless = λ n. is.endless found.over found.number n found.meets }
-descent-at Nothing rows vars plan direction found is = is
 descent-at (One var goal) rows vars plan direction found is = is
-
--- a plan, at no cost
-pub plan-is : (cost : Cost) (rows : List Row) (vars : List Var) (plan : List (Var × Rational)) (multipliers : List (RowName × Rational)) (paid amount bound : Rational) → is_nothing cost ≡ true → IsPlan rows vars plan paid → IsOptimumFor cost rows vars plan multipliers amount bound
-plan-is Model rows vars plan multipliers paid amount bound h is = absurd (cc h)
-plan-is Nothing rows vars plan multipliers paid amount bound h is = subst (IsPlan rows vars plan) is.cost_is is
-plan-is (One var goal) rows vars plan multipliers paid amount bound h is = absurd (cc h)
-
-pub none-named : (rows : List Row) → AreNamedIn rows []
-none-named rows = record { ascending = refl; among = λ name h. absurd (Has-from_Contains [] name h) }

@@ -1,5 +1,5 @@
 -- How the exact method ends on rows: elimination, simplex, carrying back, and the checks of all that was found, in this order.
-use Rattle.std.specs.Prelude.{◌≡◌, ℕ, Bool, true, false, List, [], ◌∷◌, ◌++◌, Option, Some, None, Result, Ok, Err, ⊤, if◌then◌else◌}
+use Rattle.std.specs.Prelude.{◌≡◌, ℕ, false, List, [], ◌∷◌, ◌++◌, Option, Some, None, Result, Ok, Err, ⊤}
 use Rattle.exact_num.specs.Rational.{Rational}
 use Rattle.exact_num.specs.Steps.{Step, first_wide}
 use Rattle.row_core.specs.declared.Row.{Row}
@@ -23,10 +23,10 @@ use Rattle.certified_answers.specs.declared.answers.Certified.TheVariants as fou
 use Rattle.certified_answers.specs.declared.answers.NoAnswer.{NoAnswer}
 use Rattle.certified_answers.specs.declared.answers.NoAnswer.TheVariants as stops
 use Rattle.certified_answers.specs.declared.costs.Cost.{Cost}
-use Rattle.certified_answers.specs.declared.costs.Cost.TheVariants.{Model, Nothing, One}
+use Rattle.certified_answers.specs.declared.costs.Cost.TheVariants.{Model, One}
 use Rattle.row_problem.specs.Programs.{carried_direction, carried_multipliers, carried_plan, carrying_steps, direction_steps, plan_steps, program_left}
 
--- with a plan of least cost, and multipliers that prove it, of which there are none at no cost; with no plan, and multipliers that prove that; with a plan and a
+-- with a plan of least cost, and multipliers that prove it; with no plan, and multipliers that prove that; with a plan and a
 -- direction along which the cost falls without end; with a pivot that is due after the last; or at the place of the first step that forms a number that doesn't fit
 pub data MethodEnd : Type 0 where
   HasOptimum : (plan : List (Var × Rational)) (multipliers : List (RowName × Rational)) (pivots : ℕ) → MethodEnd
@@ -44,7 +44,6 @@ plan_checks rows vars plan = steps (plan_conditions model_cost rows vars plan)
 -- at the model's cost, of the gap between the cost of a plan and a bound, of which nothing is allowed
 abbrev pub closing_checks : Cost → Rational → Rational → List (Step Place)
 closing_checks Model amount bound = steps (gap_condition amount bound 0 ∷ [])
-closing_checks Nothing amount bound = []
 closing_checks (One var goal) amount bound = []
 
 -- of a plan, of multipliers that prove a bound, and of the gap between them
@@ -70,30 +69,14 @@ abbrev pub unless_wide : Option Place → MethodEnd → MethodEnd
 unless_wide None end = end
 unless_wide (Some place) end = IsWide place
 
--- values of the columns are carried back to a plan, and checked: all that is asked for at no cost
-abbrev pub planned_end : List Row → List (Option Var) → List Var → List (Var × Rational) → ℕ → MethodEnd
-planned_end rows defs vars values pivots =
-    unless_wide (first_wide (plan_steps rows defs values ++ plan_checks rows vars (carried_plan rows defs values))) (HasOptimum (carried_plan rows defs values) [] pivots)
-
 -- the plan is carried back first, then the multipliers, with the model's cost and without another; then both are checked
-abbrev pub proved_end : Cost → List Row → List (Option Var) → List Var → List (Var × Rational) → List Rational → ℕ → MethodEnd
-proved_end cost rows defs vars values lambda pivots =
+abbrev pub optimal_end : Cost → List Row → List (Option Var) → List Var → List (Var × Rational) → List Rational → ℕ → MethodEnd
+optimal_end cost rows defs vars values lambda pivots =
     unless_wide
     (first_wide
     (plan_steps rows defs values
     ++ (carrying_steps (is_model cost) rows defs lambda ++ optimum_checks cost rows vars (carried_plan rows defs values) (carried_multipliers (is_model cost) rows defs lambda))))
     (HasOptimum (carried_plan rows defs values) (carried_multipliers (is_model cost) rows defs lambda) pivots)
-
--- nothing is to be as little as it can be
-abbrev pub is_nothing : Cost → Bool
-is_nothing Model = false
-is_nothing Nothing = true
-is_nothing (One var goal) = false
-
--- at no cost any plan will do
-abbrev pub optimal_end : Cost → List Row → List (Option Var) → List Var → List (Var × Rational) → List Rational → ℕ → MethodEnd
-optimal_end cost rows defs vars values lambda pivots =
-    if is_nothing cost then planned_end rows defs vars values pivots else proved_end cost rows defs vars values lambda pivots
 
 -- the multipliers are carried back, and checked
 abbrev pub infeasible_end : List Row → List (Option Var) → List Var → List Rational → ℕ → MethodEnd
@@ -103,18 +86,13 @@ infeasible_end rows defs vars lambda pivots =
     (HasNoPlan (carried_multipliers false rows defs lambda) pivots)
 
 -- the plan is carried back, then the direction; then both are checked
-abbrev pub falling_end : Cost → List Row → List (Option Var) → List Var → List (Var × Rational) → List (Var × Rational) → ℕ → MethodEnd
-falling_end cost rows defs vars values direction pivots =
+abbrev pub unbounded_end : Cost → List Row → List (Option Var) → List Var → List (Var × Rational) → List (Var × Rational) → ℕ → MethodEnd
+unbounded_end cost rows defs vars values direction pivots =
     unless_wide
     (first_wide
     (plan_steps rows defs values
     ++ (direction_steps rows defs direction ++ descent_checks cost rows vars (carried_plan rows defs values) (carried_direction rows defs direction))))
     (HasNoBound (carried_plan rows defs values) (carried_direction rows defs direction) pivots)
-
--- at no cost nothing falls without end, and values that meet the rows are a plan all the same
-abbrev pub unbounded_end : Cost → List Row → List (Option Var) → List Var → List (Var × Rational) → List (Var × Rational) → ℕ → MethodEnd
-unbounded_end cost rows defs vars values direction pivots =
-    if is_nothing cost then planned_end rows defs vars values pivots else falling_end cost rows defs vars values direction pivots
 
 -- after the simplex: what it found is carried back, and then checked
 abbrev pub carried_end : Cost → List Row → List (Option Var) → List Var → Outcome → MethodEnd

@@ -1,16 +1,15 @@
 //! What the simplex method found, carried back to all rows and checked.
 
-ghost use Rattle.std.specs.Prelude.{◌≡◌, true, IfOk};
-ghost use Rattle.row_core.specs.Numbers.{keys_of};
+ghost use Rattle.std.specs.Prelude.{◌≡◌, IfOk};
 ghost use Rattle.written_method.specs.Programs.{program_of};
-ghost use Rattle.simplex_core.specs.Outcomes.{MeetAll, outcome_seen};
+ghost use Rattle.simplex_core.specs.Outcomes.{outcome_seen};
 ghost use Rattle.simplex_core.specs.declared.ends.End.TheVariants.{Infeasible, Optimal, Unbounded};
 ghost use Rattle.certified_answers.specs.Costs.{is_model};
 ghost use Rattle.row_problem.specs.ProgramsOf.{IsPosedProblem};
-ghost use Rattle.exact_solver.specs.MethodEnds.{IsEndOf, IsWorth, carried_end, falling_end, infeasible_end, is_nothing, planned_end, proved_end};
+ghost use Rattle.exact_solver.specs.MethodEnds.{IsEndOf, IsWorth, carried_end, infeasible_end, optimal_end, unbounded_end};
 ghost use Rattle.exact_solver.specs.SimplexEnds.{IsEnded};
 
-use crate::checking::{checked_descent, checked_optimum, checked_plan, checked_refutation};
+use crate::checking::{checked_descent, checked_optimum, checked_refutation};
 use certified_answers::{Certified, Cost, NoAnswer, multiplier_laws, plan_laws};
 use row_core::Plan;
 use row_problem::{Problem, carry_direction, carry_multipliers, carry_plan};
@@ -39,7 +38,7 @@ pub(crate) fn carried(alloc: Global, problem: &Problem<'_>, end: End) -> Result<
     }
 }
 
-/// The plan of an optimal end's values and the multipliers that prove it, carried back to all rows and checked; at no cost the plan alone.
+/// The plan of an optimal end's values and the multipliers that prove it, carried back to all rows and checked.
 fn optimum(
     alloc: Global,
     problem: &Problem<'_>,
@@ -49,47 +48,7 @@ fn optimum(
 ) -> Result<Certified, NoAnswer>
     requires posed { IsPosedProblem problem.now }
     requires ended { IsEnded (program_of problem.now.reduced.now) (Optimal values.now lambda.now pivots) }
-    ensures end { IsEndOf (carried_end problem.now.cost problem.now.rows.now problem.now.defs.now problem.now.vars.now (outcome_seen (Optimal values.now lambda.now pivots))) result }
-    ensures worth { IfOk result (IsWorth problem.now.cost problem.now.rows.now problem.now.vars.now) }
-{
-    if is_nothing(problem.cost) {
-        planned(alloc, problem, values, pivots)
-    } else {
-        proved(alloc, problem, values, lambda, pivots)
-    }
-}
-
-/// The plan of values of the columns, carried back to all rows and checked: all that is asked for at no cost.
-fn planned(
-    alloc: Global,
-    problem: &Problem<'_>,
-    values: &Plan,
-    pivots: u64,
-) -> Result<Certified, NoAnswer>
-    requires posed { IsPosedProblem problem.now }
-    requires nothing { is_nothing problem.now.cost ≡ true }
-    requires keyed { keys_of values.now ≡ problem.now.reduced.now.columns.items }
-    requires meet { MeetAll (program_of problem.now.reduced.now) values.now }
-    ensures end { IsEndOf (planned_end problem.now.rows.now problem.now.defs.now problem.now.vars.now values.now pivots) result }
-    ensures worth { IfOk result (IsWorth problem.now.cost problem.now.rows.now problem.now.vars.now) }
-{
-    plan_laws(values);
-    let plan = carry_plan(alloc, problem, values)?;
-    plan_laws(&plan);
-    checked_plan(alloc, problem, plan, pivots)
-}
-
-/// The plan of an optimal end's values and the multipliers that prove it, carried back to all rows and checked.
-fn proved(
-    alloc: Global,
-    problem: &Problem<'_>,
-    values: &Plan,
-    lambda: &Lambda,
-    pivots: u64,
-) -> Result<Certified, NoAnswer>
-    requires posed { IsPosedProblem problem.now }
-    requires ended { IsEnded (program_of problem.now.reduced.now) (Optimal values.now lambda.now pivots) }
-    ensures end { IsEndOf (proved_end problem.now.cost problem.now.rows.now problem.now.defs.now problem.now.vars.now values.now lambda.now pivots) result }
+    ensures end { IsEndOf (optimal_end problem.now.cost problem.now.rows.now problem.now.defs.now problem.now.vars.now values.now lambda.now pivots) result }
     ensures worth { IfOk result (IsWorth problem.now.cost problem.now.rows.now problem.now.vars.now) }
 {
     plan_laws(values);
@@ -117,7 +76,7 @@ fn refutation(
     checked_refutation(alloc, problem, multipliers, pivots)
 }
 
-/// The plan and the direction of an unbounded end, carried back to all rows and checked; at no cost the plan alone.
+/// The plan and the direction of an unbounded end, carried back to all rows and checked.
 fn descent(
     alloc: Global,
     problem: &Problem<'_>,
@@ -127,27 +86,7 @@ fn descent(
 ) -> Result<Certified, NoAnswer>
     requires posed { IsPosedProblem problem.now }
     requires ended { IsEnded (program_of problem.now.reduced.now) (Unbounded values.now direction.now pivots) }
-    ensures end { IsEndOf (carried_end problem.now.cost problem.now.rows.now problem.now.defs.now problem.now.vars.now (outcome_seen (Unbounded values.now direction.now pivots))) result }
-    ensures worth { IfOk result (IsWorth problem.now.cost problem.now.rows.now problem.now.vars.now) }
-{
-    if is_nothing(problem.cost) {
-        planned(alloc, problem, values, pivots)
-    } else {
-        falling(alloc, problem, values, direction, pivots)
-    }
-}
-
-/// The plan and the direction of an unbounded end, carried back to all rows and checked.
-fn falling(
-    alloc: Global,
-    problem: &Problem<'_>,
-    values: &Plan,
-    direction: &Plan,
-    pivots: u64,
-) -> Result<Certified, NoAnswer>
-    requires posed { IsPosedProblem problem.now }
-    requires ended { IsEnded (program_of problem.now.reduced.now) (Unbounded values.now direction.now pivots) }
-    ensures end { IsEndOf (falling_end problem.now.cost problem.now.rows.now problem.now.defs.now problem.now.vars.now values.now direction.now pivots) result }
+    ensures end { IsEndOf (unbounded_end problem.now.cost problem.now.rows.now problem.now.defs.now problem.now.vars.now values.now direction.now pivots) result }
     ensures worth { IfOk result (IsWorth problem.now.cost problem.now.rows.now problem.now.vars.now) }
 {
     plan_laws(values);
@@ -165,18 +104,6 @@ fn is_model(cost: Cost) -> bool
 {
     match cost {
         Cost::Model => true,
-        Cost::Nothing => false,
-        Cost::One(_, _) => false,
-    }
-}
-
-/// Nothing is to be as little as it can be.
-fn is_nothing(cost: Cost) -> bool
-    ensures { result ≡ is_nothing cost }
-{
-    match cost {
-        Cost::Model => false,
-        Cost::Nothing => true,
         Cost::One(_, _) => false,
     }
 }

@@ -1,7 +1,7 @@
 //! The checks of what was carried back. What is asked of it makes each of them say yes; a number that doesn't fit is the one cause of
 //! another answer.
 
-ghost use Rattle.std.specs.Prelude.{◌≡◌, true, [], None, IfErr, IfOk, OnOk};
+ghost use Rattle.std.specs.Prelude.{◌≡◌, None, IfErr, IfOk, OnOk};
 ghost use Rattle.exact_num.specs.Steps.{first_wide};
 ghost use Rattle.exact_num.specs.Value.{value_of};
 ghost use Rattle.row_core.specs.Numbers.{keys_of};
@@ -12,39 +12,16 @@ ghost use Rattle.certified_answers.specs.Found.{IsFoundDescentFor, IsFoundOptimu
 ghost use Rattle.certified_answers.specs.Refusals.{IsWidthAt};
 ghost use Rattle.certified_answers.specs.Worth.{IsClosed};
 ghost use Rattle.row_problem.specs.ProgramsOf.{IsPosedProblem};
-ghost use Rattle.exact_solver.specs.MethodEnds.{HasNoBound, HasNoPlan, HasOptimum, IsEndOf, IsWorth, closing_checks, descent_checks, is_nothing, optimum_checks, plan_checks, refutation_checks, unless_wide};
+ghost use Rattle.exact_solver.specs.MethodEnds.{HasNoBound, HasNoPlan, HasOptimum, IsEndOf, IsWorth, closing_checks, descent_checks, optimum_checks, refutation_checks, unless_wide};
 
 use certified_answers::{
     Certified, Cost, NoAnswer, accepted_bound, accepted_direction, accepted_gap, accepted_plan,
     accepted_refutation, plan_laws,
 };
 use exact_num::Frac;
-use row_core::{Multipliers, Plan, fraction};
+use row_core::{Multipliers, Plan};
 use row_problem::Problem;
 use std::alloc::Global;
-
-/// A plan, checked: an optimum where there is no cost.
-pub(crate) fn checked_plan(
-    alloc: Global,
-    problem: &Problem<'_>,
-    plan: Plan,
-    pivots: u64,
-) -> Result<Certified, NoAnswer>
-    requires nothing { is_nothing problem.now.cost ≡ true }
-    requires found { IsFoundPlan problem.now.rows.now problem.now.vars.now plan }
-    requires complete { keys_of plan ≡ problem.now.vars.now }
-    ensures end { IsEndOf (unless_wide (first_wide (plan_checks problem.now.rows.now problem.now.vars.now plan)) (HasOptimum plan [] pivots)) result }
-    ensures worth { IfOk result (IsWorth problem.now.cost problem.now.rows.now problem.now.vars.now) }
-{
-    accepted_plan(problem.rows, problem.vars, &plan)?;
-    Ok(Certified::Optimal {
-        plan,
-        multipliers: Multipliers::of(Vec::new(alloc)),
-        cost: fraction(0),
-        bound: fraction(0),
-        pivots,
-    })
-}
 
 /// A plan and the multipliers that prove that none costs less, checked.
 pub(crate) fn checked_optimum(
@@ -89,7 +66,6 @@ fn closed(cost: Cost, amount: Frac, bound: Frac) -> Result<(), NoAnswer>
 {
     match cost {
         Cost::Model => accepted_gap(amount, bound, 0),
-        Cost::Nothing => Ok(()),
         Cost::One(_, _) => Ok(()),
     }
 }

@@ -5,4 +5,4 @@ mod carrying;
 mod checking;
 mod solving;
 
-pub use solving::{exact, solve_rows};
+pub use solving::{exact, solve_rows, stop_at};

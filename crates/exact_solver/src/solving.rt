@@ -9,7 +9,7 @@ ghost use Rattle.certified_answers.specs.Answers.{IsComplete, IsNamed, IsProved,
 ghost use Rattle.row_problem.specs.Problems.{IsProblem};
 ghost use Rattle.row_problem.specs.Programs.{program_left};
 ghost use Rattle.row_problem.specs.ProgramsOf.{IsPosedProblem};
-ghost use Rattle.exact_solver.specs.MethodEnds.{IsStopOf, carried_end, end_seen, method_end, solved_end, stop_at};
+ghost use Rattle.exact_solver.specs.MethodEnds.{IsStopOf, end_seen, method_end, solved_end, stop_at};
 ghost use Rattle.exact_solver.specs.SimplexEnds.{IsEnded};
 
 use crate::carrying::carried;
@@ -23,9 +23,8 @@ use std::alloc::Global;
 ///
 /// The linear program that is left of its rows is solved by the simplex method, and plan, multipliers and direction are carried back to
 /// all rows. Nothing is answered to which the checker doesn't say yes: a plan of least cost with multipliers that prove that none costs
-/// less, multipliers that prove that no plan exists, or a plan with a direction along which the cost falls without end. At no cost a plan
-/// is an optimum, with no multipliers and the bound 0. A plan and a direction have one value for each variable, in order; multipliers
-/// ascend by the names of rows.
+/// less, multipliers that prove that no plan exists, or a plan with a direction along which the cost falls without end. A plan and
+/// a direction have one value for each variable, in order; multipliers ascend by the names of rows.
 ///
 /// `Budget` comes exactly where a pivot is due after the last that may be made, `Width` exactly at the place of the first step that
 /// forms a number that doesn't fit: of the pivots, what is carried back, and the checks, in this order. `Nothing` never comes, and
@@ -83,8 +82,8 @@ fn ended(alloc: Global, problem: &Problem<'_>, pivots: u64) -> Result<End, NoAns
     }
 }
 
-/// A stop of the simplex method, as that of the whole.
-fn stop_at(halt: Halt) -> NoAnswer
+/// A stop of the simplex method, as that of a method that goes on from its end.
+pub fn stop_at(halt: Halt) -> NoAnswer
     ensures { result ≡ stop_at halt }
 {
     match halt {

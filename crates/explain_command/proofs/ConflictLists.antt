@@ -16,7 +16,7 @@ use Rattle.row_book.specs.Books.{HasNameWithin}
 use Rattle.command_answers.specs.CheckedPlans.{IsListedBook}
 use Rattle.command_answers.specs.PlacesWithin.{IsRowOfSets}
 use Rattle.command_answers.proofs.ListedBooks.{rows-named}
-use Rattle.solve_command.proofs.BookPlaces.{plan-named}
+use Rattle.command_answers.proofs.BookPlaces.{plan-named}
 use Rattle.conflict_sets.specs.Conflicts.{AreNeeded, IsConflict, inequalities}
 use Rattle.conflict_sets.specs.declared.conflict.Conflict.{Conflict}
 use Rattle.conflict_sets.proofs.RowLists.{inequality-row}

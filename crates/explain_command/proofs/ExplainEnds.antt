@@ -1,5 +1,6 @@
 -- What is due for what the trials found over a book of rows, and for the first stop, over the named equations.
-use Rattle.std.proofs.Common.{◌≡◌, ℕ, List, map, Option, Some, None, inl, inr, refl, sym, ap, ◌∙◌, subst}
+use Rattle.std.proofs.Common.{◌≡◌, ℕ, List, map, Option, Some, None, Result, Ok, Err, inl, inr, refl, sym, ap, ◌∙◌, subst}
+use Rattle.std.specs.Prelude.{IfErr, IfNone, IfOk, IfSome}
 use Rattle.exact_num.specs.Steps.{first_wide}
 use Rattle.model_sets.specs.Data.{Data}
 use Rattle.model_sets.specs.Members.{SetLists}
@@ -10,58 +11,88 @@ use Rattle.row_core.specs.Plans.{valued}
 use Rattle.row_book.specs.Kept.{IsBook}
 use Rattle.named_equations.specs.Existence.{all_variables}
 use Rattle.written_method.specs.Eliminated.{elimination_steps}
-use Rattle.command_answers.specs.Definers.{definers}
 use Rattle.simplex_core.specs.declared.stops.Stop.{Stop}
 use Rattle.simplex_core.specs.declared.stops.Stop.TheVariants.{Width}
+use Rattle.command_answers.specs.CheckedPlans.{IsBookOf}
+use Rattle.command_answers.specs.Definers.{definers}
+use Rattle.command_answers.specs.Lines.{uncertified_line}
 use Rattle.command_answers.specs.declared.status.Status.{Status}
 use Rattle.command_answers.specs.declared.status.Status.TheVariants.{Uncertified}
-use Rattle.command_answers.specs.CheckedPlans.{IsBookOf}
-use Rattle.command_answers.specs.Lines.{uncertified_line}
 use Rattle.command_answers.proofs.CheckedRows.{vars-are}
+use Rattle.command_words.specs.declared.command.SolveMethod.{SolveMethod}
+use Rattle.command_words.specs.declared.command.SolveMethod.TheVariants.{Exact, Rounded}
 use Rattle.conflict_sets.specs.Conflicts.{AdmitsSome, IsConflict}
-use Rattle.conflict_sets.specs.Walks.{Explanation, IsStopped, explained, explanation, explanation_seen}
+use Rattle.conflict_sets.specs.RoundedStops.{StopsSome}
+use Rattle.conflict_sets.specs.Walks.{Explanation, IsStopped, Stops, explained, explanation_seen}
 use Rattle.conflict_sets.specs.declared.conflict.Conflict.{Conflict}
-use Rattle.explain_command.specs.Explain.{DueForTrials}
-use Rattle.explain_command.specs.Outcomes.{TellsFound}
+use Rattle.conflict_sets.specs.declared.conflict.ExplainFail.{ExplainFail}
+use Rattle.conflict_sets.specs.declared.conflict.ExplainFail.TheVariants as fails
+use Rattle.explain_command.specs.Explain.{DueForMethod, IsCauseOf}
+use Rattle.explain_command.specs.Outcomes.{FindingTells, RunTells, TellsFound}
 use Rattle.explain_command.specs.ShownConflicts.{AreShown}
 use Rattle.explain_command.specs.Texts.{conflict_text}
 use Rattle.explain_command.proofs.ConflictNames.{named-conflict, some-feasible}
 use Rattle.explain_command.proofs.ShownLaws.{shown-conflict}
 
-module _ (places : ℕ) (d : Data) (rows : List Row) (vars : List Var) (kept : IsBook rows vars) (book : IsBookOf places d rows vars) (pivots : ℕ) where
-  -- where the elimination stops nowhere, the trials say how it ends
-  ends : first_wide (elimination_steps rows (definers rows)) ≡ None → (end : Explanation) → explained rows (definers rows) vars pivots ≡ end → explanation rows (definers rows) (all_variables d) pivots ≡ end
-  ends fits end is =
-      ap (λ (wide : Option Place). elim wide as (λ _. Explanation) [ None ↦ explained rows (definers rows) (all_variables d) pivots | Some place ↦ IsStopped (Width place) ]) fits
-      ∙ ap (λ (vs : List Var). explained rows (definers rows) vs pivots) (sym (vars-are places d rows vars book)) ∙ is
+-- ---- causes
 
-  module _ (sets : SetLists) (same : sets ≡ d.sets) (status : Status) (text : List ℕ) where
-    pub due-from_found : first_wide (elimination_steps rows (definers rows)) ≡ None → (found : Option Conflict) → explanation_seen found ≡ explained rows (definers rows) vars pivots
-        → ((conflict : Conflict) → found ≡ Some conflict → IsConflict rows vars conflict) → (found ≡ None → AdmitsSome rows vars) → TellsFound sets found status text → DueForTrials places d rows pivots status text
-    due-from_found fits None end conflict feasible told =
-        inl (record { end = ends fits _ (sym end); some = some-feasible places d rows vars kept book (feasible refl); status_is = told.0; text_is = told.1 })
-    due-from_found fits (Some conflict) end is feasible told =
-        inr (inl (record {
-          members = map valued conflict.members.items;
-          plans = conflict.plans.items;
-          end = ends fits _ (sym end);
-          conflict = named-conflict places d rows vars kept book conflict (is conflict refl);
-          shown = subst (λ (vs : List Var). AreShown rows vs (map valued conflict.members.items)) (vars-are places d rows vars book) (shown-conflict rows vars conflict (is conflict refl));
-          status_is = told.0;
-          text_is = told.1 ∙ ap (λ (ss : SetLists). conflict_text ss (map valued conflict.members.items) conflict.plans.items) same;
-        }))
+-- what the elimination says of how it ends
+abbrev end_after : List Row → List Var → ℕ → Option Place → Explanation
+end_after rows vars pivots wide = elim wide as (λ _. Explanation) [ None ↦ explained rows (definers rows) vars pivots | Some place ↦ IsStopped (Width place) ]
 
-    pub due-from_stop : first_wide (elimination_steps rows (definers rows)) ≡ None → (stop : Stop) → explained rows (definers rows) vars pivots ≡ IsStopped stop
-        → status ≡ Uncertified stop → text ≡ uncertified_line sets stop → DueForTrials places d rows pivots status text
-    due-from_stop fits stop end status_is line_is =
-        inr (inr (record { stop = stop; end = ends fits _ end; status_is = status_is; line_is = line_is ∙ ap (λ (ss : SetLists). uncertified_line ss stop) same }))
+-- where the elimination stops nowhere, the trials say how it ends
+pub exact-cause : (rows : List Row) (vars : List Var) (pivots : ℕ) → first_wide (elimination_steps rows (definers rows)) ≡ None → (end : Explanation) → explained rows (definers rows) vars pivots ≡ end
+    → IsCauseOf Exact rows vars pivots end
+exact-cause rows vars pivots fits end is = ap (end_after rows vars pivots) fits ∙ is
 
-    pub due-from_elimination : (place : Place) → first_wide (elimination_steps rows (definers rows)) ≡ Some place → status ≡ Uncertified (Width place) → text ≡ uncertified_line sets (Width place)
-        → DueForTrials places d rows pivots status text
-    due-from_elimination place wide status_is line_is =
-        inr (inr (record {
-          stop = Width place;
-          end = ap (λ (o : Option Place). elim o as (λ _. Explanation) [ None ↦ explained rows (definers rows) (all_variables d) pivots | Some place ↦ IsStopped (Width place) ]) wide;
-          status_is = status_is;
-          line_is = line_is ∙ ap (λ (ss : SetLists). uncertified_line ss (Width place)) same;
-        }))
+-- where it stops, it is the cause
+pub elimination-cause : (rows : List Row) (vars : List Var) (pivots : ℕ) (place : Place) → first_wide (elimination_steps rows (definers rows)) ≡ Some place → (method : SolveMethod)
+    → IsCauseOf method rows vars pivots (IsStopped (Width place))
+elimination-cause rows vars pivots place wide Exact = ap (end_after rows vars pivots) wide
+elimination-cause rows vars pivots place wide Rounded = inl (place, wide, refl)
+
+-- ---- what the trials say
+
+-- of the causes by the exact method, and of the rows
+abbrev pub ExactTells : ℕ → Result (Option Conflict) ExplainFail → List Row → List (Option Var) → List Var → Type 0
+ExactTells pivots r rows defs vars = IfOk r (λ found. explanation_seen found ≡ explained rows defs vars pivots) × IfErr r (Stops (explained rows defs vars pivots))
+
+abbrev pub WorthTells : Result (Option Conflict) ExplainFail → List Row → List (Option Var) → List Var → Type 0
+WorthTells r rows defs vars = IfOk r (λ found. IfSome found (IsConflict rows vars)) × IfOk r (λ found. IfNone found (AdmitsSome rows vars))
+
+module _ (rows : List Row) (vars : List Var) (pivots : ℕ) (fits : first_wide (elimination_steps rows (definers rows)) ≡ None) where
+  pub exact-tells : (r : Result (Option Conflict) ExplainFail) → ExactTells pivots r rows (definers rows) vars → WorthTells r rows (definers rows) vars → RunTells Exact rows vars pivots r
+  exact-tells (Ok found) told worth = record { cause = exact-cause rows vars pivots fits _ (sym told.0); conflict = worth.0; feasible = worth.1 }
+  exact-tells (Err (fails.Stopped stop)) told worth = exact-cause rows vars pivots fits (IsStopped stop) told.1
+  exact-tells (Err fails.Memory) told worth = tt
+
+  pub rounded-tells : (r : Result (Option Conflict) ExplainFail) → IfErr r (StopsSome rows (definers rows) vars pivots) → WorthTells r rows (definers rows) vars → RunTells Rounded rows vars pivots r
+  rounded-tells (Ok None) told worth = record { cause = tt; conflict = worth.0; feasible = worth.1 }
+  rounded-tells (Ok (Some conflict)) told worth = record { cause = tt; conflict = worth.0; feasible = worth.1 }
+  rounded-tells (Err (fails.Stopped stop)) told worth = inr (fits, told)
+  rounded-tells (Err fails.Memory) told worth = tt
+
+-- ---- what is due
+
+module _ (places : ℕ) (d : Data) (rows : List Row) (vars : List Var) (kept : IsBook rows vars) (book : IsBookOf places d rows vars) (pivots : ℕ) (method : SolveMethod)
+    (sets : SetLists) (same : sets ≡ d.sets) (status : Status) (text : List ℕ) where
+  cause : (end : Explanation) → IsCauseOf method rows vars pivots end → IsCauseOf method rows (all_variables d) pivots end
+  cause end is = subst (λ (vs : List Var). IsCauseOf method rows vs pivots end) (vars-are places d rows vars book) is
+
+  pub due-from_found : (found : Option Conflict) → FindingTells method rows vars pivots found → TellsFound sets found status text → DueForMethod places d rows pivots method status text
+  due-from_found None finding told =
+      inl (record { cause = cause (explanation_seen None) finding.cause; some = some-feasible places d rows vars kept book finding.feasible; status_is = told.0; text_is = told.1 })
+  due-from_found (Some conflict) finding told =
+      inr (inl (record {
+        members = map valued conflict.members.items;
+        plans = conflict.plans.items;
+        cause = cause (explanation_seen (Some conflict)) finding.cause;
+        conflict = named-conflict places d rows vars kept book conflict finding.conflict;
+        shown = subst (λ (vs : List Var). AreShown rows vs (map valued conflict.members.items)) (vars-are places d rows vars book) (shown-conflict rows vars conflict finding.conflict);
+        status_is = told.0;
+        text_is = told.1 ∙ ap (λ (ss : SetLists). conflict_text ss (map valued conflict.members.items) conflict.plans.items) same;
+      }))
+
+  pub due-from_stop : (stop : Stop) → IsCauseOf method rows vars pivots (IsStopped stop) → status ≡ Uncertified stop → text ≡ uncertified_line sets stop → DueForMethod places d rows pivots method status text
+  due-from_stop stop is status_is line_is =
+      inr (inr (record { stop = stop; cause = cause (IsStopped stop) is; status_is = status_is; line_is = line_is ∙ ap (λ (ss : SetLists). uncertified_line ss stop) same }))

@@ -1,10 +1,7 @@
-mod BookLists
 mod NamedRows
 mod ConflictNames
 mod ConflictLists
 mod TrialPlaces
-mod SameExplains
 mod TextLaws
 mod ShownLaws
 mod ExplainEnds
-mod GuessedEnds

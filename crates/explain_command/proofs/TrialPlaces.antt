@@ -1,5 +1,5 @@
 -- The place at which a trial stops is that of a row or a variable of the sets, so its name can be written.
-use Rattle.std.proofs.Common.{◌≡◌, ℕ, ◌+◌, Bool, true, false, List, [], ◌∷◌, ◌++◌, map, filter, Option, Some, None, refl, subst, if◌then◌else◌}
+use Rattle.std.proofs.Common.{◌≡◌, ℕ, ◌+◌, Bool, true, false, List, [], ◌∷◌, ◌++◌, map, filter, Option, Some, None, inl, inr, refl, sym, subst, if◌then◌else◌}
 use Rattle.std.specs.Prelude.{⊤}
 use Rattle.std.specs.List.{AllByRecursion}
 use Rattle.exact_num.specs.Rational.{Rational}
@@ -12,7 +12,6 @@ use Rattle.row_core.specs.declared.place.Place.{Place}
 use Rattle.row_book.specs.Books.{HasNameWithin, IsWithinSets}
 use Rattle.row_book.proofs.Lists.{AllByRecursion-filter, AllByRecursion-map, AllByRecursion-weaker}
 use Rattle.certificate_checker.specs.Costs.{model_cost}
-use Rattle.certificate_checker.specs.PlanChecks.{plan_conditions}
 use Rattle.written_method.specs.Definitions.{definitions_of}
 use Rattle.written_method.specs.Eliminated.{ReducedRow, elimination_steps, is_column}
 use Rattle.written_method.specs.Multiplied.{scaled_multipliers, scaled_steps}
@@ -22,19 +21,19 @@ use Rattle.simplex_core.specs.declared.stops.Stop.TheVariants.{Budget, Width, Tr
 use Rattle.simplex_core.specs.declared.stops.TrialStop.TheVariants as trials
 use Rattle.command_answers.specs.Definers.{definers}
 use Rattle.row_problem.specs.Programs.{carried_plan, name_left, plan_steps, rows_left, scale_left}
-use Rattle.command_answers.specs.PlacesWithin.{IsRowOfSets, IsVariableOfSets, PlaceIsWithin}
-use Rattle.command_answers.proofs.StepNames.{AreStepsWithin, both-within, plan-formed, steps-within, wide-within}
-use Rattle.solve_command.proofs.EndPlaces.{defined-within, names-left, plan-steps-within, refutation-checked, scaled-within}
-use Rattle.solve_command.proofs.MethodPlaces.{DefinesWithin, OutcomeIsWithin, definitions-within, elimination-within, solved-within}
+use Rattle.command_answers.specs.PlacesWithin.{IsRowOfSets, IsVariableOfSets, PlaceIsWithin, StopIsWithin}
+use Rattle.command_answers.proofs.KeptPlaces.{AreStepsKept, DefinesKept, OutcomeIsKept, all-passed, both-kept, defined-kept, definitions-kept, elimination-kept, names-left, plan-kept, plan-steps-kept, refutation-checked, scaled-kept, solved-kept, wide-kept}
 use Rattle.conflict_sets.specs.Pieces.{is_taken}
 use Rattle.conflict_sets.specs.Trials.{HasNone, HasPlan, IsPivotDue, IsWide, TrialEnd, carried_trial, plan_checks, rows_tried, rows_with, trial_end, trial_program, tried_multipliers, tried_steps, unless_stopped}
 use Rattle.conflict_sets.specs.RoundedStops.{IsStopOfSome}
-use Rattle.conflict_sets.specs.Walks.{Explanation, IsConflicting, IsFeasible, IsStopped, Needed, every, explained, is_listed, is_other, listed_names, walk}
-use Rattle.explain_command.specs.Outcomes.{StopIsWithin}
+use Rattle.conflict_sets.specs.Walks.{Explanation, IsConflicting, IsFeasible, IsStopped, Needed, every, explained, explanation, is_listed, is_other, listed_names, walk}
+use Rattle.command_words.specs.declared.command.SolveMethod.{SolveMethod}
+use Rattle.command_words.specs.declared.command.SolveMethod.TheVariants.{Exact, Rounded}
+use Rattle.explain_command.specs.Explain.{IsCauseOf}
 
-module _ (sets : SetLists) (rows : List Row) (vars : List Var) (define : AllByRecursion (DefinesWithin sets) rows) (listed_vars : AllByRecursion (IsWithinSets sets) vars) where
+module _ (sets : SetLists) (rows : List Row) (vars : List Var) (define : AllByRecursion (DefinesKept sets (IsRowOfSets sets)) rows) (listed_vars : AllByRecursion (IsWithinSets sets) vars) where
   named : AllByRecursion (HasNameWithin sets) rows
-  named = AllByRecursion-weaker (DefinesWithin sets) (HasNameWithin sets) (λ row of. of.0) rows define
+  named = all-passed sets (IsRowOfSets sets) rows define
 
   -- ---- one trial
 
@@ -44,26 +43,26 @@ module _ (sets : SetLists) (rows : List Row) (vars : List Var) (define : AllByRe
         AllByRecursion-weaker (λ row. HasNameWithin sets row × (is_taken listed row ≡ true)) (HasNameWithin sets) (λ row of. of.0) (rows_with listed rows)
         (AllByRecursion-filter (HasNameWithin sets) (is_taken listed) rows named)
 
-    plan-checked : (plan : List (Var × Rational)) → AreStepsWithin sets (plan_checks listed rows vars plan)
-    plan-checked plan = steps-within sets (plan_conditions model_cost (rows_with listed rows) vars plan) (plan-formed sets (rows_with listed rows) vars trial-named listed_vars model_cost plan)
+    plan-checked : (plan : List (Var × Rational)) → AreStepsKept sets (IsRowOfSets sets) (plan_checks listed rows vars plan)
+    plan-checked plan = plan-kept sets (IsRowOfSets sets) (rows_with listed rows) vars trial-named listed_vars model_cost plan
 
     names-tried : AllByRecursion (IsRowOfSets sets) (map name_left (rows_tried listed rows (definers rows)))
     names-tried =
         AllByRecursion-map (IsRowOfSets sets) name_left (rows_tried listed rows (definers rows))
         (AllByRecursion-weaker (λ (r : ReducedRow). IsRowOfSets sets r.name × (listed r.name ≡ true)) (λ r. IsRowOfSets sets r.name) (λ r of. of.0) (rows_tried listed rows (definers rows))
-        (AllByRecursion-filter (λ (r : ReducedRow). IsRowOfSets sets r.name) (λ (r : ReducedRow). listed r.name) (rows_left rows (definers rows)) (from-map (rows_left rows (definers rows)) (names-left sets rows vars define listed_vars))))
+        (AllByRecursion-filter (λ (r : ReducedRow). IsRowOfSets sets r.name) (λ (r : ReducedRow). listed r.name) (rows_left rows (definers rows)) (from-map (rows_left rows (definers rows)) (names-left sets (IsRowOfSets sets) rows define))))
       where
         from-map : (rs : List ReducedRow) → AllByRecursion (IsRowOfSets sets) (map name_left rs) → AllByRecursion (λ (r : ReducedRow). IsRowOfSets sets r.name) rs
         from-map [] h = tt
         from-map (r ∷ rs) h = (h.0, from-map rs h.1)
 
-    tried-within : (lambda : List Rational) → AreStepsWithin sets (tried_steps listed rows (definers rows) lambda)
+    tried-within : (lambda : List Rational) → AreStepsKept sets (IsRowOfSets sets) (tried_steps listed rows (definers rows) lambda)
     unfolding tried_steps
     tried-within lambda =
         let names = map name_left (rows_tried listed rows (definers rows)) in
         let scales = map scale_left (rows_tried listed rows (definers rows)) in
-        both-within sets (scaled_steps names scales lambda) _ (scaled-within sets names scales lambda names-tried)
-        (defined-within sets false rows (definitions_of rows (definers rows)) (scaled_multipliers names scales lambda []) (definitions-within sets rows define))
+        both-kept sets (IsRowOfSets sets) (scaled_steps names scales lambda) _ (scaled-kept sets (IsRowOfSets sets) names scales lambda names-tried)
+        (defined-kept sets (IsRowOfSets sets) false rows (definitions_of rows (definers rows)) (scaled_multipliers names scales lambda []) (definitions-kept sets (IsRowOfSets sets) rows define))
 
     abbrev TrialIsNamed : TrialEnd → Type 0
     TrialIsNamed (IsWide place) = PlaceIsWithin sets place
@@ -71,20 +70,20 @@ module _ (sets : SetLists) (rows : List Row) (vars : List Var) (define : AllByRe
     TrialIsNamed (HasNone multipliers) = ⊤
     TrialIsNamed IsPivotDue = ⊤
 
-    unless-named : (ss : List (Step Place)) (end : TrialEnd) → AreStepsWithin sets ss → TrialIsNamed end → TrialIsNamed (unless_stopped (first_wide ss) end)
+    unless-named : (ss : List (Step Place)) (end : TrialEnd) → AreStepsKept sets (IsRowOfSets sets) ss → TrialIsNamed end → TrialIsNamed (unless_stopped (first_wide ss) end)
     unless-named ss end within ends = cases (first_wide ss) refl
       where
         cases : (wide : Option Place) → first_wide ss ≡ wide → TrialIsNamed (unless_stopped wide end)
         cases None is = ends
-        cases (Some place) is = wide-within sets ss place within is
+        cases (Some place) is = wide-kept sets (IsRowOfSets sets) ss place within is
 
     planned-named : (values : List (Var × Rational)) → TrialIsNamed (unless_stopped (first_wide (plan_steps rows (definers rows) values ++ plan_checks listed rows vars (carried_plan rows (definers rows) values))) (HasPlan (carried_plan rows (definers rows) values)))
-    planned-named values = unless-named _ (HasPlan (carried_plan rows (definers rows) values)) (both-within sets _ _ (plan-steps-within sets rows vars define listed_vars values) (plan-checked (carried_plan rows (definers rows) values))) tt
+    planned-named values = unless-named _ (HasPlan (carried_plan rows (definers rows) values)) (both-kept sets (IsRowOfSets sets) _ _ (plan-steps-kept sets (IsRowOfSets sets) rows define values) (plan-checked (carried_plan rows (definers rows) values))) tt
 
-    carried-named : (outcome : Outcome) → OutcomeIsWithin sets outcome → TrialIsNamed (carried_trial listed rows (definers rows) vars outcome)
+    carried-named : (outcome : Outcome) → OutcomeIsKept sets (IsRowOfSets sets) outcome → TrialIsNamed (carried_trial listed rows (definers rows) vars outcome)
     carried-named (IsOptimal values lambda pivots) of = planned-named values
     carried-named (IsInfeasible lambda pivots) of =
-        unless-named _ (HasNone (tried_multipliers listed rows (definers rows) lambda)) (both-within sets _ _ (tried-within lambda) (refutation-checked sets rows vars define listed_vars (tried_multipliers listed rows (definers rows) lambda))) tt
+        unless-named _ (HasNone (tried_multipliers listed rows (definers rows) lambda)) (both-kept sets (IsRowOfSets sets) _ _ (tried-within lambda) (refutation-checked sets (IsRowOfSets sets) rows vars define listed_vars (tried_multipliers listed rows (definers rows) lambda))) tt
     carried-named (IsUnbounded values direction pivots) of = planned-named values
     carried-named IsOutOfPivots of = tt
     carried-named (IsTooWide place) of = of
@@ -97,7 +96,7 @@ module _ (sets : SetLists) (rows : List Row) (vars : List Var) (define : AllByRe
 
     trial-named_end : (pivots : ℕ) → TrialIsNamed (trial_end listed rows (definers rows) vars pivots)
     unfolding trial_end
-    trial-named_end pivots = carried-named (solved pivots (trial_program listed rows (definers rows) vars)) (solved-within sets (trial_program listed rows (definers rows) vars) columns-within pivots)
+    trial-named_end pivots = carried-named (solved pivots (trial_program listed rows (definers rows) vars)) (solved-kept sets (IsRowOfSets sets) (trial_program listed rows (definers rows) vars) columns-within pivots)
 
   -- ---- all trials
 
@@ -148,11 +147,19 @@ module _ (sets : SetLists) (rows : List Row) (vars : List Var) (define : AllByRe
       cases IsPivotDue of = tt
       cases (IsWide place) of = of
 
-  pub stop-named : (pivots : ℕ) (stop : Stop) → explained rows (definers rows) vars pivots ≡ IsStopped stop → StopIsWithin sets stop
-  stop-named pivots stop is = subst ExplanationIsNamed is (explained-named pivots)
+  pub elimination-named : (place : Place) → first_wide (elimination_steps rows (definers rows)) ≡ Some place → PlaceIsWithin sets place
+  elimination-named place wide = wide-kept sets (IsRowOfSets sets) (elimination_steps rows (definers rows)) place (elimination-kept sets (IsRowOfSets sets) rows define) wide
+
+  explanation-named : (pivots : ℕ) → ExplanationIsNamed (explanation rows (definers rows) vars pivots)
+  explanation-named pivots = cases (first_wide (elimination_steps rows (definers rows))) refl
+    where
+      cases : (wide : Option Place) → first_wide (elimination_steps rows (definers rows)) ≡ wide
+          → ExplanationIsNamed (elim wide as (λ _. Explanation) [ None ↦ explained rows (definers rows) vars pivots | Some place ↦ IsStopped (Width place) ])
+      cases None is = explained-named pivots
+      cases (Some place) is = elimination-named place is
 
   -- by guesses first, the trial that stops is an exact one
-  pub some-stop-named : (pivots : ℕ) (stop : Stop) → IsStopOfSome rows (definers rows) vars pivots stop → StopIsWithin sets stop
+  some-stop-named : (pivots : ℕ) (stop : Stop) → IsStopOfSome rows (definers rows) vars pivots stop → StopIsWithin sets stop
   some-stop-named pivots (Budget most) h = tt
   some-stop-named pivots (Width place) h = subst (TrialIsNamed every) h (trial-named_end every pivots)
   some-stop-named pivots (Trial number (trials.Budget most)) h = tt
@@ -160,5 +167,7 @@ module _ (sets : SetLists) (rows : List Row) (vars : List Var) (define : AllByRe
       let others = is_other h.1.multipliers h.1.left_out in
       subst (TrialIsNamed others) h.1.ends (trial-named_end others pivots)
 
-  pub elimination-named : (place : Place) → first_wide (elimination_steps rows (definers rows)) ≡ Some place → PlaceIsWithin sets place
-  elimination-named place wide = wide-within sets (elimination_steps rows (definers rows)) place (elimination-within sets rows define) wide
+  pub cause-named : (pivots : ℕ) (stop : Stop) (method : SolveMethod) → IsCauseOf method rows vars pivots (IsStopped stop) → StopIsWithin sets stop
+  cause-named pivots stop Exact is = subst ExplanationIsNamed is (explanation-named pivots)
+  cause-named pivots stop Rounded (inl first) = subst (StopIsWithin sets) (sym first.2) (elimination-named first.0 first.1)
+  cause-named pivots stop Rounded (inr later) = some-stop-named pivots stop later.1

@@ -4,7 +4,8 @@ ghost use Rattle.command_answers.specs.declared.status.Status.{Status};
 ghost use Rattle.command_answers.specs.CheckedPlans.{IsListedBook};
 ghost use Rattle.command_answers.specs.Lines.{uncertified_line};
 ghost use Rattle.conflict_sets.specs.Conflicts.{IsConflict};
-ghost use Rattle.explain_command.specs.Outcomes.{StopIsWithin, TellsFound};
+ghost use Rattle.command_answers.specs.PlacesWithin.{StopIsWithin};
+ghost use Rattle.explain_command.specs.Outcomes.{TellsFound};
 
 use crate::texts::conflict_text;
 use command_answers::{Answer, Status, Stop, stop_at, stop_at_budget, stop_at_trial};

@@ -4,7 +4,6 @@
 
 mod ends;
 mod explain;
-mod rounding;
 mod texts;
 
 pub use explain::answer_explain;

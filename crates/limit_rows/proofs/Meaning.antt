@@ -1,5 +1,5 @@
 -- The terms of each equation of limits, reserve margin and renewable target mean it.
-use Rattle.std.proofs.Common.{◌≡◌, ◌≢◌, true, ℕ, ℤ, pos, ◌*ℤ◌, List, Some, None, refl, ap, arith}
+use Rattle.std.proofs.Common.{◌≡◌, ◌≢◌, ◌≤◌, true, ℕ, ℤ, pos, ◌*ℤ◌, List, Some, None, refl, ap, arith}
 use Rattle.std.specs.Prelude.{◌<ℤ◌}
 use Rattle.std.proofs.lemmas.Int.{ints}
 use Rattle.model_sets.specs.Data.{Data}
@@ -170,13 +170,13 @@ named places d n i h = at_number (IsNamed places d i) TCC1 18 n (from_first plac
 pub terms-at : (d : Data) (name : RowName) (n : ℕ) → name.eq ≡ n → terms_at d name ≡ terms_at d (name_at n name.index)
 terms-at d name n h = ap (λ m. terms_at d (name_at m name.index)) h
 
--- where no condition is asked, the equation stands everywhere
+-- where no condition is asked, the equations of reserve margin and renewable target stand everywhere
 abbrev pub Stands : Data → Index → ℕ → Type 0
-Stands d i n = n ≢ TCC1 → n ≢ TCC2 → n ≢ NCC1 → n ≢ NCC2 → n ≢ AAC2 → n ≢ AAC3 → n ≢ TAC2 → n ≢ TAC3 → n ≢ RE1 → n ≢ RE5 → true ≡ stands_at d n i
+Stands d i n = n ≢ RE1 → n ≢ RE5 → true ≡ stands_at d n i
 
-conditions : (d : Data) (i : Index) → EachFrom (Stands d i) TCC1 18
+conditions : (d : Data) (i : Index) → EachFrom (Stands d i) RM1 8
 conditions d i =
-    ((λ a b c e f g h j k m. absurd (a refl)), ((λ a b c e f g h j k m. absurd (b refl)), ((λ a b c e f g h j k m. absurd (c refl)), ((λ a b c e f g h j k m. absurd (e refl)), ((λ a b c e f g h j k m. refl), ((λ a b c e f g h j k m. absurd (f refl)), ((λ a b c e f g h j k m. absurd (g refl)), ((λ a b c e f g h j k m. refl), ((λ a b c e f g h j k m. absurd (h refl)), ((λ a b c e f g h j k m. absurd (j refl)), ((λ a b c e f g h j k m. refl), ((λ a b c e f g h j k m. refl), ((λ a b c e f g h j k m. refl), ((λ a b c e f g h j k m. absurd (k refl)), ((λ a b c e f g h j k m. refl), ((λ a b c e f g h j k m. refl), ((λ a b c e f g h j k m. refl), ((λ a b c e f g h j k m. absurd (m refl)), tt))))))))))))))))))
+    ((λ a b. refl), ((λ a b. refl), ((λ a b. refl), ((λ a b. absurd (a refl)), ((λ a b. refl), ((λ a b. refl), ((λ a b. refl), ((λ a b. absurd (b refl)), tt))))))))
 
-pub everywhere_else : (d : Data) (n : ℕ) (i : Index) → IsLimitEquation n → Stands d i n
-everywhere_else d n i h = at_number (Stands d i) TCC1 18 n (conditions d i) h.0 (omega (arith, h.1))
+pub everywhere_else : (d : Data) (n : ℕ) (i : Index) → RM1 ≤ n → n ≤ RE5 → Stands d i n
+everywhere_else d n i from to = at_number (Stands d i) RM1 8 n (conditions d i) from (omega (arith, to))

@@ -2,9 +2,8 @@
 //! "OSeMOSYS: The Open Source Energy Modeling System", Energy Policy 39, 2011).
 #![tactic(auto)]
 
-mod activity_limits;
-mod capacity_limits;
-mod investment_limits;
+mod activity;
+mod limits;
 mod renewable_target;
 mod reserve_margin;
 mod rows;

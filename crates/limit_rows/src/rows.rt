@@ -9,19 +9,14 @@ ghost use Rattle.named_equations.specs.Instances.{is_index, name_at, stands_at, 
 ghost use Rattle.named_equations.specs.RowMeaning.{IsNamedRow};
 ghost use Rattle.limit_rows.specs.Rows.{IsLimitEquation, terms_at};
 
-use crate::activity_limits::{
-    aac1, aac2, aac3, has_aac2, has_aac3, has_tac2, has_tac3, tac1, tac2, tac3,
-};
-use crate::capacity_limits::{has_tcc1, has_tcc2, tcc1, tcc2};
-use crate::investment_limits::{has_ncc1, has_ncc2, ncc1, ncc2};
+use crate::activity::{aac1, tac1};
+use crate::limits::{is_set, limit_row};
 use crate::renewable_target::{re1, re2, re3, re4, re5};
 use crate::reserve_margin::{rm1, rm2, rm3};
+use equation_parts::instances::row_where;
 use equation_parts::ratios::{produces, uses};
 use param_tables::ModelData;
-use row_core::equation_numbers::{
-    AAC1, AAC2, AAC3, NCC1, NCC2, RE1, RE2, RE3, RE4, RE5, RM1, RM2, RM3, TAC1, TAC2, TAC3, TCC1,
-    TCC2,
-};
+use row_core::equation_numbers::{AAC1, RE1, RE2, RE3, RE4, RE5, RM1, RM2, RM3, TAC1, TAC3, TCC1};
 use row_core::{Index, Row, RowName, Stopped};
 use std::alloc::Global;
 
@@ -44,13 +39,8 @@ pub fn rows_of(alloc: Global, model: &ModelData, eq: u8, at: Index) -> Result<Op
     ensures fits { IfOk result (λ found. IfSome found (λ row. all_fit (equation_formed (terms_at model.now.facts (name_at eq at))) ≡ true)) }
     ensures stopped { IfErr result (IsStop (Place.Row (name_at eq at)) (not (stands_at model.now.facts eq at) || all_fit (equation_formed (terms_at model.now.facts (name_at eq at))))) }
 {
-    if !stands(model, eq, at) {
-        return Ok(None);
-    }
-    match row_of(alloc, model, RowName { eq, index: at }) {
-        Ok(row) => Ok(Some(row)),
-        Err(stopped) => Err(stopped),
-    }
+    let name = RowName { eq, index: at };
+    row_where(stands(model, eq, at), || row_of(alloc, model, name))
 }
 
 /// Whether the equation has an instance at the index.
@@ -67,14 +57,9 @@ fn stands(model: &ModelData, eq: u8, at: Index) -> bool
         ..
     } = at;
     match eq {
-        TCC1 => has_tcc1(model, r, t, y),
-        TCC2 => has_tcc2(model, r, t, y),
-        NCC1 => has_ncc1(model, r, t, y),
-        NCC2 => has_ncc2(model, r, t, y),
-        AAC2 => has_aac2(model, r, t, y),
-        AAC3 => has_aac3(model, r, t, y),
-        TAC2 => has_tac2(model, r, t),
-        TAC3 => has_tac3(model, r, t),
+        AAC1 => true,
+        TAC1 => true,
+        TCC1..=TAC3 => is_set(model, eq, at),
         RE1 => produces(model, r, t, f, y),
         RE5 => uses(model, r, t, f, y),
         _ => true,
@@ -88,16 +73,9 @@ fn row_of(alloc: Global, model: &ModelData, name: RowName) -> Result<Row, Stoppe
     ensures { IsWritten name (terms_at model.now.facts name) result }
 {
     match name.eq {
-        TCC1 => tcc1(alloc, model, name),
-        TCC2 => tcc2(alloc, model, name),
-        NCC1 => ncc1(alloc, model, name),
-        NCC2 => ncc2(alloc, model, name),
         AAC1 => aac1(alloc, model, name),
-        AAC2 => aac2(alloc, model, name),
-        AAC3 => aac3(alloc, model, name),
         TAC1 => tac1(alloc, model, name),
-        TAC2 => tac2(alloc, model, name),
-        TAC3 => tac3(alloc, model, name),
+        TCC1..=TAC3 => limit_row(alloc, model, name),
         RM1 => rm1(alloc, model, name),
         RM2 => rm2(alloc, model, name),
         RM3 => rm3(alloc, model, name),

@@ -38,6 +38,8 @@ use Rattle.command_answers.specs.declared.status.Status.{Status}
 use Rattle.command_answers.specs.declared.status.Status.TheVariants.{Done}
 use Rattle.command_words.specs.declared.fault.WordFault.{WordFault}
 use Rattle.command_answers.specs.Accepted.{Accepted}
+use Rattle.command_answers.specs.Limits.{IsWithinLimits, PassesLimits}
+use Rattle.command_answers.specs.MadeBooks.{HasNoProgram, HasNoRows}
 use Rattle.osemosys_run.specs.Complete.{AreInGap, AreThereIfNamed, CanBeAccepted, CanBeWritten}
 use Rattle.osemosys_run.specs.Due.{Due, DueForFile, DueForOptionalFile, DueForRequest}
 use Rattle.command_answers.specs.DueForText.{DueForText}
@@ -71,6 +73,21 @@ equations_done laws places d status text can (inr (inl wide)) =
     absurd (width_or_memory (Place.Row wide.name) (laws.made places d 0 (instances d) (book.Width (Place.Row wide.name)) can (wide.name, refl, wide.wide)))
 equations_done laws places d status text can (inr (inr many)) = absurd (many_or_memory (laws.made places d 0 (instances d) book.TooManyEntries can (many.name, many.many)))
 
+-- of rows that can be made, and of a linear program that isn't too large, nothing else is due than what a command has of it
+module _ (laws : Laws) (places : ℕ) (d : Data) (can_make : CanBeMade places d 0 (instances d)) where
+  pub no_rows : (status : Status) (text : List ℕ) → HasNoRows places d status text → status ≡ Done
+  no_rows status text none = equations_done laws places d status text can_make (inr none)
+
+  module _ (within : (rows : List Row) → AreRowsOf places d (instances d) rows → IsWithinLimits rows (all_variables d)) where
+    pub not_too_large : (rows : List Row) → AreRowsOf places d (instances d) rows → (status : Status) (text : List ℕ) → PassesLimits rows (all_variables d) status text → ⊥
+    not_too_large rows are status text large =
+        let limits = within rows are in
+        elim large.passed [ inl many ↦ omega (arith, many, limits.0) | inr many ↦ omega (arith, many, limits.1) ]
+
+    pub no_program : (status : Status) (text : List ℕ) → HasNoProgram places d status text → status ≡ Done
+    no_program status text (inl made) = absurd (not_too_large made.rows made.are_rows status text made.due)
+    no_program status text (inr none) = no_rows status text none
+
 -- over an accepted text nothing else is due than over its data
 pub over_accepted : Laws → (Over : ℕ → Data → Status → List ℕ → Type 0) (bytes : List ℕ) (d : Data) (status : Status) (text : List ℕ) → (accepted : Accepted bytes d)
     → DueForText Over bytes status text → Over accepted.blocks.rounded d status text
@@ -78,6 +95,13 @@ over_accepted laws Over bytes d status text accepted (inl refused) = absurd (law
 over_accepted laws Over bytes d status text accepted (inr said) =
     subst (λ (e : Data). Over accepted.blocks.rounded e status text) (laws.one_data bytes said.0 d said.1 accepted)
     (subst (λ (blocks : Blocks). Over blocks.rounded said.0 status text) (laws.one_reading bytes said.1.blocks accepted.blocks said.1.says accepted.says) said.2)
+
+-- nor over a file that is there and says such a text
+pub over_file : Laws → (Over : ℕ → Data → Status → List ℕ → Type 0) (file : Option (List ℕ)) (bytes : List ℕ) (d : Data) (status : Status) (text : List ℕ) → file ≡ Some bytes → (accepted : Accepted bytes d)
+    → DueForFile (DueForText Over) 1 file status text → Over accepted.blocks.rounded d status text
+over_file laws Over file bytes d status text there accepted due =
+    over_accepted laws Over bytes d status text accepted
+    (over_short (DueForText Over) 1 bytes status text accepted.short (subst (λ (found : Option (List ℕ)). DueForFile (DueForText Over) 1 found status text) there due))
 
 -- ---- checking
 
@@ -128,10 +152,9 @@ module _ (places : ℕ) (d : Data) (rows : List Row) (are_rows : AreRowsOf place
 
 written_from_due : Laws → (words : List (List ℕ)) (files : List (List ℕ × List ℕ)) (status : Status) (text : List ℕ) → Due words files status text → CanBeWritten words files → status ≡ Done
 written_from_due laws words files status text due can =
-    let for_file = subst (λ (request : Result Request WordFault). DueForRequest request files status text) can.asks due in
-    let for_bytes = subst (λ (file : Option (List ℕ)). DueForFile (DueForText (λ rounded. DueForEquations can.places)) 1 file status text) can.there for_file in
-    let for_text = over_short (DueForText (λ rounded. DueForEquations can.places)) 1 can.bytes status text can.accepted.short for_bytes in
-    equations_done laws can.places can.d status text can.made (over_accepted laws (λ rounded. DueForEquations can.places) can.bytes can.d status text can.accepted for_text)
+    equations_done laws can.places can.d status text can.made
+    (over_file laws (λ rounded. DueForEquations can.places) (file_named files can.name) can.bytes can.d status text can.there can.accepted
+    (subst (λ (request : Result Request WordFault). DueForRequest request files status text) can.asks due))
 
 -- over the file of multipliers, if one is named
 over_named : (Over : Option (List ℕ) → Status → List ℕ → Type 0) (files : List (List ℕ × List ℕ)) (name bytes : Option (List ℕ)) (status : Status) (text : List ℕ)

@@ -1,14 +1,12 @@
 -- Where nothing stops the trial of any limit, a curve is told whole.
-use Rattle.std.proofs.Common.{◌≡◌, ◌⊎◌, ℕ, ℤ, ◌+◌, inl, inr, List, [], ◌∷◌, ◌++◌, Option, Result, Some, None, refl, sym, ◌∙◌, ap, subst, arith}
+use Rattle.std.proofs.Common.{◌≡◌, ℕ, ℤ, ◌+◌, inl, inr, List, [], ◌∷◌, ◌++◌, Option, Result, Some, None, refl, sym, ◌∙◌, ap, subst}
 use Rattle.std.specs.List.{AllByRecursion}
+use Rattle.io_edges.specs.Files.{file_named}
 use Rattle.model_sets.specs.Data.{Data}
 use Rattle.model_sets.specs.Members.{index_of, members}
 use Rattle.model_sets.specs.declared.set_numbers.TheConstants.{EMISSION, REGION}
-use Rattle.row_core.specs.declared.Row.{Row}
 use Rattle.row_core.specs.declared.place.Place.{Place}
-use Rattle.named_equations.specs.Existence.{all_variables}
 use Rattle.named_equations.specs.Instances.{instances}
-use Rattle.row_book.specs.Books.{AreRowsOf}
 use Rattle.row_book.specs.declared.fail.BookFail.TheVariants as book
 use Rattle.simplex_core.specs.declared.stops.TrialStop.{TrialStop}
 use Rattle.command_words.specs.declared.command.SolveMethod.{SolveMethod}
@@ -16,18 +14,15 @@ use Rattle.command_words.specs.declared.fault.WordFault.{WordFault}
 use Rattle.command_words.specs.Words.{Request}
 use Rattle.command_answers.specs.declared.status.Status.{Status}
 use Rattle.command_answers.specs.declared.status.Status.TheVariants.{Done}
-use Rattle.command_answers.specs.DueForText.{DueForText}
 use Rattle.emission_curve.specs.Ends.{HasLine, HasLineBelow, HasNoBound, HasNoPlan, IsStopped, PointEnd}
 use Rattle.emission_curve.specs.Points.{EndIsRounded}
 use Rattle.curve_command.specs.Curve.{DueForCurve, DueForLimits, limits_in}
 use Rattle.curve_command.specs.CurveTexts.{Found, else_stop, first_stop, status_for, stop_of}
 use Rattle.curve_command.specs.Limited.{limit_at, with_limit}
 use Rattle.curve_command.specs.Trials.{EndsSo, IsTrialOf, Wanted}
-use Rattle.solve_command.specs.Limits.{IsWithinLimits, PassesLimits}
 use Rattle.osemosys_run.specs.Complete.{CanBeDrawn, CanBeTried}
-use Rattle.osemosys_run.specs.Due.{Due, DueForFile, DueForRequest}
-use Rattle.osemosys_run.proofs.Completeness.{Laws, equations_done, over_accepted}
-use Rattle.osemosys_run.proofs.DueFromCauses.{over_short}
+use Rattle.osemosys_run.specs.Due.{Due, DueForRequest}
+use Rattle.osemosys_run.proofs.Completeness.{Laws, no_rows, not_too_large, over_file}
 
 -- what holds of all holds of one among them
 of_one : {A : Type 0} → (P : A → Type 0) (first : List A) (one : A) (last : List A) → AllByRecursion P (first ++ one ∷ last) → P one
@@ -70,9 +65,6 @@ module _ (laws : Laws) (places : ℕ) (d : Data) (r e : ℕ) (wanted : Wanted) w
       subst (λ first. else_stop first (first_stop (number + 1) all) ≡ None) (sym (no_stop_of number found.1 (never_stops found can.0 trials.0)))
       (no_stop (number + 1) all can.1 trials.1)
 
-  too_large : (rows : List Row) (limit : ℤ) (status : Status) (text : List ℕ) → IsWithinLimits rows (all_variables (with_limit d r e limit)) → PassesLimits (with_limit d r e limit) rows status text → ⊥
-  too_large rows limit status text limits large = elim large.passed [ inl many ↦ omega (arith, many, limits.0) | inr many ↦ omega (arith, many, limits.1) ]
-
   limits_done : (limits : List ℤ) (status : Status) (text : List ℕ) → AllByRecursion (CanBeTried places d r e wanted.pivots) limits → DueForLimits places d r e wanted limits status text → status ≡ Done
   limits_done limits status text can (inl curve) =
       curve.status_is ∙ ap status_for (no_stop 1 curve.all (subst (AllByRecursion (CanBeTried places d r e wanted.pivots)) (sym curve.whole) can) curve.trials)
@@ -80,8 +72,8 @@ module _ (laws : Laws) (places : ℕ) (d : Data) (r e : ℕ) (wanted : Wanted) w
       let tried = of_one (CanBeTried places d r e wanted.pivots) (limits_in refusal.earlier) refusal.limit refusal.later
       (subst (AllByRecursion (CanBeTried places d r e wanted.pivots)) (sym refusal.split) can) in
       elim refusal.refuses [
-        | inl many ↦ equations_done laws places (with_limit d r e refusal.limit) status text tried.made (inr (inr many))
-        | inr made ↦ absurd (too_large made.rows refusal.limit status text (tried.within made.rows made.are_rows) made.due)
+        | inl many ↦ no_rows laws places (with_limit d r e refusal.limit) tried.made status text (inr many)
+        | inr made ↦ absurd (not_too_large laws places (with_limit d r e refusal.limit) tried.made tried.within made.rows made.are_rows status text made.due)
       ]
 
 -- what the words ask for
@@ -101,7 +93,6 @@ module _ (laws : Laws) (words : List (List ℕ)) (files : List (List ℕ × List
 pub drawn_from_due : Laws → (words : List (List ℕ)) (files : List (List ℕ × List ℕ)) (status : Status) (text : List ℕ) → Due words files status text → CanBeDrawn words files → status ≡ Done
 drawn_from_due laws words files status text due can =
     let Over : ℕ → Data → Status → List ℕ → Type 0 = λ rounded. DueForCurve can.places (wanted_for can.method can.pivots can.gap) can.region can.emission can.limits in
-    let for_file = subst (λ (request : Result Request WordFault). DueForRequest request files status text) can.asks due in
-    let for_bytes = subst (λ (file : Option (List ℕ)). DueForFile (DueForText Over) 1 file status text) can.there for_file in
-    let for_text = over_short (DueForText Over) 1 can.bytes status text can.accepted.short for_bytes in
-    members_done laws words files status text can (over_accepted laws Over can.bytes can.d status text can.accepted for_text)
+    members_done laws words files status text can
+    (over_file laws Over (file_named files can.name) can.bytes can.d status text can.there can.accepted
+    (subst (λ (request : Result Request WordFault). DueForRequest request files status text) can.asks due))

@@ -44,6 +44,7 @@ Comes (Refused refusals.TooManyEntries) = ⊤
 Comes (Refused (refusals.TooLarge rows columns)) = ⊥
 Comes (Refused (refusals.PlanFile fault)) = ⊥
 Comes (Refused (refusals.MultiplierFile fault)) = ⊥
+Comes (Refused (refusals.ProofFile fault)) = ⊥
 Comes (Refused (refusals.TooLong file)) = ⊥
 Comes (Refused (refusals.NoSuch set)) = ⊥
 Comes (Words fault) = ⊥

@@ -46,6 +46,7 @@ all_read request before after (Refused (refusals.TooLarge rows columns)) other a
 all_read request before after (Refused (refusals.NoSuch set)) other all = all
 all_read request before after (Refused (refusals.PlanFile fault)) other all = all
 all_read request before after (Refused (refusals.MultiplierFile fault)) other all = all
+all_read request before after (Refused (refusals.ProofFile fault)) other all = all
 all_read request before after (Words fault) other all = tt
 all_read request before after (ReadFault stop) other all = tt
 all_read request before after WriteFault other all = absurd (other refl)

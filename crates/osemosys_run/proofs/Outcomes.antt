@@ -31,12 +31,18 @@ use Rattle.osemosys_run.specs.Due.{DueForFile, DueForMake, DueForOptionalFile, D
 use Rattle.command_answers.specs.BookFails.{TellsFail}
 use Rattle.command_answers.specs.DueForText.{DueForText}
 use Rattle.check_command.specs.Check.{DueForCheck, DueForMultiplierFile, DueForPlan, DueForPlanFile}
+use Rattle.certificate_checker.specs.Conditions.{Condition}
+use Rattle.proof_files.specs.declared.proof.Proof.{Proof}
+use Rattle.proof_files.specs.declared.proof.Proof.TheVariants as proofs
+use Rattle.check_command.specs.CheckProof.{DueForConditions, DueForProof, DueForProofFile, DueForProofTold, descent_conditions, refutation_conditions}
 use Rattle.command_answers.specs.Lines.{too_long_line}
 use Rattle.curve_command.specs.Curve.{DueForCurve, DueForLimits}
 use Rattle.curve_command.specs.CurveTexts.{first_stop, status_for}
 use Rattle.curve_command.specs.Limited.{with_limit}
 use Rattle.curve_command.specs.Trials.{Wanted}
-use Rattle.explain_command.specs.Explain.{DueForExplain, DueForMethod as DueForTrialsBy}
+use Rattle.command_answers.specs.Limits.{PassesLimits}
+use Rattle.command_answers.specs.MadeBooks.{HasNoProgram, HasNoRows}
+use Rattle.explain_command.specs.Explain.{DueForExplain}
 use Rattle.osemosys_run.specs.Mps.{DueForEquations}
 use Rattle.command_answers.specs.NotAccepted.{DueWhereNotAccepted}
 use Rattle.osemosys_run.specs.Reading.{Sight}
@@ -45,11 +51,11 @@ use Rattle.osemosys_run.specs.Replies.{IsAnswer}
 use Rattle.solve_command.specs.Shown.{shown_of}
 use Rattle.command_words.specs.declared.command.SolveMethod.{SolveMethod}
 use Rattle.command_words.specs.declared.command.SolveMethod.TheVariants.{Exact, Rounded}
-use Rattle.solve_command.specs.Solve.{DueForEnd, DueForMethod, DueForRows, DueForSolve}
+use Rattle.solve_command.specs.Solve.{DueForEnd, DueForMethod, DueForSolve}
 use Rattle.span_command.specs.Span.{DueForSpan}
 use Rattle.span_command.specs.Span as spans
 use Rattle.solve_command.specs.Summary.{DueForSummary, default_places, default_pivots}
-use Rattle.command_words.specs.Words.{Request, Check, Curve, Explain, Make, Mps, Solve, Span, asked}
+use Rattle.command_words.specs.Words.{Request, Check, CheckProof, Curve, Explain, Make, Mps, Solve, Span, asked}
 use Rattle.osemosys_run.proofs.FilesRead.{Reaches-itself, by_files, of_all, rose-since}
 
 -- ---- which statuses an answer has
@@ -64,10 +70,20 @@ is_other status s cut memory read e = ((λ h. cut (sym e ∙ h), λ h. memory (s
 refused_is : (status : Status) (refusal : Refusal) → status ≡ Refused refusal → IsOwn status
 refused_is status refusal e = is_other status (Refused refusal) (λ h. cc) (λ h. cc) (λ number h. cc) e
 
+no_rows_is : (places : ℕ) (d : Data) (status : Status) (text : List ℕ) → HasNoRows places d status text → IsOwn status
+no_rows_is places d status text (inl wide) = is_other status (Uncertified (Stop.Width (Place.Row wide.name))) (λ h. cc) (λ h. cc) (λ number h. cc) wide.status_is
+no_rows_is places d status text (inr many) = refused_is status refusals.TooManyEntries many.status_is
+
+too_large_is : (rows : List Row) (vars : List Var) (status : Status) (text : List ℕ) → PassesLimits rows vars status text → IsOwn status
+too_large_is rows vars status text large = refused_is status (refusals.TooLarge (inequality_count rows) (column_count vars)) large.status_is
+
+no_program_is : (places : ℕ) (d : Data) (status : Status) (text : List ℕ) → HasNoProgram places d status text → IsOwn status
+no_program_is places d status text (inl made) = too_large_is made.rows (all_variables d) status text made.due
+no_program_is places d status text (inr none) = no_rows_is places d status text none
+
 equations_are : (places : ℕ) (d : Data) (status : Status) (text : List ℕ) → DueForEquations places d status text → IsOwn status
 equations_are places d status text (inl written) = is_other status Done (λ h. cc) (λ h. cc) (λ number h. cc) written.status_is
-equations_are places d status text (inr (inl wide)) = is_other status (Uncertified (Stop.Width (Place.Row wide.name))) (λ h. cc) (λ h. cc) (λ number h. cc) wide.status_is
-equations_are places d status text (inr (inr many)) = refused_is status refusals.TooManyEntries many.status_is
+equations_are places d status text (inr none) = no_rows_is places d status text none
 
 plan_is : (places : ℕ) (d : Data) (rows : List Row) (plan : List (Var × Rational)) (multipliers : Option (List (RowName × Rational))) (gap : ℕ) (status : Status) (text : List ℕ)
     → DueForPlan places d rows plan multipliers gap status text → IsOwn status
@@ -85,11 +101,25 @@ plan_file_is : (places : ℕ) (d : Data) (rows : List Row) (plan_bytes : List �
 plan_file_is places d rows plan_bytes bytes gap status text (inl refused) = refused_is status (refusals.PlanFile refused.fault) refused.status_is
 plan_file_is places d rows plan_bytes bytes gap status text (inr read) = multiplier_file_is places d rows read.0 bytes gap status text read.2
 
+conditions_are : (d : Data) (cs : List Condition) (Worth : Type 0) (said : List ℕ) (status : Status) (text : List ℕ) → DueForConditions d cs Worth said status text → IsOwn status
+conditions_are d cs Worth said status text (inl shown) = is_other status Done (λ h. cc) (λ h. cc) (λ number h. cc) shown.status_is
+conditions_are d cs Worth said status text (inr (inl not)) = is_other status (Rejected not.rejection) (λ h. cc) (λ h. cc) (λ number h. cc) not.status_is
+conditions_are d cs Worth said status text (inr (inr wide)) = is_other status (Uncertified (Stop.Width wide.place)) (λ h. cc) (λ h. cc) (λ number h. cc) wide.status_is
+
+told_is : (places : ℕ) (d : Data) (rows : List Row) (gap : ℕ) (proof : Proof) (status : Status) (text : List ℕ) → DueForProofTold places d rows gap proof status text → IsOwn status
+told_is places d rows gap (proofs.Optimum plan multipliers) status text due = plan_is places d rows plan (Some multipliers) gap status text due
+told_is places d rows gap (proofs.Refutation multipliers) status text due = conditions_are d (refutation_conditions d rows multipliers) _ _ status text due
+told_is places d rows gap (proofs.Descent plan direction) status text due = conditions_are d (descent_conditions d rows plan direction) _ _ status text due
+
+proof_file_is : (places : ℕ) (d : Data) (rows : List Row) (bytes : List ℕ) (gap : ℕ) (status : Status) (text : List ℕ) → DueForProofFile places d rows bytes gap status text → IsOwn status
+proof_file_is places d rows bytes gap status text (inl refused) = refused_is status (refusals.ProofFile refused.fault) refused.status_is
+proof_file_is places d rows bytes gap status text (inr read) = told_is places d rows gap read.0 status text read.2
+
 end_is : (places : ℕ) (d : Data) (rows : List Row) (gap pivots : ℕ) (show : Shown) (rounded : ℕ) (status : Status) (text : List ℕ)
     → DueForEnd places d rows gap pivots show rounded status text → IsOwn status
 end_is places d rows gap pivots show rounded status text (inl solved) = is_other status Done (λ h. cc) (λ h. cc) (λ number h. cc) solved.status_is
-end_is places d rows gap pivots show rounded status text (inr (inl infeasible)) = is_other status Infeasible (λ h. cc) (λ h. cc) (λ number h. cc) infeasible.status_is
-end_is places d rows gap pivots show rounded status text (inr (inr (inl unbounded))) = is_other status Unbounded (λ h. cc) (λ h. cc) (λ number h. cc) unbounded.status_is
+end_is places d rows gap pivots show rounded status text (inr (inl infeasible)) = is_other status Infeasible (λ h. cc) (λ h. cc) (λ number h. cc) infeasible.0.status_is
+end_is places d rows gap pivots show rounded status text (inr (inr (inl unbounded))) = is_other status Unbounded (λ h. cc) (λ h. cc) (λ number h. cc) unbounded.0.status_is
 end_is places d rows gap pivots show rounded status text (inr (inr (inr (inl out)))) = is_other status (Uncertified (Stop.Budget pivots)) (λ h. cc) (λ h. cc) (λ number h. cc) out.status_is
 end_is places d rows gap pivots show rounded status text (inr (inr (inr (inr (inl wide))))) = is_other status (Uncertified (Stop.Width wide.place)) (λ h. cc) (λ h. cc) (λ number h. cc) wide.status_is
 end_is places d rows gap pivots show rounded status text (inr (inr (inr (inr (inr (inl wide)))))) = is_other status (Uncertified (Stop.Width wide.place)) (λ h. cc) (λ h. cc) (λ number h. cc) wide.status_is
@@ -99,35 +129,22 @@ method_is : (places : ℕ) (d : Data) (rows : List Row) (gap pivots : ℕ) (show
     → DueForMethod places d rows gap pivots show method rounded status text → IsOwn status
 method_is places d rows gap pivots show Exact rounded status text due = end_is places d rows gap pivots show rounded status text due
 method_is places d rows gap pivots show Rounded rounded status text (inl found) = is_other status Done (λ h. cc) (λ h. cc) (λ number h. cc) found.status_is
-method_is places d rows gap pivots show Rounded rounded status text (inr (inl found)) = is_other status Infeasible (λ h. cc) (λ h. cc) (λ number h. cc) found.status_is
+method_is places d rows gap pivots show Rounded rounded status text (inr (inl found)) = is_other status Infeasible (λ h. cc) (λ h. cc) (λ number h. cc) found.0.status_is
 method_is places d rows gap pivots show Rounded rounded status text (inr (inr due)) = end_is places d rows gap pivots show rounded status text due
 
-rows_is : (places : ℕ) (d : Data) (rows : List Row) (gap pivots : ℕ) (show : Shown) (method : SolveMethod) (rounded : ℕ) (status : Status) (text : List ℕ)
-    → DueForRows places d rows gap pivots show method rounded status text → IsOwn status
-rows_is places d rows gap pivots show method rounded status text (inl large) = refused_is status (refusals.TooLarge (inequality_count rows) (column_count (all_variables d))) large.status_is
-rows_is places d rows gap pivots show method rounded status text (inr due) = method_is places d rows gap pivots show method rounded status text due.1
-
 solve_is : (places gap pivots : ℕ) (show : Shown) (method : SolveMethod) (rounded : ℕ) (d : Data) (status : Status) (text : List ℕ) → DueForSolve places gap pivots show method rounded d status text → IsOwn status
-solve_is places gap pivots show method rounded d status text (inl made) = rows_is places d made.rows gap pivots show method rounded status text made.due
-solve_is places gap pivots show method rounded d status text (inr (inl wide)) = is_other status (Uncertified (Stop.Width (Place.Row wide.name))) (λ h. cc) (λ h. cc) (λ number h. cc) wide.status_is
-solve_is places gap pivots show method rounded d status text (inr (inr many)) = refused_is status refusals.TooManyEntries many.status_is
-
-trials_are : (places : ℕ) (d : Data) (rows : List Row) (pivots : ℕ) (method : SolveMethod) (status : Status) (text : List ℕ) → DueForTrialsBy places d rows pivots method status text → IsOwn status
-trials_are places d rows pivots Exact status text (inl feasible) = is_other status Done (λ h. cc) (λ h. cc) (λ number h. cc) feasible.status_is
-trials_are places d rows pivots Exact status text (inr (inl conflict)) = is_other status Infeasible (λ h. cc) (λ h. cc) (λ number h. cc) conflict.status_is
-trials_are places d rows pivots Exact status text (inr (inr stopped)) = is_other status (Uncertified stopped.stop) (λ h. cc) (λ h. cc) (λ number h. cc) stopped.status_is
-trials_are places d rows pivots Rounded status text (inl feasible) = is_other status Done (λ h. cc) (λ h. cc) (λ number h. cc) feasible.status_is
-trials_are places d rows pivots Rounded status text (inr (inl conflict)) = is_other status Infeasible (λ h. cc) (λ h. cc) (λ number h. cc) conflict.status_is
-trials_are places d rows pivots Rounded status text (inr (inr (inl before))) = is_other status (Uncertified (Stop.Width before.place)) (λ h. cc) (λ h. cc) (λ number h. cc) before.status_is
-trials_are places d rows pivots Rounded status text (inr (inr (inr stopped))) = is_other status (Uncertified stopped.stop) (λ h. cc) (λ h. cc) (λ number h. cc) stopped.status_is
+solve_is places gap pivots show method rounded d status text (inl made) = method_is places d made.rows gap pivots show method rounded status text made.due.1
+solve_is places gap pivots show method rounded d status text (inr none) = no_program_is places d status text none
 
 explain_is : (places pivots : ℕ) (method : SolveMethod) (d : Data) (status : Status) (text : List ℕ) → DueForExplain places pivots method d status text → IsOwn status
-explain_is places pivots method d status text (inl made) = elim made.due [
-  | inl large ↦ refused_is status (refusals.TooLarge (inequality_count made.rows) (column_count (all_variables d))) large.status_is
-  | inr ends ↦ trials_are places d made.rows pivots method status text ends.1
+explain_is places pivots method d status text (inl made) = elim made.due.1 [
+  | inl feasible ↦ is_other status Done (λ h. cc) (λ h. cc) (λ number h. cc) feasible.status_is
+  | inr ends ↦ elim ends [
+    | inl conflict ↦ is_other status Infeasible (λ h. cc) (λ h. cc) (λ number h. cc) conflict.status_is
+    | inr stopped ↦ is_other status (Uncertified stopped.stop) (λ h. cc) (λ h. cc) (λ number h. cc) stopped.status_is
+  ]
 ]
-explain_is places pivots method d status text (inr (inl wide)) = is_other status (Uncertified (Stop.Width (Place.Row wide.name))) (λ h. cc) (λ h. cc) (λ number h. cc) wide.status_is
-explain_is places pivots method d status text (inr (inr many)) = refused_is status refusals.TooManyEntries many.status_is
+explain_is places pivots method d status text (inr none) = no_program_is places d status text none
 
 stop_is_own : (first : Option Stop) (status : Status) → status ≡ status_for first → IsOwn status
 stop_is_own None status e = is_other status Done (λ h. cc) (λ h. cc) (λ number h. cc) e
@@ -161,12 +178,8 @@ span_method_is places d rows var wanted Rounded rounded status text (inl (inr in
 span_method_is places d rows var wanted Rounded rounded status text (inr due) = span_end_is places d rows var wanted.slack wanted.pivots rounded status text due
 
 span_member_is : (places : ℕ) (d : Data) (var : Var) (wanted : spans.Wanted) (rounded : ℕ) (status : Status) (text : List ℕ) → spans.DueForMember places d var wanted rounded status text → IsOwn status
-span_member_is places d var wanted rounded status text (inl made) = elim made.due [
-  | inl large ↦ refused_is status (refusals.TooLarge (inequality_count made.rows) (column_count (all_variables d))) large.status_is
-  | inr due ↦ span_method_is places d made.rows var wanted wanted.method rounded status text due.1
-]
-span_member_is places d var wanted rounded status text (inr (inl wide)) = is_other status (Uncertified (Stop.Width (Place.Row wide.name))) (λ h. cc) (λ h. cc) (λ number h. cc) wide.status_is
-span_member_is places d var wanted rounded status text (inr (inr many)) = refused_is status refusals.TooManyEntries many.status_is
+span_member_is places d var wanted rounded status text (inl made) = span_method_is places d made.rows var wanted wanted.method rounded status text made.due.1
+span_member_is places d var wanted rounded status text (inr none) = no_program_is places d status text none
 
 span_is : (places : ℕ) (wanted : spans.Wanted) (rounded : ℕ) (region technology year : List ℕ) (d : Data) (status : Status) (text : List ℕ) → spans.DueForSpan places wanted rounded region technology year d status text → IsOwn status
 span_is places wanted rounded region technology year d status text (inl none) = refused_is status (refusals.NoSuch REGION) none.status_is
@@ -175,14 +188,19 @@ span_is places wanted rounded region technology year d status text (inr (inr (in
 span_is places wanted rounded region technology year d status text (inr (inr (inr members))) = span_member_is places d (spans.built members.r members.t members.y) wanted rounded status text members.due
 
 summary_is : (places rounded : ℕ) (d : Data) (status : Status) (text : List ℕ) → DueForSummary places rounded d status text → IsOwn status
-summary_is places rounded d status text (inl made) = rows_is places d made.rows 0 default_pivots Summary Exact rounded status made.due.0 made.due.1
-summary_is places rounded d status text (inr (inl wide)) = is_other status (Uncertified (Stop.Width (Place.Row wide.name))) (λ h. cc) (λ h. cc) (λ number h. cc) wide.status_is
-summary_is places rounded d status text (inr (inr many)) = refused_is status refusals.TooManyEntries many.status_is
+summary_is places rounded d status text (inl made) = elim made.due.1 [
+  | inl large ↦ too_large_is made.rows (all_variables d) status made.due.0 large
+  | inr due ↦ method_is places d made.rows 0 default_pivots Summary Exact rounded status made.due.0 due.1
+]
+summary_is places rounded d status text (inr none) = no_rows_is places d status text none
 
 check_is : (places : ℕ) (plan_bytes : List ℕ) (bytes : Option (List ℕ)) (gap : ℕ) (d : Data) (status : Status) (text : List ℕ) → DueForCheck places plan_bytes bytes gap d status text → IsOwn status
 check_is places plan_bytes bytes gap d status text (inl made) = plan_file_is places d made.rows plan_bytes bytes gap status text made.due
-check_is places plan_bytes bytes gap d status text (inr (inl wide)) = is_other status (Uncertified (Stop.Width (Place.Row wide.name))) (λ h. cc) (λ h. cc) (λ number h. cc) wide.status_is
-check_is places plan_bytes bytes gap d status text (inr (inr many)) = refused_is status refusals.TooManyEntries many.status_is
+check_is places plan_bytes bytes gap d status text (inr none) = no_rows_is places d status text none
+
+proof_is : (places : ℕ) (proof_bytes : List ℕ) (gap : ℕ) (d : Data) (status : Status) (text : List ℕ) → DueForProof places proof_bytes gap d status text → IsOwn status
+proof_is places proof_bytes gap d status text (inl made) = proof_file_is places d made.rows proof_bytes gap status text made.due
+proof_is places proof_bytes gap d status text (inr none) = no_rows_is places d status text none
 
 not_accepted_is : (bytes : List ℕ) (status : Status) (text : List ℕ) → DueWhereNotAccepted bytes status text → IsOwn status
 not_accepted_is bytes status text (inl refused) = refused_is status (refusals.Text refused.fault) refused.status_is
@@ -254,6 +272,12 @@ due_is_own (Ok (Check name plan multipliers gap places)) held status text due =
     (λ bytes. file_is (second bytes) 2 (held 2 plan) status text
     (λ plan_bytes. optional_is (third bytes plan_bytes) 3 (held 3) multipliers status text
     (λ multiplier_bytes. text_is (λ rounded. DueForCheck places plan_bytes multiplier_bytes gap) (λ rounded. check_is places plan_bytes multiplier_bytes gap) bytes status text))) due
+due_is_own (Ok (CheckProof name proof gap places)) held status text due =
+    let second : List ℕ → List ℕ → Status → List ℕ → Type 0 = λ bytes proof_bytes. DueForText (λ rounded. DueForProof places proof_bytes gap) bytes in
+    let first : List ℕ → Status → List ℕ → Type 0 = λ bytes. DueForFile (second bytes) 2 (held 2 proof) in
+    file_is first 1 (held 1 name) status text
+    (λ bytes. file_is (second bytes) 2 (held 2 proof) status text
+    (λ proof_bytes. text_is (λ rounded. DueForProof places proof_bytes gap) (λ rounded. proof_is places proof_bytes gap) bytes status text)) due
 
 -- an answer with a cause isn't that a write failed or that memory ran out
 pub is_answer : (words : List (List ℕ)) (before after : Sight) (status : Status) (text : List ℕ) → Caused words before after status text

@@ -1,5 +1,5 @@
 -- A model that can be solved is brought to an end; and what is delivered completes what the words ask for.
-use Rattle.std.proofs.Common.{◌≡◌, ◌⊎◌, ℕ, inl, inr, List, Option, Result, refl, subst, arith}
+use Rattle.std.proofs.Common.{◌≡◌, ◌⊎◌, ℕ, inl, inr, List, Result, subst}
 use Rattle.model_sets.specs.Data.{Data}
 use Rattle.row_core.specs.declared.Row.{Row}
 use Rattle.named_equations.specs.Existence.{all_variables}
@@ -12,28 +12,26 @@ use Rattle.solve_command.specs.declared.solve.Shown.TheVariants.{Summary}
 use Rattle.command_words.specs.declared.fault.WordFault.{WordFault}
 use Rattle.command_words.specs.Words.{Request}
 use Rattle.io_edges.specs.Count.{Rose}
+use Rattle.io_edges.specs.Files.{file_named}
 use Rattle.command_answers.specs.declared.status.Status.{Status}
 use Rattle.command_answers.specs.declared.status.Status.TheVariants.{Done, Infeasible, Unbounded, Uncertified, Refused, Words, ReadFault, WriteFault, Memory, Rejected}
 use Rattle.io_edges.specs.Outputs.{Output}
 use Rattle.osemosys_run.specs.Complete.{AskForMade, CanBeSolved, CanBeSummarized, Completes, IsEnded}
-use Rattle.osemosys_run.specs.Due.{Due, DueForFile, DueForRequest}
-use Rattle.command_answers.specs.DueForText.{DueForText}
+use Rattle.osemosys_run.specs.Due.{Due, DueForRequest}
 use Rattle.osemosys_run.specs.Sending.{Delivers}
 use Rattle.model_maker.specs.MadeText.{made_text}
-use Rattle.command_answers.specs.MadeRows.{IsTooLarge, IsUncertified}
 use Rattle.solve_command.specs.Shown.{shown_of}
 use Rattle.solve_command.specs.Summary.{DueForSummary, default_pivots, default_places}
 use Rattle.command_words.specs.declared.command.SolveMethod.{SolveMethod}
 use Rattle.command_words.specs.declared.command.SolveMethod.TheVariants.{Exact, Rounded}
-use Rattle.solve_command.specs.Solve.{ComesToEnd, DueForEnd, DueForMethod, DueForRows, DueForSolve}
-use Rattle.solve_command.specs.Limits.{IsWithinLimits, PassesLimits}
+use Rattle.solve_command.specs.Solve.{ComesToEnd, DueForEnd, DueForMethod, DueForSolve}
+use Rattle.command_answers.specs.Limits.{IsWithinLimits}
 use Rattle.solve_command.proofs.SolvedEnds.{prices_come}
 use Rattle.osemosys_run.proofs.CurveCompleteness.{drawn_from_due}
 use Rattle.osemosys_run.proofs.SpanCompleteness.{spanned_from_due}
 use Rattle.osemosys_run.proofs.ExplainCompleteness.{explained_from_due}
 use Rattle.osemosys_run.proofs.Delivery.{due_or_memory}
-use Rattle.osemosys_run.proofs.Completeness.{Laws, done_from_due, equations_done, over_accepted}
-use Rattle.osemosys_run.proofs.DueFromCauses.{over_short}
+use Rattle.osemosys_run.proofs.Completeness.{Laws, done_from_due, no_program, no_rows, not_too_large, over_accepted, over_file}
 
 -- ---- solving
 
@@ -47,53 +45,39 @@ module _ (laws : Laws) (places gap pivots : ℕ) (show : Shown) (d : Data) (can_
 
   end_ended : (rows : List Row) → AreRowsOf places d (instances d) rows → (rounded : ℕ) (status : Status) (text : List ℕ) → DueForEnd places d rows gap pivots show rounded status text → IsEnded status
   end_ended rows are rounded status text (inl solved) = inl solved.status_is
-  end_ended rows are rounded status text (inr (inl infeasible)) = inr (inl infeasible.status_is)
-  end_ended rows are rounded status text (inr (inr (inl unbounded))) = inr (inr unbounded.status_is)
+  end_ended rows are rounded status text (inr (inl infeasible)) = inr (inl infeasible.0.status_is)
+  end_ended rows are rounded status text (inr (inr (inl unbounded))) = inr (inr unbounded.0.status_is)
   end_ended rows are rounded status text (inr (inr (inr (inl out)))) = absurd (end_comes rows IsPivotDue are out.end)
   end_ended rows are rounded status text (inr (inr (inr (inr (inl wide))))) = absurd (end_comes rows (IsWide wide.place) are wide.end)
   end_ended rows are rounded status text (inr (inr (inr (inr (inr (inl wide)))))) =
       absurd (prices_come show rows wide.multipliers wide.place wide.reported wide.wide (end_comes rows (HasOptimum wide.plan wide.multipliers wide.made) are wide.end))
   end_ended rows are rounded status text (inr (inr (inr (inr (inr (inr second)))))) = inl second.status_is
 
-  too_large : (rows : List Row) (status : Status) (text : List ℕ) → IsWithinLimits rows (all_variables d) → PassesLimits d rows status text → ⊥
-  too_large rows status text limits large = elim large.passed [ inl many ↦ omega (arith, many, limits.0) | inr many ↦ omega (arith, many, limits.1) ]
-
   method_ended : (rows : List Row) → AreRowsOf places d (instances d) rows → (method : SolveMethod) (rounded : ℕ) (status : Status) (text : List ℕ) → DueForMethod places d rows gap pivots show method rounded status text
       → IsEnded status
   method_ended rows are Exact rounded status text due = end_ended rows are rounded status text due
   method_ended rows are Rounded rounded status text (inl found) = inl found.status_is
-  method_ended rows are Rounded rounded status text (inr (inl found)) = inr (inl found.status_is)
+  method_ended rows are Rounded rounded status text (inr (inl found)) = inr (inl found.0.status_is)
   method_ended rows are Rounded rounded status text (inr (inr due)) = end_ended rows are rounded status text due
 
-  rows_ended : (rows : List Row) → AreRowsOf places d (instances d) rows → (method : SolveMethod) (rounded : ℕ) (status : Status) (text : List ℕ) → DueForRows places d rows gap pivots show method rounded status text
-      → IsEnded status
-  rows_ended rows are method rounded status text (inl large) = absurd (too_large rows status text (within rows are) large)
-  rows_ended rows are method rounded status text (inr due) = method_ended rows are method rounded status text due.1
-
-  -- nor is a row in the way
-  no_row : (status : Status) (text : List ℕ) → IsUncertified places d status text ⊎ IsTooLarge places d status text → IsEnded status
-  no_row status text (inl wide) = inl (equations_done laws places d status text can_make (inr (inl wide)))
-  no_row status text (inr many) = inl (equations_done laws places d status text can_make (inr (inr many)))
-
   data_ended : (method : SolveMethod) (rounded : ℕ) (status : Status) (text : List ℕ) → DueForSolve places gap pivots show method rounded d status text → IsEnded status
-  data_ended method rounded status text (inl made) = rows_ended made.rows made.are_rows method rounded status text made.due
-  data_ended method rounded status text (inr stopped) = no_row status text stopped
+  data_ended method rounded status text (inl made) = method_ended made.rows made.are_rows method rounded status text made.due.1
+  data_ended method rounded status text (inr none) = inl (no_program laws places d can_make within status text none)
 
 -- the same of the summary of a made file
 summary_ended : Laws → (words : List (List ℕ)) (can : CanBeSummarized words) (rounded : ℕ) (status : Status) (text : List ℕ) → DueForSummary default_places rounded can.d status text → IsEnded status
-summary_ended laws words can rounded status text (inl made) =
-    rows_ended laws default_places 0 default_pivots Summary can.d can.made can.within can.ends made.rows made.are_rows Exact rounded status made.due.0 made.due.1
-summary_ended laws words can rounded status text (inr stopped) =
-    no_row laws default_places 0 default_pivots Summary can.d can.made can.within can.ends status text stopped
+summary_ended laws words can rounded status text (inl made) = elim made.due.1 [
+  | inl large ↦ absurd (not_too_large laws default_places can.d can.made can.within made.rows made.are_rows status made.due.0 large)
+  | inr due ↦ method_ended laws default_places 0 default_pivots Summary can.d can.made can.within can.ends made.rows made.are_rows Exact rounded status made.due.0 due.1
+]
+summary_ended laws words can rounded status text (inr none) = inl (no_rows laws default_places can.d can.made status text none)
 
 ended_from_due : Laws → (words : List (List ℕ)) (files : List (List ℕ × List ℕ)) (status : Status) (text : List ℕ) → Due words files status text → CanBeSolved words files → IsEnded status
 ended_from_due laws words files status text due can =
     let Over : ℕ → Data → Status → List ℕ → Type 0 = DueForSolve can.places can.gap can.pivots (shown_of can.show) can.method in
-    let for_file = subst (λ (request : Result Request WordFault). DueForRequest request files status text) can.asks due in
-    let for_bytes = subst (λ (file : Option (List ℕ)). DueForFile (DueForText Over) 1 file status text) can.there for_file in
-    let for_text = over_short (DueForText Over) 1 can.bytes status text can.accepted.short for_bytes in
     data_ended laws can.places can.gap can.pivots (shown_of can.show) can.d can.made can.within can.ends can.method can.accepted.blocks.rounded status text
-    (over_accepted laws Over can.bytes can.d status text can.accepted for_text)
+    (over_file laws Over (file_named files can.name) can.bytes can.d status text can.there can.accepted
+    (subst (λ (request : Result Request WordFault). DueForRequest request files status text) can.asks due))
 
 made_from_due : (words : List (List ℕ)) (files : List (List ℕ × List ℕ)) (status : Status) (text : List ℕ) → Due words files status text → AskForMade words → status ≡ Done
 made_from_due words files status text due asks = (subst (λ (request : Result Request WordFault). DueForRequest request files status text) asks.asks due).0

@@ -1,7 +1,8 @@
 -- Where nothing stops the work, a span is found, or it is told that there is no plan or no least cost.
-use Rattle.std.proofs.Common.{◌≡◌, ◌⊎◌, ℕ, true, inl, inr, List, Option, Result, Some, None, sym, ap, ◌∙◌, subst, arith}
+use Rattle.std.proofs.Common.{◌≡◌, ◌⊎◌, ℕ, true, inl, inr, List, Option, Result, Some, None, sym, ◌∙◌, subst}
 use Rattle.exact_num.specs.Range.{all_fit}
 use Rattle.exact_num.specs.Rational.{Rational}
+use Rattle.io_edges.specs.Files.{file_named}
 use Rattle.model_sets.specs.Data.{Data}
 use Rattle.model_sets.specs.Members.{index_of, members}
 use Rattle.model_sets.specs.declared.set_numbers.TheConstants.{REGION, TECHNOLOGY, YEAR}
@@ -17,17 +18,14 @@ use Rattle.command_words.specs.declared.fault.WordFault.{WordFault}
 use Rattle.command_words.specs.Words.{Request}
 use Rattle.command_answers.specs.Definers.{definers}
 use Rattle.command_answers.specs.declared.status.Status.{Status}
-use Rattle.command_answers.specs.DueForText.{DueForText}
-use Rattle.command_answers.specs.MadeRows.{IsTooLarge, IsUncertified}
-use Rattle.solve_command.specs.Limits.{IsWithinLimits, PassesLimits}
+use Rattle.command_answers.specs.Limits.{IsWithinLimits}
 use Rattle.span_finder.specs.Slacks.{slack_formed, slack_limit}
 use Rattle.span_finder.specs.SpanEnds.{Stops}
 use Rattle.span_finder.specs.declared.found.SpanFail.TheVariants.{Stopped}
-use Rattle.span_command.specs.Span.{DueBy, DueForEnd, DueForMember, DueForRows, DueForSpan, HasLeastCost, Wanted, built}
+use Rattle.span_command.specs.Span.{DueBy, DueForEnd, DueForMember, DueForSpan, HasLeastCost, Wanted, built}
 use Rattle.osemosys_run.specs.Complete.{CanBeSpanned, IsEnded, NothingStopsSpan}
-use Rattle.osemosys_run.specs.Due.{Due, DueForFile, DueForRequest}
-use Rattle.osemosys_run.proofs.Completeness.{Laws, equations_done, over_accepted}
-use Rattle.osemosys_run.proofs.DueFromCauses.{over_short}
+use Rattle.osemosys_run.specs.Due.{Due, DueForRequest}
+use Rattle.osemosys_run.proofs.Completeness.{Laws, no_program, over_file}
 
 same_member : (found : Option ℕ) (a b : ℕ) → found ≡ Some a → found ≡ Some b → a ≡ b
 same_member found a b h k = cc (h, k)
@@ -70,20 +68,9 @@ module _ (laws : Laws) (places : ℕ) (d : Data) (var : Var) (wanted : Wanted) (
   method_comes Rounded rows rounded status text never (inl (inr infeasible)) = inr (inl infeasible.status_is)
   method_comes Rounded rows rounded status text never (inr due) = end_comes rows rounded status text never due
 
-  too_large : (rows : List Row) (status : Status) (text : List ℕ) → IsWithinLimits rows (all_variables d) → PassesLimits d rows status text → ⊥
-  too_large rows status text limits large = elim large.passed [ inl many ↦ omega (arith, many, limits.0) | inr many ↦ omega (arith, many, limits.1) ]
-
-  rows_come : (rows : List Row) → AreRowsOf places d (instances d) rows → (rounded : ℕ) (status : Status) (text : List ℕ) → DueForRows places d rows var wanted rounded status text → IsEnded status
-  rows_come rows are rounded status text (inl large) = absurd (too_large rows status text (within rows are) large)
-  rows_come rows are rounded status text (inr due) = method_comes wanted.method rows rounded status text (nothing rows are) due.1
-
-  no_row : (status : Status) (text : List ℕ) → IsUncertified places d status text ⊎ IsTooLarge places d status text → IsEnded status
-  no_row status text (inl wide) = inl (equations_done laws places d status text can_make (inr (inl wide)))
-  no_row status text (inr many) = inl (equations_done laws places d status text can_make (inr (inr many)))
-
   pub member_ends : (rounded : ℕ) (status : Status) (text : List ℕ) → DueForMember places d var wanted rounded status text → IsEnded status
-  member_ends rounded status text (inl made) = rows_come made.rows made.are_rows rounded status text made.due
-  member_ends rounded status text (inr stopped) = no_row status text stopped
+  member_ends rounded status text (inl made) = method_comes wanted.method made.rows rounded status text (nothing made.rows made.are_rows) made.due.1
+  member_ends rounded status text (inr none) = inl (no_program laws places d can_make within status text none)
 
 -- what the words ask for
 abbrev wanted_for : SolveMethod → ℕ → ℕ → ℕ → Wanted
@@ -107,7 +94,6 @@ module _ (laws : Laws) (words : List (List ℕ)) (files : List (List ℕ × List
 pub spanned_from_due : Laws → (words : List (List ℕ)) (files : List (List ℕ × List ℕ)) (status : Status) (text : List ℕ) → Due words files status text → CanBeSpanned words files → IsEnded status
 spanned_from_due laws words files status text due can =
     let Over : ℕ → Data → Status → List ℕ → Type 0 = λ rounded. DueForSpan can.places (wanted_for can.method can.slack can.gap can.pivots) rounded can.region can.technology can.year in
-    let for_file = subst (λ (request : Result Request WordFault). DueForRequest request files status text) can.asks due in
-    let for_bytes = subst (λ (file : Option (List ℕ)). DueForFile (DueForText Over) 1 file status text) can.there for_file in
-    let for_text = over_short (DueForText Over) 1 can.bytes status text can.accepted.short for_bytes in
-    members_end laws words files can.accepted.blocks.rounded status text can (over_accepted laws Over can.bytes can.d status text can.accepted for_text)
+    members_end laws words files can.accepted.blocks.rounded status text can
+    (over_file laws Over (file_named files can.name) can.bytes can.d status text can.there can.accepted
+    (subst (λ (request : Result Request WordFault). DueForRequest request files status text) can.asks due))

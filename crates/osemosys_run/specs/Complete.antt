@@ -47,7 +47,7 @@ use Rattle.span_finder.specs.SpanEnds.{Stops}
 use Rattle.span_finder.specs.declared.found.SpanFail.TheVariants.{Stopped}
 use Rattle.span_command.specs.Span.{built}
 use Rattle.solve_command.specs.Shown.{shown_of}
-use Rattle.solve_command.specs.Limits.{IsWithinLimits}
+use Rattle.command_answers.specs.Limits.{IsWithinLimits}
 use Rattle.solve_command.specs.Solve.{ComesToEnd}
 use Rattle.solve_command.specs.Summary.{default_pivots, default_places}
 use Rattle.command_words.specs.Words.{Check, Curve, Explain, Make, Mps, Solve, Span, asked}

@@ -11,6 +11,7 @@ use Rattle.command_words.specs.declared.fault.WordFault.{WordFault}
 use Rattle.model_maker.specs.MadeText.{made_text}
 use Rattle.command_answers.specs.Accepted.{most_bytes}
 use Rattle.check_command.specs.Check.{DueForCheck}
+use Rattle.check_command.specs.CheckProof.{DueForProof}
 use Rattle.command_answers.specs.DueForText.{DueForText}
 use Rattle.command_answers.specs.Lines.{stop_line, too_long_line, words_line}
 use Rattle.curve_command.specs.Curve.{DueForCurve}
@@ -20,7 +21,7 @@ use Rattle.solve_command.specs.Shown.{shown_of}
 use Rattle.solve_command.specs.Solve.{DueForSolve}
 use Rattle.span_command.specs.Span.{DueForSpan}
 use Rattle.solve_command.specs.Summary.{DueForSummary, default_places, made_line}
-use Rattle.command_words.specs.Words.{Request, Check, Curve, Explain, Make, Mps, Solve, Span, asked, names_of}
+use Rattle.command_words.specs.Words.{Request, Check, CheckProof, Curve, Explain, Make, Mps, Solve, Span, asked, names_of}
 
 -- over the file of this number, which may be missing or too long: that, or what `Due` has over its bytes
 abbrev pub DueForFile : (List ℕ → Status → List ℕ → Type 0) → ℕ → Option (List ℕ) → Status → List ℕ → Type 0
@@ -41,7 +42,8 @@ DueForMake size File status text = (status ≡ Done) × (text ≡ made_text size
 DueForMake size Summary status text = (rest : List ℕ) × DueForText (DueForSummary default_places) (made_text size) status rest × (text ≡ made_line size ++ rest)
 
 -- For a request over its files, each of which is looked at before what any of them says, and for a fault of the words. `held` has what the file of a
--- number and a name holds, if it is there: the data file has number 1, then come a plan's and that of multipliers.
+-- number and a name holds, if it is there: the data file has number 1, then come a plan's and that of multipliers,
+-- or that of a proof.
 abbrev pub DueOver : Result Request WordFault → (ℕ → List ℕ → Option (List ℕ)) → Status → List ℕ → Type 0
 DueOver (Err fault) held status text = (status ≡ Words fault) × (text ≡ words_line fault)
 DueOver (Ok (Mps name places)) held status text = DueForFile (DueForText (λ rounded. DueForEquations places)) 1 (held 1 name) status text
@@ -56,6 +58,8 @@ DueOver (Ok (Check name plan multipliers gap places)) held status text =
     DueForFile (λ bytes. DueForFile (λ plan_bytes. DueForOptionalFile (λ multiplier_bytes.
     DueForText (λ rounded. DueForCheck places plan_bytes multiplier_bytes gap) bytes)
     3 (held 3) multipliers) 2 (held 2 plan)) 1 (held 1 name) status text
+DueOver (Ok (CheckProof name proof gap places)) held status text =
+    DueForFile (λ bytes. DueForFile (λ proof_bytes. DueForText (λ rounded. DueForProof places proof_bytes gap) bytes) 2 (held 2 proof)) 1 (held 1 name) status text
 
 -- over a shelf with these files, of which the first of a name counts
 abbrev pub DueForRequest : Result Request WordFault → List (List ℕ × List ℕ) → Status → List ℕ → Type 0

@@ -1,3 +1,4 @@
+pub mod Accepting
 pub mod Asked
 pub mod Causes
 pub mod Complete

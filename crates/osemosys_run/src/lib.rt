@@ -6,6 +6,7 @@
 //! are made (`equations`). What is to be sent is a `reply`. `run` puts them together.
 #![tactic(auto)]
 
+mod accepting;
 mod check_files;
 mod equations;
 mod file_ends;
@@ -13,6 +14,7 @@ mod making;
 mod mps;
 mod mps_program;
 mod one_file;
+mod proof_file;
 mod reading;
 mod reply;
 mod run;

@@ -25,6 +25,11 @@ ghost use Rattle.row_core.specs.declared.Var.{Var};
 ghost use Rattle.command_answers.specs.declared.status.ReadStop.{ReadStop};
 ghost use Rattle.command_answers.specs.declared.status.Status.{Status};
 ghost use Rattle.command_answers.specs.Accepted.{Accepted};
+ghost use Rattle.check_command.specs.CheckProof.{DueForProof};
+ghost use Rattle.command_words.specs.declared.command.SolveMethod.{SolveMethod};
+ghost use Rattle.solve_command.specs.declared.solve.Shown.TheVariants.{Proof};
+ghost use Rattle.solve_command.specs.Solve.{DueForSolve};
+ghost use Rattle.osemosys_run.specs.Accepting.{AcceptsEnd};
 ghost use Rattle.osemosys_run.specs.Causes.{Caused};
 ghost use Rattle.osemosys_run.specs.Complete.{Completes};
 ghost use Rattle.osemosys_run.specs.Due.{AskForEquations, Due};
@@ -35,14 +40,16 @@ ghost use Rattle.osemosys_run.specs.Reading.{sight};
 ghost use Rattle.osemosys_run.specs.ReadToEnd.{IsReadToEnd, ReadsWhole};
 ghost use Rattle.osemosys_run.specs.Replies.{DueForReply, IsAskedBy};
 ghost use Rattle.osemosys_run.specs.Sending.{Delivers};
-ghost use Rattle.solve_command.specs.SolvedPlans.{IsNearOptimum};
+ghost use Rattle.command_answers.specs.SolvedPlans.{IsNearOptimum};
 ghost use Rattle.command_words.specs.WordParts.{HasSpelledParts, Part};
 
+use crate::accepting::accepting_laws;
 use crate::check_files::{Asked, perform_check};
 use crate::making::perform_make;
 use crate::mps::perform_mps;
 use crate::mps_program::mps_laws;
 use crate::one_file::{CurveAsked, SpanAsked, Task, perform_task};
+use crate::proof_file::{ProofAsked, perform_proof_check};
 use crate::reply::{Reply, deliver};
 use command_answers::{Status, acceptance_laws, refuse_words};
 use command_words::{Command, read_command, spelled_parts};
@@ -65,10 +72,15 @@ use std::alloc::{AllocError, Global};
 /// whether the cost is at most PPM millionths of the bound above it. Status 0 where all this holds, and `Rejected` with the
 /// first condition that doesn't.
 ///
-/// `solve FILE [--gap PPM] [--pivots N] [--places P] [--show report|plan|multipliers]` finds a plan of FILE that meets every named
+/// `check FILE --proof PROOF [--gap PPM] [--places P]` says the same of the one file that holds a plan and multipliers; of one with
+/// multipliers alone, whether they show that no plan meets the named equations; and of one with a plan and a direction, whether the plan
+/// does and its cost falls along the direction without end.
+///
+/// `solve FILE [--gap PPM] [--pivots N] [--places P] [--show report|plan|multipliers|proof]` finds a plan of FILE that meets every named
 /// equation with right signs, and a bound that no such plan undercuts, which is its cost; or shows that there is no such plan
 /// (`Infeasible`), or that there are plans of any lower cost (`Unbounded`). It makes N pivots at most, 20,000 where the option is
-/// left out, and writes a report with prices of fuels, the plan, or the multipliers that prove the bound.
+/// left out, and writes a report with prices of fuels, the plan, the multipliers that prove the bound, or in one file
+/// what `check --proof` accepts.
 ///
 /// `curve FILE REGION EMISSION LIMITS [--gap PPM] [--pivots N] [--places P] [--method exact|rounded]` says for each of these limits on the
 /// emissions of the model period what the least cost is, and by how much at least it grows with each unit that the limit is lower.
@@ -166,6 +178,10 @@ pub fn osemosys<S: Shelf, K: Sink>(
     ensures prices { (places : ℕ) (d : Data) (rows : List Row) (gap : ℕ) (plan : List (Var × Rational)) (multipliers : List (RowName × Rational)) (cost bound : Rational)
         → AreRowsOf places d (instances d) rows → IsNearOptimum places d rows gap plan multipliers cost bound → ArePromised places d rows multipliers bound }
 
+    // What `solve` writes to prove its end is accepted by `check`, over the same data file and with the same gap and decimal places.
+    ensures proofs { (places gap pivots : ℕ) (method : SolveMethod) (rounded : ℕ) (bytes : List ℕ) (d : Data) (end status : Status) (proof text : List ℕ)
+        → Accepted bytes d → DueForSolve places gap pivots Proof method rounded d end proof → DueForProof places proof gap d status text → AcceptsEnd end status text }
+
     // A failed read is answered only where the shelf counted a fault, and a failed write only where the sink did.
     ensures failed_read { (file : ℕ) → result ≡ Status.ReadFault (ReadStop.Failed file) → Rose (S.faults shelf.old) (S.faults shelf.new) }
     ensures failed_write { result ≡ Status.WriteFault → Rose (K.faults out.old) (K.faults out.new) }
@@ -184,6 +200,7 @@ pub fn osemosys<S: Shelf, K: Sink>(
     spelled_parts();
     quantity_laws();
     promise_laws();
+    accepting_laws();
     match perform(alloc, words, shelf) {
         Ok(reply) => deliver(alloc, reply, out),
         Err(_) => Status::Memory,
@@ -305,6 +322,23 @@ fn perform<S: Shelf>(alloc: Global, words: &[String], shelf: &mut S) -> Result<R
                 places,
             };
             let answer = perform_check(alloc, asked, shelf)?;
+            Ok(Reply::Told(answer))
+        }
+        Ok(
+            Command::CheckProof {
+                file,
+                proof,
+                gap,
+                places,
+            },
+        ) => {
+            let asked = ProofAsked {
+                file,
+                proof,
+                gap,
+                places,
+            };
+            let answer = perform_proof_check(alloc, asked, shelf)?;
             Ok(Reply::Told(answer))
         }
         Err(fault) => {

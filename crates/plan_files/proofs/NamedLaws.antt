@@ -5,7 +5,7 @@ use Rattle.row_core.specs.declared.RowName.{RowName}
 use Rattle.row_core.specs.declared.Var.{Var}
 use Rattle.row_core.specs.Equations.{equation_at, equation_has}
 use Rattle.row_core.specs.Kinds.{kind_at, kind_has}
-use Rattle.plan_files.specs.Files.{Fields, field, name_of}
+use Rattle.plan_files.specs.Files.{Fields, field, name_of, subscripts_in}
 use Rattle.plan_files.specs.Listed.{IsListedRow, IsListedVariable}
 use Rattle.plan_files.specs.Reading.{IsIndexOf}
 use Rattle.plan_files.specs.Records.{places, row_fields, variable_fields}
@@ -16,8 +16,8 @@ abbrev tail_of : List (List ℕ) → List (List ℕ)
 tail_of [] = []
 tail_of (f ∷ fs) = fs
 
-pub variable_index : (sets : SetLists) (v : Var) (r : Fields) (kind : ℕ) (has : List Bool) → IsListedVariable sets v → variable_fields sets v ≡ name_of r → kind ≡ v.kind → has ≡ map (kind_has kind) places → IsIndexOf sets has r v.index
-variable_index sets v r kind has listed same is answers =
+pub variable_index : (sets : SetLists) (v : Var) (word : List ℕ) (r : Fields) (kind : ℕ) (has : List Bool) → IsListedVariable sets v → variable_fields sets v ≡ word ∷ subscripts_in r → kind ≡ v.kind → has ≡ map (kind_has kind) places → IsIndexOf sets has r v.index
+variable_index sets v word r kind has listed same is answers =
     subst (λ hs. IsIndexOf sets hs r v.index) (sym (answers ∙ ap (λ k. map (kind_has k) places) is))
     (index_by_fields sets (kind_has v.kind) v.index r (within_at sets v.index (kind_at v.kind).subscripts listed.1) listed.2 (ap tail_of same))
 

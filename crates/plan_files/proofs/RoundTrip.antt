@@ -116,7 +116,7 @@ module _ {K : Type 0} (f : K → Fields) where
           by_test true = ap (λ b. if b then Some (record_for (valued e)) else record_of (rows_of es) name) (other_fields name (name_of (record_for (valued e))) (λ same. other (same ∙ named (valued e))))
           by_test false = refl
 
-      absent : (name : Fields) (es : List (K × Frac)) → AllByRecursion (λ (d : K × Frac). ¬ (f d.0 ≡ name)) es → record_of (rows_of es) name ≡ None
+      pub absent : (name : Fields) (es : List (K × Frac)) → AllByRecursion (λ (d : K × Frac). ¬ (f d.0 ≡ name)) es → record_of (rows_of es) name ≡ None
       absent name [] all = refl
       absent name (e ∷ es) all = passed_over name e es (λ same. all.0 (sym same)) ∙ absent name es all.1
 

@@ -7,7 +7,7 @@ use Rattle.row_core.specs.declared.Index.{Index}
 use Rattle.row_core.specs.declared.RowName.{RowName}
 use Rattle.row_core.specs.declared.Var.{Var}
 use Rattle.row_core.specs.Equations.{equation_has}
-use Rattle.row_core.specs.Kinds.{kind_has}
+use Rattle.row_core.specs.Kinds.{kind_has, word_of_kind}
 use Rattle.row_core.specs.NameTexts.{set_of}
 use Rattle.row_core.proofs.Words.{word_of_equation_apart, word_of_kind_apart}
 use Rattle.plan_files.specs.Files.{Fields}
@@ -57,7 +57,7 @@ same_variable sets are v w listed_v listed_w same =
     let kind : v.kind ≡ w.kind = word_of_kind_apart v.kind w.kind listed_v.0 listed_w.0 (ap (λ fs. get_or fs 0 []) same) in
     let has : List Bool = map (kind_has w.kind) places in
     let index : v.index ≡ w.index =
-    index_unique sets has (variable_fields sets w) v.index w.index are (variable_index sets v (variable_fields sets w) w.kind has listed_v same (sym kind) refl) (variable_index sets w (variable_fields sets w) w.kind has listed_w refl refl refl) in
+    index_unique sets has (variable_fields sets w) v.index w.index are (variable_index sets v (word_of_kind w.kind) (variable_fields sets w) w.kind has listed_v same (sym kind) refl) (variable_index sets w (word_of_kind w.kind) (variable_fields sets w) w.kind has listed_w refl refl refl) in
     ap₂ (λ k (i : Index). record { kind = k; index = i }) kind index
 
 pub same_row : (sets : SetLists) → AreSets sets → (v w : RowName) → IsListedRow sets v → IsListedRow sets w → row_fields sets v ≡ row_fields sets w → v ≡ w

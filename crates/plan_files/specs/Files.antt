@@ -24,6 +24,10 @@ field r place = slice_index_or r place []
 abbrev pub name_of : Fields → Fields
 name_of r = map (field r) (0 ∷ 1 ∷ 2 ∷ 3 ∷ 4 ∷ 5 ∷ 6 ∷ 7 ∷ 8 ∷ [])
 
+-- fields 1 to 8: the subscripts of a name
+abbrev pub subscripts_in : Fields → Fields
+subscripts_in r = map (field r) (1 ∷ 2 ∷ 3 ∷ 4 ∷ 5 ∷ 6 ∷ 7 ∷ 8 ∷ [])
+
 -- whether the record has this name
 abbrev pub has_name : Fields → Fields → Bool
 has_name name r = pointwise bytes_eq name (name_of r)

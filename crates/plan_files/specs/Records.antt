@@ -49,6 +49,10 @@ has_at answers place = slice_index_or answers place false
 abbrev pub variable_record : SetLists → Var × Rational → List (List ℕ)
 variable_record sets e = variable_fields sets e.0 ++ fraction_text e.1 ∷ []
 
+-- the same with another word
+abbrev pub worded_record : SetLists → List ℕ → Var × Rational → List (List ℕ)
+worded_record sets word e = word ∷ subscript_fields sets (kind_has e.0.kind) e.0.index ++ fraction_text e.1 ∷ []
+
 abbrev pub row_record : SetLists → RowName × Rational → List (List ℕ)
 row_record sets e = row_fields sets e.0 ++ fraction_text e.1 ∷ []
 

@@ -64,7 +64,7 @@ pub fn places_of_equation(eq: u8) -> [bool; 8]
 }
 
 /// The field at a place, counted from 0, and nothing where there is none.
-pub(crate) fn field_at(fields: &ByteRecord, place: usize) -> &[u8]
+pub fn field_at(fields: &ByteRecord, place: usize) -> &[u8]
     ensures { result.now ≡ field (fields_of fields.now) place }
 {
     match fields.get(place) {

@@ -29,10 +29,7 @@ pub(crate) const HEADER: [&[u8]; FIELD_COUNT] = [
 ];
 
 /// Reads the first record, which is the header. Refuses another one, or none (`BadRecord`), and else only where memory runs out.
-pub(crate) fn read_header(
-    reader: &mut Reader<&[u8]>,
-    fields: &mut ByteRecord,
-) -> Result<(), PlanFail>
+pub fn read_header(reader: &mut Reader<&[u8]>, fields: &mut ByteRecord) -> Result<(), PlanFail>
     ensures { (rows : List Fields) → HasLeft reader.old rows → IsAfterHeader reader.new rows result }
 {
     if next_record(reader, fields)? && is_header(fields) {

@@ -13,7 +13,14 @@ mod values;
 mod writing;
 
 pub use faults::{PlanFail, PlanFault};
-pub use fields::{places_of_equation, places_of_kind};
+pub use fields::{field_at, places_of_equation, places_of_kind};
+pub use header::read_header;
 pub use laws::{reading_laws, telling_laws};
-pub use reading::{read_multipliers, read_plan};
-pub use writing::{multiplier_text, plan_text, push_field, push_record};
+pub use names::{place_of_row, place_of_variable, place_of_word};
+pub use reading::{names_of, read_multipliers, read_plan};
+pub use records::{next_record, reader_of};
+pub use values::{first_without, no_values, take, with_values};
+pub use writing::{
+    header_text, multiplier_text, plan_text, push_field, push_multipliers, push_plan, push_record,
+    push_value,
+};

@@ -1,6 +1,6 @@
 //! Which variable or row a record names.
 
-ghost use Rattle.std.specs.Prelude.{◌≡◌, ◌<◌, ◌≤◌, ℕ, Some, [], IfSome, IsTrue, length, slice_index_or, if◌then◌else◌};
+ghost use Rattle.std.specs.Prelude.{◌≡◌, ◌<◌, ◌≤◌, ◌∷◌, ℕ, Some, [], IfSome, IsTrue, length, slice_index_or, if◌then◌else◌};
 ghost use Rattle.std.specs.List.{AllByRecursion};
 ghost use Rattle.std.specs.declared.cmp.Ordering.TheVariants.{Equal};
 ghost use Rattle.csv.specs.Records.{fields_of};
@@ -13,7 +13,7 @@ ghost use Rattle.row_core.specs.Equations.{IsEquation, word_of_equation};
 ghost use Rattle.row_core.specs.Kinds.{IsKind, word_of_kind};
 ghost use Rattle.row_core.specs.Numbers.{ascends};
 ghost use Rattle.row_core.specs.Order.{var_cmp, row_name_cmp};
-ghost use Rattle.plan_files.specs.Files.{name_of};
+ghost use Rattle.plan_files.specs.Files.{name_of, subscripts_in};
 ghost use Rattle.plan_files.specs.Answers.{row_names, variable_names};
 ghost use Rattle.plan_files.specs.Listed.{IsListedRow, IsListedVariable};
 ghost use Rattle.plan_files.specs.Reading.{IsEntry, IsIndexOf, IsSubscript};
@@ -30,16 +30,25 @@ use row_core::kind_numbers::KIND_COUNT;
 use row_core::{Index, RowName, Var, row_word, var_word};
 
 /// The place among the variables of the one that a record names.
-pub(crate) fn place_of_variable(fields: &ByteRecord, vars: &[Var], sets: &Sets) -> Option<usize>
+pub fn place_of_variable(fields: &ByteRecord, vars: &[Var], sets: &Sets) -> Option<usize>
     requires ascending { IsTrue (ascends var_cmp vars.now) }
     requires listed { AllByRecursion (IsListedVariable sets.now) vars.now }
     ensures { IsEntry (variable_names sets.now vars.now) (name_of (fields_of fields.now)) result }
 {
-    place_of(vars, variable_named(fields, sets)?)
+    place_of_word(field_at(fields, 0), fields, vars, sets)
+}
+
+/// The place among the variables of the one with this word and the subscripts that a record names.
+pub fn place_of_word(word: &[u8], fields: &ByteRecord, vars: &[Var], sets: &Sets) -> Option<usize>
+    requires ascending { IsTrue (ascends var_cmp vars.now) }
+    requires listed { AllByRecursion (IsListedVariable sets.now) vars.now }
+    ensures { IsEntry (variable_names sets.now vars.now) (word.now ∷ subscripts_in (fields_of fields.now)) result }
+{
+    place_of(vars, variable_named(word, fields, sets)?)
 }
 
 /// The place among the rows' names of the one that a record has.
-pub(crate) fn place_of_row(fields: &ByteRecord, names: &[RowName], sets: &Sets) -> Option<usize>
+pub fn place_of_row(fields: &ByteRecord, names: &[RowName], sets: &Sets) -> Option<usize>
     requires ascending { IsTrue (ascends row_name_cmp names.now) }
     requires listed { AllByRecursion (IsListedRow sets.now) names.now }
     ensures { IsEntry (row_names sets.now names.now) (name_of (fields_of fields.now)) result }
@@ -59,12 +68,12 @@ fn place_of<K: Ord + Copy>(keys: &[K], key: K) -> Option<usize>
     }
 }
 
-/// The variable that a record names, of all that the sets have.
-fn variable_named(fields: &ByteRecord, sets: &Sets) -> Option<Var>
-    ensures named { IfSome result (λ v. variable_fields sets.now v ≡ name_of (fields_of fields.now)) }
-    ensures alone { (v : Var) → IsListedVariable sets.now v → variable_fields sets.now v ≡ name_of (fields_of fields.now) → result ≡ Some v }
+/// The variable with this word and the subscripts that a record names, of all that the sets have.
+fn variable_named(word: &[u8], fields: &ByteRecord, sets: &Sets) -> Option<Var>
+    ensures named { IfSome result (λ v. variable_fields sets.now v ≡ word.now ∷ subscripts_in (fields_of fields.now)) }
+    ensures alone { (v : Var) → IsListedVariable sets.now v → variable_fields sets.now v ≡ word.now ∷ subscripts_in (fields_of fields.now) → result ≡ Some v }
 {
-    let kind = kind_of(field_at(fields, 0))?;
+    let kind = kind_of(word)?;
     let index = index_named(fields, sets, &places_of_kind(kind))?;
     Some(Var { kind, index })
 }

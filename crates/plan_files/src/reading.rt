@@ -58,8 +58,8 @@ pub fn read_multipliers(
     Ok(Multipliers::of(with_values(alloc, &names, &values)?))
 }
 
-/// The names of the rows.
-fn names_of(alloc: Global, rows: &[Row]) -> Result<Vec<RowName>, AllocError>
+/// The names of the rows. Refuses where memory runs out.
+pub fn names_of(alloc: Global, rows: &[Row]) -> Result<Vec<RowName>, AllocError>
     ensures { IfOk result (λ names. names.items ≡ map name_of_row rows.now) }
 {
     let mut names = Vec::with_capacity(alloc, rows.len())?;

@@ -9,7 +9,7 @@ use csv::{ByteRecord, Reader, ReaderBuilder};
 use std::alloc::{AllocError, Global};
 
 /// A reader of the records of a text, of any lengths.
-pub(crate) fn reader_of(alloc: Global, text: &[u8]) -> Reader<&[u8]>
+pub fn reader_of(alloc: Global, text: &[u8]) -> Reader<&[u8]>
     ensures { HasLeft result (records_of text.now) }
 {
     ReaderBuilder::new()
@@ -19,10 +19,7 @@ pub(crate) fn reader_of(alloc: Global, text: &[u8]) -> Reader<&[u8]>
 }
 
 /// Reads the next record, if there is one. Refuses only where memory runs out.
-pub(crate) fn next_record(
-    reader: &mut Reader<&[u8]>,
-    fields: &mut ByteRecord,
-) -> Result<bool, AllocError>
+pub fn next_record(reader: &mut Reader<&[u8]>, fields: &mut ByteRecord) -> Result<bool, AllocError>
     ensures { (rows : List Fields) → HasLeft reader.old rows → IfOk result (λ found. IsNext reader.new rows found (fields_of fields.new)) }
 {
     let Ok(found) = reader.read_byte_record(fields) else {

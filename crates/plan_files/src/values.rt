@@ -14,14 +14,14 @@ use exact_num::Frac;
 use std::alloc::{AllocError, Global};
 
 /// No value, so many times.
-pub(crate) fn no_values(alloc: Global, count: usize) -> Result<Vec<Option<Frac>>, AllocError>
+pub fn no_values(alloc: Global, count: usize) -> Result<Vec<Option<Frac>>, AllocError>
     ensures { IfOk result (λ values. values.items ≡ replicate count None) }
 {
     vec![in alloc; None; count]
 }
 
 /// Takes the value of a record, at the place of the name that it has. Refuses the first rule that the record breaks.
-pub(crate) fn take(
+pub fn take(
     values: &mut [Option<Frac>],
     fields: &ByteRecord,
     number: u64,
@@ -50,7 +50,7 @@ pub(crate) fn take(
 }
 
 /// The keys that have a value, each with it, in order.
-pub(crate) fn with_values<K: Copy>(
+pub fn with_values<K: Copy>(
     alloc: Global,
     keys: &[K],
     values: &[Option<Frac>],
@@ -68,7 +68,7 @@ pub(crate) fn with_values<K: Copy>(
 }
 
 /// The first key that has no value.
-pub(crate) fn first_without<K: Copy>(keys: &[K], values: &[Option<Frac>]) -> Option<K>
+pub fn first_without<K: Copy>(keys: &[K], values: &[Option<Frac>]) -> Option<K>
     requires { length values.now ≡ length keys.now }
     ensures { result ≡ first_without keys.now values.now }
 {

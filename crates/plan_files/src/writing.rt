@@ -10,7 +10,7 @@ ghost use Rattle.row_core.specs.Numbers.{is_zero};
 ghost use Rattle.scaled_decimals.specs.PrintedFraction.{fraction_text};
 ghost use Rattle.csv.specs.Records.{fields_of, partial_of};
 ghost use Rattle.csv.specs.Writing.{default_writer, row_text};
-ghost use Rattle.plan_files.specs.Records.{has_at, header, HasSubscriptsWithin, multiplier_records, plan_records, row_record, subscript_fields, variable_record};
+ghost use Rattle.plan_files.specs.Records.{has_at, header, HasSubscriptsWithin, multiplier_records, nonzero, plan_records, row_record, subscript_fields, variable_record, worded_record};
 ghost use Rattle.plan_files.specs.Texts.{records_text};
 
 use crate::fields::{member_field, places_of_equation, places_of_kind};
@@ -32,11 +32,25 @@ pub fn plan_text(alloc: Global, plan: &Plan, sets: &Sets) -> Result<Vec<u8>, All
     ensures { IfOk result (λ text. text.items ≡ records_text (plan_records sets.now plan.now)) }
 {
     let mut out = header_text(alloc)?;
+    push_plan(alloc, &mut out, plan, sets)?;
+    Ok(out)
+}
+
+/// Appends a record for each variable of a plan, in order. Refuses where memory runs out.
+pub fn push_plan(
+    alloc: Global,
+    out: &mut Vec<u8>,
+    plan: &Plan,
+    sets: &Sets,
+) -> Result<(), AllocError>
+    requires { AllByRecursion (λ e. IsKind e.0.kind × VariableIsWithin sets.now e.0) plan.now }
+    ensures { OnOk result (out.new.items ≡ out.old.items ++ records_text (map (variable_record sets.now) plan.now)) }
+{
     let entries = plan.entries();
     for (variable, value) in entries {
-        push_variable(alloc, &mut out, sets, *variable, *value)?;
+        push_variable(alloc, out, sets, *variable, *value)?;
     }
-    Ok(out)
+    Ok(())
 }
 
 /// Multipliers as CSV text: the header, and a record for each row in order whose multiplier isn't 0, with the members of its
@@ -50,17 +64,31 @@ pub fn multiplier_text(
     ensures { IfOk result (λ text. text.items ≡ records_text (multiplier_records sets.now multipliers.now)) }
 {
     let mut out = header_text(alloc)?;
-    let entries = multipliers.entries();
-    for (name, value) in entries {
-        if !is_zero(*value) {
-            push_row(alloc, &mut out, sets, *name, *value)?;
-        }
-    }
+    push_multipliers(alloc, &mut out, multipliers, sets)?;
     Ok(out)
 }
 
-/// The first record.
-fn header_text(alloc: Global) -> Result<Vec<u8>, AllocError>
+/// Appends a record for each row in order whose multiplier isn't 0. Refuses where memory runs out.
+pub fn push_multipliers(
+    alloc: Global,
+    out: &mut Vec<u8>,
+    multipliers: &Multipliers,
+    sets: &Sets,
+) -> Result<(), AllocError>
+    requires { AllByRecursion (λ e. IsEquation e.0.eq × RowNameIsWithin sets.now e.0) multipliers.now }
+    ensures { OnOk result (out.new.items ≡ out.old.items ++ records_text (map (row_record sets.now) (nonzero multipliers.now))) }
+{
+    let entries = multipliers.entries();
+    for (name, value) in entries {
+        if !is_zero(*value) {
+            push_row(alloc, out, sets, *name, *value)?;
+        }
+    }
+    Ok(())
+}
+
+/// The first record, as a line of CSV text. Refuses where memory runs out.
+pub fn header_text(alloc: Global) -> Result<Vec<u8>, AllocError>
     ensures { IfOk result (λ text. text.items ≡ row_text default_writer header) }
 {
     let mut fields = ByteRecord::new(alloc);
@@ -84,8 +112,26 @@ fn push_variable(
     requires within { VariableIsWithin sets.now variable }
     ensures { OnOk result (out.new.items ≡ out.old.items ++ row_text default_writer (variable_record sets.now (variable, value_of value))) }
 {
+    let word = var_word(variable.kind).as_bytes();
+    push_value(alloc, out, sets, word, variable, value)
+}
+
+/// Appends the record of a word, the subscripts of a variable and a value. Refuses where memory runs out.
+pub fn push_value(
+    alloc: Global,
+    out: &mut Vec<u8>,
+    sets: &Sets,
+    word: &[u8],
+    variable: Var,
+    value: Frac,
+) -> Result<(), AllocError>
+    requires listed { IsKind variable.kind }
+    requires within { VariableIsWithin sets.now variable }
+    ensures { OnOk result (out.new.items ≡ out.old.items
+        ++ row_text default_writer (worded_record sets.now word.now (variable, value_of value))) }
+{
     let mut fields = ByteRecord::new(alloc);
-    push_field(&mut fields, var_word(variable.kind).as_bytes())?;
+    push_field(&mut fields, word)?;
     push_subscripts(
         &mut fields,
         sets,

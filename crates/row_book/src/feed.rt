@@ -14,13 +14,13 @@ ghost use Rattle.row_book.specs.Feeds.{AreContentsOf, HasContentsWithin, ahead_a
 use crate::factors::region_factors;
 use crate::fail::BookFail;
 use crate::gathering::complete_variables;
-use crate::held_rows::{HeldRows, copy_of, position_of_rows};
+use crate::held_rows::{HeldRows, position_of_rows};
 use crate::made_rows::MadeRows;
 use crate::tally::Tally;
 use crate::tallying::is_marked;
 use discount_factors::Factors;
 use param_tables::ModelData;
-use row_core::{Row, RowSource, Var};
+use row_core::{Row, RowSource, Var, copy_row};
 use std::alloc::{AllocError, Global};
 use std::marker::Model;
 
@@ -232,7 +232,7 @@ fn next_copy(
         Some(number) => number,
         None => return Err(AllocError),
     };
-    let row = copy_of(alloc, &rows[*taken])?;
+    let row = copy_row(alloc, &rows[*taken])?;
     *passed = number;
     *taken += 1;
     Ok(Some((number, row)))

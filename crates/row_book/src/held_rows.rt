@@ -1,7 +1,6 @@
-//! Rows that are held, so that they aren't made again, and copied where they are asked for.
+//! Rows that are held, so that they aren't made again.
 
-ghost use Rattle.std.specs.Prelude.{◌≡◌, ◌<◌, ◌++◌, length, slice_index_or, IfOk, IfSome, OnOk};
-ghost use Rattle.row_core.specs.Contents.{contents_of};
+ghost use Rattle.std.specs.Prelude.{◌≡◌, ◌<◌, ◌++◌, length, slice_index_or, IfSome, OnOk};
 ghost use Rattle.row_core.specs.RowLists.{entry_variables};
 ghost use Rattle.row_book.specs.Held.{KeepsRows, held_variables};
 ghost use Rattle.row_book.specs.Tallies.{AreSameVariables};
@@ -9,7 +8,7 @@ ghost use Rattle.row_book.specs.declared.held_rows.HeldRows.{HeldRows};
 
 use crate::gathering::gather_variables;
 use row_core::{Row, Var};
-use std::alloc::{AllocError, Global};
+use std::alloc::AllocError;
 
 /// As long as all rows so far have no more entries than this, those of an equation are held, however short they are. So the
 /// rows of a small model are made once, and what is held of short rows takes some tens of megabytes.
@@ -62,17 +61,4 @@ pub(crate) fn position_of_rows(held: &[HeldRows], eq: u8) -> Option<usize>
         }
     }
     None
-}
-
-/// A copy of a row.
-pub(crate) fn copy_of(alloc: Global, row: &Row) -> Result<Row, AllocError>
-    ensures { IfOk result (λ copy. contents_of copy ≡ contents_of row.now) }
-{
-    let entries = Vec::from_slice(alloc, row.entries.as_slice())?;
-    Ok(Row {
-        name: row.name,
-        sense: row.sense,
-        entries,
-        rhs: row.rhs,
-    })
 }

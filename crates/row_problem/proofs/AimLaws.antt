@@ -10,7 +10,7 @@ use Rattle.row_core.proofs.Members.{Has-from_Contains}
 use Rattle.written_method.specs.Programs.{LinearProgram}
 use Rattle.written_method.specs.Ready.{AreAmong}
 use Rattle.certified_answers.specs.declared.costs.Cost.{Cost}
-use Rattle.certified_answers.specs.declared.costs.Cost.TheVariants.{Model, Nothing, One}
+use Rattle.certified_answers.specs.declared.costs.Cost.TheVariants.{Model, One}
 use Rattle.certified_answers.specs.declared.costs.Goal.TheVariants.{Least, Greatest}
 use Rattle.row_problem.specs.Programs.{aim_entries, program_left}
 use Rattle.row_problem.specs.ProgramsOf.{MayAim}
@@ -22,18 +22,15 @@ not-model columns cost may e = subst (MayAim columns) e may
 
 pub aim-ascends : (cost : Cost) → ascends var_cmp (variables_of (aim_entries cost)) ≡ true
 aim-ascends Model = refl
-aim-ascends Nothing = refl
 aim-ascends (One var goal) = refl
 
 pub aim-among : (columns : List Var) (cost : Cost) → MayAim columns cost → AreAmong columns (aim_entries cost)
 aim-among columns Model may = tt
-aim-among columns Nothing may = tt
 aim-among columns (One var goal) may = (IsAmong-from_Has columns var (Has-from_Contains columns var may), tt)
 
 pub aim-fits : (cost : Cost) → all_fit (numbers_of (aim_entries cost)) ≡ true
 unfolding all_fit in_range
 aim-fits Model = refl
-aim-fits Nothing = refl
 aim-fits (One var Least) = refl
 aim-fits (One var Greatest) = refl
 
@@ -41,7 +38,5 @@ pub aim-left : (rows : List Row) (defs : List (Option Var)) (vars columns : List
     → q.cost_right ≡ pos 0 → q.cost_own ≡ pos 1 → q ≡ program_left rows defs vars cost
 unfolding program_left
 aim-left rows defs vars columns before Model p q may left h k c r o = absurd may
-aim-left rows defs vars columns before Nothing p q may left h k c r o =
-    same-program q (program_left rows defs vars Nothing) (h ∙ ap (λ (x : LinearProgram). x.rows) left) (k ∙ ap (λ (x : LinearProgram). x.columns) left) c r o
 aim-left rows defs vars columns before (One var goal) p q may left h k c r o =
     same-program q (program_left rows defs vars (One var goal)) (h ∙ ap (λ (x : LinearProgram). x.rows) left) (k ∙ ap (λ (x : LinearProgram). x.columns) left) c r o

@@ -46,7 +46,7 @@ use Rattle.variable_elimination.proofs.ProvenLaws.{refutes}
 use Rattle.variable_elimination.proofs.VariableLaws.{turned}
 use Rattle.certified_answers.specs.Costs.{is_model, weight_of}
 use Rattle.certified_answers.specs.declared.costs.Cost.{Cost}
-use Rattle.certified_answers.specs.declared.costs.Cost.TheVariants.{Model, Nothing, One}
+use Rattle.certified_answers.specs.declared.costs.Cost.TheVariants.{Model, One}
 use Rattle.row_problem.specs.CarriedBack.{BecomesPlan, BecomesDirection, BecomesProof, BecomesRefutation}
 use Rattle.row_problem.specs.Problems.{IsProblem}
 use Rattle.row_problem.specs.ProgramsOf.{IsProgramOf}
@@ -325,5 +325,4 @@ module _ (rows : List Row) (defs : List (Option Var)) (vars : List Var) (cost : 
       by_cost : (k : Cost) → cost ≡ k → (s : ℤ) (y : RowName → ℤ) (l : ℕ → ℤ) → pos 0 <ℤ s → carried.AreNamedOver s y (value_in row_name_cmp made) → solver.AreOverFrom s l 0 (map value_of lambda) → KeepCost (weight_of cost) rows others reduced s y l
       by_cost Model e = λ s y l h over from.
           subst (λ k. KeepCost (weight_of k) rows others reduced s y l) (sym e) (keep-model rows defs vars reduced s y l (bounds (is ∙ ap is_model e) (program.whole e) s y l h over from))
-      by_cost Nothing e = without Nothing refl e
       by_cost (One var goal) e = without (One var goal) refl e

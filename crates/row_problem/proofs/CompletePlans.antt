@@ -87,33 +87,34 @@ has-lifted right (d ∷ ds) values u h =
     cases (inr k) put = inr (put (inr k))
 
 module _ (rows : List Row) (defs : List (Option Var)) (vars : List Var) (problem : IsProblem rows defs vars) (values : List (Var × Rational)) (keyed : keys_of values ≡ filter is_column vars) where
-  complete : (right : Definition → ℤ) → ascends var_cmp (keys_of (lifted right (definitions_of rows defs) values)) ≡ true → keys_of (lifted right (definitions_of rows defs) values) ≡ vars
-  complete right up = same-list (keys_of (lifted right (definitions_of rows defs) values)) vars up problem.ascending to back
+  complete : (right : Definition → ℤ) (made : List (Var × Rational)) → made ≡ lifted right (definitions_of rows defs) values → ascends var_cmp (keys_of made) ≡ true → keys_of made ≡ vars
+  complete right made is up = same-list (keys_of made) vars up problem.ascending to back
     where
-      to : (u : Var) → Has (keys_of (lifted right (definitions_of rows defs) values)) u → Has vars u
-      to u h = elim (lifted-has right (definitions_of rows defs) values u h) [
+      to : (u : Var) → Has (keys_of made) u → Has vars u
+      to u h = elim (lifted-has right (definitions_of rows defs) values u (subst (λ (m : List (Var × Rational)). Has (keys_of m) u) is h)) [
         | inl k ↦ defined-has rows defs vars problem u k
         | inr k ↦ (Has-filter_to is_column vars u (subst (λ ks. Has ks u) keyed k)).0
       ]
 
-      back : (u : Var) → Has vars u → Has (keys_of (lifted right (definitions_of rows defs) values)) u
+      back : (u : Var) → Has vars u → Has (keys_of made) u
       back u h =
-          has-lifted right (definitions_of rows defs) values u (elim (variable-known rows defs vars problem u h) [
+          subst (λ (m : List (Var × Rational)). Has (keys_of m) u) (sym is)
+          (has-lifted right (definitions_of rows defs) values u (elim (variable-known rows defs vars problem u h) [
             | inl k ↦ inl (Has-from_test (defined (definitions_of rows defs)) u k)
             | inr k ↦ inr (subst (λ ks. Has ks u) (sym keyed) (Has-filter_from is_column vars u h k))
-          ])
+          ]))
 
-  pub plan-complete : ascends var_cmp (keys_of (carried_plan rows defs values)) ≡ true → keys_of (carried_plan rows defs values) ≡ vars
+  pub plan-complete : (plan : List (Var × Rational)) → plan ≡ carried_plan rows defs values → ascends var_cmp (keys_of plan) ≡ true → keys_of plan ≡ vars
   unfolding carried_plan
-  plan-complete up = complete right_side up
+  plan-complete plan is up = complete right_side plan is up
 
-  pub direction-complete : ascends var_cmp (keys_of (carried_direction rows defs values)) ≡ true → keys_of (carried_direction rows defs values) ≡ vars
+  pub direction-complete : (direction : List (Var × Rational)) → direction ≡ carried_direction rows defs values → ascends var_cmp (keys_of direction) ≡ true → keys_of direction ≡ vars
   unfolding carried_direction
-  direction-complete up = complete no_right_side up
+  direction-complete direction is up = complete no_right_side direction is up
 
 -- ---- multipliers
 
-scaled-has : (names : List RowName) (scales multipliers : List Rational) (made : List (RowName × Rational)) (u : RowName) → Has (keys_of (scaled_multipliers names scales multipliers made)) u → Has names u ⊎ Has (keys_of made) u
+pub scaled-has : (names : List RowName) (scales multipliers : List Rational) (made : List (RowName × Rational)) (u : RowName) → Has (keys_of (scaled_multipliers names scales multipliers made)) u → Has names u ⊎ Has (keys_of made) u
 scaled-has [] scales multipliers made u h = inr h
 scaled-has (name ∷ names) [] multipliers made u h = inr h
 scaled-has (name ∷ names) (scale ∷ scales) [] made u h = inr h
@@ -142,7 +143,7 @@ left-named forms (row ∷ rows) u h = cases (is_kept (reduced_row forms row)) h 
     cases false k rest = inr (rest k)
 
 -- the names of the rows of definitions
-abbrev definition_names : List Definition → List RowName
+abbrev pub definition_names : List Definition → List RowName
 definition_names ds = map (λ (d : Definition). d.row.name) ds
 
 definitions-named : (rows : List Row) (defs : List (Option Var)) (u : RowName) → Has (definition_names (definitions_of rows defs)) u → Has (names_of rows) u
@@ -152,7 +153,7 @@ definitions-named (row ∷ rows) (None ∷ defs) u h = inr (definitions-named ro
 definitions-named (row ∷ rows) (Some v ∷ defs) u (inl e) = inl e
 definitions-named (row ∷ rows) (Some v ∷ defs) u (inr h) = inr (definitions-named rows defs u h)
 
-multiplied-has : (with_cost : Bool) (rows : List Row) (ds : List Definition) (made : List (RowName × Rational)) (u : RowName) → Has (keys_of (defined_multipliers with_cost rows ds made)) u → Has (definition_names ds) u ⊎ Has (keys_of made) u
+pub multiplied-has : (with_cost : Bool) (rows : List Row) (ds : List Definition) (made : List (RowName × Rational)) (u : RowName) → Has (keys_of (defined_multipliers with_cost rows ds made)) u → Has (definition_names ds) u ⊎ Has (keys_of made) u
 multiplied-has with_cost rows [] made u h = inr h
 multiplied-has with_cost rows (d ∷ ds) made u h =
     let before = defined_multipliers with_cost rows ds made in
@@ -175,8 +176,8 @@ named-has with_cost rows defs lambda u h =
       ]
     ]
 
-pub multipliers-named : (with_cost : Bool) (rows : List Row) (defs : List (Option Var)) (lambda : List Rational) → ascends row_name_cmp (keys_of (carried_multipliers with_cost rows defs lambda)) ≡ true → AreNamedIn rows (carried_multipliers with_cost rows defs lambda)
-multipliers-named with_cost rows defs lambda up = record {
+pub multipliers-named : (with_cost : Bool) (rows : List Row) (defs : List (Option Var)) (lambda : List Rational) (made : List (RowName × Rational)) → made ≡ carried_multipliers with_cost rows defs lambda → ascends row_name_cmp (keys_of made) ≡ true → AreNamedIn rows made
+multipliers-named with_cost rows defs lambda made is up = record {
   ascending = up;
-  among = λ u h. Contains-from_Has (names_of rows) u (named-has with_cost rows defs lambda u (Has-from_Contains (keys_of (carried_multipliers with_cost rows defs lambda)) u h));
+  among = λ u h. Contains-from_Has (names_of rows) u (named-has with_cost rows defs lambda u (subst (λ (m : List (RowName × Rational)). Has (keys_of m) u) is (Has-from_Contains (keys_of made) u h)));
 }

@@ -34,7 +34,7 @@ use Rattle.variable_elimination.proofs.PlacedLaws.{placed-ascends}
 use Rattle.variable_elimination.proofs.VariableLaws.{itself}
 use Rattle.certified_answers.specs.Costs.{is_model, sign_of, weight_of}
 use Rattle.certified_answers.specs.declared.costs.Cost.{Cost}
-use Rattle.certified_answers.specs.declared.costs.Cost.TheVariants.{Model, Nothing, One}
+use Rattle.certified_answers.specs.declared.costs.Cost.TheVariants.{Model, One}
 use Rattle.certified_answers.specs.declared.costs.Goal.{Goal}
 use Rattle.row_problem.specs.Problems.{IsProblem}
 use Rattle.row_problem.specs.Programs.{cost_entries_left, cost_own_left, cost_right_left, program_left}
@@ -180,11 +180,6 @@ cost-is vars var k x up h =
     assoc : (a b c : ℤ) → (a *ℤ b) *ℤ c ≡ a *ℤ (b *ℤ c)
     assoc a b c = simp products
 
--- no cost is 0
-no-cost : (vars : List Var) (x : Var → ℤ) → cost_of (number_at []) vars x ≡ pos 0
-no-cost [] x = refl
-no-cost (v ∷ vars) x = ap₂ (λ a b. a +ℤ b) (zero-*ℤ (x v)) (no-cost vars x)
-
 -- of a defined variable it is 0
 cost-beyond : (var : Var) (k : ℤ) (ds : List Var) (v : Var) → is_among ds var ≡ false → is_among ds v ≡ true → number_at ((var, k) ∷ []) v ≡ pos 0
 cost-beyond var k ds v apart there = cases (is_eq (var_cmp var v)) refl
@@ -244,27 +239,6 @@ module _ (rows : List Row) (defs : List (Option Var)) (vars : List Var) (cost : 
     where
       by_cost : (k : Cost) → cost ≡ k → IsOtherCost rows defs vars cost reduced
       by_cost Model e = let yes : is_model cost ≡ true = ap is_model e in absurd (cc (other, yes))
-      by_cost Nothing e =
-          let es : reduced.cost.items ≡ [] = entries-left ∙ ap (λ k. cost_entries_left k rows defs) e in
-          let r : reduced.cost_rhs ≡ pos 0 = right-left ∙ ap (λ k. cost_right_left k rows defs) e in
-          let o : reduced.cost_own ≡ pos 1 = own-left ∙ ap (λ k. cost_own_left k rows defs) e in
-          let none : (v : Var) → weight_of cost v ≡ pos 0 = λ v. ap (λ k. weight_of k v) e in
-          record {
-            own = o;
-            right_side = r;
-            numbers = λ v. ap (λ (entries : List (Var × ℤ)). number_at entries v) es ∙ ap neg_ℤ (sym (none v));
-            undefined = λ v h. none v;
-            row = record {
-              own = program.ready.own_positive;
-              without = ap (avoids (defined definitions)) es;
-              says = λ q x met.
-                  ap₂ (λ a (entries : List (Var × ℤ)). (reduced.cost_own *ℤ a) +ℤ row_sum x entries) (ap (λ k. cost_of (weight_of k) vars x) e ∙ no-cost vars x) es
-                  ∙ nothing reduced.cost_own reduced.cost_rhs q r;
-            };
-          }
-        where
-          nothing : (own r q : ℤ) → r ≡ pos 0 → (own *ℤ pos 0) +ℤ pos 0 ≡ r *ℤ q
-          nothing own r q h = let a = *ℤ-zero own in let b : r *ℤ q ≡ pos 0 = ap (λ z. z *ℤ q) h ∙ zero-*ℤ q in omega (arith, ints)
       by_cost (One var goal) e =
           let es : reduced.cost.items ≡ (var, neg_ℤ (sign_of goal)) ∷ [] = entries-left ∙ ap (λ k. cost_entries_left k rows defs) e in
           let r : reduced.cost_rhs ≡ pos 0 = right-left ∙ ap (λ k. cost_right_left k rows defs) e in
@@ -297,5 +271,4 @@ module _ (rows : List Row) (defs : List (Option Var)) (vars : List Var) (cost : 
     where
       by_cost : (k : Cost) → cost ≡ k → IsCostRow (weight_of cost) rows defs vars reduced
       by_cost Model e = subst (λ k. IsCostRow (weight_of k) rows defs vars reduced) (sym e) (model-row rows defs vars program.problem reduced (program.whole e))
-      by_cost Nothing e = (other-cost (ap is_model e)).row
       by_cost (One var goal) e = (other-cost (ap is_model e)).row

@@ -4,11 +4,11 @@ use Rattle.std.specs.Global.{Vec}
 use Rattle.std.specs.Prelude.{ℤ, Some, None}
 use Rattle.row_core.specs.declared.Row.{Row}
 use Rattle.row_core.specs.declared.RowName.{RowName}
-use Rattle.row_core.specs.declared.Sense.TheVariants.{Equal}
+use Rattle.row_core.specs.declared.Sense.TheVariants.{Equal, Most}
 use Rattle.row_core.specs.declared.Var.{Var}
-use Rattle.row_core.specs.declared.kind_numbers.TheConstants.{RATE_OF_ACTIVITY, TOTAL_CAPACITY_ANNUAL}
+use Rattle.row_core.specs.declared.kind_numbers.TheConstants.{ACCUMULATED_NEW_CAPACITY, RATE_OF_ACTIVITY, TOTAL_CAPACITY_ANNUAL}
 use Rattle.row_core.proofs.Members.{Contains-from_Has, Has-from_Contains}
-use Rattle.written_method.specs.Eliminated.{is_column}
+use Rattle.written_method.specs.Eliminated.{cost_variable, is_column}
 use Rattle.written_method.specs.Programs.{LinearProgram}
 use Rattle.written_method.proofs.MadeRows.{made_row}
 use Rattle.certified_answers.specs.declared.costs.Cost.TheVariants.{Model, One}
@@ -26,6 +26,9 @@ named eq = record { eq = eq; index = (of_kind 0).index }
 
 abbrev activity : Var
 activity = of_kind RATE_OF_ACTIVITY
+
+abbrev built : Var
+built = of_kind ACCUMULATED_NEW_CAPACITY
 
 abbrev total : Var
 total = of_kind TOTAL_CAPACITY_ANNUAL
@@ -76,6 +79,10 @@ alone = record {
 not_known : ¬ (IsProblem [] [] (total ∷ []))
 not_known h = elim (h.known total (Contains-from_Has (total ∷ []) total (inl refl))) [ inl e ↦ cc e | inr e ↦ cc e ]
 
+-- the variables don't ascend
+not_ascending : ¬ (IsProblem [] [] (built ∷ activity ∷ []))
+not_ascending h = cc h.ascending
+
 module _ (v : Vec (Var × ℤ)) where
   abbrev rows : List Row
   rows = made_row v (named 1) Equal ((activity, pos 1) ∷ []) (pos 0) refl ∷ []
@@ -91,6 +98,25 @@ module _ (v : Vec (Var × ℤ)) where
   -- it says that the activity is 0, which no definition says
   not_repeated : ¬ (IsProblem rows (None ∷ []) (activity ∷ []))
   not_repeated h = Has-from_Contains [] _ ((h.repeated _ (Contains-from_Has rows _ (inl refl)) refl).among)
+
+  -- the names of the rows don't ascend
+  not_named : ¬ (IsProblem (made_row v (named 1) Most ((activity, pos 1) ∷ []) (pos 0) refl ∷ rows) (None ∷ None ∷ []) (activity ∷ []))
+  not_named h = cc h.named
+
+  -- what defines is no equation; and it has an entry at a variable that is defined later
+  not_equal : ¬ (IsProblem (made_row v (named 1) Most ((total, pos 1) ∷ []) (pos 0) refl ∷ []) (Some total ∷ []) (total ∷ []))
+  not_equal h = cc h.triangular.0.equal
+
+  not_triangular : ¬ (IsProblem (made_row v (named 1) Equal ((built, negsuc 0) ∷ (total, pos 1) ∷ []) (pos 0) refl ∷ made_row v (named 2) Equal ((built, pos 1) ∷ []) (pos 0) refl ∷ []) (Some total ∷ Some built ∷ []) (built ∷ total ∷ []))
+  not_triangular h = cc h.triangular.1
+
+  -- what defines has an entry at the variable that stands for the cost
+  not_plain : ¬ (IsProblem (made_row v (named 1) Equal ((cost_variable, pos 1) ∷ (total, pos 1) ∷ []) (pos 0) refl ∷ []) (Some total ∷ []) (total ∷ []))
+  not_plain h = cc h.plain.0
+
+  -- what is defined may be below 0, where the activity is above it
+  not_signed : ¬ (IsProblem (made_row v (named 1) Equal ((activity, pos 1) ∷ (total, pos 1) ∷ []) (pos 0) refl ∷ []) (Some total ∷ []) (activity ∷ total ∷ []))
+  not_signed h = cc (h.signs.0 refl).0
 
   -- what it defines isn't told
   not_same : ¬ (IsProblem rows [] (activity ∷ []))

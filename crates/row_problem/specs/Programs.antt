@@ -17,7 +17,7 @@ use Rattle.written_method.specs.Multiplied.{multiplier_steps, named_multipliers}
 use Rattle.written_method.specs.Programs.{Inequality, LinearProgram}
 use Rattle.certified_answers.specs.Costs.{sign_of}
 use Rattle.certified_answers.specs.declared.costs.Cost.{Cost}
-use Rattle.certified_answers.specs.declared.costs.Cost.TheVariants.{Model, Nothing, One}
+use Rattle.certified_answers.specs.declared.costs.Cost.TheVariants.{Model, One}
 
 -- ---- what is left
 
@@ -32,23 +32,19 @@ cost_left rows defs = cost_row (expanded_all [] (definitions_of rows defs)) defs
 -- the entries of z less a cost that takes the place of the model's
 abbrev pub aim_entries : Cost → List (Var × ℤ)
 aim_entries Model = []
-aim_entries Nothing = []
 aim_entries (One var goal) = (var, neg_ℤ (sign_of goal)) ∷ []
 
--- z less the cost, which the linear program says is a number: of the model's cost what is left of its row; at no cost nothing; and one variable
+-- z less the cost, which the linear program says is a number: of the model's cost what is left of its row, and else one variable
 abbrev pub cost_entries_left : Cost → List Row → List (Option Var) → List (Var × ℤ)
 cost_entries_left Model rows defs = other_entries var_cmp cost_variable (cost_left rows defs).entries
-cost_entries_left Nothing rows defs = aim_entries Nothing
 cost_entries_left (One var goal) rows defs = aim_entries (One var goal)
 
 abbrev pub cost_right_left : Cost → List Row → List (Option Var) → ℤ
 cost_right_left Model rows defs = (cost_left rows defs).right
-cost_right_left Nothing rows defs = pos 0
 cost_right_left (One var goal) rows defs = pos 0
 
 abbrev pub cost_own_left : Cost → List Row → List (Option Var) → ℤ
 cost_own_left Model rows defs = number_at (cost_left rows defs).entries cost_variable
-cost_own_left Nothing rows defs = pos 1
 cost_own_left (One var goal) rows defs = pos 1
 
 abbrev pub inequality_in : ReducedRow → Inequality

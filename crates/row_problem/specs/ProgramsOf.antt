@@ -1,5 +1,5 @@
 -- The linear program of rows, as it is in memory.
-use Rattle.std.specs.Prelude.{◌≡◌, Contains, List, Option, filter, map, ⊤}
+use Rattle.std.specs.Prelude.{◌≡◌, Contains, List, Option, filter, map}
 use Rattle.exact_num.specs.Value.{value_of}
 use Rattle.row_core.specs.declared.Row.{Row}
 use Rattle.row_core.specs.declared.Var.{Var}
@@ -12,7 +12,7 @@ use Rattle.written_method.specs.Ready.{IsPosed, IsReady}
 use Rattle.variable_elimination.specs.Eliminations.{IsPartOf, IsWhole}
 use Rattle.variable_elimination.specs.ReducedRows.{AreReductions}
 use Rattle.certified_answers.specs.declared.costs.Cost.{Cost}
-use Rattle.certified_answers.specs.declared.costs.Cost.TheVariants.{Model, Nothing, One}
+use Rattle.certified_answers.specs.declared.costs.Cost.TheVariants.{Model, One}
 use Rattle.row_problem.specs.Problems.{IsProblem}
 use Rattle.row_problem.specs.Programs.{name_left, program_left, rows_left, scale_left}
 use Rattle.row_problem.specs.declared.problem.Problem.{Problem}
@@ -36,8 +36,7 @@ pub record IsProgramOf (rows : List Row) (defs : List (Option Var)) (vars : List
 abbrev pub IsPosedProblem : Problem → Type 0
 IsPosedProblem problem = IsProgramOf problem.rows.now problem.defs.now problem.vars.now problem.cost problem.reduced.now
 
--- a cost that may take the place of another: none, or the value of a column
+-- a cost that may take the place of another: the value of a column
 abbrev pub MayAim : List Var → Cost → Type 0
 MayAim columns Model = ⊥
-MayAim columns Nothing = ⊤
 MayAim columns (One var goal) = Contains columns var

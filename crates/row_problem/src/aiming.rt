@@ -11,7 +11,7 @@ use row_core::Var;
 use std::alloc::{AllocError, Global};
 use written_method::Reduced;
 
-/// What is left of rows, with another cost than the model's: nothing, or one of the columns.
+/// What is left of rows, with another cost than the model's: one of the columns.
 pub fn aimed(alloc: Global, reduced: Reduced, cost: Cost) -> Result<Reduced, AllocError>
     ensures program { (rows : List Row) (defs : List (Option Var)) (vars : List Var) (before : Cost) → IsProgramOf rows defs vars before reduced
         → MayAim reduced.columns.items cost → IfOk result (IsProgramOf rows defs vars cost) }

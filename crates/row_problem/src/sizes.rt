@@ -1,7 +1,7 @@
 //! How large the solver's linear program is.
 
 ghost use Rattle.std.specs.Prelude.{◌≡◌, ◌≤◌};
-ghost use Rattle.row_problem.specs.Sizes.{column_count, columns_at, inequality_count, is_unequal};
+ghost use Rattle.row_problem.specs.Sizes.{column_count, columns_at, inequality_count};
 
 use row_core::kind_numbers::{NEW_CAPACITY, RATE_OF_ACTIVITY, TRADE};
 use row_core::{Row, Sense, Var};

@@ -10,7 +10,7 @@ use std::test::Fail;
 const TOO_LONG: usize = 67_108_865;
 
 /// Words with files that are missing, and the number of the first such file.
-static MISSING: [(&[&str], u8, &str); 4] = [
+static MISSING: [(&[&str], u8, &str); 6] = [
     (&["check", "model.dat", "p"], 2, "no such file 2\n"),
     (&["check", "model.dat", "p", "m"], 2, "no such file 2\n"),
     (
@@ -19,6 +19,12 @@ static MISSING: [(&[&str], u8, &str); 4] = [
         "no such file 3\n",
     ),
     (&["check", "d", "p", "m"], 1, "no such file 1\n"),
+    (
+        &["check", "model.dat", "--proof", "p"],
+        2,
+        "no such file 2\n",
+    ),
+    (&["check", "--proof=p", "d"], 1, "no such file 1\n"),
 ];
 
 // The plan's file has no header, but no file is looked at before all are read.

@@ -1,10 +1,8 @@
-pub mod BookPlaces
-pub mod EndPlaces
-pub mod MethodPlaces
+mod KeptValues
+mod PricePlaces
 mod PromisedPrices
+mod ReadingBack
 mod RoundedEnds
-mod SameSolves
 mod SecondEnds
 mod SolveExamples
 pub mod SolvedEnds
-pub mod SolvedRows

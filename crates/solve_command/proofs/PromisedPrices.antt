@@ -18,7 +18,7 @@ use Rattle.param_tables.proofs.AscendingLaws.{contains_from_filter}
 use Rattle.plan_quantities.specs.Prices.{IsPromised, balance_at, price_of}
 use Rattle.result_tables.specs.Prices.{balances, is_balance, named_price, prices}
 use Rattle.solve_command.specs.Promises.{ArePromised}
-use Rattle.solve_command.specs.SolvedPlans.{IsNearOptimum}
+use Rattle.command_answers.specs.SolvedPlans.{IsNearOptimum}
 
 -- a row of which the list has what is made of it
 pub record IsMadeOf {A B : Type 0} (f : A → B) (xs : List A) (y : B) : Type 0 where

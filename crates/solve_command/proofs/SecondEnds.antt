@@ -15,6 +15,7 @@ use Rattle.decimal_solver.specs.declared.attempts.Found.{Found}
 use Rattle.result_tables.specs.Prices.{price_steps}
 use Rattle.command_answers.specs.declared.answer.Answer.{Answer}
 use Rattle.solve_command.specs.declared.solve.Shown.{Shown}
+use Rattle.solve_command.specs.ReadBack.{AreFractions}
 use Rattle.solve_command.specs.Second.{TellsGrid, TellsSecond}
 use Rattle.solve_command.specs.Solve.{priced, second_end}
 
@@ -30,13 +31,13 @@ module _ (rows : List Row) (vars : List Var) (gap pivots : ℕ) (found : Found) 
   gives : second_end rows vars gap pivots ≡ cond (is_none (first_wide (price_steps rows found.multipliers))) (Some (attempt_seen found)) None
   gives = rw (nonzero gap allowed, fits) (ap (priced rows) end)
 
-  pub second-told : grid.IsProved rows vars gap found → grid.IsComplete vars found → grid.IsNamed rows found → (sets : SetLists) (show : Shown) (rounded places : ℕ) (answer : Option Answer)
+  pub second-told : grid.IsProved rows vars gap found → grid.IsComplete vars found → grid.IsNamed rows found → AreFractions found.plan → AreFractions found.multipliers → (sets : SetLists) (show : Shown) (rounded places : ℕ) (answer : Option Answer)
       → TellsGrid sets rows vars show rounded places found answer → TellsSecond sets rows vars gap pivots show rounded places answer
-  second-told proved whole named sets show rounded places None told = gives ∙ ap (λ b. cond b (Some (attempt_seen found)) None) told
-  second-told proved whole named sets show rounded places (Some answer) told = record {
+  second-told proved whole named values amounts sets show rounded places None told = gives ∙ ap (λ b. cond b (Some (attempt_seen found)) None) told
+  second-told proved whole named values amounts sets show rounded places (Some answer) told = record {
     found = attempt_seen found;
     second = gives ∙ ap (λ b. cond b (Some (attempt_seen found)) None) told.0;
-    worth = record { plan = proved.plan; bound = proved.bound; within = proved.gap.within; whole = whole; named = named };
+    worth = record { plan = proved.plan; bound = proved.bound; gap_kept = proved.gap; whole = whole; named = named; plan_fractions = values; multiplier_fractions = amounts };
     status_is = told.1;
     text_is = told.2;
   }

@@ -5,9 +5,9 @@ use Rattle.named_equations.specs.Variables.{new_capacity, rate_of_activity, trad
 use Rattle.exact_solver.specs.MethodEnds.{HasNoPlan, IsPivotDue}
 use Rattle.row_problem.specs.Sizes.{column_count}
 use Rattle.solve_command.specs.declared.solve.Shown.TheVariants.{Report}
-use Rattle.solve_command.specs.Limits.{IsWithinLimits}
+use Rattle.command_answers.specs.Limits.{IsWithinLimits}
 use Rattle.solve_command.specs.Solve.{ComesToEnd}
-use Rattle.solve_command.specs.SolvedPlans.{HasNoLeastCost}
+use Rattle.command_answers.specs.SolvedPlans.{HasNoLeastCost}
 use Rattle.command_answers.specs.CheckedPlans.{NoneIsFeasible}
 
 -- ---- sizes

@@ -1,10 +1,9 @@
-pub mod Limits
 pub mod Promises
+pub mod ReadBack
 pub mod Rounding
 pub mod Second
 pub mod Shown
 pub mod Solve
 pub mod SolveOutcomes
 pub mod SolveTexts
-pub mod SolvedPlans
 pub mod Summary

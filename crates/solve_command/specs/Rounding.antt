@@ -6,7 +6,7 @@ use Rattle.row_core.specs.declared.Var.{Var}
 use Rattle.certified_answers.specs.declared.answers.Certified.{Certified}
 use Rattle.solve_command.specs.declared.solve.Shown.{Shown}
 use Rattle.command_answers.specs.declared.status.Status.{Status}
-use Rattle.solve_command.specs.Solve.{third_attempt}
+use Rattle.command_answers.specs.SolvedEnds.{third_attempt}
 use Rattle.solve_command.specs.SolveOutcomes.{PricesFitIn, solution_shown, status_of}
 
 -- the status and the text tell it, and the numbers that are formed for its prices fit

@@ -7,9 +7,8 @@ use Rattle.row_core.specs.declared.Row.{Row}
 use Rattle.row_core.specs.declared.Var.{Var}
 use Rattle.row_core.specs.declared.place.Place.{Place}
 use Rattle.row_core.specs.Numbers.{keys_of}
-use Rattle.certificate_checker.specs.Gaps.{Within}
 use Rattle.certified_answers.specs.Answers.{AreNamedIn}
-use Rattle.certified_answers.specs.Worth.{IsBound, IsPlan}
+use Rattle.certified_answers.specs.Worth.{IsBound, IsNear, IsPlan}
 use Rattle.certified_answers.specs.declared.answers.Certified.{Certified}
 use Rattle.certified_answers.specs.declared.answers.Certified.TheVariants as exact
 use Rattle.decimal_solver.specs.Attempts.{Attempt}
@@ -21,7 +20,9 @@ use Rattle.command_answers.specs.declared.status.Status.{Status}
 use Rattle.command_answers.specs.declared.status.Status.TheVariants.{Done, Uncertified}
 use Rattle.simplex_core.specs.declared.stops.Stop.TheVariants.{Width}
 use Rattle.command_answers.specs.Lines.{uncertified_line}
-use Rattle.solve_command.specs.Solve.{second_attempt, second_end}
+use Rattle.command_answers.specs.SolvedEnds.{second_attempt}
+use Rattle.solve_command.specs.ReadBack.{AreFractions}
+use Rattle.solve_command.specs.Solve.{second_end}
 use Rattle.solve_command.specs.SolveOutcomes.{HasPriceWideAt, PricesFitIn, solution_shown, status_of}
 use Rattle.solve_command.specs.SolveTexts.{solved_shown}
 
@@ -29,13 +30,16 @@ use Rattle.solve_command.specs.SolveTexts.{solved_shown}
 abbrev pub found_solution : Found → Certified
 found_solution found = exact.Optimal found.plan found.multipliers found.cost found.bound found.pivots
 
--- what it says of the rows: a plan that meets them, with a value for each variable, multipliers of rows that prove the bound, and a cost within the gap of it
+-- what it says of the rows: a plan that meets them, with a value for each variable, multipliers of rows that prove the bound, and a cost within the gap of it;
+-- and all values are those of fractions
 pub record IsWorth (rows : List Row) (vars : List Var) (gap : ℕ) (found : Attempt) : Type 0 where
   pub plan : IsPlan rows vars found.plan found.cost
   pub bound : IsBound rows vars found.multipliers found.bound
-  pub within : Within found.cost found.bound gap
+  pub gap_kept : IsNear found.cost found.bound gap
   pub whole : keys_of found.plan ≡ vars
   pub named : AreNamedIn rows found.multipliers
+  pub plan_fractions : AreFractions found.plan
+  pub multiplier_fractions : AreFractions found.multipliers
 
 -- the status and the text tell what the second attempt gives
 pub record IsToldSecond (sets : SetLists) (rows : List Row) (vars : List Var) (gap pivots : ℕ) (show : Shown) (rounded places : ℕ) (status : Status) (text : List ℕ) : Type 0 where

@@ -17,30 +17,19 @@ use Rattle.command_answers.specs.BookMethods.{grid_end, method_end}
 use Rattle.certified_answers.specs.Worth.{plan_cost}
 use Rattle.result_tables.specs.Prices.{price_steps}
 use Rattle.solve_command.specs.declared.solve.Shown.{Shown}
-use Rattle.solve_command.specs.declared.solve.Shown.TheVariants.{Report, Plan, Multipliers, Summary}
+use Rattle.solve_command.specs.declared.solve.Shown.TheVariants.{Report, Plan, Multipliers, Proof, Summary}
 use Rattle.command_answers.specs.declared.status.Status.{Status}
-use Rattle.command_answers.specs.declared.status.Status.TheVariants.{Done, Infeasible, Unbounded, Uncertified}
+use Rattle.command_answers.specs.declared.status.Status.TheVariants.{Done, Uncertified}
 use Rattle.simplex_core.specs.declared.stops.Stop.TheVariants.{Budget, Width}
 use Rattle.command_answers.specs.Lines.{uncertified_line}
-use Rattle.command_answers.specs.MadeRows.{IsMadeFor, IsTooLarge, IsUncertified}
-use Rattle.solve_command.specs.Limits.{IsWithinLimits, PassesLimits}
+use Rattle.command_answers.specs.MadeBooks.{DueForProgram}
 use Rattle.solve_command.specs.Shown.{HasPrices}
 use Rattle.command_words.specs.declared.command.SolveMethod.{SolveMethod}
 use Rattle.command_words.specs.declared.command.SolveMethod.TheVariants.{Exact, Rounded}
-use Rattle.solve_command.specs.SolvedPlans.{AreUnbounded, IsNearOptimum, IsOptimum, IsRefuted}
+use Rattle.command_answers.specs.SolvedEnds.{IsFoundInfeasible, IsInfeasible, IsUnbounded, first_attempt, second_attempt, third_attempt}
+use Rattle.command_answers.specs.SolvedPlans.{IsNearOptimum, IsOptimum}
+use Rattle.solve_command.specs.ReadBack.{TellsDescent, TellsOptimum, TellsRefutation, WhereProof}
 use Rattle.solve_command.specs.SolveTexts.{infeasible_shown, solved_shown, unbounded_shown}
-
--- ---- attempts
-
--- the exact method is the first attempt, the method on a grid the second, and the rounded one the third
-abbrev pub first_attempt : ℕ
-first_attempt = 1
-
-abbrev pub second_attempt : ℕ
-second_attempt = 2
-
-abbrev pub third_attempt : ℕ
-third_attempt = 3
 
 -- ---- prices
 
@@ -49,6 +38,7 @@ abbrev pub PricesFit : Shown → List Row → List (RowName × Rational) → Typ
 PricesFit Report rows multipliers = first_wide (price_steps rows multipliers) ≡ None
 PricesFit Plan rows multipliers = ⊤
 PricesFit Multipliers rows multipliers = ⊤
+PricesFit Proof rows multipliers = ⊤
 PricesFit Summary rows multipliers = first_wide (price_steps rows multipliers) ≡ None
 
 -- ---- the second attempt
@@ -80,25 +70,24 @@ pub record IsSolved (places : ℕ) (d : Data) (rows : List Row) (gap pivots : �
   pub prices_fit : PricesFit show rows multipliers
   pub status_is : status ≡ Done
   pub text_is : text ≡ solved_shown show d.sets (all_variables d) plan rows multipliers cost bound made rounded places first_attempt
+  pub told : WhereProof show (TellsOptimum d plan multipliers text)
 
 -- no plan meets them
-pub record IsInfeasible (places : ℕ) (d : Data) (rows : List Row) (pivots : ℕ) (show : Shown) (rounded : ℕ) (status : Status) (text : List ℕ) : Type 0 where
-  pub multipliers : List (RowName × Rational)
-  pub made : ℕ
-  pub end : method_end rows (all_variables d) pivots ≡ HasNoPlan multipliers made
-  pub refuted : IsRefuted places d rows multipliers
-  pub status_is : status ≡ Infeasible
-  pub text_is : text ≡ infeasible_shown show d.sets multipliers made rounded places first_attempt
+abbrev pub IsInfeasibleShown : ℕ → Data → List Row → ℕ → Shown → ℕ → Status → List ℕ → Type 0
+IsInfeasibleShown places d rows pivots show rounded status text =
+    (end : IsInfeasible places d rows pivots (λ multipliers made. infeasible_shown show d.sets multipliers made rounded places first_attempt) status text)
+    × WhereProof show (TellsRefutation d end.multipliers text)
+
+abbrev pub IsFoundInfeasibleShown : ℕ → Data → List Row → ℕ → Shown → ℕ → Status → List ℕ → Type 0
+IsFoundInfeasibleShown places d rows pivots show rounded status text =
+    (end : IsFoundInfeasible places d rows pivots (λ multipliers made. infeasible_shown show d.sets multipliers made rounded places third_attempt) status text)
+    × WhereProof show (TellsRefutation d end.multipliers text)
 
 -- plans of any lower cost meet them
-pub record IsUnbounded (places : ℕ) (d : Data) (rows : List Row) (pivots : ℕ) (show : Shown) (rounded : ℕ) (status : Status) (text : List ℕ) : Type 0 where
-  pub plan : List (Var × Rational)
-  pub direction : List (Var × Rational)
-  pub made : ℕ
-  pub end : method_end rows (all_variables d) pivots ≡ HasNoBound plan direction made
-  pub unbounded : AreUnbounded places d rows plan direction
-  pub status_is : status ≡ Unbounded
-  pub text_is : text ≡ unbounded_shown show d.sets plan direction made rounded places
+abbrev pub IsUnboundedShown : ℕ → Data → List Row → ℕ → Shown → ℕ → Status → List ℕ → Type 0
+IsUnboundedShown places d rows pivots show rounded status text =
+    (end : IsUnbounded places d rows pivots (λ plan direction made. unbounded_shown show d.sets plan direction made rounded places) status text)
+    × WhereProof show (TellsDescent d end.plan end.direction text)
 
 -- ---- stops
 
@@ -148,13 +137,14 @@ pub record IsSolvedOnGrid (places : ℕ) (d : Data) (rows : List Row) (gap pivot
   pub optimum : IsNearOptimum places d rows gap found.plan found.multipliers found.cost found.bound
   pub status_is : status ≡ Done
   pub text_is : text ≡ solved_shown show d.sets (all_variables d) found.plan rows found.multipliers found.cost found.bound found.pivots rounded places second_attempt
+  pub told : WhereProof show (TellsOptimum d found.plan found.multipliers text)
 
 -- what is due of a linear program by the exact method, and by the second attempt where it stops
 abbrev pub DueForEnd : ℕ → Data → List Row → ℕ → ℕ → Shown → ℕ → Status → List ℕ → Type 0
 DueForEnd places d rows gap pivots show rounded status text =
     IsSolved places d rows gap pivots show rounded status text
-    ⊎ IsInfeasible places d rows pivots show rounded status text
-    ⊎ IsUnbounded places d rows pivots show rounded status text
+    ⊎ IsInfeasibleShown places d rows pivots show rounded status text
+    ⊎ IsUnboundedShown places d rows pivots show rounded status text
     ⊎ IsOutOfPivots d rows gap pivots status text
     ⊎ IsTooWideToSolve d rows gap pivots status text
     ⊎ HasWidePrice d rows gap pivots show status text
@@ -175,15 +165,7 @@ pub record IsFound (places : ℕ) (d : Data) (rows : List Row) (gap pivots : ℕ
   pub prices_fit : PricesFit show rows multipliers
   pub status_is : status ≡ Done
   pub text_is : text ≡ solved_shown show d.sets (all_variables d) plan rows multipliers cost bound made rounded places attempt
-
--- no plan meets them
-pub record IsFoundInfeasible (places : ℕ) (d : Data) (rows : List Row) (pivots : ℕ) (show : Shown) (rounded attempt : ℕ) (status : Status) (text : List ℕ) : Type 0 where
-  pub multipliers : List (RowName × Rational)
-  pub made : ℕ
-  pub within : made ≤ pivots
-  pub refuted : IsRefuted places d rows multipliers
-  pub status_is : status ≡ Infeasible
-  pub text_is : text ≡ infeasible_shown show d.sets multipliers made rounded places attempt
+  pub told : WhereProof show (TellsOptimum d plan multipliers text)
 
 -- ---- what is due
 
@@ -192,16 +174,10 @@ abbrev pub DueForMethod : ℕ → Data → List Row → ℕ → ℕ → Shown �
 DueForMethod places d rows gap pivots show Exact rounded status text = DueForEnd places d rows gap pivots show rounded status text
 DueForMethod places d rows gap pivots show Rounded rounded status text =
     IsFound places d rows gap pivots show rounded third_attempt status text
-    ⊎ IsFoundInfeasible places d rows pivots show rounded third_attempt status text
+    ⊎ IsFoundInfeasibleShown places d rows pivots show rounded status text
     ⊎ DueForEnd places d rows gap pivots show rounded status text
-
--- over the rows
-abbrev pub DueForRows : ℕ → Data → List Row → ℕ → ℕ → Shown → SolveMethod → ℕ → Status → List ℕ → Type 0
-DueForRows places d rows gap pivots show method rounded status text =
-    PassesLimits d rows status text ⊎ (IsWithinLimits rows (all_variables d) × DueForMethod places d rows gap pivots show method rounded status text)
 
 -- What is due over these data, for a gap in millionths, so many pivots at most, what is to be shown, and the method that is asked for.
 abbrev pub DueForSolve : ℕ → ℕ → ℕ → Shown → SolveMethod → ℕ → Data → Status → List ℕ → Type 0
 DueForSolve places gap pivots show method rounded d status text =
-    IsMadeFor places d (λ rows. DueForRows places d rows gap pivots show method rounded status text)
-    ⊎ IsUncertified places d status text ⊎ IsTooLarge places d status text
+    DueForProgram (λ rows. DueForMethod places d rows gap pivots show method rounded) places d status text

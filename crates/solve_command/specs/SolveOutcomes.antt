@@ -1,4 +1,4 @@
--- What a solution of a book comes to, found by the attempt of some number, and a stop of the method, as statuses and texts.
+-- What a solution of a book comes to, found by the attempt of some number, as statuses and texts.
 use Rattle.std.specs.Prelude.{◌≡◌, ℕ, List, [], Some, ⊤, codes}
 use Rattle.exact_num.specs.Steps.{first_wide}
 use Rattle.exact_num.specs.Value.{value_of}
@@ -11,17 +11,14 @@ use Rattle.row_core.specs.declared.place.Stopped.{Stopped}
 use Rattle.row_core.specs.declared.place.Stopped.TheVariants as parts
 use Rattle.certified_answers.specs.declared.answers.Certified.{Certified}
 use Rattle.certified_answers.specs.declared.answers.Certified.TheVariants as found
-use Rattle.certified_answers.specs.declared.answers.NoAnswer.{NoAnswer}
-use Rattle.certified_answers.specs.declared.answers.NoAnswer.TheVariants as stops
+use Rattle.proof_files.specs.ProofRecords.{descent_file, optimum_file, refutation_file}
 use Rattle.result_tables.specs.Prices.{price_steps}
 use Rattle.result_tables.specs.Reports.{infeasible_text, report_text, unbounded_text}
 use Rattle.solve_command.specs.Shown.{HasPrices}
 use Rattle.solve_command.specs.declared.solve.Shown.{Shown}
-use Rattle.solve_command.specs.declared.solve.Shown.TheVariants.{Report, Plan, Multipliers, Summary}
+use Rattle.solve_command.specs.declared.solve.Shown.TheVariants.{Report, Plan, Multipliers, Proof, Summary}
 use Rattle.command_answers.specs.declared.status.Status.{Status}
-use Rattle.command_answers.specs.declared.status.Status.TheVariants.{Done, Infeasible, Unbounded, Uncertified}
-use Rattle.simplex_core.specs.declared.stops.Stop.TheVariants.{Budget, Width}
-use Rattle.command_answers.specs.Lines.{uncertified_line}
+use Rattle.command_answers.specs.declared.status.Status.TheVariants.{Done, Infeasible, Unbounded}
 use Rattle.solve_command.specs.Solve.{PricesFit}
 use Rattle.solve_command.specs.SolveTexts.{multiplier_file, plan_file, solved_lines}
 
@@ -42,6 +39,11 @@ multipliers_shown sets (found.Optimal plan multipliers cost bound made) = multip
 multipliers_shown sets (found.Infeasible multipliers made) = multiplier_file sets multipliers
 multipliers_shown sets (found.Unbounded plan direction made) = multiplier_file sets []
 
+abbrev pub proof_shown : SetLists → Certified → List ℕ
+proof_shown sets (found.Optimal plan multipliers cost bound made) = optimum_file sets plan multipliers
+proof_shown sets (found.Infeasible multipliers made) = refutation_file sets multipliers
+proof_shown sets (found.Unbounded plan direction made) = descent_file sets plan direction
+
 abbrev pub summary_shown : Certified → List ℕ
 summary_shown (found.Optimal plan multipliers cost bound made) = solved_lines (value_of cost) (value_of bound) made
 summary_shown (found.Infeasible multipliers made) = line (codes "status infeasible")
@@ -51,6 +53,7 @@ abbrev pub solution_shown : Shown → SetLists → List Row → List Var → ℕ
 solution_shown Report sets rows vars rounded places attempt solution = report_shown sets rows vars rounded places attempt solution
 solution_shown Plan sets rows vars rounded places attempt solution = plan_shown sets solution
 solution_shown Multipliers sets rows vars rounded places attempt solution = multipliers_shown sets solution
+solution_shown Proof sets rows vars rounded places attempt solution = proof_shown sets solution
 solution_shown Summary sets rows vars rounded places attempt solution = summary_shown solution
 
 -- ---- prices
@@ -78,10 +81,3 @@ abbrev pub status_of : Certified → Status
 status_of (found.Optimal plan multipliers cost bound made) = Done
 status_of (found.Infeasible multipliers made) = Infeasible
 status_of (found.Unbounded plan direction made) = Unbounded
-
--- the status and the text tell why the method stopped; none tell that memory ran out
-abbrev pub TellsStop : SetLists → ℕ → NoAnswer → Status → List ℕ → Type 0
-TellsStop sets pivots stops.Nothing status text = ⊥
-TellsStop sets pivots stops.Budget status text = (status ≡ Uncertified (Budget pivots)) × (text ≡ uncertified_line sets (Budget pivots))
-TellsStop sets pivots (stops.Width place) status text = (status ≡ Uncertified (Width place)) × (text ≡ uncertified_line sets (Width place))
-TellsStop sets pivots stops.Memory status text = ⊥

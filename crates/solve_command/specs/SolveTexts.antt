@@ -1,4 +1,5 @@
--- What `solve` writes at each of its ends, by what is to be shown: a report, a plan, multipliers or a summary. A file of what there isn't is its header alone.
+-- What `solve` writes at each of its ends, by what is to be shown: a report, a plan, multipliers, what proves the end, or a summary. A file of a plan or of
+-- multipliers that there aren't is its header alone.
 use Rattle.std.specs.Prelude.{ℕ, List, [], ◌++◌, codes}
 use Rattle.exact_num.specs.Rational.{Rational}
 use Rattle.model_sets.specs.Members.{SetLists}
@@ -10,9 +11,10 @@ use Rattle.row_core.specs.declared.RowName.{RowName}
 use Rattle.row_core.specs.declared.Var.{Var}
 use Rattle.plan_files.specs.Records.{multiplier_records, plan_records}
 use Rattle.plan_files.specs.Texts.{records_text}
+use Rattle.proof_files.specs.ProofRecords.{descent_file, optimum_file, refutation_file}
 use Rattle.result_tables.specs.Reports.{infeasible_text, report_text, unbounded_text}
 use Rattle.solve_command.specs.declared.solve.Shown.{Shown}
-use Rattle.solve_command.specs.declared.solve.Shown.TheVariants.{Report, Plan, Multipliers, Summary}
+use Rattle.solve_command.specs.declared.solve.Shown.TheVariants.{Report, Plan, Multipliers, Proof, Summary}
 
 -- the text of a plan, and of multipliers
 abbrev pub plan_file : SetLists → List (Var × Rational) → List ℕ
@@ -31,6 +33,7 @@ abbrev pub solved_shown : Shown → SetLists → List Var → List (Var × Ratio
 solved_shown Report sets vars plan rows multipliers cost bound made rounded places attempt = report_text sets vars plan rows multipliers cost bound made rounded places attempt
 solved_shown Plan sets vars plan rows multipliers cost bound made rounded places attempt = plan_file sets plan
 solved_shown Multipliers sets vars plan rows multipliers cost bound made rounded places attempt = multiplier_file sets multipliers
+solved_shown Proof sets vars plan rows multipliers cost bound made rounded places attempt = optimum_file sets plan multipliers
 solved_shown Summary sets vars plan rows multipliers cost bound made rounded places attempt = solved_lines cost bound made
 
 -- of one that has no plan, by the attempt of this number
@@ -38,6 +41,7 @@ abbrev pub infeasible_shown : Shown → SetLists → List (RowName × Rational) 
 infeasible_shown Report sets multipliers made rounded places attempt = infeasible_text made rounded places attempt
 infeasible_shown Plan sets multipliers made rounded places attempt = plan_file sets []
 infeasible_shown Multipliers sets multipliers made rounded places attempt = multiplier_file sets multipliers
+infeasible_shown Proof sets multipliers made rounded places attempt = refutation_file sets multipliers
 infeasible_shown Summary sets multipliers made rounded places attempt = line (codes "status infeasible")
 
 -- of one whose cost has no bound
@@ -45,4 +49,5 @@ abbrev pub unbounded_shown : Shown → SetLists → List (Var × Rational) → L
 unbounded_shown Report sets plan direction made rounded places = unbounded_text sets direction made rounded places
 unbounded_shown Plan sets plan direction made rounded places = plan_file sets plan
 unbounded_shown Multipliers sets plan direction made rounded places = multiplier_file sets []
+unbounded_shown Proof sets plan direction made rounded places = descent_file sets plan direction
 unbounded_shown Summary sets plan direction made rounded places = line (codes "status unbounded")

@@ -9,9 +9,11 @@ use Rattle.named_equations.specs.Existence.{all_variables}
 use Rattle.row_problem.specs.Sizes.{column_count, inequality_count}
 use Rattle.solve_command.specs.declared.solve.Shown.TheVariants.{Summary}
 use Rattle.command_answers.specs.declared.status.Status.{Status}
-use Rattle.command_answers.specs.MadeRows.{IsMadeFor, IsTooLarge, IsUncertified}
+use Rattle.command_answers.specs.Limits.{IsWithinLimits, PassesLimits}
+use Rattle.command_answers.specs.MadeBooks.{HasNoRows}
+use Rattle.command_answers.specs.MadeRows.{IsMadeFor}
 use Rattle.command_words.specs.declared.command.SolveMethod.TheVariants.{Exact}
-use Rattle.solve_command.specs.Solve.{DueForRows}
+use Rattle.solve_command.specs.Solve.{DueForMethod}
 
 -- ---- lines
 
@@ -34,12 +36,18 @@ default_pivots = 20000
 abbrev pub default_places : ℕ
 default_places = 6
 
--- over the rows: the counts, and then the summary of what `solve` comes to
+-- what `solve` comes to over the rows
+abbrev pub DueForDefaults : ℕ → Data → List Row → ℕ → Status → List ℕ → Type 0
+DueForDefaults places d rows rounded status text =
+    PassesLimits rows (all_variables d) status text
+    ⊎ (IsWithinLimits rows (all_variables d) × DueForMethod places d rows 0 default_pivots Summary Exact rounded status text)
+
+-- over the rows: the counts, and then that
 abbrev pub DueAfterCounts : ℕ → Data → List Row → ℕ → Status → List ℕ → Type 0
 DueAfterCounts places d rows rounded status text =
-    (rest : List ℕ) × DueForRows places d rows 0 default_pivots Summary Exact rounded status rest × (text ≡ counts_text rows (all_variables d) ++ rest)
+    (rest : List ℕ) × DueForDefaults places d rows rounded status rest × (text ≡ counts_text rows (all_variables d) ++ rest)
 
 -- What is due over the data of a model that was made.
 abbrev pub DueForSummary : ℕ → ℕ → Data → Status → List ℕ → Type 0
 DueForSummary places rounded d status text =
-    IsMadeFor places d (λ rows. DueAfterCounts places d rows rounded status text) ⊎ IsUncertified places d status text ⊎ IsTooLarge places d status text
+    IsMadeFor places d (λ rows. DueAfterCounts places d rows rounded status text) ⊎ HasNoRows places d status text

@@ -3,11 +3,12 @@
 //!
 //! `solve` makes the book of rows and solves it, where it isn't too large, by the exact method or first by the rounded one (`rounding`); then come `ends` (the answer for a solution, or for the stop of
 //! the method) and `texts` (what is shown of a solution). `summary` puts the counts before the few lines of `make`; `promises` has the
-//! law on the prices of a report.
+//! law on the prices of a report, and `readback` that on what the file of a proof is read as.
 #![tactic(auto)]
 
 mod ends;
 mod promises;
+mod readback;
 mod rounding;
 mod second;
 mod solve;
@@ -15,5 +16,5 @@ mod summary;
 mod texts;
 
 pub use promises::promise_laws;
-pub use solve::{Shown, Wanted, answer_book, answer_solve, shown_of};
+pub use solve::{Shown, Wanted, answer_solve, shown_of};
 pub use summary::answer_summary;

@@ -8,7 +8,7 @@ ghost use Rattle.row_core.specs.declared.Row.{Row};
 ghost use Rattle.row_core.specs.declared.RowName.{RowName};
 ghost use Rattle.row_core.specs.declared.Var.{Var};
 ghost use Rattle.solve_command.specs.Promises.{ArePromised};
-ghost use Rattle.solve_command.specs.SolvedPlans.{IsNearOptimum};
+ghost use Rattle.command_answers.specs.SolvedPlans.{IsNearOptimum};
 
 use plan_quantities::laws::price_laws;
 

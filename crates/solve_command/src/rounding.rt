@@ -1,16 +1,19 @@
 // The answer of the rounded method, where it finds one.
-ghost use Rattle.std.specs.Prelude.{◌≡◌, ◌⊎◌, IfOk, IfSome, OnOk};
+ghost use Rattle.std.specs.Prelude.{◌≡◌, ◌⊎◌, IfOk, IfSome};
 ghost use Rattle.model_sets.specs.Data.{Data};
 ghost use Rattle.command_answers.specs.BookMethods.{IsFoundBy};
+ghost use Rattle.command_answers.specs.BookPrograms.{IsProgramOf};
 ghost use Rattle.command_answers.specs.CheckedPlans.{IsBookOf, IsListedBook};
 ghost use Rattle.solve_command.specs.Rounding.{TellsFound};
-ghost use Rattle.solve_command.specs.Solve.{IsFound, IsFoundInfeasible, third_attempt};
+ghost use Rattle.solve_command.specs.Solve.{IsFound, IsFoundInfeasibleShown};
+ghost use Rattle.command_answers.specs.SolvedEnds.{third_attempt};
 
 use crate::ends::status_of;
+use crate::readback::{readback_laws, solution_fractions};
 use crate::solve::Wanted;
 use crate::texts::solution_text;
 use certified_answers::Certified;
-use command_answers::{Answer, guess_book};
+use command_answers::{Answer, BookProgram, guess_book};
 use model_sets::Sets;
 use row_book::RowBook;
 use row_core::Stopped;
@@ -25,18 +28,24 @@ pub fn answer_rounded(
     alloc: Global,
     book: &RowBook,
     sets: &Sets,
+    program: &BookProgram,
     places: u8,
     wanted: Wanted,
     rounded: u64,
 ) -> Result<Option<Answer>, AllocError>
-    requires { IsListedBook sets.now book.now.rows book.now.vars }
+    requires listed { IsListedBook sets.now book.now.rows book.now.vars }
+    requires program { IsProgramOf book.now.rows book.now.vars program.now }
     ensures { (d : Data) → sets.now ≡ d.sets → IsBookOf places d book.now.rows book.now.vars
         → IfOk result (λ found. IfSome found (λ answer.
         IsFound places d book.now.rows wanted.gap wanted.pivots wanted.show rounded third_attempt answer.status answer.text.items
-        ⊎ IsFoundInfeasible places d book.now.rows wanted.pivots wanted.show rounded third_attempt answer.status answer.text.items)) }
+        ⊎ IsFoundInfeasibleShown places d book.now.rows wanted.pivots wanted.show rounded answer.status answer.text.items)) }
 {
-    match guess_book(alloc, book, wanted.gap, u64::from(wanted.pivots))? {
-        Some(solution) => answer_found(alloc, book, sets, &solution, wanted, rounded, places),
+    match guess_book(alloc, book, program, wanted.gap, u64::from(wanted.pivots))? {
+        Some(solution) => {
+            readback_laws(book, sets);
+            solution_fractions(&solution);
+            answer_found(alloc, book, sets, &solution, wanted, rounded, places)
+        }
         None => Ok(None),
     }
 }

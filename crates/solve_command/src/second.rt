@@ -1,17 +1,19 @@
 // The answer of the second attempt, where it gives something.
-ghost use Rattle.std.specs.Prelude.{◌≡◌, IfOk};
-ghost use Rattle.exact_num.specs.Value.{value_of};
+ghost use Rattle.std.specs.Prelude.{◌≡◌, None, IfOk};
+ghost use Rattle.exact_num.specs.Steps.{first_wide};
 ghost use Rattle.row_core.specs.Numbers.{keys_of};
+ghost use Rattle.written_method.specs.Eliminated.{elimination_steps};
 ghost use Rattle.certified_answers.specs.Answers.{AreNamedIn};
-ghost use Rattle.certified_answers.specs.Worth.{IsPlan};
 ghost use Rattle.command_answers.specs.CheckedPlans.{IsListedBook};
+ghost use Rattle.command_answers.specs.BookPrograms.{IsProgramOf};
+ghost use Rattle.command_answers.specs.Definers.{definers};
 ghost use Rattle.solve_command.specs.Second.{IsLastOf, TellsGrid, TellsSecond, found_solution};
-ghost use Rattle.solve_command.specs.Solve.{second_attempt};
 
+use crate::readback::{multiplier_fractions, plan_fractions};
 use crate::solve::{Shown, Wanted};
 use crate::texts::{shown_beside, solution_text};
 use certified_answers::Certified;
-use command_answers::{Answer, Status, eliminate_book, second_book};
+use command_answers::{Answer, BookProgram, Status, second_book};
 use decimal_solver::Found;
 use model_sets::Sets;
 use row_book::RowBook;
@@ -26,15 +28,18 @@ pub fn or_second(
     alloc: Global,
     book: &RowBook,
     sets: &Sets,
+    program: &BookProgram,
     places: u8,
     wanted: Wanted,
     rounded: u64,
     first: Answer,
 ) -> Result<Answer, AllocError>
-    requires { IsListedBook sets.now book.now.rows book.now.vars }
+    requires listed { IsListedBook sets.now book.now.rows book.now.vars }
+    requires program { IsProgramOf book.now.rows book.now.vars program.now }
+    requires fits { first_wide (elimination_steps book.now.rows (definers book.now.rows)) ≡ None }
     ensures { IfOk result (λ last. IsLastOf sets.now book.now.rows book.now.vars wanted.gap wanted.pivots wanted.show rounded places first last) }
 {
-    match answer_second(alloc, book, sets, places, wanted, rounded)? {
+    match answer_second(alloc, book, sets, program, places, wanted, rounded)? {
         Some(answer) => Ok(answer),
         None => Ok(first),
     }
@@ -45,24 +50,26 @@ fn answer_second(
     alloc: Global,
     book: &RowBook,
     sets: &Sets,
+    program: &BookProgram,
     places: u8,
     wanted: Wanted,
     rounded: u64,
 ) -> Result<Option<Answer>, AllocError>
-    requires { IsListedBook sets.now book.now.rows book.now.vars }
+    requires listed { IsListedBook sets.now book.now.rows book.now.vars }
+    requires program { IsProgramOf book.now.rows book.now.vars program.now }
+    requires fits { first_wide (elimination_steps book.now.rows (definers book.now.rows)) ≡ None }
     ensures { IfOk result (TellsSecond sets.now book.now.rows book.now.vars wanted.gap wanted.pivots wanted.show rounded places) }
 {
     if wanted.gap == 0 {
         return Ok(None);
     }
-    let program = match eliminate_book(alloc, book) {
-        Ok(program) => program,
-        Err(Stopped::Width(_)) => return Ok(None),
-        Err(Stopped::Memory) => return Err(AllocError),
-    };
     let pivots = u64::from(wanted.pivots);
-    match second_book(alloc, book, &program, wanted.gap, pivots)? {
-        Some(found) => answer_grid(alloc, book, sets, found, wanted.show, rounded, places),
+    match second_book(alloc, book, program, wanted.gap, pivots)? {
+        Some(found) => {
+            plan_fractions(&found.plan);
+            multiplier_fractions(&found.multipliers);
+            answer_grid(alloc, book, sets, found, wanted.show, rounded, places)
+        }
         None => Ok(None),
     }
 }

@@ -3,40 +3,31 @@ ghost use Rattle.std.specs.Prelude.{◌≡◌, ◌++◌, ℕ, IfOk, decimal};
 ghost use Rattle.discount_factors.specs.Factors.{IsPlaces};
 ghost use Rattle.model_sets.specs.Data.{AreSameData, Data};
 ghost use Rattle.command_answers.specs.CheckedPlans.{IsBookOf, IsListedBook};
-ghost use Rattle.solve_command.specs.Summary.{DueAfterCounts, DueForSummary, counts_text};
+ghost use Rattle.solve_command.specs.Summary.{DueAfterCounts, DueForDefaults, DueForSummary, counts_text};
 
-use crate::solve::{Shown, Wanted, answer_book};
-use command_answers::{Answer, push_count, refuse_book};
+use crate::solve::{Shown, Wanted, answer_method};
+use command_answers::{Answer, made_book, push_count, refuse_large};
 use command_words::SolveMethod;
 use model_sets::Sets;
 use param_tables::ModelData;
-use row_book::{RowBook, same_data_laws};
+use row_book::RowBook;
 use row_problem::size_of;
 use std::alloc::{AllocError, Global};
 
 /// What is due over any data that have the model's sets and values, with written factors of 6 or 9 decimal places.
 pub fn answer_summary(alloc: Global, model: &ModelData, places: u8) -> Result<Answer, AllocError>
     requires { IsPlaces places }
-    ensures { IfOk result (λ answer. (d : Data) → AreSameData model.now.facts d
-        → DueForSummary places model.now.rounded d answer.status answer.text.items) }
+    ensures { (d : Data) → AreSameData model.now.facts d → IfOk result (λ answer.
+        DueForSummary places model.now.rounded d answer.status answer.text.items) }
 {
-    same_data_laws();
-    summarize_model(alloc, model, places)
-}
-
-// The same over the model's own data.
-fn summarize_model(alloc: Global, model: &ModelData, places: u8) -> Result<Answer, AllocError>
-    requires { IsPlaces places }
-    ensures { IfOk result (λ answer.
-        DueForSummary places model.now.rounded model.now.facts answer.status answer.text.items) }
-{
-    match RowBook::new(alloc, model, places) {
+    match made_book(alloc, model, places)? {
         Ok(book) => summarize_book(alloc, &book, model.sets(), places, model.rounded()),
-        Err(fail) => refuse_book(alloc, fail, model.sets()),
+        Err(answer) => Ok(answer),
     }
 }
 
-// What is due over a book of rows with written factors of so many decimal places, of data of which so many numbers were rounded: the counts, and then what solving comes to.
+// What is due over a book of rows with written factors of so many decimal places, of data of which so many numbers were rounded: the
+// counts, and then what solving comes to.
 fn summarize_book(
     alloc: Global,
     book: &RowBook,
@@ -48,17 +39,35 @@ fn summarize_book(
     ensures { (d : Data) → sets.now ≡ d.sets → IsBookOf places d book.now.rows book.now.vars
         → IfOk result (λ answer. DueAfterCounts places d book.now.rows rounded answer.status answer.text.items) }
 {
+    let mut text = counts_text(alloc, book)?;
+    let answer = answer_defaults(alloc, book, sets, places, rounded)?;
+    text.extend_from_slice(&answer.text)?;
+    let status = answer.status;
+    Ok(Answer { status, text })
+}
+
+// What solving comes to with the options that `solve` has by default.
+fn answer_defaults(
+    alloc: Global,
+    book: &RowBook,
+    sets: &Sets,
+    places: u8,
+    rounded: u64,
+) -> Result<Answer, AllocError>
+    requires { IsListedBook sets.now book.now.rows book.now.vars }
+    ensures { (d : Data) → sets.now ≡ d.sets → IsBookOf places d book.now.rows book.now.vars
+        → IfOk result (λ answer. DueForDefaults places d book.now.rows rounded answer.status answer.text.items) }
+{
     let wanted = Wanted {
         gap: 0,
         pivots: 20_000,
         show: Shown::Summary,
         method: SolveMethod::Exact,
     };
-    let mut text = counts_text(alloc, book)?;
-    let answer = answer_book(alloc, book, sets, places, wanted, rounded)?;
-    text.extend_from_slice(&answer.text)?;
-    let status = answer.status;
-    Ok(Answer { status, text })
+    match refuse_large(alloc, book)? {
+        Some(answer) => Ok(answer),
+        None => answer_method(alloc, book, sets, places, wanted, rounded),
+    }
 }
 
 // The counts of a book.

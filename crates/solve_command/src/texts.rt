@@ -1,9 +1,9 @@
-// What is shown of a solution: a report, its plan, its multipliers or a few lines.
+// What is shown of a solution: a report, its plan, its multipliers, what proves it, or a few lines.
 ghost use Rattle.std.specs.Prelude.{◌≡◌, ℕ, [], IfErr, IfOk, OnOk};
 ghost use Rattle.exact_num.specs.Value.{value_of};
 ghost use Rattle.certified_answers.specs.Answers.{IsComplete, IsNamed};
 ghost use Rattle.command_answers.specs.CheckedPlans.{IsListedBook};
-ghost use Rattle.solve_command.specs.SolveOutcomes.{PricesAreStopped, PricesFitIn, multipliers_shown, plan_shown, report_shown, solution_shown, summary_shown};
+ghost use Rattle.solve_command.specs.SolveOutcomes.{PricesAreStopped, PricesFitIn, multipliers_shown, plan_shown, proof_shown, report_shown, solution_shown, summary_shown};
 ghost use Rattle.solve_command.specs.SolveTexts.{multiplier_file, plan_file, solved_lines};
 ghost use Rattle.solve_command.specs.declared.solve.Shown.TheVariants as shows;
 
@@ -13,6 +13,7 @@ use command_answers::{push_amount, push_with_number};
 use exact_num::Frac;
 use model_sets::Sets;
 use plan_files::{multiplier_text, plan_text};
+use proof_files::{descent_text, optimum_text, refutation_text};
 use result_tables::{infeasible_report, report, unbounded_report};
 use row_book::RowBook;
 use row_core::{Multipliers, Plan, Stopped};
@@ -43,6 +44,7 @@ pub fn solution_text(
         Shown::Report => report_of(alloc, book, sets, solution, rounded, places, attempt),
         Shown::Plan => Ok(plan_of(alloc, book, sets, solution)?),
         Shown::Multipliers => Ok(multipliers_of(alloc, book, sets, solution)?),
+        Shown::Proof => Ok(proof_of(alloc, book, sets, solution)?),
         Shown::Summary => summary_of(alloc, book, sets, solution, rounded, places, attempt),
     }
 }
@@ -66,6 +68,7 @@ pub fn shown_beside(
         Shown::Report => Ok(report),
         Shown::Plan => plan_of(alloc, book, sets, solution),
         Shown::Multipliers => multipliers_of(alloc, book, sets, solution),
+        Shown::Proof => proof_of(alloc, book, sets, solution),
         Shown::Summary => summary_text(alloc, solution),
     }
 }
@@ -218,4 +221,31 @@ fn no_multipliers(alloc: Global, sets: &Sets) -> Result<Vec<u8>, AllocError>
 {
     let none = Multipliers::of(Vec::new(alloc));
     multiplier_text(alloc, &none, sets)
+}
+
+// The file of what proves it.
+fn proof_of(
+    alloc: Global,
+    book: &RowBook,
+    sets: &Sets,
+    solution: &Certified,
+) -> Result<Vec<u8>, AllocError>
+    requires listed { IsListedBook sets.now book.now.rows book.now.vars }
+    requires complete { IsComplete book.now.vars solution.now }
+    requires named { IsNamed book.now.rows solution.now }
+    ensures { IfOk result (λ text. text.items ≡ proof_shown sets.now solution.now) }
+{
+    match solution {
+        Certified::Optimal {
+            plan,
+            multipliers,
+            ..
+        } => optimum_text(alloc, plan, multipliers, sets),
+        Certified::Infeasible { multipliers, .. } => refutation_text(alloc, multipliers, sets),
+        Certified::Unbounded {
+            plan,
+            direction,
+            ..
+        } => descent_text(alloc, plan, direction, sets),
+    }
 }

@@ -48,7 +48,7 @@ pub fn print_model(rt: &HostRuntime, line: &str) -> io::Result<()> {
         "pivots" => print_pivots(rt, &book, &program),
         "multipliers" => print_multipliers(rt, &book, &program, first),
         "direction" => print_direction(rt, &book, &program, first),
-        _ => print_rounded(rt, &book, first),
+        _ => print_rounded(rt, &book, &program, first),
     }
 }
 

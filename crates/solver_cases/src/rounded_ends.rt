@@ -4,12 +4,13 @@ ghost use Rattle.std.specs.Prelude.{◌<◌};
 ghost use Rattle.std.specs.List.{AllByRecursion};
 ghost use Rattle.row_core.specs.declared.Row.{Row};
 ghost use Rattle.row_core.specs.declared.cost_limit.TheConstants.{SPAN};
+ghost use Rattle.command_answers.specs.BookPrograms.{IsProgramOf};
 
 use crate::books::capacity_of;
 use crate::numbers::{fraction_of, shown, within};
 use certificate_checker::{Verdict, check_plan};
 use certified_answers::Certified;
-use command_answers::{definers, guess_book, problem_laws};
+use command_answers::{BookProgram, definers, guess_book, problem_laws};
 use exact_num::{Frac, cmp_frac};
 use row_book::RowBook;
 use span_finder::round_span;
@@ -23,8 +24,15 @@ const PIVOTS: u64 = 1000;
 
 /// Prints whether the cost that is found is at least the least one and the bound at most, and whether the checker accepts the plan with
 /// this cost; or that there is no plan.
-pub fn print_rounded(rt: &HostRuntime, book: &RowBook, least: &str) -> io::Result<()> {
-    match guess_book(rt.alloc(), book, GAP, PIVOTS)? {
+pub fn print_rounded(
+    rt: &HostRuntime,
+    book: &RowBook,
+    program: &BookProgram,
+    least: &str,
+) -> io::Result<()>
+    requires { IsProgramOf book.now.rows book.now.vars program.now }
+{
+    match guess_book(rt.alloc(), book, program, GAP, PIVOTS)? {
         Some(
             Certified::Optimal {
                 plan,

@@ -15,7 +15,7 @@ use Rattle.row_book.proofs.Lists.{AllByRecursion-weaker}
 use Rattle.command_answers.specs.CheckedPlans.{IsListedBook}
 use Rattle.command_answers.specs.PlacesWithin.{IsVariableOfSets}
 use Rattle.command_answers.proofs.ListedBooks.{rows-named}
-use Rattle.solve_command.proofs.BookPlaces.{plan-named}
+use Rattle.command_answers.proofs.BookPlaces.{plan-named}
 use Rattle.row_core.specs.declared.cost_limit.TheConstants.{SPAN}
 use Rattle.span_finder.specs.Spans.{IsHighEnd}
 use Rattle.span_command.specs.Span.{built}

@@ -12,7 +12,7 @@ use Rattle.certified_answers.specs.declared.answers.Certified.TheVariants as fou
 use Rattle.command_answers.specs.CheckedPlans.{IsBookOf}
 use Rattle.command_answers.specs.declared.status.Status.{Status}
 use Rattle.command_answers.specs.BookMethods.{IsFoundBy}
-use Rattle.solve_command.proofs.SolvedEnds.{are, near, refuted}
+use Rattle.command_answers.proofs.SolvedRows.{are, near, refuted}
 use Rattle.span_finder.specs.Slacks.{slack_limit}
 use Rattle.span_command.specs.Outcomes.{TellsFound}
 use Rattle.span_command.specs.Span.{DueForFound}
@@ -34,7 +34,7 @@ module _ (places : ℕ) (d : Data) (rows : List Row) (vars : List Var) (book : I
         high = value_of span.high;
         low_plan = span.low_plan;
         high_plan = span.high_plan;
-        optimum = near places d rows vars book plan multipliers (value_of cost) (value_of bound) gap of.proved.0 of.proved.1 of.proved.2.within of.complete of.named;
+        optimum = near places d rows vars book plan multipliers (value_of cost) (value_of bound) gap of.proved.0 of.proved.1 of.proved.2 of.complete of.named;
         cost_is = of.proved.0.cost_is ∙ ap (λ (vs : List Var). plan_cost vs plan) (are places d rows vars book);
         low_end = near-low-end places d rows vars book limit var span.low_plan worth.low_plan gap (value_of span.low) (value_of-IsLowest span.low) worth.low worth.low_close;
         high_end = near-high-end places d rows vars book limit var span.high_plan worth.high_plan gap (value_of span.high) (value_of-IsLowest span.high) worth.high worth.high_close;

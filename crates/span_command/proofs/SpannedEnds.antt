@@ -16,7 +16,6 @@ use Rattle.exact_solver.specs.MethodEnds.{HasNoBound, HasNoPlan, HasOptimum, IsP
 use Rattle.command_answers.specs.BookMethods.{method_end}
 use Rattle.certified_answers.specs.Worth.{plan_cost}
 use Rattle.certified_answers.specs.Answers.{IsComplete, IsNamed, IsProved}
-use Rattle.certified_answers.specs.Worth.{IsDescent}
 use Rattle.certified_answers.specs.declared.answers.Certified.{Certified}
 use Rattle.certified_answers.specs.declared.answers.Certified.TheVariants as found
 use Rattle.certified_answers.specs.declared.answers.NoAnswer.{NoAnswer}
@@ -28,11 +27,16 @@ use Rattle.simplex_core.specs.declared.stops.Stop.TheVariants.{Budget, Width}
 use Rattle.command_answers.specs.CheckedPlans.{IsBookOf}
 use Rattle.command_answers.specs.Lines.{uncertified_line}
 use Rattle.command_answers.specs.declared.status.Status.{Status}
-use Rattle.command_answers.specs.declared.status.Status.TheVariants.{Done}
-use Rattle.command_answers.proofs.CheckedRows.{are-feasible, vars-are}
-use Rattle.solve_command.specs.SolveOutcomes.{TellsStop}
-use Rattle.solve_command.proofs.SolvedEnds.{near, refuted}
-use Rattle.solve_command.proofs.SolvedRows.{no-least}
+use Rattle.command_answers.specs.declared.status.Status.TheVariants.{Done, Uncertified}
+use Rattle.command_answers.proofs.BookLists.{end-of-elimination}
+use Rattle.command_words.specs.declared.command.SolveMethod.{SolveMethod}
+use Rattle.command_words.specs.declared.command.SolveMethod.TheVariants.{Exact, Rounded}
+use Rattle.exact_num.specs.Steps.{first_wide}
+use Rattle.row_core.specs.declared.place.Place.{Place}
+use Rattle.written_method.specs.Eliminated.{elimination_steps}
+use Rattle.command_answers.proofs.CheckedRows.{vars-are}
+use Rattle.command_answers.specs.ToldStops.{TellsStop}
+use Rattle.command_answers.proofs.SolvedRows.{optimum, refuted, unbounded}
 use Rattle.command_answers.specs.Definers.{definers}
 use Rattle.span_finder.specs.SpanEnds as trials
 use Rattle.span_finder.specs.SpanEnds.{EndsSo, SpanEnd, Stops}
@@ -42,7 +46,7 @@ use Rattle.span_finder.specs.Spans.{IsNearPlan}
 use Rattle.span_finder.specs.declared.found.SpanFail.{SpanFail}
 use Rattle.span_command.specs.NearBest.{IsLowEnd}
 use Rattle.span_command.specs.Outcomes.{IsToldSpan, IsToldStop, TellsNear, TellsSolution, span_lines}
-use Rattle.span_command.specs.Span.{DueForEnd, HasLeastCost}
+use Rattle.span_command.specs.Span.{DueBy, DueForEnd, HasLeastCost, Wanted}
 use Rattle.span_command.specs.SpanTexts.{bounded_text, chosen_table, head_text, limited_line, rising_text}
 use Rattle.span_command.proofs.NearRows.{high-end, low-end, no-high-end}
 
@@ -141,7 +145,7 @@ module _ (places : ℕ) (d : Data) (rows : List Row) (vars : List Var) (book : I
         bound = value_of bound;
         made = made;
         end = ends (HasOptimum plan multipliers made) end;
-        optimum = record { near = near places d rows vars book plan multipliers (value_of cost) (value_of bound) 0 proved.0 proved.1 (proved.2.within 0) whole named; same = proved.2.same };
+        optimum = optimum places d rows vars book plan multipliers (value_of cost) (value_of bound) 0 proved.0 proved.1 proved.2 whole named;
       })
       told
   due-from_solution (found.Infeasible multipliers made) end proved whole named told =
@@ -159,14 +163,7 @@ module _ (places : ℕ) (d : Data) (rows : List Row) (vars : List Var) (book : I
         direction = direction;
         made = made;
         end = ends (HasNoBound plan direction made) end;
-        unbounded = record {
-          cost = plan_cost vars plan;
-          feasible = are-feasible places d rows vars book plan (plan_cost vars plan) proved.0.some (λ q x over. (proved.0.meets q x over, proved.0.costs q x over));
-          whole = whole.0 ∙ are;
-          endless = no-least places d rows vars book proved.1.endless;
-          descends = subst (λ (vs : List Var). IsDescent rows vs direction) are proved.1;
-          along = whole.1 ∙ are;
-        };
+        unbounded = unbounded places d rows vars book plan direction (plan_cost vars plan) proved.0 proved.1 whole.0 whole.1;
         status_is = told.0;
         text_is = told.1 ∙ ap (λ (ss : SetLists). unbounded_text ss direction made rounded places) same;
       }))))
@@ -190,3 +187,16 @@ module _ (places : ℕ) (d : Data) (rows : List Row) (vars : List Var) (book : I
         line_is = told.1 ∙ ap (λ (ss : SetLists). uncertified_line ss (Width place)) same;
       })))))
   due-from_stop stops.Memory stopped told = absurd told
+
+-- where the elimination stops, so does the exact method
+pub due-from_elimination : (places : ℕ) (d : Data) (rows : List Row) (vars : List Var) → IsBookOf places d rows vars → (sets : SetLists) → sets ≡ d.sets → (var : Var) (wanted : Wanted) (rounded : ℕ) (status : Status)
+    (text : List ℕ) (method : SolveMethod) (place : Place) → first_wide (elimination_steps rows (definers rows)) ≡ Some place → status ≡ Uncertified (Width place) → text ≡ uncertified_line sets (Width place)
+    → DueBy method places d rows var wanted rounded status text
+due-from_elimination places d rows vars book sets same var wanted rounded status text method place wide status_is line_is = by method
+  where
+    due : DueForEnd places d rows var wanted.slack wanted.pivots rounded status text
+    due = due-from_stop places d rows vars book sets same var wanted.slack wanted.pivots rounded status text (stops.Width place) (end-of-elimination rows vars wanted.pivots place wide) (status_is, line_is)
+
+    by : (m : SolveMethod) → DueBy m places d rows var wanted rounded status text
+    by Exact = due
+    by Rounded = inr due

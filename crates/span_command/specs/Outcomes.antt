@@ -18,7 +18,7 @@ use Rattle.simplex_core.specs.declared.stops.Stop.TheVariants.{Width}
 use Rattle.command_answers.specs.declared.status.Status.{Status}
 use Rattle.command_answers.specs.declared.status.Status.TheVariants.{Done, Infeasible, Unbounded, Uncertified}
 use Rattle.command_answers.specs.Lines.{uncertified_line}
-use Rattle.solve_command.specs.Solve.{first_attempt, third_attempt}
+use Rattle.command_answers.specs.SolvedEnds.{first_attempt, third_attempt}
 use Rattle.command_answers.specs.Definers.{definers}
 use Rattle.span_finder.specs.SpanEnds.{EndsSo, Stops, span_seen}
 use Rattle.span_finder.specs.Slacks.{slack_formed, slack_limit}

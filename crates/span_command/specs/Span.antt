@@ -20,14 +20,13 @@ use Rattle.certified_answers.specs.Worth.{plan_cost}
 use Rattle.command_answers.specs.declared.status.Status.{Status}
 use Rattle.command_answers.specs.declared.status.Status.TheVariants.{Done, Uncertified}
 use Rattle.command_answers.specs.Lines.{uncertified_line}
-use Rattle.command_answers.specs.MadeRows.{IsMadeFor, IsTooLarge, IsUncertified}
+use Rattle.command_answers.specs.MadeBooks.{DueForProgram}
 use Rattle.command_answers.specs.NamedMembers.{IsMemberAt, IsNoMember}
-use Rattle.solve_command.specs.Limits.{IsWithinLimits, PassesLimits}
 use Rattle.command_words.specs.declared.command.SolveMethod.{SolveMethod}
 use Rattle.command_words.specs.declared.command.SolveMethod.TheVariants.{Exact, Rounded}
-use Rattle.solve_command.specs.Solve.{IsFoundInfeasible, IsInfeasible, IsUnbounded, third_attempt}
-use Rattle.solve_command.specs.SolvedPlans.{IsNearOptimum, IsOptimum}
-use Rattle.solve_command.specs.declared.solve.Shown.TheVariants.{Report}
+use Rattle.command_answers.specs.SolvedEnds.{IsFoundInfeasible, IsInfeasible, IsUnbounded, first_attempt, third_attempt}
+use Rattle.command_answers.specs.SolvedPlans.{IsNearOptimum, IsOptimum}
+use Rattle.result_tables.specs.Reports.{infeasible_text, unbounded_text}
 use Rattle.command_answers.specs.Definers.{definers}
 use Rattle.span_finder.specs.SpanEnds.{EndsSo, IsBounded, IsRising, Stops}
 use Rattle.span_finder.specs.declared.found.SpanFail.TheVariants.{Stopped}
@@ -139,8 +138,8 @@ abbrev pub DueForEnd : ℕ → Data → List Row → Var → ℕ → ℕ → ℕ
 DueForEnd places d rows var slack pivots rounded status text =
     IsSpanned places d rows var slack pivots status text
     ⊎ IsEndless places d rows var slack pivots status text
-    ⊎ IsInfeasible places d rows pivots Report rounded status text
-    ⊎ IsUnbounded places d rows pivots Report rounded status text
+    ⊎ IsInfeasible places d rows pivots (λ multipliers made. infeasible_text made rounded places first_attempt) status text
+    ⊎ IsUnbounded places d rows pivots (λ plan direction made. unbounded_text d.sets direction made rounded places) status text
     ⊎ HasStoppedBefore d rows pivots status text
     ⊎ HasWideLimit places d rows slack pivots status text
     ⊎ HasStoppedAfter places d rows var slack pivots status text
@@ -148,7 +147,8 @@ DueForEnd places d rows var slack pivots rounded status text =
 -- what the rounded method finds
 abbrev pub DueForFound : ℕ → Data → List Row → Var → ℕ → ℕ → ℕ → ℕ → Status → List ℕ → Type 0
 DueForFound places d rows var slack gap pivots rounded status text =
-    IsSpannedNearly places d rows var slack gap status text ⊎ IsFoundInfeasible places d rows pivots Report rounded third_attempt status text
+    IsSpannedNearly places d rows var slack gap status text
+    ⊎ IsFoundInfeasible places d rows pivots (λ multipliers made. infeasible_text made rounded places third_attempt) status text
 
 -- with the rounded method what it finds, and where it finds nothing, as with the exact one, its end
 abbrev pub DueBy : SolveMethod → ℕ → Data → List Row → Var → Wanted → ℕ → Status → List ℕ → Type 0
@@ -159,16 +159,9 @@ DueBy Rounded places d rows var wanted rounded status text =
 abbrev pub DueForMethod : ℕ → Data → List Row → Var → Wanted → ℕ → Status → List ℕ → Type 0
 DueForMethod places d rows var wanted rounded status text = DueBy wanted.method places d rows var wanted rounded status text
 
--- over the rows
-abbrev pub DueForRows : ℕ → Data → List Row → Var → Wanted → ℕ → Status → List ℕ → Type 0
-DueForRows places d rows var wanted rounded status text =
-    PassesLimits d rows status text ⊎ (IsWithinLimits rows (all_variables d) × DueForMethod places d rows var wanted rounded status text)
-
 -- over the data, for the capacity of a technology in a region and a year
 abbrev pub DueForMember : ℕ → Data → Var → Wanted → ℕ → Status → List ℕ → Type 0
-DueForMember places d var wanted rounded status text =
-    IsMadeFor places d (λ rows. DueForRows places d rows var wanted rounded status text)
-    ⊎ IsUncertified places d status text ⊎ IsTooLarge places d status text
+DueForMember places d var wanted rounded status text = DueForProgram (λ rows. DueForMethod places d rows var wanted rounded) places d status text
 
 -- ---- the words
 

@@ -1,11 +1,8 @@
 // The answers for a span, and for each stop before it.
 ghost use Rattle.std.specs.Prelude.{◌≡◌, IfOk};
 ghost use Rattle.exact_num.specs.Value.{value_of};
-ghost use Rattle.exact_solver.specs.MethodEnds.{IsStopOf};
-ghost use Rattle.command_answers.specs.BookMethods.{method_end};
 ghost use Rattle.command_answers.specs.declared.status.Status.{Status};
 ghost use Rattle.command_answers.specs.CheckedPlans.{IsListedBook};
-ghost use Rattle.solve_command.specs.SolveOutcomes.{TellsStop};
 ghost use Rattle.span_finder.specs.RoundedSpans.{IsRoundedSpan};
 ghost use Rattle.span_finder.specs.Spans.{IsSpan};
 ghost use Rattle.span_command.specs.LimitedPlaces.{PlaceIsLimited, StopIsLimited, TrialIsLimited};
@@ -15,8 +12,7 @@ ghost use Rattle.span_command.specs.SpanTexts.{limited_line};
 use crate::places::{push_place, push_trial_stop};
 use crate::texts::{near_text, span_text};
 use crate::wanted::Wanted;
-use certified_answers::NoAnswer;
-use command_answers::{Answer, Status, Stop, TrialStop, push_with_number, stop_at, stop_at_budget};
+use command_answers::{Answer, Status, Stop, TrialStop, push_with_number};
 use exact_num::Frac;
 use model_sets::Sets;
 use row_book::RowBook;
@@ -67,28 +63,6 @@ pub fn answer_near_ends(
         status: Status::Done,
         text,
     })
-}
-
-/// The answer where the exact method stops on a book with so many pivots at most; none where memory ran out.
-pub fn answer_stop(
-    alloc: Global,
-    book: &RowBook,
-    sets: &Sets,
-    stop: NoAnswer,
-    pivots: u64,
-) -> Result<Answer, AllocError>
-    requires listed { IsListedBook sets.now book.now.rows book.now.vars }
-    requires stopped { IsStopOf (method_end book.now.rows book.now.vars pivots) stop }
-    ensures { IfOk result (λ answer. TellsStop sets.now pivots stop answer.status answer.text.items) }
-{
-    // The rows and the variables of a book are what the places of the method speak of.
-    let _ = book.vars();
-    match stop {
-        NoAnswer::Nothing => unreachable!(),
-        NoAnswer::Budget => stop_at_budget(alloc, pivots, sets),
-        NoAnswer::Width(place) => stop_at(alloc, place, sets),
-        NoAnswer::Memory => Err(AllocError),
-    }
 }
 
 /// The answer where the row that limits the cost, the elimination or a trial stops.

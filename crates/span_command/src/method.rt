@@ -1,66 +1,44 @@
 // What is due over a book of rows: the least cost, a limit near it, and the span within the limit.
-ghost use Rattle.std.specs.Prelude.{◌≡◌, Contains, IfOk};
+ghost use Rattle.std.specs.Prelude.{◌≡◌, Contains, None, IfOk};
+ghost use Rattle.exact_num.specs.Steps.{first_wide};
 ghost use Rattle.exact_num.specs.Value.{value_of};
 ghost use Rattle.model_sets.specs.Data.{Data};
 ghost use Rattle.row_core.specs.declared.kind_numbers.TheConstants.{NEW_CAPACITY};
 ghost use Rattle.certified_answers.specs.Answers.{IsComplete, IsProved};
 ghost use Rattle.certified_answers.specs.Worth.{IsPlan};
+ghost use Rattle.written_method.specs.Eliminated.{elimination_steps};
+ghost use Rattle.command_answers.specs.BookPrograms.{IsProgramOf};
 ghost use Rattle.command_answers.specs.CheckedPlans.{IsBookOf, IsListedBook};
 ghost use Rattle.command_answers.specs.Definers.{definers};
 ghost use Rattle.span_finder.specs.SpanEnds.{Stops};
 ghost use Rattle.span_finder.specs.Spans.{HasNearBest};
 ghost use Rattle.span_command.specs.Outcomes.{IsToldStop, TellsNear, TellsSolution, TellsSpan, wanted_of};
-ghost use Rattle.span_command.specs.Span.{DueForEnd, DueForMethod, DueForRows};
+ghost use Rattle.span_command.specs.Span.{DueForEnd, DueForMethod};
 
 use crate::book_spans::span_of_book;
-use crate::ends::{answer_found, answer_limited, answer_stop};
+use crate::ends::{answer_found, answer_limited};
 use crate::rounding::answer_rounded;
 use crate::wanted::Wanted;
 use certified_answers::Certified;
-use command_answers::{Answer, Status, refuse_size, solve_book, stop_at};
+use command_answers::{
+    Answer, BookProgram, Status, eliminate_book, solve_book, stop_at, stop_on_book,
+    stop_on_elimination,
+};
 use command_words::SolveMethod;
 use exact_num::Frac;
 use model_sets::Sets;
 use result_tables::{infeasible_report, unbounded_report};
 use row_book::RowBook;
 use row_core::{Place, Plan};
-use row_problem::size_of;
 use span_finder::{SpanFail, slack_limit};
 use std::alloc::{AllocError, Global};
-
-/// The most inequalities that a linear program may have.
-const MOST_ROWS: u64 = 20_000;
-
-/// The most columns that it may have.
-const MOST_COLUMNS: u64 = 40_000;
 
 /// The number of the attempt that the exact method is.
 const FIRST_ATTEMPT: u8 = 1;
 
-/// What is due over a book of rows with written factors of so many decimal places, of data of which so many numbers were rounded.
-pub fn answer_book(
-    alloc: Global,
-    book: &RowBook,
-    sets: &Sets,
-    places: u8,
-    wanted: Wanted,
-    rounded: u64,
-) -> Result<Answer, AllocError>
-    requires listed { IsListedBook sets.now book.now.rows book.now.vars }
-    requires chosen { wanted.var.kind ≡ NEW_CAPACITY }
-    requires there { Contains book.now.vars wanted.var }
-    ensures { (d : Data) → sets.now ≡ d.sets → IsBookOf places d book.now.rows book.now.vars
-        → IfOk result (λ answer. DueForRows places d book.now.rows wanted.var (wanted_of wanted) rounded answer.status answer.text.items) }
-{
-    let size = size_of(book.rows(), book.vars());
-    if size.rows > MOST_ROWS || size.columns > MOST_COLUMNS {
-        return refuse_size(alloc, size.rows, size.columns);
-    }
-    answer_method(alloc, book, sets, places, wanted, rounded)
-}
-
-// What is due over a book whose linear program isn't too large.
-fn answer_method(
+/// What is due over a book whose linear program isn't too large, with written factors of so many decimal places, of data of which so many
+/// numbers were rounded.
+pub fn answer_method(
     alloc: Global,
     book: &RowBook,
     sets: &Sets,
@@ -74,12 +52,36 @@ fn answer_method(
     ensures { (d : Data) → sets.now ≡ d.sets → IsBookOf places d book.now.rows book.now.vars
         → IfOk result (λ answer. DueForMethod places d book.now.rows wanted.var (wanted_of wanted) rounded answer.status answer.text.items) }
 {
+    match eliminate_book(alloc, book) {
+        Ok(program) => answer_program(alloc, book, sets, &program, places, wanted, rounded),
+        Err(stop) => stop_on_elimination(alloc, book, sets, stop),
+    }
+}
+
+// What is due over a book of which this is left.
+fn answer_program(
+    alloc: Global,
+    book: &RowBook,
+    sets: &Sets,
+    program: &BookProgram,
+    places: u8,
+    wanted: Wanted,
+    rounded: u64,
+) -> Result<Answer, AllocError>
+    requires listed { IsListedBook sets.now book.now.rows book.now.vars }
+    requires program { IsProgramOf book.now.rows book.now.vars program.now }
+    requires fits { first_wide (elimination_steps book.now.rows (definers book.now.rows)) ≡ None }
+    requires chosen { wanted.var.kind ≡ NEW_CAPACITY }
+    requires there { Contains book.now.vars wanted.var }
+    ensures { (d : Data) → sets.now ≡ d.sets → IsBookOf places d book.now.rows book.now.vars
+        → IfOk result (λ answer. DueForMethod places d book.now.rows wanted.var (wanted_of wanted) rounded answer.status answer.text.items) }
+{
     match wanted.method {
-        SolveMethod::Exact => answer_exact(alloc, book, sets, places, wanted, rounded),
+        SolveMethod::Exact => answer_exact(alloc, book, sets, program, places, wanted, rounded),
         SolveMethod::Rounded => {
-            match answer_rounded(alloc, book, sets, places, wanted, rounded)? {
+            match answer_rounded(alloc, book, sets, program, places, wanted, rounded)? {
                 Some(answer) => Ok(answer),
-                None => answer_exact(alloc, book, sets, places, wanted, rounded),
+                None => answer_exact(alloc, book, sets, program, places, wanted, rounded),
             }
         }
     }
@@ -90,19 +92,22 @@ fn answer_exact(
     alloc: Global,
     book: &RowBook,
     sets: &Sets,
+    program: &BookProgram,
     places: u8,
     wanted: Wanted,
     rounded: u64,
 ) -> Result<Answer, AllocError>
     requires listed { IsListedBook sets.now book.now.rows book.now.vars }
+    requires program { IsProgramOf book.now.rows book.now.vars program.now }
+    requires fits { first_wide (elimination_steps book.now.rows (definers book.now.rows)) ≡ None }
     requires chosen { wanted.var.kind ≡ NEW_CAPACITY }
     requires there { Contains book.now.vars wanted.var }
     ensures { (d : Data) → sets.now ≡ d.sets → IsBookOf places d book.now.rows book.now.vars
         → IfOk result (λ answer. DueForEnd places d book.now.rows wanted.var wanted.slack wanted.pivots rounded answer.status answer.text.items) }
 {
-    match solve_book(alloc, book, wanted.pivots) {
+    match solve_book(alloc, book, program, wanted.pivots) {
         Ok(solution) => answer_solution(alloc, book, sets, places, wanted, rounded, &solution),
-        Err(stop) => answer_stop(alloc, book, sets, stop, wanted.pivots),
+        Err(stop) => stop_on_book(alloc, book, sets, stop, wanted.pivots),
     }
 }
 

@@ -3,6 +3,7 @@ ghost use Rattle.std.specs.Prelude.{◌≡◌, Contains, IfOk, IfSome};
 ghost use Rattle.exact_num.specs.Value.{value_of};
 ghost use Rattle.model_sets.specs.Data.{Data};
 ghost use Rattle.row_core.specs.declared.kind_numbers.TheConstants.{NEW_CAPACITY};
+ghost use Rattle.command_answers.specs.BookPrograms.{IsProgramOf};
 ghost use Rattle.command_answers.specs.CheckedPlans.{IsBookOf, IsListedBook};
 ghost use Rattle.command_answers.specs.BookMethods.{IsFoundBy};
 ghost use Rattle.span_command.specs.Outcomes.{IsToldNearly, TellsFound};
@@ -12,7 +13,7 @@ use crate::book_spans::rounded_span_of_book;
 use crate::ends::answer_near_ends;
 use crate::wanted::Wanted;
 use certified_answers::Certified;
-use command_answers::{Answer, Status, guess_book};
+use command_answers::{Answer, BookProgram, Status, guess_book};
 use exact_num::Frac;
 use model_sets::Sets;
 use result_tables::infeasible_report;
@@ -29,17 +30,19 @@ pub fn answer_rounded(
     alloc: Global,
     book: &RowBook,
     sets: &Sets,
+    program: &BookProgram,
     places: u8,
     wanted: Wanted,
     rounded: u64,
 ) -> Result<Option<Answer>, AllocError>
     requires listed { IsListedBook sets.now book.now.rows book.now.vars }
+    requires program { IsProgramOf book.now.rows book.now.vars program.now }
     requires chosen { wanted.var.kind ≡ NEW_CAPACITY }
     requires there { Contains book.now.vars wanted.var }
     ensures { (d : Data) → sets.now ≡ d.sets → IsBookOf places d book.now.rows book.now.vars
         → IfOk result (λ found. IfSome found (λ answer. DueForFound places d book.now.rows wanted.var wanted.slack wanted.gap wanted.pivots rounded answer.status answer.text.items)) }
 {
-    match guess_book(alloc, book, wanted.gap, wanted.pivots)? {
+    match guess_book(alloc, book, program, wanted.gap, wanted.pivots)? {
         Some(solution) => answer_solution(alloc, book, sets, places, wanted, rounded, &solution),
         None => Ok(None),
     }

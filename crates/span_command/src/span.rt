@@ -7,13 +7,12 @@ ghost use Rattle.row_core.specs.declared.kind_numbers.TheConstants.{NEW_CAPACITY
 ghost use Rattle.span_command.specs.Outcomes.{wanted_of};
 ghost use Rattle.span_command.specs.Span.{DueForMember, DueForSpan, built};
 
-use crate::method::answer_book;
+use crate::method::answer_method;
 use crate::wanted::Wanted;
-use command_answers::{Answer, find_member, refuse_book};
+use command_answers::{Answer, find_member, sized_book};
 use command_words::SolveMethod;
 use model_sets::set_numbers::{REGION, TECHNOLOGY, YEAR};
 use param_tables::ModelData;
-use row_book::{RowBook, same_data_laws};
 use row_core::kind_numbers::NEW_CAPACITY;
 use row_core::{Index, Var};
 use std::alloc::{AllocError, Global};
@@ -93,24 +92,8 @@ fn answer_member(
     ensures { (d : Data) → AreSameData model.now.facts d → IfOk result (λ answer.
         DueForMember places d wanted.var (wanted_of wanted) model.now.rounded answer.status answer.text.items) }
 {
-    same_data_laws();
-    answer_model(alloc, model, places, wanted)
-}
-
-// The same over the model's own data.
-fn answer_model(
-    alloc: Global,
-    model: &ModelData,
-    places: u8,
-    wanted: Wanted,
-) -> Result<Answer, AllocError>
-    requires places { IsPlaces places }
-    requires chosen { wanted.var.kind ≡ NEW_CAPACITY }
-    requires exists { exists model.now.facts wanted.var ≡ true }
-    ensures { IfOk result (λ answer. DueForMember places model.now.facts wanted.var (wanted_of wanted) model.now.rounded answer.status answer.text.items) }
-{
-    match RowBook::new(alloc, model, places) {
-        Ok(book) => answer_book(alloc, &book, model.sets(), places, wanted, model.rounded()),
-        Err(fail) => refuse_book(alloc, fail, model.sets()),
+    match sized_book(alloc, model, places)? {
+        Ok(book) => answer_method(alloc, &book, model.sets(), places, wanted, model.rounded()),
+        Err(answer) => Ok(answer),
     }
 }

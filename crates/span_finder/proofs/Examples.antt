@@ -17,13 +17,13 @@ use Rattle.certified_answers.specs.declared.costs.Goal.TheVariants.{Least, Great
 use Rattle.exact_solver.specs.MethodEnds.{HasNoBound, HasOptimum, IsPivotDue, IsWide}
 use Rattle.simplex_core.specs.declared.stops.Stop.TheVariants.{Budget, Trial, Width}
 use Rattle.simplex_core.specs.declared.stops.TrialStop.TheVariants as trials
-use Rattle.span_finder.specs.declared.found.SpanFail.TheVariants.{Stopped}
+use Rattle.span_finder.specs.declared.found.SpanFail.TheVariants.{Memory, Stopped}
 use Rattle.row_core.specs.declared.cost_limit.TheConstants.{SPAN}
 use Rattle.row_core.specs.CostLimits.{span_name}
 use Rattle.span_finder.specs.LimitRows.{CostsAtMost, cost_terms}
 use Rattle.span_finder.specs.RoundedSpans.{LieWithin, measure_of}
 use Rattle.span_finder.specs.Slacks.{slack_limit}
-use Rattle.span_finder.specs.SpanEnds.{IsBounded, IsNothing, IsPlainStop, IsRising, IsStopped, StopsAt, end_seen, greatest_end, least_end, trial_fail, unless_stopped}
+use Rattle.span_finder.specs.SpanEnds.{IsBounded, IsNothing, IsPlainStop, IsRising, IsStopped, IsTrialFail, StopsAt, end_seen, greatest_end, least_end, unless_stopped}
 
 -- a variable of a kind, of this technology
 abbrev of_kind : ℕ → ℕ → Var
@@ -130,8 +130,12 @@ seen_bounded = refl
 
 -- ---- stops
 
-second_out_of_pivots : trial_fail 2 9 answers.Budget ≡ Stopped (Trial 2 (trials.Budget 9))
+second_out_of_pivots : IsTrialFail 2 9 answers.Budget (Stopped (Trial 2 (trials.Budget 9)))
 second_out_of_pivots = refl
+
+-- a trial that stops with nothing is no failure, out of memory neither
+never_nothing : ¬ (IsTrialFail 2 9 answers.Nothing Memory)
+never_nothing h = h
 
 told : StopsAt (IsStopped (Trial 2 (trials.Budget 9))) (Stopped (Trial 2 (trials.Budget 9)))
 told = refl

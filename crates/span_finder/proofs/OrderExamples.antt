@@ -22,7 +22,7 @@ use Rattle.certified_answers.specs.declared.costs.Cost.TheVariants.{One}
 use Rattle.certified_answers.specs.declared.costs.Goal.{Goal}
 use Rattle.certified_answers.specs.declared.costs.Goal.TheVariants.{Least, Greatest}
 use Rattle.row_problem.specs.Programs.{carried_direction, carried_multipliers, carried_plan, carrying_steps, direction_steps, plan_steps, program_left}
-use Rattle.exact_solver.specs.MethodEnds.{MethodEnd, HasOptimum, IsWide, falling_end, optimal_end, solved_end}
+use Rattle.exact_solver.specs.MethodEnds.{MethodEnd, HasOptimum, IsWide, unbounded_end, optimal_end, solved_end}
 use Rattle.span_finder.specs.Slacks.{slack_formed}
 use Rattle.span_finder.specs.SpanEnds.{IsBounded, IsStopped, both_trials, spanned}
 
@@ -120,7 +120,7 @@ module _ (v : Vec (Var × ℤ)) where
 
   -- the plan before the direction, and both before the checks
   abbrev endless : Rational → Rational → Rational → MethodEnd
-  endless x n d = falling_end (One built Greatest) rows (Some total ∷ None ∷ []) (activity ∷ built ∷ total ∷ []) ((activity, x) ∷ (built, n) ∷ []) ((activity, whole (pos 0)) ∷ (built, d) ∷ []) 5
+  endless x n d = unbounded_end (One built Greatest) rows (Some total ∷ None ∷ []) (activity ∷ built ∷ total ∷ []) ((activity, x) ∷ (built, n) ∷ []) ((activity, whole (pos 0)) ∷ (built, d) ∷ []) 5
 
   plan_before_direction : endless (whole (pos 0)) least least ≡ IsWide (LiftPlan total)
   unfolding plan_steps carried_plan direction_steps carried_direction gcd_of gcd_within lowest plus minus times divided order_of product_formed sum_formed difference_formed quotient_formed first_wide all_fit in_range

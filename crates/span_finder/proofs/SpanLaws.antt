@@ -19,14 +19,12 @@ use Rattle.row_core.specs.Stops.{IsStop}
 use Rattle.row_core.proofs.Members.{Has-from_Contains}
 use Rattle.written_method.specs.Eliminated.{elimination_steps}
 use Rattle.variable_elimination.specs.SoFar.{IsFirst}
-use Rattle.certified_answers.specs.declared.answers.NoAnswer.{NoAnswer}
-use Rattle.certified_answers.specs.declared.answers.NoAnswer.TheVariants as answers
 use Rattle.certified_answers.specs.declared.costs.Cost.TheVariants.{One}
 use Rattle.certified_answers.specs.declared.costs.Goal.TheVariants.{Least, Greatest}
-use Rattle.exact_solver.specs.MethodEnds.{IsStopOf, MethodEnd, solved_end}
+use Rattle.exact_solver.specs.MethodEnds.{solved_end}
 use Rattle.simplex_core.specs.declared.stops.Stop.TheVariants.{Width}
 use Rattle.span_finder.specs.LimitRows.{HasLimitRow, limit_formed}
-use Rattle.span_finder.specs.SpanEnds.{EndsSo, IsStopped, SpanEnd, Stops, StopsAt, both_trials, greatest_end, least_end, plain_fail, span_seen, spanned, trial_fail, unless_stopped}
+use Rattle.span_finder.specs.SpanEnds.{EndsSo, IsStopped, SpanEnd, Stops, StopsAt, both_trials, greatest_end, least_end, plain_fail, span_seen, spanned, unless_stopped}
 use Rattle.span_finder.specs.Spans.{IsHighEnd, IsNearPlan, IsSpan}
 use Rattle.span_finder.specs.Trials.{AreFound, IsCapacityOf, IsExtreme, IsHighFound}
 use Rattle.span_finder.specs.declared.found.Span.{Span}
@@ -36,18 +34,6 @@ use Rattle.span_finder.proofs.LimitedLaws.{near-from, near-to}
 use Rattle.span_finder.proofs.ValueLaws.{always-more}
 
 -- ---- how they end
-
-pub least-stops : (pivots : ℕ) (end : MethodEnd) (answer : NoAnswer) (next : List (Var × Rational) → SpanEnd) → IsStopOf end answer → StopsAt (least_end pivots next end) (trial_fail 1 pivots answer)
-least-stops pivots end answers.Budget next h = ap (least_end pivots next) h
-least-stops pivots end (answers.Width place) next h = ap (least_end pivots next) h
-least-stops pivots end answers.Nothing next h = tt
-least-stops pivots end answers.Memory next h = tt
-
-pub greatest-stops : (pivots : ℕ) (low : List (Var × Rational)) (end : MethodEnd) (answer : NoAnswer) → IsStopOf end answer → StopsAt (greatest_end pivots low end) (trial_fail 2 pivots answer)
-greatest-stops pivots low end answers.Budget h = ap (greatest_end pivots low) h
-greatest-stops pivots low end (answers.Width place) h = ap (greatest_end pivots low) h
-greatest-stops pivots low end answers.Nothing h = tt
-greatest-stops pivots low end answers.Memory h = tt
 
 module _ (rows : List Row) (defs : List (Option Var)) (vars : List Var) (var : Var) (pivots : ℕ) where
   abbrev next : List (Var × Rational) → SpanEnd

@@ -22,7 +22,7 @@ use Rattle.certificate_checker.specs.Costs.{cost_of}
 use Rattle.certificate_checker.specs.Plans.{HaveRightSigns, IsRight, MeetsAll}
 use Rattle.certified_answers.specs.Answers.{IsComplete, IsProvedFor, turned}
 use Rattle.certified_answers.specs.Costs.{weight_of}
-use Rattle.certified_answers.specs.Worth.{IsDescentFor}
+use Rattle.certified_answers.specs.Worth.{IsDescentFor, IsPlan}
 use Rattle.certified_answers.specs.declared.answers.Certified.{Certified}
 use Rattle.certified_answers.specs.declared.answers.Certified.TheVariants.{Optimal, Unbounded}
 use Rattle.certified_answers.specs.declared.costs.Cost.{Cost}
@@ -72,7 +72,7 @@ module _ (rows : List Row) (vars : List Var) (var : Var) (up : ascends var_cmp v
   extreme : (goal : Goal) (plan : List (Var × Rational)) (multipliers : List (RowName × Rational)) (amount bound : Frac) (pivots : ℕ) → keys_of plan ≡ vars → IsProvedFor (One var goal) rows vars (Optimal plan multipliers amount bound pivots)
       → IsExtreme rows vars var goal plan
   extreme goal plan multipliers amount bound pivots complete h = record {
-    is_plan = h.0;
+    is_plan = subst (IsPlan rows vars plan) h.0.cost_is h.0;
     complete = complete;
     none_passes = subst (NonePasses goal rows vars var) (ap (turned goal) h.2 ∙ twice goal (value_in var_cmp plan var)) (bound-passes goal (value_of bound) h.1.bounds);
   }

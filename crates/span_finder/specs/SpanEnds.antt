@@ -91,16 +91,17 @@ abbrev pub Stops : List Row → List (Option Var) → List Var → Rational → 
 Stops rows defs vars limit var pivots (fails.Stopped stop) = IsRowTooWide vars limit stop ⊎ EndsSo rows defs vars limit var pivots (IsStopped stop)
 Stops rows defs vars limit var pivots fails.Memory = ⊤
 
--- a stop of the row or of the elimination, and that of the trial of this number, where that nothing was found never comes
+-- a stop of the row or of the elimination
 abbrev pub plain_fail : Stopped → SpanFail
 plain_fail (parts.Width place) = fails.Stopped (Width place)
 plain_fail parts.Memory = fails.Memory
 
-abbrev pub trial_fail : ℕ → ℕ → NoAnswer → SpanFail
-trial_fail k pivots answers.Budget = fails.Stopped (Trial k (trials.Budget pivots))
-trial_fail k pivots (answers.Width place) = fails.Stopped (Trial k (trials.Width place))
-trial_fail k pivots answers.Nothing = fails.Memory
-trial_fail k pivots answers.Memory = fails.Memory
+-- why the trial of this number stopped; no trial stops with nothing
+abbrev pub IsTrialFail : ℕ → ℕ → NoAnswer → SpanFail → Type 0
+IsTrialFail k pivots answers.Nothing fail = ⊥
+IsTrialFail k pivots answers.Budget fail = fail ≡ fails.Stopped (Trial k (trials.Budget pivots))
+IsTrialFail k pivots (answers.Width place) fail = fail ≡ fails.Stopped (Trial k (trials.Width place))
+IsTrialFail k pivots answers.Memory fail = fail ≡ fails.Memory
 
 -- a stop that isn't a trial's is a width of the row that limits the cost, or of that row without its defined variables
 abbrev pub IsPlainStop : SpanFail → Type 0

@@ -1,6 +1,6 @@
 //! Rows with the row that limits the cost after them, and what is left of them.
 
-ghost use Rattle.std.specs.Prelude.{◌≡◌, ◌<◌, ◌++◌, ◌∷◌, [], None, IfErr, IfOk};
+ghost use Rattle.std.specs.Prelude.{◌≡◌, ◌<◌, ◌++◌, [], ◌∷◌, None, IfErr, IfOk};
 ghost use Rattle.std.specs.List.{AllByRecursion};
 ghost use Rattle.exact_num.specs.Range.{all_fit};
 ghost use Rattle.exact_num.specs.Value.{value_of};

@@ -1,6 +1,6 @@
 //! The row that says that a plan costs at most a limit.
 
-ghost use Rattle.std.specs.Prelude.{◌≡◌, true, IsTrue, IfErr, IfOk, OnOk, if◌then◌else◌};
+ghost use Rattle.std.specs.Prelude.{◌≡◌, true, IfErr, IfOk, OnOk, if◌then◌else◌};
 ghost use Rattle.exact_num.specs.Range.{all_fit};
 ghost use Rattle.exact_num.specs.Value.{value_of};
 ghost use Rattle.row_core.specs.Stops.{IsStop};

@@ -1,6 +1,6 @@
 //! Between which values a variable lies in plans that meet rows and cost at most a limit.
 
-ghost use Rattle.std.specs.Prelude.{◌≡◌, ◌<◌, List, None, Contains, IfErr, IfOk};
+ghost use Rattle.std.specs.Prelude.{◌≡◌, ◌≢◌, ◌<◌, List, None, Contains, IfErr, IfOk};
 ghost use Rattle.std.specs.List.{AllByRecursion};
 ghost use Rattle.exact_num.specs.Rational.{Rational};
 ghost use Rattle.exact_num.specs.Steps.{first_wide};
@@ -13,12 +13,13 @@ ghost use Rattle.row_core.specs.declared.Var.{Var};
 ghost use Rattle.row_core.specs.declared.cost_limit.TheConstants.{SPAN};
 ghost use Rattle.row_core.specs.declared.kind_numbers.TheConstants.{NEW_CAPACITY};
 ghost use Rattle.written_method.specs.Eliminated.{elimination_steps};
+ghost use Rattle.certified_answers.specs.declared.answers.NoAnswer.TheVariants.{Nothing};
 ghost use Rattle.certified_answers.specs.declared.costs.Cost.TheVariants.{Model, One};
 ghost use Rattle.certified_answers.specs.declared.costs.Goal.TheVariants.{Least, Greatest};
 ghost use Rattle.row_problem.specs.Problems.{IsProblem};
 ghost use Rattle.row_problem.specs.ProgramsOf.{IsProgramOf};
 ghost use Rattle.exact_solver.specs.MethodEnds.{solved_end};
-ghost use Rattle.span_finder.specs.SpanEnds.{EndsSo, IsPlainStop, SpanEnd, Stops, StopsAt, both_trials, greatest_end, least_end, span_seen, trial_fail};
+ghost use Rattle.span_finder.specs.SpanEnds.{EndsSo, IsPlainStop, IsTrialFail, SpanEnd, Stops, StopsAt, both_trials, greatest_end, least_end, span_seen};
 ghost use Rattle.span_finder.specs.Spans.{HasNearBest, HasPlan, IsSpan};
 ghost use Rattle.span_finder.specs.Trials.{AreFound, IsCapacityOf, IsExtreme, IsHighFound, IsTrial};
 
@@ -192,13 +193,15 @@ fn greatest(
     }
 }
 
-/// Why the trial of this number stopped. That nothing was found never comes of the exact method.
+/// Why the trial of this number stopped.
 fn trial_fail(number: u64, pivots: u64, answer: NoAnswer) -> SpanFail
-    ensures { result ≡ trial_fail number pivots answer }
+    requires { answer ≢ Nothing }
+    ensures { IsTrialFail number pivots answer result }
 {
     match answer {
+        NoAnswer::Nothing => unreachable!(),
         NoAnswer::Budget => SpanFail::Stopped(Stop::Trial(number, TrialStop::Budget(pivots))),
         NoAnswer::Width(place) => SpanFail::Stopped(Stop::Trial(number, TrialStop::Width(place))),
-        NoAnswer::Nothing | NoAnswer::Memory => SpanFail::Memory,
+        NoAnswer::Memory => SpanFail::Memory,
     }
 }

@@ -15,59 +15,59 @@ pub returns-in-1-clause-written : goal.returns-in-1-clause-written
 returns-in-1-clause-written c =
     subst (λ e. IsWritten c.args.name e c.eq_specified_demand.result) (sym (terms-at c.args.model.now.facts c.args.name EQ_SPECIFIED_DEMAND c.in-1.is)) c.eq_specified_demand.ensures.written
 
-pub eba1-requires : goal.eba1-requires
-eba1-requires c =
+pub mode_flow-requires : goal.mode_flow-requires
+mode_flow-requires c =
     let at = of_number c.args.model.now.facts c.args.name.eq EBA1 c.args.name.index c.in-7.is c.requires.index in
     record { region = at.region refl; technology = at.technology refl; fuel = at.fuel refl; mode = at.mode refl; year = at.year refl }
 
 pub returns-in-7-clause-written : goal.returns-in-7-clause-written
 returns-in-7-clause-written c =
-    subst (λ e. IsWritten c.args.name e c.eba1.result) (sym (terms-at c.args.model.now.facts c.args.name EBA1 c.in-7.is)) c.eba1.ensures
+    subst (λ e. IsWritten c.args.name e c.mode_flow.result) (sym (terms-at c.args.model.now.facts c.args.name EBA1 c.in-7.is)) c.mode_flow.ensures
 
-pub eba2-requires : goal.eba2-requires
-eba2-requires c =
+pub technology_flow-requires : goal.technology_flow-requires
+technology_flow-requires c =
     let at = of_number c.args.model.now.facts c.args.name.eq EBA2 c.args.name.index c.in-8.is c.requires.index in
     record { region = at.region refl; technology = at.technology refl; fuel = at.fuel refl; year = at.year refl }
 
 pub returns-in-8-clause-written : goal.returns-in-8-clause-written
 returns-in-8-clause-written c =
-    subst (λ e. IsWritten c.args.name e c.eba2.result) (sym (terms-at c.args.model.now.facts c.args.name EBA2 c.in-8.is)) c.eba2.ensures
+    subst (λ e. IsWritten c.args.name e c.technology_flow.result) (sym (terms-at c.args.model.now.facts c.args.name EBA2 c.in-8.is)) c.technology_flow.ensures
 
-pub eba3-requires : goal.eba3-requires
-eba3-requires c =
+pub all_flow-requires : goal.all_flow-requires
+all_flow-requires c =
     let at = of_number c.args.model.now.facts c.args.name.eq EBA3 c.args.name.index c.in-9.is c.requires.index in
     record { region = at.region refl; fuel = at.fuel refl; year = at.year refl }
 
 pub returns-in-9-clause-written : goal.returns-in-9-clause-written
 returns-in-9-clause-written c =
-    subst (λ e. IsWritten c.args.name e c.eba3.result) (sym (terms-at c.args.model.now.facts c.args.name EBA3 c.in-9.is)) c.eba3.ensures
+    subst (λ e. IsWritten c.args.name e c.all_flow.result) (sym (terms-at c.args.model.now.facts c.args.name EBA3 c.in-9.is)) c.all_flow.ensures
 
-pub eba4-requires : goal.eba4-requires
-eba4-requires c =
+pub mode_flow-requires-in-10 : goal.mode_flow-requires-in-10
+mode_flow-requires-in-10 c =
     let at = of_number c.args.model.now.facts c.args.name.eq EBA4 c.args.name.index c.in-10.is c.requires.index in
     record { region = at.region refl; technology = at.technology refl; fuel = at.fuel refl; mode = at.mode refl; year = at.year refl }
 
 pub returns-in-10-clause-written : goal.returns-in-10-clause-written
 returns-in-10-clause-written c =
-    subst (λ e. IsWritten c.args.name e c.eba4.result) (sym (terms-at c.args.model.now.facts c.args.name EBA4 c.in-10.is)) c.eba4.ensures
+    subst (λ e. IsWritten c.args.name e c.mode_flow-in-10.result) (sym (terms-at c.args.model.now.facts c.args.name EBA4 c.in-10.is)) c.mode_flow-in-10.ensures
 
-pub eba5-requires : goal.eba5-requires
-eba5-requires c =
+pub technology_flow-requires-in-11 : goal.technology_flow-requires-in-11
+technology_flow-requires-in-11 c =
     let at = of_number c.args.model.now.facts c.args.name.eq EBA5 c.args.name.index c.in-11.is c.requires.index in
     record { region = at.region refl; technology = at.technology refl; fuel = at.fuel refl; year = at.year refl }
 
 pub returns-in-11-clause-written : goal.returns-in-11-clause-written
 returns-in-11-clause-written c =
-    subst (λ e. IsWritten c.args.name e c.eba5.result) (sym (terms-at c.args.model.now.facts c.args.name EBA5 c.in-11.is)) c.eba5.ensures
+    subst (λ e. IsWritten c.args.name e c.technology_flow-in-11.result) (sym (terms-at c.args.model.now.facts c.args.name EBA5 c.in-11.is)) c.technology_flow-in-11.ensures
 
-pub eba6-requires : goal.eba6-requires
-eba6-requires c =
+pub all_flow-requires-in-12 : goal.all_flow-requires-in-12
+all_flow-requires-in-12 c =
     let at = of_number c.args.model.now.facts c.args.name.eq EBA6 c.args.name.index c.in-12.is c.requires.index in
     record { region = at.region refl; fuel = at.fuel refl; year = at.year refl }
 
 pub returns-in-12-clause-written : goal.returns-in-12-clause-written
 returns-in-12-clause-written c =
-    subst (λ e. IsWritten c.args.name e c.eba6.result) (sym (terms-at c.args.model.now.facts c.args.name EBA6 c.in-12.is)) c.eba6.ensures
+    subst (λ e. IsWritten c.args.name e c.all_flow-in-12.result) (sym (terms-at c.args.model.now.facts c.args.name EBA6 c.in-12.is)) c.all_flow-in-12.ensures
 
 pub eba7-requires : goal.eba7-requires
 eba7-requires c =

@@ -34,27 +34,18 @@ module _ (rows : List Row) (vars : List Var) (m : List (RowName × Rational)) (v
 pub returns-in-Model-clause-yes : goal.returns-in-Model-clause-yes
 returns-in-Model-clause-yes c = subst (λ cost. SaysYes c.args.rows.now c.args.vars.now c.args.multipliers.now c.check_bound.result (weight_of cost)) (sym c.in-Model.is) c.check_bound.ensures.yes
 
-pub returns-in-Nothing-clause-yes : goal.returns-in-Nothing-clause-yes
-returns-in-Nothing-clause-yes c = subst (λ cost. SaysYes c.args.rows.now c.args.vars.now c.args.multipliers.now c.check_bound_of.result (weight_of cost)) (sym c.in-Nothing.is) c.check_bound_of.ensures.yes
-
-pub returns-in-Nothing-clause-no : goal.returns-in-Nothing-clause-no
-returns-in-Nothing-clause-no c = subst (λ cost. SaysNo c.args.rows.now c.args.vars.now c.args.multipliers.now c.check_bound_of.result (weight_of cost)) (sym c.in-Nothing.is) c.check_bound_of.ensures.no
-
-pub returns-in-Nothing-clause-bounds : goal.returns-in-Nothing-clause-bounds
-returns-in-Nothing-clause-bounds c = subst (λ cost. Bounds c.args.rows.now c.args.vars.now c.args.multipliers.now c.check_bound_of.result (weight_of cost)) (sym c.in-Nothing.is) c.check_bound_of.ensures.bounds
-
 pub returns-in-One-clause-answer : goal.returns-in-One-clause-answer
 returns-in-One-clause-answer c =
-    one-weighed (IsAnswer c.args.rows.now c.args.vars.now c.args.multipliers.now c.check_bound_of-in-One.result) c.args.cost c.in-One.var c.in-One.goal c.sign_of.result c.in-One.is c.sign_of.ensures c.check_bound_of-in-One.ensures.answer
+    one-weighed (IsAnswer c.args.rows.now c.args.vars.now c.args.multipliers.now c.check_bound_of.result) c.args.cost c.in-One.var c.in-One.goal c.sign_of.result c.in-One.is c.sign_of.ensures c.check_bound_of.ensures.answer
 
 pub returns-in-One-clause-yes : goal.returns-in-One-clause-yes
 returns-in-One-clause-yes c =
-    one-weighed (SaysYes c.args.rows.now c.args.vars.now c.args.multipliers.now c.check_bound_of-in-One.result) c.args.cost c.in-One.var c.in-One.goal c.sign_of.result c.in-One.is c.sign_of.ensures c.check_bound_of-in-One.ensures.yes
+    one-weighed (SaysYes c.args.rows.now c.args.vars.now c.args.multipliers.now c.check_bound_of.result) c.args.cost c.in-One.var c.in-One.goal c.sign_of.result c.in-One.is c.sign_of.ensures c.check_bound_of.ensures.yes
 
 pub returns-in-One-clause-no : goal.returns-in-One-clause-no
 returns-in-One-clause-no c =
-    one-weighed (SaysNo c.args.rows.now c.args.vars.now c.args.multipliers.now c.check_bound_of-in-One.result) c.args.cost c.in-One.var c.in-One.goal c.sign_of.result c.in-One.is c.sign_of.ensures c.check_bound_of-in-One.ensures.no
+    one-weighed (SaysNo c.args.rows.now c.args.vars.now c.args.multipliers.now c.check_bound_of.result) c.args.cost c.in-One.var c.in-One.goal c.sign_of.result c.in-One.is c.sign_of.ensures c.check_bound_of.ensures.no
 
 pub returns-in-One-clause-bounds : goal.returns-in-One-clause-bounds
 returns-in-One-clause-bounds c =
-    one-weighed (Bounds c.args.rows.now c.args.vars.now c.args.multipliers.now c.check_bound_of-in-One.result) c.args.cost c.in-One.var c.in-One.goal c.sign_of.result c.in-One.is c.sign_of.ensures c.check_bound_of-in-One.ensures.bounds
+    one-weighed (Bounds c.args.rows.now c.args.vars.now c.args.multipliers.now c.check_bound_of.result) c.args.cost c.in-One.var c.in-One.goal c.sign_of.result c.in-One.is c.sign_of.ensures c.check_bound_of.ensures.bounds

@@ -25,13 +25,10 @@ module _ (rows : List Row) (vars : List Var) (direction : List (Var × Rational)
 pub returns-in-Model-clause-no : goal.returns-in-Model-clause-no
 returns-in-Model-clause-no c = subst (λ cost. SaysNo c.args.rows.now c.args.vars.now c.args.direction.now c.check_direction.result (weight_of cost)) (sym c.in-Model.is) c.check_direction.ensures.no
 
-pub returns-in-Nothing-clause-no : goal.returns-in-Nothing-clause-no
-returns-in-Nothing-clause-no c = subst (λ cost. SaysNo c.args.rows.now c.args.vars.now c.args.direction.now c.check_direction_of.result (weight_of cost)) (sym c.in-Nothing.is) c.check_direction_of.ensures.no
-
 pub returns-in-One-clause-answer : goal.returns-in-One-clause-answer
 returns-in-One-clause-answer c =
-    one-weighed (IsAnswer c.args.rows.now c.args.vars.now c.args.direction.now c.check_direction_of-in-One.result) c.args.cost c.in-One.var c.in-One.goal c.sign_of.result c.in-One.is c.sign_of.ensures c.check_direction_of-in-One.ensures.answer
+    one-weighed (IsAnswer c.args.rows.now c.args.vars.now c.args.direction.now c.check_direction_of.result) c.args.cost c.in-One.var c.in-One.goal c.sign_of.result c.in-One.is c.sign_of.ensures c.check_direction_of.ensures.answer
 
 pub returns-in-One-clause-no : goal.returns-in-One-clause-no
 returns-in-One-clause-no c =
-    one-weighed (SaysNo c.args.rows.now c.args.vars.now c.args.direction.now c.check_direction_of-in-One.result) c.args.cost c.in-One.var c.in-One.goal c.sign_of.result c.in-One.is c.sign_of.ensures c.check_direction_of-in-One.ensures.no
+    one-weighed (SaysNo c.args.rows.now c.args.vars.now c.args.direction.now c.check_direction_of.result) c.args.cost c.in-One.var c.in-One.goal c.sign_of.result c.in-One.is c.sign_of.ensures c.check_direction_of.ensures.no

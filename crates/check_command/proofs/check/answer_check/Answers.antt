@@ -1,17 +1,23 @@
-use Rattle.std.proofs.Common.{option_map}
+-- Over any data that are the same, the book is theirs.
+use Rattle.std.proofs.Common.{◌∙◌, inl, inr, sym, subst}
 use Rattle.std.proofs.lemmas.Result.{IfOk-weaker}
-use Rattle.check_command.proofs.SameChecks.{check-carries}
-use Rattle.command_answers.proofs.SameData.{SameLaws}
+use Rattle.command_answers.specs.CheckedPlans.{IsListedBook}
+use Rattle.command_answers.specs.MadeBooks.{TellsMade}
+use Rattle.command_answers.proofs.SameData.{same-itself}
 use Rattle.check_command.proofs.check.answer_check.Goals as goal
 
-pub returns : goal.returns
-returns c =
-    let model = c.args.model.now.facts in
-    let places = c.args.places in
-    let claim = c.args.claim in
-    let laws = c.same_data_laws.ensures in
-    IfOk-weaker c.answer_claim.result _ _
-    (λ answer due d same.
-    let rows : SameLaws places model d = record { rows = laws.rows places model d same; made = laws.made places model d same; wide = laws.wide places model d same; many = laws.many places model d same } in
-    check-carries places model d same rows claim.plan.now (option_map (λ text. text.now) claim.multipliers) claim.gap answer.status answer.text.items due)
-    c.answer_claim.ensures
+pub answer_plan_file-requires : goal.answer_plan_file-requires
+answer_plan_file-requires c =
+    let facts = c.args.model.now.facts in
+    let own = subst (TellsMade c.args.places facts) c.in-Ok.is (c.in_ok-book.ensures facts (same-itself facts)) in
+    subst (λ sets. IsListedBook sets c.in-Ok.book.rows c.in-Ok.book.vars) (sym c.sets.ensures.sets) own.listed
+
+pub returns-in-Ok : goal.returns-in-Ok
+returns-in-Ok c = λ d same.
+    let made = subst (TellsMade c.args.places d) c.in-Ok.is (c.in_ok-book.ensures d same) in
+    IfOk-weaker c.answer_plan_file.result _ _
+    (λ answer due. inl (record { made = made.made; rows = c.in-Ok.book.rows; are_rows = made.is_book.are_rows; due = due }))
+    (c.answer_plan_file.ensures c.args.places d (c.sets.ensures.sets ∙ same.sets) made.is_book)
+
+pub returns-in-Err : goal.returns-in-Err
+returns-in-Err c = λ d same. inr (subst (TellsMade c.args.places d) c.in-Err.is (c.in_ok-book.ensures d same))

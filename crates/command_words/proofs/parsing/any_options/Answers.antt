@@ -12,4 +12,5 @@ returns c =
     let places = c.in_ok-command-3.ensures ∙ ap (more (codes "places")) pivots in
     let show = c.in_ok-command-4.ensures ∙ ap (more (codes "show")) places in
     let method = c.in_ok-command-5.ensures ∙ ap (more (codes "method")) show in
-    IfOk-weaker c.with_option-6.result _ _ (λ command added. added ∙ ap (more (codes "slack")) method) c.with_option-6.ensures
+    let slack = c.in_ok-command-6.ensures ∙ ap (more (codes "slack")) method in
+    IfOk-weaker c.with_option-7.result _ _ (λ command added. added ∙ ap (more (codes "proof")) slack) c.with_option-7.ensures

@@ -24,6 +24,7 @@ returns c =
     let show = c.get_str-4.ensures ∙ first_value-rows found (codes "show") in
     let method = c.get_str-5.ensures ∙ first_value-rows found (codes "method") in
     let slack = c.get_str-6.ensures ∙ first_value-rows found (codes "slack") in
-    let given = given_of (record { files = c.in_ok-files_of.field-0; gap = c.get_str.result; pivots = c.get_str-2.result; places = c.get_str-3.result; show = c.get_str-4.result; method = c.get_str-5.result; slack = c.get_str-6.result }) in
-    let same : given ≡ given_rows (rows_of found) = λ i. record { files = c.in_ok-files_of.ensures i; gap = gap i; pivots = pivots i; places = places i; show = show i; method = method i; slack = slack i } in
+    let proof = c.get_str-7.ensures ∙ first_value-rows found (codes "proof") in
+    let given = given_of (record { files = c.in_ok-files_of.field-0; gap = c.get_str.result; pivots = c.get_str-2.result; places = c.get_str-3.result; show = c.get_str-4.result; method = c.get_str-5.result; slack = c.get_str-6.result; proof = c.get_str-7.result }) in
+    let same : given ≡ given_rows (rows_of found) = λ i. record { files = c.in_ok-files_of.ensures i; gap = gap i; pivots = pivots i; places = places i; show = show i; method = method i; slack = slack i; proof = proof i } in
     ap Some same ∙ ap (option_map given_rows) rows ∙ clap_gives words (words_utf8 c.args.words.now)

@@ -1,9 +1,8 @@
 -- At the end nothing is left to be tried, and what was needed is a conflict.
-use Rattle.std.proofs.Common.{◌≡◌, ◌+◌, List, [], drop, ap, sym, ◌∙◌, subst}
+use Rattle.std.proofs.Common.{◌≡◌, ◌+◌, [], drop, ap, sym, ◌∙◌, subst}
 use Rattle.std.proofs.lemmas.List.{drop_all, drop_more}
 use Rattle.std.proofs.lemmas.Result.{err_from_is_err_and}
-use Rattle.row_core.specs.declared.RowName.{RowName}
-use Rattle.conflict_sets.specs.Searches.{SearchIs, all_needed, walk_from}
+use Rattle.conflict_sets.specs.Searches.{all_needed, walk_from}
 use Rattle.conflict_sets.specs.Walks.{Stops}
 use Rattle.conflict_sets.proofs.StillLaws.{search-conflict, search-found}
 use Rattle.conflict_sets.proofs.WalkLaws.{walk-ends}
@@ -24,7 +23,7 @@ returns-clause-end c =
     let names = c.args.names.now in
     let s = c.loop-name.search in
     let over : drop c.loop-name.name-index names ≡ [] = drop_all c.loop-name.name-index names c.loop-name-test.false in
-    let known : SearchIs problem.rows.now problem.vars.now s [] = subst (λ (ls : List RowName). SearchIs problem.rows.now problem.vars.now s ls) over c.loop-name.invariant.searched in
+    let known = rw over at c.loop-name.invariant.searched in
     search-found problem.rows.now problem.defs.now problem.vars.now c.requires.problem.problem s c.loop-name.invariant.even known c.in_ok-conflict.field-0 c.in_ok-conflict.ensures.members c.in_ok-conflict.ensures.plans
     ∙ sym (walk-ends problem.rows.now problem.defs.now problem.vars.now c.args.pivots (s.trials + 1) s.multipliers (all_needed s))
     ∙ ap (walk_from problem.rows.now problem.defs.now problem.vars.now c.args.pivots s) (sym over)
@@ -34,6 +33,5 @@ pub returns-clause-conflict : goal.returns-clause-conflict
 returns-clause-conflict c =
     let problem = c.args.problem.now in
     let s = c.loop-name.search in
-    let known : SearchIs problem.rows.now problem.vars.now s [] =
-    subst (λ (ls : List RowName). SearchIs problem.rows.now problem.vars.now s ls) (drop_all c.loop-name.name-index c.args.names.now c.loop-name-test.false) c.loop-name.invariant.searched in
+    let known = rw (drop_all c.loop-name.name-index c.args.names.now c.loop-name-test.false) at c.loop-name.invariant.searched in
     search-conflict problem.rows.now problem.defs.now problem.vars.now c.requires.problem.problem s c.loop-name.invariant.even known c.in_ok-conflict.field-0 c.in_ok-conflict.ensures.members c.in_ok-conflict.ensures.plans

@@ -1,11 +1,6 @@
 -- What the checker accepts over the copied rows is a plan of the rows of the trial.
-use Rattle.std.proofs.Common.{◌≡◌, true, List, map, sym, ap, ◌∙◌, subst}
-use Rattle.exact_num.specs.Rational.{Rational}
-use Rattle.row_core.specs.declared.Var.{Var}
+use Rattle.std.proofs.Common.{◌≡◌, map, ap, ◌∙◌}
 use Rattle.row_core.specs.Contents.{contents_of}
-use Rattle.row_core.specs.Numbers.{ascends, keys_of}
-use Rattle.row_core.specs.Order.{var_cmp}
-use Rattle.row_problem.specs.Programs.{carried_plan}
 use Rattle.row_problem.proofs.CompletePlans.{plan-complete}
 use Rattle.conflict_sets.specs.Pieces.{listed_by}
 use Rattle.conflict_sets.specs.Trials.{rows_with}
@@ -16,18 +11,14 @@ pub returns-in-Ok-accepted_plan : goal.returns-in-Ok-accepted_plan
 returns-in-Ok-accepted_plan c =
     let problem = c.args.problem.now in
     let rows = problem.rows.now in
-    let defs = problem.defs.now in
     let vars = problem.vars.now in
     let listed = listed_by c.args.listing.now in
     let plan = c.in-Ok.plan in
-    let values = c.args.values.now in
     let of = c.requires.problem in
-    let is : plan ≡ carried_plan rows defs values = c.in-Ok.ensures.values in
     let copied : map contents_of c.deref.result.now ≡ map contents_of (rows_with listed rows) = ap (map contents_of) c.deref.ensures.value ∙ c.in_ok-rows.ensures in
     record {
       worth = (
         copied-plan vars plan _ c.deref.result.now (rows_with listed rows) copied c.in-Ok-accepted_plan.ensures.plan,
-        subst (λ (made : List (Var × Rational)). keys_of made ≡ vars) (sym is)
-            (plan-complete rows defs vars of.problem values (c.requires.keyed ∙ c.requires.tried.columns ∙ of.columns) (subst (λ (made : List (Var × Rational)). ascends var_cmp (keys_of made) ≡ true) is c.plan_laws.ensures.ascending)),
+        plan-complete rows problem.defs.now vars of.problem c.args.values.now (c.requires.keyed ∙ c.requires.tried.columns ∙ of.columns) plan c.in-Ok.ensures.values c.plan_laws.ensures.ascending,
       );
     }

@@ -1,5 +1,5 @@
 -- At the end nothing is left to be tried, and what was needed is a conflict.
-use Rattle.std.proofs.Common.{◌+◌, List, [], drop, subst}
+use Rattle.std.proofs.Common.{◌+◌, List, drop, subst}
 use Rattle.std.proofs.lemmas.List.{drop_all, drop_more}
 use Rattle.row_core.specs.declared.RowName.{RowName}
 use Rattle.conflict_sets.specs.Searches.{SearchIs}
@@ -20,6 +20,5 @@ pub returns-clause-conflict : goal.returns-clause-conflict
 returns-clause-conflict c =
     let problem = c.args.problem.now in
     let s = c.loop-name.search in
-    let known : SearchIs problem.rows.now problem.vars.now s [] =
-    subst (λ (ls : List RowName). SearchIs problem.rows.now problem.vars.now s ls) (drop_all c.loop-name.name-index c.args.names.now c.loop-name-test.false) c.loop-name.invariant.searched in
+    let known = rw (drop_all c.loop-name.name-index c.args.names.now c.loop-name-test.false) at c.loop-name.invariant.searched in
     search-conflict problem.rows.now problem.defs.now problem.vars.now c.requires.problem.problem s c.loop-name.invariant.even known c.in_ok-conflict.field-0 c.in_ok-conflict.ensures.members c.in_ok-conflict.ensures.plans

@@ -1,15 +1,8 @@
 -- The plan meets the rows of the trial, so that the checker says yes to it.
-use Rattle.std.proofs.Common.{◌≡◌, true, List, map, sym, ap, ◌∙◌, subst}
+use Rattle.std.proofs.Common.{◌≡◌, map, ap, ◌∙◌}
 use Rattle.std.proofs.lemmas.Result.{err_from_is_err_and}
-use Rattle.exact_num.specs.Rational.{Rational}
-use Rattle.row_core.specs.declared.Var.{Var}
 use Rattle.row_core.specs.Contents.{contents_of}
-use Rattle.row_core.specs.Numbers.{ascends, keys_of}
-use Rattle.row_core.specs.Order.{var_cmp}
-use Rattle.certificate_checker.specs.Conditions.{Condition}
 use Rattle.certificate_checker.specs.Costs.{model_cost}
-use Rattle.certified_answers.specs.Refusals.{IsWidthOf}
-use Rattle.row_problem.specs.Programs.{carried_plan}
 use Rattle.row_problem.proofs.CompletePlans.{plan-complete}
 use Rattle.conflict_sets.specs.Pieces.{listed_by}
 use Rattle.conflict_sets.specs.Trials.{rows_with}
@@ -40,7 +33,7 @@ returns-in_err-accepted_plan-clause-stopped c =
     let wide = c.in_err-accepted_plan.ensures.found (copied-found vars plan c.deref.result.now (rows_with listed rows) copied found) in
     rw (q.1, q.2)
     (planned-refused listed rows defs vars values plan e c.in_ok-plan.ensures.values c.in_ok-plan.ensures.fits
-    (subst (λ (cs : List Condition). IsWidthOf cs e) (copied-conditions model_cost vars plan c.deref.result.now (rows_with listed rows) copied) wide))
+    (rw (copied-conditions model_cost vars plan c.deref.result.now (rows_with listed rows) copied) at wide))
 
 pub returns-clause-end : goal.returns-clause-end
 returns-clause-end c =
@@ -57,15 +50,11 @@ pub returns-clause-worth : goal.returns-clause-worth
 returns-clause-worth c =
     let problem = c.args.problem.now in
     let rows = problem.rows.now in
-    let defs = problem.defs.now in
     let vars = problem.vars.now in
     let listed = listed_by c.args.listing.now in
     let plan = c.in_ok-plan.plan in
-    let values = c.args.values.now in
     let of = c.requires.problem in
-    let is : plan ≡ carried_plan rows defs values = c.in_ok-plan.ensures.values in
     let copied : map contents_of c.deref.result.now ≡ map contents_of (rows_with listed rows) = ap (map contents_of) c.deref.ensures.value ∙ c.in_ok-rows.ensures in (
       copied-plan vars plan _ c.deref.result.now (rows_with listed rows) copied c.in_ok-accepted_plan.ensures.plan,
-      subst (λ (made : List (Var × Rational)). keys_of made ≡ vars) (sym is)
-          (plan-complete rows defs vars of.problem values (c.requires.keyed ∙ c.requires.tried.columns ∙ of.columns) (subst (λ (made : List (Var × Rational)). ascends var_cmp (keys_of made) ≡ true) is c.plan_laws-2.ensures.ascending)),
+      plan-complete rows problem.defs.now vars of.problem c.args.values.now (c.requires.keyed ∙ c.requires.tried.columns ∙ of.columns) plan c.in_ok-plan.ensures.values c.plan_laws-2.ensures.ascending,
     )

@@ -1,19 +1,10 @@
 -- The multipliers refute the rows, so that the checker says yes to them.
-use Rattle.std.proofs.Common.{◌≡◌, List, [], length, refl, sym, ap, ◌∙◌, subst}
-use Rattle.std.specs.Prelude.{None}
+use Rattle.std.proofs.Common.{◌≡◌, [], length, refl, sym, ap, ◌∙◌}
 use Rattle.std.proofs.lemmas.List.{length-map}
 use Rattle.std.proofs.lemmas.Result.{err_from_is_err_and}
-use Rattle.exact_num.specs.Rational.{Rational}
-use Rattle.exact_num.specs.Steps.{Step, first_wide}
 use Rattle.exact_num.specs.Value.{value_of}
-use Rattle.row_core.specs.declared.RowName.{RowName}
-use Rattle.row_core.specs.declared.place.Place.{Place}
-use Rattle.written_method.specs.Programs.{program_of}
-use Rattle.variable_elimination.specs.SoFar.{IsFirst}
-use Rattle.simplex_core.specs.Outcomes.{RefuteAll}
-use Rattle.certified_answers.specs.Found.{IsFoundRefutation}
 use Rattle.row_problem.proofs.OverLaws.{some-over}
-use Rattle.conflict_sets.specs.Pieces.{AreWithin, listed_by}
+use Rattle.conflict_sets.specs.Pieces.{listed_by}
 use Rattle.conflict_sets.specs.Trials.{tried_multipliers, tried_steps}
 use Rattle.conflict_sets.proofs.FoundTrials.{lifted-are, steps-are, trial-refutation}
 use Rattle.conflict_sets.proofs.TriedLaws.{as-many, part-tried}
@@ -33,7 +24,7 @@ returns-in_err-multipliers-clause-stopped c =
     let listed = listed_by c.args.listing.now in
     let q = err_from_is_err_and c.from_residual.result c.from_residual.ensures.1 in
     let same = steps-are listed problem c.requires.problem c.args.tried.now c.requires.tried c.entries.result.now ∙ ap (tried_steps listed problem.rows.now problem.defs.now) c.entries.ensures in
-    rw (q.1, q.2) (refuted-stops listed problem.rows.now problem.defs.now problem.vars.now c.args.lambda.now [] c.in_err-multipliers.field-0.0 (subst (λ (ss : List (Step Place)). IsFirst (first_wide ss) c.in_err-multipliers.field-0.0) same c.in_err-multipliers.ensures.stopped))
+    rw (q.1, q.2) (refuted-stops listed problem.rows.now problem.defs.now problem.vars.now c.args.lambda.now [] c.in_err-multipliers.field-0.0 (rw same at c.in_err-multipliers.ensures.stopped))
 
 pub returns-in_err-accepted_refutation-clause-stopped : goal.returns-in_err-accepted_refutation-clause-stopped
 returns-in_err-accepted_refutation-clause-stopped c =
@@ -49,10 +40,9 @@ returns-in_err-accepted_refutation-clause-stopped c =
     let q = err_from_is_err_and c.from_residual-in_err-accepted_refutation.result c.from_residual-in_err-accepted_refutation.ensures.1 in
     let steps = steps-are listed problem of reduced tried fs ∙ ap (tried_steps listed rows defs) c.entries.ensures in
     let made = lifted-are listed problem of reduced tried fs ∙ ap (tried_multipliers listed rows defs) c.entries.ensures in
-    let fits : first_wide (tried_steps listed rows defs c.args.lambda.now) ≡ None = subst (λ (ss : List (Step Place)). first_wide ss ≡ None) steps c.in_ok-multipliers.ensures.fits in
+    let fits = rw steps at c.in_ok-multipliers.ensures.fits in
     let carries = c.in_ok-multipliers.ensures.refutes refl (part-tried listed problem of reduced tried) in
-    let refute = subst (λ (ls : List Rational). RefuteAll (program_of reduced) ls) (sym c.entries.ensures) c.requires.refute in
-    let found : IsFoundRefutation rows problem.vars.now m = trial-refutation listed problem of reduced tried fs m carries c.multiplier_laws.ensures.some (some-over fs) refute in
+    let found = trial-refutation listed problem of reduced tried fs m carries c.multiplier_laws.ensures.some (some-over fs) (rw c.entries.ensures c.requires.refute) in
     rw (q.1, q.2) (refuted-refused listed rows defs problem.vars.now c.args.lambda.now m c.in_err-accepted_refutation.field-0.0 (c.in_ok-multipliers.ensures.multipliers ∙ made) fits (c.in_err-accepted_refutation.ensures.found found))
 
 pub returns-clause-end : goal.returns-clause-end
@@ -61,7 +51,7 @@ returns-clause-end c =
     let listed = listed_by c.args.listing.now in
     let steps = steps-are listed problem c.requires.problem c.args.tried.now c.requires.tried c.entries.result.now ∙ ap (tried_steps listed problem.rows.now problem.defs.now) c.entries.ensures in
     let made = lifted-are listed problem c.requires.problem c.args.tried.now c.requires.tried c.entries.result.now ∙ ap (tried_multipliers listed problem.rows.now problem.defs.now) c.entries.ensures in
-    let fits : first_wide (tried_steps listed problem.rows.now problem.defs.now c.args.lambda.now) ≡ None = subst (λ (ss : List (Step Place)). first_wide ss ≡ None) steps c.in_ok-multipliers.ensures.fits in
+    let fits = rw steps at c.in_ok-multipliers.ensures.fits in
     refuted-ends listed problem.rows.now problem.defs.now problem.vars.now c.args.lambda.now c.in_ok-multipliers.multipliers (c.in_ok-multipliers.ensures.multipliers ∙ made) fits c.in_ok-accepted_refutation.ensures.refutation.pass.fit
 
 pub returns-clause-worth : goal.returns-clause-worth
@@ -71,5 +61,5 @@ returns-clause-worth c =
     let made = lifted-are listed problem c.requires.problem c.args.tried.now c.requires.tried c.entries.result.now ∙ ap (tried_multipliers listed problem.rows.now problem.defs.now) c.entries.ensures in
     let is : c.in_ok-multipliers.multipliers ≡ tried_multipliers listed problem.rows.now problem.defs.now c.args.lambda.now = c.in_ok-multipliers.ensures.multipliers ∙ made in (
       c.in_ok-accepted_refutation.ensures.refutation,
-      subst (λ (made : List (RowName × Rational)). AreWithin listed problem.rows.now made) (sym is) (multipliers-within listed problem.rows.now problem.defs.now problem.vars.now c.args.lambda.now c.requires.problem.problem),
+      rw is (multipliers-within listed problem.rows.now problem.defs.now problem.vars.now c.args.lambda.now c.requires.problem.problem),
     )

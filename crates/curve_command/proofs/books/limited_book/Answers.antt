@@ -1,76 +1,47 @@
 -- Over the rows of the model with the limit, made anew or renewed.
-use Rattle.std.proofs.Common.{ℤ, pos, Option, subst, arith}
-use Rattle.std.specs.Prelude.{◌≤ℤ◌, IfSome}
-use Rattle.std.proofs.lemmas.Int.{ints}
-use Rattle.exact_num.proofs.RangeLaws.{back_in_range}
-use Rattle.model_sets.specs.Data.{AreSameData}
-use Rattle.model_sets.specs.Members.{AreSets}
-use Rattle.model_sets.specs.declared.param_numbers.TheConstants.{MODEL_PERIOD_EMISSION_LIMIT}
-use Rattle.named_equations.specs.Within.{IsEmission, IsRegion}
-use Rattle.named_equations.proofs.SameInstances.{back}
-use Rattle.param_tables.specs.Changed.{AreDataWith}
-use Rattle.row_book.specs.Books.{Book}
-use Rattle.command_answers.specs.CheckedPlans.{IsBookOf, IsListedBook}
-use Rattle.command_answers.proofs.MadeBooks.{listed-book, made-book}
-use Rattle.command_answers.proofs.SameData.{SameLaws}
-use Rattle.curve_command.specs.KeptRows.{IsBookAtSome}
-use Rattle.curve_command.specs.Limited.{limit_at, limit_names, with_limit}
-use Rattle.curve_command.proofs.DataLaws.{limit-range, same-itself}
-use Rattle.curve_command.proofs.KeptBooks.{made-at, renewed-at, stopped-at}
-use Rattle.curve_command.proofs.LimitedData.{same-limited}
-use Rattle.curve_command.proofs.LimitedLaws.{limit-instance}
+use Rattle.std.proofs.Common.{sym, ◌∙◌, subst}
+use Rattle.model_sets.specs.Members.{SetLists}
+use Rattle.row_book.specs.Books.{NamesRowWithin}
+use Rattle.command_answers.proofs.MadeBooks.{listed-book, made-book, same-made}
+use Rattle.command_answers.proofs.SameData.{same-itself}
+use Rattle.curve_command.specs.KeptRows.{IsMemberOf, limited}
+use Rattle.curve_command.proofs.KeptBooks.{renewed-made, same-laws, same-stops}
+use Rattle.curve_command.proofs.LimitValues.{place-of}
 use Rattle.curve_command.proofs.books.limited_book.Goals as goal
 
-pub returns-in-Some-renewed-clause-book : goal.returns-in-Some-renewed-clause-book
-returns-in-Some-renewed-clause-book c =
-    let places = c.args.places in
-    let r = c.args.member.region in
-    let e = c.args.member.emission in
-    let z = c.args.limit in
+pub renewed-requires-clause-member : goal.renewed-requires-clause-member
+renewed-requires-clause-member c =
     let model = c.args.model.now.facts in
+    subst (λ (sets : SetLists). IsMemberOf sets c.args.limit.member) (sym (c.in_ok-limited.ensures.facts model (same-itself model)).sets) c.requires.limit.member
+
+pub returns-in-Some-renewed-clause-book : goal.returns-in-Some-renewed-clause-book
+returns-in-Some-renewed-clause-book c = λ d same.
+    let limit = c.args.limit in
     let changed = c.in_ok-limited.limited.facts in
-    let with : AreDataWith MODEL_PERIOD_EMISSION_LIMIT (limit_names model r e) z model changed =
-    subst (λ (n : ℤ). AreDataWith MODEL_PERIOD_EMISSION_LIMIT (limit_names model r e) n model changed) (back_in_range z (limit-range z c.requires.limit)) c.in_ok-limited.ensures.changed.facts in
-    let alike : AreSameData changed (with_limit model r e z) = same-limited model model changed r e z (same-itself model) with in
-    let are : AreSets model.sets = subst AreSets alike.sets c.in_ok-limited.ensures.complete.sets in
-    let in_r : IsRegion model r = c.requires.region in
-    let in_e : IsEmission model e = c.requires.emission in
-    let least : pos 0 ≤ℤ z = omega (arith, ints, c.requires.limit.0) in
-    let before : IsBookAtSome places model r e c.in-Some.book = subst (λ (o : Option Book). IfSome o (IsBookAtSome places model r e)) c.in-Some.is c.requires.before in
-    let terms = c.same_data_laws.ensures.terms places (with_limit model r e z) changed (back alike) (limit_at r e) (limit-instance model r e z are in_r in_e least) in
-    renewed-at places model changed r e before.limit z are in_r in_e before.least least alike terms c.in-Some.book c.in-Some-renewed.book before.book_at c.in-Some-renewed.ensures
+    let alike = c.in_ok-limited.ensures.facts d same in
+    let of_member : IsMemberOf changed.sets limit.member = subst (λ (sets : SetLists). IsMemberOf sets limit.member) (same.sets ∙ sym alike.sets) c.requires.limit.member in
+    let at = place-of changed.sets d limit.member alike.sets c.in_ok-limited.ensures.complete.sets of_member in
+    let before = rw c.in-Some.is at (c.requires.before d same) in
+    renewed-made c.args.places d changed limit.member.region limit.member.emission before.most limit.most at before.least c.requires.limit.most.0 alike c.in-Some.book c.in-Some-renewed.book before.made c.in-Some-renewed.ensures
 
 pub returns-in-Ok-clause-book : goal.returns-in-Ok-clause-book
-returns-in-Ok-clause-book c =
+returns-in-Ok-clause-book c = λ d same.
     let places = c.args.places in
-    let r = c.args.member.region in
-    let e = c.args.member.emission in
-    let z = c.args.limit in
-    let model = c.args.model.now.facts in
     let changed = c.in_ok-limited.limited.facts in
-    let with : AreDataWith MODEL_PERIOD_EMISSION_LIMIT (limit_names model r e) z model changed =
-    subst (λ (n : ℤ). AreDataWith MODEL_PERIOD_EMISSION_LIMIT (limit_names model r e) n model changed) (back_in_range z (limit-range z c.requires.limit)) c.in_ok-limited.ensures.changed.facts in
-    let alike : AreSameData changed (with_limit model r e z) = same-limited model model changed r e z (same-itself model) with in
-    let laws = c.same_data_laws.ensures in
-    let same_laws : SameLaws places changed (with_limit model r e z) = record { rows = laws.rows places changed (with_limit model r e z) alike; made = laws.made places changed (with_limit model r e z) alike; wide = laws.wide places changed (with_limit model r e z) alike; many = laws.many places changed (with_limit model r e z) alike } in
+    let alike = c.in_ok-limited.ensures.facts d same in
     let made = c.in-Ok.ensures in
     let rows = c.in-Ok.book.rows in
     let vars = c.in-Ok.book.vars in
-    let book : IsBookOf places changed rows vars = made-book places changed rows vars made.rows made.exist made.variables.ascending made.whole in
-    let listed : IsListedBook changed.sets rows vars = listed-book places changed rows vars made.rows made.exist made.named made.within in
-    made-at places changed model r e z alike same_laws c.in-Ok.book made.made book listed
+    same-made places changed (limited d c.args.limit) alike (same-laws places changed (limited d c.args.limit) alike) c.in-Ok.book (record {
+      made = made.made;
+      is_book = made-book places changed rows vars made.rows made.exist made.variables.ascending made.whole;
+      listed = listed-book places changed rows vars made.rows made.exist made.named made.within;
+    })
 
 pub returns-clause-stopped : goal.returns-clause-stopped
-returns-clause-stopped c =
-    let places = c.args.places in
-    let r = c.args.member.region in
-    let e = c.args.member.emission in
-    let z = c.args.limit in
+returns-clause-stopped c = λ d same. same-stops c.args.places c.in_ok-limited.limited.facts (limited d c.args.limit) (c.in_ok-limited.ensures.facts d same) c.in-Err.fail c.in-Err.ensures.stopped
+
+pub returns-clause-place : goal.returns-clause-place
+returns-clause-place c =
     let model = c.args.model.now.facts in
-    let changed = c.in_ok-limited.limited.facts in
-    let with : AreDataWith MODEL_PERIOD_EMISSION_LIMIT (limit_names model r e) z model changed =
-    subst (λ (n : ℤ). AreDataWith MODEL_PERIOD_EMISSION_LIMIT (limit_names model r e) n model changed) (back_in_range z (limit-range z c.requires.limit)) c.in_ok-limited.ensures.changed.facts in
-    let alike : AreSameData changed (with_limit model r e z) = same-limited model model changed r e z (same-itself model) with in
-    let laws = c.same_data_laws.ensures in
-    let same_laws : SameLaws places changed (with_limit model r e z) = record { rows = laws.rows places changed (with_limit model r e z) alike; made = laws.made places changed (with_limit model r e z) alike; wide = laws.wide places changed (with_limit model r e z) alike; many = laws.many places changed (with_limit model r e z) alike } in
-    stopped-at places changed model r e z same_laws c.in-Err.fail c.in-Err.ensures.stopped
+    subst (λ (sets : SetLists). NamesRowWithin sets c.in-Err.fail) (c.in_ok-limited.ensures.facts model (same-itself model)).sets c.in-Err.ensures.place

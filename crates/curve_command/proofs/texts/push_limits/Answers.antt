@@ -1,23 +1,11 @@
 -- Limit by limit.
-use Rattle.std.proofs.Common.{ℕ, List, ◌++◌, ◌+◌, drop, map, sym, subst, ap, ◌∙◌}
+use Rattle.std.proofs.Common.{ℕ, List, ◌++◌, ◌+◌, drop, map, ap, ◌∙◌}
 use Rattle.std.specs.List.{flat_map}
-use Rattle.command_words.specs.LimitLists.{IsLimit}
 use Rattle.curve_command.specs.CurveTexts.{limit_line}
-use Rattle.curve_command.specs.Outcomes.{PointIsWithin, found_seen}
+use Rattle.curve_command.specs.Outcomes.{found_seen}
 use Rattle.curve_command.specs.declared.trials.Found.{Found}
-use Rattle.curve_command.proofs.TextLaws.{each-at, lines-next}
+use Rattle.curve_command.proofs.TextLaws.{lines-next}
 use Rattle.curve_command.proofs.texts.push_limits.Goals as goal
-
-pub push_limit-requires-clause-within : goal.push_limit-requires-clause-within
-push_limit-requires-clause-within c =
-    let sets = c.args.sets.now in
-    subst (λ (f : Found). PointIsWithin sets f.point) (sym c.found-item.is)
-    (each-at (λ (f : Found). PointIsWithin sets f.point) c.args.all.now c.loop-found.found-index c.found-item.result c.requires.within c.loop-found-test.true)
-
-pub push_limit-requires-clause-limit : goal.push_limit-requires-clause-limit
-push_limit-requires-clause-limit c =
-    subst (λ (f : Found). IsLimit f.limit) (sym c.found-item.is)
-    (each-at (λ (f : Found). IsLimit f.limit) c.args.all.now c.loop-found.found-index c.found-item.result c.requires.limits c.loop-found-test.true)
 
 pub loop-found-preserved : goal.loop-found-preserved
 loop-found-preserved c =

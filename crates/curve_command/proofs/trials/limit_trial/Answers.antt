@@ -1,51 +1,35 @@
 -- Over the book of the model with the limit.
-use Rattle.std.proofs.Common.{ℤ, ◌∙◌, subst}
-use Rattle.exact_num.proofs.RangeLaws.{back_in_range}
-use Rattle.model_sets.specs.Data.{AreSameData, Data}
-use Rattle.model_sets.specs.Members.{AreSets}
+use Rattle.std.proofs.Common.{◌∙◌, subst}
+use Rattle.model_sets.specs.Members.{SetLists}
 use Rattle.row_core.specs.declared.RowName.{RowName}
-use Rattle.command_answers.proofs.SameData.{SameLaws}
-use Rattle.curve_command.specs.KeptRows.{HasNoBookAt, IsBookAt}
-use Rattle.curve_command.specs.Limited.{with_limit}
-use Rattle.curve_command.specs.Outcomes.{BookTells, wanted_of}
-use Rattle.curve_command.proofs.DataLaws.{emission-of, limit-range, region-of}
-use Rattle.curve_command.proofs.LimitedData.{limited-alike}
+use Rattle.curve_command.specs.KeptRows.{limit_of}
+use Rattle.curve_command.specs.Outcomes.{BookTells, FailTells, wanted_of}
+use Rattle.curve_command.proofs.LimitValues.{place-of}
 use Rattle.curve_command.proofs.TrialLaws.{book-told, fail-told}
 use Rattle.curve_command.proofs.trials.limit_trial.Goals as goal
 
-pub returns-in_ok-trial-in-Ok-clause-trial : goal.returns-in_ok-trial-in-Ok-clause-trial
-returns-in_ok-trial-in-Ok-clause-trial c = λ d same.
-    let places = c.args.places in
-    let r = c.args.member.region in
-    let e = c.args.member.emission in
-    let z = c.args.limit in
-    let model = c.args.model.now.facts in
+pub returns-in_ok-trial-in-Ok : goal.returns-in_ok-trial-in-Ok
+returns-in_ok-trial-in-Ok c = λ d same.
+    let limit = c.args.limit in
     let wanted = wanted_of c.args.wanted in
-    let one : Data = with_limit model r e z in
-    let other : Data = with_limit d r e z in
-    let alike : AreSameData one other = limited-alike model d r e z same in
-    let laws = c.same_data_laws.ensures in
-    let same_laws : SameLaws places one other = record { rows = laws.rows places one other alike; made = laws.made places one other alike; wide = laws.wide places one other alike; many = laws.many places one other alike } in
-    let are : AreSets d.sets = subst AreSets same.sets c.sets.ensures.complete.sets in
-    let kept : IsBookAt places model r e z c.in-Ok.book = subst (λ (n : ℤ). IsBookAt places model r e n c.in-Ok.book) (back_in_range z (limit-range z c.requires.limit)) c.in-Ok.ensures.book in
-    let told : BookTells c.sets.result.now c.in-Ok.book.rows c.in-Ok.book.vars _ wanted c.in_ok-trial-in-Ok.trial =
-    subst (λ (name : RowName). BookTells c.sets.result.now c.in-Ok.book.rows c.in-Ok.book.vars name wanted c.in_ok-trial-in-Ok.trial) c.limit_row.ensures c.in_ok-trial-in-Ok.ensures in
-    book-told places d one r e wanted z are (region-of model d same r c.requires.region) (emission-of model d same e c.requires.emission) alike same_laws c.in-Ok.book.rows c.in-Ok.book.vars
-    kept.made kept.is_book c.sets.result.now (c.sets.ensures.sets ∙ same.sets) c.in_ok-trial-in-Ok.trial told
+    let book = c.in-Ok.book in
+    let trial = c.in_ok-trial-in-Ok.trial in
+    let at = place-of c.args.model.now.facts.sets d limit.member same.sets c.sets.ensures.complete.sets c.requires.limit.member in
+    let made = c.in-Ok.ensures.book d same in
+    record {
+      trial = book-told c.args.places d limit wanted at c.requires.limit.most book made trial
+          (subst (λ (sets : SetLists). BookTells sets book (limit_of limit.member) wanted trial) (c.sets.ensures.sets ∙ same.sets)
+          (subst (λ (name : RowName). BookTells c.sets.result.now book name wanted trial) c.limit_row-row.ensures c.in_ok-trial-in-Ok.ensures));
+      book = record { most = limit.most; least = c.requires.limit.most.0; made = made };
+    }
 
-pub returns-in_ok-trial-in-Err-clause-trial : goal.returns-in_ok-trial-in-Err-clause-trial
-returns-in_ok-trial-in-Err-clause-trial c = λ d same.
-    let places = c.args.places in
-    let r = c.args.member.region in
-    let e = c.args.member.emission in
-    let z = c.args.limit in
-    let model = c.args.model.now.facts in
-    let one : Data = with_limit model r e z in
-    let other : Data = with_limit d r e z in
-    let alike : AreSameData one other = limited-alike model d r e z same in
-    let laws = c.same_data_laws.ensures in
-    let same_laws : SameLaws places one other = record { rows = laws.rows places one other alike; made = laws.made places one other alike; wide = laws.wide places one other alike; many = laws.many places one other alike } in
-    let are : AreSets d.sets = subst AreSets same.sets c.sets-in-Err.ensures.complete.sets in
-    let none : HasNoBookAt places model r e z c.in-Err.fail = subst (λ (n : ℤ). HasNoBookAt places model r e n c.in-Err.fail) (back_in_range z (limit-range z c.requires.limit)) c.in-Err.ensures.stopped in
-    fail-told places d one r e (wanted_of c.args.wanted) z are (region-of model d same r c.requires.region) (emission-of model d same e c.requires.emission) alike same_laws
-    c.sets-in-Err.result.now (c.sets-in-Err.ensures.sets ∙ same.sets) c.in-Err.fail none.stopped c.in_ok-trial-in-Err.trial c.in_ok-trial-in-Err.ensures
+pub returns-in_ok-trial-in-Err : goal.returns-in_ok-trial-in-Err
+returns-in_ok-trial-in-Err c = λ d same.
+    let limit = c.args.limit in
+    let trial = c.in_ok-trial-in-Err.trial in
+    let at = place-of c.args.model.now.facts.sets d limit.member same.sets c.sets-in-Err.ensures.complete.sets c.requires.limit.member in
+    record {
+      trial = fail-told c.args.places d limit (wanted_of c.args.wanted) at c.requires.limit.most c.in-Err.fail (c.in-Err.ensures.stopped d same) trial
+          (subst (λ (sets : SetLists). FailTells sets c.in-Err.fail trial) (c.sets-in-Err.ensures.sets ∙ same.sets) c.in_ok-trial-in-Err.ensures);
+      book = tt;
+    }

@@ -1,73 +1,63 @@
 -- Limit by limit.
-use Rattle.std.proofs.Common.{◌≡◌, ◌+◌, ◌++◌, ◌∷◌, [], List, ℤ, pos, map, drop, get_or, refl, sym, ap, ap₂, ◌∙◌, subst, append-nil}
+use Rattle.std.proofs.Common.{◌≡◌, ◌+◌, ◌++◌, ◌∷◌, [], List, ℤ, pos, map, drop, get_or, refl, sym, ap, ◌∙◌, subst, append-nil}
 use Rattle.std.proofs.lemmas.List.{drop_all}
 use Rattle.std.specs.List.{AllByRecursion}
-use Rattle.exact_num.specs.Range.{InRange}
-use Rattle.exact_num.proofs.RangeLaws.{back_in_range}
 use Rattle.command_words.specs.LimitLists.{IsLimit}
-use Rattle.emission_curve.specs.declared.point.Point.{Point}
+use Rattle.model_sets.specs.Data.{AreSameData, Data}
+use Rattle.row_book.proofs.Lists.{AllByRecursion-append}
 use Rattle.curve_command.specs.Curve.{limits_in}
-use Rattle.curve_command.specs.Outcomes.{PointIsWithin, TrialTells, found_seen, wanted_of}
-use Rattle.curve_command.specs.Trials.{IsTrialOf}
+use Rattle.curve_command.specs.Outcomes.{IsFoundOf, TriedTells, found_seen, wanted_of}
 use Rattle.curve_command.specs.declared.trials.Found.{Found}
-use Rattle.curve_command.proofs.DataLaws.{limit-range}
+use Rattle.curve_command.specs.declared.trials.Limit.{Limit}
+use Rattle.curve_command.proofs.LimitValues.{limit-fits}
 use Rattle.curve_command.proofs.TextLaws.{each-at}
-use Rattle.curve_command.proofs.TrialLists.{all-more, limits-next, limits-split}
+use Rattle.curve_command.proofs.TrialLists.{limits-next, limits-split, trials-of}
 use Rattle.curve_command.proofs.trials.trials.Goals as goal
 
 pub returns-in-Refused : goal.returns-in-Refused
 returns-in-Refused c = λ d same.
-    let inv = c.loop-limit.invariant in
     let limits : List ℤ = c.args.limits.now in
-    let i = c.loop-limit.limit-index in
-    let z : ℤ = get_or limits i (pos 0) in
-    let fits : InRange z = limit-range z (each-at IsLimit limits i (pos 0) c.requires.limits c.loop-limit-test.true) in
-    let told =
-    subst (TrialTells c.args.places d c.args.member.region c.args.member.emission (wanted_of c.args.wanted) z) c.in-Refused.is
-    (subst (λ (n : ℤ). TrialTells c.args.places d c.args.member.region c.args.member.emission (wanted_of c.args.wanted) n c.in_ok-trial.field-0.trial) (back_in_range z fits) (c.in_ok-trial.ensures.trial d same)) in
+    let i = c.loop-most.most-index in
+    let all = c.loop-most.all.items in
+    let wanted = wanted_of c.args.wanted in
+    let limit : Limit = record { member = c.args.member; most = get_or limits i (pos 0) } in
+    let fits = limit-fits limit.most (each-at IsLimit limits i (pos 0) c.requires.limits c.loop-most-test.true) in
+    let told = subst (λ (n : ℤ). TriedTells c.args.places d (record { member = c.args.member; most = n }) wanted c.in_ok-trial.field-0) fits (c.in_ok-trial.ensures d same) in
     record {
-      earlier = c.loop-limit.all.items;
-      limit = z;
+      earlier = map found_seen all;
+      limit = limit.most;
       later = drop (i + 1) limits;
-      split = limits-split c.loop-limit.all.items limits i (pos 0) c.loop-limit-test.true inv.whole;
-      trials = inv.trials d same;
-      refuses = told;
+      split = limits-split all limits i (pos 0) c.loop-most-test.true c.loop-most.invariant.whole;
+      trials = trials-of c.args.places d c.args.member wanted all (c.loop-most.invariant.found d same);
+      refuses = rw c.in-Refused.is at told.trial;
     }
 
-pub loop-limit-preserved : goal.loop-limit-preserved
-loop-limit-preserved c =
-    let inv = c.loop-limit.invariant in
-    let all = c.loop-limit.all.items in
+pub loop-most-preserved : goal.loop-most-preserved
+loop-most-preserved c =
+    let inv = c.loop-most.invariant in
     let limits : List ℤ = c.args.limits.now in
-    let i = c.loop-limit.limit-index in
-    let z : ℤ = get_or limits i (pos 0) in
-    let fits : InRange z = limit-range z (each-at IsLimit limits i (pos 0) c.requires.limits c.loop-limit-test.true) in
-    let found : Found = record { limit = z; point = c.in-Ended.point } in
-    let made : c.found_at.result ≡ found = ap₂ (λ (n : ℤ) (point : Point). record { limit = n; point = point }) (c.found_at.ensures.limit ∙ back_in_range z fits) c.found_at.ensures.point in
-    let pushed : c.push.new.self.items ≡ all ++ found ∷ [] = c.in_ok-push-in-Ended.ensures.items ∙ ap (λ (f : Found). all ++ f ∷ []) made in
+    let i = c.loop-most.most-index in
+    let all = c.loop-most.all.items in
+    let wanted = wanted_of c.args.wanted in
+    let limit : Limit = record { member = c.args.member; most = get_or limits i (pos 0) } in
+    let found : Found = record { limit = limit.most; point = c.in-Ended.point } in
+    let fits = limit-fits limit.most (each-at IsLimit limits i (pos 0) c.requires.limits c.loop-most-test.true) in
+    let pushed : c.push.new.self.items ≡ all ++ found ∷ [] = c.in_ok-push-in-Ended.ensures.items ∙ ap (λ (n : ℤ). all ++ record { limit = n; point = c.in-Ended.point } ∷ []) fits in
+    let told : (d : Data) → AreSameData c.args.model.now.facts d → TriedTells c.args.places d limit wanted c.in_ok-trial.field-0 =
+    λ d same. subst (λ (n : ℤ). TriedTells c.args.places d (record { member = c.args.member; most = n }) wanted c.in_ok-trial.field-0) fits (c.in_ok-trial.ensures d same) in
     record {
-      whole = ap (λ (fs : List Found). limits_in (map found_seen fs) ++ drop (i + 1) limits) pushed ∙ limits-next all found limits i (pos 0) c.loop-limit-test.true refl inv.whole;
-      trials = λ d same.
-          let told =
-          subst (TrialTells c.args.places d c.args.member.region c.args.member.emission (wanted_of c.args.wanted) z) c.in-Ended.is
-          (subst (λ (n : ℤ). TrialTells c.args.places d c.args.member.region c.args.member.emission (wanted_of c.args.wanted) n c.in_ok-trial.field-0.trial) (back_in_range z fits) (c.in_ok-trial.ensures.trial d same)) in
-          subst (AllByRecursion (λ (f : Found). IsTrialOf c.args.places d c.args.member.region c.args.member.emission (wanted_of c.args.wanted) (found_seen f))) (sym pushed)
-          (all-more (λ (f : Found). IsTrialOf c.args.places d c.args.member.region c.args.member.emission (wanted_of c.args.wanted) (found_seen f)) all found (inv.trials d same) told.0);
-      kept = c.in_ok-trial.ensures.book;
-      within = λ d same.
-          let told =
-          subst (TrialTells c.args.places d c.args.member.region c.args.member.emission (wanted_of c.args.wanted) z) c.in-Ended.is
-          (subst (λ (n : ℤ). TrialTells c.args.places d c.args.member.region c.args.member.emission (wanted_of c.args.wanted) n c.in_ok-trial.field-0.trial) (back_in_range z fits) (c.in_ok-trial.ensures.trial d same)) in
-          subst (AllByRecursion (λ (f : Found). PointIsWithin d.sets f.point)) (sym pushed) (all-more (λ (f : Found). PointIsWithin d.sets f.point) all found (inv.within d same) told.1);
+      whole = ap (λ (fs : List Found). limits_in (map found_seen fs) ++ drop (i + 1) limits) pushed ∙ limits-next all found limits i (pos 0) c.loop-most-test.true refl inv.whole;
+      found = λ d same.
+          subst (AllByRecursion (IsFoundOf c.args.places d c.args.member wanted)) (sym pushed)
+          (AllByRecursion-append (IsFoundOf c.args.places d c.args.member wanted) all (found ∷ []) (inv.found d same)
+          (rw c.in-Ended.is at (told d same).trial, tt));
+      kept = λ d same. (told d same).book;
     }
 
 pub returns : goal.returns
 returns c = λ d same.
-    let inv = c.loop-limit.invariant in
-    let all = c.loop-limit.all.items in
+    let seen : List ℤ = limits_in (map found_seen c.loop-most.all.items) in
     record {
-      whole = sym (append-nil (limits_in (map found_seen all)))
-          ∙ ap (λ (zs : List ℤ). limits_in (map found_seen all) ++ zs) (sym (drop_all c.loop-limit.limit-index c.args.limits.now c.loop-limit-test.false)) ∙ inv.whole;
-      trials = inv.trials d same;
-      within = inv.within d same;
+      whole = sym (append-nil seen) ∙ ap (λ (zs : List ℤ). seen ++ zs) (sym (drop_all c.loop-most.most-index c.args.limits.now c.loop-most-test.false)) ∙ c.loop-most.invariant.whole;
+      found = c.loop-most.invariant.found d same;
     }

@@ -1,8 +1,11 @@
 -- The choice so far, and the rows that are left.
-use Rattle.std.proofs.Common.{◌≡◌, None, drop}
-use Rattle.decimal_solver.specs.Rounds.{leaving_from}
+use Rattle.std.proofs.Common.{None, ℕ, Option, drop}
+use Rattle.std.specs.List.{fold}
+use Rattle.decimal_solver.specs.Folds.{IsFolded}
+use Rattle.decimal_solver.specs.Rounds.{Candidate, with_candidate}
 use Rattle.decimal_solver.specs.Views.{chosen_seen, rows_seen}
 use Rattle.decimal_solver.proofs.choosing.leaving_from.Given as goal
 
 abbrev pub invariant-loop-row : goal.invariant-loop-row
-invariant-loop-row l = leaving_from l.x0 l.column 0 None (rows_seen l.rows) ≡ leaving_from l.x0 l.column l.row (chosen_seen l.chosen) (rows_seen (drop l.row l.rows))
+invariant-loop-row l =
+    IsFolded {S = ℕ × Option Candidate} (fold (with_candidate l.x0 l.column) (0, None) (rows_seen l.rows)) (with_candidate l.x0 l.column) (l.row, chosen_seen l.chosen) (rows_seen (drop l.row l.rows))

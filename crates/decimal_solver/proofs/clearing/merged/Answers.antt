@@ -1,5 +1,5 @@
 -- A number that doesn't fit is one of the whole.
-use Rattle.std.proofs.Common.{◌≡◌, ℤ, [], drop, sym, ap, ◌∙◌, to_z, of_z}
+use Rattle.std.proofs.Common.{[], ◌≡◌, ℤ, drop, sym, ap, ◌∙◌, to_z, of_z}
 use Rattle.std.specs.Int.{w128}
 use Rattle.std.proofs.lemmas.Int.{to_z-of_z}
 use Rattle.std.proofs.lemmas.Result.{err_from_is_err_and}

@@ -1,9 +1,10 @@
--- The entries so far, and those that are left.
-use Rattle.std.proofs.Common.{◌≡◌, [], drop}
-use Rattle.decimal_solver.specs.Lines.{scaled_entries}
+-- The entries so far, and what is left of the line.
+use Rattle.std.proofs.Common.{[], drop}
+use Rattle.decimal_solver.specs.Folds.{IsLeft}
+use Rattle.decimal_solver.specs.Lines.{scaled_entries, with_scaled}
 use Rattle.decimal_solver.specs.Views.{entries_seen}
 use Rattle.decimal_solver.proofs.clearing.scaled_entries.Given as goal
 
 abbrev pub invariant-loop-entry : goal.invariant-loop-entry
 invariant-loop-entry l =
-    scaled_entries l.f l.d l.limit [] (entries_seen l.entries) ≡ scaled_entries l.f l.d l.limit (entries_seen l.made.items) (entries_seen (drop l.entry-index l.entries))
+    IsLeft (scaled_entries l.f l.d l.limit [] (entries_seen l.entries)) (with_scaled l.f l.d l.limit) (entries_seen l.made.items) (entries_seen (drop l.entry-index l.entries))

@@ -1,10 +1,11 @@
 -- The values so far, and the rows that are left.
-use Rattle.std.proofs.Common.{◌≡◌, map, pos, replicate, drop}
+use Rattle.std.proofs.Common.{pos, map, replicate, drop}
 use Rattle.exact_num.specs.Rational.{whole}
 use Rattle.exact_num.specs.Value.{value_of}
-use Rattle.decimal_solver.specs.Ends.{column_values}
+use Rattle.decimal_solver.specs.Ends.{column_values, with_basic}
+use Rattle.decimal_solver.specs.Folds.{IsFolded}
 use Rattle.decimal_solver.specs.Views.{rows_seen}
 use Rattle.decimal_solver.proofs.ending.column_values.Given as goal
 
 abbrev pub invariant-loop-row : goal.invariant-loop-row
-invariant-loop-row l = column_values (replicate l.columns (whole (pos 0))) (rows_seen l.rows) ≡ column_values (map value_of l.values.items) (rows_seen (drop l.row-index l.rows))
+invariant-loop-row l = IsFolded (column_values (replicate l.columns (whole (pos 0))) (rows_seen l.rows)) with_basic (map value_of l.values.items) (rows_seen (drop l.row-index l.rows))

@@ -1,12 +1,13 @@
 -- The multipliers so far, and the rows that are left.
-use Rattle.std.proofs.Common.{◌≡◌, ◌+◌, [], map, drop, length}
+use Rattle.std.proofs.Common.{[], ◌≡◌, map, drop, length}
 use Rattle.exact_num.specs.Value.{value_of}
-use Rattle.decimal_solver.specs.Ends.{row_multipliers}
+use Rattle.decimal_solver.specs.Ends.{row_multipliers, with_multiplier}
+use Rattle.decimal_solver.specs.Folds.{IsLeft}
 use Rattle.decimal_solver.specs.Views.{number_seen, rows_seen}
 use Rattle.decimal_solver.proofs.ending.row_multipliers.Given as goal
 
 abbrev pub invariant-loop-position : goal.invariant-loop-position
 invariant-loop-position l = record {
-  same : row_multipliers (map number_seen l.numbers) l.first [] (rows_seen l.rows) ≡ row_multipliers (map number_seen l.numbers) (l.first + l.position) (map value_of l.made.items) (rows_seen (drop l.position l.rows));
+  same : IsLeft (row_multipliers (map number_seen l.numbers) l.first [] (rows_seen l.rows)) (with_multiplier (map number_seen l.numbers) l.first) (map value_of l.made.items) (rows_seen (drop l.position l.rows));
   counted : length l.made.items ≡ l.position;
 }

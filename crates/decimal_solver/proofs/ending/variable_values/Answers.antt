@@ -1,5 +1,5 @@
 -- One variable after another.
-use Rattle.std.proofs.Common.{◌≡◌, ℕ, ◌+◌, ◌++◌, Bool, true, false, List, [], ◌∷◌, Some, map, get_or, drop, sym, ap, ap₂, ◌∙◌, subst, arith, append-nil, if◌then◌else◌}
+use Rattle.std.proofs.Common.{◌≡◌, ℕ, ◌+◌, ◌++◌, Bool, true, false, List, [], ◌∷◌, Option, refl, Some, map, get_or, drop, sym, ap, ap₂, ◌∙◌, subst, arith, append-nil, if◌then◌else◌}
 use Rattle.std.proofs.lemmas.List.{append_assoc, at_drop_all, get_or_default, map-append}
 use Rattle.std.proofs.lemmas.Result.{err_from_is_err_and}
 use Rattle.exact_num.specs.declared.fraction.Frac.{Frac}
@@ -14,9 +14,11 @@ use Rattle.written_method.specs.FirstTableau.{width_of}
 use Rattle.written_method.specs.Programs.{is_split}
 use Rattle.int_tableau.specs.Starts.{after_columns}
 use Rattle.int_tableau.proofs.LoopLaws.{no_variable, width-step}
-use Rattle.decimal_solver.specs.Ends.{variable_value, variable_values}
+use Rattle.decimal_solver.specs.Ends.{variable_value, variable_values, with_value}
+use Rattle.decimal_solver.specs.Folds.{folded}
 use Rattle.decimal_solver.specs.Numbers.{and_then}
-use Rattle.decimal_solver.proofs.EndLaws.{keys-append, keys-valued, variables-end, variables-step}
+use Rattle.decimal_solver.proofs.EndLaws.{keys-append, keys-valued}
+use Rattle.decimal_solver.proofs.FoldLaws.{left-next, left-stop, plain-at, plain-end}
 use Rattle.decimal_solver.proofs.Nothing.{nothing-later}
 use Rattle.decimal_solver.proofs.ending.variable_values.Goals as goal
 
@@ -25,19 +27,16 @@ sum_of true c = omega arith
 sum_of false c = omega arith
 
 pub returns-in_err-variable_value-clause-nothing : goal.returns-in_err-variable_value-clause-nothing
+unfolding variable_values
 returns-in_err-variable_value-clause-nothing c =
     let values : List Rational = map value_of c.args.values.now in
     let vs = c.args.variables.now in
-    let i = c.loop-variable.variable-index in
-    let v = get_or vs i no_variable in
-    let column = c.loop-variable.column in
-    let made : List (Var × Rational) = map valued c.loop-variable.made.items in
+    let stop = c.in_err-variable_value.field-0.0 in
+    let here = plain-at vs c.loop-variable.variable-index no_variable c.loop-variable-test.true c.loop-variable.invariant.same in
     let q = err_from_is_err_and c.from_residual-in_err-variable_value.result c.from_residual-in_err-variable_value.ensures.1 in
     rw (q.1, q.2)
-    (nothing-later (variable_value values column v) (variable_values values 0 [] vs) c.in_err-variable_value.field-0.0
-    (λ h. c.loop-variable.invariant.same ∙ variables-step values column made vs i v c.loop-variable-test.true (get_or_default vs i no_variable v c.loop-variable-test.true)
-    ∙ ap (λ o. and_then o (λ x. variable_values values (after_columns (is_split v) column) (made ++ (v, x) ∷ []) (drop (i + 1) vs))) h)
-    c.in_err-variable_value.ensures.nothing)
+    (nothing-later (folded {S = ℕ × List (Var × Rational)} (with_value values) (0, []) vs) (variable_values values 0 [] vs) stop (λ h. rw h refl)
+    (left-stop here (variable_value values c.loop-variable.column (get_or vs c.loop-variable.variable-index no_variable)) stop (λ h. rw h refl) c.in_err-variable_value.ensures.nothing))
 
 pub loop-variable-preserved : goal.loop-variable-preserved
 loop-variable-preserved c =
@@ -52,11 +51,8 @@ loop-variable-preserved c =
     let pushed : map valued c.push.new.self.items ≡ made ++ (v, value_of x) ∷ [] = ap (λ (xs : List (Var × Frac)). map valued xs) c.in_ok-push.ensures.items ∙ map-append valued c.loop-variable.made.items ((v, x) ∷ []) in
     let next : c.column_after-column.result ≡ after_columns (is_split v) column = c.column_after-column.ensures ∙ sum_of (is_split v) column in
     record {
-      same =
-          c.loop-variable.invariant.same
-          ∙ variables-step values column made vs i v c.loop-variable-test.true is
-          ∙ ap (λ o. and_then o (λ x. variable_values values (after_columns (is_split v) column) (made ++ (v, x) ∷ []) (drop (i + 1) vs))) c.in_ok-variable_value.ensures.value
-          ∙ ap₂ (λ k m. variable_values values k m (drop (i + 1) vs)) (sym next) (sym pushed);
+      same = left-next (plain-at vs i no_variable c.loop-variable-test.true c.loop-variable.invariant.same)
+          (rw c.in_ok-variable_value.ensures.value (ap₂ {C = Option (ℕ × List (Var × Rational))} (λ k m. Some (k, m)) (sym next) (sym pushed)));
       keys =
           c.loop-variable.invariant.keys
           ∙ ap (λ (ws : List Var). keys_of made ++ ws) (drop_at vs i v c.loop-variable-test.true is)
@@ -77,8 +73,7 @@ of-requires c =
     subst (λ (ws : List Var). ascends var_cmp ws ≡ true) keys c.requires.ascending
 
 pub returns-clause-value : goal.returns-clause-value
+unfolding variable_values
 returns-clause-value c =
-    let items : List (Var × Frac) = c.loop-variable.made.items in
-    c.loop-variable.invariant.same
-    ∙ variables-end (map value_of c.args.values.now) c.loop-variable.column (map valued items) c.args.variables.now c.loop-variable.variable-index (omega (arith, c.loop-variable-test.false))
+    ap (λ (o : Option (ℕ × List (Var × Rational))). and_then o (λ s. Some s.1)) (plain-end c.args.variables.now c.loop-variable.variable-index (omega (arith, c.loop-variable-test.false)) c.loop-variable.invariant.same)
     ∙ ap Some (sym c.of.ensures)

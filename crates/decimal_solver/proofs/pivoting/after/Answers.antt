@@ -1,18 +1,19 @@
 -- The parts of a pivot, one after another.
-use Rattle.std.proofs.Common.{◌≡◌, ◌<◌, ◌+◌, ◌-◌, ℕ, suc, List, Some, if◌then◌else◌, length, get_or, sym, ap, ap₂, ◌∙◌, arith, refl, to_z, of_z}
+use Rattle.std.proofs.Common.{◌≡◌, ◌<◌, ◌+◌, ◌-◌, ℕ, ℤ, suc, [], List, Option, None, Some, if◌then◌else◌, length, get_or, sym, ap, ap₂, ◌∙◌, arith, refl, to_z, of_z}
 use Rattle.std.specs.Int.{w128}
 use Rattle.std.proofs.lemmas.List.{get_or-map, length-map}
 use Rattle.std.proofs.lemmas.Result.{err_from_is_err_and}
 use Rattle.exact_num.proofs.RangeLaws.{back_in_range}
 use Rattle.decimal_solver.specs.declared.states.Entry.{Entry}
 use Rattle.decimal_solver.specs.declared.states.GridRow.{GridRow}
+use Rattle.decimal_solver.specs.declared.states.State.{State}
 use Rattle.decimal_solver.specs.Lines.{Line, cleared, pivot_line}
-use Rattle.decimal_solver.specs.Rounds.{after, columns_after, factor_in, no_row, phase_by, row_at, x0_leaves}
+use Rattle.decimal_solver.specs.Rounds.{after, columns_after, factor_in, no_row, others_cleared, phase_by, row_at, x0_leaves}
 use Rattle.decimal_solver.specs.States as states
 use Rattle.decimal_solver.specs.States.{Phase, Start, One, Two}
-use Rattle.decimal_solver.specs.Views.{entries_seen, line_seen, row_seen, rows_seen, state_seen}
+use Rattle.decimal_solver.specs.Views.{entries_seen, line_seen, phase_seen, row_seen, rows_seen, state_seen}
 use Rattle.decimal_solver.proofs.Nothing.{nothing-later}
-use Rattle.decimal_solver.proofs.RunLaws.{after-beyond, after-is, after-made, after-no_cost, after-no_pivot, after-no_rows, rows-pivot}
+use Rattle.decimal_solver.proofs.RunLaws.{after-beyond, rows-pivot, same-state}
 use Rattle.decimal_solver.proofs.pivoting.after.Goals as goal
 use Rattle.decimal_solver.proofs.pivoting.after.Goals.{then-leaves, else-leaves, then-leaves-2, else-leaves-2}
 
@@ -29,18 +30,20 @@ pub returns-then-row-len-clause-nothing : goal.returns-then-row-len-clause-nothi
 returns-then-row-len-clause-nothing c =
     after-beyond (state_seen c.args.state) c.args.row c.args.column (omega (arith, length-map c.args.state.rows.items row_seen, c.len.ensures, c.if-row-len.true))
 
+-- and the new line of that row
+pivot-found : (state : State) (r k : ℕ) (row : GridRow) (f : ℤ) (o : Option Line) → r < length state.rows.items → row ≡ get_or state.rows.items r row → f ≡ factor_in (phase_seen state.phase)
+    → pivot_line (to_z w128 (of_z w128 f)) k state.columns (line_seen row.line) ≡ o → pivot_line (factor_in (phase_seen state.phase)) k state.columns (row_at (rows_seen state.rows.items) r).line ≡ o
+pivot-found state r k row f o within is e h =
+    ap₂ (λ f (x : states.GridRow). pivot_line f k state.columns x.line) (sym (ap (λ z. to_z w128 (of_z w128 z)) e ∙ factor-back (phase_seen state.phase))) (row-is state.rows.items r row within is) ∙ h
+
 pub returns-in_err-pivot-clause-nothing : goal.returns-in_err-pivot-clause-nothing
 returns-in_err-pivot-clause-nothing c =
-    let s : states.State = state_seen c.args.state in
     let r = c.args.row in
     let k = c.args.column in
-    let within : r < length c.args.state.rows.items = omega (arith, c.len.ensures, c.if-row-len.false) in
-    let factor : to_z w128 (of_z w128 c.factor_in.result) ≡ factor_in s.phase = ap (λ z. to_z w128 (of_z w128 z)) c.factor_in.ensures ∙ factor-back s.phase in
-    let row : row_at s.rows r ≡ row_seen c.index.result.now = row-is c.args.state.rows.items r c.index.result.now within c.index.ensures in
     let q = err_from_is_err_and c.from_residual.result c.from_residual.ensures.1 in
     rw (q.1, q.2)
-    (nothing-later _ (after s r k) c.in_err-pivot.field-0.0
-    (λ h. after-no_pivot s r k (ap₂ (λ f (x : states.GridRow). pivot_line f k s.columns x.line) (sym factor) row ∙ h)) c.in_err-pivot.ensures.nothing)
+    (nothing-later _ (after (state_seen c.args.state) r k) c.in_err-pivot.field-0.0
+    (λ h. rw (pivot-found c.args.state r k c.index.result.now c.factor_in.result None (omega (arith, c.len.ensures, c.if-row-len.false)) c.index.ensures c.factor_in.ensures h) refl) c.in_err-pivot.ensures.nothing)
 
 pub returns-in_err-clear_others-clause-nothing : goal.returns-in_err-clear_others-clause-nothing
 returns-in_err-clear_others-clause-nothing c =
@@ -48,14 +51,9 @@ returns-in_err-clear_others-clause-nothing c =
     let r = c.args.row in
     let k = c.args.column in
     let pivot : Line = line_seen c.in_ok-pivot.pivot in
-    let within : r < length c.args.state.rows.items = omega (arith, c.len.ensures, c.if-row-len.false) in
-    let factor : to_z w128 (of_z w128 c.factor_in.result) ≡ factor_in s.phase = ap (λ z. to_z w128 (of_z w128 z)) c.factor_in.ensures ∙ factor-back s.phase in
-    let row : row_at s.rows r ≡ row_seen c.index.result.now = row-is c.args.state.rows.items r c.index.result.now within c.index.ensures in
-    let pivot_is : pivot_line (factor_in s.phase) k s.columns (row_at s.rows r).line ≡ Some pivot =
-    ap₂ (λ f (x : states.GridRow). pivot_line f k s.columns x.line) (sym factor) row ∙ c.in_ok-pivot.ensures.value in
+    let pivot_is = pivot-found c.args.state r k c.index.result.now c.factor_in.result (Some pivot) (omega (arith, c.len.ensures, c.if-row-len.false)) c.index.ensures c.factor_in.ensures c.in_ok-pivot.ensures.value in
     let q = err_from_is_err_and c.from_residual-in_err-clear_others.result c.from_residual-in_err-clear_others.ensures.1 in
-    rw (q.1, q.2)
-    (nothing-later _ (after s r k) c.in_err-clear_others.field-0.0 (λ h. after-no_rows s r k pivot pivot_is h) c.in_err-clear_others.ensures.nothing)
+    rw (q.1, q.2) (nothing-later (others_cleared r k pivot [] s.rows) (after s r k) c.in_err-clear_others.field-0.0 (λ h. rw (pivot_is, h) refl) c.in_err-clear_others.ensures.nothing)
 
 pub returns-in_err-clear-clause-nothing : goal.returns-in_err-clear-clause-nothing
 returns-in_err-clear-clause-nothing c =
@@ -63,14 +61,9 @@ returns-in_err-clear-clause-nothing c =
     let r = c.args.row in
     let k = c.args.column in
     let pivot : Line = line_seen c.in_ok-pivot.pivot in
-    let within : r < length c.args.state.rows.items = omega (arith, c.len.ensures, c.if-row-len.false) in
-    let factor : to_z w128 (of_z w128 c.factor_in.result) ≡ factor_in s.phase = ap (λ z. to_z w128 (of_z w128 z)) c.factor_in.ensures ∙ factor-back s.phase in
-    let row : row_at s.rows r ≡ row_seen c.index.result.now = row-is c.args.state.rows.items r c.index.result.now within c.index.ensures in
-    let pivot_is : pivot_line (factor_in s.phase) k s.columns (row_at s.rows r).line ≡ Some pivot =
-    ap₂ (λ f (x : states.GridRow). pivot_line f k s.columns x.line) (sym factor) row ∙ c.in_ok-pivot.ensures.value in
+    let pivot_is = pivot-found c.args.state r k c.index.result.now c.factor_in.result (Some pivot) (omega (arith, c.len.ensures, c.if-row-len.false)) c.index.ensures c.factor_in.ensures c.in_ok-pivot.ensures.value in
     let q = err_from_is_err_and c.from_residual-in_err-clear.result c.from_residual-in_err-clear.ensures.1 in
-    rw (q.1, q.2)
-    (nothing-later (cleared k pivot s.cost) (after s r k) c.in_err-clear.field-0.0 (λ h. after-no_cost s r k pivot (rows_seen c.clear_others.new.rows.items) pivot_is c.in_ok-clear_others.ensures.value h) c.in_err-clear.ensures.nothing)
+    rw (q.1, q.2) (nothing-later (cleared k pivot s.cost) (after s r k) c.in_err-clear.field-0.0 (λ h. rw (pivot_is, c.in_ok-clear_others.ensures.value, h) refl) c.in_err-clear.ensures.nothing)
 
 pub returns-in_err-clear-2-clause-nothing : goal.returns-in_err-clear-2-clause-nothing
 returns-in_err-clear-2-clause-nothing c =
@@ -78,15 +71,10 @@ returns-in_err-clear-2-clause-nothing c =
     let r = c.args.row in
     let k = c.args.column in
     let pivot : Line = line_seen c.in_ok-pivot.pivot in
-    let within : r < length c.args.state.rows.items = omega (arith, c.len.ensures, c.if-row-len.false) in
-    let factor : to_z w128 (of_z w128 c.factor_in.result) ≡ factor_in s.phase = ap (λ z. to_z w128 (of_z w128 z)) c.factor_in.ensures ∙ factor-back s.phase in
-    let row : row_at s.rows r ≡ row_seen c.index.result.now = row-is c.args.state.rows.items r c.index.result.now within c.index.ensures in
-    let pivot_is : pivot_line (factor_in s.phase) k s.columns (row_at s.rows r).line ≡ Some pivot =
-    ap₂ (λ f (x : states.GridRow). pivot_line f k s.columns x.line) (sym factor) row ∙ c.in_ok-pivot.ensures.value in
+    let pivot_is = pivot-found c.args.state r k c.index.result.now c.factor_in.result (Some pivot) (omega (arith, c.len.ensures, c.if-row-len.false)) c.index.ensures c.factor_in.ensures c.in_ok-pivot.ensures.value in
     let q = err_from_is_err_and c.from_residual-in_err-clear-2.result c.from_residual-in_err-clear-2.ensures.1 in
     rw (q.1, q.2)
-    (nothing-later (cleared k pivot s.artificial) (after s r k) c.in_err-clear-2.field-0.0
-    (λ h. after-is s r k pivot (rows_seen c.clear_others.new.rows.items) (Some (line_seen c.clear.new.line)) _ pivot_is c.in_ok-clear_others.ensures.value c.in_ok-clear.ensures.value h) c.in_err-clear-2.ensures.nothing)
+    (nothing-later (cleared k pivot s.artificial) (after s r k) c.in_err-clear-2.field-0.0 (λ h. rw (pivot_is, c.in_ok-clear_others.ensures.value, c.in_ok-clear.ensures.value, h) refl) c.in_err-clear-2.ensures.nothing)
 
 next : (n : ℕ) → n + 1 ≡ suc n
 next n = omega arith
@@ -98,13 +86,9 @@ returns-clause-value c =
     let r = c.args.row in
     let k = c.args.column in
     let pivot : Line = line_seen c.in_ok-pivot.pivot in
-    let cleared_rows : List states.GridRow = rows_seen c.clear_others.new.rows.items in
     let artificial : Line = line_seen c.clear-2.new.line in
     let within : r < length items = omega (arith, c.len.ensures, c.if-row-len.false) in
-    let factor : to_z w128 (of_z w128 c.factor_in.result) ≡ factor_in s.phase = ap (λ z. to_z w128 (of_z w128 z)) c.factor_in.ensures ∙ factor-back s.phase in
-    let row : row_at s.rows r ≡ row_seen c.index.result.now = row-is items r c.index.result.now within c.index.ensures in
-    let pivot_is : pivot_line (factor_in s.phase) k s.columns (row_at s.rows r).line ≡ Some pivot =
-    ap₂ (λ f (x : states.GridRow). pivot_line f k s.columns x.line) (sym factor) row ∙ c.in_ok-pivot.ensures.value in
+    let pivot_is = pivot-found c.args.state r k c.index.result.now c.factor_in.result (Some pivot) within c.index.ensures c.factor_in.ensures c.in_ok-pivot.ensures.value in
     let scale : to_z w128 (of_z w128 c.index-2.result.now.scale) ≡ (row_at s.rows r).scale =
     back_in_range c.index-2.result.now.scale c.index-2.result.now.scale_fits ∙ ap (λ (x : states.GridRow). x.scale) (sym (row-is items r c.index-2.result.now within c.index-2.ensures)) in
     let leaves : c.x0_leaves-leaves.result ≡ x0_leaves s r = c.x0_leaves-leaves.ensures in
@@ -120,10 +104,11 @@ returns-clause-value c =
       | then-leaves-2 w ↦ w.result-is ∙ w.saturating_sub.ensures ∙ ap (λ t. if t then s.columns - 1 else s.columns) (sym (sym leaves ∙ w.if-leaves-2.true))
       | else-leaves-2 w ↦ w.result-is ∙ ap (λ t. if t then s.columns - 1 else s.columns) (sym (sym leaves ∙ w.if-leaves-2.false))
     ] in
-    after-made s r k pivot cleared_rows (line_seen c.clear.new.line) artificial pivot_is c.in_ok-clear_others.ensures.value c.in_ok-clear.ensures.value c.in_ok-clear-2.ensures.value _ _ _ _ _ _
+    rw (pivot_is, c.in_ok-clear_others.ensures.value, c.in_ok-clear.ensures.value, c.in_ok-clear-2.ensures.value)
+    (same-state _ _ _ _ _ _ _ _ _ _ _ _ _ _
     (rows-pivot c.clear_others.new.rows.items r _ k pivot (row_at s.rows r).scale (ap {B = states.GridRow} (λ z. record { line = pivot; basic = k; scale = z }) scale))
     new_artificial
     (c.phase_after.ensures ∙ ap (λ t. phase_by s.phase t) leaves)
     new_columns
     (next c.args.state.pivots)
-    c.degenerate_after-degenerate.ensures.value
+    c.degenerate_after-degenerate.ensures.value)

@@ -1,11 +1,11 @@
 -- Each end is that of what is left.
-use Rattle.std.proofs.Common.{◌≡◌, ◌<◌, ◌-◌, ◌+◌, ◌≤◌, suc, ℕ, Some, sym, ap, ◌∙◌, arith}
+use Rattle.std.proofs.Common.{◌≡◌, ◌<◌, ◌-◌, ◌+◌, ◌≤◌, suc, ℕ, refl, sym, ◌∙◌, arith}
 use Rattle.std.proofs.lemmas.Result.{err_from_is_err_and}
 use Rattle.decimal_solver.specs.Rounds.{after, run}
 use Rattle.decimal_solver.specs.States.{State}
 use Rattle.decimal_solver.specs.Views.{state_seen}
 use Rattle.decimal_solver.proofs.Nothing.{nothing-later}
-use Rattle.decimal_solver.proofs.RunLaws.{run-due, run-optimal, run-pivot, run-stuck}
+use Rattle.decimal_solver.proofs.RunLaws.{run-optimal, run-stuck}
 use Rattle.decimal_solver.proofs.running.run.Goals as goal
 
 pub returns-in-Optimal-clause-value : goal.returns-in-Optimal-clause-value
@@ -17,12 +17,13 @@ returns-in-Stuck-clause-nothing c =
     c.rounds.invariant.same ∙ run-stuck (c.args.pivots - c.rounds.state.pivots) (state_seen c.rounds.state) (sym c.in-Stuck.ensures)
 
 pub returns-then-state-pivots-clause-nothing : goal.returns-then-state-pivots-clause-nothing
+unfolding run
 returns-then-state-pivots-clause-nothing c =
-    let s : State = state_seen c.rounds.state in
     let none : c.args.pivots - c.rounds.state.pivots ≡ 0 = omega (arith, c.if-state-pivots.true) in
-    c.rounds.invariant.same ∙ ap (λ n. run n s) none ∙ run-due s c.in-Pivot.row c.in-Pivot.column (sym c.in-Pivot.ensures)
+    rw (c.rounds.invariant.same, none, sym c.in-Pivot.ensures) refl
 
 pub returns-in_err-state-in-Pivot-clause-nothing : goal.returns-in_err-state-in-Pivot-clause-nothing
+unfolding run
 returns-in_err-state-in-Pivot-clause-nothing c =
     let s : State = state_seen c.rounds.state in
     let row = c.in-Pivot.row in
@@ -33,9 +34,10 @@ returns-in_err-state-in-Pivot-clause-nothing c =
     let q = err_from_is_err_and c.from_residual.result c.from_residual.ensures.1 in
     rw (q.1, q.2)
     (nothing-later (after s row column) (run c.args.pivots (state_seen c.args.first)) c.in_err-state-in-Pivot.field-0.0
-    (λ h. c.rounds.invariant.same ∙ ap (λ k. run k s) left ∙ run-pivot n s row column _ (sym c.in-Pivot.ensures) h) c.in_err-state-in-Pivot.ensures.nothing)
+    (λ h. rw (c.rounds.invariant.same, left, sym c.in-Pivot.ensures, h) refl) c.in_err-state-in-Pivot.ensures.nothing)
 
 pub rounds-preserved : goal.rounds-preserved
+unfolding run
 rounds-preserved c =
     let s : State = state_seen c.rounds.state in
     let row = c.in-Pivot.row in
@@ -48,10 +50,7 @@ rounds-preserved c =
     let few : next.degenerate ≤ next.pivots = c.in_ok-state-in-Pivot.ensures.few in
     let after_is : c.args.pivots - next.pivots ≡ n = omega arith in
     record {
-      same =
-          c.rounds.invariant.same ∙ ap (λ k. run k s) left
-          ∙ run-pivot n s row column (Some (state_seen next)) (sym c.in-Pivot.ensures) c.in_ok-state-in-Pivot.ensures.value
-          ∙ ap (λ k. run k (state_seen next)) (sym after_is);
+      same = rw (c.rounds.invariant.same, left, sym c.in-Pivot.ensures, c.in_ok-state-in-Pivot.ensures.value, after_is) refl;
       made = omega arith;
       few = few;
       counted = c.in_ok-state-in-Pivot.ensures.counted ∙ c.rounds.invariant.counted;

@@ -1,9 +1,9 @@
 -- The entries so far, and the variables that are left.
-use Rattle.std.proofs.Common.{◌≡◌, [], drop}
-use Rattle.decimal_solver.specs.Starts.{cost_entries}
+use Rattle.std.proofs.Common.{[], drop}
+use Rattle.decimal_solver.specs.Folds.{IsLeft}
+use Rattle.decimal_solver.specs.Starts.{cost_entries, with_cost}
 use Rattle.decimal_solver.specs.Views.{entries_seen}
 use Rattle.decimal_solver.proofs.starting.cost_entries.Given as goal
 
 abbrev pub invariant-loop-place : goal.invariant-loop-place
-invariant-loop-place l =
-    cost_entries l.cost l.own [] l.layout.places.items ≡ cost_entries l.cost l.own (entries_seen l.made.items) (drop l.place-index l.layout.places.items)
+invariant-loop-place l = IsLeft (cost_entries l.cost l.own [] l.layout.places.items) (with_cost l.cost l.own) (entries_seen l.made.items) (drop l.place-index l.layout.places.items)

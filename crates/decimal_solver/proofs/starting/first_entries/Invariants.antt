@@ -1,9 +1,10 @@
 -- The entries so far, and the numbers that are left.
-use Rattle.std.proofs.Common.{◌≡◌, [], drop}
-use Rattle.decimal_solver.specs.Starts.{first_entries}
+use Rattle.std.proofs.Common.{[], drop}
+use Rattle.decimal_solver.specs.Folds.{IsLeft}
+use Rattle.decimal_solver.specs.Starts.{first_entries, with_first}
 use Rattle.decimal_solver.specs.Views.{entries_seen}
 use Rattle.decimal_solver.proofs.starting.first_entries.Given as goal
 
 abbrev pub invariant-loop-entry : goal.invariant-loop-entry
 invariant-loop-entry l =
-    first_entries l.f l.m l.layout.places.items [] l.numbers ≡ first_entries l.f l.m l.layout.places.items (entries_seen l.made.items) (drop l.entry-index l.numbers)
+    IsLeft (first_entries l.f l.m l.layout.places.items [] l.numbers) (with_first l.f l.m l.layout.places.items) (entries_seen l.made.items) (drop l.entry-index l.numbers)

@@ -9,13 +9,11 @@ use Rattle.row_core.specs.declared.Var.{Var}
 use Rattle.row_core.specs.Numbers.{numbers_of}
 use Rattle.row_core.proofs.CombinedLaws.{row_fits, rhs_fits}
 use Rattle.written_method.specs.FirstTableau.{as_most}
-use Rattle.written_method.specs.Programs.{inequality_of}
 use Rattle.decimal_solver.specs.declared.states.Entry.{Entry}
 use Rattle.decimal_solver.specs.Lines.{Entries}
 use Rattle.decimal_solver.specs.Numbers.{lowered, scaled_number, unit}
 use Rattle.decimal_solver.specs.Starts.{first_entries, greatest_entry}
 use Rattle.decimal_solver.specs.Views.{entries_seen, entry_seen}
-use Rattle.decimal_solver.proofs.StartLaws.{first_row-is}
 use Rattle.decimal_solver.proofs.starting.first_row.Goals as goal
 
 pub greatest_entry-m-requires : goal.greatest_entry-m-requires
@@ -46,5 +44,5 @@ returns-clause-value c =
     let b : ℤ = to_z w128 (of_z w128 c.in_ok-right.right) in
     let b_is : lowered z ≡ Some b = ap lowered (sym (back_in_range z c.in_ok-scaled_number.ensures.range)) ∙ c.in_ok-right.ensures.value ∙ ap Some (sym (back_in_range c.in_ok-right.right c.in_ok-right.ensures.range)) in
     let scale_is : to_z w128 (of_z w128 c.as_most.result) ≡ as_most row.sense (pos m) = back_in_range c.as_most.result c.as_most.ensures.range ∙ c.as_most.ensures.value ∙ ap (as_most row.sense) (to_z_pos w128 m c.greatest_entry-m.ensures.range) in
-    first_row-is places layout.width layout.rows c.args.position (inequality_of row) f m es (entries_seen c.push-2.new.self.items) z b (to_z w128 (of_z w128 c.as_most.result)) f_is m_is entries_are z_is b_is
-    (two_more c.in_ok-entries.entries.items c.in_ok-entries.entries.items c.push.new.self.items c.push-2.new.self.items _ _ c.in_ok-push.ensures.items c.in_ok-push-2.ensures.items) scale_is
+    let all = two_more c.in_ok-entries.entries.items c.in_ok-entries.entries.items c.push.new.self.items c.push-2.new.self.items _ _ c.in_ok-push.ensures.items c.in_ok-push-2.ensures.items in
+    rw (sym f_is, sym m_is, entries_are, z_is, b_is) (cc (all, scale_is))

@@ -1,12 +1,13 @@
 -- The rows so far, and those that are left.
-use Rattle.std.proofs.Common.{◌≡◌, [], map, drop, length}
+use Rattle.std.proofs.Common.{[], ◌≡◌, map, drop, length}
 use Rattle.written_method.specs.Programs.{inequality_of}
-use Rattle.decimal_solver.specs.Starts.{first_rows}
+use Rattle.decimal_solver.specs.Folds.{IsLeft}
+use Rattle.decimal_solver.specs.Starts.{first_rows, with_row}
 use Rattle.decimal_solver.specs.Views.{rows_seen}
 use Rattle.decimal_solver.proofs.starting.first_rows.Given as goal
 
 abbrev pub invariant-loop-position : goal.invariant-loop-position
 invariant-loop-position l = record {
-  same : first_rows l.layout.places.items l.layout.width l.layout.rows 0 [] (map inequality_of l.rows) ≡ first_rows l.layout.places.items l.layout.width l.layout.rows l.position (rows_seen l.made.items) (map inequality_of (drop l.position l.rows));
+  same : IsLeft (first_rows l.layout.places.items l.layout.width l.layout.rows [] (map inequality_of l.rows)) (with_row l.layout.places.items l.layout.width l.layout.rows) (rows_seen l.made.items) (map inequality_of (drop l.position l.rows));
   counted : length l.made.items ≡ l.position;
 }

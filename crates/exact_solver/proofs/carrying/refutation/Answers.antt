@@ -1,18 +1,15 @@
 -- What is carried back is what the check asks for, and its steps come before those of the check.
 use Rattle.std.proofs.Common.{◌≡◌, List, refl, length, map, ap, sym, ◌∙◌, subst}
 use Rattle.std.proofs.lemmas.List.{length-map}
-use Rattle.std.specs.Prelude.{None, false, true}
+use Rattle.std.specs.Prelude.{None, false}
 use Rattle.std.proofs.lemmas.Result.{err_from_is_err_and}
 use Rattle.exact_num.specs.Rational.{Rational}
 use Rattle.exact_num.specs.Steps.{first_wide}
 use Rattle.exact_num.specs.Value.{value_of}
 use Rattle.row_core.specs.declared.RowName.{RowName}
-use Rattle.row_core.specs.Numbers.{ascends, keys_of}
-use Rattle.row_core.specs.Order.{row_name_cmp}
 use Rattle.written_method.specs.Programs.{inequality_of, program_of}
 use Rattle.variable_elimination.specs.SoFar.{IsFirst}
 use Rattle.simplex_core.specs.Outcomes.{RefuteAll}
-use Rattle.certified_answers.specs.Answers.{AreNamedIn}
 use Rattle.certified_answers.specs.Refusals.{stop_of}
 use Rattle.row_problem.specs.Programs.{carried_multipliers, carrying_steps}
 use Rattle.row_problem.proofs.CompletePlans.{multipliers-named}
@@ -45,10 +42,7 @@ checked_refutation-requires-clause-found c =
 pub checked_refutation-requires-clause-named : goal.checked_refutation-requires-clause-named
 checked_refutation-requires-clause-named c =
     let p = c.args.problem.now in
-    let fs = map value_of c.entries.result.now in
-    let is : c.in_ok-multipliers.multipliers ≡ carried_multipliers false p.rows.now p.defs.now fs = c.in_ok-multipliers.ensures.multipliers in
-    subst (λ (made : List (RowName × Rational)). AreNamedIn p.rows.now made) (sym is)
-    (multipliers-named false p.rows.now p.defs.now fs (subst (λ (made : List (RowName × Rational)). ascends row_name_cmp (keys_of made) ≡ true) is c.multiplier_laws.ensures.ascending))
+    multipliers-named false p.rows.now p.defs.now (map value_of c.entries.result.now) c.in_ok-multipliers.multipliers c.in_ok-multipliers.ensures.multipliers c.multiplier_laws.ensures.ascending
 
 pub returns-clause-end : goal.returns-clause-end
 returns-clause-end c =

@@ -4,10 +4,6 @@ use Rattle.exact_num.specs.Value.{value_of}
 use Rattle.exact_solver.specs.MethodEnds.{closing_checks}
 use Rattle.exact_solver.proofs.checking.closed.Goals as goal
 
-pub returns-in-Nothing-clause-fits : goal.returns-in-Nothing-clause-fits
-unfolding first_wide
-returns-in-Nothing-clause-fits c = ap (λ cost. first_wide (closing_checks cost (value_of c.args.amount) (value_of c.args.bound))) c.in-Nothing.is ∙ refl
-
 pub returns-in-One-clause-fits : goal.returns-in-One-clause-fits
 unfolding first_wide
 returns-in-One-clause-fits c = ap (λ cost. first_wide (closing_checks cost (value_of c.args.amount) (value_of c.args.bound))) c.in-One.is ∙ refl

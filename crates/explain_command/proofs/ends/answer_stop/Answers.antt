@@ -1,5 +1,5 @@
 use Rattle.std.proofs.Common.{subst}
-use Rattle.explain_command.specs.Outcomes.{StopIsWithin}
+use Rattle.command_answers.specs.PlacesWithin.{StopIsWithin}
 use Rattle.explain_command.proofs.ends.answer_stop.Goals as goal
 
 pub stop_at-requires : goal.stop_at-requires

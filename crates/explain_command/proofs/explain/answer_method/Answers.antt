@@ -1,18 +1,21 @@
--- By one method or the other.
-use Rattle.std.proofs.Common.{sym, subst}
+-- Where the elimination stops, so do the trials.
 use Rattle.std.proofs.lemmas.Result.{IfOk-weaker}
-use Rattle.command_words.specs.declared.command.SolveMethod.{SolveMethod}
-use Rattle.explain_command.specs.Explain.{DueForMethod}
+use Rattle.simplex_core.specs.declared.stops.Stop.TheVariants.{Width}
+use Rattle.explain_command.proofs.ExplainEnds.{due-from_stop, elimination-cause}
 use Rattle.explain_command.proofs.explain.answer_method.Goals as goal
 
-pub returns-in-Exact : goal.returns-in-Exact
-returns-in-Exact c = λ places d same book.
-    IfOk-weaker c.answer_trials.result _ _
-    (λ answer due. subst (λ (method : SolveMethod). DueForMethod places d c.args.book.now.rows c.args.pivots method answer.status answer.text.items) (sym c.in-Exact.is) due)
-    (c.answer_trials.ensures places d same book)
+pub returns-in-Ok : goal.returns-in-Ok
+returns-in-Ok c = c.answer_program.ensures
 
-pub returns-in-Rounded : goal.returns-in-Rounded
-returns-in-Rounded c = λ places d same book.
-    IfOk-weaker c.answer_guesses.result _ _
-    (λ answer due. subst (λ (method : SolveMethod). DueForMethod places d c.args.book.now.rows c.args.pivots method answer.status answer.text.items) (sym c.in-Rounded.is) due)
-    (c.answer_guesses.ensures places d same book)
+pub returns-in-Err : goal.returns-in-Err
+returns-in-Err c = λ places d same book.
+    let rows = c.args.book.now.rows in
+    let vars = c.args.book.now.vars in
+    let pivots = c.args.pivots in
+    let method = c.args.method in
+    let kept = c.vars.ensures.book in
+    IfOk-weaker c.stop_on_elimination.result _ _
+    (λ answer told.
+    due-from_stop places d rows vars kept book pivots method c.args.sets.now same answer.status answer.text.items
+    (Width told.place) (elimination-cause rows vars pivots told.place told.wide method) told.status_is told.line_is)
+    c.stop_on_elimination.ensures

@@ -1,42 +1,10 @@
 -- Each number has its equation, whose subscripts lie in their sets.
 use Rattle.std.proofs.Common.{◌≡◌, sym, subst, refl, rules}
-use Rattle.row_core.specs.declared.equation_numbers.TheConstants.{TCC1, TCC2, NCC1, NCC2, AAC1, AAC2, AAC3, TAC1, TAC2, TAC3, RM1, RM2, RM3, RE1, RE2, RE3, RE4, RE5}
+use Rattle.row_core.specs.declared.equation_numbers.TheConstants.{AAC1, TAC1, RM1, RM2, RM3, RE1, RE2, RE3, RE4, RE5}
 use Rattle.row_core.specs.EquationTerms.{IsWritten}
 use Rattle.limit_rows.proofs.Meaning.{terms-at}
 use Rattle.named_equations.proofs.PositionsInSets.{of_number}
 use Rattle.limit_rows.proofs.rows.row_of.Goals as goal
-
-pub tcc1-requires : goal.tcc1-requires
-tcc1-requires c =
-    let at = of_number c.args.model.now.facts c.args.name.eq TCC1 c.args.name.index c.in-43.is c.requires.index in
-    record { region = at.region refl; technology = at.technology refl; year = at.year refl }
-
-pub returns-in-43 : goal.returns-in-43
-returns-in-43 c = subst (λ e. IsWritten c.args.name e c.tcc1.result) (sym (terms-at c.args.model.now.facts c.args.name TCC1 c.in-43.is)) c.tcc1.ensures
-
-pub tcc2-requires : goal.tcc2-requires
-tcc2-requires c =
-    let at = of_number c.args.model.now.facts c.args.name.eq TCC2 c.args.name.index c.in-44.is c.requires.index in
-    record { region = at.region refl; technology = at.technology refl; year = at.year refl }
-
-pub returns-in-44 : goal.returns-in-44
-returns-in-44 c = subst (λ e. IsWritten c.args.name e c.tcc2.result) (sym (terms-at c.args.model.now.facts c.args.name TCC2 c.in-44.is)) c.tcc2.ensures
-
-pub ncc1-requires : goal.ncc1-requires
-ncc1-requires c =
-    let at = of_number c.args.model.now.facts c.args.name.eq NCC1 c.args.name.index c.in-45.is c.requires.index in
-    record { region = at.region refl; technology = at.technology refl; year = at.year refl }
-
-pub returns-in-45 : goal.returns-in-45
-returns-in-45 c = subst (λ e. IsWritten c.args.name e c.ncc1.result) (sym (terms-at c.args.model.now.facts c.args.name NCC1 c.in-45.is)) c.ncc1.ensures
-
-pub ncc2-requires : goal.ncc2-requires
-ncc2-requires c =
-    let at = of_number c.args.model.now.facts c.args.name.eq NCC2 c.args.name.index c.in-46.is c.requires.index in
-    record { region = at.region refl; technology = at.technology refl; year = at.year refl }
-
-pub returns-in-46 : goal.returns-in-46
-returns-in-46 c = subst (λ e. IsWritten c.args.name e c.ncc2.result) (sym (terms-at c.args.model.now.facts c.args.name NCC2 c.in-46.is)) c.ncc2.ensures
 
 pub aac1-requires : goal.aac1-requires
 aac1-requires c =
@@ -46,40 +14,8 @@ aac1-requires c =
 pub returns-in-47 : goal.returns-in-47
 returns-in-47 c = subst (λ e. IsWritten c.args.name e c.aac1.result) (sym (terms-at c.args.model.now.facts c.args.name AAC1 c.in-47.is)) c.aac1.ensures
 
-pub aac2-requires : goal.aac2-requires
-aac2-requires c =
-    let at = of_number c.args.model.now.facts c.args.name.eq AAC2 c.args.name.index c.in-48.is c.requires.index in
-    record { region = at.region refl; technology = at.technology refl; year = at.year refl }
-
-pub returns-in-48 : goal.returns-in-48
-returns-in-48 c = subst (λ e. IsWritten c.args.name e c.aac2.result) (sym (terms-at c.args.model.now.facts c.args.name AAC2 c.in-48.is)) c.aac2.ensures
-
-pub aac3-requires : goal.aac3-requires
-aac3-requires c =
-    let at = of_number c.args.model.now.facts c.args.name.eq AAC3 c.args.name.index c.in-49.is c.requires.index in
-    record { region = at.region refl; technology = at.technology refl; year = at.year refl }
-
-pub returns-in-49 : goal.returns-in-49
-returns-in-49 c = subst (λ e. IsWritten c.args.name e c.aac3.result) (sym (terms-at c.args.model.now.facts c.args.name AAC3 c.in-49.is)) c.aac3.ensures
-
 pub returns-in-50 : goal.returns-in-50
 returns-in-50 c = subst (λ e. IsWritten c.args.name e c.tac1.result) (sym (terms-at c.args.model.now.facts c.args.name TAC1 c.in-50.is)) c.tac1.ensures
-
-pub tac2-requires : goal.tac2-requires
-tac2-requires c =
-    let at = of_number c.args.model.now.facts c.args.name.eq TAC2 c.args.name.index c.in-51.is c.requires.index in
-    record { region = at.region refl; technology = at.technology refl }
-
-pub returns-in-51 : goal.returns-in-51
-returns-in-51 c = subst (λ e. IsWritten c.args.name e c.tac2.result) (sym (terms-at c.args.model.now.facts c.args.name TAC2 c.in-51.is)) c.tac2.ensures
-
-pub tac3-requires : goal.tac3-requires
-tac3-requires c =
-    let at = of_number c.args.model.now.facts c.args.name.eq TAC3 c.args.name.index c.in-52.is c.requires.index in
-    record { region = at.region refl; technology = at.technology refl }
-
-pub returns-in-52 : goal.returns-in-52
-returns-in-52 c = subst (λ e. IsWritten c.args.name e c.tac3.result) (sym (terms-at c.args.model.now.facts c.args.name TAC3 c.in-52.is)) c.tac3.ensures
 
 pub rm1-requires : goal.rm1-requires
 rm1-requires c =

@@ -10,5 +10,5 @@ returns-in-Ok c =
     let found : (d : Data) × (accepted : Accepted c.args.made.items d) × AreSameData c.in-Ok.model.facts d × (c.in-Ok.model.rounded ≡ accepted.blocks.rounded) =
     MatchResult-at_ok _ _ c.in-Ok.model c.in-Ok.is c.in_ok-model.ensures in
     IfOk-weaker c.answer_summary.result _ _
-    (λ answer due. inr (found.0, found.1, subst (λ rounded. DueForSummary default_places rounded found.0 answer.status answer.text.items) found.3 (due found.0 found.2)))
-    c.answer_summary.ensures
+    (λ answer due. inr (found.0, found.1, subst (λ rounded. DueForSummary default_places rounded found.0 answer.status answer.text.items) found.3 due))
+    (c.answer_summary.ensures found.0 found.2)

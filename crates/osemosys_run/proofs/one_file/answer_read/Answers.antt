@@ -14,14 +14,14 @@ returns-in-Solve c = λ text stands short.
     IfOk-weaker c.answer_solve.result _ _
     (λ answer due.
     subst (λ task. DueForText (DueForTask task c.args.places) text answer.status answer.text.items) (sym c.in-Solve.is)
-    (inr (found.0, found.1, subst (λ rounded. DueForTask (Solve c.in-Solve.wanted) c.args.places rounded found.0 answer.status answer.text.items) found.3 (due found.0 found.2)))) c.answer_solve.ensures
+    (inr (found.0, found.1, subst (λ rounded. DueForTask (Solve c.in-Solve.wanted) c.args.places rounded found.0 answer.status answer.text.items) found.3 due))) (c.answer_solve.ensures found.0 found.2)
 
 pub returns-in-Explain : goal.returns-in-Explain
 returns-in-Explain c = λ text stands short.
     let found : (d : Data) × (accepted : Accepted text d) × AreSameData c.in-Ok.model.facts d × (c.in-Ok.model.rounded ≡ accepted.blocks.rounded) =
     MatchResult-at_ok _ _ c.in-Ok.model c.in-Ok.is (c.in_ok-model.ensures text stands short) in
     IfOk-weaker c.answer_explain.result _ _
-    (λ answer due. subst (λ task. DueForText (DueForTask task c.args.places) text answer.status answer.text.items) (sym c.in-Explain.is) (inr (found.0, found.1, due found.0 found.2))) c.answer_explain.ensures
+    (λ answer due. subst (λ task. DueForText (DueForTask task c.args.places) text answer.status answer.text.items) (sym c.in-Explain.is) (inr (found.0, found.1, due))) (c.answer_explain.ensures found.0 found.2)
 
 pub returns-in-Curve : goal.returns-in-Curve
 returns-in-Curve c = λ text stands short.

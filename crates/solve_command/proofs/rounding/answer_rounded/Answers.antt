@@ -14,5 +14,5 @@ returns-in-Some c = λ d same book.
     let found = subst (λ most. IsFoundBy rows vars wanted.gap most c.in-Some.solution) c.from.ensures made in
     IfOk-weaker c.answer_found.result _ _
     (λ some told. IfSome_then some told (λ answer tells.
-    due-from_found c.args.places d rows vars book c.args.sets.now same wanted.gap wanted.pivots wanted.show c.args.rounded answer.status answer.text.items c.in-Some.solution found tells))
+    due-from_found c.args.places d rows vars book c.args.sets.now same wanted.gap wanted.pivots wanted.show c.args.rounded answer.status answer.text.items (c.readback_laws.ensures c.args.places d same book) c.in-Some.solution c.solution_fractions.ensures found tells))
     c.answer_found.ensures

@@ -17,7 +17,7 @@ returns-in-Some c =
     subst (λ most. grid_end rows vars wanted.gap most ≡ Some (attempt_seen found)) c.from-pivots.ensures (sym given.end ∙ ap end_seen is) in
     IfOk-weaker c.answer_grid.result _ _
     (λ answer told.
-    second-told rows vars wanted.gap wanted.pivots found c.if-wanted-eq0.false c.in-Ok.ensures.fits end
-    (subst (AllOfFound (IsProved rows vars wanted.gap)) is given.proved) (subst (AllOfFound (IsComplete vars)) is given.whole) (subst (AllOfFound (IsNamed rows)) is given.named)
+    second-told rows vars wanted.gap wanted.pivots found c.if-wanted-eq0.false c.requires.fits end
+    (subst (AllOfFound (IsProved rows vars wanted.gap)) is given.proved) (subst (AllOfFound (IsComplete vars)) is given.whole) (subst (AllOfFound (IsNamed rows)) is given.named) c.plan_fractions.ensures c.multiplier_fractions.ensures
     c.args.sets.now wanted.show c.args.rounded c.args.places answer told)
     c.answer_grid.ensures

@@ -1,7 +1,7 @@
 use Rattle.std.proofs.Common.{◌∙◌, inl, inr, subst}
 use Rattle.std.proofs.lemmas.Result.{IfOk-weaker}
 use Rattle.solve_command.specs.SolveOutcomes.{PricesAreStopped}
-use Rattle.solve_command.proofs.BookPlaces.{shown-within}
+use Rattle.solve_command.proofs.PricePlaces.{shown-within}
 use Rattle.solve_command.proofs.solve.answer_end.Goals as goal
 
 pub stop_at-requires : goal.stop_at-requires

@@ -3,7 +3,7 @@ use Rattle.std.proofs.lemmas.Result.{IfOk-weaker}
 use Rattle.exact_solver.specs.MethodEnds.{IsStopOf, end_seen}
 use Rattle.command_answers.specs.BookMethods.{method_end}
 use Rattle.command_answers.specs.declared.status.Status.{Status}
-use Rattle.solve_command.specs.SolveOutcomes.{TellsStop}
+use Rattle.command_answers.specs.ToldStops.{TellsStop}
 use Rattle.solve_command.proofs.SolvedEnds.{due-from_second, due-from_solution, due-from_stop, stop_comes}
 use Rattle.solve_command.proofs.solve.answer_exactly.Goals as goal
 
@@ -15,7 +15,7 @@ returns-in-Ok c = λ d same book.
     IfOk-weaker c.answer_end.result _ _
     (λ answer told.
     due-from_solution c.args.places d rows vars book c.args.sets.now same wanted.gap wanted.pivots wanted.show c.args.rounded answer.status answer.text.items
-    c.in-Ok.solution (subst (λ most. end_seen c.in-Ok.solution ≡ method_end rows vars most) c.from-pivots.ensures c.in-Ok.ensures.end) c.in-Ok.ensures.proved c.in-Ok.ensures.whole c.in-Ok.ensures.named told)
+    (c.readback_laws.ensures c.args.places d same book) c.in-Ok.solution c.solution_fractions.ensures (subst (λ most. end_seen c.in-Ok.solution ≡ method_end rows vars most) c.from-pivots.ensures c.in-Ok.ensures.end) c.in-Ok.ensures.proved c.in-Ok.ensures.whole c.in-Ok.ensures.named told)
     c.answer_end.ensures
 
 pub returns-in_ok-first-in-Err : goal.returns-in_ok-first-in-Err
@@ -31,7 +31,7 @@ returns-in_ok-first-in-Err c = λ d same book.
     IfOk-weaker c.or_second.result _ _
     (λ last is. elim is [
       | inl second ↦ due-from_second c.args.places d rows vars book sets same wanted.gap wanted.pivots wanted.show c.args.rounded last.status last.text.items
-          (stop_comes c.args.places d rows vars book sets same wanted.gap wanted.pivots wanted.show c.args.rounded last.status last.text.items stop first.status first.text.items stopped told) second
+          (stop_comes c.args.places d rows vars book sets same wanted.gap wanted.pivots wanted.show c.args.rounded last.status last.text.items stop first.status first.text.items stopped told) (c.readback_laws-in-Err.ensures c.args.places d same book) second
       | inr kept ↦ due-from_stop c.args.places d rows vars book sets same wanted.gap wanted.pivots wanted.show c.args.rounded last.status last.text.items stop stopped kept.0
           (subst (λ (s : Status). TellsStop sets wanted.pivots stop s last.text.items) (sym kept.1) (subst (λ (t : List ℕ). TellsStop sets wanted.pivots stop first.status t) (sym kept.2) told))
     ])

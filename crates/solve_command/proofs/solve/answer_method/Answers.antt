@@ -1,31 +1,17 @@
-use Rattle.std.proofs.Common.{◌⊎◌, IfSome, inl, inr, sym, subst}
+-- Where the elimination stops, so do the exact method and the second attempt.
 use Rattle.std.proofs.lemmas.Result.{IfOk-weaker}
-use Rattle.command_words.specs.declared.command.SolveMethod.{SolveMethod}
-use Rattle.command_answers.specs.declared.answer.Answer.{Answer}
-use Rattle.solve_command.specs.Solve.{DueForMethod, IsFound, IsFoundInfeasible, third_attempt}
+use Rattle.solve_command.proofs.SolvedEnds.{due-from_elimination}
 use Rattle.solve_command.proofs.solve.answer_method.Goals as goal
 
-pub returns-in-Some : goal.returns-in-Some
-returns-in-Some c = λ d same book.
-    let places = c.args.places in
-    let rows = c.args.book.now.rows in
-    let wanted = c.args.wanted in
-    let rounded = c.args.rounded in
-    let found = subst (λ some. IfSome some (λ (answer : Answer).
-    IsFound places d rows wanted.gap wanted.pivots wanted.show rounded third_attempt answer.status answer.text.items
-    ⊎ IsFoundInfeasible places d rows wanted.pivots wanted.show rounded third_attempt answer.status answer.text.items))
-    c.in-Some.is (c.in_ok-answer-in-Rounded.ensures d same book) in
-    subst (λ (method : SolveMethod). DueForMethod places d rows wanted.gap wanted.pivots wanted.show method rounded c.in-Some.answer.status c.in-Some.answer.text.items)
-    (sym c.in-Rounded.is) (elim found [ inl plan ↦ inl plan | inr none ↦ inr (inl none) ])
+pub returns-in-Ok : goal.returns-in-Ok
+returns-in-Ok c = c.answer_program.ensures
 
-pub returns-in-None : goal.returns-in-None
-returns-in-None c = λ d same book.
-    let places = c.args.places in
+pub returns-in-Err : goal.returns-in-Err
+returns-in-Err c = λ d same book.
     let rows = c.args.book.now.rows in
+    let vars = c.args.book.now.vars in
     let wanted = c.args.wanted in
-    let rounded = c.args.rounded in
-    IfOk-weaker c.answer_exactly-in-None.result _ _
-    (λ answer due.
-    subst (λ (method : SolveMethod). DueForMethod places d rows wanted.gap wanted.pivots wanted.show method rounded answer.status answer.text.items)
-    (sym c.in-Rounded.is) (inr (inr due)))
-    (c.answer_exactly-in-None.ensures d same book)
+    IfOk-weaker c.stop_on_elimination.result _ _
+    (λ answer told.
+    due-from_elimination c.args.places d rows vars book c.args.sets.now same wanted.gap wanted.pivots wanted.show c.args.rounded answer.status answer.text.items wanted.method told.place told.wide told.status_is told.line_is)
+    c.stop_on_elimination.ensures

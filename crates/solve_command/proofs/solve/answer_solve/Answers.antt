@@ -1,16 +1,33 @@
+-- Over any data that are the same, the book is theirs.
+use Rattle.std.proofs.Common.{◌∙◌, inl, inr, sym, subst}
 use Rattle.std.proofs.lemmas.Result.{IfOk-weaker}
-use Rattle.command_answers.proofs.SameData.{SameLaws}
-use Rattle.solve_command.proofs.SameSolves.{solve-carries}
+use Rattle.command_answers.specs.CheckedPlans.{IsListedBook}
+use Rattle.command_answers.specs.MadeBooks.{TellsSized}
+use Rattle.command_answers.proofs.SameData.{same-itself}
+use Rattle.solve_command.specs.Solve.{DueForMethod}
 use Rattle.solve_command.proofs.solve.answer_solve.Goals as goal
 
-pub returns : goal.returns
-returns c =
-    let model = c.args.model.now.facts in
+pub answer_method-requires : goal.answer_method-requires
+answer_method-requires c =
+    let facts = c.args.model.now.facts in
+    let own = subst (TellsSized c.args.places facts) c.in-Ok.is (c.in_ok-book.ensures facts (same-itself facts)) in
+    subst (λ sets. IsListedBook sets c.in-Ok.book.rows c.in-Ok.book.vars) (sym c.sets.ensures.sets) own.made_book.listed
+
+pub returns-in-Ok : goal.returns-in-Ok
+returns-in-Ok c = λ d same.
     let places = c.args.places in
     let wanted = c.args.wanted in
-    let laws = c.same_data_laws.ensures in
-    IfOk-weaker c.answer_model.result _ _
-    (λ answer due d same.
-    let rows : SameLaws places model d = record { rows = laws.rows places model d same; made = laws.made places model d same; wide = laws.wide places model d same; many = laws.many places model d same } in
-    solve-carries places model d same rows wanted.gap wanted.pivots wanted.show wanted.method c.args.model.now.rounded answer.status answer.text.items due)
-    c.answer_model.ensures
+    let book = c.in-Ok.book in
+    let sized = subst (TellsSized places d) c.in-Ok.is (c.in_ok-book.ensures d same) in
+    let made = sized.made_book in
+    IfOk-weaker c.answer_method.result _ _
+    (λ answer due. inl (record {
+      made = made.made;
+      rows = book.rows;
+      are_rows = made.is_book.are_rows;
+      due = (sized.within, subst (λ rounded. DueForMethod places d book.rows wanted.gap wanted.pivots wanted.show wanted.method rounded answer.status answer.text.items) c.rounded.ensures due);
+    }))
+    (c.answer_method.ensures d (c.sets.ensures.sets ∙ same.sets) made.is_book)
+
+pub returns-in-Err : goal.returns-in-Err
+returns-in-Err c = λ d same. inr (subst (TellsSized c.args.places d) c.in-Err.is (c.in_ok-book.ensures d same))

@@ -1,6 +1,6 @@
 use Rattle.std.proofs.Common.{inl, inr, subst}
 use Rattle.certified_answers.specs.Answers.{IsNamed}
-use Rattle.solve_command.proofs.BookPlaces.{multipliers-named}
+use Rattle.command_answers.proofs.BookPlaces.{multipliers-named}
 use Rattle.solve_command.proofs.texts.multipliers_of.Goals as goal
 
 pub multiplier_text-requires : goal.multiplier_text-requires

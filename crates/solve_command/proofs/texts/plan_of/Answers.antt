@@ -1,6 +1,6 @@
 use Rattle.std.proofs.Common.{inl, inr, subst}
 use Rattle.certified_answers.specs.Answers.{IsComplete}
-use Rattle.solve_command.proofs.BookPlaces.{plan-named}
+use Rattle.command_answers.proofs.BookPlaces.{plan-named}
 use Rattle.solve_command.proofs.texts.plan_of.Goals as goal
 
 pub plan_text-requires : goal.plan_text-requires

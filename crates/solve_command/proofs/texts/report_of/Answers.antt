@@ -4,7 +4,7 @@ use Rattle.exact_num.specs.Value.{value_of}
 use Rattle.certified_answers.specs.Answers.{IsComplete}
 use Rattle.result_tables.specs.Reports.{report_text}
 use Rattle.solve_command.specs.SolveOutcomes.{report_shown}
-use Rattle.solve_command.proofs.BookPlaces.{plan-named}
+use Rattle.command_answers.proofs.BookPlaces.{plan-named}
 use Rattle.solve_command.proofs.texts.report_of.Goals as goal
 
 pub unbounded_report-requires : goal.unbounded_report-requires

@@ -1,5 +1,5 @@
 use Rattle.exact_num.specs.Value.{value_of}
-use Rattle.solve_command.proofs.BookPlaces.{plan-named}
+use Rattle.command_answers.proofs.BookPlaces.{plan-named}
 use Rattle.span_command.proofs.BuiltCapacities.{direction-named}
 use Rattle.span_command.proofs.ends.answer_found.Goals as goal
 

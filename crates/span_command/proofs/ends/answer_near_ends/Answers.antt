@@ -1,4 +1,4 @@
-use Rattle.solve_command.proofs.BookPlaces.{plan-named}
+use Rattle.command_answers.proofs.BookPlaces.{plan-named}
 use Rattle.span_command.proofs.ends.answer_near_ends.Goals as goal
 
 pub near_text-requires-clause-low : goal.near_text-requires-clause-low

@@ -14,8 +14,8 @@ returns-in-Ok c = λ d same book.
 pub returns-in-Err : goal.returns-in-Err
 returns-in-Err c = λ d same book.
     let wanted = c.args.wanted in
-    IfOk-weaker c.answer_stop.result _ _
+    IfOk-weaker c.stop_on_book.result _ _
     (λ answer told.
     due-from_stop c.args.places d c.args.book.now.rows c.args.book.now.vars book c.args.sets.now same wanted.var wanted.slack wanted.pivots c.args.rounded answer.status answer.text.items
     c.in-Err.stop c.in-Err.ensures.stopped told)
-    c.answer_stop.ensures
+    c.stop_on_book.ensures

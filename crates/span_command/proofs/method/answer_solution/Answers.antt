@@ -1,6 +1,6 @@
 use Rattle.std.proofs.Common.{subst}
 use Rattle.certified_answers.specs.Answers.{IsComplete}
-use Rattle.solve_command.proofs.BookPlaces.{plan-named}
+use Rattle.command_answers.proofs.BookPlaces.{plan-named}
 use Rattle.span_command.proofs.method.answer_solution.Goals as goal
 
 pub unbounded_report-requires : goal.unbounded_report-requires

@@ -1,16 +1,40 @@
+-- Over any data that are the same, the book is theirs.
+use Rattle.std.proofs.Common.{◌∙◌, inl, inr, sym, subst}
 use Rattle.std.proofs.lemmas.Result.{IfOk-weaker}
-use Rattle.command_answers.proofs.SameData.{SameLaws}
+use Rattle.command_answers.specs.CheckedPlans.{IsListedBook}
+use Rattle.command_answers.specs.MadeBooks.{TellsSized}
+use Rattle.command_answers.proofs.SameData.{same-itself}
 use Rattle.span_command.specs.Outcomes.{wanted_of}
-use Rattle.span_command.proofs.SameSpans.{member-carries}
+use Rattle.span_command.specs.Span.{DueForMethod}
 use Rattle.span_command.proofs.span.answer_member.Goals as goal
 
-pub returns : goal.returns
-returns c = λ d same.
-    let model = c.args.model.now.facts in
+pub answer_method-requires-clause-listed : goal.answer_method-requires-clause-listed
+answer_method-requires-clause-listed c =
+    let facts = c.args.model.now.facts in
+    let own = subst (TellsSized c.args.places facts) c.in-Ok.is (c.in_ok-book.ensures facts (same-itself facts)) in
+    subst (λ sets. IsListedBook sets c.in-Ok.book.rows c.in-Ok.book.vars) (sym c.sets.ensures.sets) own.made_book.listed
+
+pub answer_method-requires-clause-there : goal.answer_method-requires-clause-there
+answer_method-requires-clause-there c =
+    let facts = c.args.model.now.facts in
+    let own = subst (TellsSized c.args.places facts) c.in-Ok.is (c.in_ok-book.ensures facts (same-itself facts)) in
+    own.made_book.is_book.whole c.args.wanted.var c.requires.exists
+
+pub returns-in-Ok : goal.returns-in-Ok
+returns-in-Ok c = λ d same.
     let places = c.args.places in
-    let laws = c.same_data_laws.ensures in
     let wanted = c.args.wanted in
-    let rows : SameLaws places model d = record { rows = laws.rows places model d same; made = laws.made places model d same; wide = laws.wide places model d same; many = laws.many places model d same } in
-    IfOk-weaker c.answer_model.result _ _
-    (λ answer due. member-carries places model d same rows wanted.var (wanted_of wanted) c.args.model.now.rounded answer.status answer.text.items due)
-    c.answer_model.ensures
+    let book = c.in-Ok.book in
+    let sized = subst (TellsSized places d) c.in-Ok.is (c.in_ok-book.ensures d same) in
+    let made = sized.made_book in
+    IfOk-weaker c.answer_method.result _ _
+    (λ answer due. inl (record {
+      made = made.made;
+      rows = book.rows;
+      are_rows = made.is_book.are_rows;
+      due = (sized.within, subst (λ rounded. DueForMethod places d book.rows wanted.var (wanted_of wanted) rounded answer.status answer.text.items) c.rounded.ensures due);
+    }))
+    (c.answer_method.ensures d (c.sets.ensures.sets ∙ same.sets) made.is_book)
+
+pub returns-in-Err : goal.returns-in-Err
+returns-in-Err c = λ d same. inr (subst (TellsSized c.args.places d) c.in-Err.is (c.in_ok-book.ensures d same))

@@ -1,7 +1,7 @@
 -- A trial of the others, and what it leads to.
-use Rattle.std.proofs.Common.{◌+◌, ◌∷◌, ap, ap₂, sym, ◌∙◌, subst}
+use Rattle.std.proofs.Common.{◌+◌, ap, ap₂, sym, ◌∙◌}
 use Rattle.conflict_sets.specs.Searches.{all_needed}
-use Rattle.conflict_sets.specs.Walks.{Stops, walk}
+use Rattle.conflict_sets.specs.Walks.{walk}
 use Rattle.conflict_sets.proofs.SearchLaws.{search-goes, search-skips}
 use Rattle.conflict_sets.proofs.WalkLaws.{walk-goes, walk-skips, walk-stops}
 use Rattle.conflict_sets.proofs.searching.Search.leave_out.Goals as goal
@@ -42,5 +42,5 @@ returns-in-Err-clause-stopped c = λ left.
     let defs = c.args.problem.now.defs.now in
     let vars = c.args.problem.now.vars.now in
     let s = c.args.self.now in
-    subst (Stops (walk rows defs vars c.args.pivots (s.trials + 1) (c.args.name ∷ left) s.multipliers (all_needed s))) (sym c.trial_fail.ensures)
-    (walk-stops rows defs vars c.args.pivots (s.trials + 1) c.args.name left s.multipliers (all_needed s) c.in-Err.stop (sym c.is_listed.ensures ∙ c.if-not-is_listed.false) c.in-Err.ensures.stopped)
+    walk-stops rows defs vars c.args.pivots (s.trials + 1) c.args.name left s.multipliers (all_needed s) c.in-Err.stop c.trial_fail.result (sym c.is_listed.ensures ∙ c.if-not-is_listed.false) c.in-Err.ensures.stopped
+    c.trial_fail.ensures

@@ -1,0 +1,111 @@
+-- What proves an end is accepted: nothing else is due of its file.
+use Rattle.std.proofs.Common.{◌≡◌, ℕ, ℤ, pos, Bool, true, List, [], ◌∷◌, ◌++◌, map, inl, inr, Some, sym, ap, ◌∙◌, subst}
+use Rattle.std.specs.Prelude.{codes, int_lt}
+use mathlib.Core.Path.{fun_ext}
+use Rattle.exact_num.specs.Rational.{Rational}
+use Rattle.model_sets.specs.Data.{Data}
+use Rattle.model_sets.specs.Members.{SetLists}
+use Rattle.mps_writer.specs.MpsText.{line}
+use Rattle.row_core.specs.declared.Row.{Row}
+use Rattle.row_core.specs.declared.RowName.{RowName}
+use Rattle.row_core.specs.declared.Var.{Var}
+use Rattle.row_core.specs.Contents.{contents_of}
+use Rattle.row_core.specs.Order.{row_name_cmp}
+use Rattle.row_core.specs.Plans.{value_in}
+use Rattle.named_equations.specs.Existence.{all_variables}
+use Rattle.named_equations.specs.Instances.{instances}
+use Rattle.row_book.specs.Books.{AreRowsOf}
+use Rattle.certificate_checker.specs.Conditions.{AllPass, Condition}
+use Rattle.certificate_checker.specs.Costs.{model_cost, no_cost}
+use Rattle.certificate_checker.specs.Gaps.{gap_condition}
+use Rattle.certificate_checker.specs.MultiplierChecks.{bound_conditions, bound_value, infeasible_conditions}
+use Rattle.certificate_checker.specs.PlanChecks.{direction_conditions, plan_conditions}
+use Rattle.certified_answers.specs.Worth.{IsBound, IsDescent, IsNear, IsPlan, IsRefutation}
+use Rattle.plan_files.specs.declared.faults.PlanFault.{PlanFault}
+use Rattle.plan_files.specs.Files.{Fields, records_of}
+use Rattle.proof_files.specs.declared.proof.Proof.{Proof}
+use Rattle.proof_files.specs.declared.proof.Proof.TheVariants.{Optimum, Refutation, Descent}
+use Rattle.proof_files.specs.Proofs.{IsProof, IsProofFault}
+use Rattle.command_answers.specs.declared.status.Status.{Status}
+use Rattle.command_answers.specs.declared.status.Status.TheVariants.{Done}
+use Rattle.check_command.specs.Check.{DueForPlan, check_conditions, multiplier_bound, plan_cost}
+use Rattle.check_command.specs.CheckProof.{DueForConditions, DueForProofFile, DueForProofTold, descent_conditions, refutation_conditions}
+use Rattle.check_command.proofs.OutcomeLaws.{pass-after}
+use Rattle.check_command.proofs.RowContents.{conditions_by, same-bound, same-contents, same-direction, same-multipliers, same-plan}
+
+-- what the laws of proof files say
+pub record ProofLaws : Type 0 where
+  pub one_proof : (sets : SetLists) (vars : List Var) (names : List RowName) (all : List Fields) (p q : Proof) → IsProof sets vars names all p → IsProof sets vars names all q → p ≡ q
+  pub proof_or_fault : (sets : SetLists) (vars : List Var) (names : List RowName) (all : List Fields) (p : Proof) (fault : PlanFault) → IsProof sets vars names all p → ¬ (IsProofFault sets vars names all fault)
+
+-- the sum of a bound may be anything, that of a refutation must be positive
+abbrev any_sum : ℤ → Bool
+any_sum sum = true
+
+abbrev positive_sum : ℤ → Bool
+positive_sum sum = int_lt (pos 0) sum
+
+-- ---- where all conditions hold
+
+passed : (places : ℕ) (d : Data) (rows : List Row) (plan : List (Var × Rational)) (multipliers : List (RowName × Rational)) (gap : ℕ) (status : Status) (text : List ℕ)
+    → AllPass (check_conditions d rows plan (Some multipliers) gap) → DueForPlan places d rows plan (Some multipliers) gap status text → status ≡ Done
+passed places d rows plan multipliers gap status text pass (inl accepted) = accepted.status_is
+passed places d rows plan multipliers gap status text pass (inr (inl rejected)) = absurd (cc (sym pass.hold ∙ rejected.fails.fails))
+passed places d rows plan multipliers gap status text pass (inr (inr wide)) = absurd (cc (sym pass.fit ∙ wide.wide))
+
+said : (d : Data) (cs : List Condition) (Worth : Type 0) (words : List ℕ) (status : Status) (text : List ℕ) → AllPass cs → DueForConditions d cs Worth words status text
+    → (status ≡ Done) × (text ≡ line words)
+said d cs Worth words status text pass (inl shown) = (shown.status_is, shown.text_is)
+said d cs Worth words status text pass (inr (inl not)) = absurd (cc (sym pass.hold ∙ not.fails.fails))
+said d cs Worth words status text pass (inr (inr wide)) = absurd (cc (sym pass.fit ∙ wide.wide))
+
+module _ (laws : ProofLaws) (places : ℕ) (d : Data) (bytes : List ℕ) (gap : ℕ) (status : Status) (text : List ℕ) (rows others : List Row) (are : AreRowsOf places d (instances d) rows)
+    (so : AreRowsOf places d (instances d) others) where
+  abbrev vars : List Var
+  vars = all_variables d
+
+  same : map contents_of rows ≡ map contents_of others
+  same = same-contents places d (instances d) rows others are so
+
+  -- of a file that is read, what is due is due of what it is read as
+  told-so : (proof : Proof) → IsProof d.sets vars (instances d) (records_of bytes) proof → DueForProofFile places d others bytes gap status text → DueForProofTold places d others gap proof status text
+  told-so proof is (inl refused) = absurd (laws.proof_or_fault d.sets vars (instances d) (records_of bytes) proof refused.fault is refused.first)
+  told-so proof is (inr read) =
+      subst (λ (p : Proof). DueForProofTold places d others gap p status text) (laws.one_proof d.sets vars (instances d) (records_of bytes) read.0 proof read.1 is) read.2
+
+  module _ (multipliers kept : List (RowName × Rational)) (alike : (name : RowName) → value_in row_name_cmp kept name ≡ value_in row_name_cmp multipliers name) where
+    values : value_in row_name_cmp multipliers ≡ value_in row_name_cmp kept
+    values = fun_ext (λ name. sym (alike name))
+
+    bounds : multiplier_bound rows multipliers ≡ multiplier_bound others kept
+    bounds = ap (bound_value rows) values ∙ same-bound rows others same (value_in row_name_cmp kept)
+
+    pub optimum-accepted : (plan : List (Var × Rational)) (cost bound : Rational) → IsPlan rows vars plan cost → IsBound rows vars multipliers bound → IsNear cost bound gap
+        → IsProof d.sets vars (instances d) (records_of bytes) (Optimum plan kept) → DueForProofFile places d others bytes gap status text → status ≡ Done
+    optimum-accepted plan cost bound is proved near told due =
+        passed places d others plan kept gap status text
+        (pass-after (plan_conditions model_cost others vars plan) (bound_conditions model_cost others vars kept ++ gap_condition (plan_cost d plan) (multiplier_bound others kept) gap ∷ [])
+        (subst AllPass (same-plan rows others same model_cost vars plan) is.pass)
+        (pass-after (bound_conditions model_cost others vars kept) (gap_condition (plan_cost d plan) (multiplier_bound others kept) gap ∷ [])
+        (subst AllPass
+        (ap (conditions_by any_sum model_cost rows vars) values ∙ same-multipliers rows others same any_sum model_cost vars (value_in row_name_cmp kept)) proved.pass)
+        (subst (λ (b : Rational). AllPass (gap_condition (plan_cost d plan) b gap ∷ [])) (proved.bound_is ∙ bounds)
+        (subst (λ (c : Rational). AllPass (gap_condition c bound gap ∷ [])) is.cost_is near.pass))))
+        (told-so (Optimum plan kept) told due)
+
+    pub refutation-accepted : IsRefutation rows vars multipliers → IsProof d.sets vars (instances d) (records_of bytes) (Refutation kept) → DueForProofFile places d others bytes gap status text
+        → (status ≡ Done) × (text ≡ line (codes "accepted infeasible"))
+    refutation-accepted proved told due =
+        said d (refutation_conditions d others kept) _ (codes "accepted infeasible") status text
+        (subst AllPass
+        (ap (conditions_by positive_sum no_cost rows vars) values ∙ same-multipliers rows others same positive_sum no_cost vars (value_in row_name_cmp kept)) proved.pass)
+        (told-so (Refutation kept) told due)
+
+  pub descent-accepted : (plan direction : List (Var × Rational)) (cost : Rational) → IsPlan rows vars plan cost → IsDescent rows vars direction
+      → IsProof d.sets vars (instances d) (records_of bytes) (Descent plan direction) → DueForProofFile places d others bytes gap status text
+      → (status ≡ Done) × (text ≡ line (codes "accepted unbounded"))
+  descent-accepted plan direction cost is descends told due =
+      said d (descent_conditions d others plan direction) _ (codes "accepted unbounded") status text
+      (pass-after (plan_conditions model_cost others vars plan) (direction_conditions model_cost others vars direction)
+      (subst AllPass (same-plan rows others same model_cost vars plan) is.pass) (subst AllPass (same-direction rows others same model_cost vars direction) descends.pass))
+      (told-so (Descent plan direction) told due)

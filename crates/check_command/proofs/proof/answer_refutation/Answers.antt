@@ -1,0 +1,13 @@
+use Rattle.std.proofs.lemmas.Result.{IfOk-weaker}
+use Rattle.std.specs.Prelude.{codes}
+use Rattle.check_command.proofs.ProofLaws.{due-from_verdict}
+use Rattle.check_command.proofs.proof.answer_refutation.Goals as goal
+
+pub answer_verdict-requires : goal.answer_verdict-requires
+answer_verdict-requires c = c.in_ok-verdict.ensures.within c.args.sets.now c.requires
+
+pub returns : goal.returns
+returns c = λ places d same book.
+    IfOk-weaker c.answer_verdict.result _ _
+    (λ answer told. due-from_verdict d _ _ (codes "accepted infeasible") c.args.sets.now c.in_ok-verdict.verdict answer.status answer.text.items same (c.in_ok-verdict.ensures.judged places d book) told)
+    c.answer_verdict.ensures

@@ -1,0 +1,79 @@
+-- A row of a book defines variables of the book alone: so the place at which the exact method stops on it can be named, and so can what a solution has.
+use Rattle.std.proofs.Common.{◌≡◌, ◌≢◌, ℕ, ℤ, pos, ◌<ℤ◌, List, [], ◌∷◌, Some, inl, inr, refl, sym, subst, arith}
+use Rattle.std.proofs.lemmas.Int.{ints}
+use Rattle.std.specs.Prelude.{Contains}
+use Rattle.std.specs.List.{AllByRecursion}
+use Rattle.exact_num.specs.Rational.{Rational}
+use Rattle.model_sets.specs.Members.{SetLists}
+use Rattle.row_core.specs.declared.Row.{Row}
+use Rattle.row_core.specs.declared.RowName.{RowName}
+use Rattle.row_core.specs.declared.Var.{Var}
+use Rattle.row_core.specs.declared.place.Place.{Place}
+use Rattle.row_core.specs.Equations.{IsEquation}
+use Rattle.row_core.specs.Kinds.{IsKind}
+use Rattle.row_core.specs.NameTexts.{RowNameIsWithin, VariableIsWithin}
+use Rattle.row_core.specs.Numbers.{keys_of, variables_of}
+use Rattle.row_core.specs.Rows.{number_at}
+use Rattle.row_core.proofs.Members.{Contains-from_Has, Has, Has-flat_map, Has-from_Contains}
+use Rattle.row_core.specs.RowLists.{names_of}
+use Rattle.row_book.specs.Books.{HasNameWithin, IsWithinSets}
+use Rattle.row_book.specs.Kept.{IsBook}
+use Rattle.row_book.proofs.Columns.{has-entry}
+use Rattle.row_book.proofs.Lists.{AllByRecursion-map, all-from, all-has}
+use Rattle.command_answers.specs.Definers.{definer}
+use Rattle.exact_solver.specs.MethodEnds.{IsWide}
+use Rattle.command_answers.specs.BookMethods.{method_end}
+use Rattle.certified_answers.specs.Answers.{AreNamedIn}
+use Rattle.command_answers.proofs.BookProblems.{placed}
+use Rattle.command_answers.specs.CheckedPlans.{IsListedBook}
+use Rattle.command_answers.specs.PlacesWithin.{IsRowOfSets, PlaceIsWithin}
+use Rattle.command_answers.proofs.ListedBooks.{rows-named, vars-named}
+use Rattle.command_answers.proofs.KeptPlaces.{DefinesKept, EndIsKept, end-kept}
+
+-- ---- definitions
+
+not-zero : (z : ℤ) → pos 0 <ℤ z → z ≢ pos 0
+not-zero z positive is = let never : pos 0 <ℤ pos 0 = subst (λ w. pos 0 <ℤ w) is positive in omega (arith, ints, never)
+
+module _ (sets : SetLists) (rows : List Row) (vars : List Var) (listed : IsListedBook sets rows vars) where
+  defined-there : IsBook rows vars → (row : Row) (v : Var) → Has rows row → definer row ≡ Some v → Has vars v
+  defined-there book row v among defines =
+      let at = placed rows row among in
+      let own = (book.definitions.solvable at.place row v at.at defines).1 in
+      let entry : Has (variables_of row.entries.items) v = has-entry row.entries.items v (not-zero (number_at row.entries.items v) own) in
+      let all = Has-flat_map (λ (r : Row). variables_of r.entries.items) rows row v among entry in
+      Has-from_Contains vars v ((book.variables.each v).1 (Contains-from_Has _ v all))
+
+  pub define-within : IsBook rows vars → AllByRecursion (DefinesKept sets (IsRowOfSets sets)) rows
+  define-within book =
+      all-from (DefinesKept sets (IsRowOfSets sets)) rows
+      (λ row among. (
+        all-has (HasNameWithin sets) rows row (rows-named sets rows vars listed) among,
+        λ v defines. all-has (IsWithinSets sets) vars v (vars-named sets rows vars listed) (defined-there book row v among defines),
+      ))
+
+  -- the place at which the method stops
+  pub stop-within : IsBook rows vars → (pivots : ℕ) (place : Place) → method_end rows vars pivots ≡ IsWide place → PlaceIsWithin sets place
+  stop-within book pivots place is =
+      subst (EndIsKept sets (IsRowOfSets sets)) is (end-kept sets (IsRowOfSets sets) rows vars (define-within book) (vars-named sets rows vars listed) pivots)
+
+  -- ---- what a solution has
+
+  -- a plan or a direction with a value for each variable
+  pub plan-named : (plan : List (Var × Rational)) → keys_of plan ≡ vars → AllByRecursion (λ e. IsKind e.0.kind × VariableIsWithin sets e.0) plan
+  plan-named plan whole = go plan (subst (AllByRecursion (IsWithinSets sets)) (sym whole) (vars-named sets rows vars listed))
+    where
+      go : (es : List (Var × Rational)) → AllByRecursion (IsWithinSets sets) (keys_of es) → AllByRecursion (λ e. IsKind e.0.kind × VariableIsWithin sets e.0) es
+      go [] within = tt
+      go (e ∷ es) within = (within.0, go es within.1)
+
+  -- multipliers of rows
+  pub multipliers-named : (multipliers : List (RowName × Rational)) → AreNamedIn rows multipliers → AllByRecursion (λ e. IsEquation e.0.eq × RowNameIsWithin sets e.0) multipliers
+  multipliers-named multipliers named = go multipliers (λ name among. named.among name (Contains-from_Has (keys_of multipliers) name among))
+    where
+      names : AllByRecursion (IsRowOfSets sets) (names_of rows)
+      names = AllByRecursion-map (IsRowOfSets sets) (λ (row : Row). row.name) rows (rows-named sets rows vars listed)
+
+      go : (es : List (RowName × Rational)) → ((name : RowName) → Has (keys_of es) name → Contains (names_of rows) name) → AllByRecursion (λ e. IsEquation e.0.eq × RowNameIsWithin sets e.0) es
+      go [] among = tt
+      go (e ∷ es) among = (all-has (IsRowOfSets sets) (names_of rows) e.0 names (Has-from_Contains (names_of rows) e.0 (among e.0 (inl refl))), go es (λ name h. among name (inr h)))

@@ -1,0 +1,143 @@
+-- The data with a limit on the emissions of the model period in a region: the limit's value, and that all other values are as they were.
+use Rattle.std.proofs.Common.{◌≡◌, ◌≢◌, ℕ, ◌<◌, ℤ, pos, negsuc, Bool, true, false, cond, List, [], ◌∷◌, length, nat_eq, Option, Some, refl, sym, ap, ap₂, ◌∙◌, subst, inl, inr, arith, eqb-true, true≢false, to_z, of_z}
+use Rattle.std.specs.Prelude.{◌≤ℤ◌, Contains, unwrap_or}
+use Rattle.std.specs.Cmp.Derive.{both_true}
+use Rattle.std.specs.Int.{w128}
+use Rattle.std.specs.List.{find}
+use Rattle.std.specs.Option.{option_map, option_or}
+use Rattle.std.proofs.lemmas.Bool.{and_parts, cases_Bool, false_from_ne_true}
+use Rattle.std.proofs.lemmas.Int.{ints}
+use Rattle.exact_num.proofs.RangeLaws.{back_in_range}
+use Rattle.command_words.specs.LimitLists.{IsLimit}
+use Rattle.model_sets.specs.Data.{AreSameData, Data, IsUsedParam, default_of, indices_of, is_given_at, value_at, value_of_none}
+use Rattle.model_sets.specs.Members.{AreSets, SetLists, members}
+use Rattle.model_sets.specs.Names as sets
+use Rattle.model_sets.specs.Params.{is_used, param_at}
+use Rattle.model_sets.specs.declared.param_numbers.TheConstants.{MODEL_PERIOD_EMISSION_LIMIT}
+use Rattle.model_sets.specs.declared.set_numbers.TheConstants.{EMISSION, REGION}
+use Rattle.param_tables.specs.Changed.{AreDataWith}
+use Rattle.param_tables.proofs.GivenLaws.{names_same}
+use Rattle.param_tables.proofs.IndexLaws.{names_apart_from}
+use Rattle.row_core.specs.declared.Index.{Index}
+use Rattle.row_core.specs.declared.equation_numbers.TheConstants.{E9}
+use Rattle.row_core.specs.Subscripts as place
+use Rattle.named_equations.specs.Indices.{at_re}
+use Rattle.named_equations.specs.Instances.{is_index, name_at, subscripts_of}
+use Rattle.named_equations.specs.Parameters.{model_period_emission_limit}
+use Rattle.named_equations.specs.Where.{is_limit}
+use Rattle.named_equations.specs.Within.{IsEmission, IsRegion}
+use Rattle.named_equations.proofs.PositionsInSets.{are_in_sets}
+use Rattle.row_book.proofs.Subscripts.{index-tidied, values-from_index}
+use Rattle.curve_command.specs.KeptRows.{IsMemberOf}
+use Rattle.curve_command.specs.Limited.{given_limit, limit_at, limit_names, with_limit}
+use Rattle.curve_command.specs.declared.trials.Member.{Member}
+
+-- a region and an emission of sets whose members are apart
+pub record IsPlace (d : Data) (r e : ℕ) : Type 0 where
+  pub sets : AreSets d.sets
+  pub region : IsRegion d r
+  pub emission : IsEmission d e
+
+-- a limit that isn't negative is one, so it has its equation
+pub is-limit : (value : ℤ) → pos 0 ≤ℤ value → is_limit value ≡ true
+is-limit (pos n) least = refl
+is-limit (negsuc n) least = absurd (omega (arith, ints, least))
+
+module _ (d : Data) (r e : ℕ) (z : ℤ) where
+  abbrev limited : Data
+  limited = with_limit d r e z
+
+  -- whether a value is the limit's, and the value by that test
+  abbrev is_own : ℕ → List (List ℕ) → Bool
+  is_own param index = is_given_at param index (given_limit d r e z)
+
+  abbrev chosen : ℕ → List (List ℕ) → Bool → Option ℤ
+  chosen param index b =
+      option_or (option_map (λ given. given.value) (cond b (Some (given_limit d r e z)) (find (is_given_at param index) d.given))) (option_or (default_of d param) (value_of_none param))
+
+  own-value : (param : ℕ) (index : List (List ℕ)) → is_own param index ≡ true → value_at limited param index ≡ Some z
+  own-value param index is = ap (chosen param index) is
+
+  other-value : (param : ℕ) (index : List (List ℕ)) → is_own param index ≡ false → value_at limited param index ≡ value_at d param index
+  other-value param index is = ap (chosen param index) is
+
+  own-parts : (param : ℕ) (index : List (List ℕ)) → is_own param index ≡ true → (MODEL_PERIOD_EMISSION_LIMIT ≡ param) × (limit_names d r e ≡ index)
+  own-parts param index is =
+      let parts = and_parts (nat_eq MODEL_PERIOD_EMISSION_LIMIT param) _ is in (eqb-true MODEL_PERIOD_EMISSION_LIMIT param parts.0, (names_same (limit_names d r e) index).0 parts.1)
+
+  own-itself : is_own MODEL_PERIOD_EMISSION_LIMIT (limit_names d r e) ≡ true
+  own-itself = both_true refl ((names_same (limit_names d r e) (limit_names d r e)).1 refl)
+
+  -- ---- the limit at positions
+
+  limit-other : (r' e' : ℕ) → is_own MODEL_PERIOD_EMISSION_LIMIT (limit_names d r' e') ≡ false → model_period_emission_limit limited r' e' ≡ model_period_emission_limit d r' e'
+  limit-other r' e' is = ap (λ value. unwrap_or value (pos 0)) (other-value MODEL_PERIOD_EMISSION_LIMIT (limit_names d r' e') is)
+
+  limit-own : (r' e' : ℕ) → is_own MODEL_PERIOD_EMISSION_LIMIT (limit_names d r' e') ≡ true → model_period_emission_limit limited r' e' ≡ z
+  limit-own r' e' is = ap (λ value. unwrap_or value (pos 0)) (own-value MODEL_PERIOD_EMISSION_LIMIT (limit_names d r' e') is)
+
+  pub limit-here : model_period_emission_limit limited r e ≡ z
+  limit-here = limit-own r e own-itself
+
+  -- at an instance of another name it is as it was
+  pub limit-apart : IsPlace d r e → (i : Index) → is_index d (subscripts_of E9) i ≡ true → name_at E9 i ≢ limit_at r e → model_period_emission_limit d i.region i.emission ≡ model_period_emission_limit limited i.region i.emission
+  limit-apart at i within apart =
+      sym (limit-other i.region i.emission
+      (false_from_ne_true _
+      (λ own.
+      let same : limit_names d r e ≡ limit_names d i.region i.emission = (own-parts MODEL_PERIOD_EMISSION_LIMIT (limit_names d i.region i.emission) own).1 in
+      let there = are_in_sets d (subscripts_of E9) i within in
+      let one = (names_apart_from d.sets at.sets).apart sets.region r i.region (omega arith, omega arith) at.region (there.region refl) (cc same) in
+      let two = (names_apart_from d.sets at.sets).apart sets.emission e i.emission (omega arith, omega arith) at.emission (there.emission refl) (cc same) in
+      let subscripts : List ℕ = place.r ∷ place.e ∷ [] in
+      let tidied : i ≡ at_re i.region i.emission = index-tidied d subscripts i (values-from_index d subscripts i within) in
+      apart (ap (name_at E9) (tidied ∙ ap₂ at_re (sym one) (sym two))))))
+
+  -- ---- data of the model with the limit
+
+  -- data that are the model's but for the limit are the same as any data of the model with the limit
+  pub same-limited : (model changed : Data) → AreSameData model d → AreDataWith MODEL_PERIOD_EMISSION_LIMIT (limit_names model r e) z model changed → AreSameData changed limited
+  same-limited model changed same with = record { sets = with.sets ∙ same.sets; second = with.second ∙ same.second; values = values-alike }
+    where
+      names-are : limit_names d r e ≡ limit_names model r e
+      names-are = ap (λ (sets : SetLists). limit_names (record { sets = sets; given = d.given; defaults = d.defaults; second = d.second }) r e) (sym same.sets)
+
+      values-alike : (param : ℕ) → IsUsedParam changed param → (index : List (List ℕ)) → Contains (indices_of changed.sets param) index → value_at changed param index ≡ value_at limited param index
+      values-alike param used index has = elim (cases_Bool (is_own param index)) [
+        | inl own ↦
+            let parts = own-parts param index own in
+            subst (λ p. value_at changed p index ≡ Some z) parts.0
+            (subst (λ i. value_at changed MODEL_PERIOD_EMISSION_LIMIT i ≡ Some z) (sym names-are ∙ parts.1) with.here)
+            ∙ sym (own-value param index own)
+        | inr other ↦
+            let used_before : IsUsedParam model param = (used.0, subst (λ second. is_used second (param_at param).used ≡ true) with.second used.1) in
+            let has_before : Contains (indices_of model.sets param) index = subst (λ (sets : SetLists). Contains (indices_of sets param) index) with.sets has in
+            with.elsewhere param used_before index has_before
+            (λ of_limit at_limit.
+            let own : is_own param index ≡ true = subst (λ p. is_own p index ≡ true) (sym of_limit) (subst (λ i. is_own MODEL_PERIOD_EMISSION_LIMIT i ≡ true) (names-are ∙ sym at_limit) own-itself) in
+            true≢false (sym own ∙ other))
+            ∙ same.values param used_before index has_before
+            ∙ sym (other-value param index other)
+      ]
+
+-- two limits that aren't negative have an equation at the same indices
+pub limits-stand : (d : Data) (r e : ℕ) (y z : ℤ) → pos 0 ≤ℤ y → pos 0 ≤ℤ z → (r' e' : ℕ)
+    → is_limit (model_period_emission_limit (with_limit d r e y) r' e') ≡ is_limit (model_period_emission_limit (with_limit d r e z) r' e')
+limits-stand d r e y z y_least z_least r' e' = elim (cases_Bool (is_own d r e y MODEL_PERIOD_EMISSION_LIMIT (limit_names d r' e'))) [
+  | inl own ↦ ap is_limit (limit-own d r e y r' e' own) ∙ is-limit y y_least ∙ sym (ap is_limit (limit-own d r e z r' e' own) ∙ is-limit z z_least)
+  | inr other ↦ ap is_limit (limit-other d r e y r' e' other ∙ sym (limit-other d r e z r' e' other))
+]
+
+-- ---- the limits of trials
+
+-- a member of the sets of the data is a place of them
+pub place-of : (sets : SetLists) (d : Data) (member : Member) → sets ≡ d.sets → AreSets sets → IsMemberOf sets member → IsPlace d member.region member.emission
+place-of sets d member same are of_member = record {
+  sets = subst AreSets same are;
+  region = subst (λ (s : SetLists). member.region < length (members s REGION)) same of_member.region;
+  emission = subst (λ (s : SetLists). member.emission < length (members s EMISSION)) same of_member.emission;
+}
+
+-- a limit fits
+pub limit-fits : (z : ℤ) → IsLimit z → to_z w128 (of_z w128 z) ≡ z
+limit-fits z is = back_in_range z (omega (arith, is.1))

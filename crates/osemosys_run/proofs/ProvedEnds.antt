@@ -1,0 +1,116 @@
+-- What `solve` writes to prove an end is accepted by `check`.
+use Rattle.std.proofs.Common.{◌≡◌, ℕ, List, [], inl, inr, refl, sym, ◌∙◌, subst}
+use Rattle.std.specs.Prelude.{codes}
+use Rattle.model_sets.specs.Data.{Data}
+use Rattle.mps_writer.specs.MpsText.{line}
+use Rattle.row_core.specs.declared.Row.{Row}
+use Rattle.row_core.specs.declared.RowName.{RowName}
+use Rattle.row_core.specs.declared.place.Place.{Place}
+use Rattle.named_equations.specs.Existence.{all_variables}
+use Rattle.named_equations.specs.Instances.{instances}
+use Rattle.row_book.specs.Books.{AreRowsOf, CanBeMade, HasStopped}
+use Rattle.row_book.specs.declared.fail.BookFail.{BookFail}
+use Rattle.row_book.specs.declared.fail.BookFail.TheVariants as book
+use Rattle.simplex_core.specs.declared.stops.Stop.{Stop}
+use Rattle.command_answers.specs.declared.status.Status.{Status}
+use Rattle.command_answers.specs.declared.status.Status.TheVariants.{Done, Infeasible, Refused, Unbounded, Uncertified}
+use Rattle.command_answers.specs.declared.status.Refusal.{Refusal}
+use Rattle.command_answers.specs.MadeBooks.{HasNoProgram, HasNoRows}
+use Rattle.command_words.specs.declared.command.SolveMethod.{SolveMethod}
+use Rattle.command_words.specs.declared.command.SolveMethod.TheVariants.{Exact, Rounded}
+use Rattle.check_command.specs.CheckProof.{DueForProof, DueForProofFile}
+use Rattle.check_command.proofs.AcceptedProofs.{ProofLaws, descent-accepted, optimum-accepted, refutation-accepted}
+use Rattle.solve_command.specs.declared.solve.Shown.TheVariants.{Proof}
+use Rattle.solve_command.specs.Solve.{DueForEnd, DueForMethod, DueForSolve}
+use Rattle.osemosys_run.specs.Accepting.{AcceptsEnd}
+
+-- which status an end has
+ends-solved : (end status : Status) (text : List ℕ) → end ≡ Done → status ≡ Done → AcceptsEnd end status text
+ends-solved end status text is done = record {
+  solved = λ h. done;
+  infeasible = λ h. let e : Done ≡ Infeasible = sym is ∙ h in absurd (cc e);
+  unbounded = λ h. let e : Done ≡ Unbounded = sym is ∙ h in absurd (cc e);
+}
+
+ends-infeasible : (end status : Status) (text : List ℕ) → end ≡ Infeasible → (status ≡ Done) × (text ≡ line (codes "accepted infeasible")) → AcceptsEnd end status text
+ends-infeasible end status text is said = record {
+  solved = λ h. let e : Infeasible ≡ Done = sym is ∙ h in absurd (cc e);
+  infeasible = λ h. said;
+  unbounded = λ h. let e : Infeasible ≡ Unbounded = sym is ∙ h in absurd (cc e);
+}
+
+ends-unbounded : (end status : Status) (text : List ℕ) → end ≡ Unbounded → (status ≡ Done) × (text ≡ line (codes "accepted unbounded")) → AcceptsEnd end status text
+ends-unbounded end status text is said = record {
+  solved = λ h. let e : Unbounded ≡ Done = sym is ∙ h in absurd (cc e);
+  infeasible = λ h. let e : Unbounded ≡ Infeasible = sym is ∙ h in absurd (cc e);
+  unbounded = λ h. said;
+}
+
+-- of another status nothing is said
+stopped-so : (end status : Status) (text : List ℕ) (stop : Stop) → end ≡ Uncertified stop → AcceptsEnd end status text
+stopped-so end status text stop is = record {
+  solved = λ h. let e : Uncertified stop ≡ Done = sym is ∙ h in absurd (cc e);
+  infeasible = λ h. let e : Uncertified stop ≡ Infeasible = sym is ∙ h in absurd (cc e);
+  unbounded = λ h. let e : Uncertified stop ≡ Unbounded = sym is ∙ h in absurd (cc e);
+}
+
+refused-so : (end status : Status) (text : List ℕ) (refusal : Refusal) → end ≡ Refused refusal → AcceptsEnd end status text
+refused-so end status text refusal is = record {
+  solved = λ h. let e : Refused refusal ≡ Done = sym is ∙ h in absurd (cc e);
+  infeasible = λ h. let e : Refused refusal ≡ Infeasible = sym is ∙ h in absurd (cc e);
+  unbounded = λ h. let e : Refused refusal ≡ Unbounded = sym is ∙ h in absurd (cc e);
+}
+
+width_or_memory : (place : Place) → book.Width place ≡ book.Memory → ⊥
+width_or_memory place e = cc e
+
+many_or_memory : book.TooManyEntries ≡ book.Memory → ⊥
+many_or_memory e = cc e
+
+module _ (laws : ProofLaws) (made_law : (places : ℕ) (d : Data) (before : ℕ) (names : List RowName) (fail : BookFail) → CanBeMade places d before names → HasStopped places d before names fail → fail ≡ book.Memory)
+    (places gap pivots : ℕ) (d : Data) (some : all_variables d ≡ [] → ⊥) (rounded : ℕ) (end : Status) (file : List ℕ) (status : Status) (text : List ℕ) where
+  module _ (rows others : List Row) (are : AreRowsOf places d (instances d) rows) (so : AreRowsOf places d (instances d) others) (due : DueForProofFile places d others file gap status text) where
+    of_end : DueForEnd places d rows gap pivots Proof rounded end file → AcceptsEnd end status text
+    of_end (inl solved) =
+        ends-solved end status text solved.status_is
+        (optimum-accepted laws places d file gap status text rows others are so solved.multipliers solved.told.kept solved.told.same solved.plan solved.cost solved.bound solved.optimum.near.checked
+        solved.optimum.near.proved solved.optimum.near.gap_kept (solved.told.read some) due)
+    of_end (inr (inl (infeasible, told))) =
+        ends-infeasible end status text infeasible.status_is
+        (refutation-accepted laws places d file gap status text rows others are so infeasible.multipliers told.kept told.same infeasible.refuted.proved (told.read some) due)
+    of_end (inr (inr (inl (unbounded, told)))) =
+        ends-unbounded end status text unbounded.status_is
+        (descent-accepted laws places d file gap status text rows others are so unbounded.plan unbounded.direction unbounded.unbounded.cost unbounded.unbounded.checked unbounded.unbounded.descends (told some) due)
+    of_end (inr (inr (inr (inl out)))) = stopped-so end status text _ out.status_is
+    of_end (inr (inr (inr (inr (inl wide))))) = stopped-so end status text _ wide.status_is
+    of_end (inr (inr (inr (inr (inr (inl wide)))))) = stopped-so end status text _ wide.status_is
+    of_end (inr (inr (inr (inr (inr (inr second)))))) =
+        ends-solved end status text second.status_is
+        (optimum-accepted laws places d file gap status text rows others are so second.found.multipliers second.told.kept second.told.same second.found.plan second.found.cost second.found.bound second.optimum.checked
+        second.optimum.proved second.optimum.gap_kept (second.told.read some) due)
+
+    of_method : (method : SolveMethod) → DueForMethod places d rows gap pivots Proof method rounded end file → AcceptsEnd end status text
+    of_method Exact of = of_end of
+    of_method Rounded (inl found) =
+        ends-solved end status text found.status_is
+        (optimum-accepted laws places d file gap status text rows others are so found.multipliers found.told.kept found.told.same found.plan found.cost found.bound found.optimum.checked found.optimum.proved
+        found.optimum.gap_kept (found.told.read some) due)
+    of_method Rounded (inr (inl (infeasible, told))) =
+        ends-infeasible end status text infeasible.status_is
+        (refutation-accepted laws places d file gap status text rows others are so infeasible.multipliers told.kept told.same infeasible.refuted.proved (told.read some) due)
+    of_method Rounded (inr (inr of)) = of_end of
+
+  no-program : HasNoProgram places d end file → AcceptsEnd end status text
+  no-program (inl large) = refused-so end status text _ large.due.status_is
+  no-program (inr (inl wide)) = stopped-so end status text _ wide.status_is
+  no-program (inr (inr many)) = refused-so end status text _ many.status_is
+
+  -- where the rows were made, they are made again
+  made-again : CanBeMade places d 0 (instances d) → HasNoRows places d status text → ⊥
+  made-again can (inl wide) = width_or_memory (Place.Row wide.name) (made_law places d 0 (instances d) (book.Width (Place.Row wide.name)) can (wide.name, refl, wide.wide))
+  made-again can (inr many) = many_or_memory (made_law places d 0 (instances d) book.TooManyEntries can (many.name, many.many))
+
+  pub accepts-end : (method : SolveMethod) → DueForSolve places gap pivots Proof method rounded d end file → DueForProof places file gap d status text → AcceptsEnd end status text
+  accepts-end method (inl made) (inl again) = of_method made.rows again.rows made.are_rows again.are_rows again.due method made.due.1
+  accepts-end method (inl made) (inr none) = absurd (made-again made.made none)
+  accepts-end method (inr none) due = no-program none

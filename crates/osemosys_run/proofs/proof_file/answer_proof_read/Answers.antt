@@ -1,0 +1,14 @@
+use Rattle.std.proofs.Common.{◌≡◌, inl, inr}
+use Rattle.std.proofs.lemmas.Result.{IfOk-weaker, MatchResult-at_err, MatchResult-at_ok}
+use Rattle.model_sets.specs.Data.{AreSameData, Data}
+use Rattle.command_answers.specs.Accepted.{Accepted}
+use Rattle.osemosys_run.proofs.proof_file.answer_proof_read.Goals as goal
+
+pub returns-in-Ok : goal.returns-in-Ok
+returns-in-Ok c = λ text stands short.
+    let found : (d : Data) × (accepted : Accepted text d) × AreSameData c.in-Ok.model.facts d × (c.in-Ok.model.rounded ≡ accepted.blocks.rounded) =
+    MatchResult-at_ok _ _ c.in-Ok.model c.in-Ok.is (c.in_ok-model.ensures text stands short) in
+    IfOk-weaker c.answer_proof.result _ _ (λ answer due. inr (found.0, found.1, due)) (c.answer_proof.ensures found.0 found.2)
+
+pub returns-in-Err : goal.returns-in-Err
+returns-in-Err c = λ text stands short. inl (MatchResult-at_err _ _ c.in-Err.answer c.in-Err.is (c.in_ok-model.ensures text stands short))

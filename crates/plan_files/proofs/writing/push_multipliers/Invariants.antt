@@ -1,0 +1,10 @@
+-- What is written and the records of the rows that are left are the whole.
+use Rattle.std.proofs.Common.{◌≡◌, ◌++◌, drop, map}
+use Rattle.row_core.specs.Plans.{valued}
+use Rattle.plan_files.specs.Records.{nonzero, row_record}
+use Rattle.plan_files.specs.Texts.{records_text}
+use Rattle.plan_files.proofs.writing.push_multipliers.Given as goal
+
+abbrev pub invariant-loop-name : goal.invariant-loop-name
+invariant-loop-name l =
+    l.out.items ++ records_text (map (row_record l.sets) (nonzero (map valued (drop l.name-index l.entries)))) ≡ l.fn.out.items ++ records_text (map (row_record l.sets) (nonzero (map valued l.entries)))

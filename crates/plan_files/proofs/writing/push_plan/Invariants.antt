@@ -1,0 +1,10 @@
+-- What is written and the records of the variables that are left are the whole.
+use Rattle.std.proofs.Common.{◌≡◌, ◌++◌, drop, map}
+use Rattle.row_core.specs.Plans.{valued}
+use Rattle.plan_files.specs.Records.{variable_record}
+use Rattle.plan_files.specs.Texts.{records_text}
+use Rattle.plan_files.proofs.writing.push_plan.Given as goal
+
+abbrev pub invariant-loop-variable : goal.invariant-loop-variable
+invariant-loop-variable l =
+    l.out.items ++ records_text (map (variable_record l.sets) (map valued (drop l.variable-index l.entries))) ≡ l.fn.out.items ++ records_text (map (variable_record l.sets) (map valued l.entries))

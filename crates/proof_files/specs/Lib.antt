@@ -1,0 +1,2 @@
+pub mod ProofRecords
+pub mod Proofs
