@@ -1,5 +1,5 @@
 -- A text is accepted with one model's data, or refused by one line.
-use Rattle.std.proofs.Common.{◌≡◌, ℕ, inl, inr, List, Option, Some, None, ap, sym, ◌∙◌, subst}
+use Rattle.std.proofs.Common.{◌≡◌, ℕ, inl, inr, List, Option, Some, None, ap, sym, ◌∙◌}
 use Rattle.mathprog_data.specs.Meaning.{Blocks}
 use Rattle.mathprog_data.specs.Verdicts.{FaultAt, Says}
 use Rattle.mathprog_data.specs.declared.blocks.Mark.{Mark}
@@ -10,7 +10,7 @@ use Rattle.param_tables.specs.SetRefusals.{first_set_refusal}
 use Rattle.command_answers.specs.declared.status.Status.{Status}
 use Rattle.command_answers.specs.Accepted.{Accepted}
 use Rattle.command_answers.specs.NotAccepted.{DueWhereNotAccepted, RefusesBlocks}
-use Rattle.command_answers.specs.RefusalLines.{text_line, set_line, data_line}
+use Rattle.command_answers.specs.RefusalLines.{set_line, data_line}
 
 -- what the laws of the reader say
 pub record ReaderLaws : Type 0 where
@@ -36,7 +36,7 @@ pub not_both : ReaderLaws → (text : List ℕ) (d : Data) (status : Status) (li
 not_both laws text d status line a (inl refused) = laws.not_both text a.blocks refused.fault.no refused.fault.at a.says refused.first
 not_both laws text d status line a (inr said) =
     let same : said.0 ≡ a.blocks = laws.one_reading text said.0 a.blocks said.1 a.says in
-    accepted_or_refused a.blocks status line a.sets_accepted a.data_accepted (subst (λ (blocks : Blocks). RefusesBlocks blocks status line) same said.2)
+    accepted_or_refused a.blocks status line a.sets_accepted a.data_accepted (rw same at said.2)
 
 -- blocks are refused by one line
 one_line_of_blocks : (blocks : Blocks) (status other : Status) (line another : List ℕ) → RefusesBlocks blocks status line → RefusesBlocks blocks other another → line ≡ another
@@ -48,9 +48,9 @@ one_line_of_blocks blocks status other line another (inr a) (inr b) = a.line_is 
 pub one_line : ReaderLaws → (text : List ℕ) (status other : Status) (line another : List ℕ) → DueWhereNotAccepted text status line → DueWhereNotAccepted text other another → line ≡ another
 one_line laws text status other line another (inl a) (inl b) =
     let same = laws.one_fault text a.fault.no b.fault.no a.fault.at b.fault.at a.first b.first in
-    a.line_is ∙ ap (λ (n : ℕ). text_line n a.fault.at) same.0 ∙ ap (λ (m : Mark). text_line b.fault.no m) same.1 ∙ sym b.line_is
+    (rw (same.0, same.1) at a.line_is) ∙ sym b.line_is
 one_line laws text status other line another (inl a) (inr b) = absurd (laws.not_both text b.0 a.fault.no a.fault.at b.1 a.first)
 one_line laws text status other line another (inr a) (inl b) = absurd (laws.not_both text a.0 b.fault.no b.fault.at a.1 b.first)
 one_line laws text status other line another (inr a) (inr b) =
     let same : b.0 ≡ a.0 = laws.one_reading text b.0 a.0 b.1 a.1 in
-    one_line_of_blocks a.0 status other line another a.2 (subst (λ (blocks : Blocks). RefusesBlocks blocks other another) same b.2)
+    one_line_of_blocks a.0 status other line another a.2 (rw same at b.2)

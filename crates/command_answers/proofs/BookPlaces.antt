@@ -1,7 +1,6 @@
 -- A row of a book defines variables of the book alone: so the place at which the exact method stops on it can be named, and so can what a solution has.
-use Rattle.std.proofs.Common.{◌≡◌, ◌≢◌, ℕ, ℤ, pos, ◌<ℤ◌, List, [], ◌∷◌, Some, inl, inr, refl, sym, subst, arith}
+use Rattle.std.proofs.Common.{◌≡◌, ◌≢◌, ℕ, ℤ, pos, ◌<ℤ◌, List, [], ◌∷◌, Some, sym, subst, arith}
 use Rattle.std.proofs.lemmas.Int.{ints}
-use Rattle.std.specs.Prelude.{Contains}
 use Rattle.std.specs.List.{AllByRecursion}
 use Rattle.exact_num.specs.Rational.{Rational}
 use Rattle.model_sets.specs.Members.{SetLists}
@@ -30,10 +29,15 @@ use Rattle.command_answers.specs.PlacesWithin.{IsRowOfSets, PlaceIsWithin}
 use Rattle.command_answers.proofs.ListedBooks.{rows-named, vars-named}
 use Rattle.command_answers.proofs.KeptPlaces.{DefinesKept, EndIsKept, end-kept}
 
+-- what holds of each key holds of that of each entry
+pub each-key : {K A : Type 0} (P : K → Type 0) (es : List (K × A)) → AllByRecursion P (keys_of es) → AllByRecursion (λ (e : K × A). P e.0) es
+each-key P [] of = tt
+each-key P (e ∷ es) of = (of.0, each-key P es of.1)
+
 -- ---- definitions
 
 not-zero : (z : ℤ) → pos 0 <ℤ z → z ≢ pos 0
-not-zero z positive is = let never : pos 0 <ℤ pos 0 = subst (λ w. pos 0 <ℤ w) is positive in omega (arith, ints, never)
+not-zero z positive is = omega (arith, ints, positive, is)
 
 module _ (sets : SetLists) (rows : List Row) (vars : List Var) (listed : IsListedBook sets rows vars) where
   defined-there : IsBook rows vars → (row : Row) (v : Var) → Has rows row → definer row ≡ Some v → Has vars v
@@ -61,19 +65,14 @@ module _ (sets : SetLists) (rows : List Row) (vars : List Var) (listed : IsListe
 
   -- a plan or a direction with a value for each variable
   pub plan-named : (plan : List (Var × Rational)) → keys_of plan ≡ vars → AllByRecursion (λ e. IsKind e.0.kind × VariableIsWithin sets e.0) plan
-  plan-named plan whole = go plan (subst (AllByRecursion (IsWithinSets sets)) (sym whole) (vars-named sets rows vars listed))
-    where
-      go : (es : List (Var × Rational)) → AllByRecursion (IsWithinSets sets) (keys_of es) → AllByRecursion (λ e. IsKind e.0.kind × VariableIsWithin sets e.0) es
-      go [] within = tt
-      go (e ∷ es) within = (within.0, go es within.1)
+  plan-named plan whole = each-key (IsWithinSets sets) plan (subst (AllByRecursion (IsWithinSets sets)) (sym whole) (vars-named sets rows vars listed))
 
   -- multipliers of rows
   pub multipliers-named : (multipliers : List (RowName × Rational)) → AreNamedIn rows multipliers → AllByRecursion (λ e. IsEquation e.0.eq × RowNameIsWithin sets e.0) multipliers
-  multipliers-named multipliers named = go multipliers (λ name among. named.among name (Contains-from_Has (keys_of multipliers) name among))
+  multipliers-named multipliers named =
+      each-key (IsRowOfSets sets) multipliers
+      (all-from (IsRowOfSets sets) (keys_of multipliers)
+      (λ name among. all-has (IsRowOfSets sets) (names_of rows) name names (Has-from_Contains (names_of rows) name (named.among name (Contains-from_Has (keys_of multipliers) name among)))))
     where
       names : AllByRecursion (IsRowOfSets sets) (names_of rows)
       names = AllByRecursion-map (IsRowOfSets sets) (λ (row : Row). row.name) rows (rows-named sets rows vars listed)
-
-      go : (es : List (RowName × Rational)) → ((name : RowName) → Has (keys_of es) name → Contains (names_of rows) name) → AllByRecursion (λ e. IsEquation e.0.eq × RowNameIsWithin sets e.0) es
-      go [] among = tt
-      go (e ∷ es) among = (all-has (IsRowOfSets sets) (names_of rows) e.0 names (Has-from_Contains (names_of rows) e.0 (among e.0 (inl refl))), go es (λ name h. among name (inr h)))

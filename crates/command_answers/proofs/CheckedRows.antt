@@ -1,5 +1,6 @@
 -- The rows of a book hold of a plan exactly where the plan meets the named equations, and what the checks say of rows they say of the equations.
-use Rattle.std.proofs.Common.{◌≡◌, ℕ, ℤ, pos, ◌*ℤ◌, ◌≤ℤ◌, Bool, true, false, List, [], ◌∷◌, refl, subst, inl, inr, sym}
+use Rattle.std.proofs.Common.{◌≡◌, ℕ, ℤ, pos, ◌*ℤ◌, ◌≤ℤ◌, Bool, true, false, List, [], ◌∷◌, refl, subst, inl, inr}
+use Rattle.std.specs.Prelude.{◌↔◌}
 use Rattle.exact_num.specs.Rational.{Rational}
 use Rattle.model_sets.specs.Data.{Data}
 use Rattle.row_core.specs.declared.Row.{Row}
@@ -22,17 +23,13 @@ use Rattle.command_answers.proofs.PlanCosts.{all-of, cost-is}
 
 -- ---- rows and equations
 
-meets-each : (places : ℕ) (d : Data) (q : ℕ) (x : Var → ℤ) (names : List RowName) (rows : List Row) → AreRowsOf places d names rows → AllStand (λ row. row.rhs *ℤ pos q) rows x → MeetsEach places d q x names
-meets-each places d q x [] [] are stand = tt
-meets-each places d q x [] (row ∷ rows) are stand = absurd are
-meets-each places d q x (name ∷ names) [] are stand = absurd are
-meets-each places d q x (name ∷ names) (row ∷ rows) are stand = ((are.0.says q x).0 stand.0, meets-each places d q x names rows are.1 stand.1)
-
-stand-all : (places : ℕ) (d : Data) (q : ℕ) (x : Var → ℤ) (names : List RowName) (rows : List Row) → AreRowsOf places d names rows → MeetsEach places d q x names → AllStand (λ row. row.rhs *ℤ pos q) rows x
-stand-all places d q x [] [] are meets = tt
-stand-all places d q x [] (row ∷ rows) are meets = absurd are
-stand-all places d q x (name ∷ names) [] are meets = absurd are
-stand-all places d q x (name ∷ names) (row ∷ rows) are meets = ((are.0.says q x).1 meets.0, stand-all places d q x names rows are.1 meets.1)
+rows-say : (places : ℕ) (d : Data) (q : ℕ) (x : Var → ℤ) (names : List RowName) (rows : List Row) → AreRowsOf places d names rows → AllStand (λ row. row.rhs *ℤ pos q) rows x ↔ MeetsEach places d q x names
+rows-say places d q x [] [] are = (λ stand. tt, λ meets. tt)
+rows-say places d q x [] (row ∷ rows) are = absurd are
+rows-say places d q x (name ∷ names) [] are = absurd are
+rows-say places d q x (name ∷ names) (row ∷ rows) are =
+    let rest = rows-say places d q x names rows are.1 in
+    (λ stand. ((are.0.says q x).0 stand.0, rest.0 stand.1), λ meets. ((are.0.says q x).1 meets.0, rest.1 meets.1))
 
 -- ---- signs
 
@@ -59,7 +56,7 @@ signs-each (w ∷ ws) x h = (is-right (kind_is_free w.kind) (x w) (h w (inl refl
 pub book-of : (places : ℕ) (d : Data) (rows : List Row) (vars : List Var) (same_rows : List Row) (same_vars : List Var) → same_rows ≡ rows → same_vars ≡ vars
     → IsBookOf places d rows vars → IsBookOf places d same_rows same_vars
 book-of places d rows vars same_rows same_vars rows_are vars_are book =
-    subst (λ rs. IsBookOf places d rs same_vars) (sym rows_are) (subst (λ vs. IsBookOf places d rows vs) (sym vars_are) book)
+    rw (rows_are, vars_are) book
 
 -- ---- plans
 
@@ -71,14 +68,14 @@ module _ (places : ℕ) (d : Data) (rows : List Row) (vars : List Var) (book : I
   pub feasible-from_rows : (q : ℕ) (x : Var → ℤ) → MeetsAll rows vars q x → Feasible places d q x
   feasible-from_rows q x meets = record {
     positive = meets.positive;
-    equations = meets-each places d q x (instances d) rows book.are_rows meets.rows_hold;
+    equations = (rows-say places d q x (instances d) rows book.are_rows).0 meets.rows_hold;
     signs = λ v there fixed. sign-at vars x v meets.signs (Has-from_Contains vars v (book.whole v there)) fixed;
   }
 
   pub rows-from_feasible : (q : ℕ) (x : Var → ℤ) → Feasible places d q x → MeetsAll rows vars q x
   rows-from_feasible q x feasible = record {
     positive = feasible.positive;
-    rows_hold = stand-all places d q x (instances d) rows book.are_rows feasible.equations;
+    rows_hold = (rows-say places d q x (instances d) rows book.are_rows).1 feasible.equations;
     signs = signs-each vars x (λ v there fixed. feasible.signs v (book.exist v (Contains-from_Has vars v there)) fixed);
   }
 
@@ -88,8 +85,7 @@ module _ (places : ℕ) (d : Data) (rows : List Row) (vars : List Var) (book : I
 
   -- a bound on what the rows admit bounds every feasible plan
   pub bounds-feasible : (bound : Rational) → BoundsAll model_cost rows vars bound → BoundsFeasible places d bound
-  bounds-feasible bound bounds = λ q x feasible.
-      subst (λ (z : ℤ). (bound.top *ℤ pos q) ≤ℤ (z *ℤ bound.bottom)) (costs-same x) (bounds q x (rows-from_feasible q x feasible))
+  bounds-feasible bound bounds = λ q x feasible. rw (costs-same x) at (bounds q x (rows-from_feasible q x feasible))
 
   -- values that meet all rows are a feasible plan, and cost what they do over the rows
   pub are-feasible : (plan : List (Var × Rational)) (amount : Rational) → AreOverSome var_cmp plan
@@ -97,7 +93,7 @@ module _ (places : ℕ) (d : Data) (rows : List Row) (vars : List Var) (book : I
   are-feasible plan amount some meets = record {
     some = some;
     feasible = λ q x over. feasible-from_rows q x (meets q x over).0;
-    costs = λ q x over. subst (λ (z : ℤ). IsOver (pos q) amount z) (costs-same x) (meets q x over).1;
+    costs = λ q x over. rw (costs-same x) at (meets q x over).1;
   }
 
   -- where the rows admit no plan, none is feasible

@@ -1,6 +1,7 @@
 -- The places of the steps that the exact method takes are those of rows that pass a test of names, where all rows do, and of variables of the sets: so the place at which it
 -- stops has a name that can be written.
-use Rattle.std.proofs.Common.{◌≡◌, ℕ, zero, suc, ℤ, Bool, true, false, if◌then◌else◌, List, [], ◌∷◌, ◌++◌, map, filter, Option, Some, None, refl, subst}
+use Rattle.std.proofs.Common.{◌≡◌, ℕ, zero, suc, ℤ, Bool, true, false, if◌then◌else◌, List, [], ◌∷◌, ◌++◌, map, filter, Option, Some, None, inl, inr, refl, subst}
+use Rattle.std.proofs.lemmas.Bool.{cases_Bool}
 use Rattle.std.proofs.lemmas.Option.{same_Some}
 use Rattle.std.specs.Prelude.{⊤}
 use Rattle.std.specs.List.{AllByRecursion}
@@ -32,7 +33,7 @@ use Rattle.written_method.specs.Lifted.{lifted_steps, lifted_value, no_right_sid
 use Rattle.written_method.specs.Multiplied.{defined_steps, scaled_multipliers, scaled_steps}
 use Rattle.written_method.specs.Programs.{LinearProgram, is_split}
 use Rattle.written_method.specs.Rounds.{Due, NoColumn, NoRow, Pivot, State, after, due, step_of}
-use Rattle.written_method.specs.Runs.{Answer, End, Ended, Infeasible, Optimal, PivotDue, RanOut, Unbounded, Run, answer, answer_of, ended, no_column, run}
+use Rattle.written_method.specs.Runs.{Answer, End, Ended, Optimal, PivotDue, RanOut, Unbounded, Run, answer, answer_of, ended, no_column, run}
 use Rattle.written_method.specs.Solved.{IsInfeasible, IsOptimal, IsOutOfPivots, IsTooWide, IsUnbounded, Outcome, checked_end, end_steps, outcome_of, outcome_of_end, solved}
 use Rattle.written_method.specs.Values.{by_variable_steps, column_direction, column_value}
 use Rattle.certified_answers.specs.Costs.{is_model, weight_of}
@@ -40,7 +41,7 @@ use Rattle.certified_answers.specs.Worth.{multiplier_bound, plan_cost}
 use Rattle.certified_answers.specs.declared.costs.Cost.{Cost}
 use Rattle.certified_answers.specs.declared.costs.Cost.TheVariants.{Model, One}
 use Rattle.row_problem.specs.Programs.{carried_direction, carried_multipliers, carried_plan, carrying_steps, direction_steps, name_left, plan_steps, program_left, rows_left, scale_left}
-use Rattle.exact_solver.specs.MethodEnds.{HasNoBound, HasNoPlan, HasOptimum, IsPivotDue, IsWide, MethodEnd, carried_end, closing_checks, method_end, optimal_end, refutation_checks, solved_end, unbounded_end, unless_wide}
+use Rattle.exact_solver.specs.MethodEnds.{HasNoBound, HasNoPlan, HasOptimum, IsWide, MethodEnd, carried_end, closing_checks, method_end, optimal_end, refutation_checks, solved_end, unbounded_end, unless_wide}
 use Rattle.command_answers.specs.Definers.{definer, definers}
 use Rattle.command_answers.specs.PlacesWithin.{IsVariableOfSets, PlaceKeeps}
 
@@ -53,14 +54,17 @@ module _ (sets : SetLists) (Passes : RowName → Type 0) where
   pub wide-kept : (ss : List (Step Place)) (place : Place) → AreStepsKept ss → first_wide ss ≡ Some place → PlaceKeeps sets Passes place
   unfolding first_wide
   wide-kept [] place kept wide = absurd (cc wide)
-  wide-kept (s ∷ ss) place kept wide = cases (wide-kept ss place kept.1) (all_fit s.formed) wide
-    where
-      cases : (first_wide ss ≡ Some place → PlaceKeeps sets Passes place) → (b : Bool) → (if b then first_wide ss else Some s.place) ≡ Some place → PlaceKeeps sets Passes place
-      cases later true h = later h
-      cases later false h = subst (PlaceKeeps sets Passes) (same_Some _ _ h) kept.0
+  wide-kept (s ∷ ss) place kept wide = elim (cases_Bool (all_fit s.formed)) [
+    | inl fits ↦ wide-kept ss place kept.1 (rw fits at wide)
+    | inr not ↦ subst (PlaceKeeps sets Passes) (same_Some s.place place (rw not at wide)) kept.0
+  ]
 
   pub both-kept : (ss ts : List (Step Place)) → AreStepsKept ss → AreStepsKept ts → AreStepsKept (ss ++ ts)
   both-kept ss ts = AllByRecursion-append (λ (s : Step Place). PlaceKeeps sets Passes s.place) ss ts
+
+  either-kept : (b : Bool) (ss ts : List (Step Place)) → AreStepsKept ss → AreStepsKept ts → AreStepsKept (if b then ss else ts)
+  either-kept true ss ts of_ss of_ts = of_ss
+  either-kept false ss ts of_ss of_ts = of_ts
 
   -- ---- the checks
 
@@ -70,11 +74,7 @@ module _ (sets : SetLists) (Passes : RowName → Type 0) where
 
   pub steps-kept : (cs : List Condition) → AllByRecursion AreFormedKept cs → AreStepsKept (steps cs)
   steps-kept [] kept = tt
-  steps-kept (c ∷ cs) kept = both-kept c.seen (if c.holds then steps cs else c.amount) kept.0.0 (cases (steps-kept cs kept.1) c.holds)
-    where
-      cases : AreStepsKept (steps cs) → (b : Bool) → AreStepsKept (if b then steps cs else c.amount)
-      cases later true = later
-      cases later false = kept.0.1
+  steps-kept (c ∷ cs) kept = both-kept c.seen (if c.holds then steps cs else c.amount) kept.0.0 (either-kept c.holds (steps cs) c.amount (steps-kept cs kept.1) kept.0.1)
 
   -- the row passes
   abbrev pub IsPassed : Row → Type 0
@@ -153,10 +153,8 @@ module _ (sets : SetLists) (Passes : RowName → Type 0) where
   )
 
   pub scaled-kept : (names : List RowName) (scales multipliers : List Rational) → AllByRecursion Passes names → AreStepsKept (scaled_steps names scales multipliers)
-  scaled-kept [] scales multipliers kept = tt
-  scaled-kept (name ∷ names) [] multipliers kept = tt
-  scaled-kept (name ∷ names) (scale ∷ scales) [] kept = tt
   scaled-kept (name ∷ names) (scale ∷ scales) (multiplier ∷ multipliers) kept = (kept.0, scaled-kept names scales multipliers kept.1)
+  scaled-kept names scales multipliers kept = tt
 
   pub defined-kept : (with_cost : Bool) (rows : List Row) (ds : List Definition) (made : List (RowName × Rational)) → AllByRecursion IsDefinitionKept ds → AreStepsKept (defined_steps with_cost rows ds made)
   defined-kept with_cost rows [] made kept = tt
@@ -198,8 +196,7 @@ module _ (sets : SetLists) (Passes : RowName → Type 0) where
     where
       cases : (d : Due) → AreStepsKept (elim d as (λ _. Run) [ Pivot r c ↦ ended PivotDue s | NoColumn ↦ ended (no_column s.phase) s | NoRow c ↦ ended (Unbounded c) s ]).steps
       cases (Pivot r c) = tt
-      cases NoColumn = tt
-      cases (NoRow c) = tt
+      cases d = tt
   pivots-kept (suc n) s = cases (due s) (λ r c. pivots-kept n (after s r c))
     where
       cases : (d : Due) → ((r c : ℕ) → AreStepsKept (run n (after s r c)).steps)
@@ -210,18 +207,13 @@ module _ (sets : SetLists) (Passes : RowName → Type 0) where
             | NoRow c ↦ ended (Unbounded c) s
           ]).steps
       cases (Pivot r c) later = (tt, later r c)
-      cases NoColumn later = tt
-      cases (NoRow c) later = tt
+      cases d later = tt
 
   by-variable-kept : (place : Var → Place) (f : ℕ → Rational) (c : ℕ) (vs : List Var) → ((v : Var) → IsVariableOfSets sets v → PlaceKeeps sets Passes (place v)) → AllByRecursion (IsVariableOfSets sets) vs
       → AreStepsKept (by_variable_steps place f c vs)
   by-variable-kept place f c [] placed kept = tt
   by-variable-kept place f c (v ∷ vs) placed kept =
-      cases _ _ (is_split v) (placed v kept.0, by-variable-kept place f (suc (suc c)) vs placed kept.1) (by-variable-kept place f (suc c) vs placed kept.1)
-    where
-      cases : (ss ts : List (Step Place)) (b : Bool) → AreStepsKept ss → AreStepsKept ts → AreStepsKept (if b then ss else ts)
-      cases ss ts true s t = s
-      cases ss ts false s t = t
+      either-kept (is_split v) _ _ (placed v kept.0, by-variable-kept place f (suc (suc c)) vs placed kept.1) (by-variable-kept place f (suc c) vs placed kept.1)
 
   -- the place of an outcome that has one
   abbrev pub OutcomeIsKept : Outcome → Type 0
@@ -231,17 +223,14 @@ module _ (sets : SetLists) (Passes : RowName → Type 0) where
   module _ (p : LinearProgram) (columns : AllByRecursion (IsVariableOfSets sets) p.columns) where
     end-steps-kept : (ending : End) (last : State) → AreStepsKept (end_steps p ending last)
     end-steps-kept Optimal last = by-variable-kept LiftPlan (column_value last.tableau) 0 p.columns (λ v of. of) columns
-    end-steps-kept Infeasible last = tt
     end-steps-kept (Unbounded e) last =
         both-kept _ _ (by-variable-kept LiftPlan (column_value last.tableau) 0 p.columns (λ v of. of) columns)
         (by-variable-kept LiftDirection (column_direction last.tableau e) 0 p.columns (λ v of. of) columns)
-    end-steps-kept PivotDue last = tt
+    end-steps-kept ending last = tt
 
     outcome-of-end-kept : (ending : End) (last : State) → OutcomeIsKept (outcome_of_end p ending last)
     outcome-of-end-kept Optimal last = tt
-    outcome-of-end-kept Infeasible last = tt
-    outcome-of-end-kept (Unbounded e) last = tt
-    outcome-of-end-kept PivotDue last = tt
+    outcome-of-end-kept ending last = tt
 
     checked-kept : (ending : End) (last : State) (wide : Option Place) → first_wide (end_steps p ending last) ≡ wide → OutcomeIsKept (checked_end p ending last wide)
     checked-kept ending last None is = outcome-of-end-kept ending last
@@ -268,10 +257,7 @@ module _ (sets : SetLists) (Passes : RowName → Type 0) where
   -- the place of an end that has one
   abbrev pub EndIsKept : MethodEnd → Type 0
   EndIsKept (IsWide place) = PlaceKeeps sets Passes place
-  EndIsKept (HasOptimum plan multipliers pivots) = ⊤
-  EndIsKept (HasNoPlan multipliers pivots) = ⊤
-  EndIsKept (HasNoBound plan direction pivots) = ⊤
-  EndIsKept IsPivotDue = ⊤
+  EndIsKept end = ⊤
 
   unless-kept : (ss : List (Step Place)) (end : MethodEnd) → AreStepsKept ss → EndIsKept end → EndIsKept (unless_wide (first_wide ss) end)
   unless-kept ss end kept ends = cases (first_wide ss) refl

@@ -6,6 +6,7 @@ pub mod CheckedRows
 mod ClosedGaps
 mod DefaultTexts
 pub mod LineExamples
+pub mod ListLines
 pub mod ListedBooks
 pub mod ListedNames
 pub mod MadeBooks
@@ -16,5 +17,4 @@ pub mod SolvedRows
 pub mod KeptPlaces
 pub mod BookLists
 pub mod BookPlaces
-pub mod RowPositions
 pub mod BookProblems

@@ -1,5 +1,5 @@
 -- The lines of refusals and of stops, and the exit statuses, computed on examples.
-use Rattle.std.proofs.Common.{◌≡◌, [], ◌∷◌, Some, None, refl}
+use Rattle.std.proofs.Common.{◌≡◌, [], ◌∷◌, map, Some, None, refl}
 use Rattle.std.specs.Prelude.{codes}
 use Rattle.std.specs.Fmt.{digits}
 use Rattle.model_sets.specs.Members.{SetLists}
@@ -25,72 +25,38 @@ use Rattle.model_sets.specs.Members.{index_of}
 
 -- ---- words and files
 
-no_command_line : words_line NoCommand ≡ codes "words refused NoCommand\n"
-no_command_line = refl
-
-bad_command_line : words_line BadCommand ≡ codes "words refused BadCommand\n"
-bad_command_line = refl
-
-bad_form_line : words_line BadForm ≡ codes "words refused BadForm\n"
-bad_form_line = refl
-
-no_file_line : stop_line (stops.NoFile 1) ≡ codes "no such file 1\n"
-unfolding digits
-no_file_line = refl
-
-failed_line : stop_line (stops.Failed 1) ≡ codes "read fault file 1\n"
-unfolding digits
-failed_line = refl
-
-first_file_line : too_long_line 1 ≡ codes "refused too long file 1\n"
-unfolding digits
-first_file_line = refl
+words : map words_line (NoCommand ∷ BadCommand ∷ BadForm ∷ []) ≡ codes "words refused NoCommand\n" ∷ codes "words refused BadCommand\n" ∷ codes "words refused BadForm\n" ∷ []
+words = refl
 
 -- the number of a file is written whole
-third_file_line : too_long_line 3 ≡ codes "refused too long file 3\n"
+unread : map stop_line (stops.NoFile 1 ∷ stops.Failed 1 ∷ stops.Failed 255 ∷ []) ≡ codes "no such file 1\n" ∷ codes "read fault file 1\n" ∷ codes "read fault file 255\n" ∷ []
 unfolding digits
-third_file_line = refl
+unread = refl
 
-last_number_line : stop_line (stops.Failed 255) ≡ codes "read fault file 255\n"
+too_long : map too_long_line (1 ∷ 3 ∷ []) ≡ codes "refused too long file 1\n" ∷ codes "refused too long file 3\n" ∷ []
 unfolding digits
-last_number_line = refl
+too_long = refl
 
 -- ---- the text of a data file, its sets and its data
 
-text_fault : text_line 9 (record { line = 12; column = 3 }) ≡ codes "refused line 12 column 3 RowTooShort\n"
+text_faults : text_line 9 (record { line = 12; column = 3 }) ∷ text_line 11 (record { line = 1; column = 21 }) ∷ []
+    ≡ codes "refused line 12 column 3 RowTooShort\n" ∷ codes "refused line 1 column 21 Tabbing\n" ∷ []
 unfolding digits
-text_fault = refl
+text_faults = refl
 
-last_text_fault : text_line 11 (record { line = 1; column = 21 }) ≡ codes "refused line 1 column 21 Tabbing\n"
-unfolding digits
-last_text_fault = refl
-
-set_fault : set_line (record { no = 2; set = 5 }) ≡ codes "refused set MODE_OF_OPERATION EmptySet\n"
-set_fault = refl
-
-year_fault : set_line (record { no = 3; set = 7 }) ≡ codes "refused set YEAR BadYear\n"
-year_fault = refl
-
-storage : data_line StorageMember ≡ codes "refused Storage\n"
-storage = refl
-
-unknown_member : data_line (UnknownName (record { line = 45; column = 30 })) ≡ codes "refused line 45 column 30 UnknownMember\n"
-unfolding digits
-unknown_member = refl
-
-value_twice : data_line (GivenBefore (record { line = 2; column = 10 })) ≡ codes "refused line 2 column 10 ValueTwice\n"
-unfolding digits
-value_twice = refl
+set_faults : map set_line (record { no = 2; set = 5 } ∷ record { no = 3; set = 7 } ∷ []) ≡ codes "refused set MODE_OF_OPERATION EmptySet\n" ∷ codes "refused set YEAR BadYear\n" ∷ []
+set_faults = refl
 
 -- the members stand in the parameter's own order of subscripts: region, fuel, timeslice, year
-no_value : data_line (AtIndex NoValue 6 (codes "R" ∷ codes "F" ∷ codes "D" ∷ codes "2020" ∷ [])) ≡ codes "refused NoValue SpecifiedDemandProfile[R,F,D,2020]\n"
-no_value = refl
-
-one_subscript : data_line (AtIndex OutOfRange 2 (codes "R" ∷ [])) ≡ codes "refused OutOfRange DiscountRate[R]\n"
-one_subscript = refl
-
-whole_units : data_line (AtIndex WholeUnits 18 (codes "R" ∷ codes "T" ∷ codes "2020" ∷ [])) ≡ codes "refused WholeUnits CapacityOfOneTechnologyUnit[R,T,2020]\n"
-whole_units = refl
+refusals : map data_line
+    (StorageMember ∷ UnknownName (record { line = 45; column = 30 }) ∷ GivenBefore (record { line = 2; column = 10 })
+    ∷ AtIndex NoValue 6 (codes "R" ∷ codes "F" ∷ codes "D" ∷ codes "2020" ∷ [])
+    ∷ AtIndex OutOfRange 2 (codes "R" ∷ []) ∷ AtIndex WholeUnits 18 (codes "R" ∷ codes "T" ∷ codes "2020" ∷ []) ∷ [])
+    ≡ codes "refused Storage\n" ∷ codes "refused line 45 column 30 UnknownMember\n" ∷ codes "refused line 2 column 10 ValueTwice\n"
+    ∷ codes "refused NoValue SpecifiedDemandProfile[R,F,D,2020]\n"
+    ∷ codes "refused OutOfRange DiscountRate[R]\n" ∷ codes "refused WholeUnits CapacityOfOneTechnologyUnit[R,T,2020]\n" ∷ []
+unfolding digits
+refusals = refl
 
 -- ---- stops
 
@@ -100,74 +66,42 @@ two_regions =
     (codes "A" ∷ codes "B" ∷ []) ∷ (codes "T" ∷ []) ∷ (codes "F" ∷ []) ∷ [] ∷ (codes "1" ∷ []) ∷ (codes "D" ∷ []) ∷ (codes "2020" ∷ [])
     ∷ [] ∷ [] ∷ [] ∷ [] ∷ []
 
-wide_row : uncertified_line two_regions (Width (Place.Row (caa2 1 0 0))) ≡ codes "uncertified width row CAa2[B,T,2020]\n"
-wide_row = refl
-
-sum_cost : uncertified_line [] (Width SumCost) ≡ codes "uncertified width sum cost\n"
-sum_cost = refl
-
-out_of_pivots : uncertified_line two_regions (Budget 20000) ≡ codes "uncertified budget 20000\n"
+-- a trial is named by its number, and then stands why it stopped
+stopped : map (uncertified_line two_regions)
+    (Width (Place.Row (caa2 1 0 0)) ∷ Width SumCost ∷ Budget 20000 ∷ Trial 3 (trials.Budget 20000) ∷ Trial 12 (trials.Width (Place.Row (caa2 1 0 0))) ∷ [])
+    ≡ codes "uncertified width row CAa2[B,T,2020]\n" ∷ codes "uncertified width sum cost\n" ∷ codes "uncertified budget 20000\n"
+    ∷ codes "uncertified trial 3 budget 20000\n" ∷ codes "uncertified trial 12 width row CAa2[B,T,2020]\n" ∷ []
 unfolding digits
-out_of_pivots = refl
-
--- the trial is named by its number, and then stands why it stopped
-trial_out_of_pivots : uncertified_line two_regions (Trial 3 (trials.Budget 20000)) ≡ codes "uncertified trial 3 budget 20000\n"
-unfolding digits
-trial_out_of_pivots = refl
-
-wide_trial : uncertified_line two_regions (Trial 12 (trials.Width (Place.Row (caa2 1 0 0)))) ≡ codes "uncertified trial 12 width row CAa2[B,T,2020]\n"
-unfolding digits
-wide_trial = refl
+stopped = refl
 
 -- ---- rows and sizes
 
-too_many_entries : entries_line ≡ codes "refused too many entries\n"
-too_many_entries = refl
-
-too_large : too_large_line 20001 40 ≡ codes "refused too large 20001 40\n"
+sizes : entries_line ∷ too_large_line 20001 40 ∷ [] ≡ codes "refused too many entries\n" ∷ codes "refused too large 20001 40\n" ∷ []
 unfolding digits
-too_large = refl
+sizes = refl
 
 -- ---- files of plans and of multipliers
 
-missing_variable : plan_fault_line two_regions (Missing (new_capacity 0 0 0)) ≡ codes "refused plan Missing NewCapacity[A,T,2020]\n"
-missing_variable = refl
-
-twice : plan_fault_line [] (faults.Twice 3) ≡ codes "refused plan record 3 Twice\n"
+plans : map (plan_fault_line two_regions) (Missing (new_capacity 0 0 0) ∷ faults.Twice 3 ∷ faults.UnknownVar 12 ∷ faults.BadValue 2 ∷ [])
+    ≡ codes "refused plan Missing NewCapacity[A,T,2020]\n" ∷ codes "refused plan record 3 Twice\n"
+    ∷ codes "refused plan record 12 UnknownVar\n" ∷ codes "refused plan record 2 BadValue\n" ∷ []
 unfolding digits
-twice = refl
+plans = refl
 
 no_header : multiplier_fault_line [] (faults.BadRecord 1) ≡ codes "refused multipliers record 1 BadRecord\n"
 unfolding digits
 no_header = refl
 
-unknown : plan_fault_line [] (faults.UnknownVar 12) ≡ codes "refused plan record 12 UnknownVar\n"
-unfolding digits
-unknown = refl
-
-bad_value : plan_fault_line [] (faults.BadValue 2) ≡ codes "refused plan record 2 BadValue\n"
-unfolding digits
-bad_value = refl
-
 -- ---- statuses
 
-no_plan : code_of Infeasible ≡ 1
-no_plan = refl
-
-no_bound : code_of Unbounded ≡ 2
-no_bound = refl
+ends : map code_of (Infeasible ∷ Unbounded ∷ []) ≡ 1 ∷ 2 ∷ []
+ends = refl
 
 -- ---- members that words name
 
-no_such_emission : no_such_line EMISSION ≡ codes "refused no such EMISSION\n"
-no_such_emission = refl
-
-no_such_year : no_such_line YEAR ≡ codes "refused no such YEAR\n"
-no_such_year = refl
+no_such : map no_such_line (EMISSION ∷ YEAR ∷ []) ≡ codes "refused no such EMISSION\n" ∷ codes "refused no such YEAR\n" ∷ []
+no_such = refl
 
 -- names are compared byte by byte
-second_member : index_of (codes "CO2" ∷ codes "NOX" ∷ []) (codes "NOX") ≡ Some 1
-second_member = refl
-
-no_member : index_of (codes "7" ∷ []) (codes "007") ≡ None
-no_member = refl
+found : index_of (codes "CO2" ∷ codes "NOX" ∷ []) (codes "NOX") ∷ index_of (codes "7" ∷ []) (codes "007") ∷ [] ≡ Some 1 ∷ None ∷ []
+found = refl

@@ -1,5 +1,5 @@
 -- The rows and variables of a book are those of the sets.
-use Rattle.std.proofs.Common.{◌≡◌, List, [], ◌∷◌, map, sym, subst}
+use Rattle.std.proofs.Common.{◌≡◌, List, [], ◌∷◌, map}
 use Rattle.std.specs.List.{AllByRecursion}
 use Rattle.model_sets.specs.Members.{SetLists}
 use Rattle.row_core.specs.declared.Row.{Row}
@@ -12,7 +12,7 @@ use Rattle.command_answers.specs.CheckedPlans.{IsListedBook}
 pub listed-as : (sets : SetLists) (rows : List Row) (vars : List Var) (same_rows : List Row) (same_vars : List Var) → same_rows ≡ rows → same_vars ≡ vars
     → IsListedBook sets rows vars → IsListedBook sets same_rows same_vars
 listed-as sets rows vars same_rows same_vars rows_are vars_are book =
-    subst (λ rs. IsListedBook sets rs same_vars) (sym rows_are) (subst (λ vs. IsListedBook sets rows vs) (sym vars_are) book)
+    rw (rows_are, vars_are) book
 
 each-named : (sets : SetLists) (rows : List Row) → AllByRecursion (IsListedRow sets) (map name_of_row rows) → AllByRecursion (HasNameWithin sets) rows
 each-named sets [] listed = tt

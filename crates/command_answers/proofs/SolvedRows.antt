@@ -1,5 +1,5 @@
 -- What is proved of the rows of a book at the ends of a method holds of the plans of the named equations.
-use Rattle.std.proofs.Common.{◌≡◌, ℕ, ℤ, pos, ◌*ℤ◌, ◌<ℤ◌, List, ◌∙◌, subst}
+use Rattle.std.proofs.Common.{◌≡◌, ℕ, ℤ, pos, ◌<ℤ◌, List, ◌∙◌}
 use Rattle.exact_num.specs.Rational.{Rational}
 use Rattle.model_sets.specs.Data.{Data}
 use Rattle.row_core.specs.declared.Row.{Row}
@@ -32,9 +32,9 @@ module _ (places : ℕ) (d : Data) (rows : List Row) (vars : List Var) (book : I
     feasible = feasible-plan plan cost is;
     whole = whole ∙ are;
     bounds = bounds-feasible places d rows vars book bound proved.bounds;
-    checked = subst (λ vs. IsPlan rows vs plan cost) are is;
+    checked = rw are at is;
     gap_kept = kept;
-    proved = subst (λ vs. IsBound rows vs multipliers bound) are proved;
+    proved = rw are at proved;
     named = named;
   }
 
@@ -51,7 +51,7 @@ module _ (places : ℕ) (d : Data) (rows : List Row) (vars : List Var) (book : I
   pub refuted : (multipliers : List (RowName × Rational)) → IsRefutation rows vars multipliers → AreNamedIn rows multipliers → IsRefuted places d rows multipliers
   refuted multipliers proved named = record {
     none = none-feasible places d rows vars book proved.none;
-    proved = subst (λ vs. IsRefutation rows vs multipliers) are proved;
+    proved = rw are at proved;
     named = named;
   }
 
@@ -60,7 +60,7 @@ module _ (places : ℕ) (d : Data) (rows : List Row) (vars : List Var) (book : I
     over = (lower n).over;
     plan = (lower n).plan;
     feasible = feasible-from_rows places d rows vars book (lower n).over (lower n).plan (lower n).meets;
-    less = subst (λ (z : ℤ). z <ℤ (n *ℤ pos (lower n).over)) (costs-same places d rows vars book (lower n).plan) (lower n).less;
+    less = rw (costs-same places d rows vars book (lower n).plan) at (lower n).less;
   }
 
   pub unbounded : (plan direction : List (Var × Rational)) (cost : Rational) → IsPlan rows vars plan cost → IsDescent rows vars direction → keys_of plan ≡ vars → keys_of direction ≡ vars
@@ -68,9 +68,9 @@ module _ (places : ℕ) (d : Data) (rows : List Row) (vars : List Var) (book : I
   unbounded plan direction cost is descends whole along = record {
     cost = cost;
     feasible = feasible-plan plan cost is;
-    checked = subst (λ vs. IsPlan rows vs plan cost) are is;
+    checked = rw are at is;
     whole = whole ∙ are;
     endless = no-least descends.endless;
-    descends = subst (λ vs. IsDescent rows vs direction) are descends;
+    descends = rw are at descends;
     along = along ∙ are;
   }

@@ -14,7 +14,7 @@ use crate::status::{Refusal, Status};
 use crate::stops::stop_at;
 use model_sets::Sets;
 use param_tables::ModelData;
-use row_book::{BookFail, RowBook, same_data_laws};
+use row_book::{BookFail, RowBook};
 use row_problem::size_of;
 use std::alloc::{AllocError, Global};
 
@@ -34,7 +34,6 @@ pub fn made_book(
     requires { IsPlaces places }
     ensures { (d : Data) → AreSameData model.now.facts d → IfOk result (TellsMade places d) }
 {
-    same_data_laws();
     match RowBook::new(alloc, model, places) {
         Ok(book) => Ok(Ok(book)),
         Err(fail) => {

@@ -1,28 +1,5 @@
 -- Where every inequality of the list was tried, what is left of it is a conflict.
-use Rattle.std.proofs.Common.{◌≡◌, ◌≢◌, ℕ, ℤ, pos, ◌*ℤ◌, Bool, true, false, not, ◌&&◌, List, [], ◌∷◌, inl, inr, map, refl, sym, ap, ap₂, ◌∙◌, subst, append-nil, arith}
-use Rattle.std.specs.Prelude.{Contains, Option, unsigned_abs}
-use Rattle.std.proofs.lemmas.Bool.{eqb-true}
-use Rattle.std.proofs.lemmas.Int.{ints}
-use Rattle.std.specs.Ordering.{is_eq}
-use Rattle.exact_num.specs.Rational.{Rational}
-use Rattle.exact_num.specs.Value.{value_of}
-use Rattle.exact_num.specs.declared.fraction.Frac.{Frac}
-use Rattle.exact_num.proofs.Integers.{*ℤ_cancel, nonzero_of_pos}
-use Rattle.exact_num.proofs.Ring.{zero-*ℤ}
-use Rattle.row_core.specs.declared.Row.{Row}
-use Rattle.row_core.specs.declared.RowName.{RowName}
-use Rattle.row_core.specs.declared.Var.{Var}
-use Rattle.row_core.specs.Numbers.{is_zero, keys_of}
-use Rattle.row_core.specs.Order.{row_name_cmp}
-use Rattle.row_core.specs.Plans.{value_in, valued}
-use Rattle.row_core.specs.Values.{IsOver}
-use Rattle.row_core.proofs.AscendingLaws.{both_passed}
-use Rattle.row_core.proofs.Members.{Contains-from_Has, Has, Has-filter, Has-from_Contains, Has-map, filter_parts, map_parts}
-use Rattle.row_problem.specs.Problems.{IsProblem}
-use Rattle.certificate_checker.specs.Certificates.{AdmitsNone, AreMultipliersOver, Refutes}
-use Rattle.certificate_checker.specs.Sums.{HasVariablesOf}
-use Rattle.certificate_checker.proofs.DualityLaws.{Refutes-none}
-use Rattle.row_problem.specs.Sizes.{is_unequal}
+use Rattle.row_problem.proofs.Common.{◌≡◌, ◌≢◌, ℕ, ℤ, pos, ◌*ℤ◌, Bool, true, false, not, ◌&&◌, List, [], ◌∷◌, inl, inr, map, refl, sym, ap, ap₂, ◌∙◌, subst, append-nil, arith, Contains, Option, unsigned_abs, eqb-true, ints, is_eq, Rational, value_of, Frac, *ℤ_cancel, nonzero_of_pos, zero-*ℤ, Row, RowName, Var, is_zero, keys_of, row_name_cmp, value_in, valued, IsOver, both_passed, Contains-from_Has, Has, Has-filter, Has-from_Contains, Has-map, filter_parts, map_parts, IsProblem, AdmitsNone, AreMultipliersOver, Refutes, HasVariablesOf, Refutes-none, is_unequal, by_test, row_name_cmp_total, Values, Multipliers}
 use Rattle.conflict_sets.specs.Conflicts.{AreNeeded, IsConflict, IsWholePlan, inequalities, is_member, is_other_member}
 use Rattle.conflict_sets.specs.Searches.{IsSearched, names_known, needed_name}
 use Rattle.conflict_sets.specs.Pieces.{is_taken}
@@ -30,18 +7,19 @@ use Rattle.conflict_sets.specs.Trials.{rows_with}
 use Rattle.conflict_sets.specs.Walks.{Needed, is_listed, is_other, member_of, plan_of, still_needed}
 use Rattle.conflict_sets.specs.declared.conflict.Conflict.{Conflict}
 use Rattle.conflict_sets.proofs.PartLaws.{fewer-met, part-refuted, part-variables}
-use Rattle.conflict_sets.proofs.RowLists.{filter-ascends, filter-names, inequality-named, itself, same-name}
-use Rattle.conflict_sets.proofs.Tests.{by_test}
+use Rattle.row_problem.proofs.SameLists.{filter-ascends, filter-names}
+use Rattle.variable_elimination.proofs.RowNameLaws.{name_itself, same_name}
+use Rattle.conflict_sets.proofs.RowLists.{inequality-named}
 
 -- ---- members
 
 member-has : (names : List RowName) (u : RowName) → is_member names u ≡ true → Has names u
 member-has [] u h = absurd (cc h)
-member-has (name ∷ names) u h = by_test (is_eq (row_name_cmp u name)) (λ is. inl (sym (same-name u name is))) (λ is. inr (member-has names u (rw is at h)))
+member-has (name ∷ names) u h = by_test (is_eq (row_name_cmp u name)) (λ is. inl (sym (same_name u name is))) (λ is. inr (member-has names u (rw is at h)))
 
 has-member : (names : List RowName) (u : RowName) → Has names u → is_member names u ≡ true
 has-member [] u h = absurd h
-has-member (name ∷ names) u (inl e) = rw (e, itself u) refl
+has-member (name ∷ names) u (inl e) = rw (e, name_itself u) refl
 has-member (name ∷ names) u (inr h) = rw (has-member names u h) (by_test (is_eq (row_name_cmp u name)) (λ is. rw is refl) (λ is. rw is refl))
 
 -- ---- lists of members
@@ -50,7 +28,7 @@ keys-valued : (es : List (RowName × Frac)) → keys_of (map valued es) ≡ keys
 keys-valued [] = refl
 keys-valued (e ∷ es) = ap {B = List RowName} (λ ks. e.0 ∷ ks) (keys-valued es)
 
-keys-needed : (m : List (RowName × Rational)) (still : List Needed) → keys_of (map (member_of m) still) ≡ map needed_name still
+keys-needed : (m : Multipliers) (still : List Needed) → keys_of (map (member_of m) still) ≡ map needed_name still
 keys-needed m [] = refl
 keys-needed m (one ∷ still) = ap {B = List RowName} (λ ks. one.0 ∷ ks) (keys-needed m still)
 
@@ -59,7 +37,7 @@ has-valued [] e h = absurd h
 has-valued (d ∷ es) e (inl i) = inl (ap valued i)
 has-valued (d ∷ es) e (inr h) = inr (has-valued es e h)
 
-members-from : (m : List (RowName × Rational)) (still : List Needed) (e : RowName × Rational) → Has (map (member_of m) still) e → (one : Needed) × Has still one × (member_of m one ≡ e)
+members-from : (m : Multipliers) (still : List Needed) (e : RowName × Rational) → Has (map (member_of m) still) e → (one : Needed) × Has still one × (member_of m one ≡ e)
 members-from m [] e h = absurd h
 members-from m (one ∷ still) e (inl i) = (one, inl refl, i)
 members-from m (one ∷ still) e (inr h) = let rest = members-from m still e h in (rest.0, inr rest.1, rest.2)
@@ -70,7 +48,7 @@ first-of x y xs ys e = cc e
 rest-of : {A : Type 0} (x y : A) (xs ys : List A) → x ∷ xs ≡ y ∷ ys → xs ≡ ys
 rest-of x y xs ys e = cc e
 
-all-are-needed : (rows : List Row) (vars : List Var) (names : List RowName) (m : List (RowName × Rational)) (members : List (RowName × Frac)) (plans : List (List (Var × Rational))) (still : List Needed)
+all-are-needed : (rows : List Row) (vars : List Var) (names : List RowName) (m : Multipliers) (members : List (RowName × Frac)) (plans : List Values) (still : List Needed)
     → map valued members ≡ map (member_of m) still → plans ≡ map plan_of still → ((one : Needed) → Has still one → IsWholePlan (rows_with (is_other_member names one.0) rows) vars one.1) → AreNeeded rows vars names members plans
 all-are-needed rows vars names m [] [] [] e f each = tt
 all-are-needed rows vars names m [] plans (one ∷ still) e f each = absurd (cc e)
@@ -83,14 +61,14 @@ all-are-needed rows vars names m (member ∷ members) (plan ∷ plans) (one ∷ 
     let rest : map valued members ≡ map (member_of m) still = rest-of (valued member) (member_of m one) (map valued members) (map (member_of m) still) e in
     let others : plans ≡ map plan_of still = rest-of plan (plan_of one) plans (map plan_of still) f in (
       subst (λ (u : RowName). IsWholePlan (rows_with (is_other_member names u) rows) vars plan) name
-          (subst (λ (p : List (Var × Rational)). IsWholePlan (rows_with (is_other_member names one.0) rows) vars p) found (each one (inl refl))),
+          (subst (λ (p : Values). IsWholePlan (rows_with (is_other_member names one.0) rows) vars p) found (each one (inl refl))),
       all-are-needed rows vars names m members plans still rest others (λ o h. each o (inr h)),
     )
 
 -- ---- a multiplier of 0
 
 -- a value that isn't listed is 0 over any number
-pub zero-over : (m : List (RowName × Rational)) (u : RowName) (s y : ℤ) → is_listed m u ≡ false → IsOver s (value_in row_name_cmp m u) y → y ≡ pos 0
+pub zero-over : (m : Multipliers) (u : RowName) (s y : ℤ) → is_listed m u ≡ false → IsOver s (value_in row_name_cmp m u) y → y ≡ pos 0
 zero-over m u s y h over =
     let value : Rational = value_in row_name_cmp m u in
     let top : value.top ≡ pos 0 = by_test value.top h in
@@ -109,7 +87,7 @@ zero-over m u s y h over =
 
 -- ---- the conflict
 
-module _ (rows : List Row) (defs : List (Option Var)) (vars : List Var) (m : List (RowName × Rational)) (needed : List Needed) (problem : IsProblem rows defs vars) (s : IsSearched rows vars m needed []) (conflict : Conflict)
+module _ (rows : List Row) (defs : List (Option Var)) (vars : List Var) (m : Multipliers) (needed : List Needed) (problem : IsProblem rows defs vars) (s : IsSearched rows vars m needed []) (conflict : Conflict)
     (e : map valued conflict.members.items ≡ map (member_of m) (still_needed m needed)) (f : conflict.plans.items ≡ map plan_of (still_needed m needed)) where
   abbrev still : List Needed
   still = still_needed m needed
@@ -127,7 +105,7 @@ module _ (rows : List Row) (defs : List (Option Var)) (vars : List Var) (m : Lis
   known-are = append-nil (map needed_name needed)
 
   name-known : (u : RowName) → Has names u → Has (names_known needed []) u
-  name-known u h = rw known-are (filter-names needed_name on_list needed u (rw names-are at h))
+  name-known u h = rw known-are (filter-names row_name_cmp row_name_cmp_total needed_name on_list needed u (rw names-are at h))
 
   -- an inequality on the list is a member
   listed-member : (u : RowName) → Has (inequalities rows) u → is_listed m u ≡ true → Has names u
@@ -200,7 +178,7 @@ module _ (rows : List Row) (defs : List (Option Var)) (vars : List Var) (m : Lis
   pub conflict-found : IsConflict rows vars conflict
   conflict-found = record {
     ascending =
-        rw names-are (filter-ascends needed_name on_list needed (rw known-are at s.ascending));
+        rw names-are (filter-ascends row_name_cmp row_name_cmp_total needed_name on_list needed (rw known-are at s.ascending));
     among = λ u h. s.among u (Contains-from_Has (names_known needed []) u (name-known u (Has-from_Contains names u h)));
     used = used;
     refuted = record { multipliers = m; some = s.refutation.some; printed = printed; refutes = refutes; none = none-left };

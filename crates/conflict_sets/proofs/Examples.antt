@@ -1,16 +1,5 @@
 -- The definitions, computed: the list that multipliers make, what is left of it, and its ends.
-use Rattle.std.proofs.Common.{◌≡◌, ◌≤◌, ℕ, pos, negsuc, Bool, true, false, List, [], ◌∷◌, refl, arith, subst}
-use Rattle.std.specs.Prelude.{◌<ℤ◌, Option}
-use Rattle.std.proofs.lemmas.Int.{ints}
-use Rattle.exact_num.specs.Rational.{Rational, whole}
-use Rattle.exact_num.specs.declared.fraction.Frac.{Frac}
-use Rattle.row_core.specs.declared.Row.{Row}
-use Rattle.row_core.specs.declared.RowName.{RowName}
-use Rattle.row_core.specs.declared.Var.{Var}
-use Rattle.row_core.specs.Order.{row_name_cmp}
-use Rattle.certificate_checker.specs.Denominators.{AreOverSome}
-use Rattle.row_core.specs.declared.equation_numbers.TheConstants.{CAA3, CAA4, EBA11, TCC1}
-use Rattle.row_core.specs.declared.place.Place.TheVariants.{CostRow}
+use Rattle.row_problem.proofs.Common.{◌≡◌, ◌≤◌, ℕ, pos, negsuc, Bool, true, false, List, [], ◌∷◌, refl, arith, subst, ◌<ℤ◌, Option, ints, whole, Frac, Row, RowName, Var, row_name_cmp, AreOverSome, CAA3, CAA4, EBA11, TCC1, CostRow, Values, Multipliers}
 use Rattle.simplex_core.specs.declared.stops.Stop.TheVariants.{Budget, Trial}
 use Rattle.simplex_core.specs.declared.stops.TrialStop.TheVariants as trials
 use Rattle.certified_answers.specs.declared.answers.NoAnswer.TheVariants as stops
@@ -26,7 +15,7 @@ abbrev named : ℕ → RowName
 named eq = record { eq = eq; index = record { region = 0; other = 0; slice = 0; tech = 0; fuel = 0; emission = 0; mode = 0; year = 0 } }
 
 -- an activity of at least 10 that is at most a capacity that is at most 4: the multipliers that refute this, a definition's and one of 0 among them
-abbrev refuting : List (RowName × Rational)
+abbrev refuting : Multipliers
 refuting = (named CAA3, whole (pos 1)) ∷ (named CAA4, whole (negsuc 0)) ∷ (named EBA11, whole (pos 1)) ∷ (named TCC1, whole (negsuc 0)) ∷ (named 48, whole (pos 0)) ∷ []
 
 -- ---- the list
@@ -95,7 +84,7 @@ another_is = refl
 -- ---- what is found
 
 -- two were needed, and one of these is off the list by now: the other is a member, with its own multiplier and its own plan
-abbrev plan_of : ℕ → List (Var × Rational)
+abbrev plan_of : ℕ → Values
 plan_of n = (record { kind = 1; index = record { region = 0; other = 0; slice = 0; tech = 0; fuel = 0; emission = 0; mode = 0; year = 0 } }, whole (pos n)) ∷ []
 
 one_left : found refuting ((named CAA4, plan_of 10) ∷ (named 48, plan_of 4) ∷ []) ≡ IsConflicting ((named CAA4, whole (negsuc 0)) ∷ []) (plan_of 10 ∷ [])
@@ -149,7 +138,7 @@ none_is_numbered_0 rows defs vars h = let at_least_1 : 1 ≤ 0 = h.0 in omega ar
 -- ---- what refutes
 
 -- a multiplier with the denominator 0 beside those of the members, as a list of which nothing could be said
-abbrev without_denominator : List (RowName × Rational)
+abbrev without_denominator : Multipliers
 without_denominator = (named CAA3, record { top = pos 1; bottom = pos 0 }) ∷ (named CAA4, whole (negsuc 0)) ∷ []
 
 -- it is no number over any denominator, so such a list refutes nothing

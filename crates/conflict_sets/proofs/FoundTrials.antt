@@ -1,38 +1,16 @@
 -- What the simplex found of a trial makes the checker say yes.
-use Rattle.std.proofs.Common.{◌≡◌, ℕ, Bool, true, false, List, map, refl, sym, ap, ap₂, ◌∙◌}
-use Rattle.std.specs.Prelude.{Option}
-use Rattle.exact_num.specs.Rational.{Rational}
-use Rattle.exact_num.specs.Value.{value_of}
-use Rattle.exact_num.specs.declared.fraction.Frac.{Frac}
-use Rattle.row_core.specs.declared.Row.{Row}
-use Rattle.row_core.specs.declared.RowName.{RowName}
-use Rattle.row_core.specs.declared.Var.{Var}
-use Rattle.row_core.specs.Numbers.{ascends, keys_of}
-use Rattle.row_core.specs.Order.{row_name_cmp, var_cmp}
-use Rattle.written_method.specs.declared.reduced.Reduced.{Reduced}
-use Rattle.written_method.specs.Programs.{program_of}
-use Rattle.certificate_checker.specs.Denominators.{AreOverSome}
+use Rattle.row_problem.proofs.Common.{◌≡◌, ℕ, Bool, true, false, List, map, refl, sym, ap, ap₂, ◌∙◌, Option, value_of, Frac, Row, RowName, Var, ascends, keys_of, row_name_cmp, var_cmp, Reduced, program_of, AreOverSome, Outcome, solved, names_of, Definition, defined, definitions_of, lifted, right_side, lifted-others, plan_right, carried_plan, IsPosedProblem, multiplier_steps, named_multipliers, BecomesPlan, IsFoundPlan, IsFoundRefutation, Values, Multipliers}
+use Rattle.row_problem.specs.declared.problem.Problem.{Problem}
 use Rattle.simplex_core.specs.declared.ends.Halt.{Halt}
 use Rattle.simplex_core.specs.declared.ends.Halt.TheVariants as halts
 use Rattle.simplex_core.specs.Outcomes.{IsHalt, MeetAll, RefuteAll}
-use Rattle.written_method.specs.Solved.{Outcome, solved}
-use Rattle.row_core.specs.RowLists.{names_of}
-use Rattle.written_method.specs.Definitions.{Definition, defined, definitions_of}
-use Rattle.written_method.specs.Lifted.{lifted, right_side}
 use Rattle.variable_elimination.specs.Certified.{CarriesSum}
-use Rattle.variable_elimination.proofs.LiftedLaws.{lifted-others, plan_right}
-use Rattle.row_problem.specs.Programs.{carried_plan}
-use Rattle.row_problem.specs.ProgramsOf.{IsPosedProblem}
-use Rattle.row_problem.specs.declared.problem.Problem.{Problem}
 use Rattle.row_problem.proofs.CarriedWords.{becomes_plan, becomes_refutation}
 use Rattle.conflict_sets.specs.Pieces.{IsTriedOf}
-use Rattle.written_method.specs.Multiplied.{multiplier_steps, named_multipliers}
 use Rattle.conflict_sets.specs.Trials.{StopsTrial, carried_trial, rows_with, trial_end, tried_multipliers, tried_steps}
 use Rattle.exact_solver.specs.MethodEnds.{stop_at}
 use Rattle.conflict_sets.proofs.PlannedLaws.{carries-tried}
 use Rattle.conflict_sets.proofs.TriedLaws.{names-tried, part-tried, program-tried, scales-tried}
-use Rattle.row_problem.specs.CarriedBack.{BecomesPlan}
-use Rattle.certified_answers.specs.Found.{IsFoundPlan, IsFoundRefutation}
 use Rattle.row_problem.proofs.FoundWords.{found-plan, found-refutation}
 use Rattle.row_problem.proofs.OverLaws.{IsOverSome}
 
@@ -52,18 +30,18 @@ module _ (listed : RowName → Bool) (problem : Problem) (of : IsPosedProblem pr
   abbrev whole : Reduced
   whole = problem.reduced.now
 
-  pub trial-plan : (values plan : List (Var × Rational)) → plan ≡ carried_plan rows defs values → keys_of values ≡ made.columns.items → ascends var_cmp (keys_of values) ≡ true → AreOverSome var_cmp values → AreOverSome var_cmp plan
+  pub trial-plan : (values plan : Values) → plan ≡ carried_plan rows defs values → keys_of values ≡ made.columns.items → ascends var_cmp (keys_of values) ≡ true → AreOverSome var_cmp values → AreOverSome var_cmp plan
       → MeetAll (program_of made) values → IsFoundPlan (rows_with listed rows) vars plan
   unfolding carried_plan
   trial-plan values plan is keyed up some some_made meet =
-      let made_plan : List (Var × Rational) = lifted right_side ds values in
+      let made_plan : Values = lifted right_side ds values in
       let carries = carries-tried listed whole.columns.items rows defs values whole.rows.items whole.scales.items made.rows.items of.problem.same of.problem.triangular of.reductions of.posed.rows tried.rows (part-tried listed problem of made tried).without in
       let becomes : BecomesPlan (rows_with listed rows) vars made values made_plan =
       becomes_plan (rows_with listed rows) vars (defined ds) made values made_plan (lifted-others right_side ds values) (plan_right ds values of.problem.triangular of.problem.signs) carries in
       rw is
       (found-plan (rows_with listed rows) vars made values made_plan keyed up some (rw is at some_made) meet becomes)
 
-  pub trial-refutation : (lambda : List Frac) (multipliers : List (RowName × Rational)) → CarriesSum rows (defined ds) made lambda multipliers → AreOverSome row_name_cmp multipliers → IsOverSome (map value_of lambda)
+  pub trial-refutation : (lambda : List Frac) (multipliers : Multipliers) → CarriesSum rows (defined ds) made lambda multipliers → AreOverSome row_name_cmp multipliers → IsOverSome (map value_of lambda)
       → RefuteAll (program_of made) (map value_of lambda) → IsFoundRefutation rows vars multipliers
   trial-refutation lambda multipliers carries m o refute =
       found-refutation rows vars made lambda multipliers m o refute (becomes_refutation rows defs vars of.problem made (tried.columns ∙ of.columns) lambda multipliers carries)

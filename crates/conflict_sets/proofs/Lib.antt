@@ -1,4 +1,3 @@
-pub mod Tests
 pub mod SelectedLaws
 pub mod LoopLaws
 pub mod CopiedLaws
@@ -14,6 +13,5 @@ pub mod TrialEnds
 pub mod FoundTrials
 pub mod PairLaws
 pub mod StillLaws
-pub mod RoundedLaws
 pub mod Examples
 mod TrialExamples

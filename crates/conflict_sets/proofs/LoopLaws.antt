@@ -1,16 +1,8 @@
 -- Rows that are copied and names that are listed, one after another.
-use Rattle.std.proofs.Common.{◌≡◌, ℕ, zero, suc, ◌+◌, ◌<◌, ◌≤◌, Bool, List, [], ◌∷◌, ◌++◌, length, get_or, drop, map, refl, sym, ap, ap₂, ◌∙◌, append_assoc, append-nil, arith, if◌then◌else◌}
-use Rattle.std.specs.Prelude.{◌&&◌}
-use Rattle.std.proofs.lemmas.List.{at_drop_all, drop_more}
-use Rattle.exact_num.specs.Rational.{Rational}
-use Rattle.row_core.specs.declared.Row.{Row}
-use Rattle.row_core.specs.declared.RowName.{RowName}
-use Rattle.row_problem.specs.Sizes.{is_unequal}
-use Rattle.row_core.specs.Contents.{RowContents, contents_of}
+use Rattle.row_problem.proofs.Common.{◌≡◌, ℕ, zero, suc, ◌+◌, ◌<◌, ◌≤◌, Bool, List, [], ◌∷◌, ◌++◌, length, get_or, drop, map, refl, sym, ap, ap₂, ◌∙◌, append_assoc, append-nil, arith, if◌then◌else◌, ◌&&◌, at_drop_all, drop_more, Row, RowName, is_unequal, RowContents, contents_of, by_test, Multipliers}
 use Rattle.conflict_sets.specs.Pieces.{is_taken, selected, tests_of}
 use Rattle.conflict_sets.specs.Trials.{rows_with}
 use Rattle.conflict_sets.specs.Walks.{is_listed, listed_names}
-use Rattle.conflict_sets.proofs.Tests.{by_test}
 
 -- an element, and the rest after it
 pub next-of : {A : Type 0} (xs : List A) (i : ℕ) (x : A) → i < length xs → x ≡ get_or xs i x → drop i xs ≡ x ∷ drop (i + 1) xs
@@ -65,7 +57,7 @@ module _ (listed : RowName → Bool) where
 
 -- ---- names
 
-module _ (m : List (RowName × Rational)) where
+module _ (m : Multipliers) where
   abbrev on_list : Row → Bool
   on_list row = is_unequal row.sense && is_listed m row.name
 

@@ -1,24 +1,21 @@
 -- Names with the plans at their places.
-use Rattle.std.proofs.Common.{◌≡◌, List, [], ◌∷◌, ◌++◌, length, map, refl, ap, arith}
-use Rattle.exact_num.specs.Rational.{Rational}
-use Rattle.row_core.specs.declared.RowName.{RowName}
-use Rattle.row_core.specs.declared.Var.{Var}
+use Rattle.row_problem.proofs.Common.{◌≡◌, List, [], ◌∷◌, ◌++◌, length, map, refl, ap, arith, RowName, Values, Multipliers}
 use Rattle.conflict_sets.specs.Searches.{member_named, paired}
 use Rattle.conflict_sets.specs.Walks.{Needed, member_of, plan_of}
 
 abbrev Plans : Type 0
-Plans = List (List (Var × Rational))
+Plans = List Values
 
-pub paired-more : (names : List RowName) (plans : Plans) (name : RowName) (plan : List (Var × Rational)) → length names ≡ length plans → paired (names ++ name ∷ []) (plans ++ plan ∷ []) ≡ paired names plans ++ (name, plan) ∷ []
+pub paired-more : (names : List RowName) (plans : Plans) (name : RowName) (plan : Values) → length names ≡ length plans → paired (names ++ name ∷ []) (plans ++ plan ∷ []) ≡ paired names plans ++ (name, plan) ∷ []
 paired-more [] [] name plan e = refl
 paired-more [] (p ∷ plans) name plan e = absurd (omega arith)
 paired-more (n ∷ names) [] name plan e = absurd (omega arith)
 paired-more (n ∷ names) (p ∷ plans) name plan e = ap {B = List Needed} (λ ones. (n, p) ∷ ones) (paired-more names plans name plan (omega arith))
 
-pub paired-members : (m : List (RowName × Rational)) (names : List RowName) (plans : Plans) → length names ≡ length plans → map (member_of m) (paired names plans) ≡ map (member_named m) names
+pub paired-members : (m : Multipliers) (names : List RowName) (plans : Plans) → length names ≡ length plans → map (member_of m) (paired names plans) ≡ map (member_named m) names
 paired-members m [] plans e = refl
 paired-members m (n ∷ names) [] e = absurd (omega arith)
-paired-members m (n ∷ names) (p ∷ plans) e = ap {B = List (RowName × Rational)} (λ ms. member_named m n ∷ ms) (paired-members m names plans (omega arith))
+paired-members m (n ∷ names) (p ∷ plans) e = ap {B = Multipliers} (λ ms. member_named m n ∷ ms) (paired-members m names plans (omega arith))
 
 pub paired-plans : (names : List RowName) (plans : Plans) → length names ≡ length plans → map plan_of (paired names plans) ≡ plans
 paired-plans [] [] e = refl

@@ -1,26 +1,10 @@
 -- What plans and multipliers of some rows are to fewer of them.
-use Rattle.std.proofs.Common.{◌≡◌, ℕ, ℤ, pos, ◌+ℤ◌, ◌*ℤ◌, Bool, true, false, List, [], ◌∷◌, inl, inr, filter, refl, sym, ap, ◌∙◌, subst, arith}
-use Rattle.std.specs.List.{flat_map}
-use Rattle.std.proofs.lemmas.Int.{ints}
+use Rattle.row_problem.proofs.Common.{◌≡◌, ℕ, ℤ, pos, ◌+ℤ◌, ◌*ℤ◌, Bool, true, false, List, [], ◌∷◌, inl, inr, filter, refl, sym, ap, ◌∙◌, subst, arith, flat_map, ints, zero-*ℤ, Row, RowName, Var, kind_is_free, variables_of, number_at, Contains-from_Has, Has, Has-append_left, Has-append_right, Has-from_Contains, append_parts, AreSigned, AreWithin, IsWithin, Refutes, no_cost, AllStand, MeetsAll, HasVariablesOf, column_sum, weighted, is_unequal, by_test}
 use Rattle.std.proofs.lemmas.List.Concat.{flat_map-cons}
-use Rattle.exact_num.proofs.Ring.{zero-*ℤ}
-use Rattle.row_core.specs.declared.Row.{Row}
-use Rattle.row_core.specs.declared.RowName.{RowName}
-use Rattle.row_core.specs.declared.Var.{Var}
-use Rattle.row_core.specs.Kinds.{kind_is_free}
-use Rattle.row_core.specs.Numbers.{variables_of}
-use Rattle.row_core.specs.Rows.{number_at}
-use Rattle.row_core.proofs.Members.{Contains-from_Has, Has, Has-append_left, Has-append_right, Has-from_Contains, append_parts}
-use Rattle.certificate_checker.specs.Certificates.{AreSigned, AreWithin, IsWithin, Refutes}
-use Rattle.certificate_checker.specs.Costs.{no_cost}
-use Rattle.certificate_checker.specs.Plans.{AllStand, MeetsAll}
-use Rattle.certificate_checker.specs.Sums.{HasVariablesOf, column_sum, weighted}
-use Rattle.row_problem.specs.Sizes.{is_unequal}
 use Rattle.conflict_sets.specs.Pieces.{is_taken}
 use Rattle.conflict_sets.specs.Trials.{rows_with}
 use Rattle.conflict_sets.specs.Walks.{every}
 use Rattle.conflict_sets.proofs.RowLists.{Takes, taken-too}
-use Rattle.conflict_sets.proofs.Tests.{by_test}
 
 -- ---- plans
 

@@ -1,44 +1,11 @@
 -- Values that meet the linear program of a trial become a plan that meets the rows of the trial.
-use Rattle.std.proofs.Common.{◌≡◌, ◌≢◌, ℕ, ℤ, pos, ◌*ℤ◌, Bool, true, false, not, ◌||◌, List, [], ◌∷◌, inl, inr, length, map, refl, sym, ap, ap₂, ◌∙◌, subst, arith, if◌then◌else◌}
-use Rattle.std.specs.Prelude.{Option, Some, None}
-use Rattle.std.specs.Prelude.{◌≤ℤ◌, int_le}
-use Rattle.std.specs.Ordering.{int_eq}
-use Rattle.std.proofs.lemmas.Int.{ints}
-use Rattle.std.proofs.lemmas.Bool.Decides.{nat_tests}
-use Rattle.exact_num.proofs.Integers.{*ℤ_nonnegative}
-use Rattle.exact_num.proofs.Ring.{zero-*ℤ}
-use Rattle.row_core.specs.Statements.{stands}
-use Rattle.written_method.specs.Eliminated.{has_entries}
-use Rattle.exact_num.specs.Rational.{Rational}
-use Rattle.exact_num.specs.Value.{value_of}
-use Rattle.exact_num.specs.declared.fraction.Frac.{Frac}
-use Rattle.row_core.specs.declared.Row.{Row}
-use Rattle.row_core.specs.declared.RowName.{RowName}
-use Rattle.row_core.specs.declared.Sense.{Sense}
-use Rattle.row_core.specs.declared.Sense.TheVariants.{Least, Equal, Most}
-use Rattle.row_core.specs.declared.Var.{Var}
-use Rattle.row_core.specs.Rows.{RowHolds, row_sum}
-use Rattle.row_core.specs.Statements.{Stands}
-use Rattle.written_method.specs.Definitions.{Definition, definitions_of, others_of, rows_of, defined, AreTriangular}
-use Rattle.written_method.specs.Lifted.{lifted, right_side}
-use Rattle.written_method.specs.Programs.{inequality_of}
-use Rattle.written_method.specs.Ready.{ArePosed}
-use Rattle.variable_elimination.specs.Left.{AvoidAll}
-use Rattle.variable_elimination.specs.Lifts.{AllStand, CarriesPlan, right_times}
-use Rattle.variable_elimination.specs.Meaning.{AreMet, excess}
-use Rattle.row_core.specs.Contents.{contents_of}
-use Rattle.variable_elimination.specs.ReducedRows.{AreReductions}
-use Rattle.variable_elimination.proofs.LiftedLaws.{lifted-others, lifted_meet, plan_met, reduced_hold}
-use Rattle.variable_elimination.proofs.LiftLaws.{at_most, product_down}
-use Rattle.variable_elimination.proofs.ReductionLaws.{reduced_says}
-use Rattle.row_problem.specs.Sizes.{is_unequal}
+use Rattle.row_problem.proofs.Common.{◌≡◌, ◌≢◌, ℕ, ℤ, pos, Bool, true, false, not, ◌||◌, List, [], ◌∷◌, inl, inr, length, map, refl, sym, ap, ap₂, ◌∙◌, arith, if◌then◌else◌, Option, Some, None, ints, value_of, Frac, Row, RowName, Sense, Equal, Most, Var, RowHolds, Definition, definitions_of, others_of, rows_of, defined, AreTriangular, lifted, right_side, inequality_of, ArePosed, AvoidAll, AreMet, contents_of, AreReductions, lifted-others, lifted_meet, plan_met, reduced_hold, reduced_says, is_unequal, by_test, Values}
+use Rattle.row_core.specs.declared.Sense.TheVariants.{Least}
+use Rattle.variable_elimination.specs.Lifts.{CarriesPlan}
+use Rattle.variable_elimination.proofs.LiftedLaws.{AllHold, defined_holds, empty_holds}
 use Rattle.conflict_sets.specs.Pieces.{is_taken, selected, tests_of}
 use Rattle.conflict_sets.specs.Trials.{rows_with}
 use Rattle.conflict_sets.proofs.TriedLaws.{reduction-copied}
-use Rattle.conflict_sets.proofs.Tests.{by_test}
-
-abbrev AllHold : List Row → ℕ → (Var → ℤ) → Type 0
-AllHold rows q x = AllStand (right_times q) rows x
 
 either-hold : (row : Row) (rows : List Row) (t : Bool) (q : ℕ) (x : Var → ℤ) → RowHolds row q x → AllHold rows q x → AllHold (if t then (row ∷ rows) else rows) q x
 either-hold row rows true q x h k = (h, k)
@@ -49,26 +16,6 @@ not-equal Least h = refl
 not-equal Equal h = absurd (h refl)
 not-equal Most h = refl
 
--- a right side to which 0 stands, times any number
-stands_to_times : (sense : Sense) (right : ℤ) (q : ℕ) → stands sense (pos 0) right ≡ true → Stands sense (pos 0) (right *ℤ pos q)
-stands_to_times Least right q h = product_down right (pos q) (at_most right h) (omega (arith, ints))
-stands_to_times Equal right q h = sym (zero-*ℤ (pos q)) ∙ ap (λ z. z *ℤ pos q) (equal_to right h)
-  where
-    equal_to : (z : ℤ) → int_eq (pos 0) z ≡ true → pos 0 ≡ z
-    equal_to z h = grind (arith, ints, nat_tests)
-stands_to_times Most right q h = *ℤ_nonnegative right (pos q) (at_least right h) (omega (arith, ints))
-  where
-    at_least : (z : ℤ) → int_le (pos 0) z ≡ true → pos 0 ≤ℤ z
-    at_least z h = grind (arith, ints, nat_tests)
-
--- a row without entries that is true of 0 holds of every plan
-empty-holds : (row : Row) (q : ℕ) (x : Var → ℤ) → has_entries row.entries.items ≡ false → stands row.sense (pos 0) row.rhs ≡ true → RowHolds row q x
-empty-holds row q x h k = subst (λ z. Stands row.sense z (row.rhs *ℤ pos q)) (nothing row.entries.items h) (stands_to_times row.sense row.rhs q k)
-  where
-    nothing : (es : List (Var × ℤ)) → has_entries es ≡ false → pos 0 ≡ row_sum x es
-    nothing [] h = refl
-    nothing (e ∷ es) h = absurd (cc h)
-
 -- rows that define nothing: each was dropped, or is tried, or isn't on the list
 others-tried : (listed : RowName → Bool) (columns : List Var) (ds : List Definition) (others rows : List Row) (scales : List Frac) (made : List Row) (p : ℕ) (z : Var → ℤ)
     → AreReductions (rows_of ds) others rows scales → ArePosed columns (map inequality_of rows) → map contents_of made ≡ selected (tests_of listed rows) (map contents_of rows)
@@ -76,7 +23,7 @@ others-tried : (listed : RowName → Bool) (columns : List Var) (ds : List Defin
 others-tried listed columns ds [] rows scales made p z r posed e met holds = tt
 others-tried listed columns ds (named ∷ others) rows scales made p z (inl (dropped, r)) posed e met holds =
     either-hold named (rows_with listed others) (is_taken listed named) p z
-    ((reduced_says ds named (value_of dropped.scale) dropped.new p z dropped.reduction.reduced dropped.reduction.sense met).0 (empty-holds dropped.new p z dropped.empty dropped.holds))
+    ((reduced_says ds named (value_of dropped.scale) dropped.new p z dropped.reduction.reduced dropped.reduction.sense met).0 (empty_holds dropped.new p z dropped.empty dropped.holds))
     (others-tried listed columns ds others rows scales made p z r posed e met holds)
 others-tried listed columns ds (named ∷ others) rows scales made p z (inr (new, scale, more, more_scales, ee, ff, r, h)) posed e met holds =
     cases (listed new.name) refl made (e ∙ ap (λ (rs : List Row). selected (tests_of listed rs) (map contents_of rs)) ee) holds (λ ks i k. others-tried listed columns ds others more more_scales ks p z h posed_new.3 i met k)
@@ -97,11 +44,6 @@ others-tried listed columns ds (named ∷ others) rows scales made p z (inr (new
         ap₂ (λ a b. not a || b) (ap is_unequal (sym r.sense) ∙ not-equal new.sense posed_new.0) (ap listed (sym r.name) ∙ is) in
         rw left_out (rest made e holds)
 
-definition_holds : (row : Row) (p : ℕ) (z : Var → ℤ) → row.sense ≡ Equal → excess row (pos p) z ≡ pos 0 → RowHolds row p z
-definition_holds row p z e met =
-    let same : row_sum z row.entries.items ≡ row.rhs *ℤ pos p = omega (arith, ints) in
-    rw e same
-
 all-tried : (listed : RowName → Bool) (rows : List Row) (defs : List (Option Var)) (p : ℕ) (z : Var → ℤ) → length defs ≡ length rows → AreTriangular (definitions_of rows defs) → AreMet (definitions_of rows defs) (pos p) z
     → AllHold (rows_with listed (others_of rows defs)) p z → AllHold (rows_with listed rows) p z
 all-tried listed [] defs p z same h met others = tt
@@ -111,9 +53,9 @@ all-tried listed (row ∷ rows) (None ∷ defs) p z same h met others =
     (λ is. let k = rw is at others in rw is (k.0, all-tried listed rows defs p z (omega arith) h met k.1))
     (λ is. rw is (all-tried listed rows defs p z (omega arith) h met (rw is at others)))
 all-tried listed (row ∷ rows) (Some v ∷ defs) p z same h met others =
-    either-hold row (rows_with listed rows) (is_taken listed row) p z (definition_holds row p z h.0.equal met.0) (all-tried listed rows defs p z (omega arith) h.3 met.1 others)
+    either-hold row (rows_with listed rows) (is_taken listed row) p z (defined_holds (record { row = row; variable = v }) p z h.0.equal met.0) (all-tried listed rows defs p z (omega arith) h.3 met.1 others)
 
-pub carries-tried : (listed : RowName → Bool) (columns : List Var) (rows : List Row) (defs : List (Option Var)) (values : List (Var × Rational)) (reduced : List Row) (scales : List Frac) (made : List Row)
+pub carries-tried : (listed : RowName → Bool) (columns : List Var) (rows : List Row) (defs : List (Option Var)) (values : Values) (reduced : List Row) (scales : List Frac) (made : List Row)
     → length defs ≡ length rows → AreTriangular (definitions_of rows defs) → AreReductions (rows_of (definitions_of rows defs)) (others_of rows defs) reduced scales → ArePosed columns (map inequality_of reduced)
     → map contents_of made ≡ selected (tests_of listed reduced) (map contents_of reduced) → AvoidAll (defined (definitions_of rows defs)) made
     → CarriesPlan (rows_with listed rows) made values (lifted right_side (definitions_of rows defs) values)

@@ -1,19 +1,5 @@
 -- What is known goes on from trial to trial.
-use Rattle.std.proofs.Common.{◌≡◌, Bool, true, false, not, ◌&&◌, List, [], ◌∷◌, ◌++◌, inl, inr, map, filter, ap, ap₂, ◌∙◌, subst, append_assoc}
-use Rattle.std.specs.Prelude.{Contains, Option}
-use Rattle.std.specs.Ordering.{is_eq}
-use Rattle.std.proofs.lemmas.List.{map-append}
-use Rattle.exact_num.specs.Rational.{Rational}
-use Rattle.row_core.specs.declared.Row.{Row}
-use Rattle.row_core.specs.declared.RowName.{RowName}
-use Rattle.row_core.specs.declared.Var.{Var}
-use Rattle.row_core.specs.Numbers.{keys_of}
-use Rattle.row_core.specs.Order.{row_name_cmp}
-use Rattle.row_core.proofs.AscendingLaws.{both_passed}
-use Rattle.row_core.proofs.Members.{Contains-from_Has, Has, Has-filter, Has-from_Contains, Has-map, append_parts, filter_parts, map_parts}
-use Rattle.row_problem.specs.Problems.{IsProblem}
-use Rattle.row_problem.specs.Sizes.{is_unequal}
-use Rattle.certified_answers.specs.Worth.{IsPlan, IsRefutation, plan_cost}
+use Rattle.row_problem.proofs.Common.{◌≡◌, Bool, true, false, not, ◌&&◌, List, [], ◌∷◌, ◌++◌, inl, inr, map, filter, ap, ap₂, ◌∙◌, subst, append_assoc, Contains, Option, is_eq, map-append, Row, RowName, Var, keys_of, row_name_cmp, both_passed, Contains-from_Has, Has, Has-filter, Has-from_Contains, Has-map, append_parts, filter_parts, map_parts, IsProblem, is_unequal, IsPlan, IsRefutation, plan_cost, refl, row_name_cmp_total, Values, Multipliers}
 use Rattle.conflict_sets.specs.Conflicts.{IsWholePlan, inequalities}
 use Rattle.conflict_sets.specs.Pieces.{AreWithin, IsFinding}
 use Rattle.conflict_sets.specs.declared.trial.Finding.{Finding}
@@ -22,7 +8,9 @@ use Rattle.conflict_sets.specs.Searches.{IsSearched, list_after, names_known, ne
 use Rattle.conflict_sets.specs.Trials.{rows_with}
 use Rattle.conflict_sets.specs.Walks.{Needed, is_listed, is_other, listed_names}
 use Rattle.conflict_sets.proofs.PartLaws.{fewer-met}
-use Rattle.conflict_sets.proofs.RowLists.{filter-ascends, inequality-named, inequality-row, itself, without-one}
+use Rattle.row_problem.proofs.SameLists.{filter-ascends}
+use Rattle.variable_elimination.proofs.RowNameLaws.{name_itself}
+use Rattle.conflict_sets.proofs.RowLists.{inequality-named, inequality-row, without-one}
 
 has-more : (xs : List RowName) (c : RowName) (ws : List RowName) (u : RowName) → Has (xs ++ ws) u → Has (xs ++ c ∷ ws) u
 has-more [] c ws u h = inr h
@@ -42,12 +30,12 @@ fewer : (needed : List Needed) (c : RowName) (left : List RowName) (u : RowName)
 fewer needed c left u apart h = Contains-from_Has (names_known needed left) u (has-fewer (map needed_name needed) c left u apart (Has-from_Contains (names_known needed (c ∷ left)) u h))
 
 -- a listed name that isn't another one
-pub other-parts : (multipliers : List (RowName × Rational)) (c u : RowName) → is_other multipliers c u ≡ true → (is_listed multipliers u ≡ true) × (c ≡ u → ⊥)
+pub other-parts : (multipliers : Multipliers) (c u : RowName) → is_other multipliers c u ≡ true → (is_listed multipliers u ≡ true) × (c ≡ u → ⊥)
 other-parts multipliers c u h =
     let parts = both_passed (is_listed multipliers u) (not (is_eq (row_name_cmp u c))) h in
-    (parts.0, λ e. let alike : is_eq (row_name_cmp u c) ≡ true = rw e (itself u) in absurd (cc (parts.1, ap not alike)))
+    (parts.0, λ e. let alike : is_eq (row_name_cmp u c) ≡ true = rw (e, name_itself u) refl in absurd (cc (parts.1, ap not alike)))
 
-module _ (rows : List Row) (vars : List Var) (multipliers : List (RowName × Rational)) (needed : List Needed) (name : RowName) (left : List RowName) (s : IsSearched rows vars multipliers needed (name ∷ left)) where
+module _ (rows : List Row) (vars : List Var) (multipliers : Multipliers) (needed : List Needed) (name : RowName) (left : List RowName) (s : IsSearched rows vars multipliers needed (name ∷ left)) where
   pub search-skips : is_listed multipliers name ≡ false → IsSearched rows vars multipliers needed left
   search-skips h = record {
     refutation = s.refutation;
@@ -57,7 +45,7 @@ module _ (rows : List Row) (vars : List Var) (multipliers : List (RowName × Rat
     plans = s.plans;
   }
 
-  search-drops : (made : List (RowName × Rational)) → IsRefutation rows vars made → AreWithin (is_other multipliers name) rows made → IsSearched rows vars made needed left
+  search-drops : (made : Multipliers) → IsRefutation rows vars made → AreWithin (is_other multipliers name) rows made → IsSearched rows vars made needed left
   search-drops made refuted within = record {
     refutation = refuted;
     ascending = without-one (map needed_name needed) name left s.ascending;
@@ -80,10 +68,10 @@ module _ (rows : List Row) (vars : List Var) (multipliers : List (RowName × Rat
           let listed = other-parts multipliers name u (within u (Contains-from_Has (inequalities rows) u there) parts.0) in
           ap₂ (λ a b. a && b) listed.0 parts.1
 
-  moved : (plan : List (Var × Rational)) → names_known (needed ++ (name, plan) ∷ []) left ≡ names_known needed (name ∷ left)
+  moved : (plan : Values) → names_known (needed ++ (name, plan) ∷ []) left ≡ names_known needed (name ∷ left)
   moved plan = ap (λ ns. ns ++ left) (map-append needed_name needed ((name, plan) ∷ [])) ∙ append_assoc (map needed_name needed) (name ∷ []) left
 
-  search-needs : (plan : List (Var × Rational)) → IsPlan (rows_with (is_other multipliers name) rows) vars plan (plan_cost vars plan) → keys_of plan ≡ vars → IsSearched rows vars multipliers (needed ++ (name, plan) ∷ []) left
+  search-needs : (plan : Values) → IsPlan (rows_with (is_other multipliers name) rows) vars plan (plan_cost vars plan) → keys_of plan ≡ vars → IsSearched rows vars multipliers (needed ++ (name, plan) ∷ []) left
   search-needs plan found whole = record {
     refutation = s.refutation;
     ascending = rw (moved plan) s.ascending;
@@ -103,15 +91,15 @@ module _ (rows : List Row) (vars : List Var) (multipliers : List (RowName × Rat
   goes (Plan plan) worth = search-needs plan worth.0 worth.1
   goes (Refutation made) worth = search-drops made worth.0 worth.1
 
-  pub search-goes : (finding : Finding) (new : List (RowName × Rational)) (now : List Needed) → new ≡ list_after finding multipliers → now ≡ needed_after name finding needed → IsFinding (is_other multipliers name) rows vars finding
+  pub search-goes : (finding : Finding) (new : Multipliers) (now : List Needed) → new ≡ list_after finding multipliers → now ≡ needed_after name finding needed → IsFinding (is_other multipliers name) rows vars finding
       → IsSearched rows vars new now left
   search-goes finding new now e f worth = rw (e, f) (goes finding worth)
 
 -- the first list
-pub search-starts : (rows : List Row) (defs : List (Option Var)) (vars : List Var) (made : List (RowName × Rational)) → IsProblem rows defs vars → IsRefutation rows vars made → IsSearched rows vars made [] (listed_names made rows)
+pub search-starts : (rows : List Row) (defs : List (Option Var)) (vars : List Var) (made : Multipliers) → IsProblem rows defs vars → IsRefutation rows vars made → IsSearched rows vars made [] (listed_names made rows)
 search-starts rows defs vars made problem refuted = record {
   refutation = refuted;
-  ascending = filter-ascends (λ (r : Row). r.name) test rows problem.named;
+  ascending = filter-ascends row_name_cmp row_name_cmp_total (λ (r : Row). r.name) test rows problem.named;
   among = λ u k.
       let found = map_parts (λ (r : Row). r.name) (filter test rows) u (Has-from_Contains (listed_names made rows) u k) in
       let parts = filter_parts test rows found.0 found.1 in

@@ -1,11 +1,6 @@
 -- What a list of tests selects.
-use Rattle.std.proofs.Common.{◌≡◌, ◌≤◌, suc, Bool, true, false, List, [], ◌∷◌, ◌++◌, length, map, filter, refl, ap, arith, if◌then◌else◌}
+use Rattle.row_problem.proofs.Common.{◌≡◌, ◌≤◌, suc, Bool, true, false, List, [], ◌∷◌, length, map, filter, refl, ap, arith, by_test}
 use Rattle.conflict_sets.specs.Pieces.{selected}
-use Rattle.conflict_sets.proofs.Tests.{by_test}
-
-pub map-map : {A B C : Type 0} (g : B → C) (f : A → B) (xs : List A) → map (λ x. g (f x)) xs ≡ map g (map f xs)
-map-map g f [] = refl
-map-map {C = C} g f (x ∷ xs) = ap {B = List C} (λ ys. g (f x) ∷ ys) (map-map g f xs)
 
 -- a filter selects by its tests
 pub map-filter : {A B : Type 0} (p : A → Bool) (f : A → B) (xs : List A) → map f (filter p xs) ≡ selected (map p xs) (map f xs)
@@ -37,12 +32,3 @@ length-alike (false ∷ ts) (x ∷ xs) (y ∷ ys) e = length-alike ts xs ys (ome
 pub selected-none : {A : Type 0} (ts : List Bool) → selected {A = A} ts [] ≡ []
 selected-none [] = refl
 selected-none (t ∷ ts) = refl
-
--- one more
-pub selected-more : {A : Type 0} (ts : List Bool) (xs : List A) (t : Bool) (x : A) → length ts ≡ length xs → selected (ts ++ t ∷ []) (xs ++ x ∷ []) ≡ selected ts xs ++ (if t then (x ∷ []) else [])
-selected-more [] [] true x e = refl
-selected-more [] [] false x e = refl
-selected-more [] (y ∷ ys) t x e = absurd (omega arith)
-selected-more (s ∷ ts) [] t x e = absurd (omega arith)
-selected-more {A} (true ∷ ts) (y ∷ ys) t x e = ap {B = List A} (λ zs. y ∷ zs) (selected-more ts ys t x (omega arith))
-selected-more (false ∷ ts) (y ∷ ys) t x e = selected-more ts ys t x (omega arith)

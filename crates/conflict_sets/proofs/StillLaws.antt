@@ -1,19 +1,5 @@
 -- An inequality that was needed stays on the list: without it the others have a plan, so that no later refutation does without it.
-use Rattle.std.proofs.Common.{◌≡◌, ℕ, ℤ, pos, Bool, true, false, not, ◌&&◌, List, [], ◌∷◌, inl, inr, filter, refl, ap, ap₂, ◌∙◌, length, map, sym}
-use Rattle.std.specs.Prelude.{Option, Some}
-use Rattle.std.specs.Ordering.{is_eq}
-use Rattle.exact_num.specs.Rational.{Rational}
-use Rattle.row_core.specs.declared.Row.{Row}
-use Rattle.row_core.specs.declared.RowName.{RowName}
-use Rattle.row_core.specs.declared.Var.{Var}
-use Rattle.row_core.specs.Order.{row_name_cmp}
-use Rattle.row_core.specs.Plans.{valued}
-use Rattle.row_core.proofs.Members.{Contains-from_Has, Has}
-use Rattle.row_problem.specs.Problems.{IsProblem}
-use Rattle.certificate_checker.specs.Certificates.{AreMultipliersOver, Refutes}
-use Rattle.certificate_checker.specs.Plans.{MeetsAll}
-use Rattle.certificate_checker.proofs.DualityLaws.{Refutes-none}
-use Rattle.row_problem.specs.Sizes.{is_unequal}
+use Rattle.row_problem.proofs.Common.{◌≡◌, ℕ, ℤ, pos, Bool, true, false, not, ◌&&◌, List, [], ◌∷◌, inl, inr, filter, refl, ap, ap₂, ◌∙◌, length, map, sym, Option, Some, is_eq, Row, RowName, Var, row_name_cmp, valued, Contains-from_Has, Has, IsProblem, AreMultipliersOver, Refutes, MeetsAll, Refutes-none, is_unequal, by_test, Multipliers}
 use Rattle.conflict_sets.specs.Pieces.{is_taken}
 use Rattle.conflict_sets.specs.Conflicts.{IsConflict}
 use Rattle.conflict_sets.specs.Searches.{IsSearched, SearchIs, all_needed, member_named}
@@ -24,14 +10,13 @@ use Rattle.conflict_sets.specs.declared.searching.Search.{Search}
 use Rattle.conflict_sets.proofs.ConflictLaws.{conflict-found, zero-over}
 use Rattle.conflict_sets.proofs.PairLaws.{paired-members, paired-plans}
 use Rattle.conflict_sets.proofs.PartLaws.{fewer-met, part-refuted, part-variables}
-use Rattle.conflict_sets.proofs.RowLists.{same-name}
-use Rattle.conflict_sets.proofs.Tests.{by_test}
+use Rattle.variable_elimination.proofs.RowNameLaws.{same_name}
 
 filter-all : {A : Type 0} (p : A → Bool) (xs : List A) → ((x : A) → Has xs x → p x ≡ true) → filter p xs ≡ xs
 filter-all p [] h = refl
 filter-all {A} p (x ∷ xs) h = rw (h x (inl refl)) (ap {B = List A} (λ ys. x ∷ ys) (filter-all p xs (λ y k. h y (inr k))))
 
-module _ (rows : List Row) (defs : List (Option Var)) (vars : List Var) (m : List (RowName × Rational)) (needed : List Needed) (problem : IsProblem rows defs vars) (s : IsSearched rows vars m needed []) where
+module _ (rows : List Row) (defs : List (Option Var)) (vars : List Var) (m : Multipliers) (needed : List Needed) (problem : IsProblem rows defs vars) (s : IsSearched rows vars m needed []) where
   abbrev taken : Row → Bool
   taken = is_taken (is_listed m)
 
@@ -51,7 +36,7 @@ module _ (rows : List Row) (defs : List (Option Var)) (vars : List Var) (m : Lis
   -- a listed name isn't one that isn't listed
   apart : (c u : RowName) → is_listed m c ≡ false → is_listed m u ≡ true → is_other m c u ≡ true
   apart c u out is = by_test (is_eq (row_name_cmp u c))
-      (λ same. let no : is_listed m u ≡ false = ap (is_listed m) (same-name u c same) ∙ out in absurd (cc (is, no)))
+      (λ same. let no : is_listed m u ≡ false = ap (is_listed m) (same_name u c same) ∙ out in absurd (cc (is, no)))
       (λ same. ap₂ (λ a b. a && not b) is same)
 
   still-listed : (one : Needed) → Has needed one → is_listed m one.0 ≡ true
@@ -70,7 +55,7 @@ module _ (rows : List Row) (defs : List (Option Var)) (vars : List Var) (m : Lis
 
 module _ (rows : List Row) (defs : List (Option Var)) (vars : List Var) (problem : IsProblem rows defs vars) (search : Search) (even : length search.names.items ≡ length search.plans.items) (known : SearchIs rows vars search []) (conflict : Conflict)
     (e : map valued conflict.members.items ≡ map (member_named search.multipliers) search.names.items) (f : conflict.plans.items ≡ search.plans.items) where
-  abbrev last : List (RowName × Rational)
+  abbrev last : Multipliers
   last = search.multipliers
 
   abbrev all : List Needed

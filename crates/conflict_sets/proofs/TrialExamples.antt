@@ -1,23 +1,8 @@
 -- Conflicts, trial by trial: which inequality each trial leaves out, and what its multipliers strike off the list.
-use Rattle.std.proofs.Common.{◌≡◌, ℕ, ℤ, pos, negsuc, List, [], ◌∷◌, refl}
-use Rattle.std.specs.Global.{Vec}
-use Rattle.std.specs.Prelude.{Option, Some, None}
-use Rattle.exact_num.specs.Formed.{difference_formed, product_formed, quotient_formed, sum_formed}
-use Rattle.exact_num.specs.Gcd.{gcd_of, gcd_within}
-use Rattle.exact_num.specs.Range.{all_fit, in_range}
-use Rattle.exact_num.specs.Rational.{Rational, divided, lowest, minus, order_of, plus, times, whole}
-use Rattle.exact_num.specs.Steps.{first_wide}
-use Rattle.row_core.specs.declared.Row.{Row}
-use Rattle.row_core.specs.declared.RowName.{RowName}
-use Rattle.row_core.specs.declared.Sense.TheVariants.{Equal, Least, Most}
-use Rattle.row_core.specs.declared.Var.{Var}
-use Rattle.row_core.specs.declared.equation_numbers.TheConstants.{CAA4, EBA11, TCC1, TDC2}
-use Rattle.row_core.specs.declared.kind_numbers.TheConstants.{NEW_CAPACITY, RATE_OF_ACTIVITY, TOTAL_DISCOUNTED_COST}
+use Rattle.row_problem.proofs.Common.{◌≡◌, ℕ, ℤ, pos, negsuc, List, [], ◌∷◌, refl, Vec, Option, Some, None, difference_formed, product_formed, quotient_formed, sum_formed, gcd_of, gcd_within, all_fit, in_range, divided, lowest, minus, order_of, plus, times, whole, first_wide, Row, RowName, Equal, Most, Var, CAA4, EBA11, TCC1, TDC2, NEW_CAPACITY, RATE_OF_ACTIVITY, TOTAL_DISCOUNTED_COST, answer, answer_of, run, made_row, carried_plan, plan_steps, Values}
+use Rattle.row_core.specs.declared.Sense.TheVariants.{Least}
 use Rattle.simplex_core.specs.declared.stops.Stop.TheVariants.{Budget, Trial}
 use Rattle.simplex_core.specs.declared.stops.TrialStop.TheVariants as trials
-use Rattle.written_method.specs.Runs.{answer, answer_of, run}
-use Rattle.written_method.proofs.MadeRows.{made_row}
-use Rattle.row_problem.specs.Programs.{carried_plan, plan_steps}
 use Rattle.conflict_sets.specs.Trials.{HasPlan, trial_end, trial_program, tried_multipliers, tried_steps}
 use Rattle.conflict_sets.specs.Walks.{IsConflicting, IsStopped, every, explained, walk}
 
@@ -44,7 +29,7 @@ vars = activity ∷ built ∷ cost ∷ []
 abbrev defs : List (Option Var)
 defs = None ∷ None ∷ Some cost ∷ None ∷ []
 
-abbrev plan : ℕ → ℕ → ℕ → List (Var × Rational)
+abbrev plan : ℕ → ℕ → ℕ → Values
 plan x n c = (activity, whole (pos x)) ∷ (built, whole (pos n)) ∷ (cost, whole (pos c)) ∷ []
 
 module _ (v : Vec (Var × ℤ)) where

@@ -1,33 +1,11 @@
 -- The linear program of a trial is that of the definitions, is ready to be solved, and its rows are some of those that are left.
-use Rattle.std.proofs.Common.{◌≡◌, ◌+◌, ◌<◌, ◌≤◌, ◌^◌, Bool, true, false, List, [], ◌∷◌, inl, inr, length, map, filter, refl, sym, ap, ap₂, ◌∙◌, arith}
-use Rattle.std.specs.Prelude.{Option}
-use Rattle.std.proofs.lemmas.Int.{ints}
-use Rattle.std.proofs.lemmas.List.{length-map}
-use Rattle.exact_num.specs.Range.{all_fit}
-use Rattle.exact_num.specs.Rational.{Rational}
-use Rattle.exact_num.specs.Value.{value_of}
-use Rattle.exact_num.specs.declared.fraction.Frac.{Frac}
-use Rattle.row_core.specs.declared.Row.{Row}
-use Rattle.row_core.specs.declared.RowName.{RowName}
-use Rattle.row_core.specs.declared.Var.{Var}
-use Rattle.written_method.specs.declared.reduced.Reduced.{Reduced}
-use Rattle.written_method.specs.Definitions.{definitions_of, defined, others_of, rows_of}
-use Rattle.written_method.specs.Eliminated.{ReducedRow, is_column}
-use Rattle.written_method.specs.FirstTableau.{width_of}
-use Rattle.written_method.specs.Programs.{Inequality, LinearProgram, inequality_of, program_of}
-use Rattle.written_method.specs.Ready.{ArePosed, IsPosed, IsReady, RowsAreAmong}
-use Rattle.variable_elimination.specs.Eliminations.{AreAmongReductions, IsPartOf}
-use Rattle.variable_elimination.specs.Left.{AvoidAll}
-use Rattle.row_core.specs.Contents.{RowContents, contents_of}
-use Rattle.variable_elimination.specs.ReducedRows.{AreReductions, IsReduction}
-use Rattle.row_core.specs.RowLists.{names_of}
-use Rattle.row_problem.specs.Programs.{inequality_in, name_left, program_left, rows_left, scale_left}
-use Rattle.row_problem.specs.ProgramsOf.{IsPosedProblem}
+use Rattle.row_problem.proofs.Common.{◌≡◌, ◌+◌, ◌<◌, ◌≤◌, ◌^◌, Bool, true, false, List, [], ◌∷◌, inl, inr, length, map, filter, refl, sym, ap, ap₂, ◌∙◌, arith, Option, ints, length-map, all_fit, Rational, value_of, Frac, Row, RowName, Var, Reduced, definitions_of, defined, others_of, rows_of, ReducedRow, is_column, width_of, Inequality, LinearProgram, inequality_of, program_of, ArePosed, IsPosed, IsReady, RowsAreAmong, AreAmongReductions, IsPartOf, AvoidAll, RowContents, contents_of, AreReductions, IsReduction, names_of, inequality_in, name_left, program_left, rows_left, scale_left, IsPosedProblem}
 use Rattle.row_problem.specs.declared.problem.Problem.{Problem}
 use Rattle.row_problem.proofs.CarriedWords.{as_many}
 use Rattle.conflict_sets.specs.Pieces.{IsTriedOf, selected, tests_of}
 use Rattle.conflict_sets.specs.Trials.{rows_tried, trial_program}
-use Rattle.conflict_sets.proofs.SelectedLaws.{length-alike, length-selected, map-filter, map-map, map-selected, selected-none}
+use Rattle.std.proofs.lemmas.Simd.{map-map}
+use Rattle.conflict_sets.proofs.SelectedLaws.{length-alike, length-selected, map-filter, map-selected, selected-none}
 
 -- ---- copies of selected rows
 
@@ -117,7 +95,7 @@ module _ (listed : RowName → Bool) (problem : Problem) (of : IsPosedProblem pr
   tests = tests_of listed whole.rows.items
 
   tests-left : map (λ (r : ReducedRow). listed r.name) (rows_left rows defs) ≡ tests
-  tests-left = map-map listed name_left (rows_left rows defs) ∙ ap (map listed) (sym of.names) ∙ sym (map-map listed (λ (row : Row). row.name) whole.rows.items)
+  tests-left = sym (map-map listed name_left (rows_left rows defs)) ∙ ap (map listed) (sym of.names) ∙ map-map listed (λ (row : Row). row.name) whole.rows.items
 
   -- what is so of the rows that are left is so of those that are tried
   tried-are : {B : Type 0} (f : ReducedRow → B) (bs : List B) → map f (rows_left rows defs) ≡ bs → map f (rows_tried listed rows defs) ≡ selected tests bs
@@ -125,8 +103,8 @@ module _ (listed : RowName → Bool) (problem : Problem) (of : IsPosedProblem pr
 
   inequalities-made : map inequality_of made.rows.items ≡ selected tests (map inequality_of whole.rows.items)
   inequalities-made =
-      map-map inequality_with contents_of made.rows.items ∙ ap (map inequality_with) tried.rows ∙ map-selected inequality_with tests (map contents_of whole.rows.items)
-      ∙ ap (selected tests) (sym (map-map inequality_with contents_of whole.rows.items))
+      sym (map-map inequality_with contents_of made.rows.items) ∙ ap (map inequality_with) tried.rows ∙ map-selected inequality_with tests (map contents_of whole.rows.items)
+      ∙ ap (selected tests) (map-map inequality_with contents_of whole.rows.items)
 
   left-rows : map inequality_in (rows_left rows defs) ≡ map inequality_of whole.rows.items
   unfolding program_left
@@ -141,8 +119,8 @@ module _ (listed : RowName → Bool) (problem : Problem) (of : IsPosedProblem pr
 
   pub names-tried : names_of made.rows.items ≡ map name_left (rows_tried listed rows defs)
   names-tried =
-      map-map (λ (s : RowContents). s.name) contents_of made.rows.items ∙ ap (map (λ (s : RowContents). s.name)) tried.rows ∙ map-selected (λ (s : RowContents). s.name) tests (map contents_of whole.rows.items)
-      ∙ ap (selected tests) (sym (map-map (λ (s : RowContents). s.name) contents_of whole.rows.items)) ∙ sym (tried-are name_left (names_of whole.rows.items) (sym of.names))
+      sym (map-map (λ (s : RowContents). s.name) contents_of made.rows.items) ∙ ap (map (λ (s : RowContents). s.name)) tried.rows ∙ map-selected (λ (s : RowContents). s.name) tests (map contents_of whole.rows.items)
+      ∙ ap (selected tests) (map-map (λ (s : RowContents). s.name) contents_of whole.rows.items) ∙ sym (tried-are name_left (names_of whole.rows.items) (sym of.names))
 
   pub scales-tried : map value_of made.scales.items ≡ map scale_left (rows_tried listed rows defs)
   scales-tried = ap (map value_of) tried.scales ∙ map-selected value_of tests whole.scales.items ∙ sym (tried-are scale_left (map value_of whole.scales.items) (sym of.scales))

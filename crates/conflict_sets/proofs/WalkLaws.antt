@@ -1,11 +1,5 @@
 -- The walk, one inequality after another.
-use Rattle.std.proofs.Common.{◌≡◌, ℕ, ◌+◌, true, false, List, [], ◌∷◌, refl, sym}
-use Rattle.std.specs.Prelude.{Option}
-use Rattle.exact_num.specs.Rational.{Rational}
-use Rattle.row_core.specs.declared.Row.{Row}
-use Rattle.row_core.specs.declared.RowName.{RowName}
-use Rattle.row_core.specs.declared.Var.{Var}
-use Rattle.certified_answers.specs.declared.answers.NoAnswer.{NoAnswer}
+use Rattle.row_problem.proofs.Common.{◌≡◌, ℕ, ◌+◌, true, false, List, [], ◌∷◌, refl, sym, Option, Row, RowName, Var, NoAnswer, Multipliers}
 use Rattle.certified_answers.specs.declared.answers.NoAnswer.TheVariants as stops
 use Rattle.conflict_sets.specs.Pieces.{end_found}
 use Rattle.conflict_sets.specs.Searches.{list_after, needed_after}
@@ -15,7 +9,7 @@ use Rattle.conflict_sets.specs.Trials.{StopsTrial, TrialEnd, trial_end}
 use Rattle.conflict_sets.specs.Walks.{Explanation, IsFirstFail, IsTrialFail, Needed, Stops, every, explained, found, is_listed, is_other, walk}
 use Rattle.conflict_sets.specs.declared.conflict.ExplainFail.{ExplainFail}
 
-module _ (rows : List Row) (defs : List (Option Var)) (vars : List Var) (n k : ℕ) (name : RowName) (left : List RowName) (multipliers : List (RowName × Rational)) (needed : List Needed) where
+module _ (rows : List Row) (defs : List (Option Var)) (vars : List Var) (n k : ℕ) (name : RowName) (left : List RowName) (multipliers : Multipliers) (needed : List Needed) where
   abbrev end_now : TrialEnd
   end_now = trial_end (is_other multipliers name) rows defs vars n
 
@@ -49,6 +43,6 @@ module _ (rows : List Row) (defs : List (Option Var)) (vars : List Var) (n : ℕ
   explained-stops (stops.Width place) fail s is = rw (is, s, explained) refl
   explained-stops stops.Memory fail s is = rw is tt
 
-pub walk-ends : (rows : List Row) (defs : List (Option Var)) (vars : List Var) (n k : ℕ) (multipliers : List (RowName × Rational)) (needed : List Needed) → walk rows defs vars n k [] multipliers needed ≡ found multipliers needed
+pub walk-ends : (rows : List Row) (defs : List (Option Var)) (vars : List Var) (n k : ℕ) (multipliers : Multipliers) (needed : List Needed) → walk rows defs vars n k [] multipliers needed ≡ found multipliers needed
 unfolding walk
 walk-ends rows defs vars n k multipliers needed = refl

@@ -1,35 +1,18 @@
 -- Of the inequalities those that were tried alone have a multiplier other than 0.
-use Rattle.std.proofs.Common.{◌≡◌, Bool, true, false, List, [], ◌∷◌, inl, inr, map, filter, refl, sym, ap, ◌∙◌, subst}
-use Rattle.std.specs.Prelude.{Option, Some, None}
-use Rattle.std.specs.Ordering.{is_eq}
-use Rattle.exact_num.specs.Rational.{Rational}
-use Rattle.row_core.specs.declared.Row.{Row}
-use Rattle.row_core.specs.declared.RowName.{RowName}
-use Rattle.row_core.specs.declared.Sense.TheVariants.{Equal}
-use Rattle.row_core.specs.declared.Var.{Var}
-use Rattle.row_core.specs.Numbers.{ascends, keys_of}
-use Rattle.row_core.specs.Order.{row_name_cmp}
-use Rattle.row_core.proofs.AscendingLaws.{ascends-tail}
-use Rattle.row_core.proofs.Members.{Has, Has-from_Contains, Has-map, filter_parts, map_parts}
-use Rattle.row_core.specs.RowLists.{names_of}
-use Rattle.row_problem.specs.Problems.{IsProblem}
-use Rattle.written_method.specs.Definitions.{definitions_of, AreTriangular}
-use Rattle.written_method.specs.Eliminated.{ReducedRow}
-use Rattle.written_method.specs.Multiplied.{scaled_multipliers}
-use Rattle.row_problem.specs.Programs.{name_left, rows_left, scale_left}
-use Rattle.row_problem.specs.Sizes.{is_unequal}
+use Rattle.row_problem.proofs.Common.{◌≡◌, Bool, true, false, List, [], ◌∷◌, inl, inr, map, filter, refl, sym, ap, ◌∙◌, subst, Option, Some, None, is_eq, Rational, Row, RowName, Equal, Var, ascends, keys_of, row_name_cmp, ascends-tail, Has, Has-from_Contains, Has-map, filter_parts, map_parts, names_of, IsProblem, definitions_of, AreTriangular, ReducedRow, scaled_multipliers, name_left, rows_left, scale_left, is_unequal, by_test, row_name_cmp_total, Multipliers}
 use Rattle.row_problem.proofs.CompletePlans.{definition_names, multiplied-has, scaled-has}
 use Rattle.conflict_sets.specs.Conflicts.{inequalities}
 use Rattle.conflict_sets.specs.Pieces.{AreWithin}
 use Rattle.conflict_sets.specs.Trials.{rows_tried, tried_multipliers}
 use Rattle.conflict_sets.specs.Walks.{is_listed}
-use Rattle.conflict_sets.proofs.RowLists.{inequality-row, not-again, same-name}
-use Rattle.conflict_sets.proofs.Tests.{by_test}
+use Rattle.row_problem.proofs.SameLists.{not-again}
+use Rattle.variable_elimination.proofs.RowNameLaws.{same_name}
+use Rattle.conflict_sets.proofs.RowLists.{inequality-row}
 
 -- a value other than 0 is that of a key
-listed-key : (values : List (RowName × Rational)) (u : RowName) → is_listed values u ≡ true → Has (keys_of values) u
+listed-key : (values : Multipliers) (u : RowName) → is_listed values u ≡ true → Has (keys_of values) u
 listed-key [] u h = absurd (cc h)
-listed-key (e ∷ values) u h = by_test (is_eq (row_name_cmp e.0 u)) (λ is. inl (same-name e.0 u is)) (λ is. inr (listed-key values u (rw is at h)))
+listed-key (e ∷ values) u h = by_test (is_eq (row_name_cmp e.0 u)) (λ is. inl (same_name e.0 u is)) (λ is. inr (listed-key values u (rw is at h)))
 
 -- ---- definitions are no inequalities
 
@@ -44,8 +27,8 @@ definition-row (row ∷ rows) (Some v ∷ defs) u h (inr k) = let rest = definit
 one-row : (rows : List Row) (a b : Row) → ascends row_name_cmp (names_of rows) ≡ true → Has rows a → Has rows b → a.name ≡ b.name → a ≡ b
 one-row [] a b up h k e = absurd h
 one-row (row ∷ rows) a b up (inl i) (inl j) e = sym i ∙ j
-one-row (row ∷ rows) a b up (inl i) (inr k) e = absurd (not-again row.name (names_of rows) up (subst (Has (names_of rows)) (sym (ap (λ (t : Row). t.name) i ∙ e)) (Has-map (λ (r : Row). r.name) rows b k)))
-one-row (row ∷ rows) a b up (inr h) (inl j) e = absurd (not-again row.name (names_of rows) up (subst (Has (names_of rows)) (e ∙ sym (ap (λ (t : Row). t.name) j)) (Has-map (λ (r : Row). r.name) rows a h)))
+one-row (row ∷ rows) a b up (inl i) (inr k) e = absurd (not-again row_name_cmp row_name_cmp_total row.name (names_of rows) up (subst (Has (names_of rows)) (sym (ap (λ (t : Row). t.name) i ∙ e)) (Has-map (λ (r : Row). r.name) rows b k)))
+one-row (row ∷ rows) a b up (inr h) (inl j) e = absurd (not-again row_name_cmp row_name_cmp_total row.name (names_of rows) up (subst (Has (names_of rows)) (e ∙ sym (ap (λ (t : Row). t.name) j)) (Has-map (λ (r : Row). r.name) rows a h)))
 one-row (row ∷ rows) a b up (inr h) (inr k) e = one-row rows a b (ascends-tail row_name_cmp row.name (names_of rows) up) h k e
 
 tried-listed : (listed : RowName → Bool) (left : List ReducedRow) (u : RowName) → Has (map name_left (filter (λ (r : ReducedRow). listed r.name) left)) u → listed u ≡ true

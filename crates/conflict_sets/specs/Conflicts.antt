@@ -1,20 +1,6 @@
 -- What a conflict is: inequalities that can't be met together, each of which is needed for that.
 use Rattle.std.specs.Prelude.{◌≡◌, ◌≢◌, ℕ, pos, ℤ, Bool, true, not, ◌&&◌, Contains, List, [], ◌∷◌, filter, ⊤}
-use Rattle.std.specs.List.{list_any}
-use Rattle.std.specs.Ordering.{is_eq}
-use Rattle.exact_num.specs.Rational.{Rational}
-use Rattle.exact_num.specs.Value.{value_of}
-use Rattle.exact_num.specs.declared.fraction.Frac.{Frac}
-use Rattle.row_core.specs.declared.Row.{Row}
-use Rattle.row_core.specs.declared.RowName.{RowName}
-use Rattle.row_core.specs.declared.Var.{Var}
-use Rattle.row_core.specs.Numbers.{ascends, keys_of}
-use Rattle.row_core.specs.Order.{row_name_cmp, var_cmp}
-use Rattle.row_core.specs.Plans.{value_in}
-use Rattle.row_core.specs.RowLists.{names_of}
-use Rattle.certificate_checker.specs.Certificates.{AdmitsNone, AreMultipliersOver, Refutes}
-use Rattle.certificate_checker.specs.Denominators.{AreOverSome}
-use Rattle.certificate_checker.specs.Plans.{AreValuesOver, MeetsAll}
+use Rattle.row_problem.specs.Prelude.{list_any, is_eq, value_of, Frac, Row, RowName, Var, ascends, keys_of, row_name_cmp, var_cmp, value_in, names_of, AdmitsNone, AreMultipliersOver, Refutes, AreOverSome, AreValuesOver, MeetsAll, Values, Multipliers}
 use Rattle.row_problem.specs.Sizes.{is_unequal}
 use Rattle.conflict_sets.specs.Trials.{rows_with}
 use Rattle.conflict_sets.specs.declared.conflict.Conflict.{Conflict}
@@ -36,7 +22,7 @@ inequalities rows = names_of (filter (λ row. is_unequal row.sense) rows)
 -- ---- what is known of them
 
 -- the plan has a value for each variable, and meets these rows with right signs
-pub record IsWholePlan (rows : List Row) (vars : List Var) (plan : List (Var × Rational)) : Type 0 where
+pub record IsWholePlan (rows : List Row) (vars : List Var) (plan : Values) : Type 0 where
   pub whole : keys_of plan ≡ vars
   pub some : AreOverSome var_cmp plan
   pub meets : (q : ℕ) (x : Var → ℤ) → AreValuesOver q x plan → MeetsAll rows vars q x
@@ -44,14 +30,14 @@ pub record IsWholePlan (rows : List Row) (vars : List Var) (plan : List (Var × 
 -- Some multipliers, those of the members among them, refute these rows: so no plan meets them. They are whole numbers over one denominator, so
 -- that `refutes` speaks of some.
 pub record AreRefuted (rows : List Row) (vars : List Var) (members : List (RowName × Frac)) : Type 0 where
-  pub multipliers : List (RowName × Rational)
+  pub multipliers : Multipliers
   pub some : AreOverSome row_name_cmp multipliers
   pub printed : (member : RowName × Frac) → Contains members member → value_in row_name_cmp multipliers member.0 ≡ value_of member.1
   pub refutes : (s : ℕ) (y : RowName → ℤ) → AreMultipliersOver s y multipliers → Refutes rows vars s y
   pub none : AdmitsNone rows vars
 
 -- for each of these members there is the plan in its place, which meets every equation and all other members
-abbrev pub AreNeeded : List Row → List Var → List RowName → List (RowName × Frac) → List (List (Var × Rational)) → Type 0
+abbrev pub AreNeeded : List Row → List Var → List RowName → List (RowName × Frac) → List Values → Type 0
 AreNeeded rows vars names [] [] = ⊤
 AreNeeded rows vars names [] (plan ∷ plans) = ⊥
 AreNeeded rows vars names (member ∷ members) [] = ⊥

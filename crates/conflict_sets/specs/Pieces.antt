@@ -1,15 +1,6 @@
 -- The parts of a trial as the code has them.
 use Rattle.std.specs.Prelude.{◌≡◌, pos, Bool, true, false, not, ◌||◌, ◌&&◌, Contains, List, [], ◌∷◌, map}
-use Rattle.exact_num.specs.Rational.{Rational}
-use Rattle.row_core.specs.declared.Row.{Row}
-use Rattle.row_core.specs.declared.RowName.{RowName}
-use Rattle.row_core.specs.declared.Var.{Var}
-use Rattle.row_core.specs.Order.{row_name_cmp}
-use Rattle.std.specs.Ordering.{is_lt}
-use Rattle.written_method.specs.declared.reduced.Reduced.{Reduced}
-use Rattle.row_core.specs.Contents.{contents_of}
-use Rattle.certified_answers.specs.Worth.{IsPlan, IsRefutation, plan_cost}
-use Rattle.row_core.specs.Numbers.{keys_of}
+use Rattle.row_problem.specs.Prelude.{Row, RowName, Var, row_name_cmp, is_lt, Reduced, contents_of, IsPlan, IsRefutation, plan_cost, keys_of, Multipliers}
 use Rattle.row_problem.specs.Sizes.{is_unequal}
 use Rattle.conflict_sets.specs.Trials.{HasNone, HasPlan, TrialEnd, rows_with}
 use Rattle.conflict_sets.specs.Conflicts.{inequalities}
@@ -59,7 +50,7 @@ end_found (findings.Plan plan) = HasPlan plan
 end_found (findings.Refutation multipliers) = HasNone multipliers
 
 -- of the inequalities those that are listed alone have a multiplier other than 0
-abbrev pub AreWithin : (RowName → Bool) → List Row → List (RowName × Rational) → Type 0
+abbrev pub AreWithin : (RowName → Bool) → List Row → Multipliers → Type 0
 AreWithin listed rows multipliers = (name : RowName) → Contains (inequalities rows) name → is_listed multipliers name ≡ true → listed name ≡ true
 
 -- what it is worth: the checker said yes

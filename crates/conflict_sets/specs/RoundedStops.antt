@@ -1,10 +1,6 @@
 -- Why the trials by guesses stop: the exact method stops in a trial of which no guess was accepted.
 use Rattle.std.specs.Prelude.{◌≡◌, ℕ, ◌≤◌, true, List, Option, ⊤}
-use Rattle.exact_num.specs.Rational.{Rational}
-use Rattle.row_core.specs.declared.Row.{Row}
-use Rattle.row_core.specs.declared.RowName.{RowName}
-use Rattle.row_core.specs.declared.Var.{Var}
-use Rattle.certified_answers.specs.Worth.{IsRefutation}
+use Rattle.row_problem.specs.Prelude.{Row, RowName, Var, IsRefutation, Multipliers}
 use Rattle.simplex_core.specs.declared.stops.Stop.{Stop}
 use Rattle.simplex_core.specs.declared.stops.Stop.TheVariants.{Budget, Width, Trial}
 use Rattle.simplex_core.specs.declared.stops.TrialStop.{TrialStop}
@@ -21,7 +17,7 @@ EndsSo end pivots (trials.Width place) = end ≡ IsWide place
 
 -- It is the trial of the inequalities that some refutation of the rows uses, but for one of them.
 pub record StopsLater (rows : List Row) (defs : List (Option Var)) (vars : List Var) (pivots : ℕ) (stop : TrialStop) : Type 0 where
-  pub multipliers : List (RowName × Rational)
+  pub multipliers : Multipliers
   pub left_out : RowName
   pub refutation : IsRefutation rows vars multipliers
   pub listed : is_listed multipliers left_out ≡ true

@@ -1,13 +1,6 @@
 -- What is known between two trials.
 use Rattle.std.specs.Prelude.{◌≡◌, ℕ, ◌+◌, true, Contains, List, [], ◌∷◌, ◌++◌, map, Option}
-use Rattle.exact_num.specs.Rational.{Rational}
-use Rattle.row_core.specs.declared.Row.{Row}
-use Rattle.row_core.specs.declared.RowName.{RowName}
-use Rattle.row_core.specs.declared.Var.{Var}
-use Rattle.row_core.specs.Numbers.{ascends}
-use Rattle.row_core.specs.Order.{row_name_cmp}
-use Rattle.row_core.specs.Plans.{value_in}
-use Rattle.certified_answers.specs.Worth.{IsRefutation}
+use Rattle.row_problem.specs.Prelude.{Rational, Row, RowName, Var, ascends, row_name_cmp, value_in, IsRefutation, Values, Multipliers}
 use Rattle.conflict_sets.specs.Conflicts.{IsWholePlan, inequalities}
 use Rattle.conflict_sets.specs.Trials.{rows_with}
 use Rattle.conflict_sets.specs.Walks.{Explanation, Needed, is_listed, is_other, walk}
@@ -16,7 +9,7 @@ use Rattle.conflict_sets.specs.declared.trial.Finding.{Finding}
 use Rattle.conflict_sets.specs.declared.trial.Finding.TheVariants.{Plan, Refutation}
 
 -- each name with the plan at its place
-abbrev pub paired : List RowName → List (List (Var × Rational)) → List Needed
+abbrev pub paired : List RowName → List Values → List Needed
 paired [] plans = []
 paired (name ∷ names) [] = []
 paired (name ∷ names) (plan ∷ plans) = (name, plan) ∷ paired names plans
@@ -25,7 +18,7 @@ abbrev pub all_needed : Search → List Needed
 all_needed search = paired search.names.items search.plans.items
 
 -- a name with its multiplier
-abbrev pub member_named : List (RowName × Rational) → RowName → RowName × Rational
+abbrev pub member_named : Multipliers → RowName → RowName × Rational
 member_named multipliers name = (name, value_in row_name_cmp multipliers name)
 
 -- what the trials that are left, of these inequalities, come to
@@ -40,7 +33,7 @@ abbrev pub names_known : List Needed → List RowName → List RowName
 names_known needed left = map needed_name needed ++ left
 
 -- after a trial of the list without this inequality, which found this: the list, and what is needed
-abbrev pub list_after : Finding → List (RowName × Rational) → List (RowName × Rational)
+abbrev pub list_after : Finding → Multipliers → Multipliers
 list_after (Plan plan) multipliers = multipliers
 list_after (Refutation made) multipliers = made
 
@@ -49,7 +42,7 @@ needed_after name (Plan plan) needed = needed ++ (name, plan) ∷ []
 needed_after name (Refutation made) needed = needed
 
 -- The multipliers refute the rows. The inequalities that are needed and those that are left ascend, and those on the list are among them. And each that is needed has a plan of the others on the list.
-pub record IsSearched (rows : List Row) (vars : List Var) (multipliers : List (RowName × Rational)) (needed : List Needed) (left : List RowName) : Type 0 where
+pub record IsSearched (rows : List Row) (vars : List Var) (multipliers : Multipliers) (needed : List Needed) (left : List RowName) : Type 0 where
   pub refutation : IsRefutation rows vars multipliers
   pub ascending : ascends row_name_cmp (names_known needed left) ≡ true
   pub among : (name : RowName) → Contains (names_known needed left) name → Contains (inequalities rows) name

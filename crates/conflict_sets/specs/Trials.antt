@@ -1,21 +1,12 @@
 -- A trial: the exact method at no cost, on every equation and on some of the inequalities.
 use Rattle.std.specs.Prelude.{◌≡◌, ℕ, pos, Bool, false, not, ◌||◌, List, [], ◌++◌, map, filter, Option, Some, None, ⊤}
-use Rattle.exact_num.specs.Rational.{Rational}
-use Rattle.exact_num.specs.Steps.{Step, first_wide}
-use Rattle.row_core.specs.declared.Row.{Row}
-use Rattle.row_core.specs.declared.RowName.{RowName}
-use Rattle.row_core.specs.declared.Var.{Var}
-use Rattle.row_core.specs.declared.place.Place.{Place}
-use Rattle.written_method.specs.Definitions.{definitions_of}
-use Rattle.written_method.specs.Eliminated.{ReducedRow, is_column}
+use Rattle.row_problem.specs.Prelude.{Rational, Step, first_wide, Row, RowName, Var, Place, definitions_of, ReducedRow, is_column, LinearProgram, NoAnswer, Values, Multipliers}
 use Rattle.written_method.specs.Multiplied.{multiplier_steps, named_multipliers}
-use Rattle.written_method.specs.Programs.{LinearProgram}
 use Rattle.written_method.specs.Solved.{Outcome, IsOptimal, IsInfeasible, IsUnbounded, IsOutOfPivots, IsTooWide, solved}
 use Rattle.exact_solver.specs.MethodEnds as method
 use Rattle.exact_solver.specs.MethodEnds.{refutation_checks}
 use Rattle.row_problem.specs.Programs.{carried_plan, inequality_in, name_left, plan_steps, rows_left, scale_left}
 use Rattle.row_problem.specs.Sizes.{is_unequal}
-use Rattle.certified_answers.specs.declared.answers.NoAnswer.{NoAnswer}
 use Rattle.certified_answers.specs.declared.answers.NoAnswer.TheVariants as stops
 
 -- ---- what a trial is made of
@@ -33,7 +24,7 @@ unfoldable pub trial_program : (RowName → Bool) → List Row → List (Option 
 trial_program listed rows defs vars = record { rows = map inequality_in (rows_tried listed rows defs); columns = filter is_column vars; cost = []; cost_right = pos 0; cost_own = pos 1 }
 
 -- the multipliers of all rows, from one for each row that is tried; and the steps. A row that isn't tried has the multiplier 0
-unfoldable pub tried_multipliers : (RowName → Bool) → List Row → List (Option Var) → List Rational → List (RowName × Rational)
+unfoldable pub tried_multipliers : (RowName → Bool) → List Row → List (Option Var) → List Rational → Multipliers
 tried_multipliers listed rows defs lambda =
     named_multipliers false rows (definitions_of rows defs) (map name_left (rows_tried listed rows defs)) (map scale_left (rows_tried listed rows defs)) lambda
 
@@ -42,15 +33,15 @@ tried_steps listed rows defs lambda =
     multiplier_steps false rows (definitions_of rows defs) (map name_left (rows_tried listed rows defs)) (map scale_left (rows_tried listed rows defs)) lambda
 
 -- the check of a plan, over the rows of the trial
-abbrev pub plan_checks : (RowName → Bool) → List Row → List Var → List (Var × Rational) → List (Step Place)
+abbrev pub plan_checks : (RowName → Bool) → List Row → List Var → Values → List (Step Place)
 plan_checks listed rows vars plan = method.plan_checks (rows_with listed rows) vars plan
 
 -- ---- how a trial ends
 
 -- with a plan of its rows; with multipliers that refute them; with a pivot that is due after the last; or at the place of the first step that forms a number that doesn't fit
 pub data TrialEnd : Type 0 where
-  HasPlan : (plan : List (Var × Rational)) → TrialEnd
-  HasNone : (multipliers : List (RowName × Rational)) → TrialEnd
+  HasPlan : (plan : Values) → TrialEnd
+  HasNone : (multipliers : Multipliers) → TrialEnd
   IsPivotDue : TrialEnd
   IsWide : (place : Place) → TrialEnd
 
@@ -60,7 +51,7 @@ unless_stopped None end = end
 unless_stopped (Some place) end = IsWide place
 
 -- values of the columns are carried back to a plan, and checked
-abbrev pub planned_end : (RowName → Bool) → List Row → List (Option Var) → List Var → List (Var × Rational) → TrialEnd
+abbrev pub planned_end : (RowName → Bool) → List Row → List (Option Var) → List Var → Values → TrialEnd
 planned_end listed rows defs vars values =
     unless_stopped (first_wide (plan_steps rows defs values ++ plan_checks listed rows vars (carried_plan rows defs values))) (HasPlan (carried_plan rows defs values))
 

@@ -1,21 +1,10 @@
 -- How a conflict is found: the inequalities that a refutation uses are tried one after another.
 use Rattle.std.specs.Prelude.{◌≡◌, ℕ, ◌+◌, Bool, true, not, ◌&&◌, List, [], ◌∷◌, ◌++◌, map, filter, Option, Some, None, ⊤, if◌then◌else◌}
-use Rattle.std.specs.Ordering.{is_eq}
-use Rattle.exact_num.specs.Rational.{Rational}
-use Rattle.exact_num.specs.Steps.{first_wide}
-use Rattle.row_core.specs.declared.Row.{Row}
-use Rattle.row_core.specs.declared.RowName.{RowName}
-use Rattle.row_core.specs.declared.Var.{Var}
-use Rattle.row_core.specs.Numbers.{is_zero}
-use Rattle.row_core.specs.Order.{row_name_cmp}
-use Rattle.row_core.specs.Plans.{value_in, valued}
-use Rattle.row_core.specs.RowLists.{names_of}
+use Rattle.row_problem.specs.Prelude.{is_eq, Rational, first_wide, Row, RowName, Var, is_zero, row_name_cmp, value_in, valued, names_of, elimination_steps, NoAnswer, Values, Multipliers}
 use Rattle.simplex_core.specs.declared.stops.Stop.{Stop}
 use Rattle.simplex_core.specs.declared.stops.Stop.TheVariants.{Budget, Width, Trial}
 use Rattle.simplex_core.specs.declared.stops.TrialStop.TheVariants as trials
-use Rattle.written_method.specs.Eliminated.{elimination_steps}
 use Rattle.row_problem.specs.Sizes.{is_unequal}
-use Rattle.certified_answers.specs.declared.answers.NoAnswer.{NoAnswer}
 use Rattle.certified_answers.specs.declared.answers.NoAnswer.TheVariants as stops
 use Rattle.conflict_sets.specs.Trials.{HasNone, HasPlan, IsPivotDue, IsWide, trial_end}
 use Rattle.conflict_sets.specs.declared.conflict.Conflict.{Conflict}
@@ -29,15 +18,15 @@ abbrev pub every : RowName → Bool
 every name = true
 
 -- the inequalities with a multiplier other than 0: the list, once a trial was refuted by these multipliers
-abbrev pub is_listed : List (RowName × Rational) → RowName → Bool
+abbrev pub is_listed : Multipliers → RowName → Bool
 is_listed multipliers name = not (is_zero (value_in row_name_cmp multipliers name).top)
 
 -- the list without one of them
-abbrev pub is_other : List (RowName × Rational) → RowName → RowName → Bool
+abbrev pub is_other : Multipliers → RowName → RowName → Bool
 is_other multipliers left_out name = is_listed multipliers name && not (is_eq (row_name_cmp name left_out))
 
 -- the names of the inequalities on the list, in the order of rows
-abbrev pub listed_names : List (RowName × Rational) → List Row → List RowName
+abbrev pub listed_names : Multipliers → List Row → List RowName
 listed_names multipliers rows = names_of (filter (λ row. is_unequal row.sense && is_listed multipliers row.name) rows)
 
 -- ---- what is found
@@ -45,31 +34,31 @@ listed_names multipliers rows = names_of (filter (λ row. is_unequal row.sense &
 -- that all rows have a plan; inequalities that can't be met together, each with its multiplier, and for each a plan of the others; or why a trial stopped
 pub data Explanation : Type 0 where
   IsFeasible : Explanation
-  IsConflicting : (members : List (RowName × Rational)) (plans : List (List (Var × Rational))) → Explanation
+  IsConflicting : (members : Multipliers) (plans : List Values) → Explanation
   IsStopped : (stop : Stop) → Explanation
 
 -- an inequality without which there was a plan, and the plan
 abbrev pub Needed : Type 0
-Needed = RowName × List (Var × Rational)
+Needed = RowName × Values
 
 -- those that are still on the list
-abbrev pub still_needed : List (RowName × Rational) → List Needed → List Needed
+abbrev pub still_needed : Multipliers → List Needed → List Needed
 still_needed multipliers needed = filter (λ one. is_listed multipliers one.0) needed
 
-abbrev pub member_of : List (RowName × Rational) → Needed → RowName × Rational
+abbrev pub member_of : Multipliers → Needed → RowName × Rational
 member_of multipliers one = (one.0, value_in row_name_cmp multipliers one.0)
 
-abbrev pub plan_of : Needed → List (Var × Rational)
+abbrev pub plan_of : Needed → Values
 plan_of one = one.1
 
-abbrev pub found : List (RowName × Rational) → List Needed → Explanation
+abbrev pub found : Multipliers → List Needed → Explanation
 found multipliers needed = IsConflicting (map (member_of multipliers) (still_needed multipliers needed)) (map plan_of (still_needed multipliers needed))
 
 -- ---- the trials
 
 -- Each of these inequalities in turn, where it is still on the list, is left out in a trial, the next of which has the number k. Where the others have no plan, the multipliers
 -- that refute them make the new list; else the inequality is needed.
-unfoldable pub walk : List Row → List (Option Var) → List Var → ℕ → ℕ → List RowName → List (RowName × Rational) → List Needed → Explanation
+unfoldable pub walk : List Row → List (Option Var) → List Var → ℕ → ℕ → List RowName → Multipliers → List Needed → Explanation
 walk rows defs vars pivots k [] multipliers needed = found multipliers needed
 walk rows defs vars pivots k (name ∷ names) multipliers needed =
     if is_listed multipliers name

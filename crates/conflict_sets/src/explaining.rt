@@ -1,7 +1,7 @@
 //! Why no plan meets the rows of a problem.
 
 ghost use Rattle.std.specs.Prelude.{◌≡◌, ◌≢◌, Some, length, IfOk, IfErr, IfSome, IfNone};
-ghost use Rattle.certified_answers.specs.declared.answers.NoAnswer.TheVariants.{Nothing};
+ghost use Rattle.row_problem.specs.Prelude.{Nothing};
 ghost use Rattle.row_problem.specs.ProgramsOf.{IsPosedProblem};
 ghost use Rattle.conflict_sets.specs.Conflicts.{AdmitsSome, IsConflict};
 ghost use Rattle.conflict_sets.specs.Searches.{SearchIs, walk_from};

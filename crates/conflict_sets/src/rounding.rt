@@ -1,9 +1,8 @@
 //! Why no plan meets the rows, by guesses that the checker accepts, and by the exact method where there are none.
 
 ghost use Rattle.std.specs.Prelude.{◌≡◌, ◌∷◌, List, Some, length, IfOk, IfErr, IfSome, IfNone, OnOk};
-ghost use Rattle.row_core.specs.declared.RowName.{RowName};
+ghost use Rattle.row_problem.specs.Prelude.{RowName, IsRefutation};
 ghost use Rattle.row_problem.specs.ProgramsOf.{IsPosedProblem};
-ghost use Rattle.certified_answers.specs.Worth.{IsRefutation};
 ghost use Rattle.conflict_sets.specs.Conflicts.{AdmitsSome, IsConflict};
 ghost use Rattle.conflict_sets.specs.Pieces.{IsFinding, listed_by};
 ghost use Rattle.conflict_sets.specs.RoundedStops.{StopsSome};

@@ -1,9 +1,7 @@
 //! The list of inequalities that a refutation uses, as one after another is tried.
 
 ghost use Rattle.std.specs.Prelude.{◌≡◌, ◌≢◌, ◌+◌, ◌<◌, ◌≤◌, ◌^◌, ◌∷◌, List, length, map, IfOk, IfErr, OnOk};
-ghost use Rattle.row_core.specs.declared.RowName.{RowName};
-ghost use Rattle.row_core.specs.Plans.{valued};
-ghost use Rattle.certified_answers.specs.declared.answers.NoAnswer.TheVariants.{Nothing};
+ghost use Rattle.row_problem.specs.Prelude.{RowName, valued, Nothing};
 ghost use Rattle.row_problem.specs.ProgramsOf.{IsPosedProblem};
 ghost use Rattle.conflict_sets.specs.Searches.{SearchIs, all_needed, list_after, member_named, needed_after, walk_from};
 ghost use Rattle.conflict_sets.specs.Walks.{IsTrialFail, Stops};

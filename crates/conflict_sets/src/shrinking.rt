@@ -2,7 +2,7 @@
 
 ghost use Rattle.std.specs.Prelude.{OnOk};
 ghost use Rattle.row_problem.specs.ProgramsOf.{IsPosedProblem};
-ghost use Rattle.certified_answers.specs.Worth.{IsRefutation};
+ghost use Rattle.row_problem.specs.Prelude.{IsRefutation};
 
 use crate::guessing::refuted_by_guess;
 use crate::listing::{Listing, listed_names};

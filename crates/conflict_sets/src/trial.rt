@@ -1,8 +1,7 @@
 //! One trial: the exact method at no cost on all equations and some of the inequalities, checked.
 
 ghost use Rattle.std.specs.Prelude.{◌≡◌, IfOk, IfErr, length};
-ghost use Rattle.row_core.specs.Numbers.{keys_of};
-ghost use Rattle.written_method.specs.Programs.{program_of};
+ghost use Rattle.row_problem.specs.Prelude.{keys_of, program_of};
 ghost use Rattle.simplex_core.specs.Outcomes.{MeetAll, RefuteAll, outcome_seen};
 ghost use Rattle.row_problem.specs.ProgramsOf.{IsPosedProblem};
 ghost use Rattle.exact_solver.specs.SimplexEnds.{IsEnded};

@@ -1,7 +1,6 @@
 -- The book of the data with a limit: one that was made, or that of another limit with the limit's row renewed.
-use Rattle.std.proofs.Common.{◌≡◌, ℕ, ℤ, pos, List, map, sym, ap, ◌∙◌, subst}
-use Rattle.std.specs.Prelude.{◌≤ℤ◌, Contains}
-use Rattle.std.specs.List.{AllByRecursion}
+use Rattle.std.proofs.Common.{◌≡◌, ℕ, ℤ, pos, map, sym, ap, ◌∙◌}
+use Rattle.std.specs.Prelude.{◌≤ℤ◌}
 use Rattle.model_sets.specs.Data.{AreSameData, Data}
 use Rattle.row_core.specs.declared.RowName.{RowName}
 use Rattle.row_core.specs.declared.Var.{Var}
@@ -10,14 +9,13 @@ use Rattle.row_core.specs.Order.{var_cmp}
 use Rattle.named_equations.specs.Existence.{exists}
 use Rattle.named_equations.specs.Instances.{instances}
 use Rattle.named_equations.proofs.SameInstances.{back, same-says}
-use Rattle.plan_files.specs.Listed.{IsListedRow, IsListedVariable, name_of_row}
+use Rattle.plan_files.specs.Listed.{name_of_row}
 use Rattle.row_book.specs.Books.{Book, HasStopped}
 use Rattle.row_book.specs.declared.fail.BookFail.{BookFail}
 use Rattle.row_book.specs.declared.fail.BookFail.TheVariants as fails
-use Rattle.row_book.proofs.SameRows.{fits-same, is_named_row, same-made, same-many, same-rows, same-terms, same-wide}
+use Rattle.row_book.proofs.SameRows.{fits-same, is_named_row, same-many, same-terms, same-wide}
 use Rattle.row_book.proofs.Within.{names-of_rows}
 use Rattle.command_answers.specs.MadeBooks.{IsMadeBook}
-use Rattle.command_answers.proofs.SameData.{SameLaws}
 use Rattle.curve_command.specs.KeptRows.{IsRenewed}
 use Rattle.curve_command.specs.Limited.{limit_at, with_limit}
 use Rattle.curve_command.proofs.LimitValues.{IsPlace}
@@ -25,9 +23,6 @@ use Rattle.curve_command.proofs.LimitedLaws.{exists-alike, limit-instance, limit
 use Rattle.curve_command.proofs.RenewedLaws.{other-rows}
 
 -- ---- one that was made, or none
-
-pub same-laws : (places : ℕ) (d e : Data) → AreSameData d e → SameLaws places d e
-same-laws places d e same = record { rows = same-rows places d e same; made = same-made places d e same; wide = same-wide places d e same; many = same-many places d e same }
 
 pub same-stops : (places : ℕ) (d e : Data) → AreSameData d e → (fail : BookFail) → HasStopped places d 0 (instances d) fail → HasStopped places e 0 (instances e) fail
 same-stops places d e same (fails.Width place) stopped = (stopped.0, stopped.1, (same-wide places d e same 0 stopped.0).0 stopped.2)
@@ -56,11 +51,11 @@ renewed-made places d changed r e y z at y_least z_least same old new kept renew
       is_book = record {
         are_rows = rows.0;
         ascending = ap (ascends var_cmp) renewed.variables ∙ kept.is_book.ascending;
-        exist = λ v has. sym (there v) ∙ kept.is_book.exist v (subst (λ (vars : List Var). Contains vars v) renewed.variables has);
-        whole = λ v is. subst (λ (vars : List Var). Contains vars v) (sym renewed.variables) (kept.is_book.whole v (there v ∙ is));
+        exist = λ v has. sym (there v) ∙ kept.is_book.exist v (rw renewed.variables at has);
+        whole = λ v is. rw renewed.variables (kept.is_book.whole v (there v ∙ is));
       };
       listed = record {
-        rows_listed = subst (AllByRecursion (IsListedRow d.sets)) names kept.listed.rows_listed;
-        vars_listed = subst (AllByRecursion (IsListedVariable d.sets)) (sym renewed.variables) kept.listed.vars_listed;
+        rows_listed = rw names at kept.listed.rows_listed;
+        vars_listed = rw renewed.variables kept.listed.vars_listed;
       };
     }

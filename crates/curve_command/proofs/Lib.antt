@@ -5,7 +5,6 @@ pub mod KeptBooks
 pub mod NamedPoints
 pub mod PointPlaces
 pub mod TrialLaws
-pub mod TextLaws
 mod LimitExamples
 mod TextExamples
 pub mod TrialLists

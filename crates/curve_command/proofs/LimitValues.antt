@@ -100,7 +100,7 @@ module _ (d : Data) (r e : ℕ) (z : ℤ) where
   same-limited model changed same with = record { sets = with.sets ∙ same.sets; second = with.second ∙ same.second; values = values-alike }
     where
       names-are : limit_names d r e ≡ limit_names model r e
-      names-are = ap (λ (sets : SetLists). limit_names (record { sets = sets; given = d.given; defaults = d.defaults; second = d.second }) r e) (sym same.sets)
+      names-are = rw same.sets
 
       values-alike : (param : ℕ) → IsUsedParam changed param → (index : List (List ℕ)) → Contains (indices_of changed.sets param) index → value_at changed param index ≡ value_at limited param index
       values-alike param used index has = elim (cases_Bool (is_own param index)) [
@@ -110,8 +110,8 @@ module _ (d : Data) (r e : ℕ) (z : ℤ) where
             (subst (λ i. value_at changed MODEL_PERIOD_EMISSION_LIMIT i ≡ Some z) (sym names-are ∙ parts.1) with.here)
             ∙ sym (own-value param index own)
         | inr other ↦
-            let used_before : IsUsedParam model param = (used.0, subst (λ second. is_used second (param_at param).used ≡ true) with.second used.1) in
-            let has_before : Contains (indices_of model.sets param) index = subst (λ (sets : SetLists). Contains (indices_of sets param) index) with.sets has in
+            let used_before : IsUsedParam model param = (used.0, rw with.second at used.1) in
+            let has_before : Contains (indices_of model.sets param) index = rw with.sets at has in
             with.elsewhere param used_before index has_before
             (λ of_limit at_limit.
             let own : is_own param index ≡ true = subst (λ p. is_own p index ≡ true) (sym of_limit) (subst (λ i. is_own MODEL_PERIOD_EMISSION_LIMIT i ≡ true) (names-are ∙ sym at_limit) own-itself) in
@@ -133,9 +133,9 @@ limits-stand d r e y z y_least z_least r' e' = elim (cases_Bool (is_own d r e y 
 -- a member of the sets of the data is a place of them
 pub place-of : (sets : SetLists) (d : Data) (member : Member) → sets ≡ d.sets → AreSets sets → IsMemberOf sets member → IsPlace d member.region member.emission
 place-of sets d member same are of_member = record {
-  sets = subst AreSets same are;
-  region = subst (λ (s : SetLists). member.region < length (members s REGION)) same of_member.region;
-  emission = subst (λ (s : SetLists). member.emission < length (members s EMISSION)) same of_member.emission;
+  sets = rw same at are;
+  region = rw same at of_member.region;
+  emission = rw same at of_member.emission;
 }
 
 -- a limit fits

@@ -116,7 +116,7 @@ module _ (d : Data) (r e : ℕ) (z : ℤ) where
     pub limit-instance : pos 0 ≤ℤ z → is_instance limited (limit_at r e) ≡ true
     limit-instance least =
         both_true (both_true refl (index-from_values limited (place.r ∷ place.e ∷ []) (at_re r e) (values-re limited r e (lt-ltb r _ at.region) (lt-ltb e _ at.emission))))
-        (is-limit (model_period_emission_limit limited r e) (subst (λ limit. pos 0 ≤ℤ limit) (sym (limit-here d r e z)) least))
+        (is-limit (model_period_emission_limit limited r e) (rw (limit-here d r e z) least))
 
     -- ---- plans
 
@@ -129,17 +129,13 @@ module _ (d : Data) (r e : ℕ) (z : ℤ) where
     meets-one places q x (first ∷ names) name met (inl same) = subst (Meets places limited q x) same met.0
     meets-one places q x (first ∷ names) name met (inr has) = meets-one places q x names name met.1 has
 
-    -- what the limit's equation says
-    abbrev IsWithin : ℕ → (Var → ℤ) → ℤ → Type 0
-    IsWithin q x limit = (pos billion *ℤ x (model_period_emissions r e)) ≤ℤ (limit *ℤ pos q)
-
     pub within-from_feasible : pos 0 ≤ℤ z → (places q : ℕ) (x : Var → ℤ) → Feasible places limited q x → FeasibleWithin places d r e z billion q x
     within-from_feasible least places q x plan =
         let met : (name : RowName) → is_instance limited name ≡ true → Meets places limited q x name = λ name is. meets-one places q x (instances limited) name plan.equations ((Has-instances limited name).1 is) in
         record {
           positive = plan.positive;
           others = λ name is apart. subst Holds (sym (says-alike places q x name is apart)) (met name (sym (instance-alike name apart) ∙ is));
-          within = subst (IsWithin q x) (limit-here d r e z) (met (limit_at r e) (limit-instance least));
+          within = rw (limit-here d r e z) at (met (limit_at r e) (limit-instance least));
           signs = λ v is fixed. plan.signs v (sym (exists-alike v) ∙ is) fixed;
         }
 
@@ -149,7 +145,7 @@ module _ (d : Data) (r e : ℕ) (z : ℤ) where
       equations = meets-each places q x (instances limited)
           (λ name has.
           at-name (λ n. is_instance limited n ≡ true → Meets places limited q x n) (limit_at r e) name
-          (λ is. subst (IsWithin q x) (sym (limit-here d r e z)) plan.within)
+          (λ is. rw (limit-here d r e z) plan.within)
           (λ apart is. let there = instance-alike name apart ∙ is in subst Holds (says-alike places q x name there apart) (plan.others name there apart))
           ((Has-instances limited name).0 has));
       signs = λ v is fixed. plan.signs v (exists-alike v ∙ is) fixed;

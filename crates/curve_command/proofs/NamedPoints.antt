@@ -81,9 +81,7 @@ module _ (places : ℕ) (d : Data) (r e : ℕ) (z : ℤ) (at : IsPlace d r e) wh
     less-meets : Meets places limited (under * q) less limit
     less-meets =
         let sum : less emissions ≡ pos under *ℤ x emissions +ℤ pos 1 *ℤ neg_ℤ (more *ℤ pos q) = ap (λ n. pos under *ℤ x emissions +ℤ n *ℤ neg_ℤ (more *ℤ pos q)) (alone-self emissions) in
-        subst (λ (n : ℤ). (pos billion *ℤ n) ≤ℤ (model_period_emission_limit limited r e *ℤ pos (under * q))) (sym sum)
-        (subst (λ (value : ℤ). (pos billion *ℤ (pos under *ℤ x emissions +ℤ pos 1 *ℤ neg_ℤ (more *ℤ pos q))) ≤ℤ (value *ℤ pos (under * q))) (sym (limit-here d r e z))
-        (lowered (pos billion) (pos b) (x emissions) z a (pos q) (omega (arith, ints)) plan.within))
+        rw (sum, limit-here d r e z) (lowered (pos billion) (pos b) (x emissions) z a (pos q) (omega (arith, ints)) plan.within)
 
     row-stands : (name : RowName) (row : Row) → IsNamedRow places limited name (terms_at places limited name) row → is_instance limited name ≡ true
         → Stands row.sense (row_sum (λ v. pos under *ℤ x v) row.entries.items) (over_rows.right_with_more limit more under q row)
@@ -127,7 +125,7 @@ module _ (places : ℕ) (d : Data) (r e : ℕ) (z : ℤ) (at : IsPlace d r e) wh
       bound_positive = line.bound_positive;
       slope_positive = line.slope_positive;
       costs = λ a b q x positive plan.
-          subst (λ (c : ℤ). over_rows.IsAtLeast bound slope (above_limit z a b) (billion * b) q c) (costs-same places limited rows vars book x)
+          rw (costs-same places limited rows vars book x) at
           (line.costs (above_limit z a b) (billion * b) q x (omega (arith, positive)) (meets-more a b q x positive plan));
     }
 
@@ -136,7 +134,7 @@ module _ (places : ℕ) (d : Data) (r e : ℕ) (z : ℤ) (at : IsPlace d r e) wh
       over = is.over;
       plan = is.plan;
       feasible = feasible-from_rows places limited rows vars book is.over is.plan is.meets;
-      costs = subst (λ (c : ℤ). IsOver (pos is.over) amount c) (costs-same places limited rows vars book is.plan) is.costs;
+      costs = rw (costs-same places limited rows vars book is.plan) at is.costs;
     }
 
     none-named : AdmitsNone rows vars → NoneIsWithin places d r e z

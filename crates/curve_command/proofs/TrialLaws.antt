@@ -17,7 +17,7 @@ use Rattle.command_answers.proofs.CheckedRows.{vars-are}
 use Rattle.emission_curve.specs.Ends.{IsStopped, point_seen}
 use Rattle.curve_command.specs.KeptRows.{limit_of, limited}
 use Rattle.curve_command.specs.Outcomes.{BookTells, FailTells, TrialTells}
-use Rattle.curve_command.specs.Trials.{Wanted}
+use Rattle.curve_command.specs.declared.trials.Wanted.{Wanted}
 use Rattle.curve_command.specs.declared.trials.Limit.{Limit}
 use Rattle.curve_command.specs.declared.trials.Trial.{Trial}
 use Rattle.curve_command.specs.declared.trials.Trial.TheVariants as trials
@@ -39,19 +39,19 @@ module _ (places : ℕ) (d : Data) (limit : Limit) (wanted : Wanted) (at : IsPla
     told-of (trials.Ended point) told = (
       record {
         cause = elim told.1.cause [ inl is ↦ inr (inl (made-for _ (told.0, is))) | inr is ↦ inr (inr (record { asked = is.0; rows = made-for _ told.0; rounded = is.1 })) ];
-        true_end = end-named places d limit.member.region limit.member.emission limit.most at book.rows vars (subst (IsBookOf places (limited d limit) book.rows) vars_are made.is_book) (point_seen point) told.1.worth;
+        true_end = end-named places d limit.member.region limit.member.emission limit.most at book.rows vars (rw vars_are at made.is_book) (point_seen point) told.1.worth;
       },
       (most, told.1.within),
     )
     told-of (trials.Refused answer) told = inr (made-for _ told)
 
     pub book-told : (trial : Trial) → BookTells d.sets book (limit_of limit.member) wanted trial → TrialTells places d limit wanted trial
-    book-told trial told = told-of trial (subst (λ vs. BookTells d.sets (record { rows = book.rows; vars = vs }) (limit_of limit.member) wanted trial) vars_are told)
+    book-told trial told = told-of trial (rw vars_are at told)
 
   -- rows that can't be made
   pub fail-told : (fail : BookFail) → HasStopped places (limited d limit) 0 (instances (limited d limit)) fail → (trial : Trial) → FailTells d.sets fail trial → TrialTells places d limit wanted trial
   fail-told (fails.Width place) stopped trial told =
-      subst (TrialTells places d limit wanted) (sym told.0) (
+      rw told.0 (
         record { cause = inl (record { name = stopped.0; wide = stopped.2; end_is = ap (λ p. IsStopped (Width p)) stopped.1 }); true_end = tt },
         (most, told.1),
       )

@@ -5,7 +5,8 @@ use Rattle.std.proofs.lemmas.List.{drop_more, map-append}
 use Rattle.model_sets.specs.Data.{Data}
 use Rattle.curve_command.specs.Curve.{limits_in}
 use Rattle.curve_command.specs.Outcomes.{IsFoundOf, found_seen}
-use Rattle.curve_command.specs.Trials.{IsTrialOf, Wanted}
+use Rattle.curve_command.specs.Trials.{IsTrialOf}
+use Rattle.curve_command.specs.declared.trials.Wanted.{Wanted}
 use Rattle.curve_command.specs.declared.trials.Found.{Found}
 use Rattle.curve_command.specs.declared.trials.Member.{Member}
 

@@ -8,7 +8,8 @@ use Rattle.command_answers.specs.declared.status.Status.{Status}
 use Rattle.command_answers.specs.NamedMembers.{IsMemberAt, IsNoMember}
 use Rattle.curve_command.specs.CurveTexts.{Found, curve_status, curve_text}
 use Rattle.curve_command.specs.Limited.{with_limit}
-use Rattle.curve_command.specs.Trials.{IsTrialOf, RefusesTrial, Wanted}
+use Rattle.curve_command.specs.Trials.{IsTrialOf, RefusesTrial}
+use Rattle.curve_command.specs.declared.trials.Wanted.{Wanted}
 
 -- the limits of what was found
 abbrev pub limits_in : List Found → List ℤ
@@ -35,21 +36,26 @@ pub record HasRefusal (places : ℕ) (d : Data) (r e : ℕ) (wanted : Wanted) (l
 abbrev pub DueForLimits : ℕ → Data → ℕ → ℕ → Wanted → List ℤ → Status → List ℕ → Type 0
 DueForLimits places d r e wanted limits status text = HasCurve places d r e wanted limits status text ⊎ HasRefusal places d r e wanted limits status text
 
--- both words are members
-pub record HasMembers (places : ℕ) (d : Data) (region emission : List ℕ) (wanted : Wanted) (limits : List ℤ) (status : Status) (text : List ℕ) : Type 0 where
+-- the words that name a region and an emission
+pub record Names : Type 0 where
+  pub region : List ℕ
+  pub emission : List ℕ
+
+-- both are members
+pub record HasMembers (places : ℕ) (wanted : Wanted) (names : Names) (limits : List ℤ) (d : Data) (status : Status) (text : List ℕ) : Type 0 where
   pub r : ℕ
   pub e : ℕ
-  pub region_is : IsMemberAt d.sets REGION region r
-  pub emission_is : IsMemberAt d.sets EMISSION emission e
+  pub region_is : IsMemberAt d.sets REGION names.region r
+  pub emission_is : IsMemberAt d.sets EMISSION names.emission e
   pub due : DueForLimits places d r e wanted limits status text
 
--- the first word is a member and the second isn't
-pub record HasRegionAlone (d : Data) (region emission : List ℕ) (status : Status) (text : List ℕ) : Type 0 where
+-- the first is a member and the second isn't
+pub record HasRegionAlone (names : Names) (d : Data) (status : Status) (text : List ℕ) : Type 0 where
   pub r : ℕ
-  pub region_is : IsMemberAt d.sets REGION region r
-  pub emission_isnt : IsNoMember d.sets EMISSION emission status text
+  pub region_is : IsMemberAt d.sets REGION names.region r
+  pub emission_isnt : IsNoMember d.sets EMISSION names.emission status text
 
--- What is due over these data, for the words of a region and an emission, and limits in billionths.
-abbrev pub DueForCurve : ℕ → Wanted → List ℕ → List ℕ → List ℤ → Data → Status → List ℕ → Type 0
-DueForCurve places wanted region emission limits d status text =
-    IsNoMember d.sets REGION region status text ⊎ HasRegionAlone d region emission status text ⊎ HasMembers places d region emission wanted limits status text
+-- What is due over these data, for what is wanted, the words of a region and an emission, and limits in billionths.
+abbrev pub DueForCurve : ℕ → Wanted → Names → List ℤ → Data → Status → List ℕ → Type 0
+DueForCurve places wanted names limits d status text =
+    IsNoMember d.sets REGION names.region status text ⊎ HasRegionAlone names d status text ⊎ HasMembers places wanted names limits d status text

@@ -23,7 +23,7 @@ use Rattle.command_answers.specs.Limits.{IsWithinLimits, PassesLimits}
 use Rattle.curve_command.specs.Curve.{HasRefusal, limits_in}
 use Rattle.curve_command.specs.CurveTexts as texts
 use Rattle.curve_command.specs.KeptRows.{IsBookAtSome, limited}
-use Rattle.curve_command.specs.Trials.{IsTrialOf, RefusesTrial, Wanted}
+use Rattle.curve_command.specs.Trials.{IsTrialOf, RefusesTrial}
 use Rattle.curve_command.specs.declared.trials.Found.{Found}
 use Rattle.curve_command.specs.declared.trials.Limit.{Limit}
 use Rattle.curve_command.specs.declared.trials.Member.{Member}
@@ -32,10 +32,7 @@ use Rattle.curve_command.specs.declared.trials.Outcome.TheVariants as outcomes
 use Rattle.curve_command.specs.declared.trials.Trial.{Trial}
 use Rattle.curve_command.specs.declared.trials.Trial.TheVariants as trials
 use Rattle.curve_command.specs.declared.trials.Tried.{Tried}
-use Rattle.curve_command.specs.declared.trials.Wanted.{Wanted as Asked}
-
-abbrev pub wanted_of : Asked → Wanted
-wanted_of asked = record { method = asked.method; pivots = asked.pivots; gap = asked.gap }
+use Rattle.curve_command.specs.declared.trials.Wanted.{Wanted}
 
 -- the stop of an end, if it is one, can be named
 abbrev pub EndIsWithin : SetLists → PointEnd → Type 0

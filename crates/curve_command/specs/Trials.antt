@@ -9,21 +9,15 @@ use Rattle.row_book.specs.Books.{IsTooWide}
 use Rattle.simplex_core.specs.declared.stops.TrialStop.TheVariants.{Width}
 use Rattle.command_answers.specs.declared.status.Status.{Status}
 use Rattle.command_answers.specs.MadeRows.{IsMadeFor, IsTooLarge}
-use Rattle.command_words.specs.declared.command.SolveMethod.{SolveMethod}
 use Rattle.command_words.specs.declared.command.SolveMethod.TheVariants.{Rounded}
 use Rattle.command_answers.specs.Limits.{IsWithinLimits, PassesLimits}
 use Rattle.command_answers.specs.Definers.{definers}
 use Rattle.emission_curve.specs.Ends.{IsStopped, PointEnd, point_end}
 use Rattle.emission_curve.specs.Points.{EndIsRounded}
+use Rattle.curve_command.specs.declared.trials.Wanted.{Wanted}
 use Rattle.curve_command.specs.CurvePoints.{EndIsTrue}
 use Rattle.curve_command.specs.CurveTexts.{Found}
 use Rattle.curve_command.specs.Limited.{limit_at, with_limit}
-
--- the method, the most pivots of a trial, and how far in millionths the rounded method may leave a cost above a bound
-pub record Wanted : Type 0 where
-  pub method : SolveMethod
-  pub pivots : ℕ
-  pub gap : ℕ
 
 -- the first row that can't be made is one in which a number doesn't fit: its place is the trial's stop
 pub record HasWideRow (places : ℕ) (d : Data) (end : PointEnd) : Type 0 where

@@ -6,34 +6,29 @@ ghost use Rattle.discount_factors.specs.Factors.{IsPlaces};
 ghost use Rattle.model_sets.specs.Data.{AreSameData, Data};
 ghost use Rattle.curve_command.specs.Curve.{DueForCurve, DueForLimits};
 ghost use Rattle.curve_command.specs.KeptRows.{IsMemberOf};
-ghost use Rattle.curve_command.specs.Outcomes.{wanted_of};
 
 use crate::texts::{curve_status, curve_text};
 use crate::trials::{Member, Outcome, Wanted, trials};
 use command_answers::{Answer, find_member};
-use command_words::SolveMethod;
 use model_sets::set_numbers::{EMISSION, REGION};
 use param_tables::ModelData;
 use std::alloc::{AllocError, Global};
 
 /// What is due over any data that have the model's sets and values, with written factors of 6 or 9 decimal places: for the words of a
-/// region and an emission, and for limits in billionths. Each trial may make so many pivots at most. The rounded method, where it is
-/// asked for, may leave a cost so many millionths of a bound above it.
+/// region and an emission, and for limits in billionths.
 pub fn answer_curve(
     alloc: Global,
     model: &ModelData,
     places: u8,
+    wanted: Wanted,
     region: &str,
     emission: &str,
     limits: &[i128],
-    pivots: u32,
-    method: SolveMethod,
-    gap: u32,
 ) -> Result<Answer, AllocError>
     requires places { IsPlaces places }
     requires limits { AllByRecursion IsLimit limits.now }
     ensures { (d : Data) → AreSameData model.now.facts d → IfOk result (λ answer.
-        DueForCurve places (record { method = method; pivots = pivots; gap = gap }) region.now emission.now limits.now d answer.status answer.text.items) }
+        DueForCurve places wanted (record { region = region.now; emission = emission.now }) limits.now d answer.status answer.text.items) }
 {
     let region = match find_member(alloc, model.sets(), REGION, region)? {
         Ok(region) => region,
@@ -44,11 +39,6 @@ pub fn answer_curve(
         Err(answer) => return Ok(answer),
     };
     let member = Member { region, emission };
-    let wanted = Wanted {
-        method,
-        pivots,
-        gap,
-    };
     answer_limits(alloc, model, places, member, limits, wanted)
 }
 
@@ -65,7 +55,7 @@ fn answer_limits(
     requires member { IsMemberOf model.now.facts.sets member }
     requires limits { AllByRecursion IsLimit limits.now }
     ensures { (d : Data) → AreSameData model.now.facts d → IfOk result (λ answer.
-        DueForLimits places d member.region member.emission (wanted_of wanted) limits.now answer.status answer.text.items) }
+        DueForLimits places d member.region member.emission wanted limits.now answer.status answer.text.items) }
 {
     match trials(alloc, model, places, member, limits, wanted)? {
         Outcome::Ended(all) => {

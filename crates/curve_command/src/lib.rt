@@ -11,3 +11,4 @@ mod trials;
 
 pub use curve::answer_curve;
 pub use laws::limit_laws;
+pub use trials::Wanted;

@@ -2,7 +2,7 @@
 ghost use Rattle.std.specs.Prelude.{IfOk};
 ghost use Rattle.command_answers.specs.CheckedPlans.{IsListedBook};
 ghost use Rattle.command_answers.specs.PlacesWithin.{IsRowOfSets};
-ghost use Rattle.curve_command.specs.Outcomes.{BookTells, IsPointBy, wanted_of};
+ghost use Rattle.curve_command.specs.Outcomes.{BookTells, IsPointBy};
 
 use crate::trials::{Trial, Wanted};
 use command_answers::{definers, problem_laws, refuse_large};
@@ -23,7 +23,7 @@ pub fn book_trial(
 ) -> Result<Trial, AllocError>
     requires listed { IsListedBook sets.now book.now.rows book.now.vars }
     requires limit { IsRowOfSets sets.now limit }
-    ensures { IfOk result (BookTells sets.now book.now limit (wanted_of wanted)) }
+    ensures { IfOk result (BookTells sets.now book.now limit wanted) }
 {
     if let Some(answer) = refuse_large(alloc, book)? {
         return Ok(Trial::Refused(answer));
@@ -42,7 +42,7 @@ fn book_point(
 ) -> Result<Point, AllocError>
     requires listed { IsListedBook sets.now book.now.rows book.now.vars }
     requires limit { IsRowOfSets sets.now limit }
-    ensures { IfOk result (IsPointBy sets.now book.now limit (wanted_of wanted)) }
+    ensures { IfOk result (IsPointBy sets.now book.now limit wanted) }
 {
     let defs = definers(alloc, book)?;
     let pivots = u64::from(wanted.pivots);

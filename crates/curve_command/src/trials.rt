@@ -6,7 +6,7 @@ ghost use Rattle.discount_factors.specs.Factors.{IsPlaces};
 ghost use Rattle.model_sets.specs.Data.{AreSameData, Data};
 ghost use Rattle.row_book.specs.Books.{NamesRowWithin};
 ghost use Rattle.curve_command.specs.KeptRows.{IsBookAtSome, IsLimitOf, IsMemberOf, limit_of};
-ghost use Rattle.curve_command.specs.Outcomes.{FailTells, OutcomeTells, TriedTells, wanted_of};
+ghost use Rattle.curve_command.specs.Outcomes.{FailTells, OutcomeTells, TriedTells};
 
 use crate::books::limited_book;
 use crate::points::book_trial;
@@ -35,7 +35,7 @@ pub struct Limit {
 }
 
 /// The method, the most pivots of a trial, and how many millionths of a bound the rounded method may leave a cost above it.
-#[derive(Clone, Copy)]
+#[derive(Clone, Copy, Debug, PartialEq, Eq)]
 pub struct Wanted {
     pub method: SolveMethod,
     pub pivots: u32,
@@ -86,7 +86,7 @@ pub fn trials(
     requires places { IsPlaces places }
     requires member { IsMemberOf model.now.facts.sets member }
     requires limits { AllByRecursion IsLimit limits.now }
-    ensures { (d : Data) → AreSameData model.now.facts d → IfOk result (OutcomeTells places d member (wanted_of wanted) limits.now) }
+    ensures { (d : Data) → AreSameData model.now.facts d → IfOk result (OutcomeTells places d member wanted limits.now) }
 {
     let mut all = Vec::with_capacity(alloc, limits.len())?;
     let mut book = None;
@@ -120,7 +120,7 @@ fn limit_trial(
     requires places { IsPlaces places }
     requires limit { IsLimitOf model.now.facts.sets limit }
     requires before { (d : Data) → AreSameData model.now.facts d → IfSome before (IsBookAtSome places d limit.member) }
-    ensures { (d : Data) → AreSameData model.now.facts d → IfOk result (TriedTells places d limit (wanted_of wanted)) }
+    ensures { (d : Data) → AreSameData model.now.facts d → IfOk result (TriedTells places d limit wanted) }
 {
     match limited_book(alloc, model, places, limit, before) {
         Ok(book) => {

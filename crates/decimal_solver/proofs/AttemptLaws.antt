@@ -1,11 +1,7 @@
 -- The attempt on the linear program that is left.
-use Rattle.std.proofs.Common.{◌≡◌, ℕ, ap, sym, subst}
-use Rattle.written_method.specs.Programs.{program_of}
-use Rattle.certified_answers.specs.declared.costs.Cost.TheVariants.{Model}
-use Rattle.row_problem.specs.Programs.{program_left}
-use Rattle.row_problem.specs.ProgramsOf.{IsPosedProblem}
+use Rattle.row_problem.proofs.Common.{◌≡◌, ℕ, ap, sym, subst, program_of, Model, program_left, IsPosedProblem}
 use Rattle.row_problem.specs.declared.problem.Problem.{Problem}
-use Rattle.decimal_solver.specs.Attempts.{grid_end, program_end}
+use Rattle.decimal_solver.proofs.Words.{grid_end, program_end}
 
 -- the linear program is what is left at the model's cost
 pub program-is : (problem : Problem) (ppm pivots : ℕ) → IsPosedProblem problem → problem.cost ≡ Model

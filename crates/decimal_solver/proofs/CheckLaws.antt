@@ -1,21 +1,6 @@
 -- Whether all conditions of a check hold and every number that is formed for them fits, as a test; and three such checks one after another.
-use Rattle.std.proofs.Common.{◌≡◌, ℕ, Bool, true, false, List, [], ◌∷◌, Option, Some, None, ap, ap₂, sym, ◌∙◌, refl}
-use Rattle.std.specs.Prelude.{◌&&◌, is_none}
-use Rattle.exact_num.specs.Rational.{Rational}
-use Rattle.row_core.specs.declared.Row.{Row}
-use Rattle.row_core.specs.declared.RowName.{RowName}
-use Rattle.row_core.specs.declared.Var.{Var}
-use Rattle.certificate_checker.specs.Conditions.{AllPass, Condition, first_failing}
-use Rattle.certificate_checker.specs.Costs.{model_cost}
-use Rattle.certificate_checker.specs.Gaps.{gap_condition}
-use Rattle.certificate_checker.specs.MultiplierChecks.{bound_conditions}
-use Rattle.certificate_checker.specs.PlanChecks.{plan_conditions}
-use Rattle.certified_answers.specs.Worth.{multiplier_bound, plan_cost}
-use Rattle.certified_answers.specs.Refusals.{IsRefused, passes}
-use Rattle.certified_answers.specs.declared.answers.NoAnswer.{NoAnswer}
-use Rattle.certified_answers.specs.declared.answers.NoAnswer.TheVariants.{Nothing, Budget, Width, Memory}
-use Rattle.decimal_solver.specs.Attempts.{Attempt, checked}
-use Rattle.decimal_solver.specs.Views.{IsNothing}
+use Rattle.row_problem.proofs.Common.{◌≡◌, ℕ, Bool, true, false, List, [], ◌∷◌, Option, Some, None, ap, ap₂, sym, ◌∙◌, refl, ◌&&◌, is_none, Rational, Row, Var, AllPass, Condition, first_failing, model_cost, gap_condition, bound_conditions, plan_conditions, multiplier_bound, plan_cost, IsRefused, passes, NoAnswer, Nothing, Budget, Width, Memory, Values, Multipliers}
+use Rattle.decimal_solver.proofs.Words.{Attempt, checked, IsNothing}
 
 and_false : (b : Bool) → (b && false) ≡ false
 and_false true = refl
@@ -33,7 +18,7 @@ refused cs whole Memory h fails = tt
 
 -- ---- three checks one after another
 
-module _ (rows : List Row) (vars : List Var) (ppm : ℕ) (plan : List (Var × Rational)) (multipliers : List (RowName × Rational)) (pivots : ℕ) where
+module _ (rows : List Row) (vars : List Var) (ppm : ℕ) (plan : Values) (multipliers : Multipliers) (pivots : ℕ) where
   abbrev plan_passes : Bool
   plan_passes = passes (plan_conditions model_cost rows vars plan)
 

@@ -1,11 +1,5 @@
 -- Lists of values and their keys.
-use Rattle.std.proofs.Common.{◌≡◌, ℕ, zero, suc, List, [], ◌∷◌, ◌++◌, length, map, replicate, ap, sym, ◌∙◌, ◌≤◌, arith, refl}
-use Rattle.std.specs.Prelude.{slice_set}
-use Rattle.std.proofs.lemmas.List.{length-map, map-set, set_past}
-use Rattle.exact_num.specs.declared.fraction.Frac.{Frac}
-use Rattle.row_core.specs.declared.Var.{Var}
-use Rattle.row_core.specs.Numbers.{keys_of}
-use Rattle.row_core.specs.Plans.{valued}
+use Rattle.row_problem.proofs.Common.{◌≡◌, ℕ, zero, suc, List, [], ◌∷◌, ◌++◌, length, map, replicate, ap, sym, ◌∙◌, ◌≤◌, arith, refl, slice_set, length-map, map-set, set_past, Frac, Var, keys_of, valued}
 
 pub map-replicate : {A B : Type 0} (f : A → B) (n : ℕ) (x : A) → map f (replicate n x) ≡ replicate n (f x)
 map-replicate f zero x = refl

@@ -1,18 +1,7 @@
 -- The definitions, computed on small tableaus and a small linear program, and on near misses. Expected values are those of another program.
-use Rattle.std.proofs.Common.{◌≡◌, pos, negsuc, true, false, [], ◌∷◌, Some, None, refl}
-use Rattle.std.specs.Prelude.{replicate}
-use Rattle.exact_num.specs.Gcd.{gcd_of, gcd_within}
-use Rattle.exact_num.specs.Range.{in_range}
-use Rattle.exact_num.specs.Rational.{lowest, order_of, pair, whole}
+use Rattle.row_problem.proofs.Common.{◌≡◌, pos, negsuc, true, false, [], ◌∷◌, Some, None, refl, replicate, gcd_of, gcd_within, in_range, lowest, order_of, pair, whole, Var, NEW_CAPACITY, LinearProgram}
 use Rattle.row_core.specs.declared.Sense.TheVariants.{Least}
-use Rattle.row_core.specs.declared.Var.{Var}
-use Rattle.row_core.specs.declared.kind_numbers.TheConstants.{NEW_CAPACITY}
-use Rattle.written_method.specs.Programs.{LinearProgram}
-use Rattle.decimal_solver.specs.Ends.{column_values, row_multipliers, spread, variable_values}
-use Rattle.decimal_solver.specs.Lines.{Line, cleared, entry_in, filled, merged, merged_to, pivot_line, scaled_entries}
-use Rattle.decimal_solver.specs.Numbers.{and_then, near}
-use Rattle.decimal_solver.specs.Rounds.{entering_from, leaving_from, least_right, others_cleared, run}
-use Rattle.decimal_solver.specs.Starts.{cost_entries, first_entries, first_rows, first_state, greatest_entry}
+use Rattle.decimal_solver.proofs.Words.{column_values, row_multipliers, spread, variable_values, Line, cleared, entry_in, filled, merged, merged_to, pivot_line, scaled_entries, and_then, near, entering_from, leaving_from, least_right, others_cleared, run, cost_entries, first_entries, first_rows, first_state, greatest_entry}
 use Rattle.decimal_solver.specs.States.{GridRow}
 
 -- ---- the nearest number

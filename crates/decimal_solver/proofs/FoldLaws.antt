@@ -1,12 +1,7 @@
 -- A fold, one step after another.
-use Rattle.std.proofs.Common.{◌≡◌, ℕ, ◌+◌, ◌<◌, ◌≤◌, List, ◌∷◌, Option, Some, None, length, map, get_or, drop, refl, ap, ◌∙◌, subst}
-use Rattle.std.specs.List.{fold}
-use Rattle.std.proofs.lemmas.List.{drop_all, drop_more}
+use Rattle.row_problem.proofs.Common.{◌≡◌, ℕ, ◌+◌, ◌<◌, ◌≤◌, List, ◌∷◌, Option, Some, None, length, map, get_or, drop, refl, ap, ◌∙◌, subst, fold, drop_all, drop_more, drop_at, NoAnswer}
 use Rattle.std.proofs.lemmas.List.Folds.{fold_stays}
-use Rattle.row_core.proofs.WritingSteps.{drop_at}
-use Rattle.certified_answers.specs.declared.answers.NoAnswer.{NoAnswer}
-use Rattle.decimal_solver.specs.Folds.{IsFolded, IsLeft, each, folded}
-use Rattle.decimal_solver.specs.Views.{IsNothing}
+use Rattle.decimal_solver.proofs.Words.{IsFolded, IsLeft, each, folded, IsNothing}
 use Rattle.decimal_solver.proofs.Nothing.{nothing-later}
 
 -- ---- what is left begins with the thing at the position, or nothing is left

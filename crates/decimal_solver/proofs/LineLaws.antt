@@ -1,9 +1,6 @@
 -- Tests of columns, and numbers as calls read them.
-use Rattle.std.proofs.Common.{◌≡◌, ◌≢◌, ℕ, ◌<◌, ◌≤◌, ℤ, true, false, ap, ap₂, ◌∙◌, arith, to_z, of_z}
-use Rattle.std.specs.Int.{w128}
-use Rattle.std.proofs.lemmas.Bool.Decides.{nat_tests}
-use Rattle.std.specs.Prelude.{nat_lt, ◌==◌}
-use Rattle.decimal_solver.specs.Numbers.{reduced_number}
+use Rattle.row_problem.proofs.Common.{◌≡◌, ◌≢◌, ℕ, ◌<◌, ◌≤◌, ℤ, true, false, ap, ap₂, ◌∙◌, arith, to_z, of_z, w128, nat_tests, nat_lt, ◌==◌}
+use Rattle.decimal_solver.proofs.Words.{reduced_number}
 
 -- ---- tests
 

@@ -1,7 +1,5 @@
 -- Where one part gives nothing, so does the whole.
-use Rattle.std.proofs.Common.{◌≡◌, Option, None}
-use Rattle.certified_answers.specs.declared.answers.NoAnswer.{NoAnswer}
-use Rattle.certified_answers.specs.declared.answers.NoAnswer.TheVariants.{Nothing, Budget, Width, Memory}
+use Rattle.row_problem.proofs.Common.{◌≡◌, Option, None, NoAnswer, Nothing, Budget, Width, Memory}
 use Rattle.decimal_solver.specs.Views.{IsNothing}
 
 pub nothing-later : {A B : Type 0} (part : Option A) (whole : Option B) (stop : NoAnswer) → (part ≡ None → whole ≡ None) → IsNothing part stop → IsNothing whole stop

@@ -1,15 +1,8 @@
 -- The rows after a pivot, one after another.
-use Rattle.std.proofs.Common.{◌≡◌, ◌≢◌, ℕ, ◌+◌, ◌<◌, List, [], ◌∷◌, ◌++◌, Option, Some, length, set, take, drop, sym, ap, ap₂, ◌∙◌, refl, subst, arith}
-use Rattle.std.specs.Prelude.{◌==◌}
-use Rattle.std.proofs.lemmas.List.{drop-set-lt, length-map, length-set, length-take-le, map-append, take-append-le, take_all, take_more_set}
-use Rattle.decimal_solver.specs.declared.states.GridRow.{GridRow}
-use Rattle.decimal_solver.specs.Folds.{IsLeft, folded}
+use Rattle.row_problem.proofs.Common.{◌≡◌, ◌≢◌, ℕ, ◌+◌, ◌<◌, List, [], ◌∷◌, ◌++◌, Option, Some, length, set, take, drop, sym, ap, ap₂, ◌∙◌, refl, subst, arith, ◌==◌, drop-set-lt, length-map, length-set, length-take-le, map-append, take-append-le, take_all, take_more_set}
+use Rattle.decimal_solver.proofs.Words.{GridRow, IsLeft, folded, cleared, and_then, with_cleared, line_seen, row_seen, rows_seen}
 use Rattle.decimal_solver.specs.Lines as lines
-use Rattle.decimal_solver.specs.Lines.{cleared}
-use Rattle.decimal_solver.specs.Numbers.{and_then}
-use Rattle.decimal_solver.specs.Rounds.{with_cleared}
 use Rattle.decimal_solver.specs.States as states
-use Rattle.decimal_solver.specs.Views.{line_seen, row_seen, rows_seen}
 use Rattle.decimal_solver.proofs.LineLaws.{same-no, same-yes}
 
 -- a row with another line

@@ -1,12 +1,7 @@
 -- The rounds, pivot by pivot, and a pivot part by part.
-use Rattle.std.proofs.Common.{◌≡◌, ℕ, zero, suc, ◌≤◌, ℤ, List, [], ◌∷◌, Option, Some, None, length, get_or, set, refl, ap, ◌∙◌, arith}
-use Rattle.std.proofs.lemmas.List.{map-set}
-use Rattle.decimal_solver.specs.declared.states.GridRow.{GridRow as KeptRow}
-use Rattle.decimal_solver.specs.Numbers.{and_then}
-use Rattle.decimal_solver.specs.Lines.{Line, entry_in, pivot_line, scaled_entries}
-use Rattle.decimal_solver.specs.Rounds.{Optimal, Stuck, after, at_due, due, factor_in, no_row, run, with_pivot}
-use Rattle.decimal_solver.specs.States.{GridRow, Phase, State}
-use Rattle.decimal_solver.specs.Views.{row_seen, rows_seen}
+use Rattle.row_problem.proofs.Common.{◌≡◌, ℕ, zero, suc, ◌≤◌, ℤ, List, [], ◌∷◌, Option, Some, None, length, get_or, set, refl, ap, ◌∙◌, arith, map-set}
+use Rattle.decimal_solver.proofs.Words.{GridRow as KeptRow, and_then, Line, entry_in, pivot_line, scaled_entries, Optimal, Stuck, after, at_due, due, factor_in, no_row, run, with_pivot, Phase, State, row_seen, rows_seen}
+use Rattle.decimal_solver.specs.States.{GridRow}
 
 pub run-optimal : (n : ℕ) (s : State) → due s ≡ Optimal → run n s ≡ Some s
 unfolding run

@@ -1,8 +1,5 @@
 -- Where variables have their columns.
-use Rattle.std.proofs.Common.{ℕ, zero, suc, ◌+◌, ◌<◌, ◌≤◌, Bool, true, false, List, [], ◌∷◌, length, get_or, arith, if◌then◌else◌}
-use Rattle.row_core.specs.declared.Var.{Var}
-use Rattle.written_method.specs.FirstTableau.{width_of}
-use Rattle.written_method.specs.Programs.{is_split}
+use Rattle.row_problem.proofs.Common.{ℕ, zero, suc, ◌+◌, ◌<◌, ◌≤◌, Bool, true, false, List, [], ◌∷◌, length, get_or, arith, if◌then◌else◌, Var, width_of, is_split}
 use Rattle.int_tableau.specs.Starts.{after_columns, placed}
 
 -- the columns of a variable are among those of all

@@ -1,20 +1,8 @@
 -- The grid on a linear program with trade, at its thresholds, and with values and multipliers that are cut off. Expected values are those of another program.
-use Rattle.std.proofs.Common.{◌≡◌, ℕ, pos, negsuc, ℤ, true, false, List, [], ◌∷◌, Option, None, Some, refl}
-use Rattle.std.specs.Prelude.{replicate}
-use Rattle.exact_num.specs.Formed.{difference_formed}
-use Rattle.exact_num.specs.Gcd.{gcd_of, gcd_within}
-use Rattle.exact_num.specs.Range.{all_fit, in_range}
-use Rattle.exact_num.specs.Rational.{Rational, lowest, minus, order_of, pair, whole}
-use Rattle.row_core.specs.declared.Sense.TheVariants.{Least, Most}
-use Rattle.row_core.specs.declared.Var.{Var}
-use Rattle.row_core.specs.declared.kind_numbers.TheConstants.{RATE_OF_ACTIVITY, TRADE}
-use Rattle.written_method.specs.Programs.{LinearProgram}
-use Rattle.decimal_solver.specs.Ends.{column_values, row_multipliers, spread, variable_value, variable_values}
-use Rattle.decimal_solver.specs.Lines.{Line, entry_in, filled, merged, merged_to, scaled_entries}
-use Rattle.decimal_solver.specs.Numbers.{and_then}
-use Rattle.decimal_solver.specs.Rounds.{degenerate_after, entering, entering_from, is_degenerate, leaving_from, least_right, others_cleared, run}
-use Rattle.decimal_solver.specs.Starts.{cost_entries, first_entries, first_rows, first_state, greatest_entry}
-use Rattle.decimal_solver.specs.States.{GridRow, One, Phase, Start, State, Two}
+use Rattle.row_problem.proofs.Common.{◌≡◌, ℕ, pos, negsuc, ℤ, true, false, [], ◌∷◌, Option, None, Some, refl, replicate, difference_formed, gcd_of, gcd_within, all_fit, in_range, lowest, minus, order_of, pair, whole, Most, Var, RATE_OF_ACTIVITY, TRADE, LinearProgram, Values}
+use Rattle.row_core.specs.declared.Sense.TheVariants.{Least}
+use Rattle.decimal_solver.proofs.Words.{column_values, row_multipliers, spread, variable_value, variable_values, Line, entry_in, filled, merged, merged_to, scaled_entries, and_then, degenerate_after, entering, entering_from, is_degenerate, leaving_from, least_right, others_cleared, run, cost_entries, first_entries, first_rows, first_state, greatest_entry, One, Phase, Start, State, Two}
+use Rattle.decimal_solver.specs.States.{GridRow}
 
 -- the variable of this kind between two regions
 abbrev between : ℕ → ℕ → ℕ → Var
@@ -64,22 +52,27 @@ unfolding first_rows first_entries greatest_entry cost_entries least_right in_ra
 begun = refl
 
 -- two thirds and seven thirds are rounded. With a pivot for x0, two of phase 1 and two of phase 2 the trade is negative
-abbrev values_after : ℕ → Option (List (Var × Rational))
-values_after n = and_then (and_then (first_state trading) (run n)) (λ s. variable_values (column_values (replicate s.columns (whole (pos 0))) s.rows) 0 [] (first ∷ second ∷ trade ∷ []))
+state_after : ℕ → Option State
+unfolding first_rows first_entries greatest_entry cost_entries least_right run entering_from leaving_from others_cleared entry_in scaled_entries merged merged_to filled in_range lowest gcd_of gcd_within order_of
+state_after n = and_then (first_state trading) (run n)
+
+values_after : ℕ → Option Values
+unfolding state_after column_values variable_values difference_formed all_fit minus
+values_after n = and_then (state_after n) (λ s. variable_values (column_values (replicate s.columns (whole (pos 0))) s.rows) 0 [] (first ∷ second ∷ trade ∷ []))
 
 traded : values_after 5 ≡ Some ((first, pair (pos 3499999997) (pos 1000000000)) ∷ (second, pair (pos 666668667) (pos 1000000000)) ∷ (trade, pair (negsuc 2333332332) (pos 1000000000)) ∷ [])
-unfolding first_rows first_entries greatest_entry cost_entries least_right run entering_from leaving_from others_cleared entry_in scaled_entries merged merged_to filled in_range lowest gcd_of gcd_within order_of column_values variable_values difference_formed all_fit minus
+unfolding values_after
 traded = refl
 
 -- the fifth is needed
 four_pivots : values_after 4 ≡ None
-unfolding first_rows first_entries greatest_entry cost_entries least_right run entering_from leaving_from others_cleared entry_in scaled_entries merged merged_to filled in_range lowest gcd_of gcd_within order_of column_values variable_values difference_formed all_fit minus
+unfolding values_after
 four_pivots = refl
 
 -- each multiplier is over the greatest entry of its row
-trade_multipliers : and_then (and_then (first_state trading) (run 5)) (λ s. row_multipliers (spread (replicate s.columns (pos 0)) s.cost.entries) s.slack [] s.rows)
+trade_multipliers : and_then (state_after 5) (λ s. row_multipliers (spread (replicate s.columns (pos 0)) s.cost.entries) s.slack [] s.rows)
     ≡ Some (pair (pos 749998499) (pos 3000000000) ∷ pair (pos 1999999) (pos 1000000) ∷ pair (negsuc 1250000500) (pos 3000000000) ∷ [])
-unfolding first_rows first_entries greatest_entry cost_entries least_right run entering_from leaving_from others_cleared entry_in scaled_entries merged merged_to filled in_range lowest gcd_of gcd_within order_of spread row_multipliers
+unfolding state_after spread row_multipliers
 trade_multipliers = refl
 
 -- a cost of 3/2 for each unit of the trade isn't set off by 1000, and is an earning in its second column; that of an activity is
@@ -97,15 +90,16 @@ activity_costs = refl
 abbrev at_most_one : ℤ → LinearProgram
 at_most_one parts = record { rows = record { sense = Most; entries = (first, parts) ∷ []; right = pos 1 } ∷ []; columns = first ∷ []; cost = []; cost_right = pos 0; cost_own = pos 1 }
 
-abbrev beginning : ℤ → Option (Phase × ℕ)
+beginning : ℤ → Option (Phase × ℕ)
+unfolding first_rows first_entries greatest_entry cost_entries least_right in_range
 beginning parts = and_then (first_state (at_most_one parts)) (λ s. Some (s.phase, s.columns))
 
 no_x0 : beginning (pos 1000000) ≡ Some (Two, 2)
-unfolding first_rows first_entries greatest_entry cost_entries least_right in_range
+unfolding beginning
 no_x0 = refl
 
 with_x0 : beginning (pos 2000000) ≡ Some (Start, 3)
-unfolding first_rows first_entries greatest_entry cost_entries least_right in_range
+unfolding beginning
 with_x0 = refl
 
 -- a right side of at most 10 is as good as 0; at the start its row is multiplied by -1

@@ -1,11 +1,6 @@
 -- What an attempt's answer is worth: in the checker's words, over all rows.
 use Rattle.std.specs.Prelude.{◌≡◌, ℕ, List, Option, Some, None, ⊤}
-use Rattle.exact_num.specs.Value.{value_of}
-use Rattle.row_core.specs.declared.Row.{Row}
-use Rattle.row_core.specs.declared.Var.{Var}
-use Rattle.row_core.specs.Numbers.{keys_of}
-use Rattle.certified_answers.specs.Answers.{AreNamedIn}
-use Rattle.certified_answers.specs.Worth.{IsBound, IsNear, IsPlan}
+use Rattle.row_problem.specs.Prelude.{value_of, Row, Var, keys_of, AreNamedIn, IsBound, IsNear, IsPlan}
 use Rattle.decimal_solver.specs.declared.attempts.Found.{Found}
 use Rattle.decimal_solver.specs.Attempts.{Attempt}
 

@@ -1,18 +1,7 @@
 -- How the attempt ends over all rows: its values and multipliers carried back to them, and the checker's yes.
 use Rattle.std.specs.Prelude.{ℕ, ◌&&◌, pos, true, List, [], ◌∷◌, replicate, Option, Some, None, is_none, if◌then◌else◌}
-use Rattle.exact_num.specs.Rational.{Rational, whole}
-use Rattle.exact_num.specs.Steps.{first_wide}
-use Rattle.row_core.specs.declared.Row.{Row}
-use Rattle.row_core.specs.declared.RowName.{RowName}
-use Rattle.row_core.specs.declared.Var.{Var}
-use Rattle.written_method.specs.Programs.{LinearProgram}
-use Rattle.certificate_checker.specs.Costs.{model_cost}
-use Rattle.certificate_checker.specs.Gaps.{gap_condition}
+use Rattle.row_problem.specs.Prelude.{Rational, whole, first_wide, Row, Var, LinearProgram, model_cost, gap_condition, plan_conditions, multiplier_bound, plan_cost, passes, Model, Values, Multipliers}
 use Rattle.certificate_checker.specs.MultiplierChecks.{bound_conditions}
-use Rattle.certificate_checker.specs.PlanChecks.{plan_conditions}
-use Rattle.certified_answers.specs.Worth.{multiplier_bound, plan_cost}
-use Rattle.certified_answers.specs.Refusals.{passes}
-use Rattle.certified_answers.specs.declared.costs.Cost.TheVariants.{Model}
 use Rattle.row_problem.specs.Programs.{carried_multipliers, carried_plan, carrying_steps, plan_steps, program_left}
 use Rattle.decimal_solver.specs.Ends.{column_values, row_multipliers, spread, variable_values}
 use Rattle.decimal_solver.specs.Numbers.{and_then}
@@ -21,14 +10,14 @@ use Rattle.decimal_solver.specs.Starts.{first_state}
 use Rattle.decimal_solver.specs.States.{State}
 
 pub record Attempt : Type 0 where
-  pub plan : List (Var × Rational)
-  pub multipliers : List (RowName × Rational)
+  pub plan : Values
+  pub multipliers : Multipliers
   pub cost : Rational
   pub bound : Rational
   pub pivots : ℕ
 
 -- the plan and the multipliers, where the checker says yes to the plan, to the bound, and to the gap between them
-abbrev pub checked : List Row → List Var → ℕ → List (Var × Rational) → List (RowName × Rational) → ℕ → Option Attempt
+abbrev pub checked : List Row → List Var → ℕ → Values → Multipliers → ℕ → Option Attempt
 checked rows vars ppm plan multipliers pivots =
     if passes (plan_conditions model_cost rows vars plan)
     && (passes (bound_conditions model_cost rows vars multipliers)
@@ -37,7 +26,7 @@ checked rows vars ppm plan multipliers pivots =
     else None
 
 -- values and multipliers of the linear program, carried back to all rows
-abbrev pub carried : List Row → List (Option Var) → List Var → ℕ → List (Var × Rational) → List Rational → ℕ → Option Attempt
+abbrev pub carried : List Row → List (Option Var) → List Var → ℕ → Values → List Rational → ℕ → Option Attempt
 carried rows defs vars ppm values lambda pivots =
     if is_none (first_wide (plan_steps rows defs values)) && is_none (first_wide (carrying_steps true rows defs lambda))
     then checked rows vars ppm (carried_plan rows defs values) (carried_multipliers true rows defs lambda) pivots

@@ -1,12 +1,6 @@
 -- Values and multipliers of the last state.
 use Rattle.std.specs.Prelude.{ℕ, suc, ◌+◌, ℤ, pos, ◌*ℤ◌, int_lt, List, [], ◌∷◌, ◌++◌, length, slice_index_or, slice_set, Option, Some, None, if◌then◌else◌}
-use Rattle.std.specs.List.{fold}
-use Rattle.exact_num.specs.Formed.{difference_formed}
-use Rattle.exact_num.specs.Range.{all_fit}
-use Rattle.exact_num.specs.Rational.{Rational, lowest, minus, whole}
-use Rattle.row_core.specs.declared.Var.{Var}
-use Rattle.row_core.specs.Numbers.{is_zero}
-use Rattle.written_method.specs.Programs.{is_split}
+use Rattle.row_problem.specs.Prelude.{fold, difference_formed, all_fit, Rational, lowest, minus, whole, Var, is_zero, is_split, Values}
 use Rattle.int_tableau.specs.Starts.{after_columns}
 use Rattle.decimal_solver.specs.Folds.{folded}
 use Rattle.decimal_solver.specs.Lines.{Entries}
@@ -34,11 +28,11 @@ abbrev pub variable_value : List Rational → ℕ → Var → Option Rational
 variable_value values c v = if is_split v then difference (value_in_column values c) (value_in_column values (suc c)) else Some (value_in_column values c)
 
 -- the next column, and the values so far
-abbrev pub with_value : List Rational → ℕ × List (Var × Rational) → Var → Option (ℕ × List (Var × Rational))
+abbrev pub with_value : List Rational → ℕ × Values → Var → Option (ℕ × Values)
 with_value values s v = and_then (variable_value values s.0 v) (λ x. Some (after_columns (is_split v) s.0, s.1 ++ (v, x) ∷ []))
 
 -- the values of variables from column c on
-unfoldable pub variable_values : List Rational → ℕ → List (Var × Rational) → List Var → Option (List (Var × Rational))
+unfoldable pub variable_values : List Rational → ℕ → Values → List Var → Option Values
 variable_values values c made vs = and_then (folded (with_value values) (c, made) vs) (λ s. Some s.1)
 
 -- the numbers with that of an entry

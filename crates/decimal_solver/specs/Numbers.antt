@@ -1,7 +1,6 @@
 -- Numbers of the grid: whole numbers of which a billion stand for 1. Every product, sum and difference that is formed has to fit; where one doesn't, there is nothing.
 use Rattle.std.specs.Prelude.{ℕ, ◌==◌, ℤ, pos, ◌+ℤ◌, ◌-ℤ◌, ◌*ℤ◌, unsigned_abs, Option, Some, None, if◌then◌else◌}
-use Rattle.exact_num.specs.Range.{in_range}
-use Rattle.exact_num.specs.Rational.{signed_by}
+use Rattle.row_problem.specs.Prelude.{in_range, signed_by}
 use Rattle.scaled_decimals.specs.Rounding.{nearest}
 
 -- what the second gives of what the first gives; nothing where one of them gives nothing

@@ -1,9 +1,7 @@
 -- The rounds on the grid: which column enters, which row leaves, the state after a pivot, and all rounds.
 use Rattle.std.specs.Prelude.{ℕ, zero, suc, ◌+◌, ◌-◌, ◌==◌, nat_lt, ℤ, pos, negsuc, int_lt, int_le, Bool, true, false, ◌&&◌, ◌||◌, List, [], ◌∷◌, ◌++◌, length, slice_index_or, slice_set, Option, Some, None, is_none, if◌then◌else◌}
-use Rattle.std.specs.List.{fold}
+use Rattle.row_problem.specs.Prelude.{fold, Rational, lowest, order_of, rank_of}
 use Rattle.std.specs.declared.cmp.Ordering.TheVariants.{Less, Equal, Greater}
-use Rattle.exact_num.specs.Rational.{Rational, lowest, order_of}
-use Rattle.written_method.specs.Choices.{rank_of}
 use Rattle.decimal_solver.specs.Folds.{folded}
 use Rattle.decimal_solver.specs.Lines.{Entries, Line, cleared, entry_in, pivot_line}
 use Rattle.decimal_solver.specs.Numbers.{and_then}

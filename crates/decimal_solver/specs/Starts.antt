@@ -1,12 +1,6 @@
 -- The first tableau of the grid, of a linear program.
 use Rattle.std.specs.Prelude.{ℕ, suc, ◌+◌, nat_lt, ℤ, pos, neg_ℤ, unsigned_abs, List, [], ◌∷◌, ◌++◌, length, Option, Some, None, if◌then◌else◌}
-use Rattle.std.specs.List.{fold}
-use Rattle.row_core.specs.declared.Var.{Var}
-use Rattle.row_core.specs.LookUps.{value_at}
-use Rattle.row_core.specs.Order.{var_cmp}
-use Rattle.row_core.specs.Rows.{number_at}
-use Rattle.written_method.specs.FirstTableau.{as_most, width_of}
-use Rattle.written_method.specs.Programs.{Inequality, LinearProgram, is_split}
+use Rattle.row_problem.specs.Prelude.{fold, Var, value_at, var_cmp, number_at, as_most, width_of, Inequality, LinearProgram, is_split}
 use Rattle.int_tableau.specs.Starts.{in_columns_of, placed}
 use Rattle.decimal_solver.specs.Folds.{folded}
 use Rattle.decimal_solver.specs.Lines.{Entries, with_entry}

@@ -9,9 +9,7 @@ use Rattle.decimal_solver.specs.declared.states.Phase.TheVariants as phases
 use Rattle.decimal_solver.specs.declared.states.Due.{Due}
 use Rattle.decimal_solver.specs.declared.states.Due.TheVariants as dues
 use Rattle.decimal_solver.specs.declared.states.State.{State}
-use Rattle.certified_answers.specs.declared.answers.NoAnswer.{NoAnswer}
-use Rattle.certified_answers.specs.declared.answers.NoAnswer.TheVariants.{Nothing, Budget, Width, Memory}
-use Rattle.exact_num.specs.Value.{value_of}
+use Rattle.row_problem.specs.Prelude.{NoAnswer, Nothing, Budget, Width, Memory, value_of}
 use Rattle.decimal_solver.specs.declared.choosing.Candidate.{Candidate}
 use Rattle.decimal_solver.specs.declared.states.Merging.{Merging}
 use Rattle.decimal_solver.specs.Lines.{Entries, merged, with_entry}

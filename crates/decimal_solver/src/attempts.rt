@@ -1,15 +1,10 @@
 //! The attempt over rows.
 
 ghost use Rattle.std.specs.Prelude.{◌≡◌, Some, length, map, IfOk, IfErr};
-ghost use Rattle.exact_num.specs.Value.{value_of};
-ghost use Rattle.row_core.specs.Numbers.{keys_of};
-ghost use Rattle.certified_answers.specs.Answers.{AreNamedIn};
-ghost use Rattle.certified_answers.specs.declared.costs.Cost.TheVariants.{Model};
+ghost use Rattle.row_problem.specs.Prelude.{value_of, keys_of, AreNamedIn, Model, width_of, program_of};
 ghost use Rattle.row_problem.specs.Problems.{IsProblem};
 ghost use Rattle.row_problem.specs.ProgramsOf.{IsPosedProblem, IsProgramOf};
 ghost use Rattle.decimal_solver.specs.Answers.{AllOfFound, IsComplete, IsNamed, IsProved, attempt_seen, end_seen};
-ghost use Rattle.written_method.specs.FirstTableau.{width_of};
-ghost use Rattle.written_method.specs.Programs.{program_of};
 ghost use Rattle.decimal_solver.specs.Attempts.{carried, checked, grid_end, state_end};
 ghost use Rattle.decimal_solver.specs.Views.{IsNothing, state_seen};
 

@@ -1,8 +1,7 @@
 //! Which column enters, and which row leaves.
 
 ghost use Rattle.std.specs.Prelude.{◌≡◌, ◌&&◌, ◌||◌, None, int_lt, is_none, nat_lt, pos};
-ghost use Rattle.exact_num.specs.Range.{InRange};
-ghost use Rattle.written_method.specs.Choices.{rank_of};
+ghost use Rattle.row_problem.specs.Prelude.{InRange, rank_of};
 ghost use Rattle.decimal_solver.specs.Rounds.{better, chosen_with, clipped, due, entering, entering_from, least_right, leaves_before, leaving, leaving_from};
 ghost use Rattle.decimal_solver.specs.Views.{candidate_seen, chosen_seen, due_seen, entries_seen, line_seen, row_seen, rows_seen, state_seen};
 

@@ -1,12 +1,7 @@
 //! Values and multipliers of the last state.
 
 ghost use Rattle.std.specs.Prelude.{[], ◌≡◌, ◌+◌, ◌<◌, ◌^◌, true, length, pos, map, replicate, slice_index_or, Some, IfOk, IfErr};
-ghost use Rattle.exact_num.specs.Range.{InRange};
-ghost use Rattle.exact_num.specs.Rational.{whole};
-ghost use Rattle.exact_num.specs.Value.{value_of};
-ghost use Rattle.row_core.specs.Numbers.{ascends, keys_of};
-ghost use Rattle.row_core.specs.Order.{var_cmp};
-ghost use Rattle.written_method.specs.FirstTableau.{width_of};
+ghost use Rattle.row_problem.specs.Prelude.{InRange, whole, value_of, ascends, keys_of, var_cmp, width_of};
 ghost use Rattle.decimal_solver.specs.Ends.{at_most_0, column_values, row_multiplier, row_multipliers, spread, value_in_column, variable_value, variable_values};
 ghost use Rattle.decimal_solver.specs.Views.{IsNothing, entries_seen, number_seen, rows_seen};
 

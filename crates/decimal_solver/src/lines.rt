@@ -1,8 +1,7 @@
 //! Entries of a line.
 
 ghost use Rattle.std.specs.Prelude.{◌≡◌, ◌+◌, ◌<◌, ◌^◌, [], ◌∷◌, drop, IfErr, IfNone, IfSome, OnOk};
-ghost use Rattle.exact_num.specs.Range.{InRange};
-ghost use Rattle.certified_answers.specs.declared.answers.NoAnswer.TheVariants.{Memory};
+ghost use Rattle.row_problem.specs.Prelude.{InRange, Memory};
 ghost use Rattle.decimal_solver.specs.Lines.{entry_in, with_entry};
 ghost use Rattle.decimal_solver.specs.Views.{entries_seen};
 

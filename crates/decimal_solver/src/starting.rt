@@ -1,15 +1,8 @@
 //! The first tableau of the grid.
 
 ghost use Rattle.std.specs.Prelude.{[], ◌≡◌, ◌+◌, ◌<◌, ◌^◌, true, ◌++◌, map, length, Some, IfOk, IfErr, IsTrue, OnOk, unsigned_abs};
-ghost use Rattle.exact_num.specs.Range.{InRange, all_fit};
-ghost use Rattle.row_core.specs.LookUps.{value_at};
-ghost use Rattle.row_core.specs.Numbers.{ascends, keys_of, numbers_of};
-ghost use Rattle.row_core.specs.Order.{var_cmp};
-ghost use Rattle.written_method.specs.FirstTableau.{width_of};
-ghost use Rattle.written_method.specs.Programs.{inequality_of, is_split, program_of};
-ghost use Rattle.written_method.specs.Ready.{IsReady};
+ghost use Rattle.row_problem.specs.Prelude.{InRange, all_fit, value_at, ascends, keys_of, numbers_of, var_cmp, width_of, inequality_of, is_split, program_of, IsReady, Memory};
 ghost use Rattle.int_tableau.specs.Starts.{in_columns, in_columns_of, placed};
-ghost use Rattle.certified_answers.specs.declared.answers.NoAnswer.TheVariants.{Memory};
 ghost use Rattle.decimal_solver.specs.Starts.{cost_entries, first_entries, first_row, first_rows, first_state, greatest_entry};
 ghost use Rattle.decimal_solver.specs.Views.{IsNothing, entries_seen, row_seen, rows_seen, state_seen};
 

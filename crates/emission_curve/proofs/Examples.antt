@@ -1,16 +1,6 @@
 -- The definitions, computed: one technology that emits a unit for each unit it makes, at 8, another that emits nothing, at 13, and a demand of 10. So the least cost is
 -- 130 - 5 x at a limit x of at most 10, and 80 above: 110 at 4, 95 at 7, 80 at 20.
-use Rattle.std.proofs.Common.{◌≡◌, ℕ, ℤ, pos, negsuc, ◌+ℤ◌, ◌*ℤ◌, Bool, true, false, List, [], ◌∷◌, refl, ap₂, arith}
-use Rattle.std.specs.Prelude.{int_le}
-use Rattle.exact_num.specs.Gcd.{gcd_of, gcd_within}
-use Rattle.exact_num.specs.Rational.{Rational, lowest, times, whole}
-use Rattle.row_core.specs.declared.Row.{Row}
-use Rattle.row_core.specs.declared.RowName.{RowName}
-use Rattle.row_core.specs.declared.Var.{Var}
-use Rattle.row_core.specs.declared.equation_numbers.TheConstants.{E9}
-use Rattle.row_core.specs.declared.kind_numbers.TheConstants.{ANNUAL_EMISSIONS, MODEL_PERIOD_EMISSIONS}
-use Rattle.row_core.specs.declared.place.Place.TheVariants.{CostRow}
-use Rattle.row_core.specs.Rows.{number_at}
+use Rattle.row_problem.proofs.Common.{◌≡◌, ℕ, ℤ, pos, negsuc, ◌+ℤ◌, ◌*ℤ◌, Bool, true, false, List, [], ◌∷◌, refl, ap₂, arith, int_le, gcd_of, gcd_within, Rational, lowest, times, whole, Row, RowName, Var, E9, ANNUAL_EMISSIONS, MODEL_PERIOD_EMISSIONS, CostRow, number_at}
 use Rattle.simplex_core.specs.declared.stops.TrialStop.TheVariants.{Budget, Width}
 use Rattle.exact_solver.specs.MethodEnds as method
 use Rattle.emission_curve.specs.Ends.{HasLine, HasLineBelow, HasNoBound, HasNoPlan, IsStopped, ended}

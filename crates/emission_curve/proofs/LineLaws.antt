@@ -1,36 +1,9 @@
 -- Multipliers that prove a bound make a line that lies below all plans, whatever the limit: in the row of the limit, so much more of the emissions is the slope times
 -- that more in the sum of multiplier times right side.
-use Rattle.std.proofs.Common.{◌≡◌, ℕ, ◌*◌, ◌<◌, ℤ, pos, ◌+ℤ◌, ◌*ℤ◌, Bool, true, false, List, [], Option, ◌∷◌, refl, sym, ap, ap₂, ◌∙◌, subst, arith}
-use Rattle.std.specs.Prelude.{◌≤ℤ◌, if◌then◌else◌}
-use Rattle.std.specs.Ordering.{is_eq}
-use Rattle.std.proofs.lemmas.Int.{ints}
-use Rattle.exact_num.specs.Range.{all_fit}
-use Rattle.exact_num.specs.Rational.{Rational, whole}
-use Rattle.exact_num.proofs.Integers.{*ℤ_nonnegative}
-use Rattle.exact_num.proofs.Ring.{ring, products, *ℤ-one, *ℤ-zero, zero-*ℤ}
-use Rattle.row_core.specs.declared.Row.{Row}
-use Rattle.row_core.specs.declared.RowName.{RowName}
-use Rattle.row_core.specs.declared.Var.{Var}
-use Rattle.row_core.specs.declared.place.Place.TheVariants.{Price}
-use Rattle.row_core.specs.Kinds.{kind_is_free}
-use Rattle.row_core.specs.Numbers.{ascends}
-use Rattle.row_core.specs.Order.{row_name_cmp}
-use Rattle.row_core.specs.Plans.{value_in}
-use Rattle.row_core.specs.RowLists.{names_of}
-use Rattle.row_core.specs.Values.{IsOver}
-use Rattle.row_core.proofs.AscendingLaws.{ascends-tail}
-use Rattle.row_core.proofs.SumLaws.{IsOver-times}
-use Rattle.certificate_checker.specs.Certificates.{AreMultipliersOver, Proves, bound_of}
-use Rattle.certificate_checker.specs.Costs.{cost_of, model_cost}
-use Rattle.certificate_checker.specs.Plans.{AreValuesOver, HaveRightSigns, IsRight}
-use Rattle.certificate_checker.specs.Sums.{weighted}
-use Rattle.certificate_checker.proofs.DualityLaws.{weak_duality, weighted-right}
+use Rattle.row_problem.proofs.Common.{◌≡◌, ℕ, ◌*◌, ◌<◌, ℤ, pos, ◌+ℤ◌, ◌*ℤ◌, Bool, true, false, List, [], Option, ◌∷◌, refl, sym, ap, ap₂, ◌∙◌, subst, arith, ◌≤ℤ◌, if◌then◌else◌, is_eq, ints, all_fit, Rational, whole, *ℤ_nonnegative, ring, products, *ℤ-one, *ℤ-zero, zero-*ℤ, Row, RowName, Var, Price, kind_is_free, ascends, row_name_cmp, value_in, names_of, IsOver, ascends-tail, IsOver-times, AreMultipliersOver, Proves, bound_of, cost_of, model_cost, AreValuesOver, HaveRightSigns, IsRight, weighted, weak_duality, weighted-right, IsBound, IsPlan, IsProblem, Has, Values, Multipliers}
 use Rattle.certificate_checker.proofs.NamedSums.{at_name, earlier, fractions, same-name, weighted-none, weighted-plus}
 use Rattle.certificate_checker.proofs.SumLaws.{sum_over-same, sum_over-times}
 use Rattle.simplex_core.specs.declared.stops.TrialStop.TheVariants.{Width}
-use Rattle.certified_answers.specs.Worth.{IsBound, IsPlan}
-use Rattle.row_problem.specs.Problems.{IsProblem}
-use Rattle.row_core.proofs.Members.{Has}
 use Rattle.emission_curve.specs.Ends.{HasLine, HasLineBelow, IsStopped, optimum_end}
 use Rattle.emission_curve.specs.Points.{EndIsOf, IsLineBelow, IsReached, MeetsWithMore, right_with_more}
 use Rattle.emission_curve.specs.Slopes.{emissions_entry, entry_at, slope_at, slope_formed}
@@ -111,7 +84,7 @@ module _ (rows : List Row) (defs : List (Option Var)) (vars : List Var) (limit :
       grouped s b c = simp products
 
   -- in fractions
-  pub line-below : (multipliers : List (RowName × Rational)) (bound : Rational) → IsBound rows vars multipliers bound → IsLineBelow rows vars limit bound (slope_at rows multipliers limit)
+  pub line-below : (multipliers : Multipliers) (bound : Rational) → IsBound rows vars multipliers bound → IsLineBelow rows vars limit bound (slope_at rows multipliers limit)
   line-below multipliers bound is =
       let s : ℕ = is.some.over in
       let y : RowName → ℤ = is.some.number in
@@ -135,13 +108,13 @@ module _ (rows : List Row) (defs : List (Option Var)) (vars : List Var) (limit :
       whole-over n = record { positive = omega (arith, ints); cross = refl }
 
 -- a plan to which the checker says yes
-pub reached : (rows : List Row) (vars : List Var) (plan : List (Var × Rational)) (cost : Rational) → IsPlan rows vars plan cost → IsReached rows vars cost
+pub reached : (rows : List Row) (vars : List Var) (plan : Values) (cost : Rational) → IsPlan rows vars plan cost → IsReached rows vars cost
 reached rows vars plan cost is =
     let over : AreValuesOver is.some.over is.some.number plan = (is.some.positive, is.some.each) in
     record { over = is.some.over; plan = is.some.number; meets = is.meets is.some.over is.some.number over; costs = is.costs is.some.over is.some.number over }
 
 -- the optimum of the exact method
-pub optimum-worth : (rows : List Row) (defs : List (Option Var)) (vars : List Var) (limit : RowName) (plan : List (Var × Rational)) (multipliers : List (RowName × Rational)) (cost bound : Rational)
+pub optimum-worth : (rows : List Row) (defs : List (Option Var)) (vars : List Var) (limit : RowName) (plan : Values) (multipliers : Multipliers) (cost bound : Rational)
     → IsProblem rows defs vars → IsPlan rows vars plan cost → IsBound rows vars multipliers bound → cost ≡ bound → EndIsOf rows vars limit (optimum_end rows limit multipliers cost)
 optimum-worth rows defs vars limit plan multipliers cost bound problem planned bounded same = by_test (all_fit (slope_formed rows multipliers limit))
   where
@@ -153,6 +126,6 @@ optimum-worth rows defs vars limit plan multipliers cost bound problem planned b
     by_test false = tt
 
 -- what the rounded method finds
-pub rounded-worth : (rows : List Row) (defs : List (Option Var)) (vars : List Var) (limit : RowName) (plan : List (Var × Rational)) (multipliers : List (RowName × Rational)) (cost bound : Rational)
+pub rounded-worth : (rows : List Row) (defs : List (Option Var)) (vars : List Var) (limit : RowName) (plan : Values) (multipliers : Multipliers) (cost bound : Rational)
     → IsProblem rows defs vars → IsPlan rows vars plan cost → IsBound rows vars multipliers bound → EndIsOf rows vars limit (HasLineBelow cost bound (slope_at rows multipliers limit))
 rounded-worth rows defs vars limit plan multipliers cost bound problem planned bounded = (reached rows vars plan cost planned, line-below rows defs vars limit problem multipliers bound bounded)

@@ -1,15 +1,8 @@
 -- How the exact method ends at a limit on the emissions of the model period.
 use Rattle.std.specs.Prelude.{ℕ, List, Option, if◌then◌else◌}
-use Rattle.exact_num.specs.Range.{all_fit}
-use Rattle.exact_num.specs.Rational.{Rational}
-use Rattle.exact_num.specs.Value.{value_of}
-use Rattle.row_core.specs.declared.Row.{Row}
-use Rattle.row_core.specs.declared.RowName.{RowName}
-use Rattle.row_core.specs.declared.Var.{Var}
-use Rattle.row_core.specs.declared.place.Place.TheVariants.{Price}
+use Rattle.row_problem.specs.Prelude.{all_fit, Rational, value_of, Row, RowName, Var, Price, plan_cost, Multipliers}
 use Rattle.simplex_core.specs.declared.stops.TrialStop.{TrialStop}
 use Rattle.simplex_core.specs.declared.stops.TrialStop.TheVariants.{Budget, Width}
-use Rattle.certified_answers.specs.Worth.{plan_cost}
 use Rattle.exact_solver.specs.MethodEnds.{MethodEnd, method_end}
 use Rattle.exact_solver.specs.MethodEnds as method
 use Rattle.emission_curve.specs.Slopes.{slope_at, slope_formed}
@@ -25,7 +18,7 @@ pub data PointEnd : Type 0 where
   IsStopped : (stop : TrialStop) → PointEnd
 
 -- after an optimum the slope is formed, last
-abbrev pub optimum_end : List Row → RowName → List (RowName × Rational) → Rational → PointEnd
+abbrev pub optimum_end : List Row → RowName → Multipliers → Rational → PointEnd
 optimum_end rows limit multipliers cost =
     if all_fit (slope_formed rows multipliers limit) then HasLine cost (slope_at rows multipliers limit) else IsStopped (Width (Price limit))
 

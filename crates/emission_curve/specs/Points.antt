@@ -1,16 +1,7 @@
 -- What a point is worth: in words of the rows, over all plans. A limit that is a over b higher gives the limit's row so much more of the emissions.
 use Rattle.std.specs.Prelude.{ℕ, ◌*◌, ◌<◌, ℤ, pos, ◌+ℤ◌, ◌*ℤ◌, ◌<ℤ◌, ◌≤ℤ◌, List, ⊤, if◌then◌else◌}
-use Rattle.std.specs.Ordering.{is_eq}
-use Rattle.exact_num.specs.Rational.{IsLowest, Rational}
-use Rattle.row_core.specs.declared.Row.{Row}
-use Rattle.row_core.specs.declared.RowName.{RowName}
-use Rattle.row_core.specs.declared.Var.{Var}
-use Rattle.row_core.specs.Order.{row_name_cmp}
+use Rattle.row_problem.specs.Prelude.{is_eq, IsLowest, Rational, Row, RowName, Var, row_name_cmp, AdmitsNone, CostsLess, cost_of, model_cost, Within, AllStand, HaveRightSigns, MeetsAll}
 use Rattle.row_core.specs.Values.{IsOver}
-use Rattle.certificate_checker.specs.Certificates.{AdmitsNone, CostsLess}
-use Rattle.certificate_checker.specs.Costs.{cost_of, model_cost}
-use Rattle.certificate_checker.specs.Gaps.{Within}
-use Rattle.certificate_checker.specs.Plans.{AllStand, HaveRightSigns, MeetsAll}
 use Rattle.emission_curve.specs.Ends.{HasLine, HasLineBelow, HasNoBound, HasNoPlan, IsStopped, PointEnd, point_seen}
 use Rattle.emission_curve.specs.Slopes.{emissions_entry}
 use Rattle.emission_curve.specs.declared.point.Point.{Point}

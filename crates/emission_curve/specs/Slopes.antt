@@ -1,16 +1,7 @@
 -- The slope of a limit on the emissions of the model period: the multiplier of its row, E9[r,e], times what the row has at ModelPeriodEmissions[r,e]. By linear
 -- programming duality it is what one unit more of the limit adds to the bound.
 use Rattle.std.specs.Prelude.{ℤ, pos, List, [], ◌∷◌, if◌then◌else◌}
-use Rattle.std.specs.Ordering.{is_eq}
-use Rattle.exact_num.specs.Formed.{product_formed}
-use Rattle.exact_num.specs.Rational.{Rational, times, whole}
-use Rattle.row_core.specs.declared.Row.{Row}
-use Rattle.row_core.specs.declared.RowName.{RowName}
-use Rattle.row_core.specs.declared.Var.{Var}
-use Rattle.row_core.specs.declared.kind_numbers.TheConstants.{MODEL_PERIOD_EMISSIONS}
-use Rattle.row_core.specs.Order.{row_name_cmp}
-use Rattle.row_core.specs.Plans.{value_in}
-use Rattle.row_core.specs.Rows.{number_at}
+use Rattle.row_problem.specs.Prelude.{is_eq, product_formed, Rational, times, whole, Row, RowName, Var, MODEL_PERIOD_EMISSIONS, row_name_cmp, value_in, number_at, Multipliers}
 
 -- the emissions of the model period with the subscripts of a row
 abbrev pub emissions_of : RowName → Var
@@ -26,8 +17,8 @@ entry_at [] limit = pos 0
 entry_at (row ∷ rows) limit = if is_eq (row_name_cmp row.name limit) then emissions_entry row else entry_at rows limit
 
 -- the slope, and what it forms
-abbrev pub slope_at : List Row → List (RowName × Rational) → RowName → Rational
+abbrev pub slope_at : List Row → Multipliers → RowName → Rational
 slope_at rows multipliers limit = times (value_in row_name_cmp multipliers limit) (whole (entry_at rows limit))
 
-abbrev pub slope_formed : List Row → List (RowName × Rational) → RowName → List ℤ
+abbrev pub slope_formed : List Row → Multipliers → RowName → List ℤ
 slope_formed rows multipliers limit = product_formed (value_in row_name_cmp multipliers limit) (whole (entry_at rows limit))

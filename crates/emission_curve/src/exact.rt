@@ -1,8 +1,7 @@
 //! One limit by the exact method.
 
 ghost use Rattle.std.specs.Prelude.{◌≡◌, IfOk};
-ghost use Rattle.exact_num.specs.Value.{value_of};
-ghost use Rattle.row_core.specs.RowLists.{AreVariablesOf};
+ghost use Rattle.row_problem.specs.Prelude.{value_of, AreVariablesOf};
 ghost use Rattle.row_problem.specs.Problems.{IsProblem};
 ghost use Rattle.emission_curve.specs.Ends.{optimum_end, point_end, point_seen};
 ghost use Rattle.emission_curve.specs.Points.{IsPointOf};

@@ -1,9 +1,7 @@
 //! One limit by the rounded method.
 
 ghost use Rattle.std.specs.Prelude.{◌≡◌, IfOk, IfSome};
-ghost use Rattle.exact_num.specs.Rational.{IsLowest};
-ghost use Rattle.exact_num.specs.Value.{value_of};
-ghost use Rattle.row_core.specs.RowLists.{AreVariablesOf};
+ghost use Rattle.row_problem.specs.Prelude.{IsLowest, value_of, AreVariablesOf};
 ghost use Rattle.row_problem.specs.Problems.{IsProblem};
 ghost use Rattle.emission_curve.specs.Ends.{HasLineBelow, point_seen};
 ghost use Rattle.emission_curve.specs.Points.{IsPointOf, IsRoundedPoint};

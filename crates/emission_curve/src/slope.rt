@@ -1,8 +1,7 @@
 //! The slope at a limit.
 
 ghost use Rattle.std.specs.Prelude.{◌≡◌, IfOk, is_ok};
-ghost use Rattle.exact_num.specs.Range.{InRange, all_fit};
-ghost use Rattle.exact_num.specs.Value.{value_of};
+ghost use Rattle.row_problem.specs.Prelude.{InRange, all_fit, value_of};
 ghost use Rattle.emission_curve.specs.Slopes.{emissions_entry, entry_at, slope_at, slope_formed};
 
 use exact_num::{Frac, TooWide, mul};

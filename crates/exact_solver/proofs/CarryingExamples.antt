@@ -1,25 +1,6 @@
 -- The order in which what the simplex found is carried back and checked: where numbers of two steps don't fit, the place of the first is told.
-use Rattle.std.proofs.Common.{◌≡◌, ℕ, ◌-◌, ◌^◌, ℤ, pos, negsuc, neg_ℤ, true, List, [], ◌∷◌, refl}
-use Rattle.std.specs.Prelude.{Option, Some, None}
-use Rattle.std.specs.Global.{Vec}
-use Rattle.exact_num.specs.Formed.{difference_formed, product_formed, quotient_formed, sum_formed}
-use Rattle.exact_num.specs.Gcd.{gcd_of, gcd_within}
-use Rattle.exact_num.specs.Range.{all_fit, in_range}
-use Rattle.exact_num.specs.Rational.{Rational, divided, lowest, minus, order_of, pair, plus, times, whole}
-use Rattle.exact_num.specs.Steps.{first_wide}
-use Rattle.row_core.specs.declared.Row.{Row}
-use Rattle.row_core.specs.declared.RowName.{RowName}
-use Rattle.row_core.specs.declared.Sense.TheVariants.{Equal, Most}
-use Rattle.row_core.specs.declared.Var.{Var}
-use Rattle.row_core.specs.declared.equation_numbers.TheConstants.{CAA2, CAA4}
-use Rattle.row_core.specs.declared.kind_numbers.TheConstants.{NEW_CAPACITY, RATE_OF_ACTIVITY, TOTAL_CAPACITY_ANNUAL, TOTAL_DISCOUNTED_COST}
-use Rattle.row_core.specs.declared.place.Place.{Place}
-use Rattle.row_core.specs.declared.place.Place.TheVariants.{Check, Column, LiftDirection, LiftMultiplier, LiftPlan, SumGap}
-use Rattle.written_method.specs.Solved.{IsOptimal, IsUnbounded}
-use Rattle.written_method.proofs.MadeRows.{made_row}
-use Rattle.certified_answers.specs.declared.costs.Cost.TheVariants.{Model}
+use Rattle.row_problem.proofs.Common.{◌≡◌, ℕ, ◌-◌, ◌^◌, ℤ, pos, negsuc, neg_ℤ, true, List, [], ◌∷◌, refl, Option, Some, None, Vec, difference_formed, product_formed, quotient_formed, sum_formed, gcd_of, gcd_within, all_fit, in_range, Rational, divided, lowest, minus, order_of, pair, plus, times, whole, first_wide, Row, RowName, Equal, Most, Var, CAA2, CAA4, NEW_CAPACITY, RATE_OF_ACTIVITY, TOTAL_CAPACITY_ANNUAL, TOTAL_DISCOUNTED_COST, Place, Check, Column, LiftDirection, LiftMultiplier, LiftPlan, SumGap, IsOptimal, IsUnbounded, made_row, Model, carried_direction, carried_multipliers, carried_plan, carrying_steps, direction_steps, plan_steps}
 use Rattle.exact_solver.specs.MethodEnds.{HasOptimum, IsWide, MethodEnd, carried_end, optimum_checks}
-use Rattle.row_problem.specs.Programs.{carried_direction, carried_multipliers, carried_plan, carrying_steps, direction_steps, plan_steps}
 
 -- the variable, and the row, of this number at the first members
 abbrev of_kind : ℕ → Var

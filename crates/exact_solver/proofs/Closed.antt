@@ -1,13 +1,6 @@
--- A cost that is the bound: the fractions are the same, and nothing lies between them.
-use Rattle.std.proofs.Common.{◌≡◌, ℕ, ◌<◌, ℤ, pos, ◌-ℤ◌, ◌*ℤ◌, sym, ap, ◌∙◌, subst, arith}
-use Rattle.std.specs.Prelude.{◌<ℤ◌, ◌≤ℤ◌, unsigned_abs}
-use Rattle.std.proofs.lemmas.Int.{ints}
-use Rattle.exact_num.specs.Rational.{IsLowest, Rational}
-use Rattle.exact_num.proofs.Integers.{*ℤ_cancel, *ℤ_nonnegative, *ℤ_pos, nonzero_of_pos}
+-- A cost that is the bound: the fractions are the same.
+use Rattle.row_problem.proofs.Common.{◌≡◌, ℕ, ◌<◌, ℤ, pos, ◌*ℤ◌, sym, ap, ◌∙◌, arith, ◌<ℤ◌, ints, IsLowest, Rational, *ℤ_cancel, *ℤ_pos, nonzero_of_pos, products, IsOver}
 use Rattle.exact_num.proofs.RationalLaws.{lowest_unique}
-use Rattle.exact_num.proofs.Ring.{products, zero-*ℤ}
-use Rattle.row_core.specs.Values.{IsOver}
-use Rattle.certificate_checker.specs.Gaps.{Within}
 
 cross-by : (c q top bottom b s btop bbottom : ℤ) → pos 0 <ℤ q → pos 0 <ℤ s → c *ℤ bottom ≡ top *ℤ q → b *ℤ bbottom ≡ btop *ℤ s → c *ℤ s ≡ b *ℤ q → top *ℤ bbottom ≡ btop *ℤ bottom
 cross-by c q top bottom b s btop bbottom hq hs cost bound same =
@@ -31,17 +24,3 @@ cross-by c q top bottom b s btop bbottom hq hs cost bound same =
 pub same-value : (cost bound : Rational) (c b : ℤ) (q s : ℕ) → IsLowest cost → IsLowest bound → 0 < q → 0 < s → IsOver (pos q) cost c → IsOver (pos s) bound b → c *ℤ pos s ≡ b *ℤ pos q → cost ≡ bound
 same-value cost bound c b q s lowest_cost lowest_bound hq hs over_cost over_bound same =
     lowest_unique cost bound lowest_cost lowest_bound (cross-by c (pos q) cost.top cost.bottom b (pos s) bound.top bound.bottom (omega (arith, ints, hq)) (omega (arith, ints, hs)) over_cost.cross over_bound.cross same)
-
--- a number is within every gap of itself
-within-itself : (x : Rational) (ppm : ℕ) → pos 0 <ℤ x.bottom → Within x x ppm
-within-itself x ppm h =
-    let allowed : ℤ = (pos ppm *ℤ pos (unsigned_abs x.top)) *ℤ x.bottom in
-    let least : pos 0 ≤ℤ allowed = *ℤ_nonnegative (pos ppm *ℤ pos (unsigned_abs x.top)) x.bottom (*ℤ_nonnegative (pos ppm) (pos (unsigned_abs x.top)) (omega (arith, ints)) (omega (arith, ints))) (omega (arith, ints, h)) in
-    let nothing : (x.top *ℤ x.bottom) -ℤ (x.top *ℤ x.bottom) ≡ pos 0 = itself (x.top *ℤ x.bottom) in
-    subst (λ z. (z *ℤ pos 1000000) ≤ℤ allowed) (sym nothing) (subst (λ z. z ≤ℤ allowed) (sym (zero-*ℤ (pos 1000000))) least)
-  where
-    itself : (z : ℤ) → z -ℤ z ≡ pos 0
-    itself z = omega (arith, ints)
-
-pub within-same : (cost bound : Rational) (ppm : ℕ) → cost ≡ bound → pos 0 <ℤ bound.bottom → Within cost bound ppm
-within-same cost bound ppm e h = subst (λ x. Within x bound ppm) (sym e) (within-itself bound ppm h)

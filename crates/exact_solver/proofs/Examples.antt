@@ -1,21 +1,5 @@
 -- The definitions, computed: ends of the method.
-use Rattle.std.proofs.Common.{◌≡◌, ℕ, pos, List, [], ◌∷◌, refl}
-use Rattle.std.specs.Prelude.{Some}
-use Rattle.exact_num.specs.Formed.{difference_formed, product_formed, sum_formed}
-use Rattle.exact_num.specs.Gcd.{gcd_of, gcd_within}
-use Rattle.exact_num.specs.Range.{all_fit, in_range}
-use Rattle.exact_num.specs.Rational.{lowest, minus, order_of, plus, times, whole}
-use Rattle.exact_num.specs.Steps.{first_wide}
-use Rattle.row_core.specs.declared.Row.{Row}
-use Rattle.row_core.specs.declared.Var.{Var}
-use Rattle.row_core.specs.declared.place.Place.TheVariants.{CostRow, SumGap}
-use Rattle.row_core.specs.declared.kind_numbers.TheConstants.{RATE_OF_ACTIVITY}
-use Rattle.written_method.specs.Runs.{answer, answer_of, run}
-use Rattle.written_method.specs.Solved.{IsOutOfPivots, IsTooWide}
-use Rattle.certified_answers.specs.declared.answers.NoAnswer.TheVariants.{Budget, Width}
-use Rattle.certified_answers.specs.declared.costs.Cost.TheVariants.{Model, One}
-use Rattle.certified_answers.specs.declared.costs.Goal.TheVariants.{Least as LeastValue, Greatest}
-use Rattle.row_problem.specs.Programs.{carried_direction, carried_multipliers, carried_plan, carrying_steps, direction_steps, plan_steps, program_left}
+use Rattle.row_problem.proofs.Common.{◌≡◌, ℕ, pos, List, [], ◌∷◌, refl, Some, difference_formed, product_formed, sum_formed, gcd_of, gcd_within, all_fit, in_range, lowest, minus, order_of, plus, times, whole, first_wide, Row, Var, CostRow, SumGap, RATE_OF_ACTIVITY, answer, answer_of, run, IsOutOfPivots, IsTooWide, Budget, Width, Model, One, Least as LeastValue, Greatest, carried_direction, carried_multipliers, carried_plan, carrying_steps, direction_steps, plan_steps, program_left}
 use Rattle.exact_solver.specs.MethodEnds.{HasNoBound, HasNoPlan, HasOptimum, IsPivotDue, IsStopOf, IsWide, carried_end, method_end, solved_end, unless_wide}
 
 -- the variable of this kind between two regions; the other subscripts are 0

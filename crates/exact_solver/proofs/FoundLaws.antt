@@ -1,39 +1,6 @@
 -- What is carried back from the simplex is what makes the checks say yes.
-use Rattle.std.proofs.Common.{◌≡◌, ℕ, ℤ, pos, neg_ℤ, ◌+ℤ◌, ◌*ℤ◌, true, false, List, map, sym, ap, ◌∙◌, subst, arith}
-use Rattle.std.specs.Prelude.{◌<ℤ◌, Option}
-use Rattle.std.proofs.lemmas.Int.{ints}
-use Rattle.exact_num.specs.Rational.{Rational}
-use Rattle.exact_num.specs.Value.{value_of}
-use Rattle.exact_num.specs.declared.fraction.Frac.{Frac}
-use Rattle.exact_num.proofs.Integers.{*ℤ_cancel, *ℤ_pos, <ℤ_cancel, nonzero_of_pos}
-use Rattle.exact_num.proofs.Ring.{*ℤ-zero, *ℤ_comm, ring, zero-*ℤ}
-use Rattle.row_core.specs.declared.Row.{Row}
-use Rattle.row_core.specs.declared.RowName.{RowName}
-use Rattle.row_core.specs.declared.Var.{Var}
-use Rattle.row_core.specs.Evaluated.{AreOver}
-use Rattle.row_core.specs.Numbers.{ascends, keys_of}
-use Rattle.row_core.specs.Order.{row_name_cmp, var_cmp}
-use Rattle.row_core.specs.Plans.{value_in}
-use Rattle.row_core.specs.Rows.{row_sum}
-use Rattle.row_core.specs.Values.{IsOver}
-use Rattle.row_core.proofs.SumLaws.{IsOver-agree}
-use Rattle.written_method.specs.declared.reduced.Reduced.{Reduced}
-use Rattle.written_method.specs.Certificates.{right_sum}
-use Rattle.written_method.specs.Definitions.{AreTriangular, Definition, defined, definitions_of, is_among}
-use Rattle.written_method.specs.Lifted.{lifted, no_right_side, right_side}
-use Rattle.written_method.specs.Programs.{program_of}
-use Rattle.certificate_checker.specs.Certificates.{bound_of}
-use Rattle.certificate_checker.specs.Costs.{cost_of}
-use Rattle.certificate_checker.specs.Denominators.{AreOverSome}
-use Rattle.variable_elimination.proofs.LiftLaws.{row_sum-avoids, row_sum-times}
-use Rattle.variable_elimination.proofs.LiftedLaws.{direction_met, lifted-others, lifted_meet, plan_met}
+use Rattle.row_problem.proofs.Common.{◌≡◌, ℕ, ℤ, pos, neg_ℤ, ◌+ℤ◌, ◌*ℤ◌, true, false, List, map, sym, ap, ◌∙◌, subst, arith, ◌<ℤ◌, Option, ints, value_of, Frac, *ℤ_cancel, *ℤ_pos, <ℤ_cancel, nonzero_of_pos, *ℤ-zero, *ℤ_comm, ring, zero-*ℤ, Row, Var, AreOver, ascends, keys_of, row_name_cmp, var_cmp, value_in, row_sum, IsOver, IsOver-agree, Reduced, right_sum, AreTriangular, Definition, defined, definitions_of, is_among, lifted, no_right_side, right_side, program_of, bound_of, cost_of, AreOverSome, row_sum-avoids, row_sum-times, direction_met, lifted-others, lifted_meet, plan_met, weight_of, Cost, IsFoundDescentFor, IsFoundOptimumFor, BecomesDirection, BecomesPlan, BecomesProof, carried_direction, carried_plan, IsProgramOf, Values, Multipliers}
 use Rattle.simplex_core.specs.Outcomes.{BoundCost, DescendAlong, MeetAll}
-use Rattle.certified_answers.specs.Costs.{weight_of}
-use Rattle.certified_answers.specs.declared.costs.Cost.{Cost}
-use Rattle.certified_answers.specs.Found.{IsFoundDescentFor, IsFoundOptimumFor}
-use Rattle.row_problem.specs.CarriedBack.{BecomesDirection, BecomesPlan, BecomesProof}
-use Rattle.row_problem.specs.Programs.{carried_direction, carried_plan}
-use Rattle.row_problem.specs.ProgramsOf.{IsProgramOf}
 use Rattle.row_problem.proofs.CostLaws.{IsCostRow, cost-row}
 use Rattle.row_problem.proofs.FoundWords.{found-plan, over-one, positive}
 use Rattle.row_problem.proofs.OverLaws.{IsOverSome, values-listed}
@@ -99,7 +66,7 @@ module _ (rows : List Row) (defs : List (Option Var)) (vars : List Var) (cost : 
   row = cost-row rows defs vars cost reduced program
 
   -- the entries of the row of the cost have the same sum of the values and of what is made of them, but for the number over which they are written
-  cost-kept : (values made : List (Var × Rational)) (q p : ℕ) (x z : Var → ℤ) → ((v : Var) → is_among (defined ds) v ≡ false → value_in var_cmp made v ≡ value_in var_cmp values v)
+  cost-kept : (values made : Values) (q p : ℕ) (x z : Var → ℤ) → ((v : Var) → is_among (defined ds) v ≡ false → value_in var_cmp made v ≡ value_in var_cmp values v)
       → AreOver (pos q) x (value_in var_cmp values) → AreOver (pos p) z (value_in var_cmp made) → row_sum z reduced.cost.items *ℤ pos q ≡ row_sum x reduced.cost.items *ℤ pos p
   cost-kept values made q p x z others over_x over_z =
       let es = reduced.cost.items in
@@ -109,7 +76,7 @@ module _ (rows : List Row) (defs : List (Option Var)) (vars : List Var) (cost : 
       ∙ row_sum-avoids (λ v. pos q *ℤ z v) (λ v. pos p *ℤ x v) (defined ds) es row.without (λ v k. *ℤ_comm (pos q) (z v) ∙ agree v k ∙ *ℤ_comm (x v) (pos p))
       ∙ row_sum-times (pos p) x es ∙ *ℤ_comm (pos p) (row_sum x es)
 
-  pub found-optimum : (values : List (Var × Rational)) (lambda : List Frac) (multipliers : List (RowName × Rational)) → keys_of values ≡ reduced.columns.items → ascends var_cmp (keys_of values) ≡ true
+  pub found-optimum : (values : Values) (lambda : List Frac) (multipliers : Multipliers) → keys_of values ≡ reduced.columns.items → ascends var_cmp (keys_of values) ≡ true
       → AreOverSome var_cmp values → AreOverSome var_cmp (carried_plan rows defs values) → AreOverSome row_name_cmp multipliers → IsOverSome (map value_of lambda)
       → MeetAll (program_of reduced) values → BoundCost (program_of reduced) values (map value_of lambda) → BecomesPlan rows vars reduced values (carried_plan rows defs values) → BecomesProof (weight_of cost) rows vars reduced lambda multipliers
       → IsFoundOptimumFor (weight_of cost) rows vars (carried_plan rows defs values) multipliers
@@ -133,7 +100,7 @@ module _ (rows : List Row) (defs : List (Option Var)) (vars : List Var) (cost : 
             both.1 proof.bound;
       }
 
-  pub found-descent : (direction : List (Var × Rational)) → keys_of direction ≡ reduced.columns.items → ascends var_cmp (keys_of direction) ≡ true → AreOverSome var_cmp direction → AreOverSome var_cmp (carried_direction rows defs direction)
+  pub found-descent : (direction : Values) → keys_of direction ≡ reduced.columns.items → ascends var_cmp (keys_of direction) ≡ true → AreOverSome var_cmp direction → AreOverSome var_cmp (carried_direction rows defs direction)
       → DescendAlong (program_of reduced) direction → BecomesDirection rows vars reduced direction (carried_direction rows defs direction) → IsFoundDescentFor (weight_of cost) rows vars (carried_direction rows defs direction)
   unfolding carried_direction
   found-descent direction keyed up some made along becomes =

@@ -1,26 +1,7 @@
 -- What the checks say of a plan, multipliers and a direction is what an answer is worth at the problem's cost.
-use Rattle.std.proofs.Common.{◌≡◌, ℤ, pos, neg_ℤ, ◌*ℤ◌, List, refl, sym, ap, ◌∙◌}
-use Rattle.std.specs.Prelude.{Option}
-use Rattle.exact_num.specs.Rational.{IsLowest, Rational}
+use Rattle.row_problem.proofs.Common.{◌≡◌, ℤ, pos, neg_ℤ, ◌*ℤ◌, List, refl, sym, ap, ◌∙◌, Option, IsLowest, Rational, neg_ℤ-*ℤ, one-*ℤ, Row, Var, var_cmp, value_in, IsOver, Reduced, bound_of, IsDescentAt, IsOptimumFor, sign_of, weight_of, Cost, Model, One, Goal, Least, Greatest, IsFoundOptimumFor, IsFoundPlan, IsBoundFor, IsClosed, IsDescentFor, IsPlan, IsProgramOf, Values, Multipliers}
 use Rattle.exact_num.proofs.RationalLaws.{negated-IsLowest}
-use Rattle.exact_num.proofs.Ring.{neg_ℤ-*ℤ, one-*ℤ}
-use Rattle.row_core.specs.declared.Row.{Row}
-use Rattle.row_core.specs.declared.RowName.{RowName}
-use Rattle.row_core.specs.declared.Var.{Var}
-use Rattle.row_core.specs.Order.{var_cmp}
-use Rattle.row_core.specs.Plans.{value_in}
-use Rattle.row_core.specs.Values.{IsOver}
-use Rattle.written_method.specs.declared.reduced.Reduced.{Reduced}
-use Rattle.certificate_checker.specs.Certificates.{bound_of}
-use Rattle.certified_answers.specs.Answers.{IsDescentAt, IsOptimumFor, turned}
-use Rattle.certified_answers.specs.Costs.{sign_of, weight_of}
-use Rattle.certified_answers.specs.declared.costs.Cost.{Cost}
-use Rattle.certified_answers.specs.declared.costs.Cost.TheVariants.{Model, One}
-use Rattle.certified_answers.specs.declared.costs.Goal.{Goal}
-use Rattle.certified_answers.specs.declared.costs.Goal.TheVariants.{Least, Greatest}
-use Rattle.certified_answers.specs.Found.{IsFoundOptimumFor, IsFoundPlan}
-use Rattle.certified_answers.specs.Worth.{IsBoundFor, IsClosed, IsDescentFor, IsPlan}
-use Rattle.row_problem.specs.ProgramsOf.{IsProgramOf}
+use Rattle.certified_answers.specs.Answers.{turned}
 use Rattle.row_problem.proofs.CostLaws.{aimed-column, cost-is}
 use Rattle.exact_solver.proofs.Closed.{same-value}
 
@@ -37,7 +18,7 @@ turned-over Greatest q value z over = record {
   cross = ap (λ t. t *ℤ value.bottom) (neg_ℤ-*ℤ (pos 1) z ∙ ap neg_ℤ (one-*ℤ z)) ∙ neg_ℤ-*ℤ z value.bottom ∙ ap neg_ℤ over.cross ∙ sym (neg_ℤ-*ℤ value.top q);
 }
 
-module _ (rows : List Row) (defs : List (Option Var)) (vars : List Var) (reduced : Reduced) (plan : List (Var × Rational)) (multipliers : List (RowName × Rational)) (amount bound : Rational) (is_plan : IsPlan rows vars plan amount) (lowest_bound : IsLowest bound) where
+module _ (rows : List Row) (defs : List (Option Var)) (vars : List Var) (reduced : Reduced) (plan : Values) (multipliers : Multipliers) (amount bound : Rational) (is_plan : IsPlan rows vars plan amount) (lowest_bound : IsLowest bound) where
   -- the bound is the variable's value
   bound-is : (var : Var) (goal : Goal) → IsProgramOf rows defs vars (One var goal) reduced → IsLowest (value_in var_cmp plan var) → IsBoundFor (weight_of (One var goal)) rows vars multipliers bound
       → IsFoundOptimumFor (weight_of (One var goal)) rows vars plan multipliers → bound ≡ turned goal (value_in var_cmp plan var)
@@ -58,7 +39,7 @@ module _ (rows : List Row) (defs : List (Option Var)) (vars : List Var) (reduced
   optimum-is (One var goal) program lowest is_bound found closed = (is_plan, is_bound, bound-is var goal program (lowest var) is_bound found)
 
 -- at the model's cost nothing lies between the cost and the bound
-pub costs-bound : (cost : Cost) (rows : List Row) (vars : List Var) (plan : List (Var × Rational)) (multipliers : List (RowName × Rational)) (amount bound : Rational) → IsLowest amount → IsLowest bound → IsPlan rows vars plan amount → IsBoundFor (weight_of cost) rows vars multipliers bound
+pub costs-bound : (cost : Cost) (rows : List Row) (vars : List Var) (plan : Values) (multipliers : Multipliers) (amount bound : Rational) → IsLowest amount → IsLowest bound → IsPlan rows vars plan amount → IsBoundFor (weight_of cost) rows vars multipliers bound
     → IsFoundOptimumFor (weight_of cost) rows vars plan multipliers → cost ≡ Model → amount ≡ bound
 costs-bound Model rows vars plan multipliers amount bound lowest_amount lowest_bound is_plan is_bound found e =
     let p = found.plan_found in
@@ -67,6 +48,6 @@ costs-bound Model rows vars plan multipliers amount bound lowest_amount lowest_b
 costs-bound (One var goal) rows vars plan multipliers amount bound lowest_amount lowest_bound is_plan is_bound found e = absurd (cc e)
 
 -- a direction
-pub descent-at : (cost : Cost) (rows : List Row) (vars : List Var) (plan direction : List (Var × Rational)) → IsFoundPlan rows vars plan → IsDescentFor (weight_of cost) rows vars direction → IsDescentAt cost rows vars direction
+pub descent-at : (cost : Cost) (rows : List Row) (vars : List Var) (plan direction : Values) → IsFoundPlan rows vars plan → IsDescentFor (weight_of cost) rows vars direction → IsDescentAt cost rows vars direction
 descent-at Model rows vars plan direction found is = record { pass = is.pass; some = is.some; descends = is.descends; endless = λ n. is.endless found.over found.number n found.meets }
 descent-at (One var goal) rows vars plan direction found is = is

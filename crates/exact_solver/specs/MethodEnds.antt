@@ -1,44 +1,29 @@
 -- How the exact method ends on rows: elimination, simplex, carrying back, and the checks of all that was found, in this order.
 use Rattle.std.specs.Prelude.{◌≡◌, ℕ, false, List, [], ◌∷◌, ◌++◌, Option, Some, None, Result, Ok, Err, ⊤}
-use Rattle.exact_num.specs.Rational.{Rational}
-use Rattle.exact_num.specs.Steps.{Step, first_wide}
-use Rattle.row_core.specs.declared.Row.{Row}
-use Rattle.row_core.specs.declared.RowName.{RowName}
-use Rattle.row_core.specs.declared.Var.{Var}
-use Rattle.row_core.specs.declared.place.Place.{Place}
-use Rattle.written_method.specs.Eliminated.{elimination_steps}
+use Rattle.row_problem.specs.Prelude.{Rational, Step, first_wide, Row, Var, Place, elimination_steps, model_cost, gap_condition, direction_conditions, plan_conditions, IsComplete, IsNamed, IsProvedFor, is_model, weight_of, multiplier_bound, plan_cost, NoAnswer, Cost, Model, One, Values, Multipliers}
 use Rattle.written_method.specs.Solved.{Outcome, IsOptimal, IsInfeasible, IsUnbounded, IsOutOfPivots, IsTooWide, solved}
 use Rattle.certificate_checker.specs.Conditions.{steps}
-use Rattle.certificate_checker.specs.Costs.{model_cost}
-use Rattle.certificate_checker.specs.Gaps.{gap_condition}
 use Rattle.certificate_checker.specs.MultiplierChecks.{bound_conditions, infeasible_conditions}
-use Rattle.certificate_checker.specs.PlanChecks.{direction_conditions, plan_conditions}
 use Rattle.simplex_core.specs.declared.ends.Halt.{Halt}
 use Rattle.simplex_core.specs.declared.ends.Halt.TheVariants as halts
-use Rattle.certified_answers.specs.Answers.{IsComplete, IsNamed, IsProvedFor}
-use Rattle.certified_answers.specs.Costs.{is_model, weight_of}
-use Rattle.certified_answers.specs.Worth.{multiplier_bound, plan_cost}
 use Rattle.certified_answers.specs.declared.answers.Certified.{Certified}
 use Rattle.certified_answers.specs.declared.answers.Certified.TheVariants as found
-use Rattle.certified_answers.specs.declared.answers.NoAnswer.{NoAnswer}
 use Rattle.certified_answers.specs.declared.answers.NoAnswer.TheVariants as stops
-use Rattle.certified_answers.specs.declared.costs.Cost.{Cost}
-use Rattle.certified_answers.specs.declared.costs.Cost.TheVariants.{Model, One}
 use Rattle.row_problem.specs.Programs.{carried_direction, carried_multipliers, carried_plan, carrying_steps, direction_steps, plan_steps, program_left}
 
 -- with a plan of least cost, and multipliers that prove it; with no plan, and multipliers that prove that; with a plan and a
 -- direction along which the cost falls without end; with a pivot that is due after the last; or at the place of the first step that forms a number that doesn't fit
 pub data MethodEnd : Type 0 where
-  HasOptimum : (plan : List (Var × Rational)) (multipliers : List (RowName × Rational)) (pivots : ℕ) → MethodEnd
-  HasNoPlan : (multipliers : List (RowName × Rational)) (pivots : ℕ) → MethodEnd
-  HasNoBound : (plan direction : List (Var × Rational)) (pivots : ℕ) → MethodEnd
+  HasOptimum : (plan : Values) (multipliers : Multipliers) (pivots : ℕ) → MethodEnd
+  HasNoPlan : (multipliers : Multipliers) (pivots : ℕ) → MethodEnd
+  HasNoBound : (plan direction : Values) (pivots : ℕ) → MethodEnd
   IsPivotDue : MethodEnd
   IsWide : (place : Place) → MethodEnd
 
 -- ---- the checks
 
 -- of a plan
-abbrev pub plan_checks : List Row → List Var → List (Var × Rational) → List (Step Place)
+abbrev pub plan_checks : List Row → List Var → Values → List (Step Place)
 plan_checks rows vars plan = steps (plan_conditions model_cost rows vars plan)
 
 -- at the model's cost, of the gap between the cost of a plan and a bound, of which nothing is allowed
@@ -47,18 +32,18 @@ closing_checks Model amount bound = steps (gap_condition amount bound 0 ∷ [])
 closing_checks (One var goal) amount bound = []
 
 -- of a plan, of multipliers that prove a bound, and of the gap between them
-abbrev pub optimum_checks : Cost → List Row → List Var → List (Var × Rational) → List (RowName × Rational) → List (Step Place)
+abbrev pub optimum_checks : Cost → List Row → List Var → Values → Multipliers → List (Step Place)
 optimum_checks cost rows vars plan multipliers =
     plan_checks rows vars plan
     ++ (steps (bound_conditions (weight_of cost) rows vars multipliers)
     ++ closing_checks cost (plan_cost vars plan) (multiplier_bound rows multipliers))
 
 -- of multipliers that prove that there is no plan
-abbrev pub refutation_checks : List Row → List Var → List (RowName × Rational) → List (Step Place)
+abbrev pub refutation_checks : List Row → List Var → Multipliers → List (Step Place)
 refutation_checks rows vars multipliers = steps (infeasible_conditions rows vars multipliers)
 
 -- of a plan, and of a direction along which the cost falls
-abbrev pub descent_checks : Cost → List Row → List Var → List (Var × Rational) → List (Var × Rational) → List (Step Place)
+abbrev pub descent_checks : Cost → List Row → List Var → Values → Values → List (Step Place)
 descent_checks cost rows vars plan direction =
     plan_checks rows vars plan ++ steps (direction_conditions (weight_of cost) rows vars direction)
 
@@ -70,7 +55,7 @@ unless_wide None end = end
 unless_wide (Some place) end = IsWide place
 
 -- the plan is carried back first, then the multipliers, with the model's cost and without another; then both are checked
-abbrev pub optimal_end : Cost → List Row → List (Option Var) → List Var → List (Var × Rational) → List Rational → ℕ → MethodEnd
+abbrev pub optimal_end : Cost → List Row → List (Option Var) → List Var → Values → List Rational → ℕ → MethodEnd
 optimal_end cost rows defs vars values lambda pivots =
     unless_wide
     (first_wide
@@ -86,7 +71,7 @@ infeasible_end rows defs vars lambda pivots =
     (HasNoPlan (carried_multipliers false rows defs lambda) pivots)
 
 -- the plan is carried back, then the direction; then both are checked
-abbrev pub unbounded_end : Cost → List Row → List (Option Var) → List Var → List (Var × Rational) → List (Var × Rational) → ℕ → MethodEnd
+abbrev pub unbounded_end : Cost → List Row → List (Option Var) → List Var → Values → Values → ℕ → MethodEnd
 unbounded_end cost rows defs vars values direction pivots =
     unless_wide
     (first_wide

@@ -1,7 +1,6 @@
 -- What an end of the simplex method has: a value for each column, a multiplier for each row, and what they mean.
 use Rattle.std.specs.Prelude.{◌≡◌, length}
-use Rattle.row_core.specs.Numbers.{keys_of}
-use Rattle.written_method.specs.Programs.{LinearProgram}
+use Rattle.row_problem.specs.Prelude.{keys_of, LinearProgram}
 use Rattle.simplex_core.specs.Outcomes.{IsProved}
 use Rattle.simplex_core.specs.declared.ends.End.{End}
 use Rattle.simplex_core.specs.declared.ends.End.TheVariants.{Infeasible, Optimal, Unbounded}

@@ -1,10 +1,9 @@
 //! What the simplex method found, carried back to all rows and checked.
 
 ghost use Rattle.std.specs.Prelude.{◌≡◌, IfOk};
-ghost use Rattle.written_method.specs.Programs.{program_of};
+ghost use Rattle.row_problem.specs.Prelude.{program_of, is_model};
 ghost use Rattle.simplex_core.specs.Outcomes.{outcome_seen};
 ghost use Rattle.simplex_core.specs.declared.ends.End.TheVariants.{Infeasible, Optimal, Unbounded};
-ghost use Rattle.certified_answers.specs.Costs.{is_model};
 ghost use Rattle.row_problem.specs.ProgramsOf.{IsPosedProblem};
 ghost use Rattle.exact_solver.specs.MethodEnds.{IsEndOf, IsWorth, carried_end, infeasible_end, optimal_end, unbounded_end};
 ghost use Rattle.exact_solver.specs.SimplexEnds.{IsEnded};

@@ -2,15 +2,8 @@
 //! another answer.
 
 ghost use Rattle.std.specs.Prelude.{◌≡◌, None, IfErr, IfOk, OnOk};
-ghost use Rattle.exact_num.specs.Steps.{first_wide};
-ghost use Rattle.exact_num.specs.Value.{value_of};
-ghost use Rattle.row_core.specs.Numbers.{keys_of};
-ghost use Rattle.certified_answers.specs.Answers.{AreNamedIn};
-ghost use Rattle.certified_answers.specs.Costs.{weight_of};
-ghost use Rattle.certified_answers.specs.declared.costs.Cost.TheVariants.{Model};
+ghost use Rattle.row_problem.specs.Prelude.{first_wide, value_of, keys_of, AreNamedIn, weight_of, Model, IsWidthAt, IsClosed};
 ghost use Rattle.certified_answers.specs.Found.{IsFoundDescentFor, IsFoundOptimumFor, IsFoundPlan, IsFoundRefutation};
-ghost use Rattle.certified_answers.specs.Refusals.{IsWidthAt};
-ghost use Rattle.certified_answers.specs.Worth.{IsClosed};
 ghost use Rattle.row_problem.specs.ProgramsOf.{IsPosedProblem};
 ghost use Rattle.exact_solver.specs.MethodEnds.{HasNoBound, HasNoPlan, HasOptimum, IsEndOf, IsWorth, closing_checks, descent_checks, optimum_checks, refutation_checks, unless_wide};
 

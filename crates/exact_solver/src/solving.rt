@@ -1,11 +1,9 @@
 //! The exact method over rows, from the elimination to the checks.
 
 ghost use Rattle.std.specs.Prelude.{◌≡◌, IfErr, IfOk};
-ghost use Rattle.row_core.specs.RowLists.{AreVariablesOf};
-ghost use Rattle.written_method.specs.Programs.{program_of};
+ghost use Rattle.row_problem.specs.Prelude.{AreVariablesOf, program_of, IsComplete, IsNamed, IsProved, IsProvedFor};
 ghost use Rattle.written_method.specs.Solved.{solved};
 ghost use Rattle.simplex_core.specs.Outcomes.{outcome_seen};
-ghost use Rattle.certified_answers.specs.Answers.{IsComplete, IsNamed, IsProved, IsProvedFor};
 ghost use Rattle.row_problem.specs.Problems.{IsProblem};
 ghost use Rattle.row_problem.specs.Programs.{program_left};
 ghost use Rattle.row_problem.specs.ProgramsOf.{IsPosedProblem};

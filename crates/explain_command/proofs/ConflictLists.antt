@@ -1,5 +1,5 @@
 -- The members of a conflict of a book are rows of the sets, and each of its plans has a value for each variable of the book.
-use Rattle.std.proofs.Common.{◌≡◌, suc, List, [], ◌∷◌, length, inl, inr, refl, ap, subst}
+use Rattle.std.proofs.Common.{◌≡◌, suc, List, [], ◌∷◌, length, refl, ap, subst}
 use Rattle.std.specs.List.{AllByRecursion}
 use Rattle.exact_num.specs.Rational.{Rational}
 use Rattle.exact_num.specs.declared.fraction.Frac.{Frac}
@@ -11,12 +11,12 @@ use Rattle.row_core.specs.Kinds.{IsKind}
 use Rattle.row_core.specs.NameTexts.{VariableIsWithin}
 use Rattle.row_core.specs.Numbers.{keys_of}
 use Rattle.row_core.proofs.Members.{Contains-from_Has, Has, Has-from_Contains}
-use Rattle.row_book.proofs.Lists.{all-has}
+use Rattle.row_book.proofs.Lists.{all-from, all-has}
 use Rattle.row_book.specs.Books.{HasNameWithin}
 use Rattle.command_answers.specs.CheckedPlans.{IsListedBook}
 use Rattle.command_answers.specs.PlacesWithin.{IsRowOfSets}
 use Rattle.command_answers.proofs.ListedBooks.{rows-named}
-use Rattle.command_answers.proofs.BookPlaces.{plan-named}
+use Rattle.command_answers.proofs.BookPlaces.{each-key, plan-named}
 use Rattle.conflict_sets.specs.Conflicts.{AreNeeded, IsConflict, inequalities}
 use Rattle.conflict_sets.specs.declared.conflict.Conflict.{Conflict}
 use Rattle.conflict_sets.proofs.RowLists.{inequality-row}
@@ -35,14 +35,11 @@ module _ (sets : SetLists) (rows : List Row) (vars : List Var) (listed : IsListe
   row-listed : (name : RowName) → Has (inequalities rows) name → IsRowOfSets sets name
   row-listed name h = let row = inequality-row rows name h in subst (IsRowOfSets sets) row.3 (all-has (HasNameWithin sets) rows row.0 (rows-named sets rows vars listed) row.1)
 
-  each-listed : (members : List (RowName × Frac)) → ((name : RowName) → Has (keys_of members) name → IsRowOfSets sets name) → AllByRecursion (λ (e : RowName × Frac). IsRowOfSets sets e.0) members
-  each-listed [] each = tt
-  each-listed (member ∷ members) each = (each member.0 (inl refl), each-listed members (λ name h. each name (inr h)))
-
   pub members-listed : (conflict : Conflict) → IsConflict rows vars conflict → AllByRecursion (λ (e : RowName × Frac). IsRowOfSets sets e.0) conflict.members.items
   members-listed conflict is =
-      each-listed conflict.members.items
-      (λ name h. row-listed name (Has-from_Contains (inequalities rows) name (is.among name (Contains-from_Has (keys_of conflict.members.items) name h))))
+      let names = keys_of conflict.members.items in
+      each-key (IsRowOfSets sets) conflict.members.items
+      (all-from (IsRowOfSets sets) names (λ name h. row-listed name (Has-from_Contains (inequalities rows) name (is.among name (Contains-from_Has names name h)))))
 
   each-whole : (names : List RowName) (members : List (RowName × Frac)) (plans : List (List (Var × Rational))) → AreNeeded rows vars names members plans
       → AllByRecursion (AllByRecursion (λ (e : Var × Rational). IsKind e.0.kind × VariableIsWithin sets e.0)) plans

@@ -1,5 +1,5 @@
 -- A conflict of the rows of a book is one of the named equations.
-use Rattle.std.proofs.Common.{◌≡◌, ℕ, true, false, List, [], ◌∷◌, inl, inr, map, refl, sym, ap, ◌∙◌, subst}
+use Rattle.std.proofs.Common.{◌≡◌, ℕ, true, false, List, [], ◌∷◌, map, refl, ap, ◌∙◌}
 use Rattle.std.specs.Prelude.{Option, Some, None, Contains}
 use Rattle.exact_num.specs.Rational.{Rational}
 use Rattle.exact_num.specs.declared.fraction.Frac.{Frac}
@@ -10,8 +10,8 @@ use Rattle.row_core.specs.declared.Var.{Var}
 use Rattle.row_core.specs.Numbers.{keys_of}
 use Rattle.row_core.specs.Plans.{valued}
 use Rattle.named_equations.specs.Instances.{instances, variable_of}
-use Rattle.row_core.proofs.Members.{Contains-from_Has, Has, Has-from_Contains}
-use Rattle.row_book.specs.Books.{AreRowsOf}
+use Rattle.row_core.proofs.Members.{Contains-from_Has, Has, Has-from_Contains, Has-map}
+use Rattle.row_book.proofs.Within.{names-of_rows}
 use Rattle.row_book.specs.Kept.{IsBook}
 use Rattle.row_problem.specs.Sizes.{is_unequal}
 use Rattle.command_answers.proofs.BookProblems.{placed}
@@ -27,21 +27,13 @@ pub keys-valued : (es : List (RowName × Frac)) → keys_of (map valued es) ≡ 
 keys-valued [] = refl
 keys-valued (e ∷ es) = ap {B = List RowName} (λ ks. e.0 ∷ ks) (keys-valued es)
 
--- a row's name is that of its instance
-row-named : (places : ℕ) (d : Data) (names : List RowName) (rows : List Row) (row : Row) → AreRowsOf places d names rows → Has rows row → Has names row.name
-row-named places d [] [] row are h = absurd h
-row-named places d [] (r ∷ rows) row are h = absurd are
-row-named places d (name ∷ names) [] row are h = absurd h
-row-named places d (name ∷ names) (r ∷ rows) row are (inl e) = inl (sym are.0.written.named ∙ ap (λ (t : Row). t.name) e)
-row-named places d (name ∷ names) (r ∷ rows) row are (inr h) = inr (row-named places d names rows row are.1 h)
-
 module _ (places : ℕ) (d : Data) (rows : List Row) (vars : List Var) (kept : IsBook rows vars) (book : IsBookOf places d rows vars) where
   -- an inequality is an instance that defines nothing
   instance-of : (u : RowName) → Has (inequalities rows) u → Contains (instances d) u × (variable_of u ≡ None)
   instance-of u h =
       let row = inequality-row rows u h in (
-        Contains-from_Has (instances d) u (subst (Has (instances d)) row.3 (row-named places d (instances d) rows row.0 book.are_rows row.1)),
-        ap variable_of (sym row.3) ∙ nothing row.0 row.1 row.2,
+        Contains-from_Has (instances d) u (rw (names-of_rows places d (instances d) rows book.are_rows, row.3) at (Has-map (λ (r : Row). r.name) rows row.0 row.1)),
+        rw row.3 at (nothing row.0 row.1 row.2),
       )
     where
       nothing : (row : Row) → Has rows row → is_unequal row.sense ≡ true → variable_of row.name ≡ None
@@ -51,7 +43,7 @@ module _ (places : ℕ) (d : Data) (rows : List Row) (vars : List Var) (kept : I
           cases None is = refl
           cases (Some v) is =
               let at = placed rows row there in
-              let equal : is_unequal row.sense ≡ false = ap is_unequal (kept.definitions.solvable at.place row v at.at is).0 in
+              let equal : is_unequal row.sense ≡ false = rw (kept.definitions.solvable at.place row v at.at is).0 in
               absurd (cc (unequal, equal))
 
   have-plans : (names : List RowName) (members : List (RowName × Frac)) (plans : List (List (Var × Rational))) → AreNeeded rows vars names members plans → HavePlans names places d (keys_of members) plans
@@ -69,7 +61,7 @@ module _ (places : ℕ) (d : Data) (rows : List Row) (vars : List Var) (kept : I
 
   pub named-conflict : (conflict : Conflict) → IsConflict rows vars conflict → IsNamedConflict places d (keys_of (map valued conflict.members.items)) conflict.plans.items
   named-conflict conflict c =
-      subst (λ (ns : List RowName). IsNamedConflict places d ns conflict.plans.items) (sym (keys-valued conflict.members.items))
+      rw (keys-valued conflict.members.items)
       (record {
         instance = λ u h. instance-of u (Has-from_Contains (inequalities rows) u (c.among u h));
         none = λ q x feasible. c.refuted.none q x (rows-from_feasible (is_member (keys_of conflict.members.items)) places d rows vars kept book q x feasible);

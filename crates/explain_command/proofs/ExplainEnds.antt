@@ -1,5 +1,5 @@
 -- What is due for what the trials found over a book of rows, and for the first stop, over the named equations.
-use Rattle.std.proofs.Common.{◌≡◌, ℕ, List, map, Option, Some, None, Result, Ok, Err, inl, inr, refl, sym, ap, ◌∙◌, subst}
+use Rattle.std.proofs.Common.{◌≡◌, ℕ, List, map, Option, Some, None, Result, Ok, Err, inl, inr, refl, sym, ap, ◌∙◌}
 use Rattle.std.specs.Prelude.{IfErr, IfNone, IfOk, IfSome}
 use Rattle.exact_num.specs.Steps.{first_wide}
 use Rattle.model_sets.specs.Data.{Data}
@@ -9,7 +9,6 @@ use Rattle.row_core.specs.declared.Var.{Var}
 use Rattle.row_core.specs.declared.place.Place.{Place}
 use Rattle.row_core.specs.Plans.{valued}
 use Rattle.row_book.specs.Kept.{IsBook}
-use Rattle.named_equations.specs.Existence.{all_variables}
 use Rattle.written_method.specs.Eliminated.{elimination_steps}
 use Rattle.simplex_core.specs.declared.stops.Stop.{Stop}
 use Rattle.simplex_core.specs.declared.stops.Stop.TheVariants.{Width}
@@ -27,10 +26,9 @@ use Rattle.conflict_sets.specs.Walks.{Explanation, IsStopped, Stops, explained, 
 use Rattle.conflict_sets.specs.declared.conflict.Conflict.{Conflict}
 use Rattle.conflict_sets.specs.declared.conflict.ExplainFail.{ExplainFail}
 use Rattle.conflict_sets.specs.declared.conflict.ExplainFail.TheVariants as fails
+use Rattle.explain_command.specs.declared.explain.Wanted.{Wanted}
 use Rattle.explain_command.specs.Explain.{DueForMethod, IsCauseOf}
 use Rattle.explain_command.specs.Outcomes.{FindingTells, RunTells, TellsFound}
-use Rattle.explain_command.specs.ShownConflicts.{AreShown}
-use Rattle.explain_command.specs.Texts.{conflict_text}
 use Rattle.explain_command.proofs.ConflictNames.{named-conflict, some-feasible}
 use Rattle.explain_command.proofs.ShownLaws.{shown-conflict}
 
@@ -68,31 +66,26 @@ module _ (rows : List Row) (vars : List Var) (pivots : ℕ) (fits : first_wide (
 
   pub rounded-tells : (r : Result (Option Conflict) ExplainFail) → IfErr r (StopsSome rows (definers rows) vars pivots) → WorthTells r rows (definers rows) vars → RunTells Rounded rows vars pivots r
   rounded-tells (Ok None) told worth = record { cause = tt; conflict = worth.0; feasible = worth.1 }
-  rounded-tells (Ok (Some conflict)) told worth = record { cause = tt; conflict = worth.0; feasible = worth.1 }
+  rounded-tells (Ok found) told worth = record { cause = tt; conflict = worth.0; feasible = worth.1 }
   rounded-tells (Err (fails.Stopped stop)) told worth = inr (fits, told)
   rounded-tells (Err fails.Memory) told worth = tt
 
 -- ---- what is due
 
-module _ (places : ℕ) (d : Data) (rows : List Row) (vars : List Var) (kept : IsBook rows vars) (book : IsBookOf places d rows vars) (pivots : ℕ) (method : SolveMethod)
-    (sets : SetLists) (same : sets ≡ d.sets) (status : Status) (text : List ℕ) where
-  cause : (end : Explanation) → IsCauseOf method rows vars pivots end → IsCauseOf method rows (all_variables d) pivots end
-  cause end is = subst (λ (vs : List Var). IsCauseOf method rows vs pivots end) (vars-are places d rows vars book) is
-
-  pub due-from_found : (found : Option Conflict) → FindingTells method rows vars pivots found → TellsFound sets found status text → DueForMethod places d rows pivots method status text
+module _ (places : ℕ) (d : Data) (rows : List Row) (vars : List Var) (kept : IsBook rows vars) (book : IsBookOf places d rows vars) (sets : SetLists) (same : sets ≡ d.sets) (wanted : Wanted) (status : Status) (text : List ℕ) where
+  pub due-from_found : (found : Option Conflict) → FindingTells wanted.method rows vars wanted.pivots found → TellsFound sets found status text → DueForMethod places d rows wanted status text
   due-from_found None finding told =
-      inl (record { cause = cause (explanation_seen None) finding.cause; some = some-feasible places d rows vars kept book finding.feasible; status_is = told.0; text_is = told.1 })
+      inl (record { cause = rw (vars-are places d rows vars book) at finding.cause; some = some-feasible places d rows vars kept book finding.feasible; status_is = told.0; text_is = told.1 })
   due-from_found (Some conflict) finding told =
       inr (inl (record {
         members = map valued conflict.members.items;
         plans = conflict.plans.items;
-        cause = cause (explanation_seen (Some conflict)) finding.cause;
+        cause = rw (vars-are places d rows vars book) at finding.cause;
         conflict = named-conflict places d rows vars kept book conflict finding.conflict;
-        shown = subst (λ (vs : List Var). AreShown rows vs (map valued conflict.members.items)) (vars-are places d rows vars book) (shown-conflict rows vars conflict finding.conflict);
+        shown = rw (vars-are places d rows vars book) at (shown-conflict rows vars conflict finding.conflict);
         status_is = told.0;
-        text_is = told.1 ∙ ap (λ (ss : SetLists). conflict_text ss (map valued conflict.members.items) conflict.plans.items) same;
+        text_is = rw same at told.1;
       }))
 
-  pub due-from_stop : (stop : Stop) → IsCauseOf method rows vars pivots (IsStopped stop) → status ≡ Uncertified stop → text ≡ uncertified_line sets stop → DueForMethod places d rows pivots method status text
-  due-from_stop stop is status_is line_is =
-      inr (inr (record { stop = stop; cause = cause (IsStopped stop) is; status_is = status_is; line_is = line_is ∙ ap (λ (ss : SetLists). uncertified_line ss stop) same }))
+  pub due-from_stop : (stop : Stop) → IsCauseOf wanted.method rows vars wanted.pivots (IsStopped stop) → status ≡ Uncertified stop → text ≡ uncertified_line sets stop → DueForMethod places d rows wanted status text
+  due-from_stop stop is status_is line_is = inr (inr (record { stop = stop; cause = rw (vars-are places d rows vars book) at is; status_is = status_is; line_is = line_is ∙ ap (λ ss. uncertified_line ss stop) same }))

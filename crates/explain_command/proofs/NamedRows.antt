@@ -1,11 +1,12 @@
 -- The rows of a trial of a book hold of a plan exactly where it meets the definitions and the inequalities that are listed.
-use Rattle.std.proofs.Common.{◌≡◌, ℕ, ℤ, pos, ◌*ℤ◌, Bool, true, false, not, ◌||◌, List, [], ◌∷◌, inl, inr, refl, sym, ap, ◌∙◌, subst, if◌then◌else◌}
+use Rattle.std.proofs.Common.{◌≡◌, ℕ, ℤ, pos, ◌*ℤ◌, Bool, true, false, not, ◌||◌, List, [], ◌∷◌, inl, inr, refl, sym, ap, ◌∙◌, subst}
 use Rattle.std.specs.Prelude.{Option, Some, None, is_some}
+use Rattle.std.proofs.lemmas.Bool.{cases_Bool, or_cases, or_right}
 use Rattle.model_sets.specs.Data.{Data}
 use Rattle.row_core.specs.declared.Row.{Row}
 use Rattle.row_core.specs.declared.RowName.{RowName}
 use Rattle.row_core.specs.declared.Sense.{Sense}
-use Rattle.row_core.specs.declared.Sense.TheVariants.{Least, Equal, Most}
+use Rattle.row_core.specs.declared.Sense.TheVariants.{Equal}
 use Rattle.row_core.specs.declared.Var.{Var}
 use Rattle.row_core.specs.Rows.{RowHolds, row_sum}
 use Rattle.row_core.specs.Statements.{Stands}
@@ -34,19 +35,13 @@ some-is None h = absurd (cc h)
 some-is (Some x) h = (x, refl)
 
 asked-taken : (listed : RowName → Bool) (rows : List Row) (vars : List Var) → IsBook rows vars → (row : Row) → Has rows row → is_asked listed row.name ≡ true → is_taken listed row ≡ true
-asked-taken listed rows vars book row there asked = cases (is_some (variable_of row.name)) refl asked
-  where
-    cases : (t : Bool) → is_some (variable_of row.name) ≡ t → (t || listed row.name) ≡ true → (not (is_unequal row.sense) || listed row.name) ≡ true
-    cases true is k =
-        let v = some-is (variable_of row.name) is in
-        let at = placed rows row there in
-        let equal = (book.definitions.solvable at.place row v.0 at.at v.1).0 in
-        ap (λ s. not (is_unequal s) || listed row.name) equal
-    cases false is k = either (not (is_unequal row.sense)) k
-      where
-        either : (b : Bool) → listed row.name ≡ true → (b || listed row.name) ≡ true
-        either true h = refl
-        either false h = h
+asked-taken listed rows vars book row there asked = elim (or_cases (is_some (variable_of row.name)) (listed row.name) asked) [
+  | inl defines ↦
+      let v = some-is (variable_of row.name) defines in
+      let at = placed rows row there in
+      rw (book.definitions.solvable at.place row v.0 at.at v.1).0
+  | inr is ↦ or_right (not (is_unequal row.sense)) (listed row.name) is
+]
 
 -- ---- from rows to equations
 
@@ -55,15 +50,15 @@ meets-asked : (listed : RowName → Bool) (places : ℕ) (d : Data) (q : ℕ) (x
 meets-asked listed places d q x [] [] takes are stand = tt
 meets-asked listed places d q x [] (row ∷ rows) takes are stand = absurd are
 meets-asked listed places d q x (name ∷ names) [] takes are stand = absurd are
-meets-asked listed places d q x (name ∷ names) (row ∷ rows) takes are stand = cases (is_taken listed row) refl stand (λ k. meets-asked listed places d q x names rows (λ r h. takes r (inr h)) are.1 k)
-  where
-    cases : (t : Bool) → is_taken listed row ≡ t → AllStand (right_of q) (if t then (row ∷ rows_with listed rows) else rows_with listed rows) x → (AllStand (right_of q) (rows_with listed rows) x → MeetsAsked listed places d q x names)
-        → (is_asked listed name ≡ true → Meets places d q x name) × MeetsAsked listed places d q x names
-    cases true is stand rest = (λ asked. (are.0.says q x).0 stand.0, rest stand.1)
-    cases false is stand rest = (
-      λ asked. let taken : is_taken listed row ≡ true = takes row (inl refl) (ap (is_asked listed) are.0.written.named ∙ asked) in absurd (cc (is, taken)),
-      rest stand,
-    )
+meets-asked listed places d q x (name ∷ names) (row ∷ rows) takes are stand =
+    let rest = meets-asked listed places d q x names rows (λ r h. takes r (inr h)) are.1 in
+    elim (cases_Bool (is_taken listed row)) [
+      | inl is ↦ let stands = rw is at stand in (λ asked. (are.0.says q x).0 stands.0, rest stands.1)
+      | inr is ↦ (
+        λ asked. let taken : is_taken listed row ≡ true = takes row (inl refl) (ap (is_asked listed) are.0.written.named ∙ asked) in absurd (cc (is, taken)),
+        rest (rw is at stand),
+      )
+    ]
 
 pub feasible-from_rows : (listed : RowName → Bool) (places : ℕ) (d : Data) (rows : List Row) (vars : List Var) → IsBook rows vars → IsBookOf places d rows vars → (q : ℕ) (x : Var → ℤ) → MeetsAll (rows_with listed rows) vars q x → FeasibleWith listed places d q x
 feasible-from_rows listed places d rows vars kept book q x meets = record {
@@ -84,9 +79,8 @@ asked-hold listed places d q x (name ∷ names) (r ∷ rows) are meets row (inl 
 asked-hold listed places d q x (name ∷ names) (r ∷ rows) are meets row (inr h) asked = asked-hold listed places d q x names rows are.1 meets.1 row h asked
 
 equal-sense : (s : Sense) → is_unequal s ≡ false → s ≡ Equal
-equal-sense Least h = absurd (cc h)
 equal-sense Equal h = refl
-equal-sense Most h = absurd (cc h)
+equal-sense s h = absurd (cc h)
 
 module _ (listed : RowName → Bool) (places : ℕ) (d : Data) (rows : List Row) (vars : List Var) (kept : IsBook rows vars) (book : IsBookOf places d rows vars) (q : ℕ) (x : Var → ℤ) (meets : FeasibleWith listed places d q x) where
   holds : (row : Row) → Has rows row → is_asked listed row.name ≡ true → RowHolds row q x
@@ -110,21 +104,15 @@ module _ (listed : RowName → Bool) (places : ℕ) (d : Data) (rows : List Row)
       by_variable None is equal = let at = placed rows row h in repeated-holds row h equal (kept.definitions.repeated at.place row at.at equal is)
       by_variable (Some v) is equal = holds row h (ap (λ o. is_some o || listed row.name) is)
 
-      or_true : (b : Bool) → (b || true) ≡ true
-      or_true true = refl
-      or_true false = refl
-
       by_sense : (t : Bool) → is_unequal row.sense ≡ t → (not t || listed row.name) ≡ true → RowHolds row q x
-      by_sense true is k = holds row h (ap (λ t. is_some (variable_of row.name) || t) k ∙ or_true (is_some (variable_of row.name)))
+      by_sense true is k = holds row h (or_right (is_some (variable_of row.name)) (listed row.name) k)
       by_sense false is k = by_variable (variable_of row.name) refl (equal-sense row.sense is)
 
   all-stand : (some : List Row) → ((row : Row) → Has some row → Has rows row) → AllStand (right_of q) (rows_with listed some) x
   all-stand [] among = tt
-  all-stand (row ∷ some) among = cases (is_taken listed row) refl (all-stand some (λ r h. among r (inr h)))
-    where
-      cases : (t : Bool) → is_taken listed row ≡ t → AllStand (right_of q) (rows_with listed some) x → AllStand (right_of q) (if t then (row ∷ rows_with listed some) else rows_with listed some) x
-      cases true is rest = (taken-holds row (among row (inl refl)) is, rest)
-      cases false is rest = rest
+  all-stand (row ∷ some) among =
+      let rest = all-stand some (λ r h. among r (inr h)) in
+      elim (cases_Bool (is_taken listed row)) [ inl is ↦ rw is (taken-holds row (among row (inl refl)) is, rest) | inr is ↦ rw is rest ]
 
   pub rows-from_feasible : MeetsAll (rows_with listed rows) vars q x
   rows-from_feasible = record {

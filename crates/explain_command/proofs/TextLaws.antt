@@ -1,6 +1,5 @@
 -- Lines one after another.
-use Rattle.std.proofs.Common.{◌≡◌, ℕ, zero, suc, ◌+◌, ◌<◌, List, [], ◌∷◌, ◌++◌, length, map, drop, get_or, refl, sym, ap, ◌∙◌, append_assoc, arith}
-use Rattle.std.specs.List.{AllByRecursion, flat_map}
+use Rattle.std.proofs.Common.{◌≡◌, ℕ, ◌+◌, ◌<◌, List, [], ◌∷◌, ◌++◌, length, map, drop, get_or, refl, sym, ap, ◌∙◌, append_assoc}
 use Rattle.std.proofs.lemmas.List.{drop_more}
 use Rattle.exact_num.specs.Rational.{Rational}
 use Rattle.exact_num.specs.declared.fraction.Frac.{Frac}
@@ -9,19 +8,6 @@ use Rattle.row_core.specs.declared.RowName.{RowName}
 use Rattle.row_core.specs.declared.Var.{Var}
 use Rattle.row_core.specs.Plans.{valued}
 use Rattle.explain_command.specs.Texts.{all_plan_lines, plan_lines}
-
--- each of a list has it
-pub each-at : {A : Type 0} (P : A → Type 0) (xs : List A) (i : ℕ) (d : A) → AllByRecursion P xs → i < length xs → P (get_or xs i d)
-each-at P [] i d all h = absurd (omega arith)
-each-at P (x ∷ xs) zero d all h = all.0
-each-at P (x ∷ xs) (suc i) d all h = each-at P xs i d all.1 (omega arith)
-
--- a line more of the entries
-pub lines-next : (line_of : RowName × Rational → List ℕ) (es : List (RowName × Frac)) (i : ℕ) (d : RowName × Frac) (out all : List ℕ) → i < length es → out ++ flat_map line_of (map valued (drop i es)) ≡ all
-    → (out ++ line_of (valued (get_or es i d))) ++ flat_map line_of (map valued (drop (i + 1) es)) ≡ all
-lines-next line_of es i d out all h so_far =
-    append_assoc out (line_of (valued (get_or es i d))) (flat_map line_of (map valued (drop (i + 1) es)))
-    ∙ sym (ap (λ (xs : List (RowName × Frac)). out ++ flat_map line_of (map valued xs)) (drop_more es i d h)) ∙ so_far
 
 -- a plan more
 module _ (sets : SetLists) (members : List (RowName × Frac)) (plans : List (List (Var × Rational))) where

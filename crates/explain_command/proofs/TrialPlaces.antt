@@ -10,7 +10,7 @@ use Rattle.row_core.specs.declared.RowName.{RowName}
 use Rattle.row_core.specs.declared.Var.{Var}
 use Rattle.row_core.specs.declared.place.Place.{Place}
 use Rattle.row_book.specs.Books.{HasNameWithin, IsWithinSets}
-use Rattle.row_book.proofs.Lists.{AllByRecursion-filter, AllByRecursion-map, AllByRecursion-weaker}
+use Rattle.row_book.proofs.Lists.{AllByRecursion-filter, AllByRecursion-from_map, AllByRecursion-map, AllByRecursion-weaker}
 use Rattle.certificate_checker.specs.Costs.{model_cost}
 use Rattle.written_method.specs.Definitions.{definitions_of}
 use Rattle.written_method.specs.Eliminated.{ReducedRow, elimination_steps, is_column}
@@ -50,11 +50,7 @@ module _ (sets : SetLists) (rows : List Row) (vars : List Var) (define : AllByRe
     names-tried =
         AllByRecursion-map (IsRowOfSets sets) name_left (rows_tried listed rows (definers rows))
         (AllByRecursion-weaker (λ (r : ReducedRow). IsRowOfSets sets r.name × (listed r.name ≡ true)) (λ r. IsRowOfSets sets r.name) (λ r of. of.0) (rows_tried listed rows (definers rows))
-        (AllByRecursion-filter (λ (r : ReducedRow). IsRowOfSets sets r.name) (λ (r : ReducedRow). listed r.name) (rows_left rows (definers rows)) (from-map (rows_left rows (definers rows)) (names-left sets (IsRowOfSets sets) rows define))))
-      where
-        from-map : (rs : List ReducedRow) → AllByRecursion (IsRowOfSets sets) (map name_left rs) → AllByRecursion (λ (r : ReducedRow). IsRowOfSets sets r.name) rs
-        from-map [] h = tt
-        from-map (r ∷ rs) h = (h.0, from-map rs h.1)
+        (AllByRecursion-filter (λ (r : ReducedRow). IsRowOfSets sets r.name) (λ (r : ReducedRow). listed r.name) (rows_left rows (definers rows)) (AllByRecursion-from_map (IsRowOfSets sets) name_left (rows_left rows (definers rows)) (names-left sets (IsRowOfSets sets) rows define))))
 
     tried-within : (lambda : List Rational) → AreStepsKept sets (IsRowOfSets sets) (tried_steps listed rows (definers rows) lambda)
     unfolding tried_steps
@@ -66,9 +62,7 @@ module _ (sets : SetLists) (rows : List Row) (vars : List Var) (define : AllByRe
 
     abbrev TrialIsNamed : TrialEnd → Type 0
     TrialIsNamed (IsWide place) = PlaceIsWithin sets place
-    TrialIsNamed (HasPlan plan) = ⊤
-    TrialIsNamed (HasNone multipliers) = ⊤
-    TrialIsNamed IsPivotDue = ⊤
+    TrialIsNamed end = ⊤
 
     unless-named : (ss : List (Step Place)) (end : TrialEnd) → AreStepsKept sets (IsRowOfSets sets) ss → TrialIsNamed end → TrialIsNamed (unless_stopped (first_wide ss) end)
     unless-named ss end within ends = cases (first_wide ss) refl
@@ -101,9 +95,8 @@ module _ (sets : SetLists) (rows : List Row) (vars : List Var) (define : AllByRe
   -- ---- all trials
 
   abbrev ExplanationIsNamed : Explanation → Type 0
-  ExplanationIsNamed IsFeasible = ⊤
-  ExplanationIsNamed (IsConflicting members plans) = ⊤
   ExplanationIsNamed (IsStopped stop) = StopIsWithin sets stop
+  ExplanationIsNamed end = ⊤
 
   walk-named : (pivots k : ℕ) (names : List RowName) (m : List (RowName × Rational)) (needed : List Needed) → ExplanationIsNamed (walk rows (definers rows) vars pivots k names m needed)
   unfolding walk
@@ -160,12 +153,11 @@ module _ (sets : SetLists) (rows : List Row) (vars : List Var) (define : AllByRe
 
   -- by guesses first, the trial that stops is an exact one
   some-stop-named : (pivots : ℕ) (stop : Stop) → IsStopOfSome rows (definers rows) vars pivots stop → StopIsWithin sets stop
-  some-stop-named pivots (Budget most) h = tt
   some-stop-named pivots (Width place) h = subst (TrialIsNamed every) h (trial-named_end every pivots)
-  some-stop-named pivots (Trial number (trials.Budget most)) h = tt
   some-stop-named pivots (Trial number (trials.Width place)) h =
       let others = is_other h.1.multipliers h.1.left_out in
       subst (TrialIsNamed others) h.1.ends (trial-named_end others pivots)
+  some-stop-named pivots stop h = tt
 
   pub cause-named : (pivots : ℕ) (stop : Stop) (method : SolveMethod) → IsCauseOf method rows vars pivots (IsStopped stop) → StopIsWithin sets stop
   cause-named pivots stop Exact is = subst ExplanationIsNamed is (explanation-named pivots)

@@ -22,6 +22,7 @@ use Rattle.command_words.specs.declared.command.SolveMethod.{SolveMethod}
 use Rattle.command_words.specs.declared.command.SolveMethod.TheVariants.{Exact, Rounded}
 use Rattle.conflict_sets.specs.RoundedStops.{IsStopOfSome}
 use Rattle.conflict_sets.specs.Walks.{Explanation, IsConflicting, IsFeasible, IsStopped, explanation}
+use Rattle.explain_command.specs.declared.explain.Wanted.{Wanted}
 use Rattle.explain_command.specs.NamedConflicts.{IsNamedConflict, SomeIsFeasible}
 use Rattle.explain_command.specs.ShownConflicts.{AreShown}
 use Rattle.explain_command.specs.Texts.{conflict_text, feasible_text}
@@ -37,9 +38,8 @@ StopsByGuesses rows vars pivots stop =
 -- by the exact method it is the end of its trials; by guesses only a stop has a cause
 abbrev pub IsCauseOf : SolveMethod → List Row → List Var → ℕ → Explanation → Type 0
 IsCauseOf Exact rows vars pivots end = explanation rows (definers rows) vars pivots ≡ end
-IsCauseOf Rounded rows vars pivots IsFeasible = ⊤
-IsCauseOf Rounded rows vars pivots (IsConflicting members plans) = ⊤
 IsCauseOf Rounded rows vars pivots (IsStopped stop) = StopsByGuesses rows vars pivots stop
+IsCauseOf Rounded rows vars pivots end = ⊤
 
 -- nothing stops the method that is asked for
 abbrev pub NothingStops : SolveMethod → List Row → List Var → ℕ → Type 0
@@ -48,36 +48,35 @@ NothingStops method rows vars pivots = (stop : Stop) → IsCauseOf method rows v
 -- ---- the ends
 
 -- some plan meets the named equations
-pub record HasFeasible (places : ℕ) (d : Data) (rows : List Row) (pivots : ℕ) (method : SolveMethod) (status : Status) (text : List ℕ) : Type 0 where
-  pub cause : IsCauseOf method rows (all_variables d) pivots IsFeasible
+pub record HasFeasible (places : ℕ) (d : Data) (rows : List Row) (wanted : Wanted) (status : Status) (text : List ℕ) : Type 0 where
+  pub cause : IsCauseOf wanted.method rows (all_variables d) wanted.pivots IsFeasible
   pub some : SomeIsFeasible places d
   pub status_is : status ≡ Done
   pub text_is : text ≡ feasible_text
 
 -- some of them can't be met together, and the multipliers that are printed are part of what shows it
-pub record HasConflict (places : ℕ) (d : Data) (rows : List Row) (pivots : ℕ) (method : SolveMethod) (status : Status) (text : List ℕ) : Type 0 where
+pub record HasConflict (places : ℕ) (d : Data) (rows : List Row) (wanted : Wanted) (status : Status) (text : List ℕ) : Type 0 where
   pub members : List (RowName × Rational)
   pub plans : List (List (Var × Rational))
-  pub cause : IsCauseOf method rows (all_variables d) pivots (IsConflicting members plans)
+  pub cause : IsCauseOf wanted.method rows (all_variables d) wanted.pivots (IsConflicting members plans)
   pub conflict : IsNamedConflict places d (keys_of members) plans
   pub shown : AreShown rows (all_variables d) members
   pub status_is : status ≡ Infeasible
   pub text_is : text ≡ conflict_text d.sets members plans
 
 -- the elimination, or a trial, stopped: a pivot is due after the last that it may make, or a number doesn't fit
-pub record HasStopped (d : Data) (rows : List Row) (pivots : ℕ) (method : SolveMethod) (status : Status) (text : List ℕ) : Type 0 where
+pub record HasStopped (d : Data) (rows : List Row) (wanted : Wanted) (status : Status) (text : List ℕ) : Type 0 where
   pub stop : Stop
-  pub cause : IsCauseOf method rows (all_variables d) pivots (IsStopped stop)
+  pub cause : IsCauseOf wanted.method rows (all_variables d) wanted.pivots (IsStopped stop)
   pub status_is : status ≡ Uncertified stop
   pub line_is : text ≡ uncertified_line d.sets stop
 
 -- ---- what is due
 
--- of a linear program within the limits, by the method that is asked for
-abbrev pub DueForMethod : ℕ → Data → List Row → ℕ → SolveMethod → Status → List ℕ → Type 0
-DueForMethod places d rows pivots method status text =
-    HasFeasible places d rows pivots method status text ⊎ HasConflict places d rows pivots method status text ⊎ HasStopped d rows pivots method status text
+-- of a linear program within the limits
+abbrev pub DueForMethod : ℕ → Data → List Row → Wanted → Status → List ℕ → Type 0
+DueForMethod places d rows wanted status text = HasFeasible places d rows wanted status text ⊎ HasConflict places d rows wanted status text ⊎ HasStopped d rows wanted status text
 
 -- What is due over these data, for so many pivots at most in each trial, and the method that is asked for.
-abbrev pub DueForExplain : ℕ → ℕ → SolveMethod → Data → Status → List ℕ → Type 0
-DueForExplain places pivots method d status text = DueForProgram (λ rows. DueForMethod places d rows pivots method) places d status text
+abbrev pub DueForExplain : ℕ → Wanted → Data → Status → List ℕ → Type 0
+DueForExplain places wanted d status text = DueForProgram (λ rows. DueForMethod places d rows wanted) places d status text

@@ -21,21 +21,26 @@ use param_tables::ModelData;
 use row_book::RowBook;
 use std::alloc::{AllocError, Global};
 
-/// What is due over any data that have the model's sets and values, with written factors of 6 or 9 decimal places, and so many pivots at
-/// most in each trial, by the exact method or by guesses first.
+/// What is wanted of a model: an explanation by this method, with so many pivots at most in each trial.
+#[derive(Clone, Copy, Debug, PartialEq, Eq)]
+pub struct Wanted {
+    pub pivots: u32,
+    pub method: SolveMethod,
+}
+
+/// What is due over any data that have the model's sets and values, with written factors of 6 or 9 decimal places.
 pub fn answer_explain(
     alloc: Global,
     model: &ModelData,
     places: u8,
-    pivots: u32,
-    method: SolveMethod,
+    wanted: Wanted,
 ) -> Result<Answer, AllocError>
     requires { IsPlaces places }
     ensures { (d : Data) → AreSameData model.now.facts d → IfOk result (λ answer.
-        DueForExplain places pivots method d answer.status answer.text.items) }
+        DueForExplain places wanted d answer.status answer.text.items) }
 {
     match sized_book(alloc, model, places)? {
-        Ok(book) => answer_method(alloc, &book, model.sets(), u64::from(pivots), method),
+        Ok(book) => answer_method(alloc, &book, model.sets(), wanted),
         Err(answer) => Ok(answer),
     }
 }
@@ -45,17 +50,16 @@ fn answer_method(
     alloc: Global,
     book: &RowBook,
     sets: &Sets,
-    pivots: u64,
-    method: SolveMethod,
+    wanted: Wanted,
 ) -> Result<Answer, AllocError>
     requires { IsListedBook sets.now book.now.rows book.now.vars }
     ensures { (places : ℕ) (d : Data) → sets.now ≡ d.sets → IsBookOf places d book.now.rows book.now.vars
-        → IfOk result (λ answer. DueForMethod places d book.now.rows pivots method answer.status answer.text.items) }
+        → IfOk result (λ answer. DueForMethod places d book.now.rows wanted answer.status answer.text.items) }
 {
     // The rows and the variables of a book are what its answers speak of.
     let _ = book.vars();
     match eliminate_book(alloc, book) {
-        Ok(program) => answer_program(alloc, book, sets, &program, pivots, method),
+        Ok(program) => answer_program(alloc, book, sets, &program, wanted),
         Err(stop) => stop_on_elimination(alloc, book, sets, stop),
     }
 }
@@ -66,18 +70,17 @@ fn answer_program(
     book: &RowBook,
     sets: &Sets,
     program: &BookProgram,
-    pivots: u64,
-    method: SolveMethod,
+    wanted: Wanted,
 ) -> Result<Answer, AllocError>
     requires listed { IsListedBook sets.now book.now.rows book.now.vars }
     requires program { IsProgramOf book.now.rows book.now.vars program.now }
     requires fits { first_wide (elimination_steps book.now.rows (definers book.now.rows)) ≡ None }
     ensures { (places : ℕ) (d : Data) → sets.now ≡ d.sets → IsBookOf places d book.now.rows book.now.vars
-        → IfOk result (λ answer. DueForMethod places d book.now.rows pivots method answer.status answer.text.items) }
+        → IfOk result (λ answer. DueForMethod places d book.now.rows wanted answer.status answer.text.items) }
 {
     // The rows and the variables of a book are what the places of the trials speak of.
     let _ = book.vars();
-    match explain_book(alloc, book, program, pivots, method) {
+    match explain_book(alloc, book, program, wanted) {
         Ok(found) => answer_found(alloc, book, sets, &found),
         Err(ExplainFail::Stopped(stop)) => answer_stop(alloc, stop, sets),
         Err(ExplainFail::Memory) => Err(AllocError),
@@ -89,15 +92,15 @@ fn explain_book(
     alloc: Global,
     book: &RowBook,
     program: &BookProgram,
-    pivots: u64,
-    method: SolveMethod,
+    wanted: Wanted,
 ) -> Result<Option<Conflict>, ExplainFail>
     requires program { IsProgramOf book.now.rows book.now.vars program.now }
     requires fits { first_wide (elimination_steps book.now.rows (definers book.now.rows)) ≡ None }
-    ensures { RunTells method book.now.rows book.now.vars pivots result }
+    ensures { RunTells wanted.method book.now.rows book.now.vars wanted.pivots result }
 {
     let problem = problem_of(book, program);
-    match method {
+    let pivots = u64::from(wanted.pivots);
+    match wanted.method {
         SolveMethod::Exact => explain(alloc, &problem, pivots),
         SolveMethod::Rounded => explain_rounded(alloc, &problem, pivots),
     }

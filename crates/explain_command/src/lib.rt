@@ -6,4 +6,4 @@ mod ends;
 mod explain;
 mod texts;
 
-pub use explain::answer_explain;
+pub use explain::{Wanted, answer_explain};

@@ -19,7 +19,8 @@ use Rattle.emission_curve.specs.Points.{EndIsRounded}
 use Rattle.curve_command.specs.Curve.{DueForCurve, DueForLimits, limits_in}
 use Rattle.curve_command.specs.CurveTexts.{Found, else_stop, first_stop, status_for, stop_of}
 use Rattle.curve_command.specs.Limited.{limit_at, with_limit}
-use Rattle.curve_command.specs.Trials.{EndsSo, IsTrialOf, Wanted}
+use Rattle.curve_command.specs.Trials.{EndsSo, IsTrialOf}
+use Rattle.curve_command.specs.declared.trials.Wanted.{Wanted}
 use Rattle.osemosys_run.specs.Complete.{CanBeDrawn, CanBeTried}
 use Rattle.osemosys_run.specs.Due.{Due, DueForRequest}
 use Rattle.osemosys_run.proofs.Completeness.{Laws, no_rows, not_too_large, over_file}
@@ -81,7 +82,7 @@ abbrev wanted_for : SolveMethod → ℕ → ℕ → Wanted
 wanted_for method pivots gap = record { method = method; pivots = pivots; gap = gap }
 
 module _ (laws : Laws) (words : List (List ℕ)) (files : List (List ℕ × List ℕ)) (status : Status) (text : List ℕ) (can : CanBeDrawn words files) where
-  members_done : DueForCurve can.places (wanted_for can.method can.pivots can.gap) can.region can.emission can.limits can.d status text → status ≡ Done
+  members_done : DueForCurve can.places (wanted_for can.method can.pivots can.gap) (record { region = can.region; emission = can.emission }) can.limits can.d status text → status ≡ Done
   members_done (inl none) = absurd (no_member (index_of (members can.d.sets REGION) can.region) can.r none.missing can.region_is)
   members_done (inr (inl alone)) = absurd (no_member (index_of (members can.d.sets EMISSION) can.emission) can.e alone.emission_isnt.missing can.emission_is)
   members_done (inr (inr both)) =
@@ -92,7 +93,7 @@ module _ (laws : Laws) (words : List (List ℕ)) (files : List (List ℕ × List
 
 pub drawn_from_due : Laws → (words : List (List ℕ)) (files : List (List ℕ × List ℕ)) (status : Status) (text : List ℕ) → Due words files status text → CanBeDrawn words files → status ≡ Done
 drawn_from_due laws words files status text due can =
-    let Over : ℕ → Data → Status → List ℕ → Type 0 = λ rounded. DueForCurve can.places (wanted_for can.method can.pivots can.gap) can.region can.emission can.limits in
+    let Over : ℕ → Data → Status → List ℕ → Type 0 = λ rounded. DueForCurve can.places (wanted_for can.method can.pivots can.gap) (record { region = can.region; emission = can.emission }) can.limits in
     members_done laws words files status text can
     (over_file laws Over (file_named files can.name) can.bytes can.d status text can.there can.accepted
     (subst (λ (request : Result Request WordFault). DueForRequest request files status text) can.asks due))

@@ -101,12 +101,12 @@ due_from_cause words before after files status text told calm caused = by_reques
     by_request (Err fault) c = c.1
     by_request (Ok (Make size show)) c = c.1
     by_request (Ok (Mps name places)) c = over_one (λ rounded. DueForEquations places) name c
-    by_request (Ok (Solve name gap pivots places show method)) c = over_one (DueForSolve places gap pivots (shown_of show) method) name c
-    by_request (Ok (Explain name pivots places method)) c = over_one (λ rounded. DueForExplain places pivots method) name c
+    by_request (Ok (Solve name gap pivots places show method)) c = over_one (DueForSolve places (record { gap = gap; pivots = pivots; show = shown_of show; method = method })) name c
+    by_request (Ok (Explain name pivots places method)) c = over_one (λ rounded. DueForExplain places (record { pivots = pivots; method = method })) name c
     by_request (Ok (Curve name region emission limits gap pivots places method)) c =
-        over_one (λ rounded. DueForCurve places (record { method = method; pivots = pivots; gap = gap }) region emission limits) name c
+        over_one (λ rounded. DueForCurve places (record { method = method; pivots = pivots; gap = gap }) (record { region = region; emission = emission }) limits) name c
     by_request (Ok (Span name region technology year slack gap pivots places method)) c =
-        over_one (λ rounded. DueForSpan places (record { method = method; slack = slack; gap = gap; pivots = pivots }) rounded region technology year) name c
+        over_one (DueForSpan places (record { method = method; slack = slack; gap = gap; pivots = pivots }) (record { region = region; technology = technology; year = year })) name c
     by_request (Ok (Check name plan None gap places)) c =
         let second : List ℕ → List ℕ → Status → List ℕ → Type 0 = λ bytes plan_bytes. DueForText (λ rounded. DueForCheck places plan_bytes None gap) bytes in
         due_of_files (λ contents. DueOver (Ok (Check name plan None gap places)) (held_in contents) status text) 1 (name ∷ plan ∷ []) before after files status text told calm (

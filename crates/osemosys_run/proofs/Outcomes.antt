@@ -13,8 +13,7 @@ use Rattle.named_equations.specs.Existence.{all_variables}
 use Rattle.row_book.specs.declared.fail.BookFail.{BookFail}
 use Rattle.row_book.specs.declared.fail.BookFail.TheVariants as fails
 use Rattle.row_problem.specs.Sizes.{column_count, inequality_count}
-use Rattle.solve_command.specs.declared.solve.Shown.{Shown}
-use Rattle.solve_command.specs.declared.solve.Shown.TheVariants.{Summary}
+use Rattle.solve_command.specs.declared.solve.Wanted.{Wanted}
 use Rattle.io_edges.specs.Count.{Rose}
 use Rattle.command_answers.specs.declared.status.Status.{Status}
 use Rattle.command_answers.specs.declared.status.Status.TheVariants.{Done, Infeasible, Unbounded, Uncertified, Refused, Words, ReadFault, WriteFault, Memory, Rejected}
@@ -36,13 +35,14 @@ use Rattle.proof_files.specs.declared.proof.Proof.{Proof}
 use Rattle.proof_files.specs.declared.proof.Proof.TheVariants as proofs
 use Rattle.check_command.specs.CheckProof.{DueForConditions, DueForProof, DueForProofFile, DueForProofTold, descent_conditions, refutation_conditions}
 use Rattle.command_answers.specs.Lines.{too_long_line}
-use Rattle.curve_command.specs.Curve.{DueForCurve, DueForLimits}
+use Rattle.curve_command.specs.Curve.{DueForCurve, DueForLimits, Names}
 use Rattle.curve_command.specs.CurveTexts.{first_stop, status_for}
 use Rattle.curve_command.specs.Limited.{with_limit}
-use Rattle.curve_command.specs.Trials.{Wanted}
+use Rattle.curve_command.specs.declared.trials.Wanted as curves
 use Rattle.command_answers.specs.Limits.{PassesLimits}
 use Rattle.command_answers.specs.MadeBooks.{HasNoProgram, HasNoRows}
 use Rattle.explain_command.specs.Explain.{DueForExplain}
+use Rattle.explain_command.specs.declared.explain.Wanted as explains
 use Rattle.osemosys_run.specs.Mps.{DueForEquations}
 use Rattle.command_answers.specs.NotAccepted.{DueWhereNotAccepted}
 use Rattle.osemosys_run.specs.Reading.{Sight}
@@ -51,10 +51,10 @@ use Rattle.osemosys_run.specs.Replies.{IsAnswer}
 use Rattle.solve_command.specs.Shown.{shown_of}
 use Rattle.command_words.specs.declared.command.SolveMethod.{SolveMethod}
 use Rattle.command_words.specs.declared.command.SolveMethod.TheVariants.{Exact, Rounded}
-use Rattle.solve_command.specs.Solve.{DueForEnd, DueForMethod, DueForSolve}
-use Rattle.span_command.specs.Span.{DueForSpan}
+use Rattle.solve_command.specs.Solve.{DueBy, DueForEnd, DueForSolve}
 use Rattle.span_command.specs.Span as spans
-use Rattle.solve_command.specs.Summary.{DueForSummary, default_places, default_pivots}
+use Rattle.span_command.specs.declared.wanted.Wanted as wants
+use Rattle.solve_command.specs.Summary.{DueForSummary, default_places, default_wanted}
 use Rattle.command_words.specs.Words.{Request, Check, CheckProof, Curve, Explain, Make, Mps, Solve, Span, asked}
 use Rattle.osemosys_run.proofs.FilesRead.{Reaches-itself, by_files, of_all, rose-since}
 
@@ -115,82 +115,80 @@ proof_file_is : (places : ℕ) (d : Data) (rows : List Row) (bytes : List ℕ) (
 proof_file_is places d rows bytes gap status text (inl refused) = refused_is status (refusals.ProofFile refused.fault) refused.status_is
 proof_file_is places d rows bytes gap status text (inr read) = told_is places d rows gap read.0 status text read.2
 
-end_is : (places : ℕ) (d : Data) (rows : List Row) (gap pivots : ℕ) (show : Shown) (rounded : ℕ) (status : Status) (text : List ℕ)
-    → DueForEnd places d rows gap pivots show rounded status text → IsOwn status
-end_is places d rows gap pivots show rounded status text (inl solved) = is_other status Done (λ h. cc) (λ h. cc) (λ number h. cc) solved.status_is
-end_is places d rows gap pivots show rounded status text (inr (inl infeasible)) = is_other status Infeasible (λ h. cc) (λ h. cc) (λ number h. cc) infeasible.0.status_is
-end_is places d rows gap pivots show rounded status text (inr (inr (inl unbounded))) = is_other status Unbounded (λ h. cc) (λ h. cc) (λ number h. cc) unbounded.0.status_is
-end_is places d rows gap pivots show rounded status text (inr (inr (inr (inl out)))) = is_other status (Uncertified (Stop.Budget pivots)) (λ h. cc) (λ h. cc) (λ number h. cc) out.status_is
-end_is places d rows gap pivots show rounded status text (inr (inr (inr (inr (inl wide))))) = is_other status (Uncertified (Stop.Width wide.place)) (λ h. cc) (λ h. cc) (λ number h. cc) wide.status_is
-end_is places d rows gap pivots show rounded status text (inr (inr (inr (inr (inr (inl wide)))))) = is_other status (Uncertified (Stop.Width wide.place)) (λ h. cc) (λ h. cc) (λ number h. cc) wide.status_is
-end_is places d rows gap pivots show rounded status text (inr (inr (inr (inr (inr (inr second)))))) = is_other status Done (λ h. cc) (λ h. cc) (λ number h. cc) second.status_is
+end_is : (places : ℕ) (d : Data) (rows : List Row) (wanted : Wanted) (rounded : ℕ) (status : Status) (text : List ℕ) → DueForEnd places d rows wanted rounded status text → IsOwn status
+end_is places d rows wanted rounded status text (inl solved) = is_other status Done (λ h. cc) (λ h. cc) (λ number h. cc) solved.status_is
+end_is places d rows wanted rounded status text (inr (inl infeasible)) = is_other status Infeasible (λ h. cc) (λ h. cc) (λ number h. cc) infeasible.0.status_is
+end_is places d rows wanted rounded status text (inr (inr (inl unbounded))) = is_other status Unbounded (λ h. cc) (λ h. cc) (λ number h. cc) unbounded.0.status_is
+end_is places d rows wanted rounded status text (inr (inr (inr (inl out)))) = is_other status (Uncertified (Stop.Budget wanted.pivots)) (λ h. cc) (λ h. cc) (λ number h. cc) out.status_is
+end_is places d rows wanted rounded status text (inr (inr (inr (inr (inl wide))))) = is_other status (Uncertified (Stop.Width wide.place)) (λ h. cc) (λ h. cc) (λ number h. cc) wide.status_is
+end_is places d rows wanted rounded status text (inr (inr (inr (inr (inr (inl wide)))))) = is_other status (Uncertified (Stop.Width wide.place)) (λ h. cc) (λ h. cc) (λ number h. cc) wide.status_is
+end_is places d rows wanted rounded status text (inr (inr (inr (inr (inr (inr second)))))) = is_other status Done (λ h. cc) (λ h. cc) (λ number h. cc) second.status_is
 
-method_is : (places : ℕ) (d : Data) (rows : List Row) (gap pivots : ℕ) (show : Shown) (method : SolveMethod) (rounded : ℕ) (status : Status) (text : List ℕ)
-    → DueForMethod places d rows gap pivots show method rounded status text → IsOwn status
-method_is places d rows gap pivots show Exact rounded status text due = end_is places d rows gap pivots show rounded status text due
-method_is places d rows gap pivots show Rounded rounded status text (inl found) = is_other status Done (λ h. cc) (λ h. cc) (λ number h. cc) found.status_is
-method_is places d rows gap pivots show Rounded rounded status text (inr (inl found)) = is_other status Infeasible (λ h. cc) (λ h. cc) (λ number h. cc) found.0.status_is
-method_is places d rows gap pivots show Rounded rounded status text (inr (inr due)) = end_is places d rows gap pivots show rounded status text due
+method_is : (places : ℕ) (d : Data) (rows : List Row) (wanted : Wanted) (method : SolveMethod) (rounded : ℕ) (status : Status) (text : List ℕ) → DueBy method places d rows wanted rounded status text → IsOwn status
+method_is places d rows wanted Exact rounded status text due = end_is places d rows wanted rounded status text due
+method_is places d rows wanted Rounded rounded status text (inl found) = is_other status Done (λ h. cc) (λ h. cc) (λ number h. cc) found.status_is
+method_is places d rows wanted Rounded rounded status text (inr (inl found)) = is_other status Infeasible (λ h. cc) (λ h. cc) (λ number h. cc) found.0.status_is
+method_is places d rows wanted Rounded rounded status text (inr (inr due)) = end_is places d rows wanted rounded status text due
 
-solve_is : (places gap pivots : ℕ) (show : Shown) (method : SolveMethod) (rounded : ℕ) (d : Data) (status : Status) (text : List ℕ) → DueForSolve places gap pivots show method rounded d status text → IsOwn status
-solve_is places gap pivots show method rounded d status text (inl made) = method_is places d made.rows gap pivots show method rounded status text made.due.1
-solve_is places gap pivots show method rounded d status text (inr none) = no_program_is places d status text none
+solve_is : (places : ℕ) (wanted : Wanted) (rounded : ℕ) (d : Data) (status : Status) (text : List ℕ) → DueForSolve places wanted rounded d status text → IsOwn status
+solve_is places wanted rounded d status text (inl made) = method_is places d made.rows wanted wanted.method rounded status text made.due.1
+solve_is places wanted rounded d status text (inr none) = no_program_is places d status text none
 
-explain_is : (places pivots : ℕ) (method : SolveMethod) (d : Data) (status : Status) (text : List ℕ) → DueForExplain places pivots method d status text → IsOwn status
-explain_is places pivots method d status text (inl made) = elim made.due.1 [
+explain_is : (places : ℕ) (wanted : explains.Wanted) (d : Data) (status : Status) (text : List ℕ) → DueForExplain places wanted d status text → IsOwn status
+explain_is places wanted d status text (inl made) = elim made.due.1 [
   | inl feasible ↦ is_other status Done (λ h. cc) (λ h. cc) (λ number h. cc) feasible.status_is
   | inr ends ↦ elim ends [
     | inl conflict ↦ is_other status Infeasible (λ h. cc) (λ h. cc) (λ number h. cc) conflict.status_is
     | inr stopped ↦ is_other status (Uncertified stopped.stop) (λ h. cc) (λ h. cc) (λ number h. cc) stopped.status_is
   ]
 ]
-explain_is places pivots method d status text (inr none) = no_program_is places d status text none
+explain_is places wanted d status text (inr none) = no_program_is places d status text none
 
 stop_is_own : (first : Option Stop) (status : Status) → status ≡ status_for first → IsOwn status
 stop_is_own None status e = is_other status Done (λ h. cc) (λ h. cc) (λ number h. cc) e
 stop_is_own (Some stop) status e = is_other status (Uncertified stop) (λ h. cc) (λ h. cc) (λ number h. cc) e
 
-limits_are : (places : ℕ) (d : Data) (r e : ℕ) (wanted : Wanted) (limits : List ℤ) (status : Status) (text : List ℕ) → DueForLimits places d r e wanted limits status text → IsOwn status
+limits_are : (places : ℕ) (d : Data) (r e : ℕ) (wanted : curves.Wanted) (limits : List ℤ) (status : Status) (text : List ℕ) → DueForLimits places d r e wanted limits status text → IsOwn status
 limits_are places d r e wanted limits status text (inl curve) = stop_is_own (first_stop 1 curve.all) status curve.status_is
 limits_are places d r e wanted limits status text (inr refusal) = elim refusal.refuses [
   | inl many ↦ refused_is status refusals.TooManyEntries many.status_is
   | inr made ↦ refused_is status (refusals.TooLarge (inequality_count made.rows) (column_count (all_variables (with_limit d r e refusal.limit)))) made.due.status_is
 ]
 
-curve_is : (places : ℕ) (wanted : Wanted) (region emission : List ℕ) (limits : List ℤ) (d : Data) (status : Status) (text : List ℕ) → DueForCurve places wanted region emission limits d status text → IsOwn status
-curve_is places wanted region emission limits d status text (inl none) = refused_is status (refusals.NoSuch REGION) none.status_is
-curve_is places wanted region emission limits d status text (inr (inl alone)) = refused_is status (refusals.NoSuch EMISSION) alone.emission_isnt.status_is
-curve_is places wanted region emission limits d status text (inr (inr members)) = limits_are places d members.r members.e wanted limits status text members.due
+curve_is : (places : ℕ) (wanted : curves.Wanted) (names : Names) (limits : List ℤ) (d : Data) (status : Status) (text : List ℕ) → DueForCurve places wanted names limits d status text → IsOwn status
+curve_is places wanted names limits d status text (inl none) = refused_is status (refusals.NoSuch REGION) none.status_is
+curve_is places wanted names limits d status text (inr (inl alone)) = refused_is status (refusals.NoSuch EMISSION) alone.emission_isnt.status_is
+curve_is places wanted names limits d status text (inr (inr members)) = limits_are places d members.r members.e wanted limits status text members.due
 
-span_end_is : (places : ℕ) (d : Data) (rows : List Row) (var : Var) (slack pivots rounded : ℕ) (status : Status) (text : List ℕ) → spans.DueForEnd places d rows var slack pivots rounded status text → IsOwn status
-span_end_is places d rows var slack pivots rounded status text (inl spanned) = is_other status Done (λ h. cc) (λ h. cc) (λ number h. cc) spanned.status_is
-span_end_is places d rows var slack pivots rounded status text (inr (inl endless)) = is_other status Done (λ h. cc) (λ h. cc) (λ number h. cc) endless.status_is
-span_end_is places d rows var slack pivots rounded status text (inr (inr (inl infeasible))) = is_other status Infeasible (λ h. cc) (λ h. cc) (λ number h. cc) infeasible.status_is
-span_end_is places d rows var slack pivots rounded status text (inr (inr (inr (inl unbounded)))) = is_other status Unbounded (λ h. cc) (λ h. cc) (λ number h. cc) unbounded.status_is
-span_end_is places d rows var slack pivots rounded status text (inr (inr (inr (inr (inl before))))) = is_other status (Uncertified before.stop) (λ h. cc) (λ h. cc) (λ number h. cc) before.status_is
-span_end_is places d rows var slack pivots rounded status text (inr (inr (inr (inr (inr (inl wide)))))) = is_other status (Uncertified (Stop.Width Place.SumGap)) (λ h. cc) (λ h. cc) (λ number h. cc) wide.status_is
-span_end_is places d rows var slack pivots rounded status text (inr (inr (inr (inr (inr (inr after)))))) = is_other status (Uncertified after.stop) (λ h. cc) (λ h. cc) (λ number h. cc) after.status_is
+span_end_is : (places : ℕ) (d : Data) (rows : List Row) (var : Var) (wanted : wants.Wanted) (rounded : ℕ) (status : Status) (text : List ℕ) → spans.DueForEnd places d rows var wanted rounded status text → IsOwn status
+span_end_is places d rows var wanted rounded status text (inl spanned) = is_other status Done (λ h. cc) (λ h. cc) (λ number h. cc) spanned.status_is
+span_end_is places d rows var wanted rounded status text (inr (inl endless)) = is_other status Done (λ h. cc) (λ h. cc) (λ number h. cc) endless.status_is
+span_end_is places d rows var wanted rounded status text (inr (inr (inl infeasible))) = is_other status Infeasible (λ h. cc) (λ h. cc) (λ number h. cc) infeasible.status_is
+span_end_is places d rows var wanted rounded status text (inr (inr (inr (inl unbounded)))) = is_other status Unbounded (λ h. cc) (λ h. cc) (λ number h. cc) unbounded.status_is
+span_end_is places d rows var wanted rounded status text (inr (inr (inr (inr (inl before))))) = is_other status (Uncertified before.stop) (λ h. cc) (λ h. cc) (λ number h. cc) before.status_is
+span_end_is places d rows var wanted rounded status text (inr (inr (inr (inr (inr (inl wide)))))) = is_other status (Uncertified (Stop.Width Place.SumGap)) (λ h. cc) (λ h. cc) (λ number h. cc) wide.status_is
+span_end_is places d rows var wanted rounded status text (inr (inr (inr (inr (inr (inr after)))))) = is_other status (Uncertified after.stop) (λ h. cc) (λ h. cc) (λ number h. cc) after.status_is
 
-span_method_is : (places : ℕ) (d : Data) (rows : List Row) (var : Var) (wanted : spans.Wanted) (method : SolveMethod) (rounded : ℕ) (status : Status) (text : List ℕ) → spans.DueBy method places d rows var wanted rounded status text → IsOwn status
-span_method_is places d rows var wanted Exact rounded status text due = span_end_is places d rows var wanted.slack wanted.pivots rounded status text due
+span_method_is : (places : ℕ) (d : Data) (rows : List Row) (var : Var) (wanted : wants.Wanted) (method : SolveMethod) (rounded : ℕ) (status : Status) (text : List ℕ) → spans.DueBy method places d rows var wanted rounded status text → IsOwn status
+span_method_is places d rows var wanted Exact rounded status text due = span_end_is places d rows var wanted rounded status text due
 span_method_is places d rows var wanted Rounded rounded status text (inl (inl spanned)) = is_other status Done (λ h. cc) (λ h. cc) (λ number h. cc) spanned.status_is
 span_method_is places d rows var wanted Rounded rounded status text (inl (inr infeasible)) = is_other status Infeasible (λ h. cc) (λ h. cc) (λ number h. cc) infeasible.status_is
-span_method_is places d rows var wanted Rounded rounded status text (inr due) = span_end_is places d rows var wanted.slack wanted.pivots rounded status text due
+span_method_is places d rows var wanted Rounded rounded status text (inr due) = span_end_is places d rows var wanted rounded status text due
 
-span_member_is : (places : ℕ) (d : Data) (var : Var) (wanted : spans.Wanted) (rounded : ℕ) (status : Status) (text : List ℕ) → spans.DueForMember places d var wanted rounded status text → IsOwn status
-span_member_is places d var wanted rounded status text (inl made) = span_method_is places d made.rows var wanted wanted.method rounded status text made.due.1
-span_member_is places d var wanted rounded status text (inr none) = no_program_is places d status text none
+span_member_is : (places : ℕ) (wanted : wants.Wanted) (var : Var) (rounded : ℕ) (d : Data) (status : Status) (text : List ℕ) → spans.DueForMember places wanted var rounded d status text → IsOwn status
+span_member_is places wanted var rounded d status text (inl made) = span_method_is places d made.rows var wanted wanted.method rounded status text made.due.1
+span_member_is places wanted var rounded d status text (inr none) = no_program_is places d status text none
 
-span_is : (places : ℕ) (wanted : spans.Wanted) (rounded : ℕ) (region technology year : List ℕ) (d : Data) (status : Status) (text : List ℕ) → spans.DueForSpan places wanted rounded region technology year d status text → IsOwn status
-span_is places wanted rounded region technology year d status text (inl none) = refused_is status (refusals.NoSuch REGION) none.status_is
-span_is places wanted rounded region technology year d status text (inr (inl alone)) = refused_is status (refusals.NoSuch TECHNOLOGY) alone.technology_isnt.status_is
-span_is places wanted rounded region technology year d status text (inr (inr (inl no_year))) = refused_is status (refusals.NoSuch YEAR) no_year.year_isnt.status_is
-span_is places wanted rounded region technology year d status text (inr (inr (inr members))) = span_member_is places d (spans.built members.r members.t members.y) wanted rounded status text members.due
+span_is : (places : ℕ) (wanted : wants.Wanted) (names : spans.Names) (rounded : ℕ) (d : Data) (status : Status) (text : List ℕ) → spans.DueForSpan places wanted names rounded d status text → IsOwn status
+span_is places wanted names rounded d status text (inl none) = refused_is status (refusals.NoSuch REGION) none.status_is
+span_is places wanted names rounded d status text (inr (inl alone)) = refused_is status (refusals.NoSuch TECHNOLOGY) alone.technology_isnt.status_is
+span_is places wanted names rounded d status text (inr (inr (inl no_year))) = refused_is status (refusals.NoSuch YEAR) no_year.year_isnt.status_is
+span_is places wanted names rounded d status text (inr (inr (inr members))) = span_member_is places wanted (spans.built members.r members.t members.y) rounded d status text members.due
 
 summary_is : (places rounded : ℕ) (d : Data) (status : Status) (text : List ℕ) → DueForSummary places rounded d status text → IsOwn status
 summary_is places rounded d status text (inl made) = elim made.due.1 [
   | inl large ↦ too_large_is made.rows (all_variables d) status made.due.0 large
-  | inr due ↦ method_is places d made.rows 0 default_pivots Summary Exact rounded status made.due.0 due.1
+  | inr due ↦ method_is places d made.rows default_wanted Exact rounded status made.due.0 due.1
 ]
 summary_is places rounded d status text (inr none) = no_rows_is places d status text none
 
@@ -251,19 +249,19 @@ due_is_own (Ok (Make size show)) held status text due = make_is size show status
 due_is_own (Ok (Mps name places)) held status text due =
     file_is (DueForText (λ rounded. DueForEquations places)) 1 (held 1 name) status text (λ bytes. text_is (λ rounded. DueForEquations places) (λ rounded. equations_are places) bytes status text) due
 due_is_own (Ok (Solve name gap pivots places show method)) held status text due =
-    file_is (DueForText (DueForSolve places gap pivots (shown_of show) method)) 1 (held 1 name) status text
-    (λ bytes. text_is (DueForSolve places gap pivots (shown_of show) method) (solve_is places gap pivots (shown_of show) method) bytes status text) due
+    file_is (DueForText (DueForSolve places (record { gap = gap; pivots = pivots; show = shown_of show; method = method }))) 1 (held 1 name) status text
+    (λ bytes. text_is (DueForSolve places (record { gap = gap; pivots = pivots; show = shown_of show; method = method })) (solve_is places (record { gap = gap; pivots = pivots; show = shown_of show; method = method })) bytes status text) due
 due_is_own (Ok (Explain name pivots places method)) held status text due =
-    file_is (DueForText (λ rounded. DueForExplain places pivots method)) 1 (held 1 name) status text
-    (λ bytes. text_is (λ rounded. DueForExplain places pivots method) (λ rounded. explain_is places pivots method) bytes status text) due
+    file_is (DueForText (λ rounded. DueForExplain places (record { pivots = pivots; method = method }))) 1 (held 1 name) status text
+    (λ bytes. text_is (λ rounded. DueForExplain places (record { pivots = pivots; method = method })) (λ rounded. explain_is places (record { pivots = pivots; method = method })) bytes status text) due
 due_is_own (Ok (Curve name region emission limits gap pivots places method)) held status text due =
-    let Over : ℕ → Data → Status → List ℕ → Type 0 = λ rounded. DueForCurve places (record { method = method; pivots = pivots; gap = gap }) region emission limits in
+    let Over : ℕ → Data → Status → List ℕ → Type 0 = λ rounded. DueForCurve places (record { method = method; pivots = pivots; gap = gap }) (record { region = region; emission = emission }) limits in
     file_is (DueForText Over) 1 (held 1 name) status text
-    (λ bytes. text_is Over (λ rounded. curve_is places (record { method = method; pivots = pivots; gap = gap }) region emission limits) bytes status text) due
+    (λ bytes. text_is Over (λ rounded. curve_is places (record { method = method; pivots = pivots; gap = gap }) (record { region = region; emission = emission }) limits) bytes status text) due
 due_is_own (Ok (Span name region technology year slack gap pivots places method)) held status text due =
-    let Over : ℕ → Data → Status → List ℕ → Type 0 = λ rounded. DueForSpan places (record { method = method; slack = slack; gap = gap; pivots = pivots }) rounded region technology year in
+    let Over : ℕ → Data → Status → List ℕ → Type 0 = spans.DueForSpan places (record { method = method; slack = slack; gap = gap; pivots = pivots }) (record { region = region; technology = technology; year = year }) in
     file_is (DueForText Over) 1 (held 1 name) status text
-    (λ bytes. text_is Over (λ rounded. span_is places (record { method = method; slack = slack; gap = gap; pivots = pivots }) rounded region technology year) bytes status text) due
+    (λ bytes. text_is Over (span_is places (record { method = method; slack = slack; gap = gap; pivots = pivots }) (record { region = region; technology = technology; year = year })) bytes status text) due
 due_is_own (Ok (Check name plan multipliers gap places)) held status text due =
     let third : List ℕ → List ℕ → Option (List ℕ) → Status → List ℕ → Type 0 = λ bytes plan_bytes multiplier_bytes. DueForText (λ rounded. DueForCheck places plan_bytes multiplier_bytes gap) bytes in
     let second : List ℕ → List ℕ → Status → List ℕ → Type 0 = λ bytes plan_bytes. DueForOptionalFile (third bytes plan_bytes) 3 (held 3) multipliers in

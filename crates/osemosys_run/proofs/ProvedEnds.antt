@@ -21,7 +21,8 @@ use Rattle.command_words.specs.declared.command.SolveMethod.TheVariants.{Exact, 
 use Rattle.check_command.specs.CheckProof.{DueForProof, DueForProofFile}
 use Rattle.check_command.proofs.AcceptedProofs.{ProofLaws, descent-accepted, optimum-accepted, refutation-accepted}
 use Rattle.solve_command.specs.declared.solve.Shown.TheVariants.{Proof}
-use Rattle.solve_command.specs.Solve.{DueForEnd, DueForMethod, DueForSolve}
+use Rattle.solve_command.specs.declared.solve.Wanted.{Wanted}
+use Rattle.solve_command.specs.Solve.{DueBy, DueForEnd, DueForSolve}
 use Rattle.osemosys_run.specs.Accepting.{AcceptsEnd}
 
 -- which status an end has
@@ -69,36 +70,40 @@ many_or_memory e = cc e
 
 module _ (laws : ProofLaws) (made_law : (places : ℕ) (d : Data) (before : ℕ) (names : List RowName) (fail : BookFail) → CanBeMade places d before names → HasStopped places d before names fail → fail ≡ book.Memory)
     (places gap pivots : ℕ) (d : Data) (some : all_variables d ≡ [] → ⊥) (rounded : ℕ) (end : Status) (file : List ℕ) (status : Status) (text : List ℕ) where
+  -- a proof is wanted
+  abbrev to_prove : SolveMethod → Wanted
+  to_prove method = record { gap = gap; pivots = pivots; show = Proof; method = method }
+
   module _ (rows others : List Row) (are : AreRowsOf places d (instances d) rows) (so : AreRowsOf places d (instances d) others) (due : DueForProofFile places d others file gap status text) where
-    of_end : DueForEnd places d rows gap pivots Proof rounded end file → AcceptsEnd end status text
-    of_end (inl solved) =
+    of_end : (method : SolveMethod) → DueForEnd places d rows (to_prove method) rounded end file → AcceptsEnd end status text
+    of_end method (inl solved) =
         ends-solved end status text solved.status_is
         (optimum-accepted laws places d file gap status text rows others are so solved.multipliers solved.told.kept solved.told.same solved.plan solved.cost solved.bound solved.optimum.near.checked
         solved.optimum.near.proved solved.optimum.near.gap_kept (solved.told.read some) due)
-    of_end (inr (inl (infeasible, told))) =
+    of_end method (inr (inl (infeasible, told))) =
         ends-infeasible end status text infeasible.status_is
         (refutation-accepted laws places d file gap status text rows others are so infeasible.multipliers told.kept told.same infeasible.refuted.proved (told.read some) due)
-    of_end (inr (inr (inl (unbounded, told)))) =
+    of_end method (inr (inr (inl (unbounded, told)))) =
         ends-unbounded end status text unbounded.status_is
         (descent-accepted laws places d file gap status text rows others are so unbounded.plan unbounded.direction unbounded.unbounded.cost unbounded.unbounded.checked unbounded.unbounded.descends (told some) due)
-    of_end (inr (inr (inr (inl out)))) = stopped-so end status text _ out.status_is
-    of_end (inr (inr (inr (inr (inl wide))))) = stopped-so end status text _ wide.status_is
-    of_end (inr (inr (inr (inr (inr (inl wide)))))) = stopped-so end status text _ wide.status_is
-    of_end (inr (inr (inr (inr (inr (inr second)))))) =
+    of_end method (inr (inr (inr (inl out)))) = stopped-so end status text _ out.status_is
+    of_end method (inr (inr (inr (inr (inl wide))))) = stopped-so end status text _ wide.status_is
+    of_end method (inr (inr (inr (inr (inr (inl wide)))))) = stopped-so end status text _ wide.status_is
+    of_end method (inr (inr (inr (inr (inr (inr second)))))) =
         ends-solved end status text second.status_is
         (optimum-accepted laws places d file gap status text rows others are so second.found.multipliers second.told.kept second.told.same second.found.plan second.found.cost second.found.bound second.optimum.checked
         second.optimum.proved second.optimum.gap_kept (second.told.read some) due)
 
-    of_method : (method : SolveMethod) → DueForMethod places d rows gap pivots Proof method rounded end file → AcceptsEnd end status text
-    of_method Exact of = of_end of
-    of_method Rounded (inl found) =
+    of_method : (asked method : SolveMethod) → DueBy method places d rows (to_prove asked) rounded end file → AcceptsEnd end status text
+    of_method asked Exact of = of_end asked of
+    of_method asked Rounded (inl found) =
         ends-solved end status text found.status_is
         (optimum-accepted laws places d file gap status text rows others are so found.multipliers found.told.kept found.told.same found.plan found.cost found.bound found.optimum.checked found.optimum.proved
         found.optimum.gap_kept (found.told.read some) due)
-    of_method Rounded (inr (inl (infeasible, told))) =
+    of_method asked Rounded (inr (inl (infeasible, told))) =
         ends-infeasible end status text infeasible.status_is
         (refutation-accepted laws places d file gap status text rows others are so infeasible.multipliers told.kept told.same infeasible.refuted.proved (told.read some) due)
-    of_method Rounded (inr (inr of)) = of_end of
+    of_method asked Rounded (inr (inr of)) = of_end asked of
 
   no-program : HasNoProgram places d end file → AcceptsEnd end status text
   no-program (inl large) = refused-so end status text _ large.due.status_is
@@ -110,7 +115,7 @@ module _ (laws : ProofLaws) (made_law : (places : ℕ) (d : Data) (before : ℕ)
   made-again can (inl wide) = width_or_memory (Place.Row wide.name) (made_law places d 0 (instances d) (book.Width (Place.Row wide.name)) can (wide.name, refl, wide.wide))
   made-again can (inr many) = many_or_memory (made_law places d 0 (instances d) book.TooManyEntries can (many.name, many.many))
 
-  pub accepts-end : (method : SolveMethod) → DueForSolve places gap pivots Proof method rounded d end file → DueForProof places file gap d status text → AcceptsEnd end status text
-  accepts-end method (inl made) (inl again) = of_method made.rows again.rows made.are_rows again.are_rows again.due method made.due.1
+  pub accepts-end : (method : SolveMethod) → DueForSolve places (to_prove method) rounded d end file → DueForProof places file gap d status text → AcceptsEnd end status text
+  accepts-end method (inl made) (inl again) = of_method made.rows again.rows made.are_rows again.are_rows again.due method method made.due.1
   accepts-end method (inl made) (inr none) = absurd (made-again made.made none)
   accepts-end method (inr none) due = no-program none

@@ -7,8 +7,7 @@ use Rattle.named_equations.specs.Instances.{instances}
 use Rattle.row_book.specs.Books.{AreRowsOf, CanBeMade}
 use Rattle.exact_solver.specs.MethodEnds.{HasOptimum, IsPivotDue, IsWide, MethodEnd}
 use Rattle.command_answers.specs.BookMethods.{method_end}
-use Rattle.solve_command.specs.declared.solve.Shown.{Shown}
-use Rattle.solve_command.specs.declared.solve.Shown.TheVariants.{Summary}
+use Rattle.solve_command.specs.declared.solve.Wanted.{Wanted}
 use Rattle.command_words.specs.declared.fault.WordFault.{WordFault}
 use Rattle.command_words.specs.Words.{Request}
 use Rattle.io_edges.specs.Count.{Rose}
@@ -21,10 +20,10 @@ use Rattle.osemosys_run.specs.Due.{Due, DueForRequest}
 use Rattle.osemosys_run.specs.Sending.{Delivers}
 use Rattle.model_maker.specs.MadeText.{made_text}
 use Rattle.solve_command.specs.Shown.{shown_of}
-use Rattle.solve_command.specs.Summary.{DueForSummary, default_pivots, default_places}
+use Rattle.solve_command.specs.Summary.{DueForSummary, default_places, default_wanted}
 use Rattle.command_words.specs.declared.command.SolveMethod.{SolveMethod}
 use Rattle.command_words.specs.declared.command.SolveMethod.TheVariants.{Exact, Rounded}
-use Rattle.solve_command.specs.Solve.{ComesToEnd, DueForEnd, DueForMethod, DueForSolve}
+use Rattle.solve_command.specs.Solve.{ComesToEnd, DueBy, DueForEnd, DueForSolve}
 use Rattle.command_answers.specs.Limits.{IsWithinLimits}
 use Rattle.solve_command.proofs.SolvedEnds.{prices_come}
 use Rattle.osemosys_run.proofs.CurveCompleteness.{drawn_from_due}
@@ -36,47 +35,47 @@ use Rattle.osemosys_run.proofs.Completeness.{Laws, done_from_due, no_program, no
 -- ---- solving
 
 -- data whose rows can be made, whose linear program is within the limits, and at which the method comes to an end
-module _ (laws : Laws) (places gap pivots : ℕ) (show : Shown) (d : Data) (can_make : CanBeMade places d 0 (instances d))
+module _ (laws : Laws) (places : ℕ) (wanted : Wanted) (d : Data) (can_make : CanBeMade places d 0 (instances d))
     (within : (rows : List Row) → AreRowsOf places d (instances d) rows → IsWithinLimits rows (all_variables d))
-    (comes : (rows : List Row) → AreRowsOf places d (instances d) rows → ComesToEnd show rows (method_end rows (all_variables d) pivots)) where
+    (comes : (rows : List Row) → AreRowsOf places d (instances d) rows → ComesToEnd wanted.show rows (method_end rows (all_variables d) wanted.pivots)) where
   -- the end that the method comes to is none of those that stop it
-  end_comes : (rows : List Row) (end : MethodEnd) → AreRowsOf places d (instances d) rows → method_end rows (all_variables d) pivots ≡ end → ComesToEnd show rows end
-  end_comes rows end are is = subst (ComesToEnd show rows) is (comes rows are)
+  end_comes : (rows : List Row) (end : MethodEnd) → AreRowsOf places d (instances d) rows → method_end rows (all_variables d) wanted.pivots ≡ end → ComesToEnd wanted.show rows end
+  end_comes rows end are is = subst (ComesToEnd wanted.show rows) is (comes rows are)
 
-  end_ended : (rows : List Row) → AreRowsOf places d (instances d) rows → (rounded : ℕ) (status : Status) (text : List ℕ) → DueForEnd places d rows gap pivots show rounded status text → IsEnded status
+  end_ended : (rows : List Row) → AreRowsOf places d (instances d) rows → (rounded : ℕ) (status : Status) (text : List ℕ) → DueForEnd places d rows wanted rounded status text → IsEnded status
   end_ended rows are rounded status text (inl solved) = inl solved.status_is
   end_ended rows are rounded status text (inr (inl infeasible)) = inr (inl infeasible.0.status_is)
   end_ended rows are rounded status text (inr (inr (inl unbounded))) = inr (inr unbounded.0.status_is)
   end_ended rows are rounded status text (inr (inr (inr (inl out)))) = absurd (end_comes rows IsPivotDue are out.end)
   end_ended rows are rounded status text (inr (inr (inr (inr (inl wide))))) = absurd (end_comes rows (IsWide wide.place) are wide.end)
   end_ended rows are rounded status text (inr (inr (inr (inr (inr (inl wide)))))) =
-      absurd (prices_come show rows wide.multipliers wide.place wide.reported wide.wide (end_comes rows (HasOptimum wide.plan wide.multipliers wide.made) are wide.end))
+      absurd (prices_come wanted.show rows wide.multipliers wide.place wide.reported wide.wide (end_comes rows (HasOptimum wide.plan wide.multipliers wide.made) are wide.end))
   end_ended rows are rounded status text (inr (inr (inr (inr (inr (inr second)))))) = inl second.status_is
 
-  method_ended : (rows : List Row) → AreRowsOf places d (instances d) rows → (method : SolveMethod) (rounded : ℕ) (status : Status) (text : List ℕ) → DueForMethod places d rows gap pivots show method rounded status text
+  method_ended : (rows : List Row) → AreRowsOf places d (instances d) rows → (method : SolveMethod) (rounded : ℕ) (status : Status) (text : List ℕ) → DueBy method places d rows wanted rounded status text
       → IsEnded status
   method_ended rows are Exact rounded status text due = end_ended rows are rounded status text due
   method_ended rows are Rounded rounded status text (inl found) = inl found.status_is
   method_ended rows are Rounded rounded status text (inr (inl found)) = inr (inl found.0.status_is)
   method_ended rows are Rounded rounded status text (inr (inr due)) = end_ended rows are rounded status text due
 
-  data_ended : (method : SolveMethod) (rounded : ℕ) (status : Status) (text : List ℕ) → DueForSolve places gap pivots show method rounded d status text → IsEnded status
-  data_ended method rounded status text (inl made) = method_ended made.rows made.are_rows method rounded status text made.due.1
-  data_ended method rounded status text (inr none) = inl (no_program laws places d can_make within status text none)
+  data_ended : (rounded : ℕ) (status : Status) (text : List ℕ) → DueForSolve places wanted rounded d status text → IsEnded status
+  data_ended rounded status text (inl made) = method_ended made.rows made.are_rows wanted.method rounded status text made.due.1
+  data_ended rounded status text (inr none) = inl (no_program laws places d can_make within status text none)
 
 -- the same of the summary of a made file
 summary_ended : Laws → (words : List (List ℕ)) (can : CanBeSummarized words) (rounded : ℕ) (status : Status) (text : List ℕ) → DueForSummary default_places rounded can.d status text → IsEnded status
 summary_ended laws words can rounded status text (inl made) = elim made.due.1 [
   | inl large ↦ absurd (not_too_large laws default_places can.d can.made can.within made.rows made.are_rows status made.due.0 large)
-  | inr due ↦ method_ended laws default_places 0 default_pivots Summary can.d can.made can.within can.ends made.rows made.are_rows Exact rounded status made.due.0 due.1
+  | inr due ↦ method_ended laws default_places default_wanted can.d can.made can.within can.ends made.rows made.are_rows Exact rounded status made.due.0 due.1
 ]
 summary_ended laws words can rounded status text (inr none) = inl (no_rows laws default_places can.d can.made status text none)
 
 ended_from_due : Laws → (words : List (List ℕ)) (files : List (List ℕ × List ℕ)) (status : Status) (text : List ℕ) → Due words files status text → CanBeSolved words files → IsEnded status
 ended_from_due laws words files status text due can =
-    let Over : ℕ → Data → Status → List ℕ → Type 0 = DueForSolve can.places can.gap can.pivots (shown_of can.show) can.method in
-    data_ended laws can.places can.gap can.pivots (shown_of can.show) can.d can.made can.within can.ends can.method can.accepted.blocks.rounded status text
-    (over_file laws Over (file_named files can.name) can.bytes can.d status text can.there can.accepted
+    let wanted : Wanted = record { gap = can.gap; pivots = can.pivots; show = shown_of can.show; method = can.method } in
+    data_ended laws can.places wanted can.d can.made can.within can.ends can.accepted.blocks.rounded status text
+    (over_file laws (DueForSolve can.places wanted) (file_named files can.name) can.bytes can.d status text can.there can.accepted
     (subst (λ (request : Result Request WordFault). DueForRequest request files status text) can.asks due))
 
 made_from_due : (words : List (List ℕ)) (files : List (List ℕ × List ℕ)) (status : Status) (text : List ℕ) → Due words files status text → AskForMade words → status ≡ Done

@@ -22,7 +22,8 @@ use Rattle.command_answers.specs.Limits.{IsWithinLimits}
 use Rattle.span_finder.specs.Slacks.{slack_formed, slack_limit}
 use Rattle.span_finder.specs.SpanEnds.{Stops}
 use Rattle.span_finder.specs.declared.found.SpanFail.TheVariants.{Stopped}
-use Rattle.span_command.specs.Span.{DueBy, DueForEnd, DueForMember, DueForSpan, HasLeastCost, Wanted, built}
+use Rattle.span_command.specs.Span.{DueBy, DueForEnd, DueForMember, DueForSpan, HasLeastCost, built}
+use Rattle.span_command.specs.declared.wanted.Wanted.{Wanted}
 use Rattle.osemosys_run.specs.Complete.{CanBeSpanned, IsEnded, NothingStopsSpan}
 use Rattle.osemosys_run.specs.Due.{Due, DueForRequest}
 use Rattle.osemosys_run.proofs.Completeness.{Laws, no_program, over_file}
@@ -44,7 +45,7 @@ module _ (laws : Laws) (places : ℕ) (d : Data) (var : Var) (wanted : Wanted) (
   limit-fits rows never cost least = subst (λ (c : Rational). all_fit (slack_formed c wanted.slack) ≡ true) (cost-bound rows cost least) (never.limit_fits least.plan least.multipliers least.made least.end)
 
   end_comes : (rows : List Row) (rounded : ℕ) (status : Status) (text : List ℕ) → NothingStopsSpan rows (all_variables d) var wanted.slack wanted.pivots
-      → DueForEnd places d rows var wanted.slack wanted.pivots rounded status text → IsEnded status
+      → DueForEnd places d rows var wanted rounded status text → IsEnded status
   end_comes rows rounded status text never (inl spanned) = inl spanned.status_is
   end_comes rows rounded status text never (inr (inl endless)) = inl endless.status_is
   end_comes rows rounded status text never (inr (inr (inl infeasible))) = inr (inl infeasible.status_is)
@@ -68,7 +69,7 @@ module _ (laws : Laws) (places : ℕ) (d : Data) (var : Var) (wanted : Wanted) (
   method_comes Rounded rows rounded status text never (inl (inr infeasible)) = inr (inl infeasible.status_is)
   method_comes Rounded rows rounded status text never (inr due) = end_comes rows rounded status text never due
 
-  pub member_ends : (rounded : ℕ) (status : Status) (text : List ℕ) → DueForMember places d var wanted rounded status text → IsEnded status
+  pub member_ends : (rounded : ℕ) (status : Status) (text : List ℕ) → DueForMember places wanted var rounded d status text → IsEnded status
   member_ends rounded status text (inl made) = method_comes wanted.method made.rows rounded status text (nothing made.rows made.are_rows) made.due.1
   member_ends rounded status text (inr none) = inl (no_program laws places d can_make within status text none)
 
@@ -80,20 +81,20 @@ module _ (laws : Laws) (words : List (List ℕ)) (files : List (List ℕ × List
   abbrev wanted : Wanted
   wanted = wanted_for can.method can.slack can.gap can.pivots
 
-  members_end : DueForSpan can.places wanted rounded can.region can.technology can.year can.d status text → IsEnded status
+  members_end : DueForSpan can.places wanted (record { region = can.region; technology = can.technology; year = can.year }) rounded can.d status text → IsEnded status
   members_end (inl none) = absurd (no_member (index_of (members can.d.sets REGION) can.region) can.r none.missing can.region_is)
   members_end (inr (inl alone)) = absurd (no_member (index_of (members can.d.sets TECHNOLOGY) can.technology) can.t alone.technology_isnt.missing can.technology_is)
   members_end (inr (inr (inl no_year))) = absurd (no_member (index_of (members can.d.sets YEAR) can.year) can.y no_year.year_isnt.missing can.year_is)
   members_end (inr (inr (inr all))) =
       member_ends laws can.places can.d (built can.r can.t can.y) wanted can.made can.within can.ends rounded status text
-      (subst (λ r. DueForMember can.places can.d (built r can.t can.y) wanted rounded status text) (same_member (index_of (members can.d.sets REGION) can.region) all.r can.r all.region_is.found can.region_is)
-      (subst (λ t. DueForMember can.places can.d (built all.r t can.y) wanted rounded status text) (same_member (index_of (members can.d.sets TECHNOLOGY) can.technology) all.t can.t all.technology_is.found can.technology_is)
-      (subst (λ y. DueForMember can.places can.d (built all.r all.t y) wanted rounded status text) (same_member (index_of (members can.d.sets YEAR) can.year) all.y can.y all.year_is.found can.year_is)
+      (subst (λ r. DueForMember can.places wanted (built r can.t can.y) rounded can.d status text) (same_member (index_of (members can.d.sets REGION) can.region) all.r can.r all.region_is.found can.region_is)
+      (subst (λ t. DueForMember can.places wanted (built all.r t can.y) rounded can.d status text) (same_member (index_of (members can.d.sets TECHNOLOGY) can.technology) all.t can.t all.technology_is.found can.technology_is)
+      (subst (λ y. DueForMember can.places wanted (built all.r all.t y) rounded can.d status text) (same_member (index_of (members can.d.sets YEAR) can.year) all.y can.y all.year_is.found can.year_is)
       all.due)))
 
 pub spanned_from_due : Laws → (words : List (List ℕ)) (files : List (List ℕ × List ℕ)) (status : Status) (text : List ℕ) → Due words files status text → CanBeSpanned words files → IsEnded status
 spanned_from_due laws words files status text due can =
-    let Over : ℕ → Data → Status → List ℕ → Type 0 = λ rounded. DueForSpan can.places (wanted_for can.method can.slack can.gap can.pivots) rounded can.region can.technology can.year in
+    let Over : ℕ → Data → Status → List ℕ → Type 0 = DueForSpan can.places (wanted_for can.method can.slack can.gap can.pivots) (record { region = can.region; technology = can.technology; year = can.year }) in
     members_end laws words files can.accepted.blocks.rounded status text can
     (over_file laws Over (file_named files can.name) can.bytes can.d status text can.there can.accepted
     (subst (λ (request : Result Request WordFault). DueForRequest request files status text) can.asks due))

@@ -47,12 +47,12 @@ DueForMake size Summary status text = (rest : List ℕ) × DueForText (DueForSum
 abbrev pub DueOver : Result Request WordFault → (ℕ → List ℕ → Option (List ℕ)) → Status → List ℕ → Type 0
 DueOver (Err fault) held status text = (status ≡ Words fault) × (text ≡ words_line fault)
 DueOver (Ok (Mps name places)) held status text = DueForFile (DueForText (λ rounded. DueForEquations places)) 1 (held 1 name) status text
-DueOver (Ok (Solve name gap pivots places show method)) held status text = DueForFile (DueForText (DueForSolve places gap pivots (shown_of show) method)) 1 (held 1 name) status text
-DueOver (Ok (Explain name pivots places method)) held status text = DueForFile (DueForText (λ rounded. DueForExplain places pivots method)) 1 (held 1 name) status text
+DueOver (Ok (Solve name gap pivots places show method)) held status text = DueForFile (DueForText (DueForSolve places (record { gap = gap; pivots = pivots; show = shown_of show; method = method }))) 1 (held 1 name) status text
+DueOver (Ok (Explain name pivots places method)) held status text = DueForFile (DueForText (λ rounded. DueForExplain places (record { pivots = pivots; method = method }))) 1 (held 1 name) status text
 DueOver (Ok (Curve name region emission limits gap pivots places method)) held status text =
-    DueForFile (DueForText (λ rounded. DueForCurve places (record { method = method; pivots = pivots; gap = gap }) region emission limits)) 1 (held 1 name) status text
+    DueForFile (DueForText (λ rounded. DueForCurve places (record { method = method; pivots = pivots; gap = gap }) (record { region = region; emission = emission }) limits)) 1 (held 1 name) status text
 DueOver (Ok (Span name region technology year slack gap pivots places method)) held status text =
-    DueForFile (DueForText (λ rounded. DueForSpan places (record { method = method; slack = slack; gap = gap; pivots = pivots }) rounded region technology year)) 1 (held 1 name) status text
+    DueForFile (DueForText (DueForSpan places (record { method = method; slack = slack; gap = gap; pivots = pivots }) (record { region = region; technology = technology; year = year }))) 1 (held 1 name) status text
 DueOver (Ok (Make size show)) held status text = DueForMake size show status text
 DueOver (Ok (Check name plan multipliers gap places)) held status text =
     DueForFile (λ bytes. DueForFile (λ plan_bytes. DueForOptionalFile (λ multiplier_bytes.

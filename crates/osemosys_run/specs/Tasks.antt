@@ -19,12 +19,11 @@ use Rattle.span_command.specs.Span.{DueForSpan}
 
 -- of `curve`, for a region and an emission by their names and for limits in billionths
 abbrev pub DueForAsked : CurveAsked → ℕ → Data → Status → List ℕ → Type 0
-DueForAsked asked places = DueForCurve places (record { method = asked.method; pivots = asked.pivots; gap = asked.gap }) asked.region.now asked.emission.now asked.limits.now
+DueForAsked asked places = DueForCurve places asked.wanted (record { region = asked.region.now; emission = asked.emission.now }) asked.limits.now
 
 -- of `span`, for a region, a technology and a year by their names, over data of which so many numbers are rounded
 abbrev pub DueForSpanAsked : SpanAsked → ℕ → ℕ → Data → Status → List ℕ → Type 0
-DueForSpanAsked asked places rounded =
-    DueForSpan places (record { method = asked.method; slack = asked.slack; gap = asked.gap; pivots = asked.pivots }) rounded asked.region.now asked.technology.now asked.year.now
+DueForSpanAsked asked places = DueForSpan places asked.wanted (record { region = asked.region.now; technology = asked.technology.now; year = asked.year.now })
 
 -- each limit of the task is one that words can ask for
 abbrev pub HasLimits : Task → Type 0
@@ -32,8 +31,8 @@ HasLimits (Curve asked) = AllByRecursion IsLimit asked.limits.now
 HasLimits task = ⊤
 
 abbrev pub DueForTask : Task → ℕ → ℕ → Data → Status → List ℕ → Type 0
-DueForTask (Solve wanted) places rounded = DueForSolve places wanted.gap wanted.pivots wanted.show wanted.method rounded
-DueForTask (Explain pivots method) places rounded = DueForExplain places pivots method
+DueForTask (Solve wanted) places rounded = DueForSolve places wanted rounded
+DueForTask (Explain wanted) places rounded = DueForExplain places wanted
 DueForTask (Curve asked) places rounded = DueForAsked asked places
 DueForTask (Span asked) places rounded = DueForSpanAsked asked places rounded
 

@@ -15,7 +15,7 @@ use row_book::stop_laws;
 /// What `solve` writes to prove its end is accepted by `check`, over the same data file and with the same gap and decimal places.
 pub fn accepting_laws()
     ensures proofs { (places gap pivots : ℕ) (method : SolveMethod) (rounded : ℕ) (bytes : List ℕ) (d : Data) (end status : Status) (proof text : List ℕ)
-        → Accepted bytes d → DueForSolve places gap pivots Proof method rounded d end proof → DueForProof places proof gap d status text → AcceptsEnd end status text }
+        → Accepted bytes d → DueForSolve places (record { gap = gap; pivots = pivots; show = Proof; method = method }) rounded d end proof → DueForProof places proof gap d status text → AcceptsEnd end status text }
 {
     proof_telling_laws();
     stop_laws();

@@ -21,7 +21,7 @@ use command_answers::{Status, refuse_book};
 use io_edges::Sink;
 use mps_writer::{MpsFail, mps_to};
 use param_tables::ModelData;
-use row_book::{BookFail, RowFeed, same_data_laws};
+use row_book::{BookFail, RowFeed};
 use row_core::Var;
 use std::alloc::Global;
 
@@ -37,7 +37,6 @@ pub fn write_equations<K: Sink>(alloc: Global, model: &ModelData, places: u8, ou
         (K.faults out.old) (K.faults out.new) }
     ensures faults { K.faults out.old ≤ K.faults out.new }
 {
-    same_data_laws();
     write_model(alloc, model, places, out)
 }
 

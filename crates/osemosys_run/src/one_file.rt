@@ -14,7 +14,6 @@ ghost use Rattle.osemosys_run.specs.Tasks.{CausedByOneFile, DueForAsked, DueForS
 use crate::file_ends::refuse_file;
 use crate::reading::feed_file;
 use command_answers::{Answer, accept_read};
-use command_words::SolveMethod;
 use curve_command::answer_curve;
 use explain_command::answer_explain;
 use io_edges::Shelf;
@@ -27,30 +26,23 @@ use std::alloc::{AllocError, Global};
 /// The number of the data file among those that the words name.
 const DATA_FILE: u8 = 1;
 
-/// What the words after `curve` say besides the file: a region and an emission by their names, limits in billionths, how many millionths
-/// of a bound the rounded method may leave a cost above it, the most pivots of a trial, and the method.
+/// What the words after `curve` say besides the file: a region and an emission by their names, limits in billionths, and what is wanted of
+/// each.
 #[derive(Clone, Copy, Debug, PartialEq, Eq)]
 pub struct CurveAsked<'a> {
     pub region: &'a str,
     pub emission: &'a str,
     pub limits: &'a [i128],
-    pub gap: u32,
-    pub pivots: u32,
-    pub method: SolveMethod,
+    pub wanted: curve_command::Wanted,
 }
 
-/// What the words after `span` say besides the file: a region, a technology and a year by their names, how many millionths of its
-/// absolute value above the least cost, or above the bound of the rounded method, a plan may cost, how many millionths the rounded method may stay from what it proves, the most
-/// pivots, and the method.
+/// What the words after `span` say besides the file: a region, a technology and a year by their names, and what is wanted of the capacity.
 #[derive(Clone, Copy, Debug, PartialEq, Eq)]
 pub struct SpanAsked<'a> {
     pub region: &'a str,
     pub technology: &'a str,
     pub year: &'a str,
-    pub slack: u32,
-    pub gap: u32,
-    pub pivots: u32,
-    pub method: SolveMethod,
+    pub wanted: span_command::Wanted,
 }
 
 /// What a command of one file does with its data.
@@ -58,8 +50,8 @@ pub struct SpanAsked<'a> {
 pub enum Task<'a> {
     /// To solve the model.
     Solve(Wanted),
-    /// To say why no plan exists, with so many pivots at most in each trial.
-    Explain { pivots: u32, method: SolveMethod },
+    /// To say why no plan exists.
+    Explain(explain_command::Wanted),
     /// To say what each of these limits on an emission costs.
     Curve(CurveAsked<'a>),
     /// To say how little and how much of a technology may be built near the least cost.
@@ -107,9 +99,7 @@ fn answer_read(
     match accept_read(alloc, reader)? {
         Ok(model) => match task {
             Task::Solve(wanted) => answer_solve(alloc, &model, places, wanted),
-            Task::Explain { pivots, method } => {
-                answer_explain(alloc, &model, places, pivots, method)
-            }
+            Task::Explain(wanted) => answer_explain(alloc, &model, places, wanted),
             Task::Curve(asked) => answer_asked(alloc, &model, asked, places),
             Task::Span(asked) => answer_span_asked(alloc, &model, asked, places),
         },
@@ -132,12 +122,10 @@ fn answer_asked(
         alloc,
         model,
         places,
+        asked.wanted,
         asked.region,
         asked.emission,
         asked.limits,
-        asked.pivots,
-        asked.method,
-        asked.gap,
     )
 }
 
@@ -155,12 +143,9 @@ fn answer_span_asked(
         alloc,
         model,
         places,
+        asked.wanted,
         asked.region,
         asked.technology,
         asked.year,
-        asked.slack,
-        asked.pivots,
-        asked.method,
-        asked.gap,
     )
 }

@@ -180,7 +180,7 @@ pub fn osemosys<S: Shelf, K: Sink>(
 
     // What `solve` writes to prove its end is accepted by `check`, over the same data file and with the same gap and decimal places.
     ensures proofs { (places gap pivots : ℕ) (method : SolveMethod) (rounded : ℕ) (bytes : List ℕ) (d : Data) (end status : Status) (proof text : List ℕ)
-        → Accepted bytes d → DueForSolve places gap pivots Proof method rounded d end proof → DueForProof places proof gap d status text → AcceptsEnd end status text }
+        → Accepted bytes d → DueForSolve places (record { gap = gap; pivots = pivots; show = Proof; method = method }) rounded d end proof → DueForProof places proof gap d status text → AcceptsEnd end status text }
 
     // A failed read is answered only where the shelf counted a fault, and a failed write only where the sink did.
     ensures failed_read { (file : ℕ) → result ≡ Status.ReadFault (ReadStop.Failed file) → Rose (S.faults shelf.old) (S.faults shelf.new) }
@@ -249,7 +249,7 @@ fn perform<S: Shelf>(alloc: Global, words: &[String], shelf: &mut S) -> Result<R
                 method,
             },
         ) => {
-            let task = Task::Explain { pivots, method };
+            let task = Task::Explain(explain_command::Wanted { pivots, method });
             let answer = perform_task(alloc, file, task, places, shelf)?;
             Ok(Reply::Told(answer))
         }
@@ -265,13 +265,16 @@ fn perform<S: Shelf>(alloc: Global, words: &[String], shelf: &mut S) -> Result<R
                 method,
             },
         ) => {
+            let wanted = curve_command::Wanted {
+                method,
+                pivots,
+                gap,
+            };
             let task = Task::Curve(CurveAsked {
                 region,
                 emission,
                 limits: &limits,
-                gap,
-                pivots,
-                method,
+                wanted,
             });
             let answer = perform_task(alloc, file, task, places, shelf)?;
             Ok(Reply::Told(answer))
@@ -289,14 +292,17 @@ fn perform<S: Shelf>(alloc: Global, words: &[String], shelf: &mut S) -> Result<R
                 method,
             },
         ) => {
+            let wanted = span_command::Wanted {
+                method,
+                slack,
+                gap,
+                pivots: u64::from(pivots),
+            };
             let task = Task::Span(SpanAsked {
                 region,
                 technology,
                 year,
-                slack,
-                gap,
-                pivots,
-                method,
+                wanted,
             });
             let answer = perform_task(alloc, file, task, places, shelf)?;
             Ok(Reply::Told(answer))

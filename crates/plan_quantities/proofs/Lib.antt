@@ -3,7 +3,6 @@ mod MetEquations
 mod EnergySums
 mod CostSums
 mod QuantityLaws
-pub mod ModelCost
 pub mod MovedRows
 pub mod PriceLaws
 mod WholeTests

@@ -43,7 +43,7 @@ use Rattle.row_core.proofs.Members.{Contains-from_Has, Has, Has-from_Contains, H
 use Rattle.named_equations.proofs.InstanceTests.{Contains-variables, Has-instances, Has-variables}
 use Rattle.named_equations.proofs.TermMeaning.{alone-self, sum_over-same, sum_over-times}
 use Rattle.plan_quantities.specs.Prices.{FeasibleWithMore, IsPromised, balance_at, price_of, price_over, production_entry, says_more}
-use Rattle.plan_quantities.proofs.ModelCost.{cost-of_all}
+use Rattle.plan_costs.proofs.ModelCost.{cost-of_all}
 use Rattle.certificate_checker.proofs.NamedSums.{at_name, fractions, name-itself, same-name, weighted-one, weighted-plus}
 use Rattle.plan_quantities.proofs.MovedRows.{Stands-moved, moved, row_sum-moved}
 use Rattle.row_book.proofs.Subscripts.{index-tidied, values-from_index}

@@ -1,19 +1,5 @@
 -- A linear program with another cost.
-use Rattle.std.proofs.Common.{◌≡◌, pos, true, List, refl, ap, ◌∙◌, subst}
-use Rattle.std.specs.Prelude.{Option}
-use Rattle.exact_num.specs.Range.{all_fit, in_range}
-use Rattle.row_core.specs.declared.Row.{Row}
-use Rattle.row_core.specs.declared.Var.{Var}
-use Rattle.row_core.specs.Numbers.{ascends, numbers_of, variables_of}
-use Rattle.row_core.specs.Order.{var_cmp}
-use Rattle.row_core.proofs.Members.{Has-from_Contains}
-use Rattle.written_method.specs.Programs.{LinearProgram}
-use Rattle.written_method.specs.Ready.{AreAmong}
-use Rattle.certified_answers.specs.declared.costs.Cost.{Cost}
-use Rattle.certified_answers.specs.declared.costs.Cost.TheVariants.{Model, One}
-use Rattle.certified_answers.specs.declared.costs.Goal.TheVariants.{Least, Greatest}
-use Rattle.row_problem.specs.Programs.{aim_entries, program_left}
-use Rattle.row_problem.specs.ProgramsOf.{MayAim}
+use Rattle.row_problem.proofs.Common.{◌≡◌, pos, true, List, refl, ap, ◌∙◌, subst, Option, all_fit, in_range, Row, Var, ascends, numbers_of, variables_of, var_cmp, Has-from_Contains, LinearProgram, AreAmong, Cost, Model, One, Least, Greatest, aim_entries, program_left, MayAim}
 use Rattle.row_problem.proofs.ProblemLaws.{IsAmong-from_Has}
 use Rattle.row_problem.proofs.ProgramLaws.{same-program}
 

@@ -1,58 +1,15 @@
 -- What the calls that carry back say, in the words of those who solve the linear program and of those who check the rows.
-use Rattle.std.proofs.Common.{◌≡◌, ℕ, suc, ◌<◌, ℤ, pos, neg_ℤ, ◌+ℤ◌, ◌*ℤ◌, Bool, true, false, List, [], ◌∷◌, inl, inr, length, map, filter, refl, sym, ap, ◌∙◌, subst, arith}
-use Rattle.std.specs.Prelude.{◌<ℤ◌, ◌≤ℤ◌, Option, Result, Ok, Err, IfOk, Some, if◌then◌else◌}
-use Rattle.std.specs.Ordering.{is_eq}
-use Rattle.std.proofs.lemmas.Bool.{eqb-true}
-use Rattle.std.proofs.lemmas.Int.{ints}
-use Rattle.exact_num.specs.Rational.{Rational, whole}
-use Rattle.exact_num.specs.Value.{value_of}
-use Rattle.exact_num.specs.declared.fraction.Frac.{Frac}
-use Rattle.exact_num.proofs.Integers.{*ℤ_cancel, *ℤ_nonnegative, nonzero_of_pos, ≤ℤ_cancel}
-use Rattle.exact_num.proofs.Ring.{*ℤ-one, *ℤ-zero, *ℤ_comm, ring, zero-*ℤ}
-use Rattle.row_core.specs.declared.Row.{Row}
-use Rattle.row_core.specs.declared.RowName.{RowName}
-use Rattle.row_core.specs.declared.Sense.{Sense}
-use Rattle.row_core.specs.declared.Sense.TheVariants.{Least, Equal, Most}
-use Rattle.row_core.specs.declared.Var.{Var}
-use Rattle.row_core.specs.declared.place.Stopped.{Stopped}
-use Rattle.row_core.specs.Kinds.{kind_is_free}
-use Rattle.row_core.specs.declared.kind_numbers.TheConstants.{TRADE}
-use Rattle.row_core.specs.LookUps.{value_at}
-use Rattle.row_core.specs.Numbers.{keys_of}
-use Rattle.row_core.specs.Order.{row_name_cmp, var_cmp}
-use Rattle.row_core.specs.Plans.{or_zero, value_in}
-use Rattle.row_core.specs.Rows.{number_at, row_sum}
-use Rattle.row_core.specs.Statements.{Stands}
-use Rattle.row_core.specs.Values.{IsOver}
-use Rattle.row_core.proofs.SumLaws.{IsOver-agree}
-use Rattle.row_core.proofs.Members.{Has, Has-from_Contains}
-use Rattle.written_method.specs.declared.reduced.Reduced.{Reduced}
+use Rattle.row_problem.proofs.Common.{◌≡◌, ℕ, suc, ◌<◌, ℤ, pos, neg_ℤ, ◌+ℤ◌, ◌*ℤ◌, Bool, true, false, List, [], ◌∷◌, inl, inr, length, map, filter, refl, sym, ap, ◌∙◌, subst, arith, ◌<ℤ◌, ◌≤ℤ◌, Option, Result, Ok, Err, IfOk, Some, if◌then◌else◌, is_eq, eqb-true, ints, Rational, whole, value_of, Frac, *ℤ_cancel, *ℤ_nonnegative, nonzero_of_pos, ≤ℤ_cancel, *ℤ-one, *ℤ-zero, *ℤ_comm, ring, zero-*ℤ, Row, RowName, Sense, Equal, Most, Var, Stopped, kind_is_free, TRADE, value_at, keys_of, row_name_cmp, var_cmp, or_zero, value_in, number_at, row_sum, Stands, IsOver, IsOver-agree, Has, Has-from_Contains, Reduced, defined, definitions_of, is_among, is_column, inequality_of, is_split, program_of, IsAmong, no_cost, AreChosen, IsPartOf, IsWhole, AreReductions, neither, turned, is_model, weight_of, Cost, Model, One, BecomesPlan, BecomesDirection, BecomesProof, BecomesRefutation, IsProblem, IsProgramOf, Has-filter, filter_parts, var_cmp_total, by_test, Values, Multipliers}
+use Rattle.row_core.specs.declared.Sense.TheVariants.{Least}
 use Rattle.written_method.specs.Certificates as solver
-use Rattle.written_method.specs.Definitions.{defined, definitions_of, is_among}
-use Rattle.written_method.specs.Eliminated.{is_column}
-use Rattle.written_method.specs.Programs.{inequality_of, is_split, program_of}
-use Rattle.written_method.specs.Ready.{IsAmong}
 use Rattle.certificate_checker.specs.Certificates as checker
-use Rattle.certificate_checker.specs.Costs.{no_cost}
 use Rattle.certificate_checker.specs.Plans as plans
 use Rattle.certificate_checker.specs.Sums as sums
 use Rattle.variable_elimination.specs.Certified as carried
-use Rattle.variable_elimination.specs.Columns.{AreChosen}
-use Rattle.variable_elimination.specs.Eliminations.{IsPartOf, IsWhole}
 use Rattle.variable_elimination.specs.Lifts as lifts
-use Rattle.variable_elimination.specs.ReducedRows.{AreReductions}
-use Rattle.variable_elimination.proofs.LiftLaws.{neither}
 use Rattle.variable_elimination.proofs.ProvenLaws.{refutes}
-use Rattle.variable_elimination.proofs.VariableLaws.{turned}
-use Rattle.certified_answers.specs.Costs.{is_model, weight_of}
-use Rattle.certified_answers.specs.declared.costs.Cost.{Cost}
-use Rattle.certified_answers.specs.declared.costs.Cost.TheVariants.{Model, One}
-use Rattle.row_problem.specs.CarriedBack.{BecomesPlan, BecomesDirection, BecomesProof, BecomesRefutation}
-use Rattle.row_problem.specs.Problems.{IsProblem}
-use Rattle.row_problem.specs.ProgramsOf.{IsProgramOf}
 use Rattle.row_problem.proofs.CostLaws.{IsOtherCost, chosen-plain, other-cost}
 use Rattle.row_problem.proofs.ProblemLaws.{Has-from_test, IsAmong-from_Has, variable-known}
-use Rattle.row_problem.proofs.SameLists.{Has-filter_from, Has-filter_to}
 
 -- ---- plans
 
@@ -60,31 +17,23 @@ use Rattle.row_problem.proofs.SameLists.{Has-filter_from, Has-filter_to}
 abbrev NoneIsBelow : (Var → ℤ) → Type 0
 NoneIsBelow x = (v : Var) → kind_is_free v.kind ≡ false → pos 0 ≤ℤ x v
 
-value_in-none : (values : List (Var × Rational)) (v : Var) → is_among (keys_of values) v ≡ false → value_in var_cmp values v ≡ whole (pos 0)
+value_in-none : (values : Values) (v : Var) → is_among (keys_of values) v ≡ false → value_in var_cmp values v ≡ whole (pos 0)
 value_in-none [] v h = refl
 value_in-none (e ∷ es) v h =
     let parts = neither (is_eq (var_cmp v e.0)) (is_among (keys_of es) v) h in
-    ap (λ t. or_zero (if t then Some e.1 else value_at var_cmp es v)) (turned e.0 v ∙ parts.0) ∙ value_in-none es v parts.1
+    rw (turned e.0 v ∙ parts.0) (value_in-none es v parts.1)
 
 not_split : (v : Var) → kind_is_free v.kind ≡ false → is_split v ≡ false
-not_split v h = cases (is_split v) refl
-  where
-    cases : (t : Bool) → is_split v ≡ t → t ≡ false
-    cases true is = let free : kind_is_free v.kind ≡ true = ap kind_is_free (eqb-true v.kind TRADE is) in absurd (cc (h, free))
-    cases false is = refl
+not_split v h = by_test (is_split v) (λ is. let free : kind_is_free v.kind ≡ true = ap kind_is_free (eqb-true v.kind TRADE is) in absurd (cc (h, free))) (λ is. is)
 
 -- nor is any where those of the columns aren't, and there are no others
-columns_right : (columns : List Var) (values : List (Var × Rational)) (q : ℕ) (x : Var → ℤ) → keys_of values ≡ columns → plans.AreValuesOver q x values
+columns_right : (columns : List Var) (values : Values) (q : ℕ) (x : Var → ℤ) → keys_of values ≡ columns → plans.AreValuesOver q x values
     → ((v : Var) → IsAmong v columns → is_split v ≡ false → pos 0 ≤ℤ x v) → NoneIsBelow x
-columns_right columns values q x same over signs v free = cases (is_among columns v) refl
-  where
-    cases : (t : Bool) → is_among columns v ≡ t → pos 0 ≤ℤ x v
-    cases true is = signs v (IsAmong-from_Has columns v (Has-from_test columns v is)) (not_split v free)
-    cases false is =
-        let nothing : value_in var_cmp values v ≡ whole (pos 0) = value_in-none values v (ap (λ ks. is_among ks v) same ∙ is) in
-        let none : IsOver (pos q) (whole (pos 0)) (x v) = subst (λ r. IsOver (pos q) r (x v)) nothing (over.1 v) in
-        let zero_is : x v ≡ pos 0 = sym (*ℤ-one (x v)) ∙ none.cross ∙ zero-*ℤ (pos q) in
-        omega (arith, ints, zero_is)
+columns_right columns values q x same over signs v free = by_test (is_among columns v) (λ is. signs v (IsAmong-from_Has columns v (Has-from_test columns v is)) (not_split v free))
+    (λ is.
+    let none = rw (value_in-none values v (rw same is)) at (over.1 v) in
+    let zero_is : x v ≡ pos 0 = sym (*ℤ-one (x v)) ∙ none.cross ∙ zero-*ℤ (pos q) in
+    omega (arith, ints, zero_is))
 
 rows_met : (q : ℕ) (x : Var → ℤ) (rows : List Row) → solver.MeetRows (pos q) x (map inequality_of rows) → lifts.AllStand (lifts.right_times q) rows x
 rows_met q x [] h = tt
@@ -100,11 +49,7 @@ rows_stand right (row ∷ rows) x h = (h.0, rows_stand right rows x h.1)
 
 right_signs : (vars : List Var) (x : Var → ℤ) → NoneIsBelow x → plans.HaveRightSigns vars x
 right_signs [] x h = tt
-right_signs (v ∷ vars) x h = (cases (kind_is_free v.kind) refl, right_signs vars x h)
-  where
-    cases : (t : Bool) → kind_is_free v.kind ≡ t → plans.IsRight t (x v)
-    cases true is = tt
-    cases false is = h v is
+right_signs (v ∷ vars) x h = (by_test (kind_is_free v.kind) (λ is. rw is tt) (λ is. rw is (h v is)), right_signs vars x h)
 
 positive : (n : ℕ) → 0 < n → pos 0 <ℤ pos n
 positive n h = omega (arith, ints, h)
@@ -117,7 +62,7 @@ same_sign q p r x z hq over_x over_z h =
     let zero_is = zero-*ℤ (pos q) in
     ≤ℤ_cancel (pos 0) z (pos q) (positive q hq) (omega (arith, ints))
 
-module _ (rows : List Row) (vars others : List Var) (reduced : Reduced) (values made : List (Var × Rational)) (kept : lifts.KeepsOthers others values made) (right : lifts.MakesRight others made) where
+module _ (rows : List Row) (vars others : List Var) (reduced : Reduced) (values made : Values) (kept : lifts.KeepsOthers others values made) (right : lifts.MakesRight others made) where
   none_below : (q p : ℕ) (x z : Var → ℤ) → plans.AreValuesOver q x values → plans.AreValuesOver p z made → NoneIsBelow x → NoneIsBelow z
   none_below q p x z over_x over_z h =
       right p z over_z.0 over_z.1 (λ v free apart. same_sign q p (value_in var_cmp values v) (x v) (z v) over_x.0 (over_x.1 v) (subst (λ r. IsOver (pos p) r (z v)) (kept v apart) (over_z.1 v)) (h v free))
@@ -136,13 +81,13 @@ module _ (rows : List Row) (vars others : List Var) (reduced : Reduced) (values 
   )
 
 -- as the calls answer
-module _ (rows : List Row) (vars others : List Var) (reduced : Reduced) (values : List (Var × Rational)) where
-  pub plan_answer : (answer : Result (List (Var × Rational)) Stopped) → IfOk answer (lifts.KeepsOthers others values) → IfOk answer (lifts.MakesRight others) → IfOk answer (lifts.CarriesPlan rows reduced.rows.items values)
+module _ (rows : List Row) (vars others : List Var) (reduced : Reduced) (values : Values) where
+  pub plan_answer : (answer : Result Values Stopped) → IfOk answer (lifts.KeepsOthers others values) → IfOk answer (lifts.MakesRight others) → IfOk answer (lifts.CarriesPlan rows reduced.rows.items values)
       → IfOk answer (BecomesPlan rows vars reduced values)
   plan_answer (Ok made) kept right carries = becomes_plan rows vars others reduced values made kept right carries
   plan_answer (Err e) kept right carries = tt
 
-  pub direction_answer : (answer : Result (List (Var × Rational)) Stopped) → IfOk answer (lifts.KeepsOthers others values) → IfOk answer (lifts.MakesRight others) → IfOk answer (lifts.CarriesDirection rows reduced.rows.items values)
+  pub direction_answer : (answer : Result Values Stopped) → IfOk answer (lifts.KeepsOthers others values) → IfOk answer (lifts.MakesRight others) → IfOk answer (lifts.CarriesDirection rows reduced.rows.items values)
       → IfOk answer (BecomesDirection rows vars reduced values)
   direction_answer (Ok made) kept right carries = becomes_direction rows vars others reduced values made kept right carries
   direction_answer (Err e) kept right carries = tt
@@ -257,12 +202,12 @@ module _ (rows : List Row) (defs : List (Option Var)) (vars : List Var) (problem
   removed = defined (definitions_of rows defs)
 
   column-in : (v : Var) → Has vars v → is_column v ≡ true → IsAmong v reduced.columns.items
-  column-in v h c = IsAmong-from_Has reduced.columns.items v (subst (λ vs. Has vs v) (sym columns) (Has-filter_from is_column vars v h c))
+  column-in v h c = IsAmong-from_Has reduced.columns.items v (subst (λ vs. Has vs v) (sym columns) (Has-filter is_column vars v h c))
 
   chosen : AreChosen reduced.columns.items
-  chosen v h = (Has-filter_to is_column vars v (subst (λ vs. Has vs v) columns (Has-from_Contains reduced.columns.items v h))).1
+  chosen v h = (filter_parts is_column vars v (subst (λ vs. Has vs v) columns (Has-from_Contains reduced.columns.items v h))).1
 
-  pub becomes_refutation : (lambda : List Frac) (made : List (RowName × Rational)) → carried.CarriesSum rows removed reduced lambda made → BecomesRefutation rows vars reduced lambda made
+  pub becomes_refutation : (lambda : List Frac) (made : Multipliers) → carried.CarriesSum rows removed reduced lambda made → BecomesRefutation rows vars reduced lambda made
   becomes_refutation lambda made carries s y l over from refute =
       let keep = carries (pos s) y l (positive s over.0) over.1 from in
       let proved = refutes rows removed reduced y l chosen keep refute in
@@ -279,7 +224,7 @@ module _ (rows : List Row) (defs : List (Option Var)) (vars : List Var) (problem
       known : (v : Var) → Has vars v → carried.IsKnown removed reduced.columns.items v
       known v h = elim (variable-known rows defs vars problem v h) [ inl there ↦ inl there | inr c ↦ inr (column-in v h c) ]
 
-  pub refutation_answer : (lambda : List Frac) (answer : Result (List (RowName × Rational)) Stopped) → IfOk answer (carried.CarriesSum rows removed reduced lambda) → IfOk answer (BecomesRefutation rows vars reduced lambda)
+  pub refutation_answer : (lambda : List Frac) (answer : Result Multipliers Stopped) → IfOk answer (carried.CarriesSum rows removed reduced lambda) → IfOk answer (BecomesRefutation rows vars reduced lambda)
   refutation_answer lambda (Ok made) carries = becomes_refutation lambda made carries
   refutation_answer lambda (Err e) carries = tt
 
@@ -287,7 +232,7 @@ module _ (rows : List Row) (defs : List (Option Var)) (vars : List Var) (cost : 
   abbrev others : List Var
   others = defined (definitions_of rows defs)
 
-  becomes_proof : (lambda : List Frac) (made : List (RowName × Rational))
+  becomes_proof : (lambda : List Frac) (made : Multipliers)
       → ((s : ℤ) (y : RowName → ℤ) (l : ℕ → ℤ) → pos 0 <ℤ s → carried.AreNamedOver s y (value_in row_name_cmp made) → solver.AreOverFrom s l 0 (map value_of lambda) → KeepCost (weight_of cost) rows others reduced s y l)
       → BecomesProof (weight_of cost) rows vars reduced lambda made
   becomes_proof lambda made carries s y l over from =
@@ -297,22 +242,19 @@ module _ (rows : List Row) (defs : List (Option Var)) (vars : List Var) (cost : 
         proves = λ bounds.
             record {
               signs = signed y rows (keep.signs bounds.signs);
-              columns = all_within y rows (λ v. weight v *ℤ pos s) vars (λ v h. by_test keep bounds v h (is_among others v) refl);
+              columns = all_within y rows (λ v. weight v *ℤ pos s) vars (λ v h. by_test (is_among others v)
+                  (λ is. exactly (kind_is_free v.kind) (carried.column_sum y rows v) (weight v *ℤ pos s) (keep.on_defined v is))
+                  (λ is. elim (variable-known rows defs vars program.problem v h) [
+                    | inl there ↦ absurd (cc (is, there))
+                    | inr c ↦
+                        rw (sym (chosen-plain v c).0)
+                        (kept-within (is_split v) reduced.cost_own (carried.column_sum y rows v) (solver.number_sum l 0 (program_of reduced).rows v) (pos s *ℤ number_at reduced.cost.items v) (weight v *ℤ pos s) program.ready.own_positive (keep.on_columns v is c) (bounds.columns v (column-in rows defs vars program.problem reduced program.columns v h c)))
+                  ]));
             };
         bound = ap (λ z. reduced.cost_own *ℤ z) (sym (sum_same y (λ row. row.rhs) rows)) ∙ keep.bound;
       }
-    where
-      by_test : KeepCost (weight_of cost) rows others reduced (pos s) y l → solver.Bounds (program_of reduced) (pos s) l → (v : Var) → Has vars v → (b : Bool) → is_among others v ≡ b
-          → checker.IsWithin (kind_is_free v.kind) (carried.column_sum y rows v) (weight_of cost v *ℤ pos s)
-      by_test keep bounds v h true is = exactly (kind_is_free v.kind) (carried.column_sum y rows v) (weight_of cost v *ℤ pos s) (keep.on_defined v is)
-      by_test keep bounds v h false is = elim (variable-known rows defs vars program.problem v h) [
-        | inl there ↦ absurd (cc (is, there))
-        | inr c ↦
-            subst (λ t. checker.IsWithin t (carried.column_sum y rows v) (weight_of cost v *ℤ pos s)) (chosen-plain v c).0
-            (kept-within (is_split v) reduced.cost_own (carried.column_sum y rows v) (solver.number_sum l 0 (program_of reduced).rows v) (pos s *ℤ number_at reduced.cost.items v) (weight_of cost v *ℤ pos s) program.ready.own_positive (keep.on_columns v is c) (bounds.columns v (column-in rows defs vars program.problem reduced program.columns v h c)))
-      ]
 
-  pub proof_answer : (with_cost : Bool) (lambda : List Frac) (answer : Result (List (RowName × Rational)) Stopped) → with_cost ≡ is_model cost → (with_cost ≡ true → IsWhole rows defs reduced → IfOk answer (carried.CarriesBound rows others reduced lambda))
+  pub proof_answer : (with_cost : Bool) (lambda : List Frac) (answer : Result Multipliers Stopped) → with_cost ≡ is_model cost → (with_cost ≡ true → IsWhole rows defs reduced → IfOk answer (carried.CarriesBound rows others reduced lambda))
       → (with_cost ≡ false → IsPartOf rows defs reduced → IfOk answer (carried.CarriesSum rows others reduced lambda)) → IfOk answer (BecomesProof (weight_of cost) rows vars reduced lambda)
   proof_answer with_cost lambda (Err e) is bounds sums = tt
   proof_answer with_cost lambda (Ok made) is bounds sums = becomes_proof lambda made (by_cost cost refl)

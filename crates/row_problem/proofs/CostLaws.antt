@@ -1,46 +1,13 @@
 -- What the row of a cost says: of numbers that meet the definitions, its own number times the cost, and its entries, are its right side.
-use Rattle.std.proofs.Common.{◌≡◌, ℤ, pos, neg_ℤ, ◌+ℤ◌, ◌*ℤ◌, Bool, true, false, not, ◌&&◌, ◌||◌, ℕ, List, [], ◌∷◌, ◌⊎◌, inl, inr, map, length, refl, sym, ap, ap₂, ◌∙◌, subst, arith, if◌then◌else◌}
-use Rattle.std.specs.Prelude.{◌<ℤ◌, Option, Some, None, ◌==◌, nat_lt}
-use Rattle.std.specs.Ordering.{is_eq}
-use Rattle.std.specs.declared.cmp.Ordering.{Ordering}
-use Rattle.std.specs.declared.cmp.Ordering.TheVariants.{Less, Equal as Alike, Greater}
-use Rattle.std.proofs.lemmas.Bool.{eqb-true}
-use Rattle.std.proofs.lemmas.Int.{ints}
-use Rattle.exact_num.proofs.Ring.{*ℤ-one, *ℤ-zero, neg_ℤ-*ℤ, one-*ℤ, products, zero-*ℤ}
-use Rattle.row_core.specs.declared.Row.{Row}
-use Rattle.row_core.specs.declared.Var.{Var}
-use Rattle.row_core.specs.declared.kind_numbers.TheConstants.{RATE_OF_ACTIVITY, NEW_CAPACITY, TRADE, TOTAL_DISCOUNTED_COST}
-use Rattle.row_core.specs.Kinds.{kind_is_free}
-use Rattle.row_core.specs.Numbers.{ascends}
-use Rattle.row_core.specs.Order.{var_cmp}
-use Rattle.row_core.specs.Rows.{number_at, row_sum}
-use Rattle.row_core.specs.Values.{alone}
-use Rattle.row_core.proofs.Members.{Has}
-use Rattle.row_core.proofs.Orders.{var_cmp_exact}
-use Rattle.written_method.specs.declared.reduced.Reduced.{Reduced}
-use Rattle.written_method.specs.Definitions.{Definition, avoids, defined, definitions_of, is_among}
-use Rattle.written_method.specs.Eliminated.{cost_variables, is_column, placed, with_cost_variable}
-use Rattle.written_method.specs.Programs.{LinearProgram, is_split}
-use Rattle.written_method.specs.Ready.{AreAmong}
-use Rattle.certificate_checker.specs.Costs.{cost_of, model_cost}
-use Rattle.certificate_checker.specs.Sums.{sum_over}
+use Rattle.row_problem.proofs.Common.{◌≡◌, ℤ, pos, neg_ℤ, ◌+ℤ◌, ◌*ℤ◌, Bool, true, false, not, ◌&&◌, ◌||◌, ℕ, List, [], ◌∷◌, ◌⊎◌, inl, inr, map, length, refl, sym, ap, ap₂, ◌∙◌, subst, arith, if◌then◌else◌, ◌<ℤ◌, Option, Some, None, ◌==◌, nat_lt, is_eq, Ordering, Less, Greater, eqb-true, ints, *ℤ-one, *ℤ-zero, neg_ℤ-*ℤ, one-*ℤ, products, zero-*ℤ, Row, Var, RATE_OF_ACTIVITY, NEW_CAPACITY, TRADE, TOTAL_DISCOUNTED_COST, kind_is_free, ascends, var_cmp, number_at, row_sum, alone, Has, var_cmp_exact, Reduced, Definition, avoids, defined, definitions_of, is_among, cost_variables, is_column, placed, with_cost_variable, LinearProgram, is_split, AreAmong, cost_of, model_cost, sum_over, IsWhole, AreMet, alike, itself, is_model, sign_of, weight_of, Cost, Model, One, Goal, IsProblem, cost_entries_left, cost_own_left, cost_right_left, program_left, IsProgramOf, Has-filter, filter_parts, var_cmp_total, by_test, both_true, both_passed, Has-from_Contains}
+use Rattle.std.specs.declared.cmp.Ordering.TheVariants.{Equal as Alike}
 use Rattle.certificate_checker.proofs.SumLaws as sums
 use Rattle.certificate_checker.proofs.SumLaws.{found_once, has_all, row_sum-by_columns, sum_over-same, sum_over-times}
-use Rattle.variable_elimination.specs.Eliminations.{IsWhole}
-use Rattle.variable_elimination.specs.Meaning.{AreMet}
 use Rattle.variable_elimination.proofs.CostSums.{cost-defined, cost-met, cost-other, cost_entries}
-use Rattle.variable_elimination.proofs.LiftLaws.{alike}
+use Rattle.variable_elimination.proofs.ProvenLaws.{chosen_plain}
+use Rattle.variable_elimination.proofs.ReadyLaws.{contains-from_among}
 use Rattle.variable_elimination.proofs.PlacedLaws.{placed-ascends}
-use Rattle.variable_elimination.proofs.VariableLaws.{itself}
-use Rattle.certified_answers.specs.Costs.{is_model, sign_of, weight_of}
-use Rattle.certified_answers.specs.declared.costs.Cost.{Cost}
-use Rattle.certified_answers.specs.declared.costs.Cost.TheVariants.{Model, One}
-use Rattle.certified_answers.specs.declared.costs.Goal.{Goal}
-use Rattle.row_problem.specs.Problems.{IsProblem}
-use Rattle.row_problem.specs.Programs.{cost_entries_left, cost_own_left, cost_right_left, program_left}
-use Rattle.row_problem.specs.ProgramsOf.{IsProgramOf}
-use Rattle.row_problem.proofs.ProblemLaws.{Has-from_IsAmong, defined-has, variable-known}
-use Rattle.row_problem.proofs.SameLists.{Has-filter_to}
+use Rattle.row_problem.proofs.ProblemLaws.{defined-has, variable-known}
 
 -- the row of a cost with these weights, which has no defined variable
 pub record IsCostRow (weight : Var → ℤ) (rows : List Row) (defs : List (Option Var)) (vars : List Var) (reduced : Reduced) : Type 0 where
@@ -50,69 +17,42 @@ pub record IsCostRow (weight : Var → ℤ) (rows : List Row) (defs : List (Opti
 
 among-test : (vs : List Var) (v : Var) → Has vs v → sums.is_among vs v ≡ true
 among-test [] v h = absurd h
-among-test (w ∷ vs) v (inl e) = subst (λ u. (is_eq (var_cmp v u) || sums.is_among vs v) ≡ true) (sym e) (ap (λ o. is_eq o || sums.is_among vs v) (itself v))
-among-test (w ∷ vs) v (inr h) = either (is_eq (var_cmp v w)) (among-test vs v h)
-  where
-    either : (b : Bool) → sums.is_among vs v ≡ true → (b || sums.is_among vs v) ≡ true
-    either true k = refl
-    either false k = k
+among-test (w ∷ vs) v (inl e) = rw (e, itself v) refl
+among-test (w ∷ vs) v (inr h) = rw (among-test vs v h) (by_test (is_eq (var_cmp v w)) (λ is. rw is refl) (λ is. rw is refl))
 
 -- a variable that a plan chooses isn't of the model's cost, and may be negative where it is split
-abbrev IsPlain : ℕ → Type 0
-IsPlain kind = ((kind == TRADE) ≡ kind_is_free kind) × ((if kind == TOTAL_DISCOUNTED_COST then pos 1 else pos 0) ≡ pos 0)
-
 pub chosen-plain : (v : Var) → is_column v ≡ true → (is_split v ≡ kind_is_free v.kind) × (model_cost v ≡ pos 0)
-chosen-plain v h = cases (v.kind == RATE_OF_ACTIVITY) refl (v.kind == NEW_CAPACITY) refl (v.kind == TRADE) refl h
-  where
-    cases : (a : Bool) → (v.kind == RATE_OF_ACTIVITY) ≡ a → (b : Bool) → (v.kind == NEW_CAPACITY) ≡ b → (c : Bool) → (v.kind == TRADE) ≡ c → (a || (b || (c && nat_lt v.index.region v.index.other))) ≡ true → IsPlain v.kind
-    cases true e b f c g k = subst IsPlain (sym (eqb-true v.kind RATE_OF_ACTIVITY e)) (refl, refl)
-    cases false e true f c g k = subst IsPlain (sym (eqb-true v.kind NEW_CAPACITY f)) (refl, refl)
-    cases false e false f true g k = subst IsPlain (sym (eqb-true v.kind TRADE g)) (refl, refl)
-    cases false e false f false g k = absurd (cc k)
+chosen-plain v h = chosen_plain v h
 
 -- ---- the variables of which the cost is the sum
 
 costs-ascend : (so_far : List Var) (defs : List (Option Var)) → ascends var_cmp so_far ≡ true → ascends var_cmp (cost_variables so_far defs) ≡ true
 costs-ascend so_far [] h = h
 costs-ascend so_far (None ∷ defs) h = costs-ascend so_far defs h
-costs-ascend so_far (Some v ∷ defs) h = costs-ascend (with_cost_variable so_far (Some v)) defs (cases (v.kind == TOTAL_DISCOUNTED_COST))
-  where
-    cases : (b : Bool) → ascends var_cmp (if b then placed v so_far else so_far) ≡ true
-    cases true = placed-ascends v so_far h
-    cases false = h
+costs-ascend so_far (Some v ∷ defs) h =
+    costs-ascend (with_cost_variable so_far (Some v)) defs (by_test (v.kind == TOTAL_DISCOUNTED_COST) (λ is. rw is (placed-ascends v so_far h)) (λ is. rw is h))
 
 -- each of the list is one of the variables, as the sums by column test it
 abbrev AllAmong : List Var → List Var → Type 0
 AllAmong vars vs = has_all vars (map (λ v. let e : Var × ℤ = (v, pos 1) in e) vs) ≡ true
 
-two : (a b : Bool) → (a && b) ≡ true → (a ≡ true) × (b ≡ true)
-two true b h = (refl, h)
-two false b h = absurd (cc h)
-
-both : (a b : Bool) → a ≡ true → b ≡ true → (a && b) ≡ true
-both true b h k = k
-both false b h k = absurd (cc h)
-
 module _ (vars : List Var) where
   placed-among : (v : Var) (ws : List Var) → sums.is_among vars v ≡ true → AllAmong vars ws → AllAmong vars (placed v ws)
-  placed-among v [] h k = both (sums.is_among vars v) true h refl
+  placed-among v [] h k = rw h refl
   placed-among v (w ∷ ws) h k =
-      let parts = two (sums.is_among vars w) (has_all vars (map (λ v. let e : Var × ℤ = (v, pos 1) in e) ws)) k in
+      let parts = both_passed (sums.is_among vars w) (has_all vars (map (λ v. let e : Var × ℤ = (v, pos 1) in e) ws)) k in
       cases (var_cmp v w) (placed-among v ws h parts.1) parts.0
     where
       cases : (o : Ordering) → AllAmong vars (placed v ws) → sums.is_among vars w ≡ true → AllAmong vars (elim o [ Less ↦ v ∷ w ∷ ws | Alike ↦ w ∷ ws | Greater ↦ w ∷ placed v ws ])
-      cases Less rest first = both (sums.is_among vars v) (has_all vars (map (λ v. let e : Var × ℤ = (v, pos 1) in e) (w ∷ ws))) h k
+      cases Less rest first = both_true h k
       cases Alike rest first = k
-      cases Greater rest first = both (sums.is_among vars w) (has_all vars (map (λ v. let e : Var × ℤ = (v, pos 1) in e) (placed v ws))) first rest
+      cases Greater rest first = both_true first rest
 
   costs-among : (so_far : List Var) (defs : List (Option Var)) → AllAmong vars so_far → ((v : Var) → Has defs (Some v) → sums.is_among vars v ≡ true) → AllAmong vars (cost_variables so_far defs)
   costs-among so_far [] h k = h
   costs-among so_far (None ∷ defs) h k = costs-among so_far defs h (λ v l. k v (inr l))
-  costs-among so_far (Some v ∷ defs) h k = costs-among (with_cost_variable so_far (Some v)) defs (cases (v.kind == TOTAL_DISCOUNTED_COST)) (λ u l. k u (inr l))
-    where
-      cases : (b : Bool) → AllAmong vars (if b then placed v so_far else so_far)
-      cases true = placed-among v so_far (k v (inl refl)) h
-      cases false = h
+  costs-among so_far (Some v ∷ defs) h k =
+      costs-among (with_cost_variable so_far (Some v)) defs (by_test (v.kind == TOTAL_DISCOUNTED_COST) (λ is. rw is (placed-among v so_far (k v (inl refl)) h)) (λ is. rw is h)) (λ u l. k u (inr l))
 
 -- ---- the model's cost
 
@@ -140,12 +80,8 @@ module _ (rows : List Row) (defs : List (Option Var)) (vars : List Var) (problem
   up = costs-ascend [] defs refl
 
   coefficient-is : (v : Var) → Has vars v → row_sum (alone v) (cost_entries defs) ≡ model_cost v
-  coefficient-is v h = cases (is_among (defined ds) v) refl (variable-known rows defs vars problem v h)
-    where
-      cases : (b : Bool) → is_among (defined ds) v ≡ b → (is_among (defined ds) v ≡ true) ⊎ (is_column v ≡ true) → row_sum (alone v) (cost_entries defs) ≡ model_cost v
-      cases true is known = cost-defined rows defs v problem.same up is
-      cases false is (inl k) = absurd (cc (is, k))
-      cases false is (inr k) = cost-other rows defs v problem.same up is ∙ sym (chosen-plain v k).1
+  coefficient-is v h = by_test (is_among (defined ds) v) (λ is. cost-defined rows defs v problem.same up is)
+      (λ is. elim (variable-known rows defs vars problem v h) [ inl k ↦ absurd (cc (is, k)) | inr k ↦ cost-other rows defs v problem.same up is ∙ sym (chosen-plain v k).1 ])
 
   -- the cost is the sum over the variables that are defined
   cost-sum : (x : Var → ℤ) → row_sum x (cost_entries defs) ≡ cost_of model_cost vars x
@@ -165,11 +101,7 @@ module _ (rows : List Row) (defs : List (Option Var)) (vars : List Var) (problem
 -- ---- another cost
 
 number-there : (var : Var) (k : ℤ) (v : Var) → number_at ((var, k) ∷ []) v ≡ k *ℤ alone v var
-number-there var k v = cases (is_eq (var_cmp var v))
-  where
-    cases : (b : Bool) → (if b then k else pos 0) ≡ k *ℤ (if b then pos 1 else pos 0)
-    cases true = sym (*ℤ-one k)
-    cases false = sym (*ℤ-zero k)
+number-there var k v = by_test (is_eq (var_cmp var v)) (λ is. rw is (sym (*ℤ-one k))) (λ is. rw is (sym (*ℤ-zero k)))
 
 -- that of one variable is its number times the variable
 pub cost-is : (vars : List Var) (var : Var) (k : ℤ) (x : Var → ℤ) → ascends var_cmp vars ≡ true → Has vars var → cost_of (number_at ((var, k) ∷ [])) vars x ≡ k *ℤ x var
@@ -182,21 +114,12 @@ cost-is vars var k x up h =
 
 -- of a defined variable it is 0
 cost-beyond : (var : Var) (k : ℤ) (ds : List Var) (v : Var) → is_among ds var ≡ false → is_among ds v ≡ true → number_at ((var, k) ∷ []) v ≡ pos 0
-cost-beyond var k ds v apart there = cases (is_eq (var_cmp var v)) refl
-  where
-    cases : (b : Bool) → is_eq (var_cmp var v) ≡ b → (if b then k else pos 0) ≡ pos 0
-    cases true is =
-        let same : var ≡ v = var_cmp_exact var v (alike (var_cmp var v) is) in
-        let here : is_among ds var ≡ true = subst (λ u. is_among ds u ≡ true) (sym same) there in
-        absurd (cc (here, apart))
-    cases false is = refl
+cost-beyond var k ds v apart there = by_test (is_eq (var_cmp var v))
+    (λ is. let same : var ≡ v = var_cmp_exact var v (alike (var_cmp var v) is) in absurd (cc ((rw same at apart), there)))
+    (λ is. rw is refl)
 
 negated-number : (var : Var) (k : ℤ) (v : Var) → number_at ((var, neg_ℤ k) ∷ []) v ≡ neg_ℤ (number_at ((var, k) ∷ []) v)
-negated-number var k v = cases (is_eq (var_cmp var v))
-  where
-    cases : (b : Bool) → (if b then neg_ℤ k else pos 0) ≡ neg_ℤ (if b then k else pos 0)
-    cases true = refl
-    cases false = refl
+negated-number var k v = by_test (is_eq (var_cmp var v)) (λ is. rw is refl) (λ is. rw is refl)
 
 -- the row of such a cost: that of z less its numbers
 pub record IsOtherCost (rows : List Row) (defs : List (Option Var)) (vars : List Var) (cost : Cost) (reduced : Reduced) : Type 0 where
@@ -227,12 +150,8 @@ module _ (rows : List Row) (defs : List (Option Var)) (vars : List Var) (cost : 
   aimed-column var goal e =
       let es : reduced.cost.items ≡ (var, neg_ℤ (sign_of goal)) ∷ [] = entries-left ∙ ap (λ k. cost_entries_left k rows defs) e in
       let among = (subst (λ (entries : List (Var × ℤ)). AreAmong reduced.columns.items entries) es program.ready.cost_among).0 in
-      let k = Has-filter_to is_column vars var (subst (λ vs. Has vs var) program.columns (Has-from_IsAmong reduced.columns.items var among)) in
-      (k.0, beyond (is_among (defined definitions) var) refl k.1)
-    where
-      beyond : (b : Bool) → is_among (defined definitions) var ≡ b → is_column var ≡ true → b ≡ false
-      beyond true is c = let no : is_column var ≡ false = program.problem.apart var is in absurd (cc (no, c))
-      beyond false is c = refl
+      let k = filter_parts is_column vars var (subst (λ vs. Has vs var) program.columns (Has-from_Contains reduced.columns.items var (contains-from_among reduced.columns.items var among))) in
+      (k.0, by_test (is_among (defined definitions) var) (λ is. let no : is_column var ≡ false = program.problem.apart var is in absurd (cc (no, k.1))) (λ is. is))
 
   pub other-cost : is_model cost ≡ false → IsOtherCost rows defs vars cost reduced
   other-cost other = by_cost cost refl

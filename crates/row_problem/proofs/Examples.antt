@@ -1,21 +1,5 @@
 -- The definitions, computed: each with a near miss.
-use Rattle.std.proofs.Common.{◌≡◌, ℕ, pos, negsuc, false, List, [], ◌∷◌, refl, sym, ap, inl, inr, arith}
-use Rattle.std.specs.Global.{Vec}
-use Rattle.std.specs.Prelude.{ℤ, Some, None}
-use Rattle.row_core.specs.declared.Row.{Row}
-use Rattle.row_core.specs.declared.RowName.{RowName}
-use Rattle.row_core.specs.declared.Sense.TheVariants.{Equal, Most}
-use Rattle.row_core.specs.declared.Var.{Var}
-use Rattle.row_core.specs.declared.kind_numbers.TheConstants.{ACCUMULATED_NEW_CAPACITY, RATE_OF_ACTIVITY, TOTAL_CAPACITY_ANNUAL}
-use Rattle.row_core.proofs.Members.{Contains-from_Has, Has-from_Contains}
-use Rattle.written_method.specs.Eliminated.{cost_variable, is_column}
-use Rattle.written_method.specs.Programs.{LinearProgram}
-use Rattle.written_method.proofs.MadeRows.{made_row}
-use Rattle.certified_answers.specs.declared.costs.Cost.TheVariants.{Model, One}
-use Rattle.certified_answers.specs.declared.costs.Goal.TheVariants.{Least, Greatest}
-use Rattle.row_problem.specs.Problems.{IsProblem}
-use Rattle.row_problem.specs.Programs.{aim_entries, program_left}
-use Rattle.row_problem.specs.ProgramsOf.{MayAim}
+use Rattle.row_problem.proofs.Common.{◌≡◌, ℕ, pos, negsuc, false, List, [], ◌∷◌, refl, sym, ap, inl, inr, arith, Vec, ℤ, Some, None, Row, RowName, Equal, Most, Var, ACCUMULATED_NEW_CAPACITY, RATE_OF_ACTIVITY, TOTAL_CAPACITY_ANNUAL, Contains-from_Has, Has-from_Contains, cost_variable, is_column, LinearProgram, made_row, Model, One, Least, Greatest, IsProblem, aim_entries, program_left, MayAim}
 
 -- the variable of this kind at the first members
 abbrev of_kind : ℕ → Var

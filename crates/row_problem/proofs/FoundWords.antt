@@ -1,23 +1,6 @@
 -- What was found of the linear program and carried back, over some common denominators, makes the checker say yes.
-use Rattle.std.proofs.Common.{◌≡◌, ℕ, ◌*◌, ◌<◌, ℤ, pos, ◌*ℤ◌, true, List, map, subst, arith}
-use Rattle.std.specs.Prelude.{◌<ℤ◌}
-use Rattle.std.proofs.lemmas.Int.{ints}
-use Rattle.exact_num.specs.Rational.{Rational}
-use Rattle.exact_num.specs.Value.{value_of}
-use Rattle.exact_num.specs.declared.fraction.Frac.{Frac}
-use Rattle.exact_num.proofs.Ring.{*ℤ_comm}
-use Rattle.row_core.specs.declared.Row.{Row}
-use Rattle.row_core.specs.declared.RowName.{RowName}
-use Rattle.row_core.specs.declared.Var.{Var}
-use Rattle.row_core.specs.Numbers.{ascends, keys_of}
-use Rattle.row_core.specs.Order.{row_name_cmp, var_cmp}
-use Rattle.written_method.specs.declared.reduced.Reduced.{Reduced}
-use Rattle.written_method.specs.Certificates.{AreOverFrom, Meets, Refutes, ValuesAreOver}
-use Rattle.written_method.specs.Programs.{program_of}
-use Rattle.certificate_checker.specs.Certificates.{AreMultipliersOver}
-use Rattle.certificate_checker.specs.Denominators.{AreOverSome}
-use Rattle.certified_answers.specs.Found.{IsFoundPlan, IsFoundRefutation}
-use Rattle.row_problem.specs.CarriedBack.{BecomesPlan, BecomesRefutation}
+use Rattle.row_problem.proofs.Common.{◌≡◌, ℕ, ◌*◌, ◌<◌, ℤ, pos, ◌*ℤ◌, true, List, map, subst, arith, ◌<ℤ◌, ints, Rational, value_of, Frac, *ℤ_comm, Row, RowName, Var, ascends, keys_of, row_name_cmp, var_cmp, Reduced, AreOverFrom, Meets, ValuesAreOver, program_of, AreMultipliersOver, AreOverSome, IsFoundPlan, IsFoundRefutation, BecomesPlan, BecomesRefutation, Values, Multipliers}
+use Rattle.written_method.specs.Certificates.{Refutes}
 use Rattle.row_problem.proofs.OverLaws.{IsOverSome, multipliers-more, over-multiplied, values-listed}
 
 pub positive : (n : ℕ) → 0 < n → pos 0 <ℤ pos n
@@ -26,14 +9,14 @@ positive n h = omega (arith, ints, h)
 -- ---- common denominators
 
 -- multipliers of rows and a list of fractions, over one number
-pub record AreOverOne (multipliers : List (RowName × Rational)) (numbers : List Rational) : Type 0 where
+pub record AreOverOne (multipliers : Multipliers) (numbers : List Rational) : Type 0 where
   pub over : ℕ
   pub named : RowName → ℤ
   pub number : ℕ → ℤ
   pub are : AreMultipliersOver over named multipliers
   pub from : AreOverFrom (pos over) number 0 numbers
 
-abbrev pub over-one : (multipliers : List (RowName × Rational)) (numbers : List Rational) → AreOverSome row_name_cmp multipliers → IsOverSome numbers → AreOverOne multipliers numbers
+abbrev pub over-one : (multipliers : Multipliers) (numbers : List Rational) → AreOverSome row_name_cmp multipliers → IsOverSome numbers → AreOverOne multipliers numbers
 over-one multipliers numbers m o = record {
   over = o.over * m.over;
   named = λ name. pos o.over *ℤ m.number name;
@@ -45,7 +28,7 @@ over-one multipliers numbers m o = record {
 -- ---- what is found
 
 -- values that meet the linear program, over any common denominator
-abbrev pub found-plan : (rows : List Row) (vars : List Var) (reduced : Reduced) (values plan : List (Var × Rational)) → keys_of values ≡ reduced.columns.items → ascends var_cmp (keys_of values) ≡ true → AreOverSome var_cmp values → AreOverSome var_cmp plan
+abbrev pub found-plan : (rows : List Row) (vars : List Var) (reduced : Reduced) (values plan : Values) → keys_of values ≡ reduced.columns.items → ascends var_cmp (keys_of values) ≡ true → AreOverSome var_cmp values → AreOverSome var_cmp plan
     → ((q : ℤ) (x : Var → ℤ) → pos 0 <ℤ q → ValuesAreOver q x values → Meets (program_of reduced) q x) → BecomesPlan rows vars reduced values plan → IsFoundPlan rows vars plan
 found-plan rows vars reduced values plan keyed up some made meet becomes = record {
   over = made.over;
@@ -57,7 +40,7 @@ found-plan rows vars reduced values plan keyed up some made meet becomes = recor
 }
 
 -- multipliers that refute it
-pub found-refutation : (rows : List Row) (vars : List Var) (reduced : Reduced) (lambda : List Frac) (multipliers : List (RowName × Rational)) → AreOverSome row_name_cmp multipliers → IsOverSome (map value_of lambda)
+pub found-refutation : (rows : List Row) (vars : List Var) (reduced : Reduced) (lambda : List Frac) (multipliers : Multipliers) → AreOverSome row_name_cmp multipliers → IsOverSome (map value_of lambda)
     → ((d : ℤ) (y : ℕ → ℤ) → pos 0 <ℤ d → AreOverFrom d y 0 (map value_of lambda) → Refutes (program_of reduced) y) → BecomesRefutation rows vars reduced lambda multipliers → IsFoundRefutation rows vars multipliers
 found-refutation rows vars reduced lambda multipliers some_multipliers some_lambda refute becomes =
     let one = over-one multipliers (map value_of lambda) some_multipliers some_lambda in

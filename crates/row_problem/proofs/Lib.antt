@@ -1,4 +1,7 @@
+pub mod Common
+pub mod Tests
 pub mod SameLists
+pub mod CopiedRows
 pub mod ProblemLaws
 pub mod PosedLaws
 pub mod ProgramLaws
@@ -8,6 +11,5 @@ pub mod CarriedWords
 pub mod AimLaws
 mod SizeExamples
 pub mod OverLaws
-pub mod SolvedLaws
 pub mod FoundWords
 mod Examples

@@ -1,27 +1,5 @@
 -- Values and multipliers as whole numbers over common denominators.
-use Rattle.std.proofs.Common.{◌≡◌, ℕ, zero, suc, ◌*◌, ◌<◌, ℤ, pos, ◌*ℤ◌, true, List, [], ◌∷◌, map, refl, sym, ap, ◌∙◌, subst, inl, inr, arith, if◌then◌else◌}
-use Rattle.std.specs.Prelude.{◌<ℤ◌, unsigned_abs, Some}
-use Rattle.std.specs.Ordering.{is_eq}
-use Rattle.std.proofs.lemmas.Int.{ints}
-use Rattle.exact_num.specs.Rational.{Rational}
-use Rattle.exact_num.specs.Value.{value_of}
-use Rattle.exact_num.specs.declared.fraction.Frac.{Frac}
-use Rattle.exact_num.proofs.Integers.{*ℤ_pos, pos-unsigned_abs}
-use Rattle.exact_num.proofs.Ring.{*ℤ_comm}
-use Rattle.row_core.specs.declared.RowName.{RowName}
-use Rattle.row_core.specs.declared.Var.{Var}
-use Rattle.row_core.specs.Evaluated.{AreOver}
-use Rattle.row_core.specs.LookUps.{value_at}
-use Rattle.row_core.specs.Numbers.{ascends, keys_of}
-use Rattle.row_core.specs.Order.{row_name_cmp, var_cmp}
-use Rattle.row_core.specs.Plans.{or_zero, value_in}
-use Rattle.row_core.specs.Values.{IsOver}
-use Rattle.row_core.proofs.AscendingLaws.{ascends-tail}
-use Rattle.row_core.proofs.SumLaws.{IsOver-multiplied, IsOver-own}
-use Rattle.row_core.proofs.Members.{Has}
-use Rattle.written_method.specs.Certificates.{AreOverFrom, ValuesAreOver}
-use Rattle.certificate_checker.specs.Certificates.{AreMultipliersOver}
-use Rattle.variable_elimination.proofs.VariableLaws.{itself}
+use Rattle.row_problem.proofs.Common.{◌≡◌, ℕ, zero, suc, ◌*◌, ◌<◌, ℤ, pos, ◌*ℤ◌, true, List, [], ◌∷◌, map, refl, sym, ap, ◌∙◌, subst, inl, inr, arith, if◌then◌else◌, ◌<ℤ◌, unsigned_abs, Some, is_eq, ints, Rational, value_of, Frac, *ℤ_pos, pos-unsigned_abs, *ℤ_comm, RowName, Var, AreOver, value_at, ascends, keys_of, row_name_cmp, var_cmp, or_zero, value_in, IsOver, ascends-tail, IsOver-multiplied, IsOver-own, Has, AreOverFrom, ValuesAreOver, AreMultipliersOver, itself, var_cmp_total, Values, Multipliers}
 use Rattle.row_problem.proofs.SameLists.{first-before}
 
 -- ---- a list of fractions
@@ -71,7 +49,7 @@ some-over (f ∷ fs) = with_first (some-over fs)
 
 -- ---- multipliers of rows, over some number of times theirs
 
-pub multipliers-more : (k : ℕ) (s : ℕ) (y : RowName → ℤ) (multipliers : List (RowName × Rational)) → 0 < k → AreMultipliersOver s y multipliers → AreMultipliersOver (k * s) (λ name. pos k *ℤ y name) multipliers
+pub multipliers-more : (k : ℕ) (s : ℕ) (y : RowName → ℤ) (multipliers : Multipliers) → 0 < k → AreMultipliersOver s y multipliers → AreMultipliersOver (k * s) (λ name. pos k *ℤ y name) multipliers
 multipliers-more k s y multipliers h over = (
   more k s h over.0,
   λ name. IsOver-multiplied (pos k) (pos s) (value_in row_name_cmp multipliers name) (y name) (over.1 name),
@@ -83,19 +61,19 @@ multipliers-more k s y multipliers h over = (
 -- ---- values by variable
 
 -- each value of an ascending list is the one at its variable
-pub values-listed : (values : List (Var × Rational)) (q : ℤ) (x : Var → ℤ) → ascends var_cmp (keys_of values) ≡ true → AreOver q x (value_in var_cmp values) → ValuesAreOver q x values
+pub values-listed : (values : Values) (q : ℤ) (x : Var → ℤ) → ascends var_cmp (keys_of values) ≡ true → AreOver q x (value_in var_cmp values) → ValuesAreOver q x values
 values-listed values q x up over = by_value values (value_in var_cmp values) up over (λ v. refl_at v)
   where
     refl_at : (v : Var) → Has (keys_of values) v → value_in var_cmp values v ≡ value_in var_cmp values v
     refl_at v h = refl
 
-    first-is : (e : Var × Rational) (es : List (Var × Rational)) → value_in var_cmp (e ∷ es) e.0 ≡ e.1
+    first-is : (e : Var × Rational) (es : Values) → value_in var_cmp (e ∷ es) e.0 ≡ e.1
     first-is e es = ap (λ o. or_zero (if is_eq o then Some e.1 else value_at var_cmp es e.0)) (itself e.0)
 
-    later-is : (e : Var × Rational) (es : List (Var × Rational)) (v : Var) → ascends var_cmp (keys_of (e ∷ es)) ≡ true → Has (keys_of es) v → value_in var_cmp (e ∷ es) v ≡ value_in var_cmp es v
-    later-is e es v up h = ap (λ o. or_zero (if is_eq o then Some e.1 else value_at var_cmp es v)) (first-before e.0 (keys_of es) v up h)
+    later-is : (e : Var × Rational) (es : Values) (v : Var) → ascends var_cmp (keys_of (e ∷ es)) ≡ true → Has (keys_of es) v → value_in var_cmp (e ∷ es) v ≡ value_in var_cmp es v
+    later-is e es v up h = ap (λ o. or_zero (if is_eq o then Some e.1 else value_at var_cmp es v)) (first-before var_cmp var_cmp_total e.0 (keys_of es) v up h)
 
-    by_value : (es : List (Var × Rational)) (value : Var → Rational) → ascends var_cmp (keys_of es) ≡ true → AreOver q x value → ((v : Var) → Has (keys_of es) v → value v ≡ value_in var_cmp es v) → ValuesAreOver q x es
+    by_value : (es : Values) (value : Var → Rational) → ascends var_cmp (keys_of es) ≡ true → AreOver q x value → ((v : Var) → Has (keys_of es) v → value v ≡ value_in var_cmp es v) → ValuesAreOver q x es
     by_value [] value up over same = tt
     by_value (e ∷ es) value up over same = (
       subst (λ r. IsOver q r (x e.0)) (same e.0 (inl refl) ∙ first-is e es) (over e.0),

@@ -1,39 +1,9 @@
 -- No equation is left of a problem: one that defines nothing says what a definition says, so that it is reduced to 0 = 0, which isn't kept. So what is left is a linear program of inequalities.
-use Rattle.std.proofs.Common.{◌≡◌, ◌≢◌, ℤ, pos, ◌-ℤ◌, ◌*ℤ◌, Bool, true, false, not, ◌||◌, List, [], ◌∷◌, inl, inr, map, filter, refl, sym, ap, ap₂, ◌∙◌, subst, arith, if◌then◌else◌}
-use Rattle.std.specs.Prelude.{Option, ⊤, ◌<ℤ◌}
-use Rattle.std.specs.Ordering.{is_eq}
-use Rattle.std.proofs.lemmas.Int.{ints}
-use Rattle.exact_num.specs.Rational.{Rational}
-use Rattle.exact_num.specs.Value.{value_of}
-use Rattle.exact_num.specs.declared.fraction.Frac.{Frac}
-use Rattle.exact_num.proofs.Integers.{*ℤ_cancel, *ℤ_pos, nonzero_of_pos}
-use Rattle.exact_num.proofs.Ring.{*ℤ-zero, zero-*ℤ, *ℤ_comm}
-use Rattle.row_core.specs.declared.Row.{Row}
-use Rattle.row_core.specs.declared.Sense.{Sense}
-use Rattle.row_core.specs.declared.Sense.TheVariants.{Equal}
-use Rattle.row_core.specs.declared.Var.{Var}
-use Rattle.row_core.specs.Numbers.{none_zero, numbers_of}
-use Rattle.row_core.specs.Order.{var_cmp}
-use Rattle.row_core.specs.Rows.{number_at, row_sum}
-use Rattle.row_core.specs.Statements.{stands}
-use Rattle.row_core.specs.Values.{alone}
-use Rattle.row_core.proofs.AscendingLaws.{both_passed}
+use Rattle.row_problem.proofs.Common.{◌≡◌, ◌≢◌, ℤ, pos, ◌-ℤ◌, ◌*ℤ◌, Bool, true, false, not, ◌||◌, List, [], ◌∷◌, inl, inr, map, filter, refl, sym, ap, ap₂, ◌∙◌, subst, arith, if◌then◌else◌, Option, ◌<ℤ◌, is_eq, ints, Rational, value_of, Frac, *ℤ_cancel, *ℤ_pos, nonzero_of_pos, *ℤ-zero, zero-*ℤ, *ℤ_comm, Row, Sense, Equal, Var, none_zero, numbers_of, var_cmp, number_at, row_sum, stands, alone, both_passed, Contains-from_Has, Has, Has-from_Contains, Reduced, Definition, definitions_of, others_of, rows_of, defined, avoids, AreTriangular, ReducedRow, has_entries, is_kept, inequality_of, program_of, ArePosed, IsPosed, IsReady, RowsAreAmong, AvoidAll, excess, AreMet, AreReductions, shape, shape_of, stays, met_by_some, row_sum-avoids, row_sum-times, IsReduced-met, itself, IsProblem, IsRepeatedBy, by_test}
+use Rattle.std.specs.Prelude.{⊤}
 use Rattle.row_core.proofs.MeaningLaws.{row_sum-alone}
-use Rattle.row_core.proofs.Members.{Contains-from_Has, Has, Has-from_Contains}
-use Rattle.written_method.specs.declared.reduced.Reduced.{Reduced}
-use Rattle.written_method.specs.Definitions.{Definition, definitions_of, others_of, rows_of, defined, avoids, AreTriangular}
-use Rattle.written_method.specs.Eliminated.{ReducedRow, has_entries, is_kept}
-use Rattle.written_method.specs.Programs.{inequality_of, program_of}
-use Rattle.written_method.specs.Ready.{ArePosed, IsPosed, IsReady, RowsAreAmong}
-use Rattle.variable_elimination.specs.Left.{AvoidAll}
-use Rattle.variable_elimination.specs.Meaning.{excess, AreMet}
-use Rattle.variable_elimination.specs.ReducedRows.{AreReductions, shape, shape_of, stays}
 use Rattle.variable_elimination.specs.Reductions.{IsReduced}
 use Rattle.variable_elimination.proofs.LeftLaws.{avoids-from_none}
-use Rattle.variable_elimination.proofs.LiftLaws.{met_by_some, row_sum-avoids, row_sum-times}
-use Rattle.variable_elimination.proofs.ReductionLaws.{IsReduced-met}
-use Rattle.variable_elimination.proofs.VariableLaws.{itself}
-use Rattle.row_problem.specs.Problems.{IsProblem, IsRepeatedBy}
 
 -- ---- rows that say what a definition says
 
@@ -107,15 +77,13 @@ kept_by es sense right = has_entries es || not (stands sense (pos 0) right)
 all_stay : (rs : List ReducedRow) (rows : List Row) → map shape_of rows ≡ map shape (filter is_kept rs) → AllStay rows
 all_stay rs [] h = tt
 all_stay [] (row ∷ rows) h = absurd (cc h)
-all_stay (r ∷ rs) (row ∷ rows) h = cases (is_kept r) refl h (all_stay rs (row ∷ rows)) (all_stay rs rows)
-  where
-    cases : (t : Bool) → is_kept r ≡ t → map shape_of (row ∷ rows) ≡ map shape (if t then (r ∷ filter is_kept rs) else filter is_kept rs)
-        → (map shape_of (row ∷ rows) ≡ map shape (filter is_kept rs) → AllStay (row ∷ rows)) → (map shape_of rows ≡ map shape (filter is_kept rs) → AllStay rows) → AllStay (row ∷ rows)
-    cases true is k same later =
-        let first : shape_of row ≡ shape r = cc k in
-        let rest : map shape_of rows ≡ map shape (filter is_kept rs) = cc k in
-        (ap (λ s. kept_by s.form.entries s.sense s.form.right) first ∙ is, later rest)
-    cases false is k same later = same k
+all_stay (r ∷ rs) (row ∷ rows) h = by_test (is_kept r)
+    (λ is.
+    let k = rw is at h in
+    let first : shape_of row ≡ shape r = cc k in
+    let rest : map shape_of rows ≡ map shape (filter is_kept rs) = cc k in
+    (ap (λ s. kept_by s.form.entries s.sense s.form.right) first ∙ is, all_stay rs rows rest))
+    (λ is. all_stay rs (row ∷ rows) (rw is at h))
 
 -- ---- the linear program
 
@@ -137,14 +105,14 @@ module _ (rows : List Row) (defs : List (Option Var)) (vars : List Var) (problem
 
   posed_rows : (others left : List Row) (scales : List Frac) → ((r : Row) → Has others r → Has (others_of rows defs) r) → AreReductions (rows_of ds) others left scales → AvoidAll (defined ds) left → AllStay left → RowsAreAmong columns left
       → ArePosed columns (map inequality_of left)
-  posed_rows [] left scales into h apart stay among = subst (λ (rs : List Row). ArePosed columns (map inequality_of rs)) (sym h.0) tt
+  posed_rows [] left scales into h apart stay among = rw h.0 tt
   posed_rows (named ∷ others) left scales into (inl h) apart stay among = posed_rows others left scales (λ r k. into r (inr k)) h.1 apart stay among
   posed_rows (named ∷ others) left scales into (inr (new, scale, more, more_scales, e, f, r, h)) apart stay among =
-      let apart_new : AvoidAll (defined ds) (new ∷ more) = subst (AvoidAll (defined ds)) e apart in
-      let stay_new : AllStay (new ∷ more) = subst AllStay e stay in
-      let among_new : RowsAreAmong columns (new ∷ more) = subst (RowsAreAmong columns) e among in
+      let apart_new = rw e at apart in
+      let stay_new = rw e at stay in
+      let among_new = rw e at among in
       let later = posed_rows others more more_scales (λ t k. into t (inr k)) h apart_new.1 stay_new.1 among_new.1 in
-      subst (λ (rs : List Row). ArePosed columns (map inequality_of rs)) (sym e)
+      rw e
       (no_equation named new (value_of scale) (into named (inl refl)) r.sense r.reduced apart_new.0 stay_new.0, new.ascending, among_new.0, later)
 
 -- what is left of a problem, where the rows are those of the written method

@@ -1,45 +1,19 @@
 -- What is left of rows is the written method's linear program.
-use Rattle.std.proofs.Common.{◌≡◌, List, [], ◌∷◌, map, filter, refl, sym, ap, ◌∙◌}
-use Rattle.exact_num.specs.Value.{value_of}
-use Rattle.exact_num.specs.declared.fraction.Frac.{Frac}
-use Rattle.row_core.specs.declared.Row.{Row}
-use Rattle.row_core.specs.declared.RowName.{RowName}
-use Rattle.std.specs.Prelude.{Option, Result, Ok, Err, IfOk}
-use Rattle.row_core.specs.declared.Var.{Var}
-use Rattle.row_core.specs.declared.place.Stopped.{Stopped}
-use Rattle.written_method.specs.declared.reduced.Reduced.{Reduced}
-use Rattle.written_method.specs.Eliminated.{ReducedRow, expanded_all, is_column, reduced_row}
-use Rattle.written_method.specs.Programs.{Inequality, LinearProgram, program_of}
-use Rattle.written_method.specs.Definitions.{defined, definitions_of, others_of, rows_of}
-use Rattle.written_method.specs.Ready.{IsReady}
-use Rattle.variable_elimination.specs.Columns.{AreColumns}
+use Rattle.row_problem.proofs.Common.{◌≡◌, List, [], ◌∷◌, map, filter, refl, sym, ap, ◌∙◌, value_of, Frac, Row, RowName, Option, Result, Ok, Err, IfOk, Var, Stopped, Reduced, ReducedRow, expanded_all, is_column, reduced_row, Inequality, LinearProgram, program_of, defined, definitions_of, others_of, rows_of, IsReady, AreColumns, IsWhole, IsWithout, AreReductions, AreThese, Shape, scale_in, scale_worth, shape, shape_of, AreVariablesOf, names_of, Model, cost_left, kept_scale, name_left, program_left, rows_left, scale_left, IsProblem, IsProgramOf}
 use Rattle.variable_elimination.specs.CostRows.{IsCostOf}
-use Rattle.variable_elimination.specs.Eliminations.{IsWhole}
-use Rattle.variable_elimination.specs.Left.{IsWithout}
-use Rattle.variable_elimination.specs.ReducedRows.{AreReductions, AreThese, Shape, scale_in, scale_worth, shape, shape_of}
-use Rattle.row_core.specs.RowLists.{AreVariablesOf, names_of}
-use Rattle.certified_answers.specs.declared.costs.Cost.TheVariants.{Model}
-use Rattle.row_problem.specs.Programs.{cost_left, kept_scale, name_left, program_left, rows_left, scale_left}
-use Rattle.row_problem.specs.Problems.{IsProblem}
-use Rattle.row_problem.specs.ProgramsOf.{IsProgramOf}
+use Rattle.std.proofs.lemmas.Simd.{map-map}
 use Rattle.row_problem.proofs.PosedLaws.{posed}
 use Rattle.row_problem.proofs.ProblemLaws.{columns-are}
 
 -- what is made of equal things that two lists are mapped to is equal
-map-after : {A S C : Type 0} (f : A → S) (k : S → C) (xs : List A) → map (λ x. k (f x)) xs ≡ map k (map f xs)
-map-after f k [] = refl
-map-after {C = C} f k (x ∷ xs) = ap {B = List C} (λ ys. k (f x) ∷ ys) (map-after f k xs)
-
 same-after : {A B S C : Type 0} (f : A → S) (g : B → S) (k : S → C) (xs : List A) (ys : List B) → map f xs ≡ map g ys → map (λ x. k (f x)) xs ≡ map (λ y. k (g y)) ys
-same-after f g k xs ys e = map-after f k xs ∙ ap (map k) e ∙ sym (map-after g k ys)
+same-after f g k xs ys e = sym (map-map k f xs) ∙ ap (map k) e ∙ map-map k g ys
 
 pub same-program : (a b : LinearProgram) → a.rows ≡ b.rows → a.columns ≡ b.columns → a.cost ≡ b.cost → a.cost_right ≡ b.cost_right → a.cost_own ≡ b.cost_own → a ≡ b
 same-program a b rows columns cost right own =
-    ap (λ r. let p : LinearProgram = record { rows = r; columns = a.columns; cost = a.cost; cost_right = a.cost_right; cost_own = a.cost_own } in p) rows
-    ∙ ap (λ c. let p : LinearProgram = record { rows = b.rows; columns = c; cost = a.cost; cost_right = a.cost_right; cost_own = a.cost_own } in p) columns
-    ∙ ap (λ c. let p : LinearProgram = record { rows = b.rows; columns = b.columns; cost = c; cost_right = a.cost_right; cost_own = a.cost_own } in p) cost
-    ∙ ap (λ r. let p : LinearProgram = record { rows = b.rows; columns = b.columns; cost = b.cost; cost_right = r; cost_own = a.cost_own } in p) right
-    ∙ ap (λ o. let p : LinearProgram = record { rows = b.rows; columns = b.columns; cost = b.cost; cost_right = b.cost_right; cost_own = o } in p) own
+    let same : ◌≡◌ {A = LinearProgram} (record { rows = a.rows; columns = a.columns; cost = a.cost; cost_right = a.cost_right; cost_own = a.cost_own })
+    (record { rows = b.rows; columns = b.columns; cost = b.cost; cost_right = b.cost_right; cost_own = b.cost_own }) = cc (rows, columns, cost, right, own) in
+    same
 
 abbrev shape_inequality : Shape → Inequality
 shape_inequality s = record { sense = s.sense; entries = s.form.entries; right = s.form.right }

@@ -1,83 +1,57 @@
--- Two strictly ascending lists of variables with the same members are the same list.
-use Rattle.std.proofs.Common.{◌≡◌, Bool, true, false, List, [], ◌∷◌, refl, sym, ap, ap₂, ◌∙◌, subst, inl, inr, filter, if◌then◌else◌}
-use Rattle.std.specs.Cmp.Derive.{both_true}
+-- Strictly ascending lists: two with the same members are the same list.
+use Rattle.row_problem.proofs.Common.{◌≡◌, Bool, true, List, [], ◌∷◌, refl, sym, ap, ap₂, ◌∙◌, subst, inl, inr, filter, map, Ordering, Less, both_true, ascends, before_first, ascends-first, ascends-tail, test-from_Less, Has, Contains-from_Has, by_test}
+use Rattle.std.specs.Cmp.{IsTotalOrder}
 use Rattle.std.specs.Ordering.{ordering_reverse}
-use Rattle.std.specs.declared.cmp.Ordering.TheVariants.{Less}
-use Rattle.row_core.specs.declared.Var.{Var}
-use Rattle.row_core.specs.Numbers.{ascends, before_first}
-use Rattle.row_core.specs.Order.{var_cmp}
-use Rattle.row_core.proofs.AscendingLaws.{ascends-first, ascends-tail, test-from_Less}
-use Rattle.row_core.proofs.Orders.{var_cmp_total}
-use Rattle.row_core.proofs.Members.{Has, Contains-from_Has}
 
--- the first of an ascending list is before each other member
-pub first-before : (v : Var) (vs : List Var) (w : Var) → ascends var_cmp (v ∷ vs) ≡ true → Has vs w → var_cmp v w ≡ Less
-first-before v vs w up there =
-    let found = Contains-from_Has vs w there in
-    subst (λ u. var_cmp v u ≡ Less) found.2 (ascends-first var_cmp var_cmp_total v vs up found.0 _ found.1)
+module _ {K : Type 0} (cmp : K → K → Ordering) (total : IsTotalOrder cmp) where
+  -- the first is before each other member
+  pub first-before : (v : K) (vs : List K) (w : K) → ascends cmp (v ∷ vs) ≡ true → Has vs w → cmp v w ≡ Less
+  first-before v vs w up there =
+      let found = Contains-from_Has vs w there in
+      subst (λ u. cmp v u ≡ Less) found.2 (ascends-first cmp total v vs up found.0 _ found.1)
 
--- a variable isn't before itself, nor before one that is before it
-never : (v w : Var) → var_cmp v w ≡ Less → var_cmp w v ≡ Less → ⊥
-never v w h k = irreflexive (var_cmp_total.trans v w v h k)
-  where
-    irreflexive : var_cmp v v ≡ Less → ⊥
-    irreflexive h = cc (sym h ∙ (var_cmp_total.antisymm v v ∙ ap ordering_reverse h))
+  -- none is before itself, nor before one that is before it
+  never : (v w : K) → cmp v w ≡ Less → cmp w v ≡ Less → ⊥
+  never v w h k = irreflexive (total.trans v w v h k)
+    where
+      irreflexive : cmp v v ≡ Less → ⊥
+      irreflexive h = cc (sym h ∙ (total.antisymm v v ∙ ap ordering_reverse h))
 
-same_first : (v w : Var) (vs ws : List Var) → ascends var_cmp (v ∷ vs) ≡ true → ascends var_cmp (w ∷ ws) ≡ true → Has (w ∷ ws) v → Has (v ∷ vs) w → v ≡ w
-same_first v w vs ws up wp (inl e) back = sym e
-same_first v w vs ws up wp (inr later) (inl e) = e
-same_first v w vs ws up wp (inr later) (inr after) = absurd (never w v (first-before w ws v wp later) (first-before v vs w up after))
+  pub not-again : (v : K) (vs : List K) → ascends cmp (v ∷ vs) ≡ true → Has vs v → ⊥
+  not-again v vs up there = let less = first-before v vs v up there in never v v less less
 
--- a later member of one list is a later member of the other
-rest-of : (v : Var) (vs ws : List Var) → ascends var_cmp (v ∷ vs) ≡ true → ((u : Var) → Has (v ∷ vs) u → Has (v ∷ ws) u) → (u : Var) → Has vs u → Has ws u
-rest-of v vs ws up to u there = elim (to u (inr there)) [
-  | inl e ↦ absurd (never v v (subst (λ x. var_cmp v x ≡ Less) (sym e) (first-before v vs u up there)) (subst (λ x. var_cmp v x ≡ Less) (sym e) (first-before v vs u up there)))
-  | inr later ↦ later
-]
+  same_first : (v w : K) (vs ws : List K) → ascends cmp (v ∷ vs) ≡ true → ascends cmp (w ∷ ws) ≡ true → Has (w ∷ ws) v → Has (v ∷ vs) w → v ≡ w
+  same_first v w vs ws up wp (inl e) back = sym e
+  same_first v w vs ws up wp (inr later) (inl e) = e
+  same_first v w vs ws up wp (inr later) (inr after) = absurd (never w v (first-before w ws v wp later) (first-before v vs w up after))
 
-pub same-list : (vs ws : List Var) → ascends var_cmp vs ≡ true → ascends var_cmp ws ≡ true → ((u : Var) → Has vs u → Has ws u) → ((u : Var) → Has ws u → Has vs u) → vs ≡ ws
-same-list [] [] up wp to back = refl
-same-list [] (w ∷ ws) up wp to back = absurd (back w (inl refl))
-same-list (v ∷ vs) [] up wp to back = absurd (to v (inl refl))
-same-list (v ∷ vs) (w ∷ ws) up wp to back =
-    let e : v ≡ w = same_first v w vs ws up wp (to v (inl refl)) (back w (inl refl)) in
-    let wp_v : ascends var_cmp (v ∷ ws) ≡ true = subst (λ u. ascends var_cmp (u ∷ ws) ≡ true) (sym e) wp in
-    let to_v : (u : Var) → Has (v ∷ vs) u → Has (v ∷ ws) u = λ u h. subst (λ x. Has (x ∷ ws) u) (sym e) (to u h) in
-    let back_v : (u : Var) → Has (v ∷ ws) u → Has (v ∷ vs) u = λ u h. back u (subst (λ x. Has (x ∷ ws) u) e h) in
-    ap₂ (λ x xs. x ∷ xs) e
-    (same-list vs ws (ascends-tail var_cmp v vs up) (ascends-tail var_cmp v ws wp_v) (rest-of v vs ws up to_v) (rest-of v ws vs wp_v back_v))
+  -- a later member of one list is a later member of the other
+  rest-of : (v : K) (vs ws : List K) → ascends cmp (v ∷ vs) ≡ true → ((u : K) → Has (v ∷ vs) u → Has (v ∷ ws) u) → (u : K) → Has vs u → Has ws u
+  rest-of v vs ws up to u there = elim (to u (inr there)) [ inl e ↦ absurd (not-again v vs up (subst (Has vs) (sym e) there)) | inr later ↦ later ]
 
--- ---- those that pass a test
+  pub same-list : (vs ws : List K) → ascends cmp vs ≡ true → ascends cmp ws ≡ true → ((u : K) → Has vs u → Has ws u) → ((u : K) → Has ws u → Has vs u) → vs ≡ ws
+  same-list [] [] up wp to back = refl
+  same-list [] (w ∷ ws) up wp to back = absurd (back w (inl refl))
+  same-list (v ∷ vs) [] up wp to back = absurd (to v (inl refl))
+  same-list (v ∷ vs) (w ∷ ws) up wp to back =
+      let e : w ≡ v = sym (same_first v w vs ws up wp (to v (inl refl)) (back w (inl refl))) in
+      let wp_v = rw e at wp in
+      let to_v = rw e at to in
+      let back_v = rw e at back in
+      rw e (ap {B = List K} (λ xs. v ∷ xs) (same-list vs ws (ascends-tail cmp v vs up) (ascends-tail cmp v ws wp_v) (rest-of v vs ws up to_v) (rest-of v ws vs wp_v back_v)))
 
-pub Has-filter_to : (p : Var → Bool) (vs : List Var) (u : Var) → Has (filter p vs) u → Has vs u × (p u ≡ true)
-Has-filter_to p [] u h = absurd h
-Has-filter_to p (v ∷ vs) u h = cases (p v) refl h (Has-filter_to p vs u)
-  where
-    later : Has vs u × (p u ≡ true) → Has (v ∷ vs) u × (p u ≡ true)
-    later k = (inr k.0, k.1)
+  -- ---- those that pass a test
 
-    cases : (b : Bool) → p v ≡ b → Has (if b then (v ∷ filter p vs) else filter p vs) u → (Has (filter p vs) u → Has vs u × (p u ≡ true)) → Has (v ∷ vs) u × (p u ≡ true)
-    cases true is (inl e) rest = (inl e, subst (λ w. p w ≡ true) e is)
-    cases true is (inr k) rest = later (rest k)
-    cases false is k rest = later (rest k)
+  before-all : (v : K) (ws : List K) → ((u : K) → Has ws u → cmp v u ≡ Less) → before_first cmp v ws ≡ true
+  before-all v [] h = refl
+  before-all v (w ∷ ws) h = test-from_Less (cmp v w) (h w (inl refl))
 
-pub Has-filter_from : (p : Var → Bool) (vs : List Var) (u : Var) → Has vs u → p u ≡ true → Has (filter p vs) u
-Has-filter_from p [] u h k = absurd h
-Has-filter_from p (v ∷ vs) u (inl e) k = subst (λ b. Has (if b then (v ∷ filter p vs) else filter p vs) u) (sym (ap p e ∙ k)) (inl e)
-Has-filter_from p (v ∷ vs) u (inr h) k = cases (p v) (Has-filter_from p vs u h k)
-  where
-    cases : (b : Bool) → Has (filter p vs) u → Has (if b then (v ∷ filter p vs) else filter p vs) u
-    cases true rest = inr rest
-    cases false rest = rest
+  pub filter-names : {A : Type 0} (name : A → K) (p : A → Bool) (xs : List A) (u : K) → Has (map name (filter p xs)) u → Has (map name xs) u
+  filter-names name p [] u h = absurd h
+  filter-names name p (x ∷ xs) u h = by_test (p x) (λ is. elim (rw is at h) [ inl e ↦ inl e | inr k ↦ inr (filter-names name p xs u k) ]) (λ is. inr (filter-names name p xs u (rw is at h)))
 
-before-all : (v : Var) (ws : List Var) → ((u : Var) → Has ws u → var_cmp v u ≡ Less) → before_first var_cmp v ws ≡ true
-before-all v [] h = refl
-before-all v (w ∷ ws) h = test-from_Less (var_cmp v w) (h w (inl refl))
-
-pub filter-ascends : (p : Var → Bool) (vs : List Var) → ascends var_cmp vs ≡ true → ascends var_cmp (filter p vs) ≡ true
-filter-ascends p [] up = refl
-filter-ascends p (v ∷ vs) up = cases (p v) (filter-ascends p vs (ascends-tail var_cmp v vs up))
-  where
-    cases : (b : Bool) → ascends var_cmp (filter p vs) ≡ true → ascends var_cmp (if b then (v ∷ filter p vs) else filter p vs) ≡ true
-    cases true rest = both_true (before-all v (filter p vs) (λ u h. first-before v vs u up (Has-filter_to p vs u h).0)) rest
-    cases false rest = rest
+  pub filter-ascends : {A : Type 0} (name : A → K) (p : A → Bool) (xs : List A) → ascends cmp (map name xs) ≡ true → ascends cmp (map name (filter p xs)) ≡ true
+  filter-ascends name p [] up = refl
+  filter-ascends name p (x ∷ xs) up =
+      let rest = filter-ascends name p xs (ascends-tail cmp (name x) (map name xs) up) in
+      by_test (p x) (λ is. rw is (both_true (before-all (name x) (map name (filter p xs)) (λ u h. first-before (name x) (map name xs) u up (filter-names name p xs u h))) rest)) (λ is. rw is rest)

@@ -1,11 +1,6 @@
 -- The counts, computed.
-use Rattle.std.proofs.Common.{◌≡◌, ℕ, [], ◌∷◌, refl, ap, ap₂, ◌∙◌, ◌+◌}
-use Rattle.std.specs.Prelude.{cond}
-use Rattle.row_core.specs.declared.Row.{Row}
-use Rattle.row_core.specs.declared.Sense.TheVariants.{Least, Equal, Most}
-use Rattle.row_core.specs.declared.Var.{Var}
-use Rattle.row_core.specs.declared.kind_numbers.TheConstants.{RATE_OF_ACTIVITY, NEW_CAPACITY, TRADE, TOTAL_DISCOUNTED_COST}
-use Rattle.row_problem.specs.Sizes.{column_count, columns_at, inequality_count, is_unequal}
+use Rattle.row_problem.proofs.Common.{◌≡◌, ℕ, [], ◌∷◌, refl, ap, ap₂, ◌∙◌, ◌+◌, cond, Row, Equal, Most, Var, RATE_OF_ACTIVITY, NEW_CAPACITY, TRADE, TOTAL_DISCOUNTED_COST, column_count, columns_at, inequality_count, is_unequal}
+use Rattle.row_core.specs.declared.Sense.TheVariants.{Least}
 
 -- the variable of this kind between two regions; the other subscripts are 0
 abbrev between : ℕ → ℕ → ℕ → Var

@@ -1,3 +1,5 @@
+pub mod Lists
+pub mod Prelude
 pub mod Problems
 pub mod Programs
 pub mod ProgramsOf

@@ -1,15 +1,7 @@
 -- Rows of which a question is asked: with what each of them defines, and their variables.
 use Rattle.std.specs.Prelude.{◌≡◌, true, false, ◌⊎◌, length, Contains, List, Option}
-use Rattle.row_core.specs.declared.Row.{Row}
-use Rattle.row_core.specs.declared.Sense.TheVariants.{Equal}
-use Rattle.row_core.specs.declared.Var.{Var}
-use Rattle.row_core.specs.Numbers.{ascends}
-use Rattle.row_core.specs.Order.{row_name_cmp, var_cmp}
-use Rattle.row_core.specs.RowLists.{entry_variables, names_of}
-use Rattle.written_method.specs.Definitions.{Definition, AreTriangular, defined, definitions_of, is_among, others_of, rows_of}
-use Rattle.written_method.specs.Eliminated.{cost_variable, is_column}
+use Rattle.row_problem.specs.Prelude.{Row, Equal, Var, ascends, row_name_cmp, var_cmp, entry_variables, names_of, Definition, AreTriangular, defined, definitions_of, is_among, others_of, rows_of, cost_variable, is_column, HaveNone}
 use Rattle.variable_elimination.specs.Meaning.{KeepSigns}
-use Rattle.variable_elimination.specs.SoFar.{HaveNone}
 
 -- some definition has the same entries and the same right side
 pub record IsRepeatedBy (ds : List Definition) (row : Row) : Type 0 where

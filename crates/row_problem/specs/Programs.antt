@@ -1,23 +1,9 @@
 -- The linear program that is left of rows, and what is carried back from it: the written method as a function of the rows, what they define, and their variables.
 use Rattle.std.specs.Prelude.{ℤ, pos, neg_ℤ, Bool, List, [], ◌∷◌, map, filter, Option, Some, None}
-use Rattle.exact_num.specs.Rational.{Rational, whole}
-use Rattle.exact_num.specs.Steps.{Step}
-use Rattle.row_core.specs.declared.Row.{Row}
-use Rattle.row_core.specs.declared.RowName.{RowName}
-use Rattle.row_core.specs.declared.Var.{Var}
-use Rattle.row_core.specs.declared.place.Place.{Place}
-use Rattle.row_core.specs.declared.place.Place.TheVariants.{LiftPlan, LiftDirection}
+use Rattle.row_problem.specs.Prelude.{Rational, whole, Step, Row, RowName, Var, Place, LiftPlan, LiftDirection, var_cmp, number_at, definitions_of, others_of, ReducedRow, cost_row, cost_variable, expanded_all, is_column, other_entries, reduced_rows, Inequality, LinearProgram, sign_of, Cost, Model, One, Values, Multipliers}
 use Rattle.row_core.specs.Forms.{Form}
-use Rattle.row_core.specs.Order.{var_cmp}
-use Rattle.row_core.specs.Rows.{number_at}
-use Rattle.written_method.specs.Definitions.{definitions_of, others_of}
-use Rattle.written_method.specs.Eliminated.{ReducedRow, cost_row, cost_variable, expanded_all, is_column, other_entries, reduced_rows}
 use Rattle.written_method.specs.Lifted.{lifted, lifted_steps, no_right_side, right_side}
 use Rattle.written_method.specs.Multiplied.{multiplier_steps, named_multipliers}
-use Rattle.written_method.specs.Programs.{Inequality, LinearProgram}
-use Rattle.certified_answers.specs.Costs.{sign_of}
-use Rattle.certified_answers.specs.declared.costs.Cost.{Cost}
-use Rattle.certified_answers.specs.declared.costs.Cost.TheVariants.{Model, One}
 
 -- ---- what is left
 
@@ -74,21 +60,21 @@ abbrev pub scale_left : ReducedRow → Rational
 scale_left row = kept_scale row.scaled.scale
 
 -- values of the columns, with those of the defined variables; and the steps
-unfoldable pub carried_plan : List Row → List (Option Var) → List (Var × Rational) → List (Var × Rational)
+unfoldable pub carried_plan : List Row → List (Option Var) → Values → Values
 carried_plan rows defs values = lifted right_side (definitions_of rows defs) values
 
-unfoldable pub plan_steps : List Row → List (Option Var) → List (Var × Rational) → List (Step Place)
+unfoldable pub plan_steps : List Row → List (Option Var) → Values → List (Step Place)
 plan_steps rows defs values = lifted_steps right_side LiftPlan (definitions_of rows defs) values
 
 -- the same of a direction
-unfoldable pub carried_direction : List Row → List (Option Var) → List (Var × Rational) → List (Var × Rational)
+unfoldable pub carried_direction : List Row → List (Option Var) → Values → Values
 carried_direction rows defs values = lifted no_right_side (definitions_of rows defs) values
 
-unfoldable pub direction_steps : List Row → List (Option Var) → List (Var × Rational) → List (Step Place)
+unfoldable pub direction_steps : List Row → List (Option Var) → Values → List (Step Place)
 direction_steps rows defs values = lifted_steps no_right_side LiftDirection (definitions_of rows defs) values
 
 -- multipliers of the rows that are left, under the names of their rows, with those of the definitions; with the cost or without it; and the steps
-unfoldable pub carried_multipliers : Bool → List Row → List (Option Var) → List Rational → List (RowName × Rational)
+unfoldable pub carried_multipliers : Bool → List Row → List (Option Var) → List Rational → Multipliers
 carried_multipliers with_cost rows defs lambda =
     named_multipliers with_cost rows (definitions_of rows defs) (map name_left (rows_left rows defs)) (map scale_left (rows_left rows defs)) lambda
 

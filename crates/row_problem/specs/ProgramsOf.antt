@@ -1,18 +1,8 @@
 -- The linear program of rows, as it is in memory.
 use Rattle.std.specs.Prelude.{◌≡◌, Contains, List, Option, filter, map}
-use Rattle.exact_num.specs.Value.{value_of}
-use Rattle.row_core.specs.declared.Row.{Row}
-use Rattle.row_core.specs.declared.Var.{Var}
-use Rattle.row_core.specs.RowLists.{names_of}
-use Rattle.written_method.specs.declared.reduced.Reduced.{Reduced}
-use Rattle.written_method.specs.Definitions.{definitions_of, others_of, rows_of}
-use Rattle.written_method.specs.Eliminated.{is_column}
-use Rattle.written_method.specs.Programs.{program_of}
-use Rattle.written_method.specs.Ready.{IsPosed, IsReady}
+use Rattle.row_problem.specs.Prelude.{value_of, Row, Var, names_of, Reduced, definitions_of, others_of, rows_of, is_column, program_of, IsPosed, IsReady, Cost, Model, One}
 use Rattle.variable_elimination.specs.Eliminations.{IsPartOf, IsWhole}
 use Rattle.variable_elimination.specs.ReducedRows.{AreReductions}
-use Rattle.certified_answers.specs.declared.costs.Cost.{Cost}
-use Rattle.certified_answers.specs.declared.costs.Cost.TheVariants.{Model, One}
 use Rattle.row_problem.specs.Problems.{IsProblem}
 use Rattle.row_problem.specs.Programs.{name_left, program_left, rows_left, scale_left}
 use Rattle.row_problem.specs.declared.problem.Problem.{Problem}

@@ -1,10 +1,8 @@
 -- How large the solver's linear program is.
 use Rattle.std.specs.Prelude.{ℕ, Bool, true, false, ◌&&◌, ◌||◌, ◌==◌, nat_lt, List, count_by, sum_by, if◌then◌else◌}
-use Rattle.row_core.specs.declared.Row.{Row}
+use Rattle.row_problem.specs.Prelude.{Row, Equal, Most, Var, RATE_OF_ACTIVITY, NEW_CAPACITY, TRADE}
 use Rattle.row_core.specs.declared.Sense.{Sense}
-use Rattle.row_core.specs.declared.Sense.TheVariants.{Least, Equal, Most}
-use Rattle.row_core.specs.declared.Var.{Var}
-use Rattle.row_core.specs.declared.kind_numbers.TheConstants.{RATE_OF_ACTIVITY, NEW_CAPACITY, TRADE}
+use Rattle.row_core.specs.declared.Sense.TheVariants.{Least}
 
 -- the row is no equation
 abbrev pub is_unequal : Sense → Bool

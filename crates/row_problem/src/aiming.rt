@@ -1,8 +1,7 @@
 //! Another cost in place of the model's.
 
 ghost use Rattle.std.specs.Prelude.{◌≡◌, neg_ℤ, IfOk, List, Option};
-ghost use Rattle.row_core.specs.declared.Row.{Row};
-ghost use Rattle.certified_answers.specs.Costs.{sign_of};
+ghost use Rattle.row_problem.specs.Prelude.{Row, sign_of};
 ghost use Rattle.row_problem.specs.Programs.{aim_entries};
 ghost use Rattle.row_problem.specs.ProgramsOf.{IsProgramOf, MayAim};
 

@@ -1,10 +1,7 @@
 //! What is carried back from the linear program to all rows.
 
 ghost use Rattle.std.specs.Prelude.{◌≡◌, false, None, length, map, IfErr, IfOk, OnOk};
-ghost use Rattle.exact_num.specs.Steps.{first_wide};
-ghost use Rattle.exact_num.specs.Value.{value_of};
-ghost use Rattle.variable_elimination.specs.SoFar.{IsFirst};
-ghost use Rattle.certified_answers.specs.Costs.{is_model, weight_of};
+ghost use Rattle.row_problem.specs.Prelude.{first_wide, value_of, IsFirst, is_model, weight_of};
 ghost use Rattle.row_problem.specs.CarriedBack.{BecomesDirection, BecomesPlan, BecomesProof, BecomesRefutation};
 ghost use Rattle.row_problem.specs.Programs.{carried_direction, carried_multipliers, carried_plan, carrying_steps, direction_steps, plan_steps};
 ghost use Rattle.row_problem.specs.ProgramsOf.{IsPosedProblem};

@@ -1,11 +1,7 @@
 //! Rows, and the linear program that is left of them.
 
 ghost use Rattle.std.specs.Prelude.{◌≡◌, None, IfErr, IfOk, OnOk};
-ghost use Rattle.exact_num.specs.Steps.{first_wide};
-ghost use Rattle.row_core.specs.RowLists.{AreVariablesOf};
-ghost use Rattle.written_method.specs.Eliminated.{elimination_steps};
-ghost use Rattle.variable_elimination.specs.SoFar.{IsFirst};
-ghost use Rattle.certified_answers.specs.declared.costs.Cost.TheVariants.{Model};
+ghost use Rattle.row_problem.specs.Prelude.{first_wide, AreVariablesOf, elimination_steps, IsFirst, Model};
 ghost use Rattle.row_problem.specs.Problems.{IsProblem};
 ghost use Rattle.row_problem.specs.ProgramsOf.{IsProgramOf};
 

@@ -29,5 +29,4 @@ module _ (sets : SetLists) (rows : List Row) (vars : List Var) (listed : IsListe
   -- the place at which a solution isn't shown
   pub shown-within : (show : Shown) (solution : Certified) (place : Place) → HasPriceWideAt show rows solution place → PlaceIsWithin sets place
   shown-within show (found.Optimal plan multipliers cost bound made) place wide = wide-kept sets (IsRowOfSets sets) (price_steps rows multipliers) place (prices-within multipliers) wide.1
-  shown-within show (found.Infeasible multipliers made) place wide = absurd wide
-  shown-within show (found.Unbounded plan direction made) place wide = absurd wide
+  shown-within show solution place wide = absurd wide

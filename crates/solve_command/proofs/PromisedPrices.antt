@@ -1,5 +1,5 @@
 -- The multipliers of an optimum promise each price of its report.
-use Rattle.std.proofs.Common.{◌≡◌, ℕ, ℤ, pos, List, [], ◌∷◌, map, inl, inr, refl, ap, subst}
+use Rattle.std.proofs.Common.{◌≡◌, ℕ, ℤ, pos, List, ap, subst}
 use Rattle.std.specs.Prelude.{Contains}
 use Rattle.exact_num.specs.Rational.{Rational}
 use Rattle.model_sets.specs.Data.{Data}
@@ -10,7 +10,7 @@ use Rattle.row_core.specs.declared.Var.{Var}
 use Rattle.row_core.specs.Values.{IsOver}
 use Rattle.named_equations.specs.Existence.{all_variables}
 use Rattle.named_equations.specs.Instances.{instances}
-use Rattle.row_core.proofs.Members.{Contains-from_Has, Has, Has-from_Contains}
+use Rattle.row_core.proofs.Members.{Contains-from_Has, Has-from_Contains, map_parts}
 use Rattle.row_book.specs.Books.{AreRowsOf}
 use Rattle.certificate_checker.specs.Certificates.{AreMultipliersOver, Proves, bound_of}
 use Rattle.certificate_checker.specs.Costs.{model_cost}
@@ -19,17 +19,6 @@ use Rattle.plan_quantities.specs.Prices.{IsPromised, balance_at, price_of}
 use Rattle.result_tables.specs.Prices.{balances, is_balance, named_price, prices}
 use Rattle.solve_command.specs.Promises.{ArePromised}
 use Rattle.command_answers.specs.SolvedPlans.{IsNearOptimum}
-
--- a row of which the list has what is made of it
-pub record IsMadeOf {A B : Type 0} (f : A → B) (xs : List A) (y : B) : Type 0 where
-  pub source : A
-  pub among : Has xs source
-  pub made : f source ≡ y
-
-of_map : {A B : Type 0} (f : A → B) (xs : List A) (y : B) → Has (map f xs) y → IsMadeOf f xs y
-of_map f [] y h = absurd h
-of_map f (x ∷ xs) y (inl e) = record { source = x; among = inl refl; made = e }
-of_map f (x ∷ xs) y (inr h) = let rest = of_map f xs y h in record { source = rest.source; among = inr rest.among; made = rest.made }
 
 -- the law on one price
 abbrev pub PriceLaw : Type 0
@@ -42,12 +31,12 @@ PriceLaw =
 pub prices-promised : PriceLaw → (places : ℕ) (d : Data) (rows : List Row) (gap : ℕ) (plan : List (Var × Rational)) (multipliers : List (RowName × Rational)) (cost bound : Rational)
     → AreRowsOf places d (instances d) rows → IsNearOptimum places d rows gap plan multipliers cost bound → ArePromised places d rows multipliers bound
 prices-promised law places d rows gap plan multipliers cost bound are is = λ index price there.
-    let found = of_map (named_price multipliers) (balances rows) (balance_at index, price) (Has-from_Contains (prices rows multipliers) (balance_at index, price) there) in
-    let row = found.source in
+    let found = map_parts (named_price multipliers) (balances rows) (balance_at index, price) (Has-from_Contains (prices rows multipliers) (balance_at index, price) there) in
+    let row = found.0 in
     let some = is.proved.some in
     let over : AreMultipliersOver some.over some.number multipliers = (some.positive, some.each) in
-    let among : Contains rows row = (contains_from_filter is_balance rows row (Contains-from_Has (balances rows) row found.among)).0 in
-    let named : row.name ≡ balance_at index = ap (λ e. e.0) found.made in
-    let priced : price_of multipliers row ≡ price = ap (λ e. e.1) found.made in
+    let among : Contains rows row = (contains_from_filter is_balance rows row (Contains-from_Has (balances rows) row found.1)).0 in
+    let named : row.name ≡ balance_at index = ap (λ e. e.0) found.2 in
+    let priced : price_of multipliers row ≡ price = ap (λ e. e.1) found.2 in
     subst (IsPromised places d index bound) priced
     (law places d rows some.over some.number multipliers bound row index are (is.proved.proves some.over some.number over) over (is.proved.sums some.over some.number over) among named)

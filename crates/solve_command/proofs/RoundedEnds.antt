@@ -1,5 +1,5 @@
 -- What the rounded method finds of a book of rows is due over the named equations.
-use Rattle.std.proofs.Common.{ℕ, inl, inr, List, ap, ap₂, ◌∙◌}
+use Rattle.std.proofs.Common.{ℕ, inl, inr, List}
 use Rattle.std.specs.Prelude.{◌≡◌, ◌⊎◌}
 use Rattle.exact_num.specs.Value.{value_of}
 use Rattle.model_sets.specs.Data.{Data}
@@ -8,23 +8,20 @@ use Rattle.row_core.specs.declared.Row.{Row}
 use Rattle.row_core.specs.declared.Var.{Var}
 use Rattle.certified_answers.specs.declared.answers.Certified.{Certified}
 use Rattle.certified_answers.specs.declared.answers.Certified.TheVariants as exact
-use Rattle.certified_answers.specs.Worth.{plan_cost}
 use Rattle.command_answers.specs.CheckedPlans.{IsBookOf}
 use Rattle.command_answers.specs.declared.status.Status.{Status}
-use Rattle.solve_command.specs.declared.solve.Shown.{Shown}
+use Rattle.proof_files.specs.ProofRecords.{optimum_file, refutation_file}
+use Rattle.solve_command.specs.declared.solve.Wanted.{Wanted}
 use Rattle.command_answers.specs.BookMethods.{IsFoundBy}
-use Rattle.solve_command.specs.ReadBack.{HasFractions, ReadsBack}
+use Rattle.solve_command.specs.ReadBack.{HasFractions, ReadsBack, TellsOptimum, TellsRefutation}
 use Rattle.solve_command.specs.Rounding.{TellsFound}
 use Rattle.solve_command.specs.Solve.{IsFound, IsFoundInfeasibleShown}
-use Rattle.command_answers.specs.SolvedEnds.{third_attempt}
-use Rattle.solve_command.specs.SolveTexts.{infeasible_shown, solved_shown}
 use Rattle.command_answers.proofs.SolvedRows.{are, near, refuted}
-use Rattle.solve_command.proofs.ReadingBack.{where-optimum, where-refutation}
-use Rattle.solve_command.proofs.SolvedEnds.{shown-infeasible, shown-optimal}
+use Rattle.solve_command.proofs.ReadingBack.{where-proof}
 
-module _ (places : ℕ) (d : Data) (rows : List Row) (vars : List Var) (book : IsBookOf places d rows vars) (sets : SetLists) (same : sets ≡ d.sets) (gap pivots : ℕ) (show : Shown) (rounded : ℕ) (status : Status) (text : List ℕ) where
-  pub due-from_found : ReadsBack d rows vars sets → (solution : Certified) → HasFractions solution → IsFoundBy rows vars gap pivots solution → TellsFound sets rows vars show rounded places solution status text
-      → IsFound places d rows gap pivots show rounded third_attempt status text ⊎ IsFoundInfeasibleShown places d rows pivots show rounded status text
+module _ (places : ℕ) (d : Data) (rows : List Row) (vars : List Var) (book : IsBookOf places d rows vars) (sets : SetLists) (same : sets ≡ d.sets) (wanted : Wanted) (rounded : ℕ) (status : Status) (text : List ℕ) where
+  pub due-from_found : ReadsBack d rows vars → (solution : Certified) → HasFractions solution → IsFoundBy rows vars wanted.gap wanted.pivots solution → TellsFound sets rows vars wanted.show rounded places solution status text
+      → IsFound places d rows wanted rounded status text ⊎ IsFoundInfeasibleShown places d rows wanted rounded status text
   due-from_found reads (exact.Optimal plan multipliers cost bound made) fractions found told =
       inl (record {
         plan = plan;
@@ -33,14 +30,13 @@ module _ (places : ℕ) (d : Data) (rows : List Row) (vars : List Var) (book : I
         bound = value_of bound;
         made = made;
         within = found.within;
-        optimum = near places d rows vars book plan multipliers (value_of cost) (value_of bound) gap found.proved.0 found.proved.1 found.proved.2 found.complete found.named;
-        cost_is = found.proved.0.cost_is ∙ ap (λ vs. plan_cost vs plan) (are places d rows vars book);
+        optimum = near places d rows vars book plan multipliers (value_of cost) (value_of bound) wanted.gap found.proved.0 found.proved.1 found.proved.2 found.complete found.named;
+        cost_is = rw (are places d rows vars book) at found.proved.0.cost_is;
         prices_fit = told.fits;
         status_is = told.status_is;
-        text_is = told.text_is ∙ shown-optimal show sets rows vars rounded places third_attempt plan multipliers cost bound made
-            ∙ ap₂ (λ ss vs. solved_shown show ss vs plan rows multipliers (value_of cost) (value_of bound) made rounded places third_attempt) same (are places d rows vars book);
-        told = where-optimum d sets text made rounded places third_attempt show rows vars plan multipliers (value_of cost) (value_of bound)
-            (told.text_is ∙ shown-optimal show sets rows vars rounded places third_attempt plan multipliers cost bound made) (reads.optimum plan multipliers fractions.0 fractions.1 found.complete found.named);
+        text_is = rw (same, are places d rows vars book) at told.text_is;
+        told = where-proof wanted.show text (optimum_file d.sets plan multipliers) (TellsOptimum d plan multipliers) (λ proof. rw (same, proof) at told.text_is)
+            (reads.optimum plan multipliers fractions.0 fractions.1 found.complete found.named);
       })
   due-from_found reads (exact.Infeasible multipliers made) fractions found told =
       inr (
@@ -50,10 +46,8 @@ module _ (places : ℕ) (d : Data) (rows : List Row) (vars : List Var) (book : I
           within = found.within;
           refuted = refuted places d rows vars book multipliers found.proved found.named;
           status_is = told.status_is;
-          text_is = told.text_is ∙ shown-infeasible show sets rows vars rounded places third_attempt multipliers made
-              ∙ ap (λ ss. infeasible_shown show ss multipliers made rounded places third_attempt) same;
+          text_is = rw same at told.text_is;
         },
-        where-refutation d sets text made rounded places third_attempt show multipliers
-            (told.text_is ∙ shown-infeasible show sets rows vars rounded places third_attempt multipliers made) (reads.refutation multipliers fractions found.named),
+        where-proof wanted.show text (refutation_file d.sets multipliers) (TellsRefutation d multipliers) (λ proof. rw (same, proof) at told.text_is) (reads.refutation multipliers fractions found.named),
       )
   due-from_found reads (exact.Unbounded plan direction made) fractions found told = absurd found.proved

@@ -3,7 +3,6 @@ use Rattle.std.specs.Prelude.{◌≡◌, ℕ, List, [], map, ⊤}
 use Rattle.exact_num.specs.Rational.{Rational}
 use Rattle.exact_num.specs.declared.fraction.Frac.{Frac}
 use Rattle.model_sets.specs.Data.{Data}
-use Rattle.model_sets.specs.Members.{SetLists}
 use Rattle.row_core.specs.declared.Row.{Row}
 use Rattle.row_core.specs.declared.RowName.{RowName}
 use Rattle.row_core.specs.declared.Var.{Var}
@@ -65,21 +64,18 @@ abbrev pub TellsDescent : Data → List (Var × Rational) → List (Var × Ratio
 TellsDescent d plan direction text = IsReadAs d text (Descent plan direction)
 
 -- what is written of an end over rows and variables is read so
-pub record ReadsBack (d : Data) (rows : List Row) (vars : List Var) (sets : SetLists) : Type 0 where
+pub record ReadsBack (d : Data) (rows : List Row) (vars : List Var) : Type 0 where
   pub optimum : (plan : List (Var × Rational)) (multipliers : List (RowName × Rational))
       → AreFractions plan → AreFractions multipliers → keys_of plan ≡ vars → AreNamedIn rows multipliers
-      → TellsOptimum d plan multipliers (optimum_file sets plan multipliers)
+      → TellsOptimum d plan multipliers (optimum_file d.sets plan multipliers)
   pub refutation : (multipliers : List (RowName × Rational))
       → AreFractions multipliers → AreNamedIn rows multipliers
-      → TellsRefutation d multipliers (refutation_file sets multipliers)
+      → TellsRefutation d multipliers (refutation_file d.sets multipliers)
   pub descent : (plan direction : List (Var × Rational))
       → AreFractions plan → AreFractions direction → keys_of plan ≡ vars → keys_of direction ≡ vars
-      → TellsDescent d plan direction (descent_file sets plan direction)
+      → TellsDescent d plan direction (descent_file d.sets plan direction)
 
 -- where a proof is to be shown
 abbrev pub WhereProof : Shown → Type 0 → Type 0
-WhereProof shows.Report Told = ⊤
-WhereProof shows.Plan Told = ⊤
-WhereProof shows.Multipliers Told = ⊤
 WhereProof shows.Proof Told = Told
-WhereProof shows.Summary Told = ⊤
+WhereProof show Told = ⊤

@@ -15,12 +15,13 @@ use Rattle.decimal_solver.specs.Attempts.{Attempt}
 use Rattle.decimal_solver.specs.declared.attempts.Found.{Found}
 use Rattle.result_tables.specs.Prices.{price_steps}
 use Rattle.solve_command.specs.declared.solve.Shown.{Shown}
+use Rattle.solve_command.specs.declared.solve.Wanted.{Wanted}
 use Rattle.command_answers.specs.declared.answer.Answer.{Answer}
 use Rattle.command_answers.specs.declared.status.Status.{Status}
 use Rattle.command_answers.specs.declared.status.Status.TheVariants.{Done, Uncertified}
 use Rattle.simplex_core.specs.declared.stops.Stop.TheVariants.{Width}
 use Rattle.command_answers.specs.Lines.{uncertified_line}
-use Rattle.command_answers.specs.SolvedEnds.{second_attempt}
+use Rattle.command_answers.specs.SolvedEnds.{first_attempt, second_attempt}
 use Rattle.solve_command.specs.ReadBack.{AreFractions}
 use Rattle.solve_command.specs.Solve.{second_end}
 use Rattle.solve_command.specs.SolveOutcomes.{HasPriceWideAt, PricesFitIn, solution_shown, status_of}
@@ -42,17 +43,17 @@ pub record IsWorth (rows : List Row) (vars : List Var) (gap : ℕ) (found : Atte
   pub multiplier_fractions : AreFractions found.multipliers
 
 -- the status and the text tell what the second attempt gives
-pub record IsToldSecond (sets : SetLists) (rows : List Row) (vars : List Var) (gap pivots : ℕ) (show : Shown) (rounded places : ℕ) (status : Status) (text : List ℕ) : Type 0 where
+pub record IsToldSecond (sets : SetLists) (rows : List Row) (vars : List Var) (wanted : Wanted) (rounded places : ℕ) (status : Status) (text : List ℕ) : Type 0 where
   pub found : Attempt
-  pub second : second_end rows vars gap pivots ≡ Some found
-  pub worth : IsWorth rows vars gap found
+  pub second : second_end rows vars wanted ≡ Some found
+  pub worth : IsWorth rows vars wanted.gap found
   pub status_is : status ≡ Done
-  pub text_is : text ≡ solved_shown show sets vars found.plan rows found.multipliers found.cost found.bound found.pivots rounded places second_attempt
+  pub text_is : text ≡ solved_shown wanted.show sets vars found.plan rows found.multipliers found.cost found.bound found.pivots rounded places second_attempt
 
 -- an answer tells it, and there is none exactly where the attempt gives nothing
-abbrev pub TellsSecond : SetLists → List Row → List Var → ℕ → ℕ → Shown → ℕ → ℕ → Option Answer → Type 0
-TellsSecond sets rows vars gap pivots show rounded places None = second_end rows vars gap pivots ≡ None
-TellsSecond sets rows vars gap pivots show rounded places (Some answer) = IsToldSecond sets rows vars gap pivots show rounded places answer.status answer.text.items
+abbrev pub TellsSecond : SetLists → List Row → List Var → Wanted → ℕ → ℕ → Option Answer → Type 0
+TellsSecond sets rows vars wanted rounded places None = second_end rows vars wanted ≡ None
+TellsSecond sets rows vars wanted rounded places (Some answer) = IsToldSecond sets rows vars wanted rounded places answer.status answer.text.items
 
 -- an answer tells what was found on the grid, and there is none exactly where a number that is formed for its prices doesn't fit
 abbrev pub TellsGrid : SetLists → List Row → List Var → Shown → ℕ → ℕ → Found → Option Answer → Type 0
@@ -62,15 +63,15 @@ TellsGrid sets rows vars show rounded places found (Some answer) =
     × (answer.text.items ≡ solved_shown show sets vars found.plan rows found.multipliers (value_of found.cost) (value_of found.bound) found.pivots rounded places second_attempt)
 
 -- the last answer is the second attempt's, or the first answer, where that gives nothing
-abbrev pub IsLastOf : SetLists → List Row → List Var → ℕ → ℕ → Shown → ℕ → ℕ → Answer → Answer → Type 0
-IsLastOf sets rows vars gap pivots show rounded places first last =
-    IsToldSecond sets rows vars gap pivots show rounded places last.status last.text.items
-    ⊎ ((second_end rows vars gap pivots ≡ None) × (last.status ≡ first.status) × (last.text.items ≡ first.text.items))
+abbrev pub IsLastOf : SetLists → List Row → List Var → Wanted → ℕ → ℕ → Answer → Answer → Type 0
+IsLastOf sets rows vars wanted rounded places first last =
+    IsToldSecond sets rows vars wanted rounded places last.status last.text.items
+    ⊎ ((second_end rows vars wanted ≡ None) × (last.status ≡ first.status) × (last.text.items ≡ first.text.items))
 
 -- a solution is told, or at which of its prices a number doesn't fit where the second attempt gives nothing, or what that gives
-abbrev pub TellsExactly : SetLists → List Row → List Var → ℕ → ℕ → Shown → ℕ → ℕ → Certified → Status → List ℕ → Type 0
-TellsExactly sets rows vars gap pivots show rounded places solution status text =
-    (PricesFitIn show rows solution × (status ≡ status_of solution) × (text ≡ solution_shown show sets rows vars rounded places 1 solution))
-    ⊎ ((place : Place) × HasPriceWideAt show rows solution place
-    × (IsToldSecond sets rows vars gap pivots show rounded places status text
-    ⊎ ((second_end rows vars gap pivots ≡ None) × (status ≡ Uncertified (Width place)) × (text ≡ uncertified_line sets (Width place)))))
+abbrev pub TellsExactly : SetLists → List Row → List Var → Wanted → ℕ → ℕ → Certified → Status → List ℕ → Type 0
+TellsExactly sets rows vars wanted rounded places solution status text =
+    (PricesFitIn wanted.show rows solution × (status ≡ status_of solution) × (text ≡ solution_shown wanted.show sets rows vars rounded places first_attempt solution))
+    ⊎ ((place : Place) × HasPriceWideAt wanted.show rows solution place
+    × (IsToldSecond sets rows vars wanted rounded places status text
+    ⊎ ((second_end rows vars wanted ≡ None) × (status ≡ Uncertified (Width place)) × (text ≡ uncertified_line sets (Width place)))))

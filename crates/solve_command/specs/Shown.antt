@@ -15,7 +15,5 @@ shown_of words.Proof = Proof
 -- a report has prices, and a summary is that of a report
 abbrev pub HasPrices : Shown → Type 0
 HasPrices Report = ⊤
-HasPrices Plan = ⊥
-HasPrices Multipliers = ⊥
-HasPrices Proof = ⊥
 HasPrices Summary = ⊤
+HasPrices show = ⊥

@@ -17,7 +17,8 @@ use Rattle.command_answers.specs.BookMethods.{grid_end, method_end}
 use Rattle.certified_answers.specs.Worth.{plan_cost}
 use Rattle.result_tables.specs.Prices.{price_steps}
 use Rattle.solve_command.specs.declared.solve.Shown.{Shown}
-use Rattle.solve_command.specs.declared.solve.Shown.TheVariants.{Report, Plan, Multipliers, Proof, Summary}
+use Rattle.solve_command.specs.declared.solve.Shown.TheVariants.{Report, Summary}
+use Rattle.solve_command.specs.declared.solve.Wanted.{Wanted}
 use Rattle.command_answers.specs.declared.status.Status.{Status}
 use Rattle.command_answers.specs.declared.status.Status.TheVariants.{Done, Uncertified}
 use Rattle.simplex_core.specs.declared.stops.Stop.TheVariants.{Budget, Width}
@@ -36,10 +37,8 @@ use Rattle.solve_command.specs.SolveTexts.{infeasible_shown, solved_shown, unbou
 -- every number that is formed for the prices of a report, or of its summary, fits
 abbrev pub PricesFit : Shown → List Row → List (RowName × Rational) → Type 0
 PricesFit Report rows multipliers = first_wide (price_steps rows multipliers) ≡ None
-PricesFit Plan rows multipliers = ⊤
-PricesFit Multipliers rows multipliers = ⊤
-PricesFit Proof rows multipliers = ⊤
 PricesFit Summary rows multipliers = first_wide (price_steps rows multipliers) ≡ None
+PricesFit show rows multipliers = ⊤
 
 -- ---- the second attempt
 
@@ -50,72 +49,72 @@ priced rows (Some found) = if is_none (first_wide (price_steps rows found.multip
 
 -- The second attempt is made where a gap is allowed, in millionths, and the defined variables can be removed. It gives a plan, a bound and their
 -- multipliers, or nothing.
-abbrev pub second_end : List Row → List Var → ℕ → ℕ → Option Attempt
-second_end rows vars gap pivots =
-    if gap == 0 then None
-    else if is_none (first_wide (elimination_steps rows (definers rows))) then priced rows (grid_end rows vars gap pivots)
+abbrev pub second_end : List Row → List Var → Wanted → Option Attempt
+second_end rows vars wanted =
+    if wanted.gap == 0 then None
+    else if is_none (first_wide (elimination_steps rows (definers rows))) then priced rows (grid_end rows vars wanted.gap wanted.pivots)
     else None
 
 -- ---- ends, with so many pivots at most, and so many numbers of the data that are rounded
 
 -- a plan that meets the named equations, and a bound within the gap of its cost that no such plan undercuts
-pub record IsSolved (places : ℕ) (d : Data) (rows : List Row) (gap pivots : ℕ) (show : Shown) (rounded : ℕ) (status : Status) (text : List ℕ) : Type 0 where
+pub record IsSolved (places : ℕ) (d : Data) (rows : List Row) (wanted : Wanted) (rounded : ℕ) (status : Status) (text : List ℕ) : Type 0 where
   pub plan : List (Var × Rational)
   pub multipliers : List (RowName × Rational)
   pub cost : Rational
   pub bound : Rational
   pub made : ℕ
-  pub end : method_end rows (all_variables d) pivots ≡ HasOptimum plan multipliers made
-  pub optimum : IsOptimum places d rows gap plan multipliers cost bound
-  pub prices_fit : PricesFit show rows multipliers
+  pub end : method_end rows (all_variables d) wanted.pivots ≡ HasOptimum plan multipliers made
+  pub optimum : IsOptimum places d rows wanted.gap plan multipliers cost bound
+  pub prices_fit : PricesFit wanted.show rows multipliers
   pub status_is : status ≡ Done
-  pub text_is : text ≡ solved_shown show d.sets (all_variables d) plan rows multipliers cost bound made rounded places first_attempt
-  pub told : WhereProof show (TellsOptimum d plan multipliers text)
+  pub text_is : text ≡ solved_shown wanted.show d.sets (all_variables d) plan rows multipliers cost bound made rounded places first_attempt
+  pub told : WhereProof wanted.show (TellsOptimum d plan multipliers text)
 
 -- no plan meets them
-abbrev pub IsInfeasibleShown : ℕ → Data → List Row → ℕ → Shown → ℕ → Status → List ℕ → Type 0
-IsInfeasibleShown places d rows pivots show rounded status text =
-    (end : IsInfeasible places d rows pivots (λ multipliers made. infeasible_shown show d.sets multipliers made rounded places first_attempt) status text)
-    × WhereProof show (TellsRefutation d end.multipliers text)
+abbrev pub IsInfeasibleShown : ℕ → Data → List Row → Wanted → ℕ → Status → List ℕ → Type 0
+IsInfeasibleShown places d rows wanted rounded status text =
+    (end : IsInfeasible places d rows wanted.pivots (λ multipliers made. infeasible_shown wanted.show d.sets multipliers made rounded places first_attempt) status text)
+    × WhereProof wanted.show (TellsRefutation d end.multipliers text)
 
-abbrev pub IsFoundInfeasibleShown : ℕ → Data → List Row → ℕ → Shown → ℕ → Status → List ℕ → Type 0
-IsFoundInfeasibleShown places d rows pivots show rounded status text =
-    (end : IsFoundInfeasible places d rows pivots (λ multipliers made. infeasible_shown show d.sets multipliers made rounded places third_attempt) status text)
-    × WhereProof show (TellsRefutation d end.multipliers text)
+abbrev pub IsFoundInfeasibleShown : ℕ → Data → List Row → Wanted → ℕ → Status → List ℕ → Type 0
+IsFoundInfeasibleShown places d rows wanted rounded status text =
+    (end : IsFoundInfeasible places d rows wanted.pivots (λ multipliers made. infeasible_shown wanted.show d.sets multipliers made rounded places third_attempt) status text)
+    × WhereProof wanted.show (TellsRefutation d end.multipliers text)
 
 -- plans of any lower cost meet them
-abbrev pub IsUnboundedShown : ℕ → Data → List Row → ℕ → Shown → ℕ → Status → List ℕ → Type 0
-IsUnboundedShown places d rows pivots show rounded status text =
-    (end : IsUnbounded places d rows pivots (λ plan direction made. unbounded_shown show d.sets plan direction made rounded places) status text)
-    × WhereProof show (TellsDescent d end.plan end.direction text)
+abbrev pub IsUnboundedShown : ℕ → Data → List Row → Wanted → ℕ → Status → List ℕ → Type 0
+IsUnboundedShown places d rows wanted rounded status text =
+    (end : IsUnbounded places d rows wanted.pivots (λ plan direction made. unbounded_shown wanted.show d.sets plan direction made rounded places) status text)
+    × WhereProof wanted.show (TellsDescent d end.plan end.direction text)
 
 -- ---- stops
 
 -- each where the second attempt gives nothing: a pivot is due after the last
-pub record IsOutOfPivots (d : Data) (rows : List Row) (gap pivots : ℕ) (status : Status) (text : List ℕ) : Type 0 where
-  pub end : method_end rows (all_variables d) pivots ≡ IsPivotDue
-  pub no_second : second_end rows (all_variables d) gap pivots ≡ None
-  pub status_is : status ≡ Uncertified (Budget pivots)
-  pub line_is : text ≡ uncertified_line d.sets (Budget pivots)
+pub record IsOutOfPivots (d : Data) (rows : List Row) (wanted : Wanted) (status : Status) (text : List ℕ) : Type 0 where
+  pub end : method_end rows (all_variables d) wanted.pivots ≡ IsPivotDue
+  pub no_second : second_end rows (all_variables d) wanted ≡ None
+  pub status_is : status ≡ Uncertified (Budget wanted.pivots)
+  pub line_is : text ≡ uncertified_line d.sets (Budget wanted.pivots)
 
 -- the first number that doesn't fit is formed at this place of the method
-pub record IsTooWideToSolve (d : Data) (rows : List Row) (gap pivots : ℕ) (status : Status) (text : List ℕ) : Type 0 where
+pub record IsTooWideToSolve (d : Data) (rows : List Row) (wanted : Wanted) (status : Status) (text : List ℕ) : Type 0 where
   pub place : Place
-  pub end : method_end rows (all_variables d) pivots ≡ IsWide place
-  pub no_second : second_end rows (all_variables d) gap pivots ≡ None
+  pub end : method_end rows (all_variables d) wanted.pivots ≡ IsWide place
+  pub no_second : second_end rows (all_variables d) wanted ≡ None
   pub status_is : status ≡ Uncertified (Width place)
   pub line_is : text ≡ uncertified_line d.sets (Width place)
 
 -- or, where what is to be shown has prices, it is formed for this one, after all else
-pub record HasWidePrice (d : Data) (rows : List Row) (gap pivots : ℕ) (show : Shown) (status : Status) (text : List ℕ) : Type 0 where
+pub record HasWidePrice (d : Data) (rows : List Row) (wanted : Wanted) (status : Status) (text : List ℕ) : Type 0 where
   pub plan : List (Var × Rational)
   pub multipliers : List (RowName × Rational)
   pub made : ℕ
   pub place : Place
-  pub end : method_end rows (all_variables d) pivots ≡ HasOptimum plan multipliers made
-  pub reported : HasPrices show
+  pub end : method_end rows (all_variables d) wanted.pivots ≡ HasOptimum plan multipliers made
+  pub reported : HasPrices wanted.show
   pub wide : first_wide (price_steps rows multipliers) ≡ Some place
-  pub no_second : second_end rows (all_variables d) gap pivots ≡ None
+  pub no_second : second_end rows (all_variables d) wanted ≡ None
   pub status_is : status ≡ Uncertified (Width place)
   pub line_is : text ≡ uncertified_line d.sets (Width place)
 
@@ -130,54 +129,54 @@ ComesToEnd show rows IsPivotDue = ⊥
 ComesToEnd show rows (IsWide place) = ⊥
 
 -- a plan that meets the named equations, and a bound within the gap of its cost that no such plan undercuts
-pub record IsSolvedOnGrid (places : ℕ) (d : Data) (rows : List Row) (gap pivots : ℕ) (show : Shown) (rounded : ℕ) (status : Status) (text : List ℕ) : Type 0 where
+pub record IsSolvedOnGrid (places : ℕ) (d : Data) (rows : List Row) (wanted : Wanted) (rounded : ℕ) (status : Status) (text : List ℕ) : Type 0 where
   pub found : Attempt
-  pub stopped : ComesToEnd show rows (method_end rows (all_variables d) pivots) → ⊥
-  pub second : second_end rows (all_variables d) gap pivots ≡ Some found
-  pub optimum : IsNearOptimum places d rows gap found.plan found.multipliers found.cost found.bound
+  pub stopped : ComesToEnd wanted.show rows (method_end rows (all_variables d) wanted.pivots) → ⊥
+  pub second : second_end rows (all_variables d) wanted ≡ Some found
+  pub optimum : IsNearOptimum places d rows wanted.gap found.plan found.multipliers found.cost found.bound
   pub status_is : status ≡ Done
-  pub text_is : text ≡ solved_shown show d.sets (all_variables d) found.plan rows found.multipliers found.cost found.bound found.pivots rounded places second_attempt
-  pub told : WhereProof show (TellsOptimum d found.plan found.multipliers text)
+  pub text_is : text ≡ solved_shown wanted.show d.sets (all_variables d) found.plan rows found.multipliers found.cost found.bound found.pivots rounded places second_attempt
+  pub told : WhereProof wanted.show (TellsOptimum d found.plan found.multipliers text)
 
 -- what is due of a linear program by the exact method, and by the second attempt where it stops
-abbrev pub DueForEnd : ℕ → Data → List Row → ℕ → ℕ → Shown → ℕ → Status → List ℕ → Type 0
-DueForEnd places d rows gap pivots show rounded status text =
-    IsSolved places d rows gap pivots show rounded status text
-    ⊎ IsInfeasibleShown places d rows pivots show rounded status text
-    ⊎ IsUnboundedShown places d rows pivots show rounded status text
-    ⊎ IsOutOfPivots d rows gap pivots status text
-    ⊎ IsTooWideToSolve d rows gap pivots status text
-    ⊎ HasWidePrice d rows gap pivots show status text
-    ⊎ IsSolvedOnGrid places d rows gap pivots show rounded status text
+abbrev pub DueForEnd : ℕ → Data → List Row → Wanted → ℕ → Status → List ℕ → Type 0
+DueForEnd places d rows wanted rounded status text =
+    IsSolved places d rows wanted rounded status text
+    ⊎ IsInfeasibleShown places d rows wanted rounded status text
+    ⊎ IsUnboundedShown places d rows wanted rounded status text
+    ⊎ IsOutOfPivots d rows wanted status text
+    ⊎ IsTooWideToSolve d rows wanted status text
+    ⊎ HasWidePrice d rows wanted status text
+    ⊎ IsSolvedOnGrid places d rows wanted rounded status text
 
 -- ---- what is found in numbers of limited accuracy, and proved: the pivots that are told are at most those that a guess may make
 
 -- a plan that meets the named equations, and a bound within the gap of its cost that no such plan undercuts
-pub record IsFound (places : ℕ) (d : Data) (rows : List Row) (gap pivots : ℕ) (show : Shown) (rounded attempt : ℕ) (status : Status) (text : List ℕ) : Type 0 where
+pub record IsFound (places : ℕ) (d : Data) (rows : List Row) (wanted : Wanted) (rounded : ℕ) (status : Status) (text : List ℕ) : Type 0 where
   pub plan : List (Var × Rational)
   pub multipliers : List (RowName × Rational)
   pub cost : Rational
   pub bound : Rational
   pub made : ℕ
-  pub within : made ≤ pivots
-  pub optimum : IsNearOptimum places d rows gap plan multipliers cost bound
+  pub within : made ≤ wanted.pivots
+  pub optimum : IsNearOptimum places d rows wanted.gap plan multipliers cost bound
   pub cost_is : cost ≡ plan_cost (all_variables d) plan
-  pub prices_fit : PricesFit show rows multipliers
+  pub prices_fit : PricesFit wanted.show rows multipliers
   pub status_is : status ≡ Done
-  pub text_is : text ≡ solved_shown show d.sets (all_variables d) plan rows multipliers cost bound made rounded places attempt
-  pub told : WhereProof show (TellsOptimum d plan multipliers text)
+  pub text_is : text ≡ solved_shown wanted.show d.sets (all_variables d) plan rows multipliers cost bound made rounded places third_attempt
+  pub told : WhereProof wanted.show (TellsOptimum d plan multipliers text)
 
 -- ---- what is due
 
 -- of a linear program within the limits: with the rounded method what it finds, and where it finds nothing, as with the exact one, its end
-abbrev pub DueForMethod : ℕ → Data → List Row → ℕ → ℕ → Shown → SolveMethod → ℕ → Status → List ℕ → Type 0
-DueForMethod places d rows gap pivots show Exact rounded status text = DueForEnd places d rows gap pivots show rounded status text
-DueForMethod places d rows gap pivots show Rounded rounded status text =
-    IsFound places d rows gap pivots show rounded third_attempt status text
-    ⊎ IsFoundInfeasibleShown places d rows pivots show rounded status text
-    ⊎ DueForEnd places d rows gap pivots show rounded status text
+abbrev pub DueBy : SolveMethod → ℕ → Data → List Row → Wanted → ℕ → Status → List ℕ → Type 0
+DueBy Exact places d rows wanted rounded status text = DueForEnd places d rows wanted rounded status text
+DueBy Rounded places d rows wanted rounded status text =
+    IsFound places d rows wanted rounded status text ⊎ IsFoundInfeasibleShown places d rows wanted rounded status text ⊎ DueForEnd places d rows wanted rounded status text
 
--- What is due over these data, for a gap in millionths, so many pivots at most, what is to be shown, and the method that is asked for.
-abbrev pub DueForSolve : ℕ → ℕ → ℕ → Shown → SolveMethod → ℕ → Data → Status → List ℕ → Type 0
-DueForSolve places gap pivots show method rounded d status text =
-    DueForProgram (λ rows. DueForMethod places d rows gap pivots show method rounded) places d status text
+abbrev pub DueForMethod : ℕ → Data → List Row → Wanted → ℕ → Status → List ℕ → Type 0
+DueForMethod places d rows wanted rounded status text = DueBy wanted.method places d rows wanted rounded status text
+
+-- What is due over these data, for what is wanted, and so many numbers of the data that are rounded.
+abbrev pub DueForSolve : ℕ → Wanted → ℕ → Data → Status → List ℕ → Type 0
+DueForSolve places wanted rounded d status text = DueForProgram (λ rows. DueForMethod places d rows wanted rounded) places d status text

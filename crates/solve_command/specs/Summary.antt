@@ -8,6 +8,7 @@ use Rattle.row_core.specs.declared.Var.{Var}
 use Rattle.named_equations.specs.Existence.{all_variables}
 use Rattle.row_problem.specs.Sizes.{column_count, inequality_count}
 use Rattle.solve_command.specs.declared.solve.Shown.TheVariants.{Summary}
+use Rattle.solve_command.specs.declared.solve.Wanted.{Wanted}
 use Rattle.command_answers.specs.declared.status.Status.{Status}
 use Rattle.command_answers.specs.Limits.{IsWithinLimits, PassesLimits}
 use Rattle.command_answers.specs.MadeBooks.{HasNoRows}
@@ -36,11 +37,14 @@ default_pivots = 20000
 abbrev pub default_places : ℕ
 default_places = 6
 
+abbrev pub default_wanted : Wanted
+default_wanted = record { gap = 0; pivots = default_pivots; show = Summary; method = Exact }
+
 -- what `solve` comes to over the rows
 abbrev pub DueForDefaults : ℕ → Data → List Row → ℕ → Status → List ℕ → Type 0
 DueForDefaults places d rows rounded status text =
     PassesLimits rows (all_variables d) status text
-    ⊎ (IsWithinLimits rows (all_variables d) × DueForMethod places d rows 0 default_pivots Summary Exact rounded status text)
+    ⊎ (IsWithinLimits rows (all_variables d) × DueForMethod places d rows default_wanted rounded status text)
 
 -- over the rows: the counts, and then that
 abbrev pub DueAfterCounts : ℕ → Data → List Row → ℕ → Status → List ℕ → Type 0

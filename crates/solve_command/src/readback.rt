@@ -14,7 +14,7 @@ use row_core::{Multipliers, Plan};
 /// What is written to prove an end is read as that, over any data of which the book is.
 pub fn readback_laws(book: &RowBook, sets: &Sets)
     requires { IsListedBook sets.now book.now.rows book.now.vars }
-    ensures { (places : ℕ) (d : Data) → sets.now ≡ d.sets → IsBookOf places d book.now.rows book.now.vars → ReadsBack d book.now.rows book.now.vars sets.now }
+    ensures { (places : ℕ) (d : Data) → sets.now ≡ d.sets → IsBookOf places d book.now.rows book.now.vars → ReadsBack d book.now.rows book.now.vars }
 {
     written_proof_laws();
     // The sets keep their rules.

@@ -6,7 +6,6 @@ ghost use Rattle.command_answers.specs.BookPrograms.{IsProgramOf};
 ghost use Rattle.command_answers.specs.CheckedPlans.{IsBookOf, IsListedBook};
 ghost use Rattle.solve_command.specs.Rounding.{TellsFound};
 ghost use Rattle.solve_command.specs.Solve.{IsFound, IsFoundInfeasibleShown};
-ghost use Rattle.command_answers.specs.SolvedEnds.{third_attempt};
 
 use crate::ends::status_of;
 use crate::readback::{readback_laws, solution_fractions};
@@ -37,8 +36,8 @@ pub fn answer_rounded(
     requires program { IsProgramOf book.now.rows book.now.vars program.now }
     ensures { (d : Data) → sets.now ≡ d.sets → IsBookOf places d book.now.rows book.now.vars
         → IfOk result (λ found. IfSome found (λ answer.
-        IsFound places d book.now.rows wanted.gap wanted.pivots wanted.show rounded third_attempt answer.status answer.text.items
-        ⊎ IsFoundInfeasibleShown places d book.now.rows wanted.pivots wanted.show rounded answer.status answer.text.items)) }
+        IsFound places d book.now.rows wanted rounded answer.status answer.text.items
+        ⊎ IsFoundInfeasibleShown places d book.now.rows wanted rounded answer.status answer.text.items)) }
 {
     match guess_book(alloc, book, program, wanted.gap, u64::from(wanted.pivots))? {
         Some(solution) => {

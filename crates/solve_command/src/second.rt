@@ -37,7 +37,7 @@ pub fn or_second(
     requires listed { IsListedBook sets.now book.now.rows book.now.vars }
     requires program { IsProgramOf book.now.rows book.now.vars program.now }
     requires fits { first_wide (elimination_steps book.now.rows (definers book.now.rows)) ≡ None }
-    ensures { IfOk result (λ last. IsLastOf sets.now book.now.rows book.now.vars wanted.gap wanted.pivots wanted.show rounded places first last) }
+    ensures { IfOk result (λ last. IsLastOf sets.now book.now.rows book.now.vars wanted rounded places first last) }
 {
     match answer_second(alloc, book, sets, program, places, wanted, rounded)? {
         Some(answer) => Ok(answer),
@@ -58,7 +58,7 @@ fn answer_second(
     requires listed { IsListedBook sets.now book.now.rows book.now.vars }
     requires program { IsProgramOf book.now.rows book.now.vars program.now }
     requires fits { first_wide (elimination_steps book.now.rows (definers book.now.rows)) ≡ None }
-    ensures { IfOk result (TellsSecond sets.now book.now.rows book.now.vars wanted.gap wanted.pivots wanted.show rounded places) }
+    ensures { IfOk result (TellsSecond sets.now book.now.rows book.now.vars wanted rounded places) }
 {
     if wanted.gap == 0 {
         return Ok(None);

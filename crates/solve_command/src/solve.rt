@@ -75,7 +75,7 @@ pub fn answer_solve(
 ) -> Result<Answer, AllocError>
     requires { IsPlaces places }
     ensures { (d : Data) → AreSameData model.now.facts d → IfOk result (λ answer.
-        DueForSolve places wanted.gap wanted.pivots wanted.show wanted.method model.now.rounded d answer.status answer.text.items) }
+        DueForSolve places wanted model.now.rounded d answer.status answer.text.items) }
 {
     match sized_book(alloc, model, places)? {
         Ok(book) => answer_method(alloc, &book, model.sets(), places, wanted, model.rounded()),
@@ -95,7 +95,7 @@ pub fn answer_method(
 ) -> Result<Answer, AllocError>
     requires { IsListedBook sets.now book.now.rows book.now.vars }
     ensures { (d : Data) → sets.now ≡ d.sets → IsBookOf places d book.now.rows book.now.vars
-        → IfOk result (λ answer. DueForMethod places d book.now.rows wanted.gap wanted.pivots wanted.show wanted.method rounded answer.status answer.text.items) }
+        → IfOk result (λ answer. DueForMethod places d book.now.rows wanted rounded answer.status answer.text.items) }
 {
     match eliminate_book(alloc, book) {
         Ok(program) => answer_program(alloc, book, sets, &program, places, wanted, rounded),
@@ -117,7 +117,7 @@ fn answer_program(
     requires program { IsProgramOf book.now.rows book.now.vars program.now }
     requires fits { first_wide (elimination_steps book.now.rows (definers book.now.rows)) ≡ None }
     ensures { (d : Data) → sets.now ≡ d.sets → IsBookOf places d book.now.rows book.now.vars
-        → IfOk result (λ answer. DueForMethod places d book.now.rows wanted.gap wanted.pivots wanted.show wanted.method rounded answer.status answer.text.items) }
+        → IfOk result (λ answer. DueForMethod places d book.now.rows wanted rounded answer.status answer.text.items) }
 {
     match wanted.method {
         SolveMethod::Exact => answer_exactly(alloc, book, sets, program, places, wanted, rounded),
@@ -144,7 +144,7 @@ fn answer_exactly(
     requires program { IsProgramOf book.now.rows book.now.vars program.now }
     requires fits { first_wide (elimination_steps book.now.rows (definers book.now.rows)) ≡ None }
     ensures { (d : Data) → sets.now ≡ d.sets → IsBookOf places d book.now.rows book.now.vars
-        → IfOk result (λ answer. DueForEnd places d book.now.rows wanted.gap wanted.pivots wanted.show rounded answer.status answer.text.items) }
+        → IfOk result (λ answer. DueForEnd places d book.now.rows wanted rounded answer.status answer.text.items) }
 {
     let pivots = u64::from(wanted.pivots);
     match solve_book(alloc, book, program, pivots) {
@@ -179,7 +179,7 @@ fn answer_end(
     requires fits { first_wide (elimination_steps book.now.rows (definers book.now.rows)) ≡ None }
     requires complete { IsComplete book.now.vars solution.now }
     requires named { IsNamed book.now.rows solution.now }
-    ensures { IfOk result (λ answer. TellsExactly sets.now book.now.rows book.now.vars wanted.gap wanted.pivots wanted.show rounded places solution.now answer.status answer.text.items) }
+    ensures { IfOk result (λ answer. TellsExactly sets.now book.now.rows book.now.vars wanted rounded places solution.now answer.status answer.text.items) }
 {
     let show = wanted.show;
     match solution_text(

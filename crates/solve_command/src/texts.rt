@@ -1,9 +1,12 @@
 // What is shown of a solution: a report, its plan, its multipliers, what proves it, or a few lines.
-ghost use Rattle.std.specs.Prelude.{◌≡◌, ℕ, [], IfErr, IfOk, OnOk};
+ghost use Rattle.std.specs.Prelude.{◌≡◌, ℕ, List, [], IfErr, IfOk, OnOk};
+ghost use Rattle.model_sets.specs.Members.{SetLists};
+ghost use Rattle.row_core.specs.declared.Row.{Row};
+ghost use Rattle.row_core.specs.declared.Var.{Var};
 ghost use Rattle.exact_num.specs.Value.{value_of};
 ghost use Rattle.certified_answers.specs.Answers.{IsComplete, IsNamed};
 ghost use Rattle.command_answers.specs.CheckedPlans.{IsListedBook};
-ghost use Rattle.solve_command.specs.SolveOutcomes.{PricesAreStopped, PricesFitIn, multipliers_shown, plan_shown, proof_shown, report_shown, solution_shown, summary_shown};
+ghost use Rattle.solve_command.specs.SolveOutcomes.{PricesAreStopped, PricesFitIn, solution_shown};
 ghost use Rattle.solve_command.specs.SolveTexts.{multiplier_file, plan_file, solved_lines};
 ghost use Rattle.solve_command.specs.declared.solve.Shown.TheVariants as shows;
 
@@ -61,7 +64,7 @@ pub fn shown_beside(
     requires listed { IsListedBook sets.now book.now.rows book.now.vars }
     requires complete { IsComplete book.now.vars solution.now }
     requires named { IsNamed book.now.rows solution.now }
-    ensures { (rounded places attempt : ℕ) → report.items ≡ report_shown sets.now book.now.rows book.now.vars rounded places attempt solution.now
+    ensures { (rounded places attempt : ℕ) → report.items ≡ solution_shown shows.Report sets.now book.now.rows book.now.vars rounded places attempt solution.now
         → IfOk result (λ text. text.items ≡ solution_shown show sets.now book.now.rows book.now.vars rounded places attempt solution.now) }
 {
     match show {
@@ -85,7 +88,7 @@ fn report_of(
 ) -> Result<Vec<u8>, Stopped>
     requires listed { IsListedBook sets.now book.now.rows book.now.vars }
     requires complete { IsComplete book.now.vars solution.now }
-    ensures text { IfOk result (λ text. text.items ≡ report_shown sets.now book.now.rows book.now.vars rounded places attempt solution.now) }
+    ensures text { IfOk result (λ text. text.items ≡ solution_shown shows.Report sets.now book.now.rows book.now.vars rounded places attempt solution.now) }
     ensures fits { OnOk result (PricesFitIn shows.Report book.now.rows solution.now) }
     ensures stopped { IfErr result (PricesAreStopped shows.Report book.now.rows solution.now) }
 {
@@ -133,7 +136,7 @@ fn summary_of(
 ) -> Result<Vec<u8>, Stopped>
     requires listed { IsListedBook sets.now book.now.rows book.now.vars }
     requires complete { IsComplete book.now.vars solution.now }
-    ensures text { IfOk result (λ text. text.items ≡ summary_shown solution.now) }
+    ensures text { IfOk result (λ text. text.items ≡ solution_shown shows.Summary sets.now book.now.rows book.now.vars rounded places attempt solution.now) }
     ensures fits { OnOk result (PricesFitIn shows.Summary book.now.rows solution.now) }
     ensures stopped { IfErr result (PricesAreStopped shows.Summary book.now.rows solution.now) }
 {
@@ -143,7 +146,8 @@ fn summary_of(
 
 // Its text.
 fn summary_text(alloc: Global, solution: &Certified) -> Result<Vec<u8>, AllocError>
-    ensures { IfOk result (λ text. text.items ≡ summary_shown solution.now) }
+    ensures { (sets : SetLists) (rows : List Row) (vars : List Var) (rounded places attempt : ℕ)
+        → IfOk result (λ text. text.items ≡ solution_shown shows.Summary sets rows vars rounded places attempt solution.now) }
 {
     match solution {
         Certified::Optimal {
@@ -178,7 +182,7 @@ fn plan_of(
 ) -> Result<Vec<u8>, AllocError>
     requires listed { IsListedBook sets.now book.now.rows book.now.vars }
     requires complete { IsComplete book.now.vars solution.now }
-    ensures { IfOk result (λ text. text.items ≡ plan_shown sets.now solution.now) }
+    ensures { (rounded places attempt : ℕ) → IfOk result (λ text. text.items ≡ solution_shown shows.Plan sets.now book.now.rows book.now.vars rounded places attempt solution.now) }
 {
     match solution {
         Certified::Optimal { plan, .. } | Certified::Unbounded { plan, .. } => {
@@ -205,7 +209,7 @@ fn multipliers_of(
 ) -> Result<Vec<u8>, AllocError>
     requires listed { IsListedBook sets.now book.now.rows book.now.vars }
     requires named { IsNamed book.now.rows solution.now }
-    ensures { IfOk result (λ text. text.items ≡ multipliers_shown sets.now solution.now) }
+    ensures { (rounded places attempt : ℕ) → IfOk result (λ text. text.items ≡ solution_shown shows.Multipliers sets.now book.now.rows book.now.vars rounded places attempt solution.now) }
 {
     match solution {
         Certified::Optimal { multipliers, .. } | Certified::Infeasible { multipliers, .. } => {
@@ -233,7 +237,7 @@ fn proof_of(
     requires listed { IsListedBook sets.now book.now.rows book.now.vars }
     requires complete { IsComplete book.now.vars solution.now }
     requires named { IsNamed book.now.rows solution.now }
-    ensures { IfOk result (λ text. text.items ≡ proof_shown sets.now solution.now) }
+    ensures { (rounded places attempt : ℕ) → IfOk result (λ text. text.items ≡ solution_shown shows.Proof sets.now book.now.rows book.now.vars rounded places attempt solution.now) }
 {
     match solution {
         Certified::Optimal {

@@ -1,12 +1,11 @@
 -- What the rounded method finds of a book of rows, and ends near its bound, are due over the named equations.
-use Rattle.std.proofs.Common.{◌≡◌, ℕ, List, inl, inr, ap, ◌∙◌}
+use Rattle.std.proofs.Common.{◌≡◌, ℕ, List, inl, inr}
 use Rattle.exact_num.specs.Value.{value_of}
 use Rattle.exact_num.proofs.ValueLaws.{value_of-IsLowest}
 use Rattle.model_sets.specs.Data.{Data}
 use Rattle.model_sets.specs.Members.{SetLists}
 use Rattle.row_core.specs.declared.Row.{Row}
 use Rattle.row_core.specs.declared.Var.{Var}
-use Rattle.certified_answers.specs.Worth.{plan_cost}
 use Rattle.certified_answers.specs.declared.answers.Certified.{Certified}
 use Rattle.certified_answers.specs.declared.answers.Certified.TheVariants as found
 use Rattle.command_answers.specs.CheckedPlans.{IsBookOf}
@@ -14,17 +13,17 @@ use Rattle.command_answers.specs.declared.status.Status.{Status}
 use Rattle.command_answers.specs.BookMethods.{IsFoundBy}
 use Rattle.command_answers.proofs.SolvedRows.{are, near, refuted}
 use Rattle.span_finder.specs.Slacks.{slack_limit}
+use Rattle.span_command.specs.declared.wanted.Wanted.{Wanted}
 use Rattle.span_command.specs.Outcomes.{TellsFound}
 use Rattle.span_command.specs.Span.{DueForFound}
-use Rattle.span_command.specs.SpanTexts.{rounded_text}
 use Rattle.span_command.proofs.NearRows.{near-high-end, near-low-end}
 
-module _ (places : ℕ) (d : Data) (rows : List Row) (vars : List Var) (book : IsBookOf places d rows vars) (sets : SetLists) (same : sets ≡ d.sets) (var : Var) (slack gap pivots rounded : ℕ) (status : Status) (text : List ℕ) where
-  pub due-from_found : (solution : Certified) → IsFoundBy rows vars gap pivots solution → TellsFound sets rows vars var slack gap rounded places solution status text → DueForFound places d rows var slack gap pivots rounded status text
+module _ (places : ℕ) (d : Data) (rows : List Row) (vars : List Var) (book : IsBookOf places d rows vars) (sets : SetLists) (same : sets ≡ d.sets) (var : Var) (wanted : Wanted) (rounded : ℕ) (status : Status) (text : List ℕ) where
+  pub due-from_found : (solution : Certified) → IsFoundBy rows vars wanted.gap wanted.pivots solution → TellsFound sets rows vars var wanted rounded places solution status text → DueForFound places d rows var wanted rounded status text
   due-from_found (found.Optimal plan multipliers cost bound made) of told =
       let span = told.span in
       let worth = told.worth in
-      let limit = slack_limit (value_of bound) slack in
+      let limit = slack_limit (value_of bound) wanted.slack in
       inl (record {
         plan = plan;
         multipliers = multipliers;
@@ -34,12 +33,12 @@ module _ (places : ℕ) (d : Data) (rows : List Row) (vars : List Var) (book : I
         high = value_of span.high;
         low_plan = span.low_plan;
         high_plan = span.high_plan;
-        optimum = near places d rows vars book plan multipliers (value_of cost) (value_of bound) gap of.proved.0 of.proved.1 of.proved.2 of.complete of.named;
-        cost_is = of.proved.0.cost_is ∙ ap (λ (vs : List Var). plan_cost vs plan) (are places d rows vars book);
-        low_end = near-low-end places d rows vars book limit var span.low_plan worth.low_plan gap (value_of span.low) (value_of-IsLowest span.low) worth.low worth.low_close;
-        high_end = near-high-end places d rows vars book limit var span.high_plan worth.high_plan gap (value_of span.high) (value_of-IsLowest span.high) worth.high worth.high_close;
+        optimum = near places d rows vars book plan multipliers (value_of cost) (value_of bound) wanted.gap of.proved.0 of.proved.1 of.proved.2 of.complete of.named;
+        cost_is = rw (are places d rows vars book) at of.proved.0.cost_is;
+        low_end = near-low-end places d rows vars book limit var span.low_plan worth.low_plan wanted.gap (value_of span.low) (value_of-IsLowest span.low) worth.low worth.low_close;
+        high_end = near-high-end places d rows vars book limit var span.high_plan worth.high_plan wanted.gap (value_of span.high) (value_of-IsLowest span.high) worth.high worth.high_close;
         status_is = told.status_is;
-        text_is = told.text_is ∙ ap (λ (ss : SetLists). rounded_text ss (value_of cost) (value_of bound) limit (value_of span.low) (value_of span.high) span.low_plan span.high_plan) same;
+        text_is = rw same at told.text_is;
       })
   due-from_found (found.Infeasible multipliers made) of told =
       inr (record {

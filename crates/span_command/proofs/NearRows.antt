@@ -1,5 +1,5 @@
 -- What is proved of plans of a book's rows near the best holds of plans of the named equations.
-use Rattle.std.proofs.Common.{◌≡◌, ℕ, ℤ, pos, ◌*ℤ◌, ◌≤ℤ◌, List, sym, ◌∙◌, subst}
+use Rattle.std.proofs.Common.{◌≡◌, ℕ, ℤ, List, ◌∙◌}
 use Rattle.exact_num.specs.Rational.{IsLowest, Rational}
 use Rattle.model_sets.specs.Data.{Data}
 use Rattle.row_core.specs.declared.Row.{Row}
@@ -16,13 +16,13 @@ module _ (places : ℕ) (d : Data) (rows : List Row) (vars : List Var) (book : I
   near-from_rows : (q : ℕ) (x : Var → ℤ) → IsNearBest rows vars limit q x → NearBest places d limit q x
   near-from_rows q x near = record {
     feasible = feasible-from_rows places d rows vars book q x near.meets;
-    costs = subst (λ (z : ℤ). (z *ℤ limit.bottom) ≤ℤ (limit.top *ℤ pos q)) (costs-same places d rows vars book x) near.costs;
+    costs = rw (costs-same places d rows vars book x) at near.costs;
   }
 
   rows-from_near : (q : ℕ) (x : Var → ℤ) → NearBest places d limit q x → IsNearBest rows vars limit q x
   rows-from_near q x near = record {
     meets = rows-from_feasible places d rows vars book q x near.feasible;
-    costs = subst (λ (z : ℤ). (z *ℤ limit.bottom) ≤ℤ (limit.top *ℤ pos q)) (sym (costs-same places d rows vars book x)) near.costs;
+    costs = rw (costs-same places d rows vars book x) near.costs;
   }
 
   are-near : (plan : List (Var × Rational)) → IsNearPlan rows vars limit plan → AreNearBest places d limit plan
@@ -32,13 +32,13 @@ module _ (places : ℕ) (d : Data) (rows : List Row) (vars : List Var) (book : I
     pub low-end : (low : Rational) → low ≡ value_in var_cmp plan var → HaveAtLeast rows vars limit var low → IsLowEnd places d limit var plan
     low-end low low_is have = record {
       near = are-near plan is;
-      least = λ q x near. subst (λ (v : Rational). (v.top *ℤ pos q) ≤ℤ (x var *ℤ v.bottom)) low_is (have q x (rows-from_near q x near));
+      least = λ q x near. rw low_is at (have q x (rows-from_near q x near));
     }
 
     pub high-end : (high : Rational) → high ≡ value_in var_cmp plan var → HaveAtMost rows vars limit var high → IsHighEnd places d limit var plan
     high-end high high_is have = record {
       near = are-near plan is;
-      most = λ q x near. subst (λ (v : Rational). (x var *ℤ v.bottom) ≤ℤ (v.top *ℤ pos q)) high_is (have q x (rows-from_near q x near));
+      most = λ q x near. rw high_is at (have q x (rows-from_near q x near));
     }
 
     pub no-high-end : IsEndless rows vars limit var → HasNoHighEnd places d limit var plan

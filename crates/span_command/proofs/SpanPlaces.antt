@@ -20,7 +20,7 @@ use Rattle.written_method.specs.Eliminated.{elimination_steps}
 use Rattle.certified_answers.specs.declared.costs.Cost.TheVariants.{One}
 use Rattle.certified_answers.specs.declared.costs.Goal.{Goal}
 use Rattle.certified_answers.specs.declared.costs.Goal.TheVariants.{Least, Greatest}
-use Rattle.exact_solver.specs.MethodEnds.{HasNoBound, HasNoPlan, HasOptimum, IsPivotDue, IsWide, MethodEnd, solved_end}
+use Rattle.exact_solver.specs.MethodEnds.{HasOptimum, IsWide, MethodEnd, solved_end}
 use Rattle.simplex_core.specs.declared.stops.Stop.{Stop}
 use Rattle.command_answers.specs.CheckedPlans.{IsListedBook}
 use Rattle.command_answers.specs.Definers.{definer, definers}
@@ -29,7 +29,7 @@ use Rattle.command_answers.proofs.BookPlaces.{define-within}
 use Rattle.command_answers.proofs.KeptPlaces.{DefinesKept, EndIsKept, elimination-kept, solved-end-kept, wide-kept}
 use Rattle.command_answers.proofs.ListedBooks.{vars-named}
 use Rattle.span_finder.specs.LimitRows.{HasLimitRow}
-use Rattle.span_finder.specs.SpanEnds.{IsBounded, IsNothing, IsRising, IsStopped, SpanEnd, Stops, both_trials, greatest_end, least_end, spanned, unless_stopped}
+use Rattle.span_finder.specs.SpanEnds.{IsStopped, SpanEnd, Stops, both_trials, greatest_end, least_end, spanned, unless_stopped}
 use Rattle.span_finder.specs.declared.found.SpanFail.TheVariants.{Stopped}
 use Rattle.span_command.specs.LimitedPlaces.{NameIsLimited, StopIsLimited}
 
@@ -42,24 +42,17 @@ module _ (sets : SetLists) (Passes : RowName → Type 0) (rows : List Row) (vars
   -- ---- both
 
   abbrev SpanIsKept : SpanEnd → Type 0
-  SpanIsKept (IsBounded low high) = ⊤
-  SpanIsKept (IsRising low high direction) = ⊤
   SpanIsKept (IsStopped stop) = StopKeeps sets Passes stop
-  SpanIsKept IsNothing = ⊤
+  SpanIsKept end = ⊤
 
   greatest-kept : (low : List (Var × Rational)) (end : MethodEnd) → EndIsKept sets Passes end → SpanIsKept (greatest_end pivots low end)
-  greatest-kept low (HasOptimum high multipliers made) of = tt
-  greatest-kept low (HasNoBound high direction made) of = tt
-  greatest-kept low (HasNoPlan multipliers made) of = tt
-  greatest-kept low IsPivotDue of = tt
   greatest-kept low (IsWide place) of = of
+  greatest-kept low end of = tt
 
   least-kept : (next : List (Var × Rational) → SpanEnd) (end : MethodEnd) → ((low : List (Var × Rational)) → SpanIsKept (next low)) → EndIsKept sets Passes end → SpanIsKept (least_end pivots next end)
   least-kept next (HasOptimum low multipliers made) later of = later low
-  least-kept next (HasNoBound low direction made) later of = tt
-  least-kept next (HasNoPlan multipliers made) later of = tt
-  least-kept next IsPivotDue later of = tt
   least-kept next (IsWide place) later of = of
+  least-kept next end later of = tt
 
   both-ends-kept : SpanIsKept (both_trials rows (definers rows) vars var pivots)
   unfolding both_trials

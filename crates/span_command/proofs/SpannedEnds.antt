@@ -1,5 +1,5 @@
 -- What is due for a solution of a book, for a span near its cost, and for each stop, over the named equations.
-use Rattle.std.proofs.Common.{◌≡◌, ◌++◌, ℕ, List, Option, Some, None, inl, inr, refl, sym, ap, ◌∙◌, subst, codes}
+use Rattle.std.proofs.Common.{◌≡◌, ◌++◌, ℕ, List, Option, Some, None, inl, inr, refl, sym, ap, ◌∙◌, codes}
 use Rattle.exact_num.specs.Range.{all_fit}
 use Rattle.exact_num.specs.Rational.{Rational}
 use Rattle.exact_num.specs.Value.{value_of}
@@ -39,37 +39,34 @@ use Rattle.command_answers.specs.ToldStops.{TellsStop}
 use Rattle.command_answers.proofs.SolvedRows.{optimum, refuted, unbounded}
 use Rattle.command_answers.specs.Definers.{definers}
 use Rattle.span_finder.specs.SpanEnds as trials
-use Rattle.span_finder.specs.SpanEnds.{EndsSo, SpanEnd, Stops}
+use Rattle.span_finder.specs.SpanEnds.{EndsSo}
 use Rattle.span_finder.specs.Slacks.{slack_formed, slack_limit}
 use Rattle.span_finder.specs.Spans as over_rows
 use Rattle.span_finder.specs.Spans.{IsNearPlan}
-use Rattle.span_finder.specs.declared.found.SpanFail.{SpanFail}
 use Rattle.span_command.specs.NearBest.{IsLowEnd}
 use Rattle.span_command.specs.Outcomes.{IsToldSpan, IsToldStop, TellsNear, TellsSolution, span_lines}
-use Rattle.span_command.specs.Span.{DueBy, DueForEnd, HasLeastCost, Wanted}
+use Rattle.span_command.specs.declared.wanted.Wanted.{Wanted}
+use Rattle.span_command.specs.Span.{DueBy, DueForEnd, DueForMethod, HasLeastCost}
 use Rattle.span_command.specs.SpanTexts.{bounded_text, chosen_table, head_text, limited_line, rising_text}
 use Rattle.span_command.proofs.NearRows.{high-end, low-end, no-high-end}
 
-module _ (places : ℕ) (d : Data) (rows : List Row) (vars : List Var) (book : IsBookOf places d rows vars) (sets : SetLists) (same : sets ≡ d.sets) (var : Var) (slack pivots rounded : ℕ) (status : Status) (text : List ℕ) where
+module _ (places : ℕ) (d : Data) (rows : List Row) (vars : List Var) (book : IsBookOf places d rows vars) (sets : SetLists) (same : sets ≡ d.sets) (var : Var) (wanted : Wanted) (rounded : ℕ) (status : Status) (text : List ℕ) where
   are : vars ≡ all_variables d
   are = vars-are places d rows vars book
 
-  ends : (end : MethodEnd) → end ≡ method_end rows vars pivots → method_end rows (all_variables d) pivots ≡ end
-  ends end is = sym (is ∙ ap (λ (vs : List Var). method_end rows vs pivots) are)
+  ends : (end : MethodEnd) → end ≡ method_end rows vars wanted.pivots → method_end rows (all_variables d) wanted.pivots ≡ end
+  ends end is = rw are at (sym is)
 
   -- ---- near a least cost
 
-  module _ (cost : Rational) (least : HasLeastCost places d rows pivots cost) (fits : all_fit (slack_formed cost slack) ≡ true) where
+  module _ (cost : Rational) (least : HasLeastCost places d rows wanted.pivots cost) (fits : all_fit (slack_formed cost wanted.slack) ≡ true) where
     abbrev limit : Rational
-    limit = slack_limit cost slack
-
-    spans : (end : SpanEnd) → EndsSo rows (definers rows) vars limit var pivots end → EndsSo rows (definers rows) (all_variables d) limit var pivots end
-    spans end so = subst (λ (vs : List Var). EndsSo rows (definers rows) vs limit var pivots end) are so
+    limit = slack_limit cost wanted.slack
 
     due-from_high : (low plan : List (Var × Rational)) (high : Option Frac) (direction : Option (List (Var × Rational)))
-        → EndsSo rows (definers rows) vars limit var pivots (trials.end_seen low plan direction) → IsLowEnd places d limit var low → IsNearPlan rows vars limit plan
+        → EndsSo rows (definers rows) vars limit var wanted.pivots (trials.end_seen low plan direction) → IsLowEnd places d limit var low → IsNearPlan rows vars limit plan
         → over_rows.IsHighEnd rows vars limit var plan high direction → status ≡ Done → text ≡ span_lines sets cost limit (value_in var_cmp low var) low plan high direction
-        → DueForEnd places d rows var slack pivots rounded status text
+        → DueForEnd places d rows var wanted rounded status text
     due-from_high low plan (Some high) None so low_end near_plan is status_is text_is =
         inl (record {
           cost = cost;
@@ -77,7 +74,7 @@ module _ (places : ℕ) (d : Data) (rows : List Row) (vars : List Var) (book : I
           high = plan;
           least = least;
           fits = fits;
-          ends = spans (trials.IsBounded low plan) so;
+          ends = rw are at so;
           low_end = low_end;
           high_end = high-end places d rows vars book limit var plan near_plan (value_of high) is.0 is.1;
           status_is = status_is;
@@ -85,7 +82,6 @@ module _ (places : ℕ) (d : Data) (rows : List Row) (vars : List Var) (book : I
               ∙ ap (λ (v : Rational). head_text cost limit (value_in var_cmp low var) ++ amount_line (codes "high") v ++ chosen_table sets (codes "Low") low ++ chosen_table sets (codes "High") plan ++ end_line) is.0
               ∙ ap (λ (ss : SetLists). bounded_text ss cost limit var low plan) same;
         })
-    due-from_high low plan (Some high) (Some direction) so low_end near_plan is status_is text_is = absurd is
     due-from_high low plan None (Some direction) so low_end near_plan is status_is text_is =
         inr (inl (record {
           cost = cost;
@@ -94,49 +90,44 @@ module _ (places : ℕ) (d : Data) (rows : List Row) (vars : List Var) (book : I
           direction = direction;
           least = least;
           fits = fits;
-          ends = spans (trials.IsRising low plan direction) so;
+          ends = rw are at so;
           low_end = low_end;
           no_high_end = no-high-end places d rows vars book limit var plan near_plan is.1;
           status_is = status_is;
           text_is = text_is ∙ ap (λ (ss : SetLists). rising_text ss cost limit var low plan direction) same;
         }))
+    due-from_high low plan (Some high) (Some direction) so low_end near_plan is status_is text_is = absurd is
     due-from_high low plan None None so low_end near_plan is status_is text_is = absurd is
 
-    due-from_span : IsToldSpan sets rows vars cost limit var pivots status text → DueForEnd places d rows var slack pivots rounded status text
+    due-from_span : IsToldSpan sets rows vars cost limit var wanted.pivots status text → DueForEnd places d rows var wanted rounded status text
     due-from_span told =
         let span = told.span in
         let proved = told.proved in
         due-from_high span.low_plan span.high_plan span.high span.direction told.ends (low-end places d rows vars book limit var span.low_plan proved.low_plan (value_of span.low) proved.low_is proved.low) proved.high_plan proved.high
-        told.status_is (told.text_is ∙ ap (λ (v : Rational). span_lines sets cost limit v span.low_plan span.high_plan span.high span.direction) proved.low_is)
+        told.status_is (rw proved.low_is at told.text_is)
 
-    due-from_limit : IsToldStop sets rows vars limit var pivots status text → DueForEnd places d rows var slack pivots rounded status text
+    due-from_limit : IsToldStop sets rows vars limit var wanted.pivots status text → DueForEnd places d rows var wanted rounded status text
     due-from_limit told =
         inr (inr (inr (inr (inr (inr (record {
           cost = cost;
           stop = told.stop;
           least = least;
           fits = fits;
-          stops = subst (λ (vs : List Var). Stops rows (definers rows) vs limit var pivots (SpanFail.Stopped told.stop)) are told.stops;
+          stops = rw are at told.stops;
           status_is = told.status_is;
-          line_is = told.line_is ∙ ap (λ (ss : SetLists). limited_line ss told.stop) same;
+          line_is = told.line_is ∙ ap (λ ss. limited_line ss told.stop) same;
         }))))))
 
-  due-from_near : (cost : Rational) → HasLeastCost places d rows pivots cost → TellsNear sets rows vars cost var slack pivots status text → DueForEnd places d rows var slack pivots rounded status text
+  due-from_near : (cost : Rational) → HasLeastCost places d rows wanted.pivots cost → TellsNear sets rows vars cost var wanted status text → DueForEnd places d rows var wanted rounded status text
   due-from_near cost least (inl wide) =
-      inr (inr (inr (inr (inr (inl (record {
-        cost = cost;
-        least = least;
-        wide = wide.0;
-        status_is = wide.1;
-        line_is = wide.2 ∙ ap (λ (ss : SetLists). uncertified_line ss (Width SumGap)) same;
-      }))))))
+      inr (inr (inr (inr (inr (inl (record { cost = cost; least = least; wide = wide.0; status_is = wide.1; line_is = wide.2 ∙ ap (λ (ss : SetLists). uncertified_line ss (Width SumGap)) same }))))))
   due-from_near cost least (inr (fits, inl told)) = due-from_span cost least fits told
   due-from_near cost least (inr (fits, inr told)) = due-from_limit cost least fits told
 
   -- ---- solutions
 
-  pub due-from_solution : (solution : Certified) → end_seen solution ≡ method_end rows vars pivots → IsProved rows vars solution → IsComplete vars solution → IsNamed rows solution
-      → TellsSolution sets rows vars var slack pivots rounded places solution status text → DueForEnd places d rows var slack pivots rounded status text
+  pub due-from_solution : (solution : Certified) → end_seen solution ≡ method_end rows vars wanted.pivots → IsProved rows vars solution → IsComplete vars solution → IsNamed rows solution
+      → TellsSolution sets rows vars var wanted rounded places solution status text → DueForEnd places d rows var wanted rounded status text
   due-from_solution (found.Optimal plan multipliers cost bound made) end proved whole named told =
       due-from_near (value_of cost)
       (record {
@@ -170,33 +161,22 @@ module _ (places : ℕ) (d : Data) (rows : List Row) (vars : List Var) (book : I
 
   -- ---- stops before the least cost
 
-  pub due-from_stop : (stop : NoAnswer) → IsStopOf (method_end rows vars pivots) stop → TellsStop sets pivots stop status text → DueForEnd places d rows var slack pivots rounded status text
+  pub due-from_stop : (stop : NoAnswer) → IsStopOf (method_end rows vars wanted.pivots) stop → TellsStop sets wanted.pivots stop status text → DueForEnd places d rows var wanted rounded status text
   due-from_stop stops.Nothing stopped told = absurd stopped
   due-from_stop stops.Budget stopped told =
-      inr (inr (inr (inr (inl (record {
-        stop = Budget pivots;
-        end = inl (ends IsPivotDue (sym stopped), refl);
-        status_is = told.0;
-        line_is = told.1 ∙ ap (λ (ss : SetLists). uncertified_line ss (Budget pivots)) same;
-      })))))
+      inr (inr (inr (inr (inl (record { stop = Budget wanted.pivots; end = inl (ends IsPivotDue (sym stopped), refl); status_is = told.0; line_is = told.1 ∙ ap (λ (ss : SetLists). uncertified_line ss (Budget wanted.pivots)) same })))))
   due-from_stop (stops.Width place) stopped told =
-      inr (inr (inr (inr (inl (record {
-        stop = Width place;
-        end = inr (place, ends (IsWide place) (sym stopped), refl);
-        status_is = told.0;
-        line_is = told.1 ∙ ap (λ (ss : SetLists). uncertified_line ss (Width place)) same;
-      })))))
+      inr (inr (inr (inr (inl (record { stop = Width place; end = inr (place, ends (IsWide place) (sym stopped), refl); status_is = told.0; line_is = told.1 ∙ ap (λ ss. uncertified_line ss (Width place)) same })))))
   due-from_stop stops.Memory stopped told = absurd told
 
--- where the elimination stops, so does the exact method
-pub due-from_elimination : (places : ℕ) (d : Data) (rows : List Row) (vars : List Var) → IsBookOf places d rows vars → (sets : SetLists) → sets ≡ d.sets → (var : Var) (wanted : Wanted) (rounded : ℕ) (status : Status)
-    (text : List ℕ) (method : SolveMethod) (place : Place) → first_wide (elimination_steps rows (definers rows)) ≡ Some place → status ≡ Uncertified (Width place) → text ≡ uncertified_line sets (Width place)
-    → DueBy method places d rows var wanted rounded status text
-due-from_elimination places d rows vars book sets same var wanted rounded status text method place wide status_is line_is = by method
-  where
-    due : DueForEnd places d rows var wanted.slack wanted.pivots rounded status text
-    due = due-from_stop places d rows vars book sets same var wanted.slack wanted.pivots rounded status text (stops.Width place) (end-of-elimination rows vars wanted.pivots place wide) (status_is, line_is)
+  -- where the elimination stops, so does the exact method
+  pub due-from_elimination : (place : Place) → first_wide (elimination_steps rows (definers rows)) ≡ Some place → status ≡ Uncertified (Width place) → text ≡ uncertified_line sets (Width place)
+      → DueForMethod places d rows var wanted rounded status text
+  due-from_elimination place wide status_is line_is = by wanted.method
+    where
+      due : DueForEnd places d rows var wanted rounded status text
+      due = due-from_stop (stops.Width place) (end-of-elimination rows vars wanted.pivots place wide) (status_is, line_is)
 
-    by : (m : SolveMethod) → DueBy m places d rows var wanted rounded status text
-    by Exact = due
-    by Rounded = inr due
+      by : (m : SolveMethod) → DueBy m places d rows var wanted rounded status text
+      by Exact = due
+      by Rounded = inr due

@@ -27,13 +27,8 @@ use Rattle.span_finder.specs.RoundedSpans.{IsRoundedSpan}
 use Rattle.span_finder.specs.declared.found.RoundedSpan.{RoundedSpan}
 use Rattle.span_finder.specs.declared.found.Span.{Span}
 use Rattle.span_finder.specs.declared.found.SpanFail.TheVariants.{Stopped}
-use Rattle.span_command.specs.Span.{Wanted}
 use Rattle.span_command.specs.SpanTexts.{chosen_table, head_text, limited_line, rounded_text}
-use Rattle.span_command.specs.declared.wanted.Wanted.{Wanted as Asked}
-
--- what is wanted besides the variable
-abbrev pub wanted_of : Asked → Wanted
-wanted_of asked = record { method = asked.method; slack = asked.slack; gap = asked.gap; pivots = asked.pivots }
+use Rattle.span_command.specs.declared.wanted.Wanted.{Wanted}
 
 -- ---- the text of a span
 
@@ -80,16 +75,16 @@ abbrev pub IsToldWide : SetLists → Rational → ℕ → Status → List ℕ �
 IsToldWide sets cost slack status text =
     (all_fit (slack_formed cost slack) ≡ false) × (status ≡ Uncertified (Width SumGap)) × (text ≡ uncertified_line sets (Width SumGap))
 
-abbrev pub TellsNear : SetLists → List Row → List Var → Rational → Var → ℕ → ℕ → Status → List ℕ → Type 0
-TellsNear sets rows vars cost var slack pivots status text =
-    IsToldWide sets cost slack status text
-    ⊎ ((all_fit (slack_formed cost slack) ≡ true) × TellsSpan sets rows vars cost (slack_limit cost slack) var pivots status text)
+abbrev pub TellsNear : SetLists → List Row → List Var → Rational → Var → Wanted → Status → List ℕ → Type 0
+TellsNear sets rows vars cost var wanted status text =
+    IsToldWide sets cost wanted.slack status text
+    ⊎ ((all_fit (slack_formed cost wanted.slack) ≡ true) × TellsSpan sets rows vars cost (slack_limit cost wanted.slack) var wanted.pivots status text)
 
 -- for a solution
-abbrev pub TellsSolution : SetLists → List Row → List Var → Var → ℕ → ℕ → ℕ → ℕ → Certified → Status → List ℕ → Type 0
-TellsSolution sets rows vars var slack pivots rounded places (found.Optimal plan multipliers cost bound made) status text = TellsNear sets rows vars (value_of cost) var slack pivots status text
-TellsSolution sets rows vars var slack pivots rounded places (found.Infeasible multipliers made) status text = (status ≡ Infeasible) × (text ≡ infeasible_text made rounded places first_attempt)
-TellsSolution sets rows vars var slack pivots rounded places (found.Unbounded plan direction made) status text = (status ≡ Unbounded) × (text ≡ unbounded_text sets direction made rounded places)
+abbrev pub TellsSolution : SetLists → List Row → List Var → Var → Wanted → ℕ → ℕ → Certified → Status → List ℕ → Type 0
+TellsSolution sets rows vars var wanted rounded places (found.Optimal plan multipliers cost bound made) status text = TellsNear sets rows vars (value_of cost) var wanted status text
+TellsSolution sets rows vars var wanted rounded places (found.Infeasible multipliers made) status text = (status ≡ Infeasible) × (text ≡ infeasible_text made rounded places first_attempt)
+TellsSolution sets rows vars var wanted rounded places (found.Unbounded plan direction made) status text = (status ≡ Unbounded) × (text ≡ unbounded_text sets direction made rounded places)
 
 -- ---- by the rounded method
 
@@ -98,14 +93,14 @@ abbrev pub near_text : SetLists → Rational → Rational → Rational → Round
 near_text sets cost bound limit span = rounded_text sets cost bound limit (value_of span.low) (value_of span.high) span.low_plan span.high_plan
 
 -- a span within the slack of a bound is told
-pub record IsToldNearly (sets : SetLists) (rows : List Row) (vars : List Var) (cost bound : Rational) (var : Var) (slack gap : ℕ) (status : Status) (text : List ℕ) : Type 0 where
+pub record IsToldNearly (sets : SetLists) (rows : List Row) (vars : List Var) (cost bound : Rational) (var : Var) (wanted : Wanted) (status : Status) (text : List ℕ) : Type 0 where
   pub span : RoundedSpan
-  pub worth : IsRoundedSpan rows vars (slack_limit bound slack) var gap span
+  pub worth : IsRoundedSpan rows vars (slack_limit bound wanted.slack) var wanted.gap span
   pub status_is : status ≡ Done
-  pub text_is : text ≡ near_text sets cost bound (slack_limit bound slack) span
+  pub text_is : text ≡ near_text sets cost bound (slack_limit bound wanted.slack) span
 
 -- for what it finds
-abbrev pub TellsFound : SetLists → List Row → List Var → Var → ℕ → ℕ → ℕ → ℕ → Certified → Status → List ℕ → Type 0
-TellsFound sets rows vars var slack gap rounded places (found.Optimal plan multipliers cost bound made) status text = IsToldNearly sets rows vars (value_of cost) (value_of bound) var slack gap status text
-TellsFound sets rows vars var slack gap rounded places (found.Infeasible multipliers made) status text = (status ≡ Infeasible) × (text ≡ infeasible_text made rounded places third_attempt)
-TellsFound sets rows vars var slack gap rounded places (found.Unbounded plan direction made) status text = ⊥
+abbrev pub TellsFound : SetLists → List Row → List Var → Var → Wanted → ℕ → ℕ → Certified → Status → List ℕ → Type 0
+TellsFound sets rows vars var wanted rounded places (found.Optimal plan multipliers cost bound made) status text = IsToldNearly sets rows vars (value_of cost) (value_of bound) var wanted status text
+TellsFound sets rows vars var wanted rounded places (found.Infeasible multipliers made) status text = (status ≡ Infeasible) × (text ≡ infeasible_text made rounded places third_attempt)
+TellsFound sets rows vars var wanted rounded places (found.Unbounded plan direction made) status text = ⊥

@@ -31,6 +31,7 @@ use Rattle.command_answers.specs.Definers.{definers}
 use Rattle.span_finder.specs.SpanEnds.{EndsSo, IsBounded, IsRising, Stops}
 use Rattle.span_finder.specs.declared.found.SpanFail.TheVariants.{Stopped}
 use Rattle.span_finder.specs.Slacks.{slack_formed, slack_limit}
+use Rattle.span_command.specs.declared.wanted.Wanted.{Wanted}
 use Rattle.span_command.specs.NearBest.{HasNoHighEnd, IsHighEnd, IsLowEnd, IsNearHighEnd, IsNearLowEnd}
 use Rattle.span_command.specs.SpanTexts.{bounded_text, limited_line, rising_text, rounded_text}
 
@@ -59,47 +60,47 @@ pub record HasLeastCost (places : ℕ) (d : Data) (rows : List Row) (pivots : �
 -- ---- after it
 
 -- a number that is formed for the limit doesn't fit
-pub record HasWideLimit (places : ℕ) (d : Data) (rows : List Row) (slack pivots : ℕ) (status : Status) (text : List ℕ) : Type 0 where
+pub record HasWideLimit (places : ℕ) (d : Data) (rows : List Row) (wanted : Wanted) (status : Status) (text : List ℕ) : Type 0 where
   pub cost : Rational
-  pub least : HasLeastCost places d rows pivots cost
-  pub wide : all_fit (slack_formed cost slack) ≡ false
+  pub least : HasLeastCost places d rows wanted.pivots cost
+  pub wide : all_fit (slack_formed cost wanted.slack) ≡ false
   pub status_is : status ≡ Uncertified (Width SumGap)
   pub line_is : text ≡ uncertified_line d.sets (Width SumGap)
 
 -- each plan near the best has at least as much of the variable as one of them and at most as much as another, and both are printed
-pub record IsSpanned (places : ℕ) (d : Data) (rows : List Row) (var : Var) (slack pivots : ℕ) (status : Status) (text : List ℕ) : Type 0 where
+pub record IsSpanned (places : ℕ) (d : Data) (rows : List Row) (var : Var) (wanted : Wanted) (status : Status) (text : List ℕ) : Type 0 where
   pub cost : Rational
   pub low : List (Var × Rational)
   pub high : List (Var × Rational)
-  pub least : HasLeastCost places d rows pivots cost
-  pub fits : all_fit (slack_formed cost slack) ≡ true
-  pub ends : EndsSo rows (definers rows) (all_variables d) (slack_limit cost slack) var pivots (IsBounded low high)
-  pub low_end : IsLowEnd places d (slack_limit cost slack) var low
-  pub high_end : IsHighEnd places d (slack_limit cost slack) var high
+  pub least : HasLeastCost places d rows wanted.pivots cost
+  pub fits : all_fit (slack_formed cost wanted.slack) ≡ true
+  pub ends : EndsSo rows (definers rows) (all_variables d) (slack_limit cost wanted.slack) var wanted.pivots (IsBounded low high)
+  pub low_end : IsLowEnd places d (slack_limit cost wanted.slack) var low
+  pub high_end : IsHighEnd places d (slack_limit cost wanted.slack) var high
   pub status_is : status ≡ Done
-  pub text_is : text ≡ bounded_text d.sets cost (slack_limit cost slack) var low high
+  pub text_is : text ≡ bounded_text d.sets cost (slack_limit cost wanted.slack) var low high
 
 -- each has at least as much as one of them, and whatever the whole number, one has more
-pub record IsEndless (places : ℕ) (d : Data) (rows : List Row) (var : Var) (slack pivots : ℕ) (status : Status) (text : List ℕ) : Type 0 where
+pub record IsEndless (places : ℕ) (d : Data) (rows : List Row) (var : Var) (wanted : Wanted) (status : Status) (text : List ℕ) : Type 0 where
   pub cost : Rational
   pub low : List (Var × Rational)
   pub high : List (Var × Rational)
   pub direction : List (Var × Rational)
-  pub least : HasLeastCost places d rows pivots cost
-  pub fits : all_fit (slack_formed cost slack) ≡ true
-  pub ends : EndsSo rows (definers rows) (all_variables d) (slack_limit cost slack) var pivots (IsRising low high direction)
-  pub low_end : IsLowEnd places d (slack_limit cost slack) var low
-  pub no_high_end : HasNoHighEnd places d (slack_limit cost slack) var high
+  pub least : HasLeastCost places d rows wanted.pivots cost
+  pub fits : all_fit (slack_formed cost wanted.slack) ≡ true
+  pub ends : EndsSo rows (definers rows) (all_variables d) (slack_limit cost wanted.slack) var wanted.pivots (IsRising low high direction)
+  pub low_end : IsLowEnd places d (slack_limit cost wanted.slack) var low
+  pub no_high_end : HasNoHighEnd places d (slack_limit cost wanted.slack) var high
   pub status_is : status ≡ Done
-  pub text_is : text ≡ rising_text d.sets cost (slack_limit cost slack) var low high direction
+  pub text_is : text ≡ rising_text d.sets cost (slack_limit cost wanted.slack) var low high direction
 
 -- the row that limits the cost, the elimination, or the first trial that didn't end, stopped
-pub record HasStoppedAfter (places : ℕ) (d : Data) (rows : List Row) (var : Var) (slack pivots : ℕ) (status : Status) (text : List ℕ) : Type 0 where
+pub record HasStoppedAfter (places : ℕ) (d : Data) (rows : List Row) (var : Var) (wanted : Wanted) (status : Status) (text : List ℕ) : Type 0 where
   pub cost : Rational
   pub stop : Stop
-  pub least : HasLeastCost places d rows pivots cost
-  pub fits : all_fit (slack_formed cost slack) ≡ true
-  pub stops : Stops rows (definers rows) (all_variables d) (slack_limit cost slack) var pivots (Stopped stop)
+  pub least : HasLeastCost places d rows wanted.pivots cost
+  pub fits : all_fit (slack_formed cost wanted.slack) ≡ true
+  pub stops : Stops rows (definers rows) (all_variables d) (slack_limit cost wanted.slack) var wanted.pivots (Stopped stop)
   pub status_is : status ≡ Uncertified stop
   pub line_is : text ≡ limited_line d.sets stop
 
@@ -107,7 +108,7 @@ pub record HasStoppedAfter (places : ℕ) (d : Data) (rows : List Row) (var : Va
 
 -- A plan costs little more than a bound that no plan undercuts: so many millionths of the bound's absolute value. Each plan whose cost is within the slack of the bound has at least
 -- low of the variable and at most high, and such a plan near either end is printed.
-pub record IsSpannedNearly (places : ℕ) (d : Data) (rows : List Row) (var : Var) (slack gap : ℕ) (status : Status) (text : List ℕ) : Type 0 where
+pub record IsSpannedNearly (places : ℕ) (d : Data) (rows : List Row) (var : Var) (wanted : Wanted) (status : Status) (text : List ℕ) : Type 0 where
   pub plan : List (Var × Rational)
   pub multipliers : List (RowName × Rational)
   pub cost : Rational
@@ -116,83 +117,77 @@ pub record IsSpannedNearly (places : ℕ) (d : Data) (rows : List Row) (var : Va
   pub high : Rational
   pub low_plan : List (Var × Rational)
   pub high_plan : List (Var × Rational)
-  pub optimum : IsNearOptimum places d rows gap plan multipliers cost bound
+  pub optimum : IsNearOptimum places d rows wanted.gap plan multipliers cost bound
   pub cost_is : cost ≡ plan_cost (all_variables d) plan
-  pub low_end : IsNearLowEnd places d (slack_limit bound slack) var gap low_plan low
-  pub high_end : IsNearHighEnd places d (slack_limit bound slack) var gap high_plan high
+  pub low_end : IsNearLowEnd places d (slack_limit bound wanted.slack) var wanted.gap low_plan low
+  pub high_end : IsNearHighEnd places d (slack_limit bound wanted.slack) var wanted.gap high_plan high
   pub status_is : status ≡ Done
-  pub text_is : text ≡ rounded_text d.sets cost bound (slack_limit bound slack) low high low_plan high_plan
+  pub text_is : text ≡ rounded_text d.sets cost bound (slack_limit bound wanted.slack) low high low_plan high_plan
 
 -- ---- what is due
 
--- the method, how many millionths of its absolute value above the least cost, or above the bound of the rounded method, a plan near the best may cost, how far in millionths that method
--- may stay from what it proves, and the most pivots
-pub record Wanted : Type 0 where
-  pub method : SolveMethod
-  pub slack : ℕ
-  pub gap : ℕ
-  pub pivots : ℕ
-
 -- of a linear program within the limits, by the exact method; no report of a least cost is shown, so that no price is formed
-abbrev pub DueForEnd : ℕ → Data → List Row → Var → ℕ → ℕ → ℕ → Status → List ℕ → Type 0
-DueForEnd places d rows var slack pivots rounded status text =
-    IsSpanned places d rows var slack pivots status text
-    ⊎ IsEndless places d rows var slack pivots status text
-    ⊎ IsInfeasible places d rows pivots (λ multipliers made. infeasible_text made rounded places first_attempt) status text
-    ⊎ IsUnbounded places d rows pivots (λ plan direction made. unbounded_text d.sets direction made rounded places) status text
-    ⊎ HasStoppedBefore d rows pivots status text
-    ⊎ HasWideLimit places d rows slack pivots status text
-    ⊎ HasStoppedAfter places d rows var slack pivots status text
+abbrev pub DueForEnd : ℕ → Data → List Row → Var → Wanted → ℕ → Status → List ℕ → Type 0
+DueForEnd places d rows var wanted rounded status text =
+    IsSpanned places d rows var wanted status text
+    ⊎ IsEndless places d rows var wanted status text
+    ⊎ IsInfeasible places d rows wanted.pivots (λ multipliers made. infeasible_text made rounded places first_attempt) status text
+    ⊎ IsUnbounded places d rows wanted.pivots (λ plan direction made. unbounded_text d.sets direction made rounded places) status text
+    ⊎ HasStoppedBefore d rows wanted.pivots status text
+    ⊎ HasWideLimit places d rows wanted status text
+    ⊎ HasStoppedAfter places d rows var wanted status text
 
 -- what the rounded method finds
-abbrev pub DueForFound : ℕ → Data → List Row → Var → ℕ → ℕ → ℕ → ℕ → Status → List ℕ → Type 0
-DueForFound places d rows var slack gap pivots rounded status text =
-    IsSpannedNearly places d rows var slack gap status text
-    ⊎ IsFoundInfeasible places d rows pivots (λ multipliers made. infeasible_text made rounded places third_attempt) status text
+abbrev pub DueForFound : ℕ → Data → List Row → Var → Wanted → ℕ → Status → List ℕ → Type 0
+DueForFound places d rows var wanted rounded status text =
+    IsSpannedNearly places d rows var wanted status text
+    ⊎ IsFoundInfeasible places d rows wanted.pivots (λ multipliers made. infeasible_text made rounded places third_attempt) status text
 
 -- with the rounded method what it finds, and where it finds nothing, as with the exact one, its end
 abbrev pub DueBy : SolveMethod → ℕ → Data → List Row → Var → Wanted → ℕ → Status → List ℕ → Type 0
-DueBy Exact places d rows var wanted rounded status text = DueForEnd places d rows var wanted.slack wanted.pivots rounded status text
-DueBy Rounded places d rows var wanted rounded status text =
-    DueForFound places d rows var wanted.slack wanted.gap wanted.pivots rounded status text ⊎ DueForEnd places d rows var wanted.slack wanted.pivots rounded status text
+DueBy Exact places d rows var wanted rounded status text = DueForEnd places d rows var wanted rounded status text
+DueBy Rounded places d rows var wanted rounded status text = DueForFound places d rows var wanted rounded status text ⊎ DueForEnd places d rows var wanted rounded status text
 
 abbrev pub DueForMethod : ℕ → Data → List Row → Var → Wanted → ℕ → Status → List ℕ → Type 0
 DueForMethod places d rows var wanted rounded status text = DueBy wanted.method places d rows var wanted rounded status text
 
 -- over the data, for the capacity of a technology in a region and a year
-abbrev pub DueForMember : ℕ → Data → Var → Wanted → ℕ → Status → List ℕ → Type 0
-DueForMember places d var wanted rounded status text = DueForProgram (λ rows. DueForMethod places d rows var wanted rounded) places d status text
+abbrev pub DueForMember : ℕ → Wanted → Var → ℕ → Data → Status → List ℕ → Type 0
+DueForMember places wanted var rounded d status text = DueForProgram (λ rows. DueForMethod places d rows var wanted rounded) places d status text
 
 -- ---- the words
 
--- all three words are members
-pub record HasMembers (places : ℕ) (d : Data) (region technology year : List ℕ) (wanted : Wanted) (rounded : ℕ) (status : Status) (text : List ℕ) : Type 0 where
+-- those that name a region, a technology and a year
+pub record Names : Type 0 where
+  pub region : List ℕ
+  pub technology : List ℕ
+  pub year : List ℕ
+
+-- all three are members
+pub record HasMembers (places : ℕ) (wanted : Wanted) (names : Names) (rounded : ℕ) (d : Data) (status : Status) (text : List ℕ) : Type 0 where
   pub r : ℕ
   pub t : ℕ
   pub y : ℕ
-  pub region_is : IsMemberAt d.sets REGION region r
-  pub technology_is : IsMemberAt d.sets TECHNOLOGY technology t
-  pub year_is : IsMemberAt d.sets YEAR year y
-  pub due : DueForMember places d (built r t y) wanted rounded status text
+  pub region_is : IsMemberAt d.sets REGION names.region r
+  pub technology_is : IsMemberAt d.sets TECHNOLOGY names.technology t
+  pub year_is : IsMemberAt d.sets YEAR names.year y
+  pub due : DueForMember places wanted (built r t y) rounded d status text
 
 -- the first is a member and the second isn't
-pub record HasRegionAlone (d : Data) (region technology : List ℕ) (status : Status) (text : List ℕ) : Type 0 where
+pub record HasRegionAlone (names : Names) (d : Data) (status : Status) (text : List ℕ) : Type 0 where
   pub r : ℕ
-  pub region_is : IsMemberAt d.sets REGION region r
-  pub technology_isnt : IsNoMember d.sets TECHNOLOGY technology status text
+  pub region_is : IsMemberAt d.sets REGION names.region r
+  pub technology_isnt : IsNoMember d.sets TECHNOLOGY names.technology status text
 
 -- the first two are members and the third isn't
-pub record HasNoYear (d : Data) (region technology year : List ℕ) (status : Status) (text : List ℕ) : Type 0 where
+pub record HasNoYear (names : Names) (d : Data) (status : Status) (text : List ℕ) : Type 0 where
   pub r : ℕ
   pub t : ℕ
-  pub region_is : IsMemberAt d.sets REGION region r
-  pub technology_is : IsMemberAt d.sets TECHNOLOGY technology t
-  pub year_isnt : IsNoMember d.sets YEAR year status text
+  pub region_is : IsMemberAt d.sets REGION names.region r
+  pub technology_is : IsMemberAt d.sets TECHNOLOGY names.technology t
+  pub year_isnt : IsNoMember d.sets YEAR names.year status text
 
--- What is due over these data, for the words of a region, a technology and a year, and so many numbers of the data that are rounded.
-abbrev pub DueForSpan : ℕ → Wanted → ℕ → List ℕ → List ℕ → List ℕ → Data → Status → List ℕ → Type 0
-DueForSpan places wanted rounded region technology year d status text =
-    IsNoMember d.sets REGION region status text
-    ⊎ HasRegionAlone d region technology status text
-    ⊎ HasNoYear d region technology year status text
-    ⊎ HasMembers places d region technology year wanted rounded status text
+-- What is due over these data, for what is wanted, the words of a region, a technology and a year, and so many numbers of the data that are rounded.
+abbrev pub DueForSpan : ℕ → Wanted → Names → ℕ → Data → Status → List ℕ → Type 0
+DueForSpan places wanted names rounded d status text =
+    IsNoMember d.sets REGION names.region status text ⊎ HasRegionAlone names d status text ⊎ HasNoYear names d status text ⊎ HasMembers places wanted names rounded d status text

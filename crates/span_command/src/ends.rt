@@ -11,7 +11,6 @@ ghost use Rattle.span_command.specs.SpanTexts.{limited_line};
 
 use crate::places::{push_place, push_trial_stop};
 use crate::texts::{near_text, span_text};
-use crate::wanted::Wanted;
 use command_answers::{Answer, Status, Stop, TrialStop, push_with_number};
 use exact_num::Frac;
 use model_sets::Sets;
@@ -50,11 +49,12 @@ pub fn answer_near_ends(
     cost: Frac,
     bound: Frac,
     limit: Frac,
-    wanted: Wanted,
+    var: Var,
+    gap: u32,
     span: &RoundedSpan,
 ) -> Result<Answer, AllocError>
     requires listed { IsListedBook sets.now book.now.rows book.now.vars }
-    requires span { IsRoundedSpan book.now.rows book.now.vars (value_of limit) wanted.var wanted.gap span.now }
+    requires span { IsRoundedSpan book.now.rows book.now.vars (value_of limit) var gap span.now }
     ensures { IfOk result (λ answer. (answer.status ≡ Status.Done)
         × (answer.text.items ≡ near_text sets.now (value_of cost) (value_of bound) (value_of limit) span.now)) }
 {

@@ -16,3 +16,4 @@ mod texts;
 mod wanted;
 
 pub use span::answer_span;
+pub use wanted::Wanted;

@@ -12,7 +12,7 @@ ghost use Rattle.command_answers.specs.CheckedPlans.{IsBookOf, IsListedBook};
 ghost use Rattle.command_answers.specs.Definers.{definers};
 ghost use Rattle.span_finder.specs.SpanEnds.{Stops};
 ghost use Rattle.span_finder.specs.Spans.{HasNearBest};
-ghost use Rattle.span_command.specs.Outcomes.{IsToldStop, TellsNear, TellsSolution, TellsSpan, wanted_of};
+ghost use Rattle.span_command.specs.Outcomes.{IsToldStop, TellsNear, TellsSolution, TellsSpan};
 ghost use Rattle.span_command.specs.Span.{DueForEnd, DueForMethod};
 
 use crate::book_spans::span_of_book;
@@ -29,7 +29,7 @@ use exact_num::Frac;
 use model_sets::Sets;
 use result_tables::{infeasible_report, unbounded_report};
 use row_book::RowBook;
-use row_core::{Place, Plan};
+use row_core::{Place, Plan, Var};
 use span_finder::{SpanFail, slack_limit};
 use std::alloc::{AllocError, Global};
 
@@ -43,17 +43,18 @@ pub fn answer_method(
     book: &RowBook,
     sets: &Sets,
     places: u8,
+    var: Var,
     wanted: Wanted,
     rounded: u64,
 ) -> Result<Answer, AllocError>
     requires listed { IsListedBook sets.now book.now.rows book.now.vars }
-    requires chosen { wanted.var.kind ≡ NEW_CAPACITY }
-    requires there { Contains book.now.vars wanted.var }
+    requires chosen { var.kind ≡ NEW_CAPACITY }
+    requires there { Contains book.now.vars var }
     ensures { (d : Data) → sets.now ≡ d.sets → IsBookOf places d book.now.rows book.now.vars
-        → IfOk result (λ answer. DueForMethod places d book.now.rows wanted.var (wanted_of wanted) rounded answer.status answer.text.items) }
+        → IfOk result (λ answer. DueForMethod places d book.now.rows var wanted rounded answer.status answer.text.items) }
 {
     match eliminate_book(alloc, book) {
-        Ok(program) => answer_program(alloc, book, sets, &program, places, wanted, rounded),
+        Ok(program) => answer_program(alloc, book, sets, &program, places, var, wanted, rounded),
         Err(stop) => stop_on_elimination(alloc, book, sets, stop),
     }
 }
@@ -65,23 +66,26 @@ fn answer_program(
     sets: &Sets,
     program: &BookProgram,
     places: u8,
+    var: Var,
     wanted: Wanted,
     rounded: u64,
 ) -> Result<Answer, AllocError>
     requires listed { IsListedBook sets.now book.now.rows book.now.vars }
     requires program { IsProgramOf book.now.rows book.now.vars program.now }
     requires fits { first_wide (elimination_steps book.now.rows (definers book.now.rows)) ≡ None }
-    requires chosen { wanted.var.kind ≡ NEW_CAPACITY }
-    requires there { Contains book.now.vars wanted.var }
+    requires chosen { var.kind ≡ NEW_CAPACITY }
+    requires there { Contains book.now.vars var }
     ensures { (d : Data) → sets.now ≡ d.sets → IsBookOf places d book.now.rows book.now.vars
-        → IfOk result (λ answer. DueForMethod places d book.now.rows wanted.var (wanted_of wanted) rounded answer.status answer.text.items) }
+        → IfOk result (λ answer. DueForMethod places d book.now.rows var wanted rounded answer.status answer.text.items) }
 {
     match wanted.method {
-        SolveMethod::Exact => answer_exact(alloc, book, sets, program, places, wanted, rounded),
+        SolveMethod::Exact => answer_exact(
+            alloc, book, sets, program, places, var, wanted, rounded,
+        ),
         SolveMethod::Rounded => {
-            match answer_rounded(alloc, book, sets, program, places, wanted, rounded)? {
+            match answer_rounded(alloc, book, sets, program, places, var, wanted, rounded)? {
                 Some(answer) => Ok(answer),
-                None => answer_exact(alloc, book, sets, program, places, wanted, rounded),
+                None => answer_exact(alloc, book, sets, program, places, var, wanted, rounded),
             }
         }
     }
@@ -94,19 +98,20 @@ fn answer_exact(
     sets: &Sets,
     program: &BookProgram,
     places: u8,
+    var: Var,
     wanted: Wanted,
     rounded: u64,
 ) -> Result<Answer, AllocError>
     requires listed { IsListedBook sets.now book.now.rows book.now.vars }
     requires program { IsProgramOf book.now.rows book.now.vars program.now }
     requires fits { first_wide (elimination_steps book.now.rows (definers book.now.rows)) ≡ None }
-    requires chosen { wanted.var.kind ≡ NEW_CAPACITY }
-    requires there { Contains book.now.vars wanted.var }
+    requires chosen { var.kind ≡ NEW_CAPACITY }
+    requires there { Contains book.now.vars var }
     ensures { (d : Data) → sets.now ≡ d.sets → IsBookOf places d book.now.rows book.now.vars
-        → IfOk result (λ answer. DueForEnd places d book.now.rows wanted.var wanted.slack wanted.pivots rounded answer.status answer.text.items) }
+        → IfOk result (λ answer. DueForEnd places d book.now.rows var wanted rounded answer.status answer.text.items) }
 {
     match solve_book(alloc, book, program, wanted.pivots) {
-        Ok(solution) => answer_solution(alloc, book, sets, places, wanted, rounded, &solution),
+        Ok(solution) => answer_solution(alloc, book, sets, places, var, wanted, rounded, &solution),
         Err(stop) => stop_on_book(alloc, book, sets, stop, wanted.pivots),
     }
 }
@@ -117,20 +122,21 @@ fn answer_solution(
     book: &RowBook,
     sets: &Sets,
     places: u8,
+    var: Var,
     wanted: Wanted,
     rounded: u64,
     solution: &Certified,
 ) -> Result<Answer, AllocError>
     requires listed { IsListedBook sets.now book.now.rows book.now.vars }
-    requires chosen { wanted.var.kind ≡ NEW_CAPACITY }
-    requires there { Contains book.now.vars wanted.var }
+    requires chosen { var.kind ≡ NEW_CAPACITY }
+    requires there { Contains book.now.vars var }
     requires proved { IsProved book.now.rows book.now.vars solution.now }
     requires complete { IsComplete book.now.vars solution.now }
-    ensures { IfOk result (λ answer. TellsSolution sets.now book.now.rows book.now.vars wanted.var wanted.slack wanted.pivots rounded places solution.now answer.status answer.text.items) }
+    ensures { IfOk result (λ answer. TellsSolution sets.now book.now.rows book.now.vars var wanted rounded places solution.now answer.status answer.text.items) }
 {
     match solution {
         Certified::Optimal { plan, cost, .. } => answer_near(
-            alloc, book, sets, wanted, plan, *cost,
+            alloc, book, sets, var, wanted, plan, *cost,
         ),
         Certified::Infeasible { pivots, .. } => Ok(Answer {
             status: Status::Infeasible,
@@ -152,18 +158,19 @@ fn answer_near(
     alloc: Global,
     book: &RowBook,
     sets: &Sets,
+    var: Var,
     wanted: Wanted,
     plan: &Plan,
     cost: Frac,
 ) -> Result<Answer, AllocError>
     requires listed { IsListedBook sets.now book.now.rows book.now.vars }
-    requires chosen { wanted.var.kind ≡ NEW_CAPACITY }
-    requires there { Contains book.now.vars wanted.var }
+    requires chosen { var.kind ≡ NEW_CAPACITY }
+    requires there { Contains book.now.vars var }
     requires plan { IsPlan book.now.rows book.now.vars plan.now (value_of cost) }
-    ensures { IfOk result (λ answer. TellsNear sets.now book.now.rows book.now.vars (value_of cost) wanted.var wanted.slack wanted.pivots answer.status answer.text.items) }
+    ensures { IfOk result (λ answer. TellsNear sets.now book.now.rows book.now.vars (value_of cost) var wanted answer.status answer.text.items) }
 {
     match slack_limit(cost, wanted.slack) {
-        Ok(limit) => answer_within(alloc, book, sets, wanted, cost, limit),
+        Ok(limit) => answer_within(alloc, book, sets, var, wanted, cost, limit),
         Err(_) => stop_at(alloc, Place::SumGap, sets),
     }
 }
@@ -173,19 +180,20 @@ fn answer_within(
     alloc: Global,
     book: &RowBook,
     sets: &Sets,
+    var: Var,
     wanted: Wanted,
     cost: Frac,
     limit: Frac,
 ) -> Result<Answer, AllocError>
     requires listed { IsListedBook sets.now book.now.rows book.now.vars }
-    requires chosen { wanted.var.kind ≡ NEW_CAPACITY }
-    requires there { Contains book.now.vars wanted.var }
+    requires chosen { var.kind ≡ NEW_CAPACITY }
+    requires there { Contains book.now.vars var }
     requires near { HasNearBest book.now.rows book.now.vars (value_of limit) }
-    ensures { IfOk result (λ answer. TellsSpan sets.now book.now.rows book.now.vars (value_of cost) (value_of limit) wanted.var wanted.pivots answer.status answer.text.items) }
+    ensures { IfOk result (λ answer. TellsSpan sets.now book.now.rows book.now.vars (value_of cost) (value_of limit) var wanted.pivots answer.status answer.text.items) }
 {
-    match span_of_book(alloc, book, limit, wanted.var, wanted.pivots) {
-        Ok(span) => answer_found(alloc, book, sets, cost, limit, wanted.var, &span),
-        Err(fail) => answer_fail(alloc, book, sets, wanted, limit, fail),
+    match span_of_book(alloc, book, limit, var, wanted.pivots) {
+        Ok(span) => answer_found(alloc, book, sets, cost, limit, var, &span),
+        Err(fail) => answer_fail(alloc, book, sets, var, wanted, limit, fail),
     }
 }
 
@@ -194,13 +202,14 @@ fn answer_fail(
     alloc: Global,
     book: &RowBook,
     sets: &Sets,
+    var: Var,
     wanted: Wanted,
     limit: Frac,
     fail: SpanFail,
 ) -> Result<Answer, AllocError>
     requires listed { IsListedBook sets.now book.now.rows book.now.vars }
-    requires stops { Stops book.now.rows (definers book.now.rows) book.now.vars (value_of limit) wanted.var wanted.pivots fail }
-    ensures { IfOk result (λ answer. IsToldStop sets.now book.now.rows book.now.vars (value_of limit) wanted.var wanted.pivots answer.status answer.text.items) }
+    requires stops { Stops book.now.rows (definers book.now.rows) book.now.vars (value_of limit) var wanted.pivots fail }
+    ensures { IfOk result (λ answer. IsToldStop sets.now book.now.rows book.now.vars (value_of limit) var wanted.pivots answer.status answer.text.items) }
 {
     // The rows and the variables of a book are what the places of the trials speak of.
     let _ = book.vars();

@@ -18,6 +18,7 @@ use exact_num::Frac;
 use model_sets::Sets;
 use result_tables::infeasible_report;
 use row_book::RowBook;
+use row_core::Var;
 use span_finder::slack_limit;
 use std::alloc::{AllocError, Global};
 
@@ -32,18 +33,21 @@ pub fn answer_rounded(
     sets: &Sets,
     program: &BookProgram,
     places: u8,
+    var: Var,
     wanted: Wanted,
     rounded: u64,
 ) -> Result<Option<Answer>, AllocError>
     requires listed { IsListedBook sets.now book.now.rows book.now.vars }
     requires program { IsProgramOf book.now.rows book.now.vars program.now }
-    requires chosen { wanted.var.kind ≡ NEW_CAPACITY }
-    requires there { Contains book.now.vars wanted.var }
+    requires chosen { var.kind ≡ NEW_CAPACITY }
+    requires there { Contains book.now.vars var }
     ensures { (d : Data) → sets.now ≡ d.sets → IsBookOf places d book.now.rows book.now.vars
-        → IfOk result (λ found. IfSome found (λ answer. DueForFound places d book.now.rows wanted.var wanted.slack wanted.gap wanted.pivots rounded answer.status answer.text.items)) }
+        → IfOk result (λ found. IfSome found (λ answer. DueForFound places d book.now.rows var wanted rounded answer.status answer.text.items)) }
 {
     match guess_book(alloc, book, program, wanted.gap, wanted.pivots)? {
-        Some(solution) => answer_solution(alloc, book, sets, places, wanted, rounded, &solution),
+        Some(solution) => answer_solution(
+            alloc, book, sets, places, var, wanted, rounded, &solution,
+        ),
         None => Ok(None),
     }
 }
@@ -54,20 +58,21 @@ fn answer_solution(
     book: &RowBook,
     sets: &Sets,
     places: u8,
+    var: Var,
     wanted: Wanted,
     rounded: u64,
     solution: &Certified,
 ) -> Result<Option<Answer>, AllocError>
     requires listed { IsListedBook sets.now book.now.rows book.now.vars }
-    requires chosen { wanted.var.kind ≡ NEW_CAPACITY }
-    requires there { Contains book.now.vars wanted.var }
+    requires chosen { var.kind ≡ NEW_CAPACITY }
+    requires there { Contains book.now.vars var }
     requires found { IsFoundBy book.now.rows book.now.vars wanted.gap wanted.pivots solution.now }
     ensures { IfOk result (λ found. IfSome found (λ answer.
-        TellsFound sets.now book.now.rows book.now.vars wanted.var wanted.slack wanted.gap rounded places solution.now answer.status answer.text.items)) }
+        TellsFound sets.now book.now.rows book.now.vars var wanted rounded places solution.now answer.status answer.text.items)) }
 {
     match solution {
         Certified::Optimal { cost, bound, .. } => {
-            answer_near(alloc, book, sets, wanted, *cost, *bound)
+            answer_near(alloc, book, sets, var, wanted, *cost, *bound)
         }
         Certified::Infeasible { pivots, .. } => Ok(Some(Answer {
             status: Status::Infeasible,
@@ -82,22 +87,25 @@ fn answer_near(
     alloc: Global,
     book: &RowBook,
     sets: &Sets,
+    var: Var,
     wanted: Wanted,
     cost: Frac,
     bound: Frac,
 ) -> Result<Option<Answer>, AllocError>
     requires listed { IsListedBook sets.now book.now.rows book.now.vars }
-    requires chosen { wanted.var.kind ≡ NEW_CAPACITY }
-    requires there { Contains book.now.vars wanted.var }
+    requires chosen { var.kind ≡ NEW_CAPACITY }
+    requires there { Contains book.now.vars var }
     ensures { IfOk result (λ found. IfSome found (λ answer.
-        IsToldNearly sets.now book.now.rows book.now.vars (value_of cost) (value_of bound) wanted.var wanted.slack wanted.gap answer.status answer.text.items)) }
+        IsToldNearly sets.now book.now.rows book.now.vars (value_of cost) (value_of bound) var wanted answer.status answer.text.items)) }
 {
     let Ok(limit) = slack_limit(bound, wanted.slack) else {
         return Ok(None);
     };
-    match rounded_span_of_book(alloc, book, limit, wanted.var, wanted.gap, wanted.pivots)? {
+    match rounded_span_of_book(alloc, book, limit, var, wanted.gap, wanted.pivots)? {
         Some(span) => {
-            let answer = answer_near_ends(alloc, book, sets, cost, bound, limit, wanted, &span)?;
+            let answer = answer_near_ends(
+                alloc, book, sets, cost, bound, limit, var, wanted.gap, &span,
+            )?;
             Ok(Some(answer))
         }
         None => Ok(None),

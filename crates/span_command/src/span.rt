@@ -4,39 +4,31 @@ ghost use Rattle.discount_factors.specs.Factors.{IsPlaces};
 ghost use Rattle.model_sets.specs.Data.{AreSameData, Data};
 ghost use Rattle.named_equations.specs.Existence.{exists};
 ghost use Rattle.row_core.specs.declared.kind_numbers.TheConstants.{NEW_CAPACITY};
-ghost use Rattle.span_command.specs.Outcomes.{wanted_of};
 ghost use Rattle.span_command.specs.Span.{DueForMember, DueForSpan, built};
 
 use crate::method::answer_method;
 use crate::wanted::Wanted;
 use command_answers::{Answer, find_member, sized_book};
-use command_words::SolveMethod;
 use model_sets::set_numbers::{REGION, TECHNOLOGY, YEAR};
 use param_tables::ModelData;
 use row_core::kind_numbers::NEW_CAPACITY;
 use row_core::{Index, Var};
 use std::alloc::{AllocError, Global};
 
-/// What is due over any data that have the model's sets and values, with written factors of 6 or 9 decimal places: for the words of a
-/// region, a technology and a year, in plans whose cost is at most so many millionths of its absolute value above the least cost, or above the bound
-/// of the rounded method. The
-/// search for the least cost, and each of the two trials, may make so many pivots at most. The rounded method, where it is asked for, may
-/// stay so many millionths from what it proves: a cost from a bound, and a plan's value from an end.
+/// What is due over any data that have the model's sets and values, with written factors of 6 or 9 decimal places, for the words of a
+/// region, a technology and a year.
 pub fn answer_span(
     alloc: Global,
     model: &ModelData,
     places: u8,
+    wanted: Wanted,
     region: &str,
     technology: &str,
     year: &str,
-    slack: u32,
-    pivots: u32,
-    method: SolveMethod,
-    gap: u32,
 ) -> Result<Answer, AllocError>
     requires { IsPlaces places }
     ensures { (d : Data) → AreSameData model.now.facts d → IfOk result (λ answer.
-        DueForSpan places (record { method = method; slack = slack; gap = gap; pivots = pivots }) model.now.rounded region.now technology.now year.now d answer.status answer.text.items) }
+        DueForSpan places wanted (record { region = region.now; technology = technology.now; year = year.now }) model.now.rounded d answer.status answer.text.items) }
 {
     let region = match find_member(alloc, model.sets(), REGION, region)? {
         Ok(region) => region,
@@ -50,14 +42,13 @@ pub fn answer_span(
         Ok(year) => year,
         Err(answer) => return Ok(answer),
     };
-    let wanted = Wanted {
-        var: built(region, technology, year),
-        method,
-        slack,
-        gap,
-        pivots: u64::from(pivots),
-    };
-    answer_member(alloc, model, places, wanted)
+    answer_member(
+        alloc,
+        model,
+        places,
+        wanted,
+        built(region, technology, year),
+    )
 }
 
 // The capacity of a technology that is built in a region in a year.
@@ -85,15 +76,24 @@ fn answer_member(
     model: &ModelData,
     places: u8,
     wanted: Wanted,
+    var: Var,
 ) -> Result<Answer, AllocError>
     requires places { IsPlaces places }
-    requires chosen { wanted.var.kind ≡ NEW_CAPACITY }
-    requires exists { exists model.now.facts wanted.var ≡ true }
+    requires chosen { var.kind ≡ NEW_CAPACITY }
+    requires exists { exists model.now.facts var ≡ true }
     ensures { (d : Data) → AreSameData model.now.facts d → IfOk result (λ answer.
-        DueForMember places d wanted.var (wanted_of wanted) model.now.rounded answer.status answer.text.items) }
+        DueForMember places wanted var model.now.rounded d answer.status answer.text.items) }
 {
     match sized_book(alloc, model, places)? {
-        Ok(book) => answer_method(alloc, &book, model.sets(), places, wanted, model.rounded()),
+        Ok(book) => answer_method(
+            alloc,
+            &book,
+            model.sets(),
+            places,
+            var,
+            wanted,
+            model.rounded(),
+        ),
         Err(answer) => Ok(answer),
     }
 }

@@ -1,25 +1,11 @@
 -- The definitions, computed: on a model of two technologies T and U, of which 10 units of activity are wanted, whose best plan builds 10 of T and costs 80, with a limit of 88.
-use Rattle.std.proofs.Common.{◌≡◌, ℕ, ℤ, pos, negsuc, List, [], ◌∷◌, inl, inr, refl}
-use Rattle.std.specs.Prelude.{Some, None, ◌==◌, if◌then◌else◌}
-use Rattle.std.proofs.Common.{arith}
-use Rattle.std.proofs.lemmas.Int.{ints}
-use Rattle.exact_num.specs.Gcd.{gcd_of, gcd_within}
-use Rattle.exact_num.specs.Rational.{Rational, lowest, minus, order_of, plus, times, whole}
-use Rattle.row_core.specs.declared.Var.{Var}
-use Rattle.row_core.specs.declared.kind_numbers.TheConstants.{NEW_CAPACITY, TOTAL_DISCOUNTED_COST}
-use Rattle.row_core.specs.declared.place.Place.TheVariants.{CostRow, Expand, Row}
-use Rattle.row_core.specs.Terms.{gathered}
-use Rattle.row_core.specs.Written.{written_entries, written_right}
-use Rattle.certified_answers.specs.Costs.{weight_of}
+use Rattle.row_problem.proofs.Common.{◌≡◌, ℕ, ℤ, pos, negsuc, List, [], ◌∷◌, inl, inr, refl, Some, None, ◌==◌, if◌then◌else◌, arith, ints, gcd_of, gcd_within, lowest, minus, order_of, plus, times, whole, Var, NEW_CAPACITY, TOTAL_DISCOUNTED_COST, CostRow, Expand, gathered, written_entries, written_right, weight_of, One, Least, Greatest, SPAN, span_name, Values}
+use Rattle.row_core.specs.declared.place.Place.TheVariants.{Row}
 use Rattle.certified_answers.specs.declared.answers.NoAnswer.TheVariants as answers
-use Rattle.certified_answers.specs.declared.costs.Cost.TheVariants.{One}
-use Rattle.certified_answers.specs.declared.costs.Goal.TheVariants.{Least, Greatest}
 use Rattle.exact_solver.specs.MethodEnds.{HasNoBound, HasOptimum, IsPivotDue, IsWide}
 use Rattle.simplex_core.specs.declared.stops.Stop.TheVariants.{Budget, Trial, Width}
 use Rattle.simplex_core.specs.declared.stops.TrialStop.TheVariants as trials
 use Rattle.span_finder.specs.declared.found.SpanFail.TheVariants.{Memory, Stopped}
-use Rattle.row_core.specs.declared.cost_limit.TheConstants.{SPAN}
-use Rattle.row_core.specs.CostLimits.{span_name}
 use Rattle.span_finder.specs.LimitRows.{CostsAtMost, cost_terms}
 use Rattle.span_finder.specs.RoundedSpans.{LieWithin, measure_of}
 use Rattle.span_finder.specs.Slacks.{slack_limit}
@@ -103,7 +89,7 @@ others_cost_nothing = refl
 
 -- ---- ends
 
-abbrev plan_of : ℤ → List (Var × Rational)
+abbrev plan_of : ℤ → Values
 plan_of n = (built_t, whole n) ∷ []
 
 -- both trials end: the first with the least value, the second with the greatest, and not the other way round

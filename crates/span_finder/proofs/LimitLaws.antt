@@ -1,26 +1,6 @@
 -- What the row that limits the cost says, and which variables it has.
-use Rattle.std.proofs.Common.{◌≡◌, ℕ, ℤ, pos, ◌+ℤ◌, ◌*ℤ◌, Bool, true, false, List, [], ◌∷◌, ◌⊎◌, inl, inr, sym, ap, ◌∙◌, subst, arith, if◌then◌else◌}
-use Rattle.std.specs.Prelude.{◌↔◌, ◌<ℤ◌, Result, Ok, Err, IfOk}
-use Rattle.std.proofs.lemmas.Int.{ints}
-use Rattle.std.specs.declared.cmp.Ordering.{Ordering}
-use Rattle.std.specs.declared.cmp.Ordering.TheVariants.{Less, Equal as Alike, Greater}
-use Rattle.exact_num.specs.Rational.{Rational, plus, whole}
-use Rattle.exact_num.proofs.Ring.{ring, zero-*ℤ}
-use Rattle.row_core.specs.declared.Row.{Row}
-use Rattle.row_core.specs.declared.Sense.TheVariants.{Most}
-use Rattle.row_core.specs.declared.Var.{Var}
-use Rattle.row_core.specs.declared.place.Stopped.{Stopped}
-use Rattle.row_core.specs.Numbers.{is_zero, variables_of}
-use Rattle.row_core.specs.Order.{var_cmp}
-use Rattle.row_core.specs.Rows.{RowHolds}
-use Rattle.row_core.specs.Statements.{Stands}
-use Rattle.row_core.specs.Terms.{gathered, gathered_onto, with_term}
-use Rattle.row_core.specs.Values.{IsSumOver, SaysTheSame}
-use Rattle.row_core.specs.Written.{kept, written_entries, written_right}
-use Rattle.row_core.proofs.SumLaws.{IsOver-one, IsOver-own, IsSumOver-gathered}
-use Rattle.certificate_checker.specs.Costs.{cost_of, model_cost}
-use Rattle.row_core.proofs.Members.{Has}
-use Rattle.row_core.specs.CostLimits.{span_name}
+use Rattle.row_problem.proofs.Common.{◌≡◌, ℕ, ℤ, pos, ◌+ℤ◌, ◌*ℤ◌, List, [], ◌∷◌, ◌⊎◌, inl, inr, ap, ◌∙◌, subst, arith, ◌↔◌, ◌<ℤ◌, Result, Ok, Err, IfOk, ints, Ordering, Less, Greater, Rational, plus, ring, zero-*ℤ, Row, Most, Var, Stopped, is_zero, variables_of, var_cmp, RowHolds, Stands, gathered, gathered_onto, with_term, IsSumOver, SaysTheSame, kept, written_entries, written_right, IsOver-one, IsOver-own, IsSumOver-gathered, cost_of, model_cost, Has, span_name, Values, by_test}
+use Rattle.std.specs.declared.cmp.Ordering.TheVariants.{Equal as Alike}
 use Rattle.span_finder.specs.LimitRows.{CostsAtMost, IsLimitRow, cost_terms, is_cost}
 
 -- ---- what it says
@@ -28,7 +8,9 @@ use Rattle.span_finder.specs.LimitRows.{CostsAtMost, IsLimitRow, cost_terms, is_
 -- the sum of the terms is the cost
 pub cost-sum : (s : ℤ) (x : Var → ℤ) (vs : List Var) → IsSumOver s x (cost_terms vs) (cost_of model_cost vs x *ℤ s)
 cost-sum s x [] = zero-*ℤ s
-cost-sum s x (v ∷ vs) = cases (is_cost v) (cost-sum s x vs)
+cost-sum s x (v ∷ vs) =
+    let rest = cost-sum s x vs in
+    by_test (is_cost v) (λ is. rw is (s, cost_of model_cost vs x *ℤ s, IsOver-one s, rest, counted s (x v) (cost_of model_cost vs x))) (λ is. rw (is, uncounted s (x v) (cost_of model_cost vs x)) rest)
   where
     counted : (s a c : ℤ) → ((pos 1 *ℤ a) +ℤ c) *ℤ s ≡ (s *ℤ a) +ℤ (c *ℤ s)
     counted s a c = simp ring
@@ -39,11 +21,6 @@ cost-sum s x (v ∷ vs) = cases (is_cost v) (cost-sum s x vs)
         nothing : (c : ℤ) → pos 0 +ℤ c ≡ c
         nothing c = omega (arith, ints)
 
-    cases : (b : Bool) → IsSumOver s x (cost_terms vs) (cost_of model_cost vs x *ℤ s)
-        → IsSumOver s x (if b then ((v, whole (pos 1)) ∷ cost_terms vs) else cost_terms vs) ((((if b then pos 1 else pos 0) *ℤ x v) +ℤ cost_of model_cost vs x) *ℤ s)
-    cases true rest = (s, cost_of model_cost vs x *ℤ s, IsOver-one s, rest, counted s (x v) (cost_of model_cost vs x))
-    cases false rest = subst (λ n. IsSumOver s x (cost_terms vs) n) (sym (uncounted s (x v) (cost_of model_cost vs x))) rest
-
 pub limit-says : (vars : List Var) (limit : Rational) (row : Row) → pos 0 <ℤ limit.bottom → row.sense ≡ Most → SaysTheSame (gathered (cost_terms vars)) limit row → (q : ℕ) (x : Var → ℤ) → RowHolds row q x ↔ CostsAtMost vars limit q x
 limit-says vars limit row positive sense says q x =
     let cost : ℤ = cost_of model_cost vars x *ℤ limit.bottom in
@@ -53,16 +30,11 @@ limit-says vars limit row positive sense says q x =
 
 -- ---- its variables
 
-kept-has : (terms : List (Var × Rational)) (v : Var) → Has (variables_of (kept terms)) v → Has (variables_of terms) v
+kept-has : (terms : Values) (v : Var) → Has (variables_of (kept terms)) v → Has (variables_of terms) v
 kept-has [] v h = h
-kept-has (t ∷ terms) v h = cases (is_zero t.1.top) h (kept-has terms v)
-  where
-    cases : (b : Bool) → Has (variables_of (if b then kept terms else (t ∷ kept terms))) v → (Has (variables_of (kept terms)) v → Has (variables_of terms) v) → Has (variables_of (t ∷ terms)) v
-    cases true k rest = inr (rest k)
-    cases false (inl e) rest = inl e
-    cases false (inr k) rest = inr (rest k)
+kept-has (t ∷ terms) v h = by_test (is_zero t.1.top) (λ is. inr (kept-has terms v (rw is at h))) (λ is. elim (rw is at h) [ inl e ↦ inl e | inr k ↦ inr (kept-has terms v k) ])
 
-with-has : (new : Var × Rational) (terms : List (Var × Rational)) (v : Var) → Has (variables_of (with_term new terms)) v → (new.0 ≡ v) ⊎ Has (variables_of terms) v
+with-has : (new : Var × Rational) (terms : Values) (v : Var) → Has (variables_of (with_term new terms)) v → (new.0 ≡ v) ⊎ Has (variables_of terms) v
 with-has new [] v h = h
 with-has new (t ∷ terms) v h = cases (var_cmp new.0 t.0) h (with-has new terms v)
   where
@@ -73,7 +45,7 @@ with-has new (t ∷ terms) v h = cases (var_cmp new.0 t.0) h (with-has new terms
     cases Greater (inl e) rest = inr (inl e)
     cases Greater (inr k) rest = elim (rest k) [ inl e ↦ inl e | inr l ↦ inr (inr l) ]
 
-gathered-has : (terms more : List (Var × Rational)) (v : Var) → Has (variables_of (gathered_onto terms more)) v → Has (variables_of terms) v ⊎ Has (variables_of more) v
+gathered-has : (terms more : Values) (v : Var) → Has (variables_of (gathered_onto terms more)) v → Has (variables_of terms) v ⊎ Has (variables_of more) v
 gathered-has terms [] v h = inl h
 gathered-has terms (new ∷ more) v h =
     elim (gathered-has (with_term new terms) more v h) [
@@ -83,12 +55,7 @@ gathered-has terms (new ∷ more) v h =
 
 terms-has : (vs : List Var) (v : Var) → Has (variables_of (cost_terms vs)) v → Has vs v
 terms-has [] v h = h
-terms-has (w ∷ vs) v h = cases (is_cost w) h (terms-has vs v)
-  where
-    cases : (b : Bool) → Has (variables_of (if b then ((w, whole (pos 1)) ∷ cost_terms vs) else cost_terms vs)) v → (Has (variables_of (cost_terms vs)) v → Has vs v) → Has (w ∷ vs) v
-    cases true (inl e) rest = inl e
-    cases true (inr k) rest = inr (rest k)
-    cases false k rest = inr (rest k)
+terms-has (w ∷ vs) v h = by_test (is_cost w) (λ is. elim (rw is at h) [ inl e ↦ inl e | inr k ↦ inr (terms-has vs v k) ]) (λ is. inr (terms-has vs v (rw is at h)))
 
 -- each is one of the variables
 pub limit-has : (vars : List Var) (v : Var) → Has (variables_of (kept (gathered (cost_terms vars)))) v → Has vars v
@@ -100,15 +67,15 @@ limit-has vars v h =
 
 -- ---- the row as it is written
 
-pub row-answer : (vars : List Var) (limit : Rational) (terms : List (Var × Rational)) (answer : Result Row Stopped) → pos 0 <ℤ limit.bottom → terms ≡ gathered (cost_terms vars) → IfOk answer (λ row. row.name ≡ span_name) → IfOk answer (λ row. row.sense ≡ Most)
+pub row-answer : (vars : List Var) (limit : Rational) (terms : Values) (answer : Result Row Stopped) → pos 0 <ℤ limit.bottom → terms ≡ gathered (cost_terms vars) → IfOk answer (λ row. row.name ≡ span_name) → IfOk answer (λ row. row.sense ≡ Most)
     → IfOk answer (λ row. row.entries.items ≡ written_entries terms limit) → IfOk answer (λ row. row.rhs ≡ written_right terms limit) → IfOk answer (SaysTheSame terms limit) → IfOk answer (λ row. variables_of row.entries.items ≡ variables_of (kept terms))
     → IfOk answer (IsLimitRow vars limit)
 row-answer vars limit terms (Ok row) positive is name sense entries right says variables = record {
   name = name;
   sense = sense;
-  entries = entries ∙ ap (λ (ts : List (Var × Rational)). written_entries ts limit) is;
-  right_side = right ∙ ap (λ (ts : List (Var × Rational)). written_right ts limit) is;
-  variables = variables ∙ ap (λ (ts : List (Var × Rational)). variables_of (kept ts)) is;
-  says = limit-says vars limit row positive sense (subst (λ (ts : List (Var × Rational)). SaysTheSame ts limit row) is says);
+  entries = entries ∙ ap (λ (ts : Values). written_entries ts limit) is;
+  right_side = right ∙ ap (λ (ts : Values). written_right ts limit) is;
+  variables = variables ∙ ap (λ (ts : Values). variables_of (kept ts)) is;
+  says = limit-says vars limit row positive sense (subst (λ (ts : Values). SaysTheSame ts limit row) is says);
 }
 row-answer vars limit terms (Err e) positive is name sense entries right says variables = tt

@@ -1,36 +1,12 @@
 -- Rows with the row that limits the cost after them are a problem where those rows are; and plans meet them that are near the best, and no others.
-use Rattle.std.proofs.Common.{◌≡◌, ℕ, ◌+◌, ◌<◌, ℤ, pos, ◌*ℤ◌, true, false, not, ◌&&◌, List, [], ◌∷◌, ◌++◌, ◌⊎◌, inl, inr, length, map, refl, sym, ap, ap₂, ◌∙◌, subst, arith, append-nil}
-use Rattle.std.specs.Prelude.{Option, Some, None, ◌<ℤ◌, ◌≤ℤ◌, Contains, IsTrue}
-use Rattle.std.specs.List.{AllByRecursion, flat_map}
-use Rattle.std.specs.declared.cmp.Ordering.TheVariants.{Less}
-use Rattle.std.specs.Ordering.{is_lt, ordering_then}
+use Rattle.row_problem.proofs.Common.{◌≡◌, ℕ, ◌+◌, ◌<◌, ℤ, pos, ◌*ℤ◌, true, false, not, ◌&&◌, List, [], ◌∷◌, ◌++◌, ◌⊎◌, inl, inr, length, map, refl, sym, ap, ap₂, ◌∙◌, subst, arith, append-nil, Option, Some, None, ◌<ℤ◌, ◌≤ℤ◌, Contains, IsTrue, flat_map, Less, is_lt, length-append, length-map, map-append, all_fit, Rational, Row, RowName, Equal, Most, Var, SPAN, RowContents, contents_of, kind_is_free, ascends, variables_of, index_cmp, row_name_cmp, AreVariablesOf, entry_variables, names_of, RowHolds, number_at, both_passed, Contains-from_Has, Has, Has-append_left, Has-from_Contains, Has-map, append_parts, map_parts, AreTriangular, Definition, avoids, defined, definitions_of, is_among, others_of, rows_of, cost_variable, AllStand, MeetsAll, KeepSigns, only_raises, HaveNone, IsProblem, IsRepeatedBy}
+use Rattle.std.specs.List.{AllByRecursion}
+use Rattle.std.specs.Ordering.{ordering_then}
 use Rattle.std.proofs.lemmas.Grind.{flat_map-append}
-use Rattle.std.proofs.lemmas.List.{length-append, length-map, map-append}
 use Rattle.std.proofs.lemmas.List.Folds.{flat_map-map}
 use Rattle.std.proofs.lemmas.Simd.{map-map}
-use Rattle.exact_num.specs.Range.{all_fit}
-use Rattle.exact_num.specs.Rational.{Rational}
 use Rattle.exact_num.proofs.OrderLaws.{nat_cmp-less}
-use Rattle.row_core.specs.declared.Row.{Row}
-use Rattle.row_core.specs.declared.RowName.{RowName}
-use Rattle.row_core.specs.declared.Sense.TheVariants.{Equal, Most}
-use Rattle.row_core.specs.declared.Var.{Var}
-use Rattle.row_core.specs.declared.cost_limit.TheConstants.{SPAN}
-use Rattle.row_core.specs.Contents.{RowContents, contents_of}
-use Rattle.row_core.specs.Kinds.{kind_is_free}
-use Rattle.row_core.specs.Numbers.{ascends, variables_of}
-use Rattle.row_core.specs.Order.{index_cmp, row_name_cmp}
-use Rattle.row_core.specs.RowLists.{AreVariablesOf, entry_variables, names_of}
-use Rattle.row_core.specs.Rows.{RowHolds, number_at, row_sum}
-use Rattle.row_core.specs.Statements.{Stands}
-use Rattle.row_core.proofs.AscendingLaws.{both_passed}
-use Rattle.row_core.proofs.Members.{Contains-from_Has, Has, Has-append_left, Has-from_Contains, Has-map, append_parts, map_parts}
-use Rattle.written_method.specs.Definitions.{AreTriangular, Definition, avoids, defined, definitions_of, is_among, others_of, rows_of}
-use Rattle.written_method.specs.Eliminated.{cost_variable}
-use Rattle.certificate_checker.specs.Plans.{AllStand, MeetsAll}
-use Rattle.variable_elimination.specs.Meaning.{KeepSigns, only_raises}
-use Rattle.variable_elimination.specs.SoFar.{HaveNone}
-use Rattle.row_problem.specs.Problems.{IsProblem, IsRepeatedBy}
+use Rattle.row_problem.proofs.CopiedRows.{copied-stand}
 use Rattle.span_finder.specs.LimitRows.{HasLimitRow, IsLimitRow, limit_formed}
 use Rattle.span_finder.specs.Spans.{HasNearBest, HasPlan, IsNearBest}
 use Rattle.span_finder.proofs.LimitLaws.{limit-has}
@@ -232,15 +208,6 @@ module _ (rows : List Row) (defs : List (Option Var)) (vars : List Var) (limit :
 
 -- ---- plans
 
-same-stand : (q : ℕ) (x : Var → ℤ) (copies rows : List Row) → map contents_of copies ≡ map contents_of rows → AllStand (λ row. row.rhs *ℤ pos q) copies x → AllStand (λ row. row.rhs *ℤ pos q) rows x
-same-stand q x [] [] e h = tt
-same-stand q x [] (row ∷ rows) e h = absurd (cc e)
-same-stand q x (copy ∷ copies) [] e h = absurd (cc e)
-same-stand q x (copy ∷ copies) (row ∷ rows) e h =
-    let first : contents_of copy ≡ contents_of row = cc e in
-    let rest : map contents_of copies ≡ map contents_of rows = cc e in
-    (subst (λ (s : RowContents). Stands s.sense (row_sum x s.entries) (s.rhs *ℤ pos q)) first h.0, same-stand q x copies rows rest h.1)
-
 stand-last : (q : ℕ) (x : Var → ℤ) (rows : List Row) (extra : Row) → AllStand (λ row. row.rhs *ℤ pos q) (rows ++ extra ∷ []) x → AllStand (λ row. row.rhs *ℤ pos q) rows x × RowHolds extra q x
 stand-last q x [] end h = (tt, h.0)
 stand-last q x (r ∷ rows) extra h = let later = stand-last q x rows extra h.1 in ((h.0, later.0), later.1)
@@ -252,13 +219,13 @@ last-stand q x (r ∷ rows) extra h k = (h.0, last-stand q x rows extra h.1 k)
 module _ (rows : List Row) (vars : List Var) (limit : Rational) (all : List Row) (of : HasLimitRow rows vars limit all) where
   pub near-from : (q : ℕ) (x : Var → ℤ) → MeetsAll all vars q x → IsNearBest rows vars limit q x
   near-from q x h =
-      let both = stand-last q x rows of.row (same-stand q x all (rows ++ of.row ∷ []) of.contents h.rows_hold) in
+      let both = stand-last q x rows of.row (copied-stand q x all (rows ++ of.row ∷ []) of.contents h.rows_hold) in
       record { meets = record { positive = h.positive; rows_hold = both.0; signs = h.signs }; costs = (of.is.says q x).0 both.1 }
 
   pub near-to : (q : ℕ) (x : Var → ℤ) → IsNearBest rows vars limit q x → MeetsAll all vars q x
   near-to q x h = record {
     positive = h.meets.positive;
-    rows_hold = same-stand q x (rows ++ of.row ∷ []) all (sym of.contents) (last-stand q x rows of.row h.meets.rows_hold ((of.is.says q x).1 h.costs));
+    rows_hold = copied-stand q x (rows ++ of.row ∷ []) all (sym of.contents) (last-stand q x rows of.row h.meets.rows_hold ((of.is.says q x).1 h.costs));
     signs = h.meets.signs;
   }
 

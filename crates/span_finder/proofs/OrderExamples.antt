@@ -1,27 +1,8 @@
 -- The order of the trials and of what each of them carries back and checks: where numbers of two steps don't fit, the place of the first is told. And the numbers of the limit.
-use Rattle.std.proofs.Common.{◌≡◌, ℕ, ◌-◌, ◌^◌, ℤ, pos, negsuc, neg_ℤ, List, [], ◌∷◌, refl}
-use Rattle.std.specs.Global.{Vec}
-use Rattle.std.specs.Prelude.{Some, None}
-use Rattle.exact_num.specs.Formed.{difference_formed, product_formed, quotient_formed, sum_formed}
-use Rattle.exact_num.specs.Gcd.{gcd_of, gcd_within}
-use Rattle.exact_num.specs.Range.{all_fit, in_range}
-use Rattle.exact_num.specs.Rational.{Rational, divided, lowest, minus, order_of, pair, plus, times, whole}
-use Rattle.exact_num.specs.Steps.{first_wide}
-use Rattle.row_core.specs.declared.Row.{Row}
-use Rattle.row_core.specs.declared.RowName.{RowName}
+use Rattle.row_problem.proofs.Common.{◌≡◌, ℕ, ◌-◌, ◌^◌, ℤ, pos, negsuc, neg_ℤ, List, [], ◌∷◌, refl, Vec, Some, None, difference_formed, product_formed, quotient_formed, sum_formed, gcd_of, gcd_within, all_fit, in_range, Rational, divided, lowest, minus, order_of, pair, plus, times, whole, first_wide, Row, RowName, Var, CAA2, CAA4, NCC1, NCC2, NEW_CAPACITY, RATE_OF_ACTIVITY, TOTAL_CAPACITY_ANNUAL, Check, Column, LiftDirection, LiftMultiplier, LiftPlan, answer, answer_of, run, made_row, One, Goal, Least, Greatest, carried_direction, carried_multipliers, carried_plan, carrying_steps, direction_steps, plan_steps, program_left}
 use Rattle.row_core.specs.declared.Sense.TheVariants as senses
-use Rattle.row_core.specs.declared.Var.{Var}
-use Rattle.row_core.specs.declared.equation_numbers.TheConstants.{CAA2, CAA4, NCC1, NCC2}
-use Rattle.row_core.specs.declared.kind_numbers.TheConstants.{NEW_CAPACITY, RATE_OF_ACTIVITY, TOTAL_CAPACITY_ANNUAL}
-use Rattle.row_core.specs.declared.place.Place.TheVariants.{Check, Column, LiftDirection, LiftMultiplier, LiftPlan}
 use Rattle.simplex_core.specs.declared.stops.Stop.TheVariants.{Trial}
 use Rattle.simplex_core.specs.declared.stops.TrialStop.TheVariants as trials
-use Rattle.written_method.specs.Runs.{answer, answer_of, run}
-use Rattle.written_method.proofs.MadeRows.{made_row}
-use Rattle.certified_answers.specs.declared.costs.Cost.TheVariants.{One}
-use Rattle.certified_answers.specs.declared.costs.Goal.{Goal}
-use Rattle.certified_answers.specs.declared.costs.Goal.TheVariants.{Least, Greatest}
-use Rattle.row_problem.specs.Programs.{carried_direction, carried_multipliers, carried_plan, carrying_steps, direction_steps, plan_steps, program_left}
 use Rattle.exact_solver.specs.MethodEnds.{MethodEnd, HasOptimum, IsWide, unbounded_end, optimal_end, solved_end}
 use Rattle.span_finder.specs.Slacks.{slack_formed}
 use Rattle.span_finder.specs.SpanEnds.{IsBounded, IsStopped, both_trials, spanned}

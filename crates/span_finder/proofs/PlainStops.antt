@@ -1,23 +1,7 @@
 -- Where the elimination of rows fits, that of the rows with the limit after them stops only at the row that limits the cost.
-use Rattle.std.proofs.Common.{◌≡◌, ℕ, pos, Bool, true, false, List, [], ◌∷◌, ◌++◌, inl, inr, length, map, refl, sym, ap, ap₂, ◌∙◌, subst, if◌then◌else◌}
-use Rattle.std.specs.Prelude.{Option, Some, None, Result, Ok, Err, IfErr, ⊤}
-use Rattle.std.specs.Option.{option_or}
-use Rattle.exact_num.specs.Range.{all_fit}
-use Rattle.exact_num.specs.Rational.{Rational, whole}
-use Rattle.exact_num.specs.Steps.{Step, first_wide}
-use Rattle.exact_num.proofs.StepLaws.{first_wide-append}
-use Rattle.row_core.specs.declared.Row.{Row}
-use Rattle.row_core.specs.declared.Var.{Var}
-use Rattle.row_core.specs.declared.place.Place.{Place}
-use Rattle.row_core.specs.declared.place.Place.TheVariants.{CostRow, Expand}
-use Rattle.row_core.specs.Contents.{RowContents, contents_of}
-use Rattle.row_core.specs.CostLimits.{span_name}
-use Rattle.row_core.specs.Forms.{Form}
-use Rattle.written_method.specs.Definitions.{Definition, definitions_of, others_of}
-use Rattle.written_method.specs.Eliminated.{cost_variable, cost_variables, definition_steps, elimination_steps, expanded_all, minus_one_at, row_steps, unscaled, with_cost_variable}
+use Rattle.row_problem.proofs.Common.{◌≡◌, ℕ, pos, List, [], ◌∷◌, ◌++◌, inl, inr, length, map, refl, sym, ap, ap₂, ◌∙◌, subst, Option, Some, None, Result, Ok, Err, IfErr, option_or, all_fit, Rational, whole, Step, first_wide, first_wide-append, Row, Var, Place, CostRow, Expand, RowContents, contents_of, span_name, Form, Definition, definitions_of, others_of, cost_variable, cost_variables, definition_steps, elimination_steps, expanded_all, minus_one_at, row_steps, unscaled, with_cost_variable, One, Least, Greatest, Values, by_test}
+use Rattle.std.specs.Prelude.{⊤}
 use Rattle.written_method.specs.Expanded.{expanded, expanded_formed}
-use Rattle.certified_answers.specs.declared.costs.Cost.TheVariants.{One}
-use Rattle.certified_answers.specs.declared.costs.Goal.TheVariants.{Least, Greatest}
 use Rattle.exact_solver.specs.MethodEnds.{MethodEnd, HasOptimum, HasNoPlan, HasNoBound, IsPivotDue, IsWide, solved_end}
 use Rattle.simplex_core.specs.declared.stops.Stop.{Stop}
 use Rattle.simplex_core.specs.declared.stops.Stop.TheVariants.{Budget, Trial, Width}
@@ -84,11 +68,7 @@ or-none (Some place) = refl
 
 single : (s : Step Place) (place : Place) → first_wide (s ∷ []) ≡ Some place → s.place ≡ place
 unfolding first_wide
-single s place h = cases (all_fit s.formed) h
-  where
-    cases : (b : Bool) → (if b then None else Some s.place) ≡ Some place → s.place ≡ place
-    cases true k = absurd (cc k)
-    cases false k = cc k
+single s place h = by_test (all_fit s.formed) (λ is. absurd (cc (rw is at h))) (λ is. cc (rw is at h))
 
 only-there : (d r c : List (Step Place)) (l : Step Place) (place : Place) → first_wide (d ++ (r ++ c)) ≡ None → first_wide (d ++ ((r ++ l ∷ []) ++ c)) ≡ Some place → l.place ≡ place
 only-there d r c l place own wide =
@@ -151,7 +131,7 @@ trials-alone rows defs vars var pivots = first (solved_end rows defs vars (One v
     after : MethodEnd
     after = solved_end rows defs vars (One var Greatest) pivots
 
-    second : (low : List (Var × Rational)) (end : MethodEnd) → AreOnlyTrials (greatest_end pivots low end)
+    second : (low : Values) (end : MethodEnd) → AreOnlyTrials (greatest_end pivots low end)
     second low (HasOptimum high multipliers made) = tt
     second low (HasNoBound high direction made) = tt
     second low (HasNoPlan multipliers made) = tt

@@ -1,21 +1,5 @@
 -- What the ends that the rounded method finds are worth: no plan passes them, neither of the rows with the limit's, nor near the best.
-use Rattle.std.proofs.Common.{◌≡◌, ℕ, pos, ◌*ℤ◌, Bool, true, false, List, arith, if◌then◌else◌}
-use Rattle.std.specs.Prelude.{Result, Ok, Err, IfOk, int_lt, ◌≤ℤ◌}
-use Rattle.std.proofs.lemmas.Int.{ints}
-use Rattle.exact_num.specs.Rational.{Rational, whole}
-use Rattle.exact_num.specs.Value.{value_of}
-use Rattle.exact_num.proofs.Ring.{*ℤ-one, zero-*ℤ}
-use Rattle.row_core.specs.declared.Row.{Row}
-use Rattle.row_core.specs.declared.Var.{Var}
-use Rattle.row_core.specs.Kinds.{kind_is_free}
-use Rattle.row_core.specs.Numbers.{ascends}
-use Rattle.row_core.specs.Order.{var_cmp}
-use Rattle.row_core.proofs.Members.{Has}
-use Rattle.certificate_checker.specs.Certificates.{BoundsAll}
-use Rattle.certified_answers.specs.Costs.{weight_of}
-use Rattle.certified_answers.specs.declared.costs.Cost.TheVariants.{One}
-use Rattle.certified_answers.specs.declared.costs.Goal.{Goal}
-use Rattle.certified_answers.specs.declared.costs.Goal.TheVariants.{Least, Greatest}
+use Rattle.row_problem.proofs.Common.{◌≡◌, ℕ, pos, ◌*ℤ◌, Bool, true, false, List, arith, if◌then◌else◌, Result, Ok, Err, IfOk, int_lt, ◌≤ℤ◌, ints, Rational, whole, value_of, *ℤ-one, zero-*ℤ, Row, Var, kind_is_free, ascends, var_cmp, Has, BoundsAll, weight_of, One, Goal, Least, Greatest, Values}
 use Rattle.span_finder.specs.LimitRows.{HasLimitRow}
 use Rattle.span_finder.specs.RoundedSpans.{IsRoundedSpan}
 use Rattle.span_finder.specs.RoundedTrials.{AreRoundedEnds, IsEndNear, end_of}
@@ -43,7 +27,7 @@ module _ (rows : List Row) (vars : List Var) (var : Var) (up : ascends var_cmp v
 -- ---- near the best
 
 module _ (rows : List Row) (vars : List Var) (limit : Rational) (var : Var) (ppm : ℕ) (all : List Row) (of : HasLimitRow rows vars limit all) where
-  plan-near : (goal : Goal) (plan : List (Var × Rational)) (end : Rational) → IsEndNear all vars var goal ppm plan end → IsNearPlan rows vars limit plan
+  plan-near : (goal : Goal) (plan : Values) (end : Rational) → IsEndNear all vars var goal ppm plan end → IsNearPlan rows vars limit plan
   plan-near goal plan end e = record { whole = e.complete; some = e.is_plan.some; near = λ q x are. near-from rows vars limit all of q x (e.is_plan.meets q x are) }
 
   ends-span : (span : RoundedSpan) → AreRoundedEnds all vars var ppm span → IsRoundedSpan rows vars limit var ppm span

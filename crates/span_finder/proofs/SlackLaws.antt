@@ -1,22 +1,6 @@
 -- A plan of the least cost costs at most the limit.
-use Rattle.std.proofs.Common.{◌≡◌, ℕ, ℤ, pos, ◌+ℤ◌, ◌*ℤ◌, true, List, sym, ap, ◌∙◌, subst, arith}
-use Rattle.std.specs.Prelude.{◌<ℤ◌, ◌≤ℤ◌, Result, Ok, Err, IfOk, is_ok, unsigned_abs}
-use Rattle.std.proofs.lemmas.Int.{ints}
-use Rattle.exact_num.specs.Formed.{product_formed, sum_formed}
-use Rattle.exact_num.specs.Range.{all_fit}
-use Rattle.exact_num.specs.Rational.{Rational, lowest, plus}
-use Rattle.exact_num.specs.Value.{value_of}
-use Rattle.exact_num.specs.declared.fraction.Frac.{Frac}
+use Rattle.row_problem.proofs.Common.{◌≡◌, ℕ, ℤ, pos, ◌+ℤ◌, ◌*ℤ◌, true, List, sym, ap, ◌∙◌, subst, arith, ◌<ℤ◌, ◌≤ℤ◌, Result, Ok, Err, IfOk, is_ok, unsigned_abs, ints, product_formed, sum_formed, all_fit, Rational, lowest, plus, value_of, Frac, *ℤ_nonnegative, *ℤ_pos, ≤ℤ_cancel, *ℤ_comm, products, ring, Row, Var, IsOver, IsOver-multiplied, IsOver-own, IsOver-plus, IsOver-ratio, IsOver-times, cost_of, model_cost, absolute, IsPlan, Values}
 use Rattle.exact_num.specs.declared.range.TooWide.{TooWide}
-use Rattle.exact_num.proofs.Integers.{*ℤ_nonnegative, *ℤ_pos, ≤ℤ_cancel}
-use Rattle.exact_num.proofs.Ring.{*ℤ_comm, products, ring}
-use Rattle.row_core.specs.declared.Row.{Row}
-use Rattle.row_core.specs.declared.Var.{Var}
-use Rattle.row_core.specs.Values.{IsOver}
-use Rattle.row_core.proofs.SumLaws.{IsOver-multiplied, IsOver-own, IsOver-plus, IsOver-ratio, IsOver-times}
-use Rattle.certificate_checker.specs.Costs.{cost_of, model_cost}
-use Rattle.certificate_checker.specs.PlanChecks.{absolute}
-use Rattle.certified_answers.specs.Worth.{IsPlan}
 use Rattle.span_finder.specs.Slacks.{slack_formed, slack_limit, slack_of}
 use Rattle.span_finder.specs.Spans.{HasNearBest}
 use Rattle.span_finder.proofs.LimitSteps.{fits-first}
@@ -35,7 +19,7 @@ at-most c lb lt t q w ht hq hw hl same =
     turned : (lt t q : ℤ) → lt *ℤ (t *ℤ q) ≡ (lt *ℤ q) *ℤ t
     turned lt t q = simp products
 
-near-from_plan : (rows : List Row) (vars : List Var) (plan : List (Var × Rational)) (cost : Rational) (ppm : ℕ) → pos 0 <ℤ cost.bottom → IsPlan rows vars plan cost → HasNearBest rows vars (slack_limit cost ppm)
+near-from_plan : (rows : List Row) (vars : List Var) (plan : Values) (cost : Rational) (ppm : ℕ) → pos 0 <ℤ cost.bottom → IsPlan rows vars plan cost → HasNearBest rows vars (slack_limit cost ppm)
 near-from_plan rows vars plan cost ppm positive is =
     let some = is.some in
     let q : ℤ = pos some.over in
@@ -69,7 +53,7 @@ module _ (cost more : Frac) (ppm : ℕ) (is : value_of more ≡ slack_of (value_
   pub limit-value : IfOk answer (λ limit. value_of limit ≡ plus c (value_of more)) → IfOk answer (λ limit. value_of limit ≡ slack_limit c ppm)
   limit-value h = subst (λ (r : Rational). IfOk answer (λ limit. value_of limit ≡ plus c r)) is h
 
-pub limit-near : (cost : Frac) (ppm : ℕ) (answer : Result Frac TooWide) → IfOk answer (λ limit. value_of limit ≡ slack_limit (value_of cost) ppm) → (rows : List Row) (vars : List Var) (plan : List (Var × Rational)) → IsPlan rows vars plan (value_of cost)
+pub limit-near : (cost : Frac) (ppm : ℕ) (answer : Result Frac TooWide) → IfOk answer (λ limit. value_of limit ≡ slack_limit (value_of cost) ppm) → (rows : List Row) (vars : List Var) (plan : Values) → IsPlan rows vars plan (value_of cost)
     → IfOk answer (λ limit. HasNearBest rows vars (value_of limit))
 limit-near cost ppm (Ok limit) e rows vars plan is = subst (HasNearBest rows vars) (sym e) (near-from_plan rows vars plan (value_of cost) ppm cost.positive is)
 limit-near cost ppm (Err wide) e rows vars plan is = tt

@@ -1,26 +1,6 @@
 -- The two trials over rows of which the last limits the cost: what they come to.
-use Rattle.std.proofs.Common.{◌≡◌, ℕ, pos, true, List, [], ◌∷◌, ◌++◌, inl, inr, sym, ap, ◌∙◌, subst}
-use Rattle.std.specs.Prelude.{Option, Some, None, Result, Ok, Err, IfOk, IfErr, ◌*ℤ◌, ◌≤ℤ◌}
-use Rattle.exact_num.specs.Range.{all_fit}
-use Rattle.exact_num.specs.Rational.{Rational}
-use Rattle.exact_num.specs.Steps.{first_wide}
-use Rattle.exact_num.specs.Value.{value_of}
-use Rattle.exact_num.specs.declared.fraction.Frac.{Frac}
-use Rattle.row_core.specs.declared.Row.{Row}
-use Rattle.row_core.specs.declared.Var.{Var}
-use Rattle.row_core.specs.declared.place.Place.{Place}
-use Rattle.row_core.specs.declared.place.Stopped.{Stopped}
+use Rattle.row_problem.proofs.Common.{◌≡◌, ℕ, pos, true, List, [], ◌∷◌, ◌++◌, inl, inr, sym, ap, ◌∙◌, subst, Option, Some, None, Result, Ok, Err, IfOk, IfErr, ◌*ℤ◌, ◌≤ℤ◌, all_fit, Rational, first_wide, value_of, Frac, Row, Var, Place, Stopped, span_name, ascends, var_cmp, value_in, IsStop, Has-from_Contains, elimination_steps, IsFirst, One, Least, Greatest, Values}
 use Rattle.row_core.specs.declared.place.Stopped.TheVariants as parts
-use Rattle.row_core.specs.CostLimits.{span_name}
-use Rattle.row_core.specs.Numbers.{ascends}
-use Rattle.row_core.specs.Order.{var_cmp}
-use Rattle.row_core.specs.Plans.{value_in}
-use Rattle.row_core.specs.Stops.{IsStop}
-use Rattle.row_core.proofs.Members.{Has-from_Contains}
-use Rattle.written_method.specs.Eliminated.{elimination_steps}
-use Rattle.variable_elimination.specs.SoFar.{IsFirst}
-use Rattle.certified_answers.specs.declared.costs.Cost.TheVariants.{One}
-use Rattle.certified_answers.specs.declared.costs.Goal.TheVariants.{Least, Greatest}
 use Rattle.exact_solver.specs.MethodEnds.{solved_end}
 use Rattle.simplex_core.specs.declared.stops.Stop.TheVariants.{Width}
 use Rattle.span_finder.specs.LimitRows.{HasLimitRow, limit_formed}
@@ -36,14 +16,14 @@ use Rattle.span_finder.proofs.ValueLaws.{always-more}
 -- ---- how they end
 
 module _ (rows : List Row) (defs : List (Option Var)) (vars : List Var) (var : Var) (pivots : ℕ) where
-  abbrev next : List (Var × Rational) → SpanEnd
+  abbrev next : Values → SpanEnd
   next low = greatest_end pivots low (solved_end rows defs vars (One var Greatest) pivots)
 
-  pub both-end : (low : List (Var × Rational)) → ((after : List (Var × Rational) → SpanEnd) → after low ≡ least_end pivots after (solved_end rows defs vars (One var Least) pivots)) → next low ≡ both_trials rows defs vars var pivots
+  pub both-end : (low : Values) → ((after : Values → SpanEnd) → after low ≡ least_end pivots after (solved_end rows defs vars (One var Least) pivots)) → next low ≡ both_trials rows defs vars var pivots
   unfolding both_trials
   both-end low h = h next
 
-  pub both-stop : (fail : SpanFail) → ((after : List (Var × Rational) → SpanEnd) → StopsAt (least_end pivots after (solved_end rows defs vars (One var Least) pivots)) fail) → StopsAt (both_trials rows defs vars var pivots) fail
+  pub both-stop : (fail : SpanFail) → ((after : Values → SpanEnd) → StopsAt (least_end pivots after (solved_end rows defs vars (One var Least) pivots)) fail) → StopsAt (both_trials rows defs vars var pivots) fail
   unfolding both_trials
   both-stop fail h = h next
 
@@ -55,10 +35,10 @@ module _ (rows : List Row) (defs : List (Option Var)) (vars : List Var) (var : V
   unfolding spanned
   spanned-wide place h = ap (λ o. unless_stopped o (both_trials rows defs vars var pivots)) h
 
-pub both-found : (rows : List Row) (vars : List Var) (var : Var) (low : List (Var × Rational)) (answer : Result Span SpanFail) → IsExtreme rows vars var Least low
+pub both-found : (rows : List Row) (vars : List Var) (var : Var) (low : Values) (answer : Result Span SpanFail) → IsExtreme rows vars var Least low
     → IfOk answer (λ span. (span.low_plan ≡ low) × (value_of span.low ≡ value_in var_cmp low var)) → IfOk answer (λ span. IsHighFound rows vars var span.high_plan span.high span.direction) → IfOk answer (AreFound rows vars var)
 both-found rows vars var low (Ok span) e l h = record {
-  low_is = l.1 ∙ ap (λ (p : List (Var × Rational)). value_in var_cmp p var) (sym l.0);
+  low_is = l.1 ∙ ap (λ (p : Values). value_in var_cmp p var) (sym l.0);
   low = subst (IsExtreme rows vars var Least) (sym l.0) e;
   high = h;
 }
@@ -96,16 +76,16 @@ module _ (rows : List Row) (defs : List (Option Var)) (vars : List Var) (limit :
 -- ---- what it is worth
 
 module _ (rows : List Row) (vars : List Var) (limit : Rational) (var : Var) (all : List Row) (up : ascends var_cmp vars ≡ true) (of : HasLimitRow rows vars limit all) (capacity : IsCapacityOf vars var) where
-  near-plan : (plan : List (Var × Rational)) → IsExtreme all vars var Least plan → IsNearPlan rows vars limit plan
+  near-plan : (plan : Values) → IsExtreme all vars var Least plan → IsNearPlan rows vars limit plan
   near-plan plan e = record { whole = e.complete; some = e.is_plan.some; near = λ q x are. near-from rows vars limit all of q x (e.is_plan.meets q x are) }
 
-  high-plan : (plan : List (Var × Rational)) (high : Option Frac) (direction : Option (List (Var × Rational))) → IsHighFound all vars var plan high direction → IsNearPlan rows vars limit plan
+  high-plan : (plan : Values) (high : Option Frac) (direction : Option Values) → IsHighFound all vars var plan high direction → IsNearPlan rows vars limit plan
   high-plan plan (Some high) None f = let e = f.1 in record { whole = e.complete; some = e.is_plan.some; near = λ q x are. near-from rows vars limit all of q x (e.is_plan.meets q x are) }
   high-plan plan (Some high) (Some direction) f = absurd f
   high-plan plan None (Some direction) f = record { whole = f.complete; some = f.is_plan.some; near = λ q x are. near-from rows vars limit all of q x (f.is_plan.meets q x are) }
   high-plan plan None None f = absurd f
 
-  high-end : (plan : List (Var × Rational)) (high : Option Frac) (direction : Option (List (Var × Rational))) → IsHighFound all vars var plan high direction → IsHighEnd rows vars limit var plan high direction
+  high-end : (plan : Values) (high : Option Frac) (direction : Option Values) → IsHighFound all vars var plan high direction → IsHighEnd rows vars limit var plan high direction
   high-end plan (Some high) None f =
       let e = f.1 in (
         f.0,

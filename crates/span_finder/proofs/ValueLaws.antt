@@ -1,36 +1,7 @@
 -- What the exact method proves of the value of one variable.
-use Rattle.std.proofs.Common.{◌≡◌, ℕ, ℤ, pos, negsuc, neg_ℤ, ◌*ℤ◌, true, false, ◌&&◌, List, [], ◌∷◌, inl, inr, refl, sym, ap, ◌∙◌, subst, arith}
-use Rattle.std.specs.Prelude.{Contains, Option, filter, nat_lt, ◌==◌, ◌<ℤ◌, ◌≤ℤ◌, ◌||◌}
-use Rattle.std.proofs.lemmas.Int.{ints}
-use Rattle.exact_num.specs.Rational.{Rational}
-use Rattle.exact_num.specs.Value.{value_of}
-use Rattle.exact_num.specs.declared.fraction.Frac.{Frac}
-use Rattle.exact_num.proofs.Ring.{neg_ℤ-*ℤ, one-*ℤ, zero-*ℤ}
-use Rattle.row_core.specs.declared.Row.{Row}
-use Rattle.row_core.specs.declared.RowName.{RowName}
-use Rattle.row_core.specs.declared.Var.{Var}
-use Rattle.row_core.specs.declared.kind_numbers.TheConstants.{NEW_CAPACITY, RATE_OF_ACTIVITY, TRADE}
-use Rattle.row_core.specs.Kinds.{kind_is_free}
-use Rattle.row_core.specs.Numbers.{ascends, keys_of}
-use Rattle.row_core.specs.Order.{var_cmp}
-use Rattle.row_core.specs.Plans.{value_in}
-use Rattle.row_core.proofs.Members.{Contains-from_Has, Has, Has-filter, Has-from_Contains}
-use Rattle.written_method.specs.declared.reduced.Reduced.{Reduced}
-use Rattle.written_method.specs.Eliminated.{is_column}
-use Rattle.certificate_checker.specs.Certificates.{BoundsAll}
-use Rattle.certificate_checker.specs.Costs.{cost_of}
-use Rattle.certificate_checker.specs.Plans.{HaveRightSigns, IsRight, MeetsAll}
-use Rattle.certified_answers.specs.Answers.{IsComplete, IsProvedFor, turned}
-use Rattle.certified_answers.specs.Costs.{weight_of}
-use Rattle.certified_answers.specs.Worth.{IsDescentFor, IsPlan}
-use Rattle.certified_answers.specs.declared.answers.Certified.{Certified}
-use Rattle.certified_answers.specs.declared.answers.Certified.TheVariants.{Optimal, Unbounded}
-use Rattle.certified_answers.specs.declared.costs.Cost.{Cost}
-use Rattle.certified_answers.specs.declared.costs.Cost.TheVariants.{One}
-use Rattle.certified_answers.specs.declared.costs.Goal.{Goal}
-use Rattle.certified_answers.specs.declared.costs.Goal.TheVariants.{Least, Greatest}
-use Rattle.row_problem.specs.ProgramsOf.{IsProgramOf}
+use Rattle.row_problem.proofs.Common.{◌≡◌, ℕ, ℤ, pos, negsuc, neg_ℤ, ◌*ℤ◌, true, false, ◌&&◌, List, [], ◌∷◌, inl, inr, refl, sym, ap, ◌∙◌, subst, arith, Contains, Option, filter, nat_lt, ◌==◌, ◌<ℤ◌, ◌≤ℤ◌, ◌||◌, ints, Rational, value_of, Frac, neg_ℤ-*ℤ, one-*ℤ, zero-*ℤ, Row, Var, NEW_CAPACITY, RATE_OF_ACTIVITY, TRADE, kind_is_free, ascends, keys_of, var_cmp, value_in, Contains-from_Has, Has, Has-filter, Has-from_Contains, Reduced, is_column, BoundsAll, cost_of, HaveRightSigns, IsRight, MeetsAll, IsComplete, IsProvedFor, weight_of, IsDescentFor, IsPlan, Certified, Optimal, Unbounded, Cost, One, Goal, Least, Greatest, IsProgramOf, Values, Multipliers}
 use Rattle.row_problem.specs.declared.problem.Problem.{Problem}
+use Rattle.certified_answers.specs.Answers.{turned}
 use Rattle.row_problem.proofs.CostLaws.{cost-is}
 use Rattle.exact_solver.specs.MethodEnds.{end_seen, solved_end}
 use Rattle.span_finder.specs.Trials.{IsCapacityOf, IsExtreme, IsRise, IsTrial, NonePasses}
@@ -69,7 +40,7 @@ module _ (rows : List Row) (vars : List Var) (var : Var) (up : ascends var_cmp v
       omega (arith, ints)
 
   -- an optimum of it is the value that no plan passes
-  extreme : (goal : Goal) (plan : List (Var × Rational)) (multipliers : List (RowName × Rational)) (amount bound : Frac) (pivots : ℕ) → keys_of plan ≡ vars → IsProvedFor (One var goal) rows vars (Optimal plan multipliers amount bound pivots)
+  extreme : (goal : Goal) (plan : Values) (multipliers : Multipliers) (amount bound : Frac) (pivots : ℕ) → keys_of plan ≡ vars → IsProvedFor (One var goal) rows vars (Optimal plan multipliers amount bound pivots)
       → IsExtreme rows vars var goal plan
   extreme goal plan multipliers amount bound pivots complete h = record {
     is_plan = subst (IsPlan rows vars plan) h.0.cost_is h.0;
@@ -85,7 +56,7 @@ module _ (rows : List Row) (vars : List Var) (var : Var) (up : ascends var_cmp v
           back z = omega (arith, ints)
 
   -- of a NewCapacity the least value doesn't fall without end
-  never-below : (direction : List (Var × Rational)) (q : ℕ) (x : Var → ℤ) → kind_is_free var.kind ≡ false → MeetsAll rows vars q x → IsDescentFor (weight_of (One var Least)) rows vars direction → ⊥
+  never-below : (direction : Values) (q : ℕ) (x : Var → ℤ) → kind_is_free var.kind ≡ false → MeetsAll rows vars q x → IsDescentFor (weight_of (One var Least)) rows vars direction → ⊥
   never-below direction q x bounded meets descent =
       let less = descent.endless q x (pos 0) meets in
       let least : pos 0 ≤ℤ less.plan var = sign-at vars less.plan var less.meets.signs listed bounded in
@@ -94,7 +65,7 @@ module _ (rows : List Row) (vars : List Var) (var : Var) (up : ascends var_cmp v
       absurd (omega (arith, ints, less.less, least, cost, none))
 
   -- along a direction of the greatest value, whatever the number, some plan has more
-  pub always-more : (direction : List (Var × Rational)) (q : ℕ) (x : Var → ℤ) → MeetsAll rows vars q x → IsDescentFor (weight_of (One var Greatest)) rows vars direction → (n : ℤ)
+  pub always-more : (direction : Values) (q : ℕ) (x : Var → ℤ) → MeetsAll rows vars q x → IsDescentFor (weight_of (One var Greatest)) rows vars direction → (n : ℤ)
       → (p : ℕ) × (z : Var → ℤ) × MeetsAll rows vars p z × ((n *ℤ pos p) <ℤ z var)
   always-more direction q x meets descent n =
       let less = descent.endless q x (neg_ℤ n) meets in
@@ -138,17 +109,17 @@ module _ (problem : Problem) (var : Var) (goal : Goal) (trial : IsTrial problem 
   proved-as seen is proved = subst (λ (cost : Cost). IsProvedFor cost rows vars seen) trial.cost (subst (IsProvedFor problem.cost rows vars) is proved)
 
   module _ (proved : IsProvedFor problem.cost rows vars found) (complete : IsComplete vars found) where
-    pub trial-extreme : (plan : List (Var × Rational)) (multipliers : List (RowName × Rational)) (amount bound : Frac) (made : ℕ) → found ≡ Optimal plan multipliers amount bound made → IsExtreme rows vars var goal plan
+    pub trial-extreme : (plan : Values) (multipliers : Multipliers) (amount bound : Frac) (made : ℕ) → found ≡ Optimal plan multipliers amount bound made → IsExtreme rows vars var goal plan
     trial-extreme plan multipliers amount bound made is =
         extreme rows vars var up listed goal plan multipliers amount bound made (subst (IsComplete vars) is complete) (proved-as (Optimal plan multipliers amount bound made) is proved)
 
-    pub trial-rises : (plan direction : List (Var × Rational)) (made : ℕ) → goal ≡ Greatest → found ≡ Unbounded plan direction made → IsRise rows vars var plan direction
+    pub trial-rises : (plan direction : Values) (made : ℕ) → goal ≡ Greatest → found ≡ Unbounded plan direction made → IsRise rows vars var plan direction
     trial-rises plan direction made greatest is =
         let whole = subst (IsComplete vars) is complete in
         let worth = subst (λ (g : Goal). IsProvedFor (One var g) rows vars (Unbounded plan direction made)) greatest (proved-as (Unbounded plan direction made) is proved) in
         record { is_plan = worth.0; complete = whole.0; along = whole.1; descends = worth.1 }
 
-    pub trial-stays : (plan direction : List (Var × Rational)) (made : ℕ) → goal ≡ Least → (q : ℕ) (x : Var → ℤ) → MeetsAll rows vars q x → found ≡ Unbounded plan direction made → ⊥
+    pub trial-stays : (plan direction : Values) (made : ℕ) → goal ≡ Least → (q : ℕ) (x : Var → ℤ) → MeetsAll rows vars q x → found ≡ Unbounded plan direction made → ⊥
     trial-stays plan direction made least q x meets is =
         let worth = subst (λ (g : Goal). IsProvedFor (One var g) rows vars (Unbounded plan direction made)) least (proved-as (Unbounded plan direction made) is proved) in
         never-below rows vars var up listed direction q x (capacity-bounded var trial.capacity.chosen) meets worth.1

@@ -1,18 +1,8 @@
 -- The row that says that the cost, the sum of all TotalDiscountedCost, is at most a limit; and rows with this row after them.
 use Rattle.std.specs.Prelude.{◌≡◌, ◌↔◌, ℕ, ℤ, pos, ◌*ℤ◌, ◌≤ℤ◌, Bool, true, ◌==◌, List, [], ◌∷◌, ◌++◌, map, if◌then◌else◌}
-use Rattle.exact_num.specs.Range.{all_fit}
-use Rattle.exact_num.specs.Rational.{Rational, whole}
-use Rattle.row_core.specs.declared.Row.{Row}
-use Rattle.row_core.specs.declared.Sense.TheVariants.{Most}
-use Rattle.row_core.specs.declared.Var.{Var}
-use Rattle.row_core.specs.declared.kind_numbers.TheConstants.{TOTAL_DISCOUNTED_COST}
-use Rattle.row_core.specs.Contents.{contents_of}
-use Rattle.row_core.specs.CostLimits.{span_name}
-use Rattle.row_core.specs.Numbers.{variables_of}
-use Rattle.row_core.specs.Rows.{RowHolds}
+use Rattle.row_problem.specs.Prelude.{all_fit, Rational, whole, Row, Most, Var, TOTAL_DISCOUNTED_COST, contents_of, span_name, variables_of, RowHolds, cost_of, model_cost, Values}
 use Rattle.row_core.specs.Terms.{gathered, gathered_formed}
 use Rattle.row_core.specs.Written.{kept, written_entries, written_formed, written_right}
-use Rattle.certificate_checker.specs.Costs.{cost_of, model_cost}
 
 -- ---- how it is written
 
@@ -25,7 +15,7 @@ abbrev pub cost_term : Var → Var × Rational
 cost_term v = (v, whole (pos 1))
 
 -- those of which the cost is the sum
-abbrev pub cost_terms : List Var → List (Var × Rational)
+abbrev pub cost_terms : List Var → Values
 cost_terms [] = []
 cost_terms (v ∷ vs) = if is_cost v then (cost_term v ∷ cost_terms vs) else cost_terms vs
 

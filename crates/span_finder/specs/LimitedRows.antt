@@ -1,12 +1,6 @@
 -- Rows with the row that limits the cost after them, and what is left of them without the defined variables.
 use Rattle.std.specs.Prelude.{◌≡◌, ℕ, List, [], ◌∷◌, ◌++◌, Option, None}
-use Rattle.exact_num.specs.Rational.{Rational}
-use Rattle.exact_num.specs.Steps.{first_wide}
-use Rattle.row_core.specs.declared.Row.{Row}
-use Rattle.row_core.specs.declared.Var.{Var}
-use Rattle.row_core.specs.declared.place.Stopped.{Stopped}
-use Rattle.written_method.specs.Eliminated.{elimination_steps}
-use Rattle.certified_answers.specs.declared.costs.Cost.TheVariants.{Model}
+use Rattle.row_problem.specs.Prelude.{Rational, first_wide, Row, Var, Stopped, elimination_steps, Model}
 use Rattle.row_problem.specs.ProgramsOf.{IsProgramOf}
 use Rattle.span_finder.specs.LimitRows.{HasLimitRow}
 use Rattle.span_finder.specs.SpanEnds.{Stops, plain_fail}

@@ -1,13 +1,6 @@
 -- Between which values a variable lies in plans that cost at most a limit, by ends that are proved, with plans that come near them.
 use Rattle.std.specs.Prelude.{◌≡◌, ℕ, pos, true, List, if◌then◌else◌}
-use Rattle.std.specs.Ordering.{is_le}
-use Rattle.exact_num.specs.Rational.{Rational, lowest, minus, order_of, times, whole}
-use Rattle.exact_num.specs.Value.{value_of}
-use Rattle.row_core.specs.declared.Row.{Row}
-use Rattle.row_core.specs.declared.Var.{Var}
-use Rattle.row_core.specs.Order.{var_cmp}
-use Rattle.row_core.specs.Plans.{value_in}
-use Rattle.certificate_checker.specs.PlanChecks.{absolute}
+use Rattle.row_problem.specs.Prelude.{is_le, Rational, lowest, minus, order_of, times, whole, value_of, Row, Var, var_cmp, value_in, absolute}
 use Rattle.span_finder.specs.Spans.{HaveAtLeast, HaveAtMost, IsNearPlan}
 use Rattle.span_finder.specs.declared.found.RoundedSpan.{RoundedSpan}
 

@@ -1,15 +1,6 @@
 -- A trial by the rounded method: the end that a bound of its cost leaves, and a plan that comes near it.
 use Rattle.std.specs.Prelude.{◌≡◌, ℕ, pos, int_lt, List, if◌then◌else◌}
-use Rattle.exact_num.specs.Rational.{Rational, negated, whole}
-use Rattle.exact_num.specs.Value.{value_of}
-use Rattle.row_core.specs.declared.Row.{Row}
-use Rattle.row_core.specs.declared.Var.{Var}
-use Rattle.row_core.specs.Numbers.{keys_of}
-use Rattle.row_core.specs.Order.{var_cmp}
-use Rattle.row_core.specs.Plans.{value_in}
-use Rattle.certified_answers.specs.Worth.{IsPlan, plan_cost}
-use Rattle.certified_answers.specs.declared.costs.Goal.{Goal}
-use Rattle.certified_answers.specs.declared.costs.Goal.TheVariants.{Least, Greatest}
+use Rattle.row_problem.specs.Prelude.{Rational, negated, whole, value_of, Row, Var, keys_of, var_cmp, value_in, IsPlan, plan_cost, Goal, Least, Greatest, Values}
 use Rattle.row_problem.specs.declared.problem.Problem.{Problem}
 use Rattle.span_finder.specs.RoundedSpans.{LieWithin}
 use Rattle.span_finder.specs.Trials.{NonePasses}
@@ -27,7 +18,7 @@ IsClose Least ppm value end = LieWithin ppm value end end
 IsClose Greatest ppm value end = LieWithin ppm end value end
 
 -- no plan of the rows passes the end, and this one comes near it
-pub record IsEndNear (rows : List Row) (vars : List Var) (var : Var) (goal : Goal) (ppm : ℕ) (plan : List (Var × Rational)) (end : Rational) : Type 0 where
+pub record IsEndNear (rows : List Row) (vars : List Var) (var : Var) (goal : Goal) (ppm : ℕ) (plan : Values) (end : Rational) : Type 0 where
   pub is_plan : IsPlan rows vars plan (plan_cost vars plan)
   pub complete : keys_of plan ≡ vars
   pub none_passes : NonePasses goal rows vars var end

@@ -1,8 +1,6 @@
 -- A limit on the cost near the least cost: so many millionths of its absolute value more.
 use Rattle.std.specs.Prelude.{ℕ, ℤ, pos, List, ◌++◌}
-use Rattle.exact_num.specs.Formed.{product_formed, sum_formed}
-use Rattle.exact_num.specs.Rational.{Rational, lowest, plus, times}
-use Rattle.certificate_checker.specs.PlanChecks.{absolute}
+use Rattle.row_problem.specs.Prelude.{product_formed, sum_formed, Rational, lowest, plus, times, absolute}
 
 -- so many millionths of the cost's absolute value
 abbrev pub slack_of : Rational → ℕ → Rational

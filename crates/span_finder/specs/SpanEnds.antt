@@ -1,22 +1,11 @@
 -- How the trials end on rows, that which limits the cost among them: the elimination, and then two trials, each of which is the exact method for the value of one variable.
 use Rattle.std.specs.Prelude.{◌≡◌, ℕ, false, List, [], ◌∷◌, ◌++◌, Option, Some, None, ◌⊎◌, ⊤}
-use Rattle.exact_num.specs.Range.{all_fit}
-use Rattle.exact_num.specs.Rational.{Rational}
-use Rattle.exact_num.specs.Steps.{first_wide}
-use Rattle.row_core.specs.declared.Row.{Row}
-use Rattle.row_core.specs.declared.Var.{Var}
-use Rattle.row_core.specs.declared.place.Place.{Place}
-use Rattle.row_core.specs.declared.place.Stopped.{Stopped}
+use Rattle.row_problem.specs.Prelude.{all_fit, Rational, first_wide, Row, Var, Place, Stopped, span_name, elimination_steps, NoAnswer, One, Least, Greatest, Values}
 use Rattle.row_core.specs.declared.place.Stopped.TheVariants as parts
-use Rattle.row_core.specs.CostLimits.{span_name}
 use Rattle.simplex_core.specs.declared.stops.Stop.{Stop}
 use Rattle.simplex_core.specs.declared.stops.Stop.TheVariants.{Budget, Width, Trial}
 use Rattle.simplex_core.specs.declared.stops.TrialStop.TheVariants as trials
-use Rattle.written_method.specs.Eliminated.{elimination_steps}
-use Rattle.certified_answers.specs.declared.answers.NoAnswer.{NoAnswer}
 use Rattle.certified_answers.specs.declared.answers.NoAnswer.TheVariants as answers
-use Rattle.certified_answers.specs.declared.costs.Cost.TheVariants.{One}
-use Rattle.certified_answers.specs.declared.costs.Goal.TheVariants.{Least, Greatest}
 use Rattle.exact_solver.specs.MethodEnds.{MethodEnd, HasOptimum, HasNoPlan, HasNoBound, IsPivotDue, IsWide, solved_end}
 use Rattle.span_finder.specs.LimitRows.{HasLimitRow, limit_formed}
 use Rattle.span_finder.specs.declared.found.Span.{Span}
@@ -28,13 +17,13 @@ use Rattle.span_finder.specs.declared.found.SpanFail.TheVariants as fails
 -- a plan with the least value and one with the greatest; a plan with the least value, and another with a direction along which the value grows without end; why a step stopped; or
 -- neither, which never comes where some plan costs at most the limit
 pub data SpanEnd : Type 0 where
-  IsBounded : (low high : List (Var × Rational)) → SpanEnd
-  IsRising : (low high direction : List (Var × Rational)) → SpanEnd
+  IsBounded : (low high : Values) → SpanEnd
+  IsRising : (low high direction : Values) → SpanEnd
   IsStopped : (stop : Stop) → SpanEnd
   IsNothing : SpanEnd
 
 -- the second trial looks for the greatest value
-abbrev pub greatest_end : ℕ → List (Var × Rational) → MethodEnd → SpanEnd
+abbrev pub greatest_end : ℕ → Values → MethodEnd → SpanEnd
 greatest_end pivots low (HasOptimum high multipliers made) = IsBounded low high
 greatest_end pivots low (HasNoBound high direction made) = IsRising low high direction
 greatest_end pivots low (HasNoPlan multipliers made) = IsNothing
@@ -42,7 +31,7 @@ greatest_end pivots low IsPivotDue = IsStopped (Trial 2 (trials.Budget pivots))
 greatest_end pivots low (IsWide place) = IsStopped (Trial 2 (trials.Width place))
 
 -- the first looks for the least
-abbrev pub least_end : ℕ → (List (Var × Rational) → SpanEnd) → MethodEnd → SpanEnd
+abbrev pub least_end : ℕ → (Values → SpanEnd) → MethodEnd → SpanEnd
 least_end pivots next (HasOptimum low multipliers made) = next low
 least_end pivots next (HasNoBound low direction made) = IsNothing
 least_end pivots next (HasNoPlan multipliers made) = IsNothing
@@ -63,7 +52,7 @@ spanned rows defs vars var pivots = unless_stopped (first_wide (elimination_step
 
 -- ---- what is answered
 
-abbrev pub end_seen : List (Var × Rational) → List (Var × Rational) → Option (List (Var × Rational)) → SpanEnd
+abbrev pub end_seen : Values → Values → Option Values → SpanEnd
 end_seen low high None = IsBounded low high
 end_seen low high (Some direction) = IsRising low high direction
 

@@ -1,15 +1,6 @@
 -- Between which values a variable lies in plans that cost at most a limit.
 use Rattle.std.specs.Prelude.{◌≡◌, ℕ, ℤ, pos, ◌*ℤ◌, ◌<ℤ◌, ◌≤ℤ◌, List, Option, Some, None}
-use Rattle.exact_num.specs.Rational.{Rational}
-use Rattle.exact_num.specs.Value.{value_of}
-use Rattle.exact_num.specs.declared.fraction.Frac.{Frac}
-use Rattle.row_core.specs.declared.Row.{Row}
-use Rattle.row_core.specs.declared.Var.{Var}
-use Rattle.row_core.specs.Numbers.{keys_of}
-use Rattle.row_core.specs.Order.{var_cmp}
-use Rattle.row_core.specs.Plans.{value_in}
-use Rattle.certificate_checker.specs.Denominators.{AreOverSome}
-use Rattle.certificate_checker.specs.Plans.{AreValuesOver, MeetsAll}
+use Rattle.row_problem.specs.Prelude.{Rational, value_of, Frac, Row, Var, keys_of, var_cmp, value_in, AreOverSome, AreValuesOver, MeetsAll, Values}
 use Rattle.span_finder.specs.LimitRows.{CostsAtMost}
 use Rattle.span_finder.specs.declared.found.Span.{Span}
 
@@ -33,7 +24,7 @@ pub record HasNearBest (rows : List Row) (vars : List Var) (limit : Rational) : 
   pub near : IsNearBest rows vars limit over plan
 
 -- a list of values for all variables, in order, is one
-pub record IsNearPlan (rows : List Row) (vars : List Var) (limit : Rational) (plan : List (Var × Rational)) : Type 0 where
+pub record IsNearPlan (rows : List Row) (vars : List Var) (limit : Rational) (plan : Values) : Type 0 where
   pub whole : keys_of plan ≡ vars
   pub some : AreOverSome var_cmp plan
   pub near : (q : ℕ) (x : Var → ℤ) → AreValuesOver q x plan → IsNearBest rows vars limit q x
@@ -59,7 +50,7 @@ abbrev pub IsEndless : List Row → List Var → Rational → Var → Type 0
 IsEndless rows vars limit var = (n : ℤ) → HasMore rows vars limit var n
 
 -- the greatest value is that of the plan, and there is no direction; or there is none, but a direction
-abbrev pub IsHighEnd : List Row → List Var → Rational → Var → List (Var × Rational) → Option Frac → Option (List (Var × Rational)) → Type 0
+abbrev pub IsHighEnd : List Row → List Var → Rational → Var → Values → Option Frac → Option Values → Type 0
 IsHighEnd rows vars limit var plan (Some high) None = (value_of high ≡ value_in var_cmp plan var) × HaveAtMost rows vars limit var (value_of high)
 IsHighEnd rows vars limit var plan (Some high) (Some direction) = ⊥
 IsHighEnd rows vars limit var plan None (Some direction) = (keys_of direction ≡ vars) × IsEndless rows vars limit var

@@ -1,20 +1,6 @@
 -- A trial: the value of one variable over rows, of which one limits the cost.
 use Rattle.std.specs.Prelude.{◌≡◌, ℕ, ℤ, pos, ◌*ℤ◌, ◌≤ℤ◌, Contains, List, Option, Some, None}
-use Rattle.exact_num.specs.Rational.{Rational}
-use Rattle.exact_num.specs.Value.{value_of}
-use Rattle.exact_num.specs.declared.fraction.Frac.{Frac}
-use Rattle.row_core.specs.declared.Row.{Row}
-use Rattle.row_core.specs.declared.Var.{Var}
-use Rattle.row_core.specs.declared.kind_numbers.TheConstants.{NEW_CAPACITY}
-use Rattle.row_core.specs.Numbers.{keys_of}
-use Rattle.row_core.specs.Order.{var_cmp}
-use Rattle.row_core.specs.Plans.{value_in}
-use Rattle.certificate_checker.specs.Plans.{MeetsAll}
-use Rattle.certified_answers.specs.Costs.{weight_of}
-use Rattle.certified_answers.specs.Worth.{IsDescentFor, IsPlan, plan_cost}
-use Rattle.certified_answers.specs.declared.costs.Cost.TheVariants.{One}
-use Rattle.certified_answers.specs.declared.costs.Goal.{Goal}
-use Rattle.certified_answers.specs.declared.costs.Goal.TheVariants.{Least, Greatest}
+use Rattle.row_problem.specs.Prelude.{Rational, value_of, Frac, Row, Var, NEW_CAPACITY, keys_of, var_cmp, value_in, MeetsAll, weight_of, IsDescentFor, IsPlan, plan_cost, One, Goal, Least, Greatest, Values}
 use Rattle.row_problem.specs.ProgramsOf.{IsPosedProblem}
 use Rattle.row_problem.specs.declared.problem.Problem.{Problem}
 use Rattle.span_finder.specs.declared.found.Span.{Span}
@@ -36,20 +22,20 @@ NonePasses Least rows vars var value = (q : ℕ) (x : Var → ℤ) → MeetsAll 
 NonePasses Greatest rows vars var value = (q : ℕ) (x : Var → ℤ) → MeetsAll rows vars q x → (x var *ℤ value.bottom) ≤ℤ (value.top *ℤ pos q)
 
 -- a plan of the rows that none passes
-pub record IsExtreme (rows : List Row) (vars : List Var) (var : Var) (goal : Goal) (plan : List (Var × Rational)) : Type 0 where
+pub record IsExtreme (rows : List Row) (vars : List Var) (var : Var) (goal : Goal) (plan : Values) : Type 0 where
   pub is_plan : IsPlan rows vars plan (plan_cost vars plan)
   pub complete : keys_of plan ≡ vars
   pub none_passes : NonePasses goal rows vars var (value_in var_cmp plan var)
 
 -- a plan of the rows, and a direction along which the value grows
-pub record IsRise (rows : List Row) (vars : List Var) (var : Var) (plan direction : List (Var × Rational)) : Type 0 where
+pub record IsRise (rows : List Row) (vars : List Var) (var : Var) (plan direction : Values) : Type 0 where
   pub is_plan : IsPlan rows vars plan (plan_cost vars plan)
   pub complete : keys_of plan ≡ vars
   pub along : keys_of direction ≡ vars
   pub descends : IsDescentFor (weight_of (One var Greatest)) rows vars direction
 
 -- what is found of the greatest value
-abbrev pub IsHighFound : List Row → List Var → Var → List (Var × Rational) → Option Frac → Option (List (Var × Rational)) → Type 0
+abbrev pub IsHighFound : List Row → List Var → Var → Values → Option Frac → Option Values → Type 0
 IsHighFound rows vars var plan (Some high) None = (value_of high ≡ value_in var_cmp plan var) × IsExtreme rows vars var Greatest plan
 IsHighFound rows vars var plan (Some high) (Some direction) = ⊥
 IsHighFound rows vars var plan None (Some direction) = IsRise rows vars var plan direction

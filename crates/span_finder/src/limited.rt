@@ -1,15 +1,7 @@
 //! Rows with the row that limits the cost after them, and what is left of them.
 
 ghost use Rattle.std.specs.Prelude.{◌≡◌, ◌<◌, ◌++◌, [], ◌∷◌, None, IfErr, IfOk};
-ghost use Rattle.std.specs.List.{AllByRecursion};
-ghost use Rattle.exact_num.specs.Range.{all_fit};
-ghost use Rattle.exact_num.specs.Value.{value_of};
-ghost use Rattle.row_core.specs.CostLimits.{span_name};
-ghost use Rattle.row_core.specs.RowLists.{AreVariablesOf};
-ghost use Rattle.row_core.specs.Stops.{IsStop};
-ghost use Rattle.row_core.specs.declared.Row.{Row};
-ghost use Rattle.row_core.specs.declared.cost_limit.TheConstants.{SPAN};
-ghost use Rattle.row_core.specs.declared.place.Place.{Place};
+ghost use Rattle.row_problem.specs.Prelude.{AllByRecursion, all_fit, value_of, span_name, AreVariablesOf, IsStop, Row, SPAN, Place};
 ghost use Rattle.row_problem.specs.Problems.{IsProblem};
 ghost use Rattle.span_finder.specs.LimitRows.{HasLimitRow, limit_formed};
 ghost use Rattle.span_finder.specs.LimitedRows.{AreLimited, StopsBefore};

@@ -1,12 +1,8 @@
 //! The row that says that a plan costs at most a limit.
 
 ghost use Rattle.std.specs.Prelude.{◌≡◌, true, IfErr, IfOk, OnOk, if◌then◌else◌};
-ghost use Rattle.exact_num.specs.Range.{all_fit};
-ghost use Rattle.exact_num.specs.Value.{value_of};
-ghost use Rattle.row_core.specs.Stops.{IsStop};
+ghost use Rattle.row_problem.specs.Prelude.{all_fit, value_of, IsStop, Place, span_name};
 ghost use Rattle.row_core.specs.Terms.{gathered, gathered_formed, term_formed, with_term};
-ghost use Rattle.row_core.specs.declared.place.Place.{Place};
-ghost use Rattle.row_core.specs.CostLimits.{span_name};
 ghost use Rattle.span_finder.specs.LimitRows.{IsLimitRow, cost_term, cost_terms, is_cost, limit_formed};
 
 use exact_num::Frac;

@@ -1,8 +1,7 @@
 //! One trial by the rounded method: a bound of the value of one variable, and a plan that comes near it, both checked.
 
 ghost use Rattle.std.specs.Prelude.{◌≡◌, IfOk, OnOk, length};
-ghost use Rattle.exact_num.specs.Value.{value_of};
-ghost use Rattle.row_core.specs.Numbers.{keys_of};
+ghost use Rattle.row_problem.specs.Prelude.{value_of, keys_of};
 ghost use Rattle.span_finder.specs.RoundedTrials.{IsClose, IsRoundedEnd, end_of};
 ghost use Rattle.span_finder.specs.Trials.{IsTrial};
 

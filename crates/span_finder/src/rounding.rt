@@ -1,13 +1,7 @@
 //! Between which values a variable lies in plans that meet rows and cost at most a limit, by the rounded method.
 
 ghost use Rattle.std.specs.Prelude.{◌≡◌, ◌<◌, Contains, IfOk, IfSome};
-ghost use Rattle.std.specs.List.{AllByRecursion};
-ghost use Rattle.exact_num.specs.Value.{value_of};
-ghost use Rattle.row_core.specs.RowLists.{AreVariablesOf};
-ghost use Rattle.row_core.specs.declared.Row.{Row};
-ghost use Rattle.row_core.specs.declared.cost_limit.TheConstants.{SPAN};
-ghost use Rattle.row_core.specs.declared.kind_numbers.TheConstants.{NEW_CAPACITY};
-ghost use Rattle.certified_answers.specs.declared.costs.Cost.TheVariants.{Model};
+ghost use Rattle.row_problem.specs.Prelude.{AllByRecursion, value_of, AreVariablesOf, Row, SPAN, NEW_CAPACITY, Model};
 ghost use Rattle.row_problem.specs.Problems.{IsProblem};
 ghost use Rattle.row_problem.specs.ProgramsOf.{IsProgramOf};
 ghost use Rattle.span_finder.specs.RoundedSpans.{IsRoundedSpan};

@@ -1,13 +1,7 @@
 //! A limit on the cost near the least cost.
 
 ghost use Rattle.std.specs.Prelude.{◌≡◌, List, IfOk, is_ok};
-ghost use Rattle.exact_num.specs.Range.{all_fit};
-ghost use Rattle.exact_num.specs.Rational.{Rational};
-ghost use Rattle.exact_num.specs.Value.{value_of};
-ghost use Rattle.row_core.specs.declared.Row.{Row};
-ghost use Rattle.row_core.specs.declared.Var.{Var};
-ghost use Rattle.certificate_checker.specs.PlanChecks.{absolute};
-ghost use Rattle.certified_answers.specs.Worth.{IsPlan};
+ghost use Rattle.row_problem.specs.Prelude.{all_fit, Rational, value_of, Row, Var, absolute, IsPlan};
 ghost use Rattle.span_finder.specs.Slacks.{slack_formed, slack_limit};
 ghost use Rattle.span_finder.specs.Spans.{HasNearBest};
 

@@ -1,21 +1,7 @@
 //! Between which values a variable lies in plans that meet rows and cost at most a limit.
 
 ghost use Rattle.std.specs.Prelude.{◌≡◌, ◌≢◌, ◌<◌, List, None, Contains, IfErr, IfOk};
-ghost use Rattle.std.specs.List.{AllByRecursion};
-ghost use Rattle.exact_num.specs.Rational.{Rational};
-ghost use Rattle.exact_num.specs.Steps.{first_wide};
-ghost use Rattle.exact_num.specs.Value.{value_of};
-ghost use Rattle.row_core.specs.Order.{var_cmp};
-ghost use Rattle.row_core.specs.Plans.{value_in};
-ghost use Rattle.row_core.specs.RowLists.{AreVariablesOf};
-ghost use Rattle.row_core.specs.declared.Row.{Row};
-ghost use Rattle.row_core.specs.declared.Var.{Var};
-ghost use Rattle.row_core.specs.declared.cost_limit.TheConstants.{SPAN};
-ghost use Rattle.row_core.specs.declared.kind_numbers.TheConstants.{NEW_CAPACITY};
-ghost use Rattle.written_method.specs.Eliminated.{elimination_steps};
-ghost use Rattle.certified_answers.specs.declared.answers.NoAnswer.TheVariants.{Nothing};
-ghost use Rattle.certified_answers.specs.declared.costs.Cost.TheVariants.{Model, One};
-ghost use Rattle.certified_answers.specs.declared.costs.Goal.TheVariants.{Least, Greatest};
+ghost use Rattle.row_problem.specs.Prelude.{AllByRecursion, Rational, first_wide, value_of, var_cmp, value_in, AreVariablesOf, Row, Var, SPAN, NEW_CAPACITY, elimination_steps, Nothing, Model, One, Least, Greatest};
 ghost use Rattle.row_problem.specs.Problems.{IsProblem};
 ghost use Rattle.row_problem.specs.ProgramsOf.{IsProgramOf};
 ghost use Rattle.exact_solver.specs.MethodEnds.{solved_end};

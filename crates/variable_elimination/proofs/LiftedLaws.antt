@@ -118,7 +118,7 @@ direction_met (d ∷ ds) p z h = (
 -- ---- the named rows
 
 -- each row holds of numbers over q; over 0 its right side is 0
-abbrev AllHold : List Row → ℕ → (Var → ℤ) → Type 0
+abbrev pub AllHold : List Row → ℕ → (Var → ℤ) → Type 0
 AllHold rows q x = AllStand (right_times q) rows x
 
 at_least : (z : ℤ) → int_le (pos 0) z ≡ true → pos 0 ≤ℤ z
@@ -137,7 +137,7 @@ nothing_there : (x : Var → ℤ) (es : List (Var × ℤ)) → has_entries es �
 nothing_there x [] h = refl
 nothing_there x (e ∷ es) h = absurd (cc h)
 
-empty_holds : (row : Row) (q : ℕ) (x : Var → ℤ) → has_entries row.entries.items ≡ false → stands row.sense (pos 0) row.rhs ≡ true → RowHolds row q x
+pub empty_holds : (row : Row) (q : ℕ) (x : Var → ℤ) → has_entries row.entries.items ≡ false → stands row.sense (pos 0) row.rhs ≡ true → RowHolds row q x
 empty_holds row q x h k = subst (λ z. Stands row.sense z (row.rhs *ℤ pos q)) (nothing_there x row.entries.items h) (stands_to_times row.sense row.rhs q k)
 
 others_hold : (ds : List Definition) (others rows : List Row) (scales : List Frac) (q : ℕ) (x : Var → ℤ) → AreReductions (rows_of ds) others rows scales → AreMet ds (pos q) x → AllHold rows q x → AllHold others q x
@@ -150,7 +150,7 @@ others_hold ds (named ∷ others) rows scales q x (inr (new, scale, more, more_s
     let parts : AllHold (new ∷ more) q x = subst (λ (rs : List Row). AllHold rs q x) e holds in
     ((reduced_says ds named (value_of scale) new q x r.reduced r.sense met).0 parts.0, others_hold ds others more more_scales q x h met parts.1)
 
-defined_holds : (d : Definition) (q : ℕ) (x : Var → ℤ) → d.row.sense ≡ Equal → excess d.row (pos q) x ≡ pos 0 → RowHolds d.row q x
+pub defined_holds : (d : Definition) (q : ℕ) (x : Var → ℤ) → d.row.sense ≡ Equal → excess d.row (pos q) x ≡ pos 0 → RowHolds d.row q x
 defined_holds d q x e met =
     let same : row_sum x d.row.entries.items ≡ d.row.rhs *ℤ pos q = omega (arith, ints) in
     subst (λ s. Stands s (row_sum x d.row.entries.items) (d.row.rhs *ℤ pos q)) (sym e) same

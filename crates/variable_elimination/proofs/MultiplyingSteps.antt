@@ -129,9 +129,6 @@ done-start with_cost rows defs left m h = record {
   steps = ap (λ ds. first_wide (defined_steps with_cost rows ds (values_in m))) (no_definition_left rows defs left h) ∙ first_wide-nil;
 }
 
-pub done-all : (with_cost : Bool) (rows : List Row) (defs : List (Option Var)) (first : List (RowName × Rational)) (left : ℕ) (m : BTreeMap RowName Frac) → left ≡ 0 → AreDone with_cost rows (drop left rows) (drop left defs) first m → AreDone with_cost rows rows defs first m
-done-all with_cost rows defs first left m e h = subst (λ n. AreDone with_cost rows (drop n rows) (drop n defs) first m) e h
-
 module _ (with_cost : Bool) (rows : List Row) (defs : List (Option Var)) (first : List (RowName × Rational)) (i left : ℕ) (is : left ≡ i + 1) (m : BTreeMap RowName Frac) (before : AreDone with_cost rows (drop left rows) (drop left defs) first m) where
   abbrev later : List Definition
   later = definitions_of (drop (i + 1) rows) (drop (i + 1) defs)

@@ -53,14 +53,11 @@ row_chosen (row ∷ rows) v h =
     cases (inl k) later = entry_chosen (variables_of row.entries.items) v k
     cases (inr k) later = later k
 
-pub chosen-columns : (rows : List Row) (columns : List Var) → AreColumns rows columns → AreChosen columns
-chosen-columns rows columns are v h = row_chosen rows v (among-from_contains (column_entries rows) v ((are.each v).0 h))
-
 -- a freely chosen variable isn't of the cost, and may be negative where it is split
-abbrev IsPlain : ℕ → Type 0
+abbrev pub IsPlain : ℕ → Type 0
 IsPlain kind = ((kind == TRADE) ≡ kind_is_free kind) × ((if true && (kind == TOTAL_DISCOUNTED_COST) then pos 1 else pos 0) ≡ pos 0)
 
-chosen_plain : (v : Var) → is_column v ≡ true → IsPlain v.kind
+pub chosen_plain : (v : Var) → is_column v ≡ true → IsPlain v.kind
 chosen_plain v h = cases (v.kind == RATE_OF_ACTIVITY) refl (v.kind == NEW_CAPACITY) refl (v.kind == TRADE) refl h
   where
     cases : (a : Bool) → (v.kind == RATE_OF_ACTIVITY) ≡ a → (b : Bool) → (v.kind == NEW_CAPACITY) ≡ b → (c : Bool) → (v.kind == TRADE) ≡ c → (a || (b || (c && nat_lt v.index.region v.index.other))) ≡ true → IsPlain v.kind

@@ -1,4 +1,4 @@
-use Rattle.std.proofs.Common.{◌++◌, List, ℕ, [], subst, arith}
+use Rattle.std.proofs.Common.{List, ℕ, [], subst}
 use Rattle.mathprog_data.specs.Pieces.{StandsFor}
 use Rattle.command_answers.proofs.accepting.read_text.Goals as goal
 

@@ -1,6 +1,5 @@
 -- Row by row.
-use Rattle.std.proofs.Common.{map}
-use Rattle.row_core.specs.Contents.{contents_of}
+use Rattle.row_problem.proofs.Common.{map, contents_of}
 use Rattle.conflict_sets.specs.Pieces.{listed_by}
 use Rattle.conflict_sets.proofs.LoopLaws.{taken-all, taken-next}
 use Rattle.conflict_sets.proofs.copying.trial_rows.Goals as goal

@@ -1,7 +1,5 @@
 -- Row by row.
-use Rattle.std.proofs.Common.{◌<◌, length, map, sym, subst}
-use Rattle.std.proofs.lemmas.List.{length-map}
-use Rattle.row_core.specs.Contents.{contents_of}
+use Rattle.row_problem.proofs.Common.{◌<◌, length, map, sym, subst, length-map, contents_of}
 use Rattle.conflict_sets.specs.Pieces.{listed_by}
 use Rattle.conflict_sets.proofs.LoopLaws.{chosen-all, chosen-next, contents-at}
 use Rattle.conflict_sets.proofs.copying.tried_rows.Goals as goal

@@ -1,6 +1,5 @@
 -- With the rows that are left, the copies and the scales so far are those of all rows.
-use Rattle.std.proofs.Common.{◌≡◌, ◌++◌, drop, map}
-use Rattle.row_core.specs.Contents.{contents_of}
+use Rattle.row_problem.proofs.Common.{◌≡◌, ◌++◌, drop, map, contents_of}
 use Rattle.conflict_sets.specs.Pieces.{listed_by, selected, tests_of}
 use Rattle.conflict_sets.proofs.copying.tried_rows.Given as goal
 

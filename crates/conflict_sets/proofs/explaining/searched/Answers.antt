@@ -1,7 +1,5 @@
 -- At the end nothing is left to be tried, and what was needed is a conflict.
-use Rattle.std.proofs.Common.{◌≡◌, ◌+◌, [], drop, ap, sym, ◌∙◌, subst}
-use Rattle.std.proofs.lemmas.List.{drop_all, drop_more}
-use Rattle.std.proofs.lemmas.Result.{err_from_is_err_and}
+use Rattle.row_problem.proofs.Common.{◌≡◌, ◌+◌, [], drop, ap, sym, ◌∙◌, subst, drop_all, drop_more, err_from_is_err_and}
 use Rattle.conflict_sets.specs.Searches.{all_needed, walk_from}
 use Rattle.conflict_sets.specs.Walks.{Stops}
 use Rattle.conflict_sets.proofs.StillLaws.{search-conflict, search-found}

@@ -1,8 +1,5 @@
 -- What the checker accepts refutes the rows, and gives the rows that aren't tried the multiplier 0.
-use Rattle.std.proofs.Common.{◌≡◌, List, map, sym, ◌∙◌, subst}
-use Rattle.exact_num.specs.Rational.{Rational}
-use Rattle.exact_num.specs.Value.{value_of}
-use Rattle.row_core.specs.declared.RowName.{RowName}
+use Rattle.row_problem.proofs.Common.{◌≡◌, map, sym, ◌∙◌, subst, value_of, Multipliers}
 use Rattle.conflict_sets.specs.Pieces.{AreWithin, listed_by}
 use Rattle.conflict_sets.specs.Trials.{tried_multipliers}
 use Rattle.conflict_sets.proofs.FoundTrials.{lifted-are}
@@ -23,6 +20,6 @@ returns-in-Ok-accepted_refutation c =
     record {
       worth = (
         c.in-Ok-accepted_refutation.ensures.refutation,
-        subst (λ (made : List (RowName × Rational)). AreWithin listed problem.rows.now made) (sym is) (multipliers-within listed problem.rows.now problem.defs.now problem.vars.now lambda c.requires.problem.problem),
+        subst (λ (made : Multipliers). AreWithin listed problem.rows.now made) (sym is) (multipliers-within listed problem.rows.now problem.defs.now problem.vars.now lambda c.requires.problem.problem),
       );
     }

@@ -1,6 +1,5 @@
 -- What the checker accepts over the copied rows is a plan of the rows of the trial.
-use Rattle.std.proofs.Common.{◌≡◌, map, ap, ◌∙◌}
-use Rattle.row_core.specs.Contents.{contents_of}
+use Rattle.row_problem.proofs.Common.{◌≡◌, map, ap, ◌∙◌, contents_of}
 use Rattle.row_problem.proofs.CompletePlans.{plan-complete}
 use Rattle.conflict_sets.specs.Pieces.{listed_by}
 use Rattle.conflict_sets.specs.Trials.{rows_with}

@@ -1,6 +1,5 @@
 -- The names so far have their multipliers.
-use Rattle.std.proofs.Common.{◌≡◌, take, map}
-use Rattle.row_core.specs.Plans.{valued}
+use Rattle.row_problem.proofs.Common.{◌≡◌, take, map, valued}
 use Rattle.conflict_sets.specs.Searches.{member_named}
 use Rattle.conflict_sets.proofs.searching.members_of.Given as goal
 

@@ -1,21 +1,21 @@
 -- The plan meets the rows of the trial, so that the checker says yes to it.
-use Rattle.std.proofs.Common.{◌≡◌, map, ap, ◌∙◌}
-use Rattle.std.proofs.lemmas.Result.{err_from_is_err_and}
-use Rattle.row_core.specs.Contents.{contents_of}
-use Rattle.certificate_checker.specs.Costs.{model_cost}
+use Rattle.row_problem.proofs.Common.{◌≡◌, map, refl, sym, ap, ◌∙◌, err_from_is_err_and, first_wide-append, contents_of, model_cost, stop_of}
 use Rattle.row_problem.proofs.CompletePlans.{plan-complete}
 use Rattle.conflict_sets.specs.Pieces.{listed_by}
-use Rattle.conflict_sets.specs.Trials.{rows_with}
+use Rattle.exact_solver.proofs.StepEnds.{of-part}
+use Rattle.conflict_sets.specs.Trials.{planned_end, rows_with}
 use Rattle.conflict_sets.proofs.CopiedLaws.{copied-conditions, copied-found, copied-plan}
 use Rattle.conflict_sets.proofs.FoundTrials.{trial-plan}
-use Rattle.conflict_sets.proofs.TrialEnds.{planned-ends, planned-refused, planned-stops}
+use Rattle.conflict_sets.proofs.TrialEnds.{stops-by}
 use Rattle.conflict_sets.proofs.trial.planned.Goals as goal
 
 pub returns-in_err-plan-clause-stopped : goal.returns-in_err-plan-clause-stopped
 returns-in_err-plan-clause-stopped c =
     let problem = c.args.problem.now in
+    let end = planned_end (listed_by c.args.listing.now) problem.rows.now problem.defs.now problem.vars.now c.args.values.now in
+    let e = c.in_err-plan.field-0.0 in
     let q = err_from_is_err_and c.from_residual.result c.from_residual.ensures.1 in
-    rw (q.1, q.2) (planned-stops (listed_by c.args.listing.now) problem.rows.now problem.defs.now problem.vars.now c.args.values.now c.args.values.now c.in_err-plan.field-0.0 c.in_err-plan.ensures.stopped)
+    rw (q.1, q.2) (stops-by _ (stop_of e) end (of-part _ e c.in_err-plan.ensures.stopped) (λ place h. rw (first_wide-append, h) refl))
 
 pub returns-in_err-accepted_plan-clause-stopped : goal.returns-in_err-accepted_plan-clause-stopped
 returns-in_err-accepted_plan-clause-stopped c =
@@ -32,8 +32,8 @@ returns-in_err-accepted_plan-clause-stopped c =
     let found = trial-plan listed problem c.requires.problem c.args.tried.now c.requires.tried values plan c.in_ok-plan.ensures.values c.requires.keyed c.plan_laws.ensures.ascending c.plan_laws.ensures.some c.plan_laws-2.ensures.some c.requires.meet in
     let wide = c.in_err-accepted_plan.ensures.found (copied-found vars plan c.deref.result.now (rows_with listed rows) copied found) in
     rw (q.1, q.2)
-    (planned-refused listed rows defs vars values plan e c.in_ok-plan.ensures.values c.in_ok-plan.ensures.fits
-    (rw (copied-conditions model_cost vars plan c.deref.result.now (rows_with listed rows) copied) at wide))
+    (stops-by _ e (planned_end listed rows defs vars values) (rw (copied-conditions model_cost vars plan c.deref.result.now (rows_with listed rows) copied) at wide)
+    (λ place h. rw (first_wide-append, c.in_ok-plan.ensures.fits, sym c.in_ok-plan.ensures.values, h) refl))
 
 pub returns-clause-end : goal.returns-clause-end
 returns-clause-end c =
@@ -44,7 +44,7 @@ returns-clause-end c =
     let plan = c.in_ok-plan.plan in
     let copied : map contents_of c.deref.result.now ≡ map contents_of (rows_with listed rows) = ap (map contents_of) c.deref.ensures.value ∙ c.in_ok-rows.ensures in
     let worth = copied-plan vars plan _ c.deref.result.now (rows_with listed rows) copied c.in_ok-accepted_plan.ensures.plan in
-    planned-ends listed rows problem.defs.now vars c.args.values.now plan c.in_ok-plan.ensures.values c.in_ok-plan.ensures.fits worth.pass.fit
+    rw (first_wide-append, c.in_ok-plan.ensures.fits, sym c.in_ok-plan.ensures.values, worth.pass.fit) refl
 
 pub returns-clause-worth : goal.returns-clause-worth
 returns-clause-worth c =

@@ -1,6 +1,5 @@
 -- The end of the simplex is that of the trial's linear program.
-use Rattle.std.proofs.Common.{sym}
-use Rattle.written_method.specs.Programs.{program_of}
+use Rattle.row_problem.proofs.Common.{sym, program_of}
 use Rattle.simplex_core.specs.Outcomes.{outcome_seen}
 use Rattle.exact_solver.proofs.SolvedLaws.{sized}
 use Rattle.conflict_sets.specs.Pieces.{listed_by}

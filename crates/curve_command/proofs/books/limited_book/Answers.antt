@@ -1,18 +1,17 @@
 -- Over the rows of the model with the limit, made anew or renewed.
 use Rattle.std.proofs.Common.{sym, ◌∙◌, subst}
 use Rattle.model_sets.specs.Members.{SetLists}
-use Rattle.row_book.specs.Books.{NamesRowWithin}
-use Rattle.command_answers.proofs.MadeBooks.{listed-book, made-book, same-made}
+use Rattle.command_answers.proofs.MadeBooks.{made-book, same-made}
 use Rattle.command_answers.proofs.SameData.{same-itself}
 use Rattle.curve_command.specs.KeptRows.{IsMemberOf, limited}
-use Rattle.curve_command.proofs.KeptBooks.{renewed-made, same-laws, same-stops}
+use Rattle.curve_command.proofs.KeptBooks.{renewed-made, same-stops}
 use Rattle.curve_command.proofs.LimitValues.{place-of}
 use Rattle.curve_command.proofs.books.limited_book.Goals as goal
 
 pub renewed-requires-clause-member : goal.renewed-requires-clause-member
 renewed-requires-clause-member c =
     let model = c.args.model.now.facts in
-    subst (λ (sets : SetLists). IsMemberOf sets c.args.limit.member) (sym (c.in_ok-limited.ensures.facts model (same-itself model)).sets) c.requires.limit.member
+    rw (c.in_ok-limited.ensures.facts model (same-itself model)).sets c.requires.limit.member
 
 pub returns-in-Some-renewed-clause-book : goal.returns-in-Some-renewed-clause-book
 returns-in-Some-renewed-clause-book c = λ d same.
@@ -26,17 +25,10 @@ returns-in-Some-renewed-clause-book c = λ d same.
 
 pub returns-in-Ok-clause-book : goal.returns-in-Ok-clause-book
 returns-in-Ok-clause-book c = λ d same.
-    let places = c.args.places in
     let changed = c.in_ok-limited.limited.facts in
-    let alike = c.in_ok-limited.ensures.facts d same in
     let made = c.in-Ok.ensures in
-    let rows = c.in-Ok.book.rows in
-    let vars = c.in-Ok.book.vars in
-    same-made places changed (limited d c.args.limit) alike (same-laws places changed (limited d c.args.limit) alike) c.in-Ok.book (record {
-      made = made.made;
-      is_book = made-book places changed rows vars made.rows made.exist made.variables.ascending made.whole;
-      listed = listed-book places changed rows vars made.rows made.exist made.named made.within;
-    })
+    same-made c.args.places changed (limited d c.args.limit) (c.in_ok-limited.ensures.facts d same) c.in-Ok.book
+    (made-book c.args.places changed c.in-Ok.book made.made made.rows made.exist made.variables.ascending made.whole made.within)
 
 pub returns-clause-stopped : goal.returns-clause-stopped
 returns-clause-stopped c = λ d same. same-stops c.args.places c.in_ok-limited.limited.facts (limited d c.args.limit) (c.in_ok-limited.ensures.facts d same) c.in-Err.fail c.in-Err.ensures.stopped
@@ -44,4 +36,4 @@ returns-clause-stopped c = λ d same. same-stops c.args.places c.in_ok-limited.l
 pub returns-clause-place : goal.returns-clause-place
 returns-clause-place c =
     let model = c.args.model.now.facts in
-    subst (λ (sets : SetLists). NamesRowWithin sets c.in-Err.fail) (c.in_ok-limited.ensures.facts model (same-itself model)).sets c.in-Err.ensures.place
+    rw (c.in_ok-limited.ensures.facts model (same-itself model)).sets at c.in-Err.ensures.place

@@ -1,10 +1,6 @@
 -- The data are the model's but for the limit.
-use Rattle.std.proofs.Common.{ℤ, subst}
 use Rattle.std.proofs.lemmas.Result.{IfOk-weaker}
 use Rattle.model_sets.specs.Data.{Data}
-use Rattle.model_sets.specs.declared.param_numbers.TheConstants.{MODEL_PERIOD_EMISSION_LIMIT}
-use Rattle.param_tables.specs.Changed.{AreDataWith}
-use Rattle.curve_command.specs.Limited.{limit_names}
 use Rattle.curve_command.proofs.LimitValues.{limit-fits, same-limited}
 use Rattle.curve_command.proofs.books.limited_model.Goals as goal
 
@@ -17,5 +13,5 @@ returns-clause-facts c = λ d same.
     IfOk-weaker c.with_value.result _ _
     (λ changed is.
     same-limited d r e z model changed.facts same
-    (subst (λ (n : ℤ). AreDataWith MODEL_PERIOD_EMISSION_LIMIT (limit_names model r e) n model changed.facts) (limit-fits z c.requires.most) is.facts))
+    (rw (limit-fits z c.requires.most) at is.facts))
     c.with_value.ensures.changed

@@ -4,7 +4,7 @@ use Rattle.std.specs.List.{flat_map}
 use Rattle.curve_command.specs.CurveTexts.{limit_line}
 use Rattle.curve_command.specs.Outcomes.{found_seen}
 use Rattle.curve_command.specs.declared.trials.Found.{Found}
-use Rattle.curve_command.proofs.TextLaws.{lines-next}
+use Rattle.command_answers.proofs.ListLines.{lines-next}
 use Rattle.curve_command.proofs.texts.push_limits.Goals as goal
 
 pub loop-found-preserved : goal.loop-found-preserved

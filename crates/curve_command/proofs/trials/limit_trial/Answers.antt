@@ -1,9 +1,5 @@
 -- Over the book of the model with the limit.
-use Rattle.std.proofs.Common.{◌∙◌, subst}
-use Rattle.model_sets.specs.Members.{SetLists}
-use Rattle.row_core.specs.declared.RowName.{RowName}
-use Rattle.curve_command.specs.KeptRows.{limit_of}
-use Rattle.curve_command.specs.Outcomes.{BookTells, FailTells, wanted_of}
+use Rattle.std.proofs.Common.{◌∙◌}
 use Rattle.curve_command.proofs.LimitValues.{place-of}
 use Rattle.curve_command.proofs.TrialLaws.{book-told, fail-told}
 use Rattle.curve_command.proofs.trials.limit_trial.Goals as goal
@@ -11,15 +7,14 @@ use Rattle.curve_command.proofs.trials.limit_trial.Goals as goal
 pub returns-in_ok-trial-in-Ok : goal.returns-in_ok-trial-in-Ok
 returns-in_ok-trial-in-Ok c = λ d same.
     let limit = c.args.limit in
-    let wanted = wanted_of c.args.wanted in
+    let wanted = c.args.wanted in
     let book = c.in-Ok.book in
     let trial = c.in_ok-trial-in-Ok.trial in
     let at = place-of c.args.model.now.facts.sets d limit.member same.sets c.sets.ensures.complete.sets c.requires.limit.member in
     let made = c.in-Ok.ensures.book d same in
     record {
       trial = book-told c.args.places d limit wanted at c.requires.limit.most book made trial
-          (subst (λ (sets : SetLists). BookTells sets book (limit_of limit.member) wanted trial) (c.sets.ensures.sets ∙ same.sets)
-          (subst (λ (name : RowName). BookTells c.sets.result.now book name wanted trial) c.limit_row-row.ensures c.in_ok-trial-in-Ok.ensures));
+          (rw (c.sets.ensures.sets ∙ same.sets, c.limit_row-row.ensures) at c.in_ok-trial-in-Ok.ensures);
       book = record { most = limit.most; least = c.requires.limit.most.0; made = made };
     }
 
@@ -29,7 +24,7 @@ returns-in_ok-trial-in-Err c = λ d same.
     let trial = c.in_ok-trial-in-Err.trial in
     let at = place-of c.args.model.now.facts.sets d limit.member same.sets c.sets-in-Err.ensures.complete.sets c.requires.limit.member in
     record {
-      trial = fail-told c.args.places d limit (wanted_of c.args.wanted) at c.requires.limit.most c.in-Err.fail (c.in-Err.ensures.stopped d same) trial
-          (subst (λ (sets : SetLists). FailTells sets c.in-Err.fail trial) (c.sets-in-Err.ensures.sets ∙ same.sets) c.in_ok-trial-in-Err.ensures);
+      trial = fail-told c.args.places d limit c.args.wanted at c.requires.limit.most c.in-Err.fail (c.in-Err.ensures.stopped d same) trial
+          (rw (c.sets-in-Err.ensures.sets ∙ same.sets) at c.in_ok-trial-in-Err.ensures);
       book = tt;
     }

@@ -6,11 +6,11 @@ use Rattle.command_words.specs.LimitLists.{IsLimit}
 use Rattle.model_sets.specs.Data.{AreSameData, Data}
 use Rattle.row_book.proofs.Lists.{AllByRecursion-append}
 use Rattle.curve_command.specs.Curve.{limits_in}
-use Rattle.curve_command.specs.Outcomes.{IsFoundOf, TriedTells, found_seen, wanted_of}
+use Rattle.curve_command.specs.Outcomes.{IsFoundOf, TriedTells, found_seen}
 use Rattle.curve_command.specs.declared.trials.Found.{Found}
 use Rattle.curve_command.specs.declared.trials.Limit.{Limit}
 use Rattle.curve_command.proofs.LimitValues.{limit-fits}
-use Rattle.curve_command.proofs.TextLaws.{each-at}
+use Rattle.command_answers.proofs.ListLines.{each-at}
 use Rattle.curve_command.proofs.TrialLists.{limits-next, limits-split, trials-of}
 use Rattle.curve_command.proofs.trials.trials.Goals as goal
 
@@ -19,7 +19,7 @@ returns-in-Refused c = λ d same.
     let limits : List ℤ = c.args.limits.now in
     let i = c.loop-most.most-index in
     let all = c.loop-most.all.items in
-    let wanted = wanted_of c.args.wanted in
+    let wanted = c.args.wanted in
     let limit : Limit = record { member = c.args.member; most = get_or limits i (pos 0) } in
     let fits = limit-fits limit.most (each-at IsLimit limits i (pos 0) c.requires.limits c.loop-most-test.true) in
     let told = subst (λ (n : ℤ). TriedTells c.args.places d (record { member = c.args.member; most = n }) wanted c.in_ok-trial.field-0) fits (c.in_ok-trial.ensures d same) in
@@ -38,7 +38,7 @@ loop-most-preserved c =
     let limits : List ℤ = c.args.limits.now in
     let i = c.loop-most.most-index in
     let all = c.loop-most.all.items in
-    let wanted = wanted_of c.args.wanted in
+    let wanted = c.args.wanted in
     let limit : Limit = record { member = c.args.member; most = get_or limits i (pos 0) } in
     let found : Found = record { limit = limit.most; point = c.in-Ended.point } in
     let fits = limit-fits limit.most (each-at IsLimit limits i (pos 0) c.requires.limits c.loop-most-test.true) in

@@ -1,10 +1,6 @@
 -- The first state, the rounds, and what the last state gives.
-use Rattle.std.proofs.Common.{refl}
-use Rattle.std.proofs.lemmas.Result.{err_from_is_err_and}
-use Rattle.written_method.specs.Programs.{program_of}
-use Rattle.decimal_solver.specs.Rounds.{run}
-use Rattle.decimal_solver.specs.Starts.{first_state}
-use Rattle.decimal_solver.specs.Views.{state_seen}
+use Rattle.row_problem.proofs.Common.{refl, err_from_is_err_and, program_of}
+use Rattle.decimal_solver.proofs.Words.{run, first_state, state_seen}
 use Rattle.decimal_solver.proofs.AttemptLaws.{program-is}
 use Rattle.decimal_solver.proofs.Nothing.{nothing-later}
 use Rattle.decimal_solver.proofs.attempts.attempt.Goals as goal

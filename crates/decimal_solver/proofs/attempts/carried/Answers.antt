@@ -1,7 +1,5 @@
 -- What is carried back, and the checks of it.
-use Rattle.std.proofs.Common.{true, map, sym, ◌∙◌}
-use Rattle.std.proofs.lemmas.Result.{err_from_is_err_and}
-use Rattle.exact_num.specs.Value.{value_of}
+use Rattle.row_problem.proofs.Common.{true, map, sym, ◌∙◌, err_from_is_err_and, value_of}
 use Rattle.row_problem.proofs.CompletePlans.{multipliers-named, plan-complete}
 use Rattle.decimal_solver.proofs.CarryLaws.{no_multipliers_carried, no_plan_carried}
 use Rattle.decimal_solver.proofs.attempts.carried.Goals as goal

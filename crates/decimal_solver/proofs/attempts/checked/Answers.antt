@@ -1,6 +1,5 @@
 -- The checks one after another.
-use Rattle.std.proofs.lemmas.Result.{err_from_is_err_and}
-use Rattle.exact_num.specs.Value.{value_of}
+use Rattle.row_problem.proofs.Common.{err_from_is_err_and, value_of}
 use Rattle.decimal_solver.proofs.CheckLaws.{all_yes, no_bound, no_gap, no_plan, passes-yes}
 use Rattle.decimal_solver.proofs.attempts.checked.Goals as goal
 

@@ -1,16 +1,6 @@
 -- Why the last state gives nothing.
-use Rattle.std.proofs.Common.{◌≡◌, pos, List, [], Option, Some, map, replicate, sym, ap, ap₂, ◌∙◌}
-use Rattle.exact_num.specs.declared.fraction.Frac.{Frac}
-use Rattle.exact_num.specs.Rational.{Rational, whole}
-use Rattle.exact_num.specs.Value.{value_of}
-use Rattle.row_core.specs.declared.Var.{Var}
-use Rattle.written_method.specs.Programs.{program_of}
-use Rattle.decimal_solver.specs.declared.states.Entry.{Entry}
-use Rattle.decimal_solver.specs.declared.states.GridRow.{GridRow}
-use Rattle.decimal_solver.specs.declared.states.Number.{Number}
-use Rattle.decimal_solver.specs.Ends.{column_values, row_multipliers, spread, variable_values}
-use Rattle.decimal_solver.specs.States.{State}
-use Rattle.decimal_solver.specs.Views.{entries_seen, number_seen, rows_seen, state_seen}
+use Rattle.row_problem.proofs.Common.{◌≡◌, pos, List, [], Option, Some, map, replicate, sym, ap, ap₂, ◌∙◌, Frac, Rational, whole, value_of, Var, program_of}
+use Rattle.decimal_solver.proofs.Words.{Entry, GridRow, Number, column_values, row_multipliers, spread, variable_values, State, entries_seen, number_seen, rows_seen, state_seen}
 use Rattle.decimal_solver.proofs.attempts.ended.Goals as goal
 
 pub returns-clause-nothing : goal.returns-clause-nothing

@@ -1,10 +1,6 @@
 -- One entry after another.
-use Rattle.std.proofs.Common.{◌≡◌, ℕ, ℤ, Bool, Option, Some, sym, ap, ap₂, ◌∙◌, arith, to_z, if◌then◌else◌}
-use Rattle.std.specs.Int.{w128}
-use Rattle.std.specs.Prelude.{int_lt, is_none, nat_lt, ◌&&◌, ◌||◌}
-use Rattle.exact_num.proofs.RangeLaws.{back_in_range}
-use Rattle.decimal_solver.specs.Rounds.{entering_from}
-use Rattle.decimal_solver.specs.Views.{entry_seen}
+use Rattle.row_problem.proofs.Common.{◌≡◌, ℕ, ℤ, Bool, Option, Some, sym, ap, ap₂, ◌∙◌, arith, to_z, if◌then◌else◌, w128, int_lt, is_none, nat_lt, ◌&&◌, ◌||◌, back_in_range}
+use Rattle.decimal_solver.proofs.Words.{entering_from, entry_seen}
 use Rattle.decimal_solver.proofs.FoldLaws.{folded-end, folded-next}
 use Rattle.decimal_solver.proofs.choosing.entering_from.Goals as goal
 use Rattle.decimal_solver.proofs.choosing.entering_from.Goals.{then-enters, else-enters}

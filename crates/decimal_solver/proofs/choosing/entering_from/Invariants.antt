@@ -1,9 +1,6 @@
 -- The choice so far, and the entries that are left.
-use Rattle.std.proofs.Common.{None, ℤ, ℕ, Option, pos, drop}
-use Rattle.std.specs.List.{fold}
-use Rattle.decimal_solver.specs.Folds.{IsFolded}
-use Rattle.decimal_solver.specs.Rounds.{entered}
-use Rattle.decimal_solver.specs.Views.{entries_seen}
+use Rattle.row_problem.proofs.Common.{None, ℤ, ℕ, Option, pos, drop, fold}
+use Rattle.decimal_solver.proofs.Words.{IsFolded, entered, entries_seen}
 use Rattle.decimal_solver.proofs.choosing.entering_from.Given as goal
 
 abbrev pub invariant-loop-entry : goal.invariant-loop-entry

@@ -1,11 +1,6 @@
 -- One right side after another.
-use Rattle.std.proofs.Common.{◌≡◌, ◌+◌, ℕ, ℤ, Bool, Option, sym, ap, ap₂, ◌∙◌, arith, to_z, of_z, if◌then◌else◌}
-use Rattle.std.specs.Int.{w128}
-use Rattle.std.specs.Prelude.{int_lt}
-use Rattle.std.proofs.Common.{Some}
-use Rattle.exact_num.proofs.RangeLaws.{back_in_range}
-use Rattle.decimal_solver.specs.Rounds.{least_right}
-use Rattle.decimal_solver.specs.Views.{row_seen}
+use Rattle.row_problem.proofs.Common.{◌≡◌, ◌+◌, ℕ, ℤ, Bool, Option, sym, ap, ap₂, ◌∙◌, arith, to_z, of_z, if◌then◌else◌, w128, int_lt, Some, back_in_range}
+use Rattle.decimal_solver.proofs.Words.{least_right, row_seen}
 use Rattle.decimal_solver.proofs.FoldLaws.{folded-end, folded-next}
 use Rattle.decimal_solver.proofs.choosing.least_right.Goals as goal
 use Rattle.decimal_solver.proofs.choosing.least_right.Goals.{then-tested-best, else-tested-best}

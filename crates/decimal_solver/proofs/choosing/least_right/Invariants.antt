@@ -1,9 +1,6 @@
 -- The choice so far, and the rows that are left.
-use Rattle.std.proofs.Common.{None, ℤ, ℕ, Option, pos, drop}
-use Rattle.std.specs.List.{fold}
-use Rattle.decimal_solver.specs.Folds.{IsFolded}
-use Rattle.decimal_solver.specs.Rounds.{lesser}
-use Rattle.decimal_solver.specs.Views.{rows_seen}
+use Rattle.row_problem.proofs.Common.{None, ℤ, ℕ, Option, pos, drop, fold}
+use Rattle.decimal_solver.proofs.Words.{IsFolded, lesser, rows_seen}
 use Rattle.decimal_solver.proofs.choosing.least_right.Given as goal
 
 abbrev pub invariant-loop-row : goal.invariant-loop-row

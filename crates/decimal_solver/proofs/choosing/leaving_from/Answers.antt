@@ -1,7 +1,6 @@
 -- One row after another.
 use Rattle.std.proofs.Common.{ℕ, ◌+◌, Option, sym, ap, arith}
-use Rattle.decimal_solver.specs.Rounds.{Candidate, leaving_from}
-use Rattle.decimal_solver.specs.Views.{row_seen}
+use Rattle.decimal_solver.proofs.Words.{Candidate, leaving_from, row_seen}
 use Rattle.decimal_solver.proofs.FoldLaws.{folded-end, folded-next}
 use Rattle.decimal_solver.proofs.choosing.leaving_from.Goals as goal
 

@@ -1,9 +1,6 @@
 -- The choice so far, and the rows that are left.
-use Rattle.std.proofs.Common.{None, ℕ, Option, drop}
-use Rattle.std.specs.List.{fold}
-use Rattle.decimal_solver.specs.Folds.{IsFolded}
-use Rattle.decimal_solver.specs.Rounds.{Candidate, with_candidate}
-use Rattle.decimal_solver.specs.Views.{chosen_seen, rows_seen}
+use Rattle.row_problem.proofs.Common.{None, ℕ, Option, drop, fold}
+use Rattle.decimal_solver.proofs.Words.{IsFolded, Candidate, with_candidate, chosen_seen, rows_seen}
 use Rattle.decimal_solver.proofs.choosing.leaving_from.Given as goal
 
 abbrev pub invariant-loop-row : goal.invariant-loop-row

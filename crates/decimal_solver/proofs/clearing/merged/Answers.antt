@@ -1,10 +1,6 @@
 -- A number that doesn't fit is one of the whole.
-use Rattle.std.proofs.Common.{[], ◌≡◌, ℤ, drop, sym, ap, ◌∙◌, to_z, of_z}
-use Rattle.std.specs.Int.{w128}
-use Rattle.std.proofs.lemmas.Int.{to_z-of_z}
-use Rattle.std.proofs.lemmas.Result.{err_from_is_err_and}
-use Rattle.decimal_solver.specs.Lines.{Entries, merged}
-use Rattle.decimal_solver.specs.Views.{entries_seen}
+use Rattle.row_problem.proofs.Common.{[], ◌≡◌, ℤ, drop, sym, ap, ◌∙◌, to_z, of_z, w128, to_z-of_z, err_from_is_err_and}
+use Rattle.decimal_solver.proofs.Words.{Entries, merged, entries_seen}
 use Rattle.decimal_solver.proofs.Nothing.{nothing-later}
 use Rattle.decimal_solver.proofs.clearing.merged.Goals as goal
 

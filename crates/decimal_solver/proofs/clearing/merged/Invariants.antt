@@ -1,7 +1,6 @@
 -- The entries so far, and what is left of both lines.
 use Rattle.std.proofs.Common.{[], ◌≡◌, ◌+◌, ◌-◌, drop, length}
-use Rattle.decimal_solver.specs.Lines.{merged}
-use Rattle.decimal_solver.specs.Views.{entries_seen}
+use Rattle.decimal_solver.proofs.Words.{merged, entries_seen}
 use Rattle.decimal_solver.proofs.clearing.merged.Given as goal
 
 abbrev pub invariant-loop-made : goal.invariant-loop-made

@@ -1,11 +1,6 @@
 -- Which of the two has the next entry.
-use Rattle.std.proofs.Common.{◌+◌, pos, Some, drop, refl, sym, ap, ◌∙◌, arith}
-use Rattle.std.proofs.lemmas.Int.{to_z-of_z}
-use Rattle.std.specs.Int.{w128}
-use Rattle.std.proofs.lemmas.Result.{err_from_is_err_and}
-use Rattle.exact_num.proofs.RangeLaws.{back_in_range}
-use Rattle.decimal_solver.specs.Lines.{filled, merged, merged_to}
-use Rattle.decimal_solver.specs.Numbers.{reduced_number}
+use Rattle.row_problem.proofs.Common.{◌+◌, pos, Some, drop, refl, sym, ap, ◌∙◌, arith, to_z-of_z, w128, err_from_is_err_and, back_in_range}
+use Rattle.decimal_solver.proofs.Words.{filled, merged, merged_to, reduced_number}
 use Rattle.decimal_solver.proofs.LineLaws.{nat_lt-no, nat_lt-yes, read, reduced-read, same-no, same-yes}
 use Rattle.decimal_solver.proofs.MergeLaws.{one-fewer}
 use Rattle.decimal_solver.proofs.Nothing.{nothing-later}

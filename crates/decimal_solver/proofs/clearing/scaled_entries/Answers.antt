@@ -1,12 +1,6 @@
 -- One entry after another.
-use Rattle.std.proofs.Common.{[], ◌≡◌, refl, ℤ, Some, sym, ap, ◌∙◌, subst, arith}
-use Rattle.std.proofs.lemmas.Int.{to_z-of_z}
-use Rattle.std.specs.Int.{w128}
-use Rattle.std.proofs.lemmas.Result.{err_from_is_err_and}
-use Rattle.exact_num.proofs.RangeLaws.{back_in_range}
-use Rattle.decimal_solver.specs.Lines.{Entries, scaled_entries, with_entry}
-use Rattle.decimal_solver.specs.Numbers.{scaled_number}
-use Rattle.decimal_solver.specs.Views.{IsNothing, entries_seen, entry_seen}
+use Rattle.row_problem.proofs.Common.{[], ◌≡◌, refl, ℤ, Some, sym, ap, ◌∙◌, subst, arith, to_z-of_z, w128, err_from_is_err_and, back_in_range}
+use Rattle.decimal_solver.proofs.Words.{Entries, scaled_entries, with_entry, scaled_number, IsNothing, entries_seen, entry_seen}
 use Rattle.decimal_solver.proofs.FoldLaws.{left-at, left-end, left-next, left-stop}
 use Rattle.decimal_solver.proofs.LineLaws.{nat_lt-no, nat_lt-yes, read}
 use Rattle.decimal_solver.proofs.clearing.scaled_entries.Goals as goal

@@ -1,8 +1,6 @@
 -- The entries so far, and what is left of the line.
 use Rattle.std.proofs.Common.{[], drop}
-use Rattle.decimal_solver.specs.Folds.{IsLeft}
-use Rattle.decimal_solver.specs.Lines.{scaled_entries, with_scaled}
-use Rattle.decimal_solver.specs.Views.{entries_seen}
+use Rattle.decimal_solver.proofs.Words.{IsLeft, scaled_entries, with_scaled, entries_seen}
 use Rattle.decimal_solver.proofs.clearing.scaled_entries.Given as goal
 
 abbrev pub invariant-loop-entry : goal.invariant-loop-entry

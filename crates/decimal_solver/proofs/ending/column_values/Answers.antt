@@ -1,15 +1,6 @@
 -- One row after another.
-use Rattle.std.proofs.Common.{◌≡◌, pos, List, map, replicate, sym, ap, ◌∙◌, arith, to_z, of_z}
-use Rattle.std.specs.Int.{w128}
-use Rattle.std.specs.List.{fold}
-use Rattle.exact_num.specs.declared.fraction.Frac.{Frac}
-use Rattle.exact_num.specs.Rational.{lowest}
-use Rattle.exact_num.specs.Value.{value_of}
-use Rattle.exact_num.proofs.RangeLaws.{back_in_range}
-use Rattle.decimal_solver.specs.Ends.{column_values, with_basic}
-use Rattle.decimal_solver.specs.Numbers.{unit}
-use Rattle.decimal_solver.specs.Rounds.{clipped}
-use Rattle.decimal_solver.specs.Views.{row_seen, rows_seen}
+use Rattle.row_problem.proofs.Common.{◌≡◌, pos, List, map, replicate, sym, ap, ◌∙◌, arith, to_z, of_z, w128, fold, Frac, lowest, value_of, back_in_range}
+use Rattle.decimal_solver.proofs.Words.{column_values, with_basic, unit, clipped, row_seen, rows_seen}
 use Rattle.decimal_solver.proofs.EndLaws.{map-replicate, written, written-past}
 use Rattle.decimal_solver.proofs.FoldLaws.{folded-end, folded-next}
 use Rattle.decimal_solver.proofs.ending.column_values.Goals as goal

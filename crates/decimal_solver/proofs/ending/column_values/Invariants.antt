@@ -1,10 +1,6 @@
 -- The values so far, and the rows that are left.
-use Rattle.std.proofs.Common.{pos, map, replicate, drop}
-use Rattle.exact_num.specs.Rational.{whole}
-use Rattle.exact_num.specs.Value.{value_of}
-use Rattle.decimal_solver.specs.Ends.{column_values, with_basic}
-use Rattle.decimal_solver.specs.Folds.{IsFolded}
-use Rattle.decimal_solver.specs.Views.{rows_seen}
+use Rattle.row_problem.proofs.Common.{pos, map, replicate, drop, whole, value_of}
+use Rattle.decimal_solver.proofs.Words.{column_values, with_basic, IsFolded, rows_seen}
 use Rattle.decimal_solver.proofs.ending.column_values.Given as goal
 
 abbrev pub invariant-loop-row : goal.invariant-loop-row

@@ -1,15 +1,6 @@
 -- One row after another.
-use Rattle.std.proofs.Common.{◌≡◌, ◌+◌, ℕ, ℤ, refl, Some, pos, List, [], ◌∷◌, map, length, sym, ap, ap₂, ◌∙◌, subst, arith}
-use Rattle.std.specs.Prelude.{slice_index_or}
-use Rattle.std.proofs.lemmas.List.{length-append, length-map, map-append}
-use Rattle.std.proofs.lemmas.Result.{err_from_is_err_and}
-use Rattle.exact_num.specs.declared.fraction.Frac.{Frac}
-use Rattle.exact_num.specs.Range.{InRange}
-use Rattle.exact_num.specs.Value.{value_of}
-use Rattle.exact_num.proofs.RangeLaws.{back_in_range}
-use Rattle.decimal_solver.specs.declared.states.GridRow.{GridRow}
-use Rattle.decimal_solver.specs.Ends.{at_most_0, row_multiplier}
-use Rattle.decimal_solver.specs.Views.{number_seen, row_seen}
+use Rattle.row_problem.proofs.Common.{◌≡◌, ◌+◌, ℕ, ℤ, refl, Some, pos, List, [], ◌∷◌, map, length, sym, ap, ap₂, ◌∙◌, subst, arith, slice_index_or, length-append, length-map, map-append, err_from_is_err_and, Frac, InRange, value_of, back_in_range}
+use Rattle.decimal_solver.proofs.Words.{GridRow, at_most_0, row_multiplier, number_seen, row_seen}
 use Rattle.decimal_solver.proofs.FoldLaws.{left-at, left-end, left-next, left-stop}
 use Rattle.decimal_solver.proofs.LineLaws.{read}
 use Rattle.decimal_solver.proofs.ending.row_multipliers.Goals as goal

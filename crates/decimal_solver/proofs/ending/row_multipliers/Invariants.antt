@@ -1,9 +1,6 @@
 -- The multipliers so far, and the rows that are left.
-use Rattle.std.proofs.Common.{[], ◌≡◌, map, drop, length}
-use Rattle.exact_num.specs.Value.{value_of}
-use Rattle.decimal_solver.specs.Ends.{row_multipliers, with_multiplier}
-use Rattle.decimal_solver.specs.Folds.{IsLeft}
-use Rattle.decimal_solver.specs.Views.{number_seen, rows_seen}
+use Rattle.row_problem.proofs.Common.{[], ◌≡◌, map, drop, length, value_of}
+use Rattle.decimal_solver.proofs.Words.{row_multipliers, with_multiplier, IsLeft, number_seen, rows_seen}
 use Rattle.decimal_solver.proofs.ending.row_multipliers.Given as goal
 
 abbrev pub invariant-loop-position : goal.invariant-loop-position

@@ -1,10 +1,6 @@
 -- One entry after another.
-use Rattle.std.proofs.Common.{List, map, sym, ap, ◌∙◌, arith}
-use Rattle.std.specs.List.{fold}
-use Rattle.exact_num.proofs.RangeLaws.{back_in_range}
-use Rattle.decimal_solver.specs.declared.states.Number.{Number}
-use Rattle.decimal_solver.specs.Ends.{spread, with_number}
-use Rattle.decimal_solver.specs.Views.{entries_seen, entry_seen, number_seen}
+use Rattle.row_problem.proofs.Common.{List, map, sym, ap, ◌∙◌, arith, fold, back_in_range}
+use Rattle.decimal_solver.proofs.Words.{Number, spread, with_number, entries_seen, entry_seen, number_seen}
 use Rattle.decimal_solver.proofs.EndLaws.{map-replicate, written, written-past}
 use Rattle.decimal_solver.proofs.FoldLaws.{folded-end, folded-next}
 use Rattle.decimal_solver.proofs.ending.spread.Goals as goal

@@ -1,8 +1,6 @@
 -- The numbers so far, and the entries that are left.
 use Rattle.std.proofs.Common.{pos, map, replicate, drop}
-use Rattle.decimal_solver.specs.Ends.{spread, with_number}
-use Rattle.decimal_solver.specs.Folds.{IsFolded}
-use Rattle.decimal_solver.specs.Views.{entries_seen, number_seen}
+use Rattle.decimal_solver.proofs.Words.{spread, with_number, IsFolded, entries_seen, number_seen}
 use Rattle.decimal_solver.proofs.ending.spread.Given as goal
 
 abbrev pub invariant-loop-entry : goal.invariant-loop-entry

@@ -1,9 +1,6 @@
 -- One entry after another, up to the column.
-use Rattle.std.proofs.Common.{refl, arith}
-use Rattle.std.proofs.lemmas.List.{drop_all}
-use Rattle.row_core.proofs.WritingSteps.{drop_at}
+use Rattle.row_problem.proofs.Common.{refl, arith, drop_all, drop_at, back_in_range}
 use Rattle.decimal_solver.specs.Lines.{entry_in}
-use Rattle.exact_num.proofs.RangeLaws.{back_in_range}
 use Rattle.decimal_solver.proofs.LineLaws.{nat_lt-no, nat_lt-yes, same-no, same-yes}
 use Rattle.decimal_solver.proofs.lines.entry_in.Goals as goal
 

@@ -1,7 +1,6 @@
 -- What stands in the column is what is left says.
 use Rattle.std.proofs.Common.{◌≡◌, drop}
-use Rattle.decimal_solver.specs.Lines.{entry_in}
-use Rattle.decimal_solver.specs.Views.{entries_seen}
+use Rattle.decimal_solver.proofs.Words.{entry_in, entries_seen}
 use Rattle.decimal_solver.proofs.lines.entry_in.Given as goal
 
 abbrev pub invariant-loop-entry : goal.invariant-loop-entry

@@ -1,17 +1,8 @@
 -- The parts of a pivot, one after another.
-use Rattle.std.proofs.Common.{◌≡◌, ◌<◌, ◌+◌, ◌-◌, ℕ, ℤ, suc, [], List, Option, None, Some, if◌then◌else◌, length, get_or, sym, ap, ap₂, ◌∙◌, arith, refl, to_z, of_z}
-use Rattle.std.specs.Int.{w128}
-use Rattle.std.proofs.lemmas.List.{get_or-map, length-map}
-use Rattle.std.proofs.lemmas.Result.{err_from_is_err_and}
-use Rattle.exact_num.proofs.RangeLaws.{back_in_range}
-use Rattle.decimal_solver.specs.declared.states.Entry.{Entry}
-use Rattle.decimal_solver.specs.declared.states.GridRow.{GridRow}
+use Rattle.row_problem.proofs.Common.{◌≡◌, ◌<◌, ◌+◌, ◌-◌, ℕ, ℤ, suc, [], List, Option, None, Some, if◌then◌else◌, length, get_or, sym, ap, ap₂, ◌∙◌, arith, refl, to_z, of_z, w128, get_or-map, length-map, err_from_is_err_and, back_in_range}
+use Rattle.decimal_solver.proofs.Words.{Entry, GridRow, Line, cleared, pivot_line, after, columns_after, factor_in, no_row, others_cleared, phase_by, row_at, x0_leaves, Phase, Start, One, Two, entries_seen, line_seen, phase_seen, row_seen, rows_seen, state_seen}
 use Rattle.decimal_solver.specs.declared.states.State.{State}
-use Rattle.decimal_solver.specs.Lines.{Line, cleared, pivot_line}
-use Rattle.decimal_solver.specs.Rounds.{after, columns_after, factor_in, no_row, others_cleared, phase_by, row_at, x0_leaves}
 use Rattle.decimal_solver.specs.States as states
-use Rattle.decimal_solver.specs.States.{Phase, Start, One, Two}
-use Rattle.decimal_solver.specs.Views.{entries_seen, line_seen, phase_seen, row_seen, rows_seen, state_seen}
 use Rattle.decimal_solver.proofs.Nothing.{nothing-later}
 use Rattle.decimal_solver.proofs.RunLaws.{after-beyond, rows-pivot, same-state}
 use Rattle.decimal_solver.proofs.pivoting.after.Goals as goal

@@ -1,11 +1,6 @@
 -- One row after another.
-use Rattle.std.proofs.Common.{◌≡◌, ◌<◌, ◌≤◌, List, [], None, Some, length, get_or, sym, ap, ◌∙◌, subst, arith, rules}
-use Rattle.std.proofs.lemmas.List.{get_or_default, take_all}
-use Rattle.std.proofs.lemmas.Result.{err_from_is_err_and}
-use Rattle.decimal_solver.specs.declared.states.GridRow.{GridRow}
-use Rattle.decimal_solver.specs.Lines.{Line, cleared}
-use Rattle.decimal_solver.specs.Rounds.{others_cleared}
-use Rattle.decimal_solver.specs.Views.{IsNothing, line_seen, row_seen, rows_seen}
+use Rattle.row_problem.proofs.Common.{◌≡◌, ◌<◌, ◌≤◌, List, [], None, Some, length, get_or, sym, ap, ◌∙◌, subst, arith, rules, get_or_default, take_all, err_from_is_err_and}
+use Rattle.decimal_solver.proofs.Words.{GridRow, Line, cleared, others_cleared, IsNothing, line_seen, row_seen, rows_seen}
 use Rattle.decimal_solver.proofs.FoldLaws.{left-at, left-end, left-next, left-stop}
 use Rattle.decimal_solver.proofs.RowLaws.{counted-set, others-at, others-pivot, others-set, written-back}
 use Rattle.decimal_solver.proofs.pivoting.clear_others.Goals as goal

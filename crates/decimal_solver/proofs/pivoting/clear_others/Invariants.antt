@@ -1,8 +1,6 @@
 -- The rows so far are cleared, and the others are as they were.
 use Rattle.std.proofs.Common.{[], ◌≡◌, length, take, drop}
-use Rattle.decimal_solver.specs.Folds.{IsLeft}
-use Rattle.decimal_solver.specs.Rounds.{others_cleared, with_cleared}
-use Rattle.decimal_solver.specs.Views.{line_seen, rows_seen}
+use Rattle.decimal_solver.proofs.Words.{IsLeft, others_cleared, with_cleared, line_seen, rows_seen}
 use Rattle.decimal_solver.proofs.pivoting.clear_others.Given as goal
 
 abbrev pub invariant-loop-position : goal.invariant-loop-position

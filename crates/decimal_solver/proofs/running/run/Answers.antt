@@ -1,9 +1,6 @@
 -- Each end is that of what is left.
-use Rattle.std.proofs.Common.{◌≡◌, ◌<◌, ◌-◌, ◌+◌, ◌≤◌, suc, ℕ, refl, sym, ◌∙◌, arith}
-use Rattle.std.proofs.lemmas.Result.{err_from_is_err_and}
-use Rattle.decimal_solver.specs.Rounds.{after, run}
-use Rattle.decimal_solver.specs.States.{State}
-use Rattle.decimal_solver.specs.Views.{state_seen}
+use Rattle.row_problem.proofs.Common.{◌≡◌, ◌<◌, ◌-◌, ◌+◌, ◌≤◌, suc, ℕ, refl, sym, ◌∙◌, arith, err_from_is_err_and}
+use Rattle.decimal_solver.proofs.Words.{after, run, State, state_seen}
 use Rattle.decimal_solver.proofs.Nothing.{nothing-later}
 use Rattle.decimal_solver.proofs.RunLaws.{run-optimal, run-stuck}
 use Rattle.decimal_solver.proofs.running.run.Goals as goal

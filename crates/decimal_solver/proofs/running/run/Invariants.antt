@@ -1,7 +1,6 @@
 -- The rounds from here with the pivots that are left are the rounds from the first state.
 use Rattle.std.proofs.Common.{◌≡◌, ◌-◌, ◌≤◌, length}
-use Rattle.decimal_solver.specs.Rounds.{run}
-use Rattle.decimal_solver.specs.Views.{state_seen}
+use Rattle.decimal_solver.proofs.Words.{run, state_seen}
 use Rattle.decimal_solver.proofs.running.run.Given as goal
 
 abbrev pub invariant-rounds : goal.invariant-rounds

@@ -1,16 +1,8 @@
 -- One variable after another.
-use Rattle.std.proofs.Common.{◌≡◌, ◌+◌, ◌<◌, ◌≤◌, ℕ, ℤ, pos, neg_ℤ, refl, ◌∷◌, Option, List, Some, length, get_or, drop, sym, ap, ap₂, ◌∙◌, subst, arith, zero-add}
-use Rattle.std.proofs.lemmas.Result.{err_from_is_err_and}
-use Rattle.exact_num.proofs.RangeLaws.{back_in_range}
-use Rattle.row_core.specs.declared.Var.{Var}
-use Rattle.row_core.specs.Numbers.{keys_of}
-use Rattle.written_method.specs.FirstTableau.{width_of}
+use Rattle.row_problem.proofs.Common.{◌≡◌, ◌+◌, ◌<◌, ◌≤◌, ℕ, ℤ, pos, neg_ℤ, refl, ◌∷◌, Option, List, Some, length, get_or, drop, sym, ap, ap₂, ◌∙◌, subst, arith, zero-add, err_from_is_err_and, back_in_range, Var, keys_of, width_of}
 use Rattle.int_tableau.specs.Starts.{placed}
 use Rattle.int_tableau.proofs.LoopLaws.{no_variable}
-use Rattle.decimal_solver.specs.Folds.{IsLeft}
-use Rattle.decimal_solver.specs.Lines.{Entries, with_entry}
-use Rattle.decimal_solver.specs.Numbers.{raised, scaled_number, unit}
-use Rattle.decimal_solver.specs.Views.{entries_seen}
+use Rattle.decimal_solver.proofs.Words.{IsLeft, Entries, with_entry, raised, scaled_number, unit, entries_seen}
 use Rattle.decimal_solver.proofs.FoldLaws.{left-next, left-stop, plain-at, plain-end}
 use Rattle.decimal_solver.proofs.LineLaws.{read}
 use Rattle.decimal_solver.proofs.StartLaws.{placed-within}

@@ -1,8 +1,6 @@
 -- The entries so far, and the variables that are left.
 use Rattle.std.proofs.Common.{[], drop}
-use Rattle.decimal_solver.specs.Folds.{IsLeft}
-use Rattle.decimal_solver.specs.Starts.{cost_entries, with_cost}
-use Rattle.decimal_solver.specs.Views.{entries_seen}
+use Rattle.decimal_solver.proofs.Words.{IsLeft, cost_entries, with_cost, entries_seen}
 use Rattle.decimal_solver.proofs.starting.cost_entries.Given as goal
 
 abbrev pub invariant-loop-place : goal.invariant-loop-place

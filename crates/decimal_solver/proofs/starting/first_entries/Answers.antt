@@ -1,17 +1,7 @@
 -- One number after another.
-use Rattle.std.proofs.Common.{[], ◌++◌, ℤ, Some, get_or, refl, subst, sym, ap, ◌∙◌, arith}
-use Rattle.std.specs.Int.{w128}
-use Rattle.std.proofs.lemmas.Int.{to_z-of_z}
-use Rattle.std.proofs.lemmas.Result.{err_from_is_err_and}
-use Rattle.exact_num.proofs.RangeLaws.{back_in_range}
-use Rattle.row_core.specs.LookUps.{value_at}
-use Rattle.row_core.specs.Order.{var_cmp}
-use Rattle.row_core.proofs.WritingSteps.{entries_fit-at, no_entry}
-use Rattle.written_method.specs.Programs.{is_split}
+use Rattle.row_problem.proofs.Common.{[], ◌++◌, ℤ, Some, get_or, refl, subst, sym, ap, ◌∙◌, arith, w128, to_z-of_z, err_from_is_err_and, back_in_range, value_at, var_cmp, entries_fit-at, no_entry, is_split}
 use Rattle.int_tableau.specs.Starts.{in_columns_of}
-use Rattle.decimal_solver.specs.Numbers.{scaled_number}
-use Rattle.decimal_solver.specs.Starts.{first_entries}
-use Rattle.decimal_solver.specs.Views.{IsNothing, entries_seen}
+use Rattle.decimal_solver.proofs.Words.{scaled_number, first_entries, IsNothing, entries_seen}
 use Rattle.decimal_solver.proofs.FoldLaws.{left-next, left-stop, plain-at, plain-end}
 use Rattle.decimal_solver.proofs.LineLaws.{read}
 use Rattle.decimal_solver.proofs.starting.first_entries.Goals as goal

@@ -1,8 +1,6 @@
 -- The entries so far, and the numbers that are left.
 use Rattle.std.proofs.Common.{[], drop}
-use Rattle.decimal_solver.specs.Folds.{IsLeft}
-use Rattle.decimal_solver.specs.Starts.{first_entries, with_first}
-use Rattle.decimal_solver.specs.Views.{entries_seen}
+use Rattle.decimal_solver.proofs.Words.{IsLeft, first_entries, with_first, entries_seen}
 use Rattle.decimal_solver.proofs.starting.first_entries.Given as goal
 
 abbrev pub invariant-loop-entry : goal.invariant-loop-entry

@@ -1,19 +1,7 @@
 -- The row, part by part.
-use Rattle.std.proofs.Common.{◌≡◌, ◌++◌, ℤ, pos, List, [], ◌∷◌, Some, sym, ap, ◌∙◌, to_z, of_z}
-use Rattle.std.specs.Int.{w128}
-use Rattle.std.proofs.lemmas.Int.{to_z_pos}
-use Rattle.std.proofs.lemmas.List.{append_assoc, map-append}
-use Rattle.exact_num.specs.Range.{all_fit}
-use Rattle.exact_num.proofs.RangeLaws.{back_in_range}
-use Rattle.row_core.specs.declared.Var.{Var}
-use Rattle.row_core.specs.Numbers.{numbers_of}
-use Rattle.row_core.proofs.CombinedLaws.{row_fits, rhs_fits}
-use Rattle.written_method.specs.FirstTableau.{as_most}
-use Rattle.decimal_solver.specs.declared.states.Entry.{Entry}
-use Rattle.decimal_solver.specs.Lines.{Entries}
-use Rattle.decimal_solver.specs.Numbers.{lowered, scaled_number, unit}
-use Rattle.decimal_solver.specs.Starts.{first_entries, greatest_entry}
-use Rattle.decimal_solver.specs.Views.{entries_seen, entry_seen}
+use Rattle.row_problem.proofs.Common.{◌≡◌, ◌++◌, ℤ, pos, List, [], ◌∷◌, Some, sym, ap, ◌∙◌, to_z, of_z, w128, to_z_pos, map-append, all_fit, back_in_range, Var, numbers_of, row_fits, rhs_fits, as_most}
+use Rattle.std.proofs.lemmas.List.{append_assoc}
+use Rattle.decimal_solver.proofs.Words.{Entry, Entries, lowered, scaled_number, unit, first_entries, greatest_entry, entries_seen, entry_seen}
 use Rattle.decimal_solver.proofs.starting.first_row.Goals as goal
 
 pub greatest_entry-m-requires : goal.greatest_entry-m-requires

@@ -1,12 +1,7 @@
 -- One row after another.
-use Rattle.std.proofs.Common.{◌≡◌, ℕ, refl, List, [], ◌∷◌, Some, length, sym, ap, ◌∙◌, arith}
-use Rattle.std.proofs.lemmas.List.{length-append, length-map, map-append}
-use Rattle.std.proofs.lemmas.Result.{err_from_is_err_and}
-use Rattle.written_method.specs.Programs.{Inequality, inequality_of}
-use Rattle.decimal_solver.specs.declared.states.GridRow.{GridRow}
-use Rattle.decimal_solver.specs.Starts.{first_row}
+use Rattle.row_problem.proofs.Common.{◌≡◌, ℕ, refl, List, [], ◌∷◌, Some, length, sym, ap, ◌∙◌, arith, length-append, length-map, map-append, err_from_is_err_and, Inequality, inequality_of}
+use Rattle.decimal_solver.proofs.Words.{GridRow, first_row, row_seen, rows_seen}
 use Rattle.decimal_solver.specs.declared.starting.Layout.{Layout}
-use Rattle.decimal_solver.specs.Views.{row_seen, rows_seen}
 use Rattle.decimal_solver.proofs.FoldLaws.{left-at, left-end, left-next, left-stop}
 use Rattle.decimal_solver.proofs.starting.first_rows.Goals as goal
 

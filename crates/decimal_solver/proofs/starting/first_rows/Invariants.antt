@@ -1,9 +1,6 @@
 -- The rows so far, and those that are left.
-use Rattle.std.proofs.Common.{[], ◌≡◌, map, drop, length}
-use Rattle.written_method.specs.Programs.{inequality_of}
-use Rattle.decimal_solver.specs.Folds.{IsLeft}
-use Rattle.decimal_solver.specs.Starts.{first_rows, with_row}
-use Rattle.decimal_solver.specs.Views.{rows_seen}
+use Rattle.row_problem.proofs.Common.{[], ◌≡◌, map, drop, length, inequality_of}
+use Rattle.decimal_solver.proofs.Words.{IsLeft, first_rows, with_row, rows_seen}
 use Rattle.decimal_solver.proofs.starting.first_rows.Given as goal
 
 abbrev pub invariant-loop-position : goal.invariant-loop-position

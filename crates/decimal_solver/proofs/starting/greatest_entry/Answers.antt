@@ -1,11 +1,5 @@
 -- One number after another.
-use Rattle.std.proofs.Common.{◌≡◌, ◌+◌, ◌<◌, ◌≤◌, ◌^◌, ℕ, get_or, drop, sym, ap, ◌∙◌, subst, arith, if◌then◌else◌}
-use Rattle.std.specs.Prelude.{unsigned_abs}
-use Rattle.std.specs.List.{fold}
-use Rattle.std.proofs.lemmas.List.{at_drop_all, drop_more}
-use Rattle.exact_num.specs.Range.{InRange}
-use Rattle.exact_num.proofs.RangeLaws.{back_in_range}
-use Rattle.row_core.proofs.WritingSteps.{entries_fit-at, no_entry}
+use Rattle.row_problem.proofs.Common.{◌≡◌, ◌+◌, ◌<◌, ◌≤◌, ◌^◌, ℕ, get_or, drop, sym, ap, ◌∙◌, subst, arith, if◌then◌else◌, unsigned_abs, fold, at_drop_all, drop_more, InRange, back_in_range, entries_fit-at, no_entry}
 use Rattle.decimal_solver.specs.Starts.{greater}
 use Rattle.decimal_solver.proofs.LineLaws.{nat_lt-yes, nat_lt-no}
 use Rattle.decimal_solver.proofs.starting.greatest_entry.Goals as goal

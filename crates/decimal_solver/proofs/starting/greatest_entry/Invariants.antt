@@ -1,6 +1,5 @@
 -- The greatest so far, and the entries that are left.
-use Rattle.std.proofs.Common.{◌≡◌, ◌<◌, ◌^◌, drop}
-use Rattle.std.specs.List.{fold}
+use Rattle.row_problem.proofs.Common.{◌≡◌, ◌<◌, ◌^◌, drop, fold}
 use Rattle.decimal_solver.specs.Starts.{greater, greatest_entry}
 use Rattle.decimal_solver.proofs.starting.greatest_entry.Given as goal
 

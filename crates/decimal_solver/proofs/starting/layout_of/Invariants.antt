@@ -1,6 +1,5 @@
 -- The places so far, and those of the variables that are left.
-use Rattle.std.proofs.Common.{◌≡◌, ◌+◌, ◌++◌, drop}
-use Rattle.written_method.specs.FirstTableau.{width_of}
+use Rattle.row_problem.proofs.Common.{◌≡◌, ◌+◌, ◌++◌, drop, width_of}
 use Rattle.int_tableau.specs.Starts.{placed}
 use Rattle.decimal_solver.proofs.starting.layout_of.Given as goal
 

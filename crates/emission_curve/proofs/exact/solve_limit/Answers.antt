@@ -1,7 +1,5 @@
 -- The least cost and the multipliers that prove it make a line below all plans.
-use Rattle.std.proofs.Common.{sym, subst}
-use Rattle.exact_num.specs.Value.{value_of}
-use Rattle.certified_answers.specs.Answers.{IsProved}
+use Rattle.row_problem.proofs.Common.{sym, subst, value_of, IsProved}
 use Rattle.emission_curve.specs.Points.{EndIsOf}
 use Rattle.emission_curve.proofs.LineLaws.{optimum-worth}
 use Rattle.emission_curve.proofs.exact.solve_limit.Goals as goal

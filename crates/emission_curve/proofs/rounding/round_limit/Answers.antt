@@ -1,9 +1,6 @@
 -- The multipliers of the plan that was found make a line below all plans.
-use Rattle.std.proofs.Common.{sym, subst}
-use Rattle.std.specs.Prelude.{IfSome}
+use Rattle.row_problem.proofs.Common.{sym, subst, IfSome, value_of, IsProvedWithin}
 use Rattle.std.proofs.lemmas.Option.{IfSome_then}
-use Rattle.exact_num.specs.Value.{value_of}
-use Rattle.certified_answers.specs.Answers.{IsProvedWithin}
 use Rattle.emission_curve.specs.Points.{EndIsOf}
 use Rattle.emission_curve.proofs.LineLaws.{rounded-worth}
 use Rattle.emission_curve.proofs.rounding.round_limit.Goals as goal

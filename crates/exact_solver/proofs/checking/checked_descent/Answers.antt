@@ -1,39 +1,27 @@
 -- The checks one after another: each stops where its first number that doesn't fit is.
-use Rattle.std.proofs.Common.{sym, ◌∙◌, subst}
-use Rattle.std.proofs.lemmas.Result.{err_from_is_err_and}
-use Rattle.certificate_checker.specs.Conditions.{steps}
-use Rattle.certificate_checker.specs.PlanChecks.{direction_conditions}
-use Rattle.certified_answers.specs.Costs.{weight_of}
-use Rattle.certified_answers.specs.Worth.{IsPlan}
-use Rattle.exact_solver.specs.MethodEnds.{HasNoBound, plan_checks}
-use Rattle.exact_solver.proofs.StepEnds.{passes-first, passes-last, stops-after, stops-first, stops-last}
+use Rattle.row_problem.proofs.Common.{refl, subst, err_from_is_err_and, first_wide, first_wide-append, IsPlan}
+use Rattle.exact_solver.specs.MethodEnds.{HasNoBound, descent_checks, unless_wide}
+use Rattle.exact_solver.proofs.StepEnds.{stops-by}
 use Rattle.exact_solver.proofs.WorthLaws.{descent-at}
 use Rattle.exact_solver.proofs.checking.checked_descent.Goals as goal
 
 pub returns-in_err-accepted_plan-clause-end : goal.returns-in_err-accepted_plan-clause-end
 returns-in_err-accepted_plan-clause-end c =
     let p = c.args.problem.now in
+    let end = unless_wide (first_wide (descent_checks p.cost p.rows.now p.vars.now c.args.plan c.args.direction)) (HasNoBound c.args.plan c.args.direction c.args.pivots) in
     let q = err_from_is_err_and c.from_residual.result c.from_residual.ensures.1 in
-    rw (q.1, q.2)
-    (stops-first (plan_checks p.rows.now p.vars.now c.args.plan) (steps (direction_conditions (weight_of p.cost) p.rows.now p.vars.now c.args.direction)) (HasNoBound c.args.plan c.args.direction c.args.pivots)
-    c.in_err-accepted_plan.field-0.0 (c.in_err-accepted_plan.ensures.found c.requires.plan))
+    rw (q.1, q.2) (stops-by _ c.in_err-accepted_plan.field-0.0 end (c.in_err-accepted_plan.ensures.found c.requires.plan) (λ place h. rw (first_wide-append, h) refl))
 
 pub returns-in_err-accepted_direction-clause-end : goal.returns-in_err-accepted_direction-clause-end
 returns-in_err-accepted_direction-clause-end c =
     let p = c.args.problem.now in
-    let along = steps (direction_conditions (weight_of p.cost) p.rows.now p.vars.now c.args.direction) in
-    let end = HasNoBound c.args.plan c.args.direction c.args.pivots in
+    let end = unless_wide (first_wide (descent_checks p.cost p.rows.now p.vars.now c.args.plan c.args.direction)) (HasNoBound c.args.plan c.args.direction c.args.pivots) in
     let q = err_from_is_err_and c.from_residual-in_err-accepted_direction.result c.from_residual-in_err-accepted_direction.ensures.1 in
     rw (q.1, q.2)
-    (stops-after (plan_checks p.rows.now p.vars.now c.args.plan) along end c.in_err-accepted_direction.field-0.0 c.in_ok-accepted_plan.ensures.plan.pass.fit
-    (stops-last along end c.in_err-accepted_direction.field-0.0 (c.in_err-accepted_direction.ensures.found c.requires.direction)))
+    (stops-by _ c.in_err-accepted_direction.field-0.0 end (c.in_err-accepted_direction.ensures.found c.requires.direction) (λ place h. rw (first_wide-append, c.in_ok-accepted_plan.ensures.plan.pass.fit, h) refl))
 
 pub returns-clause-end : goal.returns-clause-end
-returns-clause-end c =
-    let p = c.args.problem.now in
-    let along = steps (direction_conditions (weight_of p.cost) p.rows.now p.vars.now c.args.direction) in
-    let end = HasNoBound c.args.plan c.args.direction c.args.pivots in
-    sym (passes-first (plan_checks p.rows.now p.vars.now c.args.plan) along end c.in_ok-accepted_plan.ensures.plan.pass.fit ∙ passes-last along end c.in_ok-accepted_direction.ensures.descent.pass.fit)
+returns-clause-end c = rw (first_wide-append, c.in_ok-accepted_plan.ensures.plan.pass.fit, c.in_ok-accepted_direction.ensures.descent.pass.fit) refl
 
 pub returns-clause-worth : goal.returns-clause-worth
 returns-clause-worth c =

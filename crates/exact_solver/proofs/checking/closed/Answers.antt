@@ -1,6 +1,4 @@
-use Rattle.std.proofs.Common.{◌∙◌, ap, refl}
-use Rattle.exact_num.specs.Steps.{first_wide}
-use Rattle.exact_num.specs.Value.{value_of}
+use Rattle.row_problem.proofs.Common.{◌∙◌, ap, refl, first_wide, value_of}
 use Rattle.exact_solver.specs.MethodEnds.{closing_checks}
 use Rattle.exact_solver.proofs.checking.closed.Goals as goal
 

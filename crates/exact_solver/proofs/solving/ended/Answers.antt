@@ -1,7 +1,5 @@
 -- The simplex stops where the method does, and its end has what it says.
-use Rattle.std.proofs.Common.{subst}
-use Rattle.written_method.specs.Programs.{program_of}
-use Rattle.written_method.specs.Solved.{solved}
+use Rattle.row_problem.proofs.Common.{subst, program_of, solved}
 use Rattle.simplex_core.specs.Outcomes.{IsHalt}
 use Rattle.exact_solver.specs.MethodEnds.{solved_end}
 use Rattle.exact_solver.proofs.SolvedLaws.{sized}

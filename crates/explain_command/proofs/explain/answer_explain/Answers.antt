@@ -1,8 +1,7 @@
 -- Over any data that are the same, the book is theirs.
-use Rattle.std.proofs.Common.{◌∙◌, inl, inr, sym, subst}
+use Rattle.std.proofs.Common.{◌∙◌, inr}
 use Rattle.std.proofs.lemmas.Result.{IfOk-weaker}
-use Rattle.command_answers.specs.CheckedPlans.{IsListedBook}
-use Rattle.command_answers.specs.MadeBooks.{TellsSized}
+use Rattle.command_answers.proofs.MadeBooks.{program-due}
 use Rattle.command_answers.proofs.SameData.{same-itself}
 use Rattle.explain_command.specs.Explain.{DueForMethod}
 use Rattle.explain_command.proofs.explain.answer_explain.Goals as goal
@@ -10,23 +9,15 @@ use Rattle.explain_command.proofs.explain.answer_explain.Goals as goal
 pub answer_method-requires : goal.answer_method-requires
 answer_method-requires c =
     let facts = c.args.model.now.facts in
-    let own = subst (TellsSized c.args.places facts) c.in-Ok.is (c.in_ok-book.ensures facts (same-itself facts)) in
-    subst (λ sets. IsListedBook sets c.in-Ok.book.rows c.in-Ok.book.vars) (sym c.sets.ensures.sets) own.made_book.listed
+    let own = rw c.in-Ok.is at (c.in_ok-book.ensures facts (same-itself facts)) in
+    rw c.sets.ensures.sets own.made_book.listed
 
 pub returns-in-Ok : goal.returns-in-Ok
 returns-in-Ok c = λ d same.
-    let places = c.args.places in
-    let book = c.in-Ok.book in
-    let sized = subst (TellsSized places d) c.in-Ok.is (c.in_ok-book.ensures d same) in
-    let made = sized.made_book in
+    let sized = rw c.in-Ok.is at (c.in_ok-book.ensures d same) in
     IfOk-weaker c.answer_method.result _ _
-    (λ answer due. inl (record {
-      made = made.made;
-      rows = book.rows;
-      are_rows = made.is_book.are_rows;
-      due = (sized.within, subst (λ most. DueForMethod places d book.rows most c.args.method answer.status answer.text.items) c.from.ensures due);
-    }))
-    (c.answer_method.ensures places d (c.sets.ensures.sets ∙ same.sets) made.is_book)
+    (λ answer due. program-due (λ rows. DueForMethod c.args.places d rows c.args.wanted) c.args.places d c.in-Ok.book sized answer.status answer.text.items due)
+    (c.answer_method.ensures c.args.places d (c.sets.ensures.sets ∙ same.sets) sized.made_book.is_book)
 
 pub returns-in-Err : goal.returns-in-Err
-returns-in-Err c = λ d same. inr (subst (TellsSized c.args.places d) c.in-Err.is (c.in_ok-book.ensures d same))
+returns-in-Err c = λ d same. inr (rw c.in-Err.is at (c.in_ok-book.ensures d same))

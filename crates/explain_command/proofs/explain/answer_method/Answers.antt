@@ -11,11 +11,9 @@ pub returns-in-Err : goal.returns-in-Err
 returns-in-Err c = λ places d same book.
     let rows = c.args.book.now.rows in
     let vars = c.args.book.now.vars in
-    let pivots = c.args.pivots in
-    let method = c.args.method in
-    let kept = c.vars.ensures.book in
+    let wanted = c.args.wanted in
     IfOk-weaker c.stop_on_elimination.result _ _
     (λ answer told.
-    due-from_stop places d rows vars kept book pivots method c.args.sets.now same answer.status answer.text.items
-    (Width told.place) (elimination-cause rows vars pivots told.place told.wide method) told.status_is told.line_is)
+    due-from_stop places d rows vars c.vars.ensures.book book c.args.sets.now same wanted answer.status answer.text.items
+    (Width told.place) (elimination-cause rows vars wanted.pivots told.place told.wide wanted.method) told.status_is told.line_is)
     c.stop_on_elimination.ensures

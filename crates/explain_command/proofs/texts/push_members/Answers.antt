@@ -1,19 +1,18 @@
 -- Member by member.
-use Rattle.std.proofs.Common.{ℕ, List, ◌++◌, ◌+◌, drop, map, sym, subst, ap, ◌∙◌}
+use Rattle.std.proofs.Common.{ℕ, List, ◌++◌, ◌+◌, drop, map, ap, ◌∙◌}
 use Rattle.std.specs.List.{flat_map}
 use Rattle.exact_num.specs.declared.fraction.Frac.{Frac}
 use Rattle.row_core.specs.declared.RowName.{RowName}
 use Rattle.row_core.specs.Plans.{valued}
 use Rattle.command_answers.specs.PlacesWithin.{IsRowOfSets}
 use Rattle.explain_command.specs.Texts.{member_line}
-use Rattle.explain_command.proofs.TextLaws.{each-at, lines-next}
+use Rattle.command_answers.proofs.ListLines.{each-at, lines-next}
 use Rattle.explain_command.proofs.texts.push_members.Goals as goal
 
 pub push_member-requires : goal.push_member-requires
 push_member-requires c =
-    let sets = c.args.sets.now in
-    subst (λ (e : RowName × Frac). IsRowOfSets sets e.0) (sym c.loop-name-item.is)
-    (each-at (λ (e : RowName × Frac). IsRowOfSets sets e.0) c.args.members.now c.loop-name.name-index c.loop-name-item.result c.requires c.loop-name-test.true)
+    rw (← c.loop-name-item.is) at
+    (each-at (λ (e : RowName × Frac). IsRowOfSets c.args.sets.now e.0) c.args.members.now c.loop-name.name-index c.loop-name-item.result c.requires c.loop-name-test.true)
 
 pub loop-name-preserved : goal.loop-name-preserved
 loop-name-preserved c =
@@ -22,5 +21,5 @@ loop-name-preserved c =
     let i : ℕ = c.loop-name.name-index in
     let out : List ℕ = c.loop-name.out.items in
     let rest : List ℕ = flat_map line_of (map valued (drop (i + 1) members)) in
-    let next = lines-next line_of members i c.loop-name-item.result out (c.args.out.now.items ++ flat_map line_of (map valued members)) c.loop-name-test.true c.loop-name.invariant in
+    let next = lines-next valued line_of members i c.loop-name-item.result out (c.args.out.now.items ++ flat_map line_of (map valued members)) c.loop-name-test.true c.loop-name.invariant in
     ap (λ (text : List ℕ). text ++ rest) (c.in_ok-push_member.ensures ∙ ap (λ (e : RowName × Frac). out ++ line_of (valued e)) c.loop-name-item.is) ∙ next

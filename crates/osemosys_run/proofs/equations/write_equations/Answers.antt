@@ -2,7 +2,6 @@ use Rattle.std.proofs.Common.{ℕ, List}
 use Rattle.std.specs.Prelude.{⊤}
 use Rattle.model_sets.specs.Data.{AreSameData, Data}
 use Rattle.command_answers.specs.declared.status.Status.{Status}
-use Rattle.command_answers.proofs.SameData.{SameLaws}
 use Rattle.io_edges.specs.Outputs.{output}
 use Rattle.osemosys_run.specs.Mps.{DueForEquations}
 use Rattle.osemosys_run.proofs.Delivery.{delivers-weaker}
@@ -14,11 +13,8 @@ returns-clause-delivers g c =
     let sink = g.K.Sink in
     let model = c.args.model.now.facts in
     let places = c.args.places in
-    let laws = c.same_data_laws.ensures in
     delivers-weaker ⊤ ⊤ (DueForEquations places model) (λ (status : Status) (text : List ℕ). (d : Data) → AreSameData model d → DueForEquations places d status text)
     c.write_model.result (output (sink.written c.args.out.now) (sink.accepted c.args.out.now)) (output (sink.written c.write_model.new.out) (sink.accepted c.write_model.new.out)) (sink.faults c.args.out.now) (sink.faults c.write_model.new.out)
     (λ made. made)
-    (λ status text due d same.
-    let rows : SameLaws places model d = record { rows = laws.rows places model d same; made = laws.made places model d same; wide = laws.wide places model d same; many = laws.many places model d same } in
-    equations_carry places model d status text same rows due)
+    (λ status text due d same. equations_carry places model d status text same due)
     c.write_model.ensures.delivers

@@ -99,7 +99,7 @@ returns-in_ok-answer-in-Ok-Solve-clause-caused g c = λ status text said.
     let answer = c.in_ok-answer-in-Ok-Solve.answer in
     told_so (λ (s : Status) (t : List ℕ). CausedByRequest (asked (map string_bytes c.args.words.now)) before after s t) answer.status answer.text.items
     (subst (λ (r : Result Request WordFault). CausedByRequest r before after answer.status answer.text.items) request
-    (subst (λ (shown : Shown). CausedByOneFile (DueForSolve solve.places solve.gap solve.pivots shown solve.method) solve.file.now before after answer.status answer.text.items)
+    (subst (λ (shown : Shown). CausedByOneFile (DueForSolve solve.places (record { gap = solve.gap; pivots = solve.pivots; show = shown; method = solve.method })) solve.file.now before after answer.status answer.text.items)
     c.shown_of-show.ensures c.in_ok-answer-in-Ok-Solve.ensures.caused))
     status text said
 
@@ -129,7 +129,7 @@ returns-in_ok-answer-in-Ok-Curve-clause-caused g c = λ status text said.
     let answer = c.in_ok-answer-in-Ok-Curve.answer in
     told_so (λ (s : Status) (t : List ℕ). CausedByRequest (asked (map string_bytes c.args.words.now)) before after s t) answer.status answer.text.items
     (subst (λ (r : Result Request WordFault). CausedByRequest r before after answer.status answer.text.items) request
-    (subst (λ (limits : List ℤ). CausedByOneFile (λ rounded. DueForCurve curve.places (record { method = curve.method; pivots = curve.pivots; gap = curve.gap }) curve.region.now curve.emission.now limits) curve.file.now before after answer.status answer.text.items)
+    (subst (λ (limits : List ℤ). CausedByOneFile (λ rounded. DueForCurve curve.places (record { method = curve.method; pivots = curve.pivots; gap = curve.gap }) (record { region = curve.region.now; emission = curve.emission.now }) limits) curve.file.now before after answer.status answer.text.items)
     c.deref.ensures.value c.in_ok-answer-in-Ok-Curve.ensures.caused))
     status text said
 
@@ -144,7 +144,7 @@ returns-in_ok-answer-in-Ok-Span-clause-caused g c = λ status text said.
     let answer = c.in_ok-answer-in-Ok-Span.answer in
     told_so (λ (s : Status) (t : List ℕ). CausedByRequest (asked (map string_bytes c.args.words.now)) before after s t) answer.status answer.text.items
     (subst (λ (r : Result Request WordFault). CausedByRequest r before after answer.status answer.text.items) request
-    c.in_ok-answer-in-Ok-Span.ensures.caused)
+    (rw c.from.ensures at c.in_ok-answer-in-Ok-Span.ensures.caused))
     status text said
 
 pub returns-in_ok-answer-in-Ok-Check-clause-caused : goal.returns-in_ok-answer-in-Ok-Check-clause-caused

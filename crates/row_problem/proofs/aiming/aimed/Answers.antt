@@ -1,12 +1,5 @@
 -- All but the cost is as it was.
-use Rattle.std.proofs.Common.{◌≡◌, ℤ, true, List, refl, sym, subst, arith}
-use Rattle.std.proofs.lemmas.Int.{ints}
-use Rattle.exact_num.specs.Range.{all_fit}
-use Rattle.row_core.specs.declared.Var.{Var}
-use Rattle.row_core.specs.Numbers.{ascends, numbers_of, variables_of}
-use Rattle.row_core.specs.Order.{var_cmp}
-use Rattle.written_method.specs.Programs.{program_of}
-use Rattle.written_method.specs.Ready.{AreAmong}
+use Rattle.row_problem.proofs.Common.{◌≡◌, ℤ, true, List, refl, sym, subst, arith, ints, all_fit, Var, ascends, numbers_of, variables_of, var_cmp, program_of, AreAmong}
 use Rattle.row_problem.proofs.AimLaws.{aim-among, aim-ascends, aim-fits, aim-left, not-model}
 use Rattle.row_problem.proofs.aiming.aimed.Goals as goal
 

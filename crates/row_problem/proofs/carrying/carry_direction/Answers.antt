@@ -1,6 +1,5 @@
 -- What the call says of the rows' definitions, in the words of a problem.
-use Rattle.written_method.specs.Definitions.{defined, definitions_of}
-use Rattle.row_problem.specs.Programs.{carried_direction, direction_steps}
+use Rattle.row_problem.proofs.Common.{defined, definitions_of, carried_direction, direction_steps}
 use Rattle.row_problem.proofs.CarriedWords.{direction_answer}
 use Rattle.row_problem.proofs.carrying.carry_direction.Goals as goal
 

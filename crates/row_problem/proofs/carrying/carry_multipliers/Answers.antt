@@ -1,15 +1,5 @@
 -- What the call says of the rows' definitions, in the words of a problem.
-use Rattle.std.proofs.Common.{◌≡◌, List, map, ap₂, subst}
-use Rattle.std.specs.Prelude.{IfErr, IfOk, None, OnOk}
-use Rattle.exact_num.specs.Rational.{Rational}
-use Rattle.exact_num.specs.Steps.{Step, first_wide}
-use Rattle.exact_num.specs.Value.{value_of}
-use Rattle.row_core.specs.declared.RowName.{RowName}
-use Rattle.row_core.specs.declared.place.Place.{Place}
-use Rattle.written_method.specs.Definitions.{definitions_of, others_of, rows_of}
-use Rattle.written_method.specs.Multiplied.{multiplier_steps, named_multipliers}
-use Rattle.variable_elimination.specs.SoFar.{IsFirst}
-use Rattle.row_problem.specs.Programs.{carried_multipliers, carrying_steps}
+use Rattle.row_problem.proofs.Common.{◌≡◌, List, map, ap₂, subst, IfErr, IfOk, None, OnOk, Rational, Step, first_wide, value_of, RowName, Place, definitions_of, others_of, rows_of, multiplier_steps, named_multipliers, IsFirst, carried_multipliers, carrying_steps, Multipliers}
 use Rattle.row_problem.proofs.CarriedWords.{as_many, proof_answer, refutation_answer}
 use Rattle.row_problem.proofs.carrying.carry_multipliers.Goals as goal
 
@@ -32,7 +22,7 @@ pub returns-clause-multipliers : goal.returns-clause-multipliers
 unfolding carried_multipliers
 returns-clause-multipliers c =
     let p = c.args.problem.now in
-    subst (λ (made : List (RowName × Rational)). IfOk c.lift_multipliers.result (λ m. m ≡ made))
+    subst (λ (made : Multipliers). IfOk c.lift_multipliers.result (λ m. m ≡ made))
     (ap₂ (λ names scales. named_multipliers c.args.with_cost p.rows.now (definitions_of p.rows.now p.defs.now) names scales (map value_of c.args.lambda.now)) c.requires.problem.names c.requires.problem.scales) c.lift_multipliers.ensures.multipliers
 
 pub returns-clause-fits : goal.returns-clause-fits

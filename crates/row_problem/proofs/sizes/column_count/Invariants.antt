@@ -1,6 +1,5 @@
 -- The variables so far are counted.
-use Rattle.std.proofs.Common.{◌≡◌, ◌*◌, ◌≤◌, take}
-use Rattle.row_problem.specs.Sizes.{column_count}
+use Rattle.row_problem.proofs.Common.{◌≡◌, ◌*◌, ◌≤◌, take, column_count}
 use Rattle.row_problem.proofs.sizes.column_count.Given as goal
 
 abbrev pub invariant-loop-var : goal.invariant-loop-var

@@ -1,6 +1,5 @@
 -- The rows so far are counted.
-use Rattle.std.proofs.Common.{◌≡◌, ◌≤◌, take}
-use Rattle.row_problem.specs.Sizes.{inequality_count}
+use Rattle.row_problem.proofs.Common.{◌≡◌, ◌≤◌, take, inequality_count}
 use Rattle.row_problem.proofs.sizes.inequality_count.Given as goal
 
 abbrev pub invariant-loop-row : goal.invariant-loop-row

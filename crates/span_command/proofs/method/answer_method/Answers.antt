@@ -1,6 +1,5 @@
 -- Where the elimination stops, so does the exact method.
 use Rattle.std.proofs.lemmas.Result.{IfOk-weaker}
-use Rattle.span_command.specs.Outcomes.{wanted_of}
 use Rattle.span_command.proofs.SpannedEnds.{due-from_elimination}
 use Rattle.span_command.proofs.method.answer_method.Goals as goal
 
@@ -9,10 +8,7 @@ returns-in-Ok c = c.answer_program.ensures
 
 pub returns-in-Err : goal.returns-in-Err
 returns-in-Err c = λ d same book.
-    let rows = c.args.book.now.rows in
-    let vars = c.args.book.now.vars in
-    let wanted = c.args.wanted in
     IfOk-weaker c.stop_on_elimination.result _ _
     (λ answer told.
-    due-from_elimination c.args.places d rows vars book c.args.sets.now same wanted.var (wanted_of wanted) c.args.rounded answer.status answer.text.items wanted.method told.place told.wide told.status_is told.line_is)
+    due-from_elimination c.args.places d c.args.book.now.rows c.args.book.now.vars book c.args.sets.now same c.args.var c.args.wanted c.args.rounded answer.status answer.text.items told.place told.wide told.status_is told.line_is)
     c.stop_on_elimination.ensures

@@ -1,10 +1,5 @@
 -- What the elimination asks for, and what it comes to.
-use Rattle.std.proofs.Common.{ap₂, sym, ◌∙◌, subst}
-use Rattle.std.proofs.lemmas.Result.{err_from_is_err_and}
-use Rattle.exact_num.specs.Steps.{first_wide}
-use Rattle.exact_num.specs.Value.{value_of}
-use Rattle.written_method.specs.Eliminated.{elimination_steps}
-use Rattle.variable_elimination.specs.SoFar.{IsFirst}
+use Rattle.row_problem.proofs.Common.{ap₂, sym, ◌∙◌, subst, err_from_is_err_and, first_wide, value_of, elimination_steps, IsFirst}
 use Rattle.span_finder.specs.LimitedRows.{StopsBefore}
 use Rattle.span_finder.proofs.LimitedLaws.{limited-problem, limited-variables}
 use Rattle.span_finder.proofs.SpanLaws.{stops-plain, stops-row}

@@ -1,16 +1,5 @@
 -- The row is written as every row of an equation is.
-use Rattle.std.proofs.Common.{◌≡◌, true, List, sym, ap, ◌∙◌, subst}
-use Rattle.std.proofs.lemmas.Result.{err_from_is_err_and}
-use Rattle.std.specs.Prelude.{IfErr, OnOk}
-use Rattle.exact_num.specs.Range.{all_fit}
-use Rattle.exact_num.specs.Rational.{Rational}
-use Rattle.exact_num.specs.Value.{value_of}
-use Rattle.row_core.specs.declared.Var.{Var}
-use Rattle.row_core.specs.declared.place.Place.{Place}
-use Rattle.row_core.specs.Stops.{IsStop}
-use Rattle.row_core.specs.Terms.{gathered, gathered_formed}
-use Rattle.row_core.specs.Written.{written_formed}
-use Rattle.row_core.specs.CostLimits.{span_name}
+use Rattle.row_problem.proofs.Common.{◌≡◌, true, List, sym, ap, ◌∙◌, subst, err_from_is_err_and, IfErr, OnOk, all_fit, Rational, value_of, Var, Place, IsStop, gathered, gathered_formed, written_formed, span_name, Values}
 use Rattle.span_finder.specs.LimitRows.{cost_terms, limit_formed}
 use Rattle.span_finder.proofs.LimitLaws.{row-answer}
 use Rattle.span_finder.proofs.LimitSteps.{fits-first, same-stop, stops-first}
@@ -26,8 +15,8 @@ returns-in_err-terms-clause-stopped c =
     (λ wide. stops-first (gathered_formed (cost_terms vars)) (written_formed (gathered (cost_terms vars)) limit) wide) c.in_err-terms.ensures.stopped)
 
 -- what is formed after the terms
-formed-after : (vars : List Var) (limit : Rational) (terms : List (Var × Rational)) → terms ≡ gathered (cost_terms vars) → all_fit (gathered_formed (cost_terms vars)) ≡ true → all_fit (limit_formed vars limit) ≡ all_fit (written_formed terms limit)
-formed-after vars limit terms is fit = fits-first (gathered_formed (cost_terms vars)) (written_formed (gathered (cost_terms vars)) limit) fit ∙ ap (λ (ts : List (Var × Rational)). all_fit (written_formed ts limit)) (sym is)
+formed-after : (vars : List Var) (limit : Rational) (terms : Values) → terms ≡ gathered (cost_terms vars) → all_fit (gathered_formed (cost_terms vars)) ≡ true → all_fit (limit_formed vars limit) ≡ all_fit (written_formed terms limit)
+formed-after vars limit terms is fit = fits-first (gathered_formed (cost_terms vars)) (written_formed (gathered (cost_terms vars)) limit) fit ∙ ap (λ (ts : Values). all_fit (written_formed ts limit)) (sym is)
 
 pub returns-clause-row : goal.returns-clause-row
 returns-clause-row c =

@@ -1,8 +1,5 @@
 -- Variable by variable.
-use Rattle.std.proofs.lemmas.Result.{err_from_is_err_and}
-use Rattle.row_core.specs.declared.Var.{Var}
-use Rattle.row_core.specs.declared.place.Place.{Place}
-use Rattle.row_core.specs.CostLimits.{span_name}
+use Rattle.row_problem.proofs.Common.{err_from_is_err_and, Var, Place, span_name}
 use Rattle.span_finder.proofs.LimitSteps.{formed-all, formed-next, terms-all, terms-next, terms-stop}
 use Rattle.span_finder.proofs.limiting.terms_of.Goals as goal
 

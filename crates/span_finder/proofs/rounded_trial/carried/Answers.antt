@@ -1,11 +1,5 @@
 -- What the checks make of what is carried back.
-use Rattle.std.proofs.Common.{sym, ◌∙◌, subst}
-use Rattle.exact_num.specs.Value.{value_of}
-use Rattle.row_core.proofs.Members.{Has-from_Contains}
-use Rattle.certificate_checker.specs.Certificates.{BoundsAll}
-use Rattle.certified_answers.specs.Costs.{weight_of}
-use Rattle.certified_answers.specs.Worth.{IsPlan}
-use Rattle.certified_answers.specs.declared.costs.Cost.{Cost}
+use Rattle.row_problem.proofs.Common.{sym, ◌∙◌, subst, value_of, Has-from_Contains, BoundsAll, weight_of, IsPlan, Cost}
 use Rattle.row_problem.proofs.CompletePlans.{plan-complete}
 use Rattle.span_finder.specs.RoundedTrials.{IsClose}
 use Rattle.span_finder.specs.Trials.{NonePasses}

@@ -1,9 +1,5 @@
 -- One trial after the other, over the same rows with another cost.
-use Rattle.std.proofs.Common.{refl}
-use Rattle.certified_answers.specs.declared.costs.Cost.{Cost}
-use Rattle.certified_answers.specs.declared.costs.Cost.TheVariants.{Model, One}
-use Rattle.certified_answers.specs.declared.costs.Goal.TheVariants.{Least}
-use Rattle.row_problem.specs.ProgramsOf.{IsProgramOf}
+use Rattle.row_problem.proofs.Common.{refl, Cost, Model, One, Least, IsProgramOf}
 use Rattle.span_finder.proofs.ValueLaws.{capacity-among}
 use Rattle.span_finder.proofs.rounding.both_ends.Goals as goal
 

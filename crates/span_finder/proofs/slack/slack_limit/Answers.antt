@@ -1,12 +1,5 @@
 -- The product, and the sum after it.
-use Rattle.std.proofs.Common.{◌≡◌, ◌<◌, ◌^◌, ℕ, ℤ, true, false, pos, sym, ap, ap₂, ◌∙◌, arith, to_z, of_z}
-use Rattle.std.specs.Int.{w128}
-use Rattle.exact_num.specs.Formed.{product_formed, sum_formed}
-use Rattle.exact_num.specs.Range.{InRange, all_fit}
-use Rattle.exact_num.specs.Rational.{Rational, lowest, times}
-use Rattle.exact_num.specs.Value.{value_of}
-use Rattle.exact_num.proofs.RangeLaws.{back_in_range, is_ok-false}
-use Rattle.certificate_checker.specs.PlanChecks.{absolute}
+use Rattle.row_problem.proofs.Common.{◌≡◌, ◌<◌, ◌^◌, ℕ, ℤ, true, false, pos, sym, ap, ap₂, ◌∙◌, arith, to_z, of_z, w128, product_formed, sum_formed, InRange, all_fit, Rational, lowest, times, value_of, back_in_range, is_ok-false, absolute}
 use Rattle.span_finder.specs.Slacks.{slack_of}
 use Rattle.span_finder.proofs.LimitSteps.{stops-first}
 use Rattle.span_finder.proofs.SlackLaws.{limit-near, limit-refused, limit-value}

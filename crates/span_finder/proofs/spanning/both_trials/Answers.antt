@@ -1,11 +1,5 @@
 -- One trial after the other, over the same rows with another cost.
-use Rattle.std.proofs.Common.{◌≡◌, refl, subst}
-use Rattle.std.proofs.lemmas.Result.{err_from_is_err_and}
-use Rattle.std.specs.Prelude.{IfErr, IfOk}
-use Rattle.certified_answers.specs.declared.costs.Cost.{Cost}
-use Rattle.certified_answers.specs.declared.costs.Cost.TheVariants.{Model, One}
-use Rattle.certified_answers.specs.declared.costs.Goal.TheVariants.{Least}
-use Rattle.row_problem.specs.ProgramsOf.{IsProgramOf}
+use Rattle.row_problem.proofs.Common.{◌≡◌, refl, subst, err_from_is_err_and, IfErr, IfOk, Cost, Model, One, Least, IsProgramOf}
 use Rattle.span_finder.specs.SpanEnds.{SpanEnd, StopsAt, span_seen}
 use Rattle.span_finder.proofs.SpanLaws.{both-end, both-found, both-stop}
 use Rattle.span_finder.proofs.ValueLaws.{capacity-among}

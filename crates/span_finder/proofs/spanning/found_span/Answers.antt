@@ -1,6 +1,5 @@
 -- What the trials ask for, and what they come to.
-use Rattle.std.proofs.lemmas.Result.{err_from_is_err_and}
-use Rattle.exact_num.specs.Value.{value_of}
+use Rattle.row_problem.proofs.Common.{err_from_is_err_and, value_of}
 use Rattle.span_finder.proofs.LimitedLaws.{some-plan}
 use Rattle.span_finder.proofs.SpanLaws.{answer-ends, answer-spans, answer-stops}
 use Rattle.span_finder.proofs.spanning.found_span.Goals as goal

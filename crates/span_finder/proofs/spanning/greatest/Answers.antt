@@ -1,7 +1,5 @@
 -- The second trial.
-use Rattle.std.proofs.Common.{ap, refl}
-use Rattle.certified_answers.specs.declared.answers.Certified.TheVariants.{Optimal, Unbounded}
-use Rattle.certified_answers.specs.declared.costs.Goal.TheVariants.{Greatest}
+use Rattle.row_problem.proofs.Common.{ap, refl, Optimal, Unbounded, Greatest}
 use Rattle.span_finder.specs.SpanEnds.{greatest_end}
 use Rattle.span_finder.proofs.ValueLaws.{trial-end, trial-extreme, trial-rises}
 use Rattle.span_finder.proofs.spanning.greatest.Goals as goal

@@ -1,7 +1,5 @@
 -- The first trial.
-use Rattle.std.proofs.Common.{ap, refl}
-use Rattle.certified_answers.specs.declared.answers.Certified.TheVariants.{Optimal}
-use Rattle.certified_answers.specs.declared.costs.Goal.TheVariants.{Least}
+use Rattle.row_problem.proofs.Common.{ap, refl, Optimal, Least}
 use Rattle.span_finder.specs.SpanEnds.{least_end}
 use Rattle.span_finder.proofs.ValueLaws.{trial-end, trial-extreme, trial-stays}
 use Rattle.span_finder.proofs.spanning.least.Goals as goal

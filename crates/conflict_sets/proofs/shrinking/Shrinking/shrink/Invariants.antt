@@ -1,5 +1,5 @@
 -- The multipliers so far refute the rows.
-use Rattle.certified_answers.specs.Worth.{IsRefutation}
+use Rattle.row_problem.proofs.Common.{IsRefutation}
 use Rattle.conflict_sets.proofs.shrinking.Shrinking.shrink.Given as goal
 
 abbrev pub invariant-loop : goal.invariant-loop
