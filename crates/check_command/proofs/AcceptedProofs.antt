@@ -18,7 +18,7 @@ use Rattle.row_book.specs.Books.{AreRowsOf}
 use Rattle.certificate_checker.specs.Conditions.{AllPass, Condition}
 use Rattle.certificate_checker.specs.Costs.{model_cost, no_cost}
 use Rattle.certificate_checker.specs.Gaps.{gap_condition}
-use Rattle.certificate_checker.specs.MultiplierChecks.{bound_conditions, bound_value, infeasible_conditions}
+use Rattle.certificate_checker.specs.MultiplierChecks.{bound_conditions, bound_value}
 use Rattle.certificate_checker.specs.PlanChecks.{direction_conditions, plan_conditions}
 use Rattle.certified_answers.specs.Worth.{IsBound, IsDescent, IsNear, IsPlan, IsRefutation}
 use Rattle.plan_files.specs.declared.faults.PlanFault.{PlanFault}

@@ -3,6 +3,7 @@ mod CheckExamples
 mod CheckFiles
 mod CheckNames
 mod DueOfPlans
+mod KeptProofs
 pub mod OutcomeLaws
 mod ProofExamples
 mod ProofLaws

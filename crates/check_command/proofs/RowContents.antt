@@ -1,5 +1,5 @@
 -- What is looked at of rows depends on what they say alone, so rows of the same instances pass alike.
-use Rattle.std.proofs.Common.{◌≡◌, ℕ, ℤ, pos, Bool, true, List, [], ◌∷◌, ◌++◌, map, filter, refl, ap, ap₂, sym, ◌∙◌, subst}
+use Rattle.std.proofs.Common.{◌≡◌, ℕ, ℤ, pos, Bool, true, List, [], ◌∷◌, ◌++◌, map, filter, refl, ap, ap₂, sym, ◌∙◌}
 use Rattle.std.specs.Prelude.{int_lt}
 use Rattle.std.specs.List.{flat_map}
 use Rattle.std.specs.Ordering.{is_eq}
@@ -15,7 +15,7 @@ use Rattle.row_core.specs.Columns.{column_of}
 use Rattle.row_core.specs.Contents.{RowContents, contents_of}
 use Rattle.row_core.specs.Evaluated.{evaluated, evaluated_formed}
 use Rattle.row_core.specs.Kinds.{kind_is_free}
-use Rattle.row_core.specs.Order.{row_name_cmp, var_cmp}
+use Rattle.row_core.specs.Order.{var_cmp}
 use Rattle.row_core.specs.Plans.{value_in}
 use Rattle.row_core.specs.Statements.{stands}
 use Rattle.row_book.specs.Books.{AreRowsOf}

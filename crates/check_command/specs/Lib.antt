@@ -1,3 +1,4 @@
+pub mod AcceptedProofs
 pub mod Check
 pub mod CheckLines
 pub mod CheckOutcomes

@@ -5,11 +5,13 @@
 //! the first rule that they break), `outcome` (what the checks come to), and `lines` (the text for it).
 #![tactic(auto)]
 
+mod accepted;
 mod check;
 mod files;
 mod lines;
 mod outcome;
 mod proof;
 
+pub use accepted::accepted_proof;
 pub use check::{Claim, answer_check};
 pub use proof::answer_proof;

@@ -60,8 +60,8 @@ fn answer_proof_file(
     }
 }
 
-// The same where it was read.
-fn answer_told(
+/// The same where it was read.
+pub(crate) fn answer_told(
     alloc: Global,
     book: &RowBook,
     sets: &Sets,
@@ -170,8 +170,12 @@ fn accept_as(alloc: Global, said: &[u8]) -> Result<Answer, AllocError>
     Ok(Answer { status, text })
 }
 
-// The answer to a file of a proof that breaks a rule.
-fn refuse_proof(alloc: Global, fault: PlanFault, sets: &Sets) -> Result<Answer, AllocError>
+/// The answer to a file of a proof that breaks a rule.
+pub(crate) fn refuse_proof(
+    alloc: Global,
+    fault: PlanFault,
+    sets: &Sets,
+) -> Result<Answer, AllocError>
     requires { FaultIsWithin sets.now fault }
     ensures { IfOk result (λ answer. (answer.status ≡ Status.Refused (Refusal.ProofFile fault)) × (answer.text.items ≡ proof_fault_line sets.now fault)) }
 {

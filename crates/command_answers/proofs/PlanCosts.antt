@@ -5,8 +5,8 @@ use Rattle.model_sets.specs.Data.{Data}
 use Rattle.row_core.specs.declared.Var.{Var}
 use Rattle.row_core.specs.Numbers.{ascends}
 use Rattle.row_core.specs.Order.{var_cmp}
-use Rattle.row_core.proofs.Orders.{var_cmp_total}
 use Rattle.row_core.proofs.Members.{Has-from_Contains, Contains-from_Has}
+use Rattle.row_core.proofs.Orders.{var_cmp_total}
 use Rattle.row_problem.proofs.SameLists.{same-list}
 use Rattle.certificate_checker.specs.Costs.{cost_of, model_cost}
 use Rattle.named_equations.specs.Existence.{all_variables, exists}

@@ -26,8 +26,8 @@ pub use books::{made_book, refuse_book, refuse_large, sized_book};
 pub use command_words::WordFault;
 pub use lines::{push_trial_stop, stop_line, too_long_line};
 pub use methods::{
-    BookProgram, definers, eliminate_book, guess_book, problem_laws, problem_of, second_book,
-    solve_book,
+    BookProgram, definers, eliminate_book, guess_book, guess_rows, problem_laws, problem_of,
+    second_book, solve_book,
 };
 pub use named_members::find_member;
 pub use places::{push_place, push_with_row, push_with_var};

@@ -11,6 +11,7 @@ ghost use Rattle.certified_answers.specs.declared.costs.Cost.TheVariants.{Model}
 ghost use Rattle.row_problem.specs.Problems.{IsProblem};
 ghost use Rattle.row_problem.specs.ProgramsOf.{IsPosedProblem};
 ghost use Rattle.decimal_solver.specs.Answers as grid;
+ghost use Rattle.rounded_solver.specs.Listed.{AreListed};
 ghost use Rattle.command_answers.specs.BookMethods.{IsFoundBy, grid_end, method_end};
 ghost use Rattle.command_answers.specs.BookPrograms.{IsProgramOf};
 ghost use Rattle.command_answers.specs.Definers.{definers};
@@ -18,7 +19,7 @@ ghost use Rattle.command_answers.specs.Definers.{definers};
 use certified_answers::{Certified, Cost, NoAnswer};
 use decimal_solver::{Found, second};
 use exact_solver::exact;
-use rounded_solver::guessed;
+use rounded_solver::{guessed, guessed_rows};
 use row_book::RowBook;
 use row_core::{Stopped, Var};
 use row_problem::{Problem, left_of};
@@ -46,10 +47,11 @@ pub fn definers(alloc: Global, book: &RowBook) -> Result<Vec<Option<Var>>, Alloc
     Ok(defs)
 }
 
-/// The rows of a book, with what they define and their variables, are a problem.
+/// The rows of a book, with what they define and their variables, are a problem, and listed with their variables.
 pub fn problem_laws(book: &RowBook)
     ensures problem { IsProblem book.now.rows (definers book.now.rows) book.now.vars }
     ensures variables { AreVariablesOf book.now.rows book.now.vars }
+    ensures listed { AreListed book.now.rows book.now.vars }
 {
     let _ = book.vars();
 }
@@ -120,6 +122,20 @@ pub fn guess_book(
 {
     let problem = problem_of(book, program);
     guessed(alloc, &problem, gap, pivots)
+}
+
+/// What guesses give over the rows of a book alone: as `guess_book`, where the elimination of the rows stops at a number that doesn't fit.
+pub fn guess_rows(
+    alloc: Global,
+    book: &RowBook,
+    gap: u32,
+    pivots: u64,
+) -> Result<Option<Certified>, AllocError>
+    ensures { IfOk result (λ found. IfSome found (IsFoundBy book.now.rows book.now.vars gap pivots)) }
+{
+    let defs = definers(alloc, book)?;
+    problem_laws(book);
+    guessed_rows(alloc, book.rows(), &defs, book.vars(), gap, pivots)
 }
 
 /// What the attempt on a grid gives over a book: as `second` does.

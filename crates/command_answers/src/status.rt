@@ -58,6 +58,8 @@ pub enum Refusal {
     TooLarge(u64, u64),
     /// A word of the command names no member of the set of this number.
     NoSuch(u8),
+    /// The word of `table` names no table.
+    UnknownTable,
 }
 
 /// Why a file couldn't be read. Files count from 1, in the order of the words.

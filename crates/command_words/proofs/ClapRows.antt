@@ -1,10 +1,10 @@
 -- What clap's rows hold after one more value.
-use Rattle.std.proofs.Common.{◌≡◌, ◌∙◌, ◌||◌, List, [], ◌∷◌, ◌++◌, Option, Some, is_some, Bool, true, false, cond, refl, ap, true≢false, option_map}
+use Rattle.std.proofs.Common.{◌≡◌, ◌∙◌, ◌||◌, List, [], ◌∷◌, ◌++◌, Option, Some, None, is_some, Bool, true, false, cond, refl, ap, true≢false, option_map}
 use Rattle.std.specs.Prelude.{find, unwrap_or}
 use Rattle.std.specs.Str.{bytes_eq}
 use Rattle.std.proofs.lemmas.Slice.Eq.{bytes_eq-Decides}
 use Rattle.clap.specs.Walk.{Row, Text, all_of, has_row, more_values, with_values, without}
-use Rattle.clap.specs.declared.parser.matches.ValueSource.TheVariants.{CommandLine}
+use Rattle.clap.specs.declared.parser.matches.ValueSource.{ValueSource}
 use Rattle.clap.specs.declared.builder.value_parser.Reading.{Reading}
 
 -- the values of the row that is found
@@ -29,9 +29,27 @@ without_none id (r ∷ rows) none = go (bytes_eq r.id id) none (without_none id 
     go true e rest = absurd (true≢false e)
     go false e rest = ap (λ more. r ∷ more) (rest e)
 
-module _ (id : Text) (how : Reading) (value : Text) where
+-- the row of an id
+abbrev pub row_with : Text → List Row → Option Row
+row_with id = find (λ r. bytes_eq r.id id)
+
+module _ (id : Text) (how : Reading) (source : ValueSource) (value : Text) where
   abbrev added : List Row → List Row
-  added = with_values id how CommandLine (value ∷ [])
+  added = with_values id how source (value ∷ [])
+
+  -- a row with this value alone
+  abbrev pub new_row : Row
+  new_row = record { id = id; values = value ∷ []; count = None; source = Some source; reading = how }
+
+  -- which comes where no row has the id
+  pub added_row : (rows : List Row) → bytes_eq id id ≡ true → has_row id rows ≡ false → row_with id (added rows) ≡ Some new_row
+  added_row [] same none = rw same refl
+  added_row (r ∷ rows) same none = go (bytes_eq r.id id) refl none (added_row rows same)
+    where
+      go : (b : Bool) → bytes_eq r.id id ≡ b → (b || has_row id rows) ≡ false → (has_row id rows ≡ false → row_with id (added rows) ≡ Some new_row)
+          → row_with id (cond b (more_values source (value ∷ []) r ++ rows) (r ∷ added rows)) ≡ Some new_row
+      go true e n rest = absurd (true≢false n)
+      go false e n rest = rw e (rest n)
 
   -- the value comes after those of its id
   pub added_here : (rows : List Row) → bytes_eq id id ≡ true → all_of id (added rows) ≡ Some (unwrap_or (all_of id rows) [] ++ value ∷ [])
@@ -39,25 +57,28 @@ module _ (id : Text) (how : Reading) (value : Text) where
   added_here (r ∷ rows) same = go (bytes_eq r.id id) refl (added_here rows same)
     where
       go : (b : Bool) → bytes_eq r.id id ≡ b → all_of id (added rows) ≡ Some (unwrap_or (all_of id rows) [] ++ value ∷ [])
-          → all_of id (cond b (more_values CommandLine (value ∷ []) r ++ rows) (r ∷ added rows))
+          → all_of id (cond b (more_values source (value ∷ []) r ++ rows) (r ∷ added rows))
           ≡ Some (unwrap_or (values (cond b (Some r) (find (λ r. bytes_eq r.id id) rows))) [] ++ value ∷ [])
       go true e rest = rw e refl
       go false e rest = rw e rest
 
-  -- and the values of another id stay
-  pub added_elsewhere : (other : Text) (rows : List Row) → bytes_eq id other ≡ false → all_of other (added rows) ≡ all_of other rows
-  added_elsewhere other [] apart = rw apart refl
-  added_elsewhere other (r ∷ rows) apart = go (bytes_eq r.id id) refl (skip (bytes_eq r.id other) (added_elsewhere other rows apart))
+  -- and the row of another id stays
+  pub row_elsewhere : (other : Text) (rows : List Row) → bytes_eq id other ≡ false → row_with other (added rows) ≡ row_with other rows
+  row_elsewhere other [] apart = rw apart refl
+  row_elsewhere other (r ∷ rows) apart = go (bytes_eq r.id id) refl (skip (bytes_eq r.id other) (row_elsewhere other rows apart))
     where
-      skip : (b : Bool) → all_of other (added rows) ≡ all_of other rows
-          → values (cond b (Some r) (find (λ r. bytes_eq r.id other) (added rows))) ≡ values (cond b (Some r) (find (λ r. bytes_eq r.id other) rows))
+      skip : (b : Bool) → row_with other (added rows) ≡ row_with other rows → cond b (Some r) (row_with other (added rows)) ≡ cond b (Some r) (row_with other rows)
       skip true rest = refl
       skip false rest = rest
 
-      go : (b : Bool) → bytes_eq r.id id ≡ b → all_of other (r ∷ added rows) ≡ all_of other (r ∷ rows)
-          → all_of other (cond b (more_values CommandLine (value ∷ []) r ++ rows) (r ∷ added rows)) ≡ all_of other (r ∷ rows)
+      go : (b : Bool) → bytes_eq r.id id ≡ b → row_with other (r ∷ added rows) ≡ row_with other (r ∷ rows)
+          → row_with other (cond b (more_values source (value ∷ []) r ++ rows) (r ∷ added rows)) ≡ row_with other (r ∷ rows)
       go true e rest =
           let is : r.id ≡ id = (bytes_eq-Decides r.id id).0 e in
           let other_row : bytes_eq r.id other ≡ false = ap (λ t. bytes_eq t other) is ∙ apart in
           rw other_row refl
       go false e rest = rest
+
+  -- with its values
+  pub added_elsewhere : (other : Text) (rows : List Row) → bytes_eq id other ≡ false → all_of other (added rows) ≡ all_of other rows
+  added_elsewhere other rows apart = ap values (row_elsewhere other rows apart)

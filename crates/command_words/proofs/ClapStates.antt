@@ -1,19 +1,19 @@
 -- What is held between two words, and what it says of the words so far.
-use Rattle.std.proofs.Common.{◌≡◌, ◌∙◌, List, [], ◌∷◌, ◌++◌, Option, Some, None, is_some, true, false, refl, ap, option_map}
+use Rattle.std.proofs.Common.{◌≡◌, ◌∙◌, List, [], ◌∷◌, ◌++◌, Option, Some, None, is_some, Bool, true, false, refl, ap, option_map}
 use Rattle.std.specs.Prelude.{codes, unwrap_or}
 use Rattle.std.specs.Str.{bytes_eq}
 use Rattle.clap.specs.Walk.{Held, Row, Text, all_of, has_row, nothing_held, reading_by, settled, used, with_values}
 use Rattle.clap.specs.declared.parser.matches.ValueSource.TheVariants.{CommandLine}
 use Rattle.command_words.specs.WordParts.{OptionName, Gap, Pivots, Places, Show, Method, Slack, Proof}
 use Rattle.command_words.specs.WordReading.{Given}
-use Rattle.command_words.proofs.ClapRows.{added_here, added_elsewhere, has_row_is, without_none}
-use Rattle.command_words.proofs.ClapTurns.{chosen, file, id_of, rules, settling, with_due, with_file, with_joined, with_value}
-use Rattle.command_words.proofs.ClapOptions.{Fails, using}
+use Rattle.command_words.proofs.ClapRows.{added_here, added_elsewhere, added_row, has_row_is, new_row, row_elsewhere, row_with, without_none}
+use Rattle.command_words.proofs.ClapTurns.{chosen, exact, file, id_of, rules, settling, with_due, with_exact, with_file, with_joined, with_value}
+use Rattle.command_words.proofs.ClapOptions.{Fails, using, using_exact}
 
 -- ---- what was given so far
 
 abbrev pub nothing_given : Given
-nothing_given = record { files = []; gap = None; pivots = None; places = None; show = None; method = None; slack = None; proof = None }
+nothing_given = record { files = []; gap = None; pivots = None; places = None; show = None; method = None; slack = None; proof = None; exact = false }
 
 -- the value of an option
 abbrev pub value_of : OptionName → Given → Option Text
@@ -39,6 +39,10 @@ value_added Method value g = record g { method = Some value }
 value_added Slack value g = record g { slack = Some value }
 value_added Proof value g = record g { proof = Some value }
 
+-- with the flag
+abbrev pub exact_added : Given → Given
+exact_added g = record g { exact = true }
+
 -- ---- clap's rows
 
 -- no values are no row
@@ -46,10 +50,16 @@ abbrev pub listed : List Text → Option (List Text)
 listed [] = None
 listed (x ∷ xs) = Some (x ∷ xs)
 
+-- a flag that isn't given has no row yet
+abbrev pub flag_row : Bool → Option Row
+flag_row true = Some (new_row (codes "exact") (reading_by exact) CommandLine (codes "true"))
+flag_row false = None
+
 -- the rows say what was given
 pub record Says (rows : List Row) (g : Given) : Type 0 where
   pub files : all_of (codes "file") rows ≡ listed g.files
   pub options : (o : OptionName) → all_of (id_of o) rows ≡ option_map (λ value. value ∷ []) (value_of o g)
+  pub flag : row_with (codes "exact") rows ≡ flag_row g.exact
 
 listed_more : (xs : List Text) (x : Text) → Some (unwrap_or (listed xs) [] ++ x ∷ []) ≡ listed (xs ++ x ∷ [])
 listed_more [] x = refl
@@ -82,11 +92,21 @@ apart_file Method = refl
 apart_file Slack = refl
 apart_file Proof = refl
 
+pub exact_apart : (o : OptionName) → bytes_eq (codes "exact") (id_of o) ≡ false
+exact_apart Gap = refl
+exact_apart Pivots = refl
+exact_apart Places = refl
+exact_apart Show = refl
+exact_apart Method = refl
+exact_apart Slack = refl
+exact_apart Proof = refl
+
 -- after one more file
 pub says_file : (rows : List Row) (g : Given) (name : Text) → Says rows g → Says (used file (name ∷ []) rows) (file_added name g)
 says_file rows g name s = record {
-  files = added_here (codes "file") (reading_by file) name rows refl ∙ ap (λ found. Some (unwrap_or found [] ++ name ∷ [])) s.files ∙ listed_more g.files name;
-  options = λ o. added_elsewhere (codes "file") (reading_by file) name (id_of o) rows (file_apart o) ∙ s.options o ∙ stays o;
+  files = added_here (codes "file") (reading_by file) CommandLine name rows refl ∙ ap (λ found. Some (unwrap_or found [] ++ name ∷ [])) s.files ∙ listed_more g.files name;
+  options = λ o. added_elsewhere (codes "file") (reading_by file) CommandLine name (id_of o) rows (file_apart o) ∙ s.options o ∙ stays o;
+  flag = row_elsewhere (codes "file") (reading_by file) CommandLine name (codes "exact") rows refl ∙ s.flag;
 }
   where
     stays : (o : OptionName) → option_map (λ value. value ∷ []) (value_of o g) ≡ option_map (λ value. value ∷ []) (value_of o (file_added name g))
@@ -133,17 +153,22 @@ module _ (rows : List Row) (g : Given) (value : Text) (s : Says rows g) where
   own_row : (o : OptionName) → value_of o g ≡ None → all_of (id_of o) (used (chosen o) (value ∷ []) rows) ≡ Some (value ∷ [])
   own_row o none =
       ap (λ left. all_of (id_of o) (with_values (id_of o) (reading_by (chosen o)) CommandLine (value ∷ []) left)) (without_none (id_of o) rows (no_row rows g o s none))
-      ∙ added_here (id_of o) (reading_by (chosen o)) value rows (same_id o)
+      ∙ added_here (id_of o) (reading_by (chosen o)) CommandLine value rows (same_id o)
       ∙ ap (λ found. Some (unwrap_or found [] ++ value ∷ [])) (s.options o ∙ ap (option_map (λ value. value ∷ [])) none)
 
   other_row : (o : OptionName) (other : Text) → value_of o g ≡ None → bytes_eq (id_of o) other ≡ false → all_of other (used (chosen o) (value ∷ []) rows) ≡ all_of other rows
   other_row o other none apart =
       ap (λ left. all_of other (with_values (id_of o) (reading_by (chosen o)) CommandLine (value ∷ []) left)) (without_none (id_of o) rows (no_row rows g o s none))
-      ∙ added_elsewhere (id_of o) (reading_by (chosen o)) value other rows apart
+      ∙ added_elsewhere (id_of o) (reading_by (chosen o)) CommandLine value other rows apart
+
+  flag_stays : (o : OptionName) → value_of o g ≡ None → bytes_eq (id_of o) (codes "exact") ≡ false → row_with (codes "exact") (used (chosen o) (value ∷ []) rows) ≡ row_with (codes "exact") rows
+  flag_stays o none apart =
+      ap (λ left. row_with (codes "exact") (with_values (id_of o) (reading_by (chosen o)) CommandLine (value ∷ []) left)) (without_none (id_of o) rows (no_row rows g o s none))
+      ∙ row_elsewhere (id_of o) (reading_by (chosen o)) CommandLine value (codes "exact") rows apart
 
   -- after the first value of an option
   pub says_value : (o : OptionName) → value_of o g ≡ None → Says (used (chosen o) (value ∷ []) rows) (value_added o value g)
-  says_value o none = record { files = files o none; options = options o none }
+  says_value o none = record { files = files o none; options = options o none; flag = flags o none }
     where
       files : (o : OptionName) → value_of o g ≡ None → all_of (codes "file") (used (chosen o) (value ∷ []) rows) ≡ listed (value_added o value g).files
       files Gap none = other_row Gap (codes "file") none refl ∙ s.files
@@ -153,6 +178,15 @@ module _ (rows : List Row) (g : Given) (value : Text) (s : Says rows g) where
       files Method none = other_row Method (codes "file") none refl ∙ s.files
       files Slack none = other_row Slack (codes "file") none refl ∙ s.files
       files Proof none = other_row Proof (codes "file") none refl ∙ s.files
+
+      flags : (o : OptionName) → value_of o g ≡ None → row_with (codes "exact") (used (chosen o) (value ∷ []) rows) ≡ flag_row (value_added o value g).exact
+      flags Gap none = flag_stays Gap none refl ∙ s.flag
+      flags Pivots none = flag_stays Pivots none refl ∙ s.flag
+      flags Places none = flag_stays Places none refl ∙ s.flag
+      flags Show none = flag_stays Show none refl ∙ s.flag
+      flags Method none = flag_stays Method none refl ∙ s.flag
+      flags Slack none = flag_stays Slack none refl ∙ s.flag
+      flags Proof none = flag_stays Proof none refl ∙ s.flag
 
       options : (o : OptionName) → value_of o g ≡ None → (other : OptionName)
           → all_of (id_of other) (used (chosen o) (value ∷ []) rows) ≡ option_map (λ value. value ∷ []) (value_of other (value_added o value g))
@@ -206,6 +240,46 @@ module _ (rows : List Row) (g : Given) (value : Text) (s : Says rows g) where
       options Proof none Slack = other_row Proof (id_of Slack) none refl ∙ s.options Slack
       options Proof none Proof = own_row Proof none
 
+abbrev has_values : Option Row → Bool
+has_values found = is_some (option_map (λ r. r.values) found)
+
+module _ (rows : List Row) (g : Given) (s : Says rows g) where
+  -- a flag that wasn't given has no row
+  pub no_flag_row : g.exact ≡ false → has_row (codes "exact") rows ≡ false
+  no_flag_row none = has_row_is (codes "exact") rows ∙ ap has_values (s.flag ∙ ap flag_row none)
+
+  -- given once it is no fault
+  pub first_exact : g.exact ≡ false → using_exact rows ≡ []
+  first_exact none = rw (no_flag_row none) refl
+
+  -- and given twice it is
+  pub second_exact : g.exact ≡ true → Fails (using_exact rows)
+  second_exact given = let row : has_row (codes "exact") rows ≡ true = has_row_is (codes "exact") rows ∙ ap has_values (s.flag ∙ ap flag_row given) in rw row refl
+
+  -- the other rows stay as they are
+  beside_flag : (other : Text) → g.exact ≡ false → bytes_eq (codes "exact") other ≡ false → all_of other (used exact [] rows) ≡ all_of other rows
+  beside_flag other none apart =
+      ap (λ left. all_of other (with_values (codes "exact") (reading_by exact) CommandLine (codes "true" ∷ []) left)) (without_none (codes "exact") rows (no_flag_row none))
+      ∙ added_elsewhere (codes "exact") (reading_by exact) CommandLine (codes "true") other rows apart
+
+  -- after the flag
+  pub says_exact : g.exact ≡ false → Says (used exact [] rows) (exact_added g)
+  says_exact none = record {
+    files = beside_flag (codes "file") none refl ∙ s.files;
+    options = λ o. beside_flag (id_of o) none (exact_apart o) ∙ s.options o ∙ stays o;
+    flag = ap (λ left. row_with (codes "exact") (with_values (codes "exact") (reading_by exact) CommandLine (codes "true" ∷ []) left)) (without_none (codes "exact") rows (no_flag_row none))
+        ∙ added_row (codes "exact") (reading_by exact) CommandLine (codes "true") rows refl (no_flag_row none);
+  }
+    where
+      stays : (o : OptionName) → option_map (λ value. value ∷ []) (value_of o g) ≡ option_map (λ value. value ∷ []) (value_of o (exact_added g))
+      stays Gap = refl
+      stays Pivots = refl
+      stays Places = refl
+      stays Show = refl
+      stays Method = refl
+      stays Slack = refl
+      stays Proof = refl
+
 -- ---- what is held
 
 -- settled it says what was given, and settling it is no fault
@@ -219,6 +293,9 @@ fine_file h g name fine = record { skip = fine.skip; settles = refl; says = says
 
 pub fine_joined : (h : Held) (g : Given) (o : OptionName) (value : Text) → IsFine h g → value_of o g ≡ None → IsFine (with_joined o value h) (value_added o value g)
 fine_joined h g o value fine none = record { skip = fine.skip; settles = refl; says = says_value (settled rules h).rows g value fine.says o none }
+
+pub fine_exact : (h : Held) (g : Given) → IsFine h g → g.exact ≡ false → IsFine (with_exact h) (exact_added g)
+fine_exact h g fine none = record { skip = fine.skip; settles = refl; says = says_exact (settled rules h).rows g fine.says none }
 
 pub settle_value : (h : Held) (o : OptionName) (value : Text) → settling (with_value o value h) ≡ using o value (settled rules h).rows
 settle_value h Gap value = refl
@@ -256,7 +333,7 @@ due_fails h Slack = refl
 due_fails h Proof = refl
 
 pub fine_start : IsFine nothing_held nothing_given
-fine_start = record { skip = refl; settles = refl; says = record { files = refl; options = none } }
+fine_start = record { skip = refl; settles = refl; says = record { files = refl; options = none; flag = refl } }
   where
     none : (o : OptionName) → None ≡ option_map (λ value. value ∷ []) (value_of o nothing_given)
     none Gap = refl

@@ -8,10 +8,10 @@ use Rattle.clap.specs.Simple.{Shape, built}
 use Rattle.clap.specs.Kinds.{Kinds}
 use Rattle.clap.specs.Faults.{settle_fault, turn_fault}
 use Rattle.clap.specs.declared.builder.value_parser.ValueParser.TheVariants as vp
-use Rattle.command_words.specs.ClapWords.{app, file_rule, option_rule}
+use Rattle.command_words.specs.ClapWords.{app, file_rule, flag_rule, option_rule}
 use Rattle.command_words.specs.WordParts.{OptionName, Gap, Pivots, Places, Show, Method, Slack, Proof, is_option}
 
--- what building makes of an argument: one value a use
+-- what building makes of an argument with values: one a use
 abbrev filled_with : Rule → Option ℕ → Rule
 filled_with rule index = record rule { index = index; parser = Some vp.String; range = Some (record { start_inclusive = 1; end_inclusive = 1 }) }
 
@@ -31,8 +31,17 @@ id_of Proof = codes "proof"
 abbrev pub chosen : OptionName → Rule
 chosen o = filled_with (option_rule (id_of o)) None
 
+-- and what of the flag: it stands for `true` where it is used, and for `false` where it isn't
+abbrev pub exact : Rule
+exact = record (flag_rule (codes "exact")) {
+  parser = Some vp.Bool;
+  range = Some (record { start_inclusive = 0; end_inclusive = 0 });
+  defaults = codes "false" ∷ [];
+  missing = codes "true" ∷ [];
+}
+
 abbrev pub rules : List Rule
-rules = file ∷ chosen Gap ∷ chosen Pivots ∷ chosen Places ∷ chosen Show ∷ chosen Method ∷ chosen Slack ∷ chosen Proof ∷ []
+rules = file ∷ chosen Gap ∷ chosen Pivots ∷ chosen Places ∷ chosen Show ∷ chosen Method ∷ chosen Slack ∷ chosen Proof ∷ exact ∷ []
 
 abbrev pub shape : Shape
 shape = record (built app).top { rules = rules }
@@ -73,6 +82,10 @@ with_value o value h = record (settled rules h) { pending = Some (id_of o, value
 -- held after an option with its value joined to it
 abbrev pub with_joined : OptionName → Text → Held → Held
 with_joined o value h = reacted rules (chosen o) (value ∷ []) h
+
+-- held after the flag
+abbrev pub with_exact : Held → Held
+with_exact h = reacted rules exact [] h
 
 and_false : (b : Bool) → (b && false) ≡ false
 and_false true = refl

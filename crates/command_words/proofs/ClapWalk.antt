@@ -7,19 +7,21 @@ use Rattle.std.proofs.lemmas.Slice.Eq.{bytes_eq-Decides}
 use Rattle.clap.specs.Walk.{Held, Text, Waiting, Walk, idle, option, positional, settled}
 use Rattle.clap.specs.Kinds.{Kinds, or_else}
 use Rattle.clap.specs.Faults.{walk_fault}
-use Rattle.command_words.specs.WordParts.{OptionName, Part, File, Chosen, followed, is_option, joined_value, option_in, option_parts, options_end, parts_from}
+use Rattle.command_words.specs.WordParts.{OptionName, Part, File, Chosen, Exact, exact_word, followed, is_option, joined_value, option_in, option_parts, options_end, parts_from}
 use Rattle.command_words.specs.WordReading.{Given}
-use Rattle.command_words.proofs.ClapTurns.{IsReady, at, due, id_of, end_next, end_turn, file_next, file_turn, next, past_end, past_next, past_turn, rules, settling, shape, turn, value_next, value_turn, with_due, with_file, with_joined, with_value}
-use Rattle.command_words.proofs.ClapOptions.{Fails, IsJoined, Kind, apart, fails_first, fails_then, joined, kind_of_option, option_fails, unknown, using}
-use Rattle.command_words.proofs.ClapStates.{IsFine, Says, due_fails, file_added, fine_file, fine_joined, fine_value, second_value, settle_value, first_value, value_added, value_of}
+use Rattle.command_words.proofs.ClapTurns.{IsReady, at, due, id_of, end_next, end_turn, file_next, file_turn, next, past_end, past_next, past_turn, rules, settling, shape, turn, value_next, value_turn, with_due, with_exact, with_file, with_joined, with_value}
+use Rattle.command_words.proofs.ClapOptions.{Fails, IsFlag, IsJoined, Kind, apart, fails_first, fails_then, flag, joined, kind_of_option, option_fails, unknown, using, using_exact}
+use Rattle.command_words.proofs.ClapStates.{IsFine, Says, due_fails, exact_added, file_added, fine_exact, fine_file, fine_joined, fine_value, first_exact, second_exact, second_value, settle_value, first_value, value_added, value_of}
+use Rattle.command_words.proofs.WordSpelling.{no_flag}
 
 -- ---- what the parts give, one after the other
 
--- an option that was given before isn't given again
+-- an option that was given before isn't given again, and neither is the flag
 abbrev pub gathered : Given → List Part → Option Given
 gathered g [] = Some g
 gathered g (File name ∷ parts) = gathered (file_added name g) parts
 gathered g (Chosen o value ∷ parts) = cond (is_some (value_of o g)) None (gathered (value_added o value g) parts)
+gathered g (Exact ∷ parts) = cond g.exact None (gathered (exact_added g) parts)
 
 abbrev pub gathers : Given → Option (List Part) → Option Given
 gathers g = option_and_then (gathered g)
@@ -36,6 +38,14 @@ after_value g o value (Some parts) none = rw none refl
 after_repeat : (g : Given) (o : OptionName) (value first : Text) (parts : Option (List Part)) → value_of o g ≡ Some first → gathers g (followed (Chosen o value) parts) ≡ None
 after_repeat g o value first None given = refl
 after_repeat g o value first (Some parts) given = rw given refl
+
+after_exact : (g : Given) (parts : Option (List Part)) → g.exact ≡ false → gathers g (followed Exact parts) ≡ gathers (exact_added g) parts
+after_exact g None none = refl
+after_exact g (Some parts) none = rw none refl
+
+after_exact_twice : (g : Given) (parts : Option (List Part)) → g.exact ≡ true → gathers g (followed Exact parts) ≡ None
+after_exact_twice g None given = refl
+after_exact_twice g (Some parts) given = rw given refl
 
 -- ---- the walk over the words
 
@@ -187,14 +197,30 @@ module _ (word : Text) (words : List Text) (here : IsUtf8 word) (later : AllByRe
           (goes_on from word words (at (with_joined o value h) idle) _ turns (k.goes h waiting)
           (rest None (with_joined o value h) (value_added o value g) idle (fine_joined h g o value fine none) tt))
 
-      any_option : Kind word → Agrees from (word ∷ words) (gathers g (option_parts (option_in word) (joined_value word) (parts_from None words) (λ o. parts_from (Some o) words)))
-      any_option (unknown k) = rw k.name (fails_now from word words (k.fails h waiting fine.skip))
-      any_option (joined o value k) = rw (k.name, k.gives) (chosen_now o value k (value_of o g) refl)
-      any_option (apart o k) = rw (k.name, k.gives) (goes_on from word words (due o h) _ (k.turns h waiting ∙ fine.settles) (k.goes h waiting) (rest (Some o) h g waiting fine ready))
+      flag_now : IsFlag word → (b : Bool) → g.exact ≡ b → Agrees from (word ∷ words) (gathers g (followed Exact (parts_from None words)))
+      flag_now k true given =
+          rw (after_exact_twice g (parts_from None words) given)
+          (fails_now from word words (rw (k.turns h waiting) (fails_then (settling h) _ (second_exact (settled rules h).rows g fine.says given))))
+      flag_now k false none =
+          let turns : turn from word ≡ [] = k.turns h waiting ∙ ap (λ kinds. or_else kinds (using_exact (settled rules h).rows)) fine.settles
+          ∙ first_exact (settled rules h).rows g fine.says none in
+          rw (after_exact g (parts_from None words) none)
+          (goes_on from word words (at (with_exact h) idle) _ turns (k.goes h waiting)
+          (rest None (with_exact h) (exact_added g) idle (fine_exact h g fine none) tt))
+
+      -- the parts of a word that is an option
+      option_or_flag : Option (List Part)
+      option_or_flag = cond (bytes_eq exact_word word) (followed Exact (parts_from None words)) (option_parts (option_in word) (joined_value word) (parts_from None words) (λ o. parts_from (Some o) words))
+
+      any_option : Kind word → Agrees from (word ∷ words) (gathers g option_or_flag)
+      any_option (unknown k) = rw (k.no_flag, k.name) (fails_now from word words (k.fails h waiting fine.skip))
+      any_option (joined o value k) = rw (k.no_flag, k.name, k.gives) (chosen_now o value k (value_of o g) refl)
+      any_option (apart o k) = rw (k.no_flag, k.name, k.gives) (goes_on from word words (due o h) _ (k.turns h waiting ∙ fine.settles) (k.goes h waiting) (rest (Some o) h g waiting fine ready))
+      any_option (flag k) = rw k.is (flag_now k g.exact refl)
 
       by_option : (b : Bool) → is_option word ≡ b → bytes_eq options_end word ≡ false → Agrees from (word ∷ words) (gathers g (parts_from None (word ∷ words)))
       by_option true e end = rw (end, e) (any_option (kind_of_option word here end e))
-      by_option false e end = rw (end, e) (file e)
+      by_option false e end = rw (end, no_flag word e, e) (file e)
 
       by_end : (b : Bool) → bytes_eq options_end word ≡ b → Agrees from (word ∷ words) (gathers g (parts_from None (word ∷ words)))
       by_end true end = rw end (subst (λ (x : Text). Agrees from (x ∷ words) (gathered g (map File words))) (is_end word end) ends)

@@ -11,5 +11,6 @@ pub mod LimitLaws
 mod LimitTurns
 mod ProofWords
 pub mod Requests
+mod TableWords
 mod WordExamples
 mod WordSpelling

@@ -14,7 +14,7 @@ use Rattle.command_words.specs.declared.command.SolveShow.{SolveShow}
 use Rattle.command_words.specs.declared.command.SolveMethod.{SolveMethod}
 use Rattle.command_words.specs.LimitLists.{AreLimits, limits_of}
 use Rattle.command_words.proofs.LimitLaws.{AreLimitsIfRead, are_limits}
-use Rattle.command_words.specs.Words.{Request, Check, CheckProof, Mps, Solve, Explain, Curve, Span, Make, CommandName, MpsName, CheckName, SolveName, ExplainName, CurveName, SpanName, MakeName, allows_all, check_of, check_proof_of, command_after, command_named, command_of, command_with, asked, curve_of, explain_of, files_in, make_of, mps_of, or_fault, solve_of, span_of, value_in}
+use Rattle.command_words.specs.Words.{Request, Check, CheckProof, Mps, Solve, Explain, Curve, Span, Make, Table, CommandName, MpsName, CheckName, SolveName, ExplainName, CurveName, SpanName, MakeName, TableName, allows_all, check_of, check_proof_of, command_after, command_named, command_of, command_with, asked, curve_of, explain_of, files_in, has_exact, make_of, mps_of, or_fault, solve_of, span_of, table_of, value_in}
 use Rattle.command_words.specs.WordParts.{Gap, Pivots, Places, Show, Method, Slack, Proof, Part, parts_of}
 use Rattle.command_words.specs.WordValues.{gap_for, gap_of, make_show_of, method_of, pivots_of, places_of, size_of, solve_show_of}
 
@@ -32,6 +32,7 @@ IsInRange (Ok (Explain file pivots places method)) = IsPlaces places
 IsInRange (Ok (Curve file region emission limits gap pivots places method)) = IsPlaces places × AreLimits limits
 IsInRange (Ok (Span file region technology year slack gap pivots places method)) = IsPlaces places
 IsInRange (Ok (Make size show)) = IsSize size
+IsInRange (Ok (Table file proof name exact gap places)) = IsPlaces places
 IsInRange (Err fault) = ⊤
 
 -- what a value of `--places` is
@@ -147,61 +148,76 @@ of_make size show = go (size_of size) (make_show_of show) (size-one size)
     go (Some n) None one = tt
     go (Some n) (Some s) one = one
 
-of_mps_files : (files : List (List ℕ)) (gap pivots value show method slack proof : Option (List ℕ)) → IsInRange (command_of MpsName files gap pivots value show method slack proof)
-of_mps_files [] gap pivots value show method slack proof = tt
-of_mps_files (file ∷ []) gap pivots value show method slack proof = of_mps file value
-of_mps_files (file ∷ other ∷ files) gap pivots value show method slack proof = tt
+of_table : (file proof name : List ℕ) (gap value : Option (List ℕ)) (exact : Bool) → IsInRange (table_of file proof name gap value exact)
+of_table file proof name gap value exact = go (gap_of gap) (places_of value) (places-one value)
+  where
+    go : (ppm found : Option ℕ) → IsOne found → IsInRange (or_fault BadNumber ppm (λ n. or_fault BadNumber found (λ decimals. Ok (Table file proof name exact n decimals))))
+    go None found one = tt
+    go (Some n) None one = tt
+    go (Some n) (Some places) one = one
 
-of_check_files : (files : List (List ℕ)) (gap pivots value show method slack proof : Option (List ℕ)) → IsInRange (command_of CheckName files gap pivots value show method slack proof)
-of_check_files [] gap pivots value show method slack None = tt
-of_check_files [] gap pivots value show method slack (Some proof) = tt
-of_check_files (file ∷ []) gap pivots value show method slack None = tt
-of_check_files (file ∷ []) gap pivots value show method slack (Some proof) = of_check_proof file proof gap value
-of_check_files (file ∷ plan ∷ []) gap pivots value show method slack None = of_check file plan None gap value
-of_check_files (file ∷ plan ∷ []) gap pivots value show method slack (Some proof) = tt
-of_check_files (file ∷ plan ∷ multipliers ∷ []) gap pivots value show method slack None = of_check file plan (Some multipliers) gap value
-of_check_files (file ∷ plan ∷ multipliers ∷ []) gap pivots value show method slack (Some proof) = tt
-of_check_files (file ∷ plan ∷ multipliers ∷ other ∷ files) gap pivots value show method slack None = tt
-of_check_files (file ∷ plan ∷ multipliers ∷ other ∷ files) gap pivots value show method slack (Some proof) = tt
+of_mps_files : (files : List (List ℕ)) (gap pivots value show method slack proof : Option (List ℕ)) (exact : Bool) → IsInRange (command_of MpsName files gap pivots value show method slack proof exact)
+of_mps_files [] gap pivots value show method slack proof exact = tt
+of_mps_files (file ∷ []) gap pivots value show method slack proof exact = of_mps file value
+of_mps_files (file ∷ other ∷ files) gap pivots value show method slack proof exact = tt
 
-of_solve_files : (files : List (List ℕ)) (gap pivots value show method slack proof : Option (List ℕ)) → IsInRange (command_of SolveName files gap pivots value show method slack proof)
-of_solve_files [] gap pivots value show method slack proof = tt
-of_solve_files (file ∷ []) gap pivots value show method slack proof = of_solve file gap pivots value show method
-of_solve_files (file ∷ other ∷ files) gap pivots value show method slack proof = tt
+of_check_files : (files : List (List ℕ)) (gap pivots value show method slack proof : Option (List ℕ)) (exact : Bool) → IsInRange (command_of CheckName files gap pivots value show method slack proof exact)
+of_check_files [] gap pivots value show method slack None exact = tt
+of_check_files [] gap pivots value show method slack (Some proof) exact = tt
+of_check_files (file ∷ []) gap pivots value show method slack None exact = tt
+of_check_files (file ∷ []) gap pivots value show method slack (Some proof) exact = of_check_proof file proof gap value
+of_check_files (file ∷ plan ∷ []) gap pivots value show method slack None exact = of_check file plan None gap value
+of_check_files (file ∷ plan ∷ []) gap pivots value show method slack (Some proof) exact = tt
+of_check_files (file ∷ plan ∷ multipliers ∷ []) gap pivots value show method slack None exact = of_check file plan (Some multipliers) gap value
+of_check_files (file ∷ plan ∷ multipliers ∷ []) gap pivots value show method slack (Some proof) exact = tt
+of_check_files (file ∷ plan ∷ multipliers ∷ other ∷ files) gap pivots value show method slack None exact = tt
+of_check_files (file ∷ plan ∷ multipliers ∷ other ∷ files) gap pivots value show method slack (Some proof) exact = tt
 
-of_explain_files : (files : List (List ℕ)) (gap pivots value show method slack proof : Option (List ℕ)) → IsInRange (command_of ExplainName files gap pivots value show method slack proof)
-of_explain_files [] gap pivots value show method slack proof = tt
-of_explain_files (file ∷ []) gap pivots value show method slack proof = of_explain file pivots value method
-of_explain_files (file ∷ other ∷ files) gap pivots value show method slack proof = tt
+of_solve_files : (files : List (List ℕ)) (gap pivots value show method slack proof : Option (List ℕ)) (exact : Bool) → IsInRange (command_of SolveName files gap pivots value show method slack proof exact)
+of_solve_files [] gap pivots value show method slack proof exact = tt
+of_solve_files (file ∷ []) gap pivots value show method slack proof exact = of_solve file gap pivots value show method
+of_solve_files (file ∷ other ∷ files) gap pivots value show method slack proof exact = tt
 
-of_curve_files : (files : List (List ℕ)) (gap pivots value show method slack proof : Option (List ℕ)) → IsInRange (command_of CurveName files gap pivots value show method slack proof)
-of_curve_files [] gap pivots value show method slack proof = tt
-of_curve_files (file ∷ []) gap pivots value show method slack proof = tt
-of_curve_files (file ∷ region ∷ []) gap pivots value show method slack proof = tt
-of_curve_files (file ∷ region ∷ emission ∷ []) gap pivots value show method slack proof = tt
-of_curve_files (file ∷ region ∷ emission ∷ limits ∷ []) gap pivots value show method slack proof = of_curve file region emission limits gap pivots value method
-of_curve_files (file ∷ region ∷ emission ∷ limits ∷ other ∷ files) gap pivots value show method slack proof = tt
+of_explain_files : (files : List (List ℕ)) (gap pivots value show method slack proof : Option (List ℕ)) (exact : Bool) → IsInRange (command_of ExplainName files gap pivots value show method slack proof exact)
+of_explain_files [] gap pivots value show method slack proof exact = tt
+of_explain_files (file ∷ []) gap pivots value show method slack proof exact = of_explain file pivots value method
+of_explain_files (file ∷ other ∷ files) gap pivots value show method slack proof exact = tt
 
-of_span_files : (files : List (List ℕ)) (gap pivots value show method slack proof : Option (List ℕ)) → IsInRange (command_of SpanName files gap pivots value show method slack proof)
-of_span_files [] gap pivots value show method slack proof = tt
-of_span_files (file ∷ []) gap pivots value show method slack proof = tt
-of_span_files (file ∷ region ∷ []) gap pivots value show method slack proof = tt
-of_span_files (file ∷ region ∷ technology ∷ []) gap pivots value show method slack proof = tt
-of_span_files (file ∷ region ∷ technology ∷ year ∷ []) gap pivots value show method slack proof = of_span file region technology year gap pivots value slack method
-of_span_files (file ∷ region ∷ technology ∷ year ∷ other ∷ files) gap pivots value show method slack proof = tt
+of_curve_files : (files : List (List ℕ)) (gap pivots value show method slack proof : Option (List ℕ)) (exact : Bool) → IsInRange (command_of CurveName files gap pivots value show method slack proof exact)
+of_curve_files [] gap pivots value show method slack proof exact = tt
+of_curve_files (file ∷ []) gap pivots value show method slack proof exact = tt
+of_curve_files (file ∷ region ∷ []) gap pivots value show method slack proof exact = tt
+of_curve_files (file ∷ region ∷ emission ∷ []) gap pivots value show method slack proof exact = tt
+of_curve_files (file ∷ region ∷ emission ∷ limits ∷ []) gap pivots value show method slack proof exact = of_curve file region emission limits gap pivots value method
+of_curve_files (file ∷ region ∷ emission ∷ limits ∷ other ∷ files) gap pivots value show method slack proof exact = tt
 
-of_make_files : (files : List (List ℕ)) (gap pivots value show method slack proof : Option (List ℕ)) → IsInRange (command_of MakeName files gap pivots value show method slack proof)
-of_make_files [] gap pivots value show method slack proof = tt
-of_make_files (size ∷ []) gap pivots value show method slack proof = of_make size show
-of_make_files (size ∷ other ∷ files) gap pivots value show method slack proof = tt
+of_span_files : (files : List (List ℕ)) (gap pivots value show method slack proof : Option (List ℕ)) (exact : Bool) → IsInRange (command_of SpanName files gap pivots value show method slack proof exact)
+of_span_files [] gap pivots value show method slack proof exact = tt
+of_span_files (file ∷ []) gap pivots value show method slack proof exact = tt
+of_span_files (file ∷ region ∷ []) gap pivots value show method slack proof exact = tt
+of_span_files (file ∷ region ∷ technology ∷ []) gap pivots value show method slack proof exact = tt
+of_span_files (file ∷ region ∷ technology ∷ year ∷ []) gap pivots value show method slack proof exact = of_span file region technology year gap pivots value slack method
+of_span_files (file ∷ region ∷ technology ∷ year ∷ other ∷ files) gap pivots value show method slack proof exact = tt
 
-of_parts : (name : CommandName) → ((files : List (List ℕ)) (gap pivots value show method slack proof : Option (List ℕ)) → IsInRange (command_of name files gap pivots value show method slack proof))
+of_make_files : (files : List (List ℕ)) (gap pivots value show method slack proof : Option (List ℕ)) (exact : Bool) → IsInRange (command_of MakeName files gap pivots value show method slack proof exact)
+of_make_files [] gap pivots value show method slack proof exact = tt
+of_make_files (size ∷ []) gap pivots value show method slack proof exact = of_make size show
+of_make_files (size ∷ other ∷ files) gap pivots value show method slack proof exact = tt
+
+of_table_files : (files : List (List ℕ)) (gap pivots value show method slack proof : Option (List ℕ)) (exact : Bool) → IsInRange (command_of TableName files gap pivots value show method slack proof exact)
+of_table_files [] gap pivots value show method slack proof exact = tt
+of_table_files (file ∷ []) gap pivots value show method slack proof exact = tt
+of_table_files (file ∷ proved ∷ []) gap pivots value show method slack proof exact = tt
+of_table_files (file ∷ proved ∷ name ∷ []) gap pivots value show method slack proof exact = of_table file proved name gap value exact
+of_table_files (file ∷ proved ∷ name ∷ other ∷ files) gap pivots value show method slack proof exact = tt
+
+of_parts : (name : CommandName) → ((files : List (List ℕ)) (gap pivots value show method slack proof : Option (List ℕ)) (exact : Bool) → IsInRange (command_of name files gap pivots value show method slack proof exact))
     → (parts : Option (List Part)) → IsInRange (command_with name parts)
 of_parts name of_files None = tt
 of_parts name of_files (Some parts) = go (allows_all name parts)
   where
-    go : (b : Bool) → IsInRange (cond b (command_of name (files_in parts) (value_in Gap parts) (value_in Pivots parts) (value_in Places parts) (value_in Show parts) (value_in Method parts) (value_in Slack parts) (value_in Proof parts)) (Err BadForm))
-    go true = of_files (files_in parts) (value_in Gap parts) (value_in Pivots parts) (value_in Places parts) (value_in Show parts) (value_in Method parts) (value_in Slack parts) (value_in Proof parts)
+    go : (b : Bool) → IsInRange (cond b (command_of name (files_in parts) (value_in Gap parts) (value_in Pivots parts) (value_in Places parts) (value_in Show parts) (value_in Method parts) (value_in Slack parts) (value_in Proof parts) (has_exact parts)) (Err BadForm))
+    go true = of_files (files_in parts) (value_in Gap parts) (value_in Pivots parts) (value_in Places parts) (value_in Show parts) (value_in Method parts) (value_in Slack parts) (value_in Proof parts) (has_exact parts)
     go false = tt
 
 of_command : (command : Option CommandName) (words : List (List ℕ)) → IsInRange (command_after command words)
@@ -213,6 +229,7 @@ of_command (Some ExplainName) words = of_parts ExplainName of_explain_files (par
 of_command (Some CurveName) words = of_parts CurveName of_curve_files (parts_of words)
 of_command (Some SpanName) words = of_parts SpanName of_span_files (parts_of words)
 of_command (Some MakeName) words = of_parts MakeName of_make_files (parts_of words)
+of_command (Some TableName) words = of_parts TableName of_table_files (parts_of words)
 
 in_range : (words : List (List ℕ)) → IsInRange (asked words)
 in_range [] = tt
@@ -240,6 +257,9 @@ curve_places words file region emission limits gap pivots places method e = subs
 pub span_places : (words : List (List ℕ)) (file region technology year : List ℕ) (slack gap pivots places : ℕ) (method : SolveMethod)
     → asked words ≡ Ok (Span file region technology year slack gap pivots places method) → IsPlaces places
 span_places words file region technology year slack gap pivots places method e = subst IsInRange e (in_range words)
+
+pub table_places : (words : List (List ℕ)) (file proof name : List ℕ) (exact : Bool) (gap places : ℕ) → asked words ≡ Ok (Table file proof name exact gap places) → IsPlaces places
+table_places words file proof name exact gap places e = subst IsInRange e (in_range words)
 
 pub make_size : (words : List (List ℕ)) (size : ℕ) (show : MakeShow) → asked words ≡ Ok (Make size show) → (3 ≤ size) × (size ≤ 122)
 make_size words size show e = subst IsInRange e (in_range words)

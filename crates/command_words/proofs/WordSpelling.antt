@@ -5,7 +5,7 @@ use Rattle.std.specs.List.{list_all, list_any, flat_map, before_first, after_fir
 use Rattle.std.specs.Str.{bytes_eq}
 use Rattle.std.proofs.lemmas.Bool.Decides.{Decides-eqb}
 use Rattle.std.proofs.lemmas.Slice.Eq.{bytes_eq-Decides}
-use Rattle.command_words.specs.WordParts.{HasSpelledParts, OptionName, Gap, Pivots, Places, Show, Method, Slack, Proof, Part, File, Chosen, Spelling, Name, Apart, Joined, Spells, end_files, end_words, followed, is_equals, is_option, is_spelling, joined_value, option_in, option_named, option_parts, option_word, options_end, part_of, parts_from, parts_of, words_of}
+use Rattle.command_words.specs.WordParts.{HasSpelledParts, OptionName, Gap, Pivots, Places, Show, Method, Slack, Proof, Part, File, Chosen, Exact, Spelling, Name, Apart, Joined, Flag, Spells, end_files, end_words, exact_word, followed, is_equals, is_option, is_spelling, joined_value, option_in, option_named, option_parts, option_word, options_end, part_of, parts_from, parts_of, words_of}
 
 -- ---- an option and its value in one word
 
@@ -24,7 +24,7 @@ split_equals (x ∷ xs) e = go (x == 61) refl e (split_equals xs)
         let two : 1 + n + 1 ≡ suc (n + 1) = omega arith in
         rw is (ap (λ ys. x ∷ ys) (rest e) ∙ (λ i. take (sym one i) (x ∷ xs) ++ (61 ∷ drop (sym two i) (x ∷ xs))))
 
-no_equals : (word : List ℕ) → list_any is_equals word ≡ false → before_first is_equals word ≡ word
+pub no_equals : (word : List ℕ) → list_any is_equals word ≡ false → before_first is_equals word ≡ word
 no_equals [] e = refl
 no_equals (x ∷ xs) e = go (x == 61) refl e (no_equals xs)
   where
@@ -108,8 +108,16 @@ no_end word e = go (bytes_eq options_end word) refl
     go true is = let end : options_end ≡ word = (bytes_eq-Decides options_end word).0 is in absurd (true≢false (ap is_option end ∙ e))
     go false is = refl
 
+-- and none is the flag
+pub no_flag : (word : List ℕ) → is_option word ≡ false → bytes_eq exact_word word ≡ false
+no_flag word e = go (bytes_eq exact_word word) refl
+  where
+    go : (b : Bool) → bytes_eq exact_word word ≡ b → b ≡ false
+    go true is = let flag : exact_word ≡ word = (bytes_eq-Decides exact_word word).0 is in absurd (true≢false (ap is_option flag ∙ e))
+    go false is = refl
+
 next_part : (s : Spelling) (words : List (List ℕ)) → is_spelling s ≡ true → parts_from None (words_of s ++ words) ≡ followed (part_of s) (parts_from None words)
-next_part (Name file) words right = let e = not_true (is_option file) right in rw (no_end file e, e) refl
+next_part (Name file) words right = let e = not_true (is_option file) right in rw (no_end file e, no_flag file e, e) refl
 next_part (Apart Gap value) words right = rw (not_true (is_option value) right) refl
 next_part (Apart Pivots value) words right = rw (not_true (is_option value) right) refl
 next_part (Apart Places value) words right = rw (not_true (is_option value) right) refl
@@ -124,6 +132,7 @@ next_part (Joined Show value) words right = refl
 next_part (Joined Method value) words right = refl
 next_part (Joined Slack value) words right = refl
 next_part (Joined Proof value) words right = refl
+next_part Flag words right = refl
 
 all_parts : (spellings : List Spelling) (files : Option (List (List ℕ))) → list_all is_spelling spellings ≡ true
     → parts_from None (flat_map words_of spellings ++ end_words files) ≡ Some (map part_of spellings ++ end_files files)
@@ -200,9 +209,13 @@ module _ (word : List ℕ) (words : List (List ℕ)) (rest : AreSpelled words) w
       whole : option_word o ≡ word
       whole = named_word (before_first is_equals word) o named ∙ no_equals word (lacks (list_any is_equals word) refl gives)
 
-  -- the parts of a word that isn't '--'
+  -- the parts of a word that is neither '--' nor the flag
   abbrev others : Bool → Option (List Part)
   others b = cond b (option_parts (option_in word) (joined_value word) (parts_from None words) (λ o. parts_from (Some o) words)) (followed (File word) (parts_from None words))
+
+  -- the parts of a word that isn't '--'
+  abbrev flag_or_others : Bool → Option (List Part)
+  flag_or_others b = cond b (followed Exact (parts_from None words)) (others (is_option word))
 
   part_spelled : (parts : List Part) → parts_from None (word ∷ words) ≡ Some parts → Spells (word ∷ words) parts
   part_spelled parts e = by_end (bytes_eq options_end word) refl e
@@ -211,12 +224,18 @@ module _ (word : List ℕ) (words : List (List ℕ)) (rest : AreSpelled words) w
       by_option true is e = option_spelled (option_in word) (joined_value word) parts refl refl e
       by_option false is e = after (Name word) parts (ap not is) e
 
-      by_end : (b : Bool) → bytes_eq options_end word ≡ b → cond b (Some (map File words)) (others (is_option word)) ≡ Some parts → Spells (word ∷ words) parts
+      by_flag : (b : Bool) → bytes_eq exact_word word ≡ b → flag_or_others b ≡ Some parts → Spells (word ∷ words) parts
+      by_flag true is e =
+          let flag : exact_word ≡ word = (bytes_eq-Decides exact_word word).0 is in
+          subst (λ (w : List ℕ). Spells (w ∷ words) parts) flag (after Flag parts refl e)
+      by_flag false is e = by_option (is_option word) refl e
+
+      by_end : (b : Bool) → bytes_eq options_end word ≡ b → cond b (Some (map File words)) (flag_or_others (bytes_eq exact_word word)) ≡ Some parts → Spells (word ∷ words) parts
       by_end true is e =
           let end : options_end ≡ word = (bytes_eq-Decides options_end word).0 is in
           let files : map File words ≡ parts = cc in
           record { spellings = []; files = Some words; right = refl; spelled = ap (λ w. w ∷ words) (sym end); said = sym files }
-      by_end false is e = by_option (is_option word) refl e
+      by_end false is e = by_flag (bytes_eq exact_word word) refl e
 
 are_spelled : (words : List (List ℕ)) → AreSpelled words
 are_spelled [] None parts e = let none : [] ≡ parts = cc in record { spellings = []; files = None; right = refl; spelled = refl; said = sym none }

@@ -5,7 +5,7 @@ use Rattle.command_words.specs.declared.command.Command.TheVariants as code
 use Rattle.command_words.specs.declared.command.CommandName.{CommandName as CodeName}
 use Rattle.command_words.specs.declared.command.CommandName.TheVariants as names
 use Rattle.command_words.specs.declared.fault.WordFault.{WordFault}
-use Rattle.command_words.specs.Words.{Request, Mps, Check, CheckProof, Solve, Explain, Curve, Span, Make, CommandName, MpsName, CheckName, SolveName, ExplainName, CurveName, SpanName, MakeName}
+use Rattle.command_words.specs.Words.{Request, Mps, Check, CheckProof, Solve, Explain, Curve, Span, Make, Table, CommandName, MpsName, CheckName, SolveName, ExplainName, CurveName, SpanName, MakeName, TableName}
 
 -- the request of a command, without where the names of its files lie in memory
 abbrev pub request_of : Command → Request
@@ -17,6 +17,7 @@ request_of (code.Explain file pivots places method) = Explain file.now pivots pl
 request_of (code.Curve file region emission limits gap pivots places method) = Curve file.now region.now emission.now limits.items gap pivots places method
 request_of (code.Span file region technology year slack gap pivots places method) = Span file.now region.now technology.now year.now slack gap pivots places method
 request_of (code.Make size show) = Make size show
+request_of (code.Table file proof name exact gap places) = Table file.now proof.now name.now exact gap places
 
 -- the same where the words may be at fault
 abbrev pub request_of_result : Result Command WordFault → Result Request WordFault
@@ -32,3 +33,4 @@ name_of names.Explain = ExplainName
 name_of names.Curve = CurveName
 name_of names.Span = SpanName
 name_of names.Make = MakeName
+name_of names.Table = TableName

@@ -1,4 +1,4 @@
--- The form of the words after a command: files, and options with their values (long options as in the GNU coding standards).
+-- The form of the words after a command: files, options with their values, and a flag without one (long options as in the GNU coding standards).
 use Rattle.std.specs.Prelude.{◌≡◌, ◌↔◌, ℕ, Bool, true, false, not, ◌==◌, List, [], ◌∷◌, ◌++◌, map, codes, Option, Some, None, option_map, if◌then◌else◌}
 use Rattle.std.specs.List.{list_all, list_any, flat_map, before_first, after_first}
 use Rattle.std.specs.Str.{bytes_eq}
@@ -15,7 +15,7 @@ is_option (b ∷ c ∷ bytes) = b == 45
 abbrev pub options_end : List ℕ
 options_end = codes "--"
 
--- the options of all commands
+-- the options of all commands that have a value
 pub data OptionName : Type 0 where
   Gap : OptionName
   Pivots : OptionName
@@ -47,6 +47,10 @@ option_named word =
     else if bytes_eq (option_word Proof) word then Some Proof
     else None
 
+-- the word of the flag, which has no value
+abbrev pub exact_word : List ℕ
+exact_word = codes "--exact"
+
 -- the sign '=', which may join an option and its value
 abbrev pub is_equals : ℕ → Bool
 is_equals b = b == 61
@@ -61,10 +65,11 @@ joined_value word = if list_any is_equals word then Some (after_first is_equals 
 
 -- ---- parts
 
--- a part of what the words say: a file, or an option with its value
+-- a part of what the words say: a file, an option with its value, or the flag
 pub data Part : Type 0 where
   File : List ℕ → Part
   Chosen : OptionName → List ℕ → Part
+  Exact : Part
 
 -- this part, and then those
 abbrev pub followed : Part → Option (List Part) → Option (List Part)
@@ -82,39 +87,44 @@ parts_from None [] = Some []
 parts_from (Some o) [] = None
 parts_from None (word ∷ words) =
     if bytes_eq options_end word then Some (map File words)
+    else if bytes_eq exact_word word then followed Exact (parts_from None words)
     else if is_option word then option_parts (option_in word) (joined_value word) (parts_from None words) (λ o. parts_from (Some o) words)
     else followed (File word) (parts_from None words)
 parts_from (Some o) (word ∷ words) = if is_option word then None else followed (Chosen o word) (parts_from None words)
 
--- The parts that the words after a command say, where each option before '--' is a known one and has its value.
+-- The parts that the words after a command say, where each option before '--' is a known one and has its value, and the flag has none.
 abbrev pub parts_of : List (List ℕ) → Option (List Part)
 parts_of words = parts_from None words
 
 -- ---- the same by how parts are spelled
 
--- a part before '--' as it is spelled: a file's name, an option's word and its value, or the two joined by '='
+-- a part before '--' as it is spelled: a file's name, an option's word and its value, the two joined by '=', or the flag's word
 pub data Spelling : Type 0 where
   Name : List ℕ → Spelling
   Apart : OptionName → List ℕ → Spelling
   Joined : OptionName → List ℕ → Spelling
+  Flag : Spelling
 
 -- the words of a part
 abbrev pub words_of : Spelling → List (List ℕ)
 words_of (Name file) = file ∷ []
 words_of (Apart o value) = option_word o ∷ value ∷ []
 words_of (Joined o value) = (option_word o ++ codes "=" ++ value) ∷ []
+words_of Flag = exact_word ∷ []
 
 -- what it says
 abbrev pub part_of : Spelling → Part
 part_of (Name file) = File file
 part_of (Apart o value) = Chosen o value
 part_of (Joined o value) = Chosen o value
+part_of Flag = Exact
 
 -- no file's name, and no value in a word of its own, is an option's word
 abbrev pub is_spelling : Spelling → Bool
 is_spelling (Name file) = not (is_option file)
 is_spelling (Apart o value) = not (is_option value)
 is_spelling (Joined o value) = true
+is_spelling Flag = true
 
 -- '--' and the files after it, or nothing
 abbrev pub end_words : Option (List (List ℕ)) → List (List ℕ)

@@ -1,16 +1,16 @@
 -- What the words of the command line ask for, of all commands with all their options.
-use Rattle.std.specs.Prelude.{ℕ, ℤ, Bool, true, false, not, ◌&&◌, nat_le, List, [], ◌∷◌, length, codes, Option, Some, None, is_some, Result, Ok, Err, slice_get, if◌then◌else◌}
+use Rattle.std.specs.Prelude.{ℕ, ℤ, Bool, true, false, not, ◌&&◌, nat_le, List, [], ◌∷◌, length, suc, codes, Option, Some, None, is_some, Result, Ok, Err, slice_get, if◌then◌else◌}
 use Rattle.std.specs.Str.{bytes_eq}
 use Rattle.command_words.specs.declared.fault.WordFault.{WordFault}
 use Rattle.command_words.specs.declared.fault.WordFault.TheVariants.{NoCommand, BadCommand, BadForm, BadNumber, BadShow, GapAlone}
 use Rattle.command_words.specs.declared.command.SolveShow.{SolveShow}
 use Rattle.command_words.specs.declared.command.MakeShow.{MakeShow}
 use Rattle.command_words.specs.declared.command.SolveMethod.{SolveMethod}
-use Rattle.command_words.specs.WordParts.{OptionName, Gap, Pivots, Places, Show, Method, Slack, Proof, Part, File, Chosen, parts_of}
+use Rattle.command_words.specs.WordParts.{OptionName, Gap, Pivots, Places, Show, Method, Slack, Proof, Part, File, Chosen, Exact, parts_of}
 use Rattle.command_words.specs.LimitLists.{limits_of}
 use Rattle.command_words.specs.WordValues.{gap_for, gap_of, pivots_of, places_of, size_of, solve_show_of, make_show_of, method_of}
 
--- a command with its files, the names of members, and the values of its options: limits in billionths, gaps and slacks in millionths, the most pivots, and the decimal places of written factors
+-- a command with its files, the names of members, the name of a table, and the values of its options: limits in billionths, gaps and slacks in millionths, the most pivots, and the decimal places of written factors; and for a table, whether its numbers are fractions
 pub data Request : Type 0 where
   Mps : (file : List ℕ) (places : ℕ) → Request
   Check : (file plan : List ℕ) (multipliers : Option (List ℕ)) (gap places : ℕ) → Request
@@ -20,6 +20,7 @@ pub data Request : Type 0 where
   Curve : (file region emission : List ℕ) (limits : List ℤ) (gap pivots places : ℕ) (method : SolveMethod) → Request
   Span : (file region technology year : List ℕ) (slack gap pivots places : ℕ) (method : SolveMethod) → Request
   Make : (size : ℕ) (show : MakeShow) → Request
+  Table : (file proof name : List ℕ) (exact : Bool) (gap places : ℕ) → Request
 
 -- ---- commands and their options
 
@@ -32,6 +33,7 @@ pub data CommandName : Type 0 where
   CurveName : CommandName
   SpanName : CommandName
   MakeName : CommandName
+  TableName : CommandName
 
 -- the command of this word, if it is one's
 abbrev pub command_named : List ℕ → Option CommandName
@@ -43,6 +45,7 @@ command_named word =
     else if bytes_eq word (codes "curve") then Some CurveName
     else if bytes_eq word (codes "span") then Some SpanName
     else if bytes_eq word (codes "make") then Some MakeName
+    else if bytes_eq word (codes "table") then Some TableName
     else None
 
 -- the options that a command has, whatever the value of `--method`
@@ -67,6 +70,8 @@ has_option SpanName Places = true
 has_option SpanName Method = true
 has_option SpanName Slack = true
 has_option MakeName Show = true
+has_option TableName Gap = true
+has_option TableName Places = true
 has_option command o = false
 
 -- the value of `--method` is `rounded`
@@ -81,13 +86,19 @@ takes CurveName method Gap = asks_for_rounded method
 takes SpanName method Gap = asks_for_rounded method
 takes command method o = has_option command o
 
+-- the commands that take the flag `--exact`
+abbrev pub takes_exact : CommandName → Bool
+takes_exact TableName = true
+takes_exact command = false
+
 -- ---- parts
 
--- the words that aren't options: files, names of members, limits, and the size after `make`
+-- the words that aren't options: files, names of members and of a table, limits, and the size after `make`
 abbrev pub files_in : List Part → List (List ℕ)
 files_in [] = []
 files_in (File file ∷ parts) = file ∷ files_in parts
 files_in (Chosen o value ∷ parts) = files_in parts
+files_in (Exact ∷ parts) = files_in parts
 
 -- the option is this one
 abbrev pub is_same : OptionName → OptionName → Bool
@@ -105,17 +116,33 @@ abbrev pub values_in : OptionName → List Part → List (List ℕ)
 values_in o [] = []
 values_in o (File file ∷ parts) = values_in o parts
 values_in o (Chosen other value ∷ parts) = if is_same o other then value ∷ values_in o parts else values_in o parts
+values_in o (Exact ∷ parts) = values_in o parts
 
 -- the value that is given for an option, if one is
 abbrev pub value_in : OptionName → List Part → Option (List ℕ)
 value_in o parts = slice_get (values_in o parts) 0
 
+-- how often the flag is given
+abbrev pub times_exact : List Part → ℕ
+times_exact [] = 0
+times_exact (File file ∷ parts) = times_exact parts
+times_exact (Chosen o value ∷ parts) = times_exact parts
+times_exact (Exact ∷ parts) = suc (times_exact parts)
+
+-- the flag is given
+abbrev pub has_exact : List Part → Bool
+has_exact parts = nat_le 1 (times_exact parts)
+
 -- an option that the command takes is given at most once, and another one isn't given
 abbrev pub allows : CommandName → List Part → OptionName → Bool
 allows command parts o = nat_le (length (values_in o parts)) (if takes command (value_in Method parts) o then 1 else 0)
 
+-- the same of the flag
+abbrev pub allows_exact : CommandName → List Part → Bool
+allows_exact command parts = nat_le (times_exact parts) (if takes_exact command then 1 else 0)
+
 abbrev pub allows_all : CommandName → List Part → Bool
-allows_all command parts = allows command parts Gap && allows command parts Pivots && allows command parts Places && allows command parts Show && allows command parts Method && allows command parts Slack && allows command parts Proof
+allows_all command parts = allows command parts Gap && allows command parts Pivots && allows command parts Places && allows command parts Show && allows command parts Method && allows command parts Slack && allows command parts Proof && allows_exact command parts
 
 -- ---- commands with their values
 
@@ -177,26 +204,33 @@ make_of size show =
     or_fault BadNumber (size_of size) (λ n.
     or_fault BadShow (make_show_of show) (λ shown. Ok (Make n shown)))
 
--- the command with these files and these values of `--gap`, `--pivots`, `--places`, `--show`, `--method`, `--slack` and `--proof`: a file that is missing or
--- too many is a fault of form, and so is a plan beside a proof
-abbrev pub command_of : CommandName → List (List ℕ) → (gap pivots places show method slack proof : Option (List ℕ)) → Result Request WordFault
-command_of MpsName (file ∷ []) gap pivots places show method slack proof = mps_of file places
-command_of CheckName (file ∷ []) gap pivots places show method slack (Some proof) = check_proof_of file proof gap places
-command_of CheckName (file ∷ plan ∷ []) gap pivots places show method slack None = check_of file plan None gap places
-command_of CheckName (file ∷ plan ∷ multipliers ∷ []) gap pivots places show method slack None = check_of file plan (Some multipliers) gap places
-command_of SolveName (file ∷ []) gap pivots places show method slack proof = solve_of file gap pivots places show method
-command_of ExplainName (file ∷ []) gap pivots places show method slack proof = explain_of file pivots places method
-command_of CurveName (file ∷ region ∷ emission ∷ limits ∷ []) gap pivots places show method slack proof = curve_of file region emission limits gap pivots places method
-command_of SpanName (file ∷ region ∷ technology ∷ year ∷ []) gap pivots places show method slack proof = span_of file region technology year gap pivots places slack method
-command_of MakeName (size ∷ []) gap pivots places show method slack proof = make_of size show
-command_of command files gap pivots places show method slack proof = Err BadForm
+-- the plan of a table is checked as that of `check`, with the same gap
+abbrev pub table_of : (file proof name : List ℕ) (gap places : Option (List ℕ)) (exact : Bool) → Result Request WordFault
+table_of file proof name gap places exact =
+    or_fault BadNumber (gap_of gap) (λ ppm.
+    or_fault BadNumber (places_of places) (λ decimals. Ok (Table file proof name exact ppm decimals)))
+
+-- the command with these files and these values of `--gap`, `--pivots`, `--places`, `--show`, `--method`, `--slack` and `--proof`, with or without `--exact`: a file that
+-- is missing or too many is a fault of form, and so is a plan beside a proof
+abbrev pub command_of : CommandName → List (List ℕ) → (gap pivots places show method slack proof : Option (List ℕ)) (exact : Bool) → Result Request WordFault
+command_of MpsName (file ∷ []) gap pivots places show method slack proof exact = mps_of file places
+command_of CheckName (file ∷ []) gap pivots places show method slack (Some proof) exact = check_proof_of file proof gap places
+command_of CheckName (file ∷ plan ∷ []) gap pivots places show method slack None exact = check_of file plan None gap places
+command_of CheckName (file ∷ plan ∷ multipliers ∷ []) gap pivots places show method slack None exact = check_of file plan (Some multipliers) gap places
+command_of SolveName (file ∷ []) gap pivots places show method slack proof exact = solve_of file gap pivots places show method
+command_of ExplainName (file ∷ []) gap pivots places show method slack proof exact = explain_of file pivots places method
+command_of CurveName (file ∷ region ∷ emission ∷ limits ∷ []) gap pivots places show method slack proof exact = curve_of file region emission limits gap pivots places method
+command_of SpanName (file ∷ region ∷ technology ∷ year ∷ []) gap pivots places show method slack proof exact = span_of file region technology year gap pivots places slack method
+command_of MakeName (size ∷ []) gap pivots places show method slack proof exact = make_of size show
+command_of TableName (file ∷ proved ∷ name ∷ []) gap pivots places show method slack proof exact = table_of file proved name gap places exact
+command_of command files gap pivots places show method slack proof exact = Err BadForm
 
 -- the command with the parts of the words after it
 abbrev pub command_with : CommandName → Option (List Part) → Result Request WordFault
 command_with command None = Err BadForm
 command_with command (Some parts) =
     if allows_all command parts
-    then command_of command (files_in parts) (value_in Gap parts) (value_in Pivots parts) (value_in Places parts) (value_in Show parts) (value_in Method parts) (value_in Slack parts) (value_in Proof parts)
+    then command_of command (files_in parts) (value_in Gap parts) (value_in Pivots parts) (value_in Places parts) (value_in Show parts) (value_in Method parts) (value_in Slack parts) (value_in Proof parts) (has_exact parts)
     else Err BadForm
 
 -- the command of a first word, with the words after it
@@ -220,3 +254,4 @@ names_of (Explain file pivots places method) = file ∷ []
 names_of (Curve file region emission limits gap pivots places method) = file ∷ []
 names_of (Span file region technology year slack gap pivots places method) = file ∷ []
 names_of (Make size show) = []
+names_of (Table file proof name exact gap places) = file ∷ proof ∷ []

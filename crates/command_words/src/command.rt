@@ -2,9 +2,9 @@
 ghost use Rattle.std.specs.Prelude.{◌≡◌, ◌||◌, IfOk, is_some, map, not, option_map};
 ghost use Rattle.std.specs.String.{string_bytes};
 ghost use Rattle.command_words.specs.Words.{command_named, asked};
-ghost use Rattle.command_words.specs.Words.{MpsName, CheckName, SolveName, ExplainName, CurveName, SpanName, MakeName, asks_for_rounded, check_of, check_proof_of, curve_of, mps_of, span_of};
+ghost use Rattle.command_words.specs.Words.{MpsName, CheckName, SolveName, ExplainName, CurveName, SpanName, MakeName, TableName, asks_for_rounded, check_of, check_proof_of, curve_of, mps_of, span_of, table_of};
 ghost use Rattle.command_words.specs.Commands.{request_of_result, name_of};
-ghost use Rattle.command_words.specs.WordReading.{given_of, command_by, command_given, is_allowed};
+ghost use Rattle.command_words.specs.WordReading.{given_of, command_by, command_given, has_own_options, is_allowed};
 
 use crate::fault::WordFault;
 use crate::limits::limits_of;
@@ -90,6 +90,16 @@ pub enum Command<'a> {
         size: u32,
         show: MakeShow,
     },
+    /// `table FILE PROOF NAME [--exact] [--gap PPM] [--places P]`: writes a table of the plan of a proof that `check` accepts. Its
+    /// numbers are rounded to six decimal places, or fractions where they are to be exact.
+    Table {
+        file: &'a str,
+        proof: &'a str,
+        name: &'a str,
+        exact: bool,
+        gap: u32,
+        places: u8,
+    },
 }
 
 /// What `solve` writes.
@@ -124,11 +134,12 @@ enum CommandName {
     Curve,
     Span,
     Make,
+    Table,
 }
 
 /// Reads the words. The first fault is answered, in this order: `NoCommand` where there
 /// is no word; `BadCommand` where the first is no command; `BadForm` where an option is unknown, is
-/// none of the command's, is repeated or has no value, `curve` or `span` has a gap without the rounded method, or a file or another word is missing or too many;
+/// none of the command's, is repeated or has no value, the flag `--exact` has one or is repeated, `curve` or `span` has a gap without the rounded method, or a file or another word is missing or too many;
 /// `BadNumber` where a number, or a list of limits, isn't one of the digits and the range that its place allows; `BadShow` where the value
 /// of `--show`, and then that of `--method`, is none of the command's; `GapAlone` where `check` has a gap and no multipliers. An
 /// option and its value are two words, or one with `=` between. After `--` no word is an option.
@@ -169,6 +180,8 @@ fn command_named(word: &str) -> Option<CommandName>
         Some(CommandName::Span)
     } else if word == "make" {
         Some(CommandName::Make)
+    } else if word == "table" {
+        Some(CommandName::Table)
     } else {
         None
     }
@@ -208,12 +221,20 @@ fn command_given<'a>(
         CommandName::Curve => curve_given(alloc, given),
         CommandName::Span => Ok(span_given(given)),
         CommandName::Make => Ok(make_given(given)),
+        CommandName::Table => Ok(table_given(given)),
     }
 }
 
-// Each option that is given is one of the command's.
+// Each option that is given is one of the command's, and so is the flag.
 fn is_allowed(name: CommandName, given: &Given<'_>) -> bool
     ensures { result ≡ is_allowed (name_of name) (given_of given.now) }
+{
+    has_own_options(name, given) && (!given.exact || name == CommandName::Table)
+}
+
+// Each option that is given is one of the command's.
+fn has_own_options(name: CommandName, given: &Given<'_>) -> bool
+    ensures { result ≡ has_own_options (name_of name) (given_of given.now) }
 {
     match name {
         CommandName::Mps => {
@@ -250,6 +271,13 @@ fn is_allowed(name: CommandName, given: &Given<'_>) -> bool
             given.gap.is_none()
                 && given.pivots.is_none()
                 && given.places.is_none()
+                && given.method.is_none()
+                && given.slack.is_none()
+                && given.proof.is_none()
+        }
+        CommandName::Table => {
+            given.pivots.is_none()
+                && given.show.is_none()
                 && given.method.is_none()
                 && given.slack.is_none()
                 && given.proof.is_none()
@@ -502,4 +530,37 @@ fn make_given<'a>(given: &Given<'a>) -> Result<Command<'a>, WordFault>
         return Err(WordFault::BadShow);
     };
     Ok(Command::Make { size, show })
+}
+
+fn table_given<'a>(given: &Given<'a>) -> Result<Command<'a>, WordFault>
+    ensures { request_of_result result ≡ command_given TableName (given_of given.now) }
+{
+    match given.files.as_slice() {
+        [file, proof, name] => table(*file, *proof, *name, given),
+        _ => Err(WordFault::BadForm),
+    }
+}
+
+// The files that are given are these three words.
+fn table<'a>(
+    file: &'a str,
+    proof: &'a str,
+    name: &'a str,
+    given: &Given<'a>,
+) -> Result<Command<'a>, WordFault>
+    ensures { request_of_result result
+        ≡ table_of file.entry.now proof.entry.now name.entry.now
+        (given_of given.now).gap (given_of given.now).places given.now.exact }
+{
+    let (Some(gap), Some(places)) = (gap_of(given.gap), places_of(given.places)) else {
+        return Err(WordFault::BadNumber);
+    };
+    Ok(Command::Table {
+        file,
+        proof,
+        name,
+        exact: given.exact,
+        gap,
+        places,
+    })
 }

@@ -2,7 +2,7 @@
 ghost use Rattle.std.specs.Prelude.{◌≡◌, ℕ, List, IfOk, [], codes, map, option_map, unwrap_or};
 ghost use Rattle.std.specs.String.{string_bytes};
 ghost use Rattle.clap.specs.Words.{all_of, app_of, found_of, rows_of, with_rule};
-ghost use Rattle.command_words.specs.ClapWords.{app, clap_rows, files_only, option_rule};
+ghost use Rattle.command_words.specs.ClapWords.{app, clap_rows, files_only, flag_rule, option_rule};
 ghost use Rattle.command_words.specs.WordParts.{HasSpelledParts, Part, parts_of};
 ghost use Rattle.command_words.specs.WordReading.{given_by, given_of};
 
@@ -10,7 +10,7 @@ use clap::error::ErrorKind;
 use clap::{Arg, ArgAction, ArgMatches, Command};
 use std::alloc::{AllocError, Global};
 
-/// What the words after a command give: files in their order, and the values of the options.
+/// What the words after a command give: files in their order, the values of the options, and whether the flag `--exact` is there.
 #[derive(Debug, Drop)]
 pub struct Given<'a> {
     pub files: Vec<&'a str>,
@@ -21,9 +21,10 @@ pub struct Given<'a> {
     pub method: Option<&'a str>,
     pub slack: Option<&'a str>,
     pub proof: Option<&'a str>,
+    pub exact: bool,
 }
 
-/// Reads the words after a command. `None` where an option is unknown, is repeated or has no value.
+/// Reads the words after a command. `None` where an option is unknown, is repeated or has no value, or the flag is repeated or has one.
 pub fn read_given<'a>(alloc: Global, words: &'a [String]) -> Result<Option<Given<'a>>, AllocError>
     ensures { IfOk result (λ answer.
         option_map given_of answer ≡ given_by (parts_of (map string_bytes words.now))) }
@@ -40,6 +41,7 @@ pub fn read_given<'a>(alloc: Global, words: &'a [String]) -> Result<Option<Given
         method: matches.get_str("method"),
         slack: matches.get_str("slack"),
         proof: matches.get_str("proof"),
+        exact: matches.get_flag("exact"),
     };
     Ok(Some(given))
 }
@@ -70,7 +72,7 @@ fn parse<'a>(alloc: Global, words: &'a [String]) -> Result<Option<ArgMatches<'a>
     }
 }
 
-// Files in any number, and the options of all commands. Which of them a command takes is seen later.
+// Files in any number, and the options and the flag of all commands. Which of them a command takes is seen later.
 fn any_options<'a>(alloc: Global) -> Result<Command<'a>, AllocError>
     ensures { IfOk result (λ command. app_of command ≡ app) }
 {
@@ -80,7 +82,8 @@ fn any_options<'a>(alloc: Global) -> Result<Command<'a>, AllocError>
     let command = with_option(alloc, command, "show")?;
     let command = with_option(alloc, command, "method")?;
     let command = with_option(alloc, command, "slack")?;
-    with_option(alloc, command, "proof")
+    let command = with_option(alloc, command, "proof")?;
+    with_flag(alloc, command, "exact")
 }
 
 // Files in any number, wherever they stand. No program's name stands before the words, and there is no help.
@@ -103,6 +106,17 @@ fn with_option<'a>(
     ensures { IfOk result (λ more. app_of more ≡ with_rule (app_of command.entry) (option_rule name.entry.now)) }
 {
     command.arg(Arg::new(alloc, name).long(name).action(ArgAction::Set))
+}
+
+// The command with one more flag, which has no value.
+fn with_flag<'a>(
+    alloc: Global,
+    command: Command<'a>,
+    name: &'a str,
+) -> Result<Command<'a>, AllocError>
+    ensures { IfOk result (λ more. app_of more ≡ with_rule (app_of command.entry) (flag_rule name.entry.now)) }
+{
+    command.arg(Arg::new(alloc, name).long(name).action(ArgAction::SetTrue))
 }
 
 /// The parts of words are those that are spelled so.

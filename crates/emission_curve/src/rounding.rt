@@ -3,6 +3,7 @@
 ghost use Rattle.std.specs.Prelude.{◌≡◌, IfOk, IfSome};
 ghost use Rattle.row_problem.specs.Prelude.{IsLowest, value_of, AreVariablesOf};
 ghost use Rattle.row_problem.specs.Problems.{IsProblem};
+ghost use Rattle.certified_answers.specs.Answers.{IsProvedWithin};
 ghost use Rattle.emission_curve.specs.Ends.{HasLineBelow, point_seen};
 ghost use Rattle.emission_curve.specs.Points.{IsPointOf, IsRoundedPoint};
 ghost use Rattle.emission_curve.specs.Slopes.{slope_at};
@@ -11,7 +12,7 @@ use crate::point::Point;
 use crate::slope::slope_of;
 use certified_answers::{Certified, Cost};
 use exact_num::Frac;
-use rounded_solver::guessed;
+use rounded_solver::{guessed, guessed_rows};
 use row_core::{Multipliers, Row, RowName, Stopped, Var};
 use row_problem::{Problem, left_of};
 use std::alloc::{AllocError, Global};
@@ -35,19 +36,7 @@ pub fn round_limit(
     ensures worth { IfOk result (λ found. IfSome found (IsPointOf rows.now vars.now limit)) }
     ensures rounded { IfOk result (λ found. IfSome found (IsRoundedPoint ppm)) }
 {
-    let reduced = match left_of(alloc, rows, defs, vars) {
-        Ok(reduced) => reduced,
-        Err(Stopped::Width(_)) => return Ok(None),
-        Err(Stopped::Memory) => return Err(AllocError),
-    };
-    let problem = Problem {
-        rows,
-        defs,
-        vars,
-        reduced: &reduced,
-        cost: Cost::Model,
-    };
-    match guessed(alloc, &problem, ppm, pivots)? {
+    match guess_limit(alloc, rows, defs, vars, ppm, pivots)? {
         Some(
             Certified::Optimal {
                 multipliers,
@@ -60,6 +49,35 @@ pub fn round_limit(
         // A guess never finds that the cost has no bound.
         Some(Certified::Unbounded { .. }) => Ok(None),
         None => Ok(None),
+    }
+}
+
+/// What guesses find; of the rows alone where a number of their elimination doesn't fit.
+fn guess_limit(
+    alloc: Global,
+    rows: &[Row],
+    defs: &[Option<Var>],
+    vars: &[Var],
+    ppm: u32,
+    pivots: u64,
+) -> Result<Option<Certified>, AllocError>
+    requires problem { IsProblem rows.now defs.now vars.now }
+    requires variables { AreVariablesOf rows.now vars.now }
+    ensures { IfOk result (λ found. IfSome found (IsProvedWithin rows.now vars.now ppm)) }
+{
+    match left_of(alloc, rows, defs, vars) {
+        Ok(reduced) => {
+            let problem = Problem {
+                rows,
+                defs,
+                vars,
+                reduced: &reduced,
+                cost: Cost::Model,
+            };
+            guessed(alloc, &problem, ppm, pivots)
+        }
+        Err(Stopped::Width(_)) => guessed_rows(alloc, rows, defs, vars, ppm, pivots),
+        Err(Stopped::Memory) => Err(AllocError),
     }
 }
 

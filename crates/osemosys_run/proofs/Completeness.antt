@@ -27,6 +27,8 @@ use Rattle.row_core.proofs.SumLaws.{IsOver-zero}
 use Rattle.plan_files.specs.declared.faults.PlanFault.{PlanFault}
 use Rattle.plan_files.specs.Answers.{AreMultipliers, IsMultiplierFault, IsPlan, IsPlanFault}
 use Rattle.plan_files.specs.Files.{Fields, records_of}
+use Rattle.proof_files.specs.declared.proof.Proof.{Proof}
+use Rattle.proof_files.specs.Proofs.{IsProof, IsProofFault}
 use Rattle.io_edges.specs.Files.{file_named}
 use Rattle.named_equations.specs.Instances.{instances}
 use Rattle.row_core.specs.declared.RowName.{RowName}
@@ -50,7 +52,7 @@ use Rattle.command_words.specs.Words.{Request}
 use Rattle.osemosys_run.proofs.DueFromCauses.{over_short}
 use Rattle.check_command.proofs.OutcomeLaws.{fails-parts, of_bound, of_gap, of_plan}
 
--- what the laws of acceptance, of plan files and of the book say
+-- what the laws of acceptance, of files of plans and proofs, and of the book say
 pub record Laws : Type 0 where
   pub one_reading : (text : List ℕ) (blocks others : Blocks) → Says text blocks → Says text others → blocks ≡ others
   pub one_data : (text : List ℕ) (d e : Data) → Accepted text d → Accepted text e → d ≡ e
@@ -59,6 +61,8 @@ pub record Laws : Type 0 where
   pub one_multipliers : (sets : SetLists) (names : List RowName) (all : List Fields) (p q : List (RowName × Rational)) → AreMultipliers sets names all p → AreMultipliers sets names all q → p ≡ q
   pub plan_or_fault : (sets : SetLists) (vars : List Var) (all : List Fields) (p : List (Var × Rational)) (fault : PlanFault) → IsPlan sets vars all p → ¬ (IsPlanFault sets vars all fault)
   pub multipliers_or_fault : (sets : SetLists) (names : List RowName) (all : List Fields) (p : List (RowName × Rational)) (fault : PlanFault) → AreMultipliers sets names all p → ¬ (IsMultiplierFault sets names all fault)
+  pub one_proof : (sets : SetLists) (vars : List Var) (names : List RowName) (all : List Fields) (p q : Proof) → IsProof sets vars names all p → IsProof sets vars names all q → p ≡ q
+  pub proof_or_fault : (sets : SetLists) (vars : List Var) (names : List RowName) (all : List Fields) (p : Proof) (fault : PlanFault) → IsProof sets vars names all p → ¬ (IsProofFault sets vars names all fault)
   pub made : (places : ℕ) (d : Data) (before : ℕ) (names : List RowName) (fail : BookFail) → CanBeMade places d before names → HasStopped places d before names fail → fail ≡ book.Memory
 
 width_or_memory : (place : Place) → book.Width place ≡ book.Memory → ⊥
@@ -144,7 +148,7 @@ module _ (places : ℕ) (d : Data) (rows : List Row) (are_rows : AreRowsOf place
         ]
       ]
 
-  plan_done : (multipliers : Option (List (RowName × Rational))) (gap : ℕ) (status : Status) (text : List ℕ) → AreInGap d rows plan multipliers gap
+  pub plan_done : (multipliers : Option (List (RowName × Rational))) (gap : ℕ) (status : Status) (text : List ℕ) → AreInGap d rows plan multipliers gap
       → first_wide (steps (check_conditions d rows plan multipliers gap)) ≡ None → DueForPlan places d rows plan multipliers gap status text → status ≡ Done
   plan_done multipliers gap status text kept fit (inl accepted) = accepted.status_is
   plan_done multipliers gap status text kept fit (inr (inl rejected)) = absurd (nothing-rejected multipliers gap status text kept rejected)

@@ -17,7 +17,7 @@ use Rattle.model_sets.specs.declared.fault.SetFault.{SetFault}
 use Rattle.command_answers.specs.Accepted.{Accepted, most_bytes}
 use Rattle.command_answers.proofs.Acceptance.{ReaderLaws, not_both}
 use Rattle.osemosys_run.specs.Causes.{Caused, StopsAtFile}
-use Rattle.osemosys_run.specs.Complete.{AskForMade, CanBeSummarized, CanBeAccepted, CanBeDrawn, CanBeSpanned, CanBeExplained, CanBeSolved, CanBeWritten, Completes}
+use Rattle.osemosys_run.specs.Complete.{AskForMade, CanBeSummarized, CanBeAccepted, CanBeDrawn, CanBeSpanned, CanBeExplained, CanBeSolved, CanBeTabled, CanBeWritten, Completes}
 use Rattle.osemosys_run.specs.Due.{AskForEquations, Due, DueForFile}
 use Rattle.command_answers.specs.DueForText.{DueForText}
 use Rattle.command_answers.specs.Lines.{too_long_line}
@@ -47,6 +47,7 @@ Comes (Refused (refusals.MultiplierFile fault)) = ⊥
 Comes (Refused (refusals.ProofFile fault)) = ⊥
 Comes (Refused (refusals.TooLong file)) = ⊥
 Comes (Refused (refusals.NoSuch set)) = ⊥
+Comes (Refused refusals.UnknownTable) = ⊥
 Comes (Words fault) = ⊥
 Comes (ReadFault stop) = ⊥
 Comes WriteFault = ⊥
@@ -447,6 +448,9 @@ nothing_to_draw files can = cc can.asks
 nothing_to_span : (files : List (List ℕ × List ℕ)) → CanBeSpanned [] files → ⊥
 nothing_to_span files can = cc can.asks
 
+nothing_to_table : (files : List (List ℕ × List ℕ)) → CanBeTabled [] files → ⊥
+nothing_to_table files can = cc can.asks
+
 nothing_to_make : AskForMade [] → ⊥
 nothing_to_make asks = cc asks.asks
 
@@ -467,6 +471,7 @@ no_claim status = record {
   spanned = λ can. absurd (nothing_to_span [] can);
   made = λ asks. absurd (nothing_to_make asks);
   summarized = λ can. absurd (nothing_to_summarize can);
+  tabled = λ can. absurd (nothing_to_table [] can);
 }
 
 not_refused : (words : List (List ℕ)) (files : List (List ℕ × List ℕ)) → CanBeWritten words files → Completes words files (Refused refusals.TooManyEntries) → ⊥

@@ -44,6 +44,7 @@ all_read request before after (Refused (refusals.TooLong number)) other all = tt
 all_read request before after (Refused refusals.TooManyEntries) other all = all
 all_read request before after (Refused (refusals.TooLarge rows columns)) other all = all
 all_read request before after (Refused (refusals.NoSuch set)) other all = all
+all_read request before after (Refused refusals.UnknownTable) other all = all
 all_read request before after (Refused (refusals.PlanFile fault)) other all = all
 all_read request before after (Refused (refusals.MultiplierFile fault)) other all = all
 all_read request before after (Refused (refusals.ProofFile fault)) other all = all

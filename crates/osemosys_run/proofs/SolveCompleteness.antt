@@ -28,6 +28,7 @@ use Rattle.command_answers.specs.Limits.{IsWithinLimits}
 use Rattle.solve_command.proofs.SolvedEnds.{prices_come}
 use Rattle.osemosys_run.proofs.CurveCompleteness.{drawn_from_due}
 use Rattle.osemosys_run.proofs.SpanCompleteness.{spanned_from_due}
+use Rattle.osemosys_run.proofs.TableCompleteness.{tabled_from_due}
 use Rattle.osemosys_run.proofs.ExplainCompleteness.{explained_from_due}
 use Rattle.osemosys_run.proofs.Delivery.{due_or_memory}
 use Rattle.osemosys_run.proofs.Completeness.{Laws, done_from_due, no_program, no_rows, not_too_large, over_accepted, over_file}
@@ -100,6 +101,7 @@ completes laws A words files status before after f f' d calm = elim (due_or_memo
     spanned = λ can. inl (spanned_from_due laws words files status due.0 due.1 can);
     made = λ asks. inl (made_from_due words files status due.0 due.1 asks);
     summarized = λ can. inl (summarized_from_due laws words files status due.0 due.1 can);
+    tabled = λ can. inl (tabled_from_due laws words files status due.0 due.1 can);
   }
-  | inr memory ↦ record { done = λ can. inr memory; ended = λ can. inr memory; explained = λ can. inr memory; drawn = λ can. inr memory; spanned = λ can. inr memory; made = λ asks. inr memory; summarized = λ can. inr memory }
+  | inr memory ↦ record { done = λ can. inr memory; ended = λ can. inr memory; explained = λ can. inr memory; drawn = λ can. inr memory; spanned = λ can. inr memory; made = λ asks. inr memory; summarized = λ can. inr memory; tabled = λ can. inr memory }
 ]

@@ -1,17 +1,12 @@
 -- What the words after `check` ask for. Only private functions cite these.
 use Rattle.std.specs.Prelude.{ℕ, List, [], ◌∷◌, Option, Some, None}
 use Rattle.std.specs.Option.{option_map}
-use Rattle.command_words.specs.Words.{Request, Check, CheckProof}
+use Rattle.command_words.specs.Words.{Request, Check}
 use Rattle.osemosys_run.specs.declared.check_files.Asked.{Asked}
-use Rattle.osemosys_run.specs.declared.proof_file.ProofAsked.{ProofAsked}
 
 -- the request
 abbrev pub check_asked : Asked → Request
 check_asked asked = Check asked.file.now asked.plan.now (option_map (λ name. name.now) asked.multipliers) asked.gap asked.places
-
--- the request where a proof is to be checked
-abbrev pub proof_asked : ProofAsked → Request
-proof_asked asked = CheckProof asked.file.now asked.proof.now asked.gap asked.places
 
 -- the names of an optional file
 abbrev pub names_if_named : Option (List ℕ) → List (List ℕ)

@@ -1,7 +1,8 @@
--- What is due of a command of one file over its data. Only private functions cite these.
-use Rattle.std.specs.Prelude.{ℕ, List, [], ◌∷◌, ⊤}
+-- What is due of a command over its data: of one file, or of a data file and the file of a proof. Only private functions cite these.
+use Rattle.std.specs.Prelude.{ℕ, List, [], ◌∷◌, Option, ⊤}
 use Rattle.std.specs.List.{AllByRecursion}
 use Rattle.command_words.specs.LimitLists.{IsLimit}
+use Rattle.check_command.specs.CheckProof.{DueForProof, DueForProofFile}
 use Rattle.curve_command.specs.Curve.{DueForCurve}
 use Rattle.model_sets.specs.Data.{Data}
 use Rattle.command_answers.specs.DueForText.{DueForText}
@@ -12,10 +13,14 @@ use Rattle.osemosys_run.specs.declared.one_file.CurveAsked.{CurveAsked}
 use Rattle.osemosys_run.specs.declared.one_file.SpanAsked.{SpanAsked}
 use Rattle.osemosys_run.specs.declared.one_file.Task.{Task}
 use Rattle.osemosys_run.specs.declared.one_file.Task.TheVariants.{Curve, Explain, Solve, Span}
+use Rattle.osemosys_run.specs.declared.proof_file.ProofTask.{ProofTask}
+use Rattle.osemosys_run.specs.declared.proof_file.ProofTask.TheVariants as proofs
+use Rattle.osemosys_run.specs.declared.proof_file.TableAsked.{TableAsked}
 use Rattle.command_answers.specs.declared.status.Status.{Status}
 use Rattle.explain_command.specs.Explain.{DueForExplain}
 use Rattle.solve_command.specs.Solve.{DueForSolve}
 use Rattle.span_command.specs.Span.{DueForSpan}
+use Rattle.table_command.specs.Tables.{DueForTable, form_of}
 
 -- of `curve`, for a region and an emission by their names and for limits in billionths
 abbrev pub DueForAsked : CurveAsked → ℕ → Data → Status → List ℕ → Type 0
@@ -39,3 +44,24 @@ DueForTask (Span asked) places rounded = DueForSpanAsked asked places rounded
 -- the cause of an answer to a request of one file, by what `Over` has of the number of its rounded numbers and over its data
 abbrev pub CausedByOneFile : (ℕ → Data → Status → List ℕ → Type 0) → List ℕ → Sight → Sight → Status → List ℕ → Type 0
 CausedByOneFile Over name before after status text = CausedByFiles (λ contents. DueForFile (DueForText Over) 1 (held_in contents 1 name) status text) 1 (name ∷ []) before after status text
+
+-- ---- with the file of a proof
+
+-- of `table`, for the name of a table, and the bytes of the file of a proof
+abbrev pub DueForTableAsked : TableAsked → ℕ → List ℕ → Data → Status → List ℕ → Type 0
+DueForTableAsked asked places bytes d = DueForTable places (λ rows. DueForProofFile places d rows bytes asked.gap) bytes asked.name.now (form_of asked.exact) d
+
+abbrev pub DueForProofTask : ProofTask → ℕ → List ℕ → ℕ → Data → Status → List ℕ → Type 0
+DueForProofTask (proofs.Check gap) places bytes rounded = DueForProof places bytes gap
+DueForProofTask (proofs.Table asked) places bytes rounded = DueForTableAsked asked places bytes
+
+-- what is due over the two files of these names, by what `Over` has of the bytes of the proof's, of the number of the rounded numbers of the data file, and over
+-- its data; `held` has what the files hold
+abbrev pub DueForTwoFiles : (List ℕ → ℕ → Data → Status → List ℕ → Type 0) → List ℕ → List ℕ → (ℕ → List ℕ → Option (List ℕ)) → Status → List ℕ → Type 0
+DueForTwoFiles Over name proof held status text =
+    DueForFile (λ bytes. DueForFile (λ proof_bytes. DueForText (Over proof_bytes) bytes) 2 (held 2 proof)) 1 (held 1 name) status text
+
+-- the cause of an answer to a request of these two files
+abbrev pub CausedByTwoFiles : (List ℕ → ℕ → Data → Status → List ℕ → Type 0) → List ℕ → List ℕ → Sight → Sight → Status → List ℕ → Type 0
+CausedByTwoFiles Over name proof before after status text =
+    CausedByFiles (λ contents. DueForTwoFiles Over name proof (held_in contents) status text) 1 (name ∷ proof ∷ []) before after status text

@@ -19,6 +19,7 @@ mod reading;
 mod reply;
 mod run;
 mod sending;
+mod table_file;
 
 pub use command_answers::{ReadStop, Refusal, Status, Stop, TrialStop, WordFault};
 pub use run::osemosys;

@@ -1,18 +1,17 @@
-// The files of `check` of a proof, read whole one after another before anything is answered on what they say: the data file, which is
-// fed to a reader, and that of the proof.
-ghost use Rattle.std.specs.Prelude.{◌≡◌, ◌≤◌, ◌∷◌, [], List, ℕ, length, IfOk, Ok, Some};
+// The commands of a data file and the file of a proof: `check` of a proof, and `table`. The files are read whole one after another before
+// anything is answered on what they say: the data file, which is fed to a reader, and that of the proof.
+ghost use Rattle.std.specs.Prelude.{◌≡◌, ◌≤◌, ◌∷◌, [], List, ℕ, length, IfOk, Some};
 ghost use Rattle.discount_factors.specs.Factors.{IsPlaces};
-ghost use Rattle.osemosys_run.specs.Asked.{proof_asked};
-ghost use Rattle.osemosys_run.specs.Causes.{CausedByFiles, CausedByRequest, held_in};
-ghost use Rattle.osemosys_run.specs.Due.{DueOver};
+ghost use Rattle.osemosys_run.specs.Causes.{CausedByFiles, held_in};
+ghost use Rattle.osemosys_run.specs.Tasks.{CausedByTwoFiles, DueForProofTask, DueForTwoFiles};
 ghost use Rattle.mathprog_data.specs.Pieces.{StandsFor};
-ghost use Rattle.check_command.specs.CheckProof.{DueForProof};
 ghost use Rattle.command_answers.specs.DueForText.{DueForText};
 ghost use Rattle.command_answers.specs.Accepted.{most_bytes};
 ghost use Rattle.osemosys_run.specs.Reading.{sight};
 
 use crate::file_ends::refuse_file;
 use crate::reading::{feed_file, read_file};
+use crate::table_file::answer_table;
 use check_command::answer_proof;
 use command_answers::{Answer, accept_read};
 use io_edges::Shelf;
@@ -24,24 +23,42 @@ const DATA_FILE: u8 = 1;
 
 const PROOF_FILE: u8 = 2;
 
-/// What the words after `check` say of a proof: the names of its files, the gap in millionths of the bound, and how many decimal
-/// places written factors have.
+/// What the words after `table` say besides the files: the name of a table, whether its numbers are fractions, and how many millionths of the
+/// bound the plan's cost may be above it.
+#[derive(Clone, Copy, Debug, PartialEq, Eq)]
+pub struct TableAsked<'a> {
+    pub name: &'a str,
+    pub exact: bool,
+    pub gap: u32,
+}
+
+/// What a command does with its data and a proof.
+#[derive(Clone, Copy, Debug, PartialEq, Eq)]
+pub enum ProofTask<'a> {
+    /// To check the proof, with this gap in millionths of the bound.
+    Check { gap: u32 },
+    /// To show a table of its plan.
+    Table(TableAsked<'a>),
+}
+
+/// What the words say of a proof: the names of the data file and of its own, what is to be done, and how many decimal places written
+/// factors have.
 #[derive(Clone, Copy)]
 pub struct ProofAsked<'a> {
     pub file: &'a str,
     pub proof: &'a str,
-    pub gap: u32,
+    pub task: ProofTask<'a>,
     pub places: u8,
 }
 
-/// The answer of `check` of a proof over the files of these names.
-pub fn perform_proof_check<S: Shelf>(
+/// The answer of a task over the files of these names.
+pub fn perform_proof_task<S: Shelf>(
     alloc: Global,
     asked: ProofAsked<'_>,
     shelf: &mut S,
 ) -> Result<Answer, AllocError>
     requires { IsPlaces asked.places }
-    ensures caused { IfOk result (λ answer. CausedByRequest (Ok (proof_asked asked.entry))
+    ensures caused { IfOk result (λ answer. CausedByTwoFiles (DueForProofTask asked.entry.task asked.entry.places) asked.entry.file.now asked.entry.proof.now
         (sight (S.files shelf.old) (S.rest shelf.old) (S.faults shelf.old) (S.begins shelf.old)
         (S.taken shelf.old) (S.moved shelf.old))
         (sight (S.files shelf.new) (S.rest shelf.new) (S.faults shelf.new) (S.begins shelf.new)
@@ -51,13 +68,13 @@ pub fn perform_proof_check<S: Shelf>(
     ensures faults { S.faults shelf.old ≤ S.faults shelf.new }
 {
     match feed_file(alloc, asked.file, shelf) {
-        Ok(reader) => check_proof_file(alloc, reader, asked, shelf),
+        Ok(reader) => answer_fed(alloc, reader, asked, shelf),
         Err(end) => refuse_file(alloc, DATA_FILE, end),
     }
 }
 
 // The same where the data file was read.
-fn check_proof_file<S: Shelf>(
+fn answer_fed<S: Shelf>(
     alloc: Global,
     reader: PieceReader,
     asked: ProofAsked<'_>,
@@ -66,7 +83,7 @@ fn check_proof_file<S: Shelf>(
     requires stands { (text : List ℕ) × StandsFor reader text }
     requires places { IsPlaces asked.places }
     ensures caused { (text : List ℕ) → StandsFor reader text → length text ≤ most_bytes → IfOk result (λ answer.
-        CausedByFiles (λ contents. DueOver (Ok (proof_asked asked.entry)) (held_in (Some text ∷ contents)) answer.status answer.text.items)
+        CausedByFiles (λ contents. DueForTwoFiles (DueForProofTask asked.entry.task asked.entry.places) asked.entry.file.now asked.entry.proof.now (held_in (Some text ∷ contents)) answer.status answer.text.items)
         2 (asked.entry.proof.now ∷ [])
         (sight (S.files shelf.old) (S.rest shelf.old) (S.faults shelf.old) (S.begins shelf.old)
         (S.taken shelf.old) (S.moved shelf.old))
@@ -77,26 +94,29 @@ fn check_proof_file<S: Shelf>(
     ensures faults { S.faults shelf.old ≤ S.faults shelf.new }
 {
     match read_file(alloc, asked.proof, shelf) {
-        Ok(proof) => answer_proof_read(alloc, reader, asked.places, &proof, asked.gap),
+        Ok(proof) => answer_read(alloc, reader, asked.task, asked.places, &proof),
         Err(end) => refuse_file(alloc, PROOF_FILE, end),
     }
 }
 
 // The answer where both files were read. What the reader keeps of the data file's text is gone before the first row is made.
-fn answer_proof_read(
+fn answer_read(
     alloc: Global,
     reader: PieceReader,
+    task: ProofTask<'_>,
     places: u8,
     proof: &[u8],
-    gap: u32,
 ) -> Result<Answer, AllocError>
     requires stands { (text : List ℕ) × StandsFor reader text }
     requires places { IsPlaces places }
     ensures { (text : List ℕ) → StandsFor reader text → length text ≤ most_bytes → IfOk result (λ answer.
-        DueForText (λ rounded. DueForProof places proof.now gap) text answer.status answer.text.items) }
+        DueForText (DueForProofTask task.entry places proof.now) text answer.status answer.text.items) }
 {
     match accept_read(alloc, reader)? {
-        Ok(model) => answer_proof(alloc, &model, places, proof, gap),
+        Ok(model) => match task {
+            ProofTask::Check { gap } => answer_proof(alloc, &model, places, proof, gap),
+            ProofTask::Table(asked) => answer_table(alloc, &model, places, proof, asked),
+        },
         Err(answer) => Ok(answer),
     }
 }

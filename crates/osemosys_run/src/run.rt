@@ -49,7 +49,7 @@ use crate::making::perform_make;
 use crate::mps::perform_mps;
 use crate::mps_program::mps_laws;
 use crate::one_file::{CurveAsked, SpanAsked, Task, perform_task};
-use crate::proof_file::{ProofAsked, perform_proof_check};
+use crate::proof_file::{ProofAsked, ProofTask, TableAsked, perform_proof_task};
 use crate::reply::{Reply, deliver};
 use command_answers::{Status, acceptance_laws, refuse_words};
 use command_words::{Command, read_command, spelled_parts};
@@ -57,6 +57,7 @@ use io_edges::{Shelf, Sink};
 use mathprog_data::verdict_laws;
 use plan_files::telling_laws;
 use plan_quantities::laws::quantity_laws;
+use proof_files::proof_telling_laws;
 use row_book::stop_laws;
 use solve_command::{Wanted, promise_laws, shown_of};
 use std::alloc::{AllocError, Global};
@@ -88,6 +89,9 @@ use std::alloc::{AllocError, Global};
 /// `span FILE REGION TECHNOLOGY YEAR [--slack PPM] [--gap PPM] [--pivots N] [--places P] [--method exact|rounded]` says how little and how
 /// much of the technology is built in the region and the year by plans whose cost is at most PPM millionths above the least, with such
 /// plans, or that there is no most.
+///
+/// `table FILE PROOF NAME [--exact] [--gap PPM] [--places P]` writes a table of the plan of an optimum whose proof `check` accepts, as
+/// CSV: the values that aren't 0, of one kind of variables or of all. Of any other proof that it accepts the line of `check` is written, with status 1 or 2.
 ///
 /// `make N [--show file|summary]` reads no file. It writes a data file that is made of the number N, from 3 to 122; or how large
 /// its model is, and what `solve` with its default options comes to on it.
@@ -132,7 +136,8 @@ pub fn osemosys<S: Shelf, K: Sink>(
     // A data file that isn't refused, and whose rows can be made, is written out; and a feasible plan with multipliers that
     // prove their bound and keep the gap is accepted, where the files are in form and every number that is formed for the
     // conditions fits; a model that nothing stops is solved or explained, its curve is told whole, and its span is found; a
-    // made file is written; unless memory runs out, and over a shelf and a sink without a fault.
+    // made file is written, and so is a table of a proof that can be accepted; unless memory runs out, and over a shelf and a sink
+    // without a fault.
     ensures complete { WhereTold (S.files shelf.old) (λ files.
         (Rose (S.faults shelf.old) (S.faults shelf.new) → ⊥) → (Rose (K.faults out.old) (K.faults out.new) → ⊥)
         → Completes (map string_bytes words.now) files result) }
@@ -196,6 +201,7 @@ pub fn osemosys<S: Shelf, K: Sink>(
     acceptance_laws();
     stop_laws();
     telling_laws();
+    proof_telling_laws();
     mps_laws();
     spelled_parts();
     quantity_laws();
@@ -341,10 +347,30 @@ fn perform<S: Shelf>(alloc: Global, words: &[String], shelf: &mut S) -> Result<R
             let asked = ProofAsked {
                 file,
                 proof,
-                gap,
+                task: ProofTask::Check { gap },
                 places,
             };
-            let answer = perform_proof_check(alloc, asked, shelf)?;
+            let answer = perform_proof_task(alloc, asked, shelf)?;
+            Ok(Reply::Told(answer))
+        }
+        Ok(
+            Command::Table {
+                file,
+                proof,
+                name,
+                exact,
+                gap,
+                places,
+            },
+        ) => {
+            let task = ProofTask::Table(TableAsked { name, exact, gap });
+            let asked = ProofAsked {
+                file,
+                proof,
+                task,
+                places,
+            };
+            let answer = perform_proof_task(alloc, asked, shelf)?;
             Ok(Reply::Told(answer))
         }
         Err(fault) => {

@@ -8,3 +8,5 @@ pub mod PriceLaws
 mod WholeTests
 mod SumExamples
 mod PriceExamples
+mod RowPriceExamples
+pub mod PromisedPrices

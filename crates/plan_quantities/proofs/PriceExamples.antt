@@ -34,10 +34,10 @@ use Rattle.plan_quantities.proofs.WholeTests.{all_at}
 
 -- ---- data
 
-abbrev default : ℕ → ℤ → Default
+abbrev pub default : ℕ → ℤ → Default
 default param units = record { param = param; value = units *ℤ pos (10 ^ 9) }
 
-abbrev one_technology : Data
+abbrev pub one_technology : Data
 one_technology = record {
   sets = (codes "R" ∷ []) ∷ (codes "T" ∷ []) ∷ (codes "F" ∷ []) ∷ [] ∷ (codes "1" ∷ []) ∷ (codes "D" ∷ []) ∷ (codes "2020" ∷ []) ∷ [] ∷ [] ∷ [] ∷ [] ∷ [];
   given = [];
@@ -53,7 +53,7 @@ one_technology = record {
 -- ---- plans
 
 -- the value of each kind for each unit that is made
-abbrev for_one : List ℕ
+abbrev pub for_one : List ℕ
 for_one =
     -- RateOfActivity, NewCapacity, Trade, RateOfDemand, AccumulatedNewCapacity, TotalCapacityAnnual, RateOfTotalActivity
     1 ∷ 1 ∷ 0 ∷ 0 ∷ 1 ∷ 1 ∷ 1
@@ -71,11 +71,11 @@ for_one =
     ∷ 0 ∷ 0 ∷ 1 ∷ 0 ∷ 0 ∷ 0 ∷ 0 ∷ 0 ∷ []
 
 -- the plan that makes n units
-abbrev making : ℕ → Var → ℤ
+abbrev pub making : ℕ → Var → ℤ
 making n v = if nat_eq v.kind RATE_OF_DEMAND || nat_eq v.kind DEMAND then pos 10 else pos (slice_index_or for_one (v.kind - 1) 0 * n)
 
 -- the one balance
-abbrev here : Index
+abbrev pub here : Index
 here = at_rlfy 0 0 0 0
 
 -- ---- by tests
@@ -142,10 +142,10 @@ nine_for_less = refl
 ten_is_feasible : FeasibleWithMore 6 one_technology here (pos 0) 1 1 (making 10)
 ten_is_feasible = feasible_by (pos 0) 1 (making 10) ten_is_enough refl
 
-eleven_is_feasible : FeasibleWithMore 6 one_technology here (pos 1) 1 1 (making 11)
+pub eleven_is_feasible : FeasibleWithMore 6 one_technology here (pos 1) 1 1 (making 11)
 eleven_is_feasible = feasible_by (pos 1) 1 (making 11) eleven_for_one_more refl
 
-nine_is_feasible : FeasibleWithMore 6 one_technology here (neg_ℤ (pos 1)) 1 1 (making 9)
+pub nine_is_feasible : FeasibleWithMore 6 one_technology here (neg_ℤ (pos 1)) 1 1 (making 9)
 nine_is_feasible = feasible_by (neg_ℤ (pos 1)) 1 (making 9) nine_for_less refl
 
 -- such a plan meets each other equation at the index of the balance

@@ -42,6 +42,8 @@ use Rattle.named_equations.proofs.InstanceOrder.{instances-ascend, variables-asc
 use Rattle.row_core.proofs.Members.{Contains-from_Has, Has, Has-from_Contains, Has-map}
 use Rattle.named_equations.proofs.InstanceTests.{Contains-variables, Has-instances, Has-variables}
 use Rattle.named_equations.proofs.TermMeaning.{alone-self, sum_over-same, sum_over-times}
+use Rattle.plan_quantities.specs.RowPrices.{FeasibleWithLess, IsRowPromised, row_price_over}
+use Rattle.price_tables.specs.PriceAmounts.{row_price}
 use Rattle.plan_quantities.specs.Prices.{FeasibleWithMore, IsPromised, balance_at, price_of, price_over, production_entry, says_more}
 use Rattle.plan_costs.proofs.ModelCost.{cost-of_all}
 use Rattle.certificate_checker.proofs.NamedSums.{at_name, fractions, name-itself, same-name, weighted-one, weighted-plus}
@@ -136,28 +138,26 @@ module _ (places : ℕ) (d : Data) (a : ℤ) (b q : ℕ) (x : Var → ℤ) (posi
   abbrev right_at : RowName → Var → Row → ℤ
   right_at name p row = row.rhs *ℤ pos (b * q) +ℤ at_name name (λ other. entry_at p other *ℤ more_of a q) row
 
-  module _ (r l f y : ℕ) (plan : FeasibleWithMore places d (at_rlfy r l f y) a b q x) where
+  -- a plan that covers more of a fuel meets the balance with less Production
+  more-is-less : (r l f y : ℕ) → FeasibleWithMore places d (at_rlfy r l f y) a b q x → FeasibleWithLess places d (balance_at (at_rlfy r l f y)) (production r l f y) a b q x
+  more-is-less r l f y plan = record { positive = plan.positive; others = plan.others; less = balance-lessened r l f y plan.balance; signs = plan.signs }
+
+  module _ (at : RowName) (p : Var) (plan : FeasibleWithLess places d at p a b q x) where
     row-stands : (name : RowName) (row : Row) → IsNamedRow places d name (terms_at places d name) row → is_instance d name ≡ true
-        → Stands row.sense (row_sum wider row.entries.items) (right_at (balance_at (at_rlfy r l f y)) (production r l f y) row)
-    row-stands name row is there = by_test (is_eq (row_name_cmp row.name balance)) refl
+        → Stands row.sense (row_sum wider row.entries.items) (right_at at p row)
+    row-stands name row is there = by_test (is_eq (row_name_cmp row.name at)) refl
       where
-        balance : RowName
-        balance = balance_at (at_rlfy r l f y)
-
-        p : Var
-        p = production r l f y
-
-        by_test : (t : Bool) → is_eq (row_name_cmp row.name balance) ≡ t
+        by_test : (t : Bool) → is_eq (row_name_cmp row.name at) ≡ t
             → Stands row.sense (row_sum wider row.entries.items) (row.rhs *ℤ pos (b * q) +ℤ (if t then entry_at p row *ℤ more_of a q else pos 0))
         by_test true same =
-            let named : name ≡ balance = sym is.written.named ∙ same-name row.name balance same in
-            row-lessened row p ((is.says (b * q) (lessened p)).1 (subst (Meets places d (b * q) (lessened p)) (sym named) (balance-lessened r l f y plan.balance)))
+            let named : name ≡ at = sym is.written.named ∙ same-name row.name at same in
+            row-lessened row p ((is.says (b * q) (lessened p)).1 (subst (Meets places d (b * q) (lessened p)) (sym named) plan.less))
         by_test false other =
-            let apart : name ≢ balance = λ e. true≢false (sym (name-itself row.name balance (is.written.named ∙ e)) ∙ other) in
+            let apart : name ≢ at = λ e. true≢false (sym (name-itself row.name at (is.written.named ∙ e)) ∙ other) in
             subst (Stands row.sense (row_sum wider row.entries.items)) (sym (+ℤ-zero (row.rhs *ℤ pos (b * q)))) (row-wider row ((is.says q x).1 (plan.others name there apart)))
 
     rows-stand : (ns : List RowName) (rows : List Row) → ((name : RowName) → Has ns name → is_instance d name ≡ true) → AreRowsOf places d ns rows
-        → AllStand (right_at (balance_at (at_rlfy r l f y)) (production r l f y)) rows wider
+        → AllStand (right_at at p) rows wider
     rows-stand [] [] there are = tt
     rows-stand [] (row ∷ rows) there are = absurd are
     rows-stand (name ∷ ns) [] there are = absurd are
@@ -180,28 +180,47 @@ module _ (places : ℕ) (d : Data) (a : ℤ) (b q : ℕ) (x : Var → ℤ) (posi
         ∙ sym (sum_over-times (regions d) (pos b) (λ r. sum_over (all_years d) (λ y. x (total_discounted_cost r y))))
 
     price-at : (rows : List Row) (s : ℕ) (w : RowName → ℤ) (row : Row) → AreRowsOf places d (instances d) rows → Proves model_cost rows (all_variables d) s w → Has rows row
-        → row.name ≡ balance_at (at_rlfy r l f y) → ((bound_of w rows *ℤ pos b +ℤ price_over w row *ℤ a) *ℤ pos q) ≤ℤ (pos s *ℤ pos b *ℤ cost d x)
+        → row.name ≡ at → ((bound_of w rows *ℤ pos b +ℤ row_price_over w row p *ℤ a) *ℤ pos q) ≤ℤ (pos s *ℤ pos b *ℤ cost d x)
     price-at rows s w row are proves has named =
-        let p : Var = production r l f y in
         let entry : Row → ℤ = λ other. number_at other.entries.items p *ℤ (a *ℤ pos q) in
         let up : ascends row_name_cmp (names_of rows) ≡ true = subst (λ ns. ascends row_name_cmp ns ≡ true) (sym (names-of_rows places d (instances d) rows are)) (instances-ascend d) in
         let of_book : HasVariablesOf rows (all_variables d) =
         λ v given. (Contains-variables d v).1 (all-has (IsThere d) (entry_variables rows) v (all-there places d rows are) (Has-from_Contains (entry_variables rows) v given)) in
         let least =
-        weak_duality model_cost rows (all_variables d) s w (right_at (balance_at (at_rlfy r l f y)) p) wider (variables-ascend d) of_book proves
+        weak_duality model_cost rows (all_variables d) s w (right_at at p) wider (variables-ascend d) of_book proves
         (rows-stand (instances d) rows (λ name there. (Has-instances d name).0 there) are) (signs-stand (all_variables d) (λ v there. (Has-variables d v).0 there)) in
-        let alone_at : weighted w (at_name (balance_at (at_rlfy r l f y)) entry) rows ≡ w row.name *ℤ entry row = subst (λ n. weighted w (at_name n entry) rows ≡ w row.name *ℤ entry row) named (weighted-one w entry rows row up has) in
-        let priced : price_over w row ≡ w row.name *ℤ number_at row.entries.items p = ap (λ (n : RowName). w row.name *ℤ number_at row.entries.items (variable PRODUCTION n.index)) named in
-        let left : weighted w (right_at (balance_at (at_rlfy r l f y)) p) rows ≡ (bound_of w rows *ℤ pos b +ℤ price_over w row *ℤ a) *ℤ pos q =
-        weighted-plus w (λ other. other.rhs *ℤ pos (b * q)) (at_name (balance_at (at_rlfy r l f y)) entry) rows
+        let alone_at : weighted w (at_name at entry) rows ≡ w row.name *ℤ entry row = subst (λ n. weighted w (at_name n entry) rows ≡ w row.name *ℤ entry row) named (weighted-one w entry rows row up has) in
+        let left : weighted w (right_at at p) rows ≡ (bound_of w rows *ℤ pos b +ℤ row_price_over w row p *ℤ a) *ℤ pos q =
+        weighted-plus w (λ other. other.rhs *ℤ pos (b * q)) (at_name at entry) rows
         ∙ ap₂ (λ u v. u +ℤ v) (weighted-right w (b * q) rows) alone_at
-        ∙ together (bound_of w rows) (pos b) (pos q) (w row.name) (number_at row.entries.items p) a
-        ∙ ap (λ z. (bound_of w rows *ℤ pos b +ℤ z *ℤ a) *ℤ pos q) (sym priced) in
+        ∙ together (bound_of w rows) (pos b) (pos q) (w row.name) (number_at row.entries.items p) a in
         let right : pos s *ℤ cost_of model_cost (all_variables d) wider ≡ pos s *ℤ pos b *ℤ cost d x = ap (λ z. pos s *ℤ z) wider-cost ∙ sym (*ℤ_assoc (pos s) (pos b) (cost d x)) in
-        subst (λ z. z ≤ℤ (pos s *ℤ pos b *ℤ cost d x)) left (subst (λ z. weighted w (right_at (balance_at (at_rlfy r l f y)) p) rows ≤ℤ z) right least)
+        subst (λ z. z ≤ℤ (pos s *ℤ pos b *ℤ cost d x)) left (subst (λ z. weighted w (right_at at p) rows ≤ℤ z) right least)
       where
         together : (u b q y n a : ℤ) → u *ℤ (b *ℤ q) +ℤ y *ℤ (n *ℤ (a *ℤ q)) ≡ (u *ℤ b +ℤ y *ℤ n *ℤ a) *ℤ q
         together u b q y n a = simp ring
+
+-- ---- any row
+
+pub row-price-holds : (places : ℕ) (d : Data) (rows : List Row) (s : ℕ) (y : RowName → ℤ) (row : Row) (p : Var) (a : ℤ) (b q : ℕ) (x : Var → ℤ)
+    → AreRowsOf places d (instances d) rows → Proves model_cost rows (all_variables d) s y → Contains rows row → 0 < b → FeasibleWithLess places d row.name p a b q x
+    → ((bound_of y rows *ℤ pos b +ℤ row_price_over y row p *ℤ a) *ℤ pos q) ≤ℤ (pos s *ℤ pos b *ℤ cost d x)
+row-price-holds places d rows s y row p a b q x are proves given positive plan =
+    price-at places d a b q x positive row.name p plan rows s y row are proves (Has-from_Contains rows row given) refl
+
+-- ---- the balance of a fuel
+
+-- the subscripts of a balance are those of its index
+balance-tidied : (d : Data) (index : Index) → is_instance d (balance_at index) ≡ true → index ≡ at_rlfy index.region index.slice index.fuel index.year
+balance-tidied d index instance =
+    let subscripts : List ℕ = place.r ∷ place.l ∷ place.f ∷ place.y ∷ [] in
+    index-tidied d subscripts index (values-from_index d subscripts index (instance-parts d (balance_at index) instance).within)
+
+pub more-less : (places : ℕ) (d : Data) (index : Index) (a : ℤ) (b q : ℕ) (x : Var → ℤ) → is_instance d (balance_at index) ≡ true → 0 < b → FeasibleWithMore places d index a b q x
+    → FeasibleWithLess places d (balance_at index) (variable PRODUCTION index) a b q x
+more-less places d index a b q x instance positive plan =
+    let At : Index → Type 0 = λ i. FeasibleWithMore places d i a b q x → FeasibleWithLess places d (balance_at i) (variable PRODUCTION i) a b q x in
+    subst At (sym (balance-tidied d index instance)) (λ more. more-is-less places d a b q x positive index.region index.slice index.fuel index.year more) plan
 
 pub price-holds : (places : ℕ) (d : Data) (rows : List Row) (s : ℕ) (y : RowName → ℤ) (row : Row) (index : Index) (a : ℤ) (b q : ℕ) (x : Var → ℤ)
     → AreRowsOf places d (instances d) rows → Proves model_cost rows (all_variables d) s y → Contains rows row → row.name ≡ balance_at index → 0 < b → FeasibleWithMore places d index a b q x
@@ -210,10 +229,9 @@ price-holds places d rows s y row index a b q x are proves given named positive 
     let has = Has-from_Contains rows row given in
     let listed : Has (instances d) row.name = subst (λ ns. Has ns row.name) (names-of_rows places d (instances d) rows are) (Has-map (λ (r : Row). r.name) rows row has) in
     let instance = subst (λ n. is_instance d n ≡ true) named ((Has-instances d row.name).0 listed) in
-    let subscripts : List ℕ = place.r ∷ place.l ∷ place.f ∷ place.y ∷ [] in
-    let tidy = index-tidied d subscripts index (values-from_index d subscripts index (instance-parts d (balance_at index) instance).within) in
-    let At : Index → Type 0 = λ i. row.name ≡ balance_at i → FeasibleWithMore places d i a b q x → ((bound_of y rows *ℤ pos b +ℤ price_over y row *ℤ a) *ℤ pos q) ≤ℤ (pos s *ℤ pos b *ℤ cost d x) in
-    subst At (sym tidy) (λ is more. price-at places d a b q x positive index.region index.slice index.fuel index.year more rows s y row are proves has is) named plan
+    let less : FeasibleWithLess places d row.name (variable PRODUCTION row.name.index) a b q x =
+    subst (λ (n : RowName). FeasibleWithLess places d n (variable PRODUCTION n.index) a b q x) (sym named) (more-less places d index a b q x instance positive plan) in
+    row-price-holds places d rows s y row (variable PRODUCTION row.name.index) a b q x are proves given positive less
 
 -- each balance has a row
 pub balance-row : (places : ℕ) (d : Data) (rows : List Row) (index : Index) → AreRowsOf places d (instances d) rows → is_instance d (balance_at index) ≡ true
@@ -241,3 +259,21 @@ promise-holds places d rows s y multipliers bound row index are proves over boun
   where
     whole-over : (n : ℤ) → IsOver (pos 1) (whole n) n
     whole-over n = record { positive = omega (arith, ints); cross = refl }
+
+pub row-promise-holds : (places : ℕ) (d : Data) (rows : List Row) (s : ℕ) (y : RowName → ℤ) (multipliers : List (RowName × Rational)) (bound : Rational) (row : Row) (p : Var)
+    → AreRowsOf places d (instances d) rows → Proves model_cost rows (all_variables d) s y → AreMultipliersOver s y multipliers → IsOver (pos s) bound (bound_of y rows)
+    → Contains rows row → IsRowPromised places d row.name p bound (row_price multipliers row p)
+row-promise-holds places d rows s y multipliers bound row p are proves over bounds given =
+    let n = number_at row.entries.items p in
+    let price = IsOver-times (pos s) (pos 1) (value_in row_name_cmp multipliers row.name) (whole n) (y row.name) n (over.1 row.name) (whole-is n) in
+    record {
+      bound_positive = bounds.positive;
+      price_positive = price.positive;
+      costs = λ a b q x positive plan.
+          fractions (pos s) (pos b) (pos q) a (cost d x) bound.top bound.bottom (row_price multipliers row p).top (row_price multipliers row p).bottom (bound_of y rows) (row_price_over y row p)
+          (omega (arith, ints, over.0)) bounds.positive price.positive bounds.cross (price.cross ∙ ap (λ z. (row_price multipliers row p).top *ℤ z) (*ℤ-one (pos s)))
+          (row-price-holds places d rows s y row p a b q x are proves given positive plan);
+    }
+  where
+    whole-is : (n : ℤ) → IsOver (pos 1) (whole n) n
+    whole-is n = record { positive = omega (arith, ints); cross = refl }

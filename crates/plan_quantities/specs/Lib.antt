@@ -2,3 +2,4 @@ pub mod Sums
 pub mod CostSums
 pub mod Quantities
 pub mod Prices
+pub mod RowPrices

@@ -19,6 +19,13 @@ ghost use Rattle.certificate_checker.specs.Costs.{model_cost};
 ghost use Rattle.plan_quantities.specs.CostSums.{cost_of_year, three_factors};
 ghost use Rattle.plan_quantities.specs.Prices.{FeasibleWithMore, IsPromised, balance_at, price_of, price_over};
 ghost use Rattle.plan_quantities.specs.Quantities.{AreQuantities};
+ghost use Rattle.plan_quantities.specs.RowPrices.{FeasibleWithLess, IsRowPromised, row_price_over};
+ghost use Rattle.price_tables.specs.declared.shown.PriceTable.{PriceTable};
+ghost use Rattle.price_tables.specs.PriceAmounts.{row_price};
+ghost use Rattle.price_tables.specs.PricedRows.{priced_rows};
+ghost use Rattle.std.specs.List.{AllByRecursion};
+ghost use Rattle.row_core.specs.declared.kind_numbers.TheConstants.{PRODUCTION};
+ghost use Rattle.named_equations.specs.Variables.{variable};
 
 /// Each quantity of a feasible plan is its defining sum over RateOfActivity, NewCapacity and Trade, and so is the cost.
 pub fn quantity_laws()
@@ -41,4 +48,32 @@ pub fn price_laws()
         → AreRowsOf places d (instances d) rows → Proves model_cost rows (all_variables d) s y
         → AreMultipliersOver s y multipliers → IsOver (pos s) bound (bound_of y rows)
         → Contains rows row → row.name ≡ balance_at index → IsPromised places d index bound (price_of multipliers row) }
+{}
+
+/// Multipliers that prove a bound price every row: a plan that meets the row's equation with a over b less of a variable p, and all others as
+/// they are, costs at least the bound and the price of p at the row times a over b, whatever the sign of a. Once of whole numbers y over s,
+/// and once of fractions. Where p stands in the equation with the factor 1, a over b less of it is as much more on the right side, in
+/// the data's unit. The price of a fuel is a case: p is the Production of its balance.
+pub fn row_price_laws()
+    ensures price { (places : ℕ) (d : Data) (rows : List Row) (s : ℕ) (y : RowName → ℤ) (row : Row) (p : Var) (a : ℤ) (b q : ℕ) (x : Var → ℤ)
+        → AreRowsOf places d (instances d) rows → Proves model_cost rows (all_variables d) s y
+        → Contains rows row → 0 < b → FeasibleWithLess places d row.name p a b q x
+        → ((bound_of y rows *ℤ pos b +ℤ row_price_over y row p *ℤ a) *ℤ pos q) ≤ℤ (pos s *ℤ pos b *ℤ cost d x) }
+    ensures promised { (places : ℕ) (d : Data) (rows : List Row) (s : ℕ) (y : RowName → ℤ) (multipliers : List (RowName × Rational)) (bound : Rational) (row : Row) (p : Var)
+        → AreRowsOf places d (instances d) rows → Proves model_cost rows (all_variables d) s y
+        → AreMultipliersOver s y multipliers → IsOver (pos s) bound (bound_of y rows)
+        → Contains rows row → IsRowPromised places d row.name p bound (row_price multipliers row p) }
+    ensures fuel { (places : ℕ) (d : Data) (index : Index) (a : ℤ) (b q : ℕ) (x : Var → ℤ)
+        → is_instance d (balance_at index) ≡ true → 0 < b → FeasibleWithMore places d index a b q x
+        → FeasibleWithLess places d (balance_at index) (variable PRODUCTION index) a b q x }
+{}
+
+/// Where multipliers prove a bound over the rows of the equations, each price of a table of limits or fuels is promised: a plan that meets the row's
+/// equation with a over b less of the variable of which it speaks, and all others as they are, costs at least the bound and the price
+/// times a over b, whatever the sign of a.
+pub fn table_laws()
+    ensures { (places : ℕ) (d : Data) (rows : List Row) (s : ℕ) (y : RowName → ℤ) (multipliers : List (RowName × Rational)) (bound : Rational) (table : PriceTable)
+        → AreRowsOf places d (instances d) rows → Proves model_cost rows (all_variables d) s y
+        → AreMultipliersOver s y multipliers → IsOver (pos s) bound (bound_of y rows)
+        → AllByRecursion (λ e. IsRowPromised places d e.0.name e.1 bound (row_price multipliers e.0 e.1)) (priced_rows table multipliers rows) }
 {}

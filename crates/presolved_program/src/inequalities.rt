@@ -59,11 +59,16 @@ pub fn inequalities_of(alloc: Global, reduced: &Reduced, aim: Aim) -> Result<Ine
 
 /// The columns alone.
 fn without_rows(alloc: Global, reduced: &Reduced) -> Result<Inequalities, Stop> {
-    let count = reduced.columns.len();
-    let mut free = Vec::with_capacity(alloc, count)?;
+    let mut free = Vec::with_capacity(alloc, reduced.columns.len())?;
     for var in &reduced.columns {
         free.push(var.kind == TRADE)?;
     }
+    no_rows(alloc, free)
+}
+
+/// Columns of which these are free, and no rows.
+pub(crate) fn no_rows(alloc: Global, free: Vec<bool>) -> Result<Inequalities, Stop> {
+    let count = free.len();
     Ok(Inequalities {
         rows: Vec::new(alloc),
         columns: empty_lists(alloc, count)?,
@@ -134,7 +139,7 @@ fn price(all: &mut Inequalities, reduced: &Reduced) -> Result<(), Stop> {
 }
 
 /// Sets all costs to 0. Where a plan that costs nothing is looked for, columns that cost something are left out first.
-fn forget_costs(all: &mut Inequalities, aim: Aim) -> Result<(), Stop> {
+pub(crate) fn forget_costs(all: &mut Inequalities, aim: Aim) -> Result<(), Stop> {
     for column in 0..all.costs.len() {
         let cost = at(&all.costs, column)?;
         if aim == Aim::Costless && cost != 0.0 {

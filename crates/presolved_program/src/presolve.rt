@@ -17,7 +17,7 @@ const ROUNDS: usize = 1000;
 pub(crate) enum Round {
     Same,
     Changed,
-    /// This row has no entries left, and is false.
+    /// This row is false whatever its columns are.
     False(usize),
 }
 

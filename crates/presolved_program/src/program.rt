@@ -3,13 +3,16 @@
 use crate::access::{at, empty_lists, filled, item, push_at, put};
 use crate::entries::Entry;
 use crate::equalities::{Equality, equalities_of};
+use crate::expanding::expanded;
 use crate::floats::float_of;
 use crate::inequalities::{Aim, Inequalities, inequalities_of};
+use crate::layout::Layout;
 use crate::lines::Line;
 use crate::presolve::presolve;
 use crate::steps::Step;
 use crate::stop::Stop;
 use crate::trades::{Merge, Trades, without_trades};
+use row_core::{Row, Var};
 use std::alloc::Global;
 use written_method::Reduced;
 
@@ -45,7 +48,26 @@ impl Program {
 /// Makes a linear program smaller, for an aim. It gives up where a number doesn't fit, where a Trade needs too many
 /// combinations, or where no column solves an equation.
 pub fn prepare(alloc: Global, reduced: &Reduced, aim: Aim) -> Result<Program, Stop> {
-    let mut all = inequalities_of(alloc, reduced, aim)?;
+    let all = inequalities_of(alloc, reduced, aim)?;
+    prepared(alloc, all, aim)
+}
+
+/// Makes the linear program of named rows smaller, for an aim, without its exact elimination: the numbers of its rows are rounded, each
+/// to some sixteen digits beside the greatest of its row. It gives up where `prepare` does.
+pub fn prepare_rows(
+    alloc: Global,
+    rows: &[Row],
+    vars: &[Var],
+    layout: &Layout,
+    aim: Aim,
+) -> Result<Program, Stop> {
+    let all = expanded(alloc, rows, vars, layout, aim)?;
+    prepared(alloc, all, aim)
+}
+
+/// Makes rows that read at most smaller.
+fn prepared(alloc: Global, rows: Inequalities, aim: Aim) -> Result<Program, Stop> {
+    let mut all = rows;
     let presolved = presolve(alloc, &mut all)?;
     let trades = if presolved.false_row.is_some() {
         Trades::none(alloc)

@@ -1,7 +1,7 @@
 //! Free columns, removed by Fourier-Motzkin: each line that bounds one from above is combined with each that bounds it from below.
 
 use crate::access::{at, empty_lists, filled, item, push_at, put};
-use crate::entries::{Entry, plus_product, quotient, whole};
+use crate::entries::{Entry, plus_product, whole};
 use crate::inequalities::Inequalities;
 use crate::lines::{Line, combined, lines_of, number_in};
 use crate::stop::Stop;
@@ -177,7 +177,7 @@ fn combine(
             below_times,
         )?,
         right: weighted(made, upper.right, lower.right)?,
-        unit: quotient(upper.unit, whole(above_times)?)?,
+        unit: upper.unit,
         origin: None,
     };
     trades.lines.push(line)?;

@@ -1,4 +1,4 @@
-//! Rows that are true of anything, and rows that leave their columns nothing but 0.
+//! Rows that are true of anything or of nothing, and rows that leave their columns nothing but 0.
 
 use crate::access::{at, item, put};
 use crate::inequalities::Inequalities;
@@ -15,8 +15,8 @@ struct Look {
     negative: bool,
 }
 
-/// Rows without entries go, or one of them is false. A row with right side 0 and positive entries alone, none at a free column,
-/// makes its columns 0.
+/// A row of positive entries alone, none at a free column, is false where its right side is below 0, and makes its columns 0 where that is 0.
+/// Rows without entries go, or one of them is false.
 pub(crate) fn drop_rows(
     alloc: Global,
     all: &mut Inequalities,
@@ -29,13 +29,14 @@ pub(crate) fn drop_rows(
         }
         let look = look_at(all, row)?;
         let right = at(&all.right, row)?;
+        let upward = !look.free && !look.negative;
+        if upward && right.num < 0 {
+            return Ok(Round::False(row));
+        }
         if look.count == 0 {
-            if right.num < 0 {
-                return Ok(Round::False(row));
-            }
             put(&mut all.row_on, row, false)?;
             round = Round::Changed;
-        } else if right.num == 0 && !look.free && !look.negative {
+        } else if upward && right.num == 0 {
             steps.push(zero(alloc, all, row)?)?;
             round = Round::Changed;
         }

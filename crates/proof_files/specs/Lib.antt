@@ -1,2 +1,3 @@
+pub mod PlansWithin
 pub mod ProofRecords
 pub mod Proofs

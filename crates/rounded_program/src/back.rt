@@ -1,11 +1,10 @@
 //! From guessed values to exact ones of all columns.
 
-use crate::decimals::{rounded_to, short_above};
 use crate::margins::Margins;
 use exact_num::{Frac, cmp_frac, sub};
 use presolved_program::{
-    Equality, Line, Merge, Program, Step, Stop, at, filled, float_of, float_of_frac, item,
-    less_product, number_in, put, quotient, whole,
+    Equality, Line, Merge, Program, Step, Stop, at, between, filled, float_of, float_of_frac, item,
+    less_product, number_in, put, quotient, short_above, whole,
 };
 use std::alloc::Global;
 
@@ -23,8 +22,11 @@ pub fn values_of(
     let mut values = filled(alloc, whole(0)?, program.all.free.len())?;
     for (column, guess) in program.columns.iter().zip(guessed.iter()) {
         if *guess > 0.0 {
-            let places = at(&margins.places, *column)?;
-            put(&mut values, *column, rounded_to(*guess, places)?)?;
+            put(
+                &mut values,
+                *column,
+                margins.rounding.value(*column, *guess)?,
+            )?;
         }
     }
     for equality in &program.equalities {
@@ -34,7 +36,7 @@ pub fn values_of(
         let value = traded(&values, program, margins, merge)?;
         put(&mut values, merge.column, value)?;
     }
-    undo(&mut values, program)?;
+    undo(&mut values, program, margins)?;
     Ok(values)
 }
 
@@ -91,12 +93,12 @@ fn traded(
             least = Some(bound);
         }
     }
-    crate::decimals::between(least, most, at(&margins.places, merge.column)?)
+    between(least, most, at(&margins.rounding.places, merge.column)?)
 }
 
 /// The columns that presolve took: those with equal bounds, and then, from the last step to the first, those that can be made large
 /// enough.
-fn undo(values: &mut [Frac], program: &Program) -> Result<(), Stop> {
+fn undo(values: &mut [Frac], program: &Program, margins: &Margins) -> Result<(), Stop> {
     for step in &program.steps {
         if let Step::Equal { column, value, .. } = step {
             put(values, *column, *value)?;
@@ -108,7 +110,9 @@ fn undo(values: &mut [Frac], program: &Program) -> Result<(), Stop> {
             for row in rows {
                 most = most.max(wanted(values, program, *row, *column)?);
             }
-            put(values, *column, short_above(most, 2)?)?;
+            let unit = at(&margins.rounding.units, *column)?;
+            let short = short_above(most * float_of_frac(unit), 2)?;
+            put(values, *column, quotient(short, unit)?)?;
         }
     }
     Ok(())

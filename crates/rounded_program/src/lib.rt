@@ -6,12 +6,12 @@
 
 mod back;
 mod carried;
-mod decimals;
-mod floats;
 mod margins;
+mod rounding;
 mod sides;
 
 pub use back::values_of;
-pub use carried::multipliers_of;
-pub use margins::{Margins, margins_of};
+pub use carried::{multipliers_of, named_multipliers};
+pub use margins::{Margins, margins_for, margins_of};
+pub use rounding::{Rounding, places_beside, plain_rounding};
 pub use sides::{elastic_program, rounded_program};

@@ -1,10 +1,10 @@
 //! Room for rounding: what the rounding of values may take from a row, and that of multipliers from a column.
 
-use crate::decimals::{decimal, digits_before, float_power};
+use crate::rounding::{Rounding, plain_rounding};
 use exact_num::Frac;
 use presolved_program::{
-    Equality, Made, Program, Stop, at, filled, float_of, float_of_frac, item, number_in,
-    plus_product, put, weighted, whole,
+    Equality, Line, Made, Program, Stop, at, decimal, digits_before, filled, float_of,
+    float_of_frac, float_power, item, number_in, plus_product, put, weighted, whole,
 };
 use std::alloc::Global;
 
@@ -14,8 +14,8 @@ const TOLERANCE: f64 = 1.0 / 8589934592.0;
 /// How values and multipliers are rounded, and the room that this wants.
 #[derive(Drop)]
 pub struct Margins {
-    /// How many decimals the value of each column gets.
-    pub(crate) places: Vec<i32>,
+    /// How values are rounded.
+    pub(crate) rounding: Rounding,
     /// How many decimals the multiplier of each line gets.
     pub(crate) digits: Vec<i32>,
     /// What the way back through Trade wants of each line.
@@ -46,9 +46,21 @@ pub fn margins_of(
     places: i32,
     digits: i32,
 ) -> Result<Margins, Stop> {
+    let rounding = plain_rounding(alloc, program, places)?;
+    margins_for(alloc, program, rounding, digits)
+}
+
+/// The room that values and multipliers want that are rounded so, multipliers with `digits` significant digits beside their row's
+/// greatest entry, where they may have as many.
+pub fn margins_for(
+    alloc: Global,
+    program: &Program,
+    rounding: Rounding,
+    digits: i32,
+) -> Result<Margins, Stop> {
     let count = program.all.free.len();
     let mut margins = Margins {
-        places: Vec::with_capacity(alloc, count)?,
+        rounding,
         digits: filled(alloc, 0, program.lines.len())?,
         needs: filled(alloc, whole(0)?, program.lines.len())?,
         halves: Vec::with_capacity(alloc, count)?,
@@ -57,7 +69,10 @@ pub fn margins_of(
         raised: Vec::with_capacity(alloc, program.columns.len())?,
         lowered: Vec::with_capacity(alloc, program.columns.len())?,
     };
-    add_places(&mut margins, program, places)?;
+    for column in 0..count {
+        let half = margins.rounding.half(column)?;
+        margins.halves.push(half)?;
+    }
     add_needs(&mut margins, program)?;
     add_leasts(&mut margins, program)?;
     lower_right_sides(alloc, &mut margins, program)?;
@@ -66,25 +81,10 @@ pub fn margins_of(
     Ok(margins)
 }
 
-/// The decimals of each column: more where its cost has more digits before the point.
-fn add_places(margins: &mut Margins, program: &Program, places: i32) -> Result<(), Stop> {
-    for cost in &program.all.costs {
-        let more = if *cost > 0.0 {
-            digits_before(*cost)?.max(0)
-        } else {
-            0
-        };
-        let all = places.saturating_add(more);
-        margins.places.push(all)?;
-        margins.halves.push(0.5 / float_power(all))?;
-    }
-    Ok(())
-}
-
 /// For each combination: one unit of the free column's last place at the line below, and what its two lines need.
 fn add_needs(margins: &mut Margins, program: &Program) -> Result<(), Stop> {
     for merge in &program.merges {
-        let places = at(&margins.places, merge.column)?;
+        let places = at(&margins.rounding.places, merge.column)?;
         let unit = decimal(1, places)?;
         for made in &merge.made {
             let need = need_of(margins, program, *made, merge.column, unit)?;
@@ -161,13 +161,41 @@ fn lower_right_sides(alloc: Global, margins: &mut Margins, program: &Program) ->
             margins.right.push(right + loose)?;
             continue;
         }
-        let mut room = loose + float_of_frac(at(&margins.needs, *place)?);
-        for entry in &line.entries {
-            room = room + float_of(entry.number).abs() * at(&margins.halves, entry.at)?;
-        }
-        margins.right.push(right - room)?;
+        let room = loose
+            + float_of_frac(at(&margins.needs, *place)?)
+            + nearest_room(margins, line)?;
+        let lowered = right - room;
+        let rise = rising_room(margins, line)?;
+        let none_left = lowered >= 0.0 && lowered - rise < 0.0;
+        margins
+            .right
+            .push(if none_left { lowered } else { lowered - rise })?;
     }
     Ok(())
+}
+
+/// What rounding to the nearest may add to a line.
+fn nearest_room(margins: &Margins, line: &Line) -> Result<f64, Stop> {
+    let mut room = 0.0;
+    for entry in &line.entries {
+        if at(&margins.rounding.rises, entry.at)? == 0.0 {
+            room = room + float_of(entry.number).abs() * at(&margins.halves, entry.at)?;
+        }
+    }
+    Ok(room)
+}
+
+/// What values that are rounded upward and raised may add to a line.
+fn rising_room(margins: &Margins, line: &Line) -> Result<f64, Stop> {
+    let mut room = 0.0;
+    for entry in &line.entries {
+        let rise = at(&margins.rounding.rises, entry.at)?;
+        if rise > 0.0 && entry.number > 0 {
+            let unit = 2.0 * at(&margins.halves, entry.at)?;
+            room = room + float_of(entry.number) * (unit + rise);
+        }
+    }
+    Ok(room)
 }
 
 /// The decimals of each line's multiplier. The unit of the last place of each is handed on.
@@ -179,9 +207,14 @@ fn add_digits(
 ) -> Result<Vec<f64>, Stop> {
     let mut grid = filled(alloc, 0.0, program.lines.len())?;
     for place in &program.left {
-        let unit = float_of_frac(item(&program.lines, *place)?.unit).abs();
+        let line = item(&program.lines, *place)?;
+        let unit = float_of_frac(line.unit).abs();
         let top = at(&program.tops, *place)?;
-        let all = digits.saturating_add(digits_before(top * unit)?);
+        let most = match line.origin {
+            Some(row) => at(&margins.rounding.digits, row)?,
+            None => margins.rounding.combined,
+        };
+        let all = digits.saturating_add(digits_before(top * unit)?).min(most);
         put(&mut margins.digits, *place, all)?;
         put(&mut grid, *place, unit / float_power(all))?;
     }
@@ -191,7 +224,7 @@ fn add_digits(
 /// Each cost, raised and lowered by what rounding may add up to in its column.
 fn move_costs(margins: &mut Margins, program: &Program, grid: &[f64]) -> Result<(), Stop> {
     for column in &program.columns {
-        let mut room = 0.0;
+        let mut room = at(&margins.rounding.errors, *column)?;
         let mut most: f64 = 0.0;
         for entry in item(&program.uses, *column)? {
             let size = float_of(entry.number).abs();
@@ -204,7 +237,12 @@ fn move_costs(margins: &mut Margins, program: &Program, grid: &[f64]) -> Result<
         room = room + TOLERANCE * most;
         let cost = at(&program.all.costs, *column)?;
         margins.raised.push(cost + room)?;
-        margins.lowered.push(cost - room)?;
+        let rises = at(&margins.rounding.rises, *column)? > 0.0;
+        margins.lowered.push(if rises && cost == 0.0 {
+            0.0
+        } else {
+            cost - room
+        })?;
     }
     Ok(())
 }

@@ -4,14 +4,15 @@ ghost use Rattle.std.specs.Prelude.{◌≡◌, ◌≤◌, ℕ, IfOk};
 ghost use Rattle.row_core.specs.Numbers.{keys_of};
 ghost use Rattle.certified_answers.specs.Answers.{AreNamedIn, IsComplete, IsMadeWithin, IsNamed, IsProvedWithin};
 ghost use Rattle.row_problem.specs.ProgramsOf.{IsPosedProblem};
+ghost use Rattle.rounded_solver.specs.Listed.{AreListed};
 
-use crate::plans::plan_of;
+use crate::plans::{multipliers_in, plan_of};
 use certified_answers::{
     Certified, Cost, NoAnswer, accepted_bound, accepted_gap, accepted_plan, accepted_refutation,
     multiplier_laws, plan_laws,
 };
 use exact_num::Frac;
-use row_core::{Multipliers, Plan};
+use row_core::{Multipliers, Plan, Row, Var};
 use row_problem::{Problem, carry_multipliers, carry_plan};
 use std::alloc::Global;
 
@@ -39,32 +40,84 @@ pub(crate) fn certified(
     plan_laws(&plan);
     let multipliers = carry_multipliers(alloc, problem, lambda, true)?;
     multiplier_laws(&multipliers);
-    accepted(alloc, problem, plan, multipliers, ppm, pivots)
+    accepted(
+        alloc,
+        problem.rows,
+        problem.vars,
+        plan,
+        multipliers,
+        ppm,
+        pivots,
+    )
+}
+
+/// The plan of values of all variables, where the checker accepts it, the multipliers of all rows, and the gap between cost and bound.
+pub(crate) fn certified_rows(
+    alloc: Global,
+    rows: &[Row],
+    vars: &[Var],
+    values: &[Frac],
+    multipliers: &[Frac],
+    ppm: u32,
+    pivots: u64,
+) -> Result<Certified, NoAnswer>
+    requires { AreListed rows.now vars.now }
+    ensures proved { IfOk result (IsProvedWithin rows.now vars.now ppm) }
+    ensures whole { IfOk result (IsComplete vars.now) }
+    ensures named { IfOk result (IsNamed rows.now) }
+    ensures made { (most : ℕ) → pivots ≤ most → IfOk result (IsMadeWithin most) }
+{
+    let plan = plan_of(alloc, vars, values)?;
+    let multipliers = multipliers_in(alloc, rows, multipliers)?;
+    accepted(alloc, rows, vars, plan, multipliers, ppm, pivots)
 }
 
 /// A plan and multipliers, where the checker accepts them and the gap.
 fn accepted(
     alloc: Global,
-    problem: &Problem<'_>,
+    rows: &[Row],
+    vars: &[Var],
     plan: Plan,
     multipliers: Multipliers,
     ppm: u32,
     pivots: u64,
 ) -> Result<Certified, NoAnswer>
-    requires { IsPosedProblem problem.now }
-    ensures proved { IfOk result (IsProvedWithin problem.now.rows.now problem.now.vars.now ppm) }
-    ensures whole { keys_of plan ≡ problem.now.vars.now → IfOk result (IsComplete problem.now.vars.now) }
-    ensures named { AreNamedIn problem.now.rows.now multipliers → IfOk result (IsNamed problem.now.rows.now) }
+    requires { AreListed rows.now vars.now }
+    ensures proved { IfOk result (IsProvedWithin rows.now vars.now ppm) }
+    ensures whole { keys_of plan ≡ vars.now → IfOk result (IsComplete vars.now) }
+    ensures named { AreNamedIn rows.now multipliers → IfOk result (IsNamed rows.now) }
     ensures made { (most : ℕ) → pivots ≤ most → IfOk result (IsMadeWithin most) }
 {
-    let cost = accepted_plan(problem.rows, problem.vars, &plan)?;
-    let bound = accepted_bound(alloc, problem.rows, problem.vars, Cost::Model, &multipliers)?;
+    let cost = accepted_plan(rows, vars, &plan)?;
+    let bound = accepted_bound(alloc, rows, vars, Cost::Model, &multipliers)?;
     accepted_gap(cost, bound, ppm)?;
     Ok(Certified::Optimal {
         plan,
         multipliers,
         cost,
         bound,
+        pivots,
+    })
+}
+
+/// The multipliers of all rows, where the checker accepts that they show that there is no plan.
+pub(crate) fn refuted_rows(
+    alloc: Global,
+    rows: &[Row],
+    vars: &[Var],
+    multipliers: &[Frac],
+    pivots: u64,
+) -> Result<Certified, NoAnswer>
+    requires { AreListed rows.now vars.now }
+    ensures proved { (ppm : ℕ) → IfOk result (IsProvedWithin rows.now vars.now ppm) }
+    ensures whole { IfOk result (IsComplete vars.now) }
+    ensures named { IfOk result (IsNamed rows.now) }
+    ensures made { (most : ℕ) → pivots ≤ most → IfOk result (IsMadeWithin most) }
+{
+    let multipliers = multipliers_in(alloc, rows, multipliers)?;
+    accepted_refutation(alloc, rows, vars, &multipliers)?;
+    Ok(Certified::Infeasible {
+        multipliers,
         pivots,
     })
 }

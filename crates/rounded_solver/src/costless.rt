@@ -10,12 +10,13 @@ ghost use Rattle.certified_answers.specs.Answers.{IsComplete, IsMadeWithin, IsNa
 
 use crate::attempt::{Attempt, no_guess};
 use crate::certifying::certified;
-use crate::tries::{RoundedEnd, TOLERANCE};
+use crate::limit::limited_guess;
+use crate::tries::RoundedEnd;
 use certified_answers::NoAnswer;
 use exact_num::Frac;
 use presolved_program::{Aim, Stop, prepare};
 use rounded_program::{margins_of, rounded_program, values_of};
-use rounded_simplex::{Answer, guess};
+use rounded_simplex::Answer;
 use row_core::fraction;
 use row_problem::Problem;
 use std::alloc::{AllocError, Global};
@@ -54,7 +55,7 @@ fn costless_end(alloc: Global, reduced: &Reduced, pivots: u64) -> Result<Rounded
     }
     let margins = margins_of(alloc, &smaller, PLACES, DIGITS)?;
     let asked = rounded_program(alloc, &smaller, &margins)?;
-    match guess(alloc, &asked, TOLERANCE, pivots)? {
+    match limited_guess(alloc, &asked, pivots)? {
         Answer::Solved(guess) => {
             let values = values_of(alloc, &smaller, &margins, &guess.values)?;
             let lambda = zeros(alloc, reduced.rows.len())?;

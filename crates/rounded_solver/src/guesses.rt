@@ -5,13 +5,14 @@ ghost use Rattle.row_core.specs.Numbers.{ascends, keys_of};
 ghost use Rattle.row_core.specs.Order.{var_cmp};
 ghost use Rattle.rounded_solver.specs.Guesses.{IfValues};
 
+use crate::limit::limited_guess;
 use crate::plans::plan_of;
 use crate::refuting::make_guess;
-use crate::tries::{TOLERANCE, rounded_end};
+use crate::tries::rounded_end;
 use exact_num::Frac;
 use presolved_program::{Aim, Stop, prepare};
 use rounded_program::{margins_of, rounded_program, values_of};
-use rounded_simplex::{Answer, guess};
+use rounded_simplex::Answer;
 use row_core::Plan;
 use std::alloc::{AllocError, Global};
 use written_method::Reduced;
@@ -69,7 +70,7 @@ fn values_guessed(alloc: Global, reduced: &Reduced, places: i32, pivots: u64) ->
     }
     let margins = margins_of(alloc, &smaller, places, DIGITS)?;
     let asked = rounded_program(alloc, &smaller, &margins)?;
-    match guess(alloc, &asked, TOLERANCE, pivots)? {
+    match limited_guess(alloc, &asked, pivots)? {
         Answer::Solved(guess) => {
             let values = values_of(alloc, &smaller, &margins, &guess.values)?;
             let plan = plan_of(alloc, reduced.columns.as_slice(), &values)?;

@@ -3,14 +3,22 @@
 #![tactic(auto)]
 
 mod attempt;
+mod carried_back;
 mod certifying;
 mod costless;
 mod guesses;
+mod limit;
 mod plans;
+mod raising;
 mod refuting;
+mod room;
+mod short_numbers;
+mod short_tries;
+mod sizes;
 mod solving;
 mod tries;
 
 pub use guesses::{Guess, GuessedOptimum, guess_multipliers, guess_optimum, guess_values};
+pub use short_tries::guessed_rows;
 pub use solving::guessed;
 pub use tries::TRIES;

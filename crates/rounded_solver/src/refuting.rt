@@ -7,12 +7,12 @@ ghost use Rattle.certified_answers.specs.Answers.{IsComplete, IsMadeWithin, IsNa
 
 use crate::attempt::{Attempt, no_guess};
 use crate::certifying::refuted;
-use crate::tries::TOLERANCE;
+use crate::limit::limited_guess;
 use certified_answers::NoAnswer;
 use exact_num::Frac;
 use presolved_program::{Aim, Program, Stop, prepare};
 use rounded_program::{elastic_program, margins_of, multipliers_of};
-use rounded_simplex::{Answer, guess};
+use rounded_simplex::Answer;
 use row_problem::Problem;
 use std::alloc::Global;
 
@@ -88,7 +88,7 @@ pub(crate) fn make_guess(
         return Ok(Refuting { lambda, pivots: 0 });
     }
     let asked = elastic_program(alloc, smaller, &margins)?;
-    match guess(alloc, &asked, TOLERANCE, pivots)? {
+    match limited_guess(alloc, &asked, pivots)? {
         Answer::Solved(guess) => {
             let lambda = multipliers_of(alloc, smaller, &margins, &guess.multipliers)?;
             Ok(Refuting {

@@ -7,19 +7,23 @@ ghost use Rattle.certified_answers.specs.Answers.{IsComplete, IsMadeWithin, IsNa
 
 use crate::attempt::{Attempt, no_guess};
 use crate::certifying::certified;
+use crate::limit::limited_guess;
 use certified_answers::NoAnswer;
 use exact_num::Frac;
 use presolved_program::{Aim, Program, Stop, prepare};
 use rounded_program::{margins_of, multipliers_of, rounded_program, values_of};
-use rounded_simplex::{Answer, guess};
+use rounded_simplex::Answer;
 use row_problem::Problem;
 use std::alloc::Global;
 
-/// A tenth of 2^-34: what the guess may miss a row by. The margins have twenty times that.
-pub(crate) const TOLERANCE: f64 = 0.1 / 17179869184.0;
-
 /// The decimals of values and the significant digits of multipliers, try by try: fewer need fewer bits, and leave a wider gap.
-pub const TRIES: [(i32, i32); 4] = [(7, 9), (6, 8), (5, 7), (4, 6)];
+pub const TRIES: [(i32, i32); 5] = [(8, 10), (7, 9), (6, 8), (5, 7), (4, 6)];
+
+/// The first of them.
+pub(crate) const FIRST_TRY: [(i32, i32); 1] = [(8, 10)];
+
+/// The others.
+pub(crate) const FURTHER_TRIES: [(i32, i32); 4] = [(7, 9), (6, 8), (5, 7), (4, 6)];
 
 /// Values of columns and multipliers of rows, and the pivots that they took.
 #[derive(Drop)]
@@ -29,10 +33,11 @@ pub(crate) struct RoundedEnd {
     pub(crate) pivots: u64,
 }
 
-/// The first try that the checker accepts.
+/// The first of these tries that the checker accepts.
 pub(crate) fn cheapest_plan(
     alloc: Global,
     problem: &Problem<'_>,
+    tries: &[(i32, i32)],
     ppm: u32,
     pivots: u64,
 ) -> Result<Attempt, NoAnswer>
@@ -46,8 +51,8 @@ pub(crate) fn cheapest_plan(
     if smaller.is_false() {
         return Ok(Attempt::NoPlan);
     }
-    for (places, digits) in TRIES {
-        match one_try(alloc, problem, &smaller, places, digits, ppm, pivots) {
+    for (places, digits) in tries {
+        match one_try(alloc, problem, &smaller, *places, *digits, ppm, pivots) {
             Ok(Attempt::Found(found)) => return Ok(Attempt::Found(found)),
             Ok(Attempt::NoPlan) => return Ok(Attempt::NoPlan),
             Ok(Attempt::Nothing) => {}
@@ -96,7 +101,7 @@ pub(crate) fn rounded_end(
 {
     let margins = margins_of(alloc, smaller, places, digits)?;
     let asked = rounded_program(alloc, smaller, &margins)?;
-    match guess(alloc, &asked, TOLERANCE, pivots)? {
+    match limited_guess(alloc, &asked, pivots)? {
         Answer::Solved(guess) => {
             let values = values_of(alloc, smaller, &margins, &guess.values)?;
             let lambda = multipliers_of(alloc, smaller, &margins, &guess.multipliers)?;

@@ -7,8 +7,7 @@ use Rattle.model_sets.specs.Members.{AreSets, SetLists}
 use Rattle.row_core.specs.declared.Row.{Row}
 use Rattle.row_core.specs.declared.RowName.{RowName}
 use Rattle.row_core.specs.declared.Var.{Var}
-use Rattle.row_core.specs.Numbers.{ascends, keys_of}
-use Rattle.row_core.specs.Order.{row_name_cmp}
+use Rattle.row_core.specs.Numbers.{keys_of}
 use Rattle.row_core.specs.Plans.{valued}
 use Rattle.named_equations.specs.Existence.{all_variables}
 use Rattle.named_equations.specs.Instances.{instances}

@@ -1,5 +1,5 @@
 -- What is due for a solution of a book of rows, and for a stop of the method, over the named equations.
-use Rattle.std.proofs.Common.{◌≡◌, ◌==◌, ℕ, Bool, true, false, inl, inr, Option, Some, None, List, refl, sym, ap, ◌∙◌, subst, if◌then◌else◌}
+use Rattle.std.proofs.Common.{◌≡◌, ◌==◌, ℕ, Bool, true, false, inl, inr, Some, None, List, refl, sym, ap, ◌∙◌, subst, if◌then◌else◌}
 use Rattle.std.specs.Prelude.{is_none}
 use Rattle.exact_num.specs.Rational.{Rational}
 use Rattle.exact_num.specs.Steps.{first_wide}
@@ -31,7 +31,7 @@ use Rattle.solve_command.specs.declared.solve.Shown.{Shown}
 use Rattle.solve_command.specs.declared.solve.Shown.TheVariants.{Report, Summary}
 use Rattle.solve_command.specs.declared.solve.Wanted.{Wanted}
 use Rattle.command_answers.specs.declared.status.Status.{Status}
-use Rattle.simplex_core.specs.declared.stops.Stop.TheVariants.{Budget, Width}
+use Rattle.simplex_core.specs.declared.stops.Stop.TheVariants.{Width}
 use Rattle.command_answers.specs.CheckedPlans.{IsBookOf}
 use Rattle.command_answers.specs.Lines.{uncertified_line}
 use Rattle.solve_command.specs.Solve.{ComesToEnd, DueBy, DueForEnd, DueForMethod, PricesFit, priced, second_end}

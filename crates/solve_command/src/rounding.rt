@@ -12,7 +12,7 @@ use crate::readback::{readback_laws, solution_fractions};
 use crate::solve::Wanted;
 use crate::texts::solution_text;
 use certified_answers::Certified;
-use command_answers::{Answer, BookProgram, guess_book};
+use command_answers::{Answer, BookProgram, guess_book, guess_rows};
 use model_sets::Sets;
 use row_book::RowBook;
 use row_core::Stopped;
@@ -39,7 +39,47 @@ pub fn answer_rounded(
         IsFound places d book.now.rows wanted rounded answer.status answer.text.items
         ⊎ IsFoundInfeasibleShown places d book.now.rows wanted rounded answer.status answer.text.items)) }
 {
-    match guess_book(alloc, book, program, wanted.gap, u64::from(wanted.pivots))? {
+    let found = guess_book(alloc, book, program, wanted.gap, u64::from(wanted.pivots))?;
+    answer_guess(alloc, book, sets, found, places, wanted, rounded)
+}
+
+/// The same over a book whose elimination stops at a number that doesn't fit: guesses of its rows alone.
+pub fn answer_rows(
+    alloc: Global,
+    book: &RowBook,
+    sets: &Sets,
+    places: u8,
+    wanted: Wanted,
+    rounded: u64,
+) -> Result<Option<Answer>, AllocError>
+    requires { IsListedBook sets.now book.now.rows book.now.vars }
+    ensures { (d : Data) → sets.now ≡ d.sets → IsBookOf places d book.now.rows book.now.vars
+        → IfOk result (λ found. IfSome found (λ answer.
+        IsFound places d book.now.rows wanted rounded answer.status answer.text.items
+        ⊎ IsFoundInfeasibleShown places d book.now.rows wanted rounded answer.status answer.text.items)) }
+{
+    let found = guess_rows(alloc, book, wanted.gap, u64::from(wanted.pivots))?;
+    answer_guess(alloc, book, sets, found, places, wanted, rounded)
+}
+
+// The answer for what guesses find, where they find something.
+fn answer_guess(
+    alloc: Global,
+    book: &RowBook,
+    sets: &Sets,
+    found: Option<Certified>,
+    places: u8,
+    wanted: Wanted,
+    rounded: u64,
+) -> Result<Option<Answer>, AllocError>
+    requires listed { IsListedBook sets.now book.now.rows book.now.vars }
+    requires found { IfSome found (IsFoundBy book.now.rows book.now.vars wanted.gap wanted.pivots) }
+    ensures { (d : Data) → sets.now ≡ d.sets → IsBookOf places d book.now.rows book.now.vars
+        → IfOk result (λ found. IfSome found (λ answer.
+        IsFound places d book.now.rows wanted rounded answer.status answer.text.items
+        ⊎ IsFoundInfeasibleShown places d book.now.rows wanted rounded answer.status answer.text.items)) }
+{
+    match found {
         Some(solution) => {
             readback_laws(book, sets);
             solution_fractions(&solution);

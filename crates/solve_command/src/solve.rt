@@ -1,5 +1,5 @@
 // What `solve` answers over accepted data: an end of the exact method, or why there is none.
-ghost use Rattle.std.specs.Prelude.{◌≡◌, None, IfOk};
+ghost use Rattle.std.specs.Prelude.{◌≡◌, None, Some, IfOk};
 ghost use Rattle.exact_num.specs.Steps.{first_wide};
 ghost use Rattle.discount_factors.specs.Factors.{IsPlaces};
 ghost use Rattle.model_sets.specs.Data.{AreSameData, Data};
@@ -14,7 +14,7 @@ ghost use Rattle.solve_command.specs.Second.{TellsExactly};
 
 use crate::ends::status_of;
 use crate::readback::{readback_laws, solution_fractions};
-use crate::rounding::answer_rounded;
+use crate::rounding::{answer_rounded, answer_rows};
 use crate::second::or_second;
 use crate::texts::solution_text;
 use certified_answers::Certified;
@@ -26,7 +26,7 @@ use command_words::{SolveMethod, SolveShow};
 use model_sets::Sets;
 use param_tables::ModelData;
 use row_book::RowBook;
-use row_core::Stopped;
+use row_core::{Place, Stopped};
 use std::alloc::{AllocError, Global};
 
 /// The number of the attempt that the exact method is.
@@ -99,7 +99,37 @@ pub fn answer_method(
 {
     match eliminate_book(alloc, book) {
         Ok(program) => answer_program(alloc, book, sets, &program, places, wanted, rounded),
-        Err(stop) => stop_on_elimination(alloc, book, sets, stop),
+        Err(Stopped::Width(place)) => {
+            answer_width(alloc, book, sets, place, places, wanted, rounded)
+        }
+        Err(Stopped::Memory) => Err(AllocError),
+    }
+}
+
+// What is due where a number of the elimination doesn't fit, formed at this place: with the rounded method what guesses of the rows find.
+fn answer_width(
+    alloc: Global,
+    book: &RowBook,
+    sets: &Sets,
+    place: Place,
+    places: u8,
+    wanted: Wanted,
+    rounded: u64,
+) -> Result<Answer, AllocError>
+    requires listed { IsListedBook sets.now book.now.rows book.now.vars }
+    requires wide { first_wide (elimination_steps book.now.rows (definers book.now.rows)) ≡ Some place }
+    ensures { (d : Data) → sets.now ≡ d.sets → IsBookOf places d book.now.rows book.now.vars
+        → IfOk result (λ answer. DueForMethod places d book.now.rows wanted rounded answer.status answer.text.items) }
+{
+    let stop = Stopped::Width(place);
+    match wanted.method {
+        SolveMethod::Exact => stop_on_elimination(alloc, book, sets, stop),
+        SolveMethod::Rounded => {
+            match answer_rows(alloc, book, sets, places, wanted, rounded)? {
+                Some(answer) => Ok(answer),
+                None => stop_on_elimination(alloc, book, sets, stop),
+            }
+        }
     }
 }
 

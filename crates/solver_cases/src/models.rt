@@ -10,7 +10,7 @@ use crate::books::{book_of, solve_program};
 use crate::checks::COST;
 use crate::lines::{multiplier_lines, program_lines};
 use crate::numbers::{fractions_of, next_fraction, shown};
-use crate::rounded_ends::{print_rounded, print_span};
+use crate::rounded_ends::{print_rounded, print_rows_alone, print_span};
 use crate::small_rows::{ACTIVITY, CAPACITY};
 use command_answers::{BookProgram, eliminate_book, problem_of};
 use row_book::RowBook;
@@ -37,6 +37,9 @@ pub fn print_model(rt: &HostRuntime, line: &str) -> io::Result<()> {
         let technology = first.parse::<u16>().unwrap_or(0);
         let limit = fields.next().unwrap_or("");
         return print_span(rt, &book, technology, limit, fields.next().unwrap_or(""));
+    }
+    if kind == "rows" {
+        return print_rows_alone(rt, &book, first);
     }
     let Ok(program) = eliminate_book(rt.alloc(), &book) else {
         println!(rt; "not eliminated")?;

@@ -10,7 +10,7 @@ use crate::books::capacity_of;
 use crate::numbers::{fraction_of, shown, within};
 use certificate_checker::{Verdict, check_plan};
 use certified_answers::Certified;
-use command_answers::{BookProgram, definers, guess_book, problem_laws};
+use command_answers::{BookProgram, definers, guess_book, guess_rows, problem_laws};
 use exact_num::{Frac, cmp_frac};
 use row_book::RowBook;
 use span_finder::round_span;
@@ -22,8 +22,7 @@ const GAP: u32 = 10;
 /// The most pivots.
 const PIVOTS: u64 = 1000;
 
-/// Prints whether the cost that is found is at least the least one and the bound at most, and whether the checker accepts the plan with
-/// this cost; or that there is no plan.
+/// Prints what the guesses find of a book.
 pub fn print_rounded(
     rt: &HostRuntime,
     book: &RowBook,
@@ -32,7 +31,28 @@ pub fn print_rounded(
 ) -> io::Result<()>
     requires { IsProgramOf book.now.rows book.now.vars program.now }
 {
-    match guess_book(rt.alloc(), book, program, GAP, PIVOTS)? {
+    print_found(
+        rt,
+        book,
+        guess_book(rt.alloc(), book, program, GAP, PIVOTS)?,
+        least,
+    )
+}
+
+/// Prints what they find of the rows of a book alone.
+pub fn print_rows_alone(rt: &HostRuntime, book: &RowBook, least: &str) -> io::Result<()> {
+    print_found(rt, book, guess_rows(rt.alloc(), book, GAP, PIVOTS)?, least)
+}
+
+/// Prints whether the cost that is found is at least the least one and the bound at most, and whether the checker accepts the plan with
+/// this cost; or that there is no plan.
+fn print_found(
+    rt: &HostRuntime,
+    book: &RowBook,
+    found: Option<Certified>,
+    least: &str,
+) -> io::Result<()> {
+    match found {
         Some(
             Certified::Optimal {
                 plan,

@@ -1,7 +1,7 @@
 use Rattle.std.proofs.Common.{◌∙◌, ℕ, List, ap, codes}
 use Rattle.std.proofs.lemmas.Result.{IfOk-weaker}
 use Rattle.clap.specs.Words.{App, with_rule}
-use Rattle.command_words.specs.ClapWords.{option_rule}
+use Rattle.command_words.specs.ClapWords.{flag_rule, option_rule}
 use Rattle.command_words.proofs.parsing.any_options.Goals as goal
 
 pub returns : goal.returns
@@ -13,4 +13,5 @@ returns c =
     let show = c.in_ok-command-4.ensures ∙ ap (more (codes "show")) places in
     let method = c.in_ok-command-5.ensures ∙ ap (more (codes "method")) show in
     let slack = c.in_ok-command-6.ensures ∙ ap (more (codes "slack")) method in
-    IfOk-weaker c.with_option-7.result _ _ (λ command added. added ∙ ap (more (codes "proof")) slack) c.with_option-7.ensures
+    let proof = c.in_ok-command-7.ensures ∙ ap (more (codes "proof")) slack in
+    IfOk-weaker c.with_flag.result _ _ (λ command added. added ∙ ap (λ (app : App). with_rule app (flag_rule (codes "exact"))) proof) c.with_flag.ensures

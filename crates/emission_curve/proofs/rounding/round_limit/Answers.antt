@@ -10,7 +10,7 @@ returns-in-Some-Optimal-clause-worth c =
     let rows = c.args.rows.now in
     let vars = c.args.vars.now in
     let w = c.in-Some-Optimal in
-    let proved = subst (IsProvedWithin rows vars c.args.ppm) w.field-0-is (subst (λ found. IfSome found (IsProvedWithin rows vars c.args.ppm)) w.is c.in_ok-multipliers.ensures.proved) in
+    let proved = subst (IsProvedWithin rows vars c.args.ppm) w.field-0-is (subst (λ found. IfSome found (IsProvedWithin rows vars c.args.ppm)) w.is c.in_ok-multipliers.ensures) in
     IfSome_then c.line.result c.line.ensures.line
     (λ point is.
     subst (EndIsOf rows vars c.args.limit) (sym is)

@@ -113,6 +113,8 @@ returns-in-Ok-clause-complete g c = λ files told calm unfailing.
       one_multipliers = c.telling_laws.ensures.multipliers;
       plan_or_fault = c.telling_laws.ensures.plan_or_fault;
       multipliers_or_fault = c.telling_laws.ensures.multipliers_or_fault;
+      one_proof = c.proof_telling_laws.ensures.one_proof;
+      proof_or_fault = c.proof_telling_laws.ensures.proof_or_fault;
       made = c.stop_laws.ensures.made;
     } in
     completes laws (AskForEquations words) words files c.deliver.result (output (sink.written c.args.out.now) (sink.accepted c.args.out.now)) (output (sink.written c.deliver.new.out) (sink.accepted c.deliver.new.out)) (sink.faults c.args.out.now) (sink.faults c.deliver.new.out)

@@ -15,7 +15,7 @@ use Rattle.command_words.specs.Commands.{request_of_result}
 use Rattle.osemosys_run.specs.Reading.{Sight}
 use Rattle.osemosys_run.specs.Tasks.{CausedByOneFile}
 use Rattle.command_words.specs.Words.{Request, asked}
-use Rattle.command_words.proofs.Requests.{asked_places, check_places, check_proof_places, curve_places, explain_places, make_size, solve_places, span_places}
+use Rattle.command_words.proofs.Requests.{asked_places, check_places, check_proof_places, curve_places, explain_places, make_size, solve_places, span_places, table_places}
 use Rattle.osemosys_run.proofs.run.perform.Goals as goal
 
 pub perform_mps-requires : goal.perform_mps-requires
@@ -63,10 +63,15 @@ perform_check-requires g c =
     let request = ap request_of_result (sym (c.in-Ok-Check.is ∙ ap Ok c.in-Ok-Check.field-0-is)) ∙ c.in_ok-file.ensures in
     check_places (map string_bytes c.args.words.now) c.in-Ok-Check.file.now c.in-Ok-Check.plan.now (option_map (λ name. name.now) c.in-Ok-Check.multipliers) c.in-Ok-Check.gap c.in-Ok-Check.places (sym request)
 
-pub perform_proof_check-requires : goal.perform_proof_check-requires
-perform_proof_check-requires g c =
+pub perform_proof_task-requires : goal.perform_proof_task-requires
+perform_proof_task-requires g c =
     let request = ap request_of_result (sym (c.in-Ok-CheckProof.is ∙ ap Ok c.in-Ok-CheckProof.field-0-is)) ∙ c.in_ok-file.ensures in
     check_proof_places (map string_bytes c.args.words.now) c.in-Ok-CheckProof.file.now c.in-Ok-CheckProof.proof.now c.in-Ok-CheckProof.gap c.in-Ok-CheckProof.places (sym request)
+
+pub perform_proof_task-requires-in-Ok-Table : goal.perform_proof_task-requires-in-Ok-Table
+perform_proof_task-requires-in-Ok-Table g c =
+    let request = ap request_of_result (sym (c.in-Ok-Table.is ∙ ap Ok c.in-Ok-Table.field-0-is)) ∙ c.in_ok-file.ensures in
+    table_places (map string_bytes c.args.words.now) c.in-Ok-Table.file.now c.in-Ok-Table.proof.now c.in-Ok-Table.name.now c.in-Ok-Table.exact c.in-Ok-Table.gap c.in-Ok-Table.places (sym request)
 
 pub returns-in-Ok-Mps-clause-caused : goal.returns-in-Ok-Mps-clause-caused
 returns-in-Ok-Mps-clause-caused g c =
@@ -165,7 +170,7 @@ pub returns-in_ok-answer-in-Ok-CheckProof-clause-caused : goal.returns-in_ok-ans
 returns-in_ok-answer-in-Ok-CheckProof-clause-caused g c = λ status text said.
     let shelf = g.S.Shelf in
     let old = c.args.shelf.now in
-    let new = c.perform_proof_check.new.shelf in
+    let new = c.perform_proof_task.new.shelf in
     let before : Sight = record { files = shelf.files old; rest = shelf.rest old; faults = shelf.faults old; begins = shelf.begins old; taken = shelf.taken old; moved = shelf.moved old } in
     let after : Sight = record { files = shelf.files new; rest = shelf.rest new; faults = shelf.faults new; begins = shelf.begins new; taken = shelf.taken new; moved = shelf.moved new } in
     let request = ap request_of_result (sym (c.in-Ok-CheckProof.is ∙ ap Ok c.in-Ok-CheckProof.field-0-is)) ∙ c.in_ok-file.ensures in
@@ -173,6 +178,20 @@ returns-in_ok-answer-in-Ok-CheckProof-clause-caused g c = λ status text said.
     told_so (λ (s : Status) (t : List ℕ). CausedByRequest (asked (map string_bytes c.args.words.now)) before after s t) answer.status answer.text.items
     (subst (λ (r : Result Request WordFault). CausedByRequest r before after answer.status answer.text.items) request
     c.in_ok-answer-in-Ok-CheckProof.ensures.caused)
+    status text said
+
+pub returns-in_ok-answer-in-Ok-Table-clause-caused : goal.returns-in_ok-answer-in-Ok-Table-clause-caused
+returns-in_ok-answer-in-Ok-Table-clause-caused g c = λ status text said.
+    let shelf = g.S.Shelf in
+    let old = c.args.shelf.now in
+    let new = c.perform_proof_task-in-Ok-Table.new.shelf in
+    let before : Sight = record { files = shelf.files old; rest = shelf.rest old; faults = shelf.faults old; begins = shelf.begins old; taken = shelf.taken old; moved = shelf.moved old } in
+    let after : Sight = record { files = shelf.files new; rest = shelf.rest new; faults = shelf.faults new; begins = shelf.begins new; taken = shelf.taken new; moved = shelf.moved new } in
+    let request = ap request_of_result (sym (c.in-Ok-Table.is ∙ ap Ok c.in-Ok-Table.field-0-is)) ∙ c.in_ok-file.ensures in
+    let answer = c.in_ok-answer-in-Ok-Table.answer in
+    told_so (λ (s : Status) (t : List ℕ). CausedByRequest (asked (map string_bytes c.args.words.now)) before after s t) answer.status answer.text.items
+    (subst (λ (r : Result Request WordFault). CausedByRequest r before after answer.status answer.text.items) request
+    c.in_ok-answer-in-Ok-Table.ensures.caused)
     status text said
 
 pub returns-in_ok-answer-in-Ok-Make-clause-caused : goal.returns-in_ok-answer-in-Ok-Make-clause-caused

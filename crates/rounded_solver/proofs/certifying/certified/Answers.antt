@@ -2,7 +2,11 @@
 use Rattle.std.proofs.Common.{map, true, ◌∙◌}
 use Rattle.exact_num.specs.Value.{value_of}
 use Rattle.row_problem.proofs.CompletePlans.{multipliers-named, plan-complete}
+use Rattle.rounded_solver.proofs.ListedLaws.{listed-problem}
 use Rattle.rounded_solver.proofs.certifying.certified.Goals as goal
+
+pub accepted-requires : goal.accepted-requires
+accepted-requires c = listed-problem c.args.problem.now c.requires
 
 pub returns-clause-whole : goal.returns-clause-whole
 returns-clause-whole c =

@@ -1,0 +1,53 @@
+-- A proof that is kept where the answer to it is that it is accepted, and the answer where it isn't.
+use Rattle.std.proofs.Common.{◌≡◌, ◌≢◌, ℕ, List, [], ◌∷◌, inr, Result, Ok, Err, sym, subst}
+use Rattle.std.specs.Prelude.{MatchResult}
+use Rattle.std.specs.List.{AllByRecursion}
+use Rattle.exact_num.specs.Rational.{Rational}
+use Rattle.model_sets.specs.Data.{Data}
+use Rattle.model_sets.specs.Members.{SetLists}
+use Rattle.row_core.specs.declared.Row.{Row}
+use Rattle.row_core.specs.declared.RowName.{RowName}
+use Rattle.row_core.specs.declared.Var.{Var}
+use Rattle.row_core.specs.NameTexts.{VariableIsWithin}
+use Rattle.row_core.specs.Numbers.{keys_of}
+use Rattle.named_equations.specs.Existence.{all_variables}
+use Rattle.named_equations.specs.Instances.{instances}
+use Rattle.plan_files.specs.Files.{Fields, records_of}
+use Rattle.plan_files.specs.Listed.{IsListedVariable}
+use Rattle.proof_files.specs.declared.proof.Proof.{Proof}
+use Rattle.proof_files.specs.declared.proof.Proof.TheVariants.{Optimum, Refutation, Descent}
+use Rattle.proof_files.specs.PlansWithin.{HasPlanWithin}
+use Rattle.proof_files.specs.Proofs.{IsProof}
+use Rattle.command_answers.specs.declared.answer.Answer.{Answer}
+use Rattle.command_answers.specs.declared.status.Status.{Status}
+use Rattle.command_answers.specs.declared.status.Status.TheVariants.{Done}
+use Rattle.check_command.specs.AcceptedProofs.{TellsProof}
+use Rattle.check_command.specs.CheckProof.{DueForProofTold}
+
+-- ---- the plan of a proof is one of the sets
+
+keys_within : (sets : SetLists) (plan : List (Var × Rational)) → AllByRecursion (IsListedVariable sets) (keys_of plan) → AllByRecursion (λ (e : Var × Rational). VariableIsWithin sets e.0) plan
+keys_within sets [] all = tt
+keys_within sets (e ∷ plan) all = (all.0.1, keys_within sets plan all.1)
+
+pub plan_within : (sets : SetLists) (vars : List Var) (names : List RowName) (all : List Fields) (proof : Proof) → AllByRecursion (IsListedVariable sets) vars → IsProof sets vars names all proof → HasPlanWithin sets proof
+plan_within sets vars names all (Optimum plan multipliers) listed is = keys_within sets plan (subst (AllByRecursion (IsListedVariable sets)) (sym is.told.2.whole) listed)
+plan_within sets vars names all (Refutation multipliers) listed is = tt
+plan_within sets vars names all (Descent plan direction) listed is = tt
+
+-- ---- over rows
+
+module _ (places : ℕ) (bytes : List ℕ) (gap : ℕ) (d : Data) (rows : List Row) where
+  pub kept_or_said : (proof : Proof) (answer : Answer) (r : Result Proof Answer) → IsProof d.sets (all_variables d) (instances d) (records_of bytes) proof → HasPlanWithin d.sets proof
+      → DueForProofTold places d rows gap proof answer.status answer.text.items
+      → MatchResult r (λ kept. (kept ≡ proof) × (answer.status ≡ Done)) (λ said. (said ≡ answer) × (answer.status ≢ Done)) → TellsProof places bytes gap d rows r
+  kept_or_said proof answer (Ok kept) told within due (same, done) =
+      subst (λ (p : Proof). TellsProof places bytes gap d rows (Ok p)) (sym same)
+      (record {
+        said = answer.text.items;
+        due = inr (proof, told, subst (λ (s : Status). DueForProofTold places d rows gap proof s answer.text.items) done due);
+        told = told;
+        within = within;
+      })
+  kept_or_said proof answer (Err said) told within due (same, other) =
+      subst (λ (a : Answer). TellsProof places bytes gap d rows (Err a)) (sym same) (record { due = inr (proof, told, due); not_done = other })

@@ -1,0 +1,4 @@
+mod Examples
+pub mod ColumnLaws
+pub mod KindLaws
+pub mod TextLaws

@@ -1,0 +1,11 @@
+-- The members so far.
+use Rattle.std.proofs.Common.{◌≡◌, ◌++◌, [], map, take}
+use Rattle.csv.specs.Records.{fields_of, partial_of}
+use Rattle.row_core.specs.NameTexts.{member}
+use Rattle.plan_tables.proofs.values.push_members.Given as goal
+
+abbrev pub invariant-loop-place : goal.invariant-loop-place
+invariant-loop-place l = record {
+  fields : fields_of l.fields ≡ fields_of l.fn.fields ++ map (member l.sets l.fn.at) (take l.place-index l.places);
+  whole : partial_of l.fields ≡ [];
+}

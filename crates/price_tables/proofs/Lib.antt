@@ -1,0 +1,3 @@
+mod AmountExamples
+mod TableExamples
+pub mod TextLaws

@@ -1,0 +1,3 @@
+pub mod PriceAmounts
+pub mod PriceTables
+pub mod PricedRows

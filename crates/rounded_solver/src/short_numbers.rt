@@ -1,0 +1,231 @@
+//! Guesses in numbers that are short by their size, from the named rows alone.
+//!
+//! No defined variable is removed exactly for them, so rows whose exact elimination wants numbers of more than 128 bits are no hindrance.
+
+ghost use Rattle.std.specs.Prelude.{◌≤◌, IfOk, IfSome};
+
+use crate::carried_back::{Proving, multipliers_of_rows};
+use crate::limit::limited_guess;
+use crate::raising::raised_values;
+use crate::room::{Room, room_of, rounding_within};
+use crate::sizes::sum_errors;
+use exact_num::Frac;
+use presolved_program::{Aim, Layout, Program, Stop, at, layout_of, prepare_rows, put};
+use rounded_program::{
+    Margins, elastic_program, margins_for, margins_of, named_multipliers, plain_rounding,
+    rounded_program, values_of,
+};
+use rounded_simplex::Answer;
+use row_core::{Row, Var};
+use std::alloc::Global;
+
+/// The decimals of values and the significant digits of multipliers of the first guess, of which the sizes alone count.
+const PLACES: i32 = 8;
+
+const DIGITS: i32 = 10;
+
+/// A value for each variable and a multiplier for each row, in order, and the pivots that they took.
+#[derive(Drop)]
+pub(crate) struct ShortEnd {
+    pub(crate) values: Vec<Frac>,
+    pub(crate) multipliers: Vec<Frac>,
+    pub(crate) pivots: u64,
+}
+
+/// What guesses are made of: the rows by places, the smaller program, and the room for decimals.
+#[derive(Drop)]
+pub(crate) struct Measured {
+    layout: Layout,
+    smaller: Program,
+    room: Room,
+}
+
+/// Values of the columns, multipliers of the rows that are no equations, and the pivots that they took.
+#[derive(Drop)]
+struct Ended {
+    values: Vec<Frac>,
+    named: Vec<Frac>,
+    pivots: u64,
+}
+
+/// A first guess, which tells how large the numbers are, and so how many decimals there is room for. None where there seems to be no plan.
+pub(crate) fn measure(
+    alloc: Global,
+    rows: &[Row],
+    defs: &[Option<Var>],
+    vars: &[Var],
+    pivots: u64,
+) -> Result<Option<Measured>, Stop> {
+    let layout = layout_of(alloc, rows, defs, vars)?;
+    let smaller = prepare_rows(alloc, rows, vars, &layout, Aim::Cheapest)?;
+    if smaller.is_false() {
+        return Ok(None);
+    }
+    let margins = margins_of(alloc, &smaller, PLACES, DIGITS)?;
+    match end_of_guess(alloc, &smaller, &margins, pivots)? {
+        Some(first) => {
+            let room = room_of(alloc, rows, vars, &layout, &first.values, &first.named)?;
+            Ok(Some(Measured {
+                layout,
+                smaller,
+                room,
+            }))
+        }
+        None => Ok(None),
+    }
+}
+
+/// A guess with these margins; none where there seems to be no plan.
+fn end_of_guess(
+    alloc: Global,
+    smaller: &Program,
+    margins: &Margins,
+    pivots: u64,
+) -> Result<Option<Ended>, Stop>
+    ensures made { IfOk result (λ end. IfSome end (λ e. e.pivots ≤ pivots)) }
+{
+    let asked = rounded_program(alloc, smaller, margins)?;
+    match limited_guess(alloc, &asked, pivots)? {
+        Answer::Solved(guess) => {
+            let values = values_of(alloc, smaller, margins, &guess.values)?;
+            let named = named_multipliers(alloc, smaller, margins, &guess.multipliers)?;
+            Ok(Some(Ended {
+                values,
+                named,
+                pivots: guess.pivots,
+            }))
+        }
+        Answer::NoPlan => Ok(None),
+        Answer::GivenUp => Err(Stop::GivenUp),
+    }
+}
+
+/// A guess with values of so many decimals and multipliers of so many significant digits, where there is room for them. None where there
+/// seems to be no plan.
+pub(crate) fn short_end(
+    alloc: Global,
+    rows: &[Row],
+    vars: &[Var],
+    measured: &Measured,
+    places: i32,
+    digits: i32,
+    pivots: u64,
+) -> Result<Option<ShortEnd>, Stop>
+    ensures made { IfOk result (λ end. IfSome end (λ e. e.pivots ≤ pivots)) }
+{
+    let layout = &measured.layout;
+    let smaller = &measured.smaller;
+    let room = &measured.room;
+    let rounding = rounding_within(alloc, rows, vars, layout, smaller, room, places)?;
+    let margins = margins_for(alloc, smaller, rounding, digits)?;
+    match end_of_guess(alloc, smaller, &margins, pivots)? {
+        Some(end) => {
+            let values = raised_values(alloc, rows, vars, layout, room, &end.values)?;
+            let multipliers = multipliers_of_rows(
+                alloc,
+                vars,
+                layout,
+                &end.named,
+                Proving::Bound,
+                0,
+            )?;
+            Ok(Some(ShortEnd {
+                values,
+                multipliers,
+                pivots: end.pivots,
+            }))
+        }
+        None => Ok(None),
+    }
+}
+
+/// What multipliers that show that there is no plan are guessed of.
+#[derive(Drop)]
+pub(crate) struct Doubt {
+    layout: Layout,
+    smaller: Program,
+}
+
+/// The rows by places, and the smaller program without costs.
+pub(crate) fn without_costs(
+    alloc: Global,
+    rows: &[Row],
+    defs: &[Option<Var>],
+    vars: &[Var],
+) -> Result<Doubt, Stop> {
+    let layout = layout_of(alloc, rows, defs, vars)?;
+    let smaller = prepare_rows(alloc, rows, vars, &layout, Aim::Refutation)?;
+    Ok(Doubt { layout, smaller })
+}
+
+/// A multiplier for each row, in order, and the pivots that they took: they should show that there is no plan. No value is given.
+pub(crate) fn short_refuting(
+    alloc: Global,
+    vars: &[Var],
+    doubt: &Doubt,
+    digits: i32,
+    more: i32,
+    pivots: u64,
+) -> Result<ShortEnd, Stop>
+    ensures made { IfOk result (λ end. end.pivots ≤ pivots) }
+{
+    let layout = &doubt.layout;
+    let smaller = &doubt.smaller;
+    let margins = refuting_margins(alloc, vars, layout, smaller, digits, more)?;
+    let end = refuting_end(alloc, smaller, &margins, pivots)?;
+    let multipliers = multipliers_of_rows(alloc, vars, layout, &end.named, Proving::NoPlan, more)?;
+    Ok(ShortEnd {
+        values: end.values,
+        multipliers,
+        pivots: end.pivots,
+    })
+}
+
+/// The margins of multipliers with so many significant digits, and of sums with so many decimals more than the fewest.
+fn refuting_margins(
+    alloc: Global,
+    vars: &[Var],
+    layout: &Layout,
+    smaller: &Program,
+    digits: i32,
+    more: i32,
+) -> Result<Margins, Stop> {
+    let mut rounding = plain_rounding(alloc, smaller, PLACES)?;
+    let errors = sum_errors(alloc, vars, layout, more)?;
+    for (column, variable) in layout.chosen.iter().enumerate() {
+        put(&mut rounding.errors, column, at(&errors, *variable)?)?;
+    }
+    margins_for(alloc, smaller, rounding, digits)
+}
+
+/// Multipliers of the rows that are no equations. Where a row is false as it stands, nothing has to be guessed.
+fn refuting_end(
+    alloc: Global,
+    smaller: &Program,
+    margins: &Margins,
+    pivots: u64,
+) -> Result<Ended, Stop>
+    ensures made { IfOk result (λ end. end.pivots ≤ pivots) }
+{
+    if smaller.is_false() {
+        let named = named_multipliers(alloc, smaller, margins, &[])?;
+        return Ok(Ended {
+            values: Vec::new(alloc),
+            named,
+            pivots: 0,
+        });
+    }
+    let asked = elastic_program(alloc, smaller, margins)?;
+    match limited_guess(alloc, &asked, pivots)? {
+        Answer::Solved(guess) => {
+            let named = named_multipliers(alloc, smaller, margins, &guess.multipliers)?;
+            Ok(Ended {
+                values: Vec::new(alloc),
+                named,
+                pivots: guess.pivots,
+            })
+        }
+        Answer::NoPlan => Err(Stop::GivenUp),
+        Answer::GivenUp => Err(Stop::GivenUp),
+    }
+}

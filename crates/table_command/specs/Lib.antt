@@ -1,0 +1,2 @@
+pub mod ShownTables
+pub mod Tables
