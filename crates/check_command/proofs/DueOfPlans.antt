@@ -1,5 +1,5 @@
--- What is due for an outcome.
-use Rattle.std.proofs.Common.{◌≡◌, ℕ, inl, inr, List, Option, Some, None, refl, ap, ap₂, ◌∙◌}
+-- What is due for an outcome, and what is worth an optimum that is accepted.
+use Rattle.std.proofs.Common.{◌≡◌, ℕ, inl, inr, List, Option, Some, None, refl, ap, ap₂, sym, ◌∙◌}
 use Rattle.std.specs.Option.{option_map}
 use Rattle.exact_num.specs.Rational.{Rational}
 use Rattle.model_sets.specs.Data.{Data}
@@ -10,11 +10,14 @@ use Rattle.row_core.specs.declared.Var.{Var}
 use Rattle.check_command.specs.declared.outcome.Bound.{Bound}
 use Rattle.check_command.specs.declared.outcome.Outcome.{Outcome}
 use Rattle.check_command.specs.declared.outcome.Outcome.TheVariants.{Accepted, Rejected, Wide}
+use Rattle.proof_files.specs.declared.proof.Proof.TheVariants.{Optimum}
+use Rattle.command_answers.specs.ShownProofs.{HasWorth}
 use Rattle.command_answers.specs.declared.status.Status.{Status}
+use Rattle.command_answers.specs.declared.status.Status.TheVariants.{Done}
 use Rattle.simplex_core.specs.declared.stops.Stop.TheVariants.{Width}
 use Rattle.check_command.specs.Check.{DueForPlan, bound_and_gap}
 use Rattle.check_command.specs.CheckLines.{accepted_text, rejected_line}
-use Rattle.check_command.specs.CheckOutcomes.{IsOutcome, TellsBound, TellsOutcome, bound_values}
+use Rattle.check_command.specs.CheckOutcomes.{IsOutcome, TellsBound, TellsOutcome, bound_values, worth_of}
 use Rattle.command_answers.specs.Lines.{uncertified_line}
 
 bounds-told : (d : Data) (rows : List Row) (plan : List (Var × Rational)) (multipliers : Option (List (RowName × Rational))) (bound : Option Bound) → TellsBound d rows plan multipliers bound
@@ -45,3 +48,11 @@ due-from_outcome places d rows plan multipliers gap sets (Rejected rejection) st
     }))
 due-from_outcome places d rows plan multipliers gap sets (Wide place) status text same is told =
     inr (inr (record { place = place; wide = is; status_is = told.0; line_is = told.1 ∙ ap (λ (s : SetLists). uncertified_line s (Width place)) same }))
+
+pub worth-from_outcome : (places : ℕ) (d : Data) (rows : List Row) (plan : List (Var × Rational)) (multipliers : List (RowName × Rational)) (gap : ℕ) (sets : SetLists)
+    (outcome : Outcome) (status : Status) (text : List ℕ) → IsOutcome places d rows plan (Some multipliers) gap outcome → TellsOutcome sets outcome status text → status ≡ Done
+    → HasWorth d rows (Optimum plan multipliers) (worth_of outcome)
+worth-from_outcome places d rows plan multipliers gap sets (Accepted cost None) status text is told done = absurd is.4
+worth-from_outcome places d rows plan multipliers gap sets (Accepted cost (Some bound)) status text is told done = (is.3, is.4.0)
+worth-from_outcome places d rows plan multipliers gap sets (Rejected rejection) status text is told done = cc (sym told.0 ∙ done)
+worth-from_outcome places d rows plan multipliers gap sets (Wide place) status text is told done = cc (sym told.0 ∙ done)

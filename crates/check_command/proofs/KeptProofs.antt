@@ -19,8 +19,11 @@ use Rattle.proof_files.specs.declared.proof.Proof.TheVariants.{Optimum, Refutati
 use Rattle.proof_files.specs.PlansWithin.{HasPlanWithin}
 use Rattle.proof_files.specs.Proofs.{IsProof}
 use Rattle.command_answers.specs.declared.answer.Answer.{Answer}
+use Rattle.command_answers.specs.declared.proved.AcceptedProof.{AcceptedProof}
+use Rattle.command_answers.specs.ShownProofs.{HasWorth}
 use Rattle.command_answers.specs.declared.status.Status.{Status}
 use Rattle.command_answers.specs.declared.status.Status.TheVariants.{Done}
+use Rattle.check_command.specs.declared.proof.Judged.{Judged}
 use Rattle.check_command.specs.AcceptedProofs.{TellsProof}
 use Rattle.check_command.specs.CheckProof.{DueForProofTold}
 
@@ -38,16 +41,20 @@ plan_within sets vars names all (Descent plan direction) listed is = tt
 -- ---- over rows
 
 module _ (places : ℕ) (bytes : List ℕ) (gap : ℕ) (d : Data) (rows : List Row) where
-  pub kept_or_said : (proof : Proof) (answer : Answer) (r : Result Proof Answer) → IsProof d.sets (all_variables d) (instances d) (records_of bytes) proof → HasPlanWithin d.sets proof
-      → DueForProofTold places d rows gap proof answer.status answer.text.items
-      → MatchResult r (λ kept. (kept ≡ proof) × (answer.status ≡ Done)) (λ said. (said ≡ answer) × (answer.status ≢ Done)) → TellsProof places bytes gap d rows r
-  kept_or_said proof answer (Ok kept) told within due (same, done) =
-      subst (λ (p : Proof). TellsProof places bytes gap d rows (Ok p)) (sym same)
+  pub kept_or_said : (proof : Proof) (judged : Judged) (r : Result AcceptedProof Answer) → IsProof d.sets (all_variables d) (instances d) (records_of bytes) proof → HasPlanWithin d.sets proof
+      → DueForProofTold places d rows gap proof judged.answer.status judged.answer.text.items
+      → (judged.answer.status ≡ Done → HasWorth d rows proof judged.worth)
+      → MatchResult r
+      (λ (kept : AcceptedProof). (kept ≡ record { proof = proof; worth = judged.worth; said = judged.answer.text }) × (judged.answer.status ≡ Done))
+      (λ said. (said ≡ judged.answer) × (judged.answer.status ≢ Done))
+      → TellsProof places bytes gap d rows r
+  kept_or_said proof judged (Ok kept) told within due worth (same, done) =
+      subst (λ (p : AcceptedProof). TellsProof places bytes gap d rows (Ok p)) (sym same)
       (record {
-        said = answer.text.items;
-        due = inr (proof, told, subst (λ (s : Status). DueForProofTold places d rows gap proof s answer.text.items) done due);
+        due = inr (proof, told, subst (λ (s : Status). DueForProofTold places d rows gap proof s judged.answer.text.items) done due);
         told = told;
         within = within;
+        worth = worth done;
       })
-  kept_or_said proof answer (Err said) told within due (same, other) =
+  kept_or_said proof judged (Err said) told within due worth (same, other) =
       subst (λ (a : Answer). TellsProof places bytes gap d rows (Err a)) (sym same) (record { due = inr (proof, told, due); not_done = other })

@@ -17,6 +17,7 @@ use Rattle.certificate_checker.specs.Reasons.{reason_of}
 use Rattle.check_command.specs.declared.outcome.Bound.{Bound}
 use Rattle.check_command.specs.declared.outcome.Outcome.{Outcome}
 use Rattle.check_command.specs.declared.outcome.Outcome.TheVariants.{Accepted, Rejected, Wide}
+use Rattle.command_answers.specs.declared.proved.Worth.{Worth}
 use Rattle.command_answers.specs.declared.status.Status.{Status}
 use Rattle.command_answers.specs.declared.status.Status.TheVariants.{Done, Uncertified}
 use Rattle.simplex_core.specs.declared.stops.Stop.TheVariants.{Width}
@@ -58,6 +59,13 @@ pub record IsCheckedBound (places : ℕ) (d : Data) (rows : List Row) (multiplie
 -- the values of a bound and of the gap to it
 abbrev pub bound_values : Bound → Rational × Rational
 bound_values bound = (value_of bound.bound, value_of bound.gap)
+
+-- the cost and the bound, where both are accepted
+abbrev pub worth_of : Outcome → Option Worth
+worth_of (Accepted cost None) = None
+worth_of (Accepted cost (Some bound)) = Some (record { cost = cost; bound = bound.bound })
+worth_of (Rejected rejection) = None
+worth_of (Wide place) = None
 
 -- the status and the text tell the outcome
 abbrev pub TellsOutcome : SetLists → Outcome → Status → List ℕ → Type 0

@@ -1,20 +1,24 @@
 // What `check` answers of the texts of its files: the first rule that one breaks, or what the checks say of the plan and the
 // multipliers that they tell.
-ghost use Rattle.std.specs.Prelude.{◌≡◌, ℕ, IfOk, option_map};
+ghost use Rattle.std.specs.Prelude.{◌≡◌, ℕ, IfOk, Some, option_map};
 ghost use Rattle.exact_num.specs.Value.{value_of};
 ghost use Rattle.model_sets.specs.Data.{Data};
 ghost use Rattle.check_command.specs.Check.{DueForMultiplierFile, DueForPlan, DueForPlanFile};
 ghost use Rattle.command_answers.specs.CheckedPlans.{IsBookOf, IsListedBook};
 ghost use Rattle.check_command.specs.CheckLines.{CanBeSaid, accepted_text, rejected_line};
 ghost use Rattle.command_answers.specs.PlanFaultLines.{multiplier_fault_line, plan_fault_line};
-ghost use Rattle.check_command.specs.CheckOutcomes.{OutcomeIsWithin, TellsOutcome, bound_values};
+ghost use Rattle.check_command.specs.CheckOutcomes.{OutcomeIsWithin, TellsOutcome, bound_values, worth_of};
 ghost use Rattle.command_answers.specs.PlacesWithin.{FaultIsWithin};
+ghost use Rattle.command_answers.specs.ShownProofs.{HasWorth};
+ghost use Rattle.proof_files.specs.declared.proof.Proof.{Proof};
 
 use crate::check::Claim;
 use crate::lines::{accepted_text, rejected_line};
 use crate::outcome::{Bound, Outcome, checked};
 use certificate_checker::Rejection;
-use command_answers::{Answer, Refusal, Status, multiplier_fault_line, plan_fault_line, stop_at};
+use command_answers::{
+    Answer, Refusal, Status, Worth, multiplier_fault_line, plan_fault_line, stop_at,
+};
 use exact_num::Frac;
 use model_sets::Sets;
 use plan_files::{PlanFail, PlanFault, read_multipliers, read_plan};
@@ -77,6 +81,39 @@ pub fn answer_values(
 {
     let outcome = checked(alloc, book, plan, multipliers, gap)?;
     answer_outcome(alloc, outcome, sets)
+}
+
+/// What is due of an optimum, and what it is worth where it is accepted.
+pub fn answer_optimum(
+    alloc: Global,
+    book: &RowBook,
+    sets: &Sets,
+    plan: &Plan,
+    multipliers: &Multipliers,
+    gap: u32,
+) -> Result<(Answer, Option<Worth>), AllocError>
+    requires { IsListedBook sets.now book.now.rows book.now.vars }
+    ensures due { (places : ℕ) (d : Data) → sets.now ≡ d.sets → IsBookOf places d book.now.rows book.now.vars
+        → IfOk result (λ told. DueForPlan places d book.now.rows plan.now (Some multipliers.now) gap told.0.status told.0.text.items) }
+    ensures worth { (places : ℕ) (d : Data) → IsBookOf places d book.now.rows book.now.vars
+        → IfOk result (λ told. told.0.status ≡ Status.Done → HasWorth d book.now.rows (Proof.Optimum plan.now multipliers.now) told.1) }
+{
+    let outcome = checked(alloc, book, plan, Some(multipliers), gap)?;
+    let answer = answer_outcome(alloc, outcome, sets)?;
+    Ok((answer, worth_of(outcome)))
+}
+
+// What an outcome says of cost and bound, where it accepts both.
+fn worth_of(outcome: Outcome) -> Option<Worth>
+    ensures { result ≡ worth_of outcome }
+{
+    match outcome {
+        Outcome::Accepted(cost, Some(bound)) => Some(Worth {
+            cost,
+            bound: bound.bound,
+        }),
+        _ => None,
+    }
 }
 
 // The answer of an outcome.

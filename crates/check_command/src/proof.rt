@@ -7,14 +7,15 @@ ghost use Rattle.mps_writer.specs.MpsText.{line};
 ghost use Rattle.command_answers.specs.CheckedPlans.{IsBookOf, IsListedBook, NoneIsFeasible};
 ghost use Rattle.command_answers.specs.PlacesWithin.{FaultIsWithin};
 ghost use Rattle.command_answers.specs.PlanFaultLines.{proof_fault_line};
+ghost use Rattle.command_answers.specs.ShownProofs.{HasWorth};
 ghost use Rattle.check_command.specs.CheckProof.{DueForDescent, DueForProof, DueForProofFile, DueForProofTold, DueForRefutation, IsEndless, descent_conditions, refutation_conditions};
 ghost use Rattle.check_command.specs.ProofVerdicts.{IsJudged, TellsVerdict, VerdictIsWithin};
 
-use crate::files::{answer_values, reject_plan};
+use crate::files::{answer_optimum, reject_plan};
 use certificate_checker::{
     Verdict, check_direction, check_infeasible, check_plan, denominator_laws,
 };
-use command_answers::{Answer, Refusal, Status, made_book, proof_fault_line, stop_at};
+use command_answers::{Answer, Refusal, Status, Worth, made_book, proof_fault_line, stop_at};
 use model_sets::Sets;
 use param_tables::ModelData;
 use plan_files::{PlanFail, PlanFault};
@@ -54,30 +55,56 @@ fn answer_proof_file(
         → IfOk result (λ answer. DueForProofFile places d book.now.rows text.now gap answer.status answer.text.items) }
 {
     match read_proof(alloc, text, book.vars(), book.rows(), sets) {
-        Ok(proof) => answer_told(alloc, book, sets, &proof, gap),
+        Ok(proof) => {
+            let judged = judge_told(alloc, book, sets, &proof, gap)?;
+            Ok(judged.answer)
+        }
         Err(PlanFail::Fault(fault)) => refuse_proof(alloc, fault, sets),
         Err(PlanFail::Memory) => Err(AllocError),
     }
 }
 
-/// The same where it was read.
-pub(crate) fn answer_told(
+/// What is due of a proof, and what it is worth.
+#[derive(Drop)]
+pub(crate) struct Judged {
+    pub answer: Answer,
+    /// Of an optimum that is accepted.
+    pub worth: Option<Worth>,
+}
+
+/// The same where it was read, with what it is worth.
+pub(crate) fn judge_told(
     alloc: Global,
     book: &RowBook,
     sets: &Sets,
     proof: &Proof,
     gap: u32,
-) -> Result<Answer, AllocError>
+) -> Result<Judged, AllocError>
     requires { IsListedBook sets.now book.now.rows book.now.vars }
-    ensures { (places : ℕ) (d : Data) → sets.now ≡ d.sets → IsBookOf places d book.now.rows book.now.vars
-        → IfOk result (λ answer. DueForProofTold places d book.now.rows gap proof.now answer.status answer.text.items) }
+    ensures due { (places : ℕ) (d : Data) → sets.now ≡ d.sets → IsBookOf places d book.now.rows book.now.vars
+        → IfOk result (λ judged. DueForProofTold places d book.now.rows gap proof.now judged.answer.status judged.answer.text.items) }
+    ensures worth { (places : ℕ) (d : Data) → IsBookOf places d book.now.rows book.now.vars
+        → IfOk result (λ judged. judged.answer.status ≡ Status.Done → HasWorth d book.now.rows proof.now judged.worth) }
 {
     match proof {
         Proof::Optimum { plan, multipliers } => {
-            answer_values(alloc, book, sets, plan, Some(multipliers), gap)
+            let (answer, worth) = answer_optimum(alloc, book, sets, plan, multipliers, gap)?;
+            Ok(Judged { answer, worth })
         }
-        Proof::Refutation { multipliers } => answer_refutation(alloc, book, sets, multipliers),
-        Proof::Descent { plan, direction } => answer_descent(alloc, book, sets, plan, direction),
+        Proof::Refutation { multipliers } => {
+            let answer = answer_refutation(alloc, book, sets, multipliers)?;
+            Ok(Judged {
+                answer,
+                worth: None,
+            })
+        }
+        Proof::Descent { plan, direction } => {
+            let answer = answer_descent(alloc, book, sets, plan, direction)?;
+            Ok(Judged {
+                answer,
+                worth: None,
+            })
+        }
     }
 }
 

@@ -12,6 +12,7 @@ pub mod NotAccepted
 pub mod PlacesWithin
 pub mod PlanFaultLines
 pub mod RefusalLines
+pub mod ShownProofs
 pub mod SolvedEnds
 pub mod SolvedPlans
 pub mod ToldStops

@@ -15,6 +15,7 @@ mod methods;
 mod named_members;
 mod places;
 mod plan_fault_lines;
+mod proved;
 mod refusal_lines;
 mod status;
 mod stops;
@@ -32,6 +33,7 @@ pub use methods::{
 pub use named_members::find_member;
 pub use places::{push_place, push_with_row, push_with_var};
 pub use plan_fault_lines::{multiplier_fault_line, plan_fault_line, proof_fault_line};
+pub use proved::{AcceptedProof, Worth};
 pub use simplex_core::{Stop, TrialStop};
 pub use status::{ReadStop, Refusal, Status};
 pub use stops::{stop_at, stop_at_budget, stop_at_trial, stop_on_book, stop_on_elimination};

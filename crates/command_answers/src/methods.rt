@@ -124,7 +124,7 @@ pub fn guess_book(
     guessed(alloc, &problem, gap, pivots)
 }
 
-/// What guesses give over the rows of a book alone: as `guess_book`, where the elimination of the rows stops at a number that doesn't fit.
+/// What guesses give over the rows of a book alone, of which nothing is eliminated: as `guess_book`.
 pub fn guess_rows(
     alloc: Global,
     book: &RowBook,

@@ -9,6 +9,7 @@ mod FurtherExamples
 mod GivenParts
 pub mod LimitLaws
 mod LimitTurns
+mod PageWords
 mod ProofWords
 pub mod Requests
 mod TableWords

@@ -14,7 +14,7 @@ use Rattle.command_words.specs.declared.command.SolveShow.{SolveShow}
 use Rattle.command_words.specs.declared.command.SolveMethod.{SolveMethod}
 use Rattle.command_words.specs.LimitLists.{AreLimits, limits_of}
 use Rattle.command_words.proofs.LimitLaws.{AreLimitsIfRead, are_limits}
-use Rattle.command_words.specs.Words.{Request, Check, CheckProof, Mps, Solve, Explain, Curve, Span, Make, Table, CommandName, MpsName, CheckName, SolveName, ExplainName, CurveName, SpanName, MakeName, TableName, allows_all, check_of, check_proof_of, command_after, command_named, command_of, command_with, asked, curve_of, explain_of, files_in, has_exact, make_of, mps_of, or_fault, solve_of, span_of, table_of, value_in}
+use Rattle.command_words.specs.Words.{Request, Check, CheckProof, Mps, Solve, Explain, Curve, Span, Make, Table, Page, CommandName, MpsName, CheckName, SolveName, ExplainName, CurveName, SpanName, MakeName, TableName, PageName, allows_all, check_of, check_proof_of, command_after, command_named, command_of, command_with, asked, curve_of, explain_of, files_in, has_exact, make_of, mps_of, or_fault, page_of, solve_of, span_of, table_of, value_in}
 use Rattle.command_words.specs.WordParts.{Gap, Pivots, Places, Show, Method, Slack, Proof, Part, parts_of}
 use Rattle.command_words.specs.WordValues.{gap_for, gap_of, make_show_of, method_of, pivots_of, places_of, size_of, solve_show_of}
 
@@ -33,6 +33,7 @@ IsInRange (Ok (Curve file region emission limits gap pivots places method)) = Is
 IsInRange (Ok (Span file region technology year slack gap pivots places method)) = IsPlaces places
 IsInRange (Ok (Make size show)) = IsSize size
 IsInRange (Ok (Table file proof name exact gap places)) = IsPlaces places
+IsInRange (Ok (Page file proof gap places)) = IsPlaces places
 IsInRange (Err fault) = ⊤
 
 -- what a value of `--places` is
@@ -156,6 +157,14 @@ of_table file proof name gap value exact = go (gap_of gap) (places_of value) (pl
     go (Some n) None one = tt
     go (Some n) (Some places) one = one
 
+of_page : (file proof : List ℕ) (gap value : Option (List ℕ)) → IsInRange (page_of file proof gap value)
+of_page file proof gap value = go (gap_of gap) (places_of value) (places-one value)
+  where
+    go : (ppm found : Option ℕ) → IsOne found → IsInRange (or_fault BadNumber ppm (λ n. or_fault BadNumber found (λ decimals. Ok (Page file proof n decimals))))
+    go None found one = tt
+    go (Some n) None one = tt
+    go (Some n) (Some places) one = one
+
 of_mps_files : (files : List (List ℕ)) (gap pivots value show method slack proof : Option (List ℕ)) (exact : Bool) → IsInRange (command_of MpsName files gap pivots value show method slack proof exact)
 of_mps_files [] gap pivots value show method slack proof exact = tt
 of_mps_files (file ∷ []) gap pivots value show method slack proof exact = of_mps file value
@@ -211,6 +220,12 @@ of_table_files (file ∷ proved ∷ []) gap pivots value show method slack proof
 of_table_files (file ∷ proved ∷ name ∷ []) gap pivots value show method slack proof exact = of_table file proved name gap value exact
 of_table_files (file ∷ proved ∷ name ∷ other ∷ files) gap pivots value show method slack proof exact = tt
 
+of_page_files : (files : List (List ℕ)) (gap pivots value show method slack proof : Option (List ℕ)) (exact : Bool) → IsInRange (command_of PageName files gap pivots value show method slack proof exact)
+of_page_files [] gap pivots value show method slack proof exact = tt
+of_page_files (file ∷ []) gap pivots value show method slack proof exact = tt
+of_page_files (file ∷ proved ∷ []) gap pivots value show method slack proof exact = of_page file proved gap value
+of_page_files (file ∷ proved ∷ other ∷ files) gap pivots value show method slack proof exact = tt
+
 of_parts : (name : CommandName) → ((files : List (List ℕ)) (gap pivots value show method slack proof : Option (List ℕ)) (exact : Bool) → IsInRange (command_of name files gap pivots value show method slack proof exact))
     → (parts : Option (List Part)) → IsInRange (command_with name parts)
 of_parts name of_files None = tt
@@ -230,6 +245,7 @@ of_command (Some CurveName) words = of_parts CurveName of_curve_files (parts_of 
 of_command (Some SpanName) words = of_parts SpanName of_span_files (parts_of words)
 of_command (Some MakeName) words = of_parts MakeName of_make_files (parts_of words)
 of_command (Some TableName) words = of_parts TableName of_table_files (parts_of words)
+of_command (Some PageName) words = of_parts PageName of_page_files (parts_of words)
 
 in_range : (words : List (List ℕ)) → IsInRange (asked words)
 in_range [] = tt
@@ -260,6 +276,9 @@ span_places words file region technology year slack gap pivots places method e =
 
 pub table_places : (words : List (List ℕ)) (file proof name : List ℕ) (exact : Bool) (gap places : ℕ) → asked words ≡ Ok (Table file proof name exact gap places) → IsPlaces places
 table_places words file proof name exact gap places e = subst IsInRange e (in_range words)
+
+pub page_places : (words : List (List ℕ)) (file proof : List ℕ) (gap places : ℕ) → asked words ≡ Ok (Page file proof gap places) → IsPlaces places
+page_places words file proof gap places e = subst IsInRange e (in_range words)
 
 pub make_size : (words : List (List ℕ)) (size : ℕ) (show : MakeShow) → asked words ≡ Ok (Make size show) → (3 ≤ size) × (size ≤ 122)
 make_size words size show e = subst IsInRange e (in_range words)

@@ -1,7 +1,7 @@
 -- What the words of `table` mean, computed on examples.
 use Rattle.std.proofs.Common.{◌≡◌, [], ◌∷◌, Ok, Err, Some, None, true, false, refl}
 use Rattle.std.specs.Prelude.{codes}
-use Rattle.command_words.specs.declared.fault.WordFault.TheVariants.{BadForm, BadNumber}
+use Rattle.command_words.specs.declared.fault.WordFault.TheVariants.{BadCommand, BadForm, BadNumber}
 use Rattle.command_words.specs.Words.{Mps, Table, asked, names_of}
 use Rattle.command_words.specs.WordParts.{Exact, File, Gap, Chosen, parts_of}
 
@@ -10,6 +10,17 @@ table_with_defaults = refl
 
 table_with_all : asked (codes "table" ∷ codes "f" ∷ codes "--gap=5" ∷ codes "p" ∷ codes "--exact" ∷ codes "all" ∷ codes "--places" ∷ codes "9" ∷ []) ≡ Ok (Table (codes "f") (codes "p") (codes "all") true 5 9)
 table_with_all = refl
+
+-- a gap of 0 may be said
+table_with_gap_0 : asked (codes "table" ∷ codes "f" ∷ codes "p" ∷ codes "Trade" ∷ codes "--gap=0" ∷ []) ≡ Ok (Table (codes "f") (codes "p") (codes "Trade") false 0 6)
+table_with_gap_0 = refl
+
+-- the command's word is compared by its bytes
+table_capital : asked (codes "Table" ∷ codes "f" ∷ codes "p" ∷ codes "Trade" ∷ []) ≡ Err BadCommand
+table_capital = refl
+
+tables_plural : asked (codes "tables" ∷ codes "f" ∷ codes "p" ∷ codes "Trade" ∷ []) ≡ Err BadCommand
+tables_plural = refl
 
 -- the flag may stand before the files: it takes no word after it
 flag_first : asked (codes "table" ∷ codes "--exact" ∷ codes "f" ∷ codes "p" ∷ codes "Trade" ∷ []) ≡ Ok (Table (codes "f") (codes "p") (codes "Trade") true 0 6)
@@ -79,6 +90,12 @@ pivots_of_table = refl
 
 show_of_table : asked (codes "table" ∷ codes "f" ∷ codes "p" ∷ codes "Trade" ∷ codes "--show=exact" ∷ []) ≡ Err BadForm
 show_of_table = refl
+
+slack_of_table : asked (codes "table" ∷ codes "f" ∷ codes "p" ∷ codes "Trade" ∷ codes "--slack=5" ∷ []) ≡ Err BadForm
+slack_of_table = refl
+
+method_of_table : asked (codes "table" ∷ codes "f" ∷ codes "p" ∷ codes "Trade" ∷ codes "--method=rounded" ∷ []) ≡ Err BadForm
+method_of_table = refl
 
 places_of_table : asked (codes "table" ∷ codes "f" ∷ codes "p" ∷ codes "Trade" ∷ codes "--exact" ∷ codes "--places=7" ∷ []) ≡ Err BadNumber
 places_of_table = refl

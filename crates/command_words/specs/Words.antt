@@ -21,6 +21,7 @@ pub data Request : Type 0 where
   Span : (file region technology year : List ℕ) (slack gap pivots places : ℕ) (method : SolveMethod) → Request
   Make : (size : ℕ) (show : MakeShow) → Request
   Table : (file proof name : List ℕ) (exact : Bool) (gap places : ℕ) → Request
+  Page : (file proof : List ℕ) (gap places : ℕ) → Request
 
 -- ---- commands and their options
 
@@ -34,6 +35,7 @@ pub data CommandName : Type 0 where
   SpanName : CommandName
   MakeName : CommandName
   TableName : CommandName
+  PageName : CommandName
 
 -- the command of this word, if it is one's
 abbrev pub command_named : List ℕ → Option CommandName
@@ -46,6 +48,7 @@ command_named word =
     else if bytes_eq word (codes "span") then Some SpanName
     else if bytes_eq word (codes "make") then Some MakeName
     else if bytes_eq word (codes "table") then Some TableName
+    else if bytes_eq word (codes "page") then Some PageName
     else None
 
 -- the options that a command has, whatever the value of `--method`
@@ -72,6 +75,8 @@ has_option SpanName Slack = true
 has_option MakeName Show = true
 has_option TableName Gap = true
 has_option TableName Places = true
+has_option PageName Gap = true
+has_option PageName Places = true
 has_option command o = false
 
 -- the value of `--method` is `rounded`
@@ -210,6 +215,12 @@ table_of file proof name gap places exact =
     or_fault BadNumber (gap_of gap) (λ ppm.
     or_fault BadNumber (places_of places) (λ decimals. Ok (Table file proof name exact ppm decimals)))
 
+-- and so is the proof of a page
+abbrev pub page_of : (file proof : List ℕ) (gap places : Option (List ℕ)) → Result Request WordFault
+page_of file proof gap places =
+    or_fault BadNumber (gap_of gap) (λ ppm.
+    or_fault BadNumber (places_of places) (λ decimals. Ok (Page file proof ppm decimals)))
+
 -- the command with these files and these values of `--gap`, `--pivots`, `--places`, `--show`, `--method`, `--slack` and `--proof`, with or without `--exact`: a file that
 -- is missing or too many is a fault of form, and so is a plan beside a proof
 abbrev pub command_of : CommandName → List (List ℕ) → (gap pivots places show method slack proof : Option (List ℕ)) (exact : Bool) → Result Request WordFault
@@ -223,6 +234,7 @@ command_of CurveName (file ∷ region ∷ emission ∷ limits ∷ []) gap pivots
 command_of SpanName (file ∷ region ∷ technology ∷ year ∷ []) gap pivots places show method slack proof exact = span_of file region technology year gap pivots places slack method
 command_of MakeName (size ∷ []) gap pivots places show method slack proof exact = make_of size show
 command_of TableName (file ∷ proved ∷ name ∷ []) gap pivots places show method slack proof exact = table_of file proved name gap places exact
+command_of PageName (file ∷ proved ∷ []) gap pivots places show method slack proof exact = page_of file proved gap places
 command_of command files gap pivots places show method slack proof exact = Err BadForm
 
 -- the command with the parts of the words after it
@@ -255,3 +267,4 @@ names_of (Curve file region emission limits gap pivots places method) = file ∷
 names_of (Span file region technology year slack gap pivots places method) = file ∷ []
 names_of (Make size show) = []
 names_of (Table file proof name exact gap places) = file ∷ proof ∷ []
+names_of (Page file proof gap places) = file ∷ proof ∷ []

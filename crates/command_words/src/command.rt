@@ -2,7 +2,7 @@
 ghost use Rattle.std.specs.Prelude.{◌≡◌, ◌||◌, IfOk, is_some, map, not, option_map};
 ghost use Rattle.std.specs.String.{string_bytes};
 ghost use Rattle.command_words.specs.Words.{command_named, asked};
-ghost use Rattle.command_words.specs.Words.{MpsName, CheckName, SolveName, ExplainName, CurveName, SpanName, MakeName, TableName, asks_for_rounded, check_of, check_proof_of, curve_of, mps_of, span_of, table_of};
+ghost use Rattle.command_words.specs.Words.{MpsName, CheckName, SolveName, ExplainName, CurveName, SpanName, MakeName, TableName, PageName, asks_for_rounded, check_of, check_proof_of, curve_of, mps_of, page_of, span_of, table_of};
 ghost use Rattle.command_words.specs.Commands.{request_of_result, name_of};
 ghost use Rattle.command_words.specs.WordReading.{given_of, command_by, command_given, has_own_options, is_allowed};
 
@@ -100,6 +100,13 @@ pub enum Command<'a> {
         gap: u32,
         places: u8,
     },
+    /// `page FILE PROOF [--gap PPM] [--places P]`: writes a page of what a proof shows that `check` accepts.
+    Page {
+        file: &'a str,
+        proof: &'a str,
+        gap: u32,
+        places: u8,
+    },
 }
 
 /// What `solve` writes.
@@ -135,6 +142,7 @@ enum CommandName {
     Span,
     Make,
     Table,
+    Page,
 }
 
 /// Reads the words. The first fault is answered, in this order: `NoCommand` where there
@@ -182,6 +190,8 @@ fn command_named(word: &str) -> Option<CommandName>
         Some(CommandName::Make)
     } else if word == "table" {
         Some(CommandName::Table)
+    } else if word == "page" {
+        Some(CommandName::Page)
     } else {
         None
     }
@@ -222,6 +232,7 @@ fn command_given<'a>(
         CommandName::Span => Ok(span_given(given)),
         CommandName::Make => Ok(make_given(given)),
         CommandName::Table => Ok(table_given(given)),
+        CommandName::Page => Ok(page_given(given)),
     }
 }
 
@@ -275,7 +286,7 @@ fn has_own_options(name: CommandName, given: &Given<'_>) -> bool
                 && given.slack.is_none()
                 && given.proof.is_none()
         }
-        CommandName::Table => {
+        CommandName::Table | CommandName::Page => {
             given.pivots.is_none()
                 && given.show.is_none()
                 && given.method.is_none()
@@ -560,6 +571,36 @@ fn table<'a>(
         proof,
         name,
         exact: given.exact,
+        gap,
+        places,
+    })
+}
+
+fn page_given<'a>(given: &Given<'a>) -> Result<Command<'a>, WordFault>
+    ensures { request_of_result result ≡ command_given PageName (given_of given.now) }
+{
+    match given.files.as_slice() {
+        [file, proof] => page(*file, *proof, given.gap, given.places),
+        _ => Err(WordFault::BadForm),
+    }
+}
+
+// The files that are given are these two words.
+fn page<'a>(
+    file: &'a str,
+    proof: &'a str,
+    gap: Option<&'a str>,
+    places: Option<&'a str>,
+) -> Result<Command<'a>, WordFault>
+    ensures { request_of_result result
+        ≡ page_of file.entry.now proof.entry.now (option_map (λ value. value.now) gap.entry) (option_map (λ value. value.now) places.entry) }
+{
+    let (Some(gap), Some(places)) = (gap_of(gap), places_of(places)) else {
+        return Err(WordFault::BadNumber);
+    };
+    Ok(Command::Page {
+        file,
+        proof,
         gap,
         places,
     })

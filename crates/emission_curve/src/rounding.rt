@@ -52,7 +52,7 @@ pub fn round_limit(
     }
 }
 
-/// What guesses find; of the rows alone where a number of their elimination doesn't fit.
+/// What guesses of the rows alone find; where they find nothing, those of what is left of the rows, if every number of their elimination fits.
 fn guess_limit(
     alloc: Global,
     rows: &[Row],
@@ -65,6 +65,9 @@ fn guess_limit(
     requires variables { AreVariablesOf rows.now vars.now }
     ensures { IfOk result (λ found. IfSome found (IsProvedWithin rows.now vars.now ppm)) }
 {
+    if let Some(found) = guessed_rows(alloc, rows, defs, vars, ppm, pivots)? {
+        return Ok(Some(found));
+    }
     match left_of(alloc, rows, defs, vars) {
         Ok(reduced) => {
             let problem = Problem {
@@ -76,7 +79,7 @@ fn guess_limit(
             };
             guessed(alloc, &problem, ppm, pivots)
         }
-        Err(Stopped::Width(_)) => guessed_rows(alloc, rows, defs, vars, ppm, pivots),
+        Err(Stopped::Width(_)) => Ok(None),
         Err(Stopped::Memory) => Err(AllocError),
     }
 }

@@ -13,13 +13,14 @@ use Rattle.command_answers.specs.Accepted.{most_bytes}
 use Rattle.command_answers.specs.DueForText.{DueForText}
 use Rattle.command_answers.specs.Lines.{stop_line, too_long_line}
 use Rattle.command_words.specs.declared.fault.WordFault.{WordFault}
-use Rattle.command_words.specs.Words.{Request, Check, CheckProof, Curve, Explain, Make, Mps, Solve, Span, Table, asked}
+use Rattle.command_words.specs.Words.{Request, Check, CheckProof, Curve, Explain, Make, Mps, Page, Solve, Span, Table, asked}
 use Rattle.check_command.specs.Check.{DueForCheck}
 use Rattle.check_command.specs.CheckProof.{DueForProof, DueForProofFile}
 use Rattle.curve_command.specs.Curve.{DueForCurve}
 use Rattle.explain_command.specs.Explain.{DueForExplain}
 use Rattle.solve_command.specs.Shown.{shown_of}
 use Rattle.solve_command.specs.Solve.{DueForSolve}
+use Rattle.page_command.specs.Pages.{DueForPage}
 use Rattle.span_command.specs.Span.{DueForSpan}
 use Rattle.table_command.specs.Tables.{DueForTable, form_of}
 use Rattle.osemosys_run.specs.Causes.{Caused, CausedByFiles, CausedByRequest, StopsAtFile, held_in}
@@ -153,6 +154,17 @@ due_from_cause words before after files status text told calm caused = by_reques
     by_request (Ok (Table name proof table exact gap places)) c =
         let second : List ℕ → List ℕ → Status → List ℕ → Type 0 = λ bytes proof_bytes. DueForText (λ rounded d. DueForTable places (λ rows. DueForProofFile places d rows proof_bytes gap) proof_bytes table (form_of exact) d) bytes in
         due_of_files (λ contents. DueOver (Ok (Table name proof table exact gap places)) (held_in contents) status text) 1 (name ∷ proof ∷ []) before after files status text told calm (
+          λ rest s t. (s, t),
+          λ bytes rest long s t. long_file (λ found. DueForFile (second found) 2 (held_in (Some bytes ∷ rest) 2 proof)) 1 bytes status text long s t,
+          λ bytes short. (
+            λ rest s t. short_file (λ found. DueForFile (second found) 2 None) 1 bytes status text short (s, t),
+            λ proof_bytes rest long s t. short_file (λ found. DueForFile (second found) 2 (Some proof_bytes)) 1 bytes status text short (long_file (second bytes) 2 proof_bytes status text long s t),
+            λ proof_bytes proof_short. tt,
+          ),
+        ) c
+    by_request (Ok (Page name proof gap places)) c =
+        let second : List ℕ → List ℕ → Status → List ℕ → Type 0 = λ bytes proof_bytes. DueForText (λ rounded d. DueForPage places (λ rows. DueForProofFile places d rows proof_bytes gap) proof_bytes d) bytes in
+        due_of_files (λ contents. DueOver (Ok (Page name proof gap places)) (held_in contents) status text) 1 (name ∷ proof ∷ []) before after files status text told calm (
           λ rest s t. (s, t),
           λ bytes rest long s t. long_file (λ found. DueForFile (second found) 2 (held_in (Some bytes ∷ rest) 2 proof)) 1 bytes status text long s t,
           λ bytes short. (

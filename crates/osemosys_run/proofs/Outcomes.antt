@@ -55,10 +55,13 @@ use Rattle.solve_command.specs.Solve.{DueBy, DueForEnd, DueForSolve}
 use Rattle.span_command.specs.Span as spans
 use Rattle.plan_tables.specs.declared.shown.NumberForm.{NumberForm}
 use Rattle.table_command.specs.declared.shown.Shown.{Shown}
-use Rattle.table_command.specs.Tables.{DueForTable, DueOverRows, ShowsProof, form_of}
+use Rattle.command_answers.specs.ShownProofs.{DueForShown}
+use Rattle.page_command.specs.Pages.{DueForPage, ShowsPage}
+use Rattle.table_command.specs.Tables.{DueForTable, ShowsProof, form_of}
 use Rattle.span_command.specs.declared.wanted.Wanted as wants
 use Rattle.solve_command.specs.Summary.{DueForSummary, default_places, default_wanted}
-use Rattle.command_words.specs.Words.{Request, Check, CheckProof, Curve, Explain, Make, Mps, Solve, Span, Table, asked}
+use Rattle.command_words.specs.Words.{Request, Check, CheckProof, Curve, Explain, Make, Mps, Page, Solve, Span, Table, asked}
+use Rattle.solve_command.proofs.RowsDue.{rows-due}
 use Rattle.osemosys_run.proofs.FilesRead.{Reaches-itself, by_files, of_all, rose-since}
 
 -- ---- which statuses an answer has
@@ -134,8 +137,11 @@ method_is places d rows wanted Rounded rounded status text (inr (inl found)) = i
 method_is places d rows wanted Rounded rounded status text (inr (inr due)) = end_is places d rows wanted rounded status text due
 
 solve_is : (places : ℕ) (wanted : Wanted) (rounded : ℕ) (d : Data) (status : Status) (text : List ℕ) → DueForSolve places wanted rounded d status text → IsOwn status
-solve_is places wanted rounded d status text (inl made) = method_is places d made.rows wanted wanted.method rounded status text made.due.1
-solve_is places wanted rounded d status text (inr none) = no_program_is places d status text none
+solve_is places wanted rounded d status text (inl made) = elim (rows-due places d made.rows wanted rounded status text made.due) [
+  | inl large ↦ too_large_is made.rows (all_variables d) status text large
+  | inr due ↦ method_is places d made.rows wanted wanted.method rounded status text due
+]
+solve_is places wanted rounded d status text (inr none) = no_rows_is places d status text none
 
 explain_is : (places : ℕ) (wanted : explains.Wanted) (d : Data) (status : Status) (text : List ℕ) → DueForExplain places wanted d status text → IsOwn status
 explain_is places wanted d status text (inl made) = elim made.due.1 [
@@ -203,21 +209,35 @@ proof_is : (places : ℕ) (proof_bytes : List ℕ) (gap : ℕ) (d : Data) (statu
 proof_is places proof_bytes gap d status text (inl made) = proof_file_is places d made.rows proof_bytes gap status text made.due
 proof_is places proof_bytes gap d status text (inr none) = no_rows_is places d status text none
 
-shown_is : (sets : SetLists) (rows : List Row) (shown : Shown) (form : NumberForm) (proof : Proof) (status : Status) (text : List ℕ) → ShowsProof sets rows shown form proof status text → IsOwn status
-shown_is sets rows shown form (proofs.Optimum plan multipliers) status text shows = is_other status Done (λ h. cc) (λ h. cc) (λ number h. cc) shows.0
-shown_is sets rows shown form (proofs.Refutation multipliers) status text shows = is_other status Infeasible (λ h. cc) (λ h. cc) (λ number h. cc) shows.0
-shown_is sets rows shown form (proofs.Descent plan direction) status text shows = is_other status Unbounded (λ h. cc) (λ h. cc) (λ number h. cc) shows.0
+tabled_is : (sets : SetLists) (rows : List Row) (shown : Shown) (form : NumberForm) (proof : Proof) (status : Status) (text : List ℕ) → ShowsProof sets rows shown form proof status text → IsOwn status
+tabled_is sets rows shown form (proofs.Optimum plan multipliers) status text shows = is_other status Done (λ h. cc) (λ h. cc) (λ number h. cc) shows.0
+tabled_is sets rows shown form (proofs.Refutation multipliers) status text shows = is_other status Infeasible (λ h. cc) (λ h. cc) (λ number h. cc) shows.0
+tabled_is sets rows shown form (proofs.Descent plan direction) status text shows = is_other status Unbounded (λ h. cc) (λ h. cc) (λ number h. cc) shows.0
 
-over_rows_is : (places : ℕ) (proof_bytes : List ℕ) (gap : ℕ) (rows : List Row) (shown : Shown) (form : NumberForm) (d : Data) (status : Status) (text : List ℕ)
-    → DueOverRows (DueForProofFile places d rows proof_bytes gap) proof_bytes rows shown form d status text → IsOwn status
-over_rows_is places proof_bytes gap rows shown form d status text (inl said) = proof_file_is places d rows proof_bytes gap status text said.checked
-over_rows_is places proof_bytes gap rows shown form d status text (inr shows) = shown_is d.sets rows shown form shows.proof status text shows.shows
+paged_is : (said : List ℕ) (proof : Proof) (status : Status) (text : List ℕ) → ShowsPage said proof status text → IsOwn status
+paged_is said (proofs.Optimum plan multipliers) status text shows = is_other status Done (λ h. cc) (λ h. cc) (λ number h. cc) shows.0
+paged_is said (proofs.Refutation multipliers) status text shows = is_other status Infeasible (λ h. cc) (λ h. cc) (λ number h. cc) shows.0
+paged_is said (proofs.Descent plan direction) status text shows = is_other status Unbounded (λ h. cc) (λ h. cc) (λ number h. cc) shows.0
+
+-- what is shown of a proof, or what `check` says of it
+shown_is : (places : ℕ) (proof_bytes : List ℕ) (gap : ℕ) (Shows : List Row → List ℕ → Proof → Status → List ℕ → Type 0) (d : Data) (status : Status) (text : List ℕ)
+    → ((rows : List Row) (said : List ℕ) (proof : Proof) → Shows rows said proof status text → IsOwn status)
+    → DueForShown places (λ rows. DueForProofFile places d rows proof_bytes gap) proof_bytes Shows d status text → IsOwn status
+shown_is places proof_bytes gap Shows d status text shows_is (inl made) = elim made.due [
+  | inl said ↦ proof_file_is places d made.rows proof_bytes gap status text said.checked
+  | inr shows ↦ shows_is made.rows shows.said shows.proof shows.shows
+]
+shown_is places proof_bytes gap Shows d status text shows_is (inr none) = no_rows_is places d status text none
 
 table_is : (places : ℕ) (proof_bytes : List ℕ) (gap : ℕ) (name : List ℕ) (form : NumberForm) (d : Data) (status : Status) (text : List ℕ)
     → DueForTable places (λ rows. DueForProofFile places d rows proof_bytes gap) proof_bytes name form d status text → IsOwn status
 table_is places proof_bytes gap name form d status text (inl none) = refused_is status refusals.UnknownTable none.status_is
-table_is places proof_bytes gap name form d status text (inr (shown, named, inl made)) = over_rows_is places proof_bytes gap made.rows shown form d status text made.due
-table_is places proof_bytes gap name form d status text (inr (shown, named, inr none)) = no_rows_is places d status text none
+table_is places proof_bytes gap name form d status text (inr (shown, named, due)) =
+    shown_is places proof_bytes gap (λ rows said. ShowsProof d.sets rows shown form) d status text (λ rows said proof. tabled_is d.sets rows shown form proof status text) due
+
+page_is : (places : ℕ) (proof_bytes : List ℕ) (gap : ℕ) (d : Data) (status : Status) (text : List ℕ)
+    → DueForPage places (λ rows. DueForProofFile places d rows proof_bytes gap) proof_bytes d status text → IsOwn status
+page_is places proof_bytes gap d status text due = shown_is places proof_bytes gap (λ rows. ShowsPage) d status text (λ rows said proof. paged_is said proof status text) due
 
 not_accepted_is : (bytes : List ℕ) (status : Status) (text : List ℕ) → DueWhereNotAccepted bytes status text → IsOwn status
 not_accepted_is bytes status text (inl refused) = refused_is status (refusals.Text refused.fault) refused.status_is
@@ -302,6 +322,13 @@ due_is_own (Ok (Table name proof table exact gap places)) held status text due =
     file_is first 1 (held 1 name) status text
     (λ bytes. file_is (second bytes) 2 (held 2 proof) status text
     (λ proof_bytes. text_is (Over proof_bytes) (λ rounded. table_is places proof_bytes gap table (form_of exact)) bytes status text)) due
+due_is_own (Ok (Page name proof gap places)) held status text due =
+    let Over : List ℕ → ℕ → Data → Status → List ℕ → Type 0 = λ proof_bytes rounded d. DueForPage places (λ rows. DueForProofFile places d rows proof_bytes gap) proof_bytes d in
+    let second : List ℕ → List ℕ → Status → List ℕ → Type 0 = λ bytes proof_bytes. DueForText (Over proof_bytes) bytes in
+    let first : List ℕ → Status → List ℕ → Type 0 = λ bytes. DueForFile (second bytes) 2 (held 2 proof) in
+    file_is first 1 (held 1 name) status text
+    (λ bytes. file_is (second bytes) 2 (held 2 proof) status text
+    (λ proof_bytes. text_is (Over proof_bytes) (λ rounded. page_is places proof_bytes gap) bytes status text)) due
 
 -- an answer with a cause isn't that a write failed or that memory ran out
 pub is_answer : (words : List (List ℕ)) (before after : Sight) (status : Status) (text : List ℕ) → Caused words before after status text

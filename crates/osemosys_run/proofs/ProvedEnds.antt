@@ -15,7 +15,7 @@ use Rattle.simplex_core.specs.declared.stops.Stop.{Stop}
 use Rattle.command_answers.specs.declared.status.Status.{Status}
 use Rattle.command_answers.specs.declared.status.Status.TheVariants.{Done, Infeasible, Refused, Unbounded, Uncertified}
 use Rattle.command_answers.specs.declared.status.Refusal.{Refusal}
-use Rattle.command_answers.specs.MadeBooks.{HasNoProgram, HasNoRows}
+use Rattle.command_answers.specs.MadeBooks.{HasNoRows}
 use Rattle.command_words.specs.declared.command.SolveMethod.{SolveMethod}
 use Rattle.command_words.specs.declared.command.SolveMethod.TheVariants.{Exact, Rounded}
 use Rattle.check_command.specs.CheckProof.{DueForProof, DueForProofFile}
@@ -23,6 +23,7 @@ use Rattle.check_command.proofs.AcceptedProofs.{ProofLaws, descent-accepted, opt
 use Rattle.solve_command.specs.declared.solve.Shown.TheVariants.{Proof}
 use Rattle.solve_command.specs.declared.solve.Wanted.{Wanted}
 use Rattle.solve_command.specs.Solve.{DueBy, DueForEnd, DueForSolve}
+use Rattle.solve_command.proofs.RowsDue.{rows-due}
 use Rattle.osemosys_run.specs.Accepting.{AcceptsEnd}
 
 -- which status an end has
@@ -105,10 +106,9 @@ module _ (laws : ProofLaws) (made_law : (places : ℕ) (d : Data) (before : ℕ)
         (refutation-accepted laws places d file gap status text rows others are so infeasible.multipliers told.kept told.same infeasible.refuted.proved (told.read some) due)
     of_method asked Rounded (inr (inr of)) = of_end asked of
 
-  no-program : HasNoProgram places d end file → AcceptsEnd end status text
-  no-program (inl large) = refused-so end status text _ large.due.status_is
-  no-program (inr (inl wide)) = stopped-so end status text _ wide.status_is
-  no-program (inr (inr many)) = refused-so end status text _ many.status_is
+  no-rows : HasNoRows places d end file → AcceptsEnd end status text
+  no-rows (inl wide) = stopped-so end status text _ wide.status_is
+  no-rows (inr many) = refused-so end status text _ many.status_is
 
   -- where the rows were made, they are made again
   made-again : CanBeMade places d 0 (instances d) → HasNoRows places d status text → ⊥
@@ -116,6 +116,9 @@ module _ (laws : ProofLaws) (made_law : (places : ℕ) (d : Data) (before : ℕ)
   made-again can (inr many) = many_or_memory (made_law places d 0 (instances d) book.TooManyEntries can (many.name, many.many))
 
   pub accepts-end : (method : SolveMethod) → DueForSolve places (to_prove method) rounded d end file → DueForProof places file gap d status text → AcceptsEnd end status text
-  accepts-end method (inl made) (inl again) = of_method made.rows again.rows made.are_rows again.are_rows again.due method method made.due.1
+  accepts-end method (inl made) (inl again) = elim (rows-due places d made.rows (to_prove method) rounded end file made.due) [
+    | inl large ↦ refused-so end status text _ large.status_is
+    | inr of ↦ of_method made.rows again.rows made.are_rows again.are_rows again.due method method of
+  ]
   accepts-end method (inl made) (inr none) = absurd (made-again made.made none)
-  accepts-end method (inr none) due = no-program none
+  accepts-end method (inr none) due = no-rows none

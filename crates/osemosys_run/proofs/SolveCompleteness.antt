@@ -25,13 +25,14 @@ use Rattle.command_words.specs.declared.command.SolveMethod.{SolveMethod}
 use Rattle.command_words.specs.declared.command.SolveMethod.TheVariants.{Exact, Rounded}
 use Rattle.solve_command.specs.Solve.{ComesToEnd, DueBy, DueForEnd, DueForSolve}
 use Rattle.command_answers.specs.Limits.{IsWithinLimits}
+use Rattle.solve_command.proofs.RowsDue.{rows-due}
 use Rattle.solve_command.proofs.SolvedEnds.{prices_come}
 use Rattle.osemosys_run.proofs.CurveCompleteness.{drawn_from_due}
 use Rattle.osemosys_run.proofs.SpanCompleteness.{spanned_from_due}
-use Rattle.osemosys_run.proofs.TableCompleteness.{tabled_from_due}
+use Rattle.osemosys_run.proofs.ShownCompleteness.{paged_from_due, tabled_from_due}
 use Rattle.osemosys_run.proofs.ExplainCompleteness.{explained_from_due}
 use Rattle.osemosys_run.proofs.Delivery.{due_or_memory}
-use Rattle.osemosys_run.proofs.Completeness.{Laws, done_from_due, no_program, no_rows, not_too_large, over_accepted, over_file}
+use Rattle.osemosys_run.proofs.Completeness.{Laws, done_from_due, no_rows, not_too_large, over_accepted, over_file}
 
 -- ---- solving
 
@@ -61,8 +62,11 @@ module _ (laws : Laws) (places : ℕ) (wanted : Wanted) (d : Data) (can_make : C
   method_ended rows are Rounded rounded status text (inr (inr due)) = end_ended rows are rounded status text due
 
   data_ended : (rounded : ℕ) (status : Status) (text : List ℕ) → DueForSolve places wanted rounded d status text → IsEnded status
-  data_ended rounded status text (inl made) = method_ended made.rows made.are_rows wanted.method rounded status text made.due.1
-  data_ended rounded status text (inr none) = inl (no_program laws places d can_make within status text none)
+  data_ended rounded status text (inl made) = elim (rows-due places d made.rows wanted rounded status text made.due) [
+    | inl large ↦ absurd (not_too_large laws places d can_make within made.rows made.are_rows status text large)
+    | inr due ↦ method_ended made.rows made.are_rows wanted.method rounded status text due
+  ]
+  data_ended rounded status text (inr none) = inl (no_rows laws places d can_make status text none)
 
 -- the same of the summary of a made file
 summary_ended : Laws → (words : List (List ℕ)) (can : CanBeSummarized words) (rounded : ℕ) (status : Status) (text : List ℕ) → DueForSummary default_places rounded can.d status text → IsEnded status
@@ -102,6 +106,7 @@ completes laws A words files status before after f f' d calm = elim (due_or_memo
     made = λ asks. inl (made_from_due words files status due.0 due.1 asks);
     summarized = λ can. inl (summarized_from_due laws words files status due.0 due.1 can);
     tabled = λ can. inl (tabled_from_due laws words files status due.0 due.1 can);
+    paged = λ can. inl (paged_from_due laws words files status due.0 due.1 can);
   }
-  | inr memory ↦ record { done = λ can. inr memory; ended = λ can. inr memory; explained = λ can. inr memory; drawn = λ can. inr memory; spanned = λ can. inr memory; made = λ asks. inr memory; summarized = λ can. inr memory; tabled = λ can. inr memory }
+  | inr memory ↦ record { done = λ can. inr memory; ended = λ can. inr memory; explained = λ can. inr memory; drawn = λ can. inr memory; spanned = λ can. inr memory; made = λ asks. inr memory; summarized = λ can. inr memory; tabled = λ can. inr memory; paged = λ can. inr memory }
 ]

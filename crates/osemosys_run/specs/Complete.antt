@@ -1,4 +1,4 @@
--- Which files `mps` must write out, which plans `check` must accept, which models `solve` and `make` must bring to an end, which `explain` must, which curves must be told whole, which spans must be found, and which tables must be written.
+-- Which files `mps` must write out, which plans `check` must accept, which models `solve` and `make` must bring to an end, which `explain` must, which curves must be told whole, which spans must be found, and which tables and pages must be written.
 use Rattle.std.specs.List.{AllByRecursion}
 use Rattle.std.specs.Prelude.{◌≡◌, ◌≢◌, ◌⊎◌, ℕ, ℤ, Bool, ◌≤◌, true, List, length, Option, Some, None, Ok, ⊤}
 use Rattle.exact_num.specs.Range.{all_fit}
@@ -207,9 +207,26 @@ pub record CanBeSpanned (words : List (List ℕ)) (files : List (List ℕ × Lis
   pub within : (rows : List Row) → AreRowsOf places d (instances d) rows → IsWithinLimits rows (all_variables d)
   pub ends : (rows : List Row) → AreRowsOf places d (instances d) rows → NothingStopsSpan rows (all_variables d) (built r t y) slack pivots
 
--- The words ask for `table` of files that are there, with the name of a table; the text of the data file is accepted, and every row of the named equations
--- over its data can be made; the proof's file isn't too long, is in form and tells an optimum whose plan is feasible, and whose multipliers prove their bound and keep the
--- gap; and every number that is formed for the conditions fits.
+-- The files of data and of a proof are there; the text of the data file is accepted, and every row of the named equations over its data can be made; the proof's
+-- file isn't too long, is in form and tells an optimum whose plan is feasible, and whose multipliers prove their bound and keep the gap; and every number that is
+-- formed for the conditions fits.
+pub record ProvesOptimum (files : List (List ℕ × List ℕ)) (name proof_name : List ℕ) (gap places : ℕ) : Type 0 where
+  pub bytes : List ℕ
+  pub proof_bytes : List ℕ
+  pub d : Data
+  pub plan : List (Var × Rational)
+  pub multipliers : List (RowName × Rational)
+  pub there : file_named files name ≡ Some bytes
+  pub accepted : Accepted bytes d
+  pub made : CanBeMade places d 0 (instances d)
+  pub proof_there : file_named files proof_name ≡ Some proof_bytes
+  pub proof_short : length proof_bytes ≤ most_bytes
+  pub told : IsProof d.sets (all_variables d) (instances d) (records_of proof_bytes) (Optimum plan multipliers)
+  pub feasible : (q : ℕ) × (x : Var → ℤ) × AreValuesOver q x plan × Feasible places d q x
+  pub in_gap : (rows : List Row) → AreRowsOf places d (instances d) rows → AreInGap d rows plan (Some multipliers) gap
+  pub fit : (rows : List Row) → AreRowsOf places d (instances d) rows → first_wide (steps (check_conditions d rows plan (Some multipliers) gap)) ≡ None
+
+-- the words ask for `table` of such files, with the name of a table
 pub record CanBeTabled (words : List (List ℕ)) (files : List (List ℕ × List ℕ)) : Type 0 where
   pub name : List ℕ
   pub proof_name : List ℕ
@@ -217,23 +234,19 @@ pub record CanBeTabled (words : List (List ℕ)) (files : List (List ℕ × List
   pub exact : Bool
   pub gap : ℕ
   pub places : ℕ
-  pub bytes : List ℕ
-  pub proof_bytes : List ℕ
-  pub d : Data
   pub shown : Shown
-  pub plan : List (Var × Rational)
-  pub multipliers : List (RowName × Rational)
   pub asks : asked words ≡ Ok (requests.Table name proof_name table_name exact gap places)
-  pub there : file_named files name ≡ Some bytes
-  pub accepted : Accepted bytes d
-  pub made : CanBeMade places d 0 (instances d)
   pub shown_is : shown_named table_name ≡ Some shown
-  pub proof_there : file_named files proof_name ≡ Some proof_bytes
-  pub proof_short : length proof_bytes ≤ most_bytes
-  pub told : IsProof d.sets (all_variables d) (instances d) (records_of proof_bytes) (Optimum plan multipliers)
-  pub feasible : (q : ℕ) × (x : Var → ℤ) × AreValuesOver q x plan × Feasible places d q x
-  pub in_gap : (rows : List Row) → AreRowsOf places d (instances d) rows → AreInGap d rows plan (Some multipliers) gap
-  pub fit : (rows : List Row) → AreRowsOf places d (instances d) rows → first_wide (steps (check_conditions d rows plan (Some multipliers) gap)) ≡ None
+  pub proves : ProvesOptimum files name proof_name gap places
+
+-- or for `page`
+pub record CanBePaged (words : List (List ℕ)) (files : List (List ℕ × List ℕ)) : Type 0 where
+  pub name : List ℕ
+  pub proof_name : List ℕ
+  pub gap : ℕ
+  pub places : ℕ
+  pub asks : asked words ≡ Ok (requests.Page name proof_name gap places)
+  pub proves : ProvesOptimum files name proof_name gap places
 
 -- the words ask for a made file
 pub record AskForMade (words : List (List ℕ)) : Type 0 where
@@ -259,7 +272,7 @@ abbrev pub IsExplained : Status → Type 0
 IsExplained status = (status ≡ Done) ⊎ (status ≡ Infeasible)
 
 -- then the equations or the made file are written, or the plan is accepted, or the model is brought to an end or explained, or its curve
--- or its span is told, or a table of its plan, unless memory ran out
+-- or its span is told, or a table or a page of its plan, unless memory ran out
 pub record Completes (words : List (List ℕ)) (files : List (List ℕ × List ℕ)) (status : Status) : Type 0 where
   pub done : CanBeWritten words files ⊎ CanBeAccepted words files → (status ≡ Done) ⊎ (status ≡ Memory)
   pub ended : CanBeSolved words files → IsEnded status ⊎ (status ≡ Memory)
@@ -269,3 +282,4 @@ pub record Completes (words : List (List ℕ)) (files : List (List ℕ × List �
   pub made : AskForMade words → (status ≡ Done) ⊎ (status ≡ Memory)
   pub summarized : CanBeSummarized words → IsEnded status ⊎ (status ≡ Memory)
   pub tabled : CanBeTabled words files → (status ≡ Done) ⊎ (status ≡ Memory)
+  pub paged : CanBePaged words files → (status ≡ Done) ⊎ (status ≡ Memory)

@@ -5,6 +5,7 @@ pub mod Complete
 pub mod Due
 pub mod FedFiles
 pub mod Mps
+pub mod Promised
 pub mod ReadEnds
 pub mod ReadToEnd
 pub mod Reading

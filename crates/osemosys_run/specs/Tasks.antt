@@ -13,6 +13,7 @@ use Rattle.osemosys_run.specs.declared.one_file.CurveAsked.{CurveAsked}
 use Rattle.osemosys_run.specs.declared.one_file.SpanAsked.{SpanAsked}
 use Rattle.osemosys_run.specs.declared.one_file.Task.{Task}
 use Rattle.osemosys_run.specs.declared.one_file.Task.TheVariants.{Curve, Explain, Solve, Span}
+use Rattle.osemosys_run.specs.declared.proof_file.PageAsked.{PageAsked}
 use Rattle.osemosys_run.specs.declared.proof_file.ProofTask.{ProofTask}
 use Rattle.osemosys_run.specs.declared.proof_file.ProofTask.TheVariants as proofs
 use Rattle.osemosys_run.specs.declared.proof_file.TableAsked.{TableAsked}
@@ -20,6 +21,7 @@ use Rattle.command_answers.specs.declared.status.Status.{Status}
 use Rattle.explain_command.specs.Explain.{DueForExplain}
 use Rattle.solve_command.specs.Solve.{DueForSolve}
 use Rattle.span_command.specs.Span.{DueForSpan}
+use Rattle.page_command.specs.Pages.{DueForPage}
 use Rattle.table_command.specs.Tables.{DueForTable, form_of}
 
 -- of `curve`, for a region and an emission by their names and for limits in billionths
@@ -51,9 +53,14 @@ CausedByOneFile Over name before after status text = CausedByFiles (λ contents.
 abbrev pub DueForTableAsked : TableAsked → ℕ → List ℕ → Data → Status → List ℕ → Type 0
 DueForTableAsked asked places bytes d = DueForTable places (λ rows. DueForProofFile places d rows bytes asked.gap) bytes asked.name.now (form_of asked.exact) d
 
+-- of `page`, for the bytes of the file of a proof
+abbrev pub DueForPageAsked : PageAsked → ℕ → List ℕ → Data → Status → List ℕ → Type 0
+DueForPageAsked asked places bytes d = DueForPage places (λ rows. DueForProofFile places d rows bytes asked.gap) bytes d
+
 abbrev pub DueForProofTask : ProofTask → ℕ → List ℕ → ℕ → Data → Status → List ℕ → Type 0
 DueForProofTask (proofs.Check gap) places bytes rounded = DueForProof places bytes gap
 DueForProofTask (proofs.Table asked) places bytes rounded = DueForTableAsked asked places bytes
+DueForProofTask (proofs.Page asked) places bytes rounded = DueForPageAsked asked places bytes
 
 -- what is due over the two files of these names, by what `Over` has of the bytes of the proof's, of the number of the rounded numbers of the data file, and over
 -- its data; `held` has what the files hold

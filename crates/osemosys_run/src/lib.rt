@@ -14,6 +14,8 @@ mod making;
 mod mps;
 mod mps_program;
 mod one_file;
+mod page_file;
+mod promised;
 mod proof_file;
 mod reading;
 mod reply;

@@ -1,4 +1,4 @@
-// The commands of a data file and the file of a proof: `check` of a proof, and `table`. The files are read whole one after another before
+// The commands of a data file and the file of a proof: `check` of a proof, `table` and `page`. The files are read whole one after another before
 // anything is answered on what they say: the data file, which is fed to a reader, and that of the proof.
 ghost use Rattle.std.specs.Prelude.{◌≡◌, ◌≤◌, ◌∷◌, [], List, ℕ, length, IfOk, Some};
 ghost use Rattle.discount_factors.specs.Factors.{IsPlaces};
@@ -10,6 +10,7 @@ ghost use Rattle.command_answers.specs.Accepted.{most_bytes};
 ghost use Rattle.osemosys_run.specs.Reading.{sight};
 
 use crate::file_ends::refuse_file;
+use crate::page_file::answer_paged;
 use crate::reading::{feed_file, read_file};
 use crate::table_file::answer_table;
 use check_command::answer_proof;
@@ -32,6 +33,13 @@ pub struct TableAsked<'a> {
     pub gap: u32,
 }
 
+/// What the words after `page` say: the path of the data file, and how many millionths of the bound the plan's cost may be above it.
+#[derive(Clone, Copy, Debug, PartialEq, Eq)]
+pub struct PageAsked<'a> {
+    pub path: &'a str,
+    pub gap: u32,
+}
+
 /// What a command does with its data and a proof.
 #[derive(Clone, Copy, Debug, PartialEq, Eq)]
 pub enum ProofTask<'a> {
@@ -39,6 +47,8 @@ pub enum ProofTask<'a> {
     Check { gap: u32 },
     /// To show a table of its plan.
     Table(TableAsked<'a>),
+    /// To show a page of it.
+    Page(PageAsked<'a>),
 }
 
 /// What the words say of a proof: the names of the data file and of its own, what is to be done, and how many decimal places written
@@ -116,6 +126,7 @@ fn answer_read(
         Ok(model) => match task {
             ProofTask::Check { gap } => answer_proof(alloc, &model, places, proof, gap),
             ProofTask::Table(asked) => answer_table(alloc, &model, places, proof, asked),
+            ProofTask::Page(asked) => answer_paged(alloc, &model, places, proof, asked),
         },
         Err(answer) => Ok(answer),
     }

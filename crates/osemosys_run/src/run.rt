@@ -1,5 +1,5 @@
 // The top call: words, reading, accepting, answering, sending.
-ghost use Rattle.std.specs.Prelude.{◌≡◌, ◌≤◌, ◌⊎◌, ◌*ℤ◌, List, ℕ, ℤ, Some, IfOk, map};
+ghost use Rattle.std.specs.Prelude.{◌≡◌, ◌≤◌, ◌⊎◌, ◌*ℤ◌, Bool, List, ℕ, ℤ, Some, IfOk, map};
 ghost use Rattle.std.specs.String.{string_bytes};
 ghost use Rattle.io_edges.specs.Count.{Rose};
 ghost use Rattle.io_edges.specs.Outputs.{output};
@@ -18,6 +18,8 @@ ghost use Rattle.named_equations.specs.Plans.{Feasible, cost};
 ghost use Rattle.named_equations.specs.Positions.{all_years, regions};
 ghost use Rattle.plan_quantities.specs.CostSums.{cost_of_year, three_factors};
 ghost use Rattle.plan_quantities.specs.Quantities.{AreQuantities};
+ghost use Rattle.price_tables.specs.declared.shown.PriceTable.{PriceTable};
+ghost use Rattle.price_tables.specs.PricedRows.{price_table_named};
 ghost use Rattle.row_book.specs.Books.{AreRowsOf};
 ghost use Rattle.row_core.specs.declared.Row.{Row};
 ghost use Rattle.row_core.specs.declared.RowName.{RowName};
@@ -25,7 +27,7 @@ ghost use Rattle.row_core.specs.declared.Var.{Var};
 ghost use Rattle.command_answers.specs.declared.status.ReadStop.{ReadStop};
 ghost use Rattle.command_answers.specs.declared.status.Status.{Status};
 ghost use Rattle.command_answers.specs.Accepted.{Accepted};
-ghost use Rattle.check_command.specs.CheckProof.{DueForProof};
+ghost use Rattle.check_command.specs.CheckProof.{DueForProof, DueForProofFile};
 ghost use Rattle.command_words.specs.declared.command.SolveMethod.{SolveMethod};
 ghost use Rattle.solve_command.specs.declared.solve.Shown.TheVariants.{Proof};
 ghost use Rattle.solve_command.specs.Solve.{DueForSolve};
@@ -36,11 +38,13 @@ ghost use Rattle.osemosys_run.specs.Due.{AskForEquations, Due};
 ghost use Rattle.osemosys_run.specs.Mps.{WritesEquations};
 ghost use Rattle.command_answers.specs.NotAccepted.{DueWhereNotAccepted};
 ghost use Rattle.solve_command.specs.Promises.{ArePromised};
+ghost use Rattle.osemosys_run.specs.Promised.{IsPromisedTable};
 ghost use Rattle.osemosys_run.specs.Reading.{sight};
 ghost use Rattle.osemosys_run.specs.ReadToEnd.{IsReadToEnd, ReadsWhole};
 ghost use Rattle.osemosys_run.specs.Replies.{DueForReply, IsAskedBy};
 ghost use Rattle.osemosys_run.specs.Sending.{Delivers};
 ghost use Rattle.command_answers.specs.SolvedPlans.{IsNearOptimum};
+ghost use Rattle.table_command.specs.Tables.{DueForTable, form_of};
 ghost use Rattle.command_words.specs.WordParts.{HasSpelledParts, Part};
 
 use crate::accepting::accepting_laws;
@@ -49,7 +53,8 @@ use crate::making::perform_make;
 use crate::mps::perform_mps;
 use crate::mps_program::mps_laws;
 use crate::one_file::{CurveAsked, SpanAsked, Task, perform_task};
-use crate::proof_file::{ProofAsked, ProofTask, TableAsked, perform_proof_task};
+use crate::promised::promised_laws;
+use crate::proof_file::{PageAsked, ProofAsked, ProofTask, TableAsked, perform_proof_task};
 use crate::reply::{Reply, deliver};
 use command_answers::{Status, acceptance_laws, refuse_words};
 use command_words::{Command, read_command, spelled_parts};
@@ -92,6 +97,9 @@ use std::alloc::{AllocError, Global};
 ///
 /// `table FILE PROOF NAME [--exact] [--gap PPM] [--places P]` writes a table of the plan of an optimum whose proof `check` accepts, as
 /// CSV: the values that aren't 0, of one kind of variables or of all. Of any other proof that it accepts the line of `check` is written, with status 1 or 2.
+///
+/// `page FILE PROOF [--gap PPM] [--places P]` writes a page of HTML of what a proof shows that `check` accepts: of an optimum its plan, what it
+/// costs and which limits cost most; else that there is no plan, with status 1, or along what the cost falls without end, with status 2.
 ///
 /// `make N [--show file|summary]` reads no file. It writes a data file that is made of the number N, from 3 to 122; or how large
 /// its model is, and what `solve` with its default options comes to on it.
@@ -136,8 +144,8 @@ pub fn osemosys<S: Shelf, K: Sink>(
     // A data file that isn't refused, and whose rows can be made, is written out; and a feasible plan with multipliers that
     // prove their bound and keep the gap is accepted, where the files are in form and every number that is formed for the
     // conditions fits; a model that nothing stops is solved or explained, its curve is told whole, and its span is found; a
-    // made file is written, and so is a table of a proof that can be accepted; unless memory runs out, and over a shelf and a sink
-    // without a fault.
+    // made file is written, and so are a table and a page of a proof that can be accepted; unless memory runs out, and over a shelf
+    // and a sink without a fault.
     ensures complete { WhereTold (S.files shelf.old) (λ files.
         (Rose (S.faults shelf.old) (S.faults shelf.new) → ⊥) → (Rose (K.faults out.old) (K.faults out.new) → ⊥)
         → Completes (map string_bytes words.now) files result) }
@@ -183,6 +191,12 @@ pub fn osemosys<S: Shelf, K: Sink>(
     ensures prices { (places : ℕ) (d : Data) (rows : List Row) (gap : ℕ) (plan : List (Var × Rational)) (multipliers : List (RowName × Rational)) (cost bound : Rational)
         → AreRowsOf places d (instances d) rows → IsNearOptimum places d rows gap plan multipliers cost bound → ArePromised places d rows multipliers bound }
 
+    // Where `table` writes what limits or fuels cost, the proof's multipliers promise each price.
+    ensures table_prices { (places gap : ℕ) (bytes name : List ℕ) (exact : Bool) (d : Data) (table : PriceTable) (text : List ℕ)
+        → price_table_named name ≡ Some table
+        → DueForTable places (λ rows. DueForProofFile places d rows bytes gap) bytes name (form_of exact) d Status.Done text
+        → IsPromisedTable places d table (form_of exact) text }
+
     // What `solve` writes to prove its end is accepted by `check`, over the same data file and with the same gap and decimal places.
     ensures proofs { (places gap pivots : ℕ) (method : SolveMethod) (rounded : ℕ) (bytes : List ℕ) (d : Data) (end status : Status) (proof text : List ℕ)
         → Accepted bytes d → DueForSolve places (record { gap = gap; pivots = pivots; show = Proof; method = method }) rounded d end proof → DueForProof places proof gap d status text → AcceptsEnd end status text }
@@ -206,6 +220,7 @@ pub fn osemosys<S: Shelf, K: Sink>(
     spelled_parts();
     quantity_laws();
     promise_laws();
+    promised_laws();
     accepting_laws();
     match perform(alloc, words, shelf) {
         Ok(reply) => deliver(alloc, reply, out),
@@ -364,6 +379,24 @@ fn perform<S: Shelf>(alloc: Global, words: &[String], shelf: &mut S) -> Result<R
             },
         ) => {
             let task = ProofTask::Table(TableAsked { name, exact, gap });
+            let asked = ProofAsked {
+                file,
+                proof,
+                task,
+                places,
+            };
+            let answer = perform_proof_task(alloc, asked, shelf)?;
+            Ok(Reply::Told(answer))
+        }
+        Ok(
+            Command::Page {
+                file,
+                proof,
+                gap,
+                places,
+            },
+        ) => {
+            let task = ProofTask::Page(PageAsked { path: file, gap });
             let asked = ProofAsked {
                 file,
                 proof,

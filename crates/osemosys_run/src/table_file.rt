@@ -4,8 +4,9 @@ ghost use Rattle.discount_factors.specs.Factors.{IsPlaces};
 ghost use Rattle.model_sets.specs.Data.{AreSameData, Data};
 ghost use Rattle.check_command.specs.CheckProof.{DueForProofFile};
 ghost use Rattle.command_answers.specs.CheckedPlans.{IsBookOf, IsListedBook};
+ghost use Rattle.command_answers.specs.ShownProofs.{DueOverRows};
 ghost use Rattle.table_command.specs.ShownTables.{IsShowable};
-ghost use Rattle.table_command.specs.Tables.{DueOverRows, form_of};
+ghost use Rattle.table_command.specs.Tables.{ShowsProof, form_of};
 ghost use Rattle.osemosys_run.specs.Tasks.{DueForTableAsked};
 
 use crate::proof_file::TableAsked;
@@ -53,12 +54,13 @@ fn answer_over(
     requires listed { IsListedBook sets.now book.now.rows book.now.vars }
     requires of_data { (places : ℕ) × (d : Data) × (sets.now ≡ d.sets) × IsBookOf places d book.now.rows book.now.vars }
     ensures { (places : ℕ) (d : Data) → sets.now ≡ d.sets → IsBookOf places d book.now.rows book.now.vars
-        → IfOk result (λ answer. DueOverRows (DueForProofFile places d book.now.rows proof.now asked.entry.gap) proof.now book.now.rows shown (form_of asked.entry.exact) d answer.status answer.text.items) }
+        → IfOk result (λ answer. DueOverRows (DueForProofFile places d book.now.rows proof.now asked.entry.gap) proof.now
+        (λ said. ShowsProof d.sets book.now.rows shown (form_of asked.entry.exact)) d answer.status answer.text.items) }
 {
     match accepted_proof(alloc, book, sets, proof, asked.gap)? {
         Ok(accepted) => {
             let form = form_of(asked.exact);
-            answer_shown(alloc, sets, book.rows(), &accepted, shown, form)
+            answer_shown(alloc, sets, book.rows(), &accepted.proof, shown, form)
         }
         Err(answer) => Ok(answer),
     }

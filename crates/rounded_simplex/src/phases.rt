@@ -31,11 +31,16 @@ pub(crate) struct Finished {
 }
 
 impl State {
-    /// All phases, with at most `limit` pivots.
-    pub(crate) fn run(&mut self, limit: u64) -> Result<Finished, AllocError>
+    /// All phases, with at most `limit` pivots. Costs are raised at the start where it is that of all slacks, at which few steps would
+    /// differ otherwise.
+    pub(crate) fn run(&mut self, from_slacks: bool, limit: u64) -> Result<Finished, AllocError>
         ensures { IfOk result (λ f. f.pivots ≤ limit) }
     {
-        self.raise_costs();
+        if from_slacks {
+            self.raise_costs();
+        } else {
+            self.take_costs();
+        }
         if !self.renew()? {
             return Ok(Finished {
                 finish: Finish::GivenUp,
@@ -43,7 +48,7 @@ impl State {
             });
         }
         self.shift_costs();
-        let mut dual = self.dual_phase(true, limit)?;
+        let mut dual = self.dual_phase(from_slacks, limit)?;
         let mut pivots = dual.pivots;
         for _ in 0..MOST_ROUNDS {
             let finish = match dual.end {
@@ -92,6 +97,14 @@ impl State {
             });
         }
         self.primal_phase(limit)
+    }
+
+    /// Takes the costs of the dual phase as they are.
+    fn take_costs(&mut self) {
+        for column in 0..self.program.columns {
+            let cost = at(&self.program.raised_costs, column, 0.0);
+            put(&mut self.costs, column, cost);
+        }
     }
 
     /// Takes the costs of the dual phase, each raised by a small part of itself, so that few of them are alike.

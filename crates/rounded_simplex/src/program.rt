@@ -29,6 +29,8 @@ pub struct Guess {
     pub multipliers: Vec<f64>,
     /// How many pivots were made.
     pub pivots: u64,
+    /// The basic variables at the end, ascending: a column by its number, and then the slack of each row. Another guess can start there.
+    pub basis: Vec<usize>,
 }
 
 /// What the method ends with.

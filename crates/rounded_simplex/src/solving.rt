@@ -12,11 +12,14 @@ use std::alloc::{AllocError, Global};
 
 /// Guesses an optimum of a linear program.
 ///
+/// `start` has the variables to begin with in the basis, in any order: a column by its number, and then the slack of each row, as the
+/// `basis` of a guess at a program with the same rows and columns. They save pivots, and need not be a basis; none are all slacks.
 /// `tolerance` is what a row whose greatest entry is 1 may be missed by, and a reduced cost be below 0. The answer is
 /// given up once `pivots` pivots are made. The same numbers give the same answer. The error is out of memory.
 pub fn guess(
     alloc: Global,
     program: &LinearProgram,
+    start: &[usize],
     tolerance: f64,
     pivots: u64,
 ) -> Result<Answer, AllocError>
@@ -28,10 +31,10 @@ pub fn guess(
         return Ok(Answer::GivenUp);
     }
     let scaled = Scaled::new(alloc, program)?;
-    let Some(mut state) = State::new(alloc, scaled, tolerance)? else {
+    let Some(mut state) = State::new(alloc, scaled, start, tolerance)? else {
         return Ok(Answer::GivenUp);
     };
-    let finished = state.run(pivots)?;
+    let finished = state.run(start.is_empty(), pivots)?;
     match finished.finish {
         Finish::NoPlan => return Ok(Answer::NoPlan),
         Finish::GivenUp => return Ok(Answer::GivenUp),
@@ -42,10 +45,12 @@ pub fn guess(
     if !all_finite(&values) || !all_finite(&multipliers) {
         return Ok(Answer::GivenUp);
     }
+    let basis = basis_of(alloc, &state)?;
     Ok(Answer::Solved(Guess {
         values,
         multipliers,
         pivots: finished.pivots,
+        basis,
     }))
 }
 
@@ -88,4 +93,15 @@ fn multipliers_of(alloc: Global, state: &State, rows: usize) -> Result<Vec<f64>,
         multipliers.push(multiplier)?;
     }
     Ok(multipliers)
+}
+
+/// The basic variables, ascending.
+fn basis_of(alloc: Global, state: &State) -> Result<Vec<usize>, AllocError> {
+    let mut basis = Vec::with_capacity(alloc, state.program.rows)?;
+    for variable in 0..state.variables() {
+        if state.basis.is_basic(variable) {
+            basis.push(variable)?;
+        }
+    }
+    Ok(basis)
 }

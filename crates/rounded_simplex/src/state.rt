@@ -49,14 +49,19 @@ pub(crate) struct State {
 }
 
 impl State {
-    /// The basis of all slacks, with the costs of the dual phase.
+    /// The basis of these variables, or of all slacks where there are none. None where it stays singular.
     pub(crate) fn new(
         alloc: Global,
         program: Scaled,
+        start: &[usize],
         tolerance: f64,
     ) -> Result<Option<State>, AllocError> {
-        let mut basis = Basis::of_slacks(alloc, program.rows, program.columns, ROOM)?;
-        let Some(factors) = factor(alloc, &program.by_column, &mut basis)? else {
+        let mut basis = if start.is_empty() {
+            Basis::of_slacks(alloc, program.rows, program.columns, ROOM)?
+        } else {
+            Basis::of_variables(alloc, program.rows, program.columns, ROOM, start)?
+        };
+        let Some(factors) = mended_factors(alloc, &program, &mut basis)? else {
             return Ok(None);
         };
         let room = basis.room();
@@ -93,16 +98,16 @@ impl State {
     /// a number that came out isn't finite.
     pub(crate) fn renew(&mut self) -> Result<bool, AllocError> {
         self.keep_weights();
-        for _ in 0..MOST_REPAIRS {
-            if let Some(factors) = factor(self.alloc, &self.program.by_column, &mut self.basis)? {
+        match mended_factors(self.alloc, &self.program, &mut self.basis)? {
+            Some(factors) => {
                 self.factors = factors;
                 self.restore_weights();
                 self.solve_values()?;
                 self.solve_reduced_costs()?;
-                return Ok(all_finite(&self.values) && all_finite(&self.reduced_costs));
+                Ok(all_finite(&self.values) && all_finite(&self.reduced_costs))
             }
+            None => Ok(false),
         }
-        Ok(false)
     }
 
     /// Keeps the weights by variable.
@@ -305,6 +310,20 @@ impl State {
         put(&mut self.weights, slot, 1.0);
         Ok(())
     }
+}
+
+/// The factors of a basis, in which slacks take the place of what makes it singular. None where it stays singular.
+fn mended_factors(
+    alloc: Global,
+    program: &Scaled,
+    basis: &mut Basis,
+) -> Result<Option<Factors>, AllocError> {
+    for _ in 0..MOST_REPAIRS {
+        if let Some(factors) = factor(alloc, &program.by_column, basis)? {
+            return Ok(Some(factors));
+        }
+    }
+    Ok(None)
 }
 
 /// Whether all numbers are finite.

@@ -17,7 +17,19 @@ pub(crate) fn limited_guess(
 ) -> Result<Answer, AllocError>
     ensures { IfOk result (IfSolved (λ guess. guess.pivots ≤ pivots)) }
 {
-    guess(alloc, asked, TOLERANCE, pivot_limit(asked, pivots))
+    guess_from(alloc, asked, &[], pivots)
+}
+
+/// The same, from the basis of a guess at a program with the same rows and columns.
+pub(crate) fn guess_from(
+    alloc: Global,
+    asked: &LinearProgram,
+    start: &[usize],
+    pivots: u64,
+) -> Result<Answer, AllocError>
+    ensures { IfOk result (IfSolved (λ guess. guess.pivots ≤ pivots)) }
+{
+    guess(alloc, asked, start, TOLERANCE, pivot_limit(asked, pivots))
 }
 
 /// Of so many pivots those that a guess may make: at most ten for each row and column, and 1,000 more. A guess that takes as many goes in

@@ -5,7 +5,7 @@
 ghost use Rattle.std.specs.Prelude.{◌≤◌, IfOk, IfSome};
 
 use crate::carried_back::{Proving, multipliers_of_rows};
-use crate::limit::limited_guess;
+use crate::limit::{guess_from, limited_guess};
 use crate::raising::raised_values;
 use crate::room::{Room, room_of, rounding_within};
 use crate::sizes::sum_errors;
@@ -32,20 +32,24 @@ pub(crate) struct ShortEnd {
     pub(crate) pivots: u64,
 }
 
-/// What guesses are made of: the rows by places, the smaller program, and the room for decimals.
+/// What guesses are made of: the rows by places, the smaller program, and the room for decimals; the basis at which the first guess
+/// ended, and the pivots that it took.
 #[derive(Drop)]
 pub(crate) struct Measured {
     layout: Layout,
     smaller: Program,
     room: Room,
+    basis: Vec<usize>,
+    pivots: u64,
 }
 
-/// Values of the columns, multipliers of the rows that are no equations, and the pivots that they took.
+/// Values of the columns, multipliers of the rows that are no equations, the pivots that they took and the basis that they ended at.
 #[derive(Drop)]
 struct Ended {
     values: Vec<Frac>,
     named: Vec<Frac>,
     pivots: u64,
+    basis: Vec<usize>,
 }
 
 /// A first guess, which tells how large the numbers are, and so how many decimals there is room for. None where there seems to be no plan.
@@ -55,37 +59,42 @@ pub(crate) fn measure(
     defs: &[Option<Var>],
     vars: &[Var],
     pivots: u64,
-) -> Result<Option<Measured>, Stop> {
+) -> Result<Option<Measured>, Stop>
+    ensures { IfOk result (λ first. IfSome first (λ measured. measured.pivots ≤ pivots)) }
+{
     let layout = layout_of(alloc, rows, defs, vars)?;
     let smaller = prepare_rows(alloc, rows, vars, &layout, Aim::Cheapest)?;
     if smaller.is_false() {
         return Ok(None);
     }
     let margins = margins_of(alloc, &smaller, PLACES, DIGITS)?;
-    match end_of_guess(alloc, &smaller, &margins, pivots)? {
+    match end_of_guess(alloc, &smaller, &margins, &[], pivots)? {
         Some(first) => {
             let room = room_of(alloc, rows, vars, &layout, &first.values, &first.named)?;
             Ok(Some(Measured {
                 layout,
                 smaller,
                 room,
+                basis: first.basis,
+                pivots: first.pivots,
             }))
         }
         None => Ok(None),
     }
 }
 
-/// A guess with these margins; none where there seems to be no plan.
+/// A guess with these margins, from this basis, if there is one; none where there seems to be no plan.
 fn end_of_guess(
     alloc: Global,
     smaller: &Program,
     margins: &Margins,
+    start: &[usize],
     pivots: u64,
 ) -> Result<Option<Ended>, Stop>
     ensures made { IfOk result (λ end. IfSome end (λ e. e.pivots ≤ pivots)) }
 {
     let asked = rounded_program(alloc, smaller, margins)?;
-    match limited_guess(alloc, &asked, pivots)? {
+    match guess_from(alloc, &asked, start, pivots)? {
         Answer::Solved(guess) => {
             let values = values_of(alloc, smaller, margins, &guess.values)?;
             let named = named_multipliers(alloc, smaller, margins, &guess.multipliers)?;
@@ -93,6 +102,7 @@ fn end_of_guess(
                 values,
                 named,
                 pivots: guess.pivots,
+                basis: guess.basis,
             }))
         }
         Answer::NoPlan => Ok(None),
@@ -100,8 +110,8 @@ fn end_of_guess(
     }
 }
 
-/// A guess with values of so many decimals and multipliers of so many significant digits, where there is room for them. None where there
-/// seems to be no plan.
+/// A guess with values of so many decimals and multipliers of so many significant digits, where there is room for them, from the end of
+/// the first guess, with all pivots that both took. None where there seems to be no plan.
 pub(crate) fn short_end(
     alloc: Global,
     rows: &[Row],
@@ -111,6 +121,7 @@ pub(crate) fn short_end(
     digits: i32,
     pivots: u64,
 ) -> Result<Option<ShortEnd>, Stop>
+    requires { measured.now.pivots ≤ pivots }
     ensures made { IfOk result (λ end. IfSome end (λ e. e.pivots ≤ pivots)) }
 {
     let layout = &measured.layout;
@@ -118,7 +129,8 @@ pub(crate) fn short_end(
     let room = &measured.room;
     let rounding = rounding_within(alloc, rows, vars, layout, smaller, room, places)?;
     let margins = margins_for(alloc, smaller, rounding, digits)?;
-    match end_of_guess(alloc, smaller, &margins, pivots)? {
+    let left = pivots - measured.pivots;
+    match end_of_guess(alloc, smaller, &margins, &measured.basis, left)? {
         Some(end) => {
             let values = raised_values(alloc, rows, vars, layout, room, &end.values)?;
             let multipliers = multipliers_of_rows(
@@ -132,7 +144,7 @@ pub(crate) fn short_end(
             Ok(Some(ShortEnd {
                 values,
                 multipliers,
-                pivots: end.pivots,
+                pivots: measured.pivots + end.pivots,
             }))
         }
         None => Ok(None),
@@ -213,6 +225,7 @@ fn refuting_end(
             values: Vec::new(alloc),
             named,
             pivots: 0,
+            basis: Vec::new(alloc),
         });
     }
     let asked = elastic_program(alloc, smaller, margins)?;
@@ -223,6 +236,7 @@ fn refuting_end(
                 values: Vec::new(alloc),
                 named,
                 pivots: guess.pivots,
+                basis: guess.basis,
             })
         }
         Answer::NoPlan => Err(Stop::GivenUp),

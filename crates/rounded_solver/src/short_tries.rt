@@ -72,7 +72,7 @@ fn short_attempts(
 }
 
 /// The first try at a plan that the checker accepts.
-pub(crate) fn short_plan(
+fn short_plan(
     alloc: Global,
     rows: &[Row],
     defs: &[Option<Var>],
@@ -113,7 +113,8 @@ fn one_try(
     ppm: u32,
     pivots: u64,
 ) -> Result<Attempt, NoAnswer>
-    requires { AreListed rows.now vars.now }
+    requires listed { AreListed rows.now vars.now }
+    requires pivots { measured.now.pivots ≤ pivots }
     ensures proved { IfOk result (IfFound (IsProvedWithin rows.now vars.now ppm)) }
     ensures whole { IfOk result (IfFound (IsComplete vars.now)) }
     ensures named { IfOk result (IfFound (IsNamed rows.now)) }
@@ -138,7 +139,7 @@ fn one_try(
 }
 
 /// The first try at multipliers that show that there is no plan that the checker accepts.
-pub(crate) fn short_refutation(
+fn short_refutation(
     alloc: Global,
     rows: &[Row],
     defs: &[Option<Var>],

@@ -1,6 +1,6 @@
 //! The attempt over the rows of a problem.
 
-ghost use Rattle.std.specs.Prelude.{◌≡◌, IfOk, IfSome, ℕ};
+ghost use Rattle.std.specs.Prelude.{◌≡◌, IfOk, IfSome};
 ghost use Rattle.row_problem.specs.ProgramsOf.{IsPosedProblem};
 ghost use Rattle.rounded_solver.specs.Attempts.{IfFound};
 ghost use Rattle.certified_answers.specs.Answers.{IsComplete, IsMadeWithin, IsNamed, IsProvedWithin};
@@ -9,8 +9,7 @@ ghost use Rattle.certified_answers.specs.declared.costs.Cost.TheVariants.{Model}
 use crate::attempt::Attempt;
 use crate::costless::costless_plan;
 use crate::refuting::refutation;
-use crate::short_tries::{short_plan, short_refutation};
-use crate::tries::{FIRST_TRY, FURTHER_TRIES, cheapest_plan};
+use crate::tries::cheapest_plan;
 use certified_answers::{Certified, NoAnswer};
 use row_problem::Problem;
 use std::alloc::{AllocError, Global};
@@ -43,7 +42,8 @@ pub fn guessed(
     }
 }
 
-/// A plan of least cost, by the first try; where there seems to be none, what proves that.
+/// A plan of least cost; where there seems to be none, what proves that; where nothing could be kept beside the bound, a plan that costs
+/// nothing.
 fn attempts(
     alloc: Global,
     problem: &Problem<'_>,
@@ -56,66 +56,9 @@ fn attempts(
     ensures named { IfOk result (IfFound (IsNamed problem.now.rows.now)) }
     ensures made { IfOk result (IfFound (IsMadeWithin pivots)) }
 {
-    match cheapest_plan(alloc, problem, &FIRST_TRY, ppm, pivots) {
-        Ok(Attempt::Found(found)) => Ok(Attempt::Found(found)),
-        Ok(Attempt::NoPlan) => without_plan(alloc, problem, pivots),
-        Ok(Attempt::Nothing) => in_short_numbers(alloc, problem, ppm, pivots),
-        Err(NoAnswer::Memory) => Err(NoAnswer::Memory),
-        Err(_) => in_short_numbers(alloc, problem, ppm, pivots),
-    }
-}
-
-/// What proves that there is no plan: by what is left of the rows, or by the rows alone.
-fn without_plan(alloc: Global, problem: &Problem<'_>, pivots: u64) -> Result<Attempt, NoAnswer>
-    requires { IsPosedProblem problem.now }
-    ensures proved { (ppm : ℕ) → IfOk result (IfFound (IsProvedWithin problem.now.rows.now problem.now.vars.now ppm)) }
-    ensures whole { IfOk result (IfFound (IsComplete problem.now.vars.now)) }
-    ensures named { IfOk result (IfFound (IsNamed problem.now.rows.now)) }
-    ensures made { IfOk result (IfFound (IsMadeWithin pivots)) }
-{
-    match refutation(alloc, problem, pivots) {
-        Ok(Attempt::Found(found)) => Ok(Attempt::Found(found)),
-        Err(NoAnswer::Memory) => Err(NoAnswer::Memory),
-        _ => short_refutation(alloc, problem.rows, problem.defs, problem.vars, pivots),
-    }
-}
-
-/// A plan in numbers that are short by their size; else by the tries that are left.
-fn in_short_numbers(
-    alloc: Global,
-    problem: &Problem<'_>,
-    ppm: u32,
-    pivots: u64,
-) -> Result<Attempt, NoAnswer>
-    requires { IsPosedProblem problem.now }
-    ensures proved { IfOk result (IfFound (IsProvedWithin problem.now.rows.now problem.now.vars.now ppm)) }
-    ensures whole { IfOk result (IfFound (IsComplete problem.now.vars.now)) }
-    ensures named { IfOk result (IfFound (IsNamed problem.now.rows.now)) }
-    ensures made { IfOk result (IfFound (IsMadeWithin pivots)) }
-{
-    match short_plan(alloc, problem.rows, problem.defs, problem.vars, ppm, pivots) {
-        Ok(Attempt::Found(found)) => Ok(Attempt::Found(found)),
-        Err(NoAnswer::Memory) => Err(NoAnswer::Memory),
-        _ => with_fewer_decimals(alloc, problem, ppm, pivots),
-    }
-}
-
-/// A plan by the tries with fewer decimals; where nothing could be kept beside the bound, one that costs nothing.
-fn with_fewer_decimals(
-    alloc: Global,
-    problem: &Problem<'_>,
-    ppm: u32,
-    pivots: u64,
-) -> Result<Attempt, NoAnswer>
-    requires { IsPosedProblem problem.now }
-    ensures proved { IfOk result (IfFound (IsProvedWithin problem.now.rows.now problem.now.vars.now ppm)) }
-    ensures whole { IfOk result (IfFound (IsComplete problem.now.vars.now)) }
-    ensures named { IfOk result (IfFound (IsNamed problem.now.rows.now)) }
-    ensures made { IfOk result (IfFound (IsMadeWithin pivots)) }
-{
-    match cheapest_plan(alloc, problem, &FURTHER_TRIES, ppm, pivots)? {
+    match cheapest_plan(alloc, problem, ppm, pivots)? {
         Attempt::Found(found) => Ok(Attempt::Found(found)),
-        Attempt::NoPlan => without_plan(alloc, problem, pivots),
+        Attempt::NoPlan => refutation(alloc, problem, pivots),
         Attempt::Nothing => costless_plan(alloc, problem, ppm, pivots),
     }
 }

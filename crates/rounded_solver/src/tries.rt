@@ -19,12 +19,6 @@ use std::alloc::Global;
 /// The decimals of values and the significant digits of multipliers, try by try: fewer need fewer bits, and leave a wider gap.
 pub const TRIES: [(i32, i32); 5] = [(8, 10), (7, 9), (6, 8), (5, 7), (4, 6)];
 
-/// The first of them.
-pub(crate) const FIRST_TRY: [(i32, i32); 1] = [(8, 10)];
-
-/// The others.
-pub(crate) const FURTHER_TRIES: [(i32, i32); 4] = [(7, 9), (6, 8), (5, 7), (4, 6)];
-
 /// Values of columns and multipliers of rows, and the pivots that they took.
 #[derive(Drop)]
 pub(crate) struct RoundedEnd {
@@ -33,11 +27,10 @@ pub(crate) struct RoundedEnd {
     pub(crate) pivots: u64,
 }
 
-/// The first of these tries that the checker accepts.
+/// The first try that the checker accepts.
 pub(crate) fn cheapest_plan(
     alloc: Global,
     problem: &Problem<'_>,
-    tries: &[(i32, i32)],
     ppm: u32,
     pivots: u64,
 ) -> Result<Attempt, NoAnswer>
@@ -51,8 +44,8 @@ pub(crate) fn cheapest_plan(
     if smaller.is_false() {
         return Ok(Attempt::NoPlan);
     }
-    for (places, digits) in tries {
-        match one_try(alloc, problem, &smaller, *places, *digits, ppm, pivots) {
+    for (places, digits) in TRIES {
+        match one_try(alloc, problem, &smaller, places, digits, ppm, pivots) {
             Ok(Attempt::Found(found)) => return Ok(Attempt::Found(found)),
             Ok(Attempt::NoPlan) => return Ok(Attempt::NoPlan),
             Ok(Attempt::Nothing) => {}

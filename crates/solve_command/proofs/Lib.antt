@@ -3,6 +3,7 @@ mod PricePlaces
 mod PromisedPrices
 mod ReadingBack
 mod RoundedEnds
+pub mod RowsDue
 mod SecondEnds
 mod SolveExamples
 pub mod SolvedEnds

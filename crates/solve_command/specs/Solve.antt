@@ -23,7 +23,9 @@ use Rattle.command_answers.specs.declared.status.Status.{Status}
 use Rattle.command_answers.specs.declared.status.Status.TheVariants.{Done, Uncertified}
 use Rattle.simplex_core.specs.declared.stops.Stop.TheVariants.{Budget, Width}
 use Rattle.command_answers.specs.Lines.{uncertified_line}
-use Rattle.command_answers.specs.MadeBooks.{DueForProgram}
+use Rattle.command_answers.specs.Limits.{IsWithinLimits, PassesLimits}
+use Rattle.command_answers.specs.MadeBooks.{HasNoRows}
+use Rattle.command_answers.specs.MadeRows.{IsMadeFor}
 use Rattle.solve_command.specs.Shown.{HasPrices}
 use Rattle.command_words.specs.declared.command.SolveMethod.{SolveMethod}
 use Rattle.command_words.specs.declared.command.SolveMethod.TheVariants.{Exact, Rounded}
@@ -177,6 +179,21 @@ DueBy Rounded places d rows wanted rounded status text =
 abbrev pub DueForMethod : ℕ → Data → List Row → Wanted → ℕ → Status → List ℕ → Type 0
 DueForMethod places d rows wanted rounded status text = DueBy wanted.method places d rows wanted rounded status text
 
+-- of any linear program: that it is too large, or the same where it isn't
+abbrev pub DueForSized : ℕ → Data → List Row → Wanted → ℕ → Status → List ℕ → Type 0
+DueForSized places d rows wanted rounded status text =
+    PassesLimits rows (all_variables d) status text ⊎ (IsWithinLimits rows (all_variables d) × DueForMethod places d rows wanted rounded status text)
+
+-- with the rounded method what guesses of the rows find, however large the linear program is
+abbrev pub Finds : SolveMethod → ℕ → Data → List Row → Wanted → ℕ → Status → List ℕ → Type 0
+Finds Exact places d rows wanted rounded status text = ⊥
+Finds Rounded places d rows wanted rounded status text = IsFound places d rows wanted rounded status text ⊎ IsFoundInfeasibleShown places d rows wanted rounded status text
+
+-- of rows: what guesses find, or what is due by its size
+abbrev pub DueForRows : ℕ → Data → List Row → Wanted → ℕ → Status → List ℕ → Type 0
+DueForRows places d rows wanted rounded status text = Finds wanted.method places d rows wanted rounded status text ⊎ DueForSized places d rows wanted rounded status text
+
 -- What is due over these data, for what is wanted, and so many numbers of the data that are rounded.
 abbrev pub DueForSolve : ℕ → Wanted → ℕ → Data → Status → List ℕ → Type 0
-DueForSolve places wanted rounded d status text = DueForProgram (λ rows. DueForMethod places d rows wanted rounded) places d status text
+DueForSolve places wanted rounded d status text =
+    IsMadeFor places d (λ rows. DueForRows places d rows wanted rounded status text) ⊎ HasNoRows places d status text

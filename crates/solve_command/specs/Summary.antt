@@ -10,11 +10,10 @@ use Rattle.row_problem.specs.Sizes.{column_count, inequality_count}
 use Rattle.solve_command.specs.declared.solve.Shown.TheVariants.{Summary}
 use Rattle.solve_command.specs.declared.solve.Wanted.{Wanted}
 use Rattle.command_answers.specs.declared.status.Status.{Status}
-use Rattle.command_answers.specs.Limits.{IsWithinLimits, PassesLimits}
 use Rattle.command_answers.specs.MadeBooks.{HasNoRows}
 use Rattle.command_answers.specs.MadeRows.{IsMadeFor}
 use Rattle.command_words.specs.declared.command.SolveMethod.TheVariants.{Exact}
-use Rattle.solve_command.specs.Solve.{DueForMethod}
+use Rattle.solve_command.specs.Solve.{DueForSized}
 
 -- ---- lines
 
@@ -42,9 +41,7 @@ default_wanted = record { gap = 0; pivots = default_pivots; show = Summary; meth
 
 -- what `solve` comes to over the rows
 abbrev pub DueForDefaults : ℕ → Data → List Row → ℕ → Status → List ℕ → Type 0
-DueForDefaults places d rows rounded status text =
-    PassesLimits rows (all_variables d) status text
-    ⊎ (IsWithinLimits rows (all_variables d) × DueForMethod places d rows default_wanted rounded status text)
+DueForDefaults places d rows rounded status text = DueForSized places d rows default_wanted rounded status text
 
 -- over the rows: the counts, and then that
 abbrev pub DueAfterCounts : ℕ → Data → List Row → ℕ → Status → List ℕ → Type 0

@@ -43,7 +43,7 @@ pub fn answer_rounded(
     answer_guess(alloc, book, sets, found, places, wanted, rounded)
 }
 
-/// The same over a book whose elimination stops at a number that doesn't fit: guesses of its rows alone.
+/// The same by guesses of the rows alone: no defined variable is removed from them exactly.
 pub fn answer_rows(
     alloc: Global,
     book: &RowBook,

@@ -1,5 +1,5 @@
 // What `solve` answers over accepted data: an end of the exact method, or why there is none.
-ghost use Rattle.std.specs.Prelude.{◌≡◌, None, Some, IfOk};
+ghost use Rattle.std.specs.Prelude.{◌≡◌, None, IfOk};
 ghost use Rattle.exact_num.specs.Steps.{first_wide};
 ghost use Rattle.discount_factors.specs.Factors.{IsPlaces};
 ghost use Rattle.model_sets.specs.Data.{AreSameData, Data};
@@ -9,7 +9,7 @@ ghost use Rattle.command_answers.specs.BookPrograms.{IsProgramOf};
 ghost use Rattle.command_answers.specs.CheckedPlans.{IsBookOf, IsListedBook};
 ghost use Rattle.command_answers.specs.Definers.{definers};
 ghost use Rattle.solve_command.specs.Shown.{shown_of};
-ghost use Rattle.solve_command.specs.Solve.{DueForEnd, DueForMethod, DueForSolve};
+ghost use Rattle.solve_command.specs.Solve.{DueForEnd, DueForMethod, DueForRows, DueForSized, DueForSolve};
 ghost use Rattle.solve_command.specs.Second.{TellsExactly};
 
 use crate::ends::status_of;
@@ -19,14 +19,14 @@ use crate::second::or_second;
 use crate::texts::solution_text;
 use certified_answers::Certified;
 use command_answers::{
-    Answer, BookProgram, eliminate_book, sized_book, solve_book, stop_at, stop_on_book,
-    stop_on_elimination,
+    Answer, BookProgram, eliminate_book, made_book, refuse_large, solve_book, stop_at,
+    stop_on_book, stop_on_elimination,
 };
 use command_words::{SolveMethod, SolveShow};
 use model_sets::Sets;
 use param_tables::ModelData;
 use row_book::RowBook;
-use row_core::{Place, Stopped};
+use row_core::Stopped;
 use std::alloc::{AllocError, Global};
 
 /// The number of the attempt that the exact method is.
@@ -77,15 +77,57 @@ pub fn answer_solve(
     ensures { (d : Data) → AreSameData model.now.facts d → IfOk result (λ answer.
         DueForSolve places wanted model.now.rounded d answer.status answer.text.items) }
 {
-    match sized_book(alloc, model, places)? {
-        Ok(book) => answer_method(alloc, &book, model.sets(), places, wanted, model.rounded()),
+    match made_book(alloc, model, places)? {
+        Ok(book) => answer_book(alloc, &book, model.sets(), places, wanted, model.rounded()),
         Err(answer) => Ok(answer),
     }
 }
 
-/// What is due over a book of rows whose linear program isn't too large, with written factors of so many decimal places, of data of
-/// which so many numbers were rounded.
-pub fn answer_method(
+// What is due over a book of rows, with written factors of so many decimal places, of data of which so many numbers were rounded. With the
+// rounded method what guesses of the rows find comes first, however large the linear program is: nothing is eliminated exactly for them.
+fn answer_book(
+    alloc: Global,
+    book: &RowBook,
+    sets: &Sets,
+    places: u8,
+    wanted: Wanted,
+    rounded: u64,
+) -> Result<Answer, AllocError>
+    requires { IsListedBook sets.now book.now.rows book.now.vars }
+    ensures { (d : Data) → sets.now ≡ d.sets → IsBookOf places d book.now.rows book.now.vars
+        → IfOk result (λ answer. DueForRows places d book.now.rows wanted rounded answer.status answer.text.items) }
+{
+    match wanted.method {
+        SolveMethod::Exact => answer_sized(alloc, book, sets, places, wanted, rounded),
+        SolveMethod::Rounded => match answer_rows(alloc, book, sets, places, wanted, rounded)? {
+            Some(answer) => Ok(answer),
+            None => answer_sized(alloc, book, sets, places, wanted, rounded),
+        },
+    }
+}
+
+/// What is due over a book of rows, with written factors of so many decimal places, of data of which so many numbers were rounded: that its
+/// linear program is too large, or what is due where it isn't.
+pub fn answer_sized(
+    alloc: Global,
+    book: &RowBook,
+    sets: &Sets,
+    places: u8,
+    wanted: Wanted,
+    rounded: u64,
+) -> Result<Answer, AllocError>
+    requires { IsListedBook sets.now book.now.rows book.now.vars }
+    ensures { (d : Data) → sets.now ≡ d.sets → IsBookOf places d book.now.rows book.now.vars
+        → IfOk result (λ answer. DueForSized places d book.now.rows wanted rounded answer.status answer.text.items) }
+{
+    match refuse_large(alloc, book)? {
+        Some(answer) => Ok(answer),
+        None => answer_eliminated(alloc, book, sets, places, wanted, rounded),
+    }
+}
+
+// What is due by what is left of the rows when all defined variables are removed.
+fn answer_eliminated(
     alloc: Global,
     book: &RowBook,
     sets: &Sets,
@@ -99,37 +141,7 @@ pub fn answer_method(
 {
     match eliminate_book(alloc, book) {
         Ok(program) => answer_program(alloc, book, sets, &program, places, wanted, rounded),
-        Err(Stopped::Width(place)) => {
-            answer_width(alloc, book, sets, place, places, wanted, rounded)
-        }
-        Err(Stopped::Memory) => Err(AllocError),
-    }
-}
-
-// What is due where a number of the elimination doesn't fit, formed at this place: with the rounded method what guesses of the rows find.
-fn answer_width(
-    alloc: Global,
-    book: &RowBook,
-    sets: &Sets,
-    place: Place,
-    places: u8,
-    wanted: Wanted,
-    rounded: u64,
-) -> Result<Answer, AllocError>
-    requires listed { IsListedBook sets.now book.now.rows book.now.vars }
-    requires wide { first_wide (elimination_steps book.now.rows (definers book.now.rows)) ≡ Some place }
-    ensures { (d : Data) → sets.now ≡ d.sets → IsBookOf places d book.now.rows book.now.vars
-        → IfOk result (λ answer. DueForMethod places d book.now.rows wanted rounded answer.status answer.text.items) }
-{
-    let stop = Stopped::Width(place);
-    match wanted.method {
-        SolveMethod::Exact => stop_on_elimination(alloc, book, sets, stop),
-        SolveMethod::Rounded => {
-            match answer_rows(alloc, book, sets, places, wanted, rounded)? {
-                Some(answer) => Ok(answer),
-                None => stop_on_elimination(alloc, book, sets, stop),
-            }
-        }
+        Err(stop) => stop_on_elimination(alloc, book, sets, stop),
     }
 }
 

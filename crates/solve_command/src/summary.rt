@@ -5,8 +5,8 @@ ghost use Rattle.model_sets.specs.Data.{AreSameData, Data};
 ghost use Rattle.command_answers.specs.CheckedPlans.{IsBookOf, IsListedBook};
 ghost use Rattle.solve_command.specs.Summary.{DueAfterCounts, DueForDefaults, DueForSummary, counts_text};
 
-use crate::solve::{Shown, Wanted, answer_method};
-use command_answers::{Answer, made_book, push_count, refuse_large};
+use crate::solve::{Shown, Wanted, answer_sized};
+use command_answers::{Answer, made_book, push_count};
 use command_words::SolveMethod;
 use model_sets::Sets;
 use param_tables::ModelData;
@@ -64,10 +64,7 @@ fn answer_defaults(
         show: Shown::Summary,
         method: SolveMethod::Exact,
     };
-    match refuse_large(alloc, book)? {
-        Some(answer) => Ok(answer),
-        None => answer_method(alloc, book, sets, places, wanted, rounded),
-    }
+    answer_sized(alloc, book, sets, places, wanted, rounded)
 }
 
 // The counts of a book.

@@ -27,12 +27,29 @@ pub fn print_guess(rt: &HostRuntime, line: &str) -> io::Result<()> {
     let pivots = fields.next().unwrap_or("").parse::<u64>().unwrap_or(0);
     let least = fields.next().unwrap_or("");
     println!(rt; "== {name}")?;
-    match guess(alloc, &program, TOLERANCE, pivots)? {
-        Answer::Solved(found) => print_found(rt, &program, &found, least)?,
+    match guess(alloc, &program, &[], TOLERANCE, pivots)? {
+        Answer::Solved(found) => {
+            print_found(rt, &program, &found, least)?;
+            print_again(rt, &program, &found.basis, pivots)?;
+        }
         Answer::NoPlan => println!(rt; "no plan")?,
         Answer::GivenUp => println!(rt; "given up")?,
     }
     Ok(())
+}
+
+/// Prints how many pivots a guess takes that starts where another one ended.
+fn print_again(
+    rt: &HostRuntime,
+    program: &LinearProgram,
+    basis: &[usize],
+    pivots: u64,
+) -> io::Result<()> {
+    match guess(rt.alloc(), program, basis, TOLERANCE, pivots)? {
+        Answer::Solved(found) => println!(rt; "{} pivots from there", found.pivots),
+        Answer::NoPlan => println!(rt; "no plan from there"),
+        Answer::GivenUp => println!(rt; "given up from there"),
+    }
 }
 
 /// The program with the same costs for both phases.

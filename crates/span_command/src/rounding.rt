@@ -13,7 +13,7 @@ use crate::book_spans::rounded_span_of_book;
 use crate::ends::answer_near_ends;
 use crate::wanted::Wanted;
 use certified_answers::Certified;
-use command_answers::{Answer, BookProgram, Status, guess_book};
+use command_answers::{Answer, BookProgram, Status, guess_book, guess_rows};
 use exact_num::Frac;
 use model_sets::Sets;
 use result_tables::infeasible_report;
@@ -44,11 +44,27 @@ pub fn answer_rounded(
     ensures { (d : Data) → sets.now ≡ d.sets → IsBookOf places d book.now.rows book.now.vars
         → IfOk result (λ found. IfSome found (λ answer. DueForFound places d book.now.rows var wanted rounded answer.status answer.text.items)) }
 {
-    match guess_book(alloc, book, program, wanted.gap, wanted.pivots)? {
+    match guess_least(alloc, book, program, wanted)? {
         Some(solution) => answer_solution(
             alloc, book, sets, places, var, wanted, rounded, &solution,
         ),
         None => Ok(None),
+    }
+}
+
+// What guesses find of the least cost: those of the rows alone, and where they find nothing, those of what is left of the rows.
+fn guess_least(
+    alloc: Global,
+    book: &RowBook,
+    program: &BookProgram,
+    wanted: Wanted,
+) -> Result<Option<Certified>, AllocError>
+    requires { IsProgramOf book.now.rows book.now.vars program.now }
+    ensures { IfOk result (λ found. IfSome found (IsFoundBy book.now.rows book.now.vars wanted.gap wanted.pivots)) }
+{
+    match guess_rows(alloc, book, wanted.gap, wanted.pivots)? {
+        Some(found) => Ok(Some(found)),
+        None => guess_book(alloc, book, program, wanted.gap, wanted.pivots),
     }
 }
 

@@ -27,6 +27,38 @@ impl Basis {
         columns: usize,
         updates: usize,
     ) -> Result<Basis, AllocError> {
+        let mut basis = Basis::of_none(alloc, rows, columns, updates)?;
+        for row in 0..rows {
+            basis.place(row, basis.slack(row));
+        }
+        Ok(basis)
+    }
+
+    /// The basis of these variables, with room for so many updates between two factorisations. Of more than there are rows, the first
+    /// are taken; where there are fewer, slacks fill the basis when it is factored.
+    pub fn of_variables(
+        alloc: Global,
+        rows: usize,
+        columns: usize,
+        updates: usize,
+        chosen: &[usize],
+    ) -> Result<Basis, AllocError> {
+        let mut basis = Basis::of_none(alloc, rows, columns, updates)?;
+        for (slot, variable) in chosen.iter().enumerate() {
+            if slot < rows && !basis.is_basic(*variable) {
+                basis.place(slot, *variable);
+            }
+        }
+        Ok(basis)
+    }
+
+    /// A basis without variables.
+    fn of_none(
+        alloc: Global,
+        rows: usize,
+        columns: usize,
+        updates: usize,
+    ) -> Result<Basis, AllocError> {
         let room = rows.saturating_add(updates);
         let mut basis = Basis {
             rows,
@@ -38,7 +70,6 @@ impl Basis {
             row_of_slot: filled(alloc, 0, rows)?,
         };
         for row in 0..rows {
-            basis.place(row, basis.slack(row));
             basis.pair(row, row);
         }
         Ok(basis)

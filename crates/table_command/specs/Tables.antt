@@ -1,20 +1,15 @@
 -- What `table` says over accepted data: that no table has the name; that the rows can't be made, or what `check` says of the proof over them, where it doesn't
 -- accept it; or the table, of the plan that the proof has or of its multipliers.
-use Rattle.std.specs.Prelude.{◌≡◌, ◌≢◌, ℕ, Bool, true, false, List, ◌++◌, ◌⊎◌, None, Some, codes}
+use Rattle.std.specs.Prelude.{◌≡◌, ℕ, Bool, true, false, List, ◌++◌, ◌⊎◌, None, Some, codes}
 use Rattle.model_sets.specs.Data.{Data}
 use Rattle.model_sets.specs.Members.{SetLists}
 use Rattle.mps_writer.specs.MpsText.{line}
-use Rattle.named_equations.specs.Existence.{all_variables}
-use Rattle.named_equations.specs.Instances.{instances}
-use Rattle.plan_files.specs.Files.{records_of}
 use Rattle.plan_tables.specs.declared.shown.NumberForm.{NumberForm}
 use Rattle.plan_tables.specs.declared.shown.NumberForm.TheVariants.{Decimals, Fractions}
 use Rattle.row_core.specs.declared.Row.{Row}
 use Rattle.proof_files.specs.declared.proof.Proof.{Proof}
 use Rattle.proof_files.specs.declared.proof.Proof.TheVariants.{Optimum, Refutation, Descent}
-use Rattle.proof_files.specs.Proofs.{IsProof}
-use Rattle.command_answers.specs.MadeBooks.{HasNoRows}
-use Rattle.command_answers.specs.MadeRows.{IsMadeFor}
+use Rattle.command_answers.specs.ShownProofs.{DueForShown}
 use Rattle.command_answers.specs.declared.status.Status.{Status}
 use Rattle.command_answers.specs.declared.status.Status.TheVariants.{Done, Infeasible, Unbounded, Refused}
 use Rattle.command_answers.specs.declared.status.Refusal.TheVariants.{UnknownTable}
@@ -45,27 +40,9 @@ ShowsProof sets rows shown form (Optimum plan multipliers) status text = (status
 ShowsProof sets rows shown form (Refutation multipliers) status text = (status ≡ Infeasible) × (text ≡ line (codes "accepted infeasible"))
 ShowsProof sets rows shown form (Descent plan direction) status text = (status ≡ Unbounded) × (text ≡ line (codes "accepted unbounded"))
 
--- `check` doesn't accept the proof, and this is what it says
-pub record IsAsChecked (Checked : Status → List ℕ → Type 0) (status : Status) (text : List ℕ) : Type 0 where
-  pub checked : Checked status text
-  pub not_done : status ≢ Done
-
--- `check` accepts the proof that the file tells, and this is shown of it, over the rows over which it was checked
-pub record IsShown (Checked : Status → List ℕ → Type 0) (bytes : List ℕ) (rows : List Row) (shown : Shown) (form : NumberForm) (d : Data) (status : Status) (text : List ℕ) : Type 0 where
-  pub said : List ℕ
-  pub accepted : Checked Done said
-  pub proof : Proof
-  pub told : IsProof d.sets (all_variables d) (instances d) (records_of bytes) proof
-  pub shows : ShowsProof d.sets rows shown form proof status text
-
--- what is due over rows of the data, of a table that there is
-abbrev pub DueOverRows : (Status → List ℕ → Type 0) → List ℕ → List Row → Shown → NumberForm → Data → Status → List ℕ → Type 0
-DueOverRows Checked bytes rows shown form d status text = IsAsChecked Checked status text ⊎ IsShown Checked bytes rows shown form d status text
-
--- the same where the rows can be made, or that they can't
+-- what is due of a table that there is
 abbrev pub DueForKnown : ℕ → (List Row → Status → List ℕ → Type 0) → List ℕ → Shown → NumberForm → Data → Status → List ℕ → Type 0
-DueForKnown places Checked bytes shown form d status text =
-    IsMadeFor places d (λ rows. DueOverRows (Checked rows) bytes rows shown form d status text) ⊎ HasNoRows places d status text
+DueForKnown places Checked bytes shown form d = DueForShown places Checked bytes (λ rows said. ShowsProof d.sets rows shown form) d
 
 -- What is due over these data, with written factors of so many decimal places, where `Checked` has what `check` is due to say of the proof over rows of the data,
 -- for the bytes of its file, the name of a table and the form of its numbers.

@@ -21,8 +21,8 @@ refuse_proof-requires c =
     proof-fault-within c.args.sets.now c.vars.result.now (map name_of_row c.rows.result.now) (records_of c.args.text.now) c.in-Err-Fault.fault listed
     (subst (IsFailOf (IsProofFault c.args.sets.now c.vars.result.now (map name_of_row c.rows.result.now) (records_of c.args.text.now))) c.in-Err-Fault.field-0-is c.in-Err-Fault.ensures.fault)
 
-pub returns-in_ok-answer-in-Ok : goal.returns-in_ok-answer-in-Ok
-returns-in_ok-answer-in-Ok c = λ places d same book.
+pub returns-in_ok-judged-in-Ok : goal.returns-in_ok-judged-in-Ok
+returns-in_ok-judged-in-Ok c = λ places d same book.
     let rows = c.args.book.now.rows in
     let text = c.args.text.now in
     let found = c.in-Ok.proof in
@@ -35,8 +35,8 @@ returns-in_ok-answer-in-Ok c = λ places d same book.
     let listed : AllByRecursion (IsListedVariable d.sets) (all_variables d) =
     subst (λ sets. AllByRecursion (IsListedVariable sets) (all_variables d)) same
     (subst (AllByRecursion (IsListedVariable c.args.sets.now)) (all-of d c.args.book.now.vars book.ascending book.exist book.whole) c.requires.vars_listed) in
-    kept_or_said places text c.args.gap d rows found c.in_ok-answer-in-Ok.answer c.kept_where_done.result told (plan_within d.sets (all_variables d) (instances d) (records_of text) found listed told)
-    (c.in_ok-answer-in-Ok.ensures places d same book) c.kept_where_done.ensures
+    kept_or_said places text c.args.gap d rows found c.in_ok-judged-in-Ok.judged c.kept_where_done.result told (plan_within d.sets (all_variables d) (instances d) (records_of text) found listed told)
+    (c.in_ok-judged-in-Ok.ensures.due places d same book) (c.in_ok-judged-in-Ok.ensures.worth places d book) c.kept_where_done.ensures
 
 pub returns-in_ok-answer-in-Err-Fault : goal.returns-in_ok-answer-in-Err-Fault
 returns-in_ok-answer-in-Err-Fault c = λ places d same book.

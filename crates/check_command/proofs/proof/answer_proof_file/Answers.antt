@@ -21,8 +21,8 @@ refuse_proof-requires c =
     proof-fault-within c.args.sets.now c.vars.result.now (map name_of_row c.rows.result.now) (records_of c.args.text.now) c.in-Err-Fault.fault listed
     (subst (IsFailOf (IsProofFault c.args.sets.now c.vars.result.now (map name_of_row c.rows.result.now) (records_of c.args.text.now))) c.in-Err-Fault.field-0-is c.in-Err-Fault.ensures.fault)
 
-pub returns-in-Ok : goal.returns-in-Ok
-returns-in-Ok c = λ places d same book.
+pub returns-in_ok-judged-in-Ok : goal.returns-in_ok-judged-in-Ok
+returns-in_ok-judged-in-Ok c = λ places d same book.
     let rows = c.args.book.now.rows in
     let text = c.args.text.now in
     let found = c.in-Ok.proof in
@@ -32,7 +32,7 @@ returns-in-Ok c = λ places d same book.
     subst (λ sets. IsProof sets (all_variables d) (instances d) (records_of text) found) same
     (subst (λ (ns : List RowName). IsProof c.args.sets.now (all_variables d) ns (records_of text) found) names
     (subst (λ (vs : List Var). IsProof c.args.sets.now vs (map name_of_row c.rows.result.now) (records_of text) found) vars c.in-Ok.ensures.proof)) in
-    IfOk-weaker c.answer_told.result _ _ (λ answer due. inr (found, told, due)) (c.answer_told.ensures places d same book)
+    inr (found, told, c.in_ok-judged-in-Ok.ensures.due places d same book)
 
 pub returns-in-Err-Fault : goal.returns-in-Err-Fault
 returns-in-Err-Fault c = λ places d same book.

@@ -1,0 +1,5 @@
+mod Examples
+pub mod FoldLaws
+pub mod HeightLaws
+pub mod RangeLaws
+pub mod TextLaws

@@ -1,0 +1,8 @@
+-- The heads so far.
+use Rattle.std.proofs.Common.{◌≡◌, ◌++◌, take}
+use Rattle.std.specs.List.{flat_map}
+use Rattle.page_charts.specs.Folds.{head_text}
+use Rattle.page_charts.proofs.folds.push_head_cells.Given as goal
+
+abbrev pub invariant-loop-heading : goal.invariant-loop-heading
+invariant-loop-heading l = l.out.items ≡ l.fn.out.items ++ flat_map head_text (take l.heading-index l.headings)

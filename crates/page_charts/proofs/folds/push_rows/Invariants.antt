@@ -1,0 +1,8 @@
+-- The rows so far.
+use Rattle.std.proofs.Common.{◌≡◌, ◌++◌, take}
+use Rattle.std.specs.List.{flat_map}
+use Rattle.page_charts.specs.Folds.{row_text}
+use Rattle.page_charts.proofs.folds.push_rows.Given as goal
+
+abbrev pub invariant-loop-row : goal.invariant-loop-row
+invariant-loop-row l = l.out.items ≡ l.fn.out.items ++ flat_map (row_text l.block) (take l.row-index l.rows)

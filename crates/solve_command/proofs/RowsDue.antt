@@ -1,0 +1,23 @@
+-- What is due of rows: that their linear program is too large, or what is due of the method.
+use Rattle.std.proofs.Common.{ℕ, List, ◌⊎◌, inl, inr}
+use Rattle.model_sets.specs.Data.{Data}
+use Rattle.named_equations.specs.Existence.{all_variables}
+use Rattle.row_core.specs.declared.Row.{Row}
+use Rattle.command_answers.specs.Limits.{PassesLimits}
+use Rattle.command_answers.specs.declared.status.Status.{Status}
+use Rattle.command_words.specs.declared.command.SolveMethod.{SolveMethod}
+use Rattle.command_words.specs.declared.command.SolveMethod.TheVariants.{Exact, Rounded}
+use Rattle.solve_command.specs.declared.solve.Wanted.{Wanted}
+use Rattle.solve_command.specs.Solve.{DueBy, DueForMethod, DueForRows, Finds}
+
+module _ (places : ℕ) (d : Data) (rows : List Row) (wanted : Wanted) (rounded : ℕ) (status : Status) (text : List ℕ) where
+  -- what guesses find is due by the rounded method
+  found-due : (method : SolveMethod) → Finds method places d rows wanted rounded status text → DueBy method places d rows wanted rounded status text
+  found-due Exact found = absurd found
+  found-due Rounded (inl plan) = inl plan
+  found-due Rounded (inr none) = inr (inl none)
+
+  pub rows-due : DueForRows places d rows wanted rounded status text → PassesLimits rows (all_variables d) status text ⊎ DueForMethod places d rows wanted rounded status text
+  rows-due (inl found) = inr (found-due wanted.method found)
+  rows-due (inr (inl large)) = inl large
+  rows-due (inr (inr due)) = inr due.1
