@@ -50,7 +50,10 @@ class Data:
         words = [word for word, _ in statement if word != ","]
         if words[:1] == ["set"]:
             self.sets[words[1]] = words[3:]
-        elif words[:1] == ["param"] and words[1] in SUBSCRIPTS:
+            return
+        if words[:2] == ["param", "default"] and words[3] == ":":
+            words = ["param", words[4], "default", words[2], *words[5:]]
+        if words[:1] == ["param"] and words[1] in SUBSCRIPTS:
             if "default" in words:
                 self.defaults[words[1]] = Fraction(words[words.index("default") + 1])
             if ":=" in words:
