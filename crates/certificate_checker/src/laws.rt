@@ -1,6 +1,8 @@
 //! What certificates are worth, over all plans. Each law is proved as the contract of a function that does nothing.
 
 ghost use Rattle.std.specs.Prelude.{ℕ, ℤ, pos, ◌*ℤ◌, ◌≤ℤ◌, ◌≡◌, true, List, map};
+ghost use Rattle.std.specs.List.{AllByRecursion};
+ghost use Rattle.exact_num.specs.Rational.{Rational};
 ghost use Rattle.exact_num.specs.declared.fraction.Frac.{Frac};
 ghost use Rattle.row_core.specs.declared.Row.{Row};
 ghost use Rattle.row_core.specs.declared.RowName.{RowName};
@@ -10,14 +12,16 @@ ghost use Rattle.row_core.specs.Order.{var_cmp, row_name_cmp};
 ghost use Rattle.row_core.specs.Plans.{valued};
 ghost use Rattle.certificate_checker.specs.Certificates.{bound_of, Proves, Refutes, Descends, AdmitsNone, CostsLess};
 ghost use Rattle.certificate_checker.specs.Costs.{cost_of};
-ghost use Rattle.certificate_checker.specs.Denominators.{AreOverSome};
+ghost use Rattle.certificate_checker.specs.Denominators.{AreOverSome, HasPositiveBottom};
 ghost use Rattle.certificate_checker.specs.Plans.{AllStand, HaveRightSigns, MeetsAll};
 ghost use Rattle.certificate_checker.specs.Sums.{weighted, HasVariablesOf};
 
-/// Every list of fractions is a list of whole numbers over one denominator: of values for variables, and of multipliers.
+/// Every list of fractions is a list of whole numbers over one denominator: of values for variables, and of multipliers; also
+/// where no more is known of its values than that their denominators are above 0.
 pub fn denominator_laws()
     ensures plans { (entries : List (Var × Frac)) → AreOverSome var_cmp (map valued entries) }
     ensures multipliers { (entries : List (RowName × Frac)) → AreOverSome row_name_cmp (map valued entries) }
+    ensures rationals { (entries : List (RowName × Rational)) → AllByRecursion HasPositiveBottom entries → AreOverSome row_name_cmp entries }
 {}
 
 /// A plan with right signs that meets all rows costs at least the bound of multipliers that prove it. With any other right

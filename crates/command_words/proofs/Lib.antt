@@ -10,6 +10,7 @@ mod GivenParts
 pub mod LimitLaws
 mod LimitTurns
 mod PageWords
+mod WarnWords
 mod ProofWords
 pub mod Requests
 mod TableWords

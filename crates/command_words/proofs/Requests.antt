@@ -14,7 +14,7 @@ use Rattle.command_words.specs.declared.command.SolveShow.{SolveShow}
 use Rattle.command_words.specs.declared.command.SolveMethod.{SolveMethod}
 use Rattle.command_words.specs.LimitLists.{AreLimits, limits_of}
 use Rattle.command_words.proofs.LimitLaws.{AreLimitsIfRead, are_limits}
-use Rattle.command_words.specs.Words.{Request, Check, CheckProof, Mps, Solve, Explain, Curve, Span, Make, Table, Page, CommandName, MpsName, CheckName, SolveName, ExplainName, CurveName, SpanName, MakeName, TableName, PageName, allows_all, check_of, check_proof_of, command_after, command_named, command_of, command_with, asked, curve_of, explain_of, files_in, has_exact, make_of, mps_of, or_fault, page_of, solve_of, span_of, table_of, value_in}
+use Rattle.command_words.specs.Words.{Request, Check, CheckProof, Mps, Solve, Explain, Curve, Span, Make, Table, Page, Warn, CommandName, MpsName, CheckName, SolveName, ExplainName, CurveName, SpanName, MakeName, TableName, PageName, WarnName, allows_all, check_of, check_proof_of, command_after, command_named, command_of, command_with, asked, curve_of, explain_of, files_in, has_exact, make_of, mps_of, or_fault, page_of, solve_of, span_of, table_of, value_in}
 use Rattle.command_words.specs.WordParts.{Gap, Pivots, Places, Show, Method, Slack, Proof, Part, parts_of}
 use Rattle.command_words.specs.WordValues.{gap_for, gap_of, make_show_of, method_of, pivots_of, places_of, size_of, solve_show_of}
 
@@ -34,6 +34,7 @@ IsInRange (Ok (Span file region technology year slack gap pivots places method))
 IsInRange (Ok (Make size show)) = IsSize size
 IsInRange (Ok (Table file proof name exact gap places)) = IsPlaces places
 IsInRange (Ok (Page file proof gap places)) = IsPlaces places
+IsInRange (Ok (Warn file)) = ⊤
 IsInRange (Err fault) = ⊤
 
 -- what a value of `--places` is
@@ -226,6 +227,11 @@ of_page_files (file ∷ []) gap pivots value show method slack proof exact = tt
 of_page_files (file ∷ proved ∷ []) gap pivots value show method slack proof exact = of_page file proved gap value
 of_page_files (file ∷ proved ∷ other ∷ files) gap pivots value show method slack proof exact = tt
 
+of_warn_files : (files : List (List ℕ)) (gap pivots value show method slack proof : Option (List ℕ)) (exact : Bool) → IsInRange (command_of WarnName files gap pivots value show method slack proof exact)
+of_warn_files [] gap pivots value show method slack proof exact = tt
+of_warn_files (file ∷ []) gap pivots value show method slack proof exact = tt
+of_warn_files (file ∷ other ∷ files) gap pivots value show method slack proof exact = tt
+
 of_parts : (name : CommandName) → ((files : List (List ℕ)) (gap pivots value show method slack proof : Option (List ℕ)) (exact : Bool) → IsInRange (command_of name files gap pivots value show method slack proof exact))
     → (parts : Option (List Part)) → IsInRange (command_with name parts)
 of_parts name of_files None = tt
@@ -246,6 +252,7 @@ of_command (Some SpanName) words = of_parts SpanName of_span_files (parts_of wor
 of_command (Some MakeName) words = of_parts MakeName of_make_files (parts_of words)
 of_command (Some TableName) words = of_parts TableName of_table_files (parts_of words)
 of_command (Some PageName) words = of_parts PageName of_page_files (parts_of words)
+of_command (Some WarnName) words = of_parts WarnName of_warn_files (parts_of words)
 
 in_range : (words : List (List ℕ)) → IsInRange (asked words)
 in_range [] = tt

@@ -5,7 +5,7 @@ use Rattle.command_words.specs.declared.command.Command.TheVariants as code
 use Rattle.command_words.specs.declared.command.CommandName.{CommandName as CodeName}
 use Rattle.command_words.specs.declared.command.CommandName.TheVariants as names
 use Rattle.command_words.specs.declared.fault.WordFault.{WordFault}
-use Rattle.command_words.specs.Words.{Request, Mps, Check, CheckProof, Solve, Explain, Curve, Span, Make, Table, Page, CommandName, MpsName, CheckName, SolveName, ExplainName, CurveName, SpanName, MakeName, TableName, PageName}
+use Rattle.command_words.specs.Words.{Request, Mps, Check, CheckProof, Solve, Explain, Curve, Span, Make, Table, Page, Warn, CommandName, MpsName, CheckName, SolveName, ExplainName, CurveName, SpanName, MakeName, TableName, PageName, WarnName}
 
 -- the request of a command, without where the names of its files lie in memory
 abbrev pub request_of : Command → Request
@@ -19,6 +19,7 @@ request_of (code.Span file region technology year slack gap pivots places method
 request_of (code.Make size show) = Make size show
 request_of (code.Table file proof name exact gap places) = Table file.now proof.now name.now exact gap places
 request_of (code.Page file proof gap places) = Page file.now proof.now gap places
+request_of (code.Warn file) = Warn file.now
 
 -- the same where the words may be at fault
 abbrev pub request_of_result : Result Command WordFault → Result Request WordFault
@@ -36,3 +37,4 @@ name_of names.Span = SpanName
 name_of names.Make = MakeName
 name_of names.Table = TableName
 name_of names.Page = PageName
+name_of names.Warn = WarnName

@@ -5,7 +5,7 @@ use Rattle.std.specs.List.{list_all}
 use Rattle.std.specs.Str.{bytes_eq}
 use Rattle.std.specs.Str.Parse.{digits_value}
 use Rattle.command_words.specs.declared.command.SolveShow.{SolveShow}
-use Rattle.command_words.specs.declared.command.SolveShow.TheVariants.{Report, Plan, Multipliers, Proof}
+use Rattle.command_words.specs.declared.command.SolveShow.TheVariants.{Report, Plan, Multipliers, Proof, Line}
 use Rattle.command_words.specs.declared.command.MakeShow.{MakeShow}
 use Rattle.command_words.specs.declared.command.MakeShow.TheVariants.{File, Summary}
 use Rattle.command_words.specs.declared.command.SolveMethod.{SolveMethod}
@@ -54,6 +54,7 @@ solve_show_named text =
     else if bytes_eq text (codes "plan") then Some Plan
     else if bytes_eq text (codes "multipliers") then Some Multipliers
     else if bytes_eq text (codes "proof") then Some Proof
+    else if bytes_eq text (codes "line") then Some Line
     else None
 
 -- the report where it is left out

@@ -22,6 +22,7 @@ pub data Request : Type 0 where
   Make : (size : ℕ) (show : MakeShow) → Request
   Table : (file proof name : List ℕ) (exact : Bool) (gap places : ℕ) → Request
   Page : (file proof : List ℕ) (gap places : ℕ) → Request
+  Warn : (file : List ℕ) → Request
 
 -- ---- commands and their options
 
@@ -36,6 +37,7 @@ pub data CommandName : Type 0 where
   MakeName : CommandName
   TableName : CommandName
   PageName : CommandName
+  WarnName : CommandName
 
 -- the command of this word, if it is one's
 abbrev pub command_named : List ℕ → Option CommandName
@@ -49,6 +51,7 @@ command_named word =
     else if bytes_eq word (codes "make") then Some MakeName
     else if bytes_eq word (codes "table") then Some TableName
     else if bytes_eq word (codes "page") then Some PageName
+    else if bytes_eq word (codes "warn") then Some WarnName
     else None
 
 -- the options that a command has, whatever the value of `--method`
@@ -235,6 +238,7 @@ command_of SpanName (file ∷ region ∷ technology ∷ year ∷ []) gap pivots 
 command_of MakeName (size ∷ []) gap pivots places show method slack proof exact = make_of size show
 command_of TableName (file ∷ proved ∷ name ∷ []) gap pivots places show method slack proof exact = table_of file proved name gap places exact
 command_of PageName (file ∷ proved ∷ []) gap pivots places show method slack proof exact = page_of file proved gap places
+command_of WarnName (file ∷ []) gap pivots places show method slack proof exact = Ok (Warn file)
 command_of command files gap pivots places show method slack proof exact = Err BadForm
 
 -- the command with the parts of the words after it
@@ -268,3 +272,4 @@ names_of (Span file region technology year slack gap pivots places method) = fil
 names_of (Make size show) = []
 names_of (Table file proof name exact gap places) = file ∷ proof ∷ []
 names_of (Page file proof gap places) = file ∷ proof ∷ []
+names_of (Warn file) = file ∷ []

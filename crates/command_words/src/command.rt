@@ -2,7 +2,7 @@
 ghost use Rattle.std.specs.Prelude.{◌≡◌, ◌||◌, IfOk, is_some, map, not, option_map};
 ghost use Rattle.std.specs.String.{string_bytes};
 ghost use Rattle.command_words.specs.Words.{command_named, asked};
-ghost use Rattle.command_words.specs.Words.{MpsName, CheckName, SolveName, ExplainName, CurveName, SpanName, MakeName, TableName, PageName, asks_for_rounded, check_of, check_proof_of, curve_of, mps_of, page_of, span_of, table_of};
+ghost use Rattle.command_words.specs.Words.{MpsName, CheckName, SolveName, ExplainName, CurveName, SpanName, MakeName, TableName, PageName, WarnName, asks_for_rounded, check_of, check_proof_of, curve_of, mps_of, page_of, span_of, table_of};
 ghost use Rattle.command_words.specs.Commands.{request_of_result, name_of};
 ghost use Rattle.command_words.specs.WordReading.{given_of, command_by, command_given, has_own_options, is_allowed};
 
@@ -40,7 +40,7 @@ pub enum Command<'a> {
         gap: u32,
         places: u8,
     },
-    /// `solve FILE [--gap PPM] [--pivots N] [--places P] [--show report|plan|multipliers|proof] [--method exact|rounded]`: solves.
+    /// `solve FILE [--gap PPM] [--pivots N] [--places P] [--show report|plan|multipliers|proof|line] [--method exact|rounded]`: solves.
     Solve {
         file: &'a str,
         gap: u32,
@@ -107,6 +107,10 @@ pub enum Command<'a> {
         gap: u32,
         places: u8,
     },
+    /// `warn FILE`: says what in a data file is legal and probably wrong.
+    Warn {
+        file: &'a str,
+    },
 }
 
 /// What `solve` writes.
@@ -116,6 +120,7 @@ pub enum SolveShow {
     Plan,
     Multipliers,
     Proof,
+    Line,
 }
 
 /// Which method `solve`, `explain`, `curve` and `span` begin with.
@@ -143,6 +148,7 @@ enum CommandName {
     Make,
     Table,
     Page,
+    Warn,
 }
 
 /// Reads the words. The first fault is answered, in this order: `NoCommand` where there
@@ -192,6 +198,8 @@ fn command_named(word: &str) -> Option<CommandName>
         Some(CommandName::Table)
     } else if word == "page" {
         Some(CommandName::Page)
+    } else if word == "warn" {
+        Some(CommandName::Warn)
     } else {
         None
     }
@@ -233,6 +241,7 @@ fn command_given<'a>(
         CommandName::Make => Ok(make_given(given)),
         CommandName::Table => Ok(table_given(given)),
         CommandName::Page => Ok(page_given(given)),
+        CommandName::Warn => Ok(warn_given(given)),
     }
 }
 
@@ -288,6 +297,15 @@ fn has_own_options(name: CommandName, given: &Given<'_>) -> bool
         }
         CommandName::Table | CommandName::Page => {
             given.pivots.is_none()
+                && given.show.is_none()
+                && given.method.is_none()
+                && given.slack.is_none()
+                && given.proof.is_none()
+        }
+        CommandName::Warn => {
+            given.gap.is_none()
+                && given.pivots.is_none()
+                && given.places.is_none()
                 && given.show.is_none()
                 && given.method.is_none()
                 && given.slack.is_none()
@@ -604,4 +622,13 @@ fn page<'a>(
         gap,
         places,
     })
+}
+
+fn warn_given<'a>(given: &Given<'a>) -> Result<Command<'a>, WordFault>
+    ensures { request_of_result result ≡ command_given WarnName (given_of given.now) }
+{
+    match given.files.as_slice() {
+        [file] => Ok(Command::Warn { file: *file }),
+        _ => Err(WordFault::BadForm),
+    }
 }

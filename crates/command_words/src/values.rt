@@ -65,6 +65,8 @@ pub fn solve_show_of(text: Option<&str>) -> Option<SolveShow>
         Some(SolveShow::Multipliers)
     } else if text == "proof" {
         Some(SolveShow::Proof)
+    } else if text == "line" {
+        Some(SolveShow::Line)
     } else {
         None
     }

@@ -17,7 +17,7 @@ use Rattle.model_sets.specs.declared.fault.SetFault.{SetFault}
 use Rattle.command_answers.specs.Accepted.{Accepted, most_bytes}
 use Rattle.command_answers.proofs.Acceptance.{ReaderLaws, not_both}
 use Rattle.osemosys_run.specs.Causes.{Caused, StopsAtFile}
-use Rattle.osemosys_run.specs.Complete.{AskForMade, CanBeSummarized, CanBeAccepted, CanBeDrawn, CanBeSpanned, CanBeExplained, CanBeSolved, CanBePaged, CanBeTabled, CanBeWritten, Completes}
+use Rattle.osemosys_run.specs.Complete.{AskForMade, CanBeSummarized, CanBeAccepted, CanBeDrawn, CanBeSpanned, CanBeExplained, CanBeSolved, CanBePaged, CanBeTabled, CanBeWarned, CanBeWritten, Completes}
 use Rattle.osemosys_run.specs.Due.{AskForEquations, Due, DueForFile}
 use Rattle.command_answers.specs.DueForText.{DueForText}
 use Rattle.command_answers.specs.Lines.{too_long_line}
@@ -454,6 +454,9 @@ nothing_to_table files can = cc can.asks
 nothing_to_page : (files : List (List ℕ × List ℕ)) → CanBePaged [] files → ⊥
 nothing_to_page files can = cc can.asks
 
+nothing_to_warn : (files : List (List ℕ × List ℕ)) → CanBeWarned [] files → ⊥
+nothing_to_warn files can = cc can.asks
+
 nothing_to_make : AskForMade [] → ⊥
 nothing_to_make asks = cc asks.asks
 
@@ -476,6 +479,7 @@ no_claim status = record {
   summarized = λ can. absurd (nothing_to_summarize can);
   tabled = λ can. absurd (nothing_to_table [] can);
   paged = λ can. absurd (nothing_to_page [] can);
+  warned = λ can. absurd (nothing_to_warn [] can);
 }
 
 not_refused : (words : List (List ℕ)) (files : List (List ℕ × List ℕ)) → CanBeWritten words files → Completes words files (Refused refusals.TooManyEntries) → ⊥

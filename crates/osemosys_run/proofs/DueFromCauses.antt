@@ -13,7 +13,7 @@ use Rattle.command_answers.specs.Accepted.{most_bytes}
 use Rattle.command_answers.specs.DueForText.{DueForText}
 use Rattle.command_answers.specs.Lines.{stop_line, too_long_line}
 use Rattle.command_words.specs.declared.fault.WordFault.{WordFault}
-use Rattle.command_words.specs.Words.{Request, Check, CheckProof, Curve, Explain, Make, Mps, Page, Solve, Span, Table, asked}
+use Rattle.command_words.specs.Words.{Request, Check, CheckProof, Curve, Explain, Make, Mps, Page, Solve, Span, Table, Warn, asked}
 use Rattle.check_command.specs.Check.{DueForCheck}
 use Rattle.check_command.specs.CheckProof.{DueForProof, DueForProofFile}
 use Rattle.curve_command.specs.Curve.{DueForCurve}
@@ -27,6 +27,7 @@ use Rattle.osemosys_run.specs.Causes.{Caused, CausedByFiles, CausedByRequest, St
 use Rattle.osemosys_run.specs.Due.{Due, DueForFile, DueForRequest, DueOver}
 use Rattle.osemosys_run.specs.Mps.{DueForEquations}
 use Rattle.osemosys_run.specs.Reading.{Sight}
+use Rattle.osemosys_run.specs.Warned.{IsWarned}
 use Rattle.osemosys_run.proofs.FilesRead.{rose-since}
 
 -- ---- one file
@@ -109,6 +110,7 @@ due_from_cause words before after files status text told calm caused = by_reques
         over_one (λ rounded. DueForCurve places (record { method = method; pivots = pivots; gap = gap }) (record { region = region; emission = emission }) limits) name c
     by_request (Ok (Span name region technology year slack gap pivots places method)) c =
         over_one (DueForSpan places (record { method = method; slack = slack; gap = gap; pivots = pivots }) (record { region = region; technology = technology; year = year })) name c
+    by_request (Ok (Warn name)) c = over_one IsWarned name c
     by_request (Ok (Check name plan None gap places)) c =
         let second : List ℕ → List ℕ → Status → List ℕ → Type 0 = λ bytes plan_bytes. DueForText (λ rounded. DueForCheck places plan_bytes None gap) bytes in
         due_of_files (λ contents. DueOver (Ok (Check name plan None gap places)) (held_in contents) status text) 1 (name ∷ plan ∷ []) before after files status text told calm (

@@ -57,10 +57,11 @@ use Rattle.plan_tables.specs.declared.shown.NumberForm.{NumberForm}
 use Rattle.table_command.specs.declared.shown.Shown.{Shown}
 use Rattle.command_answers.specs.ShownProofs.{DueForShown}
 use Rattle.page_command.specs.Pages.{DueForPage, ShowsPage}
+use Rattle.osemosys_run.specs.Warned.{IsWarned}
 use Rattle.table_command.specs.Tables.{DueForTable, ShowsProof, form_of}
 use Rattle.span_command.specs.declared.wanted.Wanted as wants
 use Rattle.solve_command.specs.Summary.{DueForSummary, default_places, default_wanted}
-use Rattle.command_words.specs.Words.{Request, Check, CheckProof, Curve, Explain, Make, Mps, Page, Solve, Span, Table, asked}
+use Rattle.command_words.specs.Words.{Request, Check, CheckProof, Curve, Explain, Make, Mps, Page, Solve, Span, Table, Warn, asked}
 use Rattle.solve_command.proofs.RowsDue.{rows-due}
 use Rattle.osemosys_run.proofs.FilesRead.{Reaches-itself, by_files, of_all, rose-since}
 
@@ -239,6 +240,9 @@ page_is : (places : ℕ) (proof_bytes : List ℕ) (gap : ℕ) (d : Data) (status
     → DueForPage places (λ rows. DueForProofFile places d rows proof_bytes gap) proof_bytes d status text → IsOwn status
 page_is places proof_bytes gap d status text due = shown_is places proof_bytes gap (λ rows. ShowsPage) d status text (λ rows said proof. paged_is said proof status text) due
 
+warned_is : (rounded : ℕ) (d : Data) (status : Status) (text : List ℕ) → IsWarned rounded d status text → IsOwn status
+warned_is rounded d status text warned = is_other status Done (λ h. cc) (λ h. cc) (λ number h. cc) warned.status_is
+
 not_accepted_is : (bytes : List ℕ) (status : Status) (text : List ℕ) → DueWhereNotAccepted bytes status text → IsOwn status
 not_accepted_is bytes status text (inl refused) = refused_is status (refusals.Text refused.fault) refused.status_is
 not_accepted_is bytes status text (inr (blocks, says, inl refused)) = refused_is status (refusals.Sets refused.fault) refused.status_is
@@ -301,6 +305,8 @@ due_is_own (Ok (Span name region technology year slack gap pivots places method)
     let Over : ℕ → Data → Status → List ℕ → Type 0 = spans.DueForSpan places (record { method = method; slack = slack; gap = gap; pivots = pivots }) (record { region = region; technology = technology; year = year }) in
     file_is (DueForText Over) 1 (held 1 name) status text
     (λ bytes. text_is Over (span_is places (record { method = method; slack = slack; gap = gap; pivots = pivots }) (record { region = region; technology = technology; year = year })) bytes status text) due
+due_is_own (Ok (Warn name)) held status text due =
+    file_is (DueForText IsWarned) 1 (held 1 name) status text (λ bytes. text_is IsWarned warned_is bytes status text) due
 due_is_own (Ok (Check name plan multipliers gap places)) held status text due =
     let third : List ℕ → List ℕ → Option (List ℕ) → Status → List ℕ → Type 0 = λ bytes plan_bytes multiplier_bytes. DueForText (λ rounded. DueForCheck places plan_bytes multiplier_bytes gap) bytes in
     let second : List ℕ → List ℕ → Status → List ℕ → Type 0 = λ bytes plan_bytes. DueForOptionalFile (third bytes plan_bytes) 3 (held 3) multipliers in

@@ -1,10 +1,12 @@
 -- The multipliers of a proof that `check` accepts prove their bound, and so each price that `table` writes of them is promised.
-use Rattle.std.proofs.Common.{◌≡◌, ℕ, ℤ, pos, ◌<◌, List, [], ◌∷◌, ◌++◌, Option, None, Some, inl, inr, sym, ◌∙◌, ap, subst, refl, arith, rules}
-use Rattle.std.specs.Prelude.{◌<ℤ◌}
+use Rattle.std.proofs.Common.{◌≡◌, ◌≢◌, ℕ, ℤ, pos, ◌<◌, List, [], ◌∷◌, ◌++◌, Option, None, Some, inl, inr, sym, ◌∙◌, ap, subst, refl, arith, rules}
+use Rattle.std.specs.Prelude.{◌<ℤ◌, unsigned_abs}
 use Rattle.std.specs.List.{AllByRecursion}
 use Rattle.std.proofs.lemmas.Int.{ints}
 use Rattle.exact_num.specs.Rational.{Rational}
 use Rattle.exact_num.specs.Steps.{first_wide}
+use Rattle.exact_num.proofs.RationalLaws.{lowest-IsLowest}
+use Rattle.scaled_decimals.specs.FractionText.{bottom_of, top_of}
 use Rattle.model_sets.specs.Data.{Data}
 use Rattle.row_core.specs.declared.Row.{Row}
 use Rattle.row_core.specs.declared.RowName.{RowName}
@@ -19,13 +21,16 @@ use Rattle.row_book.specs.Books.{AreRowsOf}
 use Rattle.certificate_checker.specs.Certificates.{AreMultipliersOver, Proves, bound_of}
 use Rattle.certificate_checker.specs.Conditions.{AllPass, Condition, first_failing, steps}
 use Rattle.certificate_checker.specs.Costs.{model_cost}
+use Rattle.certificate_checker.specs.Denominators.{AreOverSome, HasPositiveBottom}
 use Rattle.certificate_checker.specs.Gaps.{gap_condition}
 use Rattle.certificate_checker.specs.MultiplierChecks.{bound_conditions}
 use Rattle.certificate_checker.specs.PlanChecks.{plan_conditions}
 use Rattle.certificate_checker.specs.Reasons.{Reason}
 use Rattle.certificate_checker.proofs.ConditionLaws.{fails_before, passed_first, wide_before}
 use Rattle.certificate_checker.proofs.MultiplierMeaning.{bound-over, proves_from}
-use Rattle.plan_files.specs.Files.{records_of}
+use Rattle.plan_files.specs.Answers.{AreGiven}
+use Rattle.plan_files.specs.Files.{Fields, GivesValue, record_of, records_of}
+use Rattle.plan_files.specs.Records.{row_fields}
 use Rattle.proof_files.specs.declared.proof.Proof.{Proof}
 use Rattle.proof_files.specs.declared.proof.Proof.TheVariants.{Optimum, Refutation, Descent}
 use Rattle.proof_files.specs.Proofs.{IsProof}
@@ -69,10 +74,27 @@ pass-parts cs ds h = cases (first_failing cs) refl (first_wide (steps cs)) refl
 
 -- ---- multipliers
 
+-- a value that a record gives has a denominator above 0
+given_positive : (found : Option Fields) (x : Rational) → GivesValue found (Some x) → pos 0 <ℤ x.bottom
+given_positive None x h = absurd (cc h)
+given_positive (Some r) x (y, given, (f, spelled, fit, low)) =
+    let same : x ≡ y = cc given in
+    let nonzero : bottom_of f ≢ pos 0 = λ e. spelled.nonzero (ap unsigned_abs e) in
+    subst (λ (v : Rational). pos 0 <ℤ v.bottom) (sym (same ∙ low)) (lowest-IsLowest (top_of f) (bottom_of f) nonzero).positive
+
+-- and so have all that the records give
+all_positive : {K : Type 0} (name_fields : K → Fields) (rows : List Fields) (told : List (K × Rational)) → AreGiven name_fields rows told → AllByRecursion HasPositiveBottom told
+all_positive name_fields rows [] given = tt
+all_positive name_fields rows (e ∷ told) given = (given_positive (record_of rows (name_fields e.0)) e.1 given.0, all_positive name_fields rows told given.1)
+
 positive_of : (s : ℕ) → 0 < s → pos 0 <ℤ pos s
 positive_of s h = omega (arith, ints)
 
-module _ (laws : ProofLaws) (law : TableLaw) (places : ℕ) (d : Data) (bytes : List ℕ) (gap : ℕ) where
+-- the law on lists of fractions
+abbrev pub DenominatorLaw : Type 0
+DenominatorLaw = (entries : List (RowName × Rational)) → AllByRecursion HasPositiveBottom entries → AreOverSome row_name_cmp entries
+
+module _ (laws : ProofLaws) (law : TableLaw) (denominators : DenominatorLaw) (places : ℕ) (d : Data) (bytes : List ℕ) (gap : ℕ) where
   abbrev vars : List Var
   vars = all_variables d
 
@@ -106,31 +128,36 @@ module _ (laws : ProofLaws) (law : TableLaw) (places : ℕ) (d : Data) (bytes : 
 
   -- a table of prices that is shown of a proof is that of its multipliers
   of-proof : (rows : List Row) (table : PriceTable) (form : NumberForm) (text : List ℕ) (proof : Proof) (said : List ℕ) → AreRowsOf places d (instances d) rows
-      → DueForProofTold places d rows gap proof Done said → ShowsProof d.sets rows (Prices table) form proof Done text → IsPromisedTable places d table form text
-  of-proof rows table form text (Optimum plan multipliers) said are due shows = record {
-    rows = rows;
-    multipliers = multipliers;
-    are_rows = are;
-    text_is = shows.1;
-    promised = promised-by rows multipliers table are (accepted-pass rows plan multipliers said due);
-  }
-  of-proof rows table form text (Refutation multipliers) said are due shows = absurd (cc shows.0)
-  of-proof rows table form text (Descent plan direction) said are due shows = absurd (cc shows.0)
+      → IsProof d.sets vars (instances d) (records_of bytes) proof → DueForProofTold places d rows gap proof Done said → ShowsProof d.sets rows (Prices table) form proof Done text
+      → IsPromisedTable places d bytes table form text
+  of-proof rows table form text (Optimum plan multipliers) said are told due shows =
+      let some = denominators multipliers (all_positive (row_fields d.sets) told.rows multipliers told.told.3.values) in
+      record {
+        rows = rows;
+        plan = plan;
+        multipliers = multipliers;
+        are_rows = are;
+        told = told;
+        text_is = shows.1;
+        promised = promised-by rows multipliers table are (accepted-pass rows plan multipliers said due) some.over some.number (some.positive, some.each);
+      }
+  of-proof rows table form text (Refutation multipliers) said are told due shows = absurd (cc shows.0)
+  of-proof rows table form text (Descent plan direction) said are told due shows = absurd (cc shows.0)
 
   over-rows : (rows : List Row) (table : PriceTable) (form : NumberForm) (text : List ℕ) → AreRowsOf places d (instances d) rows
-      → DueOverRows (DueForProofFile places d rows bytes gap) bytes (λ said. ShowsProof d.sets rows (Prices table) form) d Done text → IsPromisedTable places d table form text
+      → DueOverRows (DueForProofFile places d rows bytes gap) bytes (λ said. ShowsProof d.sets rows (Prices table) form) d Done text → IsPromisedTable places d bytes table form text
   over-rows rows table form text are (inl checked) = absurd (checked.not_done refl)
-  over-rows rows table form text are (inr shown) = of-proof rows table form text shown.proof shown.said are (told-so rows shown.proof shown.said shown.told shown.accepted) shown.shows
+  over-rows rows table form text are (inr shown) = of-proof rows table form text shown.proof shown.said are shown.told (told-so rows shown.proof shown.said shown.told shown.accepted) shown.shows
 
   of-known : (table : PriceTable) (form : NumberForm) (text : List ℕ) → DueForKnown places (λ rows. DueForProofFile places d rows bytes gap) bytes (Prices table) form d Done text
-      → IsPromisedTable places d table form text
+      → IsPromisedTable places d bytes table form text
   of-known table form text (inl made) = over-rows made.rows table form text made.are_rows made.due
   of-known table form text (inr (inl uncertified)) = absurd (cc uncertified.status_is)
   of-known table form text (inr (inr large)) = absurd (cc large.status_is)
 
   -- What is promised of a table by its name.
   pub table-promised : (name : List ℕ) (form : NumberForm) (table : PriceTable) (text : List ℕ) → price_table_named name ≡ Some table
-      → DueForTable places (λ rows. DueForProofFile places d rows bytes gap) bytes name form d Done text → IsPromisedTable places d table form text
+      → DueForTable places (λ rows. DueForProofFile places d rows bytes gap) bytes name form d Done text → IsPromisedTable places d bytes table form text
   table-promised name form table text named (inl unknown) = absurd (cc unknown.status_is)
   table-promised name form table text named (inr known) =
       let priced : shown_named name ≡ Some (Prices table) = ap (or_values name) named in

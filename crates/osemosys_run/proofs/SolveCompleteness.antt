@@ -15,9 +15,10 @@ use Rattle.io_edges.specs.Files.{file_named}
 use Rattle.command_answers.specs.declared.status.Status.{Status}
 use Rattle.command_answers.specs.declared.status.Status.TheVariants.{Done, Infeasible, Unbounded, Uncertified, Refused, Words, ReadFault, WriteFault, Memory, Rejected}
 use Rattle.io_edges.specs.Outputs.{Output}
-use Rattle.osemosys_run.specs.Complete.{AskForMade, CanBeSolved, CanBeSummarized, Completes, IsEnded}
+use Rattle.osemosys_run.specs.Complete.{AskForMade, CanBeSolved, CanBeSummarized, CanBeWarned, Completes, IsEnded}
 use Rattle.osemosys_run.specs.Due.{Due, DueForRequest}
 use Rattle.osemosys_run.specs.Sending.{Delivers}
+use Rattle.osemosys_run.specs.Warned.{IsWarned}
 use Rattle.model_maker.specs.MadeText.{made_text}
 use Rattle.solve_command.specs.Shown.{shown_of}
 use Rattle.solve_command.specs.Summary.{DueForSummary, default_places, default_wanted}
@@ -92,6 +93,13 @@ summarized_from_due laws words files status text due can =
     summary_ended laws words can can.accepted.blocks.rounded status for_make.0
     (over_accepted laws (DueForSummary default_places) (made_text can.size) can.d status for_make.0 can.accepted for_make.1)
 
+-- ---- `warn`
+
+warned_from_due : Laws → (words : List (List ℕ)) (files : List (List ℕ × List ℕ)) (status : Status) (text : List ℕ) → Due words files status text → CanBeWarned words files → status ≡ Done
+warned_from_due laws words files status text due can =
+    (over_file laws IsWarned (file_named files can.name) can.bytes can.d status text can.there can.accepted
+    (subst (λ (request : Result Request WordFault). DueForRequest request files status text) can.asks due)).status_is
+
 -- ---- what is delivered
 
 pub completes : Laws → (A : Type 0) (words : List (List ℕ)) (files : List (List ℕ × List ℕ)) (status : Status) (before after : Output) (f f' : ℕ)
@@ -107,6 +115,7 @@ completes laws A words files status before after f f' d calm = elim (due_or_memo
     summarized = λ can. inl (summarized_from_due laws words files status due.0 due.1 can);
     tabled = λ can. inl (tabled_from_due laws words files status due.0 due.1 can);
     paged = λ can. inl (paged_from_due laws words files status due.0 due.1 can);
+    warned = λ can. inl (warned_from_due laws words files status due.0 due.1 can);
   }
-  | inr memory ↦ record { done = λ can. inr memory; ended = λ can. inr memory; explained = λ can. inr memory; drawn = λ can. inr memory; spanned = λ can. inr memory; made = λ asks. inr memory; summarized = λ can. inr memory; tabled = λ can. inr memory; paged = λ can. inr memory }
+  | inr memory ↦ record { done = λ can. inr memory; ended = λ can. inr memory; explained = λ can. inr memory; drawn = λ can. inr memory; spanned = λ can. inr memory; made = λ asks. inr memory; summarized = λ can. inr memory; tabled = λ can. inr memory; paged = λ can. inr memory; warned = λ can. inr memory }
 ]

@@ -1,4 +1,4 @@
--- Which files `mps` must write out, which plans `check` must accept, which models `solve` and `make` must bring to an end, which `explain` must, which curves must be told whole, which spans must be found, and which tables and pages must be written.
+-- Which files `mps` must write out, which plans `check` must accept, which models `solve` and `make` must bring to an end, which `explain` must, which curves must be told whole, which spans must be found, which tables and pages must be written, and which data must be told what is probably wrong with them.
 use Rattle.std.specs.List.{AllByRecursion}
 use Rattle.std.specs.Prelude.{◌≡◌, ◌≢◌, ◌⊎◌, ℕ, ℤ, Bool, ◌≤◌, true, List, length, Option, Some, None, Ok, ⊤}
 use Rattle.exact_num.specs.Range.{all_fit}
@@ -248,6 +248,15 @@ pub record CanBePaged (words : List (List ℕ)) (files : List (List ℕ × List 
   pub asks : asked words ≡ Ok (requests.Page name proof_name gap places)
   pub proves : ProvesOptimum files name proof_name gap places
 
+-- the words ask for `warn` of a file that is there, whose text is accepted
+pub record CanBeWarned (words : List (List ℕ)) (files : List (List ℕ × List ℕ)) : Type 0 where
+  pub name : List ℕ
+  pub bytes : List ℕ
+  pub d : Data
+  pub asks : asked words ≡ Ok (requests.Warn name)
+  pub there : file_named files name ≡ Some bytes
+  pub accepted : Accepted bytes d
+
 -- the words ask for a made file
 pub record AskForMade (words : List (List ℕ)) : Type 0 where
   pub size : ℕ
@@ -272,7 +281,7 @@ abbrev pub IsExplained : Status → Type 0
 IsExplained status = (status ≡ Done) ⊎ (status ≡ Infeasible)
 
 -- then the equations or the made file are written, or the plan is accepted, or the model is brought to an end or explained, or its curve
--- or its span is told, or a table or a page of its plan, unless memory ran out
+-- or its span is told, or a table or a page of its plan, or what is probably wrong with its data, unless memory ran out
 pub record Completes (words : List (List ℕ)) (files : List (List ℕ × List ℕ)) (status : Status) : Type 0 where
   pub done : CanBeWritten words files ⊎ CanBeAccepted words files → (status ≡ Done) ⊎ (status ≡ Memory)
   pub ended : CanBeSolved words files → IsEnded status ⊎ (status ≡ Memory)
@@ -283,3 +292,4 @@ pub record Completes (words : List (List ℕ)) (files : List (List ℕ × List �
   pub summarized : CanBeSummarized words → IsEnded status ⊎ (status ≡ Memory)
   pub tabled : CanBeTabled words files → (status ≡ Done) ⊎ (status ≡ Memory)
   pub paged : CanBePaged words files → (status ≡ Done) ⊎ (status ≡ Memory)
+  pub warned : CanBeWarned words files → (status ≡ Done) ⊎ (status ≡ Memory)

@@ -17,13 +17,14 @@ use Rattle.command_answers.specs.Lines.{stop_line, too_long_line, words_line}
 use Rattle.curve_command.specs.Curve.{DueForCurve}
 use Rattle.explain_command.specs.Explain.{DueForExplain}
 use Rattle.osemosys_run.specs.Mps.{DueForEquations}
+use Rattle.osemosys_run.specs.Warned.{IsWarned}
 use Rattle.page_command.specs.Pages.{DueForPage}
 use Rattle.solve_command.specs.Shown.{shown_of}
 use Rattle.solve_command.specs.Solve.{DueForSolve}
 use Rattle.span_command.specs.Span.{DueForSpan}
 use Rattle.table_command.specs.Tables.{DueForTable, form_of}
 use Rattle.solve_command.specs.Summary.{DueForSummary, default_places, made_line}
-use Rattle.command_words.specs.Words.{Request, Check, CheckProof, Curve, Explain, Make, Mps, Page, Solve, Span, Table, asked, names_of}
+use Rattle.command_words.specs.Words.{Request, Check, CheckProof, Curve, Explain, Make, Mps, Page, Solve, Span, Table, Warn, asked, names_of}
 
 -- over the file of this number, which may be missing or too long: that, or what `Due` has over its bytes
 abbrev pub DueForFile : (List ℕ → Status → List ℕ → Type 0) → ℕ → Option (List ℕ) → Status → List ℕ → Type 0
@@ -68,6 +69,7 @@ DueOver (Ok (Table name proof table exact gap places)) held status text =
 DueOver (Ok (Page name proof gap places)) held status text =
     DueForFile (λ bytes. DueForFile (λ proof_bytes.
     DueForText (λ rounded d. DueForPage places (λ rows. DueForProofFile places d rows proof_bytes gap) proof_bytes d) bytes) 2 (held 2 proof)) 1 (held 1 name) status text
+DueOver (Ok (Warn name)) held status text = DueForFile (DueForText IsWarned) 1 (held 1 name) status text
 
 -- over a shelf with these files, of which the first of a name counts
 abbrev pub DueForRequest : Result Request WordFault → List (List ℕ × List ℕ) → Status → List ℕ → Type 0

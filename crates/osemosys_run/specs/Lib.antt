@@ -12,3 +12,4 @@ pub mod Reading
 pub mod Replies
 pub mod Sending
 pub mod Tasks
+pub mod Warned

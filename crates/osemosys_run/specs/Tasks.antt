@@ -9,10 +9,11 @@ use Rattle.command_answers.specs.DueForText.{DueForText}
 use Rattle.osemosys_run.specs.Causes.{CausedByFiles, held_in}
 use Rattle.osemosys_run.specs.Due.{DueForFile}
 use Rattle.osemosys_run.specs.Reading.{Sight}
+use Rattle.osemosys_run.specs.Warned.{IsWarned}
 use Rattle.osemosys_run.specs.declared.one_file.CurveAsked.{CurveAsked}
 use Rattle.osemosys_run.specs.declared.one_file.SpanAsked.{SpanAsked}
 use Rattle.osemosys_run.specs.declared.one_file.Task.{Task}
-use Rattle.osemosys_run.specs.declared.one_file.Task.TheVariants.{Curve, Explain, Solve, Span}
+use Rattle.osemosys_run.specs.declared.one_file.Task.TheVariants.{Curve, Explain, Solve, Span, Warn}
 use Rattle.osemosys_run.specs.declared.proof_file.PageAsked.{PageAsked}
 use Rattle.osemosys_run.specs.declared.proof_file.ProofTask.{ProofTask}
 use Rattle.osemosys_run.specs.declared.proof_file.ProofTask.TheVariants as proofs
@@ -42,6 +43,7 @@ DueForTask (Solve wanted) places rounded = DueForSolve places wanted rounded
 DueForTask (Explain wanted) places rounded = DueForExplain places wanted
 DueForTask (Curve asked) places rounded = DueForAsked asked places
 DueForTask (Span asked) places rounded = DueForSpanAsked asked places rounded
+DueForTask Warn places rounded = IsWarned rounded
 
 -- the cause of an answer to a request of one file, by what `Over` has of the number of its rounded numbers and over its data
 abbrev pub CausedByOneFile : (ℕ → Data → Status → List ℕ → Type 0) → List ℕ → Sight → Sight → Status → List ℕ → Type 0

@@ -22,6 +22,7 @@ mod reply;
 mod run;
 mod sending;
 mod table_file;
+mod warned;
 
 pub use command_answers::{ReadStop, Refusal, Status, Stop, TrialStop, WordFault};
 pub use run::osemosys;

@@ -1,4 +1,4 @@
-// The commands of one file that have an answer: `solve`, `explain`, `curve` and `span`. The file is fed whole to a reader, its text
+// The commands of one file that have an answer: `solve`, `explain`, `curve`, `span` and `warn`. The file is fed whole to a reader, its text
 // accepted, and the command's answer given over its data.
 ghost use Rattle.std.specs.Prelude.{◌≡◌, ◌≤◌, List, ℕ, length, IfOk};
 ghost use Rattle.std.specs.List.{AllByRecursion};
@@ -13,6 +13,7 @@ ghost use Rattle.osemosys_run.specs.Tasks.{CausedByOneFile, DueForAsked, DueForS
 
 use crate::file_ends::refuse_file;
 use crate::reading::feed_file;
+use crate::warned::answer_warned;
 use command_answers::{Answer, accept_read};
 use curve_command::answer_curve;
 use explain_command::answer_explain;
@@ -56,6 +57,8 @@ pub enum Task<'a> {
     Curve(CurveAsked<'a>),
     /// To say how little and how much of a technology may be built near the least cost.
     Span(SpanAsked<'a>),
+    /// To say what in the data is legal and probably wrong.
+    Warn,
 }
 
 /// The answer of a task over the file of this name, with written factors of 6 or 9 decimal places.
@@ -102,6 +105,7 @@ fn answer_read(
             Task::Explain(wanted) => answer_explain(alloc, &model, places, wanted),
             Task::Curve(asked) => answer_asked(alloc, &model, asked, places),
             Task::Span(asked) => answer_span_asked(alloc, &model, asked, places),
+            Task::Warn => answer_warned(alloc, &model),
         },
         Err(answer) => Ok(answer),
     }

@@ -1,5 +1,5 @@
 // The top call: words, reading, accepting, answering, sending.
-ghost use Rattle.std.specs.Prelude.{◌≡◌, ◌≤◌, ◌⊎◌, ◌*ℤ◌, Bool, List, ℕ, ℤ, Some, IfOk, map};
+ghost use Rattle.std.specs.Prelude.{◌≡◌, ◌≤◌, ◌⊎◌, ◌*ℤ◌, Bool, List, ℕ, ℤ, Some, true, Contains, IfOk, map};
 ghost use Rattle.std.specs.String.{string_bytes};
 ghost use Rattle.io_edges.specs.Count.{Rose};
 ghost use Rattle.io_edges.specs.Outputs.{output};
@@ -43,6 +43,10 @@ ghost use Rattle.osemosys_run.specs.Reading.{sight};
 ghost use Rattle.osemosys_run.specs.ReadToEnd.{IsReadToEnd, ReadsWhole};
 ghost use Rattle.osemosys_run.specs.Replies.{DueForReply, IsAskedBy};
 ghost use Rattle.osemosys_run.specs.Sending.{Delivers};
+ghost use Rattle.osemosys_run.specs.Warned.{IsWarned};
+ghost use Rattle.data_warnings.specs.Findings.{findings};
+ghost use Rattle.data_warnings.specs.NoPlan.{excludes_plans};
+ghost use Rattle.data_warnings.specs.declared.places.Finding.{Finding};
 ghost use Rattle.command_answers.specs.SolvedPlans.{IsNearOptimum};
 ghost use Rattle.table_command.specs.Tables.{DueForTable, form_of};
 ghost use Rattle.command_words.specs.WordParts.{HasSpelledParts, Part};
@@ -56,6 +60,7 @@ use crate::one_file::{CurveAsked, SpanAsked, Task, perform_task};
 use crate::promised::promised_laws;
 use crate::proof_file::{PageAsked, ProofAsked, ProofTask, TableAsked, perform_proof_task};
 use crate::reply::{Reply, deliver};
+use crate::warned::warned_laws;
 use command_answers::{Status, acceptance_laws, refuse_words};
 use command_words::{Command, read_command, spelled_parts};
 use io_edges::{Shelf, Sink};
@@ -66,6 +71,9 @@ use proof_files::proof_telling_laws;
 use row_book::stop_laws;
 use solve_command::{Wanted, promise_laws, shown_of};
 use std::alloc::{AllocError, Global};
+
+/// The decimal places of written factors for `warn`, which writes none.
+const UNUSED_PLACES: u8 = 6;
 
 /// Runs the program on the words after its name: reads the files that they name from the shelf, and
 /// writes the text that is due into the sink.
@@ -82,11 +90,11 @@ use std::alloc::{AllocError, Global};
 /// multipliers alone, whether they show that no plan meets the named equations; and of one with a plan and a direction, whether the plan
 /// does and its cost falls along the direction without end.
 ///
-/// `solve FILE [--gap PPM] [--pivots N] [--places P] [--show report|plan|multipliers|proof]` finds a plan of FILE that meets every named
+/// `solve FILE [--gap PPM] [--pivots N] [--places P] [--show report|plan|multipliers|proof|line]` finds a plan of FILE that meets every named
 /// equation with right signs, and a bound that no such plan undercuts, which is its cost; or shows that there is no such plan
 /// (`Infeasible`), or that there are plans of any lower cost (`Unbounded`). It makes N pivots at most, 20,000 where the option is
 /// left out, and writes a report with prices of fuels, the plan, the multipliers that prove the bound, or in one file
-/// what `check --proof` accepts.
+/// what `check --proof` accepts; or in one line the status, the cost, the bound, how far they are apart, and the pivots.
 ///
 /// `curve FILE REGION EMISSION LIMITS [--gap PPM] [--pivots N] [--places P] [--method exact|rounded]` says for each of these limits on the
 /// emissions of the model period what the least cost is, and by how much at least it grows with each unit that the limit is lower.
@@ -100,6 +108,9 @@ use std::alloc::{AllocError, Global};
 ///
 /// `page FILE PROOF [--gap PPM] [--places P]` writes a page of HTML of what a proof shows that `check` accepts: of an optimum its plan, what it
 /// costs and which limits cost most; else that there is no plan, with status 1, or along what the cost falls without end, with status 2.
+///
+/// `warn FILE` says what in the data is legal and probably wrong, a line for each finding, and how many there are. A line that ends in
+/// `no plan` says that no plan exists.
 ///
 /// `make N [--show file|summary]` reads no file. It writes a data file that is made of the number N, from 3 to 122; or how large
 /// its model is, and what `solve` with its default options comes to on it.
@@ -144,8 +155,8 @@ pub fn osemosys<S: Shelf, K: Sink>(
     // A data file that isn't refused, and whose rows can be made, is written out; and a feasible plan with multipliers that
     // prove their bound and keep the gap is accepted, where the files are in form and every number that is formed for the
     // conditions fits; a model that nothing stops is solved or explained, its curve is told whole, and its span is found; a
-    // made file is written, and so are a table and a page of a proof that can be accepted; unless memory runs out, and over a shelf
-    // and a sink without a fault.
+    // made file is written, and so are a table and a page of a proof that can be accepted, and what is probably wrong with data that
+    // aren't refused; unless memory runs out, and over a shelf and a sink without a fault.
     ensures complete { WhereTold (S.files shelf.old) (λ files.
         (Rose (S.faults shelf.old) (S.faults shelf.new) → ⊥) → (Rose (K.faults out.old) (K.faults out.new) → ⊥)
         → Completes (map string_bytes words.now) files result) }
@@ -195,7 +206,12 @@ pub fn osemosys<S: Shelf, K: Sink>(
     ensures table_prices { (places gap : ℕ) (bytes name : List ℕ) (exact : Bool) (d : Data) (table : PriceTable) (text : List ℕ)
         → price_table_named name ≡ Some table
         → DueForTable places (λ rows. DueForProofFile places d rows bytes gap) bytes name (form_of exact) d Status.Done text
-        → IsPromisedTable places d table (form_of exact) text }
+        → IsPromisedTable places d bytes table (form_of exact) text }
+
+    // Where one of the lines of `warn` says that no plan exists, none does.
+    ensures no_plan { (rounded : ℕ) (d : Data) (status : Status) (text : List ℕ) (warned : IsWarned rounded d status text) (f : Finding)
+        → Contains (findings warned.built) f → excludes_plans f.rule ≡ true
+        → (places q : ℕ) (x : Var → ℤ) → Feasible places d q x → ⊥ }
 
     // What `solve` writes to prove its end is accepted by `check`, over the same data file and with the same gap and decimal places.
     ensures proofs { (places gap pivots : ℕ) (method : SolveMethod) (rounded : ℕ) (bytes : List ℕ) (d : Data) (end status : Status) (proof text : List ℕ)
@@ -221,6 +237,7 @@ pub fn osemosys<S: Shelf, K: Sink>(
     quantity_laws();
     promise_laws();
     promised_laws();
+    warned_laws();
     accepting_laws();
     match perform(alloc, words, shelf) {
         Ok(reply) => deliver(alloc, reply, out),
@@ -326,6 +343,10 @@ fn perform<S: Shelf>(alloc: Global, words: &[String], shelf: &mut S) -> Result<R
                 wanted,
             });
             let answer = perform_task(alloc, file, task, places, shelf)?;
+            Ok(Reply::Told(answer))
+        }
+        Ok(Command::Warn { file }) => {
+            let answer = perform_task(alloc, file, Task::Warn, UNUSED_PLACES, shelf)?;
             Ok(Reply::Told(answer))
         }
         Ok(Command::Make { size, show }) => {

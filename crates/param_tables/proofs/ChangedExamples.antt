@@ -1,13 +1,13 @@
 -- Data with another value at one index, on a worked example and on near misses.
 use Rattle.std.proofs.Common.{◌≡◌, ◌∷◌, [], ℕ, List, Bool, true, false, ◌&&◌, cond, Some, None, Option, refl, sym, ap, ◌∙◌, pos, negsuc, nat_eq, arith, true≢false}
-use Rattle.std.specs.Prelude.{codes, ℤ, Contains}
+use Rattle.std.specs.Prelude.{codes, ℤ}
 use Rattle.std.specs.Cmp.Lexicographic.{pointwise}
 use Rattle.std.specs.List.{find}
 use Rattle.std.specs.Option.{option_map, option_or}
 use Rattle.std.specs.Ordering.{int_eq}
 use Rattle.std.specs.Str.{bytes_eq}
 use Rattle.std.proofs.lemmas.Bool.{eqb-true, eq-eqb}
-use Rattle.model_sets.specs.Data.{Data, Given, IsUsedParam, default_of, given_at, indices_of, is_given_at, value_at, value_of_none}
+use Rattle.model_sets.specs.Data.{Data, Given, IsUsedParam, default_of, indices_of, is_given_at, value_at, value_of_none}
 use Rattle.model_sets.specs.declared.param_numbers.TheConstants.{MODEL_PERIOD_EMISSION_LIMIT}
 use Rattle.param_tables.specs.Changed.{AreDataWith}
 use Rattle.param_tables.proofs.GivenLaws.{names_same}

@@ -1,5 +1,5 @@
 -- The data of statements, statement by statement.
-use Rattle.std.proofs.Common.{◌≡◌, ◌≢◌, ℕ, zero, suc, ◌+◌, ◌<◌, ◌≤◌, Bool, true, false, cond, ◌&&◌, List, [], ◌∷◌, ◌++◌, Option, None, Some, length, map, nat_eq, get_or, take, refl, sym, ap, ◌∙◌, inl, inr, arith, All}
+use Rattle.std.proofs.Common.{◌≡◌, ◌≢◌, ℕ, zero, suc, ◌+◌, ◌<◌, ◌≤◌, Bool, true, false, cond, ◌&&◌, List, [], ◌∷◌, ◌++◌, Option, None, Some, length, map, nat_eq, get_or, take, refl, sym, ap, ◌∙◌, subst, inl, inr, arith, All}
 use Rattle.std.specs.Prelude.{ℤ, if◌then◌else◌}
 use Rattle.std.specs.Cmp.Lexicographic.{pointwise}
 use Rattle.std.specs.List.{IsDistinct, cons_option, filter_map, find, flat_map}
@@ -71,18 +71,30 @@ module _ (sets : SetLists) (xs : List ParamBlock) (s : ParamBlock) (p : ℕ) whe
       ∙ ap (option_or (default_of (data_of sets xs) p)) (default_step s.param p s.default)
 
   -- the statement is on another parameter
+  pub given_at-other : (s.param ≢ p) → (index : List (List ℕ)) → given_at (data_of sets (xs ++ s ∷ [])) p index ≡ given_at (data_of sets xs) p index
+  given_at-other other index =
+      given_at-push index
+      ∙ ap (λ b. option_or (given_at (data_of sets xs) p index) (if b then given_among s.values index else None)) (ne_eqb s.param p other)
+      ∙ option_or-none (given_at (data_of sets xs) p index)
+
   pub value_at-other : (s.param ≢ p) → (index : List (List ℕ)) → value_at (data_of sets (xs ++ s ∷ [])) p index ≡ value_at (data_of sets xs) p index
   value_at-other other index =
       let no : nat_eq s.param p ≡ false = ne_eqb s.param p other in
-      let given : given_at (data_of sets (xs ++ s ∷ [])) p index ≡ given_at (data_of sets xs) p index = given_at-push index ∙ ap (λ b. option_or (given_at (data_of sets xs) p index) (if b then given_among s.values index else None)) no ∙ option_or-none (given_at (data_of sets xs) p index) in
+      let given : given_at (data_of sets (xs ++ s ∷ [])) p index ≡ given_at (data_of sets xs) p index = given_at-other other index in
       let default : default_of (data_of sets (xs ++ s ∷ [])) p ≡ default_of (data_of sets xs) p = default_of-push ∙ ap (λ b. option_or (default_of (data_of sets xs) p) (if b then s.default else None)) no ∙ option_or-none (default_of (data_of sets xs) p) in
       ap (λ o. option_or o (option_or (default_of (data_of sets (xs ++ s ∷ [])) p) (value_of_none p))) given ∙ ap (λ o. option_or (given_at (data_of sets xs) p index) (option_or o (value_of_none p))) default
 
   -- the statement is on the parameter, and none before it is
+  pub given_at-here : s.param ≡ p → ((index : List (List ℕ)) → given_at (data_of sets xs) p index ≡ None) → (index : List (List ℕ)) → given_at (data_of sets (xs ++ s ∷ [])) p index ≡ given_among s.values index
+  given_at-here same no_value index =
+      given_at-push index
+      ∙ ap (λ o. option_or o (if nat_eq s.param p then given_among s.values index else None)) (no_value index)
+      ∙ ap (λ b. if b then given_among s.values index else None) (eq-eqb s.param p same)
+
   pub value_at-here : s.param ≡ p → ((index : List (List ℕ)) → given_at (data_of sets xs) p index ≡ None) → default_of (data_of sets xs) p ≡ None → (index : List (List ℕ)) → value_at (data_of sets (xs ++ s ∷ [])) p index ≡ option_or (given_among s.values index) (value_else p s.default)
   value_at-here same no_value no_default index =
       let yes : nat_eq s.param p ≡ true = eq-eqb s.param p same in
-      let given : given_at (data_of sets (xs ++ s ∷ [])) p index ≡ given_among s.values index = given_at-push index ∙ ap (λ o. option_or o (if nat_eq s.param p then given_among s.values index else None)) (no_value index) ∙ ap (λ b. if b then given_among s.values index else None) yes in
+      let given : given_at (data_of sets (xs ++ s ∷ [])) p index ≡ given_among s.values index = given_at-here same no_value index in
       let default : default_of (data_of sets (xs ++ s ∷ [])) p ≡ s.default = default_of-push ∙ ap (λ o. option_or o (if nat_eq s.param p then s.default else None)) no_default ∙ ap (λ b. if b then s.default else None) yes in
       ap (λ o. option_or o (option_or (default_of (data_of sets (xs ++ s ∷ [])) p) (value_of_none p))) given ∙ ap (λ o. option_or (given_among s.values index) (option_or o (value_of_none p))) default
 
@@ -120,7 +132,7 @@ none_before sets all i s distinct below at = none_of sets (take i all) s.param o
 
 -- ---- all statements
 
--- the value that the statement at a place gives, whatever stands after it
+-- what the statement at a place gives, whatever stands after it
 module _ (sets : SetLists) (all : List ParamBlock) (distinct : IsDistinct nat_eq (map (λ t. t.param) all)) (i : ℕ) (s : ParamBlock) (inside : i < length all) (at : get_or all i s ≡ s) (index : List (List ℕ)) where
   later_apart : (m : ℕ) → i < m → m < length all → ((get_or all m s).param ≢ s.param)
   later_apart m after below same =
@@ -129,19 +141,33 @@ module _ (sets : SetLists) (all : List ParamBlock) (distinct : IsDistinct nat_eq
       let there : get_or (map (λ t. t.param) all) m 0 ≡ (get_or all m s).param = get_or-map (λ t. t.param) all m s 0 below in
       eqb-false (get_or (map (λ t. t.param) all) i 0) (get_or (map (λ t. t.param) all) m 0) (apart_from_distinct nat_eq (map (λ t. t.param) all) i m 0 distinct after (omega arith)) (here ∙ sym same ∙ sym there)
 
-  value_taken : (n : ℕ) → i < n → n ≤ length all → value_at (data_of sets (take n all)) s.param index ≡ option_or (given_among s.values index) (value_else s.param s.default)
-  value_taken zero before within = absurd (omega arith)
-  value_taken (suc m) before within = elim (cases_eq i m) [
+  -- what holds once the statement stands, and stays with statements on others, holds of all
+  carried : (P : List ParamBlock → Type 0) → P (take i all ++ s ∷ []) → ((xs : List ParamBlock) (t : ParamBlock) → t.param ≢ s.param → P xs → P (xs ++ t ∷ [])) → (n : ℕ) → i < n → n ≤ length all → P (take n all)
+  carried P here more zero before within = absurd (omega arith)
+  carried P here more (suc m) before within = elim (cases_eq i m) [
     | inl last ↦
-        let none = none_before sets all i s distinct inside at in
         let taken : take (suc m) all ≡ take i all ++ s ∷ [] = (let n : suc m ≡ i + 1 = omega arith in ap (λ k. take k all) n) ∙ take_more all i s inside ∙ ap (λ t. take i all ++ t ∷ []) at in
-        ap (λ xs. value_at (data_of sets xs) s.param index) taken ∙ value_at-here sets (take i all) s s.param refl none.0 none.1 index
-    | inr more ↦
+        subst P (sym taken) here
+    | inr later ↦
         let after : i < m = omega arith in
         let below : m < length all = omega arith in
         let taken : take (suc m) all ≡ take m all ++ get_or all m s ∷ [] = (let n : suc m ≡ m + 1 = omega arith in ap (λ k. take k all) n) ∙ take_more all m s below in
-        ap (λ xs. value_at (data_of sets xs) s.param index) taken ∙ value_at-other sets (take m all) (get_or all m s) s.param (later_apart m after below) index ∙ value_taken m after (omega arith)
+        subst P (sym taken) (more (take m all) (get_or all m s) (later_apart m after below) (carried P here more m after (omega arith)))
   ]
 
+  of_all : (P : List ParamBlock → Type 0) → P (take i all ++ s ∷ []) → ((xs : List ParamBlock) (t : ParamBlock) → t.param ≢ s.param → P xs → P (xs ++ t ∷ [])) → P all
+  of_all P here more = subst P (take_all (length all) all (omega arith)) (carried P here more (length all) inside (omega arith))
+
   pub value_of_statement : value_at (data_of sets all) s.param index ≡ option_or (given_among s.values index) (value_else s.param s.default)
-  value_of_statement = ap (λ xs. value_at (data_of sets xs) s.param index) (sym (take_all (length all) all (omega arith))) ∙ value_taken (length all) inside (omega arith)
+  value_of_statement =
+      let none = none_before sets all i s distinct inside at in
+      of_all (λ xs. value_at (data_of sets xs) s.param index ≡ option_or (given_among s.values index) (value_else s.param s.default))
+      (value_at-here sets (take i all) s s.param refl none.0 none.1 index)
+      (λ xs t other so_far. value_at-other sets xs t s.param other index ∙ so_far)
+
+  pub given_of_statement : given_at (data_of sets all) s.param index ≡ given_among s.values index
+  given_of_statement =
+      let none = none_before sets all i s distinct inside at in
+      of_all (λ xs. given_at (data_of sets xs) s.param index ≡ given_among s.values index)
+      (given_at-here sets (take i all) s s.param refl none.0 index)
+      (λ xs t other so_far. given_at-other sets xs t s.param other index ∙ so_far)

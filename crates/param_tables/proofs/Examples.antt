@@ -1,11 +1,13 @@
 -- The definitions computed on worked examples, and on near misses.
-use Rattle.std.proofs.Common.{◌≡◌, ℕ, true, false, ◌∷◌, ◌++◌, [], List, Some, None, Option, refl, map, pos, negsuc, set}
+use Rattle.std.proofs.Common.{◌≡◌, ℕ, true, false, ◌∷◌, ◌++◌, [], List, Some, None, Option, refl, map, pos, negsuc, set, arith}
 use Rattle.std.specs.Prelude.{codes, ℤ, ◌-◌}
 use Rattle.std.specs.Fmt.{digits}
+use Rattle.std.proofs.lemmas.Bool.{false≢true}
 use Rattle.mathprog_data.specs.declared.blocks.Mark.{Mark}
 use Rattle.model_sets.specs.declared.fault.SetFault.{SetFault}
 use Rattle.model_sets.specs.Data.{value_at}
 use Rattle.param_tables.specs.BlockData.{data_told, set_lists}
+use Rattle.param_tables.specs.Built.{AreGivenAlike, is_given}
 use Rattle.param_tables.specs.Positions.{names_at}
 use Rattle.param_tables.specs.Ranges.{whole}
 use Rattle.model_sets.specs.Names.{set_word}
@@ -139,6 +141,59 @@ units = refl
 unit_value : value_at (data_told unit) 18 (codes "R" ∷ codes "T" ∷ codes "2020" ∷ []) ≡ Some (pos 0)
 unfolding unit but of some_sets defaults on_set by_default by_values
 unit_value = refl
+
+-- ---- what was given
+
+-- the only index of CapitalCost, and of another technology
+here : List (List ℕ)
+here = codes "R" ∷ codes "T" ∷ codes "2020" ∷ []
+
+elsewhere : List (List ℕ)
+elsewhere = codes "R" ∷ codes "U" ∷ codes "2020" ∷ []
+
+-- CapitalCost by its default alone, which is 5, and with 5 given at its only index
+cost_by_default : Blocks
+cost_by_default = of some_sets (but (by_default 15 (whole 5)))
+
+cost_given : Blocks
+cost_given = of some_sets (but (record { param = 15; default = Some (whole 5); values = value here (whole 5) (place 1 1) ∷ [] }))
+
+-- a default alone gives no value
+default_is_none : is_given (data_told cost_by_default) 15 here ≡ false
+unfolding cost_by_default but of some_sets defaults on_set by_default here
+default_is_none = refl
+
+-- a value that equals the default is given, at its own index and of its own parameter
+equal_to_default : is_given (data_told cost_given) 15 here ≡ true
+unfolding cost_given but of some_sets defaults on_set by_default here value place
+equal_to_default = refl
+
+other_index : is_given (data_told cost_given) 15 elsewhere ≡ false
+unfolding cost_given but of some_sets defaults on_set by_default here elsewhere value place
+other_index = refl
+
+other_param : is_given (data_told cost_given) 16 here ≡ false
+unfolding cost_given but of some_sets defaults on_set by_default here value place
+other_param = refl
+
+-- the value of none isn't given
+unit_is_none : is_given (data_told (of some_sets (but (by_values 18 [])))) 18 here ≡ false
+unfolding but of some_sets defaults on_set by_default by_values here
+unit_is_none = refl
+
+-- the two have the same value there, so that the values alone don't tell them apart, and are not given alike
+same_cost : value_at (data_told cost_by_default) 15 here ≡ value_at (data_told cost_given) 15 here
+unfolding cost_by_default cost_given but of some_sets defaults on_set by_default here value place
+same_cost = refl
+
+not_alike : AreGivenAlike (data_told cost_by_default) (data_told cost_given) → ⊥
+unfolding cost_by_default cost_given but of some_sets defaults on_set by_default here value place
+not_alike alike = false≢true (alike.each 15 ((omega arith, omega arith), refl) here (0, omega arith, refl))
+
+alike_itself : AreGivenAlike (data_told cost_given) (data_told cost_given)
+alike_itself = record { each = λ param used index has. refl }
+
+-- ---- positions
 
 positions : names_at (set_lists base) 5 (0 ∷ 0 ∷ 0 ∷ []) ≡ codes "R" ∷ codes "F" ∷ codes "2020" ∷ []
 unfolding base of some_sets defaults on_set by_default

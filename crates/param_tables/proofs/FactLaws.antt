@@ -10,7 +10,7 @@ use Rattle.std.proofs.lemmas.List.{get_or-map, length-map}
 use Rattle.std.proofs.lemmas.List.FromFn.{get_or-enumerate_from, get_or-range_with_len, length-enumerate_from, length-range_with_len}
 use Rattle.std.proofs.lemmas.Map.Keys.{IsDistinct-from_apart}
 use Rattle.mathprog_data.specs.declared.blocks.Mark.{Mark}
-use Rattle.model_sets.specs.Data.{indices_of, value_at}
+use Rattle.model_sets.specs.Data.{given_at, indices_of, is_given_at, value_at}
 use Rattle.model_sets.specs.Members.{SetLists, AreSets}
 use Rattle.model_sets.specs.Params.{IsParam, param_count, subscript_sets}
 use Rattle.param_tables.specs.BlockData.{data_of, given_of, givens_of, stated_default}
@@ -18,7 +18,7 @@ use Rattle.mathprog_data.specs.Meaning.{ParamBlock, GivenValue}
 use Rattle.param_tables.specs.Tables.{AreTablesFor, HaveShapes, IsUsable, IsTable, IsTableFor, entries_of, given_among, given_in, table_value, value_else}
 use Rattle.param_tables.specs.View.{default_by, facts_of, given_by}
 use Rattle.param_tables.specs.declared.param_table.ParamTable.{ParamTable}
-use Rattle.param_tables.proofs.DataLaws.{value_of_statement}
+use Rattle.param_tables.proofs.DataLaws.{given_of_statement, value_of_statement}
 use Rattle.param_tables.proofs.GivenLaws.{names_same}
 use Rattle.param_tables.proofs.IndexLaws.{HaveApart, indices_apart, names_apart_from}
 use Rattle.model_sets.proofs.ParamLaws.{subscripts_are_sets}
@@ -51,6 +51,9 @@ same_defaults : (sets : SetLists) (n : ℕ) (tables : List ParamTable) → filte
 unfolding statements_by statement_by
 same_defaults sets n [] = refl
 same_defaults sets n (t ∷ ts) = ap (cons_option (default_by n t)) (same_defaults sets (n + 1) ts)
+
+same_givens : (sets : SetLists) (tables : List ParamTable) (second : Bool) (p : ℕ) (index : List (List ℕ)) → given_at (facts_of sets tables second) p index ≡ given_at (data_of sets (statements_by sets 1 tables)) p index
+same_givens sets tables second p index = ap (λ gs. option_map (λ g. g.value) (find (is_given_at p index) gs)) (same_given sets 1 tables)
 
 -- but for the statement on DiscountRateIdv
 same_values : (sets : SetLists) (tables : List ParamTable) (second : Bool) (p : ℕ) (index : List (List ℕ)) → value_at (facts_of sets tables second) p index ≡ value_at (data_of sets (statements_by sets 1 tables)) p index
@@ -109,7 +112,7 @@ tables_for_facts sets tables second are shapes = record { all = shapes.all; each
     distinct = subst (IsDistinct nat_eq) (sym (params_by sets 1 tables)) (numbers_apart 1 (length tables))
 
     each : (p : ℕ) → IsUsable p → (e : ParamTable) → IsTableFor (facts_of sets tables second) p (get_or tables (p - 1) e)
-    each p used e = record { shape = shape; values = values }
+    each p used e = record { shape = shape; given = given; values = values }
       where
         low : 1 ≤ p
         low = used.0.0
@@ -140,8 +143,17 @@ tables_for_facts sets tables second are shapes = record { all = shapes.all; each
             ∙ ap (λ x. statement_by sets x.0 x.1) (get_or-enumerate_from 1 tables (p - 1) (p, e) short)
             ∙ ap (λ n. statement_by sets n table) number
 
+        by_places : (place : ℕ) → place < length (indices_of sets p) → given_among s.values (get_or (indices_of sets p) place []) ≡ given_in (entries_of table) place
+        by_places place below = given_by_place sets (names_apart_from sets are) p used.0 table.places.items table.values.items place shape.below below
+
+        given : (place : ℕ) → place < length (indices_of sets p) → given_at (facts_of sets tables second) p (get_or (indices_of sets p) place []) ≡ given_in (entries_of (get_or tables (p - 1) e)) place
+        given place below =
+            same_givens sets tables second p (get_or (indices_of sets p) place [])
+            ∙ given_of_statement sets all distinct (p - 1) s inside at (get_or (indices_of sets p) place [])
+            ∙ by_places place below
+
         values : (place : ℕ) → place < length (indices_of sets p) → value_at (facts_of sets tables second) p (get_or (indices_of sets p) place []) ≡ table_value p (get_or tables (p - 1) e) place
         values place below =
             same_values sets tables second p (get_or (indices_of sets p) place [])
             ∙ value_of_statement sets all distinct (p - 1) s inside at (get_or (indices_of sets p) place [])
-            ∙ ap (λ o. option_or o (value_else p table.default)) (given_by_place sets (names_apart_from sets are) p used.0 table.places.items table.values.items place shape.below below)
+            ∙ ap (λ o. option_or o (value_else p table.default)) (by_places place below)

@@ -1,6 +1,6 @@
 -- Tables that no check refuses are complete data, the same that the statements give.
 use Rattle.std.proofs.Common.{◌≡◌, ℕ, zero, suc, ◌-◌, ◌<◌, Bool, true, false, cond, List, [], ◌∷◌, ◌++◌, Option, None, Some, pos, length, map, nat_eq, get_or, refl, sym, ap, ◌∙◌, subst, arith, All}
-use Rattle.std.specs.Prelude.{ℤ, Contains, IfSome, IsSomeAnd, if◌then◌else◌}
+use Rattle.std.specs.Prelude.{ℤ, Contains, IfSome, IsSomeAnd, is_some, if◌then◌else◌}
 use Rattle.std.specs.List.{cons_option, filter_map, find, flat_map, range_with_len}
 use Rattle.std.specs.Option.{option_map, option_or}
 use Rattle.std.proofs.lemmas.List.{get_or_default}
@@ -10,7 +10,7 @@ use Rattle.model_sets.specs.Data.{Data, Default, Given, IsUsedParam, used_params
 use Rattle.model_sets.specs.Members.{SetLists, AreSets}
 use Rattle.model_sets.specs.Params.{param_count, range_of}
 use Rattle.param_tables.specs.BlockData.{data_of, given_of, givens_of, has_second, stated_default}
-use Rattle.param_tables.specs.Built.{AreComplete, AreSameData, IsValueIn}
+use Rattle.param_tables.specs.Built.{AreComplete, AreGivenAlike, AreSameData, IsValueIn}
 use Rattle.param_tables.specs.Refusals.{AtIndex, fault_at, param_refusals, value_fault}
 use Rattle.mathprog_data.specs.Meaning.{ParamBlock, GivenValue}
 use Rattle.param_tables.specs.Tables.{AreTablesFor, HaveShapes}
@@ -43,6 +43,20 @@ same_tables d e (table ∷ tables) same use_same ford fore = record {
       let there : place < length (indices_of e.sets p) = let P : SetLists → Type 0 = λ sets. place < length (indices_of sets p) in subst P same below in
       let name_there : get_or (indices_of e.sets p) place [] ≡ index = ap (λ sets. get_or (indices_of sets p) place []) (sym same) ∙ name in
       ap (value_at d p) (sym name) ∙ (ford.each p kept table).values place below ∙ sym ((fore.each p kept table).values place there) ∙ ap (value_at e p) name_there;
+}
+
+-- and the same values were given
+pub alike_tables : (d e : Data) (tables : List ParamTable) → d.sets ≡ e.sets → AreTablesFor d tables → AreTablesFor e tables → AreGivenAlike d e
+alike_tables d e [] same ford fore = absurd (omega (arith, ford.all))
+alike_tables d e (table ∷ tables) same ford fore = record {
+  each = λ p used index has.
+      let kept = usable d p used in
+      let place = has.0 in
+      let below : place < length (indices_of d.sets p) = has.1 in
+      let name : get_or (indices_of d.sets p) place [] ≡ index = get_or_default (indices_of d.sets p) place [] index below ∙ has.2 in
+      let there : place < length (indices_of e.sets p) = let P : SetLists → Type 0 = λ sets. place < length (indices_of sets p) in subst P same below in
+      let name_there : get_or (indices_of e.sets p) place [] ≡ index = ap (λ sets. get_or (indices_of sets p) place []) (sym same) ∙ name in
+      ap is_some (ap (given_at d p) (sym name) ∙ (ford.each p kept table).given place below ∙ sym ((fore.each p kept table).given place there) ∙ ap (given_at e p) name_there);
 }
 
 -- ---- numbers
@@ -151,6 +165,9 @@ complete_of d are free numbers = record { sets = are; values = values }
 -- tables that no check refuses are kept, and are those of the statements
 pub same_facts_told : (sets : SetLists) (params : List ParamBlock) (tables : List ParamTable) (second : Bool) → second ≡ has_second params → AreSets sets → AreTablesFor (data_of sets params) tables → AreSameData (facts_of sets tables second) (data_of sets params)
 same_facts_told sets params tables second told are for = same_tables (facts_of sets tables second) (data_of sets params) tables refl told (tables_for_facts sets tables second are (shapes_of (data_of sets params) tables for)) for
+
+pub alike_facts_told : (sets : SetLists) (params : List ParamBlock) (tables : List ParamTable) (second : Bool) → AreSets sets → AreTablesFor (data_of sets params) tables → AreGivenAlike (facts_of sets tables second) (data_of sets params)
+alike_facts_told sets params tables second are for = alike_tables (facts_of sets tables second) (data_of sets params) tables refl (tables_for_facts sets tables second are (shapes_of (data_of sets params) tables for)) for
 
 pub kept_of : (sets : SetLists) (params : List ParamBlock) (tables : List ParamTable) (second : Bool) → second ≡ has_second params → AreSets sets → AreTablesFor (data_of sets params) tables → All IsParamBlock params → flat_map (param_refusals (facts_of sets tables second)) (used_params (facts_of sets tables second)) ≡ [] → AreKept sets tables second
 kept_of sets params tables second told are for every free =

@@ -20,7 +20,7 @@ use Rattle.param_tables.specs.Told.{refusal_told}
 use Rattle.param_tables.specs.declared.fault.Stop.{Stop}
 use Rattle.param_tables.specs.declared.fault.Stop.TheVariants as stop
 use Rattle.param_tables.specs.declared.param_table.ParamTable.{ParamTable}
-use Rattle.param_tables.proofs.DataLaws.{none_before, value_at-here, value_at-other}
+use Rattle.param_tables.proofs.DataLaws.{given_at-here, given_at-other, none_before, value_at-here, value_at-other}
 use Rattle.param_tables.proofs.EntryLaws.{given_at_place}
 
 some_none : (v : ℤ) → Some v ≡ None → ⊥
@@ -63,6 +63,7 @@ module _ (sets : SetLists) where
   table_stays : (xs : List ParamBlock) (s : ParamBlock) (p : ℕ) (table : ParamTable) → (s.param ≢ p) → IsTableFor (data_of sets xs) p table → IsTableFor (data_of sets (xs ++ s ∷ [])) p table
   table_stays xs s p table other for = record {
     shape = for.shape;
+    given = λ place below. given_at-other sets xs s p other (get_or (indices_of sets p) place []) ∙ for.given place below;
     values = λ place below. value_at-other sets xs s p other (get_or (indices_of sets p) place []) ∙ for.values place below;
   }
 
@@ -70,6 +71,7 @@ module _ (sets : SetLists) where
   table_comes : (xs : List ParamBlock) (s : ParamBlock) (table : ParamTable) → ((index : List (List ℕ)) → given_at (data_of sets xs) s.param index ≡ None) × (default_of (data_of sets xs) s.param ≡ None) → IsTableOf sets s table → IsTableFor (data_of sets (xs ++ s ∷ [])) s.param table
   table_comes xs s table none of = record {
     shape = of.shape;
+    given = λ place below. given_at-here sets xs s s.param refl none.0 (get_or (indices_of sets s.param) place []) ∙ sym (of.given place below);
     values = λ place below.
         value_at-here sets xs s s.param refl none.0 none.1 (get_or (indices_of sets s.param) place [])
         ∙ ap (λ o. option_or o (value_else s.param s.default)) (sym (of.given place below))
@@ -132,6 +134,7 @@ table_of_nothing sets p table empty = record {
     long = ap length empty.values ∙ sym (ap length empty.places);
     below = λ k d inside. absurd (omega (arith, ap length empty.places));
   };
+  given = λ place below. sym (ap (λ ps. given_in (zip ps table.values.items) place) empty.places);
   values = λ place below.
       ap (λ o. option_or o (value_of_none p)) (sym empty.default)
       ∙ ap (λ o. option_or o (value_else p table.default)) (sym (ap (λ ps. given_in (zip ps table.values.items) place) empty.places));

@@ -4,12 +4,12 @@ use Rattle.std.specs.Prelude.{Contains, IsSomeAnd}
 use Rattle.std.proofs.lemmas.List.{get_or_default}
 use Rattle.model_sets.specs.declared.params.Use.{Use}
 use Rattle.model_sets.specs.declared.params.Use.TheVariants.{Always, WhereStated, Never}
-use Rattle.model_sets.specs.Data.{Data, IsUsedParam, indices_of, value_at}
+use Rattle.model_sets.specs.Data.{Data, IsUsedParam, given_at, indices_of, value_at}
 use Rattle.model_sets.specs.Members.{SetLists}
 use Rattle.model_sets.specs.Params.{is_used, param_at, range_of, subscript_sets}
 use Rattle.param_tables.specs.Built.{IsValueIn}
 use Rattle.param_tables.specs.Places.{IsPlaceOf}
-use Rattle.param_tables.specs.Tables.{IsUsable, table_value}
+use Rattle.param_tables.specs.Tables.{IsUsable, entries_of, given_in, table_value}
 use Rattle.param_tables.specs.View.{AreKept, facts_of}
 use Rattle.param_tables.specs.declared.param_table.ParamTable.{ParamTable}
 
@@ -29,6 +29,9 @@ usable d p used = (used.0, used_more d.second (param_at p).used used.1)
 module _ (sets : SetLists) (tables : List ParamTable) (second : Bool) (kept : AreKept sets tables second) (p : ℕ) (used : IsUsedParam (facts_of sets tables second) p) (index : List (List ℕ)) (place : ℕ) (at : IsPlaceOf sets (subscript_sets p) index place) where
   pub value_kept : (table : ParamTable) → table ≡ get_or tables (p - 1) table → value_at (facts_of sets tables second) p index ≡ table_value p table place
   value_kept table is = ap (value_at (facts_of sets tables second) p) (sym at.at) ∙ (kept.tabled.each p (usable (facts_of sets tables second) p used) table).values place at.below ∙ ap (λ t. table_value p t place) (sym is)
+
+  pub given_kept : (table : ParamTable) → table ≡ get_or tables (p - 1) table → given_at (facts_of sets tables second) p index ≡ given_in (entries_of table) place
+  given_kept table is = ap (given_at (facts_of sets tables second) p) (sym at.at) ∙ (kept.tabled.each p (usable (facts_of sets tables second) p used) table).given place at.below ∙ ap (λ t. given_in (entries_of t) place) (sym is)
 
   pub value_complete : IsSomeAnd (value_at (facts_of sets tables second) p index) (IsValueIn (range_of p))
   value_complete = kept.complete.values p used index (Contains-place sets p index place at)

@@ -1,8 +1,8 @@
 -- What built data mean: the sets, and a value in its range for each used parameter and index.
-use Rattle.std.specs.Prelude.{◌≡◌, ℕ, ℤ, pos, List, unwrap_or, Contains, IsSomeAnd}
+use Rattle.std.specs.Prelude.{◌≡◌, ℕ, ℤ, pos, Bool, List, unwrap_or, is_some, Contains, IsSomeAnd}
 use Rattle.exact_num.specs.Rational.{Rational, lowest}
 pub use Rattle.model_sets.specs.Data.{AreSameData}
-use Rattle.model_sets.specs.Data.{Data, IsUsedParam, indices_of, value_at}
+use Rattle.model_sets.specs.Data.{Data, IsUsedParam, given_at, indices_of, value_at}
 use Rattle.model_sets.specs.Members.{AreSets}
 use Rattle.param_tables.specs.BlockData.{data_told}
 use Rattle.param_tables.specs.Positions.{names_at}
@@ -17,9 +17,18 @@ pub record Built : Type 0 where
   pub facts : Data
   pub rounded : ℕ
 
--- what is built is what the statements give
+-- whether the value of the parameter at the index is one that was given; where not, it is the default, or the value of none
+abbrev pub is_given : Data → ℕ → List (List ℕ) → Bool
+is_given d param index = is_some (given_at d param index)
+
+-- for each used parameter, at each of its indices: a value was given in the one exactly where in the other
+pub record AreGivenAlike (d e : Data) : Type 0 where
+  pub each : (param : ℕ) → IsUsedParam d param → (index : List (List ℕ)) → Contains (indices_of d.sets param) index → is_given d param index ≡ is_given e param index
+
+-- what is built is what the statements give, and is given where they give it
 pub record IsBuiltFrom (statements : Blocks) (built : Built) : Type 0 where
   pub facts : AreSameData built.facts (data_told statements)
+  pub given : AreGivenAlike built.facts (data_told statements)
   pub rounded : built.rounded ≡ statements.rounded
 
 -- the value lies in the range, and is a number of a data section

@@ -5,7 +5,7 @@ ghost use Rattle.exact_num.specs.Rational.{lowest};
 ghost use Rattle.exact_num.specs.Value.{value_of};
 ghost use Rattle.model_sets.specs.Data.{IsUsedParam, value_at};
 ghost use Rattle.model_sets.specs.Params.{range_of};
-ghost use Rattle.param_tables.specs.Built.{AreComplete, IsValueIn, amount_at};
+ghost use Rattle.param_tables.specs.Built.{AreComplete, IsValueIn, amount_at, is_given};
 ghost use Rattle.param_tables.specs.Changed.{IsBuiltWith};
 ghost use Rattle.param_tables.specs.Positions.{IsIndexOf, names_at};
 ghost use Rattle.param_tables.specs.Ranges.{billion};
@@ -131,10 +131,22 @@ impl ModelData {
         amount(self.value(param, index))
     }
 
+    /// Whether the value of the used parameter at the index, which is as that of `at`, is one that a statement of the text gives;
+    /// where not, it is the parameter's default, or 0 for CapacityOfOneTechnologyUnit.
+    pub fn is_given(&self, param: u8, index: &[u16]) -> bool
+        requires used { IsUsedParam self.now.facts param }
+        requires index { IsIndexOf self.now.facts.sets param index.now }
+        ensures { result ≡ is_given self.now.facts param (names_at self.now.facts.sets param index.now) }
+    {
+        let place = place_of(&self.sets, subscript_sets(param), index);
+        self.tables[usize::from(param - 1)].is_given_at(place)
+    }
+
     /// The data with this value of the used parameter at the index, and else as they are: the same sets, the same value of each used
     /// parameter at each other index, and the same number of rounded numbers. The value is in billionths, lies in the parameter's
     /// range, and is from -10^24 to 10^24. It may run out of memory. What is kept is copied: time and memory are in proportion to
     /// the members and the values that are given, a sort of those of the ratios and of the parameter apart.
+    /// What `is_given` answers of these data isn't said: it is a question on the data of a text.
     pub fn with_value(
         &self,
         alloc: Global,

@@ -1,6 +1,6 @@
 //! The values of one parameter, by the places of their indices.
 
-ghost use Rattle.std.specs.Prelude.{◌≡◌, ℕ, [], None, length, IfOk};
+ghost use Rattle.std.specs.Prelude.{◌≡◌, ℕ, [], None, is_some, length, IfOk};
 ghost use Rattle.std.specs.BTreeMap.{get};
 ghost use Rattle.std.specs.List.Sorted.{IsBinarySearchResult, IsStrictlyIncreasing};
 ghost use Rattle.std.specs.Ordering.{nat_cmp};
@@ -137,6 +137,15 @@ impl ParamTable {
     {
         let i = self.search(place).ok()?;
         self.values.get(i).copied()
+    }
+
+    /// Whether a value is given at the place.
+    pub(crate) fn is_given_at(&self, place: u64) -> bool
+        requires ascending { IsStrictlyIncreasing self.now.places.items }
+        requires long { length self.now.values.items ≡ length self.now.places.items }
+        ensures { result ≡ is_some (given_in (entries_of self.now) place) }
+    {
+        self.given_at(place).is_some()
     }
 
     /// The value of the parameter at the place: the one given, else that of an index without one.

@@ -14,3 +14,4 @@ pub mod TextLaws
 pub mod ToldLaws
 pub mod UniqueLaws
 pub mod WithinLaws
+pub mod WriterLaws

@@ -15,7 +15,8 @@ ghost use Rattle.plan_files.specs.Texts.{records_text};
 
 use crate::fields::{member_field, places_of_equation, places_of_kind};
 use crate::header::HEADER;
-use csv::{ByteRecord, Error, WriterBuilder};
+use crate::lines::Lines;
+use csv::ByteRecord;
 use exact_num::Frac;
 use model_sets::Sets;
 use model_sets::set_numbers::{
@@ -46,11 +47,12 @@ pub fn push_plan(
     requires { AllByRecursion (λ e. IsKind e.0.kind × VariableIsWithin sets.now e.0) plan.now }
     ensures { OnOk result (out.new.items ≡ out.old.items ++ records_text (map (variable_record sets.now) plan.now)) }
 {
+    let mut lines = Lines::new(alloc);
     let entries = plan.entries();
     for (variable, value) in entries {
-        push_variable(alloc, out, sets, *variable, *value)?;
+        push_variable(alloc, &mut lines, sets, *variable, *value)?;
     }
-    Ok(())
+    out.extend_from_slice(&lines.into_text()?)
 }
 
 /// Multipliers as CSV text: the header, and a record for each row in order whose multiplier isn't 0, with the members of its
@@ -78,13 +80,14 @@ pub fn push_multipliers(
     requires { AllByRecursion (λ e. IsEquation e.0.eq × RowNameIsWithin sets.now e.0) multipliers.now }
     ensures { OnOk result (out.new.items ≡ out.old.items ++ records_text (map (row_record sets.now) (nonzero multipliers.now))) }
 {
+    let mut lines = Lines::new(alloc);
     let entries = multipliers.entries();
     for (name, value) in entries {
         if !is_zero(*value) {
-            push_row(alloc, out, sets, *name, *value)?;
+            push_row(alloc, &mut lines, sets, *name, *value)?;
         }
     }
-    Ok(())
+    out.extend_from_slice(&lines.into_text()?)
 }
 
 /// The first record, as a line of CSV text. Refuses where memory runs out.
@@ -103,17 +106,17 @@ pub fn header_text(alloc: Global) -> Result<Vec<u8>, AllocError>
 /// Appends the record of a variable.
 fn push_variable(
     alloc: Global,
-    out: &mut Vec<u8>,
+    lines: &mut Lines,
     sets: &Sets,
     variable: Var,
     value: Frac,
 ) -> Result<(), AllocError>
     requires listed { IsKind variable.kind }
     requires within { VariableIsWithin sets.now variable }
-    ensures { OnOk result (out.new.items ≡ out.old.items ++ row_text default_writer (variable_record sets.now (variable, value_of value))) }
+    ensures { OnOk result (lines.new ≡ lines.old ++ row_text default_writer (variable_record sets.now (variable, value_of value))) }
 {
     let word = var_word(variable.kind).as_bytes();
-    push_value(alloc, out, sets, word, variable, value)
+    lines.push(&worded_fields(alloc, sets, word, variable, value)?)
 }
 
 /// Appends the record of a word, the subscripts of a variable and a value. Refuses where memory runs out.
@@ -130,6 +133,22 @@ pub fn push_value(
     ensures { OnOk result (out.new.items ≡ out.old.items
         ++ row_text default_writer (worded_record sets.now word.now (variable, value_of value))) }
 {
+    let fields = worded_fields(alloc, sets, word, variable, value)?;
+    push_record(alloc, out, &fields)
+}
+
+/// The record of a word, the subscripts of a variable and a value.
+fn worded_fields(
+    alloc: Global,
+    sets: &Sets,
+    word: &[u8],
+    variable: Var,
+    value: Frac,
+) -> Result<ByteRecord, AllocError>
+    requires listed { IsKind variable.kind }
+    requires within { VariableIsWithin sets.now variable }
+    ensures { IfOk result (λ fields. fields_of fields ≡ worded_record sets.now word.now (variable, value_of value)) }
+{
     let mut fields = ByteRecord::new(alloc);
     push_field(&mut fields, word)?;
     push_subscripts(
@@ -139,26 +158,26 @@ pub fn push_value(
         variable.index,
     )?;
     push_field(&mut fields, &value_text(alloc, value)?)?;
-    push_record(alloc, out, &fields)
+    Ok(fields)
 }
 
 /// Appends the record of a row.
 fn push_row(
     alloc: Global,
-    out: &mut Vec<u8>,
+    lines: &mut Lines,
     sets: &Sets,
     name: RowName,
     value: Frac,
 ) -> Result<(), AllocError>
     requires listed { IsEquation name.eq }
     requires within { RowNameIsWithin sets.now name }
-    ensures { OnOk result (out.new.items ≡ out.old.items ++ row_text default_writer (row_record sets.now (name, value_of value))) }
+    ensures { OnOk result (lines.new ≡ lines.old ++ row_text default_writer (row_record sets.now (name, value_of value))) }
 {
     let mut fields = ByteRecord::new(alloc);
     push_field(&mut fields, row_word(name.eq).as_bytes())?;
     push_subscripts(&mut fields, sets, &places_of_equation(name.eq), name.index)?;
     push_field(&mut fields, &value_text(alloc, value)?)?;
-    push_record(alloc, out, &fields)
+    lines.push(&fields)
 }
 
 /// Appends the fields of the subscripts, where there are those at the places that `has` says.
@@ -215,20 +234,7 @@ fn value_text(alloc: Global, value: Frac) -> Result<Vec<u8>, AllocError>
 pub fn push_record(alloc: Global, out: &mut Vec<u8>, fields: &ByteRecord) -> Result<(), AllocError>
     ensures { OnOk result (out.new.items ≡ out.old.items ++ row_text default_writer (fields_of fields.now)) }
 {
-    let Ok(line) = record_text(alloc, fields) else {
-        return Err(AllocError);
-    };
-    out.extend_from_slice(&line)
-}
-
-/// A record as text.
-fn record_text(alloc: Global, fields: &ByteRecord) -> Result<Vec<u8>, Error>
-    ensures { IfOk result (λ line. line.items ≡ row_text default_writer (fields_of fields.now)) }
-{
-    let mut writer = WriterBuilder::new().from_writer(Vec::new(alloc));
-    writer.write_byte_record(fields)?;
-    match writer.into_inner() {
-        Ok(line) => Ok(line),
-        Err(error) => Err(error.into_error()),
-    }
+    let mut lines = Lines::new(alloc);
+    lines.push(fields)?;
+    out.extend_from_slice(&lines.into_text()?)
 }

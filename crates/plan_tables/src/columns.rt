@@ -6,7 +6,7 @@ ghost use Rattle.row_core.specs.Kinds.{IsKind, kind_has};
 ghost use Rattle.plan_tables.specs.Columns.{column_order, column_word, columns, header_of};
 
 use csv::ByteRecord;
-use plan_files::{push_field, push_record};
+use plan_files::{Lines, push_field};
 use row_core::kind_numbers::{
     RATE_OF_PRODUCTION_BY_TECHNOLOGY_BY_MODE, RATE_OF_TOTAL_ACTIVITY,
     RATE_OF_USE_BY_TECHNOLOGY_BY_MODE,
@@ -54,17 +54,17 @@ fn column_order(kind: u8) -> [u8; 8]
 /// Appends the first record of a table with these columns.
 pub(crate) fn push_header(
     alloc: Global,
-    out: &mut Vec<u8>,
+    lines: &mut Lines,
     columns: &[u8],
 ) -> Result<(), AllocError>
-    ensures { OnOk result (out.new.items ≡ out.old.items ++ row_text default_writer (header_of columns.now)) }
+    ensures { OnOk result (lines.new ≡ lines.old ++ row_text default_writer (header_of columns.now)) }
 {
     let mut fields = ByteRecord::new(alloc);
     for place in columns {
         push_field(&mut fields, column_word(*place))?;
     }
     push_field(&mut fields, b"VALUE")?;
-    push_record(alloc, out, &fields)
+    lines.push(&fields)
 }
 
 // The head of the column of the subscript at a place.

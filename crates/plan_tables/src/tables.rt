@@ -11,6 +11,7 @@ use crate::columns::{columns_of, push_header};
 use crate::shown::{NumberForm, Table};
 use crate::values::{Columns, push_values};
 use model_sets::Sets;
+use plan_files::Lines;
 use row_core::kind_numbers::KIND_COUNT;
 use row_core::{Plan, var_word};
 use std::alloc::{AllocError, Global};
@@ -86,11 +87,13 @@ fn push_kind(
     ensures { OnOk result (out.new.items ≡ out.old.items ++ kind_text sets.now form plan.now kind) }
 {
     let places = columns_of(alloc, kind)?;
-    push_header(alloc, out, &places)?;
+    let mut lines = Lines::new(alloc);
+    push_header(alloc, &mut lines, &places)?;
     let shown = Columns {
         kind,
         places: &places,
         form,
     };
-    push_values(alloc, out, sets, plan.entries(), shown)
+    push_values(alloc, &mut lines, sets, plan.entries(), shown)?;
+    out.extend_from_slice(&lines.into_text()?)
 }

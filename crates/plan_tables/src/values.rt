@@ -19,7 +19,7 @@ use model_sets::Sets;
 use model_sets::set_numbers::{
     EMISSION, FUEL, MODE_OF_OPERATION, REGION, TECHNOLOGY, TIMESLICE, YEAR,
 };
-use plan_files::{push_field, push_record};
+use plan_files::{Lines, push_field};
 use row_core::{Index, Var};
 use scaled_decimals::{push_frac, push_places};
 use std::alloc::{AllocError, Global};
@@ -47,17 +47,17 @@ pub(crate) struct Columns<'a> {
 /// Appends a record for each value of the kind that isn't 0, in order.
 pub(crate) fn push_values(
     alloc: Global,
-    out: &mut Vec<u8>,
+    lines: &mut Lines,
     sets: &Sets,
     entries: &[(Var, Frac)],
     shown: Columns<'_>,
 ) -> Result<(), AllocError>
     requires places { shown.places.now ≡ columns shown.kind }
     requires within { AllByRecursion (λ e. VariableIsWithin sets.now e.0) (map valued entries.now) }
-    ensures { OnOk result (out.new.items ≡ out.old.items ++ records_text (value_records sets.now shown.entry.form (map valued entries.now) shown.entry.kind)) }
+    ensures { OnOk result (lines.new ≡ lines.old ++ records_text (value_records sets.now shown.entry.form (map valued entries.now) shown.entry.kind)) }
 {
     for (var, value) in entries {
-        push_value(alloc, out, sets, *var, *value, shown)?;
+        push_value(alloc, lines, sets, *var, *value, shown)?;
     }
     Ok(())
 }
@@ -65,7 +65,7 @@ pub(crate) fn push_values(
 // Appends the record of a value, where it is of the kind and isn't 0.
 fn push_value(
     alloc: Global,
-    out: &mut Vec<u8>,
+    lines: &mut Lines,
     sets: &Sets,
     var: Var,
     value: Frac,
@@ -73,7 +73,7 @@ fn push_value(
 ) -> Result<(), AllocError>
     requires places { shown.places.now ≡ columns shown.kind }
     requires within { VariableIsWithin sets.now var }
-    ensures { OnOk result (out.new.items ≡ out.old.items ++ records_text (value_records sets.now shown.entry.form ((var, value_of value) ∷ []) shown.entry.kind)) }
+    ensures { OnOk result (lines.new ≡ lines.old ++ records_text (value_records sets.now shown.entry.form ((var, value_of value) ∷ []) shown.entry.kind)) }
 {
     if var.kind != shown.kind || is_zero(value) {
         return Ok(());
@@ -81,7 +81,7 @@ fn push_value(
     let mut fields = ByteRecord::new(alloc);
     push_members(&mut fields, sets, shown.places, var.index)?;
     push_number(alloc, &mut fields, value, shown.form)?;
-    push_record(alloc, out, &fields)
+    lines.push(&fields)
 }
 
 // Whether a value is 0.

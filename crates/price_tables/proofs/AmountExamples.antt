@@ -1,5 +1,5 @@
 -- The rows that the tables show and their numbers, computed on rows that were worked out by hand, and on near misses.
-use Rattle.std.proofs.Common.{◌≡◌, ℕ, ◌-◌, ◌^◌, ℤ, pos, negsuc, List, [], ◌∷◌, Option, None, Some, refl}
+use Rattle.std.proofs.Common.{◌≡◌, ℕ, ◌-◌, ◌^◌, ℤ, pos, negsuc, List, [], ◌∷◌, None, Some, refl}
 use Rattle.std.specs.Global.{Vec}
 use Rattle.exact_num.specs.Formed.{product_formed, quotient_formed}
 use Rattle.exact_num.specs.Gcd.{gcd_of, gcd_within}

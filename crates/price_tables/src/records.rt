@@ -18,7 +18,7 @@ use crate::shown::{PriceTable, priced_kind, priced_variable};
 use csv::ByteRecord;
 use exact_num::Frac;
 use model_sets::Sets;
-use plan_files::{push_field, push_record};
+use plan_files::{Lines, push_field};
 use plan_tables::{NumberForm, member_at, push_number};
 use row_core::{Multipliers, Row, RowName, Var, row_has, row_word};
 use std::alloc::{AllocError, Global};
@@ -33,7 +33,7 @@ pub(crate) struct Shown {
 /// Appends the record of a row, where the table shows it.
 pub(crate) fn push_row(
     alloc: Global,
-    out: &mut Vec<u8>,
+    lines: &mut Lines,
     sets: &Sets,
     row: &Row,
     multipliers: &Multipliers,
@@ -41,7 +41,7 @@ pub(crate) fn push_row(
 ) -> Result<(), AllocError>
     requires listed { IsEquation row.now.name.eq }
     requires within { RowNameIsWithin sets.now row.now.name }
-    ensures { OnOk result (out.new.items ≡ out.old.items ++ records_text (price_records sets.now shown.form (row.now ∷ []) multipliers.now shown.table)) }
+    ensures { OnOk result (lines.new ≡ lines.old ++ records_text (price_records sets.now shown.form (row.now ∷ []) multipliers.now shown.table)) }
 {
     let Some(kind) = priced_kind(shown.table, row.name.eq) else {
         return Ok(());
@@ -50,7 +50,7 @@ pub(crate) fn push_row(
         return Ok(());
     }
     let variable = priced_variable(kind, row.name.index);
-    push_priced(alloc, out, sets, row, variable, multipliers, shown)
+    push_priced(alloc, lines, sets, row, variable, multipliers, shown)
 }
 
 // Whether a value is 0.
@@ -63,7 +63,7 @@ fn is_zero(value: Frac) -> bool
 // Appends the record of a row and the variable of which it speaks.
 fn push_priced(
     alloc: Global,
-    out: &mut Vec<u8>,
+    lines: &mut Lines,
     sets: &Sets,
     row: &Row,
     variable: Var,
@@ -72,12 +72,12 @@ fn push_priced(
 ) -> Result<(), AllocError>
     requires listed { IsEquation row.now.name.eq }
     requires within { RowNameIsWithin sets.now row.now.name }
-    ensures { OnOk result (out.new.items ≡ out.old.items ++ row_text default_writer (price_record sets.now shown.form multipliers.now shown.table (row.now, variable))) }
+    ensures { OnOk result (lines.new ≡ lines.old ++ row_text default_writer (price_record sets.now shown.form multipliers.now shown.table (row.now, variable))) }
 {
     let mut fields = ByteRecord::new(alloc);
     push_name(&mut fields, sets, row.name, shown.table)?;
     push_amounts(alloc, &mut fields, row, variable, multipliers, shown)?;
-    push_record(alloc, out, &fields)
+    lines.push(&fields)
 }
 
 // Appends the word of a row's equation, and the fields of its subscripts.

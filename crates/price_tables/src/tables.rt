@@ -9,6 +9,7 @@ ghost use Rattle.price_tables.specs.PriceTables.{header_line, price_records, pri
 use crate::records::{Shown, push_row};
 use crate::shown::PriceTable;
 use model_sets::Sets;
+use plan_files::Lines;
 use plan_tables::NumberForm;
 use row_core::{Multipliers, Row};
 use std::alloc::{AllocError, Global};
@@ -59,8 +60,9 @@ fn push_rows(
     requires { AllByRecursion (IsListedRow sets.now) (map name_of_row rows.now) }
     ensures { OnOk result (out.new.items ≡ out.old.items ++ records_text (price_records sets.now shown.form rows.now multipliers.now shown.table)) }
 {
+    let mut lines = Lines::new(alloc);
     for row in rows {
-        push_row(alloc, out, sets, row, multipliers, shown)?;
+        push_row(alloc, &mut lines, sets, row, multipliers, shown)?;
     }
-    Ok(())
+    out.extend_from_slice(&lines.into_text()?)
 }

@@ -36,7 +36,7 @@ module _ (sets : SetLists) where
   pub row_no_direction : (n : RowName) (w : Var) → IsListedRow sets n → row_fields sets n ≡ direction_fields sets w → ⊥
   row_no_direction n w ln same = equation_no_direction n.eq ln.0 (word_of_kind w.kind) (ap word_in same)
 
-  -- the name of a variable of a direction is that of the variable behind `Direction.`
+  -- the name of a variable of a direction is that of the variable after `Direction.`
   pub same_named : (v : Var) (word : List ℕ) (fields : Fields) → direction_fields sets v ≡ (codes "Direction." ++ word) ∷ fields → variable_fields sets v ≡ word ∷ fields
   same_named v word fields same =
       ap (λ w. w ∷ subscript_fields sets (kind_has v.kind) v.index) (same_rest (word_of_kind v.kind) word (ap word_in same)) ∙ ap (λ fs. word ∷ fs) (ap after_word same)

@@ -12,7 +12,7 @@ use crate::sizes::sum_errors;
 use exact_num::Frac;
 use presolved_program::{Aim, Layout, Program, Stop, at, layout_of, prepare_rows, put};
 use rounded_program::{
-    Margins, elastic_program, margins_for, margins_of, named_multipliers, plain_rounding,
+    Margins, Rounding, elastic_program, margins_for, margins_of, named_multipliers, plain_rounding,
     rounded_program, values_of,
 };
 use rounded_simplex::Answer;
@@ -116,27 +116,29 @@ pub(crate) fn short_end(
     alloc: Global,
     rows: &[Row],
     vars: &[Var],
-    measured: &Measured,
+    measured: Measured,
     places: i32,
     digits: i32,
     pivots: u64,
 ) -> Result<Option<ShortEnd>, Stop>
-    requires { measured.now.pivots ≤ pivots }
+    requires { measured.pivots ≤ pivots }
     ensures made { IfOk result (λ end. IfSome end (λ e. e.pivots ≤ pivots)) }
 {
-    let layout = &measured.layout;
-    let smaller = &measured.smaller;
-    let room = &measured.room;
-    let rounding = rounding_within(alloc, rows, vars, layout, smaller, room, places)?;
-    let margins = margins_for(alloc, smaller, rounding, digits)?;
-    let left = pivots - measured.pivots;
-    match end_of_guess(alloc, smaller, &margins, &measured.basis, left)? {
+    let Measured {
+        layout,
+        smaller,
+        room,
+        basis,
+        pivots: taken,
+    } = measured;
+    let rounding = rounding_within(alloc, rows, vars, &layout, &smaller, &room, places)?;
+    match last_guess(alloc, smaller, basis, rounding, digits, pivots - taken)? {
         Some(end) => {
-            let values = raised_values(alloc, rows, vars, layout, room, &end.values)?;
+            let values = raised_values(alloc, rows, vars, &layout, &room, &end.values)?;
             let multipliers = multipliers_of_rows(
                 alloc,
                 vars,
-                layout,
+                &layout,
                 &end.named,
                 Proving::Bound,
                 0,
@@ -144,11 +146,27 @@ pub(crate) fn short_end(
             Ok(Some(ShortEnd {
                 values,
                 multipliers,
-                pivots: measured.pivots + end.pivots,
+                pivots: taken + end.pivots,
             }))
         }
         None => Ok(None),
     }
+}
+
+/// A guess with values rounded so and multipliers of so many significant digits, from this basis; none where there seems to be no
+/// plan. The smaller program is gone after it, before values and multipliers of all rows need memory.
+fn last_guess(
+    alloc: Global,
+    smaller: Program,
+    basis: Vec<usize>,
+    rounding: Rounding,
+    digits: i32,
+    pivots: u64,
+) -> Result<Option<Ended>, Stop>
+    ensures made { IfOk result (λ end. IfSome end (λ e. e.pivots ≤ pivots)) }
+{
+    let margins = margins_for(alloc, &smaller, rounding, digits)?;
+    end_of_guess(alloc, &smaller, &margins, &basis, pivots)
 }
 
 /// What multipliers that show that there is no plan are guessed of.

@@ -86,12 +86,12 @@ fn short_plan(
     ensures named { IfOk result (IfFound (IsNamed rows.now)) }
     ensures made { IfOk result (IfFound (IsMadeWithin pivots)) }
 {
-    let first = measure(alloc, rows, defs, vars, pivots).map_err(no_guess)?;
-    let Some(measured) = first else {
-        return Ok(Attempt::NoPlan);
-    };
     for (places, digits) in TRIES {
-        match one_try(alloc, rows, vars, &measured, places, digits, ppm, pivots) {
+        let first = measure(alloc, rows, defs, vars, pivots).map_err(no_guess)?;
+        let Some(measured) = first else {
+            return Ok(Attempt::NoPlan);
+        };
+        match one_try(alloc, rows, vars, measured, places, digits, ppm, pivots) {
             Ok(Attempt::Found(found)) => return Ok(Attempt::Found(found)),
             Ok(Attempt::NoPlan) => return Ok(Attempt::NoPlan),
             Ok(Attempt::Nothing) => {}
@@ -102,19 +102,19 @@ fn short_plan(
     Ok(Attempt::Nothing)
 }
 
-/// One try, with so many decimals where there is room for them.
+/// One try, with so many decimals where there is room for them. What was measured is gone before the checks, in which memory is needed most.
 fn one_try(
     alloc: Global,
     rows: &[Row],
     vars: &[Var],
-    measured: &Measured,
+    measured: Measured,
     places: i32,
     digits: i32,
     ppm: u32,
     pivots: u64,
 ) -> Result<Attempt, NoAnswer>
     requires listed { AreListed rows.now vars.now }
-    requires pivots { measured.now.pivots ≤ pivots }
+    requires pivots { measured.pivots ≤ pivots }
     ensures proved { IfOk result (IfFound (IsProvedWithin rows.now vars.now ppm)) }
     ensures whole { IfOk result (IfFound (IsComplete vars.now)) }
     ensures named { IfOk result (IfFound (IsNamed rows.now)) }

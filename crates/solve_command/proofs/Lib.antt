@@ -1,4 +1,5 @@
 mod KeptValues
+mod LineExamples
 mod PricePlaces
 mod PromisedPrices
 mod ReadingBack

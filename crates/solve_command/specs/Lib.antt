@@ -1,3 +1,4 @@
+pub mod LineTexts
 pub mod Promises
 pub mod ReadBack
 pub mod Rounding

@@ -1,4 +1,4 @@
--- What `solve` writes at each of its ends, by what is to be shown: a report, a plan, multipliers, what proves the end, or a summary. A file of a plan or of
+-- What `solve` writes at each of its ends, by what is to be shown: a report, a plan, multipliers, what proves the end, one line, or a summary. A file of a plan or of
 -- multipliers that there aren't is its header alone.
 use Rattle.std.specs.Prelude.{ℕ, List, [], ◌++◌, codes}
 use Rattle.exact_num.specs.Rational.{Rational}
@@ -14,7 +14,8 @@ use Rattle.plan_files.specs.Texts.{records_text}
 use Rattle.proof_files.specs.ProofRecords.{descent_file, optimum_file, refutation_file}
 use Rattle.result_tables.specs.Reports.{infeasible_text, report_text, unbounded_text}
 use Rattle.solve_command.specs.declared.solve.Shown.{Shown}
-use Rattle.solve_command.specs.declared.solve.Shown.TheVariants.{Report, Plan, Multipliers, Proof, Summary}
+use Rattle.solve_command.specs.LineTexts.{infeasible_line, solved_line, unbounded_line}
+use Rattle.solve_command.specs.declared.solve.Shown.TheVariants.{Report, Plan, Multipliers, Proof, Line, Summary}
 
 -- the text of a plan, and of multipliers
 abbrev pub plan_file : SetLists → List (Var × Rational) → List ℕ
@@ -34,6 +35,7 @@ solved_shown Report sets vars plan rows multipliers cost bound made rounded plac
 solved_shown Plan sets vars plan rows multipliers cost bound made rounded places attempt = plan_file sets plan
 solved_shown Multipliers sets vars plan rows multipliers cost bound made rounded places attempt = multiplier_file sets multipliers
 solved_shown Proof sets vars plan rows multipliers cost bound made rounded places attempt = optimum_file sets plan multipliers
+solved_shown Line sets vars plan rows multipliers cost bound made rounded places attempt = solved_line cost bound made
 solved_shown Summary sets vars plan rows multipliers cost bound made rounded places attempt = solved_lines cost bound made
 
 -- of one that has no plan, by the attempt of this number
@@ -42,6 +44,7 @@ infeasible_shown Report sets multipliers made rounded places attempt = infeasibl
 infeasible_shown Plan sets multipliers made rounded places attempt = plan_file sets []
 infeasible_shown Multipliers sets multipliers made rounded places attempt = multiplier_file sets multipliers
 infeasible_shown Proof sets multipliers made rounded places attempt = refutation_file sets multipliers
+infeasible_shown Line sets multipliers made rounded places attempt = infeasible_line made
 infeasible_shown Summary sets multipliers made rounded places attempt = line (codes "status infeasible")
 
 -- of one whose cost has no bound
@@ -50,4 +53,5 @@ unbounded_shown Report sets plan direction made rounded places = unbounded_text 
 unbounded_shown Plan sets plan direction made rounded places = plan_file sets plan
 unbounded_shown Multipliers sets plan direction made rounded places = multiplier_file sets []
 unbounded_shown Proof sets plan direction made rounded places = descent_file sets plan direction
+unbounded_shown Line sets plan direction made rounded places = unbounded_line made
 unbounded_shown Summary sets plan direction made rounded places = line (codes "status unbounded")

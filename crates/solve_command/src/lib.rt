@@ -2,11 +2,12 @@
 //! the model that it makes.
 //!
 //! `solve` makes the book of rows and solves it, where it isn't too large, by the exact method or first by the rounded one (`rounding`); then come `ends` (the answer for a solution, or for the stop of
-//! the method) and `texts` (what is shown of a solution). `summary` puts the counts before the few lines of `make`; `promises` has the
+//! the method) and `texts` (what is shown of a solution, with its one line in `line`). `summary` puts the counts before the few lines of `make`; `promises` has the
 //! law on the prices of a report, and `readback` that on what the file of a proof is read as.
 #![tactic(auto)]
 
 mod ends;
+mod line;
 mod promises;
 mod readback;
 mod rounding;

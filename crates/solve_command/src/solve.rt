@@ -32,13 +32,14 @@ use std::alloc::{AllocError, Global};
 /// The number of the attempt that the exact method is.
 const FIRST_ATTEMPT: u8 = 1;
 
-/// What is shown of a solution: a report, its plan, its multipliers, what proves it, or a few lines.
+/// What is shown of a solution: a report, its plan, its multipliers, what proves it, one line, or a few lines.
 #[derive(Clone, Copy, Debug, PartialEq, Eq)]
 pub enum Shown {
     Report,
     Plan,
     Multipliers,
     Proof,
+    Line,
     Summary,
 }
 
@@ -51,6 +52,7 @@ pub fn shown_of(show: SolveShow) -> Shown
         SolveShow::Plan => Shown::Plan,
         SolveShow::Multipliers => Shown::Multipliers,
         SolveShow::Proof => Shown::Proof,
+        SolveShow::Line => Shown::Line,
     }
 }
 

@@ -1,4 +1,4 @@
-// What is shown of a solution: a report, its plan, its multipliers, what proves it, or a few lines.
+// What is shown of a solution: a report, its plan, its multipliers, what proves it, one line, or a few lines.
 ghost use Rattle.std.specs.Prelude.{◌≡◌, ℕ, List, [], IfErr, IfOk, OnOk};
 ghost use Rattle.model_sets.specs.Members.{SetLists};
 ghost use Rattle.row_core.specs.declared.Row.{Row};
@@ -10,6 +10,7 @@ ghost use Rattle.solve_command.specs.SolveOutcomes.{PricesAreStopped, PricesFitI
 ghost use Rattle.solve_command.specs.SolveTexts.{multiplier_file, plan_file, solved_lines};
 ghost use Rattle.solve_command.specs.declared.solve.Shown.TheVariants as shows;
 
+use crate::line::line_text;
 use crate::solve::Shown;
 use certified_answers::Certified;
 use command_answers::{push_amount, push_with_number};
@@ -48,6 +49,7 @@ pub fn solution_text(
         Shown::Plan => Ok(plan_of(alloc, book, sets, solution)?),
         Shown::Multipliers => Ok(multipliers_of(alloc, book, sets, solution)?),
         Shown::Proof => Ok(proof_of(alloc, book, sets, solution)?),
+        Shown::Line => Ok(line_text(alloc, solution)?),
         Shown::Summary => summary_of(alloc, book, sets, solution, rounded, places, attempt),
     }
 }
@@ -72,6 +74,7 @@ pub fn shown_beside(
         Shown::Plan => plan_of(alloc, book, sets, solution),
         Shown::Multipliers => multipliers_of(alloc, book, sets, solution),
         Shown::Proof => proof_of(alloc, book, sets, solution),
+        Shown::Line => line_text(alloc, solution),
         Shown::Summary => summary_text(alloc, solution),
     }
 }

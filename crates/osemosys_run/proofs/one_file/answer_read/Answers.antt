@@ -1,7 +1,7 @@
 use Rattle.std.proofs.Common.{◌≡◌, inl, inr, sym, subst}
 use Rattle.std.proofs.lemmas.Result.{IfOk-weaker, MatchResult-at_err, MatchResult-at_ok}
 use Rattle.model_sets.specs.Data.{AreSameData, Data}
-use Rattle.osemosys_run.specs.declared.one_file.Task.TheVariants.{Solve, Span}
+use Rattle.osemosys_run.specs.declared.one_file.Task.TheVariants.{Solve, Span, Warn}
 use Rattle.command_answers.specs.Accepted.{Accepted}
 use Rattle.command_answers.specs.DueForText.{DueForText}
 use Rattle.osemosys_run.specs.Tasks.{DueForTask, HasLimits}
@@ -30,14 +30,23 @@ returns-in-Curve c = λ text stands short.
     IfOk-weaker c.answer_asked.result _ _
     (λ answer due. subst (λ task. DueForText (DueForTask task c.args.places) text answer.status answer.text.items) (sym c.in-Curve.is) (inr (found.0, found.1, due))) (c.answer_asked.ensures found.0 found.2)
 
-pub returns-in-Ok : goal.returns-in-Ok
-returns-in-Ok c = λ text stands short.
+pub returns-in-Span : goal.returns-in-Span
+returns-in-Span c = λ text stands short.
     let found : (d : Data) × (accepted : Accepted text d) × AreSameData c.in-Ok.model.facts d × (c.in-Ok.model.rounded ≡ accepted.blocks.rounded) =
     MatchResult-at_ok _ _ c.in-Ok.model c.in-Ok.is (c.in_ok-model.ensures text stands short) in
     IfOk-weaker c.answer_span_asked.result _ _
     (λ answer due.
     subst (λ task. DueForText (DueForTask task c.args.places) text answer.status answer.text.items) (sym c.in-Span.is)
     (inr (found.0, found.1, subst (λ rounded. DueForTask (Span c.in-Span.asked) c.args.places rounded found.0 answer.status answer.text.items) found.3 due))) (c.answer_span_asked.ensures found.0 found.2)
+
+pub returns-in-Ok : goal.returns-in-Ok
+returns-in-Ok c = λ text stands short.
+    let found : (d : Data) × (accepted : Accepted text d) × AreSameData c.in-Ok.model.facts d × (c.in-Ok.model.rounded ≡ accepted.blocks.rounded) =
+    MatchResult-at_ok _ _ c.in-Ok.model c.in-Ok.is (c.in_ok-model.ensures text stands short) in
+    IfOk-weaker c.answer_warned.result _ _
+    (λ answer due.
+    subst (λ task. DueForText (DueForTask task c.args.places) text answer.status answer.text.items) (sym c.in-Warn.is)
+    (inr (found.0, found.1, subst (λ rounded. DueForTask Warn c.args.places rounded found.0 answer.status answer.text.items) found.3 due))) (c.answer_warned.ensures found.0 found.2)
 
 pub answer_asked-requires-clause-limits : goal.answer_asked-requires-clause-limits
 answer_asked-requires-clause-limits c = subst HasLimits c.in-Curve.is c.requires.limits

@@ -157,6 +157,20 @@ returns-in_ok-answer-in-Ok-Span-clause-caused g c = λ status text said.
     (rw c.from.ensures at c.in_ok-answer-in-Ok-Span.ensures.caused))
     status text said
 
+pub returns-in_ok-answer-in-Ok-Warn-clause-caused : goal.returns-in_ok-answer-in-Ok-Warn-clause-caused
+returns-in_ok-answer-in-Ok-Warn-clause-caused g c = λ status text said.
+    let shelf = g.S.Shelf in
+    let old = c.args.shelf.now in
+    let new = c.perform_task-in-Ok-Warn.new.shelf in
+    let before : Sight = record { files = shelf.files old; rest = shelf.rest old; faults = shelf.faults old; begins = shelf.begins old; taken = shelf.taken old; moved = shelf.moved old } in
+    let after : Sight = record { files = shelf.files new; rest = shelf.rest new; faults = shelf.faults new; begins = shelf.begins new; taken = shelf.taken new; moved = shelf.moved new } in
+    let request = ap request_of_result (sym (c.in-Ok-Warn.is ∙ ap Ok c.in-Ok-Warn.field-0-is)) ∙ c.in_ok-file.ensures in
+    let answer = c.in_ok-answer-in-Ok-Warn.answer in
+    told_so (λ (s : Status) (t : List ℕ). CausedByRequest (asked (map string_bytes c.args.words.now)) before after s t) answer.status answer.text.items
+    (subst (λ (r : Result Request WordFault). CausedByRequest r before after answer.status answer.text.items) request
+    c.in_ok-answer-in-Ok-Warn.ensures.caused)
+    status text said
+
 pub returns-in_ok-answer-in-Ok-Check-clause-caused : goal.returns-in_ok-answer-in-Ok-Check-clause-caused
 returns-in_ok-answer-in-Ok-Check-clause-caused g c = λ status text said.
     let shelf = g.S.Shelf in

@@ -4,7 +4,7 @@ use Rattle.std.proofs.lemmas.Result.{IfOk-from_err, err_from_is_err_and}
 use Rattle.model_sets.specs.Data.{Data}
 use Rattle.model_sets.specs.Members.{members}
 use Rattle.param_tables.specs.BlockData.{data_of, data_told}
-use Rattle.param_tables.specs.Built.{AreSameData}
+use Rattle.param_tables.specs.Built.{AreGivenAlike, AreSameData}
 use Rattle.param_tables.specs.InTurn.{first_of}
 use Rattle.param_tables.specs.Refusals.{first_refusal, storage, value_refusals}
 use Rattle.mathprog_data.specs.BlocksView.{blocks_told, params_told}
@@ -14,7 +14,7 @@ use Rattle.param_tables.specs.View.{facts_of}
 use Rattle.param_tables.specs.declared.param_table.ParamTable.{ParamTable}
 use Rattle.param_tables.proofs.BuildLaws.{value_first, params_left, tables_told}
 use Rattle.param_tables.proofs.FactLaws.{tables_for_facts}
-use Rattle.param_tables.proofs.KeptLaws.{kept_of, same_facts_told, shapes_of}
+use Rattle.param_tables.proofs.KeptLaws.{alike_facts_told, kept_of, same_facts_told, shapes_of}
 use Rattle.param_tables.proofs.TableOfLaws.{stop_first}
 use Rattle.param_tables.proofs.building.checked_tables.Goals as goal
 
@@ -69,6 +69,15 @@ returns-clause-same c =
     let blocks : c.as_slice.result.now ≡ c.args.blocks.now.params.items = c.as_slice.ensures.value in
     let for : AreTablesFor (data_of sets s.params) tables = subst (λ bs. AreTablesFor (data_of sets (params_told bs)) tables) blocks c.in_ok-tables.ensures.tables in
     subst (λ all. AreSameData (facts_of sets tables c.args.second) (data_of all s.params)) c.requires.sets (same_facts_told sets s.params tables c.args.second c.requires.second c.count.ensures.rules for)
+
+pub returns-clause-alike : goal.returns-clause-alike
+returns-clause-alike c =
+    let s = blocks_told c.args.blocks.now in
+    let sets = c.args.sets.now in
+    let tables = c.in_ok-tables.tables.items in
+    let blocks : c.as_slice.result.now ≡ c.args.blocks.now.params.items = c.as_slice.ensures.value in
+    let for : AreTablesFor (data_of sets s.params) tables = subst (λ bs. AreTablesFor (data_of sets (params_told bs)) tables) blocks c.in_ok-tables.ensures.tables in
+    subst (λ all. AreGivenAlike (facts_of sets tables c.args.second) (data_of all s.params)) c.requires.sets (alike_facts_told sets s.params tables c.args.second c.count.ensures.rules for)
 
 pub returns-clause-accepted : goal.returns-clause-accepted
 returns-clause-accepted c =

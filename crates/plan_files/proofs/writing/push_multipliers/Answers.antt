@@ -1,5 +1,5 @@
 -- Record by record, of the multipliers that aren't 0.
-use Rattle.std.proofs.Common.{Global, Vec, ℕ, List, Bool, ◌++◌, ◌+◌, drop, map, sym, subst, ap, ◌∙◌}
+use Rattle.std.proofs.Common.{ℕ, List, Bool, ◌++◌, ◌+◌, drop, map, sym, subst, ap, ◌∙◌}
 use Rattle.std.specs.Prelude.{not}
 use Rattle.std.specs.List.{AllByRecursion}
 use Rattle.csv.specs.Writing.{default_writer, row_text}
@@ -41,15 +41,15 @@ loop-name-preserved c =
     let entries = c.entries-entries.result.now in
     let i : ℕ = c.loop-name.name-index in
     let item : RowName × Frac = c.loop-name-item.result in
-    let out : List ℕ = c.loop-name.out.items in
-    let all : List ℕ = c.args.out.now.items ++ records_text (map record_of (nonzero (map valued entries))) in
+    let lines : List ℕ = c.loop-name.lines in
+    let all : List ℕ = records_text (map record_of (nonzero (map valued entries))) in
     let rest : List ℕ = records_text (map record_of (nonzero (map valued (drop (i + 1) entries)))) in
     let same = ap (λ (e : RowName × Frac). not (is_zero (value_of e.1).top)) (sym c.loop-name-item.is) in
     elim c.if-not-is_zero.branch [
       | then-not-is_zero+in_ok-push_row w ↦
-          let next = passing_next passes record_of entries i item out all c.loop-name-test.true (same ∙ ap not (sym c.is_zero.ensures ∙ w.if-not-is_zero.true)) c.loop-name.invariant in
-          let written = ap (λ (e : RowName × Frac). out ++ row_text default_writer (record_of (valued e))) c.loop-name-item.is in
-          ap (λ (v : Vec ℕ Global). v.items ++ rest) w.out-is ∙ ap (λ text. text ++ rest) (w.in_ok-push_row.ensures ∙ written) ∙ next
+          let next = passing_next passes record_of entries i item lines all c.loop-name-test.true (same ∙ ap not (sym c.is_zero.ensures ∙ w.if-not-is_zero.true)) c.loop-name.invariant in
+          let written = ap (λ (e : RowName × Frac). lines ++ row_text default_writer (record_of (valued e))) c.loop-name-item.is in
+          ap (λ (text : List ℕ). text ++ rest) w.lines-is ∙ ap (λ text. text ++ rest) (w.in_ok-push_row.ensures ∙ written) ∙ next
       | else-not-is_zero w ↦
-          ap (λ (v : Vec ℕ Global). v.items ++ rest) w.out-is ∙ passing_skipped passes record_of entries i item out all c.loop-name-test.true (same ∙ ap not (sym c.is_zero.ensures ∙ w.if-not-is_zero.false)) c.loop-name.invariant
+          ap (λ (text : List ℕ). text ++ rest) w.lines-is ∙ passing_skipped passes record_of entries i item lines all c.loop-name-test.true (same ∙ ap not (sym c.is_zero.ensures ∙ w.if-not-is_zero.false)) c.loop-name.invariant
     ]

@@ -7,4 +7,4 @@ use Rattle.plan_files.proofs.writing.push_multipliers.Given as goal
 
 abbrev pub invariant-loop-name : goal.invariant-loop-name
 invariant-loop-name l =
-    l.out.items ++ records_text (map (row_record l.sets) (nonzero (map valued (drop l.name-index l.entries)))) ≡ l.fn.out.items ++ records_text (map (row_record l.sets) (nonzero (map valued l.entries)))
+    l.lines ++ records_text (map (row_record l.sets) (nonzero (map valued (drop l.name-index l.entries)))) ≡ records_text (map (row_record l.sets) (nonzero (map valued l.entries)))

@@ -32,7 +32,7 @@ loop-variable-preserved c =
     let record_of = variable_record c.args.sets.now in
     let entries = c.entries-entries.result.now in
     let i : ℕ = c.loop-variable.variable-index in
-    let out : List ℕ = c.loop-variable.out.items in
+    let lines : List ℕ = c.loop-variable.lines in
     let rest : List ℕ = records_text (map record_of (map valued (drop (i + 1) entries))) in
-    let next = text_next record_of entries i c.loop-variable-item.result out (c.args.out.now.items ++ records_text (map record_of (map valued entries))) c.loop-variable-test.true c.loop-variable.invariant in
-    ap (λ text. text ++ rest) (c.in_ok-push_variable.ensures ∙ ap (λ (e : Var × Frac). out ++ row_text default_writer (record_of (valued e))) c.loop-variable-item.is) ∙ next
+    let next = text_next record_of entries i c.loop-variable-item.result lines (records_text (map record_of (map valued entries))) c.loop-variable-test.true c.loop-variable.invariant in
+    ap (λ text. text ++ rest) (c.in_ok-push_variable.ensures ∙ ap (λ (e : Var × Frac). lines ++ row_text default_writer (record_of (valued e))) c.loop-variable-item.is) ∙ next

@@ -7,4 +7,4 @@ use Rattle.plan_files.proofs.writing.push_plan.Given as goal
 
 abbrev pub invariant-loop-variable : goal.invariant-loop-variable
 invariant-loop-variable l =
-    l.out.items ++ records_text (map (variable_record l.sets) (map valued (drop l.variable-index l.entries))) ≡ l.fn.out.items ++ records_text (map (variable_record l.sets) (map valued l.entries))
+    l.lines ++ records_text (map (variable_record l.sets) (map valued (drop l.variable-index l.entries))) ≡ records_text (map (variable_record l.sets) (map valued l.entries))

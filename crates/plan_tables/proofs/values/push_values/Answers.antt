@@ -17,6 +17,6 @@ pub loop-var-preserved : goal.loop-var-preserved
 loop-var-preserved c =
     let of : List (Var × Frac) → List ℕ = values_text c.args.sets.now c.args.shown.form c.args.shown.kind in
     let left : List ℕ = of (drop (c.loop-var.var-index + 1) c.args.entries.now) in
-    let written = ap (λ (e : Var × Frac). c.loop-var.out.items ++ of (e ∷ [])) c.loop-var-item.is in
+    let written = ap (λ (e : Var × Frac). c.loop-var.lines ++ of (e ∷ [])) c.loop-var-item.is in
     ap (λ t. t ++ left) (c.in_ok-push_value.ensures ∙ written)
-    ∙ values_next c.args.sets.now c.args.shown.form c.args.shown.kind c.args.entries.now c.loop-var.var-index c.loop-var-item.result c.loop-var.out.items _ c.loop-var-test.true c.loop-var.invariant
+    ∙ values_next c.args.sets.now c.args.shown.form c.args.shown.kind c.args.entries.now c.loop-var.var-index c.loop-var-item.result c.loop-var.lines _ c.loop-var-test.true c.loop-var.invariant

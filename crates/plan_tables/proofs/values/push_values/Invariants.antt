@@ -5,4 +5,4 @@ use Rattle.plan_tables.proofs.values.push_values.Given as goal
 
 abbrev pub invariant-loop-var : goal.invariant-loop-var
 invariant-loop-var l =
-    l.out.items ++ values_text l.sets l.shown.form l.shown.kind (drop l.var-index l.entries) ≡ l.fn.out.items ++ values_text l.sets l.shown.form l.shown.kind l.entries
+    l.lines ++ values_text l.sets l.shown.form l.shown.kind (drop l.var-index l.entries) ≡ l.fn.lines ++ values_text l.sets l.shown.form l.shown.kind l.entries

@@ -19,6 +19,6 @@ pub loop-row-preserved : goal.loop-row-preserved
 loop-row-preserved c =
     let of : List Row → List ℕ = rows_text c.args.sets.now c.args.shown.form c.args.multipliers.now c.args.shown.table in
     let left : List ℕ = of (drop (c.loop-row.row-index + 1) c.args.rows.now) in
-    let written = ap (λ (row : Row). c.loop-row.out.items ++ of (row ∷ [])) c.row-item.is in
+    let written = ap (λ (row : Row). c.loop-row.lines ++ of (row ∷ [])) c.row-item.is in
     ap (λ t. t ++ left) (c.in_ok-push_row.ensures ∙ written)
-    ∙ rows_next c.args.sets.now c.args.shown.form c.args.multipliers.now c.args.shown.table c.args.rows.now c.loop-row.row-index c.row-item.result c.loop-row.out.items _ c.loop-row-test.true c.loop-row.invariant
+    ∙ rows_next c.args.sets.now c.args.shown.form c.args.multipliers.now c.args.shown.table c.args.rows.now c.loop-row.row-index c.row-item.result c.loop-row.lines _ c.loop-row-test.true c.loop-row.invariant

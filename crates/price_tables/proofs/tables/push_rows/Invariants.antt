@@ -5,4 +5,4 @@ use Rattle.price_tables.proofs.tables.push_rows.Given as goal
 
 abbrev pub invariant-loop-row : goal.invariant-loop-row
 invariant-loop-row l =
-    l.out.items ++ rows_text l.sets l.fn.shown.form l.multipliers l.fn.shown.table (drop l.row-index l.rows) ≡ l.fn.out.items ++ rows_text l.sets l.fn.shown.form l.multipliers l.fn.shown.table l.rows
+    l.lines ++ rows_text l.sets l.fn.shown.form l.multipliers l.fn.shown.table (drop l.row-index l.rows) ≡ rows_text l.sets l.fn.shown.form l.multipliers l.fn.shown.table l.rows

@@ -1,0 +1,318 @@
+-- The definitions computed on a small model: one region, two technologies, two fuels, two timeslices, and three years of which the third leaves a gap.
+use Rattle.std.proofs.Common.{◌≡◌, ℕ, ◌++◌, ◌∷◌, [], List, false, refl, pos, negsuc, set}
+use Rattle.std.specs.Fmt.{digits}
+use Rattle.std.specs.Prelude.{codes, ℤ}
+use Rattle.model_sets.specs.Data.{Default, Given}
+use Rattle.model_sets.specs.Members.{SetLists}
+use Rattle.model_sets.specs.declared.param_numbers.TheConstants as param
+use Rattle.param_tables.specs.Built.{Built}
+use Rattle.data_warnings.specs.declared.places.Finding.{Finding}
+use Rattle.data_warnings.specs.declared.rules.Cost.TheVariants as cost
+use Rattle.data_warnings.specs.declared.rules.EmissionLimit.TheVariants as emission_limit
+use Rattle.data_warnings.specs.declared.rules.Enabler.TheVariants as enabler
+use Rattle.data_warnings.specs.declared.rules.Limit.TheVariants as limit
+use Rattle.data_warnings.specs.declared.rules.Pair.TheVariants as pair
+use Rattle.data_warnings.specs.declared.rules.Rule.{Rule}
+use Rattle.data_warnings.specs.declared.rules.Rule.TheVariants as rule
+use Rattle.data_warnings.specs.declared.rules.Series.TheVariants as series
+use Rattle.data_warnings.specs.Decimals.{decimal_text, part_digits}
+use Rattle.data_warnings.specs.Findings.{found, place_at}
+use Rattle.data_warnings.specs.Lines.{above_line, asked_start, asked_text, bare_number, beside_text, crossed_line, default_line, default_text, first_names, for_first, last_line, line, lines_text, more_members, more_years, names_text, number_text, of_names, subject_text, unmade_line, unmade_text, years_text}
+use Rattle.data_warnings.specs.Values.{whole}
+
+small_sets : SetLists
+small_sets =
+    (codes "R" ∷ [])
+    ∷ (codes "T" ∷ codes "U" ∷ [])
+    ∷ (codes "F" ∷ codes "G" ∷ [])
+    ∷ (codes "E" ∷ [])
+    ∷ (codes "1" ∷ [])
+    ∷ (codes "D" ∷ codes "N" ∷ [])
+    ∷ (codes "2020" ∷ codes "2021" ∷ codes "2023" ∷ [])
+    ∷ []
+    ∷ []
+    ∷ []
+    ∷ []
+    ∷ []
+
+-- a value of a parameter at an index
+at : ℕ → List (List ℕ) → ℤ → Given
+at number index value = record { param = number; index = index; value = value }
+
+-- a default of a parameter
+by_default : ℕ → ℤ → Default
+by_default number value = record { param = number; value = value }
+
+-- the data of these values; what isn't given counts as 0
+small : List Given → List Default → Built
+small given defaults = record { facts = record { sets = small_sets; given = given; defaults = defaults; second = false }; rounded = 0 }
+
+-- a finding
+told : Rule → ℕ → ℕ → ℕ → ℕ → ℕ → ℤ → ℤ → Finding
+told which i j k l more first second = record { rule = which; place = place_at i j k l; more = more; number = first; other = second }
+
+rt : List ℕ → List ℕ → List (List ℕ)
+rt t y = codes "R" ∷ t ∷ y ∷ []
+
+-- ---- limits
+
+-- a residual capacity above the limit, in one year
+crossed : found (small (at param.RESIDUAL_CAPACITY (rt (codes "T") (codes "2021")) (whole 2) ∷ []) (by_default param.TOTAL_ANNUAL_MAX_CAPACITY (pos 1999999999) ∷ [])) (rule.Crossed pair.Residual)
+    ≡ told (rule.Crossed pair.Residual) 0 0 0 1 0 (whole 2) (pos 1999999999) ∷ []
+unfolding small small_sets at by_default told rt
+crossed = refl
+
+-- one at the limit isn't above it
+at_the_limit : found (small (at param.RESIDUAL_CAPACITY (rt (codes "T") (codes "2021")) (whole 2) ∷ []) (by_default param.TOTAL_ANNUAL_MAX_CAPACITY (whole 2) ∷ [])) (rule.Crossed pair.Residual) ≡ []
+unfolding small small_sets at by_default told rt
+at_the_limit = refl
+
+-- -1 is no limit
+no_limit_set : found (small (at param.RESIDUAL_CAPACITY (rt (codes "T") (codes "2021")) (whole 2) ∷ []) (by_default param.TOTAL_ANNUAL_MAX_CAPACITY (negsuc 999999999) ∷ [])) (rule.Crossed pair.Residual) ≡ []
+unfolding small small_sets at by_default told rt
+no_limit_set = refl
+
+-- the same in two years of each technology: two findings
+twice : found (small (at param.TOTAL_ANNUAL_MIN_CAPACITY (rt (codes "T") (codes "2020")) (pos 0) ∷ []) (by_default param.TOTAL_ANNUAL_MIN_CAPACITY (whole 3) ∷ by_default param.TOTAL_ANNUAL_MAX_CAPACITY (whole 2) ∷ [])) (rule.Crossed pair.Capacity)
+    ≡ told (rule.Crossed pair.Capacity) 0 0 0 1 1 (whole 3) (whole 2) ∷ told (rule.Crossed pair.Capacity) 0 1 0 0 2 (whole 3) (whole 2) ∷ []
+unfolding small small_sets at by_default told rt
+twice = refl
+
+-- 0 is no limit of the model period, but of a year it is
+period_of_none : found (small [] (by_default param.TOTAL_TECHNOLOGY_MODEL_PERIOD_ACTIVITY_LOWER_LIMIT (whole 3) ∷ [])) rule.CrossedPeriod ≡ []
+unfolding small small_sets at by_default told rt
+period_of_none = refl
+
+-- a capacity of 2 that runs half of the year at 0.5, of 3 a unit, does 1.5, and no billionth more
+runs : ℤ → Built
+runs least =
+    small (at param.TOTAL_TECHNOLOGY_ANNUAL_ACTIVITY_LOWER_LIMIT (rt (codes "T") (codes "2021")) least ∷ at param.CAPACITY_FACTOR (codes "R" ∷ codes "T" ∷ codes "D" ∷ codes "2021" ∷ []) (pos 500000000) ∷ [])
+    (by_default param.TOTAL_ANNUAL_MAX_CAPACITY (whole 2) ∷ by_default param.CAPACITY_TO_ACTIVITY_UNIT (whole 3) ∷ by_default param.AVAILABILITY_FACTOR (whole 1) ∷ by_default param.YEAR_SPLIT (pos 500000000) ∷ [])
+
+reached : found (runs (pos 1500000000)) rule.Unreachable ≡ []
+unfolding runs small small_sets at by_default told rt
+reached = refl
+
+not_reached : found (runs (pos 1500000001)) rule.Unreachable ≡ told rule.Unreachable 0 0 0 1 0 (pos 1500000001) (whole 2) ∷ []
+unfolding runs small small_sets at by_default told rt
+not_reached = refl
+
+-- a cost below 0, held by a limit and not
+loose : found (small (at param.FIXED_COST (rt (codes "U") (codes "2023")) (negsuc 0) ∷ []) (by_default param.TOTAL_ANNUAL_MAX_CAPACITY (negsuc 999999999) ∷ by_default param.TOTAL_ANNUAL_MAX_CAPACITY_INVESTMENT (negsuc 999999999) ∷ by_default param.TOTAL_TECHNOLOGY_ANNUAL_ACTIVITY_UPPER_LIMIT (negsuc 999999999) ∷ [])) (rule.NegativeCost cost.Fixed)
+    ≡ told (rule.NegativeCost cost.Fixed) 0 1 0 2 0 (negsuc 0) (pos 0) ∷ []
+unfolding small small_sets at by_default told rt
+loose = refl
+
+held : found (small (at param.FIXED_COST (rt (codes "U") (codes "2023")) (negsuc 0) ∷ []) (by_default param.TOTAL_ANNUAL_MAX_CAPACITY (negsuc 999999999) ∷ by_default param.TOTAL_ANNUAL_MAX_CAPACITY_INVESTMENT (pos 0) ∷ by_default param.TOTAL_TECHNOLOGY_ANNUAL_ACTIVITY_UPPER_LIMIT (negsuc 999999999) ∷ [])) (rule.NegativeCost cost.Fixed) ≡ []
+unfolding small small_sets at by_default told rt
+held = refl
+
+-- ---- fuels
+
+-- a fuel that is asked for in a year, and made in another one alone
+makes : List ℕ → Given
+makes y = at param.OUTPUT_ACTIVITY_RATIO (codes "R" ∷ codes "U" ∷ codes "G" ∷ codes "1" ∷ y ∷ []) (whole 1)
+
+asks : List ℕ → Given
+asks y = at param.ACCUMULATED_ANNUAL_DEMAND (codes "R" ∷ codes "G" ∷ y ∷ []) (pos 1)
+
+unmade : found (small (makes (codes "2020") ∷ asks (codes "2020") ∷ asks (codes "2021") ∷ []) []) rule.UnmadeDemand ≡ told rule.UnmadeDemand 0 1 0 1 0 (pos 0) (pos 0) ∷ []
+unfolding small small_sets at by_default told rt makes asks
+unmade = refl
+
+made : found (small (makes (codes "2021") ∷ asks (codes "2021") ∷ []) []) rule.UnmadeDemand ≡ []
+unfolding small small_sets at by_default told rt makes asks
+made = refl
+
+-- a demand without a profile isn't asked for
+unprofiled : found (small (at param.SPECIFIED_ANNUAL_DEMAND (rt (codes "F") (codes "2020")) (whole 5) ∷ []) []) rule.UnmadeDemand ≡ []
+unfolding small small_sets at by_default told rt
+unprofiled = refl
+
+unprofiled_told : found (small (at param.SPECIFIED_ANNUAL_DEMAND (rt (codes "F") (codes "2020")) (whole 5) ∷ []) []) rule.UnprofiledDemand ≡ told rule.UnprofiledDemand 0 0 0 0 0 (whole 5) (pos 0) ∷ []
+unfolding small small_sets at by_default told rt
+unprofiled_told = refl
+
+-- what is made is unused until it is asked for
+unused : found (small (makes (codes "2020") ∷ []) []) rule.UnusedFuel ≡ told rule.UnusedFuel 0 1 0 0 0 (pos 0) (pos 0) ∷ []
+unfolding small small_sets at by_default told rt makes asks
+unused = refl
+
+used : found (small (makes (codes "2020") ∷ asks (codes "2023") ∷ []) []) rule.UnusedFuel ≡ []
+unfolding small small_sets at by_default told rt makes asks
+used = refl
+
+-- T makes and takes nothing, U something
+idle : found (small (makes (codes "2020") ∷ []) []) rule.IdleTechnology ≡ told rule.IdleTechnology 0 0 0 0 0 (pos 0) (pos 0) ∷ []
+unfolding small small_sets at by_default told rt makes asks
+idle = refl
+
+-- U can't run where its capacity factors are all 0; T makes nothing
+disabled : found (small (makes (codes "2020") ∷ []) []) (rule.Disabled enabler.Factors) ≡ told (rule.Disabled enabler.Factors) 0 1 0 0 0 (pos 0) (pos 0) ∷ []
+unfolding small small_sets at by_default told rt makes asks
+disabled = refl
+
+enabled : found (small (makes (codes "2020") ∷ at param.CAPACITY_FACTOR (codes "R" ∷ codes "U" ∷ codes "N" ∷ codes "2023" ∷ []) (pos 1) ∷ []) []) (rule.Disabled enabler.Factors) ≡ []
+unfolding small small_sets at by_default told rt makes asks
+enabled = refl
+
+-- ---- years and sums
+
+-- 2022 is missing
+gap : found (small [] []) rule.YearGap ≡ told rule.YearGap 0 0 0 1 0 (whole 2022) (pos 0) ∷ []
+unfolding small small_sets at by_default told rt
+gap = refl
+
+-- two millionths off are within the slack of two timeslices, and a billionth more isn't
+split : ℤ → Built
+split night = small (at param.YEAR_SPLIT (codes "N" ∷ codes "2021" ∷ []) night ∷ []) (by_default param.YEAR_SPLIT (pos 500000000) ∷ [])
+
+nearly_one : found (split (pos 499998000)) rule.YearSplitSum ≡ []
+unfolding split small small_sets at by_default told rt
+nearly_one = refl
+
+not_one : found (split (pos 499997999)) rule.YearSplitSum ≡ told rule.YearSplitSum 0 0 0 1 0 (pos 999997999) (pos 0) ∷ []
+unfolding split small small_sets at by_default told rt
+not_one = refl
+
+-- eight times the others, and a billionth less
+costs : ℤ → Built
+costs middle = small (at param.CAPITAL_COST (rt (codes "T") (codes "2021")) middle ∷ []) (by_default param.CAPITAL_COST (whole 1) ∷ [])
+
+outlier : found (costs (whole 8)) (rule.Outlier series.CapitalCost) ≡ told (rule.Outlier series.CapitalCost) 0 0 0 1 0 (whole 8) (whole 1) ∷ []
+unfolding costs small small_sets at by_default told rt
+outlier = refl
+
+no_outlier : found (costs (pos 7999999999)) (rule.Outlier series.CapitalCost) ≡ []
+unfolding costs small small_sets at by_default told rt
+no_outlier = refl
+
+-- ---- rates
+
+odd_rate : found (small [] (by_default param.DISCOUNT_RATE (pos 500000000) ∷ [])) rule.DiscountRate ≡ told rule.DiscountRate 0 0 0 0 0 (pos 500000000) (pos 0) ∷ []
+unfolding small small_sets at by_default told rt
+odd_rate = refl
+
+no_odd_rate : found (small [] (by_default param.DISCOUNT_RATE (pos 50000000) ∷ [])) rule.DiscountRate ≡ []
+unfolding small small_sets at by_default told rt
+no_odd_rate = refl
+
+-- ---- what is so by default
+
+-- T costs something in a year and lives one by default, and so does U
+lives : List Given → ℤ → Built
+lives given default = small (at param.CAPITAL_COST (rt (codes "T") (codes "2021")) (whole 5) ∷ given) (by_default param.OPERATIONAL_LIFE default ∷ [])
+
+short_life : found (lives [] (whole 1)) rule.ShortLives ≡ told rule.ShortLives 0 0 0 0 0 (whole 1) (pos 0) ∷ []
+unfolding lives small small_sets at by_default told rt
+short_life = refl
+
+two_short_lives : found (lives (at param.CAPITAL_COST (rt (codes "U") (codes "2023")) (pos 1) ∷ []) (whole 1)) rule.ShortLives ≡ told rule.ShortLives 0 0 0 0 1 (whole 1) (pos 0) ∷ []
+unfolding lives small small_sets at by_default told rt
+two_short_lives = refl
+
+-- a life of a year that the file gives is meant, and a default of two years isn't one
+life_given : found (lives (at param.OPERATIONAL_LIFE (codes "R" ∷ codes "T" ∷ []) (whole 1) ∷ []) (whole 1)) rule.ShortLives ≡ []
+unfolding lives small small_sets at by_default told rt
+life_given = refl
+
+two_years : found (lives [] (whole 2)) rule.ShortLives ≡ []
+unfolding lives small small_sets at by_default told rt
+two_years = refl
+
+-- in data of one year a life of one is long enough
+in_one_year : Built
+in_one_year = record { facts = record { sets = set small_sets 6 (codes "2021" ∷ []); given = (lives [] (whole 1)).facts.given; defaults = (lives [] (whole 1)).facts.defaults; second = false }; rounded = 0 }
+
+long_enough : found in_one_year rule.ShortLives ≡ []
+unfolding in_one_year lives small small_sets at by_default told rt
+long_enough = refl
+
+-- the greatest capacity of T in each year, and a default
+greatest : ℤ → ℤ → ℤ → ℤ → Built
+greatest first second third default =
+    small
+    (at param.TOTAL_ANNUAL_MAX_CAPACITY (rt (codes "T") (codes "2020")) first ∷ at param.TOTAL_ANNUAL_MAX_CAPACITY (rt (codes "T") (codes "2021")) second ∷ at param.TOTAL_ANNUAL_MAX_CAPACITY (rt (codes "T") (codes "2023")) third ∷ [])
+    (by_default param.TOTAL_ANNUAL_MAX_CAPACITY default ∷ [])
+
+forbidden : found (small [] (by_default param.TOTAL_ANNUAL_MAX_CAPACITY (pos 0) ∷ [])) (rule.ZeroLimits limit.Capacity) ≡ told (rule.ZeroLimits limit.Capacity) 0 0 0 0 1 (pos 0) (pos 0) ∷ []
+unfolding small small_sets at by_default told rt
+forbidden = refl
+
+-- a 0 that the file gives is meant, so that U is left
+one_forbidden : found (greatest (pos 0) (pos 0) (pos 0) (pos 0)) (rule.ZeroLimits limit.Capacity) ≡ told (rule.ZeroLimits limit.Capacity) 0 0 0 1 0 (pos 0) (pos 0) ∷ []
+unfolding greatest small small_sets at by_default told rt
+one_forbidden = refl
+
+-- one year without a value is enough
+forbidden_once : found (small (at param.TOTAL_ANNUAL_MAX_CAPACITY (rt (codes "T") (codes "2020")) (whole 5) ∷ at param.TOTAL_ANNUAL_MAX_CAPACITY (rt (codes "T") (codes "2023")) (whole 5) ∷ []) (by_default param.TOTAL_ANNUAL_MAX_CAPACITY (pos 0) ∷ [])) (rule.ZeroLimits limit.Capacity)
+    ≡ told (rule.ZeroLimits limit.Capacity) 0 0 0 0 1 (pos 0) (pos 0) ∷ []
+unfolding small small_sets at by_default told rt
+forbidden_once = refl
+
+-- the defaults that are no limit, and one above 0
+unlimited : found (greatest (pos 0) (pos 0) (pos 0) (negsuc 999999999)) (rule.ZeroLimits limit.Capacity) ≡ []
+unfolding greatest small small_sets at by_default told rt
+unlimited = refl
+
+limited : found (greatest (pos 0) (pos 0) (pos 0) (pos 1)) (rule.ZeroLimits limit.Capacity) ≡ []
+unfolding greatest small small_sets at by_default told rt
+limited = refl
+
+-- nothing may be emitted in 2021 and 2023, by default; a 0 that the file gives is meant
+no_emissions : found (small (at param.ANNUAL_EMISSION_LIMIT (rt (codes "E") (codes "2020")) (whole 5) ∷ []) (by_default param.ANNUAL_EMISSION_LIMIT (pos 0) ∷ [])) (rule.ZeroEmissions emission_limit.Annual)
+    ≡ told (rule.ZeroEmissions emission_limit.Annual) 0 0 0 0 0 (pos 0) (pos 0) ∷ []
+unfolding small small_sets at by_default told rt
+no_emissions = refl
+
+no_emissions_meant : found (small (at param.MODEL_PERIOD_EMISSION_LIMIT (codes "R" ∷ codes "E" ∷ []) (pos 0) ∷ []) (by_default param.MODEL_PERIOD_EMISSION_LIMIT (pos 0) ∷ [])) (rule.ZeroEmissions emission_limit.ModelPeriod) ≡ []
+unfolding small small_sets at by_default told rt
+no_emissions_meant = refl
+
+no_emissions_ever : found (small [] (by_default param.MODEL_PERIOD_EMISSION_LIMIT (pos 0) ∷ [])) (rule.ZeroEmissions emission_limit.ModelPeriod) ≡ told (rule.ZeroEmissions emission_limit.ModelPeriod) 0 0 0 0 0 (pos 0) (pos 0) ∷ []
+unfolding small small_sets at by_default told rt
+no_emissions_ever = refl
+
+-- ---- high limits
+
+towering : found (small (at param.TOTAL_ANNUAL_MAX_CAPACITY (rt (codes "U") (codes "2023")) (whole 99999) ∷ []) []) (rule.HighLimits limit.Capacity) ≡ told (rule.HighLimits limit.Capacity) 0 0 0 0 0 (pos 0) (pos 0) ∷ []
+unfolding small small_sets at by_default told rt
+towering = refl
+
+not_towering : found (small (at param.TOTAL_ANNUAL_MAX_CAPACITY (rt (codes "U") (codes "2023")) (pos 99998999999999) ∷ []) []) (rule.HighLimits limit.Capacity) ≡ []
+unfolding small small_sets at by_default told rt
+not_towering = refl
+
+-- ---- lines
+
+decimals : decimal_text (pos 1999999999) ++ codes " " ++ decimal_text (negsuc 499999999) ++ codes " " ++ decimal_text (pos 0) ++ codes " " ++ decimal_text (whole 12800) ++ codes " " ++ decimal_text (pos 10) ≡ codes "1.999999999 -0.5 0 12800 0.00000001"
+unfolding decimal_text part_digits digits
+decimals = refl
+
+crossed_told : line small_sets (told (rule.Crossed pair.Residual) 0 0 0 1 0 (whole 2) (pos 1999999999)) ≡ codes "warning ResidualCapacity of R,T is 2 and TotalAnnualMaxCapacity 1.999999999 in 2021: no plan\n"
+unfolding small_sets told line crossed_line number_text subject_text of_names names_text beside_text years_text more_years decimal_text part_digits digits
+crossed_told = refl
+
+unmade_told : line small_sets (told rule.UnmadeDemand 0 1 0 0 2 (pos 0) (pos 0)) ≡ codes "warning G is asked for in R and nothing makes it in 2020 and 2 more years: no plan\n"
+unfolding small_sets told line unmade_line unmade_text asked_text asked_start names_text years_text more_years decimal_text part_digits digits
+unmade_told = refl
+
+one_more_year : line small_sets (told rule.LargeFactor 0 1 0 1 1 (pos 0) (pos 0)) ≡ codes "warning CapacityFactor of R,U is above 1 in 2021 and 1 more year\n"
+unfolding small_sets told line above_line subject_text of_names names_text years_text more_years decimal_text part_digits digits
+one_more_year = refl
+
+short_life_told : line small_sets (told rule.ShortLives 0 0 0 1 0 (whole 1) (pos 0)) ≡ codes "warning OperationalLife is 1 by default for R,U: each is bought anew each year\n"
+unfolding small_sets told line default_line default_text bare_number for_first first_names more_members decimal_text part_digits digits
+short_life_told = refl
+
+zero_limit_told : line small_sets (told (rule.ZeroLimits limit.Investment) 0 0 0 0 3 (pos 0) (pos 0)) ≡ codes "warning TotalAnnualMaxCapacityInvestment is 0 by default for R,T and 3 more: 0 is a limit, -1 is none\n"
+unfolding small_sets told line default_line default_text bare_number for_first first_names more_members decimal_text part_digits digits
+zero_limit_told = refl
+
+zero_emissions_told : line small_sets (told (rule.ZeroEmissions emission_limit.Annual) 0 0 0 0 0 (pos 0) (pos 0)) ≡ codes "warning AnnualEmissionLimit is 0 by default for R,E: 0 is a limit, -1 is none\n"
+unfolding small_sets told line default_line default_text bare_number for_first first_names more_members decimal_text part_digits digits
+zero_emissions_told = refl
+
+none : lines_text small_sets [] ≡ codes "warnings 0\n"
+unfolding small_sets last_line digits
+none = refl

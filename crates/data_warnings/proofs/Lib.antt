@@ -1,0 +1,12 @@
+mod Examples
+pub mod Billionths
+pub mod CrossedLimits
+pub mod DigitLaws
+pub mod FirstLaws
+pub mod FoundPlaces
+pub mod MetEquations
+pub mod ProductLaws
+pub mod RangeLaws
+pub mod SumLaws
+pub mod UnmadeFuels
+pub mod UnreachedActivity

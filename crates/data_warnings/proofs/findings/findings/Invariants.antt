@@ -1,0 +1,8 @@
+-- What the rules so far find.
+use Rattle.std.proofs.Common.{◌≡◌, take}
+use Rattle.std.specs.List.{flat_map}
+use Rattle.data_warnings.specs.Findings.{found}
+use Rattle.data_warnings.proofs.findings.findings.Given as goal
+
+abbrev pub invariant-loop-rule : goal.invariant-loop-rule
+invariant-loop-rule l = l.all.items ≡ flat_map (found l.model) (take l.rule-index l.rule-items)

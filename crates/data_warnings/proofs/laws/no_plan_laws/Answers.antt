@@ -1,0 +1,58 @@
+-- By the rule of the finding.
+use Rattle.std.proofs.Common.{◌≡◌, ℕ, ℤ, true}
+use Rattle.named_equations.specs.Plans.{Feasible}
+use Rattle.param_tables.specs.Built.{Built}
+use Rattle.row_core.specs.declared.Var.{Var}
+use Rattle.row_core.proofs.Members.{Has-from_Contains}
+use Rattle.data_warnings.specs.declared.places.Place.{Place}
+use Rattle.data_warnings.specs.declared.rules.Rule.{Rule}
+use Rattle.data_warnings.specs.declared.rules.Rule.TheVariants.{YearSplitSum, YearGap, DiscountRate, UnprofiledDemand, ProfileSum, UnmadeDemand, StarvedTechnology, Disabled, Crossed, CrossedPeriod, Unreachable, ShortLives, LargeFactor, LargeAvailability, LargeTarget, SmallMargin, NegativeCost, Outlier, OneWayRoute, ZeroLimits, ZeroEmissions, HighLimits, IdleLimit, UnusedFuel, IdleTechnology, Rounded}
+use Rattle.data_warnings.specs.Findings.{findings}
+use Rattle.data_warnings.specs.Frames.{frame_of}
+use Rattle.data_warnings.specs.NoPlan.{excludes_plans}
+use Rattle.data_warnings.specs.Speaking.{speaks}
+use Rattle.data_warnings.specs.Values.{IsPlace}
+use Rattle.model_sets.specs.Names as sets
+use Rattle.data_warnings.proofs.CrossedLimits.{not_crossed, not_crossed_period}
+use Rattle.data_warnings.proofs.FoundPlaces.{is_found}
+use Rattle.data_warnings.proofs.MetEquations.{in_of}
+use Rattle.data_warnings.proofs.UnreachedActivity.{not_unreachable}
+use Rattle.data_warnings.proofs.UnmadeFuels.{not_unmade}
+use Rattle.data_warnings.proofs.laws.no_plan_laws.Goals as goal
+
+by_rule : (b : Built) (rule : Rule) (p : Place) → IsPlace b.facts (frame_of rule) p → speaks b rule p ≡ true → excludes_plans rule ≡ true → (places q : ℕ) (x : Var → ℤ) → Feasible places b.facts q x → ⊥
+by_rule b UnmadeDemand p at spoken excludes places q x plan =
+    not_unmade places b.facts q x plan p.first p.second p.last (in_of b.facts sets.region p.first at.first) (in_of b.facts sets.fuel p.second at.second) (in_of b.facts sets.year p.last at.last) spoken
+by_rule b (Crossed pair) p at spoken excludes places q x plan =
+    not_crossed places b.facts q x plan pair p.first p.second p.last (in_of b.facts sets.region p.first at.first) (in_of b.facts sets.technology p.second at.second) (in_of b.facts sets.year p.last at.last) spoken
+by_rule b CrossedPeriod p at spoken excludes places q x plan =
+    not_crossed_period places b.facts q x plan p.first p.second (in_of b.facts sets.region p.first at.first) (in_of b.facts sets.technology p.second at.second) spoken
+by_rule b Unreachable p at spoken excludes places q x plan =
+    not_unreachable places b.facts q x plan p.first p.second p.last (in_of b.facts sets.region p.first at.first) (in_of b.facts sets.technology p.second at.second) (in_of b.facts sets.year p.last at.last) spoken
+by_rule b YearSplitSum p at spoken excludes places q x plan = absurd (cc excludes)
+by_rule b YearGap p at spoken excludes places q x plan = absurd (cc excludes)
+by_rule b DiscountRate p at spoken excludes places q x plan = absurd (cc excludes)
+by_rule b UnprofiledDemand p at spoken excludes places q x plan = absurd (cc excludes)
+by_rule b ProfileSum p at spoken excludes places q x plan = absurd (cc excludes)
+by_rule b StarvedTechnology p at spoken excludes places q x plan = absurd (cc excludes)
+by_rule b (Disabled enabler) p at spoken excludes places q x plan = absurd (cc excludes)
+by_rule b ShortLives p at spoken excludes places q x plan = absurd (cc excludes)
+by_rule b LargeFactor p at spoken excludes places q x plan = absurd (cc excludes)
+by_rule b LargeAvailability p at spoken excludes places q x plan = absurd (cc excludes)
+by_rule b LargeTarget p at spoken excludes places q x plan = absurd (cc excludes)
+by_rule b SmallMargin p at spoken excludes places q x plan = absurd (cc excludes)
+by_rule b (NegativeCost cost) p at spoken excludes places q x plan = absurd (cc excludes)
+by_rule b (Outlier series) p at spoken excludes places q x plan = absurd (cc excludes)
+by_rule b OneWayRoute p at spoken excludes places q x plan = absurd (cc excludes)
+by_rule b (ZeroLimits limit) p at spoken excludes places q x plan = absurd (cc excludes)
+by_rule b (ZeroEmissions limit) p at spoken excludes places q x plan = absurd (cc excludes)
+by_rule b (HighLimits limit) p at spoken excludes places q x plan = absurd (cc excludes)
+by_rule b IdleLimit p at spoken excludes places q x plan = absurd (cc excludes)
+by_rule b UnusedFuel p at spoken excludes places q x plan = absurd (cc excludes)
+by_rule b IdleTechnology p at spoken excludes places q x plan = absurd (cc excludes)
+by_rule b Rounded p at spoken excludes places q x plan = absurd (cc excludes)
+
+pub returns : goal.returns
+returns c b f has excludes places q x plan =
+    let here = is_found b f (Has-from_Contains (findings b) f has) in
+    by_rule b f.rule f.place here.place here.speaks excludes places q x plan

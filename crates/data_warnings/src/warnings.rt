@@ -1,0 +1,20 @@
+//! The text of all warnings.
+
+ghost use Rattle.std.specs.Prelude.{◌≡◌, IfOk};
+ghost use Rattle.data_warnings.specs.Findings.{findings};
+ghost use Rattle.data_warnings.specs.Lines.{lines_text};
+
+use crate::findings::findings;
+use crate::lines::lines_text;
+use param_tables::ModelData;
+use std::alloc::{AllocError, Global};
+
+/// What is legal in the data and probably wrong: a line for each finding, by the rules in their order, of each rule the members in the
+/// order of their sets, and once for all years of the same members; then a line with the number of findings. Lines that
+/// end in `no plan` say that no plan exists. It may run out of memory.
+pub fn warnings_text(alloc: Global, model: &ModelData) -> Result<Vec<u8>, AllocError>
+    ensures { IfOk result (λ text. text.items ≡ lines_text model.now.facts.sets (findings model.now)) }
+{
+    let found = findings(alloc, model)?;
+    lines_text(alloc, model.sets(), found.as_slice())
+}
