@@ -152,7 +152,7 @@ def column(place, count):
 
 def classes(look):
     """The classes of the colour and of the pattern."""
-    kinds = {"others": ("co", ""), "imports": ("cn", "p1"), "exports": ("cn", "p2"), "first": ("k1", ""), "second": ("k2", ""), "third": ("k3", ""), "back": ("k1", "p1")}
+    kinds = {"others": ("co", ""), "imports": ("cn", "p1"), "exports": ("cn", "p2"), "first": ("k1", ""), "second": ("k2", ""), "third": ("k3", ""), "back": ("k1", "p1"), "single": ("cb", "")}
     return kinds[look] if look in kinds else ("c%d" % (look % 9), ("", "p1", "p2")[look // 9 % 3])
 
 
@@ -219,6 +219,21 @@ def dots(title, headings, rows):
                 shapes.append(("circle", middle, frame.y(value)))
             last = frame.y(value)
     return title, headings, rows, shapes
+
+
+def shares(title, named):
+    """The table and the bars of technologies with the parts of what they cost and the sum of these, the greatest first."""
+    named = sorted(named, key=lambda row: -abs(row[1][-1]))
+    values = [values for _, values in named]
+    bars = [sums[-1] for sums in values[:12]] + ([sum(sums[-1] for sums in values[12:])] if len(values) > 12 else [])
+    above, below = max(0, *bars), -min(0, *bars)
+    size = max(above + below, 1)
+    shapes = []
+    for v in bars:
+        length, zero = abs(v) * 1000 // size, below * 1000 // size
+        shapes.append(("bar", zero - length if v < 0 else zero, max(length, 1), "cn" if v < 0 else "cb"))
+    headings = ["Investment less salvage", "Running", "Emission penalties", "Sum"]
+    return title, headings, named + [("Sum", [sum(column) for column in zip(*values)])], shapes
 
 
 # ---------------------------------------------------------------- the page
@@ -341,23 +356,13 @@ class Model:
         series = [(name, look, [sum(spent[name, t][at] for t in self.technologies) for at in range(len(self.years))]) for name, look, _, _ in kinds]
         self.put(stack("Cost by year and kind", self.years, series, [("Net", self.yearly("TotalDiscountedCost", region=r))], False))
         rows = []
-        for place, t in enumerate(self.technologies):
+        for t in self.technologies:
             investment, running, penalty, back = (sum(spent[name, t]) for name, _, _, _ in kinds)
             parts = [investment + back, running, penalty]
             if any(parts):
-                rows.append((-abs(sum(parts)), place, t, parts + [sum(parts)]))
+                rows.append((t, parts + [sum(parts)]))
         if rows:
-            named = [(t, values) for _, _, t, values in sorted(rows)]
-            values = [values for _, values in named]
-            bars = [sums[3] for sums in values[:12]] + ([sum(sums[3] for sums in values[12:])] if len(values) > 12 else [])
-            above, below = max(0, *bars), -min(0, *bars)
-            size = max(above + below, 1)
-            shapes = []
-            for v in bars:
-                length, zero = abs(v) * 1000 // size, below * 1000 // size
-                shapes.append(("bar", zero - length if v < 0 else zero, max(length, 1), "cn" if v < 0 else "cb"))
-            headings = ["Investment less salvage", "Running", "Emission penalties", "Sum"]
-            self.put(("What the cost is made of", headings, named + [("Sum", [sum(column) for column in zip(*values)])], shapes))
+            self.put(shares("What the cost is made of", rows))
 
     def given_off(self, r):
         for e in self.emissions:
@@ -467,12 +472,10 @@ class Shown(HTMLParser):
                 self.at += 1
 
 
-def main():
-    data, proof, page, *places = sys.argv[1:]
-    expected = Model(Data(data), Plan(proof), int(places[0]) if places else 6).page()
+def differing(expected, page):
+    """What is wrong with the figures of the text of a page."""
     shown = Shown()
-    with open(page) as text:
-        shown.feed(text.read())
+    shown.feed(page)
     assert not shown.open and set(shown.cited) <= shown.ids, "a tag is open, or a link leads nowhere"
     wrong = []
     for figure, found in zip(expected, shown.figures):
@@ -484,6 +487,10 @@ def main():
             wrong.append("picture of %s: %s" % (title, sorted(set(shapes) ^ set(found["shapes"]), key=str)))
     if len(expected) != len(shown.figures):
         wrong.append("%d figures, found %d" % (len(expected), len(shown.figures)))
+    return wrong
+
+
+def tell(expected, wrong):
     for line in wrong:
         print(line)
     cells = sum(len(values) for _, _, rows, _ in expected for _, values in rows)
@@ -491,4 +498,12 @@ def main():
     sys.exit(1 if wrong else 0)
 
 
-main()
+def main():
+    data, proof, page, *places = sys.argv[1:]
+    expected = Model(Data(data), Plan(proof), int(places[0]) if places else 6).page()
+    with open(page) as text:
+        tell(expected, differing(expected, text.read()))
+
+
+if __name__ == "__main__":
+    main()

@@ -7,6 +7,7 @@ ghost use Rattle.mathprog_data.specs.WellFormed.{AreWellFormed};
 ghost use Rattle.model_sets.specs.Data.{AreSameData, Data};
 ghost use Rattle.model_sets.specs.Names.{IsSet};
 ghost use Rattle.param_tables.specs.BlockData.{data_told, set_lists};
+ghost use Rattle.param_tables.specs.Built.{AreGivenAlike};
 ghost use Rattle.param_tables.specs.Refusals.{first_refusal};
 ghost use Rattle.param_tables.specs.SetRefusals.{first_set_refusal};
 ghost use Rattle.param_tables.specs.Told.{NamesCell, refusal_told};
@@ -29,7 +30,8 @@ use std::alloc::{AllocError, Global};
 pub fn accept(alloc: Global, text: Vec<u8>) -> Result<Result<ModelData, Answer>, AllocError>
     requires { length text.items ≤ most_bytes }
     ensures { IfOk result (λ verdict. MatchResult verdict
-        (λ model. (d : Data) × (accepted : Accepted text.items d) × AreSameData model.facts d × (model.rounded ≡ accepted.blocks.rounded))
+        (λ model. (d : Data) × (accepted : Accepted text.items d) × AreSameData model.facts d × (model.rounded ≡ accepted.blocks.rounded)
+        × AreGivenAlike model.facts d)
         (λ answer. DueWhereNotAccepted text.items answer.status answer.text.items)) }
 {
     let reader = read_text(alloc, text)?;
@@ -45,7 +47,8 @@ pub fn accept_read(
 ) -> Result<Result<ModelData, Answer>, AllocError>
     requires { (text : List ℕ) × StandsFor reader text }
     ensures { (text : List ℕ) → StandsFor reader text → length text ≤ most_bytes → IfOk result (λ verdict. MatchResult verdict
-        (λ model. (d : Data) × (accepted : Accepted text d) × AreSameData model.facts d × (model.rounded ≡ accepted.blocks.rounded))
+        (λ model. (d : Data) × (accepted : Accepted text d) × AreSameData model.facts d × (model.rounded ≡ accepted.blocks.rounded)
+        × AreGivenAlike model.facts d)
         (λ answer. DueWhereNotAccepted text answer.status answer.text.items)) }
 {
     match end_reading(alloc, reader)? {
@@ -83,7 +86,8 @@ fn accept_blocks(alloc: Global, blocks: &Blocks) -> Result<Result<ModelData, Ans
     requires { AreWellFormed (blocks_told blocks.now) }
     ensures { IfOk result (λ verdict. MatchResult verdict
         (λ model. (first_set_refusal (blocks_told blocks.now) ≡ None) × (first_refusal (blocks_told blocks.now) ≡ None)
-        × AreSameData model.facts (data_told (blocks_told blocks.now)) × (model.rounded ≡ blocks.now.rounded))
+        × AreSameData model.facts (data_told (blocks_told blocks.now)) × (model.rounded ≡ blocks.now.rounded)
+        × AreGivenAlike model.facts (data_told (blocks_told blocks.now)))
         (λ answer. RefusesBlocks (blocks_told blocks.now) answer.status answer.text.items)) }
 {
     match sets_of(alloc, blocks) {
@@ -103,7 +107,8 @@ fn accept_data(
     requires sets { sets ≡ set_lists (blocks_told blocks.now) }
     requires accepted { first_set_refusal (blocks_told blocks.now) ≡ None }
     ensures { IfOk result (λ verdict. MatchResult verdict
-        (λ model. (first_refusal (blocks_told blocks.now) ≡ None) × AreSameData model.facts (data_told (blocks_told blocks.now)) × (model.rounded ≡ blocks.now.rounded))
+        (λ model. (first_refusal (blocks_told blocks.now) ≡ None) × AreSameData model.facts (data_told (blocks_told blocks.now)) × (model.rounded ≡ blocks.now.rounded)
+        × AreGivenAlike model.facts (data_told (blocks_told blocks.now)))
         (λ answer. RefusesData (blocks_told blocks.now) answer.status answer.text.items)) }
 {
     match build(alloc, blocks, sets) {

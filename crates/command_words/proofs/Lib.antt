@@ -5,6 +5,7 @@ mod ClapRows
 mod ClapStates
 mod ClapTurns
 mod ClapWalk
+mod CompareWords
 mod FurtherExamples
 mod GivenParts
 pub mod LimitLaws

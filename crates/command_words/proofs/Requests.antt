@@ -9,14 +9,15 @@ use Rattle.std.proofs.lemmas.Bool.{leb-true}
 use Rattle.discount_factors.specs.Factors.{IsPlaces}
 use Rattle.command_words.specs.declared.fault.WordFault.{WordFault}
 use Rattle.command_words.specs.declared.fault.WordFault.TheVariants.{BadNumber, BadForm, BadShow, GapAlone}
+use Rattle.command_words.specs.declared.command.CompareShow.{CompareShow}
 use Rattle.command_words.specs.declared.command.MakeShow.{MakeShow}
 use Rattle.command_words.specs.declared.command.SolveShow.{SolveShow}
 use Rattle.command_words.specs.declared.command.SolveMethod.{SolveMethod}
 use Rattle.command_words.specs.LimitLists.{AreLimits, limits_of}
 use Rattle.command_words.proofs.LimitLaws.{AreLimitsIfRead, are_limits}
-use Rattle.command_words.specs.Words.{Request, Check, CheckProof, Mps, Solve, Explain, Curve, Span, Make, Table, Page, Warn, CommandName, MpsName, CheckName, SolveName, ExplainName, CurveName, SpanName, MakeName, TableName, PageName, WarnName, allows_all, check_of, check_proof_of, command_after, command_named, command_of, command_with, asked, curve_of, explain_of, files_in, has_exact, make_of, mps_of, or_fault, page_of, solve_of, span_of, table_of, value_in}
+use Rattle.command_words.specs.Words.{Request, Check, CheckProof, Mps, Solve, Explain, Curve, Span, Make, Table, Page, Warn, Compare, CommandName, MpsName, CheckName, SolveName, ExplainName, CurveName, SpanName, MakeName, TableName, PageName, WarnName, CompareName, allows_all, check_of, check_proof_of, compare_of, command_after, command_named, command_of, command_with, asked, curve_of, explain_of, files_in, has_exact, make_of, mps_of, or_fault, page_of, solve_of, span_of, table_of, value_in}
 use Rattle.command_words.specs.WordParts.{Gap, Pivots, Places, Show, Method, Slack, Proof, Part, parts_of}
-use Rattle.command_words.specs.WordValues.{gap_for, gap_of, make_show_of, method_of, pivots_of, places_of, size_of, solve_show_of}
+use Rattle.command_words.specs.WordValues.{compare_show_of, gap_for, gap_of, make_show_of, method_of, pivots_of, places_of, size_of, solve_show_of}
 
 -- the size of a made file
 abbrev IsSize : ℕ → Type 0
@@ -35,6 +36,7 @@ IsInRange (Ok (Make size show)) = IsSize size
 IsInRange (Ok (Table file proof name exact gap places)) = IsPlaces places
 IsInRange (Ok (Page file proof gap places)) = IsPlaces places
 IsInRange (Ok (Warn file)) = ⊤
+IsInRange (Ok (Compare first first_proof second second_proof gap places show)) = IsPlaces places
 IsInRange (Err fault) = ⊤
 
 -- what a value of `--places` is
@@ -166,6 +168,16 @@ of_page file proof gap value = go (gap_of gap) (places_of value) (places-one val
     go (Some n) None one = tt
     go (Some n) (Some places) one = one
 
+of_compare : (first first_proof second second_proof : List ℕ) (gap value show : Option (List ℕ)) → IsInRange (compare_of first first_proof second second_proof gap value show)
+of_compare first first_proof second second_proof gap value show = go (gap_of gap) (places_of value) (compare_show_of show) (places-one value)
+  where
+    go : (ppm found : Option ℕ) (shown : Option CompareShow) → IsOne found
+        → IsInRange (or_fault BadNumber ppm (λ n. or_fault BadNumber found (λ decimals. or_fault BadShow shown (λ s. Ok (Compare first first_proof second second_proof n decimals s)))))
+    go None found shown one = tt
+    go (Some n) None shown one = tt
+    go (Some n) (Some places) None one = tt
+    go (Some n) (Some places) (Some s) one = one
+
 of_mps_files : (files : List (List ℕ)) (gap pivots value show method slack proof : Option (List ℕ)) (exact : Bool) → IsInRange (command_of MpsName files gap pivots value show method slack proof exact)
 of_mps_files [] gap pivots value show method slack proof exact = tt
 of_mps_files (file ∷ []) gap pivots value show method slack proof exact = of_mps file value
@@ -232,6 +244,14 @@ of_warn_files [] gap pivots value show method slack proof exact = tt
 of_warn_files (file ∷ []) gap pivots value show method slack proof exact = tt
 of_warn_files (file ∷ other ∷ files) gap pivots value show method slack proof exact = tt
 
+of_compare_files : (files : List (List ℕ)) (gap pivots value show method slack proof : Option (List ℕ)) (exact : Bool) → IsInRange (command_of CompareName files gap pivots value show method slack proof exact)
+of_compare_files [] gap pivots value show method slack proof exact = tt
+of_compare_files (first ∷ []) gap pivots value show method slack proof exact = tt
+of_compare_files (first ∷ first_proof ∷ []) gap pivots value show method slack proof exact = tt
+of_compare_files (first ∷ first_proof ∷ second ∷ []) gap pivots value show method slack proof exact = tt
+of_compare_files (first ∷ first_proof ∷ second ∷ second_proof ∷ []) gap pivots value show method slack proof exact = of_compare first first_proof second second_proof gap value show
+of_compare_files (first ∷ first_proof ∷ second ∷ second_proof ∷ other ∷ files) gap pivots value show method slack proof exact = tt
+
 of_parts : (name : CommandName) → ((files : List (List ℕ)) (gap pivots value show method slack proof : Option (List ℕ)) (exact : Bool) → IsInRange (command_of name files gap pivots value show method slack proof exact))
     → (parts : Option (List Part)) → IsInRange (command_with name parts)
 of_parts name of_files None = tt
@@ -253,6 +273,7 @@ of_command (Some MakeName) words = of_parts MakeName of_make_files (parts_of wor
 of_command (Some TableName) words = of_parts TableName of_table_files (parts_of words)
 of_command (Some PageName) words = of_parts PageName of_page_files (parts_of words)
 of_command (Some WarnName) words = of_parts WarnName of_warn_files (parts_of words)
+of_command (Some CompareName) words = of_parts CompareName of_compare_files (parts_of words)
 
 in_range : (words : List (List ℕ)) → IsInRange (asked words)
 in_range [] = tt
@@ -286,6 +307,10 @@ table_places words file proof name exact gap places e = subst IsInRange e (in_ra
 
 pub page_places : (words : List (List ℕ)) (file proof : List ℕ) (gap places : ℕ) → asked words ≡ Ok (Page file proof gap places) → IsPlaces places
 page_places words file proof gap places e = subst IsInRange e (in_range words)
+
+pub compare_places : (words : List (List ℕ)) (first first_proof second second_proof : List ℕ) (gap places : ℕ) (show : CompareShow)
+    → asked words ≡ Ok (Compare first first_proof second second_proof gap places show) → IsPlaces places
+compare_places words first first_proof second second_proof gap places show e = subst IsInRange e (in_range words)
 
 pub make_size : (words : List (List ℕ)) (size : ℕ) (show : MakeShow) → asked words ≡ Ok (Make size show) → (3 ≤ size) × (size ≤ 122)
 make_size words size show e = subst IsInRange e (in_range words)

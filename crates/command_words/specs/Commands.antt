@@ -5,7 +5,7 @@ use Rattle.command_words.specs.declared.command.Command.TheVariants as code
 use Rattle.command_words.specs.declared.command.CommandName.{CommandName as CodeName}
 use Rattle.command_words.specs.declared.command.CommandName.TheVariants as names
 use Rattle.command_words.specs.declared.fault.WordFault.{WordFault}
-use Rattle.command_words.specs.Words.{Request, Mps, Check, CheckProof, Solve, Explain, Curve, Span, Make, Table, Page, Warn, CommandName, MpsName, CheckName, SolveName, ExplainName, CurveName, SpanName, MakeName, TableName, PageName, WarnName}
+use Rattle.command_words.specs.Words.{Request, Mps, Check, CheckProof, Solve, Explain, Curve, Span, Make, Table, Page, Warn, Compare, CommandName, MpsName, CheckName, SolveName, ExplainName, CurveName, SpanName, MakeName, TableName, PageName, WarnName, CompareName}
 
 -- the request of a command, without where the names of its files lie in memory
 abbrev pub request_of : Command → Request
@@ -20,6 +20,7 @@ request_of (code.Make size show) = Make size show
 request_of (code.Table file proof name exact gap places) = Table file.now proof.now name.now exact gap places
 request_of (code.Page file proof gap places) = Page file.now proof.now gap places
 request_of (code.Warn file) = Warn file.now
+request_of (code.Compare first first_proof second second_proof gap places show) = Compare first.now first_proof.now second.now second_proof.now gap places show
 
 -- the same where the words may be at fault
 abbrev pub request_of_result : Result Command WordFault → Result Request WordFault
@@ -38,3 +39,4 @@ name_of names.Make = MakeName
 name_of names.Table = TableName
 name_of names.Page = PageName
 name_of names.Warn = WarnName
+name_of names.Compare = CompareName

@@ -6,6 +6,8 @@ use Rattle.std.specs.Str.{bytes_eq}
 use Rattle.std.specs.Str.Parse.{digits_value}
 use Rattle.command_words.specs.declared.command.SolveShow.{SolveShow}
 use Rattle.command_words.specs.declared.command.SolveShow.TheVariants.{Report, Plan, Multipliers, Proof, Line}
+use Rattle.command_words.specs.declared.command.CompareShow.{CompareShow}
+use Rattle.command_words.specs.declared.command.CompareShow.TheVariants.{Text, Page}
 use Rattle.command_words.specs.declared.command.MakeShow.{MakeShow}
 use Rattle.command_words.specs.declared.command.MakeShow.TheVariants.{File, Summary}
 use Rattle.command_words.specs.declared.command.SolveMethod.{SolveMethod}
@@ -71,6 +73,17 @@ make_show_named text =
 -- the file where it is left out
 abbrev pub make_show_of : Option (List ℕ) → Option MakeShow
 make_show_of = with_default File make_show_named
+
+-- what `compare` is to write, by its word
+abbrev pub compare_show_named : List ℕ → Option CompareShow
+compare_show_named text =
+    if bytes_eq text (codes "text") then Some Text
+    else if bytes_eq text (codes "page") then Some Page
+    else None
+
+-- the text where it is left out
+abbrev pub compare_show_of : Option (List ℕ) → Option CompareShow
+compare_show_of = with_default Text compare_show_named
 
 -- the method that a command begins with, by its word
 abbrev pub method_named : List ℕ → Option SolveMethod

@@ -4,11 +4,12 @@ use Rattle.std.specs.Str.{bytes_eq}
 use Rattle.command_words.specs.declared.fault.WordFault.{WordFault}
 use Rattle.command_words.specs.declared.fault.WordFault.TheVariants.{NoCommand, BadCommand, BadForm, BadNumber, BadShow, GapAlone}
 use Rattle.command_words.specs.declared.command.SolveShow.{SolveShow}
+use Rattle.command_words.specs.declared.command.CompareShow.{CompareShow}
 use Rattle.command_words.specs.declared.command.MakeShow.{MakeShow}
 use Rattle.command_words.specs.declared.command.SolveMethod.{SolveMethod}
 use Rattle.command_words.specs.WordParts.{OptionName, Gap, Pivots, Places, Show, Method, Slack, Proof, Part, File, Chosen, Exact, parts_of}
 use Rattle.command_words.specs.LimitLists.{limits_of}
-use Rattle.command_words.specs.WordValues.{gap_for, gap_of, pivots_of, places_of, size_of, solve_show_of, make_show_of, method_of}
+use Rattle.command_words.specs.WordValues.{gap_for, gap_of, pivots_of, places_of, size_of, solve_show_of, make_show_of, compare_show_of, method_of}
 
 -- a command with its files, the names of members, the name of a table, and the values of its options: limits in billionths, gaps and slacks in millionths, the most pivots, and the decimal places of written factors; and for a table, whether its numbers are fractions
 pub data Request : Type 0 where
@@ -23,6 +24,7 @@ pub data Request : Type 0 where
   Table : (file proof name : List ℕ) (exact : Bool) (gap places : ℕ) → Request
   Page : (file proof : List ℕ) (gap places : ℕ) → Request
   Warn : (file : List ℕ) → Request
+  Compare : (first first_proof second second_proof : List ℕ) (gap places : ℕ) (show : CompareShow) → Request
 
 -- ---- commands and their options
 
@@ -38,6 +40,7 @@ pub data CommandName : Type 0 where
   TableName : CommandName
   PageName : CommandName
   WarnName : CommandName
+  CompareName : CommandName
 
 -- the command of this word, if it is one's
 abbrev pub command_named : List ℕ → Option CommandName
@@ -52,6 +55,7 @@ command_named word =
     else if bytes_eq word (codes "table") then Some TableName
     else if bytes_eq word (codes "page") then Some PageName
     else if bytes_eq word (codes "warn") then Some WarnName
+    else if bytes_eq word (codes "compare") then Some CompareName
     else None
 
 -- the options that a command has, whatever the value of `--method`
@@ -80,6 +84,9 @@ has_option TableName Gap = true
 has_option TableName Places = true
 has_option PageName Gap = true
 has_option PageName Places = true
+has_option CompareName Gap = true
+has_option CompareName Places = true
+has_option CompareName Show = true
 has_option command o = false
 
 -- the value of `--method` is `rounded`
@@ -224,6 +231,13 @@ page_of file proof gap places =
     or_fault BadNumber (gap_of gap) (λ ppm.
     or_fault BadNumber (places_of places) (λ decimals. Ok (Page file proof ppm decimals)))
 
+-- and so are the proofs of two scenarios, each with its data file before it
+abbrev pub compare_of : (first first_proof second second_proof : List ℕ) (gap places show : Option (List ℕ)) → Result Request WordFault
+compare_of first first_proof second second_proof gap places show =
+    or_fault BadNumber (gap_of gap) (λ ppm.
+    or_fault BadNumber (places_of places) (λ decimals.
+    or_fault BadShow (compare_show_of show) (λ shown. Ok (Compare first first_proof second second_proof ppm decimals shown))))
+
 -- the command with these files and these values of `--gap`, `--pivots`, `--places`, `--show`, `--method`, `--slack` and `--proof`, with or without `--exact`: a file that
 -- is missing or too many is a fault of form, and so is a plan beside a proof
 abbrev pub command_of : CommandName → List (List ℕ) → (gap pivots places show method slack proof : Option (List ℕ)) (exact : Bool) → Result Request WordFault
@@ -239,6 +253,7 @@ command_of MakeName (size ∷ []) gap pivots places show method slack proof exac
 command_of TableName (file ∷ proved ∷ name ∷ []) gap pivots places show method slack proof exact = table_of file proved name gap places exact
 command_of PageName (file ∷ proved ∷ []) gap pivots places show method slack proof exact = page_of file proved gap places
 command_of WarnName (file ∷ []) gap pivots places show method slack proof exact = Ok (Warn file)
+command_of CompareName (first ∷ first_proof ∷ second ∷ second_proof ∷ []) gap pivots places show method slack proof exact = compare_of first first_proof second second_proof gap places show
 command_of command files gap pivots places show method slack proof exact = Err BadForm
 
 -- the command with the parts of the words after it
@@ -273,3 +288,4 @@ names_of (Make size show) = []
 names_of (Table file proof name exact gap places) = file ∷ proof ∷ []
 names_of (Page file proof gap places) = file ∷ proof ∷ []
 names_of (Warn file) = file ∷ []
+names_of (Compare first first_proof second second_proof gap places show) = first ∷ first_proof ∷ second ∷ second_proof ∷ []

@@ -1,8 +1,8 @@
 // The commands with their files and options.
-ghost use Rattle.std.specs.Prelude.{◌≡◌, ◌||◌, IfOk, is_some, map, not, option_map};
+ghost use Rattle.std.specs.Prelude.{◌≡◌, ◌||◌, ◌&&◌, IfOk, is_some, map, not, option_map};
 ghost use Rattle.std.specs.String.{string_bytes};
 ghost use Rattle.command_words.specs.Words.{command_named, asked};
-ghost use Rattle.command_words.specs.Words.{MpsName, CheckName, SolveName, ExplainName, CurveName, SpanName, MakeName, TableName, PageName, WarnName, asks_for_rounded, check_of, check_proof_of, curve_of, mps_of, page_of, span_of, table_of};
+ghost use Rattle.command_words.specs.Words.{MpsName, CheckName, SolveName, ExplainName, CurveName, SpanName, MakeName, TableName, PageName, WarnName, CompareName, asks_for_rounded, check_of, check_proof_of, compare_of, curve_of, mps_of, page_of, span_of, table_of};
 ghost use Rattle.command_words.specs.Commands.{request_of_result, name_of};
 ghost use Rattle.command_words.specs.WordReading.{given_of, command_by, command_given, has_own_options, is_allowed};
 
@@ -10,8 +10,8 @@ use crate::fault::WordFault;
 use crate::limits::limits_of;
 use crate::parsing::{Given, read_given};
 use crate::values::{
-    asks_for_rounded, gap_for, gap_of, make_show_of, method_of, pivots_of, places_of, size_of,
-    solve_show_of,
+    asks_for_rounded, compare_show_of, gap_for, gap_of, make_show_of, method_of, pivots_of,
+    places_of, size_of, solve_show_of,
 };
 use std::alloc::{AllocError, Global};
 
@@ -111,6 +111,17 @@ pub enum Command<'a> {
     Warn {
         file: &'a str,
     },
+    /// `compare FILE PROOF FILE2 PROOF2 [--gap PPM] [--places P] [--show text|page]`: writes how the plans of two proofs that `check` accepts
+    /// differ, each over its own data file.
+    Compare {
+        first: &'a str,
+        first_proof: &'a str,
+        second: &'a str,
+        second_proof: &'a str,
+        gap: u32,
+        places: u8,
+        show: CompareShow,
+    },
 }
 
 /// What `solve` writes.
@@ -128,6 +139,13 @@ pub enum SolveShow {
 pub enum SolveMethod {
     Exact,
     Rounded,
+}
+
+/// What `compare` writes.
+#[derive(Clone, Copy, Debug, PartialEq, Eq)]
+pub enum CompareShow {
+    Text,
+    Page,
 }
 
 /// What `make` writes.
@@ -149,6 +167,7 @@ enum CommandName {
     Table,
     Page,
     Warn,
+    Compare,
 }
 
 /// Reads the words. The first fault is answered, in this order: `NoCommand` where there
@@ -200,6 +219,8 @@ fn command_named(word: &str) -> Option<CommandName>
         Some(CommandName::Page)
     } else if word == "warn" {
         Some(CommandName::Warn)
+    } else if word == "compare" {
+        Some(CommandName::Compare)
     } else {
         None
     }
@@ -242,6 +263,7 @@ fn command_given<'a>(
         CommandName::Table => Ok(table_given(given)),
         CommandName::Page => Ok(page_given(given)),
         CommandName::Warn => Ok(warn_given(given)),
+        CommandName::Compare => Ok(compare_given(given)),
     }
 }
 
@@ -296,12 +318,9 @@ fn has_own_options(name: CommandName, given: &Given<'_>) -> bool
                 && given.proof.is_none()
         }
         CommandName::Table | CommandName::Page => {
-            given.pivots.is_none()
-                && given.show.is_none()
-                && given.method.is_none()
-                && given.slack.is_none()
-                && given.proof.is_none()
+            given.show.is_none() && has_proof_options(given)
         }
+        CommandName::Compare => has_proof_options(given),
         CommandName::Warn => {
             given.gap.is_none()
                 && given.pivots.is_none()
@@ -312,6 +331,17 @@ fn has_own_options(name: CommandName, given: &Given<'_>) -> bool
                 && given.proof.is_none()
         }
     }
+}
+
+// None of the options is given that what reads proofs hasn't: it has a gap, the places, and what is shown.
+fn has_proof_options(given: &Given<'_>) -> bool
+    ensures { result ≡ (not (is_some (given_of given.now).pivots) && not (is_some (given_of given.now).method)
+        && not (is_some (given_of given.now).slack) && not (is_some (given_of given.now).proof)) }
+{
+    given.pivots.is_none()
+        && given.method.is_none()
+        && given.slack.is_none()
+        && given.proof.is_none()
 }
 
 // A gap is given at most where the method is the rounded one.
@@ -631,4 +661,44 @@ fn warn_given<'a>(given: &Given<'a>) -> Result<Command<'a>, WordFault>
         [file] => Ok(Command::Warn { file: *file }),
         _ => Err(WordFault::BadForm),
     }
+}
+
+fn compare_given<'a>(given: &Given<'a>) -> Result<Command<'a>, WordFault>
+    ensures { request_of_result result ≡ command_given CompareName (given_of given.now) }
+{
+    match given.files.as_slice() {
+        [first, first_proof, second, second_proof] => {
+            compare(*first, *first_proof, *second, *second_proof, given)
+        }
+        _ => Err(WordFault::BadForm),
+    }
+}
+
+// The files that are given are these four words.
+fn compare<'a>(
+    first: &'a str,
+    first_proof: &'a str,
+    second: &'a str,
+    second_proof: &'a str,
+    given: &Given<'a>,
+) -> Result<Command<'a>, WordFault>
+    ensures { request_of_result result
+        ≡ compare_of first.entry.now first_proof.entry.now second.entry.now second_proof.entry.now
+        (given_of given.now).gap (given_of given.now).places (given_of given.now).show }
+{
+    let (Some(gap), Some(places)) = (gap_of(given.gap), places_of(given.places)) else {
+        return Err(WordFault::BadNumber);
+    };
+    let Some(show) = compare_show_of(given.show) else {
+        return Err(WordFault::BadShow);
+    };
+    Ok(Command::Compare {
+        first,
+        first_proof,
+        second,
+        second_proof,
+        gap,
+        places,
+        show,
+    })
 }

@@ -10,7 +10,7 @@ mod limits;
 mod parsing;
 mod values;
 
-pub use command::{Command, MakeShow, SolveMethod, SolveShow, read_command};
+pub use command::{Command, CompareShow, MakeShow, SolveMethod, SolveShow, read_command};
 pub use fault::WordFault;
 pub use limits::limit_laws;
 pub use parsing::spelled_parts;

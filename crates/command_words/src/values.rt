@@ -2,10 +2,10 @@
 ghost use Rattle.std.specs.Prelude.{◌≡◌, ◌≤◌, option_map};
 ghost use Rattle.std.specs.Char.{is_ascii_digit};
 ghost use Rattle.std.specs.List.{list_all};
-ghost use Rattle.command_words.specs.WordValues.{number_within, gap_of, pivots_of, places_of, size_of, solve_show_of, make_show_of, gap_for, method_of, usual_gap};
+ghost use Rattle.command_words.specs.WordValues.{number_within, gap_of, pivots_of, places_of, size_of, solve_show_of, make_show_of, compare_show_of, gap_for, method_of, usual_gap};
 ghost use Rattle.command_words.specs.Words.{asks_for_rounded};
 
-use crate::command::{MakeShow, SolveMethod, SolveShow};
+use crate::command::{CompareShow, MakeShow, SolveMethod, SolveShow};
 
 /// A gap or a slack in millionths, 0 where it is left out.
 pub fn gap_of(text: Option<&str>) -> Option<u32>
@@ -83,6 +83,22 @@ pub fn make_show_of(text: Option<&str>) -> Option<MakeShow>
         Some(MakeShow::File)
     } else if text == "summary" {
         Some(MakeShow::Summary)
+    } else {
+        None
+    }
+}
+
+/// What `compare` is to write, the text where it is left out.
+pub fn compare_show_of(text: Option<&str>) -> Option<CompareShow>
+    ensures { result ≡ compare_show_of (option_map (λ text. text.now) text.entry) }
+{
+    let Some(text) = text else {
+        return Some(CompareShow::Text);
+    };
+    if text == "text" {
+        Some(CompareShow::Text)
+    } else if text == "page" {
+        Some(CompareShow::Page)
     } else {
         None
     }

@@ -10,8 +10,9 @@ use param_tables::ModelData;
 use std::alloc::{AllocError, Global};
 
 /// What is legal in the data and probably wrong: a line for each finding, by the rules in their order, of each rule the members in the
-/// order of their sets, and once for all years of the same members; then a line with the number of findings. Lines that
-/// end in `no plan` say that no plan exists. It may run out of memory.
+/// order of their sets, and once for all years of the same members, or of what is so by default once for all technologies or
+/// emissions of a region; then a line with the number of findings. Lines that end in `no plan` say that no plan exists. It may
+/// run out of memory.
 pub fn warnings_text(alloc: Global, model: &ModelData) -> Result<Vec<u8>, AllocError>
     ensures { IfOk result (λ text. text.items ≡ lines_text model.now.facts.sets (findings model.now)) }
 {

@@ -17,7 +17,7 @@ use Rattle.model_sets.specs.declared.fault.SetFault.{SetFault}
 use Rattle.command_answers.specs.Accepted.{Accepted, most_bytes}
 use Rattle.command_answers.proofs.Acceptance.{ReaderLaws, not_both}
 use Rattle.osemosys_run.specs.Causes.{Caused, StopsAtFile}
-use Rattle.osemosys_run.specs.Complete.{AskForMade, CanBeSummarized, CanBeAccepted, CanBeDrawn, CanBeSpanned, CanBeExplained, CanBeSolved, CanBePaged, CanBeTabled, CanBeWarned, CanBeWritten, Completes}
+use Rattle.osemosys_run.specs.Complete.{AskForMade, CanBeSummarized, CanBeAccepted, CanBeDrawn, CanBeSpanned, CanBeExplained, CanBeSolved, CanBeCompared, CanBePaged, CanBeTabled, CanBeWarned, CanBeWritten, Completes}
 use Rattle.osemosys_run.specs.Due.{AskForEquations, Due, DueForFile}
 use Rattle.command_answers.specs.DueForText.{DueForText}
 use Rattle.command_answers.specs.Lines.{too_long_line}
@@ -454,6 +454,9 @@ nothing_to_table files can = cc can.asks
 nothing_to_page : (files : List (List ℕ × List ℕ)) → CanBePaged [] files → ⊥
 nothing_to_page files can = cc can.asks
 
+nothing_to_compare : (files : List (List ℕ × List ℕ)) → CanBeCompared [] files → ⊥
+nothing_to_compare files can = cc can.asks
+
 nothing_to_warn : (files : List (List ℕ × List ℕ)) → CanBeWarned [] files → ⊥
 nothing_to_warn files can = cc can.asks
 
@@ -479,6 +482,7 @@ no_claim status = record {
   summarized = λ can. absurd (nothing_to_summarize can);
   tabled = λ can. absurd (nothing_to_table [] can);
   paged = λ can. absurd (nothing_to_page [] can);
+  compared = λ can. absurd (nothing_to_compare [] can);
   warned = λ can. absurd (nothing_to_warn [] can);
 }
 

@@ -13,7 +13,7 @@ use Rattle.command_answers.specs.Accepted.{most_bytes}
 use Rattle.command_answers.specs.DueForText.{DueForText}
 use Rattle.command_answers.specs.Lines.{stop_line, too_long_line}
 use Rattle.command_words.specs.declared.fault.WordFault.{WordFault}
-use Rattle.command_words.specs.Words.{Request, Check, CheckProof, Curve, Explain, Make, Mps, Page, Solve, Span, Table, Warn, asked}
+use Rattle.command_words.specs.Words.{Request, Check, CheckProof, Compare, Curve, Explain, Make, Mps, Page, Solve, Span, Table, Warn, asked}
 use Rattle.check_command.specs.Check.{DueForCheck}
 use Rattle.check_command.specs.CheckProof.{DueForProof, DueForProofFile}
 use Rattle.curve_command.specs.Curve.{DueForCurve}
@@ -25,8 +25,10 @@ use Rattle.span_command.specs.Span.{DueForSpan}
 use Rattle.table_command.specs.Tables.{DueForTable, form_of}
 use Rattle.osemosys_run.specs.Causes.{Caused, CausedByFiles, CausedByRequest, StopsAtFile, held_in}
 use Rattle.osemosys_run.specs.Due.{Due, DueForFile, DueForRequest, DueOver}
+use Rattle.osemosys_run.specs.Compared.{DueForCompared}
 use Rattle.osemosys_run.specs.Mps.{DueForEquations}
 use Rattle.osemosys_run.specs.Reading.{Sight}
+use Rattle.osemosys_run.specs.Scenarios.{DueForFourFiles}
 use Rattle.osemosys_run.specs.Warned.{IsWarned}
 use Rattle.osemosys_run.proofs.FilesRead.{rose-since}
 
@@ -88,6 +90,47 @@ one_file : (Over : List ℕ → Status → List ℕ → Type 0) (name : List ℕ
     → Stops (λ contents. DueForFile Over 1 (held_in contents 1 name) status text) 1 (name ∷ []) status text
 one_file Over name status text = (λ rest s t. (s, t), λ bytes rest long s t. long_file Over 1 bytes status text long s t, λ bytes short. tt)
 
+-- a request of four files
+four_files : (Over : (bytes proof_bytes bytes2 proof_bytes2 : List ℕ) → Status → List ℕ → Type 0) (name proof name2 proof2 : List ℕ) (status : Status) (text : List ℕ)
+    → Stops (λ contents. DueForFourFiles Over name proof name2 proof2 (held_in contents) status text) 1 (name ∷ proof ∷ name2 ∷ proof2 ∷ []) status text
+four_files Over name proof name2 proof2 status text = (
+  λ rest s t. (s, t),
+  λ a rest long s t. long_file (first (held_in (Some a ∷ rest) 2 proof) (held_in (Some a ∷ rest) 3 name2) (held_in (Some a ∷ rest) 4 proof2)) 1 a status text long s t,
+  λ a short_a. (
+    λ rest s t. short_file (first None (held_in (Some a ∷ None ∷ rest) 3 name2) (held_in (Some a ∷ None ∷ rest) 4 proof2)) 1 a status text short_a (s, t),
+    λ b rest long s t.
+        let file3 : Option (List ℕ) = held_in (Some a ∷ Some b ∷ rest) 3 name2 in
+        let file4 : Option (List ℕ) = held_in (Some a ∷ Some b ∷ rest) 4 proof2 in
+        short_file (first (Some b) file3 file4) 1 a status text short_a (long_file (second file3 file4 a) 2 b status text long s t),
+    λ b short_b. (
+      λ rest s t.
+          let file4 : Option (List ℕ) = held_in (Some a ∷ Some b ∷ None ∷ rest) 4 proof2 in
+          short_file (first (Some b) None file4) 1 a status text short_a (short_file (second None file4 a) 2 b status text short_b (s, t)),
+      λ e rest long s t.
+          let file4 : Option (List ℕ) = held_in (Some a ∷ Some b ∷ Some e ∷ rest) 4 proof2 in
+          short_file (first (Some b) (Some e) file4) 1 a status text short_a
+          (short_file (second (Some e) file4 a) 2 b status text short_b (long_file (third file4 a b) 3 e status text long s t)),
+      λ e short_e. (
+        λ rest s t. short_file (first (Some b) (Some e) None) 1 a status text short_a
+            (short_file (second (Some e) None a) 2 b status text short_b (short_file (third None a b) 3 e status text short_e (s, t))),
+        λ f rest long s t. short_file (first (Some b) (Some e) (Some f)) 1 a status text short_a
+            (short_file (second (Some e) (Some f) a) 2 b status text short_b
+            (short_file (third (Some f) a b) 3 e status text short_e (long_file (Over a b e) 4 f status text long s t))),
+        λ f short_f. tt,
+      ),
+    ),
+  ),
+)
+  where
+    third : Option (List ℕ) → List ℕ → List ℕ → List ℕ → Status → List ℕ → Type 0
+    third file4 a b e = DueForFile (Over a b e) 4 file4
+
+    second : Option (List ℕ) → Option (List ℕ) → List ℕ → List ℕ → Status → List ℕ → Type 0
+    second file3 file4 a b = DueForFile (third file4 a b) 3 file3
+
+    first : Option (List ℕ) → Option (List ℕ) → Option (List ℕ) → List ℕ → Status → List ℕ → Type 0
+    first file2 file3 file4 a = DueForFile (second file3 file4 a) 2 file2
+
 -- ---- requests
 
 pub due_from_cause : (words : List (List ℕ)) (before after : Sight) (files : List (List ℕ × List ℕ)) (status : Status) (text : List ℕ)
@@ -111,6 +154,9 @@ due_from_cause words before after files status text told calm caused = by_reques
     by_request (Ok (Span name region technology year slack gap pivots places method)) c =
         over_one (DueForSpan places (record { method = method; slack = slack; gap = gap; pivots = pivots }) (record { region = region; technology = technology; year = year })) name c
     by_request (Ok (Warn name)) c = over_one IsWarned name c
+    by_request (Ok (Compare first first_proof second second_proof gap places show)) c =
+        due_of_files (λ contents. DueForFourFiles (DueForCompared places gap show) first first_proof second second_proof (held_in contents) status text) 1 (first ∷ first_proof ∷ second ∷ second_proof ∷ []) before after files status text told calm
+        (four_files (DueForCompared places gap show) first first_proof second second_proof status text) c
     by_request (Ok (Check name plan None gap places)) c =
         let second : List ℕ → List ℕ → Status → List ℕ → Type 0 = λ bytes plan_bytes. DueForText (λ rounded. DueForCheck places plan_bytes None gap) bytes in
         due_of_files (λ contents. DueOver (Ok (Check name plan None gap places)) (held_in contents) status text) 1 (name ∷ plan ∷ []) before after files status text told calm (

@@ -1,6 +1,6 @@
 -- Which statuses an answer has.
 use Rattle.std.specs.Prelude.{⊤}
-use Rattle.std.proofs.Common.{◌≡◌, ◌≢◌, ◌≤◌, ℕ, ℤ, inl, inr, List, map, length, Option, Some, None, Result, Ok, Err, Bool, true, false, sym, ◌∙◌, MatchBool, nat_lt}
+use Rattle.std.proofs.Common.{◌≡◌, ◌≢◌, ◌≤◌, ◌⊎◌, ℕ, ℤ, inl, inr, List, map, length, Option, Some, None, Result, Ok, Err, Bool, true, false, sym, ◌∙◌, MatchBool, nat_lt}
 use Rattle.model_sets.specs.Data.{Data}
 use Rattle.model_sets.specs.Members.{SetLists}
 use Rattle.model_sets.specs.declared.set_numbers.TheConstants.{EMISSION, REGION, TECHNOLOGY, YEAR}
@@ -21,6 +21,7 @@ use Rattle.command_answers.specs.declared.status.Refusal.{Refusal}
 use Rattle.command_answers.specs.declared.status.Refusal.TheVariants as refusals
 use Rattle.simplex_core.specs.declared.stops.Stop.{Stop}
 use Rattle.command_answers.specs.declared.status.ReadStop.TheVariants as stops
+use Rattle.command_words.specs.declared.command.CompareShow.{CompareShow}
 use Rattle.command_words.specs.declared.command.MakeShow.{MakeShow}
 use Rattle.command_words.specs.declared.command.MakeShow.TheVariants as makes
 use Rattle.command_words.specs.declared.fault.WordFault.{WordFault}
@@ -41,8 +42,12 @@ use Rattle.curve_command.specs.Limited.{with_limit}
 use Rattle.curve_command.specs.declared.trials.Wanted as curves
 use Rattle.command_answers.specs.Limits.{PassesLimits}
 use Rattle.command_answers.specs.MadeBooks.{HasNoProgram, HasNoRows}
+use Rattle.command_answers.specs.MadeRows.{IsMadeFor}
 use Rattle.explain_command.specs.Explain.{DueForExplain}
 use Rattle.explain_command.specs.declared.explain.Wanted as explains
+use Rattle.compare_command.specs.Compare.{DueOfCheck}
+use Rattle.compare_command.specs.Compared.{ComparesProofs, Judged}
+use Rattle.osemosys_run.specs.Compared.{CheckedBy, DueForCompared}
 use Rattle.osemosys_run.specs.Mps.{DueForEquations}
 use Rattle.command_answers.specs.NotAccepted.{DueWhereNotAccepted}
 use Rattle.osemosys_run.specs.Reading.{Sight}
@@ -61,7 +66,7 @@ use Rattle.osemosys_run.specs.Warned.{IsWarned}
 use Rattle.table_command.specs.Tables.{DueForTable, ShowsProof, form_of}
 use Rattle.span_command.specs.declared.wanted.Wanted as wants
 use Rattle.solve_command.specs.Summary.{DueForSummary, default_places, default_wanted}
-use Rattle.command_words.specs.Words.{Request, Check, CheckProof, Curve, Explain, Make, Mps, Page, Solve, Span, Table, Warn, asked}
+use Rattle.command_words.specs.Words.{Request, Check, CheckProof, Compare, Curve, Explain, Make, Mps, Page, Solve, Span, Table, Warn, asked}
 use Rattle.solve_command.proofs.RowsDue.{rows-due}
 use Rattle.osemosys_run.proofs.FilesRead.{Reaches-itself, by_files, of_all, rose-since}
 
@@ -253,6 +258,29 @@ text_is : (Over : ℕ → Data → Status → List ℕ → Type 0) → ((rounded
 text_is Over over_is bytes status text (inl refused) = not_accepted_is bytes status text refused
 text_is Over over_is bytes status text (inr said) = over_is said.1.blocks.rounded said.0 status text said.2
 
+-- what `check` says of a scenario
+scenario_is : (places gap : ℕ) (bytes proof_bytes : List ℕ) (status : Status) (text : List ℕ) → DueOfCheck places (CheckedBy places gap proof_bytes) bytes status text → IsOwn status
+scenario_is places gap bytes proof_bytes status text due =
+    text_is (λ rounded d status text. IsMadeFor places d (λ rows. CheckedBy places gap proof_bytes d rows status text) ⊎ HasNoRows places d status text)
+    (λ rounded d status text due. elim due [ inl made ↦ proof_file_is places d made.rows proof_bytes gap status text made.due | inr none ↦ no_rows_is places d status text none ]) bytes status text due
+
+-- and what is answered of two
+compares_is : (show : CompareShow) (proof proof2 : Proof) (one two : Judged) (status : Status) (text : List ℕ) → ComparesProofs show proof proof2 one two status text → IsOwn status
+compares_is show (proofs.Optimum plan multipliers) (proofs.Optimum plan2 multipliers2) one two status text compares = is_other status Done (λ h. cc) (λ h. cc) (λ number h. cc) compares.status_is
+compares_is show (proofs.Optimum plan multipliers) (proofs.Refutation multipliers2) one two status text compares = is_other status Infeasible (λ h. cc) (λ h. cc) (λ number h. cc) compares.0
+compares_is show (proofs.Optimum plan multipliers) (proofs.Descent plan2 direction2) one two status text compares = is_other status Unbounded (λ h. cc) (λ h. cc) (λ number h. cc) compares.0
+compares_is show (proofs.Refutation multipliers) (proofs.Optimum plan2 multipliers2) one two status text compares = is_other status Infeasible (λ h. cc) (λ h. cc) (λ number h. cc) compares.0
+compares_is show (proofs.Refutation multipliers) (proofs.Refutation multipliers2) one two status text compares = is_other status Infeasible (λ h. cc) (λ h. cc) (λ number h. cc) compares.0
+compares_is show (proofs.Refutation multipliers) (proofs.Descent plan2 direction2) one two status text compares = is_other status Infeasible (λ h. cc) (λ h. cc) (λ number h. cc) compares.0
+compares_is show (proofs.Descent plan direction) (proofs.Optimum plan2 multipliers2) one two status text compares = is_other status Unbounded (λ h. cc) (λ h. cc) (λ number h. cc) compares.0
+compares_is show (proofs.Descent plan direction) (proofs.Refutation multipliers2) one two status text compares = is_other status Unbounded (λ h. cc) (λ h. cc) (λ number h. cc) compares.0
+compares_is show (proofs.Descent plan direction) (proofs.Descent plan2 direction2) one two status text compares = is_other status Unbounded (λ h. cc) (λ h. cc) (λ number h. cc) compares.0
+
+compared_is : (places gap : ℕ) (show : CompareShow) (bytes proof_bytes bytes2 proof_bytes2 : List ℕ) (status : Status) (text : List ℕ) → DueForCompared places gap show bytes proof_bytes bytes2 proof_bytes2 status text → IsOwn status
+compared_is places gap show bytes proof_bytes bytes2 proof_bytes2 status text (inl refused) = scenario_is places gap bytes proof_bytes status refused.said refused.due
+compared_is places gap show bytes proof_bytes bytes2 proof_bytes2 status text (inr (inl second)) = scenario_is places gap bytes2 proof_bytes2 status second.refused.said second.refused.due
+compared_is places gap show bytes proof_bytes bytes2 proof_bytes2 status text (inr (inr both)) = compares_is show both.one.proof both.two.proof both.one both.two status text both.compares
+
 make_is : (size : ℕ) (show : MakeShow) (status : Status) (text : List ℕ) → DueForMake size show status text → IsOwn status
 make_is size makes.File status text due = is_other status Done (λ h. cc) (λ h. cc) (λ number h. cc) due.0
 make_is size makes.Summary status text due = text_is (DueForSummary default_places) (summary_is default_places) (made_text size) status due.0 due.1
@@ -307,6 +335,16 @@ due_is_own (Ok (Span name region technology year slack gap pivots places method)
     (λ bytes. text_is Over (span_is places (record { method = method; slack = slack; gap = gap; pivots = pivots }) (record { region = region; technology = technology; year = year })) bytes status text) due
 due_is_own (Ok (Warn name)) held status text due =
     file_is (DueForText IsWarned) 1 (held 1 name) status text (λ bytes. text_is IsWarned warned_is bytes status text) due
+due_is_own (Ok (Compare first first_proof second second_proof gap places show)) held status text due =
+    let fourth : List ℕ → List ℕ → List ℕ → List ℕ → Status → List ℕ → Type 0 = DueForCompared places gap show in
+    let third : List ℕ → List ℕ → List ℕ → Status → List ℕ → Type 0 = λ bytes proof_bytes bytes2. DueForFile (fourth bytes proof_bytes bytes2) 4 (held 4 second_proof) in
+    let of_proof : List ℕ → List ℕ → Status → List ℕ → Type 0 = λ bytes proof_bytes. DueForFile (third bytes proof_bytes) 3 (held 3 second) in
+    let of_data : List ℕ → Status → List ℕ → Type 0 = λ bytes. DueForFile (of_proof bytes) 2 (held 2 first_proof) in
+    file_is of_data 1 (held 1 first) status text
+    (λ bytes. file_is (of_proof bytes) 2 (held 2 first_proof) status text
+    (λ proof_bytes. file_is (third bytes proof_bytes) 3 (held 3 second) status text
+    (λ bytes2. file_is (fourth bytes proof_bytes bytes2) 4 (held 4 second_proof) status text
+    (λ proof_bytes2. compared_is places gap show bytes proof_bytes bytes2 proof_bytes2 status text)))) due
 due_is_own (Ok (Check name plan multipliers gap places)) held status text due =
     let third : List ℕ → List ℕ → Option (List ℕ) → Status → List ℕ → Type 0 = λ bytes plan_bytes multiplier_bytes. DueForText (λ rounded. DueForCheck places plan_bytes multiplier_bytes gap) bytes in
     let second : List ℕ → List ℕ → Status → List ℕ → Type 0 = λ bytes plan_bytes. DueForOptionalFile (third bytes plan_bytes) 3 (held 3) multipliers in

@@ -33,11 +33,11 @@ module _ (laws : Laws) (files : List (List ℕ × List ℕ)) (name proof_name : 
   Told proof = IsProof can.d.sets (all_variables can.d) (instances can.d) (records_of can.proof_bytes) proof
 
   -- the file tells no other proof
-  same : (proof : Proof) → Told proof → proof ≡ Optimum can.plan can.multipliers
+  pub same : (proof : Proof) → Told proof → proof ≡ Optimum can.plan can.multipliers
   same proof told = laws.one_proof can.d.sets (all_variables can.d) (instances can.d) (records_of can.proof_bytes) proof (Optimum can.plan can.multipliers) told can.told
 
   -- `check` accepts it
-  file_accepted : (rows : List Row) → AreRowsOf places can.d (instances can.d) rows → DueForProofFile places can.d rows can.proof_bytes gap status text → status ≡ Done
+  pub file_accepted : (rows : List Row) → AreRowsOf places can.d (instances can.d) rows → DueForProofFile places can.d rows can.proof_bytes gap status text → status ≡ Done
   file_accepted rows are (inl refused) =
       absurd (laws.proof_or_fault can.d.sets (all_variables can.d) (instances can.d) (records_of can.proof_bytes) (Optimum can.plan can.multipliers) refused.fault can.told refused.first)
   file_accepted rows are (inr read) =

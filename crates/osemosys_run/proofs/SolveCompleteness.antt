@@ -28,6 +28,7 @@ use Rattle.solve_command.specs.Solve.{ComesToEnd, DueBy, DueForEnd, DueForSolve}
 use Rattle.command_answers.specs.Limits.{IsWithinLimits}
 use Rattle.solve_command.proofs.RowsDue.{rows-due}
 use Rattle.solve_command.proofs.SolvedEnds.{prices_come}
+use Rattle.osemosys_run.proofs.CompareCompleteness.{compared_from_due}
 use Rattle.osemosys_run.proofs.CurveCompleteness.{drawn_from_due}
 use Rattle.osemosys_run.proofs.SpanCompleteness.{spanned_from_due}
 use Rattle.osemosys_run.proofs.ShownCompleteness.{paged_from_due, tabled_from_due}
@@ -115,7 +116,8 @@ completes laws A words files status before after f f' d calm = elim (due_or_memo
     summarized = λ can. inl (summarized_from_due laws words files status due.0 due.1 can);
     tabled = λ can. inl (tabled_from_due laws words files status due.0 due.1 can);
     paged = λ can. inl (paged_from_due laws words files status due.0 due.1 can);
+    compared = λ can. inl (compared_from_due laws words files status due.0 due.1 can);
     warned = λ can. inl (warned_from_due laws words files status due.0 due.1 can);
   }
-  | inr memory ↦ record { done = λ can. inr memory; ended = λ can. inr memory; explained = λ can. inr memory; drawn = λ can. inr memory; spanned = λ can. inr memory; made = λ asks. inr memory; summarized = λ can. inr memory; tabled = λ can. inr memory; paged = λ can. inr memory; warned = λ can. inr memory }
+  | inr memory ↦ record { done = λ can. inr memory; ended = λ can. inr memory; explained = λ can. inr memory; drawn = λ can. inr memory; spanned = λ can. inr memory; made = λ asks. inr memory; summarized = λ can. inr memory; tabled = λ can. inr memory; paged = λ can. inr memory; compared = λ can. inr memory; warned = λ can. inr memory }
 ]

@@ -1,4 +1,4 @@
--- Which files `mps` must write out, which plans `check` must accept, which models `solve` and `make` must bring to an end, which `explain` must, which curves must be told whole, which spans must be found, which tables and pages must be written, and which data must be told what is probably wrong with them.
+-- Which files `mps` must write out, which plans `check` must accept, which models `solve` and `make` must bring to an end, which `explain` must, which curves must be told whole, which spans must be found, which tables, pages and comparisons must be written, and which data must be told what is probably wrong with them.
 use Rattle.std.specs.List.{AllByRecursion}
 use Rattle.std.specs.Prelude.{◌≡◌, ◌≢◌, ◌⊎◌, ℕ, ℤ, Bool, ◌≤◌, true, List, length, Option, Some, None, Ok, ⊤}
 use Rattle.exact_num.specs.Range.{all_fit}
@@ -30,6 +30,7 @@ use Rattle.exact_solver.specs.MethodEnds.{HasOptimum, IsPivotDue, IsWide}
 use Rattle.command_answers.specs.Definers.{definers}
 use Rattle.command_answers.specs.BookMethods.{method_end}
 use Rattle.certified_answers.specs.Worth.{multiplier_bound as bound_of}
+use Rattle.command_words.specs.declared.command.CompareShow.{CompareShow}
 use Rattle.command_words.specs.declared.command.MakeShow.TheVariants.{File}
 use Rattle.command_words.specs.declared.command.MakeShow.TheVariants as makes
 use Rattle.command_words.specs.declared.command.SolveMethod.{SolveMethod}
@@ -248,6 +249,19 @@ pub record CanBePaged (words : List (List ℕ)) (files : List (List ℕ × List 
   pub asks : asked words ≡ Ok (requests.Page name proof_name gap places)
   pub proves : ProvesOptimum files name proof_name gap places
 
+-- or for `compare` of two such data files, each with its proof
+pub record CanBeCompared (words : List (List ℕ)) (files : List (List ℕ × List ℕ)) : Type 0 where
+  pub name : List ℕ
+  pub proof_name : List ℕ
+  pub name2 : List ℕ
+  pub proof_name2 : List ℕ
+  pub gap : ℕ
+  pub places : ℕ
+  pub show : CompareShow
+  pub asks : asked words ≡ Ok (requests.Compare name proof_name name2 proof_name2 gap places show)
+  pub proves : ProvesOptimum files name proof_name gap places
+  pub proves2 : ProvesOptimum files name2 proof_name2 gap places
+
 -- the words ask for `warn` of a file that is there, whose text is accepted
 pub record CanBeWarned (words : List (List ℕ)) (files : List (List ℕ × List ℕ)) : Type 0 where
   pub name : List ℕ
@@ -281,7 +295,7 @@ abbrev pub IsExplained : Status → Type 0
 IsExplained status = (status ≡ Done) ⊎ (status ≡ Infeasible)
 
 -- then the equations or the made file are written, or the plan is accepted, or the model is brought to an end or explained, or its curve
--- or its span is told, or a table or a page of its plan, or what is probably wrong with its data, unless memory ran out
+-- or its span is told, or a table or a page of its plan, or how two plans differ, or what is probably wrong with its data, unless memory ran out
 pub record Completes (words : List (List ℕ)) (files : List (List ℕ × List ℕ)) (status : Status) : Type 0 where
   pub done : CanBeWritten words files ⊎ CanBeAccepted words files → (status ≡ Done) ⊎ (status ≡ Memory)
   pub ended : CanBeSolved words files → IsEnded status ⊎ (status ≡ Memory)
@@ -292,4 +306,5 @@ pub record Completes (words : List (List ℕ)) (files : List (List ℕ × List �
   pub summarized : CanBeSummarized words → IsEnded status ⊎ (status ≡ Memory)
   pub tabled : CanBeTabled words files → (status ≡ Done) ⊎ (status ≡ Memory)
   pub paged : CanBePaged words files → (status ≡ Done) ⊎ (status ≡ Memory)
+  pub compared : CanBeCompared words files → (status ≡ Done) ⊎ (status ≡ Memory)
   pub warned : CanBeWarned words files → (status ≡ Done) ⊎ (status ≡ Memory)

@@ -16,6 +16,7 @@ use Rattle.command_answers.specs.DueForText.{DueForText}
 use Rattle.command_answers.specs.Lines.{stop_line, too_long_line, words_line}
 use Rattle.curve_command.specs.Curve.{DueForCurve}
 use Rattle.explain_command.specs.Explain.{DueForExplain}
+use Rattle.osemosys_run.specs.Compared.{DueForCompared}
 use Rattle.osemosys_run.specs.Mps.{DueForEquations}
 use Rattle.osemosys_run.specs.Warned.{IsWarned}
 use Rattle.page_command.specs.Pages.{DueForPage}
@@ -24,7 +25,7 @@ use Rattle.solve_command.specs.Solve.{DueForSolve}
 use Rattle.span_command.specs.Span.{DueForSpan}
 use Rattle.table_command.specs.Tables.{DueForTable, form_of}
 use Rattle.solve_command.specs.Summary.{DueForSummary, default_places, made_line}
-use Rattle.command_words.specs.Words.{Request, Check, CheckProof, Curve, Explain, Make, Mps, Page, Solve, Span, Table, Warn, asked, names_of}
+use Rattle.command_words.specs.Words.{Request, Check, CheckProof, Compare, Curve, Explain, Make, Mps, Page, Solve, Span, Table, Warn, asked, names_of}
 
 -- over the file of this number, which may be missing or too long: that, or what `Due` has over its bytes
 abbrev pub DueForFile : (List ℕ → Status → List ℕ → Type 0) → ℕ → Option (List ℕ) → Status → List ℕ → Type 0
@@ -46,7 +47,7 @@ DueForMake size Summary status text = (rest : List ℕ) × DueForText (DueForSum
 
 -- For a request over its files, each of which is looked at before what any of them says, and for a fault of the words. `held` has what the file of a
 -- number and a name holds, if it is there: the data file has number 1, then come a plan's and that of multipliers,
--- or that of a proof.
+-- or that of a proof, and for `compare` the data file and the proof of the second scenario.
 abbrev pub DueOver : Result Request WordFault → (ℕ → List ℕ → Option (List ℕ)) → Status → List ℕ → Type 0
 DueOver (Err fault) held status text = (status ≡ Words fault) × (text ≡ words_line fault)
 DueOver (Ok (Mps name places)) held status text = DueForFile (DueForText (λ rounded. DueForEquations places)) 1 (held 1 name) status text
@@ -70,6 +71,10 @@ DueOver (Ok (Page name proof gap places)) held status text =
     DueForFile (λ bytes. DueForFile (λ proof_bytes.
     DueForText (λ rounded d. DueForPage places (λ rows. DueForProofFile places d rows proof_bytes gap) proof_bytes d) bytes) 2 (held 2 proof)) 1 (held 1 name) status text
 DueOver (Ok (Warn name)) held status text = DueForFile (DueForText IsWarned) 1 (held 1 name) status text
+DueOver (Ok (Compare first first_proof second second_proof gap places show)) held status text =
+    DueForFile (λ bytes. DueForFile (λ proof_bytes. DueForFile (λ bytes2. DueForFile (λ proof_bytes2.
+    DueForCompared places gap show bytes proof_bytes bytes2 proof_bytes2)
+    4 (held 4 second_proof)) 3 (held 3 second)) 2 (held 2 first_proof)) 1 (held 1 first) status text
 
 -- over a shelf with these files, of which the first of a name counts
 abbrev pub DueForRequest : Result Request WordFault → List (List ℕ × List ℕ) → Status → List ℕ → Type 0

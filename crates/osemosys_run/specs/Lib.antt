@@ -1,6 +1,7 @@
 pub mod Accepting
 pub mod Asked
 pub mod Causes
+pub mod Compared
 pub mod Complete
 pub mod Due
 pub mod FedFiles
@@ -10,6 +11,7 @@ pub mod ReadEnds
 pub mod ReadToEnd
 pub mod Reading
 pub mod Replies
+pub mod Scenarios
 pub mod Sending
 pub mod Tasks
 pub mod Warned

@@ -8,6 +8,9 @@
 
 mod accepting;
 mod check_files;
+mod compare_files;
+mod compare_laws;
+mod compared;
 mod equations;
 mod file_ends;
 mod making;

@@ -28,11 +28,13 @@ ghost use Rattle.command_answers.specs.declared.status.ReadStop.{ReadStop};
 ghost use Rattle.command_answers.specs.declared.status.Status.{Status};
 ghost use Rattle.command_answers.specs.Accepted.{Accepted};
 ghost use Rattle.check_command.specs.CheckProof.{DueForProof, DueForProofFile};
+ghost use Rattle.command_words.specs.declared.command.CompareShow.{CompareShow};
 ghost use Rattle.command_words.specs.declared.command.SolveMethod.{SolveMethod};
 ghost use Rattle.solve_command.specs.declared.solve.Shown.TheVariants.{Proof};
 ghost use Rattle.solve_command.specs.Solve.{DueForSolve};
 ghost use Rattle.osemosys_run.specs.Accepting.{AcceptsEnd};
 ghost use Rattle.osemosys_run.specs.Causes.{Caused};
+ghost use Rattle.osemosys_run.specs.Compared.{DueForCompared, IsPromisedDifference};
 ghost use Rattle.osemosys_run.specs.Complete.{Completes};
 ghost use Rattle.osemosys_run.specs.Due.{AskForEquations, Due};
 ghost use Rattle.osemosys_run.specs.Mps.{WritesEquations};
@@ -53,6 +55,8 @@ ghost use Rattle.command_words.specs.WordParts.{HasSpelledParts, Part};
 
 use crate::accepting::accepting_laws;
 use crate::check_files::{Asked, perform_check};
+use crate::compare_files::{CompareAsked, perform_compare};
+use crate::compare_laws::difference_laws;
 use crate::making::perform_make;
 use crate::mps::perform_mps;
 use crate::mps_program::mps_laws;
@@ -109,6 +113,11 @@ const UNUSED_PLACES: u8 = 6;
 /// `page FILE PROOF [--gap PPM] [--places P]` writes a page of HTML of what a proof shows that `check` accepts: of an optimum its plan, what it
 /// costs and which limits cost most; else that there is no plan, with status 1, or along what the cost falls without end, with status 2.
 ///
+/// `compare FILE PROOF FILE2 PROOF2 [--gap PPM] [--places P] [--show text|page]` writes how the plans of two optima differ whose proofs `check` accepts, each
+/// over its own data: what they cost, between which numbers the least costs differ, and which members and values of one the other doesn't have.
+/// Where `check` doesn't accept one of the proofs, it is written what `check` says of it; and of two that it accepts, of which one shows no
+/// optimum, what it says of both, with status 1 or 2.
+///
 /// `warn FILE` says what in the data is legal and probably wrong, a line for each finding, and how many there are. A line that ends in
 /// `no plan` says that no plan exists.
 ///
@@ -155,8 +164,8 @@ pub fn osemosys<S: Shelf, K: Sink>(
     // A data file that isn't refused, and whose rows can be made, is written out; and a feasible plan with multipliers that
     // prove their bound and keep the gap is accepted, where the files are in form and every number that is formed for the
     // conditions fits; a model that nothing stops is solved or explained, its curve is told whole, and its span is found; a
-    // made file is written, and so are a table and a page of a proof that can be accepted, and what is probably wrong with data that
-    // aren't refused; unless memory runs out, and over a shelf and a sink without a fault.
+    // made file is written, and so are a table and a page of a proof that can be accepted, how the plans of two such proofs differ,
+    // and what is probably wrong with data that aren't refused; unless memory runs out, and over a shelf and a sink without a fault.
     ensures complete { WhereTold (S.files shelf.old) (λ files.
         (Rose (S.faults shelf.old) (S.faults shelf.new) → ⊥) → (Rose (K.faults out.old) (K.faults out.new) → ⊥)
         → Completes (map string_bytes words.now) files result) }
@@ -208,6 +217,11 @@ pub fn osemosys<S: Shelf, K: Sink>(
         → DueForTable places (λ rows. DueForProofFile places d rows bytes gap) bytes name (form_of exact) d Status.Done text
         → IsPromisedTable places d bytes table (form_of exact) text }
 
+    // Where `compare` ends with status 0, its line `difference` keeps what it promises of all bounds and of the least costs of both data.
+    ensures compared { (places gap : ℕ) (show : CompareShow) (bytes proof_bytes bytes2 proof_bytes2 text : List ℕ)
+        → DueForCompared places gap show bytes proof_bytes bytes2 proof_bytes2 Status.Done text
+        → IsPromisedDifference places show bytes bytes2 text }
+
     // Where one of the lines of `warn` says that no plan exists, none does.
     ensures no_plan { (rounded : ℕ) (d : Data) (status : Status) (text : List ℕ) (warned : IsWarned rounded d status text) (f : Finding)
         → Contains (findings warned.built) f → excludes_plans f.rule ≡ true
@@ -237,6 +251,7 @@ pub fn osemosys<S: Shelf, K: Sink>(
     quantity_laws();
     promise_laws();
     promised_laws();
+    difference_laws();
     warned_laws();
     accepting_laws();
     match perform(alloc, words, shelf) {
@@ -425,6 +440,29 @@ fn perform<S: Shelf>(alloc: Global, words: &[String], shelf: &mut S) -> Result<R
                 places,
             };
             let answer = perform_proof_task(alloc, asked, shelf)?;
+            Ok(Reply::Told(answer))
+        }
+        Ok(
+            Command::Compare {
+                first,
+                first_proof,
+                second,
+                second_proof,
+                gap,
+                places,
+                show,
+            },
+        ) => {
+            let asked = CompareAsked {
+                first,
+                first_proof,
+                second,
+                second_proof,
+                gap,
+                places,
+                show,
+            };
+            let answer = perform_compare(alloc, asked, shelf)?;
             Ok(Reply::Told(answer))
         }
         Err(fault) => {

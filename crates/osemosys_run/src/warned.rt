@@ -2,6 +2,7 @@
 ghost use Rattle.std.specs.Prelude.{◌≡◌, ℕ, ℤ, List, true, Contains, IfOk};
 ghost use Rattle.model_sets.specs.Data.{AreSameData, Data};
 ghost use Rattle.named_equations.specs.Plans.{Feasible};
+ghost use Rattle.param_tables.specs.Built.{AreGivenAlike};
 ghost use Rattle.row_core.specs.declared.Var.{Var};
 ghost use Rattle.command_answers.specs.declared.status.Status.{Status as Code};
 ghost use Rattle.data_warnings.specs.Findings.{findings};
@@ -15,9 +16,9 @@ use named_equations::laws::same_data_laws;
 use param_tables::ModelData;
 use std::alloc::{AllocError, Global};
 
-/// What is due of `warn` over any data that have the model's sets and values.
+/// What is due of `warn` over any data that have the model's sets and values, and give the same of these.
 pub fn answer_warned(alloc: Global, model: &ModelData) -> Result<Answer, AllocError>
-    ensures { (d : Data) → AreSameData model.now.facts d → IfOk result (λ answer.
+    ensures { (d : Data) → AreSameData model.now.facts d → AreGivenAlike model.now.facts d → IfOk result (λ answer.
         IsWarned model.now.rounded d answer.status answer.text.items) }
 {
     let text = warnings_text(alloc, model)?;

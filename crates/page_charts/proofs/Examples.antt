@@ -1,10 +1,11 @@
 -- The definitions, computed on small examples, and on near misses.
-use Rattle.std.proofs.Common.{◌≡◌, pos, negsuc, [], ◌∷◌, None, Some, refl}
+use Rattle.std.proofs.Common.{◌≡◌, pos, negsuc, [], ◌∷◌, None, Some, refl, ap, arith, get_or}
 use Rattle.std.specs.Prelude.{codes}
 use Rattle.std.specs.Fmt.{digits}
 use Rattle.page_charts.specs.Escaping.{escaped}
 use Rattle.page_charts.specs.Frames.{left_of, slot_of, step_at, steps_over, width_of, x_of}
 use Rattle.page_charts.specs.Numbers.{cell_text, decimal_text, in_threes, share_text, short_text}
+use Rattle.page_charts.specs.Openings.{BeginsWith, first_lines}
 use Rattle.page_charts.specs.Ticks.{brief_text}
 
 -- ---- names
@@ -108,3 +109,20 @@ whole = refl
 
 second_of_six : x_of 1 6 ∷ width_of 1 6 ∷ left_of 1 6 ∷ slot_of 1 6 ∷ [] ≡ 1112 ∷ 395 ∷ 1046 ∷ 527 ∷ []
 second_of_six = refl
+
+-- ---- how a page begins
+
+-- a page begins with four lines where one is said
+begins_so : BeginsWith (codes "accepted infeasible\n") (codes "<!DOCTYPE html>\n<!--\naccepted infeasible\n-->\n<html>")
+begins_so = record { rest = codes "<html>"; text_is = refl }
+
+ends_there : BeginsWith (codes "accepted\n") (first_lines (codes "accepted\n"))
+ends_there = record { rest = []; text_is = refl }
+
+-- without the comment it is none
+no_comment : BeginsWith (codes "accepted\n") (codes "<!DOCTYPE html>\n<html>") → ⊥
+no_comment begins = let other : 104 ≡ 33 = ap (λ text. get_or text 17 0) begins.text_is in omega (arith, other)
+
+-- nor with the comment of another
+other_said : BeginsWith (codes "accepted infeasible\n") (codes "<!DOCTYPE html>\n<!--\naccepted unbounded\n-->\n") → ⊥
+other_said begins = let other : 117 ≡ 105 = ap (λ text. get_or text 30 0) begins.text_is in omega (arith, other)

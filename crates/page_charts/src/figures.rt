@@ -4,10 +4,10 @@ use crate::axes::{Axis, push_labels};
 use crate::escaping::push_escaped;
 use crate::frames::{Frame, TALL, WIDTH};
 use crate::looks::{Look, class_of, pattern_of};
-use crate::pages::Page;
+use crate::pages::{Page, joined};
 use crate::shapes::push_numbered;
 use crate::ticks::{push_tick, scale_for};
-use std::alloc::AllocError;
+use std::alloc::{AllocError, Global};
 
 /// What stands above a chart and below it.
 #[derive(Drop)]
@@ -17,6 +17,19 @@ pub struct Caption {
     pub subtitle: Vec<u8>,
     /// A line below the chart, as HTML, or nothing.
     pub note: Vec<u8>,
+}
+
+/// A caption without a note, whose title is these texts one after another.
+pub fn plain_caption(
+    alloc: Global,
+    title: &[&[u8]],
+    subtitle: &[u8],
+) -> Result<Caption, AllocError> {
+    Ok(Caption {
+        title: joined(alloc, title)?,
+        subtitle: Vec::from_slice(alloc, subtitle)?,
+        note: Vec::new(alloc),
+    })
 }
 
 /// Appends how a figure begins, with its caption. `scale` is by how many thousands its ticks are divided.

@@ -1,6 +1,6 @@
-//! A page while it is written.
+//! A page while it is written, and texts for it.
 
-use std::alloc::AllocError;
+use std::alloc::{AllocError, Global};
 
 /// A page while it is written: its text, and how many figures it has, by which they are named.
 #[derive(Drop)]
@@ -28,4 +28,13 @@ impl Page {
         self.figures = self.figures.saturating_add(1);
         self.figures
     }
+}
+
+/// Texts one after another.
+pub fn joined(alloc: Global, texts: &[&[u8]]) -> Result<Vec<u8>, AllocError> {
+    let mut all = Vec::new(alloc);
+    for text in texts {
+        all.extend_from_slice(*text)?;
+    }
+    Ok(all)
 }

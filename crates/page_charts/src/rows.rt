@@ -1,5 +1,9 @@
 //! What the table of the numbers of a chart has.
 
+ghost use Rattle.std.specs.Prelude.{◌≡◌, IfOk};
+
+use std::alloc::{AllocError, Global};
+
 /// The name of a column.
 #[derive(Drop)]
 pub struct Heading {
@@ -23,4 +27,17 @@ pub struct NumberRow {
     pub kind: RowKind,
     pub name: Vec<u8>,
     pub values: Vec<Option<i128>>,
+}
+
+/// A row of a table.
+pub fn named_row(
+    alloc: Global,
+    kind: RowKind,
+    name: &[u8],
+    values: Vec<Option<i128>>,
+) -> Result<NumberRow, AllocError>
+    ensures { IfOk result (λ row. (row.kind ≡ kind) × (row.name.items ≡ name.now) × (row.values ≡ values)) }
+{
+    let name = Vec::from_slice(alloc, name)?;
+    Ok(NumberRow { kind, name, values })
 }

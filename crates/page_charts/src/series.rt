@@ -1,7 +1,9 @@
 //! The series of a chart, and which of them are drawn.
 
+ghost use Rattle.std.specs.Prelude.{◌≡◌, IfOk};
+
 use crate::looks::Look;
-use crate::rows::{NumberRow, RowKind};
+use crate::rows::{NumberRow, RowKind, named_row};
 use crate::shapes::push_numbered;
 use std::alloc::{AllocError, Global};
 
@@ -33,6 +35,32 @@ pub enum Stroke {
 pub struct Line {
     pub stroke: Stroke,
     pub row: NumberRow,
+}
+
+/// A series of columns.
+pub fn named_series(
+    alloc: Global,
+    look: Look,
+    name: &[u8],
+    values: Vec<Option<i128>>,
+) -> Result<Series, AllocError>
+    ensures { IfOk result (λ one. (one.row.name.items ≡ name.now) × (one.row.values ≡ values)) }
+{
+    let row = named_row(alloc, RowKind::Series, name, values)?;
+    Ok(Series { look, row })
+}
+
+/// A line over the columns.
+pub fn named_line(
+    alloc: Global,
+    stroke: Stroke,
+    name: &[u8],
+    values: Vec<Option<i128>>,
+) -> Result<Line, AllocError>
+    ensures { IfOk result (λ line. (line.row.name.items ≡ name.now) × (line.row.values ≡ values)) }
+{
+    let row = named_row(alloc, RowKind::Line, name, values)?;
+    Ok(Line { stroke, row })
 }
 
 /// The class of a line.

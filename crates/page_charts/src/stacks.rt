@@ -57,6 +57,24 @@ pub fn push_stack(
     Ok(true)
 }
 
+/// The same of series whose table has their sum.
+pub fn push_summed(
+    alloc: Global,
+    page: &mut Page,
+    axis: &Axis,
+    caption: Caption,
+    series: Vec<Series>,
+    lines: Vec<Line>,
+) -> Result<bool, AllocError> {
+    let stack = Stack {
+        caption,
+        series,
+        lines,
+        has_sum: true,
+    };
+    push_stack(alloc, page, axis, stack)
+}
+
 // Appends the caption, the picture and the legend.
 fn push_chart(
     alloc: Global,

@@ -1,22 +1,14 @@
 -- What `page` says over accepted data: that the rows can't be made, or what `check` says of the proof over them, where it doesn't accept it; or a page of what the
 -- proof shows. Of its text this is said: it is one of HTML that begins, in a comment, with what `check` says, so with the cost and the bound of an optimum.
-use Rattle.std.specs.Prelude.{◌≡◌, ℕ, List, ◌++◌, codes}
+use Rattle.std.specs.Prelude.{◌≡◌, ℕ, List}
 use Rattle.model_sets.specs.Data.{Data}
-use Rattle.mps_writer.specs.MpsText.{line}
+use Rattle.page_charts.specs.Openings.{BeginsWith}
 use Rattle.row_core.specs.declared.Row.{Row}
 use Rattle.proof_files.specs.declared.proof.Proof.{Proof}
 use Rattle.proof_files.specs.declared.proof.Proof.TheVariants.{Optimum, Refutation, Descent}
 use Rattle.command_answers.specs.ShownProofs.{DueForShown}
 use Rattle.command_answers.specs.declared.status.Status.{Status}
 use Rattle.command_answers.specs.declared.status.Status.TheVariants.{Done, Infeasible, Unbounded}
-
--- the lines that a page begins with
-abbrev pub first_lines : List ℕ → List ℕ
-first_lines said = line (codes "<!DOCTYPE html>") ++ line (codes "<!--") ++ said ++ line (codes "-->")
-
-pub record BeginsWith (said : List ℕ) (text : List ℕ) : Type 0 where
-  pub rest : List ℕ
-  pub text_is : text ≡ first_lines said ++ rest
 
 -- the status by what the proof shows: a plan near the least cost, that there is no plan, or that plans of any lower cost exist
 abbrev pub status_of : Proof → Status

@@ -5,20 +5,16 @@ ghost use Rattle.discount_factors.specs.Factors.{IsPlaces};
 ghost use Rattle.named_equations.specs.Existence.{all_variables};
 ghost use Rattle.certified_answers.specs.Worth.{multiplier_bound, plan_cost};
 ghost use Rattle.command_answers.specs.ShownProofs.{HasWorth};
-ghost use Rattle.page_command.specs.Pages.{BeginsWith, ShowsPage};
+ghost use Rattle.page_charts.specs.Openings.{BeginsWith};
+ghost use Rattle.page_command.specs.Pages.{ShowsPage};
 
 use command_answers::{AcceptedProof, Answer, Status, Worth};
+use page_charts::page_opening;
 use param_tables::ModelData;
 use plan_page::page_text;
 use proof_files::Proof;
 use row_core::{Multipliers, Plan, Row};
 use std::alloc::{AllocError, Global};
-
-/// What a page begins with, before what `check` says.
-const BEGIN: &[u8] = b"<!DOCTYPE html>\n<!--\n";
-
-/// What comes after that.
-const END: &[u8] = b"-->\n";
 
 /// What a page is made of besides the proof.
 #[derive(Clone, Copy)]
@@ -94,9 +90,7 @@ fn show(
     requires { IsPlaces sheet.places }
     ensures { IfOk result (λ shown. (shown.status ≡ status) × BeginsWith said.now shown.text.items) }
 {
-    let mut text = Vec::from_slice(alloc, BEGIN)?;
-    text.extend_from_slice(said)?;
-    text.extend_from_slice(END)?;
+    let mut text = page_opening(alloc, said)?;
     let Sheet {
         file,
         model,

@@ -9,7 +9,7 @@ use Rattle.page_charts.specs.declared.series.Series.{Series}
 use Rattle.plan_page.specs.declared.members.Facts.{Facts}
 use Rattle.plan_page.specs.declared.members.Member.{Member}
 use Rattle.plan_page.specs.declared.members.Year.{Year}
-use Rattle.plan_page.specs.Shown.{shown}
+use Rattle.value_millionths.specs.Shown.{shown}
 
 -- the value of the variable of a kind at an index
 abbrev pub value_shown : List (Var × Rational) → ℕ → Index → Option ℤ

@@ -1,11 +1,11 @@
 //! What a region costs: by year and kind, and by technology.
 
 use crate::members::Member;
-use crate::rows::{line, row, series};
-use crate::values::{ORIGIN, Scene, add_values, joined, negative, plus, sum, yearly, zeros};
+use crate::values::{ORIGIN, Scene, yearly};
 use page_charts::{
-    Caption, Heading, Line, Look, NumberRow, Page, RowKind, Series, Share, Shares, Stack, Stroke,
-    others_named, push_shares, push_stack,
+    Heading, Line, Look, NumberRow, Page, RowKind, Series, Share, Shares, Stack, Stroke,
+    add_values, joined, named_line, named_row, named_series, negative, others_named, plain_caption,
+    plus, push_shares, push_stack, sum, zeros,
 };
 use row_core::Index;
 use row_core::kind_numbers::{
@@ -24,52 +24,46 @@ pub(crate) fn push_costs(
     scene: &Scene<'_>,
     region: u16,
 ) -> Result<(), AllocError> {
-    let mut kinds = Vec::new(alloc);
-    kinds.push(cost_series(
-        alloc,
-        scene,
-        region,
-        DISCOUNTED_CAPITAL_INVESTMENT,
-        Look::FirstKind,
-        b"Investment",
-    )?)?;
-    kinds.push(cost_series(
-        alloc,
-        scene,
-        region,
-        DISCOUNTED_OPERATING_COST,
-        Look::SecondKind,
-        b"Running: fixed and variable",
-    )?)?;
-    kinds.push(cost_series(
-        alloc,
-        scene,
-        region,
-        DISCOUNTED_TECHNOLOGY_EMISSIONS_PENALTY,
-        Look::ThirdKind,
-        b"Emission penalties",
-    )?)?;
-    kinds.push(cost_series(
-        alloc,
-        scene,
-        region,
-        DISCOUNTED_SALVAGE_VALUE,
-        Look::Returned,
-        b"Salvage value, returned",
-    )?)?;
-    let caption = Caption {
-        title: Vec::from_slice(alloc, b"Cost by year and kind")?,
-        subtitle: discounted(alloc, scene)?,
-        note: Vec::new(alloc),
-    };
+    let mut series = Vec::new(alloc);
+    for (kind, look, name) in cost_kinds() {
+        series.push(cost_series(alloc, scene, region, kind, look, name)?)?;
+    }
+    let subtitle = discounted(alloc, scene)?;
+    let title = [b"Cost by year and kind".as_slice()];
     let stack = Stack {
-        caption,
-        series: kinds,
+        caption: plain_caption(alloc, &title, subtitle.as_slice())?,
+        series,
         lines: net_line(alloc, scene, region)?,
         has_sum: false,
     };
     push_stack(alloc, page, scene.axis, stack)?;
     Ok(())
+}
+
+// The kinds of costs, their looks and their names.
+fn cost_kinds() -> [(u8, Look, &'static [u8]); 4] {
+    [
+        (
+            DISCOUNTED_CAPITAL_INVESTMENT,
+            Look::FirstKind,
+            b"Investment",
+        ),
+        (
+            DISCOUNTED_OPERATING_COST,
+            Look::SecondKind,
+            b"Running: fixed and variable",
+        ),
+        (
+            DISCOUNTED_TECHNOLOGY_EMISSIONS_PENALTY,
+            Look::ThirdKind,
+            b"Emission penalties",
+        ),
+        (
+            DISCOUNTED_SALVAGE_VALUE,
+            Look::Returned,
+            b"Salvage value, returned",
+        ),
+    ]
 }
 
 /// `discounted to the beginning of` the first year.
@@ -98,7 +92,7 @@ fn cost_series(
         let values = technology_costs(alloc, scene, region, technology, kind)?;
         add_values(&mut sums, values.as_slice());
     }
-    series(alloc, look, name, sums)
+    named_series(alloc, look, name, sums)
 }
 
 // The cost of a kind in each year of a technology; salvage values are below 0.
@@ -134,7 +128,7 @@ fn net_line(alloc: Global, scene: &Scene<'_>, region: u16) -> Result<Vec<Line>, 
     let years = scene.facts.years.as_slice();
     let net = yearly(alloc, scene.plan, TOTAL_DISCOUNTED_COST, at, years)?;
     let mut lines = Vec::new(alloc);
-    lines.push(line(alloc, Stroke::Net, b"Net", net)?)?;
+    lines.push(named_line(alloc, Stroke::Net, b"Net", net)?)?;
     Ok(lines)
 }
 
@@ -168,14 +162,11 @@ pub(crate) fn push_drivers(
     }
     let order = order_of(alloc, costs.as_slice())?;
     let shares = Shares {
-        caption: Caption {
-            title: Vec::from_slice(alloc, b"What the cost is made of")?,
-            subtitle: Vec::from_slice(
-                alloc,
-                b"by technology, all years, discounted; greatest first",
-            )?,
-            note: Vec::new(alloc),
-        },
+        caption: plain_caption(
+            alloc,
+            &[b"What the cost is made of".as_slice()],
+            b"by technology, all years, discounted; greatest first",
+        )?,
         bars: bars_of(alloc, scene, costs.as_slice(), order.as_slice())?,
         whole: whole_of(costs.as_slice()),
         headings: cost_headings(alloc)?,
@@ -341,10 +332,10 @@ fn cost_rows(
         if let Some(cost) = costs.get(rank.place) {
             let values = four(alloc, *cost)?;
             add_values(&mut all, values.as_slice());
-            rows.push(row(alloc, RowKind::Series, name_of(scene, *cost), values)?)?;
+            rows.push(named_row(alloc, RowKind::Series, name_of(scene, *cost), values)?)?;
         }
     }
-    rows.push(row(alloc, RowKind::Sum, b"Sum", all)?)?;
+    rows.push(named_row(alloc, RowKind::Sum, b"Sum", all)?)?;
     Ok(rows)
 }
 

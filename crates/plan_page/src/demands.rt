@@ -3,15 +3,16 @@
 ghost use Rattle.named_equations.specs.Within.{IsFuel, IsRegion, IsYear};
 
 use crate::members::{Facts, Year};
-use crate::millionths::millionths;
-use crate::values::{ORIGIN, add_values, by_slice, plus, sum, value_of, zeros};
+use crate::values::{ORIGIN, by_slice, value_of};
 use equation_parts::parameters::{accumulated_annual_demand, trade_route};
 use exact_num::mul;
 use model_sets::set_numbers::{FUEL, REGION, YEAR};
+use page_charts::{add_values, plus, sum, zeros};
 use param_tables::ModelData;
 use row_core::kind_numbers::{DEMAND, TRADE, TRADE_ANNUAL};
 use row_core::{Index, Plan, Var};
 use std::alloc::{AllocError, Global};
+use value_millionths::millionths;
 
 /// What is asked for of a fuel in a region in each year: in the timeslices and over the year.
 pub(crate) fn demands(

@@ -3,10 +3,8 @@
 ghost use Rattle.named_equations.specs.Within.{IsEmission, IsRegion, IsYear};
 
 use crate::members::Member;
-use crate::millionths::millionths;
 use crate::names::look_at;
-use crate::rows::{line, series};
-use crate::values::{ORIGIN, Scene, has_value, joined, plus, sum, yearly};
+use crate::values::{ORIGIN, Scene, yearly};
 use equation_parts::limits::is_limit;
 use equation_parts::parameters::{
     annual_emission_limit, annual_exogenous_emission, model_period_emission_limit,
@@ -15,12 +13,14 @@ use equation_parts::parameters::{
 use exact_num::sub;
 use model_sets::set_numbers::{EMISSION, REGION, YEAR};
 use page_charts::{
-    Caption, Line, Look, Page, Series, Stack, Stroke, push_escaped, push_short, push_stack,
+    Caption, Line, Look, Page, Series, Stack, Stroke, has_value, joined, named_line, named_series,
+    plus, push_escaped, push_short, push_stack, sum,
 };
 use param_tables::ModelData;
 use row_core::Index;
 use row_core::kind_numbers::{ANNUAL_EMISSIONS, ANNUAL_TECHNOLOGY_EMISSION};
 use std::alloc::{AllocError, Global};
+use value_millionths::millionths;
 
 /// Appends a chart of each emission of a region, and a line that names those that there are none of.
 pub(crate) fn push_emissions(
@@ -92,7 +92,7 @@ fn parts_of(
         let values = yearly(alloc, scene.plan, ANNUAL_TECHNOLOGY_EMISSION, at, years)?;
         if has_value(values.as_slice()) {
             let look = look_at(scene.facts.looks.as_slice(), technology.position);
-            parts.push(series(alloc, look, technology.name.as_slice(), values)?)?;
+            parts.push(named_series(alloc, look, technology.name.as_slice(), values)?)?;
         }
     }
     Ok(parts)
@@ -114,7 +114,7 @@ fn limit_lines(
         limits.push(limit)?;
     }
     if some {
-        lines.push(line(alloc, Stroke::Limit, b"Yearly limit", limits)?)?;
+        lines.push(named_line(alloc, Stroke::Limit, b"Yearly limit", limits)?)?;
     }
     Ok(lines)
 }

@@ -1,12 +1,12 @@
 //! The pages of models that have no plan of least cost.
 
 use crate::members::Facts;
-use crate::millionths::millionths;
 use crate::names::name_at;
 use page_charts::{Page, push_cell, push_escaped, push_numbered};
 use row_core::kind_numbers::{NEW_CAPACITY, RATE_OF_ACTIVITY, TRADE};
 use row_core::{Plan, Var};
 use std::alloc::AllocError;
+use value_millionths::millionths;
 
 /// Appends that there is no plan.
 pub(crate) fn push_infeasible(page: &mut Page) -> Result<(), AllocError> {

@@ -4,10 +4,11 @@ use crate::demands::{demands, slice_demands, slice_flows, yearly_flows};
 use crate::links::linked;
 use crate::members::Member;
 use crate::prices::{Price, Worth, push_prices};
-use crate::rows::{line, series, slice_series, technology_series};
-use crate::values::{Scene, has_value, joined, negatives, slice_axis};
+use crate::rows::{slice_series, technology_series};
+use crate::values::{Scene, slice_axis};
 use page_charts::{
-    Caption, Line, Look, Page, Series, Stack, Stroke, push_escaped, push_numbered, push_stack,
+    Line, Look, Page, Series, Stroke, has_value, named_line, named_series, negatives,
+    plain_caption, push_escaped, push_numbered, push_summed,
 };
 use row_core::kind_numbers::{
     NEW_CAPACITY, PRODUCTION_BY_TECHNOLOGY, PRODUCTION_BY_TECHNOLOGY_ANNUAL, TOTAL_CAPACITY_ANNUAL,
@@ -82,10 +83,25 @@ pub(crate) fn push_fuel(
     fuel: &Member,
 ) -> Result<(), AllocError> {
     let makers = linked(alloc, scene.facts.makes.as_slice(), region, fuel.position)?;
-    let takers = linked(alloc, scene.facts.takes.as_slice(), region, fuel.position)?;
     push_fuel_start(page, region, fuel)?;
     push_production(alloc, page, scene, region, fuel, makers.as_slice())?;
     push_slices(alloc, page, scene, region, fuel, makers.as_slice())?;
+    push_use(alloc, page, scene, region, fuel)?;
+    let built = push_capacities(alloc, page, scene, region, fuel, makers.as_slice())?;
+    let priced = push_prices(alloc, page, scene, prices, worth, region, fuel)?;
+    push_without(page, fuel, priced, built || makers.is_empty())?;
+    page.push(b"</div></section>\n")
+}
+
+// Appends who takes a fuel in each year.
+fn push_use(
+    alloc: Global,
+    page: &mut Page,
+    scene: &Scene<'_>,
+    region: u16,
+    fuel: &Member,
+) -> Result<(), AllocError> {
+    let takers = linked(alloc, scene.facts.takes.as_slice(), region, fuel.position)?;
     let used = technology_series(
         alloc,
         scene.facts,
@@ -95,54 +111,55 @@ pub(crate) fn push_fuel(
         takers.as_slice(),
         fuel.position,
     )?;
-    push_titled(
+    let title = [b"Use of ".as_slice(), fuel.name.as_slice()];
+    let caption = plain_caption(alloc, &title, b"by technology, energy of a year")?;
+    push_summed(alloc, page, scene.axis, caption, used, Vec::new(alloc))?;
+    Ok(())
+}
+
+// Appends the capacities and the new capacities of those that make a fuel, and answers whether some are new.
+fn push_capacities(
+    alloc: Global,
+    page: &mut Page,
+    scene: &Scene<'_>,
+    region: u16,
+    fuel: &Member,
+    makers: &[u16],
+) -> Result<bool, AllocError> {
+    push_capacity(
         alloc,
         page,
         scene,
-        b"Use of ",
-        fuel,
-        b"by technology, energy of a year",
-        used,
-    )?;
-    let capacities = technology_series(
-        alloc,
-        scene.facts,
-        scene.plan,
+        region,
+        [b"Capacity making ".as_slice(), fuel.name.as_slice()],
         TOTAL_CAPACITY_ANNUAL,
-        region,
-        makers.as_slice(),
-        0,
+        makers,
     )?;
-    push_titled(
+    push_capacity(
         alloc,
         page,
         scene,
-        b"Capacity making ",
-        fuel,
-        b"by technology",
-        capacities,
-    )?;
-    let new = technology_series(
-        alloc,
-        scene.facts,
-        scene.plan,
+        region,
+        [b"New capacity making ".as_slice(), fuel.name.as_slice()],
         NEW_CAPACITY,
-        region,
-        makers.as_slice(),
-        0,
-    )?;
-    let built = push_titled(
-        alloc,
-        page,
-        scene,
-        b"New capacity making ",
-        fuel,
-        b"by technology",
-        new,
-    )?;
-    let priced = push_prices(alloc, page, scene, prices, worth, region, fuel)?;
-    push_without(page, fuel, priced, built || makers.is_empty())?;
-    page.push(b"</div></section>\n")
+        makers,
+    )
+}
+
+// Appends the capacities of a kind of technologies, and answers whether there are some.
+fn push_capacity(
+    alloc: Global,
+    page: &mut Page,
+    scene: &Scene<'_>,
+    region: u16,
+    title: [&[u8]; 2],
+    kind: u8,
+    technologies: &[u16],
+) -> Result<bool, AllocError> {
+    let (facts, plan) = (scene.facts, scene.plan);
+    let series = technology_series(alloc, facts, plan, kind, region, technologies, 0)?;
+    let caption = plain_caption(alloc, &title, b"by technology")?;
+    push_summed(alloc, page, scene.axis, caption, series, Vec::new(alloc))
 }
 
 // Appends how the section of a fuel begins.
@@ -161,29 +178,6 @@ fn push_fuel_start(page: &mut Page, region: u16, fuel: &Member) -> Result<(), Al
     out.extend_from_slice(b"</h3><div class=\"grid\">\n")
 }
 
-// Appends a chart of these series, with the fuel in its title, and answers whether there is one.
-fn push_titled(
-    alloc: Global,
-    page: &mut Page,
-    scene: &Scene<'_>,
-    title: &[u8],
-    fuel: &Member,
-    subtitle: &[u8],
-    series: Vec<Series>,
-) -> Result<bool, AllocError> {
-    let stack = Stack {
-        caption: Caption {
-            title: joined(alloc, &[title, fuel.name.as_slice()])?,
-            subtitle: Vec::from_slice(alloc, subtitle)?,
-            note: Vec::new(alloc),
-        },
-        series,
-        lines: Vec::new(alloc),
-        has_sum: true,
-    };
-    push_stack(alloc, page, scene.axis, stack)
-}
-
 // Appends who makes a fuel in each year, what comes in and goes out, and what is asked for.
 fn push_production(
     alloc: Global,
@@ -193,43 +187,23 @@ fn push_production(
     fuel: &Member,
     makers: &[u16],
 ) -> Result<(), AllocError> {
+    let (model, facts, plan) = (scene.model, scene.facts, scene.plan);
     let mut made = technology_series(
         alloc,
-        scene.facts,
-        scene.plan,
+        facts,
+        plan,
         PRODUCTION_BY_TECHNOLOGY_ANNUAL,
         region,
         makers,
         fuel.position,
     )?;
-    let flows = yearly_flows(
-        alloc,
-        scene.model,
-        scene.facts,
-        scene.plan,
-        region,
-        fuel.position,
-    )?;
+    let flows = yearly_flows(alloc, model, facts, plan, region, fuel.position)?;
     add_flows(alloc, &mut made, flows.inward, flows.outward.as_slice())?;
-    let asked = demands(
-        alloc,
-        scene.model,
-        scene.facts,
-        scene.plan,
-        region,
-        fuel.position,
-    )?;
-    let stack = Stack {
-        caption: Caption {
-            title: joined(alloc, &[b"Production of ".as_slice(), fuel.name.as_slice()])?,
-            subtitle: Vec::from_slice(alloc, b"by technology, energy of a year")?,
-            note: Vec::new(alloc),
-        },
-        series: made,
-        lines: demand_lines(alloc, asked)?,
-        has_sum: true,
-    };
-    push_stack(alloc, page, scene.axis, stack)?;
+    let asked = demands(alloc, model, facts, plan, region, fuel.position)?;
+    let title = [b"Production of ".as_slice(), fuel.name.as_slice()];
+    let caption = plain_caption(alloc, &title, b"by technology, energy of a year")?;
+    let lines = demand_lines(alloc, asked)?;
+    push_summed(alloc, page, scene.axis, caption, made, lines)?;
     Ok(())
 }
 
@@ -241,11 +215,11 @@ fn add_flows(
     outward: &[Option<i128>],
 ) -> Result<(), AllocError> {
     if has_value(inward.as_slice()) {
-        made.push(series(alloc, Look::Inward, b"imports", inward)?)?;
+        made.push(named_series(alloc, Look::Inward, b"imports", inward)?)?;
     }
     if has_value(outward) {
         let below = negatives(alloc, outward)?;
-        made.push(series(alloc, Look::Outward, b"exports", below)?)?;
+        made.push(named_series(alloc, Look::Outward, b"exports", below)?)?;
     }
     Ok(())
 }
@@ -254,7 +228,7 @@ fn add_flows(
 fn demand_lines(alloc: Global, asked: Vec<Option<i128>>) -> Result<Vec<Line>, AllocError> {
     let mut lines = Vec::new(alloc);
     if has_value(asked.as_slice()) {
-        lines.push(line(alloc, Stroke::Demand, b"Final demand", asked)?)?;
+        lines.push(named_line(alloc, Stroke::Demand, b"Final demand", asked)?)?;
     }
     Ok(lines)
 }
@@ -268,61 +242,51 @@ fn push_slices(
     fuel: &Member,
     makers: &[u16],
 ) -> Result<(), AllocError> {
-    let (Some(year), Some(heading)) = (scene.facts.years.last(), scene.axis.headings.last()) else {
+    let (facts, plan) = (scene.facts, scene.plan);
+    let (Some(year), Some(heading)) = (facts.years.last(), scene.axis.headings.last()) else {
         return Ok(());
     };
-    let asked = slice_demands(
-        alloc,
-        scene.facts,
-        scene.plan,
-        region,
-        fuel.position,
-        year.position,
-    )?;
-    if scene.facts.slices.len() < 2 || !has_value(asked.as_slice()) {
+    let asked = slice_demands(alloc, facts, plan, region, fuel.position, year.position)?;
+    if facts.slices.len() < 2 || !has_value(asked.as_slice()) {
         return Ok(());
     }
+    let made = slices_made(alloc, scene, region, fuel.position, year.position, makers)?;
+    let title = [
+        b"Production of ".as_slice(),
+        fuel.name.as_slice(),
+        b" in ",
+        heading.text.as_slice(),
+    ];
+    let caption = plain_caption(alloc, &title, b"by technology and timeslice, energy")?;
+    let lines = demand_lines(alloc, asked)?;
+    let axis = slice_axis(alloc, facts.slices.as_slice())?;
+    push_summed(alloc, page, &axis, caption, made, lines)?;
+    Ok(())
+}
+
+// What is made of a fuel in each timeslice of a year, what comes in and what goes out.
+fn slices_made(
+    alloc: Global,
+    scene: &Scene<'_>,
+    region: u16,
+    fuel: u16,
+    year: u16,
+    makers: &[u16],
+) -> Result<Vec<Series>, AllocError> {
+    let (model, facts, plan) = (scene.model, scene.facts, scene.plan);
     let mut made = slice_series(
         alloc,
-        scene.facts,
-        scene.plan,
+        facts,
+        plan,
         PRODUCTION_BY_TECHNOLOGY,
         region,
         makers,
-        fuel.position,
-        year.position,
+        fuel,
+        year,
     )?;
-    let flows = slice_flows(
-        alloc,
-        scene.model,
-        scene.facts,
-        scene.plan,
-        region,
-        fuel.position,
-        year.position,
-    )?;
+    let flows = slice_flows(alloc, model, facts, plan, region, fuel, year)?;
     add_flows(alloc, &mut made, flows.inward, flows.outward.as_slice())?;
-    let stack = Stack {
-        caption: Caption {
-            title: joined(
-                alloc,
-                &[
-                    b"Production of ".as_slice(),
-                    fuel.name.as_slice(),
-                    b" in ",
-                    heading.text.as_slice(),
-                ],
-            )?,
-            subtitle: Vec::from_slice(alloc, b"by technology and timeslice, energy")?,
-            note: Vec::new(alloc),
-        },
-        series: made,
-        lines: demand_lines(alloc, asked)?,
-        has_sum: true,
-    };
-    let axis = slice_axis(alloc, scene.facts.slices.as_slice())?;
-    push_stack(alloc, page, &axis, stack)?;
-    Ok(())
+    Ok(made)
 }
 
 // Appends what a fuel hasn't: a price, or something new that makes it.

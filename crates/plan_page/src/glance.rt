@@ -4,8 +4,8 @@ use crate::demands::{demands, energy_of, yearly_flows};
 use crate::links::linked;
 use crate::members::{Member, Year};
 use crate::names::name_at;
-use crate::values::{Scene, has_value};
-use page_charts::{Page, push_escaped, push_share, push_short};
+use crate::values::Scene;
+use page_charts::{Page, has_value, push_escaped, push_share, push_short};
 use row_core::kind_numbers::PRODUCTION_BY_TECHNOLOGY_ANNUAL;
 use std::alloc::{AllocError, Global};
 

@@ -1,9 +1,9 @@
 //! The head of a page of a plan: its cost, and what is proved of it.
 
-use crate::millionths::{millionths, millionths_up};
 use exact_num::{Frac, div, sub};
 use page_charts::{Page, push_cell, push_decimal, push_escaped, push_numbered, push_short};
 use std::alloc::AllocError;
+use value_millionths::{millionths, millionths_up};
 
 /// What the headline tells.
 #[derive(Clone, Copy)]

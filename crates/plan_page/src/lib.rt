@@ -15,14 +15,12 @@ mod limits;
 mod links;
 mod looks;
 mod members;
-mod millionths;
 mod names;
 mod notes;
 mod page;
 mod prices;
 mod regions;
 mod rows;
-mod style;
 mod values;
 
 pub use answers::Answer;

@@ -5,13 +5,13 @@
 
 use crate::facts::year_place;
 use crate::members::{Facts, Year};
-use crate::millionths::millionths;
 use crate::names::name_at;
 use exact_num::{Frac, fits, mul, ratio};
 use page_charts::{Page, push_escaped, push_numbered, push_short};
 use row_core::equation_numbers::{AAC2, AAC3, E8, E9, NCC1, NCC2, TAC2, TAC3, TCC1, TCC2};
 use row_core::{Multipliers, Row, RowName, fraction};
 use std::alloc::{AllocError, Global};
+use value_millionths::millionths;
 
 /// How many limits are told.
 const MOST_TOLD: usize = 10;

@@ -10,9 +10,8 @@ use crate::members::Facts;
 use crate::notes::push_notes;
 use crate::prices::prices_of;
 use crate::regions::{push_comparison, push_region};
-use crate::style::{PATTERNS, push_style};
 use crate::values::{Scene, year_axis};
-use page_charts::{Axis, Page, push_escaped, push_numbered};
+use page_charts::{Axis, Page, push_escaped, push_numbered, push_page_start};
 use param_tables::ModelData;
 use row_core::{Multipliers, Row};
 use std::alloc::{AllocError, Global};
@@ -39,25 +38,12 @@ pub fn page_text(
         out: Vec::new(alloc),
         figures: 0,
     };
-    push_head(&mut page, file_name)?;
+    push_page_start(&mut page, file_name)?;
     push_title(&mut page, &facts, &axis, file_name)?;
     page.push(b"<main id=\"main\">\n")?;
     push_answer(alloc, &mut page, model, rows, &facts, &axis, answer, places)?;
     page.push(b"</body>\n</html>\n")?;
     Ok(page.out)
-}
-
-// Appends what stands before the body, and the patterns of looks.
-fn push_head(page: &mut Page, file_name: &[u8]) -> Result<(), AllocError> {
-    page.push(
-        b"<html lang=\"en\">\n<head>\n<meta charset=\"utf-8\">\n<meta name=\"viewport\" content=\"width=device-width,initial-scale=1\">\n<title>",
-    )?;
-    push_escaped(&mut page.out, file_name)?;
-    page.push(b"</title>\n<style>\n")?;
-    push_style(page)?;
-    page.push(b"</style>\n</head>\n<body>\n")?;
-    page.push(PATTERNS)?;
-    page.push(b"<a class=\"skip\" href=\"#main\">To the results</a>\n")
 }
 
 // Appends the title: which region or how many, and which years.

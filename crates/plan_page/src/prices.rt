@@ -5,19 +5,20 @@ ghost use Rattle.discount_factors.specs.Factors.{IsPlaces};
 ghost use Rattle.named_equations.specs.Within.{IsRegion};
 
 use crate::members::{Facts, Member};
-use crate::millionths::millionths;
-use crate::rows::row;
-use crate::values::{Scene, has_value, joined, zeros};
+use crate::values::Scene;
 use discount_factors::Factors;
 use equation_parts::whole_numbers::discount_rate;
 use exact_num::{Frac, mul};
 use model_sets::set_numbers::{REGION, YEAR};
-use page_charts::{Caption, Dots, NumberRow, Page, RowKind, push_dots};
+use page_charts::{
+    Caption, Dots, NumberRow, Page, RowKind, has_value, joined, named_row, push_dots, zeros,
+};
 use param_tables::ModelData;
 use row_core::equation_numbers::{EBA11, EBB4};
 use row_core::kind_numbers::{PRODUCTION, PRODUCTION_ANNUAL};
 use row_core::{Index, Multipliers, Row, Var, fraction, number_of};
 use std::alloc::{AllocError, Global};
+use value_millionths::millionths;
 
 /// A price that isn't 0: of a fuel in a timeslice, or over the year.
 #[derive(Clone, Copy)]
@@ -163,7 +164,7 @@ pub(crate) fn push_prices(
         return Ok(false);
     }
     let mut rows = Vec::new(alloc);
-    rows.push(row(alloc, RowKind::Series, b"Year", values)?)?;
+    rows.push(named_row(alloc, RowKind::Series, b"Year", values)?)?;
     push_year_chart(alloc, page, scene, fuel, rows)
 }
 
@@ -232,7 +233,7 @@ fn slice_rows(
     let mut rows = Vec::new(alloc);
     for slice in &scene.facts.slices {
         let values = zeros(alloc, scene.facts.years.len())?;
-        rows.push(row(alloc, RowKind::Series, slice.name.as_slice(), values)?)?;
+        rows.push(named_row(alloc, RowKind::Series, slice.name.as_slice(), values)?)?;
     }
     for price in prices {
         if !price.over_year && is_of(price, region, fuel) {

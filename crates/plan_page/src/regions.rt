@@ -9,9 +9,12 @@ use crate::glance::push_glance;
 use crate::limits::push_limits;
 use crate::members::Member;
 use crate::prices::{Price, worth_of};
-use crate::rows::{series, technology_series};
-use crate::values::{ORIGIN, Scene, has_value, joined, yearly};
-use page_charts::{Caption, Look, Page, Series, Stack, push_escaped, push_numbered, push_stack};
+use crate::rows::technology_series;
+use crate::values::{ORIGIN, Scene, yearly};
+use page_charts::{
+    Caption, Look, Page, Series, has_value, named_series, plain_caption, push_escaped,
+    push_numbered, push_summed,
+};
 use row_core::kind_numbers::{
     ANNUAL_EMISSIONS, NEW_CAPACITY, TOTAL_CAPACITY_ANNUAL, TOTAL_DISCOUNTED_COST,
 };
@@ -27,6 +30,35 @@ pub(crate) fn push_comparison(
     page: &mut Page,
     scene: &Scene<'_>,
 ) -> Result<(), AllocError> {
+    push_region_links(page, scene)?;
+    page.push(b"<div class=\"grid\">\n")?;
+    let subtitle = discounted(alloc, scene)?;
+    let costs = plain_caption(
+        alloc,
+        &[b"Cost by year and region".as_slice()],
+        subtitle.as_slice(),
+    )?;
+    push_by_region(alloc, page, scene, TOTAL_DISCOUNTED_COST, 0, costs)?;
+    for emission in &scene.facts.emissions {
+        let title = [
+            b"Emissions by region: ".as_slice(),
+            emission.name.as_slice(),
+        ];
+        let emitted = plain_caption(alloc, &title, b"by year")?;
+        push_by_region(
+            alloc,
+            page,
+            scene,
+            ANNUAL_EMISSIONS,
+            emission.position,
+            emitted,
+        )?;
+    }
+    page.push(b"</div>\n")
+}
+
+// Appends links to the regions.
+fn push_region_links(page: &mut Page, scene: &Scene<'_>) -> Result<(), AllocError> {
     page.push(b"<nav aria-label=\"Regions\"><ul>")?;
     for region in &scene.facts.regions {
         push_numbered(
@@ -38,36 +70,7 @@ pub(crate) fn push_comparison(
         push_escaped(&mut page.out, region.name.as_slice())?;
         page.push(b"</a></li>")?;
     }
-    page.push(b"</ul></nav>\n<div class=\"grid\">\n")?;
-    push_by_region(
-        alloc,
-        page,
-        scene,
-        TOTAL_DISCOUNTED_COST,
-        0,
-        b"Cost by year and region",
-        discounted(alloc, scene)?,
-    )?;
-    for emission in &scene.facts.emissions {
-        let title = joined(
-            alloc,
-            &[
-                b"Emissions by region: ".as_slice(),
-                emission.name.as_slice(),
-            ],
-        )?;
-        let subtitle = Vec::from_slice(alloc, b"by year")?;
-        push_by_region(
-            alloc,
-            page,
-            scene,
-            ANNUAL_EMISSIONS,
-            emission.position,
-            title.as_slice(),
-            subtitle,
-        )?;
-    }
-    page.push(b"</div>\n")
+    page.push(b"</ul></nav>\n")
 }
 
 // Appends a chart with a series for each region.
@@ -77,20 +80,10 @@ fn push_by_region(
     scene: &Scene<'_>,
     kind: u8,
     emission: u16,
-    title: &[u8],
-    subtitle: Vec<u8>,
+    caption: Caption,
 ) -> Result<(), AllocError> {
-    let stack = Stack {
-        caption: Caption {
-            title: Vec::from_slice(alloc, title)?,
-            subtitle,
-            note: Vec::new(alloc),
-        },
-        series: region_series(alloc, scene, kind, emission)?,
-        lines: Vec::new(alloc),
-        has_sum: true,
-    };
-    push_stack(alloc, page, scene.axis, stack)?;
+    let series = region_series(alloc, scene, kind, emission)?;
+    push_summed(alloc, page, scene.axis, caption, series, Vec::new(alloc))?;
     Ok(())
 }
 
@@ -110,7 +103,7 @@ fn region_series(
         };
         let values = yearly(alloc, scene.plan, kind, at, scene.facts.years.as_slice())?;
         let look = Look::Numbered((region.position % 27) as u8);
-        all.push(series(alloc, look, region.name.as_slice(), values)?)?;
+        all.push(named_series(alloc, look, region.name.as_slice(), values)?)?;
     }
     Ok(all)
 }
@@ -270,17 +263,8 @@ fn push_loose(
     title: &[u8],
     series: Vec<Series>,
 ) -> Result<(), AllocError> {
-    let stack = Stack {
-        caption: Caption {
-            title: Vec::from_slice(alloc, title)?,
-            subtitle: Vec::from_slice(alloc, b"of technologies that make no fuel")?,
-            note: Vec::new(alloc),
-        },
-        series,
-        lines: Vec::new(alloc),
-        has_sum: true,
-    };
-    push_stack(alloc, page, scene.axis, stack)?;
+    let caption = plain_caption(alloc, &[title], b"of technologies that make no fuel")?;
+    push_summed(alloc, page, scene.axis, caption, series, Vec::new(alloc))?;
     Ok(())
 }
 

@@ -1,4 +1,4 @@
-//! The rows of tables, and series of the values of technologies.
+//! Series of the values of technologies.
 
 ghost use Rattle.std.specs.Prelude.{◌≡◌, IfOk, map};
 ghost use Rattle.plan_page.specs.Values.{shown_row, technology_row, technology_rows, technology_slice_row, technology_slice_rows};
@@ -6,48 +6,9 @@ ghost use Rattle.plan_page.specs.Values.{shown_row, technology_row, technology_r
 use crate::members::Facts;
 use crate::names::{look_at, name_at};
 use crate::values::{ORIGIN, by_slice, yearly};
-use page_charts::{Line, Look, NumberRow, RowKind, Series, Stroke};
+use page_charts::{Series, named_series};
 use row_core::{Index, Plan};
 use std::alloc::{AllocError, Global};
-
-/// A row of a table.
-pub(crate) fn row(
-    alloc: Global,
-    kind: RowKind,
-    name: &[u8],
-    values: Vec<Option<i128>>,
-) -> Result<NumberRow, AllocError>
-    ensures { IfOk result (λ row. (row.kind ≡ kind) × (row.name.items ≡ name.now) × (row.values ≡ values)) }
-{
-    let name = Vec::from_slice(alloc, name)?;
-    Ok(NumberRow { kind, name, values })
-}
-
-/// A series of columns.
-pub(crate) fn series(
-    alloc: Global,
-    look: Look,
-    name: &[u8],
-    values: Vec<Option<i128>>,
-) -> Result<Series, AllocError>
-    ensures { IfOk result (λ one. (one.row.name.items ≡ name.now) × (one.row.values ≡ values)) }
-{
-    let row = row(alloc, RowKind::Series, name, values)?;
-    Ok(Series { look, row })
-}
-
-/// A line over the columns.
-pub(crate) fn line(
-    alloc: Global,
-    stroke: Stroke,
-    name: &[u8],
-    values: Vec<Option<i128>>,
-) -> Result<Line, AllocError>
-    ensures { IfOk result (λ line. (line.row.name.items ≡ name.now) × (line.row.values ≡ values)) }
-{
-    let row = row(alloc, RowKind::Line, name, values)?;
-    Ok(Line { stroke, row })
-}
 
 /// A series of a kind for each of the technologies in a region, by year; `fuel` is 0 where the kind has none.
 pub(crate) fn technology_series(
@@ -88,7 +49,7 @@ fn one_series(
     };
     let values = yearly(alloc, plan, kind, at, facts.years.as_slice())?;
     let look = look_at(facts.looks.as_slice(), technology);
-    series(
+    named_series(
         alloc,
         look,
         name_at(facts.technologies.as_slice(), technology),
@@ -138,7 +99,7 @@ fn one_slice_series(
     };
     let values = by_slice(alloc, plan, kind, at, facts.slices.as_slice())?;
     let look = look_at(facts.looks.as_slice(), technology);
-    series(
+    named_series(
         alloc,
         look,
         name_at(facts.technologies.as_slice(), technology),

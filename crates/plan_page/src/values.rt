@@ -4,11 +4,11 @@ ghost use Rattle.std.specs.Prelude.{◌≡◌, IfOk};
 ghost use Rattle.plan_page.specs.Values.{slice_values, value_shown, yearly_values};
 
 use crate::members::{Facts, Member, Year};
-use crate::millionths::millionths;
 use page_charts::{Axis, Heading, push_numbered};
 use param_tables::ModelData;
 use row_core::{Index, Plan, Var};
 use std::alloc::{AllocError, Global};
+use value_millionths::millionths;
 
 /// The index of subscripts that are all 0.
 pub(crate) const ORIGIN: Index = Index {
@@ -93,62 +93,6 @@ fn in_slice(plan: &Plan, kind: u8, at: Index, slice: u16) -> Option<i128>
     value_of(plan, kind, index)
 }
 
-/// The sum of values, where each is known and the sum doesn't leave 128 bits.
-pub(crate) fn sum(values: &[Option<i128>]) -> Option<i128> {
-    let mut sum: i128 = 0;
-    for value in values {
-        let value = (*value)?;
-        sum = sum.checked_add(value)?;
-    }
-    Some(sum)
-}
-
-/// The sum of two values.
-pub(crate) fn plus(a: Option<i128>, b: Option<i128>) -> Option<i128> {
-    a?.checked_add(b?)
-}
-
-/// A value with the other sign.
-pub(crate) fn negative(a: Option<i128>) -> Option<i128> {
-    a?.checked_neg()
-}
-
-/// Adds values to as many sums.
-pub(crate) fn add_values(sums: &mut Vec<Option<i128>>, values: &[Option<i128>]) {
-    for (place, value) in values.iter().enumerate() {
-        if place < sums.len() {
-            let sum = sums[place];
-            sums[place] = plus(sum, *value);
-        }
-    }
-}
-
-/// So many zeros.
-pub(crate) fn zeros(alloc: Global, count: usize) -> Result<Vec<Option<i128>>, AllocError> {
-    let mut zeros = Vec::new(alloc);
-    for _ in 0..count {
-        zeros.push(Some(0i128))?;
-    }
-    Ok(zeros)
-}
-
-/// The same values with the other sign.
-pub(crate) fn negatives(
-    alloc: Global,
-    values: &[Option<i128>],
-) -> Result<Vec<Option<i128>>, AllocError> {
-    let mut negatives = Vec::new(alloc);
-    for value in values {
-        negatives.push(negative(*value))?;
-    }
-    Ok(negatives)
-}
-
-/// Whether a value isn't 0.
-pub(crate) fn has_value(values: &[Option<i128>]) -> bool {
-    values.iter().any(|value| *value != Some(0))
-}
-
 /// The columns of the years.
 pub(crate) fn year_axis(alloc: Global, years: &[Year]) -> Result<Axis, AllocError> {
     let mut headings = Vec::new(alloc);
@@ -185,13 +129,4 @@ pub(crate) fn slice_axis(alloc: Global, slices: &[Member]) -> Result<Axis, Alloc
         headings,
         years: Vec::new(alloc),
     })
-}
-
-/// Texts one after another.
-pub(crate) fn joined(alloc: Global, texts: &[&[u8]]) -> Result<Vec<u8>, AllocError> {
-    let mut all = Vec::new(alloc);
-    for text in texts {
-        all.extend_from_slice(*text)?;
-    }
-    Ok(all)
 }

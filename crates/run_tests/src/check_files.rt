@@ -1,4 +1,4 @@
-//! The files of `check`: which of them is missing, fails or is too long, and whose fault comes first.
+//! The files of `check` and `compare`: which of them is missing, fails or is too long, and whose fault comes first.
 
 use crate::calls::{CHECK, CHECK_BOUND, assert_ends, call_check, call_over};
 use crate::plan_records::{CHAIN, ENERGY, PLAN, file_of};
@@ -10,7 +10,7 @@ use std::test::Fail;
 const TOO_LONG: usize = 67_108_865;
 
 /// Words with files that are missing, and the number of the first such file.
-static MISSING: [(&[&str], u8, &str); 6] = [
+static MISSING: [(&[&str], u8, &str); 8] = [
     (&["check", "model.dat", "p"], 2, "no such file 2\n"),
     (&["check", "model.dat", "p", "m"], 2, "no such file 2\n"),
     (
@@ -25,6 +25,16 @@ static MISSING: [(&[&str], u8, &str); 6] = [
         "no such file 2\n",
     ),
     (&["check", "--proof=p", "d"], 1, "no such file 1\n"),
+    (
+        &["compare", "model.dat", "plan.csv", "d", "p"],
+        3,
+        "no such file 3\n",
+    ),
+    (
+        &["compare", "model.dat", "plan.csv", "model.dat", "p"],
+        4,
+        "no such file 4\n",
+    ),
 ];
 
 // The plan's file has no header, but no file is looked at before all are read.
@@ -60,6 +70,29 @@ fn a_failing_call_is_told_by_its_file(rt: HostRuntime) -> Result<(), Fail> {
     }
     let ending = call_check(rt.alloc(), CHECK_BOUND, "", &plan, &multipliers, &[10])?;
     assert_ends(&rt, &ending, 9, "rejected gap 10\n");
+    Ok(())
+}
+
+/// A data file and a file of a plan, each on both sides.
+static COMPARE: [&str; 5] = ["compare", "model.dat", "plan.csv", "model.dat", "plan.csv"];
+
+/// The numbers of the shelf's calls for the files of the second side, as above.
+static SECOND_CALLS: [([u64; 3], &str); 2] = [
+    ([7, 8, 9], "read fault file 3\n"),
+    ([10, 11, 12], "read fault file 4\n"),
+];
+
+// The first plan shows nothing, but no file is looked at before all are read.
+#[test]
+fn a_failing_call_of_the_second_scenario_is_told_by_its_file(rt: HostRuntime) -> Result<(), Fail> {
+    let plan = file_of(rt.alloc(), &[PLAN])?;
+    for (numbers, line) in SECOND_CALLS.iter() {
+        for number in numbers {
+            let failing = [*number];
+            let ending = call_check(rt.alloc(), &COMPARE, "", &plan, "", &failing)?;
+            assert_ends(&rt, &ending, 6, line);
+        }
+    }
     Ok(())
 }
 

@@ -19,6 +19,7 @@ returns-in-Ok c = λ text stands short.
       record { blocks = blocks; short = short; says = says; sets_accepted = same.0; data_accepted = same.1; told = refl },
       same.2,
       same.3,
+      same.4,
     ))
     (λ answer refused. inr (blocks, says, refused)))
     c.accept_blocks.ensures

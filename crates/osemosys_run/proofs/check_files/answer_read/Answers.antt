@@ -1,12 +1,13 @@
 use Rattle.std.proofs.Common.{◌≡◌, inl, inr}
 use Rattle.std.proofs.lemmas.Result.{IfOk-weaker, MatchResult-at_err, MatchResult-at_ok}
 use Rattle.model_sets.specs.Data.{AreSameData, Data}
+use Rattle.param_tables.specs.Built.{AreGivenAlike}
 use Rattle.command_answers.specs.Accepted.{Accepted}
 use Rattle.osemosys_run.proofs.check_files.answer_read.Goals as goal
 
 pub returns-in-Ok : goal.returns-in-Ok
 returns-in-Ok c = λ text stands short.
-    let found : (d : Data) × (accepted : Accepted text d) × AreSameData c.in-Ok.model.facts d × (c.in-Ok.model.rounded ≡ accepted.blocks.rounded) =
+    let found : (d : Data) × (accepted : Accepted text d) × AreSameData c.in-Ok.model.facts d × (c.in-Ok.model.rounded ≡ accepted.blocks.rounded) × AreGivenAlike c.in-Ok.model.facts d =
     MatchResult-at_ok _ _ c.in-Ok.model c.in-Ok.is (c.in_ok-model.ensures text stands short) in
     IfOk-weaker c.answer_check.result _ _ (λ answer due. inr (found.0, found.1, due)) (c.answer_check.ensures found.0 found.2)
 

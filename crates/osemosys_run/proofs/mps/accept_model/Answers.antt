@@ -1,6 +1,7 @@
 use Rattle.std.proofs.Common.{◌≡◌, inl, inr}
 use Rattle.std.proofs.lemmas.Result.{MatchResult-at_ok, MatchResult-at_err}
 use Rattle.model_sets.specs.Data.{AreSameData, Data}
+use Rattle.param_tables.specs.Built.{AreGivenAlike}
 use Rattle.command_answers.specs.Accepted.{Accepted}
 use Rattle.command_answers.specs.DueForText.{DueForText}
 use Rattle.command_answers.specs.NotAccepted.{DueWhereNotAccepted}
@@ -10,7 +11,7 @@ use Rattle.osemosys_run.proofs.mps.accept_model.Goals as goal
 
 pub returns-in-Ok-clause-due : goal.returns-in-Ok-clause-due
 returns-in-Ok-clause-due c = λ text stands short status line said.
-    let found : (d : Data) × (accepted : Accepted text d) × AreSameData c.in-Ok.model.facts d × (c.in-Ok.model.rounded ≡ accepted.blocks.rounded) =
+    let found : (d : Data) × (accepted : Accepted text d) × AreSameData c.in-Ok.model.facts d × (c.in-Ok.model.rounded ≡ accepted.blocks.rounded) × AreGivenAlike c.in-Ok.model.facts d =
     MatchResult-at_ok _ _ c.in-Ok.model c.in-Ok.is (c.in_ok-model.ensures text stands short) in
     inr (found.0, found.1, said found.0 found.2)
 

@@ -1,6 +1,7 @@
 use Rattle.std.proofs.Common.{◌≡◌, inl, inr, sym, subst}
 use Rattle.std.proofs.lemmas.Result.{IfOk-weaker, MatchResult-at_err, MatchResult-at_ok}
 use Rattle.model_sets.specs.Data.{AreSameData, Data}
+use Rattle.param_tables.specs.Built.{AreGivenAlike}
 use Rattle.command_answers.specs.Accepted.{Accepted}
 use Rattle.command_answers.specs.DueForText.{DueForText}
 use Rattle.osemosys_run.specs.Tasks.{DueForProofTask}
@@ -8,21 +9,21 @@ use Rattle.osemosys_run.proofs.proof_file.answer_read.Goals as goal
 
 pub returns-in-Check : goal.returns-in-Check
 returns-in-Check c = λ text stands short.
-    let found : (d : Data) × (accepted : Accepted text d) × AreSameData c.in-Ok.model.facts d × (c.in-Ok.model.rounded ≡ accepted.blocks.rounded) =
+    let found : (d : Data) × (accepted : Accepted text d) × AreSameData c.in-Ok.model.facts d × (c.in-Ok.model.rounded ≡ accepted.blocks.rounded) × AreGivenAlike c.in-Ok.model.facts d =
     MatchResult-at_ok _ _ c.in-Ok.model c.in-Ok.is (c.in_ok-model.ensures text stands short) in
     IfOk-weaker c.answer_proof.result _ _
     (λ answer due. subst (λ task. DueForText (DueForProofTask task c.args.places c.args.proof.now) text answer.status answer.text.items) (sym c.in-Check.is) (inr (found.0, found.1, due))) (c.answer_proof.ensures found.0 found.2)
 
 pub returns-in-Table : goal.returns-in-Table
 returns-in-Table c = λ text stands short.
-    let found : (d : Data) × (accepted : Accepted text d) × AreSameData c.in-Ok.model.facts d × (c.in-Ok.model.rounded ≡ accepted.blocks.rounded) =
+    let found : (d : Data) × (accepted : Accepted text d) × AreSameData c.in-Ok.model.facts d × (c.in-Ok.model.rounded ≡ accepted.blocks.rounded) × AreGivenAlike c.in-Ok.model.facts d =
     MatchResult-at_ok _ _ c.in-Ok.model c.in-Ok.is (c.in_ok-model.ensures text stands short) in
     IfOk-weaker c.answer_table.result _ _
     (λ answer due. subst (λ task. DueForText (DueForProofTask task c.args.places c.args.proof.now) text answer.status answer.text.items) (sym c.in-Table.is) (inr (found.0, found.1, due))) (c.answer_table.ensures found.0 found.2)
 
 pub returns-in-Ok : goal.returns-in-Ok
 returns-in-Ok c = λ text stands short.
-    let found : (d : Data) × (accepted : Accepted text d) × AreSameData c.in-Ok.model.facts d × (c.in-Ok.model.rounded ≡ accepted.blocks.rounded) =
+    let found : (d : Data) × (accepted : Accepted text d) × AreSameData c.in-Ok.model.facts d × (c.in-Ok.model.rounded ≡ accepted.blocks.rounded) × AreGivenAlike c.in-Ok.model.facts d =
     MatchResult-at_ok _ _ c.in-Ok.model c.in-Ok.is (c.in_ok-model.ensures text stands short) in
     IfOk-weaker c.answer_paged.result _ _
     (λ answer due. subst (λ task. DueForText (DueForProofTask task c.args.places c.args.proof.now) text answer.status answer.text.items) (sym c.in-Page.is) (inr (found.0, found.1, due))) (c.answer_paged.ensures found.0 found.2)

@@ -15,7 +15,7 @@ use Rattle.command_words.specs.Commands.{request_of_result}
 use Rattle.osemosys_run.specs.Reading.{Sight}
 use Rattle.osemosys_run.specs.Tasks.{CausedByOneFile}
 use Rattle.command_words.specs.Words.{Request, asked}
-use Rattle.command_words.proofs.Requests.{asked_places, check_places, check_proof_places, curve_places, explain_places, make_size, page_places, solve_places, span_places, table_places}
+use Rattle.command_words.proofs.Requests.{asked_places, check_places, check_proof_places, compare_places, curve_places, explain_places, make_size, page_places, solve_places, span_places, table_places}
 use Rattle.osemosys_run.proofs.run.perform.Goals as goal
 
 pub perform_mps-requires : goal.perform_mps-requires
@@ -77,6 +77,11 @@ pub perform_proof_task-requires-in-Ok-Page : goal.perform_proof_task-requires-in
 perform_proof_task-requires-in-Ok-Page g c =
     let request = ap request_of_result (sym (c.in-Ok-Page.is ∙ ap Ok c.in-Ok-Page.field-0-is)) ∙ c.in_ok-file.ensures in
     page_places (map string_bytes c.args.words.now) c.in-Ok-Page.file.now c.in-Ok-Page.proof.now c.in-Ok-Page.gap c.in-Ok-Page.places (sym request)
+
+pub perform_compare-requires : goal.perform_compare-requires
+perform_compare-requires g c =
+    let request = ap request_of_result (sym (c.in-Ok-Compare.is ∙ ap Ok c.in-Ok-Compare.field-0-is)) ∙ c.in_ok-file.ensures in
+    compare_places (map string_bytes c.args.words.now) c.in-Ok-Compare.first.now c.in-Ok-Compare.first_proof.now c.in-Ok-Compare.second.now c.in-Ok-Compare.second_proof.now c.in-Ok-Compare.gap c.in-Ok-Compare.places c.in-Ok-Compare.show (sym request)
 
 pub returns-in-Ok-Mps-clause-caused : goal.returns-in-Ok-Mps-clause-caused
 returns-in-Ok-Mps-clause-caused g c =
@@ -225,6 +230,20 @@ returns-in_ok-answer-in-Ok-Page-clause-caused g c = λ status text said.
     told_so (λ (s : Status) (t : List ℕ). CausedByRequest (asked (map string_bytes c.args.words.now)) before after s t) answer.status answer.text.items
     (subst (λ (r : Result Request WordFault). CausedByRequest r before after answer.status answer.text.items) request
     c.in_ok-answer-in-Ok-Page.ensures.caused)
+    status text said
+
+pub returns-in_ok-answer-in-Ok-Compare-clause-caused : goal.returns-in_ok-answer-in-Ok-Compare-clause-caused
+returns-in_ok-answer-in-Ok-Compare-clause-caused g c = λ status text said.
+    let shelf = g.S.Shelf in
+    let old = c.args.shelf.now in
+    let new = c.perform_compare.new.shelf in
+    let before : Sight = record { files = shelf.files old; rest = shelf.rest old; faults = shelf.faults old; begins = shelf.begins old; taken = shelf.taken old; moved = shelf.moved old } in
+    let after : Sight = record { files = shelf.files new; rest = shelf.rest new; faults = shelf.faults new; begins = shelf.begins new; taken = shelf.taken new; moved = shelf.moved new } in
+    let request = ap request_of_result (sym (c.in-Ok-Compare.is ∙ ap Ok c.in-Ok-Compare.field-0-is)) ∙ c.in_ok-file.ensures in
+    let answer = c.in_ok-answer-in-Ok-Compare.answer in
+    told_so (λ (s : Status) (t : List ℕ). CausedByRequest (asked (map string_bytes c.args.words.now)) before after s t) answer.status answer.text.items
+    (subst (λ (r : Result Request WordFault). CausedByRequest r before after answer.status answer.text.items) request
+    c.in_ok-answer-in-Ok-Compare.ensures.caused)
     status text said
 
 pub returns-in_ok-answer-in-Ok-Make-clause-caused : goal.returns-in_ok-answer-in-Ok-Make-clause-caused

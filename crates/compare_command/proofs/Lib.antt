@@ -1,0 +1,2 @@
+mod ComparedLaws
+mod Examples

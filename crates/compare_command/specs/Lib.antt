@@ -1,0 +1,3 @@
+pub mod Compared
+pub mod Compare
+pub mod Standings

@@ -1,0 +1,111 @@
+//! The style sheet of a page: light and dark, for print, and for narrow screens.
+
+use crate::pages::Page;
+use std::alloc::AllocError;
+
+/// The stripes and dots over colours.
+pub(crate) const PATTERNS: &[u8] =
+    b"<svg class=\"defs\" width=\"0\" height=\"0\" aria-hidden=\"true\"><defs><pattern id=\"q1\" width=\"60\" height=\"60\" patternUnits=\"userSpaceOnUse\" patternTransform=\"rotate(45)\"><rect width=\"24\" height=\"60\" class=\"over\"/></pattern><pattern id=\"q2\" width=\"60\" height=\"60\" patternUnits=\"userSpaceOnUse\"><circle cx=\"30\" cy=\"30\" r=\"16\" class=\"over\"/></pattern></defs></svg>\n";
+
+/// The rules, one a line.
+const STYLE: [&[u8]; 90] = [
+    b":root{color-scheme:light dark;--bg:#f3f4f6;--card:#fff;--ink:#1a1f26;--soft:#59636f;--edge:#dfe3e8;--grid:#e7eaee;--zero:#8a939e;--over:rgba(255,255,255,.62);--ok:#0a6640;--okbg:#e4f3eb;--bad:#9b2c1f;--badbg:#fbe9e6;--link:#1f5fa8;--band:#cfd9e6;",
+    b"--c0:#d65565;--c1:#4c37a6;--c2:#bdcb76;--c3:#005917;--c4:#98b1ff;--c5:#6a2446;--c6:#46c3aa;--c7:#91770d;--c8:#b953a8;--co:#b9bec5;--cn:#7d8792;--cb:#44688f;--k1:#3b4a5e;--k2:#a3b3c6;--k3:#c4553f}",
+    b"@media (prefers-color-scheme:dark){:root{--bg:#101317;--card:#191d23;--ink:#e9ecf0;--soft:#a3adb9;--edge:#2c323b;--grid:#2a3039;--zero:#77818d;--over:rgba(16,19,23,.5);--ok:#7fd6a6;--okbg:#12301f;--bad:#f2a196;--badbg:#3a1a16;--link:#8fbcf0;--band:#34445a;",
+    b"--c0:#ee9384;--c1:#8072ff;--c2:#ffe695;--c3:#46813e;--c4:#abceff;--c5:#d34281;--c6:#71e7d4;--c7:#b0c437;--c8:#b165bd;--co:#6b747f;--cn:#8d97a3;--cb:#7fa6cf;--k1:#7d8ea6;--k2:#c3d0df;--k3:#e58a76}}",
+    b"*{box-sizing:border-box}",
+    b"body{margin:0;background:var(--bg);color:var(--ink);font:16px/1.5 system-ui,-apple-system,\"Segoe UI\",Roboto,\"Liberation Sans\",Arial,sans-serif}",
+    b"header,main,footer{max-width:1220px;margin:0 auto;padding:0 20px}",
+    b"header{padding-top:36px;padding-bottom:20px}",
+    b"h1,h2,h3,h4,p{margin:0}",
+    b"h1{font-size:34px;line-height:1.15;letter-spacing:-.01em;overflow-wrap:anywhere}",
+    b"h2{font-size:25px;margin:44px 0 14px;overflow-wrap:anywhere}",
+    b"h3{font-size:20px;margin:34px 0 12px;overflow-wrap:anywhere}",
+    b"h4{font-size:15px;line-height:1.3;overflow-wrap:anywhere}",
+    b".over{color:var(--soft);font-size:14px;margin-bottom:4px}",
+    b".file{color:var(--soft);font-size:14px;margin-top:6px;overflow-wrap:anywhere}",
+    b".top,figure,nav{background:var(--card);border:1px solid var(--edge);border-radius:10px}",
+    b".top{display:grid;grid-template-columns:auto 1fr;gap:6px 40px;padding:24px 26px;margin-bottom:20px}",
+    b".top.bad{display:block}",
+    b".lab{color:var(--soft);font-size:14px}",
+    b".num{font-size:46px;line-height:1.15;font-weight:650;letter-spacing:-.02em;font-variant-numeric:tabular-nums}",
+    b".mark{display:inline-block;font-weight:600;font-size:15px;color:var(--ok);background:var(--okbg);border-radius:6px;padding:2px 10px;margin-bottom:8px}",
+    b".bad .mark{color:var(--bad);background:var(--badbg);font-size:20px;padding:4px 12px}",
+    b".say{max-width:68ch}",
+    b".bad .say{margin:10px 0}",
+    b"dl{grid-column:1/-1;display:flex;flex-wrap:wrap;gap:8px 32px;margin:14px 0 0;padding-top:14px;border-top:1px solid var(--edge)}",
+    b"dt{color:var(--soft);font-size:13px}",
+    b"dd{margin:0;font-size:15px;font-variant-numeric:tabular-nums}",
+    b"nav{padding:8px 18px;margin:20px 0}",
+    b"nav ul{display:flex;flex-wrap:wrap;gap:4px 22px;margin:0;padding:0;list-style:none}",
+    b"a{color:var(--link)}",
+    b".grid{display:grid;grid-template-columns:repeat(auto-fill,minmax(min(340px,100%),1fr));gap:16px;align-items:start}",
+    b"figure{margin:0;padding:16px 18px 12px;min-width:0;break-inside:avoid}",
+    b"figure.wide{grid-column:1/-1}",
+    b".sub{color:var(--soft);font-size:13px}",
+    b".chart{display:block;width:100%;max-width:520px;height:auto;margin-top:10px}",
+    b".chart text{font-size:112px;fill:var(--soft);font-variant-numeric:tabular-nums}",
+    b".e{text-anchor:end}",
+    b".m{text-anchor:middle}",
+    b".g{stroke:var(--grid);stroke-width:10}",
+    b".z{stroke:var(--zero);stroke-width:10}",
+    b".c0{fill:var(--c0)}.c1{fill:var(--c1)}.c2{fill:var(--c2)}.c3{fill:var(--c3)}.c4{fill:var(--c4)}.c5{fill:var(--c5)}.c6{fill:var(--c6)}.c7{fill:var(--c7)}.c8{fill:var(--c8)}.co{fill:var(--co)}.cn{fill:var(--cn)}.cb{fill:var(--cb)}.k1{fill:var(--k1)}.k2{fill:var(--k2)}.k3{fill:var(--k3)}",
+    b".p1{fill:url(#q1)}.p2{fill:url(#q2)}",
+    b"pattern .over{fill:var(--over)}",
+    b".u{fill:none;stroke:var(--card);stroke-width:36}",
+    b".dem,.net,.lim{fill:none;stroke:var(--ink);stroke-width:24}",
+    b".lim{stroke:var(--bad);stroke-dasharray:70 34}",
+    b".band{fill:var(--band)}",
+    b".dot{fill:var(--cb);stroke:var(--card);stroke-width:8}",
+    b".defs{position:absolute}",
+    b".key{width:11px;height:11px;flex:none;margin-top:5px}",
+    b".legend{display:flex;flex-wrap:wrap;gap:1px 14px;margin:8px 0 0;padding:0;list-style:none;font-size:13px}",
+    b".legend li{display:flex;gap:6px;min-width:0;overflow-wrap:anywhere}",
+    b".note,.none{color:var(--soft);font-size:13px;margin-top:8px}",
+    b".none{grid-column:1/-1;margin:0}",
+    b"details{margin-top:8px}",
+    b"summary{cursor:pointer;font-size:13px;color:var(--link);width:fit-content}",
+    b":focus-visible{outline:2px solid var(--link);outline-offset:2px;border-radius:3px}",
+    b".scroll{overflow-x:auto}",
+    b".scroll tbody th{position:sticky;left:0;background:var(--card)}",
+    b"figure:has(details[open]){grid-column:1/-1}",
+    b"table{border-collapse:collapse;font-size:13px;font-variant-numeric:tabular-nums;margin-top:8px}",
+    b"th,td{text-align:right;padding:3px 0 3px 14px;font-weight:400;white-space:nowrap;border-top:1px solid var(--grid)}",
+    b"thead th,thead td{border-top:0;color:var(--soft)}",
+    b"tbody th{text-align:left;padding-left:0;white-space:normal;overflow-wrap:anywhere;min-width:90px}",
+    b".sum th,.sum td,.lim th,.lim td{font-weight:600}",
+    b".glance{font-size:14px;width:100%}",
+    b"th.w,td.w{text-align:left}",
+    b".glance tbody th{overflow-wrap:break-word}",
+    b".glance thead th:first-child{padding-left:0}",
+    b".bars{width:100%;font-size:13px;margin-top:10px}",
+    b".bars th{width:1%;min-width:84px;max-width:140px}",
+    b".bars td{width:1%}",
+    b".bars .b{width:auto;padding-left:10px}",
+    b".bars svg{display:block;width:100%;height:11px}",
+    b".way{color:var(--soft)}",
+    b".pc{color:var(--soft)}",
+    b".vh{position:absolute;width:1px;height:1px;overflow:hidden;clip-path:inset(50%);white-space:nowrap}",
+    b".skip{position:absolute;left:-999px}",
+    b".skip:focus{left:8px;top:8px;background:var(--card);padding:6px 10px}",
+    b"footer{padding-top:10px;padding-bottom:50px;color:var(--soft);font-size:14px}",
+    b"footer h2{font-size:17px;color:var(--ink);margin:30px 0 8px}",
+    b"footer ul{margin:0;padding-left:20px;max-width:90ch}",
+    b"footer li{margin-bottom:5px}",
+    b"footer b{color:var(--ink)}",
+    b"@media (max-width:640px){.glance td.w,.glance th.w{white-space:normal}.glance th,.glance td{padding-left:9px;font-size:13px}.glance tbody th{min-width:0;padding-left:0}.top{grid-template-columns:1fr;padding:18px}.num{font-size:38px}h1{font-size:27px}header,main,footer{padding-left:12px;padding-right:12px}figure{padding:14px 12px 10px}}",
+    b"@media print{@page{size:A4;margin:14mm}:root{color-scheme:light;--bg:#fff;--card:#fff;--ink:#1a1f26;--soft:#4a535e;--edge:#c5cad1;--grid:#dfe3e8;--zero:#77818d;--over:rgba(255,255,255,.62);--ok:#0a6640;--bad:#9b2c1f;--c0:#d65565;--c1:#4c37a6;--c2:#bdcb76;--c3:#005917;--c4:#98b1ff;--c5:#6a2446;--c6:#46c3aa;--c7:#91770d;--c8:#b953a8;--co:#b9bec5;--cn:#7d8792;--cb:#44688f;--k1:#3b4a5e;--k2:#a3b3c6;--k3:#c4553f;--band:#cfd9e6}",
+    b"*{print-color-adjust:exact;-webkit-print-color-adjust:exact}",
+    b"body{font-size:10pt}header,main,footer{max-width:none;padding-left:0;padding-right:0}header{padding-top:0}",
+    b".grid{display:block}figure{display:grid;grid-template-columns:85mm 1fr;column-gap:8mm;align-items:start;margin-bottom:5mm;border-radius:0}figure>*{grid-column:1/-1}figure>.chart{grid-column:1;width:85mm}figure>.legend,figure>.chart+.note,figure>.legend+.note{grid-column:2;flex-direction:column}",
+    b".top{border-radius:0}.num{font-size:30pt}details>summary{display:none}details::details-content{content-visibility:visible;display:block}.scroll{overflow:visible}table{font-size:7.5pt}th,td{padding-left:8px}.glance,.bars{font-size:9pt}nav,.skip{display:none}h2,h3{break-after:avoid}footer{break-inside:avoid}}",
+];
+
+/// Appends the style sheet.
+pub(crate) fn push_style(page: &mut Page) -> Result<(), AllocError> {
+    for rule in STYLE {
+        page.push(rule)?;
+        page.push(b"\n")?;
+    }
+    Ok(())
+}

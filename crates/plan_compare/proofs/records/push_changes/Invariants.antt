@@ -1,0 +1,11 @@
+-- What is written and the records of the changes that are left are the whole.
+use Rattle.std.proofs.Common.{◌≡◌, ◌++◌, drop}
+use Rattle.plan_compare.specs.Comparisons.{change_record}
+use Rattle.plan_compare.specs.Scenarios.{side_of}
+use Rattle.plan_compare.proofs.TextLaws.{text_of}
+use Rattle.plan_compare.proofs.records.push_changes.Given as goal
+
+abbrev pub invariant-loop-change : goal.invariant-loop-change
+invariant-loop-change l =
+    l.out.items ++ text_of (change_record l.section.by_year l.section.kind (side_of l.first) (side_of l.second)) (drop l.change-index l.changes)
+    ≡ l.fn.out.items ++ text_of (change_record l.section.by_year l.section.kind (side_of l.first) (side_of l.second)) l.changes

@@ -1,0 +1,15 @@
+-- The members so far and those that are left are all.
+use Rattle.std.proofs.Common.{◌≡◌, ◌++◌, ◌-◌, [], map, filter}
+use Rattle.std.specs.List.{range_with_len}
+use Rattle.csv.specs.Records.{fields_of, partial_of}
+use Rattle.plan_files.specs.Records.{places}
+use Rattle.row_core.specs.NameTexts.{member}
+use Rattle.plan_compare.specs.Counterparts.{counts}
+use Rattle.plan_compare.proofs.records.push_members.Given as goal
+
+abbrev pub invariant-loop-place : goal.invariant-loop-place
+invariant-loop-place l = record {
+  fields : fields_of l.fields ++ map (member l.sets l.at) (filter (counts l.section.by_year l.section.kind) (range_with_len l.place (8 - l.place)))
+      ≡ fields_of l.fn.fields ++ map (member l.sets l.at) (filter (counts l.section.by_year l.section.kind) places);
+  whole : partial_of l.fields ≡ [];
+}

@@ -1,0 +1,10 @@
+-- How many of those so far don't differ: no more than there are.
+use Rattle.std.proofs.Common.{◌≡◌, ◌≤◌, take}
+use Rattle.plan_compare.specs.Comparisons.{same_count}
+use Rattle.plan_compare.proofs.sections.same_count.Given as goal
+
+abbrev pub invariant-loop-change : goal.invariant-loop-change
+invariant-loop-change l = record {
+  count : l.same ≡ same_count (take l.change-index l.all);
+  most : l.same ≤ l.change-index;
+}

@@ -1,0 +1,10 @@
+pub mod Amounts
+pub mod Changes
+pub mod Comparisons
+pub mod Counterparts
+pub mod GreatestFirst
+pub mod Heads
+pub mod LeastCosts
+pub mod Members
+pub mod Scenarios
+pub mod Sums

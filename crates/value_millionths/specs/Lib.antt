@@ -1,0 +1,2 @@
+pub mod Outwards
+pub mod Shown
