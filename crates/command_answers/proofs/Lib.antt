@@ -6,6 +6,7 @@ pub mod CheckedRows
 mod ClosedGaps
 mod DefaultTexts
 pub mod LineExamples
+mod SizeExamples
 pub mod ListLines
 pub mod ListedBooks
 pub mod ListedNames

@@ -8,16 +8,16 @@ use Rattle.row_core.specs.declared.Row.{Row}
 use Rattle.row_core.specs.declared.Var.{Var}
 use Rattle.row_core.specs.Numbers.{ascends}
 use Rattle.row_core.specs.Order.{var_cmp}
-use Rattle.named_equations.specs.Existence.{exists}
+use Rattle.named_equations.specs.Existence.{all_variables, exists}
 use Rattle.named_equations.specs.Instances.{instances}
 use Rattle.named_equations.proofs.SameInstances.{same-exists}
 use Rattle.row_core.proofs.Members.{Has-from_Contains}
 use Rattle.row_book.specs.Books.{AreRowsOf, Book, CanBeMade, IsWithinSets}
 use Rattle.row_book.proofs.Lists.{all-has}
-use Rattle.row_book.proofs.SameRows as rows
-use Rattle.command_answers.specs.CheckedPlans.{IsListedBook}
+use Rattle.row_book.proofs.SameRows as over_rows
+use Rattle.command_answers.specs.CheckedPlans.{IsBookOf, IsListedBook}
 use Rattle.command_answers.specs.Limits.{IsWithinLimits, PassesLimits}
-use Rattle.command_answers.specs.MadeBooks.{DueForProgram, HasNoProgram, HasNoRows, IsMadeBook, IsSizedBook}
+use Rattle.command_answers.specs.MadeBooks.{DueBySize, DueForProgram, HasNoRows, IsMadeBook}
 use Rattle.command_answers.specs.declared.status.Status.{Status}
 use Rattle.command_answers.proofs.CheckedRows.{vars-are}
 use Rattle.command_answers.proofs.ListedNames.{rows-listed, vars-listed}
@@ -43,9 +43,9 @@ module _ (places : ℕ) (d e : Data) (same : AreSameData d e) where
   -- the book of one is that of the other
   pub same-made : (book : Book) → IsMadeBook places d book → IsMadeBook places e book
   same-made book is = record {
-    made = (rows.same-made places d e same 0).0 is.made;
+    made = (over_rows.same-made places d e same 0).0 is.made;
     is_book = record {
-      are_rows = (rows.same-rows places d e same book.rows).0 is.is_book.are_rows;
+      are_rows = (over_rows.same-rows places d e same book.rows).0 is.is_book.are_rows;
       ascending = is.is_book.ascending;
       exist = λ v there. sym (same-exists d e same v) ∙ is.is_book.exist v there;
       whole = λ v there. is.is_book.whole v (same-exists d e same v ∙ there);
@@ -57,24 +57,17 @@ module _ (places : ℕ) (d e : Data) (same : AreSameData d e) where
   same-stops status text (inl wide) = inl (wide_carries places d e same status text wide)
   same-stops status text (inr many) = inr (many_carries places d e same status text many)
 
+-- what is due over a book is due of its data
+pub program-due : (Over : List Row → Status → List ℕ → Type 0) (places : ℕ) (d : Data) (book : Book) → IsMadeBook places d book → (status : Status) (text : List ℕ) → Over book.rows status text
+    → DueForProgram Over places d status text
+program-due Over places d book made status text due = inl (record { made = made.made; rows = book.rows; are_rows = made.is_book.are_rows; due = due })
+
 -- ---- sizes
 
-module _ (places : ℕ) (d : Data) (book : Book) (made : IsMadeBook places d book) where
+module _ (places : ℕ) (d : Data) (rows : List Row) (vars : List Var) (book : IsBookOf places d rows vars) where
   -- a book is within the limits, or isn't, as its data say
-  pub sized : IsWithinLimits book.rows book.vars → IsSizedBook places d book
-  sized within = record { made_book = made; within = subst (IsWithinLimits book.rows) (vars-are places d book.rows book.vars made.is_book) within }
+  pub within-due : (Found Over : Status → List ℕ → Type 0) (status : Status) (text : List ℕ) → IsWithinLimits rows vars → Over status text → DueBySize Found Over rows (all_variables d) status text
+  within-due Found Over status text within due = inr (inr (rw (vars-are places d rows vars book) at within, due))
 
-  pub too-large : (status : Status) (text : List ℕ) → PassesLimits book.rows book.vars status text → HasNoProgram places d status text
-  too-large status text large =
-      inl (record {
-        made = made.made;
-        rows = book.rows;
-        are_rows = made.is_book.are_rows;
-        due = subst (λ (vars : List Var). PassesLimits book.rows vars status text) (vars-are places d book.rows book.vars made.is_book) large;
-      })
-
--- what is due over a book that is within the limits is due of its data
-pub program-due : (Over : List Row → Status → List ℕ → Type 0) (places : ℕ) (d : Data) (book : Book) → IsSizedBook places d book → (status : Status) (text : List ℕ) → Over book.rows status text
-    → DueForProgram Over places d status text
-program-due Over places d book sized status text due =
-    inl (record { made = sized.made_book.made; rows = book.rows; are_rows = sized.made_book.is_book.are_rows; due = (sized.within, due) })
+  pub large-due : (Found Over : Status → List ℕ → Type 0) (status : Status) (text : List ℕ) → PassesLimits rows vars status text → DueBySize Found Over rows (all_variables d) status text
+  large-due Found Over status text large = inr (inl (rw (vars-are places d rows vars book) at large))

@@ -44,6 +44,14 @@ entries_line = line (codes "refused too many entries")
 abbrev pub too_large_line : ℕ → ℕ → List ℕ
 too_large_line rows columns = line (codes "refused too large " ++ decimal rows ++ codes " " ++ decimal columns)
 
+-- the line for a file of values to start from, the answer of another solver or a plan, that breaks its form at this line first
+abbrev pub start_fault_line : ℕ → List ℕ
+start_fault_line number = line (codes "refused answer line " ++ decimal number)
+
+-- the line for rows of which `reduce` finds no smaller linear program
+abbrev pub no_reduced_line : List ℕ
+no_reduced_line = line (codes "refused no reduced program")
+
 -- a place by its name
 abbrev pub place_text : SetLists → Place → List ℕ
 place_text sets (Place.Row name) = codes "row " ++ row_name sets name

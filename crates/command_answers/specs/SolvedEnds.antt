@@ -12,18 +12,6 @@ use Rattle.command_answers.specs.SolvedPlans.{AreUnbounded, IsRefuted}
 use Rattle.command_answers.specs.declared.status.Status.{Status}
 use Rattle.command_answers.specs.declared.status.Status.TheVariants.{Infeasible, Unbounded}
 
--- ---- attempts
-
--- the exact method is the first attempt, the method on a grid the second, and the rounded one the third
-abbrev pub first_attempt : ℕ
-first_attempt = 1
-
-abbrev pub second_attempt : ℕ
-second_attempt = 2
-
-abbrev pub third_attempt : ℕ
-third_attempt = 3
-
 -- ---- by the exact method, with so many pivots at most
 
 -- no plan meets the named equations

@@ -6,7 +6,7 @@ ghost use Rattle.row_book.specs.Books.{NamesRowWithin};
 ghost use Rattle.command_answers.specs.BookFails.{TellsFail};
 ghost use Rattle.command_answers.specs.Limits.{TellsLimits};
 ghost use Rattle.command_answers.specs.Lines.{entries_line, too_large_line};
-ghost use Rattle.command_answers.specs.MadeBooks.{TellsMade, TellsSized};
+ghost use Rattle.command_answers.specs.MadeBooks.{TellsMade};
 
 use crate::answer::Answer;
 use crate::lines::{entries_line, too_large_line};
@@ -40,24 +40,6 @@ pub fn made_book(
             let answer = refuse_book(alloc, fail, model.sets())?;
             Ok(Err(answer))
         }
-    }
-}
-
-/// The book of rows of a model whose linear program isn't too large, or the answer where a row can't be made or it is, as of `made_book`.
-pub fn sized_book(
-    alloc: Global,
-    model: &ModelData,
-    places: u8,
-) -> Result<Result<RowBook, Answer>, AllocError>
-    requires { IsPlaces places }
-    ensures { (d : Data) → AreSameData model.now.facts d → IfOk result (TellsSized places d) }
-{
-    match made_book(alloc, model, places)? {
-        Ok(book) => match refuse_large(alloc, &book)? {
-            Some(answer) => Ok(Err(answer)),
-            None => Ok(Ok(book)),
-        },
-        Err(answer) => Ok(Err(answer)),
     }
 }
 

@@ -22,8 +22,8 @@ mod stops;
 
 pub use accepting::{accept, accept_read, acceptance_laws};
 pub use amounts::{push_amount, push_count, push_with_number};
-pub use answer::{Answer, refuse_words};
-pub use books::{made_book, refuse_book, refuse_large, sized_book};
+pub use answer::{Answer, refuse_reduced, refuse_start, refuse_words};
+pub use books::{made_book, refuse_book, refuse_large};
 pub use command_words::WordFault;
 pub use lines::{push_trial_stop, stop_line, too_long_line};
 pub use methods::{

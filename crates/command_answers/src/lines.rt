@@ -2,7 +2,7 @@
 ghost use Rattle.std.specs.Prelude.{◌≡◌, ◌++◌, IfOk, OnOk, decimal};
 ghost use Rattle.model_sets.specs.Members.{SetLists};
 ghost use Rattle.mps_writer.specs.MpsText.{line};
-ghost use Rattle.command_answers.specs.Lines.{entries_line, stop_line, too_large_line, too_long_line, trial_text, uncertified_line, words_line};
+ghost use Rattle.command_answers.specs.Lines.{entries_line, no_reduced_line, start_fault_line, stop_line, too_large_line, too_long_line, trial_text, uncertified_line, words_line};
 ghost use Rattle.command_answers.specs.PlacesWithin.{PlaceIsWithin, TrialIsWithin};
 
 use crate::amounts::push_with_number;
@@ -116,6 +116,23 @@ pub fn too_large_line(alloc: Global, rows: u64, columns: u64) -> Result<Vec<u8>,
     push_with_number(&mut text, b" ", columns)?;
     text.extend_from_slice(b"\n")?;
     Ok(text)
+}
+
+/// The line for a file of values to start from that breaks its form at a line: `refused answer line L`.
+pub fn start_fault_line(alloc: Global, number: u64) -> Result<Vec<u8>, AllocError>
+    ensures { IfOk result (λ text. text.items ≡ start_fault_line number) }
+{
+    let mut text = Vec::new(alloc);
+    push_with_number(&mut text, b"refused answer line ", number)?;
+    text.extend_from_slice(b"\n")?;
+    Ok(text)
+}
+
+/// The line for rows of which no smaller linear program is found: `refused no reduced program`.
+pub fn no_reduced_line(alloc: Global) -> Result<Vec<u8>, AllocError>
+    ensures { IfOk result (λ text. text.items ≡ no_reduced_line) }
+{
+    Vec::from_slice(alloc, b"refused no reduced program\n")
 }
 
 // A line that ends with a file's number.

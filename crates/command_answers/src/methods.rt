@@ -124,10 +124,12 @@ pub fn guess_book(
     guessed(alloc, &problem, gap, pivots)
 }
 
-/// What guesses give over the rows of a book alone, of which nothing is eliminated: as `guess_book`.
+/// What guesses give over the rows of a book alone, of which nothing is eliminated: as `guess_book`. `start` has a value for each variable,
+/// in order, from which the first guess starts; it need not be right.
 pub fn guess_rows(
     alloc: Global,
     book: &RowBook,
+    start: Option<&[f64]>,
     gap: u32,
     pivots: u64,
 ) -> Result<Option<Certified>, AllocError>
@@ -135,7 +137,7 @@ pub fn guess_rows(
 {
     let defs = definers(alloc, book)?;
     problem_laws(book);
-    guessed_rows(alloc, book.rows(), &defs, book.vars(), gap, pivots)
+    guessed_rows(alloc, book.rows(), &defs, book.vars(), start, gap, pivots)
 }
 
 /// What the attempt on a grid gives over a book: as `second` does.

@@ -60,6 +60,10 @@ pub enum Refusal {
     NoSuch(u8),
     /// The word of `table` names no table.
     UnknownTable,
+    /// The file of values to start from breaks its form at this line first.
+    StartFile(u64),
+    /// The rows have no smaller linear program that `reduce` could write.
+    NoReduced,
 }
 
 /// Why a file couldn't be read. Files count from 1, in the order of the words.

@@ -11,7 +11,7 @@ use Rattle.clap.specs.Walk.{Held, Row, Rule, Text, Waiting, Walk, after_flag, af
 use Rattle.clap.specs.Kinds.{Kinds, or_else}
 use Rattle.clap.specs.Faults.{flags_fault, long_fault, step_fault, use_fault}
 use Rattle.command_words.specs.ClapWords.{is_fault}
-use Rattle.command_words.specs.WordParts.{OptionName, Gap, Pivots, Places, Show, Method, Slack, Proof, exact_word, is_option, is_equals, option_in, joined_value, option_named, options_end}
+use Rattle.command_words.specs.WordParts.{OptionName, Gap, Pivots, Places, Show, Method, Slack, Proof, Start, exact_word, is_option, is_equals, option_in, joined_value, option_named, options_end}
 use Rattle.command_words.proofs.ClapTurns.{at, chosen, due, exact, next, rules, settling, shape, turn, with_exact, with_joined}
 use Rattle.command_words.proofs.WordSpelling.{no_equals}
 use Rattle.std.proofs.lemmas.Slice.Eq.{bytes_eq-Decides}
@@ -43,19 +43,20 @@ named (Some o) is_flag = Some (chosen o)
 same_option : (bytes : Text) → arg_by_long rules (before_first is_equals bytes) ≡ named (option_in (45 ∷ 45 ∷ bytes)) (bytes_eq (codes "exact") (before_first is_equals bytes))
 same_option bytes =
     let name = before_first is_equals bytes in
-    go (bytes_eq (codes "gap") name) (bytes_eq (codes "pivots") name) (bytes_eq (codes "places") name) (bytes_eq (codes "show") name) (bytes_eq (codes "method") name) (bytes_eq (codes "slack") name) (bytes_eq (codes "proof") name) (bytes_eq (codes "exact") name) ∙ sym (ap (λ word. named (option_named word) (bytes_eq (codes "exact") name)) (before_two bytes))
+    go (bytes_eq (codes "gap") name) (bytes_eq (codes "pivots") name) (bytes_eq (codes "places") name) (bytes_eq (codes "show") name) (bytes_eq (codes "method") name) (bytes_eq (codes "slack") name) (bytes_eq (codes "proof") name) (bytes_eq (codes "start") name) (bytes_eq (codes "exact") name) ∙ sym (ap (λ word. named (option_named word) (bytes_eq (codes "exact") name)) (before_two bytes))
   where
-    go : (a b c d e f g k : Bool) → cond (a || false) (Some (chosen Gap)) (cond (b || false) (Some (chosen Pivots)) (cond (c || false) (Some (chosen Places)) (cond (d || false) (Some (chosen Show)) (cond (e || false) (Some (chosen Method)) (cond (f || false) (Some (chosen Slack)) (cond (g || false) (Some (chosen Proof)) (cond (k || false) (Some exact) None)))))))
-        ≡ named (cond a (Some Gap) (cond b (Some Pivots) (cond c (Some Places) (cond d (Some Show) (cond e (Some Method) (cond f (Some Slack) (cond g (Some Proof) None))))))) k
-    go true b c d e f g k = refl
-    go false true c d e f g k = refl
-    go false false true d e f g k = refl
-    go false false false true e f g k = refl
-    go false false false false true f g k = refl
-    go false false false false false true g k = refl
-    go false false false false false false true k = refl
-    go false false false false false false false true = refl
-    go false false false false false false false false = refl
+    go : (a b c d e f g h k : Bool) → cond (a || false) (Some (chosen Gap)) (cond (b || false) (Some (chosen Pivots)) (cond (c || false) (Some (chosen Places)) (cond (d || false) (Some (chosen Show)) (cond (e || false) (Some (chosen Method)) (cond (f || false) (Some (chosen Slack)) (cond (g || false) (Some (chosen Proof)) (cond (h || false) (Some (chosen Start)) (cond (k || false) (Some exact) None))))))))
+        ≡ named (cond a (Some Gap) (cond b (Some Pivots) (cond c (Some Places) (cond d (Some Show) (cond e (Some Method) (cond f (Some Slack) (cond g (Some Proof) (cond h (Some Start) None)))))))) k
+    go true b c d e f g h k = refl
+    go false true c d e f g h k = refl
+    go false false true d e f g h k = refl
+    go false false false true e f g h k = refl
+    go false false false false true f g h k = refl
+    go false false false false false true g h k = refl
+    go false false false false false false true h k = refl
+    go false false false false false false false true k = refl
+    go false false false false false false false false true = refl
+    go false false false false false false false false false = refl
 
 same_value : (bytes : Text) → (name_and_value bytes).1 ≡ joined_value (45 ∷ 45 ∷ bytes)
 same_value bytes = ap (λ value. cond (list_any is_equals bytes) (Some value) None) (sym (after_two bytes))
@@ -169,6 +170,7 @@ module _ (x : ℕ) (xs : Text) where
   joined_turn Method value h waiting = or_else_nil _
   joined_turn Slack value h waiting = or_else_nil _
   joined_turn Proof value h waiting = or_else_nil _
+  joined_turn Start value h waiting = or_else_nil _
 
   joined_next : (o : OptionName) (value : Text) (h : Held) (waiting : Waiting) → long_next (Some (chosen o)) (Some value) h waiting word ≡ at (with_joined o value h) idle
   joined_next Gap value h waiting = refl
@@ -178,6 +180,7 @@ module _ (x : ℕ) (xs : Text) where
   joined_next Method value h waiting = refl
   joined_next Slack value h waiting = refl
   joined_next Proof value h waiting = refl
+  joined_next Start value h waiting = refl
 
   apart_turn : (o : OptionName) (h : Held) (waiting : Waiting) → long_turn (Some (chosen o)) None h waiting name word ≡ settling h
   apart_turn Gap h waiting = or_else_nil _
@@ -187,6 +190,7 @@ module _ (x : ℕ) (xs : Text) where
   apart_turn Method h waiting = or_else_nil _
   apart_turn Slack h waiting = or_else_nil _
   apart_turn Proof h waiting = or_else_nil _
+  apart_turn Start h waiting = or_else_nil _
 
   apart_next : (o : OptionName) (h : Held) (waiting : Waiting) → long_next (Some (chosen o)) None h waiting word ≡ due o h
   apart_next Gap h waiting = refl
@@ -196,6 +200,7 @@ module _ (x : ℕ) (xs : Text) where
   apart_next Method h waiting = refl
   apart_next Slack h waiting = refl
   apart_next Proof h waiting = refl
+  apart_next Start h waiting = refl
 
   -- the flag's name with a value joined to it isn't the flag, and without one it is
   unknown_fails : (b : Bool) (value : Option Text) → is_flag ≡ b → bytes_eq exact_word word ≡ false → joined_value word ≡ value

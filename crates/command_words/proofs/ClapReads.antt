@@ -14,7 +14,7 @@ use Rattle.clap.specs.Faults.{default_fault, defaults_fault, fault_of, given_def
 use Rattle.clap.proofs.FaultLemmas.{leaf_fault}
 use Rattle.command_words.specs.ClapWords.{app, clap_rows, is_fault}
 use Rattle.command_words.specs.Words.{files_in, times_exact, values_in}
-use Rattle.command_words.specs.WordParts.{OptionName, Gap, Pivots, Places, Show, Method, Slack, Proof, Part, File, Chosen, Exact, parts_from, parts_of}
+use Rattle.command_words.specs.WordParts.{OptionName, Gap, Pivots, Places, Show, Method, Slack, Proof, Start, Part, File, Chosen, Exact, parts_from, parts_of}
 use Rattle.command_words.specs.WordReading.{Given, given_by}
 use Rattle.command_words.proofs.ClapTurns.{at, chosen, exact as exact_rule, file, id_of, rules, settling, shape}
 use Rattle.command_words.proofs.ClapOptions.{or_else_nil}
@@ -40,9 +40,9 @@ abbrev all_times : Bool → ℕ → ℕ
 all_times true times = suc times
 all_times false times = times
 
-abbrev together : List Text → Option Text → Option Text → Option Text → Option Text → Option Text → Option Text → Option Text → Bool → List Part → Option Given
-together files gap pivots places show method slack proof exact parts =
-    cond (is_one (all_values Gap gap parts) && is_one (all_values Pivots pivots parts) && is_one (all_values Places places parts) && is_one (all_values Show show parts) && is_one (all_values Method method parts) && is_one (all_values Slack slack parts) && is_one (all_values Proof proof parts) && nat_le (all_times exact (times_exact parts)) 1)
+abbrev together : List Text → Option Text → Option Text → Option Text → Option Text → Option Text → Option Text → Option Text → Option Text → Bool → List Part → Option Given
+together files gap pivots places show method slack proof start exact parts =
+    cond (is_one (all_values Gap gap parts) && is_one (all_values Pivots pivots parts) && is_one (all_values Places places parts) && is_one (all_values Show show parts) && is_one (all_values Method method parts) && is_one (all_values Slack slack parts) && is_one (all_values Proof proof parts) && is_one (all_values Start start parts) && nat_le (all_times exact (times_exact parts)) 1)
     (Some (record {
       files = files ++ files_in parts;
       gap = slice_get (all_values Gap gap parts) 0;
@@ -52,6 +52,7 @@ together files gap pivots places show method slack proof exact parts =
       method = slice_get (all_values Method method parts) 0;
       slack = slice_get (all_values Slack slack parts) 0;
       proof = slice_get (all_values Proof proof parts) 0;
+      start = slice_get (all_values Start start parts) 0;
       exact = nat_le 1 (all_times exact (times_exact parts));
     })) None
 
@@ -79,47 +80,50 @@ still_exact : (exact : Bool) → nat_le 1 (all_times exact 0) ≡ exact
 still_exact true = refl
 still_exact false = refl
 
-gathered_all : (files : List Text) (gap pivots places show method slack proof : Option Text) (exact : Bool)
-    → Some (record { files = files; gap = gap; pivots = pivots; places = places; show = show; method = method; slack = slack; proof = proof; exact = exact }) ≡ together files gap pivots places show method slack proof exact []
-gathered_all files gap pivots places show method slack proof exact =
-    rw (no_more gap, no_more pivots, no_more places, no_more show, no_more method, no_more slack, no_more proof, no_more_flags exact, still gap, still pivots, still places, still show, still method, still slack, still proof, still_exact exact, append-nil files) refl
+gathered_all : (files : List Text) (gap pivots places show method slack proof start : Option Text) (exact : Bool)
+    → Some (record { files = files; gap = gap; pivots = pivots; places = places; show = show; method = method; slack = slack; proof = proof; start = start; exact = exact }) ≡ together files gap pivots places show method slack proof start exact []
+gathered_all files gap pivots places show method slack proof start exact =
+    rw (no_more gap, no_more pivots, no_more places, no_more show, no_more method, no_more slack, no_more proof, no_more start, no_more_flags exact, still gap, still pivots, still places, still show, still method, still slack, still proof, still start, still_exact exact, append-nil files) refl
 
-gathered_is : (parts : List Part) (files : List Text) (gap pivots places show method slack proof : Option Text) (exact : Bool)
-    → gathered (record { files = files; gap = gap; pivots = pivots; places = places; show = show; method = method; slack = slack; proof = proof; exact = exact }) parts ≡ together files gap pivots places show method slack proof exact parts
-gathered_is [] files gap pivots places show method slack proof exact = gathered_all files gap pivots places show method slack proof exact
-gathered_is (File name ∷ parts) files gap pivots places show method slack proof exact =
-    gathered_is parts (files ++ name ∷ []) gap pivots places show method slack proof exact
-    ∙ ap (λ all. cond (is_one (all_values Gap gap parts) && is_one (all_values Pivots pivots parts) && is_one (all_values Places places parts) && is_one (all_values Show show parts) && is_one (all_values Method method parts) && is_one (all_values Slack slack parts) && is_one (all_values Proof proof parts) && nat_le (all_times exact (times_exact parts)) 1)
-    (Some (record { files = all; gap = slice_get (all_values Gap gap parts) 0; pivots = slice_get (all_values Pivots pivots parts) 0; places = slice_get (all_values Places places parts) 0; show = slice_get (all_values Show show parts) 0; method = slice_get (all_values Method method parts) 0; slack = slice_get (all_values Slack slack parts) 0; proof = slice_get (all_values Proof proof parts) 0; exact = nat_le 1 (all_times exact (times_exact parts)) })) None)
+gathered_is : (parts : List Part) (files : List Text) (gap pivots places show method slack proof start : Option Text) (exact : Bool)
+    → gathered (record { files = files; gap = gap; pivots = pivots; places = places; show = show; method = method; slack = slack; proof = proof; start = start; exact = exact }) parts ≡ together files gap pivots places show method slack proof start exact parts
+gathered_is [] files gap pivots places show method slack proof start exact = gathered_all files gap pivots places show method slack proof start exact
+gathered_is (File name ∷ parts) files gap pivots places show method slack proof start exact =
+    gathered_is parts (files ++ name ∷ []) gap pivots places show method slack proof start exact
+    ∙ ap (λ all. cond (is_one (all_values Gap gap parts) && is_one (all_values Pivots pivots parts) && is_one (all_values Places places parts) && is_one (all_values Show show parts) && is_one (all_values Method method parts) && is_one (all_values Slack slack parts) && is_one (all_values Proof proof parts) && is_one (all_values Start start parts) && nat_le (all_times exact (times_exact parts)) 1)
+    (Some (record { files = all; gap = slice_get (all_values Gap gap parts) 0; pivots = slice_get (all_values Pivots pivots parts) 0; places = slice_get (all_values Places places parts) 0; show = slice_get (all_values Show show parts) 0; method = slice_get (all_values Method method parts) 0; slack = slice_get (all_values Slack slack parts) 0; proof = slice_get (all_values Proof proof parts) 0; start = slice_get (all_values Start start parts) 0; exact = nat_le 1 (all_times exact (times_exact parts)) })) None)
     (append_assoc files (name ∷ []) (files_in parts))
-gathered_is (Chosen Gap value ∷ parts) files None pivots places show method slack proof exact = gathered_is parts files (Some value) pivots places show method slack proof exact
-gathered_is (Chosen Gap value ∷ parts) files (Some a) pivots places show method slack proof exact = rw (two_are_not_one a value (values_in Gap parts)) refl
-gathered_is (Chosen Pivots value ∷ parts) files gap None places show method slack proof exact = gathered_is parts files gap (Some value) places show method slack proof exact
-gathered_is (Chosen Pivots value ∷ parts) files gap (Some b) places show method slack proof exact =
+gathered_is (Chosen Gap value ∷ parts) files None pivots places show method slack proof start exact = gathered_is parts files (Some value) pivots places show method slack proof start exact
+gathered_is (Chosen Gap value ∷ parts) files (Some a) pivots places show method slack proof start exact = rw (two_are_not_one a value (values_in Gap parts)) refl
+gathered_is (Chosen Pivots value ∷ parts) files gap None places show method slack proof start exact = gathered_is parts files gap (Some value) places show method slack proof start exact
+gathered_is (Chosen Pivots value ∷ parts) files gap (Some b) places show method slack proof start exact =
     rw (two_are_not_one b value (values_in Pivots parts), second_false (is_one (all_values Gap gap parts))) refl
-gathered_is (Chosen Places value ∷ parts) files gap pivots None show method slack proof exact = gathered_is parts files gap pivots (Some value) show method slack proof exact
-gathered_is (Chosen Places value ∷ parts) files gap pivots (Some c) show method slack proof exact =
+gathered_is (Chosen Places value ∷ parts) files gap pivots None show method slack proof start exact = gathered_is parts files gap pivots (Some value) show method slack proof start exact
+gathered_is (Chosen Places value ∷ parts) files gap pivots (Some c) show method slack proof start exact =
     rw (two_are_not_one c value (values_in Places parts), second_false (is_one (all_values Gap gap parts) && is_one (all_values Pivots pivots parts))) refl
-gathered_is (Chosen Show value ∷ parts) files gap pivots places None method slack proof exact = gathered_is parts files gap pivots places (Some value) method slack proof exact
-gathered_is (Chosen Show value ∷ parts) files gap pivots places (Some d) method slack proof exact =
+gathered_is (Chosen Show value ∷ parts) files gap pivots places None method slack proof start exact = gathered_is parts files gap pivots places (Some value) method slack proof start exact
+gathered_is (Chosen Show value ∷ parts) files gap pivots places (Some d) method slack proof start exact =
     rw (two_are_not_one d value (values_in Show parts), second_false (is_one (all_values Gap gap parts) && is_one (all_values Pivots pivots parts) && is_one (all_values Places places parts))) refl
-gathered_is (Chosen Method value ∷ parts) files gap pivots places show None slack proof exact = gathered_is parts files gap pivots places show (Some value) slack proof exact
-gathered_is (Chosen Method value ∷ parts) files gap pivots places show (Some e) slack proof exact =
+gathered_is (Chosen Method value ∷ parts) files gap pivots places show None slack proof start exact = gathered_is parts files gap pivots places show (Some value) slack proof start exact
+gathered_is (Chosen Method value ∷ parts) files gap pivots places show (Some e) slack proof start exact =
     rw (two_are_not_one e value (values_in Method parts), second_false (is_one (all_values Gap gap parts) && is_one (all_values Pivots pivots parts) && is_one (all_values Places places parts) && is_one (all_values Show show parts))) refl
-gathered_is (Chosen Slack value ∷ parts) files gap pivots places show method None proof exact = gathered_is parts files gap pivots places show method (Some value) proof exact
-gathered_is (Chosen Slack value ∷ parts) files gap pivots places show method (Some f) proof exact =
+gathered_is (Chosen Slack value ∷ parts) files gap pivots places show method None proof start exact = gathered_is parts files gap pivots places show method (Some value) proof start exact
+gathered_is (Chosen Slack value ∷ parts) files gap pivots places show method (Some f) proof start exact =
     rw (two_are_not_one f value (values_in Slack parts), second_false (is_one (all_values Gap gap parts) && is_one (all_values Pivots pivots parts) && is_one (all_values Places places parts) && is_one (all_values Show show parts) && is_one (all_values Method method parts))) refl
-gathered_is (Chosen Proof value ∷ parts) files gap pivots places show method slack None exact = gathered_is parts files gap pivots places show method slack (Some value) exact
-gathered_is (Chosen Proof value ∷ parts) files gap pivots places show method slack (Some g) exact =
+gathered_is (Chosen Proof value ∷ parts) files gap pivots places show method slack None start exact = gathered_is parts files gap pivots places show method slack (Some value) start exact
+gathered_is (Chosen Proof value ∷ parts) files gap pivots places show method slack (Some g) start exact =
     rw (two_are_not_one g value (values_in Proof parts), second_false (is_one (all_values Gap gap parts) && is_one (all_values Pivots pivots parts) && is_one (all_values Places places parts) && is_one (all_values Show show parts) && is_one (all_values Method method parts) && is_one (all_values Slack slack parts))) refl
-gathered_is (Exact ∷ parts) files gap pivots places show method slack proof true =
+gathered_is (Chosen Start value ∷ parts) files gap pivots places show method slack proof None exact = gathered_is parts files gap pivots places show method slack proof (Some value) exact
+gathered_is (Chosen Start value ∷ parts) files gap pivots places show method slack proof (Some h) exact =
+    rw (two_are_not_one h value (values_in Start parts), second_false (is_one (all_values Gap gap parts) && is_one (all_values Pivots pivots parts) && is_one (all_values Places places parts) && is_one (all_values Show show parts) && is_one (all_values Method method parts) && is_one (all_values Slack slack parts) && is_one (all_values Proof proof parts))) refl
+gathered_is (Exact ∷ parts) files gap pivots places show method slack proof start true =
     let twice : nat_le (suc (suc (times_exact parts))) 1 ≡ false = grind arith in
-    rw (twice, second_false (is_one (all_values Gap gap parts) && is_one (all_values Pivots pivots parts) && is_one (all_values Places places parts) && is_one (all_values Show show parts) && is_one (all_values Method method parts) && is_one (all_values Slack slack parts) && is_one (all_values Proof proof parts))) refl
-gathered_is (Exact ∷ parts) files gap pivots places show method slack proof false = gathered_is parts files gap pivots places show method slack proof true
+    rw (twice, second_false (is_one (all_values Gap gap parts) && is_one (all_values Pivots pivots parts) && is_one (all_values Places places parts) && is_one (all_values Show show parts) && is_one (all_values Method method parts) && is_one (all_values Slack slack parts) && is_one (all_values Proof proof parts) && is_one (all_values Start start parts))) refl
+gathered_is (Exact ∷ parts) files gap pivots places show method slack proof start false = gathered_is parts files gap pivots places show method slack proof start true
 
 gathers_is : (parts : Option (List Part)) → gathers nothing_given parts ≡ given_by parts
 gathers_is None = refl
-gathers_is (Some parts) = gathered_is parts [] None None None None None None None false
+gathers_is (Some parts) = gathered_is parts [] None None None None None None None None false
 
 -- ---- what clap's rows give
 
@@ -139,6 +143,7 @@ given_rows rows exact = record {
   method = first_of (codes "method") rows;
   slack = first_of (codes "slack") rows;
   proof = first_of (codes "proof") rows;
+  start = first_of (codes "start") rows;
   exact = exact;
 }
 
@@ -213,7 +218,7 @@ says_is rows g s = (same, flag_is rows g s)
         ∙ ap (option_and_then (λ values. slice_get values 0)) (beside_flag rows (id_of o) (exact_apart o) ∙ s.options o) ∙ only (value_of o g)
 
     same : given_rows (ended rows) g.exact ≡ g
-    same = λ i. record { files = files i; gap = value Gap i; pivots = value Pivots i; places = value Places i; show = value Show i; method = value Method i; slack = value Slack i; proof = value Proof i; exact = g.exact }
+    same = λ i. record { files = files i; gap = value Gap i; pivots = value Pivots i; places = value Places i; show = value Show i; method = value Method i; slack = value Slack i; proof = value Proof i; start = value Start i; exact = g.exact }
 
 -- ---- after the walk: the flag alone has a default, and no argument is required
 
@@ -237,6 +242,7 @@ no_default rows = (rw (either (has_row (codes "file") rows)) refl, of)
     of Method = rw (either (has_row (codes "method") rows)) refl
     of Slack = rw (either (has_row (codes "slack") rows)) refl
     of Proof = rw (either (has_row (codes "proof") rows)) refl
+    of Start = rw (either (has_row (codes "start") rows)) refl
 
 -- and that of the flag is no fault
 flag_default : (rows : List Row) → default_fault rows exact_rule ≡ []
@@ -257,19 +263,21 @@ no_defaults rows =
     let after_method = with_default after_show (chosen Method) in
     let after_slack = with_default after_method (chosen Slack) in
     let after_proof = with_default after_slack (chosen Proof) in
+    let after_start = with_default after_proof (chosen Start) in
     ap₂ or_else (no_default rows).0
-    (ap₂ or_else ((no_default after_file).1 Gap) (ap₂ or_else ((no_default after_gap).1 Pivots) (ap₂ or_else ((no_default after_pivots).1 Places) (ap₂ or_else ((no_default after_places).1 Show) (ap₂ or_else ((no_default after_show).1 Method) (ap₂ or_else ((no_default after_method).1 Slack) (ap₂ or_else ((no_default after_slack).1 Proof) (ap₂ or_else (flag_default after_proof) refl))))))))
+    (ap₂ or_else ((no_default after_file).1 Gap) (ap₂ or_else ((no_default after_gap).1 Pivots) (ap₂ or_else ((no_default after_pivots).1 Places) (ap₂ or_else ((no_default after_places).1 Show) (ap₂ or_else ((no_default after_show).1 Method) (ap₂ or_else ((no_default after_method).1 Slack) (ap₂ or_else ((no_default after_slack).1 Proof) (ap₂ or_else ((no_default after_proof).1 Start) (ap₂ or_else (flag_default after_start) refl)))))))))
 
 kept : (rows : List Row) → fold with_default rows rules ≡ ended rows
 kept rows =
-    ap (λ r. ended (with_default (with_default (with_default (with_default (with_default (with_default (with_default r (chosen Gap)) (chosen Pivots)) (chosen Places)) (chosen Show)) (chosen Method)) (chosen Slack)) (chosen Proof))) (both_same (has_row (codes "file") rows) rows)
-    ∙ ap (λ r. ended (with_default (with_default (with_default (with_default (with_default (with_default r (chosen Pivots)) (chosen Places)) (chosen Show)) (chosen Method)) (chosen Slack)) (chosen Proof))) (both_same (has_row (codes "gap") rows) rows)
-    ∙ ap (λ r. ended (with_default (with_default (with_default (with_default (with_default r (chosen Places)) (chosen Show)) (chosen Method)) (chosen Slack)) (chosen Proof))) (both_same (has_row (codes "pivots") rows) rows)
-    ∙ ap (λ r. ended (with_default (with_default (with_default (with_default r (chosen Show)) (chosen Method)) (chosen Slack)) (chosen Proof))) (both_same (has_row (codes "places") rows) rows)
-    ∙ ap (λ r. ended (with_default (with_default (with_default r (chosen Method)) (chosen Slack)) (chosen Proof))) (both_same (has_row (codes "show") rows) rows)
-    ∙ ap (λ r. ended (with_default (with_default r (chosen Slack)) (chosen Proof))) (both_same (has_row (codes "method") rows) rows)
-    ∙ ap (λ r. ended (with_default r (chosen Proof))) (both_same (has_row (codes "slack") rows) rows)
-    ∙ ap ended (both_same (has_row (codes "proof") rows) rows)
+    ap (λ r. ended (with_default (with_default (with_default (with_default (with_default (with_default (with_default (with_default r (chosen Gap)) (chosen Pivots)) (chosen Places)) (chosen Show)) (chosen Method)) (chosen Slack)) (chosen Proof)) (chosen Start))) (both_same (has_row (codes "file") rows) rows)
+    ∙ ap (λ r. ended (with_default (with_default (with_default (with_default (with_default (with_default (with_default r (chosen Pivots)) (chosen Places)) (chosen Show)) (chosen Method)) (chosen Slack)) (chosen Proof)) (chosen Start))) (both_same (has_row (codes "gap") rows) rows)
+    ∙ ap (λ r. ended (with_default (with_default (with_default (with_default (with_default (with_default r (chosen Places)) (chosen Show)) (chosen Method)) (chosen Slack)) (chosen Proof)) (chosen Start))) (both_same (has_row (codes "pivots") rows) rows)
+    ∙ ap (λ r. ended (with_default (with_default (with_default (with_default (with_default r (chosen Show)) (chosen Method)) (chosen Slack)) (chosen Proof)) (chosen Start))) (both_same (has_row (codes "places") rows) rows)
+    ∙ ap (λ r. ended (with_default (with_default (with_default (with_default r (chosen Method)) (chosen Slack)) (chosen Proof)) (chosen Start))) (both_same (has_row (codes "show") rows) rows)
+    ∙ ap (λ r. ended (with_default (with_default (with_default r (chosen Slack)) (chosen Proof)) (chosen Start))) (both_same (has_row (codes "method") rows) rows)
+    ∙ ap (λ r. ended (with_default (with_default r (chosen Proof)) (chosen Start))) (both_same (has_row (codes "slack") rows) rows)
+    ∙ ap (λ r. ended (with_default r (chosen Start))) (both_same (has_row (codes "proof") rows) rows)
+    ∙ ap ended (both_same (has_row (codes "start") rows) rows)
 
 fault_is : (words : List Text) → fault_of app words ≡ faults (at nothing_held idle) words
 fault_is words =

@@ -4,7 +4,7 @@ use Rattle.std.specs.Prelude.{codes, unwrap_or}
 use Rattle.std.specs.Str.{bytes_eq}
 use Rattle.clap.specs.Walk.{Held, Row, Text, all_of, has_row, nothing_held, reading_by, settled, used, with_values}
 use Rattle.clap.specs.declared.parser.matches.ValueSource.TheVariants.{CommandLine}
-use Rattle.command_words.specs.WordParts.{OptionName, Gap, Pivots, Places, Show, Method, Slack, Proof}
+use Rattle.command_words.specs.WordParts.{OptionName, Gap, Pivots, Places, Show, Method, Slack, Proof, Start}
 use Rattle.command_words.specs.WordReading.{Given}
 use Rattle.command_words.proofs.ClapRows.{added_here, added_elsewhere, added_row, has_row_is, new_row, row_elsewhere, row_with, without_none}
 use Rattle.command_words.proofs.ClapTurns.{chosen, exact, file, id_of, rules, settling, with_due, with_exact, with_file, with_joined, with_value}
@@ -13,7 +13,7 @@ use Rattle.command_words.proofs.ClapOptions.{Fails, using, using_exact}
 -- ---- what was given so far
 
 abbrev pub nothing_given : Given
-nothing_given = record { files = []; gap = None; pivots = None; places = None; show = None; method = None; slack = None; proof = None; exact = false }
+nothing_given = record { files = []; gap = None; pivots = None; places = None; show = None; method = None; slack = None; proof = None; start = None; exact = false }
 
 -- the value of an option
 abbrev pub value_of : OptionName → Given → Option Text
@@ -24,6 +24,7 @@ value_of Show g = g.show
 value_of Method g = g.method
 value_of Slack g = g.slack
 value_of Proof g = g.proof
+value_of Start g = g.start
 
 -- with one more file
 abbrev pub file_added : Text → Given → Given
@@ -38,6 +39,7 @@ value_added Show value g = record g { show = Some value }
 value_added Method value g = record g { method = Some value }
 value_added Slack value g = record g { slack = Some value }
 value_added Proof value g = record g { proof = Some value }
+value_added Start value g = record g { start = Some value }
 
 -- with the flag
 abbrev pub exact_added : Given → Given
@@ -73,6 +75,7 @@ same_id Show = refl
 same_id Method = refl
 same_id Slack = refl
 same_id Proof = refl
+same_id Start = refl
 
 file_apart : (o : OptionName) → bytes_eq (codes "file") (id_of o) ≡ false
 file_apart Gap = refl
@@ -82,6 +85,7 @@ file_apart Show = refl
 file_apart Method = refl
 file_apart Slack = refl
 file_apart Proof = refl
+file_apart Start = refl
 
 apart_file : (o : OptionName) → bytes_eq (id_of o) (codes "file") ≡ false
 apart_file Gap = refl
@@ -91,6 +95,7 @@ apart_file Show = refl
 apart_file Method = refl
 apart_file Slack = refl
 apart_file Proof = refl
+apart_file Start = refl
 
 pub exact_apart : (o : OptionName) → bytes_eq (codes "exact") (id_of o) ≡ false
 exact_apart Gap = refl
@@ -100,6 +105,7 @@ exact_apart Show = refl
 exact_apart Method = refl
 exact_apart Slack = refl
 exact_apart Proof = refl
+exact_apart Start = refl
 
 -- after one more file
 pub says_file : (rows : List Row) (g : Given) (name : Text) → Says rows g → Says (used file (name ∷ []) rows) (file_added name g)
@@ -117,6 +123,7 @@ says_file rows g name s = record {
     stays Method = refl
     stays Slack = refl
     stays Proof = refl
+    stays Start = refl
 
 -- an option that wasn't given has no row
 no_row : (rows : List Row) (g : Given) (o : OptionName) → Says rows g → value_of o g ≡ None → has_row (id_of o) rows ≡ false
@@ -131,6 +138,7 @@ first_value rows g Show value s none = rw (no_row rows g Show s none) refl
 first_value rows g Method value s none = rw (no_row rows g Method s none) refl
 first_value rows g Slack value s none = rw (no_row rows g Slack s none) refl
 first_value rows g Proof value s none = rw (no_row rows g Proof s none) refl
+first_value rows g Start value s none = rw (no_row rows g Start s none) refl
 
 -- and a second one is
 pub second_value : (rows : List Row) (g : Given) (o : OptionName) (value first : Text) → Says rows g → value_of o g ≡ Some first → Fails (using o value rows)
@@ -147,6 +155,7 @@ second_value rows g o value first s given = go o given
     go Method given = rw (row Method given) refl
     go Slack given = rw (row Slack given) refl
     go Proof given = rw (row Proof given) refl
+    go Start given = rw (row Start given) refl
 
 module _ (rows : List Row) (g : Given) (value : Text) (s : Says rows g) where
   -- the option's own row, and another one
@@ -178,6 +187,7 @@ module _ (rows : List Row) (g : Given) (value : Text) (s : Says rows g) where
       files Method none = other_row Method (codes "file") none refl ∙ s.files
       files Slack none = other_row Slack (codes "file") none refl ∙ s.files
       files Proof none = other_row Proof (codes "file") none refl ∙ s.files
+      files Start none = other_row Start (codes "file") none refl ∙ s.files
 
       flags : (o : OptionName) → value_of o g ≡ None → row_with (codes "exact") (used (chosen o) (value ∷ []) rows) ≡ flag_row (value_added o value g).exact
       flags Gap none = flag_stays Gap none refl ∙ s.flag
@@ -187,6 +197,7 @@ module _ (rows : List Row) (g : Given) (value : Text) (s : Says rows g) where
       flags Method none = flag_stays Method none refl ∙ s.flag
       flags Slack none = flag_stays Slack none refl ∙ s.flag
       flags Proof none = flag_stays Proof none refl ∙ s.flag
+      flags Start none = flag_stays Start none refl ∙ s.flag
 
       options : (o : OptionName) → value_of o g ≡ None → (other : OptionName)
           → all_of (id_of other) (used (chosen o) (value ∷ []) rows) ≡ option_map (λ value. value ∷ []) (value_of other (value_added o value g))
@@ -197,6 +208,7 @@ module _ (rows : List Row) (g : Given) (value : Text) (s : Says rows g) where
       options Gap none Method = other_row Gap (id_of Method) none refl ∙ s.options Method
       options Gap none Slack = other_row Gap (id_of Slack) none refl ∙ s.options Slack
       options Gap none Proof = other_row Gap (id_of Proof) none refl ∙ s.options Proof
+      options Gap none Start = other_row Gap (id_of Start) none refl ∙ s.options Start
       options Pivots none Gap = other_row Pivots (id_of Gap) none refl ∙ s.options Gap
       options Pivots none Pivots = own_row Pivots none
       options Pivots none Places = other_row Pivots (id_of Places) none refl ∙ s.options Places
@@ -204,6 +216,7 @@ module _ (rows : List Row) (g : Given) (value : Text) (s : Says rows g) where
       options Pivots none Method = other_row Pivots (id_of Method) none refl ∙ s.options Method
       options Pivots none Slack = other_row Pivots (id_of Slack) none refl ∙ s.options Slack
       options Pivots none Proof = other_row Pivots (id_of Proof) none refl ∙ s.options Proof
+      options Pivots none Start = other_row Pivots (id_of Start) none refl ∙ s.options Start
       options Places none Gap = other_row Places (id_of Gap) none refl ∙ s.options Gap
       options Places none Pivots = other_row Places (id_of Pivots) none refl ∙ s.options Pivots
       options Places none Places = own_row Places none
@@ -211,6 +224,7 @@ module _ (rows : List Row) (g : Given) (value : Text) (s : Says rows g) where
       options Places none Method = other_row Places (id_of Method) none refl ∙ s.options Method
       options Places none Slack = other_row Places (id_of Slack) none refl ∙ s.options Slack
       options Places none Proof = other_row Places (id_of Proof) none refl ∙ s.options Proof
+      options Places none Start = other_row Places (id_of Start) none refl ∙ s.options Start
       options Show none Gap = other_row Show (id_of Gap) none refl ∙ s.options Gap
       options Show none Pivots = other_row Show (id_of Pivots) none refl ∙ s.options Pivots
       options Show none Places = other_row Show (id_of Places) none refl ∙ s.options Places
@@ -218,6 +232,7 @@ module _ (rows : List Row) (g : Given) (value : Text) (s : Says rows g) where
       options Show none Method = other_row Show (id_of Method) none refl ∙ s.options Method
       options Show none Slack = other_row Show (id_of Slack) none refl ∙ s.options Slack
       options Show none Proof = other_row Show (id_of Proof) none refl ∙ s.options Proof
+      options Show none Start = other_row Show (id_of Start) none refl ∙ s.options Start
       options Method none Gap = other_row Method (id_of Gap) none refl ∙ s.options Gap
       options Method none Pivots = other_row Method (id_of Pivots) none refl ∙ s.options Pivots
       options Method none Places = other_row Method (id_of Places) none refl ∙ s.options Places
@@ -225,6 +240,7 @@ module _ (rows : List Row) (g : Given) (value : Text) (s : Says rows g) where
       options Method none Method = own_row Method none
       options Method none Slack = other_row Method (id_of Slack) none refl ∙ s.options Slack
       options Method none Proof = other_row Method (id_of Proof) none refl ∙ s.options Proof
+      options Method none Start = other_row Method (id_of Start) none refl ∙ s.options Start
       options Slack none Gap = other_row Slack (id_of Gap) none refl ∙ s.options Gap
       options Slack none Pivots = other_row Slack (id_of Pivots) none refl ∙ s.options Pivots
       options Slack none Places = other_row Slack (id_of Places) none refl ∙ s.options Places
@@ -232,6 +248,7 @@ module _ (rows : List Row) (g : Given) (value : Text) (s : Says rows g) where
       options Slack none Method = other_row Slack (id_of Method) none refl ∙ s.options Method
       options Slack none Slack = own_row Slack none
       options Slack none Proof = other_row Slack (id_of Proof) none refl ∙ s.options Proof
+      options Slack none Start = other_row Slack (id_of Start) none refl ∙ s.options Start
       options Proof none Gap = other_row Proof (id_of Gap) none refl ∙ s.options Gap
       options Proof none Pivots = other_row Proof (id_of Pivots) none refl ∙ s.options Pivots
       options Proof none Places = other_row Proof (id_of Places) none refl ∙ s.options Places
@@ -239,6 +256,15 @@ module _ (rows : List Row) (g : Given) (value : Text) (s : Says rows g) where
       options Proof none Method = other_row Proof (id_of Method) none refl ∙ s.options Method
       options Proof none Slack = other_row Proof (id_of Slack) none refl ∙ s.options Slack
       options Proof none Proof = own_row Proof none
+      options Proof none Start = other_row Proof (id_of Start) none refl ∙ s.options Start
+      options Start none Gap = other_row Start (id_of Gap) none refl ∙ s.options Gap
+      options Start none Pivots = other_row Start (id_of Pivots) none refl ∙ s.options Pivots
+      options Start none Places = other_row Start (id_of Places) none refl ∙ s.options Places
+      options Start none Show = other_row Start (id_of Show) none refl ∙ s.options Show
+      options Start none Method = other_row Start (id_of Method) none refl ∙ s.options Method
+      options Start none Slack = other_row Start (id_of Slack) none refl ∙ s.options Slack
+      options Start none Proof = other_row Start (id_of Proof) none refl ∙ s.options Proof
+      options Start none Start = own_row Start none
 
 abbrev has_values : Option Row → Bool
 has_values found = is_some (option_map (λ r. r.values) found)
@@ -279,6 +305,7 @@ module _ (rows : List Row) (g : Given) (s : Says rows g) where
       stays Method = refl
       stays Slack = refl
       stays Proof = refl
+      stays Start = refl
 
 -- ---- what is held
 
@@ -305,6 +332,7 @@ settle_value h Show value = refl
 settle_value h Method value = refl
 settle_value h Slack value = refl
 settle_value h Proof value = refl
+settle_value h Start value = refl
 
 settled_value : (h : Held) (o : OptionName) (value : Text) → (settled rules (with_value o value h)).rows ≡ used (chosen o) (value ∷ []) (settled rules h).rows
 settled_value h Gap value = refl
@@ -314,6 +342,7 @@ settled_value h Show value = refl
 settled_value h Method value = refl
 settled_value h Slack value = refl
 settled_value h Proof value = refl
+settled_value h Start value = refl
 
 pub fine_value : (h : Held) (g : Given) (o : OptionName) (value : Text) → IsFine h g → value_of o g ≡ None → IsFine (with_value o value h) (value_added o value g)
 fine_value h g o value fine none = record {
@@ -331,6 +360,7 @@ due_fails h Show = refl
 due_fails h Method = refl
 due_fails h Slack = refl
 due_fails h Proof = refl
+due_fails h Start = refl
 
 pub fine_start : IsFine nothing_held nothing_given
 fine_start = record { skip = refl; settles = refl; says = record { files = refl; options = none; flag = refl } }
@@ -343,3 +373,4 @@ fine_start = record { skip = refl; settles = refl; says = record { files = refl;
     none Method = refl
     none Slack = refl
     none Proof = refl
+    none Start = refl

@@ -9,7 +9,7 @@ use Rattle.clap.specs.Kinds.{Kinds}
 use Rattle.clap.specs.Faults.{settle_fault, turn_fault}
 use Rattle.clap.specs.declared.builder.value_parser.ValueParser.TheVariants as vp
 use Rattle.command_words.specs.ClapWords.{app, file_rule, flag_rule, option_rule}
-use Rattle.command_words.specs.WordParts.{OptionName, Gap, Pivots, Places, Show, Method, Slack, Proof, is_option}
+use Rattle.command_words.specs.WordParts.{OptionName, Gap, Pivots, Places, Show, Method, Slack, Proof, Start, is_option}
 
 -- what building makes of an argument with values: one a use
 abbrev filled_with : Rule → Option ℕ → Rule
@@ -27,6 +27,7 @@ id_of Show = codes "show"
 id_of Method = codes "method"
 id_of Slack = codes "slack"
 id_of Proof = codes "proof"
+id_of Start = codes "start"
 
 abbrev pub chosen : OptionName → Rule
 chosen o = filled_with (option_rule (id_of o)) None
@@ -41,7 +42,7 @@ exact = record (flag_rule (codes "exact")) {
 }
 
 abbrev pub rules : List Rule
-rules = file ∷ chosen Gap ∷ chosen Pivots ∷ chosen Places ∷ chosen Show ∷ chosen Method ∷ chosen Slack ∷ chosen Proof ∷ exact ∷ []
+rules = file ∷ chosen Gap ∷ chosen Pivots ∷ chosen Places ∷ chosen Show ∷ chosen Method ∷ chosen Slack ∷ chosen Proof ∷ chosen Start ∷ exact ∷ []
 
 abbrev pub shape : Shape
 shape = record (built app).top { rules = rules }
@@ -162,6 +163,7 @@ value_turn Show word h e = let p = is_plain word e in rw (p.no_end, p.no_long, p
 value_turn Method word h e = let p = is_plain word e in rw (p.no_end, p.no_long, p.no_short) refl
 value_turn Slack word h e = let p = is_plain word e in rw (p.no_end, p.no_long, p.no_short) refl
 value_turn Proof word h e = let p = is_plain word e in rw (p.no_end, p.no_long, p.no_short) refl
+value_turn Start word h e = let p = is_plain word e in rw (p.no_end, p.no_long, p.no_short) refl
 
 pub value_next : (o : OptionName) (word : Text) (h : Held) → is_option word ≡ false → next (due o h) word ≡ at (with_value o word h) idle
 unfolding walked
@@ -172,3 +174,4 @@ value_next Show word h e = let p = is_plain word e in rw (p.no_end, p.no_long, p
 value_next Method word h e = let p = is_plain word e in rw (p.no_end, p.no_long, p.no_short) refl
 value_next Slack word h e = let p = is_plain word e in rw (p.no_end, p.no_long, p.no_short) refl
 value_next Proof word h e = let p = is_plain word e in rw (p.no_end, p.no_long, p.no_short) refl
+value_next Start word h e = let p = is_plain word e in rw (p.no_end, p.no_long, p.no_short) refl

@@ -2,7 +2,7 @@
 use Rattle.std.proofs.Common.{◌≡◌, ◌∙◌, ◌&&◌, ◌||◌, arith, ℕ, zero, suc, List, [], ◌∷◌, length, Option, Some, None, is_some, Bool, true, false, cond, refl, sym, true≢false, nat_le}
 use Rattle.std.specs.Prelude.{not, slice_get}
 use Rattle.command_words.specs.Words.{CommandName, allows, allows_exact, command_with, takes, takes_exact, times_exact, value_in, values_in}
-use Rattle.command_words.specs.WordParts.{OptionName, Gap, Pivots, Places, Show, Method, Slack, Proof, Part}
+use Rattle.command_words.specs.WordParts.{OptionName, Gap, Pivots, Places, Show, Method, Slack, Proof, Start, Part}
 use Rattle.command_words.specs.WordReading.{command_by, given_by, is_exact_once, is_once}
 
 -- at most one value: the option is allowed where the command has it, or there is no value
@@ -52,12 +52,13 @@ both_true false b h = absurd (true≢false (sym h))
 
 pub given_is : (command : CommandName) (parts : Option (List Part)) → command_by command (given_by parts) ≡ command_with command parts
 given_is command None = refl
-given_is command (Some parts) = go (is_once parts Gap && is_once parts Pivots && is_once parts Places && is_once parts Show && is_once parts Method && is_once parts Slack && is_once parts Proof && is_exact_once parts) refl
+given_is command (Some parts) = go (is_once parts Gap && is_once parts Pivots && is_once parts Places && is_once parts Show && is_once parts Method && is_once parts Slack && is_once parts Proof && is_once parts Start && is_exact_once parts) refl
   where
-    go : (b : Bool) → (is_once parts Gap && is_once parts Pivots && is_once parts Places && is_once parts Show && is_once parts Method && is_once parts Slack && is_once parts Proof && is_exact_once parts) ≡ b → command_by command (given_by (Some parts)) ≡ command_with command (Some parts)
+    go : (b : Bool) → (is_once parts Gap && is_once parts Pivots && is_once parts Places && is_once parts Show && is_once parts Method && is_once parts Slack && is_once parts Proof && is_once parts Start && is_exact_once parts) ≡ b → command_by command (given_by (Some parts)) ≡ command_with command (Some parts)
     go true once =
-        let exact = both_true (is_once parts Gap && is_once parts Pivots && is_once parts Places && is_once parts Show && is_once parts Method && is_once parts Slack && is_once parts Proof) (is_exact_once parts) once in
-        let proof = both_true (is_once parts Gap && is_once parts Pivots && is_once parts Places && is_once parts Show && is_once parts Method && is_once parts Slack) (is_once parts Proof) exact.0 in
+        let exact = both_true (is_once parts Gap && is_once parts Pivots && is_once parts Places && is_once parts Show && is_once parts Method && is_once parts Slack && is_once parts Proof && is_once parts Start) (is_exact_once parts) once in
+        let start = both_true (is_once parts Gap && is_once parts Pivots && is_once parts Places && is_once parts Show && is_once parts Method && is_once parts Slack && is_once parts Proof) (is_once parts Start) exact.0 in
+        let proof = both_true (is_once parts Gap && is_once parts Pivots && is_once parts Places && is_once parts Show && is_once parts Method && is_once parts Slack) (is_once parts Proof) start.0 in
         let slack = both_true (is_once parts Gap && is_once parts Pivots && is_once parts Places && is_once parts Show && is_once parts Method) (is_once parts Slack) proof.0 in
         let method = both_true (is_once parts Gap && is_once parts Pivots && is_once parts Places && is_once parts Show) (is_once parts Method) slack.0 in
         let show = both_true (is_once parts Gap && is_once parts Pivots && is_once parts Places) (is_once parts Show) method.0 in
@@ -72,16 +73,18 @@ given_is command (Some parts) = go (is_once parts Gap && is_once parts Pivots &&
           once_allows (values_in Method parts) (takes command (value_in Method parts) Method) method.1,
           once_allows (values_in Slack parts) (takes command (value_in Method parts) Slack) slack.1,
           once_allows (values_in Proof parts) (takes command (value_in Method parts) Proof) proof.1,
+          once_allows (values_in Start parts) (takes command (value_in Method parts) Start) start.1,
           once_allows_flag (times_exact parts) (takes_exact command) exact.1,
         ) refl
     go false once =
         let twice = λ (o : OptionName). twice_allows (values_in o parts) (takes command (value_in Method parts) o) in
-        let none : (allows command parts Gap && allows command parts Pivots && allows command parts Places && allows command parts Show && allows command parts Method && allows command parts Slack && allows command parts Proof && allows_exact command parts) ≡ false =
-        both_false (is_once parts Gap && is_once parts Pivots && is_once parts Places && is_once parts Show && is_once parts Method && is_once parts Slack && is_once parts Proof) (is_exact_once parts) (allows command parts Gap && allows command parts Pivots && allows command parts Places && allows command parts Show && allows command parts Method && allows command parts Slack && allows command parts Proof) (allows_exact command parts)
+        let none : (allows command parts Gap && allows command parts Pivots && allows command parts Places && allows command parts Show && allows command parts Method && allows command parts Slack && allows command parts Proof && allows command parts Start && allows_exact command parts) ≡ false =
+        both_false (is_once parts Gap && is_once parts Pivots && is_once parts Places && is_once parts Show && is_once parts Method && is_once parts Slack && is_once parts Proof && is_once parts Start) (is_exact_once parts) (allows command parts Gap && allows command parts Pivots && allows command parts Places && allows command parts Show && allows command parts Method && allows command parts Slack && allows command parts Proof && allows command parts Start) (allows_exact command parts)
+        (both_false (is_once parts Gap && is_once parts Pivots && is_once parts Places && is_once parts Show && is_once parts Method && is_once parts Slack && is_once parts Proof) (is_once parts Start) (allows command parts Gap && allows command parts Pivots && allows command parts Places && allows command parts Show && allows command parts Method && allows command parts Slack && allows command parts Proof) (allows command parts Start)
         (both_false (is_once parts Gap && is_once parts Pivots && is_once parts Places && is_once parts Show && is_once parts Method && is_once parts Slack) (is_once parts Proof) (allows command parts Gap && allows command parts Pivots && allows command parts Places && allows command parts Show && allows command parts Method && allows command parts Slack) (allows command parts Proof)
         (both_false (is_once parts Gap && is_once parts Pivots && is_once parts Places && is_once parts Show && is_once parts Method) (is_once parts Slack) (allows command parts Gap && allows command parts Pivots && allows command parts Places && allows command parts Show && allows command parts Method) (allows command parts Slack)
         (both_false (is_once parts Gap && is_once parts Pivots && is_once parts Places && is_once parts Show) (is_once parts Method) (allows command parts Gap && allows command parts Pivots && allows command parts Places && allows command parts Show) (allows command parts Method)
         (both_false (is_once parts Gap && is_once parts Pivots && is_once parts Places) (is_once parts Show) (allows command parts Gap && allows command parts Pivots && allows command parts Places) (allows command parts Show)
         (both_false (is_once parts Gap && is_once parts Pivots) (is_once parts Places) (allows command parts Gap && allows command parts Pivots) (allows command parts Places)
-        (both_false (is_once parts Gap) (is_once parts Pivots) (allows command parts Gap) (allows command parts Pivots) (twice Gap) (twice Pivots)) (twice Places)) (twice Show)) (twice Method)) (twice Slack)) (twice Proof)) (twice_allows_flag (times_exact parts) (takes_exact command)) once in
+        (both_false (is_once parts Gap) (is_once parts Pivots) (allows command parts Gap) (allows command parts Pivots) (twice Gap) (twice Pivots)) (twice Places)) (twice Show)) (twice Method)) (twice Slack)) (twice Proof)) (twice Start)) (twice_allows_flag (times_exact parts) (takes_exact command)) once in
         rw (once, none) refl

@@ -13,7 +13,9 @@ mod LimitTurns
 mod PageWords
 mod WarnWords
 mod ProofWords
+mod ReduceWords
 pub mod Requests
+mod StartWords
 mod TableWords
 mod WordExamples
 mod WordSpelling

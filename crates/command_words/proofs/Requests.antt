@@ -13,10 +13,11 @@ use Rattle.command_words.specs.declared.command.CompareShow.{CompareShow}
 use Rattle.command_words.specs.declared.command.MakeShow.{MakeShow}
 use Rattle.command_words.specs.declared.command.SolveShow.{SolveShow}
 use Rattle.command_words.specs.declared.command.SolveMethod.{SolveMethod}
+use Rattle.command_words.specs.declared.command.SolveMethod.TheVariants.{Rounded}
 use Rattle.command_words.specs.LimitLists.{AreLimits, limits_of}
 use Rattle.command_words.proofs.LimitLaws.{AreLimitsIfRead, are_limits}
-use Rattle.command_words.specs.Words.{Request, Check, CheckProof, Mps, Solve, Explain, Curve, Span, Make, Table, Page, Warn, Compare, CommandName, MpsName, CheckName, SolveName, ExplainName, CurveName, SpanName, MakeName, TableName, PageName, WarnName, CompareName, allows_all, check_of, check_proof_of, compare_of, command_after, command_named, command_of, command_with, asked, curve_of, explain_of, files_in, has_exact, make_of, mps_of, or_fault, page_of, solve_of, span_of, table_of, value_in}
-use Rattle.command_words.specs.WordParts.{Gap, Pivots, Places, Show, Method, Slack, Proof, Part, parts_of}
+use Rattle.command_words.specs.Words.{Request, Check, CheckProof, Mps, Solve, SolveFrom, Explain, Curve, Span, Make, Table, Page, Warn, Compare, Reduce, CommandName, MpsName, CheckName, SolveName, ExplainName, CurveName, SpanName, MakeName, TableName, PageName, WarnName, CompareName, ReduceName, allows_all, check_of, check_proof_of, compare_of, command_after, command_named, command_of, command_with, asked, curve_of, explain_of, files_in, has_exact, make_of, mps_of, or_fault, page_of, reduce_of, solve_from_of, solve_of, span_of, table_of, value_in}
+use Rattle.command_words.specs.WordParts.{Gap, Pivots, Places, Show, Method, Slack, Proof, Start, Part, parts_of}
 use Rattle.command_words.specs.WordValues.{compare_show_of, gap_for, gap_of, make_show_of, method_of, pivots_of, places_of, size_of, solve_show_of}
 
 -- the size of a made file
@@ -29,6 +30,7 @@ IsInRange (Ok (Mps file places)) = IsPlaces places
 IsInRange (Ok (Check file plan multipliers gap places)) = IsPlaces places
 IsInRange (Ok (CheckProof file proof gap places)) = IsPlaces places
 IsInRange (Ok (Solve file gap pivots places show method)) = IsPlaces places
+IsInRange (Ok (SolveFrom file start gap pivots places show)) = IsPlaces places
 IsInRange (Ok (Explain file pivots places method)) = IsPlaces places
 IsInRange (Ok (Curve file region emission limits gap pivots places method)) = IsPlaces places × AreLimits limits
 IsInRange (Ok (Span file region technology year slack gap pivots places method)) = IsPlaces places
@@ -37,6 +39,7 @@ IsInRange (Ok (Table file proof name exact gap places)) = IsPlaces places
 IsInRange (Ok (Page file proof gap places)) = IsPlaces places
 IsInRange (Ok (Warn file)) = ⊤
 IsInRange (Ok (Compare first first_proof second second_proof gap places show)) = IsPlaces places
+IsInRange (Ok (Reduce file places)) = IsPlaces places
 IsInRange (Err fault) = ⊤
 
 -- what a value of `--places` is
@@ -108,6 +111,18 @@ of_solve file gap pivots value show method = go (gap_of gap) (pivots_of pivots) 
     go (Some n) (Some m) (Some places) (Some s) None one = tt
     go (Some n) (Some m) (Some places) (Some s) (Some w) one = one
 
+of_solve_from : (file start : List ℕ) (gap pivots value show : Option (List ℕ)) → IsInRange (solve_from_of file start gap pivots value show)
+of_solve_from file start gap pivots value show = go (gap_of gap) (pivots_of pivots) (places_of value) (solve_show_of show) (places-one value)
+  where
+    go : (ppm most found : Option ℕ) (shown : Option SolveShow) → IsOne found
+        → IsInRange (or_fault BadNumber ppm (λ n. or_fault BadNumber most (λ m. or_fault BadNumber found (λ decimals.
+        or_fault BadShow shown (λ s. Ok (SolveFrom file start (gap_for Rounded gap n) m decimals s))))))
+    go None most found shown one = tt
+    go (Some n) None found shown one = tt
+    go (Some n) (Some m) None shown one = tt
+    go (Some n) (Some m) (Some places) None one = tt
+    go (Some n) (Some m) (Some places) (Some s) one = one
+
 of_explain : (file : List ℕ) (pivots value method : Option (List ℕ)) → IsInRange (explain_of file pivots value method)
 of_explain file pivots value method = go (pivots_of pivots) (places_of value) (method_of method) (places-one value)
   where
@@ -178,87 +193,102 @@ of_compare first first_proof second second_proof gap value show = go (gap_of gap
     go (Some n) (Some places) None one = tt
     go (Some n) (Some places) (Some s) one = one
 
-of_mps_files : (files : List (List ℕ)) (gap pivots value show method slack proof : Option (List ℕ)) (exact : Bool) → IsInRange (command_of MpsName files gap pivots value show method slack proof exact)
-of_mps_files [] gap pivots value show method slack proof exact = tt
-of_mps_files (file ∷ []) gap pivots value show method slack proof exact = of_mps file value
-of_mps_files (file ∷ other ∷ files) gap pivots value show method slack proof exact = tt
+of_reduce : (file : List ℕ) (value : Option (List ℕ)) → IsInRange (reduce_of file value)
+of_reduce file value = go (places_of value) (places-one value)
+  where
+    go : (found : Option ℕ) → IsOne found → IsInRange (or_fault BadNumber found (λ decimals. Ok (Reduce file decimals)))
+    go None one = tt
+    go (Some places) one = one
 
-of_check_files : (files : List (List ℕ)) (gap pivots value show method slack proof : Option (List ℕ)) (exact : Bool) → IsInRange (command_of CheckName files gap pivots value show method slack proof exact)
-of_check_files [] gap pivots value show method slack None exact = tt
-of_check_files [] gap pivots value show method slack (Some proof) exact = tt
-of_check_files (file ∷ []) gap pivots value show method slack None exact = tt
-of_check_files (file ∷ []) gap pivots value show method slack (Some proof) exact = of_check_proof file proof gap value
-of_check_files (file ∷ plan ∷ []) gap pivots value show method slack None exact = of_check file plan None gap value
-of_check_files (file ∷ plan ∷ []) gap pivots value show method slack (Some proof) exact = tt
-of_check_files (file ∷ plan ∷ multipliers ∷ []) gap pivots value show method slack None exact = of_check file plan (Some multipliers) gap value
-of_check_files (file ∷ plan ∷ multipliers ∷ []) gap pivots value show method slack (Some proof) exact = tt
-of_check_files (file ∷ plan ∷ multipliers ∷ other ∷ files) gap pivots value show method slack None exact = tt
-of_check_files (file ∷ plan ∷ multipliers ∷ other ∷ files) gap pivots value show method slack (Some proof) exact = tt
+of_mps_files : (files : List (List ℕ)) (gap pivots value show method slack proof start : Option (List ℕ)) (exact : Bool) → IsInRange (command_of MpsName files gap pivots value show method slack proof start exact)
+of_mps_files [] gap pivots value show method slack proof start exact = tt
+of_mps_files (file ∷ []) gap pivots value show method slack proof start exact = of_mps file value
+of_mps_files (file ∷ other ∷ files) gap pivots value show method slack proof start exact = tt
 
-of_solve_files : (files : List (List ℕ)) (gap pivots value show method slack proof : Option (List ℕ)) (exact : Bool) → IsInRange (command_of SolveName files gap pivots value show method slack proof exact)
-of_solve_files [] gap pivots value show method slack proof exact = tt
-of_solve_files (file ∷ []) gap pivots value show method slack proof exact = of_solve file gap pivots value show method
-of_solve_files (file ∷ other ∷ files) gap pivots value show method slack proof exact = tt
+of_check_files : (files : List (List ℕ)) (gap pivots value show method slack proof start : Option (List ℕ)) (exact : Bool) → IsInRange (command_of CheckName files gap pivots value show method slack proof start exact)
+of_check_files [] gap pivots value show method slack None start exact = tt
+of_check_files [] gap pivots value show method slack (Some proof) start exact = tt
+of_check_files (file ∷ []) gap pivots value show method slack None start exact = tt
+of_check_files (file ∷ []) gap pivots value show method slack (Some proof) start exact = of_check_proof file proof gap value
+of_check_files (file ∷ plan ∷ []) gap pivots value show method slack None start exact = of_check file plan None gap value
+of_check_files (file ∷ plan ∷ []) gap pivots value show method slack (Some proof) start exact = tt
+of_check_files (file ∷ plan ∷ multipliers ∷ []) gap pivots value show method slack None start exact = of_check file plan (Some multipliers) gap value
+of_check_files (file ∷ plan ∷ multipliers ∷ []) gap pivots value show method slack (Some proof) start exact = tt
+of_check_files (file ∷ plan ∷ multipliers ∷ other ∷ files) gap pivots value show method slack None start exact = tt
+of_check_files (file ∷ plan ∷ multipliers ∷ other ∷ files) gap pivots value show method slack (Some proof) start exact = tt
 
-of_explain_files : (files : List (List ℕ)) (gap pivots value show method slack proof : Option (List ℕ)) (exact : Bool) → IsInRange (command_of ExplainName files gap pivots value show method slack proof exact)
-of_explain_files [] gap pivots value show method slack proof exact = tt
-of_explain_files (file ∷ []) gap pivots value show method slack proof exact = of_explain file pivots value method
-of_explain_files (file ∷ other ∷ files) gap pivots value show method slack proof exact = tt
+of_solve_files : (files : List (List ℕ)) (gap pivots value show method slack proof start : Option (List ℕ)) (exact : Bool) → IsInRange (command_of SolveName files gap pivots value show method slack proof start exact)
+of_solve_files [] gap pivots value show method slack proof None exact = tt
+of_solve_files [] gap pivots value show method slack proof (Some start) exact = tt
+of_solve_files (file ∷ []) gap pivots value show method slack proof None exact = of_solve file gap pivots value show method
+of_solve_files (file ∷ []) gap pivots value show method slack proof (Some start) exact = of_solve_from file start gap pivots value show
+of_solve_files (file ∷ other ∷ files) gap pivots value show method slack proof None exact = tt
+of_solve_files (file ∷ other ∷ files) gap pivots value show method slack proof (Some start) exact = tt
 
-of_curve_files : (files : List (List ℕ)) (gap pivots value show method slack proof : Option (List ℕ)) (exact : Bool) → IsInRange (command_of CurveName files gap pivots value show method slack proof exact)
-of_curve_files [] gap pivots value show method slack proof exact = tt
-of_curve_files (file ∷ []) gap pivots value show method slack proof exact = tt
-of_curve_files (file ∷ region ∷ []) gap pivots value show method slack proof exact = tt
-of_curve_files (file ∷ region ∷ emission ∷ []) gap pivots value show method slack proof exact = tt
-of_curve_files (file ∷ region ∷ emission ∷ limits ∷ []) gap pivots value show method slack proof exact = of_curve file region emission limits gap pivots value method
-of_curve_files (file ∷ region ∷ emission ∷ limits ∷ other ∷ files) gap pivots value show method slack proof exact = tt
+of_explain_files : (files : List (List ℕ)) (gap pivots value show method slack proof start : Option (List ℕ)) (exact : Bool) → IsInRange (command_of ExplainName files gap pivots value show method slack proof start exact)
+of_explain_files [] gap pivots value show method slack proof start exact = tt
+of_explain_files (file ∷ []) gap pivots value show method slack proof start exact = of_explain file pivots value method
+of_explain_files (file ∷ other ∷ files) gap pivots value show method slack proof start exact = tt
 
-of_span_files : (files : List (List ℕ)) (gap pivots value show method slack proof : Option (List ℕ)) (exact : Bool) → IsInRange (command_of SpanName files gap pivots value show method slack proof exact)
-of_span_files [] gap pivots value show method slack proof exact = tt
-of_span_files (file ∷ []) gap pivots value show method slack proof exact = tt
-of_span_files (file ∷ region ∷ []) gap pivots value show method slack proof exact = tt
-of_span_files (file ∷ region ∷ technology ∷ []) gap pivots value show method slack proof exact = tt
-of_span_files (file ∷ region ∷ technology ∷ year ∷ []) gap pivots value show method slack proof exact = of_span file region technology year gap pivots value slack method
-of_span_files (file ∷ region ∷ technology ∷ year ∷ other ∷ files) gap pivots value show method slack proof exact = tt
+of_curve_files : (files : List (List ℕ)) (gap pivots value show method slack proof start : Option (List ℕ)) (exact : Bool) → IsInRange (command_of CurveName files gap pivots value show method slack proof start exact)
+of_curve_files [] gap pivots value show method slack proof start exact = tt
+of_curve_files (file ∷ []) gap pivots value show method slack proof start exact = tt
+of_curve_files (file ∷ region ∷ []) gap pivots value show method slack proof start exact = tt
+of_curve_files (file ∷ region ∷ emission ∷ []) gap pivots value show method slack proof start exact = tt
+of_curve_files (file ∷ region ∷ emission ∷ limits ∷ []) gap pivots value show method slack proof start exact = of_curve file region emission limits gap pivots value method
+of_curve_files (file ∷ region ∷ emission ∷ limits ∷ other ∷ files) gap pivots value show method slack proof start exact = tt
 
-of_make_files : (files : List (List ℕ)) (gap pivots value show method slack proof : Option (List ℕ)) (exact : Bool) → IsInRange (command_of MakeName files gap pivots value show method slack proof exact)
-of_make_files [] gap pivots value show method slack proof exact = tt
-of_make_files (size ∷ []) gap pivots value show method slack proof exact = of_make size show
-of_make_files (size ∷ other ∷ files) gap pivots value show method slack proof exact = tt
+of_span_files : (files : List (List ℕ)) (gap pivots value show method slack proof start : Option (List ℕ)) (exact : Bool) → IsInRange (command_of SpanName files gap pivots value show method slack proof start exact)
+of_span_files [] gap pivots value show method slack proof start exact = tt
+of_span_files (file ∷ []) gap pivots value show method slack proof start exact = tt
+of_span_files (file ∷ region ∷ []) gap pivots value show method slack proof start exact = tt
+of_span_files (file ∷ region ∷ technology ∷ []) gap pivots value show method slack proof start exact = tt
+of_span_files (file ∷ region ∷ technology ∷ year ∷ []) gap pivots value show method slack proof start exact = of_span file region technology year gap pivots value slack method
+of_span_files (file ∷ region ∷ technology ∷ year ∷ other ∷ files) gap pivots value show method slack proof start exact = tt
 
-of_table_files : (files : List (List ℕ)) (gap pivots value show method slack proof : Option (List ℕ)) (exact : Bool) → IsInRange (command_of TableName files gap pivots value show method slack proof exact)
-of_table_files [] gap pivots value show method slack proof exact = tt
-of_table_files (file ∷ []) gap pivots value show method slack proof exact = tt
-of_table_files (file ∷ proved ∷ []) gap pivots value show method slack proof exact = tt
-of_table_files (file ∷ proved ∷ name ∷ []) gap pivots value show method slack proof exact = of_table file proved name gap value exact
-of_table_files (file ∷ proved ∷ name ∷ other ∷ files) gap pivots value show method slack proof exact = tt
+of_make_files : (files : List (List ℕ)) (gap pivots value show method slack proof start : Option (List ℕ)) (exact : Bool) → IsInRange (command_of MakeName files gap pivots value show method slack proof start exact)
+of_make_files [] gap pivots value show method slack proof start exact = tt
+of_make_files (size ∷ []) gap pivots value show method slack proof start exact = of_make size show
+of_make_files (size ∷ other ∷ files) gap pivots value show method slack proof start exact = tt
 
-of_page_files : (files : List (List ℕ)) (gap pivots value show method slack proof : Option (List ℕ)) (exact : Bool) → IsInRange (command_of PageName files gap pivots value show method slack proof exact)
-of_page_files [] gap pivots value show method slack proof exact = tt
-of_page_files (file ∷ []) gap pivots value show method slack proof exact = tt
-of_page_files (file ∷ proved ∷ []) gap pivots value show method slack proof exact = of_page file proved gap value
-of_page_files (file ∷ proved ∷ other ∷ files) gap pivots value show method slack proof exact = tt
+of_table_files : (files : List (List ℕ)) (gap pivots value show method slack proof start : Option (List ℕ)) (exact : Bool) → IsInRange (command_of TableName files gap pivots value show method slack proof start exact)
+of_table_files [] gap pivots value show method slack proof start exact = tt
+of_table_files (file ∷ []) gap pivots value show method slack proof start exact = tt
+of_table_files (file ∷ proved ∷ []) gap pivots value show method slack proof start exact = tt
+of_table_files (file ∷ proved ∷ name ∷ []) gap pivots value show method slack proof start exact = of_table file proved name gap value exact
+of_table_files (file ∷ proved ∷ name ∷ other ∷ files) gap pivots value show method slack proof start exact = tt
 
-of_warn_files : (files : List (List ℕ)) (gap pivots value show method slack proof : Option (List ℕ)) (exact : Bool) → IsInRange (command_of WarnName files gap pivots value show method slack proof exact)
-of_warn_files [] gap pivots value show method slack proof exact = tt
-of_warn_files (file ∷ []) gap pivots value show method slack proof exact = tt
-of_warn_files (file ∷ other ∷ files) gap pivots value show method slack proof exact = tt
+of_page_files : (files : List (List ℕ)) (gap pivots value show method slack proof start : Option (List ℕ)) (exact : Bool) → IsInRange (command_of PageName files gap pivots value show method slack proof start exact)
+of_page_files [] gap pivots value show method slack proof start exact = tt
+of_page_files (file ∷ []) gap pivots value show method slack proof start exact = tt
+of_page_files (file ∷ proved ∷ []) gap pivots value show method slack proof start exact = of_page file proved gap value
+of_page_files (file ∷ proved ∷ other ∷ files) gap pivots value show method slack proof start exact = tt
 
-of_compare_files : (files : List (List ℕ)) (gap pivots value show method slack proof : Option (List ℕ)) (exact : Bool) → IsInRange (command_of CompareName files gap pivots value show method slack proof exact)
-of_compare_files [] gap pivots value show method slack proof exact = tt
-of_compare_files (first ∷ []) gap pivots value show method slack proof exact = tt
-of_compare_files (first ∷ first_proof ∷ []) gap pivots value show method slack proof exact = tt
-of_compare_files (first ∷ first_proof ∷ second ∷ []) gap pivots value show method slack proof exact = tt
-of_compare_files (first ∷ first_proof ∷ second ∷ second_proof ∷ []) gap pivots value show method slack proof exact = of_compare first first_proof second second_proof gap value show
-of_compare_files (first ∷ first_proof ∷ second ∷ second_proof ∷ other ∷ files) gap pivots value show method slack proof exact = tt
+of_warn_files : (files : List (List ℕ)) (gap pivots value show method slack proof start : Option (List ℕ)) (exact : Bool) → IsInRange (command_of WarnName files gap pivots value show method slack proof start exact)
+of_warn_files [] gap pivots value show method slack proof start exact = tt
+of_warn_files (file ∷ []) gap pivots value show method slack proof start exact = tt
+of_warn_files (file ∷ other ∷ files) gap pivots value show method slack proof start exact = tt
 
-of_parts : (name : CommandName) → ((files : List (List ℕ)) (gap pivots value show method slack proof : Option (List ℕ)) (exact : Bool) → IsInRange (command_of name files gap pivots value show method slack proof exact))
+of_compare_files : (files : List (List ℕ)) (gap pivots value show method slack proof start : Option (List ℕ)) (exact : Bool) → IsInRange (command_of CompareName files gap pivots value show method slack proof start exact)
+of_compare_files [] gap pivots value show method slack proof start exact = tt
+of_compare_files (first ∷ []) gap pivots value show method slack proof start exact = tt
+of_compare_files (first ∷ first_proof ∷ []) gap pivots value show method slack proof start exact = tt
+of_compare_files (first ∷ first_proof ∷ second ∷ []) gap pivots value show method slack proof start exact = tt
+of_compare_files (first ∷ first_proof ∷ second ∷ second_proof ∷ []) gap pivots value show method slack proof start exact = of_compare first first_proof second second_proof gap value show
+of_compare_files (first ∷ first_proof ∷ second ∷ second_proof ∷ other ∷ files) gap pivots value show method slack proof start exact = tt
+
+of_reduce_files : (files : List (List ℕ)) (gap pivots value show method slack proof start : Option (List ℕ)) (exact : Bool) → IsInRange (command_of ReduceName files gap pivots value show method slack proof start exact)
+of_reduce_files [] gap pivots value show method slack proof start exact = tt
+of_reduce_files (file ∷ []) gap pivots value show method slack proof start exact = of_reduce file value
+of_reduce_files (file ∷ other ∷ files) gap pivots value show method slack proof start exact = tt
+
+of_parts : (name : CommandName) → ((files : List (List ℕ)) (gap pivots value show method slack proof start : Option (List ℕ)) (exact : Bool) → IsInRange (command_of name files gap pivots value show method slack proof start exact))
     → (parts : Option (List Part)) → IsInRange (command_with name parts)
 of_parts name of_files None = tt
 of_parts name of_files (Some parts) = go (allows_all name parts)
   where
-    go : (b : Bool) → IsInRange (cond b (command_of name (files_in parts) (value_in Gap parts) (value_in Pivots parts) (value_in Places parts) (value_in Show parts) (value_in Method parts) (value_in Slack parts) (value_in Proof parts) (has_exact parts)) (Err BadForm))
-    go true = of_files (files_in parts) (value_in Gap parts) (value_in Pivots parts) (value_in Places parts) (value_in Show parts) (value_in Method parts) (value_in Slack parts) (value_in Proof parts) (has_exact parts)
+    go : (b : Bool) → IsInRange (cond b (command_of name (files_in parts) (value_in Gap parts) (value_in Pivots parts) (value_in Places parts) (value_in Show parts) (value_in Method parts) (value_in Slack parts) (value_in Proof parts) (value_in Start parts) (has_exact parts)) (Err BadForm))
+    go true = of_files (files_in parts) (value_in Gap parts) (value_in Pivots parts) (value_in Places parts) (value_in Show parts) (value_in Method parts) (value_in Slack parts) (value_in Proof parts) (value_in Start parts) (has_exact parts)
     go false = tt
 
 of_command : (command : Option CommandName) (words : List (List ℕ)) → IsInRange (command_after command words)
@@ -274,6 +304,7 @@ of_command (Some TableName) words = of_parts TableName of_table_files (parts_of 
 of_command (Some PageName) words = of_parts PageName of_page_files (parts_of words)
 of_command (Some WarnName) words = of_parts WarnName of_warn_files (parts_of words)
 of_command (Some CompareName) words = of_parts CompareName of_compare_files (parts_of words)
+of_command (Some ReduceName) words = of_parts ReduceName of_reduce_files (parts_of words)
 
 in_range : (words : List (List ℕ)) → IsInRange (asked words)
 in_range [] = tt
@@ -290,6 +321,9 @@ check_proof_places words file proof gap places e = subst IsInRange e (in_range w
 
 pub solve_places : (words : List (List ℕ)) (file : List ℕ) (gap pivots places : ℕ) (show : SolveShow) (method : SolveMethod) → asked words ≡ Ok (Solve file gap pivots places show method) → IsPlaces places
 solve_places words file gap pivots places show method e = subst IsInRange e (in_range words)
+
+pub solve_from_places : (words : List (List ℕ)) (file start : List ℕ) (gap pivots places : ℕ) (show : SolveShow) → asked words ≡ Ok (SolveFrom file start gap pivots places show) → IsPlaces places
+solve_from_places words file start gap pivots places show e = subst IsInRange e (in_range words)
 
 pub explain_places : (words : List (List ℕ)) (file : List ℕ) (pivots places : ℕ) (method : SolveMethod) → asked words ≡ Ok (Explain file pivots places method) → IsPlaces places
 explain_places words file pivots places method e = subst IsInRange e (in_range words)
@@ -311,6 +345,9 @@ page_places words file proof gap places e = subst IsInRange e (in_range words)
 pub compare_places : (words : List (List ℕ)) (first first_proof second second_proof : List ℕ) (gap places : ℕ) (show : CompareShow)
     → asked words ≡ Ok (Compare first first_proof second second_proof gap places show) → IsPlaces places
 compare_places words first first_proof second second_proof gap places show e = subst IsInRange e (in_range words)
+
+pub reduce_places : (words : List (List ℕ)) (file : List ℕ) (places : ℕ) → asked words ≡ Ok (Reduce file places) → IsPlaces places
+reduce_places words file places e = subst IsInRange e (in_range words)
 
 pub make_size : (words : List (List ℕ)) (size : ℕ) (show : MakeShow) → asked words ≡ Ok (Make size show) → (3 ≤ size) × (size ≤ 122)
 make_size words size show e = subst IsInRange e (in_range words)

@@ -5,7 +5,7 @@ use Rattle.std.specs.List.{list_all, list_any, flat_map, before_first, after_fir
 use Rattle.std.specs.Str.{bytes_eq}
 use Rattle.std.proofs.lemmas.Bool.Decides.{Decides-eqb}
 use Rattle.std.proofs.lemmas.Slice.Eq.{bytes_eq-Decides}
-use Rattle.command_words.specs.WordParts.{HasSpelledParts, OptionName, Gap, Pivots, Places, Show, Method, Slack, Proof, Part, File, Chosen, Exact, Spelling, Name, Apart, Joined, Flag, Spells, end_files, end_words, exact_word, followed, is_equals, is_option, is_spelling, joined_value, option_in, option_named, option_parts, option_word, options_end, part_of, parts_from, parts_of, words_of}
+use Rattle.command_words.specs.WordParts.{HasSpelledParts, OptionName, Gap, Pivots, Places, Show, Method, Slack, Proof, Start, Part, File, Chosen, Exact, Spelling, Name, Apart, Joined, Flag, Spells, end_files, end_words, exact_word, followed, is_equals, is_option, is_spelling, joined_value, option_in, option_named, option_parts, option_word, options_end, part_of, parts_from, parts_of, words_of}
 
 -- ---- an option and its value in one word
 
@@ -44,8 +44,11 @@ named_word text o e = gap (bytes_eq (option_word Gap) text) refl e
     some_is : (p q : OptionName) → Some p ≡ Some q → option_word p ≡ option_word q
     some_is p q e = cc
 
+    after_proof : Option OptionName
+    after_proof = cond (bytes_eq (option_word Start) text) (Some Start) None
+
     after_slack : Option OptionName
-    after_slack = cond (bytes_eq (option_word Proof) text) (Some Proof) None
+    after_slack = cond (bytes_eq (option_word Proof) text) (Some Proof) after_proof
 
     after_method : Option OptionName
     after_method = cond (bytes_eq (option_word Slack) text) (Some Slack) after_slack
@@ -62,9 +65,13 @@ named_word text o e = gap (bytes_eq (option_word Gap) text) refl e
     after_gap : Option OptionName
     after_gap = cond (bytes_eq (option_word Pivots) text) (Some Pivots) after_pivots
 
-    proof : (b : Bool) → bytes_eq (option_word Proof) text ≡ b → cond b (Some Proof) None ≡ Some o → option_word o ≡ text
+    start : (b : Bool) → bytes_eq (option_word Start) text ≡ b → cond b (Some Start) None ≡ Some o → option_word o ≡ text
+    start true is e = sym (some_is Start o e) ∙ (bytes_eq-Decides (option_word Start) text).0 is
+    start false is e = absurd cc
+
+    proof : (b : Bool) → bytes_eq (option_word Proof) text ≡ b → cond b (Some Proof) after_proof ≡ Some o → option_word o ≡ text
     proof true is e = sym (some_is Proof o e) ∙ (bytes_eq-Decides (option_word Proof) text).0 is
-    proof false is e = absurd cc
+    proof false is e = start (bytes_eq (option_word Start) text) refl e
 
     slack : (b : Bool) → bytes_eq (option_word Slack) text ≡ b → cond b (Some Slack) after_slack ≡ Some o → option_word o ≡ text
     slack true is e = sym (some_is Slack o e) ∙ (bytes_eq-Decides (option_word Slack) text).0 is
@@ -125,6 +132,7 @@ next_part (Apart Show value) words right = rw (not_true (is_option value) right)
 next_part (Apart Method value) words right = rw (not_true (is_option value) right) refl
 next_part (Apart Slack value) words right = rw (not_true (is_option value) right) refl
 next_part (Apart Proof value) words right = rw (not_true (is_option value) right) refl
+next_part (Apart Start value) words right = rw (not_true (is_option value) right) refl
 next_part (Joined Gap value) words right = refl
 next_part (Joined Pivots value) words right = refl
 next_part (Joined Places value) words right = refl
@@ -132,6 +140,7 @@ next_part (Joined Show value) words right = refl
 next_part (Joined Method value) words right = refl
 next_part (Joined Slack value) words right = refl
 next_part (Joined Proof value) words right = refl
+next_part (Joined Start value) words right = refl
 next_part Flag words right = refl
 
 all_parts : (spellings : List Spelling) (files : Option (List (List ℕ))) → list_all is_spelling spellings ≡ true

@@ -24,7 +24,7 @@ files_only = with_rule (on_top (λ top. record top { no_binary_name = true; disa
 
 -- files, and the options and the flag of all commands
 abbrev pub app : App
-app = with_rule (with_rule (with_rule (with_rule (with_rule (with_rule (with_rule (with_rule files_only (option_rule (codes "gap"))) (option_rule (codes "pivots"))) (option_rule (codes "places"))) (option_rule (codes "show"))) (option_rule (codes "method"))) (option_rule (codes "slack"))) (option_rule (codes "proof"))) (flag_rule (codes "exact"))
+app = with_rule (with_rule (with_rule (with_rule (with_rule (with_rule (with_rule (with_rule (with_rule files_only (option_rule (codes "gap"))) (option_rule (codes "pivots"))) (option_rule (codes "places"))) (option_rule (codes "show"))) (option_rule (codes "method"))) (option_rule (codes "slack"))) (option_rule (codes "proof"))) (option_rule (codes "start"))) (flag_rule (codes "exact"))
 
 -- some kind of error comes
 abbrev pub is_fault : Kinds → Bool

@@ -24,6 +24,7 @@ pub data OptionName : Type 0 where
   Method : OptionName
   Slack : OptionName
   Proof : OptionName
+  Start : OptionName
 
 -- an option's word
 abbrev pub option_word : OptionName → List ℕ
@@ -34,6 +35,7 @@ option_word Show = codes "--show"
 option_word Method = codes "--method"
 option_word Slack = codes "--slack"
 option_word Proof = codes "--proof"
+option_word Start = codes "--start"
 
 -- the option of this word, if it is one's
 abbrev pub option_named : List ℕ → Option OptionName
@@ -45,6 +47,7 @@ option_named word =
     else if bytes_eq (option_word Method) word then Some Method
     else if bytes_eq (option_word Slack) word then Some Slack
     else if bytes_eq (option_word Proof) word then Some Proof
+    else if bytes_eq (option_word Start) word then Some Start
     else None
 
 -- the word of the flag, which has no value

@@ -4,7 +4,7 @@ use Rattle.command_words.specs.declared.fault.WordFault.{WordFault}
 use Rattle.command_words.specs.declared.fault.WordFault.TheVariants.{BadForm}
 use Rattle.command_words.specs.declared.parsing.Given.{Given as SlicedGiven}
 use Rattle.command_words.specs.Words.{Request, CommandName, command_of, files_in, has_exact, takes, takes_exact, times_exact, values_in, value_in}
-use Rattle.command_words.specs.WordParts.{OptionName, Gap, Pivots, Places, Show, Method, Slack, Proof, Part}
+use Rattle.command_words.specs.WordParts.{OptionName, Gap, Pivots, Places, Show, Method, Slack, Proof, Start, Part}
 
 pub record Given : Type 0 where
   pub files : List (List ℕ)
@@ -15,6 +15,7 @@ pub record Given : Type 0 where
   pub method : Option (List ℕ)
   pub slack : Option (List ℕ)
   pub proof : Option (List ℕ)
+  pub start : Option (List ℕ)
   pub exact : Bool
 
 -- without where the words lie in memory
@@ -28,6 +29,7 @@ given_of given = record {
   method = option_map (λ value. value.now) given.method;
   slack = option_map (λ value. value.now) given.slack;
   proof = option_map (λ value. value.now) given.proof;
+  start = option_map (λ value. value.now) given.start;
   exact = given.exact;
 }
 
@@ -43,8 +45,8 @@ is_exact_once parts = nat_le (times_exact parts) 1
 abbrev pub given_by : Option (List Part) → Option Given
 given_by None = None
 given_by (Some parts) =
-    if is_once parts Gap && is_once parts Pivots && is_once parts Places && is_once parts Show && is_once parts Method && is_once parts Slack && is_once parts Proof && is_exact_once parts
-    then Some (record { files = files_in parts; gap = value_in Gap parts; pivots = value_in Pivots parts; places = value_in Places parts; show = value_in Show parts; method = value_in Method parts; slack = value_in Slack parts; proof = value_in Proof parts; exact = has_exact parts })
+    if is_once parts Gap && is_once parts Pivots && is_once parts Places && is_once parts Show && is_once parts Method && is_once parts Slack && is_once parts Proof && is_once parts Start && is_exact_once parts
+    then Some (record { files = files_in parts; gap = value_in Gap parts; pivots = value_in Pivots parts; places = value_in Places parts; show = value_in Show parts; method = value_in Method parts; slack = value_in Slack parts; proof = value_in Proof parts; start = value_in Start parts; exact = has_exact parts })
     else None
 
 -- an option that is given is one that the command takes beside this value of `--method`
@@ -57,7 +59,7 @@ has_own_options command given =
     may_have command given.method Gap given.gap && may_have command given.method Pivots given.pivots
     && may_have command given.method Places given.places && may_have command given.method Show given.show
     && may_have command given.method Method given.method && may_have command given.method Slack given.slack
-    && may_have command given.method Proof given.proof
+    && may_have command given.method Proof given.proof && may_have command given.method Start given.start
 
 -- and so is the flag
 abbrev pub is_allowed : CommandName → Given → Bool
@@ -65,7 +67,7 @@ is_allowed command given = has_own_options command given && (not given.exact || 
 
 -- the command with these files and values
 abbrev pub command_given : CommandName → Given → Result Request WordFault
-command_given command given = command_of command given.files given.gap given.pivots given.places given.show given.method given.slack given.proof given.exact
+command_given command given = command_of command given.files given.gap given.pivots given.places given.show given.method given.slack given.proof given.start given.exact
 
 -- the same where something is given, and it is allowed
 abbrev pub command_by : CommandName → Option Given → Result Request WordFault

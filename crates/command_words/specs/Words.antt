@@ -7,7 +7,8 @@ use Rattle.command_words.specs.declared.command.SolveShow.{SolveShow}
 use Rattle.command_words.specs.declared.command.CompareShow.{CompareShow}
 use Rattle.command_words.specs.declared.command.MakeShow.{MakeShow}
 use Rattle.command_words.specs.declared.command.SolveMethod.{SolveMethod}
-use Rattle.command_words.specs.WordParts.{OptionName, Gap, Pivots, Places, Show, Method, Slack, Proof, Part, File, Chosen, Exact, parts_of}
+use Rattle.command_words.specs.declared.command.SolveMethod.TheVariants.{Rounded}
+use Rattle.command_words.specs.WordParts.{OptionName, Gap, Pivots, Places, Show, Method, Slack, Proof, Start, Part, File, Chosen, Exact, parts_of}
 use Rattle.command_words.specs.LimitLists.{limits_of}
 use Rattle.command_words.specs.WordValues.{gap_for, gap_of, pivots_of, places_of, size_of, solve_show_of, make_show_of, compare_show_of, method_of}
 
@@ -17,6 +18,7 @@ pub data Request : Type 0 where
   Check : (file plan : List ℕ) (multipliers : Option (List ℕ)) (gap places : ℕ) → Request
   CheckProof : (file proof : List ℕ) (gap places : ℕ) → Request
   Solve : (file : List ℕ) (gap pivots places : ℕ) (show : SolveShow) (method : SolveMethod) → Request
+  SolveFrom : (file start : List ℕ) (gap pivots places : ℕ) (show : SolveShow) → Request
   Explain : (file : List ℕ) (pivots places : ℕ) (method : SolveMethod) → Request
   Curve : (file region emission : List ℕ) (limits : List ℤ) (gap pivots places : ℕ) (method : SolveMethod) → Request
   Span : (file region technology year : List ℕ) (slack gap pivots places : ℕ) (method : SolveMethod) → Request
@@ -25,6 +27,7 @@ pub data Request : Type 0 where
   Page : (file proof : List ℕ) (gap places : ℕ) → Request
   Warn : (file : List ℕ) → Request
   Compare : (first first_proof second second_proof : List ℕ) (gap places : ℕ) (show : CompareShow) → Request
+  Reduce : (file : List ℕ) (places : ℕ) → Request
 
 -- ---- commands and their options
 
@@ -41,6 +44,7 @@ pub data CommandName : Type 0 where
   PageName : CommandName
   WarnName : CommandName
   CompareName : CommandName
+  ReduceName : CommandName
 
 -- the command of this word, if it is one's
 abbrev pub command_named : List ℕ → Option CommandName
@@ -56,6 +60,7 @@ command_named word =
     else if bytes_eq word (codes "page") then Some PageName
     else if bytes_eq word (codes "warn") then Some WarnName
     else if bytes_eq word (codes "compare") then Some CompareName
+    else if bytes_eq word (codes "reduce") then Some ReduceName
     else None
 
 -- the options that a command has, whatever the value of `--method`
@@ -87,6 +92,7 @@ has_option PageName Places = true
 has_option CompareName Gap = true
 has_option CompareName Places = true
 has_option CompareName Show = true
+has_option ReduceName Places = true
 has_option command o = false
 
 -- the value of `--method` is `rounded`
@@ -95,10 +101,11 @@ asks_for_rounded None = false
 asks_for_rounded (Some method) = bytes_eq method (codes "rounded")
 
 -- The options that a command takes beside this value of `--method`. The exact method of `curve` and `span` leaves no gap between
--- cost and bound, so `--gap` belongs to their rounded one.
+-- cost and bound, so `--gap` belongs to their rounded one; and `solve` begins from an answer by its rounded method alone, so `--start` belongs to that.
 abbrev pub takes : CommandName → Option (List ℕ) → OptionName → Bool
 takes CurveName method Gap = asks_for_rounded method
 takes SpanName method Gap = asks_for_rounded method
+takes SolveName method Start = asks_for_rounded method
 takes command method o = has_option command o
 
 -- the commands that take the flag `--exact`
@@ -124,6 +131,7 @@ is_same Show Show = true
 is_same Method Method = true
 is_same Slack Slack = true
 is_same Proof Proof = true
+is_same Start Start = true
 is_same o other = false
 
 -- the values that are given for an option
@@ -157,7 +165,7 @@ abbrev pub allows_exact : CommandName → List Part → Bool
 allows_exact command parts = nat_le (times_exact parts) (if takes_exact command then 1 else 0)
 
 abbrev pub allows_all : CommandName → List Part → Bool
-allows_all command parts = allows command parts Gap && allows command parts Pivots && allows command parts Places && allows command parts Show && allows command parts Method && allows command parts Slack && allows command parts Proof && allows_exact command parts
+allows_all command parts = allows command parts Gap && allows command parts Pivots && allows command parts Places && allows command parts Show && allows command parts Method && allows command parts Slack && allows command parts Proof && allows command parts Start && allows_exact command parts
 
 -- ---- commands with their values
 
@@ -168,6 +176,9 @@ or_fault fault (Some value) make = make value
 
 abbrev pub mps_of : List ℕ → Option (List ℕ) → Result Request WordFault
 mps_of file places = or_fault BadNumber (places_of places) (λ decimals. Ok (Mps file decimals))
+
+abbrev pub reduce_of : List ℕ → Option (List ℕ) → Result Request WordFault
+reduce_of file places = or_fault BadNumber (places_of places) (λ decimals. Ok (Reduce file decimals))
 
 -- `check` of a plan without multipliers has no bound, so a gap is refused there, also the gap 0
 abbrev pub check_of : List ℕ → List ℕ → Option (List ℕ) → Option (List ℕ) → Option (List ℕ) → Result Request WordFault
@@ -190,6 +201,14 @@ solve_of file gap pivots places show method =
     or_fault BadNumber (places_of places) (λ decimals.
     or_fault BadShow (solve_show_of show) (λ shown.
     or_fault BadShow (method_of method) (λ way. Ok (Solve file (gap_for way gap ppm) most decimals shown way))))))
+
+-- `solve` from an answer, by the rounded method, since `--start` is taken beside no other
+abbrev pub solve_from_of : (file start : List ℕ) (gap pivots places show : Option (List ℕ)) → Result Request WordFault
+solve_from_of file start gap pivots places show =
+    or_fault BadNumber (gap_of gap) (λ ppm.
+    or_fault BadNumber (pivots_of pivots) (λ most.
+    or_fault BadNumber (places_of places) (λ decimals.
+    or_fault BadShow (solve_show_of show) (λ shown. Ok (SolveFrom file start (gap_for Rounded gap ppm) most decimals shown)))))
 
 abbrev pub explain_of : List ℕ → Option (List ℕ) → Option (List ℕ) → Option (List ℕ) → Result Request WordFault
 explain_of file pivots places method =
@@ -238,30 +257,32 @@ compare_of first first_proof second second_proof gap places show =
     or_fault BadNumber (places_of places) (λ decimals.
     or_fault BadShow (compare_show_of show) (λ shown. Ok (Compare first first_proof second second_proof ppm decimals shown))))
 
--- the command with these files and these values of `--gap`, `--pivots`, `--places`, `--show`, `--method`, `--slack` and `--proof`, with or without `--exact`: a file that
+-- the command with these files and these values of `--gap`, `--pivots`, `--places`, `--show`, `--method`, `--slack`, `--proof` and `--start`, with or without `--exact`: a file that
 -- is missing or too many is a fault of form, and so is a plan beside a proof
-abbrev pub command_of : CommandName → List (List ℕ) → (gap pivots places show method slack proof : Option (List ℕ)) (exact : Bool) → Result Request WordFault
-command_of MpsName (file ∷ []) gap pivots places show method slack proof exact = mps_of file places
-command_of CheckName (file ∷ []) gap pivots places show method slack (Some proof) exact = check_proof_of file proof gap places
-command_of CheckName (file ∷ plan ∷ []) gap pivots places show method slack None exact = check_of file plan None gap places
-command_of CheckName (file ∷ plan ∷ multipliers ∷ []) gap pivots places show method slack None exact = check_of file plan (Some multipliers) gap places
-command_of SolveName (file ∷ []) gap pivots places show method slack proof exact = solve_of file gap pivots places show method
-command_of ExplainName (file ∷ []) gap pivots places show method slack proof exact = explain_of file pivots places method
-command_of CurveName (file ∷ region ∷ emission ∷ limits ∷ []) gap pivots places show method slack proof exact = curve_of file region emission limits gap pivots places method
-command_of SpanName (file ∷ region ∷ technology ∷ year ∷ []) gap pivots places show method slack proof exact = span_of file region technology year gap pivots places slack method
-command_of MakeName (size ∷ []) gap pivots places show method slack proof exact = make_of size show
-command_of TableName (file ∷ proved ∷ name ∷ []) gap pivots places show method slack proof exact = table_of file proved name gap places exact
-command_of PageName (file ∷ proved ∷ []) gap pivots places show method slack proof exact = page_of file proved gap places
-command_of WarnName (file ∷ []) gap pivots places show method slack proof exact = Ok (Warn file)
-command_of CompareName (first ∷ first_proof ∷ second ∷ second_proof ∷ []) gap pivots places show method slack proof exact = compare_of first first_proof second second_proof gap places show
-command_of command files gap pivots places show method slack proof exact = Err BadForm
+abbrev pub command_of : CommandName → List (List ℕ) → (gap pivots places show method slack proof start : Option (List ℕ)) (exact : Bool) → Result Request WordFault
+command_of MpsName (file ∷ []) gap pivots places show method slack proof start exact = mps_of file places
+command_of CheckName (file ∷ []) gap pivots places show method slack (Some proof) start exact = check_proof_of file proof gap places
+command_of CheckName (file ∷ plan ∷ []) gap pivots places show method slack None start exact = check_of file plan None gap places
+command_of CheckName (file ∷ plan ∷ multipliers ∷ []) gap pivots places show method slack None start exact = check_of file plan (Some multipliers) gap places
+command_of SolveName (file ∷ []) gap pivots places show method slack proof None exact = solve_of file gap pivots places show method
+command_of SolveName (file ∷ []) gap pivots places show method slack proof (Some start) exact = solve_from_of file start gap pivots places show
+command_of ExplainName (file ∷ []) gap pivots places show method slack proof start exact = explain_of file pivots places method
+command_of CurveName (file ∷ region ∷ emission ∷ limits ∷ []) gap pivots places show method slack proof start exact = curve_of file region emission limits gap pivots places method
+command_of SpanName (file ∷ region ∷ technology ∷ year ∷ []) gap pivots places show method slack proof start exact = span_of file region technology year gap pivots places slack method
+command_of MakeName (size ∷ []) gap pivots places show method slack proof start exact = make_of size show
+command_of TableName (file ∷ proved ∷ name ∷ []) gap pivots places show method slack proof start exact = table_of file proved name gap places exact
+command_of PageName (file ∷ proved ∷ []) gap pivots places show method slack proof start exact = page_of file proved gap places
+command_of WarnName (file ∷ []) gap pivots places show method slack proof start exact = Ok (Warn file)
+command_of CompareName (first ∷ first_proof ∷ second ∷ second_proof ∷ []) gap pivots places show method slack proof start exact = compare_of first first_proof second second_proof gap places show
+command_of ReduceName (file ∷ []) gap pivots places show method slack proof start exact = reduce_of file places
+command_of command files gap pivots places show method slack proof start exact = Err BadForm
 
 -- the command with the parts of the words after it
 abbrev pub command_with : CommandName → Option (List Part) → Result Request WordFault
 command_with command None = Err BadForm
 command_with command (Some parts) =
     if allows_all command parts
-    then command_of command (files_in parts) (value_in Gap parts) (value_in Pivots parts) (value_in Places parts) (value_in Show parts) (value_in Method parts) (value_in Slack parts) (value_in Proof parts) (has_exact parts)
+    then command_of command (files_in parts) (value_in Gap parts) (value_in Pivots parts) (value_in Places parts) (value_in Show parts) (value_in Method parts) (value_in Slack parts) (value_in Proof parts) (value_in Start parts) (has_exact parts)
     else Err BadForm
 
 -- the command of a first word, with the words after it
@@ -281,6 +302,7 @@ names_of (Check file plan None gap places) = file ∷ plan ∷ []
 names_of (Check file plan (Some multipliers) gap places) = file ∷ plan ∷ multipliers ∷ []
 names_of (CheckProof file proof gap places) = file ∷ proof ∷ []
 names_of (Solve file gap pivots places show method) = file ∷ []
+names_of (SolveFrom file start gap pivots places show) = file ∷ start ∷ []
 names_of (Explain file pivots places method) = file ∷ []
 names_of (Curve file region emission limits gap pivots places method) = file ∷ []
 names_of (Span file region technology year slack gap pivots places method) = file ∷ []
@@ -289,3 +311,4 @@ names_of (Table file proof name exact gap places) = file ∷ proof ∷ []
 names_of (Page file proof gap places) = file ∷ proof ∷ []
 names_of (Warn file) = file ∷ []
 names_of (Compare first first_proof second second_proof gap places show) = first ∷ first_proof ∷ second ∷ second_proof ∷ []
+names_of (Reduce file places) = file ∷ []

@@ -21,6 +21,7 @@ pub struct Given<'a> {
     pub method: Option<&'a str>,
     pub slack: Option<&'a str>,
     pub proof: Option<&'a str>,
+    pub start: Option<&'a str>,
     pub exact: bool,
 }
 
@@ -41,6 +42,7 @@ pub fn read_given<'a>(alloc: Global, words: &'a [String]) -> Result<Option<Given
         method: matches.get_str("method"),
         slack: matches.get_str("slack"),
         proof: matches.get_str("proof"),
+        start: matches.get_str("start"),
         exact: matches.get_flag("exact"),
     };
     Ok(Some(given))
@@ -83,6 +85,7 @@ fn any_options<'a>(alloc: Global) -> Result<Command<'a>, AllocError>
     let command = with_option(alloc, command, "method")?;
     let command = with_option(alloc, command, "slack")?;
     let command = with_option(alloc, command, "proof")?;
+    let command = with_option(alloc, command, "start")?;
     with_flag(alloc, command, "exact")
 }
 

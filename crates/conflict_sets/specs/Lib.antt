@@ -4,3 +4,4 @@ pub mod Conflicts
 pub mod Pieces
 pub mod Searches
 pub mod RoundedStops
+pub mod Halts

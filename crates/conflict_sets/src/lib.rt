@@ -4,6 +4,7 @@
 mod conflict;
 mod copying;
 mod explaining;
+mod fallback;
 mod guessing;
 mod listing;
 mod rounding;
@@ -13,4 +14,4 @@ mod trial;
 
 pub use conflict::{Conflict, ExplainFail};
 pub use explaining::explain;
-pub use rounding::explain_rounded;
+pub use rounding::{explain_guessed, explain_rounded};

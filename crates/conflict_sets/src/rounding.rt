@@ -1,25 +1,26 @@
-//! Why no plan meets the rows, by guesses that the checker accepts, and by the exact method where there are none.
+//! Why no plan meets the rows, by guesses that the checker accepts, and by the exact method, or by nothing, where there are none.
 
-ghost use Rattle.std.specs.Prelude.{◌≡◌, ◌∷◌, List, Some, length, IfOk, IfErr, IfSome, IfNone, OnOk};
+ghost use Rattle.std.specs.Prelude.{◌≡◌, ◌∷◌, List, length, IfOk, IfErr, IfSome, IfNone, OnOk};
 ghost use Rattle.row_problem.specs.Prelude.{RowName, IsRefutation};
 ghost use Rattle.row_problem.specs.ProgramsOf.{IsPosedProblem};
 ghost use Rattle.conflict_sets.specs.Conflicts.{AdmitsSome, IsConflict};
+ghost use Rattle.conflict_sets.specs.Halts.{HaltsSome, HaltsTrial};
 ghost use Rattle.conflict_sets.specs.Pieces.{IsFinding, listed_by};
 ghost use Rattle.conflict_sets.specs.RoundedStops.{StopsSome};
 ghost use Rattle.conflict_sets.specs.Searches.{SearchIs};
-ghost use Rattle.conflict_sets.specs.Trials.{StopsTrial, trial_end};
+ghost use Rattle.conflict_sets.specs.Trials.{trial_end};
 
 use crate::conflict::{Conflict, ExplainFail};
-use crate::explaining::first_fail;
+use crate::fallback::{Fallback, Halt, first_halt, trial_halt};
 use crate::guessing::guessed;
 use crate::listing::{Listing, is_listed, listed_names};
-use crate::searching::{Search, trial_fail};
+use crate::searching::Search;
 use crate::shrinking::Shrinking;
 use crate::trial::{Finding, trial};
 use certified_answers::NoAnswer;
 use row_core::{Multipliers, RowName};
 use row_problem::Problem;
-use std::alloc::Global;
+use std::alloc::{AllocError, Global};
 
 /// As `explain`, by guesses in numbers of limited accuracy first: a few inequalities that can't be met together, each of them
 /// needed for that, or `None` where some plan meets all rows. Plans and multipliers are checked as those of `explain` are.
@@ -41,31 +42,74 @@ pub fn explain_rounded(
     ensures conflict { IfOk result (λ found. IfSome found (IsConflict problem.now.rows.now problem.now.vars.now)) }
     ensures feasible { IfOk result (λ found. IfNone found (AdmitsSome problem.now.rows.now problem.now.vars.now)) }
 {
-    match rounded_trial(alloc, problem, &Listing::Every, pivots) {
-        Ok(Finding::Plan(_)) => Ok(None),
-        Ok(Finding::Refutation(multipliers)) => {
-            let conflict = shortened(alloc, problem, multipliers, pivots)?;
-            Ok(Some(conflict))
-        }
-        Err(stop) => Err(first_fail(stop, pivots)),
+    match explain_with(alloc, problem, pivots, Fallback::Exact) {
+        Ok(found) => Ok(found),
+        Err(Halt::Failed(fail)) => Err(fail),
+        // The exact method follows in each trial.
+        Err(Halt::Unguessed) => unreachable!(),
     }
 }
 
-/// Tries the equations and those of its inequalities that are listed: by guesses, and by the exact method where none is
-/// accepted.
+/// The same by guesses alone, for linear programs that are too large for the exact method. `None` where the checker accepts no guess in
+/// some trial; when this is so isn't defined, and nothing is known of the rows then. Refuses only out of memory.
+pub fn explain_guessed(
+    alloc: Global,
+    problem: &Problem<'_>,
+    pivots: u64,
+) -> Result<Option<Option<Conflict>>, AllocError>
+    requires { IsPosedProblem problem.now }
+    ensures conflict { IfOk result (λ given. IfSome given (λ found. IfSome found (IsConflict problem.now.rows.now problem.now.vars.now))) }
+    ensures feasible { IfOk result (λ given. IfSome given (λ found. IfNone found (AdmitsSome problem.now.rows.now problem.now.vars.now))) }
+{
+    match explain_with(alloc, problem, pivots, Fallback::Nothing) {
+        Ok(found) => Ok(Some(found)),
+        Err(Halt::Unguessed) => Ok(None),
+        Err(Halt::Failed(ExplainFail::Memory)) => Err(AllocError),
+        // No exact trial is made that could stop.
+        Err(Halt::Failed(ExplainFail::Stopped(_))) => unreachable!(),
+    }
+}
+
+/// What trials by guesses find, with this after a trial of which no guess is accepted.
+fn explain_with(
+    alloc: Global,
+    problem: &Problem<'_>,
+    pivots: u64,
+    fallback: Fallback,
+) -> Result<Option<Conflict>, Halt>
+    requires { IsPosedProblem problem.now }
+    ensures halted { IfErr result (HaltsSome fallback problem.now.rows.now problem.now.defs.now problem.now.vars.now pivots) }
+    ensures conflict { IfOk result (λ found. IfSome found (IsConflict problem.now.rows.now problem.now.vars.now)) }
+    ensures feasible { IfOk result (λ found. IfNone found (AdmitsSome problem.now.rows.now problem.now.vars.now)) }
+{
+    match rounded_trial(alloc, problem, &Listing::Every, pivots, fallback) {
+        Ok(Finding::Plan(_)) => Ok(None),
+        Ok(Finding::Refutation(multipliers)) => {
+            let conflict = shortened(alloc, problem, multipliers, pivots, fallback)?;
+            Ok(Some(conflict))
+        }
+        Err(stop) => Err(first_halt(stop, pivots)),
+    }
+}
+
+/// Tries the equations and those of its inequalities that are listed: by guesses, and by what follows where none is accepted.
 fn rounded_trial(
     alloc: Global,
     problem: &Problem<'_>,
     listing: &Listing<'_>,
     pivots: u64,
+    fallback: Fallback,
 ) -> Result<Finding, NoAnswer>
     requires { IsPosedProblem problem.now }
-    ensures stopped { IfErr result (StopsTrial (trial_end (listed_by listing.now) problem.now.rows.now problem.now.defs.now problem.now.vars.now pivots)) }
+    ensures halted { IfErr result (HaltsTrial fallback (trial_end (listed_by listing.now) problem.now.rows.now problem.now.defs.now problem.now.vars.now pivots)) }
     ensures worth { IfOk result (IsFinding (listed_by listing.now) problem.now.rows.now problem.now.vars.now) }
 {
     match guessed(alloc, problem, listing, pivots) {
         Ok(Some(finding)) => Ok(finding),
-        Ok(None) => trial(alloc, problem, listing, pivots),
+        Ok(None) => match fallback {
+            Fallback::Exact => trial(alloc, problem, listing, pivots),
+            Fallback::Nothing => Err(NoAnswer::Nothing),
+        },
         Err(_) => Err(NoAnswer::Memory),
     }
 }
@@ -76,10 +120,11 @@ fn shortened(
     problem: &Problem<'_>,
     multipliers: Multipliers,
     pivots: u64,
-) -> Result<Conflict, ExplainFail>
+    fallback: Fallback,
+) -> Result<Conflict, Halt>
     requires problem { IsPosedProblem problem.now }
     requires refutation { IsRefutation problem.now.rows.now problem.now.vars.now multipliers }
-    ensures stopped { IfErr result (StopsSome problem.now.rows.now problem.now.defs.now problem.now.vars.now pivots) }
+    ensures halted { IfErr result (HaltsSome fallback problem.now.rows.now problem.now.defs.now problem.now.vars.now pivots) }
     ensures conflict { IfOk result (IsConflict problem.now.rows.now problem.now.vars.now) }
 {
     let mut shrinking = Shrinking {
@@ -94,7 +139,7 @@ fn shortened(
         plans: Vec::new(alloc),
         trials: shrinking.trials,
     };
-    searched(alloc, problem, search, &names, pivots)
+    searched(alloc, problem, search, &names, pivots, fallback)
 }
 
 /// What is left of the list when each of these inequalities was tried.
@@ -104,16 +149,17 @@ fn searched(
     search: Search,
     names: &[RowName],
     pivots: u64,
-) -> Result<Conflict, ExplainFail>
+    fallback: Fallback,
+) -> Result<Conflict, Halt>
     requires problem { IsPosedProblem problem.now }
     requires even { length search.names.items ≡ length search.plans.items }
     requires searched { SearchIs problem.now.rows.now problem.now.vars.now search names.now }
-    ensures stopped { IfErr result (StopsSome problem.now.rows.now problem.now.defs.now problem.now.vars.now pivots) }
+    ensures halted { IfErr result (HaltsSome fallback problem.now.rows.now problem.now.defs.now problem.now.vars.now pivots) }
     ensures conflict { IfOk result (IsConflict problem.now.rows.now problem.now.vars.now) }
 {
     let mut search = search;
     for name in names {
-        leave_out(alloc, problem, &mut search, *name, pivots)?;
+        leave_out(alloc, problem, &mut search, *name, pivots, fallback)?;
     }
     Ok(search.conflict(alloc)?)
 }
@@ -125,12 +171,13 @@ fn leave_out(
     search: &mut Search,
     name: RowName,
     pivots: u64,
-) -> Result<(), ExplainFail>
+    fallback: Fallback,
+) -> Result<(), Halt>
     requires problem { IsPosedProblem problem.now }
     requires even { length search.old.names.items ≡ length search.old.plans.items }
     requires refutation { IsRefutation problem.now.rows.now problem.now.vars.now search.old.multipliers }
     ensures even { OnOk result (length search.new.names.items ≡ length search.new.plans.items) }
-    ensures stopped { IfErr result (StopsSome problem.now.rows.now problem.now.defs.now problem.now.vars.now pivots) }
+    ensures halted { IfErr result (HaltsSome fallback problem.now.rows.now problem.now.defs.now problem.now.vars.now pivots) }
     ensures searched { OnOk result ((left : List RowName) → SearchIs problem.now.rows.now problem.now.vars.now search.old (name ∷ left) → SearchIs problem.now.rows.now problem.now.vars.now search.new left) }
 {
     if !is_listed(&search.multipliers, name) {
@@ -139,11 +186,11 @@ fn leave_out(
     // A count of trials that are made one after another never comes near its end.
     search.trials = search.trials.saturating_add(1);
     let listing = Listing::Others(&search.multipliers, name);
-    match rounded_trial(alloc, problem, &listing, pivots) {
+    match rounded_trial(alloc, problem, &listing, pivots, fallback) {
         Ok(finding) => {
             search.learn(name, finding)?;
             Ok(())
         }
-        Err(stop) => Err(trial_fail(stop, search.trials, pivots)),
+        Err(stop) => Err(trial_halt(stop, search.trials, pivots)),
     }
 }

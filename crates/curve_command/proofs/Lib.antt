@@ -8,3 +8,4 @@ pub mod TrialLaws
 mod LimitExamples
 mod TextExamples
 pub mod TrialLists
+mod RoundedPoints

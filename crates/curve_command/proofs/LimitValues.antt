@@ -1,5 +1,5 @@
 -- The data with a limit on the emissions of the model period in a region: the limit's value, and that all other values are as they were.
-use Rattle.std.proofs.Common.{◌≡◌, ◌≢◌, ℕ, ◌<◌, ℤ, pos, negsuc, Bool, true, false, cond, List, [], ◌∷◌, length, nat_eq, Option, Some, refl, sym, ap, ap₂, ◌∙◌, subst, inl, inr, arith, eqb-true, true≢false, to_z, of_z}
+use Rattle.std.proofs.Common.{◌≡◌, ◌≢◌, ℕ, ℤ, pos, negsuc, Bool, true, false, cond, List, [], ◌∷◌, nat_eq, Option, Some, refl, sym, ap, ap₂, ◌∙◌, subst, inl, inr, arith, eqb-true, true≢false, to_z, of_z}
 use Rattle.std.specs.Prelude.{◌≤ℤ◌, Contains, unwrap_or}
 use Rattle.std.specs.Cmp.Derive.{both_true}
 use Rattle.std.specs.Int.{w128}
@@ -10,11 +10,9 @@ use Rattle.std.proofs.lemmas.Int.{ints}
 use Rattle.exact_num.proofs.RangeLaws.{back_in_range}
 use Rattle.command_words.specs.LimitLists.{IsLimit}
 use Rattle.model_sets.specs.Data.{AreSameData, Data, IsUsedParam, default_of, indices_of, is_given_at, value_at, value_of_none}
-use Rattle.model_sets.specs.Members.{AreSets, SetLists, members}
+use Rattle.model_sets.specs.Members.{AreSets, SetLists}
 use Rattle.model_sets.specs.Names as sets
-use Rattle.model_sets.specs.Params.{is_used, param_at}
 use Rattle.model_sets.specs.declared.param_numbers.TheConstants.{MODEL_PERIOD_EMISSION_LIMIT}
-use Rattle.model_sets.specs.declared.set_numbers.TheConstants.{EMISSION, REGION}
 use Rattle.param_tables.specs.Changed.{AreDataWith}
 use Rattle.param_tables.proofs.GivenLaws.{names_same}
 use Rattle.param_tables.proofs.IndexLaws.{names_apart_from}

@@ -15,11 +15,9 @@ use Rattle.row_core.specs.declared.kind_numbers.TheConstants.{MODEL_PERIOD_EMISS
 use Rattle.row_core.specs.Order.{row_name_cmp}
 use Rattle.row_core.specs.Rows.{number_at, row_sum}
 use Rattle.row_core.specs.Statements.{Holds, Stands}
-use Rattle.row_core.specs.Values.{IsOver}
 use Rattle.certificate_checker.specs.Certificates.{AdmitsNone}
 use Rattle.certificate_checker.specs.Plans.{AllStand}
 use Rattle.named_equations.specs.Instances.{instances, is_instance}
-use Rattle.named_equations.specs.Parameters.{model_period_emission_limit}
 use Rattle.named_equations.specs.Plans.{Meets}
 use Rattle.named_equations.specs.RowMeaning.{IsNamedRow}
 use Rattle.named_equations.specs.Variables.{model_period_emissions, variable}

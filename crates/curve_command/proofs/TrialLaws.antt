@@ -1,5 +1,5 @@
 -- What a book of the rows of the data with a limit tells is what is due of the trial.
-use Rattle.std.proofs.Common.{◌≡◌, ℕ, List, sym, ap, subst, inl, inr}
+use Rattle.std.proofs.Common.{◌≡◌, ℕ, List, ap, inl, inr}
 use Rattle.command_words.specs.LimitLists.{IsLimit}
 use Rattle.model_sets.specs.Data.{Data}
 use Rattle.row_core.specs.declared.Row.{Row}
@@ -10,7 +10,6 @@ use Rattle.row_book.specs.Books.{Book, HasStopped}
 use Rattle.row_book.specs.declared.fail.BookFail.{BookFail}
 use Rattle.row_book.specs.declared.fail.BookFail.TheVariants as fails
 use Rattle.simplex_core.specs.declared.stops.TrialStop.TheVariants.{Width}
-use Rattle.command_answers.specs.CheckedPlans.{IsBookOf}
 use Rattle.command_answers.specs.MadeBooks.{IsMadeBook}
 use Rattle.command_answers.specs.MadeRows.{IsMadeFor}
 use Rattle.command_answers.proofs.CheckedRows.{vars-are}
@@ -38,10 +37,10 @@ module _ (places : ℕ) (d : Data) (limit : Limit) (wanted : Wanted) (at : IsPla
     told-of : (trial : Trial) → BookTells d.sets (record { rows = book.rows; vars = vars }) (limit_of limit.member) wanted trial → TrialTells places d limit wanted trial
     told-of (trials.Ended point) told = (
       record {
-        cause = elim told.1.cause [ inl is ↦ inr (inl (made-for _ (told.0, is))) | inr is ↦ inr (inr (record { asked = is.0; rows = made-for _ told.0; rounded = is.1 })) ];
-        true_end = end-named places d limit.member.region limit.member.emission limit.most at book.rows vars (rw vars_are at made.is_book) (point_seen point) told.1.worth;
+        cause = elim told.cause [ inl is ↦ inr (inl (made-for _ is)) | inr is ↦ inr (inr (record { asked = is.0; made = made.made; rounded = is.1 })) ];
+        true_end = end-named places d limit.member.region limit.member.emission limit.most at book.rows vars (rw vars_are at made.is_book) (point_seen point) told.worth;
       },
-      (most, told.1.within),
+      (most, told.within),
     )
     told-of (trials.Refused answer) told = inr (made-for _ told)
 

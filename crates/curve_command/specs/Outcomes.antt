@@ -40,14 +40,19 @@ EndIsWithin sets end = IfSome (texts.stop_of 0 end) (StopIsWithin sets)
 
 -- ---- over the rows of a book
 
--- a point of the rows, by the exact method, or by the rounded one where that is asked for
+-- a point of the rows whose linear program is within the limits, by the exact method, or of any rows by the rounded one, where that is asked for
+abbrev pub HasCause : Book → RowName → Wanted → Point → Type 0
+HasCause book limit wanted point =
+    (IsWithinLimits book.rows book.vars × (point_seen point ≡ point_end book.rows (definers book.rows) book.vars limit wanted.pivots))
+    ⊎ ((wanted.method ≡ Rounded) × IsRoundedPoint wanted.gap point)
+
 pub record IsPointBy (sets : SetLists) (book : Book) (limit : RowName) (wanted : Wanted) (point : Point) : Type 0 where
   pub worth : IsPointOf book.rows book.vars limit point
-  pub cause : (point_seen point ≡ point_end book.rows (definers book.rows) book.vars limit wanted.pivots) ⊎ ((wanted.method ≡ Rounded) × IsRoundedPoint wanted.gap point)
+  pub cause : HasCause book limit wanted point
   pub within : EndIsWithin sets (point_seen point)
 
 abbrev pub BookTells : SetLists → Book → RowName → Wanted → Trial → Type 0
-BookTells sets book limit wanted (trials.Ended point) = IsWithinLimits book.rows book.vars × IsPointBy sets book limit wanted point
+BookTells sets book limit wanted (trials.Ended point) = IsPointBy sets book limit wanted point
 BookTells sets book limit wanted (trials.Refused answer) = PassesLimits book.rows book.vars answer.status answer.text.items
 
 -- why the rows can't be made: a width is the trial's stop, and too many entries are refused

@@ -5,7 +5,7 @@ use Rattle.row_core.specs.declared.RowName.{RowName}
 use Rattle.row_core.specs.declared.place.Place.{Place}
 use Rattle.named_equations.specs.Existence.{all_variables}
 use Rattle.named_equations.specs.Instances.{instances}
-use Rattle.row_book.specs.Books.{IsTooWide}
+use Rattle.row_book.specs.Books.{CanBeMade, IsTooWide}
 use Rattle.simplex_core.specs.declared.stops.TrialStop.TheVariants.{Width}
 use Rattle.command_answers.specs.declared.status.Status.{Status}
 use Rattle.command_answers.specs.MadeRows.{IsMadeFor, IsTooLarge}
@@ -30,10 +30,10 @@ abbrev pub EndsExactly : ℕ → Data → RowName → ℕ → PointEnd → Type 
 EndsExactly places d limit pivots end =
     IsMadeFor places d (λ rows. IsWithinLimits rows (all_variables d) × (end ≡ point_end rows (definers rows) (all_variables d) limit pivots))
 
--- or the rounded method is asked for, and finds so much
+-- or the rounded method is asked for, and finds so much of the rows, whatever the size of their linear program
 pub record EndsRounded (places : ℕ) (d : Data) (wanted : Wanted) (end : PointEnd) : Type 0 where
   pub asked : wanted.method ≡ Rounded
-  pub rows : IsMadeFor places d (λ rows. IsWithinLimits rows (all_variables d))
+  pub made : CanBeMade places d 0 (instances d)
   pub rounded : EndIsRounded wanted.gap end
 
 -- the trial ends so, for these causes

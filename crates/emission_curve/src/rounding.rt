@@ -65,7 +65,7 @@ fn guess_limit(
     requires variables { AreVariablesOf rows.now vars.now }
     ensures { IfOk result (λ found. IfSome found (IsProvedWithin rows.now vars.now ppm)) }
 {
-    if let Some(found) = guessed_rows(alloc, rows, defs, vars, ppm, pivots)? {
+    if let Some(found) = guessed_rows(alloc, rows, defs, vars, None, ppm, pivots)? {
         return Ok(Some(found));
     }
     match left_of(alloc, rows, defs, vars) {

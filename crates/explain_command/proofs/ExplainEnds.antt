@@ -1,5 +1,5 @@
 -- What is due for what the trials found over a book of rows, and for the first stop, over the named equations.
-use Rattle.std.proofs.Common.{◌≡◌, ℕ, List, map, Option, Some, None, Result, Ok, Err, inl, inr, refl, sym, ap, ◌∙◌}
+use Rattle.std.proofs.Common.{◌≡◌, ◌⊎◌, ℕ, List, map, Option, Some, None, Result, Ok, Err, inl, inr, refl, sym, subst, ap, ◌∙◌}
 use Rattle.std.specs.Prelude.{IfErr, IfNone, IfOk, IfSome}
 use Rattle.exact_num.specs.Steps.{first_wide}
 use Rattle.model_sets.specs.Data.{Data}
@@ -27,7 +27,7 @@ use Rattle.conflict_sets.specs.declared.conflict.Conflict.{Conflict}
 use Rattle.conflict_sets.specs.declared.conflict.ExplainFail.{ExplainFail}
 use Rattle.conflict_sets.specs.declared.conflict.ExplainFail.TheVariants as fails
 use Rattle.explain_command.specs.declared.explain.Wanted.{Wanted}
-use Rattle.explain_command.specs.Explain.{DueForMethod, IsCauseOf}
+use Rattle.explain_command.specs.Explain.{DueForMethod, Finds, HasConflict, HasFeasible, IsCauseOf}
 use Rattle.explain_command.specs.Outcomes.{FindingTells, RunTells, TellsFound}
 use Rattle.explain_command.proofs.ConflictNames.{named-conflict, some-feasible}
 use Rattle.explain_command.proofs.ShownLaws.{shown-conflict}
@@ -70,14 +70,23 @@ module _ (rows : List Row) (vars : List Var) (pivots : ℕ) (fits : first_wide (
   rounded-tells (Err (fails.Stopped stop)) told worth = inr (fits, told)
   rounded-tells (Err fails.Memory) told worth = tt
 
+-- by guesses alone
+pub guessed-tells : {E : Type 0} (rows : List Row) (vars : List Var) (pivots : ℕ) (r : Result (Option (Option Conflict)) E) → IfOk r (λ given. IfSome given (λ found. IfSome found (IsConflict rows vars)))
+    → IfOk r (λ given. IfSome given (λ found. IfNone found (AdmitsSome rows vars))) → IfOk r (λ given. IfSome given (FindingTells Rounded rows vars pivots))
+guessed-tells rows vars pivots (Ok None) conflict feasible = tt
+guessed-tells rows vars pivots (Ok (Some None)) conflict feasible = record { cause = tt; conflict = conflict; feasible = feasible }
+guessed-tells rows vars pivots (Ok (Some (Some found))) conflict feasible = record { cause = tt; conflict = conflict; feasible = feasible }
+guessed-tells rows vars pivots (Err fail) conflict feasible = tt
+
 -- ---- what is due
 
 module _ (places : ℕ) (d : Data) (rows : List Row) (vars : List Var) (kept : IsBook rows vars) (book : IsBookOf places d rows vars) (sets : SetLists) (same : sets ≡ d.sets) (wanted : Wanted) (status : Status) (text : List ℕ) where
-  pub due-from_found : (found : Option Conflict) → FindingTells wanted.method rows vars wanted.pivots found → TellsFound sets found status text → DueForMethod places d rows wanted status text
-  due-from_found None finding told =
+  found-ends : (found : Option Conflict) → FindingTells wanted.method rows vars wanted.pivots found → TellsFound sets found status text
+      → HasFeasible places d rows wanted status text ⊎ HasConflict places d rows wanted status text
+  found-ends None finding told =
       inl (record { cause = rw (vars-are places d rows vars book) at finding.cause; some = some-feasible places d rows vars kept book finding.feasible; status_is = told.0; text_is = told.1 })
-  due-from_found (Some conflict) finding told =
-      inr (inl (record {
+  found-ends (Some conflict) finding told =
+      inr (record {
         members = map valued conflict.members.items;
         plans = conflict.plans.items;
         cause = rw (vars-are places d rows vars book) at finding.cause;
@@ -85,7 +94,17 @@ module _ (places : ℕ) (d : Data) (rows : List Row) (vars : List Var) (kept : I
         shown = rw (vars-are places d rows vars book) at (shown-conflict rows vars conflict finding.conflict);
         status_is = told.0;
         text_is = rw same at told.1;
-      }))
+      })
+
+  pub due-from_found : (found : Option Conflict) → FindingTells wanted.method rows vars wanted.pivots found → TellsFound sets found status text → DueForMethod places d rows wanted status text
+  due-from_found found finding told = elim (found-ends found finding told) [ inl feasible ↦ inl feasible | inr conflict ↦ inr (inl conflict) ]
+
+  -- by guesses alone the same is found, of any size
+  pub finds-from_guess : wanted.method ≡ Rounded → (found : Option Conflict) → FindingTells Rounded rows vars wanted.pivots found → TellsFound sets found status text
+      → Finds wanted.method places d rows wanted status text
+  finds-from_guess asked found finding told =
+      subst (λ (method : SolveMethod). Finds method places d rows wanted status text) (sym asked)
+      (found-ends found (subst (λ (method : SolveMethod). FindingTells method rows vars wanted.pivots found) (sym asked) finding) told)
 
   pub due-from_stop : (stop : Stop) → IsCauseOf wanted.method rows vars wanted.pivots (IsStopped stop) → status ≡ Uncertified stop → text ≡ uncertified_line sets stop → DueForMethod places d rows wanted status text
   due-from_stop stop is status_is line_is = inr (inr (record { stop = stop; cause = rw (vars-are places d rows vars book) at is; status_is = status_is; line_is = line_is ∙ ap (λ ss. uncertified_line ss stop) same }))

@@ -11,7 +11,6 @@ use Rattle.row_core.specs.declared.Var.{Var}
 use Rattle.row_core.specs.Rows.{RowHolds, row_sum}
 use Rattle.row_core.specs.Statements.{Stands}
 use Rattle.named_equations.specs.Instances.{instances, variable_of}
-use Rattle.named_equations.specs.Plans.{Meets}
 use Rattle.row_core.proofs.Members.{Contains-from_Has, Has, Has-from_Contains}
 use Rattle.row_book.specs.Books.{AreRowsOf}
 use Rattle.row_book.specs.Definitions.{IsRepeatedIn}

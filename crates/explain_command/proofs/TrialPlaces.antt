@@ -26,7 +26,7 @@ use Rattle.command_answers.proofs.KeptPlaces.{AreStepsKept, DefinesKept, Outcome
 use Rattle.conflict_sets.specs.Pieces.{is_taken}
 use Rattle.conflict_sets.specs.Trials.{HasNone, HasPlan, IsPivotDue, IsWide, TrialEnd, carried_trial, plan_checks, rows_tried, rows_with, trial_end, trial_program, tried_multipliers, tried_steps, unless_stopped}
 use Rattle.conflict_sets.specs.RoundedStops.{IsStopOfSome}
-use Rattle.conflict_sets.specs.Walks.{Explanation, IsConflicting, IsFeasible, IsStopped, Needed, every, explained, explanation, is_listed, is_other, listed_names, walk}
+use Rattle.conflict_sets.specs.Walks.{Explanation, IsFeasible, IsStopped, Needed, every, explained, explanation, is_listed, is_other, listed_names, walk}
 use Rattle.command_words.specs.declared.command.SolveMethod.{SolveMethod}
 use Rattle.command_words.specs.declared.command.SolveMethod.TheVariants.{Exact, Rounded}
 use Rattle.explain_command.specs.Explain.{IsCauseOf}

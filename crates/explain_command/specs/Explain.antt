@@ -1,5 +1,5 @@
--- What `explain` says over accepted data: that some plan meets the named equations; a few of them that can't be met together, each shown to be needed; or which
--- trial stopped.
+-- What `explain` says over accepted data: that some plan meets the named equations; a few of them that can't be met together, each shown to be needed; which
+-- trial stopped; or that the linear program is too large.
 use Rattle.std.specs.Prelude.{◌≡◌, ℕ, List, ◌⊎◌, None, Some, ⊤}
 use Rattle.exact_num.specs.Rational.{Rational}
 use Rattle.exact_num.specs.Steps.{first_wide}
@@ -17,7 +17,7 @@ use Rattle.simplex_core.specs.declared.stops.Stop.TheVariants.{Width}
 use Rattle.command_answers.specs.declared.status.Status.{Status}
 use Rattle.command_answers.specs.declared.status.Status.TheVariants.{Done, Infeasible, Uncertified}
 use Rattle.command_answers.specs.Lines.{uncertified_line}
-use Rattle.command_answers.specs.MadeBooks.{DueForProgram}
+use Rattle.command_answers.specs.MadeBooks.{DueBySize, DueForProgram}
 use Rattle.command_words.specs.declared.command.SolveMethod.{SolveMethod}
 use Rattle.command_words.specs.declared.command.SolveMethod.TheVariants.{Exact, Rounded}
 use Rattle.conflict_sets.specs.RoundedStops.{IsStopOfSome}
@@ -73,10 +73,19 @@ pub record HasStopped (d : Data) (rows : List Row) (wanted : Wanted) (status : S
 
 -- ---- what is due
 
+-- with the rounded method what guesses alone find, whatever the size of the linear program
+abbrev pub Finds : SolveMethod → ℕ → Data → List Row → Wanted → Status → List ℕ → Type 0
+Finds Exact places d rows wanted status text = ⊥
+Finds Rounded places d rows wanted status text = HasFeasible places d rows wanted status text ⊎ HasConflict places d rows wanted status text
+
 -- of a linear program within the limits
 abbrev pub DueForMethod : ℕ → Data → List Row → Wanted → Status → List ℕ → Type 0
 DueForMethod places d rows wanted status text = HasFeasible places d rows wanted status text ⊎ HasConflict places d rows wanted status text ⊎ HasStopped d rows wanted status text
 
+-- of rows: what guesses find, or what is due by the size
+abbrev pub DueForRows : ℕ → Data → List Row → Wanted → Status → List ℕ → Type 0
+DueForRows places d rows wanted status text = DueBySize (Finds wanted.method places d rows wanted) (DueForMethod places d rows wanted) rows (all_variables d) status text
+
 -- What is due over these data, for so many pivots at most in each trial, and the method that is asked for.
 abbrev pub DueForExplain : ℕ → Wanted → Data → Status → List ℕ → Type 0
-DueForExplain places wanted d status text = DueForProgram (λ rows. DueForMethod places d rows wanted) places d status text
+DueForExplain places wanted d status text = DueForProgram (λ rows. DueForRows places d rows wanted) places d status text

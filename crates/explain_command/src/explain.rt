@@ -1,5 +1,5 @@
 // The answer over accepted data.
-ghost use Rattle.std.specs.Prelude.{◌≡◌, ℕ, None, IfOk};
+ghost use Rattle.std.specs.Prelude.{◌≡◌, ℕ, None, IfOk, IfSome};
 ghost use Rattle.exact_num.specs.Steps.{first_wide};
 ghost use Rattle.discount_factors.specs.Factors.{IsPlaces};
 ghost use Rattle.model_sets.specs.Data.{AreSameData, Data};
@@ -7,18 +7,21 @@ ghost use Rattle.written_method.specs.Eliminated.{elimination_steps};
 ghost use Rattle.command_answers.specs.BookPrograms.{IsProgramOf};
 ghost use Rattle.command_answers.specs.CheckedPlans.{IsBookOf, IsListedBook};
 ghost use Rattle.command_answers.specs.Definers.{definers};
-ghost use Rattle.explain_command.specs.Explain.{DueForExplain, DueForMethod};
-ghost use Rattle.explain_command.specs.Outcomes.{RunTells};
+ghost use Rattle.command_answers.specs.Limits.{PassesLimits};
+ghost use Rattle.command_words.specs.declared.command.SolveMethod.TheVariants.{Rounded};
+ghost use Rattle.explain_command.specs.Explain.{DueForExplain, DueForMethod, DueForRows, Finds};
+ghost use Rattle.explain_command.specs.Outcomes.{FindingTells, RunTells};
 
 use crate::ends::{answer_found, answer_stop};
 use command_answers::{
-    Answer, BookProgram, eliminate_book, problem_of, sized_book, stop_on_elimination,
+    Answer, BookProgram, eliminate_book, made_book, problem_of, refuse_large, stop_on_elimination,
 };
 use command_words::SolveMethod;
-use conflict_sets::{Conflict, ExplainFail, explain, explain_rounded};
+use conflict_sets::{Conflict, ExplainFail, explain, explain_guessed, explain_rounded};
 use model_sets::Sets;
 use param_tables::ModelData;
 use row_book::RowBook;
+use row_core::Stopped;
 use std::alloc::{AllocError, Global};
 
 /// What is wanted of a model: an explanation by this method, with so many pivots at most in each trial.
@@ -39,9 +42,77 @@ pub fn answer_explain(
     ensures { (d : Data) → AreSameData model.now.facts d → IfOk result (λ answer.
         DueForExplain places wanted d answer.status answer.text.items) }
 {
-    match sized_book(alloc, model, places)? {
-        Ok(book) => answer_method(alloc, &book, model.sets(), wanted),
+    match made_book(alloc, model, places)? {
+        Ok(book) => answer_book(alloc, &book, model.sets(), wanted),
         Err(answer) => Ok(answer),
+    }
+}
+
+// What is due over a book of rows.
+fn answer_book(
+    alloc: Global,
+    book: &RowBook,
+    sets: &Sets,
+    wanted: Wanted,
+) -> Result<Answer, AllocError>
+    requires { IsListedBook sets.now book.now.rows book.now.vars }
+    ensures { (places : ℕ) (d : Data) → sets.now ≡ d.sets → IsBookOf places d book.now.rows book.now.vars
+        → IfOk result (λ answer. DueForRows places d book.now.rows wanted answer.status answer.text.items) }
+{
+    match refuse_large(alloc, book)? {
+        Some(refusal) => answer_large(alloc, book, sets, wanted, refusal),
+        None => answer_method(alloc, book, sets, wanted),
+    }
+}
+
+// What is due over a book whose linear program is too large: with the rounded method what guesses alone find, and else that it is refused so.
+fn answer_large(
+    alloc: Global,
+    book: &RowBook,
+    sets: &Sets,
+    wanted: Wanted,
+    refusal: Answer,
+) -> Result<Answer, AllocError>
+    requires listed { IsListedBook sets.now book.now.rows book.now.vars }
+    requires large { PassesLimits book.now.rows book.now.vars refusal.status refusal.text.items }
+    ensures { (places : ℕ) (d : Data) → sets.now ≡ d.sets → IsBookOf places d book.now.rows book.now.vars
+        → IfOk result (λ answer. DueForRows places d book.now.rows wanted answer.status answer.text.items) }
+{
+    match wanted.method {
+        SolveMethod::Exact => Ok(refusal),
+        SolveMethod::Rounded => match answer_guessed(alloc, book, sets, wanted)? {
+            Some(answer) => Ok(answer),
+            None => Ok(refusal),
+        },
+    }
+}
+
+// The answer for what guesses alone find over a book, whatever the size of its linear program; none where the elimination stops, or guesses
+// give nothing.
+fn answer_guessed(
+    alloc: Global,
+    book: &RowBook,
+    sets: &Sets,
+    wanted: Wanted,
+) -> Result<Option<Answer>, AllocError>
+    requires listed { IsListedBook sets.now book.now.rows book.now.vars }
+    requires asked { wanted.method ≡ Rounded }
+    ensures { (places : ℕ) (d : Data) → sets.now ≡ d.sets → IsBookOf places d book.now.rows book.now.vars
+        → IfOk result (λ found. IfSome found (λ answer. Finds wanted.method places d book.now.rows wanted answer.status answer.text.items)) }
+{
+    // The rows and the variables of a book are what its answers speak of.
+    let _ = book.vars();
+    let program = match eliminate_book(alloc, book) {
+        Ok(program) => program,
+        Err(Stopped::Width(_)) => return Ok(None),
+        Err(Stopped::Memory) => return Err(AllocError),
+    };
+    match guess_explanation(alloc, book, &program, wanted)? {
+        Some(found) => {
+            let answer = answer_found(alloc, book, sets, &found)?;
+            Ok(Some(answer))
+        }
+        None => Ok(None),
     }
 }
 
@@ -104,4 +175,18 @@ fn explain_book(
         SolveMethod::Exact => explain(alloc, &problem, pivots),
         SolveMethod::Rounded => explain_rounded(alloc, &problem, pivots),
     }
+}
+
+// What trials by guesses alone find over a book of rows with its linear program.
+fn guess_explanation(
+    alloc: Global,
+    book: &RowBook,
+    program: &BookProgram,
+    wanted: Wanted,
+) -> Result<Option<Option<Conflict>>, AllocError>
+    requires { IsProgramOf book.now.rows book.now.vars program.now }
+    ensures { IfOk result (λ given. IfSome given (FindingTells Rounded book.now.rows book.now.vars wanted.pivots)) }
+{
+    let problem = problem_of(book, program);
+    explain_guessed(alloc, &problem, u64::from(wanted.pivots))
 }

@@ -41,7 +41,7 @@ use Rattle.command_answers.specs.declared.status.Status.TheVariants.{Done}
 use Rattle.command_words.specs.declared.fault.WordFault.{WordFault}
 use Rattle.command_answers.specs.Accepted.{Accepted}
 use Rattle.command_answers.specs.Limits.{IsWithinLimits, PassesLimits}
-use Rattle.command_answers.specs.MadeBooks.{HasNoProgram, HasNoRows}
+use Rattle.command_answers.specs.MadeBooks.{DueBySize, HasNoRows}
 use Rattle.osemosys_run.specs.Complete.{AreInGap, AreThereIfNamed, CanBeAccepted, CanBeWritten}
 use Rattle.osemosys_run.specs.Due.{Due, DueForFile, DueForOptionalFile, DueForRequest}
 use Rattle.command_answers.specs.DueForText.{DueForText}
@@ -88,9 +88,11 @@ module _ (laws : Laws) (places : ℕ) (d : Data) (can_make : CanBeMade places d 
         let limits = within rows are in
         elim large.passed [ inl many ↦ omega (arith, many, limits.0) | inr many ↦ omega (arith, many, limits.1) ]
 
-    pub no_program : (status : Status) (text : List ℕ) → HasNoProgram places d status text → status ≡ Done
-    no_program status text (inl made) = absurd (not_too_large made.rows made.are_rows status text made.due)
-    no_program status text (inr none) = no_rows status text none
+    pub found_or_due : (Found Over : Status → List ℕ → Type 0) (rows : List Row) → AreRowsOf places d (instances d) rows → (status : Status) (text : List ℕ) → DueBySize Found Over rows (all_variables d) status text
+        → Found status text ⊎ Over status text
+    found_or_due Found Over rows are status text (inl found) = inl found
+    found_or_due Found Over rows are status text (inr (inl large)) = absurd (not_too_large rows are status text large)
+    found_or_due Found Over rows are status text (inr (inr due)) = inr due.1
 
 -- over an accepted text nothing else is due than over its data
 pub over_accepted : Laws → (Over : ℕ → Data → Status → List ℕ → Type 0) (bytes : List ℕ) (d : Data) (status : Status) (text : List ℕ) → (accepted : Accepted bytes d)

@@ -17,7 +17,7 @@ use Rattle.model_sets.specs.declared.fault.SetFault.{SetFault}
 use Rattle.command_answers.specs.Accepted.{Accepted, most_bytes}
 use Rattle.command_answers.proofs.Acceptance.{ReaderLaws, not_both}
 use Rattle.osemosys_run.specs.Causes.{Caused, StopsAtFile}
-use Rattle.osemosys_run.specs.Complete.{AskForMade, CanBeSummarized, CanBeAccepted, CanBeDrawn, CanBeSpanned, CanBeExplained, CanBeSolved, CanBeCompared, CanBePaged, CanBeTabled, CanBeWarned, CanBeWritten, Completes}
+use Rattle.osemosys_run.specs.Complete.{AskForMade, CanBeSummarized, CanBeAccepted, CanBeDrawn, CanBeSpanned, CanBeExplained, CanBeSolved, CanBeSolvedFrom, CanBeCompared, CanBePaged, CanBeTabled, CanBeWarned, CanBeWritten, Completes}
 use Rattle.osemosys_run.specs.Due.{AskForEquations, Due, DueForFile}
 use Rattle.command_answers.specs.DueForText.{DueForText}
 use Rattle.command_answers.specs.Lines.{too_long_line}
@@ -48,6 +48,8 @@ Comes (Refused (refusals.ProofFile fault)) = ⊥
 Comes (Refused (refusals.TooLong file)) = ⊥
 Comes (Refused (refusals.NoSuch set)) = ⊥
 Comes (Refused refusals.UnknownTable) = ⊥
+Comes (Refused (refusals.StartFile number)) = ⊥
+Comes (Refused refusals.NoReduced) = ⊥
 Comes (Words fault) = ⊥
 Comes (ReadFault stop) = ⊥
 Comes WriteFault = ⊥
@@ -439,6 +441,9 @@ nothing_to_check files can = cc can.asks
 nothing_to_solve : (files : List (List ℕ × List ℕ)) → CanBeSolved [] files → ⊥
 nothing_to_solve files can = cc can.asks
 
+nothing_to_start : (files : List (List ℕ × List ℕ)) → CanBeSolvedFrom [] files → ⊥
+nothing_to_start files can = cc can.asks
+
 nothing_to_explain : (files : List (List ℕ × List ℕ)) → CanBeExplained [] files → ⊥
 nothing_to_explain files can = cc can.asks
 
@@ -475,6 +480,7 @@ no_claim : (status : Status) → Completes [] [] status
 no_claim status = record {
   done = λ can. elim can [ inl can ↦ absurd (nothing_asked [] can) | inr can ↦ absurd (nothing_to_check [] can) ];
   ended = λ can. absurd (nothing_to_solve [] can);
+  ended_from = λ can. absurd (nothing_to_start [] can);
   explained = λ can. absurd (nothing_to_explain [] can);
   drawn = λ can. absurd (nothing_to_draw [] can);
   spanned = λ can. absurd (nothing_to_span [] can);

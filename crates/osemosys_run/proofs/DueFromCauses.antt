@@ -12,14 +12,17 @@ use Rattle.command_answers.specs.declared.status.ReadStop.TheVariants as stops
 use Rattle.command_answers.specs.Accepted.{most_bytes}
 use Rattle.command_answers.specs.DueForText.{DueForText}
 use Rattle.command_answers.specs.Lines.{stop_line, too_long_line}
+use Rattle.command_words.specs.declared.command.SolveMethod.TheVariants.{Rounded}
 use Rattle.command_words.specs.declared.fault.WordFault.{WordFault}
-use Rattle.command_words.specs.Words.{Request, Check, CheckProof, Compare, Curve, Explain, Make, Mps, Page, Solve, Span, Table, Warn, asked}
+use Rattle.command_words.specs.Words.{Request, Check, CheckProof, Compare, Curve, Explain, Make, Mps, Page, Reduce, Solve, SolveFrom, Span, Table, Warn, asked}
 use Rattle.check_command.specs.Check.{DueForCheck}
 use Rattle.check_command.specs.CheckProof.{DueForProof, DueForProofFile}
 use Rattle.curve_command.specs.Curve.{DueForCurve}
 use Rattle.explain_command.specs.Explain.{DueForExplain}
-use Rattle.solve_command.specs.Shown.{shown_of}
+use Rattle.reduce_command.specs.Reduced.{DueForReduced}
+use Rattle.solve_command.specs.Shown.{wanted_by}
 use Rattle.solve_command.specs.Solve.{DueForSolve}
+use Rattle.solve_command.specs.Starts.{DueForSolveFrom}
 use Rattle.page_command.specs.Pages.{DueForPage}
 use Rattle.span_command.specs.Span.{DueForSpan}
 use Rattle.table_command.specs.Tables.{DueForTable, form_of}
@@ -147,12 +150,24 @@ due_from_cause words before after files status text told calm caused = by_reques
     by_request (Err fault) c = c.1
     by_request (Ok (Make size show)) c = c.1
     by_request (Ok (Mps name places)) c = over_one (λ rounded. DueForEquations places) name c
-    by_request (Ok (Solve name gap pivots places show method)) c = over_one (DueForSolve places (record { gap = gap; pivots = pivots; show = shown_of show; method = method })) name c
+    by_request (Ok (Solve name gap pivots places show method)) c = over_one (DueForSolve places (wanted_by gap pivots show method)) name c
+    by_request (Ok (SolveFrom name start gap pivots places show)) c =
+        let second : List ℕ → List ℕ → Status → List ℕ → Type 0 = λ bytes start_bytes. DueForText (DueForSolveFrom places (wanted_by gap pivots show Rounded) start_bytes) bytes in
+        due_of_files (λ contents. DueOver (Ok (SolveFrom name start gap pivots places show)) (held_in contents) status text) 1 (name ∷ start ∷ []) before after files status text told calm (
+          λ rest s t. (s, t),
+          λ bytes rest long s t. long_file (λ found. DueForFile (second found) 2 (held_in (Some bytes ∷ rest) 2 start)) 1 bytes status text long s t,
+          λ bytes short. (
+            λ rest s t. short_file (λ found. DueForFile (second found) 2 None) 1 bytes status text short (s, t),
+            λ start_bytes rest long s t. short_file (λ found. DueForFile (second found) 2 (Some start_bytes)) 1 bytes status text short (long_file (second bytes) 2 start_bytes status text long s t),
+            λ start_bytes start_short. tt,
+          ),
+        ) c
     by_request (Ok (Explain name pivots places method)) c = over_one (λ rounded. DueForExplain places (record { pivots = pivots; method = method })) name c
     by_request (Ok (Curve name region emission limits gap pivots places method)) c =
         over_one (λ rounded. DueForCurve places (record { method = method; pivots = pivots; gap = gap }) (record { region = region; emission = emission }) limits) name c
     by_request (Ok (Span name region technology year slack gap pivots places method)) c =
         over_one (DueForSpan places (record { method = method; slack = slack; gap = gap; pivots = pivots }) (record { region = region; technology = technology; year = year })) name c
+    by_request (Ok (Reduce name places)) c = over_one (λ rounded. DueForReduced places) name c
     by_request (Ok (Warn name)) c = over_one IsWarned name c
     by_request (Ok (Compare first first_proof second second_proof gap places show)) c =
         due_of_files (λ contents. DueForFourFiles (DueForCompared places gap show) first first_proof second second_proof (held_in contents) status text) 1 (first ∷ first_proof ∷ second ∷ second_proof ∷ []) before after files status text told calm

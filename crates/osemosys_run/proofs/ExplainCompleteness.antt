@@ -8,11 +8,12 @@ use Rattle.command_words.specs.declared.fault.WordFault.{WordFault}
 use Rattle.command_words.specs.Words.{Request}
 use Rattle.command_answers.specs.declared.status.Status.{Status}
 use Rattle.command_words.specs.declared.command.SolveMethod.{SolveMethod}
+use Rattle.command_words.specs.declared.command.SolveMethod.TheVariants.{Exact, Rounded}
 use Rattle.explain_command.specs.declared.explain.Wanted.{Wanted}
-use Rattle.explain_command.specs.Explain.{DueForExplain, DueForMethod, NothingStops}
+use Rattle.explain_command.specs.Explain.{DueForExplain, DueForMethod, Finds, NothingStops}
 use Rattle.osemosys_run.specs.Complete.{CanBeExplained, IsExplained}
 use Rattle.osemosys_run.specs.Due.{Due, DueForRequest}
-use Rattle.osemosys_run.proofs.Completeness.{Laws, no_program, over_file}
+use Rattle.osemosys_run.proofs.Completeness.{Laws, found_or_due, no_rows, over_file}
 
 -- what the words ask for
 abbrev wanted_for : ℕ → SolveMethod → Wanted
@@ -24,9 +25,20 @@ module _ (laws : Laws) (words : List (List ℕ)) (files : List (List ℕ × List
   method_ends rows nothing (inr (inl conflict)) = inr conflict.status_is
   method_ends rows nothing (inr (inr stopped)) = absurd (nothing stopped.stop stopped.cause)
 
+  find_ends : (method : SolveMethod) (rows : List Row) → Finds method can.places can.d rows (wanted_for can.pivots can.method) status text → IsExplained status
+  find_ends Exact rows found = absurd found
+  find_ends Rounded rows (inl feasible) = inl feasible.status_is
+  find_ends Rounded rows (inr conflict) = inr conflict.status_is
+
   data_explained : DueForExplain can.places (wanted_for can.pivots can.method) can.d status text → IsExplained status
-  data_explained (inl made) = method_ends made.rows (can.never made.rows made.are_rows) made.due.1
-  data_explained (inr none) = inl (no_program laws can.places can.d can.made can.within status text none)
+  data_explained (inl made) =
+      let wanted = wanted_for can.pivots can.method in
+      let rows = made.rows in
+      elim (found_or_due laws can.places can.d can.made can.within (Finds can.method can.places can.d rows wanted) (DueForMethod can.places can.d rows wanted) rows made.are_rows status text made.due) [
+        | inl found ↦ find_ends can.method rows found
+        | inr due ↦ method_ends rows (can.never rows made.are_rows) due
+      ]
+  data_explained (inr none) = inl (no_rows laws can.places can.d can.made status text none)
 
 pub explained_from_due : Laws → (words : List (List ℕ)) (files : List (List ℕ × List ℕ)) (status : Status) (text : List ℕ) → Due words files status text → CanBeExplained words files → IsExplained status
 explained_from_due laws words files status text due can =

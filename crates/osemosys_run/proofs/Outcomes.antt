@@ -41,9 +41,9 @@ use Rattle.curve_command.specs.CurveTexts.{first_stop, status_for}
 use Rattle.curve_command.specs.Limited.{with_limit}
 use Rattle.curve_command.specs.declared.trials.Wanted as curves
 use Rattle.command_answers.specs.Limits.{PassesLimits}
-use Rattle.command_answers.specs.MadeBooks.{HasNoProgram, HasNoRows}
+use Rattle.command_answers.specs.MadeBooks.{DueBySize, HasNoRows}
 use Rattle.command_answers.specs.MadeRows.{IsMadeFor}
-use Rattle.explain_command.specs.Explain.{DueForExplain}
+use Rattle.explain_command.specs.Explain.{DueForExplain, DueForMethod, Finds, HasConflict, HasFeasible}
 use Rattle.explain_command.specs.declared.explain.Wanted as explains
 use Rattle.compare_command.specs.Compare.{DueOfCheck}
 use Rattle.compare_command.specs.Compared.{ComparesProofs, Judged}
@@ -53,10 +53,15 @@ use Rattle.command_answers.specs.NotAccepted.{DueWhereNotAccepted}
 use Rattle.osemosys_run.specs.Reading.{Sight}
 use Rattle.command_answers.specs.Accepted.{most_bytes}
 use Rattle.osemosys_run.specs.Replies.{IsAnswer}
-use Rattle.solve_command.specs.Shown.{shown_of}
+use Rattle.reduce_command.specs.Reduced.{DueForReduced}
+use Rattle.solve_command.specs.Shown.{wanted_by}
 use Rattle.command_words.specs.declared.command.SolveMethod.{SolveMethod}
 use Rattle.command_words.specs.declared.command.SolveMethod.TheVariants.{Exact, Rounded}
-use Rattle.solve_command.specs.Solve.{DueBy, DueForEnd, DueForSolve}
+use Rattle.solve_command.specs.Solve.{DueBy, DueForEnd, DueForRows, DueForSolve}
+use Rattle.solve_command.specs.Starts.{DueForSolveFrom, DueFrom, begun_from}
+use Rattle.std.specs.List.{count_by}
+use Rattle.result_tables.specs.declared.attempts.Begun.TheVariants.{FromValues, WithoutStart}
+use Rattle.solver_answers.specs.Told.{Told, Breaks, Lacks, Gives, is_passed, is_value}
 use Rattle.span_command.specs.Span as spans
 use Rattle.plan_tables.specs.declared.shown.NumberForm.{NumberForm}
 use Rattle.table_command.specs.declared.shown.Shown.{Shown}
@@ -66,7 +71,7 @@ use Rattle.osemosys_run.specs.Warned.{IsWarned}
 use Rattle.table_command.specs.Tables.{DueForTable, ShowsProof, form_of}
 use Rattle.span_command.specs.declared.wanted.Wanted as wants
 use Rattle.solve_command.specs.Summary.{DueForSummary, default_places, default_wanted}
-use Rattle.command_words.specs.Words.{Request, Check, CheckProof, Compare, Curve, Explain, Make, Mps, Page, Solve, Span, Table, Warn, asked}
+use Rattle.command_words.specs.Words.{Request, Check, CheckProof, Compare, Curve, Explain, Make, Mps, Page, Reduce, Solve, SolveFrom, Span, Table, Warn, asked}
 use Rattle.solve_command.proofs.RowsDue.{rows-due}
 use Rattle.osemosys_run.proofs.FilesRead.{Reaches-itself, by_files, of_all, rose-since}
 
@@ -89,13 +94,22 @@ no_rows_is places d status text (inr many) = refused_is status refusals.TooManyE
 too_large_is : (rows : List Row) (vars : List Var) (status : Status) (text : List ℕ) → PassesLimits rows vars status text → IsOwn status
 too_large_is rows vars status text large = refused_is status (refusals.TooLarge (inequality_count rows) (column_count vars)) large.status_is
 
-no_program_is : (places : ℕ) (d : Data) (status : Status) (text : List ℕ) → HasNoProgram places d status text → IsOwn status
-no_program_is places d status text (inl made) = too_large_is made.rows (all_variables d) status text made.due
-no_program_is places d status text (inr none) = no_rows_is places d status text none
+sized_is : (Found Over : Status → List ℕ → Type 0) (rows : List Row) (vars : List Var) (status : Status) (text : List ℕ) → (Found status text → IsOwn status) → (Over status text → IsOwn status)
+    → DueBySize Found Over rows vars status text → IsOwn status
+sized_is Found Over rows vars status text found_is over_is (inl found) = found_is found
+sized_is Found Over rows vars status text found_is over_is (inr (inl large)) = too_large_is rows vars status text large
+sized_is Found Over rows vars status text found_is over_is (inr (inr due)) = over_is due.1
 
 equations_are : (places : ℕ) (d : Data) (status : Status) (text : List ℕ) → DueForEquations places d status text → IsOwn status
 equations_are places d status text (inl written) = is_other status Done (λ h. cc) (λ h. cc) (λ number h. cc) written.status_is
 equations_are places d status text (inr none) = no_rows_is places d status text none
+
+reduced_is : (places : ℕ) (d : Data) (status : Status) (text : List ℕ) → DueForReduced places d status text → IsOwn status
+reduced_is places d status text (inl made) = elim made.due [
+  | inl written ↦ is_other status Done (λ h. cc) (λ h. cc) (λ number h. cc) written.0
+  | inr none ↦ refused_is status refusals.NoReduced none.0
+]
+reduced_is places d status text (inr none) = no_rows_is places d status text none
 
 plan_is : (places : ℕ) (d : Data) (rows : List Row) (plan : List (Var × Rational)) (multipliers : Option (List (RowName × Rational))) (gap : ℕ) (status : Status) (text : List ℕ)
     → DueForPlan places d rows plan multipliers gap status text → IsOwn status
@@ -142,22 +156,47 @@ method_is places d rows wanted Rounded rounded status text (inl found) = is_othe
 method_is places d rows wanted Rounded rounded status text (inr (inl found)) = is_other status Infeasible (λ h. cc) (λ h. cc) (λ number h. cc) found.0.status_is
 method_is places d rows wanted Rounded rounded status text (inr (inr due)) = end_is places d rows wanted rounded status text due
 
-solve_is : (places : ℕ) (wanted : Wanted) (rounded : ℕ) (d : Data) (status : Status) (text : List ℕ) → DueForSolve places wanted rounded d status text → IsOwn status
-solve_is places wanted rounded d status text (inl made) = elim (rows-due places d made.rows wanted rounded status text made.due) [
-  | inl large ↦ too_large_is made.rows (all_variables d) status text large
-  | inr due ↦ method_is places d made.rows wanted wanted.method rounded status text due
+rows_are : (places : ℕ) (d : Data) (rows : List Row) (wanted : Wanted) (rounded : ℕ) (status : Status) (text : List ℕ) → DueForRows places d rows wanted rounded status text → IsOwn status
+rows_are places d rows wanted rounded status text due = elim (rows-due places d rows wanted rounded status text due) [
+  | inl large ↦ too_large_is rows (all_variables d) status text large
+  | inr end ↦ method_is places d rows wanted wanted.method rounded status text end
 ]
+
+solve_is : (places : ℕ) (wanted : Wanted) (rounded : ℕ) (d : Data) (status : Status) (text : List ℕ) → DueForSolve places wanted rounded d status text → IsOwn status
+solve_is places wanted rounded d status text (inl made) = rows_are places d made.rows wanted rounded status text made.due
 solve_is places wanted rounded d status text (inr none) = no_rows_is places d status text none
 
+start_is : (said : Told) (places : ℕ) (d : Data) (rows : List Row) (wanted : Wanted) (rounded : ℕ) (status : Status) (text : List ℕ) → DueFrom said places d rows wanted rounded status text → IsOwn status
+start_is (Breaks number) places d rows wanted rounded status text due = refused_is status (refusals.StartFile number) due.0
+start_is Lacks places d rows wanted rounded status text due = rows_are places d rows (begun_from WithoutStart wanted) rounded status text due
+start_is (Gives founds) places d rows wanted rounded status text due =
+    rows_are places d rows (begun_from (FromValues (count_by is_value founds) (count_by is_passed founds)) wanted) rounded status text due
+
+solve_from_is : (places : ℕ) (wanted : Wanted) (bytes : List ℕ) (rounded : ℕ) (d : Data) (status : Status) (text : List ℕ) → DueForSolveFrom places wanted bytes rounded d status text → IsOwn status
+solve_from_is places wanted bytes rounded d status text (inl made) = start_is made.due.0 places d made.rows wanted rounded status text made.due.2
+solve_from_is places wanted bytes rounded d status text (inr none) = no_rows_is places d status text none
+
+feasible_is : (places : ℕ) (d : Data) (rows : List Row) (wanted : explains.Wanted) (status : Status) (text : List ℕ) → HasFeasible places d rows wanted status text → IsOwn status
+feasible_is places d rows wanted status text feasible = is_other status Done (λ h. cc) (λ h. cc) (λ number h. cc) feasible.status_is
+
+conflict_is : (places : ℕ) (d : Data) (rows : List Row) (wanted : explains.Wanted) (status : Status) (text : List ℕ) → HasConflict places d rows wanted status text → IsOwn status
+conflict_is places d rows wanted status text conflict = is_other status Infeasible (λ h. cc) (λ h. cc) (λ number h. cc) conflict.status_is
+
+explain_find_is : (places : ℕ) (d : Data) (rows : List Row) (wanted : explains.Wanted) (method : SolveMethod) (status : Status) (text : List ℕ) → Finds method places d rows wanted status text → IsOwn status
+explain_find_is places d rows wanted Exact status text found = absurd found
+explain_find_is places d rows wanted Rounded status text (inl feasible) = feasible_is places d rows wanted status text feasible
+explain_find_is places d rows wanted Rounded status text (inr conflict) = conflict_is places d rows wanted status text conflict
+
+explain_method_is : (places : ℕ) (d : Data) (rows : List Row) (wanted : explains.Wanted) (status : Status) (text : List ℕ) → DueForMethod places d rows wanted status text → IsOwn status
+explain_method_is places d rows wanted status text (inl feasible) = feasible_is places d rows wanted status text feasible
+explain_method_is places d rows wanted status text (inr (inl conflict)) = conflict_is places d rows wanted status text conflict
+explain_method_is places d rows wanted status text (inr (inr stopped)) = is_other status (Uncertified stopped.stop) (λ h. cc) (λ h. cc) (λ number h. cc) stopped.status_is
+
 explain_is : (places : ℕ) (wanted : explains.Wanted) (d : Data) (status : Status) (text : List ℕ) → DueForExplain places wanted d status text → IsOwn status
-explain_is places wanted d status text (inl made) = elim made.due.1 [
-  | inl feasible ↦ is_other status Done (λ h. cc) (λ h. cc) (λ number h. cc) feasible.status_is
-  | inr ends ↦ elim ends [
-    | inl conflict ↦ is_other status Infeasible (λ h. cc) (λ h. cc) (λ number h. cc) conflict.status_is
-    | inr stopped ↦ is_other status (Uncertified stopped.stop) (λ h. cc) (λ h. cc) (λ number h. cc) stopped.status_is
-  ]
-]
-explain_is places wanted d status text (inr none) = no_program_is places d status text none
+explain_is places wanted d status text (inl made) =
+    let rows = made.rows in
+    sized_is (Finds wanted.method places d rows wanted) (DueForMethod places d rows wanted) rows (all_variables d) status text (explain_find_is places d rows wanted wanted.method status text) (explain_method_is places d rows wanted status text) made.due
+explain_is places wanted d status text (inr none) = no_rows_is places d status text none
 
 stop_is_own : (first : Option Stop) (status : Status) → status ≡ status_for first → IsOwn status
 stop_is_own None status e = is_other status Done (λ h. cc) (λ h. cc) (λ number h. cc) e
@@ -184,15 +223,25 @@ span_end_is places d rows var wanted rounded status text (inr (inr (inr (inr (in
 span_end_is places d rows var wanted rounded status text (inr (inr (inr (inr (inr (inl wide)))))) = is_other status (Uncertified (Stop.Width Place.SumGap)) (λ h. cc) (λ h. cc) (λ number h. cc) wide.status_is
 span_end_is places d rows var wanted rounded status text (inr (inr (inr (inr (inr (inr after)))))) = is_other status (Uncertified after.stop) (λ h. cc) (λ h. cc) (λ number h. cc) after.status_is
 
+span_found_is : (places : ℕ) (d : Data) (rows : List Row) (var : Var) (wanted : wants.Wanted) (rounded : ℕ) (status : Status) (text : List ℕ) → spans.DueForFound places d rows var wanted rounded status text → IsOwn status
+span_found_is places d rows var wanted rounded status text (inl spanned) = is_other status Done (λ h. cc) (λ h. cc) (λ number h. cc) spanned.status_is
+span_found_is places d rows var wanted rounded status text (inr infeasible) = is_other status Infeasible (λ h. cc) (λ h. cc) (λ number h. cc) infeasible.status_is
+
 span_method_is : (places : ℕ) (d : Data) (rows : List Row) (var : Var) (wanted : wants.Wanted) (method : SolveMethod) (rounded : ℕ) (status : Status) (text : List ℕ) → spans.DueBy method places d rows var wanted rounded status text → IsOwn status
 span_method_is places d rows var wanted Exact rounded status text due = span_end_is places d rows var wanted rounded status text due
-span_method_is places d rows var wanted Rounded rounded status text (inl (inl spanned)) = is_other status Done (λ h. cc) (λ h. cc) (λ number h. cc) spanned.status_is
-span_method_is places d rows var wanted Rounded rounded status text (inl (inr infeasible)) = is_other status Infeasible (λ h. cc) (λ h. cc) (λ number h. cc) infeasible.status_is
+span_method_is places d rows var wanted Rounded rounded status text (inl found) = span_found_is places d rows var wanted rounded status text found
 span_method_is places d rows var wanted Rounded rounded status text (inr due) = span_end_is places d rows var wanted rounded status text due
 
+span_find_is : (places : ℕ) (d : Data) (rows : List Row) (var : Var) (wanted : wants.Wanted) (method : SolveMethod) (rounded : ℕ) (status : Status) (text : List ℕ) → spans.Finds method places d rows var wanted rounded status text → IsOwn status
+span_find_is places d rows var wanted Exact rounded status text found = absurd found
+span_find_is places d rows var wanted Rounded rounded status text found = span_found_is places d rows var wanted rounded status text found
+
 span_member_is : (places : ℕ) (wanted : wants.Wanted) (var : Var) (rounded : ℕ) (d : Data) (status : Status) (text : List ℕ) → spans.DueForMember places wanted var rounded d status text → IsOwn status
-span_member_is places wanted var rounded d status text (inl made) = span_method_is places d made.rows var wanted wanted.method rounded status text made.due.1
-span_member_is places wanted var rounded d status text (inr none) = no_program_is places d status text none
+span_member_is places wanted var rounded d status text (inl made) =
+    let rows = made.rows in
+    sized_is (spans.Finds wanted.method places d rows var wanted rounded) (spans.DueForMethod places d rows var wanted rounded) rows (all_variables d) status text
+    (span_find_is places d rows var wanted wanted.method rounded status text) (span_method_is places d rows var wanted wanted.method rounded status text) made.due
+span_member_is places wanted var rounded d status text (inr none) = no_rows_is places d status text none
 
 span_is : (places : ℕ) (wanted : wants.Wanted) (names : spans.Names) (rounded : ℕ) (d : Data) (status : Status) (text : List ℕ) → spans.DueForSpan places wanted names rounded d status text → IsOwn status
 span_is places wanted names rounded d status text (inl none) = refused_is status (refusals.NoSuch REGION) none.status_is
@@ -320,8 +369,15 @@ due_is_own (Ok (Make size show)) held status text due = make_is size show status
 due_is_own (Ok (Mps name places)) held status text due =
     file_is (DueForText (λ rounded. DueForEquations places)) 1 (held 1 name) status text (λ bytes. text_is (λ rounded. DueForEquations places) (λ rounded. equations_are places) bytes status text) due
 due_is_own (Ok (Solve name gap pivots places show method)) held status text due =
-    file_is (DueForText (DueForSolve places (record { gap = gap; pivots = pivots; show = shown_of show; method = method }))) 1 (held 1 name) status text
-    (λ bytes. text_is (DueForSolve places (record { gap = gap; pivots = pivots; show = shown_of show; method = method })) (solve_is places (record { gap = gap; pivots = pivots; show = shown_of show; method = method })) bytes status text) due
+    file_is (DueForText (DueForSolve places (wanted_by gap pivots show method))) 1 (held 1 name) status text
+    (λ bytes. text_is (DueForSolve places (wanted_by gap pivots show method)) (solve_is places (wanted_by gap pivots show method)) bytes status text) due
+due_is_own (Ok (SolveFrom name start gap pivots places show)) held status text due =
+    let wanted : Wanted = wanted_by gap pivots show Rounded in
+    let second : List ℕ → List ℕ → Status → List ℕ → Type 0 = λ bytes start_bytes. DueForText (DueForSolveFrom places wanted start_bytes) bytes in
+    let first : List ℕ → Status → List ℕ → Type 0 = λ bytes. DueForFile (second bytes) 2 (held 2 start) in
+    file_is first 1 (held 1 name) status text
+    (λ bytes. file_is (second bytes) 2 (held 2 start) status text
+    (λ start_bytes. text_is (DueForSolveFrom places wanted start_bytes) (solve_from_is places wanted start_bytes) bytes status text)) due
 due_is_own (Ok (Explain name pivots places method)) held status text due =
     file_is (DueForText (λ rounded. DueForExplain places (record { pivots = pivots; method = method }))) 1 (held 1 name) status text
     (λ bytes. text_is (λ rounded. DueForExplain places (record { pivots = pivots; method = method })) (λ rounded. explain_is places (record { pivots = pivots; method = method })) bytes status text) due
@@ -333,6 +389,8 @@ due_is_own (Ok (Span name region technology year slack gap pivots places method)
     let Over : ℕ → Data → Status → List ℕ → Type 0 = spans.DueForSpan places (record { method = method; slack = slack; gap = gap; pivots = pivots }) (record { region = region; technology = technology; year = year }) in
     file_is (DueForText Over) 1 (held 1 name) status text
     (λ bytes. text_is Over (span_is places (record { method = method; slack = slack; gap = gap; pivots = pivots }) (record { region = region; technology = technology; year = year })) bytes status text) due
+due_is_own (Ok (Reduce name places)) held status text due =
+    file_is (DueForText (λ rounded. DueForReduced places)) 1 (held 1 name) status text (λ bytes. text_is (λ rounded. DueForReduced places) (λ rounded. reduced_is places) bytes status text) due
 due_is_own (Ok (Warn name)) held status text due =
     file_is (DueForText IsWarned) 1 (held 1 name) status text (λ bytes. text_is IsWarned warned_is bytes status text) due
 due_is_own (Ok (Compare first first_proof second second_proof gap places show)) held status text due =

@@ -22,7 +22,15 @@ use Rattle.check_command.specs.CheckProof.{DueForProof, DueForProofFile}
 use Rattle.check_command.proofs.AcceptedProofs.{ProofLaws, descent-accepted, optimum-accepted, refutation-accepted}
 use Rattle.solve_command.specs.declared.solve.Shown.TheVariants.{Proof}
 use Rattle.solve_command.specs.declared.solve.Wanted.{Wanted}
-use Rattle.solve_command.specs.Solve.{DueBy, DueForEnd, DueForSolve}
+use Rattle.solve_command.specs.Shown.{wanted_by}
+use Rattle.solve_command.specs.Solve.{DueBy, DueForEnd, DueForRows, DueForSolve}
+use Rattle.solve_command.specs.Starts.{DueForSolveFrom, DueFrom}
+use Rattle.result_tables.specs.declared.attempts.Begun.{Begun}
+use Rattle.result_tables.specs.declared.attempts.Begun.TheVariants.{FromNothing, FromValues, WithoutStart}
+use Rattle.solver_answers.specs.Told.{Told, Breaks, Lacks, Gives, is_passed, is_value}
+use Rattle.std.specs.List.{count_by}
+use Rattle.command_words.specs.declared.command.SolveShow.TheVariants as words
+use Rattle.command_answers.specs.declared.status.Refusal.TheVariants.{StartFile}
 use Rattle.solve_command.proofs.RowsDue.{rows-due}
 use Rattle.osemosys_run.specs.Accepting.{AcceptsEnd}
 
@@ -70,10 +78,10 @@ many_or_memory : book.TooManyEntries ≡ book.Memory → ⊥
 many_or_memory e = cc e
 
 module _ (laws : ProofLaws) (made_law : (places : ℕ) (d : Data) (before : ℕ) (names : List RowName) (fail : BookFail) → CanBeMade places d before names → HasStopped places d before names fail → fail ≡ book.Memory)
-    (places gap pivots : ℕ) (d : Data) (some : all_variables d ≡ [] → ⊥) (rounded : ℕ) (end : Status) (file : List ℕ) (status : Status) (text : List ℕ) where
+    (places gap pivots : ℕ) (begun : Begun) (d : Data) (some : all_variables d ≡ [] → ⊥) (rounded : ℕ) (end : Status) (file : List ℕ) (status : Status) (text : List ℕ) where
   -- a proof is wanted
   abbrev to_prove : SolveMethod → Wanted
-  to_prove method = record { gap = gap; pivots = pivots; show = Proof; method = method }
+  to_prove method = record { gap = gap; pivots = pivots; show = Proof; method = method; begun = begun }
 
   module _ (rows others : List Row) (are : AreRowsOf places d (instances d) rows) (so : AreRowsOf places d (instances d) others) (due : DueForProofFile places d others file gap status text) where
     of_end : (method : SolveMethod) → DueForEnd places d rows (to_prove method) rounded end file → AcceptsEnd end status text
@@ -115,10 +123,33 @@ module _ (laws : ProofLaws) (made_law : (places : ℕ) (d : Data) (before : ℕ)
   made-again can (inl wide) = width_or_memory (Place.Row wide.name) (made_law places d 0 (instances d) (book.Width (Place.Row wide.name)) can (wide.name, refl, wide.wide))
   made-again can (inr many) = many_or_memory (made_law places d 0 (instances d) book.TooManyEntries can (many.name, many.many))
 
-  pub accepts-end : (method : SolveMethod) → DueForSolve places (to_prove method) rounded d end file → DueForProof places file gap d status text → AcceptsEnd end status text
-  accepts-end method (inl made) (inl again) = elim (rows-due places d made.rows (to_prove method) rounded end file made.due) [
+  accepts-rows : (method : SolveMethod) (rows : List Row) → AreRowsOf places d (instances d) rows → CanBeMade places d 0 (instances d) → DueForRows places d rows (to_prove method) rounded end file
+      → DueForProof places file gap d status text → AcceptsEnd end status text
+  accepts-rows method rows are can of_rows (inl again) = elim (rows-due places d rows (to_prove method) rounded end file of_rows) [
     | inl large ↦ refused-so end status text _ large.status_is
-    | inr of ↦ of_method made.rows again.rows made.are_rows again.are_rows again.due method method of
+    | inr of ↦ of_method rows again.rows are again.are_rows again.due method method of
   ]
-  accepts-end method (inl made) (inr none) = absurd (made-again made.made none)
-  accepts-end method (inr none) due = no-rows none
+  accepts-rows method rows are can of_rows (inr none) = absurd (made-again can none)
+
+  accepts-made : (method : SolveMethod) → DueForSolve places (to_prove method) rounded d end file → DueForProof places file gap d status text → AcceptsEnd end status text
+  accepts-made method (inl made) due = accepts-rows method made.rows made.are_rows made.made made.due due
+  accepts-made method (inr none) due = no-rows none
+
+module _ (laws : ProofLaws) (made_law : (places : ℕ) (d : Data) (before : ℕ) (names : List RowName) (fail : BookFail) → CanBeMade places d before names → HasStopped places d before names fail → fail ≡ book.Memory)
+    (places gap pivots : ℕ) (d : Data) (some : all_variables d ≡ [] → ⊥) (rounded : ℕ) (end : Status) (file : List ℕ) (status : Status) (text : List ℕ) where
+  -- where guesses begin from nothing
+  pub accepts-end : (method : SolveMethod) → DueForSolve places (wanted_by gap pivots words.Proof method) rounded d end file → DueForProof places file gap d status text → AcceptsEnd end status text
+  accepts-end = accepts-made laws made_law places gap pivots FromNothing d some rounded end file status text
+
+  -- and where they begin from what a file holds
+  accepts-told : (said : Told) (method : SolveMethod) (rows : List Row) → AreRowsOf places d (instances d) rows → CanBeMade places d 0 (instances d)
+      → DueFrom said places d rows (wanted_by gap pivots words.Proof method) rounded end file → DueForProof places file gap d status text → AcceptsEnd end status text
+  accepts-told (Breaks number) method rows are can due proved = refused-so end status text (StartFile number) due.0
+  accepts-told Lacks method rows are can due proved = accepts-rows laws made_law places gap pivots WithoutStart d some rounded end file status text method rows are can due proved
+  accepts-told (Gives founds) method rows are can due proved =
+      accepts-rows laws made_law places gap pivots (FromValues (count_by is_value founds) (count_by is_passed founds)) d some rounded end file status text method rows are can due proved
+
+  pub accepts-from : (method : SolveMethod) (bytes : List ℕ) → DueForSolveFrom places (wanted_by gap pivots words.Proof method) bytes rounded d end file → DueForProof places file gap d status text → AcceptsEnd end status text
+  accepts-from method bytes (inl made) due = accepts-told made.due.0 method made.rows made.are_rows made.made made.due.2 due
+  accepts-from method bytes (inr none) due =
+      no-rows laws made_law places gap pivots FromNothing d some rounded end file status text none

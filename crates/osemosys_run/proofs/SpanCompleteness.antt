@@ -22,11 +22,11 @@ use Rattle.command_answers.specs.Limits.{IsWithinLimits}
 use Rattle.span_finder.specs.Slacks.{slack_formed, slack_limit}
 use Rattle.span_finder.specs.SpanEnds.{Stops}
 use Rattle.span_finder.specs.declared.found.SpanFail.TheVariants.{Stopped}
-use Rattle.span_command.specs.Span.{DueBy, DueForEnd, DueForMember, DueForSpan, HasLeastCost, built}
+use Rattle.span_command.specs.Span.{DueBy, DueForEnd, DueForFound, DueForMember, DueForMethod, DueForSpan, Finds, HasLeastCost, built}
 use Rattle.span_command.specs.declared.wanted.Wanted.{Wanted}
 use Rattle.osemosys_run.specs.Complete.{CanBeSpanned, IsEnded, NothingStopsSpan}
 use Rattle.osemosys_run.specs.Due.{Due, DueForRequest}
-use Rattle.osemosys_run.proofs.Completeness.{Laws, no_program, over_file}
+use Rattle.osemosys_run.proofs.Completeness.{Laws, found_or_due, no_rows, over_file}
 
 same_member : (found : Option ℕ) (a b : ℕ) → found ≡ Some a → found ≡ Some b → a ≡ b
 same_member found a b h k = cc (h, k)
@@ -62,16 +62,28 @@ module _ (laws : Laws) (places : ℕ) (d : Data) (var : Var) (wanted : Wanted) (
       absurd (never.never least.plan least.multipliers least.made least.end after.stop
       (subst (λ (c : Rational). Stops rows (definers rows) (all_variables d) (slack_limit c wanted.slack) var wanted.pivots (Stopped after.stop)) (sym (cost-bound rows after.cost least)) after.stops))
 
+  found_comes : (rows : List Row) (rounded : ℕ) (status : Status) (text : List ℕ) → DueForFound places d rows var wanted rounded status text → IsEnded status
+  found_comes rows rounded status text (inl spanned) = inl spanned.status_is
+  found_comes rows rounded status text (inr infeasible) = inr (inl infeasible.status_is)
+
   method_comes : (method : SolveMethod) (rows : List Row) (rounded : ℕ) (status : Status) (text : List ℕ) → NothingStopsSpan rows (all_variables d) var wanted.slack wanted.pivots
       → DueBy method places d rows var wanted rounded status text → IsEnded status
   method_comes Exact rows rounded status text never due = end_comes rows rounded status text never due
-  method_comes Rounded rows rounded status text never (inl (inl spanned)) = inl spanned.status_is
-  method_comes Rounded rows rounded status text never (inl (inr infeasible)) = inr (inl infeasible.status_is)
+  method_comes Rounded rows rounded status text never (inl found) = found_comes rows rounded status text found
   method_comes Rounded rows rounded status text never (inr due) = end_comes rows rounded status text never due
 
+  find_comes : (method : SolveMethod) (rows : List Row) (rounded : ℕ) (status : Status) (text : List ℕ) → Finds method places d rows var wanted rounded status text → IsEnded status
+  find_comes Exact rows rounded status text found = absurd found
+  find_comes Rounded rows rounded status text found = found_comes rows rounded status text found
+
   pub member_ends : (rounded : ℕ) (status : Status) (text : List ℕ) → DueForMember places wanted var rounded d status text → IsEnded status
-  member_ends rounded status text (inl made) = method_comes wanted.method made.rows rounded status text (nothing made.rows made.are_rows) made.due.1
-  member_ends rounded status text (inr none) = inl (no_program laws places d can_make within status text none)
+  member_ends rounded status text (inl made) =
+      let rows = made.rows in
+      elim (found_or_due laws places d can_make within (Finds wanted.method places d rows var wanted rounded) (DueForMethod places d rows var wanted rounded) rows made.are_rows status text made.due) [
+        | inl found ↦ find_comes wanted.method rows rounded status text found
+        | inr due ↦ method_comes wanted.method rows rounded status text (nothing rows made.are_rows) due
+      ]
+  member_ends rounded status text (inr none) = inl (no_rows laws places d can_make status text none)
 
 -- what the words ask for
 abbrev wanted_for : SolveMethod → ℕ → ℕ → ℕ → Wanted

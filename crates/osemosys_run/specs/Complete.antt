@@ -56,7 +56,9 @@ use Rattle.solve_command.specs.Shown.{shown_of}
 use Rattle.command_answers.specs.Limits.{IsWithinLimits}
 use Rattle.solve_command.specs.Solve.{ComesToEnd}
 use Rattle.solve_command.specs.Summary.{default_pivots, default_places}
-use Rattle.command_words.specs.Words.{Check, Curve, Explain, Make, Mps, Solve, Span, asked}
+use Rattle.command_words.specs.Words.{Check, Curve, Explain, Make, Mps, Solve, SolveFrom, Span, asked}
+use Rattle.solver_answers.specs.Answers.{Tells}
+use Rattle.solver_answers.specs.Told.{Breaks}
 
 -- the words ask for `mps` of a file that is there, with written factors of so many places; its text is accepted, and every row of the named equations over its data can be made
 pub record CanBeWritten (words : List (List ℕ)) (files : List (List ℕ × List ℕ)) : Type 0 where
@@ -124,6 +126,29 @@ pub record CanBeSolved (words : List (List ℕ)) (files : List (List ℕ × List
   pub there : file_named files name ≡ Some bytes
   pub accepted : Accepted bytes d
   pub made : CanBeMade places d 0 (instances d)
+  pub within : (rows : List Row) → AreRowsOf places d (instances d) rows → IsWithinLimits rows (all_variables d)
+  pub ends : (rows : List Row) → AreRowsOf places d (instances d) rows → ComesToEnd (shown_of show) rows (method_end rows (all_variables d) pivots)
+
+-- The words ask for `solve` by guesses that begin from the values of a file, and both files are there; the text of the data file is accepted, and every row of the
+-- named equations over its data can be made; the other isn't too long, and breaks its form at no line; the linear program is within the limits; and the exact method
+-- comes to an end.
+pub record CanBeSolvedFrom (words : List (List ℕ)) (files : List (List ℕ × List ℕ)) : Type 0 where
+  pub name : List ℕ
+  pub start : List ℕ
+  pub gap : ℕ
+  pub pivots : ℕ
+  pub places : ℕ
+  pub show : SolveShow
+  pub bytes : List ℕ
+  pub start_bytes : List ℕ
+  pub d : Data
+  pub asks : asked words ≡ Ok (SolveFrom name start gap pivots places show)
+  pub there : file_named files name ≡ Some bytes
+  pub accepted : Accepted bytes d
+  pub made : CanBeMade places d 0 (instances d)
+  pub start_there : file_named files start ≡ Some start_bytes
+  pub start_short : length start_bytes ≤ most_bytes
+  pub in_form : (rows : List Row) → AreRowsOf places d (instances d) rows → (number : ℕ) → ¬ (Tells d.sets (all_variables d) (length rows) start_bytes (Breaks number))
   pub within : (rows : List Row) → AreRowsOf places d (instances d) rows → IsWithinLimits rows (all_variables d)
   pub ends : (rows : List Row) → AreRowsOf places d (instances d) rows → ComesToEnd (shown_of show) rows (method_end rows (all_variables d) pivots)
 
@@ -299,6 +324,7 @@ IsExplained status = (status ≡ Done) ⊎ (status ≡ Infeasible)
 pub record Completes (words : List (List ℕ)) (files : List (List ℕ × List ℕ)) (status : Status) : Type 0 where
   pub done : CanBeWritten words files ⊎ CanBeAccepted words files → (status ≡ Done) ⊎ (status ≡ Memory)
   pub ended : CanBeSolved words files → IsEnded status ⊎ (status ≡ Memory)
+  pub ended_from : CanBeSolvedFrom words files → IsEnded status ⊎ (status ≡ Memory)
   pub explained : CanBeExplained words files → IsExplained status ⊎ (status ≡ Memory)
   pub drawn : CanBeDrawn words files → (status ≡ Done) ⊎ (status ≡ Memory)
   pub spanned : CanBeSpanned words files → IsEnded status ⊎ (status ≡ Memory)

@@ -7,6 +7,7 @@ use Rattle.command_answers.specs.declared.status.Refusal.TheVariants.{TooLong}
 use Rattle.command_answers.specs.declared.status.ReadStop.TheVariants.{NoFile}
 use Rattle.command_words.specs.declared.command.MakeShow.{MakeShow}
 use Rattle.command_words.specs.declared.command.MakeShow.TheVariants.{File, Summary}
+use Rattle.command_words.specs.declared.command.SolveMethod.TheVariants.{Rounded}
 use Rattle.command_words.specs.declared.fault.WordFault.{WordFault}
 use Rattle.model_maker.specs.MadeText.{made_text}
 use Rattle.command_answers.specs.Accepted.{most_bytes}
@@ -20,12 +21,14 @@ use Rattle.osemosys_run.specs.Compared.{DueForCompared}
 use Rattle.osemosys_run.specs.Mps.{DueForEquations}
 use Rattle.osemosys_run.specs.Warned.{IsWarned}
 use Rattle.page_command.specs.Pages.{DueForPage}
-use Rattle.solve_command.specs.Shown.{shown_of}
+use Rattle.reduce_command.specs.Reduced.{DueForReduced}
+use Rattle.solve_command.specs.Shown.{wanted_by}
 use Rattle.solve_command.specs.Solve.{DueForSolve}
+use Rattle.solve_command.specs.Starts.{DueForSolveFrom}
 use Rattle.span_command.specs.Span.{DueForSpan}
 use Rattle.table_command.specs.Tables.{DueForTable, form_of}
 use Rattle.solve_command.specs.Summary.{DueForSummary, default_places, made_line}
-use Rattle.command_words.specs.Words.{Request, Check, CheckProof, Compare, Curve, Explain, Make, Mps, Page, Solve, Span, Table, Warn, asked, names_of}
+use Rattle.command_words.specs.Words.{Request, Check, CheckProof, Compare, Curve, Explain, Make, Mps, Page, Reduce, Solve, SolveFrom, Span, Table, Warn, asked, names_of}
 
 -- over the file of this number, which may be missing or too long: that, or what `Due` has over its bytes
 abbrev pub DueForFile : (List ℕ → Status → List ℕ → Type 0) → ℕ → Option (List ℕ) → Status → List ℕ → Type 0
@@ -47,11 +50,13 @@ DueForMake size Summary status text = (rest : List ℕ) × DueForText (DueForSum
 
 -- For a request over its files, each of which is looked at before what any of them says, and for a fault of the words. `held` has what the file of a
 -- number and a name holds, if it is there: the data file has number 1, then come a plan's and that of multipliers,
--- or that of a proof, and for `compare` the data file and the proof of the second scenario.
+-- or that of a proof, or that of values to start from, and for `compare` the data file and the proof of the second scenario.
 abbrev pub DueOver : Result Request WordFault → (ℕ → List ℕ → Option (List ℕ)) → Status → List ℕ → Type 0
 DueOver (Err fault) held status text = (status ≡ Words fault) × (text ≡ words_line fault)
 DueOver (Ok (Mps name places)) held status text = DueForFile (DueForText (λ rounded. DueForEquations places)) 1 (held 1 name) status text
-DueOver (Ok (Solve name gap pivots places show method)) held status text = DueForFile (DueForText (DueForSolve places (record { gap = gap; pivots = pivots; show = shown_of show; method = method }))) 1 (held 1 name) status text
+DueOver (Ok (Solve name gap pivots places show method)) held status text = DueForFile (DueForText (DueForSolve places (wanted_by gap pivots show method))) 1 (held 1 name) status text
+DueOver (Ok (SolveFrom name start gap pivots places show)) held status text =
+    DueForFile (λ bytes. DueForFile (λ start_bytes. DueForText (DueForSolveFrom places (wanted_by gap pivots show Rounded) start_bytes) bytes) 2 (held 2 start)) 1 (held 1 name) status text
 DueOver (Ok (Explain name pivots places method)) held status text = DueForFile (DueForText (λ rounded. DueForExplain places (record { pivots = pivots; method = method }))) 1 (held 1 name) status text
 DueOver (Ok (Curve name region emission limits gap pivots places method)) held status text =
     DueForFile (DueForText (λ rounded. DueForCurve places (record { method = method; pivots = pivots; gap = gap }) (record { region = region; emission = emission }) limits)) 1 (held 1 name) status text
@@ -70,6 +75,7 @@ DueOver (Ok (Table name proof table exact gap places)) held status text =
 DueOver (Ok (Page name proof gap places)) held status text =
     DueForFile (λ bytes. DueForFile (λ proof_bytes.
     DueForText (λ rounded d. DueForPage places (λ rows. DueForProofFile places d rows proof_bytes gap) proof_bytes d) bytes) 2 (held 2 proof)) 1 (held 1 name) status text
+DueOver (Ok (Reduce name places)) held status text = DueForFile (DueForText (λ rounded. DueForReduced places)) 1 (held 1 name) status text
 DueOver (Ok (Warn name)) held status text = DueForFile (DueForText IsWarned) 1 (held 1 name) status text
 DueOver (Ok (Compare first first_proof second second_proof gap places show)) held status text =
     DueForFile (λ bytes. DueForFile (λ proof_bytes. DueForFile (λ bytes2. DueForFile (λ proof_bytes2.

@@ -1,4 +1,4 @@
--- What is due of a command over its data: of one file, or of a data file and the file of a proof. Only private functions cite these.
+-- What is due of a command over its data: of one file, or of a data file and a second one. Only private functions cite these.
 use Rattle.std.specs.Prelude.{ℕ, List, [], ◌∷◌, Option, ⊤}
 use Rattle.std.specs.List.{AllByRecursion}
 use Rattle.command_words.specs.LimitLists.{IsLimit}
@@ -13,14 +13,16 @@ use Rattle.osemosys_run.specs.Warned.{IsWarned}
 use Rattle.osemosys_run.specs.declared.one_file.CurveAsked.{CurveAsked}
 use Rattle.osemosys_run.specs.declared.one_file.SpanAsked.{SpanAsked}
 use Rattle.osemosys_run.specs.declared.one_file.Task.{Task}
-use Rattle.osemosys_run.specs.declared.one_file.Task.TheVariants.{Curve, Explain, Solve, Span, Warn}
-use Rattle.osemosys_run.specs.declared.proof_file.PageAsked.{PageAsked}
-use Rattle.osemosys_run.specs.declared.proof_file.ProofTask.{ProofTask}
-use Rattle.osemosys_run.specs.declared.proof_file.ProofTask.TheVariants as proofs
-use Rattle.osemosys_run.specs.declared.proof_file.TableAsked.{TableAsked}
+use Rattle.osemosys_run.specs.declared.one_file.Task.TheVariants.{Curve, Explain, Reduce, Solve, Span, Warn}
+use Rattle.osemosys_run.specs.declared.two_files.PageAsked.{PageAsked}
+use Rattle.osemosys_run.specs.declared.two_files.TwoFileTask.{TwoFileTask}
+use Rattle.osemosys_run.specs.declared.two_files.TwoFileTask.TheVariants as pairs
+use Rattle.osemosys_run.specs.declared.two_files.TableAsked.{TableAsked}
 use Rattle.command_answers.specs.declared.status.Status.{Status}
 use Rattle.explain_command.specs.Explain.{DueForExplain}
+use Rattle.reduce_command.specs.Reduced.{DueForReduced}
 use Rattle.solve_command.specs.Solve.{DueForSolve}
+use Rattle.solve_command.specs.Starts.{DueForSolveFrom}
 use Rattle.span_command.specs.Span.{DueForSpan}
 use Rattle.page_command.specs.Pages.{DueForPage}
 use Rattle.table_command.specs.Tables.{DueForTable, form_of}
@@ -43,13 +45,14 @@ DueForTask (Solve wanted) places rounded = DueForSolve places wanted rounded
 DueForTask (Explain wanted) places rounded = DueForExplain places wanted
 DueForTask (Curve asked) places rounded = DueForAsked asked places
 DueForTask (Span asked) places rounded = DueForSpanAsked asked places rounded
+DueForTask Reduce places rounded = DueForReduced places
 DueForTask Warn places rounded = IsWarned rounded
 
 -- the cause of an answer to a request of one file, by what `Over` has of the number of its rounded numbers and over its data
 abbrev pub CausedByOneFile : (ℕ → Data → Status → List ℕ → Type 0) → List ℕ → Sight → Sight → Status → List ℕ → Type 0
 CausedByOneFile Over name before after status text = CausedByFiles (λ contents. DueForFile (DueForText Over) 1 (held_in contents 1 name) status text) 1 (name ∷ []) before after status text
 
--- ---- with the file of a proof
+-- ---- with a second file
 
 -- of `table`, for the name of a table, and the bytes of the file of a proof
 abbrev pub DueForTableAsked : TableAsked → ℕ → List ℕ → Data → Status → List ℕ → Type 0
@@ -59,18 +62,19 @@ DueForTableAsked asked places bytes d = DueForTable places (λ rows. DueForProof
 abbrev pub DueForPageAsked : PageAsked → ℕ → List ℕ → Data → Status → List ℕ → Type 0
 DueForPageAsked asked places bytes d = DueForPage places (λ rows. DueForProofFile places d rows bytes asked.gap) bytes d
 
-abbrev pub DueForProofTask : ProofTask → ℕ → List ℕ → ℕ → Data → Status → List ℕ → Type 0
-DueForProofTask (proofs.Check gap) places bytes rounded = DueForProof places bytes gap
-DueForProofTask (proofs.Table asked) places bytes rounded = DueForTableAsked asked places bytes
-DueForProofTask (proofs.Page asked) places bytes rounded = DueForPageAsked asked places bytes
+abbrev pub DueForTwoFileTask : TwoFileTask → ℕ → List ℕ → ℕ → Data → Status → List ℕ → Type 0
+DueForTwoFileTask (pairs.Check gap) places bytes rounded = DueForProof places bytes gap
+DueForTwoFileTask (pairs.Table asked) places bytes rounded = DueForTableAsked asked places bytes
+DueForTwoFileTask (pairs.Page asked) places bytes rounded = DueForPageAsked asked places bytes
+DueForTwoFileTask (pairs.Solve wanted) places bytes rounded = DueForSolveFrom places wanted bytes rounded
 
--- what is due over the two files of these names, by what `Over` has of the bytes of the proof's, of the number of the rounded numbers of the data file, and over
+-- what is due over the two files of these names, by what `Over` has of the bytes of the second, of the number of the rounded numbers of the data file, and over
 -- its data; `held` has what the files hold
 abbrev pub DueForTwoFiles : (List ℕ → ℕ → Data → Status → List ℕ → Type 0) → List ℕ → List ℕ → (ℕ → List ℕ → Option (List ℕ)) → Status → List ℕ → Type 0
-DueForTwoFiles Over name proof held status text =
-    DueForFile (λ bytes. DueForFile (λ proof_bytes. DueForText (Over proof_bytes) bytes) 2 (held 2 proof)) 1 (held 1 name) status text
+DueForTwoFiles Over name second held status text =
+    DueForFile (λ bytes. DueForFile (λ second_bytes. DueForText (Over second_bytes) bytes) 2 (held 2 second)) 1 (held 1 name) status text
 
 -- the cause of an answer to a request of these two files
 abbrev pub CausedByTwoFiles : (List ℕ → ℕ → Data → Status → List ℕ → Type 0) → List ℕ → List ℕ → Sight → Sight → Status → List ℕ → Type 0
-CausedByTwoFiles Over name proof before after status text =
-    CausedByFiles (λ contents. DueForTwoFiles Over name proof (held_in contents) status text) 1 (name ∷ proof ∷ []) before after status text
+CausedByTwoFiles Over name second before after status text =
+    CausedByFiles (λ contents. DueForTwoFiles Over name second (held_in contents) status text) 1 (name ∷ second ∷ []) before after status text

@@ -4,18 +4,23 @@ ghost use Rattle.model_sets.specs.Data.{Data};
 ghost use Rattle.command_answers.specs.Accepted.{Accepted};
 ghost use Rattle.command_answers.specs.declared.status.Status.{Status};
 ghost use Rattle.command_words.specs.declared.command.SolveMethod.{SolveMethod};
+ghost use Rattle.command_words.specs.declared.command.SolveShow.TheVariants.{Proof};
 ghost use Rattle.check_command.specs.CheckProof.{DueForProof};
-ghost use Rattle.solve_command.specs.declared.solve.Shown.TheVariants.{Proof};
+ghost use Rattle.solve_command.specs.Shown.{wanted_by};
 ghost use Rattle.solve_command.specs.Solve.{DueForSolve};
+ghost use Rattle.solve_command.specs.Starts.{DueForSolveFrom};
 ghost use Rattle.osemosys_run.specs.Accepting.{AcceptsEnd};
 
 use proof_files::proof_telling_laws;
 use row_book::stop_laws;
 
-/// What `solve` writes to prove its end is accepted by `check`, over the same data file and with the same gap and decimal places.
+/// What `solve` writes to prove its end is accepted by `check`, over the same data file and with the same gap and decimal places, whatever its
+/// guesses begin from.
 pub fn accepting_laws()
     ensures proofs { (places gap pivots : ℕ) (method : SolveMethod) (rounded : ℕ) (bytes : List ℕ) (d : Data) (end status : Status) (proof text : List ℕ)
-        → Accepted bytes d → DueForSolve places (record { gap = gap; pivots = pivots; show = Proof; method = method }) rounded d end proof → DueForProof places proof gap d status text → AcceptsEnd end status text }
+        → Accepted bytes d → DueForSolve places (wanted_by gap pivots Proof method) rounded d end proof → DueForProof places proof gap d status text → AcceptsEnd end status text }
+    ensures proofs_from { (places gap pivots : ℕ) (method : SolveMethod) (rounded : ℕ) (bytes start : List ℕ) (d : Data) (end status : Status) (proof text : List ℕ)
+        → Accepted bytes d → DueForSolveFrom places (wanted_by gap pivots Proof method) start rounded d end proof → DueForProof places proof gap d status text → AcceptsEnd end status text }
 {
     proof_telling_laws();
     stop_laws();

@@ -19,12 +19,12 @@ mod mps_program;
 mod one_file;
 mod page_file;
 mod promised;
-mod proof_file;
 mod reading;
 mod reply;
 mod run;
 mod sending;
 mod table_file;
+mod two_files;
 mod warned;
 
 pub use command_answers::{ReadStop, Refusal, Status, Stop, TrialStop, WordFault};

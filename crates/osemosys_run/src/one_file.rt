@@ -20,6 +20,7 @@ use explain_command::answer_explain;
 use io_edges::Shelf;
 use mathprog_data::PieceReader;
 use param_tables::ModelData;
+use reduce_command::answer_reduce;
 use solve_command::{Wanted, answer_solve};
 use span_command::answer_span;
 use std::alloc::{AllocError, Global};
@@ -57,6 +58,8 @@ pub enum Task<'a> {
     Curve(CurveAsked<'a>),
     /// To say how little and how much of a technology may be built near the least cost.
     Span(SpanAsked<'a>),
+    /// To write the smaller linear program that guesses solve.
+    Reduce,
     /// To say what in the data is legal and probably wrong.
     Warn,
 }
@@ -105,6 +108,7 @@ fn answer_read(
             Task::Explain(wanted) => answer_explain(alloc, &model, places, wanted),
             Task::Curve(asked) => answer_asked(alloc, &model, asked, places),
             Task::Span(asked) => answer_span_asked(alloc, &model, asked, places),
+            Task::Reduce => answer_reduce(alloc, &model, places),
             Task::Warn => answer_warned(alloc, &model),
         },
         Err(answer) => Ok(answer),

@@ -8,7 +8,7 @@ ghost use Rattle.command_answers.specs.ShownProofs.{DueOverRows};
 ghost use Rattle.page_command.specs.Pages.{ShowsPage};
 ghost use Rattle.osemosys_run.specs.Tasks.{DueForPageAsked};
 
-use crate::proof_file::PageAsked;
+use crate::two_files::PageAsked;
 use check_command::accepted_proof;
 use command_answers::{Answer, made_book};
 use page_command::{Sheet, answer_page, last_segment};

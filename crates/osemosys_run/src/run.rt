@@ -30,8 +30,10 @@ ghost use Rattle.command_answers.specs.Accepted.{Accepted};
 ghost use Rattle.check_command.specs.CheckProof.{DueForProof, DueForProofFile};
 ghost use Rattle.command_words.specs.declared.command.CompareShow.{CompareShow};
 ghost use Rattle.command_words.specs.declared.command.SolveMethod.{SolveMethod};
-ghost use Rattle.solve_command.specs.declared.solve.Shown.TheVariants.{Proof};
+ghost use Rattle.command_words.specs.declared.command.SolveShow.TheVariants.{Proof};
+ghost use Rattle.solve_command.specs.Shown.{wanted_by};
 ghost use Rattle.solve_command.specs.Solve.{DueForSolve};
+ghost use Rattle.solve_command.specs.Starts.{DueForSolveFrom};
 ghost use Rattle.osemosys_run.specs.Accepting.{AcceptsEnd};
 ghost use Rattle.osemosys_run.specs.Causes.{Caused};
 ghost use Rattle.osemosys_run.specs.Compared.{DueForCompared, IsPromisedDifference};
@@ -62,18 +64,18 @@ use crate::mps::perform_mps;
 use crate::mps_program::mps_laws;
 use crate::one_file::{CurveAsked, SpanAsked, Task, perform_task};
 use crate::promised::promised_laws;
-use crate::proof_file::{PageAsked, ProofAsked, ProofTask, TableAsked, perform_proof_task};
 use crate::reply::{Reply, deliver};
+use crate::two_files::{PageAsked, TableAsked, TwoFileTask, TwoFilesAsked, perform_two_files};
 use crate::warned::warned_laws;
 use command_answers::{Status, acceptance_laws, refuse_words};
-use command_words::{Command, read_command, spelled_parts};
+use command_words::{Command, SolveMethod, read_command, spelled_parts};
 use io_edges::{Shelf, Sink};
 use mathprog_data::verdict_laws;
 use plan_files::telling_laws;
 use plan_quantities::laws::quantity_laws;
 use proof_files::proof_telling_laws;
 use row_book::stop_laws;
-use solve_command::{Wanted, promise_laws, shown_of};
+use solve_command::{promise_laws, wanted_by};
 use std::alloc::{AllocError, Global};
 
 /// The decimal places of written factors for `warn`, which writes none.
@@ -100,6 +102,9 @@ const UNUSED_PLACES: u8 = 6;
 /// left out, and writes a report with prices of fuels, the plan, the multipliers that prove the bound, or in one file
 /// what `check --proof` accepts; or in one line the status, the cost, the bound, how far they are apart, and the pivots.
 ///
+/// `solve FILE --method rounded --start ANSWER ..` does the same by guesses that begin from the values of ANSWER: another solver's answer to the
+/// text of `mps`, or the plan of a similar model. They only tell where the search begins, so whatever they are, what is written is proved.
+///
 /// `curve FILE REGION EMISSION LIMITS [--gap PPM] [--pivots N] [--places P] [--method exact|rounded]` says for each of these limits on the
 /// emissions of the model period what the least cost is, and by how much at least it grows with each unit that the limit is lower.
 ///
@@ -117,6 +122,9 @@ const UNUSED_PLACES: u8 = 6;
 /// over its own data: what they cost, between which numbers the least costs differ, and which members and values of one the other doesn't have.
 /// Where `check` doesn't accept one of the proofs, it is written what `check` says of it; and of two that it accepts, of which one shows no
 /// optimum, what it says of both, with status 1 or 2.
+///
+/// `reduce FILE [--places P]` writes the smaller linear program that guesses solve, in floating point as free MPS, for other solvers. Nothing
+/// is said of it but that it is written.
 ///
 /// `warn FILE` says what in the data is legal and probably wrong, a line for each finding, and how many there are. A line that ends in
 /// `no plan` says that no plan exists.
@@ -227,9 +235,12 @@ pub fn osemosys<S: Shelf, K: Sink>(
         → Contains (findings warned.built) f → excludes_plans f.rule ≡ true
         → (places q : ℕ) (x : Var → ℤ) → Feasible places d q x → ⊥ }
 
-    // What `solve` writes to prove its end is accepted by `check`, over the same data file and with the same gap and decimal places.
+    // What `solve` writes to prove its end is accepted by `check`, over the same data file and with the same gap and decimal places, whatever its
+    // guesses begin from.
     ensures proofs { (places gap pivots : ℕ) (method : SolveMethod) (rounded : ℕ) (bytes : List ℕ) (d : Data) (end status : Status) (proof text : List ℕ)
-        → Accepted bytes d → DueForSolve places (record { gap = gap; pivots = pivots; show = Proof; method = method }) rounded d end proof → DueForProof places proof gap d status text → AcceptsEnd end status text }
+        → Accepted bytes d → DueForSolve places (wanted_by gap pivots Proof method) rounded d end proof → DueForProof places proof gap d status text → AcceptsEnd end status text }
+    ensures proofs_from { (places gap pivots : ℕ) (method : SolveMethod) (rounded : ℕ) (bytes start : List ℕ) (d : Data) (end status : Status) (proof text : List ℕ)
+        → Accepted bytes d → DueForSolveFrom places (wanted_by gap pivots Proof method) start rounded d end proof → DueForProof places proof gap d status text → AcceptsEnd end status text }
 
     // A failed read is answered only where the shelf counted a fault, and a failed write only where the sink did.
     ensures failed_read { (file : ℕ) → result ≡ Status.ReadFault (ReadStop.Failed file) → Rose (S.faults shelf.old) (S.faults shelf.new) }
@@ -284,13 +295,7 @@ fn perform<S: Shelf>(alloc: Global, words: &[String], shelf: &mut S) -> Result<R
                 method,
             },
         ) => {
-            let show = shown_of(show);
-            let task = Task::Solve(Wanted {
-                gap,
-                pivots,
-                show,
-                method,
-            });
+            let task = Task::Solve(wanted_by(gap, pivots, show, method));
             let answer = perform_task(alloc, file, task, places, shelf)?;
             Ok(Reply::Told(answer))
         }
@@ -360,6 +365,10 @@ fn perform<S: Shelf>(alloc: Global, words: &[String], shelf: &mut S) -> Result<R
             let answer = perform_task(alloc, file, task, places, shelf)?;
             Ok(Reply::Told(answer))
         }
+        Ok(Command::Reduce { file, places }) => {
+            let answer = perform_task(alloc, file, Task::Reduce, places, shelf)?;
+            Ok(Reply::Told(answer))
+        }
         Ok(Command::Warn { file }) => {
             let answer = perform_task(alloc, file, Task::Warn, UNUSED_PLACES, shelf)?;
             Ok(Reply::Told(answer))
@@ -395,13 +404,13 @@ fn perform<S: Shelf>(alloc: Global, words: &[String], shelf: &mut S) -> Result<R
                 places,
             },
         ) => {
-            let asked = ProofAsked {
+            let asked = TwoFilesAsked {
                 file,
-                proof,
-                task: ProofTask::Check { gap },
+                second: proof,
+                task: TwoFileTask::Check { gap },
                 places,
             };
-            let answer = perform_proof_task(alloc, asked, shelf)?;
+            let answer = perform_two_files(alloc, asked, shelf)?;
             Ok(Reply::Told(answer))
         }
         Ok(
@@ -414,14 +423,14 @@ fn perform<S: Shelf>(alloc: Global, words: &[String], shelf: &mut S) -> Result<R
                 places,
             },
         ) => {
-            let task = ProofTask::Table(TableAsked { name, exact, gap });
-            let asked = ProofAsked {
+            let task = TwoFileTask::Table(TableAsked { name, exact, gap });
+            let asked = TwoFilesAsked {
                 file,
-                proof,
+                second: proof,
                 task,
                 places,
             };
-            let answer = perform_proof_task(alloc, asked, shelf)?;
+            let answer = perform_two_files(alloc, asked, shelf)?;
             Ok(Reply::Told(answer))
         }
         Ok(
@@ -432,14 +441,34 @@ fn perform<S: Shelf>(alloc: Global, words: &[String], shelf: &mut S) -> Result<R
                 places,
             },
         ) => {
-            let task = ProofTask::Page(PageAsked { path: file, gap });
-            let asked = ProofAsked {
+            let task = TwoFileTask::Page(PageAsked { path: file, gap });
+            let asked = TwoFilesAsked {
                 file,
-                proof,
+                second: proof,
                 task,
                 places,
             };
-            let answer = perform_proof_task(alloc, asked, shelf)?;
+            let answer = perform_two_files(alloc, asked, shelf)?;
+            Ok(Reply::Told(answer))
+        }
+        Ok(
+            Command::SolveFrom {
+                file,
+                start,
+                gap,
+                pivots,
+                places,
+                show,
+            },
+        ) => {
+            let wanted = wanted_by(gap, pivots, show, SolveMethod::Rounded);
+            let asked = TwoFilesAsked {
+                file,
+                second: start,
+                task: TwoFileTask::Solve(wanted),
+                places,
+            };
+            let answer = perform_two_files(alloc, asked, shelf)?;
             Ok(Reply::Told(answer))
         }
         Ok(

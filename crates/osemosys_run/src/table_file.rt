@@ -9,7 +9,7 @@ ghost use Rattle.table_command.specs.ShownTables.{IsShowable};
 ghost use Rattle.table_command.specs.Tables.{ShowsProof, form_of};
 ghost use Rattle.osemosys_run.specs.Tasks.{DueForTableAsked};
 
-use crate::proof_file::TableAsked;
+use crate::two_files::TableAsked;
 use check_command::accepted_proof;
 use command_answers::{Answer, made_book};
 use model_sets::Sets;

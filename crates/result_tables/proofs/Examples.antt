@@ -16,6 +16,8 @@ use Rattle.row_core.specs.declared.equation_numbers.TheConstants.{EBA11}
 use Rattle.row_core.specs.declared.kind_numbers.TheConstants.{DEMAND, NEW_CAPACITY, PRODUCTION, RATE_OF_ACTIVITY, TOTAL_DISCOUNTED_COST}
 use Rattle.scaled_decimals.specs.PrintedFraction.{fraction_text}
 use Rattle.scaled_decimals.specs.PrintedPlaces.{millionths, millionths_text}
+use Rattle.result_tables.specs.declared.attempts.Begun.TheVariants.{FromNothing, FromValues, WithoutStart}
+use Rattle.result_tables.specs.declared.attempts.FoundBy.TheVariants.{ByGuesses, ByMethod, OnGrid}
 use Rattle.result_tables.specs.Lines.{amount_line}
 use Rattle.result_tables.specs.Prices.{priced, production_of}
 use Rattle.result_tables.specs.Reports.{infeasible_text, report_text, summary_text, unbounded_text}
@@ -68,23 +70,32 @@ negative_line : amount_line (codes "bound") (pair (negsuc 1) (pos 3000000)) ≡ 
 unfolding fraction_text millionths millionths_text digits
 negative_line = refl
 
-no_plan : infeasible_text 3 0 6 1 ≡ codes "status infeasible\npivots 3\nrounded 0\nend\n"
+no_plan : infeasible_text 3 0 6 ByMethod ≡ codes "status infeasible\npivots 3\nrounded 0\nend\n"
 unfolding digits
 no_plan = refl
 
 -- written factors of nine decimal places are told, those of six aren't
-nine_places : infeasible_text 3 0 9 1 ≡ codes "status infeasible\npivots 3\nrounded 0\nplaces 9\nend\n"
+nine_places : infeasible_text 3 0 9 ByMethod ≡ codes "status infeasible\npivots 3\nrounded 0\nplaces 9\nend\n"
 unfolding digits
 nine_places = refl
 
 -- a later attempt is told, the first isn't; its line stands after that of the decimal places
-third_attempt : infeasible_text 3 0 9 3 ≡ codes "status infeasible\npivots 3\nrounded 0\nplaces 9\nattempt 3\nend\n"
+third_attempt : infeasible_text 3 0 9 (ByGuesses FromNothing) ≡ codes "status infeasible\npivots 3\nrounded 0\nplaces 9\nattempt 3\nend\n"
 unfolding digits
 third_attempt = refl
 
-second_attempt : summary_text (whole (pos 80)) (whole (pos 79)) 3 1 6 2 ≡ codes "status solved\ncost 80 80.000000\nbound 79 79.000000\npivots 3\nrounded 1\nattempt 2\n"
+second_attempt : summary_text (whole (pos 80)) (whole (pos 79)) 3 1 6 OnGrid ≡ codes "status solved\ncost 80 80.000000\nbound 79 79.000000\npivots 3\nrounded 1\nattempt 2\n"
 unfolding fraction_text millionths millionths_text digits
 second_attempt = refl
+
+-- what guesses began from is told after their number
+from_values : infeasible_text 3 0 9 (ByGuesses (FromValues 217 4)) ≡ codes "status infeasible\npivots 3\nrounded 0\nplaces 9\nattempt 3\nstart 217 passed 4\nend\n"
+unfolding digits
+from_values = refl
+
+without_start : infeasible_text 3 0 6 (ByGuesses WithoutStart) ≡ codes "status infeasible\npivots 3\nrounded 0\nattempt 3\nstart none\nend\n"
+unfolding digits
+without_start = refl
 
 -- ---- tables
 
@@ -101,7 +112,7 @@ none_given = refl
 -- ---- reports
 
 -- the cost before the bound, all tables in their order, and a kind without a table, which isn't shown
-whole_report : report_text sets (activity ∷ vars) ((activity, whole (pos 4)) ∷ (second, whole (pos 10)) ∷ (cost, whole (pos 80)) ∷ []) [] [] (whole (pos 80)) (whole (pos 79)) 3 1 6 1
+whole_report : report_text sets (activity ∷ vars) ((activity, whole (pos 4)) ∷ (second, whole (pos 10)) ∷ (cost, whole (pos 80)) ∷ []) [] [] (whole (pos 80)) (whole (pos 79)) 3 1 6 ByMethod
     ≡ codes "status solved\ncost 80 80.000000\nbound 79 79.000000\npivots 3\nrounded 1\ntable NewCapacity\nR,U,2020,10,10.000000\ntable TotalCapacityAnnual\ntable TotalTechnologyAnnualActivity\ntable ProductionByTechnologyAnnual\ntable UseByTechnologyAnnual\ntable TradeAnnual\ntable AnnualEmissions\ntable DiscountedCapitalInvestment\ntable DiscountedOperatingCost\ntable DiscountedTechnologyEmissionsPenalty\ntable DiscountedSalvageValue\ntable TotalDiscountedCost\nR,2020,80,80.000000\ntable FuelPrice\nend\n"
 unfolding escaped fields_text is_blank fraction_text millionths millionths_text digits
 whole_report = refl

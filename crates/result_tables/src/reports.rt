@@ -11,6 +11,7 @@ ghost use Rattle.result_tables.specs.Causes.{IsFirstStop};
 ghost use Rattle.result_tables.specs.Prices.{price_steps};
 ghost use Rattle.result_tables.specs.Reports.{end_line, infeasible_text, report_text, summary_text, unbounded_text};
 
+use crate::attempts::FoundBy;
 use crate::directions::push_direction_table;
 use crate::lines::{push_amount, push_counts};
 use crate::prices::push_price_table;
@@ -21,8 +22,8 @@ use row_core::{Multipliers, Plan, Row, Stopped, Var};
 use std::alloc::{AllocError, Global};
 
 /// The report of a solved model: the lines `status solved`, `cost` and `bound` (each as a fraction and rounded to six decimal
-/// places), `pivots` and `rounded`, `places` where the written factors haven't 6 decimal places, and `attempt` where `attempt`, the
-/// number of the attempt that gave the plan, isn't 1, then 13 tables, then `end`. A table is a line `table` with its name, and CSV
+/// places), `pivots` and `rounded`, `places` where the written factors haven't 6 decimal places, `attempt` with the number of the
+/// attempt that gave the plan, where it isn't the first, and `start` where guesses began from a file, then 13 tables, then `end`. A table is a line `table` with its name, and CSV
 /// records: of the first twelve tables one for each of `vars` of a kind, in order, whose value in the plan isn't 0, with the members
 /// of its subscripts and its value as a fraction and as a decimal; of the last one in the same way for each balance of a fuel,
 /// EBa11, whose price isn't 0. The price is the multiplier of the row times the number that the row has at Production.
@@ -40,7 +41,7 @@ pub fn report(
     pivots: u64,
     rounded: u64,
     places: u8,
-    attempt: u8,
+    attempt: FoundBy,
     sets: &Sets,
 ) -> Result<Vec<u8>, Stopped>
     requires rows { AllByRecursion (IsListedRow sets.now) (map name_of_row rows.now) }
@@ -58,14 +59,14 @@ pub fn report(
 }
 
 /// The report of a model that has no plan: the lines `status infeasible`, `pivots`, `rounded`, `places` where the written factors
-/// haven't 6 decimal places, `attempt` where the number of the attempt that showed it isn't 1, and `end`. Refuses where memory runs
-/// out.
+/// haven't 6 decimal places, `attempt` with the number of the attempt that showed it, where it isn't the first, `start` where guesses
+/// began from a file, and `end`. Refuses where memory runs out.
 pub fn infeasible_report(
     alloc: Global,
     pivots: u64,
     rounded: u64,
     places: u8,
-    attempt: u8,
+    attempt: FoundBy,
 ) -> Result<Vec<u8>, AllocError>
     ensures { IfOk result (λ text. text.items ≡ infeasible_text pivots rounded places attempt) }
 {
@@ -74,9 +75,6 @@ pub fn infeasible_report(
     push_end(&mut out)?;
     Ok(out)
 }
-
-/// The attempt that a report of a model without a bound comes from: no later one ends so.
-const ONLY_ATTEMPT: u8 = 1;
 
 /// The report of a model whose cost has no bound: the lines `status unbounded`, `pivots`, `rounded`, and `places` where the
 /// written factors haven't 6 decimal places, the table Direction, and `end`. The table has a record for each RateOfActivity, NewCapacity and Trade, in order, whose value in the direction isn't 0: its
@@ -93,7 +91,7 @@ pub fn unbounded_report(
     ensures { IfOk result (λ text. text.items ≡ unbounded_text sets.now direction.now pivots rounded places) }
 {
     let mut out = Vec::from_slice(alloc, b"status unbounded\n")?;
-    push_counts(&mut out, pivots, rounded, places, ONLY_ATTEMPT)?;
+    push_counts(&mut out, pivots, rounded, places, FoundBy::ByMethod)?;
     push_direction_table(alloc, &mut out, sets, direction)?;
     push_end(&mut out)?;
     Ok(out)
@@ -107,7 +105,7 @@ fn push_summary(
     pivots: u64,
     rounded: u64,
     places: u8,
-    attempt: u8,
+    attempt: FoundBy,
 ) -> Result<(), AllocError>
     ensures { OnOk result (out.new.items ≡ out.old.items ++ summary_text (value_of cost) (value_of bound) pivots rounded places attempt) }
 {

@@ -16,6 +16,7 @@ mod short_numbers;
 mod short_tries;
 mod sizes;
 mod solving;
+mod starting;
 mod tries;
 
 pub use guesses::{Guess, GuessedOptimum, guess_multipliers, guess_optimum, guess_values};

@@ -9,13 +9,14 @@ use crate::limit::{guess_from, limited_guess};
 use crate::raising::raised_values;
 use crate::room::{Room, room_of, rounding_within};
 use crate::sizes::sum_errors;
+use crate::starting::starting_basis;
 use exact_num::Frac;
 use presolved_program::{Aim, Layout, Program, Stop, at, layout_of, prepare_rows, put};
 use rounded_program::{
     Margins, Rounding, elastic_program, margins_for, margins_of, named_multipliers, plain_rounding,
     rounded_program, values_of,
 };
-use rounded_simplex::Answer;
+use rounded_simplex::{Answer, LinearProgram};
 use row_core::{Row, Var};
 use std::alloc::Global;
 
@@ -52,12 +53,14 @@ struct Ended {
     basis: Vec<usize>,
 }
 
-/// A first guess, which tells how large the numbers are, and so how many decimals there is room for. None where there seems to be no plan.
+/// A first guess, which tells how large the numbers are, and so how many decimals there is room for. It starts from a value for each
+/// variable, where there are any. None where there seems to be no plan.
 pub(crate) fn measure(
     alloc: Global,
     rows: &[Row],
     defs: &[Option<Var>],
     vars: &[Var],
+    start: Option<&[f64]>,
     pivots: u64,
 ) -> Result<Option<Measured>, Stop>
     ensures { IfOk result (λ first. IfSome first (λ measured. measured.pivots ≤ pivots)) }
@@ -67,8 +70,7 @@ pub(crate) fn measure(
     if smaller.is_false() {
         return Ok(None);
     }
-    let margins = margins_of(alloc, &smaller, PLACES, DIGITS)?;
-    match end_of_guess(alloc, &smaller, &margins, &[], pivots)? {
+    match first_guess(alloc, &layout, &smaller, start, pivots)? {
         Some(first) => {
             let room = room_of(alloc, rows, vars, &layout, &first.values, &first.named)?;
             Ok(Some(Measured {
@@ -83,18 +85,34 @@ pub(crate) fn measure(
     }
 }
 
-/// A guess with these margins, from this basis, if there is one; none where there seems to be no plan.
+/// A guess with the margins of the first one, from the given values; none where there seems to be no plan.
+fn first_guess(
+    alloc: Global,
+    layout: &Layout,
+    smaller: &Program,
+    start: Option<&[f64]>,
+    pivots: u64,
+) -> Result<Option<Ended>, Stop>
+    ensures made { IfOk result (λ end. IfSome end (λ e. e.pivots ≤ pivots)) }
+{
+    let margins = margins_of(alloc, smaller, PLACES, DIGITS)?;
+    let asked = rounded_program(alloc, smaller, &margins)?;
+    let basis = starting_basis(alloc, layout, smaller, &asked, start)?;
+    end_of_guess(alloc, smaller, &margins, &asked, &basis, pivots)
+}
+
+/// A guess at the program with these margins, from this basis, if there is one; none where there seems to be no plan.
 fn end_of_guess(
     alloc: Global,
     smaller: &Program,
     margins: &Margins,
+    asked: &LinearProgram,
     start: &[usize],
     pivots: u64,
 ) -> Result<Option<Ended>, Stop>
     ensures made { IfOk result (λ end. IfSome end (λ e. e.pivots ≤ pivots)) }
 {
-    let asked = rounded_program(alloc, smaller, margins)?;
-    match guess_from(alloc, &asked, start, pivots)? {
+    match guess_from(alloc, asked, start, pivots)? {
         Answer::Solved(guess) => {
             let values = values_of(alloc, smaller, margins, &guess.values)?;
             let named = named_multipliers(alloc, smaller, margins, &guess.multipliers)?;
@@ -166,7 +184,8 @@ fn last_guess(
     ensures made { IfOk result (λ end. IfSome end (λ e. e.pivots ≤ pivots)) }
 {
     let margins = margins_for(alloc, &smaller, rounding, digits)?;
-    end_of_guess(alloc, &smaller, &margins, &basis, pivots)
+    let asked = rounded_program(alloc, &smaller, &margins)?;
+    end_of_guess(alloc, &smaller, &margins, &asked, &basis, pivots)
 }
 
 /// What multipliers that show that there is no plan are guessed of.

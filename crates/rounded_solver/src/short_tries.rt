@@ -21,7 +21,8 @@ const REFUTING: [(i32, i32); 3] = [(12, 5), (10, 2), (8, 0)];
 /// Looks for a plan whose cost is above a proved bound by at most so many millionths of the bound, or for multipliers that show that
 /// there is no plan, from rows alone: no defined variable is removed from them exactly, so it goes on where that forms numbers that
 /// don't fit. Each guess may take so many pivots at most. `defs` says of each row which variable it defines, if it defines one, and
-/// `vars` are the variables of the rows.
+/// `vars` are the variables of the rows. `start` has a value for each of them, in order, where there is a plan to start from: another
+/// model's, or another solver's answer, of any accuracy, 0 where nothing is known.
 ///
 /// Nothing is given to which the checker doesn't say yes. A plan has one value for each variable, in order; multipliers ascend by the
 /// names of rows; the pivots that are told are those of the guess. When nothing is given isn't defined: then nothing is known of the
@@ -31,6 +32,7 @@ pub fn guessed_rows(
     rows: &[Row],
     defs: &[Option<Var>],
     vars: &[Var],
+    start: Option<&[f64]>,
     ppm: u32,
     pivots: u64,
 ) -> Result<Option<Certified>, AllocError>
@@ -40,7 +42,7 @@ pub fn guessed_rows(
     ensures named { IfOk result (λ found. IfSome found (IsNamed rows.now)) }
     ensures made { IfOk result (λ found. IfSome found (IsMadeWithin pivots)) }
 {
-    match short_attempts(alloc, rows, defs, vars, ppm, pivots) {
+    match short_attempts(alloc, rows, defs, vars, start, ppm, pivots) {
         Ok(Attempt::Found(found)) => Ok(Some(found)),
         Ok(Attempt::NoPlan) => Ok(None),
         Ok(Attempt::Nothing) => Ok(None),
@@ -49,8 +51,32 @@ pub fn guessed_rows(
     }
 }
 
-/// A plan of least cost; where there seems to be none, what proves that.
+/// A plan of least cost by guesses from given values, and where they find none, by guesses from nothing: so values that are far off hide
+/// none.
 fn short_attempts(
+    alloc: Global,
+    rows: &[Row],
+    defs: &[Option<Var>],
+    vars: &[Var],
+    start: Option<&[f64]>,
+    ppm: u32,
+    pivots: u64,
+) -> Result<Attempt, NoAnswer>
+    requires { AreListed rows.now vars.now }
+    ensures proved { IfOk result (IfFound (IsProvedWithin rows.now vars.now ppm)) }
+    ensures whole { IfOk result (IfFound (IsComplete vars.now)) }
+    ensures named { IfOk result (IfFound (IsNamed rows.now)) }
+    ensures made { IfOk result (IfFound (IsMadeWithin pivots)) }
+{
+    match started_plan(alloc, rows, defs, vars, start, ppm, pivots)? {
+        Attempt::Found(found) => Ok(Attempt::Found(found)),
+        Attempt::NoPlan => attempts_anew(alloc, rows, defs, vars, ppm, pivots),
+        Attempt::Nothing => attempts_anew(alloc, rows, defs, vars, ppm, pivots),
+    }
+}
+
+/// A plan of least cost by guesses from nothing; where there seems to be none, what proves that.
+fn attempts_anew(
     alloc: Global,
     rows: &[Row],
     defs: &[Option<Var>],
@@ -64,10 +90,36 @@ fn short_attempts(
     ensures named { IfOk result (IfFound (IsNamed rows.now)) }
     ensures made { IfOk result (IfFound (IsMadeWithin pivots)) }
 {
-    match short_plan(alloc, rows, defs, vars, ppm, pivots)? {
+    match short_plan(alloc, rows, defs, vars, None, ppm, pivots)? {
         Attempt::Found(found) => Ok(Attempt::Found(found)),
         Attempt::NoPlan => short_refutation(alloc, rows, defs, vars, pivots),
         Attempt::Nothing => Ok(Attempt::Nothing),
+    }
+}
+
+/// The first try from given values at a plan that the checker accepts. Nothing, where there are none, or they make numbers that don't fit.
+fn started_plan(
+    alloc: Global,
+    rows: &[Row],
+    defs: &[Option<Var>],
+    vars: &[Var],
+    start: Option<&[f64]>,
+    ppm: u32,
+    pivots: u64,
+) -> Result<Attempt, NoAnswer>
+    requires { AreListed rows.now vars.now }
+    ensures proved { IfOk result (IfFound (IsProvedWithin rows.now vars.now ppm)) }
+    ensures whole { IfOk result (IfFound (IsComplete vars.now)) }
+    ensures named { IfOk result (IfFound (IsNamed rows.now)) }
+    ensures made { IfOk result (IfFound (IsMadeWithin pivots)) }
+{
+    if start.is_none() {
+        return Ok(Attempt::Nothing);
+    }
+    match short_plan(alloc, rows, defs, vars, start, ppm, pivots) {
+        Ok(attempt) => Ok(attempt),
+        Err(NoAnswer::Memory) => Err(NoAnswer::Memory),
+        Err(_) => Ok(Attempt::Nothing),
     }
 }
 
@@ -77,6 +129,7 @@ fn short_plan(
     rows: &[Row],
     defs: &[Option<Var>],
     vars: &[Var],
+    start: Option<&[f64]>,
     ppm: u32,
     pivots: u64,
 ) -> Result<Attempt, NoAnswer>
@@ -87,7 +140,7 @@ fn short_plan(
     ensures made { IfOk result (IfFound (IsMadeWithin pivots)) }
 {
     for (places, digits) in TRIES {
-        let first = measure(alloc, rows, defs, vars, pivots).map_err(no_guess)?;
+        let first = measure(alloc, rows, defs, vars, start, pivots).map_err(no_guess)?;
         let Some(measured) = first else {
             return Ok(Attempt::NoPlan);
         };

@@ -8,3 +8,4 @@ pub mod RowsDue
 mod SecondEnds
 mod SolveExamples
 pub mod SolvedEnds
+mod StartLaws

@@ -20,7 +20,7 @@ use Rattle.command_answers.proofs.SolvedRows.{are, near, refuted}
 use Rattle.solve_command.proofs.ReadingBack.{where-proof}
 
 module _ (places : ℕ) (d : Data) (rows : List Row) (vars : List Var) (book : IsBookOf places d rows vars) (sets : SetLists) (same : sets ≡ d.sets) (wanted : Wanted) (rounded : ℕ) (status : Status) (text : List ℕ) where
-  pub due-from_found : ReadsBack d rows vars → (solution : Certified) → HasFractions solution → IsFoundBy rows vars wanted.gap wanted.pivots solution → TellsFound sets rows vars wanted.show rounded places solution status text
+  pub due-from_found : ReadsBack d rows vars → (solution : Certified) → HasFractions solution → IsFoundBy rows vars wanted.gap wanted.pivots solution → TellsFound sets rows vars wanted rounded places solution status text
       → IsFound places d rows wanted rounded status text ⊎ IsFoundInfeasibleShown places d rows wanted rounded status text
   due-from_found reads (exact.Optimal plan multipliers cost bound made) fractions found told =
       inl (record {

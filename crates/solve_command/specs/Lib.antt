@@ -7,4 +7,5 @@ pub mod Shown
 pub mod Solve
 pub mod SolveOutcomes
 pub mod SolveTexts
+pub mod Starts
 pub mod Summary

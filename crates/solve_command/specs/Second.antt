@@ -14,6 +14,7 @@ use Rattle.certified_answers.specs.declared.answers.Certified.TheVariants as exa
 use Rattle.decimal_solver.specs.Attempts.{Attempt}
 use Rattle.decimal_solver.specs.declared.attempts.Found.{Found}
 use Rattle.result_tables.specs.Prices.{price_steps}
+use Rattle.result_tables.specs.declared.attempts.FoundBy.TheVariants.{ByMethod, OnGrid}
 use Rattle.solve_command.specs.declared.solve.Shown.{Shown}
 use Rattle.solve_command.specs.declared.solve.Wanted.{Wanted}
 use Rattle.command_answers.specs.declared.answer.Answer.{Answer}
@@ -21,7 +22,6 @@ use Rattle.command_answers.specs.declared.status.Status.{Status}
 use Rattle.command_answers.specs.declared.status.Status.TheVariants.{Done, Uncertified}
 use Rattle.simplex_core.specs.declared.stops.Stop.TheVariants.{Width}
 use Rattle.command_answers.specs.Lines.{uncertified_line}
-use Rattle.command_answers.specs.SolvedEnds.{first_attempt, second_attempt}
 use Rattle.solve_command.specs.ReadBack.{AreFractions}
 use Rattle.solve_command.specs.Solve.{second_end}
 use Rattle.solve_command.specs.SolveOutcomes.{HasPriceWideAt, PricesFitIn, solution_shown, status_of}
@@ -48,7 +48,7 @@ pub record IsToldSecond (sets : SetLists) (rows : List Row) (vars : List Var) (w
   pub second : second_end rows vars wanted ≡ Some found
   pub worth : IsWorth rows vars wanted.gap found
   pub status_is : status ≡ Done
-  pub text_is : text ≡ solved_shown wanted.show sets vars found.plan rows found.multipliers found.cost found.bound found.pivots rounded places second_attempt
+  pub text_is : text ≡ solved_shown wanted.show sets vars found.plan rows found.multipliers found.cost found.bound found.pivots rounded places OnGrid
 
 -- an answer tells it, and there is none exactly where the attempt gives nothing
 abbrev pub TellsSecond : SetLists → List Row → List Var → Wanted → ℕ → ℕ → Option Answer → Type 0
@@ -60,7 +60,7 @@ abbrev pub TellsGrid : SetLists → List Row → List Var → Shown → ℕ → 
 TellsGrid sets rows vars show rounded places found None = is_none (first_wide (price_steps rows found.multipliers)) ≡ false
 TellsGrid sets rows vars show rounded places found (Some answer) =
     (is_none (first_wide (price_steps rows found.multipliers)) ≡ true) × (answer.status ≡ Done)
-    × (answer.text.items ≡ solved_shown show sets vars found.plan rows found.multipliers (value_of found.cost) (value_of found.bound) found.pivots rounded places second_attempt)
+    × (answer.text.items ≡ solved_shown show sets vars found.plan rows found.multipliers (value_of found.cost) (value_of found.bound) found.pivots rounded places OnGrid)
 
 -- the last answer is the second attempt's, or the first answer, where that gives nothing
 abbrev pub IsLastOf : SetLists → List Row → List Var → Wanted → ℕ → ℕ → Answer → Answer → Type 0
@@ -71,7 +71,7 @@ IsLastOf sets rows vars wanted rounded places first last =
 -- a solution is told, or at which of its prices a number doesn't fit where the second attempt gives nothing, or what that gives
 abbrev pub TellsExactly : SetLists → List Row → List Var → Wanted → ℕ → ℕ → Certified → Status → List ℕ → Type 0
 TellsExactly sets rows vars wanted rounded places solution status text =
-    (PricesFitIn wanted.show rows solution × (status ≡ status_of solution) × (text ≡ solution_shown wanted.show sets rows vars rounded places first_attempt solution))
+    (PricesFitIn wanted.show rows solution × (status ≡ status_of solution) × (text ≡ solution_shown wanted.show sets rows vars rounded places ByMethod solution))
     ⊎ ((place : Place) × HasPriceWideAt wanted.show rows solution place
     × (IsToldSecond sets rows vars wanted rounded places status text
     ⊎ ((second_end rows vars wanted ≡ None) × (status ≡ Uncertified (Width place)) × (text ≡ uncertified_line sets (Width place)))))

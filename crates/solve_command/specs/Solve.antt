@@ -16,6 +16,7 @@ use Rattle.exact_solver.specs.MethodEnds.{HasNoBound, HasNoPlan, HasOptimum, IsP
 use Rattle.command_answers.specs.BookMethods.{grid_end, method_end}
 use Rattle.certified_answers.specs.Worth.{plan_cost}
 use Rattle.result_tables.specs.Prices.{price_steps}
+use Rattle.result_tables.specs.declared.attempts.FoundBy.TheVariants.{ByGuesses, ByMethod, OnGrid}
 use Rattle.solve_command.specs.declared.solve.Shown.{Shown}
 use Rattle.solve_command.specs.declared.solve.Shown.TheVariants.{Report, Summary}
 use Rattle.solve_command.specs.declared.solve.Wanted.{Wanted}
@@ -29,7 +30,7 @@ use Rattle.command_answers.specs.MadeRows.{IsMadeFor}
 use Rattle.solve_command.specs.Shown.{HasPrices}
 use Rattle.command_words.specs.declared.command.SolveMethod.{SolveMethod}
 use Rattle.command_words.specs.declared.command.SolveMethod.TheVariants.{Exact, Rounded}
-use Rattle.command_answers.specs.SolvedEnds.{IsFoundInfeasible, IsInfeasible, IsUnbounded, first_attempt, second_attempt, third_attempt}
+use Rattle.command_answers.specs.SolvedEnds.{IsFoundInfeasible, IsInfeasible, IsUnbounded}
 use Rattle.command_answers.specs.SolvedPlans.{IsNearOptimum, IsOptimum}
 use Rattle.solve_command.specs.ReadBack.{TellsDescent, TellsOptimum, TellsRefutation, WhereProof}
 use Rattle.solve_command.specs.SolveTexts.{infeasible_shown, solved_shown, unbounded_shown}
@@ -70,18 +71,18 @@ pub record IsSolved (places : ℕ) (d : Data) (rows : List Row) (wanted : Wanted
   pub optimum : IsOptimum places d rows wanted.gap plan multipliers cost bound
   pub prices_fit : PricesFit wanted.show rows multipliers
   pub status_is : status ≡ Done
-  pub text_is : text ≡ solved_shown wanted.show d.sets (all_variables d) plan rows multipliers cost bound made rounded places first_attempt
+  pub text_is : text ≡ solved_shown wanted.show d.sets (all_variables d) plan rows multipliers cost bound made rounded places ByMethod
   pub told : WhereProof wanted.show (TellsOptimum d plan multipliers text)
 
 -- no plan meets them
 abbrev pub IsInfeasibleShown : ℕ → Data → List Row → Wanted → ℕ → Status → List ℕ → Type 0
 IsInfeasibleShown places d rows wanted rounded status text =
-    (end : IsInfeasible places d rows wanted.pivots (λ multipliers made. infeasible_shown wanted.show d.sets multipliers made rounded places first_attempt) status text)
+    (end : IsInfeasible places d rows wanted.pivots (λ multipliers made. infeasible_shown wanted.show d.sets multipliers made rounded places ByMethod) status text)
     × WhereProof wanted.show (TellsRefutation d end.multipliers text)
 
 abbrev pub IsFoundInfeasibleShown : ℕ → Data → List Row → Wanted → ℕ → Status → List ℕ → Type 0
 IsFoundInfeasibleShown places d rows wanted rounded status text =
-    (end : IsFoundInfeasible places d rows wanted.pivots (λ multipliers made. infeasible_shown wanted.show d.sets multipliers made rounded places third_attempt) status text)
+    (end : IsFoundInfeasible places d rows wanted.pivots (λ multipliers made. infeasible_shown wanted.show d.sets multipliers made rounded places (ByGuesses wanted.begun)) status text)
     × WhereProof wanted.show (TellsRefutation d end.multipliers text)
 
 -- plans of any lower cost meet them
@@ -137,7 +138,7 @@ pub record IsSolvedOnGrid (places : ℕ) (d : Data) (rows : List Row) (wanted : 
   pub second : second_end rows (all_variables d) wanted ≡ Some found
   pub optimum : IsNearOptimum places d rows wanted.gap found.plan found.multipliers found.cost found.bound
   pub status_is : status ≡ Done
-  pub text_is : text ≡ solved_shown wanted.show d.sets (all_variables d) found.plan rows found.multipliers found.cost found.bound found.pivots rounded places second_attempt
+  pub text_is : text ≡ solved_shown wanted.show d.sets (all_variables d) found.plan rows found.multipliers found.cost found.bound found.pivots rounded places OnGrid
   pub told : WhereProof wanted.show (TellsOptimum d found.plan found.multipliers text)
 
 -- what is due of a linear program by the exact method, and by the second attempt where it stops
@@ -165,7 +166,7 @@ pub record IsFound (places : ℕ) (d : Data) (rows : List Row) (wanted : Wanted)
   pub cost_is : cost ≡ plan_cost (all_variables d) plan
   pub prices_fit : PricesFit wanted.show rows multipliers
   pub status_is : status ≡ Done
-  pub text_is : text ≡ solved_shown wanted.show d.sets (all_variables d) plan rows multipliers cost bound made rounded places third_attempt
+  pub text_is : text ≡ solved_shown wanted.show d.sets (all_variables d) plan rows multipliers cost bound made rounded places (ByGuesses wanted.begun)
   pub told : WhereProof wanted.show (TellsOptimum d plan multipliers text)
 
 -- ---- what is due

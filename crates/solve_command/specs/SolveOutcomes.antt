@@ -1,4 +1,4 @@
--- What a solution of a book comes to, found by the attempt of some number, as statuses and texts.
+-- What a solution of a book comes to, found by some attempt, as statuses and texts.
 use Rattle.std.specs.Prelude.{◌≡◌, ℕ, List, Some, ⊤}
 use Rattle.exact_num.specs.Steps.{first_wide}
 use Rattle.exact_num.specs.Value.{value_of}
@@ -11,6 +11,7 @@ use Rattle.row_core.specs.declared.place.Stopped.TheVariants as parts
 use Rattle.certified_answers.specs.declared.answers.Certified.{Certified}
 use Rattle.certified_answers.specs.declared.answers.Certified.TheVariants as found
 use Rattle.result_tables.specs.Prices.{price_steps}
+use Rattle.result_tables.specs.declared.attempts.FoundBy.{FoundBy}
 use Rattle.solve_command.specs.Shown.{HasPrices}
 use Rattle.solve_command.specs.declared.solve.Shown.{Shown}
 use Rattle.command_answers.specs.declared.status.Status.{Status}
@@ -19,7 +20,7 @@ use Rattle.solve_command.specs.Solve.{PricesFit}
 use Rattle.solve_command.specs.SolveTexts.{infeasible_shown, solved_shown, unbounded_shown}
 
 -- the text
-abbrev pub solution_shown : Shown → SetLists → List Row → List Var → ℕ → ℕ → ℕ → Certified → List ℕ
+abbrev pub solution_shown : Shown → SetLists → List Row → List Var → ℕ → ℕ → FoundBy → Certified → List ℕ
 solution_shown show sets rows vars rounded places attempt (found.Optimal plan multipliers cost bound made) =
     solved_shown show sets vars plan rows multipliers (value_of cost) (value_of bound) made rounded places attempt
 solution_shown show sets rows vars rounded places attempt (found.Infeasible multipliers made) = infeasible_shown show sets multipliers made rounded places attempt

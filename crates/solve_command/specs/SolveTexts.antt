@@ -12,6 +12,7 @@ use Rattle.row_core.specs.declared.Var.{Var}
 use Rattle.plan_files.specs.Records.{multiplier_records, plan_records}
 use Rattle.plan_files.specs.Texts.{records_text}
 use Rattle.proof_files.specs.ProofRecords.{descent_file, optimum_file, refutation_file}
+use Rattle.result_tables.specs.declared.attempts.FoundBy.{FoundBy}
 use Rattle.result_tables.specs.Reports.{infeasible_text, report_text, unbounded_text}
 use Rattle.solve_command.specs.declared.solve.Shown.{Shown}
 use Rattle.solve_command.specs.LineTexts.{infeasible_line, solved_line, unbounded_line}
@@ -29,8 +30,8 @@ abbrev pub solved_lines : Rational → Rational → ℕ → List ℕ
 solved_lines cost bound made =
     line (codes "status solved") ++ line (codes "cost " ++ fraction_text cost) ++ line (codes "bound " ++ fraction_text bound) ++ line (codes "pivots " ++ decimal made)
 
--- of a model that is solved, by the attempt of this number
-abbrev pub solved_shown : Shown → SetLists → List Var → List (Var × Rational) → List Row → List (RowName × Rational) → Rational → Rational → ℕ → ℕ → ℕ → ℕ → List ℕ
+-- of a model that is solved, by this attempt
+abbrev pub solved_shown : Shown → SetLists → List Var → List (Var × Rational) → List Row → List (RowName × Rational) → Rational → Rational → ℕ → ℕ → ℕ → FoundBy → List ℕ
 solved_shown Report sets vars plan rows multipliers cost bound made rounded places attempt = report_text sets vars plan rows multipliers cost bound made rounded places attempt
 solved_shown Plan sets vars plan rows multipliers cost bound made rounded places attempt = plan_file sets plan
 solved_shown Multipliers sets vars plan rows multipliers cost bound made rounded places attempt = multiplier_file sets multipliers
@@ -38,8 +39,8 @@ solved_shown Proof sets vars plan rows multipliers cost bound made rounded place
 solved_shown Line sets vars plan rows multipliers cost bound made rounded places attempt = solved_line cost bound made
 solved_shown Summary sets vars plan rows multipliers cost bound made rounded places attempt = solved_lines cost bound made
 
--- of one that has no plan, by the attempt of this number
-abbrev pub infeasible_shown : Shown → SetLists → List (RowName × Rational) → ℕ → ℕ → ℕ → ℕ → List ℕ
+-- of one that has no plan, by this attempt
+abbrev pub infeasible_shown : Shown → SetLists → List (RowName × Rational) → ℕ → ℕ → ℕ → FoundBy → List ℕ
 infeasible_shown Report sets multipliers made rounded places attempt = infeasible_text made rounded places attempt
 infeasible_shown Plan sets multipliers made rounded places attempt = plan_file sets []
 infeasible_shown Multipliers sets multipliers made rounded places attempt = multiplier_file sets multipliers

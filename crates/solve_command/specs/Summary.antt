@@ -7,6 +7,7 @@ use Rattle.row_core.specs.declared.Row.{Row}
 use Rattle.row_core.specs.declared.Var.{Var}
 use Rattle.named_equations.specs.Existence.{all_variables}
 use Rattle.row_problem.specs.Sizes.{column_count, inequality_count}
+use Rattle.result_tables.specs.declared.attempts.Begun.TheVariants.{FromNothing}
 use Rattle.solve_command.specs.declared.solve.Shown.TheVariants.{Summary}
 use Rattle.solve_command.specs.declared.solve.Wanted.{Wanted}
 use Rattle.command_answers.specs.declared.status.Status.{Status}
@@ -37,7 +38,7 @@ abbrev pub default_places : ℕ
 default_places = 6
 
 abbrev pub default_wanted : Wanted
-default_wanted = record { gap = 0; pivots = default_pivots; show = Summary; method = Exact }
+default_wanted = record { gap = 0; pivots = default_pivots; show = Summary; method = Exact; begun = FromNothing }
 
 -- what `solve` comes to over the rows
 abbrev pub DueForDefaults : ℕ → Data → List Row → ℕ → Status → List ℕ → Type 0

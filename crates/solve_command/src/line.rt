@@ -4,6 +4,7 @@ ghost use Rattle.model_sets.specs.Members.{SetLists};
 ghost use Rattle.row_core.specs.declared.Row.{Row};
 ghost use Rattle.row_core.specs.declared.Var.{Var};
 ghost use Rattle.exact_num.specs.Value.{value_of};
+ghost use Rattle.result_tables.specs.declared.attempts.FoundBy.{FoundBy};
 ghost use Rattle.solve_command.specs.LineTexts.{gap_text, infeasible_line, is_in_millionths, solved_line, unbounded_line, up_text};
 ghost use Rattle.solve_command.specs.SolveOutcomes.{solution_shown};
 ghost use Rattle.solve_command.specs.declared.solve.Shown.TheVariants as shows;
@@ -16,7 +17,7 @@ use std::alloc::{AllocError, Global};
 
 /// The line of a solution: its status, cost, bound, gap and pivots, with commas between.
 pub(crate) fn line_text(alloc: Global, solution: &Certified) -> Result<Vec<u8>, AllocError>
-    ensures { (sets : SetLists) (rows : List Row) (vars : List Var) (rounded places attempt : ℕ)
+    ensures { (sets : SetLists) (rows : List Row) (vars : List Var) (rounded places : ℕ) (attempt : FoundBy)
         → IfOk result (λ text. text.items ≡ solution_shown shows.Line sets rows vars rounded places attempt solution.now) }
 {
     match solution {

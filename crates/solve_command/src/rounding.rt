@@ -14,12 +14,10 @@ use crate::texts::solution_text;
 use certified_answers::Certified;
 use command_answers::{Answer, BookProgram, guess_book, guess_rows};
 use model_sets::Sets;
+use result_tables::FoundBy;
 use row_book::RowBook;
 use row_core::Stopped;
 use std::alloc::{AllocError, Global};
-
-/// The number of the attempt that the rounded method is.
-const THIRD_ATTEMPT: u8 = 3;
 
 /// The answer for what the rounded method finds over a book, of data of which so many numbers were rounded. None where it finds
 /// nothing, or where a number that is formed for a price of what is found doesn't fit.
@@ -43,7 +41,8 @@ pub fn answer_rounded(
     answer_guess(alloc, book, sets, found, places, wanted, rounded)
 }
 
-/// The same by guesses of the rows alone: no defined variable is removed from them exactly.
+/// The same by guesses of the rows alone, from these values of the variables, in order, where there are any: no defined variable is removed
+/// from the rows exactly.
 pub fn answer_rows(
     alloc: Global,
     book: &RowBook,
@@ -51,6 +50,7 @@ pub fn answer_rows(
     places: u8,
     wanted: Wanted,
     rounded: u64,
+    start: Option<&[f64]>,
 ) -> Result<Option<Answer>, AllocError>
     requires { IsListedBook sets.now book.now.rows book.now.vars }
     ensures { (d : Data) → sets.now ≡ d.sets → IsBookOf places d book.now.rows book.now.vars
@@ -58,7 +58,7 @@ pub fn answer_rows(
         IsFound places d book.now.rows wanted rounded answer.status answer.text.items
         ⊎ IsFoundInfeasibleShown places d book.now.rows wanted rounded answer.status answer.text.items)) }
 {
-    let found = guess_rows(alloc, book, wanted.gap, u64::from(wanted.pivots))?;
+    let found = guess_rows(alloc, book, start, wanted.gap, u64::from(wanted.pivots))?;
     answer_guess(alloc, book, sets, found, places, wanted, rounded)
 }
 
@@ -102,7 +102,7 @@ fn answer_found(
     requires listed { IsListedBook sets.now book.now.rows book.now.vars }
     requires found { IsFoundBy book.now.rows book.now.vars wanted.gap wanted.pivots solution.now }
     ensures { IfOk result (λ found. IfSome found (λ answer.
-        TellsFound sets.now book.now.rows book.now.vars wanted.show rounded places solution.now answer.status answer.text.items)) }
+        TellsFound sets.now book.now.rows book.now.vars wanted rounded places solution.now answer.status answer.text.items)) }
 {
     let show = wanted.show;
     match solution_text(
@@ -113,7 +113,7 @@ fn answer_found(
         show,
         rounded,
         places,
-        THIRD_ATTEMPT,
+        FoundBy::ByGuesses(wanted.begun),
     ) {
         Ok(text) => {
             let status = status_of(solution);

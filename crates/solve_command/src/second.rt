@@ -16,12 +16,10 @@ use certified_answers::Certified;
 use command_answers::{Answer, BookProgram, Status, second_book};
 use decimal_solver::Found;
 use model_sets::Sets;
+use result_tables::FoundBy;
 use row_book::RowBook;
 use row_core::Stopped;
 use std::alloc::{AllocError, Global};
-
-/// The number of the attempt that the method on a grid is.
-const SECOND_ATTEMPT: u8 = 2;
 
 /// What the second attempt gives over a book, of data of which so many numbers were rounded; where it gives nothing, the first answer.
 pub fn or_second(
@@ -99,7 +97,7 @@ fn answer_grid(
         Shown::Report,
         rounded,
         places,
-        SECOND_ATTEMPT,
+        FoundBy::OnGrid,
     ) {
         Ok(report) => report,
         Err(Stopped::Width(_)) => return Ok(None),

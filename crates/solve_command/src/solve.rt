@@ -8,7 +8,7 @@ ghost use Rattle.written_method.specs.Eliminated.{elimination_steps};
 ghost use Rattle.command_answers.specs.BookPrograms.{IsProgramOf};
 ghost use Rattle.command_answers.specs.CheckedPlans.{IsBookOf, IsListedBook};
 ghost use Rattle.command_answers.specs.Definers.{definers};
-ghost use Rattle.solve_command.specs.Shown.{shown_of};
+ghost use Rattle.solve_command.specs.Shown.{shown_of, wanted_by};
 ghost use Rattle.solve_command.specs.Solve.{DueForEnd, DueForMethod, DueForRows, DueForSized, DueForSolve};
 ghost use Rattle.solve_command.specs.Second.{TellsExactly};
 
@@ -25,12 +25,10 @@ use command_answers::{
 use command_words::{SolveMethod, SolveShow};
 use model_sets::Sets;
 use param_tables::ModelData;
+use result_tables::{Begun, FoundBy};
 use row_book::RowBook;
 use row_core::Stopped;
 use std::alloc::{AllocError, Global};
-
-/// The number of the attempt that the exact method is.
-const FIRST_ATTEMPT: u8 = 1;
 
 /// What is shown of a solution: a report, its plan, its multipliers, what proves it, one line, or a few lines.
 #[derive(Clone, Copy, Debug, PartialEq, Eq)]
@@ -57,13 +55,27 @@ pub fn shown_of(show: SolveShow) -> Shown
 }
 
 /// What is wanted of a model: a cost that is at most so many millionths of the bound above it, found by so many pivots at most,
-/// what is to be shown, and the method to begin with.
+/// what is to be shown, the method to begin with, and what the report is to say that guesses began from.
 #[derive(Clone, Copy, Debug, PartialEq, Eq)]
 pub struct Wanted {
     pub gap: u32,
     pub pivots: u32,
     pub show: Shown,
     pub method: SolveMethod,
+    pub begun: Begun,
+}
+
+/// What the words want: a gap in millionths, the most pivots, what is to be shown, and the method. Guesses begin from nothing.
+pub fn wanted_by(gap: u32, pivots: u32, show: SolveShow, method: SolveMethod) -> Wanted
+    ensures { result ≡ wanted_by gap pivots show method }
+{
+    Wanted {
+        gap,
+        pivots,
+        show: shown_of(show),
+        method,
+        begun: Begun::FromNothing,
+    }
 }
 
 /// What is due over any data that have the model's sets and values, with written factors of 6 or 9 decimal places.
@@ -80,20 +92,30 @@ pub fn answer_solve(
         DueForSolve places wanted model.now.rounded d answer.status answer.text.items) }
 {
     match made_book(alloc, model, places)? {
-        Ok(book) => answer_book(alloc, &book, model.sets(), places, wanted, model.rounded()),
+        Ok(book) => answer_book(
+            alloc,
+            &book,
+            model.sets(),
+            places,
+            wanted,
+            model.rounded(),
+            None,
+        ),
         Err(answer) => Ok(answer),
     }
 }
 
 // What is due over a book of rows, with written factors of so many decimal places, of data of which so many numbers were rounded. With the
-// rounded method what guesses of the rows find comes first, however large the linear program is: nothing is eliminated exactly for them.
-fn answer_book(
+// rounded method what guesses of the rows find comes first, however large the linear program is: nothing is eliminated exactly for them. They
+// begin from these values of the variables, in order, where there are any.
+pub(crate) fn answer_book(
     alloc: Global,
     book: &RowBook,
     sets: &Sets,
     places: u8,
     wanted: Wanted,
     rounded: u64,
+    start: Option<&[f64]>,
 ) -> Result<Answer, AllocError>
     requires { IsListedBook sets.now book.now.rows book.now.vars }
     ensures { (d : Data) → sets.now ≡ d.sets → IsBookOf places d book.now.rows book.now.vars
@@ -101,10 +123,12 @@ fn answer_book(
 {
     match wanted.method {
         SolveMethod::Exact => answer_sized(alloc, book, sets, places, wanted, rounded),
-        SolveMethod::Rounded => match answer_rows(alloc, book, sets, places, wanted, rounded)? {
-            Some(answer) => Ok(answer),
-            None => answer_sized(alloc, book, sets, places, wanted, rounded),
-        },
+        SolveMethod::Rounded => {
+            match answer_rows(alloc, book, sets, places, wanted, rounded, start)? {
+                Some(answer) => Ok(answer),
+                None => answer_sized(alloc, book, sets, places, wanted, rounded),
+            }
+        }
     }
 }
 
@@ -234,7 +258,7 @@ fn answer_end(
         show,
         rounded,
         places,
-        FIRST_ATTEMPT,
+        FoundBy::ByMethod,
     ) {
         Ok(text) => {
             let status = status_of(solution);

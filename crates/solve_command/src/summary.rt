@@ -10,6 +10,7 @@ use command_answers::{Answer, made_book, push_count};
 use command_words::SolveMethod;
 use model_sets::Sets;
 use param_tables::ModelData;
+use result_tables::Begun;
 use row_book::RowBook;
 use row_problem::size_of;
 use std::alloc::{AllocError, Global};
@@ -63,6 +64,7 @@ fn answer_defaults(
         pivots: 20_000,
         show: Shown::Summary,
         method: SolveMethod::Exact,
+        begun: Begun::FromNothing,
     };
     answer_sized(alloc, book, sets, places, wanted, rounded)
 }

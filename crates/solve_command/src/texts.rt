@@ -4,6 +4,7 @@ ghost use Rattle.model_sets.specs.Members.{SetLists};
 ghost use Rattle.row_core.specs.declared.Row.{Row};
 ghost use Rattle.row_core.specs.declared.Var.{Var};
 ghost use Rattle.exact_num.specs.Value.{value_of};
+ghost use Rattle.result_tables.specs.declared.attempts.FoundBy.{FoundBy};
 ghost use Rattle.certified_answers.specs.Answers.{IsComplete, IsNamed};
 ghost use Rattle.command_answers.specs.CheckedPlans.{IsListedBook};
 ghost use Rattle.solve_command.specs.SolveOutcomes.{PricesAreStopped, PricesFitIn, solution_shown};
@@ -18,13 +19,13 @@ use exact_num::Frac;
 use model_sets::Sets;
 use plan_files::{multiplier_text, plan_text};
 use proof_files::{descent_text, optimum_text, refutation_text};
-use result_tables::{infeasible_report, report, unbounded_report};
+use result_tables::{FoundBy, infeasible_report, report, unbounded_report};
 use row_book::RowBook;
 use row_core::{Multipliers, Plan, Stopped};
 use std::alloc::{AllocError, Global};
 
 /// The text of what is to be shown of a solution of a book, of data of which so many numbers were rounded, with written factors of
-/// so many decimal places, and by the attempt of this number. A file of a plan or of multipliers that there aren't is its header alone.
+/// so many decimal places, and by this attempt. A file of a plan or of multipliers that there aren't is its header alone.
 ///
 /// `Width` comes exactly where a report, or a summary of it, is to be shown and a number that is formed for a price doesn't fit.
 pub fn solution_text(
@@ -35,7 +36,7 @@ pub fn solution_text(
     show: Shown,
     rounded: u64,
     places: u8,
-    attempt: u8,
+    attempt: FoundBy,
 ) -> Result<Vec<u8>, Stopped>
     requires listed { IsListedBook sets.now book.now.rows book.now.vars }
     requires complete { IsComplete book.now.vars solution.now }
@@ -66,7 +67,7 @@ pub fn shown_beside(
     requires listed { IsListedBook sets.now book.now.rows book.now.vars }
     requires complete { IsComplete book.now.vars solution.now }
     requires named { IsNamed book.now.rows solution.now }
-    ensures { (rounded places attempt : ℕ) → report.items ≡ solution_shown shows.Report sets.now book.now.rows book.now.vars rounded places attempt solution.now
+    ensures { (rounded places : ℕ) (attempt : FoundBy) → report.items ≡ solution_shown shows.Report sets.now book.now.rows book.now.vars rounded places attempt solution.now
         → IfOk result (λ text. text.items ≡ solution_shown show sets.now book.now.rows book.now.vars rounded places attempt solution.now) }
 {
     match show {
@@ -87,7 +88,7 @@ fn report_of(
     solution: &Certified,
     rounded: u64,
     places: u8,
-    attempt: u8,
+    attempt: FoundBy,
 ) -> Result<Vec<u8>, Stopped>
     requires listed { IsListedBook sets.now book.now.rows book.now.vars }
     requires complete { IsComplete book.now.vars solution.now }
@@ -135,7 +136,7 @@ fn summary_of(
     solution: &Certified,
     rounded: u64,
     places: u8,
-    attempt: u8,
+    attempt: FoundBy,
 ) -> Result<Vec<u8>, Stopped>
     requires listed { IsListedBook sets.now book.now.rows book.now.vars }
     requires complete { IsComplete book.now.vars solution.now }
@@ -149,7 +150,7 @@ fn summary_of(
 
 // Its text.
 fn summary_text(alloc: Global, solution: &Certified) -> Result<Vec<u8>, AllocError>
-    ensures { (sets : SetLists) (rows : List Row) (vars : List Var) (rounded places attempt : ℕ)
+    ensures { (sets : SetLists) (rows : List Row) (vars : List Var) (rounded places : ℕ) (attempt : FoundBy)
         → IfOk result (λ text. text.items ≡ solution_shown shows.Summary sets rows vars rounded places attempt solution.now) }
 {
     match solution {
@@ -185,7 +186,7 @@ fn plan_of(
 ) -> Result<Vec<u8>, AllocError>
     requires listed { IsListedBook sets.now book.now.rows book.now.vars }
     requires complete { IsComplete book.now.vars solution.now }
-    ensures { (rounded places attempt : ℕ) → IfOk result (λ text. text.items ≡ solution_shown shows.Plan sets.now book.now.rows book.now.vars rounded places attempt solution.now) }
+    ensures { (rounded places : ℕ) (attempt : FoundBy) → IfOk result (λ text. text.items ≡ solution_shown shows.Plan sets.now book.now.rows book.now.vars rounded places attempt solution.now) }
 {
     match solution {
         Certified::Optimal { plan, .. } | Certified::Unbounded { plan, .. } => {
@@ -212,7 +213,7 @@ fn multipliers_of(
 ) -> Result<Vec<u8>, AllocError>
     requires listed { IsListedBook sets.now book.now.rows book.now.vars }
     requires named { IsNamed book.now.rows solution.now }
-    ensures { (rounded places attempt : ℕ) → IfOk result (λ text. text.items ≡ solution_shown shows.Multipliers sets.now book.now.rows book.now.vars rounded places attempt solution.now) }
+    ensures { (rounded places : ℕ) (attempt : FoundBy) → IfOk result (λ text. text.items ≡ solution_shown shows.Multipliers sets.now book.now.rows book.now.vars rounded places attempt solution.now) }
 {
     match solution {
         Certified::Optimal { multipliers, .. } | Certified::Infeasible { multipliers, .. } => {
@@ -240,7 +241,7 @@ fn proof_of(
     requires listed { IsListedBook sets.now book.now.rows book.now.vars }
     requires complete { IsComplete book.now.vars solution.now }
     requires named { IsNamed book.now.rows solution.now }
-    ensures { (rounded places attempt : ℕ) → IfOk result (λ text. text.items ≡ solution_shown shows.Proof sets.now book.now.rows book.now.vars rounded places attempt solution.now) }
+    ensures { (rounded places : ℕ) (attempt : FoundBy) → IfOk result (λ text. text.items ≡ solution_shown shows.Proof sets.now book.now.rows book.now.vars rounded places attempt solution.now) }
 {
     match solution {
         Certified::Optimal {

@@ -10,7 +10,9 @@ use crate::books::{book_of, solve_program};
 use crate::checks::COST;
 use crate::lines::{multiplier_lines, program_lines};
 use crate::numbers::{fractions_of, next_fraction, shown};
-use crate::rounded_ends::{print_rounded, print_rows_alone, print_span};
+use crate::rounded_ends::{
+    print_astray, print_rounded, print_rows_alone, print_span, print_started,
+};
 use crate::small_rows::{ACTIVITY, CAPACITY};
 use command_answers::{BookProgram, eliminate_book, problem_of};
 use row_book::RowBook;
@@ -38,8 +40,11 @@ pub fn print_model(rt: &HostRuntime, line: &str) -> io::Result<()> {
         let limit = fields.next().unwrap_or("");
         return print_span(rt, &book, technology, limit, fields.next().unwrap_or(""));
     }
-    if kind == "rows" {
-        return print_rows_alone(rt, &book, first);
+    match kind {
+        "rows" => return print_rows_alone(rt, &book, first),
+        "started" => return print_started(rt, &book, first),
+        "astray" => return print_astray(rt, &book, first),
+        _ => {}
     }
     let Ok(program) = eliminate_book(rt.alloc(), &book) else {
         println!(rt; "not eliminated")?;

@@ -12,6 +12,7 @@ use certificate_checker::{Verdict, check_plan};
 use certified_answers::Certified;
 use command_answers::{BookProgram, definers, guess_book, guess_rows, problem_laws};
 use exact_num::{Frac, cmp_frac};
+use presolved_program::float_of_frac;
 use row_book::RowBook;
 use span_finder::round_span;
 use std::io;
@@ -41,7 +42,45 @@ pub fn print_rounded(
 
 /// Prints what they find of the rows of a book alone.
 pub fn print_rows_alone(rt: &HostRuntime, book: &RowBook, least: &str) -> io::Result<()> {
-    print_found(rt, book, guess_rows(rt.alloc(), book, GAP, PIVOTS)?, least)
+    print_found(
+        rt,
+        book,
+        guess_rows(rt.alloc(), book, None, GAP, PIVOTS)?,
+        least,
+    )
+}
+
+/// Prints what they find of the rows of a book alone from their own plan, and whether that takes fewer pivots than from nothing.
+pub fn print_started(rt: &HostRuntime, book: &RowBook, least: &str) -> io::Result<()> {
+    let first = guess_rows(rt.alloc(), book, None, GAP, PIVOTS)?;
+    let Some(Certified::Optimal { plan, pivots, .. }) = first else {
+        println!(rt; "nothing to start from")?;
+        return Ok(());
+    };
+    let mut values = Vec::new(rt.alloc());
+    for (_, value) in plan.entries() {
+        values.push(float_of_frac(*value))?;
+    }
+    let found = guess_rows(rt.alloc(), book, Some(&values), GAP, PIVOTS)?;
+    let fewer = match &found {
+        Some(Certified::Optimal { pivots: taken, .. }) => *taken < pivots,
+        _ => false,
+    };
+    print_found(rt, book, found, least)?;
+    if fewer {
+        println!(rt; "by fewer pivots than from nothing")?;
+    }
+    Ok(())
+}
+
+/// Prints what they find of the rows of a book alone from values that mean nothing: 1 for each variable.
+pub fn print_astray(rt: &HostRuntime, book: &RowBook, least: &str) -> io::Result<()> {
+    let mut values = Vec::new(rt.alloc());
+    for _ in book.vars() {
+        values.push(1.0)?;
+    }
+    let found = guess_rows(rt.alloc(), book, Some(&values), GAP, PIVOTS)?;
+    print_found(rt, book, found, least)
 }
 
 /// Prints whether the cost that is found is at least the least one and the bound at most, and whether the checker accepts the plan with

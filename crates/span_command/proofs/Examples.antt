@@ -11,7 +11,7 @@ use Rattle.scaled_decimals.specs.PrintedPlaces.{millionths, millionths_text}
 use Rattle.std.specs.Fmt.{digits}
 use Rattle.std.specs.Str.{bytes_eq}
 use Rattle.row_core.specs.declared.place.Place.{Place}
-use Rattle.simplex_core.specs.declared.stops.Stop.TheVariants.{Budget, Trial, Width}
+use Rattle.simplex_core.specs.declared.stops.Stop.TheVariants.{Trial, Width}
 use Rattle.simplex_core.specs.declared.stops.TrialStop.TheVariants as trials
 use Rattle.row_core.specs.CostLimits.{span_name}
 use Rattle.row_core.specs.declared.Var.{Var}

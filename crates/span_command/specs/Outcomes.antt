@@ -11,6 +11,8 @@ use Rattle.row_core.specs.declared.Var.{Var}
 use Rattle.row_core.specs.declared.place.Place.TheVariants.{SumGap}
 use Rattle.certified_answers.specs.declared.answers.Certified.{Certified}
 use Rattle.certified_answers.specs.declared.answers.Certified.TheVariants as found
+use Rattle.result_tables.specs.declared.attempts.FoundBy.TheVariants.{ByGuesses, ByMethod}
+use Rattle.result_tables.specs.declared.attempts.Begun.TheVariants.{FromNothing}
 use Rattle.result_tables.specs.Lines.{amount_line}
 use Rattle.result_tables.specs.Reports.{end_line, infeasible_text, unbounded_text}
 use Rattle.simplex_core.specs.declared.stops.Stop.{Stop}
@@ -18,7 +20,6 @@ use Rattle.simplex_core.specs.declared.stops.Stop.TheVariants.{Width}
 use Rattle.command_answers.specs.declared.status.Status.{Status}
 use Rattle.command_answers.specs.declared.status.Status.TheVariants.{Done, Infeasible, Unbounded, Uncertified}
 use Rattle.command_answers.specs.Lines.{uncertified_line}
-use Rattle.command_answers.specs.SolvedEnds.{first_attempt, third_attempt}
 use Rattle.command_answers.specs.Definers.{definers}
 use Rattle.span_finder.specs.SpanEnds.{EndsSo, Stops, span_seen}
 use Rattle.span_finder.specs.Slacks.{slack_formed, slack_limit}
@@ -83,7 +84,7 @@ TellsNear sets rows vars cost var wanted status text =
 -- for a solution
 abbrev pub TellsSolution : SetLists → List Row → List Var → Var → Wanted → ℕ → ℕ → Certified → Status → List ℕ → Type 0
 TellsSolution sets rows vars var wanted rounded places (found.Optimal plan multipliers cost bound made) status text = TellsNear sets rows vars (value_of cost) var wanted status text
-TellsSolution sets rows vars var wanted rounded places (found.Infeasible multipliers made) status text = (status ≡ Infeasible) × (text ≡ infeasible_text made rounded places first_attempt)
+TellsSolution sets rows vars var wanted rounded places (found.Infeasible multipliers made) status text = (status ≡ Infeasible) × (text ≡ infeasible_text made rounded places ByMethod)
 TellsSolution sets rows vars var wanted rounded places (found.Unbounded plan direction made) status text = (status ≡ Unbounded) × (text ≡ unbounded_text sets direction made rounded places)
 
 -- ---- by the rounded method
@@ -102,5 +103,5 @@ pub record IsToldNearly (sets : SetLists) (rows : List Row) (vars : List Var) (c
 -- for what it finds
 abbrev pub TellsFound : SetLists → List Row → List Var → Var → Wanted → ℕ → ℕ → Certified → Status → List ℕ → Type 0
 TellsFound sets rows vars var wanted rounded places (found.Optimal plan multipliers cost bound made) status text = IsToldNearly sets rows vars (value_of cost) (value_of bound) var wanted status text
-TellsFound sets rows vars var wanted rounded places (found.Infeasible multipliers made) status text = (status ≡ Infeasible) × (text ≡ infeasible_text made rounded places third_attempt)
+TellsFound sets rows vars var wanted rounded places (found.Infeasible multipliers made) status text = (status ≡ Infeasible) × (text ≡ infeasible_text made rounded places (ByGuesses FromNothing))
 TellsFound sets rows vars var wanted rounded places (found.Unbounded plan direction made) status text = ⊥

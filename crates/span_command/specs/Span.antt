@@ -1,5 +1,5 @@
--- What `span` says over accepted data: between which values the capacity that is built in a year lies in plans near the best; that there is no plan, or no least cost; or
--- which step stopped.
+-- What `span` says over accepted data: between which values the capacity that is built in a year lies in plans near the best; that there is no plan, or no least cost;
+-- which step stopped; or that the linear program is too large.
 use Rattle.std.specs.Prelude.{◌≡◌, ℕ, List, ◌⊎◌, false, true}
 use Rattle.exact_num.specs.Range.{all_fit}
 use Rattle.exact_num.specs.Rational.{Rational}
@@ -20,12 +20,14 @@ use Rattle.certified_answers.specs.Worth.{plan_cost}
 use Rattle.command_answers.specs.declared.status.Status.{Status}
 use Rattle.command_answers.specs.declared.status.Status.TheVariants.{Done, Uncertified}
 use Rattle.command_answers.specs.Lines.{uncertified_line}
-use Rattle.command_answers.specs.MadeBooks.{DueForProgram}
+use Rattle.command_answers.specs.MadeBooks.{DueBySize, DueForProgram}
 use Rattle.command_answers.specs.NamedMembers.{IsMemberAt, IsNoMember}
 use Rattle.command_words.specs.declared.command.SolveMethod.{SolveMethod}
 use Rattle.command_words.specs.declared.command.SolveMethod.TheVariants.{Exact, Rounded}
-use Rattle.command_answers.specs.SolvedEnds.{IsFoundInfeasible, IsInfeasible, IsUnbounded, first_attempt, third_attempt}
+use Rattle.command_answers.specs.SolvedEnds.{IsFoundInfeasible, IsInfeasible, IsUnbounded}
 use Rattle.command_answers.specs.SolvedPlans.{IsNearOptimum, IsOptimum}
+use Rattle.result_tables.specs.declared.attempts.FoundBy.TheVariants.{ByGuesses, ByMethod}
+use Rattle.result_tables.specs.declared.attempts.Begun.TheVariants.{FromNothing}
 use Rattle.result_tables.specs.Reports.{infeasible_text, unbounded_text}
 use Rattle.command_answers.specs.Definers.{definers}
 use Rattle.span_finder.specs.SpanEnds.{EndsSo, IsBounded, IsRising, Stops}
@@ -126,12 +128,12 @@ pub record IsSpannedNearly (places : ℕ) (d : Data) (rows : List Row) (var : Va
 
 -- ---- what is due
 
--- of a linear program within the limits, by the exact method; no report of a least cost is shown, so that no price is formed
+-- by the exact method; no report of a least cost is shown, so that no price is formed
 abbrev pub DueForEnd : ℕ → Data → List Row → Var → Wanted → ℕ → Status → List ℕ → Type 0
 DueForEnd places d rows var wanted rounded status text =
     IsSpanned places d rows var wanted status text
     ⊎ IsEndless places d rows var wanted status text
-    ⊎ IsInfeasible places d rows wanted.pivots (λ multipliers made. infeasible_text made rounded places first_attempt) status text
+    ⊎ IsInfeasible places d rows wanted.pivots (λ multipliers made. infeasible_text made rounded places ByMethod) status text
     ⊎ IsUnbounded places d rows wanted.pivots (λ plan direction made. unbounded_text d.sets direction made rounded places) status text
     ⊎ HasStoppedBefore d rows wanted.pivots status text
     ⊎ HasWideLimit places d rows wanted status text
@@ -141,9 +143,9 @@ DueForEnd places d rows var wanted rounded status text =
 abbrev pub DueForFound : ℕ → Data → List Row → Var → Wanted → ℕ → Status → List ℕ → Type 0
 DueForFound places d rows var wanted rounded status text =
     IsSpannedNearly places d rows var wanted status text
-    ⊎ IsFoundInfeasible places d rows wanted.pivots (λ multipliers made. infeasible_text made rounded places third_attempt) status text
+    ⊎ IsFoundInfeasible places d rows wanted.pivots (λ multipliers made. infeasible_text made rounded places (ByGuesses FromNothing)) status text
 
--- with the rounded method what it finds, and where it finds nothing, as with the exact one, its end
+-- of a linear program within the limits: with the rounded method what it finds, and where it finds nothing, as with the exact one, its end
 abbrev pub DueBy : SolveMethod → ℕ → Data → List Row → Var → Wanted → ℕ → Status → List ℕ → Type 0
 DueBy Exact places d rows var wanted rounded status text = DueForEnd places d rows var wanted rounded status text
 DueBy Rounded places d rows var wanted rounded status text = DueForFound places d rows var wanted rounded status text ⊎ DueForEnd places d rows var wanted rounded status text
@@ -151,9 +153,19 @@ DueBy Rounded places d rows var wanted rounded status text = DueForFound places 
 abbrev pub DueForMethod : ℕ → Data → List Row → Var → Wanted → ℕ → Status → List ℕ → Type 0
 DueForMethod places d rows var wanted rounded status text = DueBy wanted.method places d rows var wanted rounded status text
 
+-- with the rounded method what it finds, whatever the size of the linear program
+abbrev pub Finds : SolveMethod → ℕ → Data → List Row → Var → Wanted → ℕ → Status → List ℕ → Type 0
+Finds Exact places d rows var wanted rounded status text = ⊥
+Finds Rounded places d rows var wanted rounded status text = DueForFound places d rows var wanted rounded status text
+
+-- of rows: what the rounded method finds, or what is due by the size
+abbrev pub DueForRows : ℕ → Data → List Row → Var → Wanted → ℕ → Status → List ℕ → Type 0
+DueForRows places d rows var wanted rounded status text =
+    DueBySize (Finds wanted.method places d rows var wanted rounded) (DueForMethod places d rows var wanted rounded) rows (all_variables d) status text
+
 -- over the data, for the capacity of a technology in a region and a year
 abbrev pub DueForMember : ℕ → Wanted → Var → ℕ → Data → Status → List ℕ → Type 0
-DueForMember places wanted var rounded d status text = DueForProgram (λ rows. DueForMethod places d rows var wanted rounded) places d status text
+DueForMember places wanted var rounded d status text = DueForProgram (λ rows. DueForRows places d rows var wanted rounded) places d status text
 
 -- ---- the words
 

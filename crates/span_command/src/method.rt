@@ -27,14 +27,11 @@ use command_answers::{
 use command_words::SolveMethod;
 use exact_num::Frac;
 use model_sets::Sets;
-use result_tables::{infeasible_report, unbounded_report};
+use result_tables::{FoundBy, infeasible_report, unbounded_report};
 use row_book::RowBook;
 use row_core::{Place, Plan, Var};
 use span_finder::{SpanFail, slack_limit};
 use std::alloc::{AllocError, Global};
-
-/// The number of the attempt that the exact method is.
-const FIRST_ATTEMPT: u8 = 1;
 
 /// What is due over a book whose linear program isn't too large, with written factors of so many decimal places, of data of which so many
 /// numbers were rounded.
@@ -140,7 +137,7 @@ fn answer_solution(
         ),
         Certified::Infeasible { pivots, .. } => Ok(Answer {
             status: Status::Infeasible,
-            text: infeasible_report(alloc, *pivots, rounded, places, FIRST_ATTEMPT)?,
+            text: infeasible_report(alloc, *pivots, rounded, places, FoundBy::ByMethod)?,
         }),
         Certified::Unbounded {
             direction,

@@ -16,14 +16,14 @@ use certified_answers::Certified;
 use command_answers::{Answer, BookProgram, Status, guess_book, guess_rows};
 use exact_num::Frac;
 use model_sets::Sets;
-use result_tables::infeasible_report;
+use result_tables::{Begun, FoundBy, infeasible_report};
 use row_book::RowBook;
 use row_core::Var;
 use span_finder::slack_limit;
 use std::alloc::{AllocError, Global};
 
-/// The number of the attempt that the rounded method is.
-const THIRD_ATTEMPT: u8 = 3;
+/// The attempt that the rounded method is.
+const GUESSES: FoundBy = FoundBy::ByGuesses(Begun::FromNothing);
 
 /// The answer for what the rounded method finds over a book, of data of which so many numbers were rounded: a bound of the cost, and ends
 /// of the variable in plans near the bound. None where it finds nothing, or no ends.
@@ -62,7 +62,7 @@ fn guess_least(
     requires { IsProgramOf book.now.rows book.now.vars program.now }
     ensures { IfOk result (λ found. IfSome found (IsFoundBy book.now.rows book.now.vars wanted.gap wanted.pivots)) }
 {
-    match guess_rows(alloc, book, wanted.gap, wanted.pivots)? {
+    match guess_rows(alloc, book, None, wanted.gap, wanted.pivots)? {
         Some(found) => Ok(Some(found)),
         None => guess_book(alloc, book, program, wanted.gap, wanted.pivots),
     }
@@ -92,7 +92,7 @@ fn answer_solution(
         }
         Certified::Infeasible { pivots, .. } => Ok(Some(Answer {
             status: Status::Infeasible,
-            text: infeasible_report(alloc, *pivots, rounded, places, THIRD_ATTEMPT)?,
+            text: infeasible_report(alloc, *pivots, rounded, places, GUESSES)?,
         })),
         Certified::Unbounded { .. } => Ok(None),
     }

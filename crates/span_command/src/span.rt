@@ -6,9 +6,9 @@ ghost use Rattle.named_equations.specs.Existence.{exists};
 ghost use Rattle.row_core.specs.declared.kind_numbers.TheConstants.{NEW_CAPACITY};
 ghost use Rattle.span_command.specs.Span.{DueForMember, DueForSpan, built};
 
-use crate::method::answer_method;
+use crate::sized::answer_book;
 use crate::wanted::Wanted;
-use command_answers::{Answer, find_member, sized_book};
+use command_answers::{Answer, find_member, made_book};
 use model_sets::set_numbers::{REGION, TECHNOLOGY, YEAR};
 use param_tables::ModelData;
 use row_core::kind_numbers::NEW_CAPACITY;
@@ -84,8 +84,8 @@ fn answer_member(
     ensures { (d : Data) → AreSameData model.now.facts d → IfOk result (λ answer.
         DueForMember places wanted var model.now.rounded d answer.status answer.text.items) }
 {
-    match sized_book(alloc, model, places)? {
-        Ok(book) => answer_method(
+    match made_book(alloc, model, places)? {
+        Ok(book) => answer_book(
             alloc,
             &book,
             model.sets(),

@@ -10,8 +10,8 @@ use std::alloc::{AllocError, Global};
 
 /// Factors the basis: first the slacks, then columns with one row, rows with one column, and the rest.
 ///
-/// `matrix` has the columns of the linear program. The slots of the basis are given anew. Where the basis is singular
-/// there are no factors, and slacks take the place of the columns without a pivot.
+/// `matrix` has the columns of the linear program. The slots of the basis are given anew. Where the basis is singular, or has fewer
+/// variables than there are rows, there are no factors, and slacks take the rows without a pivot.
 pub fn factor(
     alloc: Global,
     matrix: &Lists,
@@ -23,7 +23,8 @@ pub fn factor(
     let mut waiting = Waiting::new(alloc, matrix, basis, &found)?;
     singles::take_columns(alloc, matrix, &mut waiting, &mut found)?;
     singles::take_rows(alloc, matrix, &mut waiting, &mut found)?;
-    if middle::take_rest(alloc, matrix, &waiting, &mut found)? {
+    let whole = middle::take_rest(alloc, matrix, &waiting, &mut found)?;
+    if whole && found.pivot_rows.len() >= basis.rows() {
         place_all(basis, &found);
         Ok(Some(factors_of(alloc, basis, first, found)?))
     } else {

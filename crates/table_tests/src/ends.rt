@@ -2,16 +2,22 @@
 
 use crate::model::{ACTIVITY, CAPACITY, TOTAL_CAPACITY, sets, whole};
 use exact_num::ratio;
-use result_tables::{infeasible_report, unbounded_report};
+use result_tables::{Begun, FoundBy, infeasible_report, unbounded_report};
 use row_core::Plan;
 use std::test::Fail;
 
+/// Guesses that began from a file.
+const BY_GUESSES: FoundBy = FoundBy::ByGuesses(Begun::FromValues {
+    taken: 217,
+    passed: 4,
+});
+
 #[test]
 fn a_model_without_a_plan_has_no_tables(rt: HostRuntime) -> Result<(), Fail> {
-    let text = infeasible_report(rt.alloc(), 3, 0, 9, 3)?;
+    let text = infeasible_report(rt.alloc(), 3, 0, 9, BY_GUESSES)?;
     assert_eq!(&rt;
         text.as_slice(),
-        b"status infeasible\npivots 3\nrounded 0\nplaces 9\nattempt 3\nend\n".as_slice()
+        b"status infeasible\npivots 3\nrounded 0\nplaces 9\nattempt 3\nstart 217 passed 4\nend\n".as_slice()
     );
     Ok(())
 }

@@ -1,7 +1,7 @@
 //! Prices that don't fit.
 
 use crate::model::{ACTIVITY, BALANCE, balance, sets, whole};
-use result_tables::report;
+use result_tables::{FoundBy, report};
 use row_core::{Multipliers, Place, Plan, Stopped};
 use std::alloc::Global;
 
@@ -24,7 +24,7 @@ fn priced(alloc: Global, multiplier: i128, number: i128) -> Result<Vec<u8>, Stop
         0,
         0,
         6,
-        1,
+        FoundBy::ByMethod,
         &sets,
     )
 }

@@ -5,7 +5,7 @@ use crate::model::{
     OPERATING, TOTAL_CAPACITY, balance, sets, whole,
 };
 use exact_num::ratio;
-use result_tables::report;
+use result_tables::{FoundBy, report};
 use row_core::{Multipliers, Plan};
 use std::test::Fail;
 
@@ -111,7 +111,7 @@ fn the_report_of_a_small_model_is_the_one_worked_by_hand(rt: HostRuntime) -> Res
         3,
         0,
         6,
-        1,
+        FoundBy::ByMethod,
         &sets,
     ) else {
         assert!(&rt; false);
@@ -152,7 +152,7 @@ fn members_are_quoted_and_ties_are_rounded_away_from_0(rt: HostRuntime) -> Resul
         20_000,
         18_446_744_073_709_551_615,
         6,
-        2,
+        FoundBy::OnGrid,
         &sets,
     ) else {
         assert!(&rt; false);

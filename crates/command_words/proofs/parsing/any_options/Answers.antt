@@ -14,4 +14,5 @@ returns c =
     let method = c.in_ok-command-5.ensures ∙ ap (more (codes "method")) show in
     let slack = c.in_ok-command-6.ensures ∙ ap (more (codes "slack")) method in
     let proof = c.in_ok-command-7.ensures ∙ ap (more (codes "proof")) slack in
-    IfOk-weaker c.with_flag.result _ _ (λ command added. added ∙ ap (λ (app : App). with_rule app (flag_rule (codes "exact"))) proof) c.with_flag.ensures
+    let start = c.in_ok-command-8.ensures ∙ ap (more (codes "start")) proof in
+    IfOk-weaker c.with_flag.result _ _ (λ command added. added ∙ ap (λ (app : App). with_rule app (flag_rule (codes "exact"))) start) c.with_flag.ensures

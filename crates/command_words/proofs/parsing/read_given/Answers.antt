@@ -28,8 +28,9 @@ returns c =
     let method = c.get_str-5.ensures ∙ first_value-rows found (codes "method") in
     let slack = c.get_str-6.ensures ∙ first_value-rows found (codes "slack") in
     let proof = c.get_str-7.ensures ∙ first_value-rows found (codes "proof") in
-    let read = given_of (record { files = c.in_ok-files_of.field-0; gap = c.get_str.result; pivots = c.get_str-2.result; places = c.get_str-3.result; show = c.get_str-4.result; method = c.get_str-5.result; slack = c.get_str-6.result; proof = c.get_str-7.result; exact = c.get_flag.result }) in
-    let same : read ≡ given_rows (rows_of found) c.get_flag.result = λ i. record { files = c.in_ok-files_of.ensures i; gap = gap i; pivots = pivots i; places = places i; show = show i; method = method i; slack = slack i; proof = proof i; exact = c.get_flag.result } in
+    let start = c.get_str-8.ensures ∙ first_value-rows found (codes "start") in
+    let read = given_of (record { files = c.in_ok-files_of.field-0; gap = c.get_str.result; pivots = c.get_str-2.result; places = c.get_str-3.result; show = c.get_str-4.result; method = c.get_str-5.result; slack = c.get_str-6.result; proof = c.get_str-7.result; start = c.get_str-8.result; exact = c.get_flag.result }) in
+    let same : read ≡ given_rows (rows_of found) c.get_flag.result = λ i. record { files = c.in_ok-files_of.ensures i; gap = gap i; pivots = pivots i; places = places i; show = show i; method = method i; slack = slack i; proof = proof i; start = start i; exact = c.get_flag.result } in
     let text = one_text-rows found (codes "exact") in
     let gives : Gives (Some (rows_of found)) given = subst (λ (found : Option (List Row)). Gives found given) (sym rows) (clap_gives words (words_utf8 c.args.words.now)) in
     ap Some same ∙ gives_some (rows_of found) given c.get_flag.result gives (λ is. c.get_flag.ensures.value (text ∙ is)) (λ is. c.get_flag.ensures.other (text ∙ is))

@@ -1,5 +1,5 @@
 -- Plan by plan.
-use Rattle.std.proofs.Common.{◌<◌, ℕ, List, ◌++◌, ◌+◌, length, drop, map, sym, ap, ap₂, ◌∙◌, append-nil}
+use Rattle.std.proofs.Common.{◌<◌, ℕ, List, ◌++◌, ◌+◌, length, drop, map, ap, ap₂, ◌∙◌, append-nil}
 use Rattle.std.specs.List.{AllByRecursion}
 use Rattle.std.proofs.lemmas.List.{drop_all}
 use Rattle.exact_num.specs.Rational.{Rational}

@@ -1,5 +1,5 @@
 use Rattle.check_command.proofs.AcceptedProofs.{ProofLaws}
-use Rattle.osemosys_run.proofs.ProvedEnds.{accepts-end}
+use Rattle.osemosys_run.proofs.ProvedEnds.{accepts-end, accepts-from}
 use Rattle.osemosys_run.proofs.SomeVariable.{some-variable}
 use Rattle.osemosys_run.proofs.accepting.accepting_laws.Goals as goal
 
@@ -9,4 +9,6 @@ returns c =
     record {
       proofs = λ places gap pivots method rounded bytes d end status proof text accepted solved due.
           accepts-end laws c.stop_laws.ensures.made places gap pivots d (some-variable bytes d accepted) rounded end proof status text method solved due;
+      proofs_from = λ places gap pivots method rounded bytes start d end status proof text accepted solved due.
+          accepts-from laws c.stop_laws.ensures.made places gap pivots d (some-variable bytes d accepted) rounded end proof status text method start solved due;
     }

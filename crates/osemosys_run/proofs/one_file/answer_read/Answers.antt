@@ -40,6 +40,13 @@ returns-in-Span c = λ text stands short.
     subst (λ task. DueForText (DueForTask task c.args.places) text answer.status answer.text.items) (sym c.in-Span.is)
     (inr (found.0, found.1, subst (λ rounded. DueForTask (Span c.in-Span.asked) c.args.places rounded found.0 answer.status answer.text.items) found.3 due))) (c.answer_span_asked.ensures found.0 found.2)
 
+pub returns-in-Reduce : goal.returns-in-Reduce
+returns-in-Reduce c = λ text stands short.
+    let found : (d : Data) × (accepted : Accepted text d) × AreSameData c.in-Ok.model.facts d × (c.in-Ok.model.rounded ≡ accepted.blocks.rounded) × AreGivenAlike c.in-Ok.model.facts d =
+    MatchResult-at_ok _ _ c.in-Ok.model c.in-Ok.is (c.in_ok-model.ensures text stands short) in
+    IfOk-weaker c.answer_reduce.result _ _
+    (λ answer due. subst (λ task. DueForText (DueForTask task c.args.places) text answer.status answer.text.items) (sym c.in-Reduce.is) (inr (found.0, found.1, due))) (c.answer_reduce.ensures found.0 found.2)
+
 pub returns-in-Ok : goal.returns-in-Ok
 returns-in-Ok c = λ text stands short.
     let found : (d : Data) × (accepted : Accepted text d) × AreSameData c.in-Ok.model.facts d × (c.in-Ok.model.rounded ≡ accepted.blocks.rounded) × AreGivenAlike c.in-Ok.model.facts d =

@@ -5,7 +5,7 @@ use Rattle.std.proofs.Common.{ℕ, ℤ, List, ◌∙◌, ap, refl, sym, subst, R
 use Rattle.std.proofs.lemmas.Result.{IfOk-weaker}
 use Rattle.std.specs.String.{string_bytes}
 use Rattle.command_words.specs.declared.fault.WordFault.{WordFault}
-use Rattle.solve_command.specs.declared.solve.Shown.{Shown}
+use Rattle.solve_command.specs.declared.solve.Wanted.{Wanted}
 use Rattle.command_answers.specs.declared.status.Status.{Status}
 use Rattle.osemosys_run.specs.Causes.{CausedByRequest}
 use Rattle.osemosys_run.specs.Due.{AskForEquations}
@@ -13,9 +13,10 @@ use Rattle.osemosys_run.proofs.Delivery.{asked_by, told_so}
 use Rattle.solve_command.specs.Solve.{DueForSolve}
 use Rattle.command_words.specs.Commands.{request_of_result}
 use Rattle.osemosys_run.specs.Reading.{Sight}
-use Rattle.osemosys_run.specs.Tasks.{CausedByOneFile}
+use Rattle.osemosys_run.specs.Tasks.{CausedByOneFile, CausedByTwoFiles, DueForTwoFileTask}
+use Rattle.osemosys_run.specs.declared.two_files.TwoFileTask.TheVariants as pairs
 use Rattle.command_words.specs.Words.{Request, asked}
-use Rattle.command_words.proofs.Requests.{asked_places, check_places, check_proof_places, compare_places, curve_places, explain_places, make_size, page_places, solve_places, span_places, table_places}
+use Rattle.command_words.proofs.Requests.{asked_places, check_places, check_proof_places, compare_places, curve_places, explain_places, make_size, page_places, reduce_places, solve_from_places, solve_places, span_places, table_places}
 use Rattle.osemosys_run.proofs.run.perform.Goals as goal
 
 pub perform_mps-requires : goal.perform_mps-requires
@@ -48,6 +49,11 @@ perform_task-requires-in-Ok-Span-clause-places g c =
     let request = ap request_of_result (sym (c.in-Ok-Span.is ∙ ap Ok c.in-Ok-Span.field-0-is)) ∙ c.in_ok-file.ensures in
     span_places (map string_bytes c.args.words.now) c.in-Ok-Span.file.now c.in-Ok-Span.region.now c.in-Ok-Span.technology.now c.in-Ok-Span.year.now c.in-Ok-Span.slack c.in-Ok-Span.gap c.in-Ok-Span.pivots c.in-Ok-Span.places c.in-Ok-Span.method (sym request)
 
+pub perform_task-requires-in-Ok-Reduce-clause-places : goal.perform_task-requires-in-Ok-Reduce-clause-places
+perform_task-requires-in-Ok-Reduce-clause-places g c =
+    let request = ap request_of_result (sym (c.in-Ok-Reduce.is ∙ ap Ok c.in-Ok-Reduce.field-0-is)) ∙ c.in_ok-file.ensures in
+    reduce_places (map string_bytes c.args.words.now) c.in-Ok-Reduce.file.now c.in-Ok-Reduce.places (sym request)
+
 pub perform_make-requires-clause-least : goal.perform_make-requires-clause-least
 perform_make-requires-clause-least g c =
     let request = ap request_of_result (sym (c.in-Ok-Make.is ∙ ap Ok c.in-Ok-Make.field-0-is)) ∙ c.in_ok-file.ensures in
@@ -63,18 +69,23 @@ perform_check-requires g c =
     let request = ap request_of_result (sym (c.in-Ok-Check.is ∙ ap Ok c.in-Ok-Check.field-0-is)) ∙ c.in_ok-file.ensures in
     check_places (map string_bytes c.args.words.now) c.in-Ok-Check.file.now c.in-Ok-Check.plan.now (option_map (λ name. name.now) c.in-Ok-Check.multipliers) c.in-Ok-Check.gap c.in-Ok-Check.places (sym request)
 
-pub perform_proof_task-requires : goal.perform_proof_task-requires
-perform_proof_task-requires g c =
+pub perform_two_files-requires : goal.perform_two_files-requires
+perform_two_files-requires g c =
     let request = ap request_of_result (sym (c.in-Ok-CheckProof.is ∙ ap Ok c.in-Ok-CheckProof.field-0-is)) ∙ c.in_ok-file.ensures in
     check_proof_places (map string_bytes c.args.words.now) c.in-Ok-CheckProof.file.now c.in-Ok-CheckProof.proof.now c.in-Ok-CheckProof.gap c.in-Ok-CheckProof.places (sym request)
 
-pub perform_proof_task-requires-in-Ok-Table : goal.perform_proof_task-requires-in-Ok-Table
-perform_proof_task-requires-in-Ok-Table g c =
+pub perform_two_files-requires-in-Ok-Table : goal.perform_two_files-requires-in-Ok-Table
+perform_two_files-requires-in-Ok-Table g c =
     let request = ap request_of_result (sym (c.in-Ok-Table.is ∙ ap Ok c.in-Ok-Table.field-0-is)) ∙ c.in_ok-file.ensures in
     table_places (map string_bytes c.args.words.now) c.in-Ok-Table.file.now c.in-Ok-Table.proof.now c.in-Ok-Table.name.now c.in-Ok-Table.exact c.in-Ok-Table.gap c.in-Ok-Table.places (sym request)
 
-pub perform_proof_task-requires-in-Ok-Page : goal.perform_proof_task-requires-in-Ok-Page
-perform_proof_task-requires-in-Ok-Page g c =
+pub perform_two_files-requires-in-Ok-SolveFrom : goal.perform_two_files-requires-in-Ok-SolveFrom
+perform_two_files-requires-in-Ok-SolveFrom g c =
+    let request = ap request_of_result (sym (c.in-Ok-SolveFrom.is ∙ ap Ok c.in-Ok-SolveFrom.field-0-is)) ∙ c.in_ok-file.ensures in
+    solve_from_places (map string_bytes c.args.words.now) c.in-Ok-SolveFrom.file.now c.in-Ok-SolveFrom.start.now c.in-Ok-SolveFrom.gap c.in-Ok-SolveFrom.pivots c.in-Ok-SolveFrom.places c.in-Ok-SolveFrom.show (sym request)
+
+pub perform_two_files-requires-in-Ok-Page : goal.perform_two_files-requires-in-Ok-Page
+perform_two_files-requires-in-Ok-Page g c =
     let request = ap request_of_result (sym (c.in-Ok-Page.is ∙ ap Ok c.in-Ok-Page.field-0-is)) ∙ c.in_ok-file.ensures in
     page_places (map string_bytes c.args.words.now) c.in-Ok-Page.file.now c.in-Ok-Page.proof.now c.in-Ok-Page.gap c.in-Ok-Page.places (sym request)
 
@@ -114,8 +125,8 @@ returns-in_ok-answer-in-Ok-Solve-clause-caused g c = λ status text said.
     let answer = c.in_ok-answer-in-Ok-Solve.answer in
     told_so (λ (s : Status) (t : List ℕ). CausedByRequest (asked (map string_bytes c.args.words.now)) before after s t) answer.status answer.text.items
     (subst (λ (r : Result Request WordFault). CausedByRequest r before after answer.status answer.text.items) request
-    (subst (λ (shown : Shown). CausedByOneFile (DueForSolve solve.places (record { gap = solve.gap; pivots = solve.pivots; show = shown; method = solve.method })) solve.file.now before after answer.status answer.text.items)
-    c.shown_of-show.ensures c.in_ok-answer-in-Ok-Solve.ensures.caused))
+    (subst (λ (wanted : Wanted). CausedByOneFile (DueForSolve solve.places wanted) solve.file.now before after answer.status answer.text.items)
+    c.wanted_by.ensures c.in_ok-answer-in-Ok-Solve.ensures.caused))
     status text said
 
 pub returns-in_ok-answer-in-Ok-Explain-clause-caused : goal.returns-in_ok-answer-in-Ok-Explain-clause-caused
@@ -162,6 +173,20 @@ returns-in_ok-answer-in-Ok-Span-clause-caused g c = λ status text said.
     (rw c.from.ensures at c.in_ok-answer-in-Ok-Span.ensures.caused))
     status text said
 
+pub returns-in_ok-answer-in-Ok-Reduce-clause-caused : goal.returns-in_ok-answer-in-Ok-Reduce-clause-caused
+returns-in_ok-answer-in-Ok-Reduce-clause-caused g c = λ status text said.
+    let shelf = g.S.Shelf in
+    let old = c.args.shelf.now in
+    let new = c.perform_task-in-Ok-Reduce.new.shelf in
+    let before : Sight = record { files = shelf.files old; rest = shelf.rest old; faults = shelf.faults old; begins = shelf.begins old; taken = shelf.taken old; moved = shelf.moved old } in
+    let after : Sight = record { files = shelf.files new; rest = shelf.rest new; faults = shelf.faults new; begins = shelf.begins new; taken = shelf.taken new; moved = shelf.moved new } in
+    let request = ap request_of_result (sym (c.in-Ok-Reduce.is ∙ ap Ok c.in-Ok-Reduce.field-0-is)) ∙ c.in_ok-file.ensures in
+    let answer = c.in_ok-answer-in-Ok-Reduce.answer in
+    told_so (λ (s : Status) (t : List ℕ). CausedByRequest (asked (map string_bytes c.args.words.now)) before after s t) answer.status answer.text.items
+    (subst (λ (r : Result Request WordFault). CausedByRequest r before after answer.status answer.text.items) request
+    c.in_ok-answer-in-Ok-Reduce.ensures.caused)
+    status text said
+
 pub returns-in_ok-answer-in-Ok-Warn-clause-caused : goal.returns-in_ok-answer-in-Ok-Warn-clause-caused
 returns-in_ok-answer-in-Ok-Warn-clause-caused g c = λ status text said.
     let shelf = g.S.Shelf in
@@ -194,7 +219,7 @@ pub returns-in_ok-answer-in-Ok-CheckProof-clause-caused : goal.returns-in_ok-ans
 returns-in_ok-answer-in-Ok-CheckProof-clause-caused g c = λ status text said.
     let shelf = g.S.Shelf in
     let old = c.args.shelf.now in
-    let new = c.perform_proof_task.new.shelf in
+    let new = c.perform_two_files.new.shelf in
     let before : Sight = record { files = shelf.files old; rest = shelf.rest old; faults = shelf.faults old; begins = shelf.begins old; taken = shelf.taken old; moved = shelf.moved old } in
     let after : Sight = record { files = shelf.files new; rest = shelf.rest new; faults = shelf.faults new; begins = shelf.begins new; taken = shelf.taken new; moved = shelf.moved new } in
     let request = ap request_of_result (sym (c.in-Ok-CheckProof.is ∙ ap Ok c.in-Ok-CheckProof.field-0-is)) ∙ c.in_ok-file.ensures in
@@ -208,7 +233,7 @@ pub returns-in_ok-answer-in-Ok-Table-clause-caused : goal.returns-in_ok-answer-i
 returns-in_ok-answer-in-Ok-Table-clause-caused g c = λ status text said.
     let shelf = g.S.Shelf in
     let old = c.args.shelf.now in
-    let new = c.perform_proof_task-in-Ok-Table.new.shelf in
+    let new = c.perform_two_files-in-Ok-Table.new.shelf in
     let before : Sight = record { files = shelf.files old; rest = shelf.rest old; faults = shelf.faults old; begins = shelf.begins old; taken = shelf.taken old; moved = shelf.moved old } in
     let after : Sight = record { files = shelf.files new; rest = shelf.rest new; faults = shelf.faults new; begins = shelf.begins new; taken = shelf.taken new; moved = shelf.moved new } in
     let request = ap request_of_result (sym (c.in-Ok-Table.is ∙ ap Ok c.in-Ok-Table.field-0-is)) ∙ c.in_ok-file.ensures in
@@ -222,7 +247,7 @@ pub returns-in_ok-answer-in-Ok-Page-clause-caused : goal.returns-in_ok-answer-in
 returns-in_ok-answer-in-Ok-Page-clause-caused g c = λ status text said.
     let shelf = g.S.Shelf in
     let old = c.args.shelf.now in
-    let new = c.perform_proof_task-in-Ok-Page.new.shelf in
+    let new = c.perform_two_files-in-Ok-Page.new.shelf in
     let before : Sight = record { files = shelf.files old; rest = shelf.rest old; faults = shelf.faults old; begins = shelf.begins old; taken = shelf.taken old; moved = shelf.moved old } in
     let after : Sight = record { files = shelf.files new; rest = shelf.rest new; faults = shelf.faults new; begins = shelf.begins new; taken = shelf.taken new; moved = shelf.moved new } in
     let request = ap request_of_result (sym (c.in-Ok-Page.is ∙ ap Ok c.in-Ok-Page.field-0-is)) ∙ c.in_ok-file.ensures in
@@ -230,6 +255,22 @@ returns-in_ok-answer-in-Ok-Page-clause-caused g c = λ status text said.
     told_so (λ (s : Status) (t : List ℕ). CausedByRequest (asked (map string_bytes c.args.words.now)) before after s t) answer.status answer.text.items
     (subst (λ (r : Result Request WordFault). CausedByRequest r before after answer.status answer.text.items) request
     c.in_ok-answer-in-Ok-Page.ensures.caused)
+    status text said
+
+pub returns-in_ok-answer-in-Ok-SolveFrom-clause-caused : goal.returns-in_ok-answer-in-Ok-SolveFrom-clause-caused
+returns-in_ok-answer-in-Ok-SolveFrom-clause-caused g c = λ status text said.
+    let shelf = g.S.Shelf in
+    let old = c.args.shelf.now in
+    let new = c.perform_two_files-in-Ok-SolveFrom.new.shelf in
+    let before : Sight = record { files = shelf.files old; rest = shelf.rest old; faults = shelf.faults old; begins = shelf.begins old; taken = shelf.taken old; moved = shelf.moved old } in
+    let after : Sight = record { files = shelf.files new; rest = shelf.rest new; faults = shelf.faults new; begins = shelf.begins new; taken = shelf.taken new; moved = shelf.moved new } in
+    let request = ap request_of_result (sym (c.in-Ok-SolveFrom.is ∙ ap Ok c.in-Ok-SolveFrom.field-0-is)) ∙ c.in_ok-file.ensures in
+    let solve = c.in-Ok-SolveFrom in
+    let answer = c.in_ok-answer-in-Ok-SolveFrom.answer in
+    told_so (λ (s : Status) (t : List ℕ). CausedByRequest (asked (map string_bytes c.args.words.now)) before after s t) answer.status answer.text.items
+    (subst (λ (r : Result Request WordFault). CausedByRequest r before after answer.status answer.text.items) request
+    (subst (λ (wanted : Wanted). CausedByTwoFiles (DueForTwoFileTask (pairs.Solve wanted) solve.places) solve.file.now solve.start.now before after answer.status answer.text.items)
+    c.wanted_by-wanted.ensures c.in_ok-answer-in-Ok-SolveFrom.ensures.caused))
     status text said
 
 pub returns-in_ok-answer-in-Ok-Compare-clause-caused : goal.returns-in_ok-answer-in-Ok-Compare-clause-caused

@@ -3,28 +3,28 @@ use Rattle.std.proofs.Common.{◌∙◌, inr}
 use Rattle.std.proofs.lemmas.Result.{IfOk-weaker}
 use Rattle.command_answers.proofs.MadeBooks.{program-due}
 use Rattle.command_answers.proofs.SameData.{same-itself}
-use Rattle.span_command.specs.Span.{DueForMethod}
+use Rattle.span_command.specs.Span.{DueForRows}
 use Rattle.span_command.proofs.span.answer_member.Goals as goal
 
-pub answer_method-requires-clause-listed : goal.answer_method-requires-clause-listed
-answer_method-requires-clause-listed c =
+pub answer_book-requires-clause-listed : goal.answer_book-requires-clause-listed
+answer_book-requires-clause-listed c =
     let facts = c.args.model.now.facts in
     let own = rw c.in-Ok.is at (c.in_ok-book.ensures facts (same-itself facts)) in
-    rw c.sets.ensures.sets own.made_book.listed
+    rw c.sets.ensures.sets own.listed
 
-pub answer_method-requires-clause-there : goal.answer_method-requires-clause-there
-answer_method-requires-clause-there c =
+pub answer_book-requires-clause-there : goal.answer_book-requires-clause-there
+answer_book-requires-clause-there c =
     let facts = c.args.model.now.facts in
     let own = rw c.in-Ok.is at (c.in_ok-book.ensures facts (same-itself facts)) in
-    own.made_book.is_book.whole c.args.var c.requires.exists
+    own.is_book.whole c.args.var c.requires.exists
 
 pub returns-in-Ok : goal.returns-in-Ok
 returns-in-Ok c = λ d same.
-    let sized = rw c.in-Ok.is at (c.in_ok-book.ensures d same) in
-    IfOk-weaker c.answer_method.result _ _
+    let made = rw c.in-Ok.is at (c.in_ok-book.ensures d same) in
+    IfOk-weaker c.answer_book.result _ _
     (λ answer due.
-    program-due (λ rows. DueForMethod c.args.places d rows c.args.var c.args.wanted c.args.model.now.rounded) c.args.places d c.in-Ok.book sized answer.status answer.text.items (rw c.rounded.ensures at due))
-    (c.answer_method.ensures d (c.sets.ensures.sets ∙ same.sets) sized.made_book.is_book)
+    program-due (λ rows. DueForRows c.args.places d rows c.args.var c.args.wanted c.args.model.now.rounded) c.args.places d c.in-Ok.book made answer.status answer.text.items (rw c.rounded.ensures at due))
+    (c.answer_book.ensures d (c.sets.ensures.sets ∙ same.sets) made.is_book)
 
 pub returns-in-Err : goal.returns-in-Err
 returns-in-Err c = λ d same. inr (rw c.in-Err.is at (c.in_ok-book.ensures d same))

@@ -1,0 +1,9 @@
+-- The records so far.
+use Rattle.std.proofs.Common.{length}
+use Rattle.plan_files.specs.Answers.{variable_names}
+use Rattle.plan_files.specs.Files.{records_of}
+use Rattle.solver_answers.proofs.TableLaws.{IsSoFar}
+use Rattle.solver_answers.proofs.tables.read_table.Given as goal
+
+abbrev pub invariant-loop-number : goal.invariant-loop-number
+invariant-loop-number l = IsSoFar (variable_names l.sets l.vars) (records_of l.text) (length l.vars) l.reader l.number l.start

@@ -1,0 +1,7 @@
+-- No byte before this one is anything but a blank.
+use Rattle.std.proofs.Common.{◌≡◌, ℕ, ◌<◌, true, get_or}
+use Rattle.solver_answers.specs.Words.{is_blank}
+use Rattle.solver_answers.proofs.words.blank_length.Given as goal
+
+abbrev pub invariant-loop-i : goal.invariant-loop-i
+invariant-loop-i l = (k : ℕ) → k < l.i → is_blank (get_or l.text k 0) ≡ true

@@ -1,0 +1,9 @@
+pub mod Answers
+pub mod CoinTexts
+pub mod GlpsolTexts
+pub mod HighsTexts
+pub mod Names
+pub mod Numbers
+pub mod Tables
+pub mod Told
+pub mod Words

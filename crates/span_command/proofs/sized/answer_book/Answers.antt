@@ -1,0 +1,22 @@
+-- Too large, or what is due where it isn't.
+use Rattle.std.proofs.lemmas.Result.{IfOk-weaker}
+use Rattle.command_answers.proofs.MadeBooks.{within-due}
+use Rattle.span_command.specs.Span.{DueForMethod, Finds}
+use Rattle.span_command.proofs.sized.answer_book.Goals as goal
+
+pub answer_large-requires-clause-large : goal.answer_large-requires-clause-large
+answer_large-requires-clause-large c = rw c.in-Some.is at c.in_ok-refusal.ensures
+
+pub returns-in-Some : goal.returns-in-Some
+returns-in-Some c = c.answer_large.ensures
+
+pub returns-in-None : goal.returns-in-None
+returns-in-None c = λ d same book.
+    let places = c.args.places in
+    let rows = c.args.book.now.rows in
+    let wanted = c.args.wanted in
+    let within = rw c.in-None.is at c.in_ok-refusal.ensures in
+    IfOk-weaker c.answer_method.result _ _
+    (λ answer due.
+    within-due places d rows c.args.book.now.vars book (Finds wanted.method places d rows c.args.var wanted c.args.rounded) (DueForMethod places d rows c.args.var wanted c.args.rounded) answer.status answer.text.items within due)
+    (c.answer_method.ensures d same book)
