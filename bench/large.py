@@ -70,6 +70,8 @@ def by_peers(folder, kind, text):
     found = []
     for name, words in (("Clp", ["clp", text, "-solve", "-solution"]), ("CBC", ["cbc", text, "-solve", "-solution"]), ("glpsol", ["glpsol", "--freemps", text, "-w"])):
         path = f"{folder}/{kind}.{name}"
+        if os.path.exists(path):
+            os.remove(path)
         status, took, most = timed([*words, path], folder + "/log")
         ended = os.path.exists(path) and os.path.getsize(path) > 0
         show(f"{name} on the text of {kind}", status, took, most, "" if ended else f"no answer in {LONGEST} seconds")
