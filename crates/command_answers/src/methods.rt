@@ -16,6 +16,7 @@ ghost use Rattle.command_answers.specs.BookMethods.{IsFoundBy, grid_end, method_
 ghost use Rattle.command_answers.specs.BookPrograms.{IsProgramOf};
 ghost use Rattle.command_answers.specs.Definers.{definers};
 
+use call_stages::Watcher;
 use certified_answers::{Certified, Cost, NoAnswer};
 use decimal_solver::{Found, second};
 use exact_solver::exact;
@@ -116,12 +117,13 @@ pub fn guess_book(
     program: &BookProgram,
     gap: u32,
     pivots: u64,
+    watcher: &mut dyn Watcher,
 ) -> Result<Option<Certified>, AllocError>
     requires { IsProgramOf book.now.rows book.now.vars program.now }
     ensures { IfOk result (λ found. IfSome found (IsFoundBy book.now.rows book.now.vars gap pivots)) }
 {
     let problem = problem_of(book, program);
-    guessed(alloc, &problem, gap, pivots)
+    guessed(alloc, &problem, gap, pivots, watcher)
 }
 
 /// What guesses give over the rows of a book alone, of which nothing is eliminated: as `guess_book`. `start` has a value for each variable,
@@ -132,12 +134,22 @@ pub fn guess_rows(
     start: Option<&[f64]>,
     gap: u32,
     pivots: u64,
+    watcher: &mut dyn Watcher,
 ) -> Result<Option<Certified>, AllocError>
     ensures { IfOk result (λ found. IfSome found (IsFoundBy book.now.rows book.now.vars gap pivots)) }
 {
     let defs = definers(alloc, book)?;
     problem_laws(book);
-    guessed_rows(alloc, book.rows(), &defs, book.vars(), start, gap, pivots)
+    guessed_rows(
+        alloc,
+        book.rows(),
+        &defs,
+        book.vars(),
+        start,
+        gap,
+        pivots,
+        watcher,
+    )
 }
 
 /// What the attempt on a grid gives over a book: as `second` does.

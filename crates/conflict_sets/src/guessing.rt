@@ -8,6 +8,7 @@ ghost use Rattle.conflict_sets.specs.Pieces.{IsFinding, IsTriedOf, listed_by};
 use crate::copying::{trial_program, trial_rows};
 use crate::listing::Listing;
 use crate::trial::Finding;
+use call_stages::Watcher;
 use certified_answers::{NoAnswer, accepted_plan, accepted_refutation, multiplier_laws, plan_laws};
 use exact_num::Frac;
 use rounded_solver::{Guess, guess_multipliers, guess_values};
@@ -24,21 +25,33 @@ const PLACES: [i32; 3] = [7, 5, 4];
 const DIGITS: [i32; 3] = [9, 7, 5];
 
 /// A plan of the equations and those of its inequalities that are listed, or multipliers that show that there is none, by
-/// guesses that take so many pivots each at most. None where no guess is accepted: then nothing is known of these rows.
+/// guesses that take so many pivots each at most. None where no guess is accepted: then nothing is known of these rows. Guesses at a plan
+/// begin from `start`, a value for each column in order, where the trial before left any; where nothing is accepted so, they are made
+/// again from nothing, and values that are far off hide no plan.
 pub(crate) fn guessed(
     alloc: Global,
     problem: &Problem<'_>,
     listing: &Listing<'_>,
+    start: &mut Vec<f64>,
     pivots: u64,
+    watcher: &mut dyn Watcher,
 ) -> Result<Option<Finding>, AllocError>
     requires { IsPosedProblem problem.now }
     ensures worth { IfOk result (λ found. IfSome found (IsFinding (listed_by listing.now) problem.now.rows.now problem.now.vars.now)) }
 {
     let tried = trial_program(alloc, problem.reduced, listing)?;
-    match guessed_plan(alloc, problem, listing, &tried, pivots)? {
-        Some(finding) => Ok(Some(finding)),
-        None => guessed_refutation(alloc, problem, listing, &tried, pivots),
+    let is_started = !start.is_empty();
+    if let Some(finding) = guessed_plan(alloc, problem, listing, &tried, start, pivots, watcher)? {
+        return Ok(Some(finding));
     }
+    if let Some(finding) = guessed_refutation(alloc, problem, listing, &tried, pivots, watcher)? {
+        return Ok(Some(finding));
+    }
+    if is_started {
+        start.clear();
+        return guessed_plan(alloc, problem, listing, &tried, start, pivots, watcher);
+    }
+    Ok(None)
 }
 
 /// Multipliers that show that the equations and those of its inequalities that are listed have no plan, by guesses alone.
@@ -47,12 +60,13 @@ pub(crate) fn refuted_by_guess(
     problem: &Problem<'_>,
     listing: &Listing<'_>,
     pivots: u64,
+    watcher: &mut dyn Watcher,
 ) -> Result<Option<Finding>, AllocError>
     requires { IsPosedProblem problem.now }
     ensures worth { IfOk result (λ found. IfSome found (IsFinding (listed_by listing.now) problem.now.rows.now problem.now.vars.now)) }
 {
     let tried = trial_program(alloc, problem.reduced, listing)?;
-    guessed_refutation(alloc, problem, listing, &tried, pivots)
+    guessed_refutation(alloc, problem, listing, &tried, pivots, watcher)
 }
 
 /// The plan of the first guess that the checker accepts.
@@ -61,14 +75,16 @@ fn guessed_plan(
     problem: &Problem<'_>,
     listing: &Listing<'_>,
     tried: &Reduced,
+    start: &mut Vec<f64>,
     pivots: u64,
+    watcher: &mut dyn Watcher,
 ) -> Result<Option<Finding>, AllocError>
     requires problem { IsPosedProblem problem.now }
     requires tried { IsTriedOf (listed_by listing.now) problem.now.reduced.now tried.now }
     ensures worth { IfOk result (λ found. IfSome found (IsFinding (listed_by listing.now) problem.now.rows.now problem.now.vars.now)) }
 {
     for places in PLACES {
-        match guess_values(alloc, tried, places, pivots)? {
+        match guess_values(alloc, tried, start, places, pivots, watcher)? {
             Guess::Values(values) => {
                 match checked_values(alloc, problem, listing, tried, &values)? {
                     Some(finding) => return Ok(Some(finding)),
@@ -115,13 +131,14 @@ fn guessed_refutation(
     listing: &Listing<'_>,
     tried: &Reduced,
     pivots: u64,
+    watcher: &mut dyn Watcher,
 ) -> Result<Option<Finding>, AllocError>
     requires problem { IsPosedProblem problem.now }
     requires tried { IsTriedOf (listed_by listing.now) problem.now.reduced.now tried.now }
     ensures worth { IfOk result (λ found. IfSome found (IsFinding (listed_by listing.now) problem.now.rows.now problem.now.vars.now)) }
 {
     for digits in DIGITS {
-        match guess_multipliers(alloc, tried, digits, pivots)? {
+        match guess_multipliers(alloc, tried, digits, pivots, watcher)? {
             Some(lambda) => {
                 match checked_multipliers(alloc, problem, listing, tried, &lambda)? {
                     Some(finding) => return Ok(Some(finding)),

@@ -17,6 +17,7 @@ use crate::listing::{Listing, is_listed, listed_names};
 use crate::searching::Search;
 use crate::shrinking::Shrinking;
 use crate::trial::{Finding, trial};
+use call_stages::Watcher;
 use certified_answers::NoAnswer;
 use row_core::{Multipliers, RowName};
 use row_problem::Problem;
@@ -36,13 +37,14 @@ pub fn explain_rounded(
     alloc: Global,
     problem: &Problem<'_>,
     pivots: u64,
+    watcher: &mut dyn Watcher,
 ) -> Result<Option<Conflict>, ExplainFail>
     requires { IsPosedProblem problem.now }
     ensures stopped { IfErr result (StopsSome problem.now.rows.now problem.now.defs.now problem.now.vars.now pivots) }
     ensures conflict { IfOk result (λ found. IfSome found (IsConflict problem.now.rows.now problem.now.vars.now)) }
     ensures feasible { IfOk result (λ found. IfNone found (AdmitsSome problem.now.rows.now problem.now.vars.now)) }
 {
-    match explain_with(alloc, problem, pivots, Fallback::Exact) {
+    match explain_with(alloc, problem, pivots, Fallback::Exact, watcher) {
         Ok(found) => Ok(found),
         Err(Halt::Failed(fail)) => Err(fail),
         // The exact method follows in each trial.
@@ -56,12 +58,13 @@ pub fn explain_guessed(
     alloc: Global,
     problem: &Problem<'_>,
     pivots: u64,
+    watcher: &mut dyn Watcher,
 ) -> Result<Option<Option<Conflict>>, AllocError>
     requires { IsPosedProblem problem.now }
     ensures conflict { IfOk result (λ given. IfSome given (λ found. IfSome found (IsConflict problem.now.rows.now problem.now.vars.now))) }
     ensures feasible { IfOk result (λ given. IfSome given (λ found. IfNone found (AdmitsSome problem.now.rows.now problem.now.vars.now))) }
 {
-    match explain_with(alloc, problem, pivots, Fallback::Nothing) {
+    match explain_with(alloc, problem, pivots, Fallback::Nothing, watcher) {
         Ok(found) => Ok(Some(found)),
         Err(Halt::Unguessed) => Ok(None),
         Err(Halt::Failed(ExplainFail::Memory)) => Err(AllocError),
@@ -76,35 +79,56 @@ fn explain_with(
     problem: &Problem<'_>,
     pivots: u64,
     fallback: Fallback,
+    watcher: &mut dyn Watcher,
 ) -> Result<Option<Conflict>, Halt>
     requires { IsPosedProblem problem.now }
     ensures halted { IfErr result (HaltsSome fallback problem.now.rows.now problem.now.defs.now problem.now.vars.now pivots) }
     ensures conflict { IfOk result (λ found. IfSome found (IsConflict problem.now.rows.now problem.now.vars.now)) }
     ensures feasible { IfOk result (λ found. IfNone found (AdmitsSome problem.now.rows.now problem.now.vars.now)) }
 {
-    match rounded_trial(alloc, problem, &Listing::Every, pivots, fallback) {
+    let mut start = Vec::new(alloc);
+    match rounded_trial(
+        alloc,
+        problem,
+        &Listing::Every,
+        &mut start,
+        pivots,
+        fallback,
+        watcher,
+    ) {
         Ok(Finding::Plan(_)) => Ok(None),
         Ok(Finding::Refutation(multipliers)) => {
-            let conflict = shortened(alloc, problem, multipliers, pivots, fallback)?;
+            let conflict = shortened(
+                alloc,
+                problem,
+                multipliers,
+                &mut start,
+                pivots,
+                fallback,
+                watcher,
+            )?;
             Ok(Some(conflict))
         }
         Err(stop) => Err(first_halt(stop, pivots)),
     }
 }
 
-/// Tries the equations and those of its inequalities that are listed: by guesses, and by what follows where none is accepted.
+/// Tries the equations and those of its inequalities that are listed: by guesses from the values of the trial before, and by what follows
+/// where none is accepted.
 fn rounded_trial(
     alloc: Global,
     problem: &Problem<'_>,
     listing: &Listing<'_>,
+    start: &mut Vec<f64>,
     pivots: u64,
     fallback: Fallback,
+    watcher: &mut dyn Watcher,
 ) -> Result<Finding, NoAnswer>
     requires { IsPosedProblem problem.now }
     ensures halted { IfErr result (HaltsTrial fallback (trial_end (listed_by listing.now) problem.now.rows.now problem.now.defs.now problem.now.vars.now pivots)) }
     ensures worth { IfOk result (IsFinding (listed_by listing.now) problem.now.rows.now problem.now.vars.now) }
 {
-    match guessed(alloc, problem, listing, pivots) {
+    match guessed(alloc, problem, listing, start, pivots, watcher) {
         Ok(Some(finding)) => Ok(finding),
         Ok(None) => match fallback {
             Fallback::Exact => trial(alloc, problem, listing, pivots),
@@ -119,8 +143,10 @@ fn shortened(
     alloc: Global,
     problem: &Problem<'_>,
     multipliers: Multipliers,
+    start: &mut Vec<f64>,
     pivots: u64,
     fallback: Fallback,
+    watcher: &mut dyn Watcher,
 ) -> Result<Conflict, Halt>
     requires problem { IsPosedProblem problem.now }
     requires refutation { IsRefutation problem.now.rows.now problem.now.vars.now multipliers }
@@ -131,7 +157,7 @@ fn shortened(
         multipliers,
         trials: 0,
     };
-    shrinking.shrink(alloc, problem, pivots)?;
+    shrinking.shrink(alloc, problem, pivots, watcher)?;
     let names = listed_names(alloc, problem.rows, &shrinking.multipliers)?;
     let search = Search {
         multipliers: shrinking.multipliers,
@@ -139,7 +165,9 @@ fn shortened(
         plans: Vec::new(alloc),
         trials: shrinking.trials,
     };
-    searched(alloc, problem, search, &names, pivots, fallback)
+    searched(
+        alloc, problem, search, &names, start, pivots, fallback, watcher,
+    )
 }
 
 /// What is left of the list when each of these inequalities was tried.
@@ -148,8 +176,10 @@ fn searched(
     problem: &Problem<'_>,
     search: Search,
     names: &[RowName],
+    start: &mut Vec<f64>,
     pivots: u64,
     fallback: Fallback,
+    watcher: &mut dyn Watcher,
 ) -> Result<Conflict, Halt>
     requires problem { IsPosedProblem problem.now }
     requires even { length search.names.items ≡ length search.plans.items }
@@ -159,7 +189,16 @@ fn searched(
 {
     let mut search = search;
     for name in names {
-        leave_out(alloc, problem, &mut search, *name, pivots, fallback)?;
+        leave_out(
+            alloc,
+            problem,
+            &mut search,
+            *name,
+            start,
+            pivots,
+            fallback,
+            watcher,
+        )?;
     }
     Ok(search.conflict(alloc)?)
 }
@@ -170,8 +209,10 @@ fn leave_out(
     problem: &Problem<'_>,
     search: &mut Search,
     name: RowName,
+    start: &mut Vec<f64>,
     pivots: u64,
     fallback: Fallback,
+    watcher: &mut dyn Watcher,
 ) -> Result<(), Halt>
     requires problem { IsPosedProblem problem.now }
     requires even { length search.old.names.items ≡ length search.old.plans.items }
@@ -186,7 +227,7 @@ fn leave_out(
     // A count of trials that are made one after another never comes near its end.
     search.trials = search.trials.saturating_add(1);
     let listing = Listing::Others(&search.multipliers, name);
-    match rounded_trial(alloc, problem, &listing, pivots, fallback) {
+    match rounded_trial(alloc, problem, &listing, start, pivots, fallback, watcher) {
         Ok(finding) => {
             search.learn(name, finding)?;
             Ok(())

@@ -7,6 +7,7 @@ ghost use Rattle.row_problem.specs.Prelude.{IsRefutation};
 use crate::guessing::refuted_by_guess;
 use crate::listing::{Listing, listed_names};
 use crate::trial::Finding;
+use call_stages::Watcher;
 use row_core::{Multipliers, RowName};
 use row_problem::Problem;
 use std::alloc::{AllocError, Global};
@@ -33,6 +34,7 @@ impl Shrinking {
         alloc: Global,
         problem: &Problem<'_>,
         pivots: u64,
+        watcher: &mut dyn Watcher,
     ) -> Result<(), AllocError>
         requires problem { IsPosedProblem problem.now }
         requires refutation { IsRefutation problem.now.rows.now problem.now.vars.now self.old.multipliers }
@@ -45,7 +47,7 @@ impl Shrinking {
             if size < LEAST {
                 return Ok(());
             }
-            self.leave_out_parts(alloc, problem, &names, size, pivots)?;
+            self.leave_out_parts(alloc, problem, &names, size, pivots, watcher)?;
         }
         Ok(())
     }
@@ -58,6 +60,7 @@ impl Shrinking {
         names: &[RowName],
         size: usize,
         pivots: u64,
+        watcher: &mut dyn Watcher,
     ) -> Result<(), AllocError>
         requires problem { IsPosedProblem problem.now }
         requires refutation { IsRefutation problem.now.rows.now problem.now.vars.now self.old.multipliers }
@@ -69,7 +72,7 @@ impl Shrinking {
             let start = first.unwrap_or(*name);
             count = count.saturating_add(1);
             if count >= size {
-                self.leave_out_part(alloc, problem, start, *name, pivots)?;
+                self.leave_out_part(alloc, problem, start, *name, pivots, watcher)?;
                 first = None;
                 count = 0;
             } else {
@@ -87,6 +90,7 @@ impl Shrinking {
         first: RowName,
         last: RowName,
         pivots: u64,
+        watcher: &mut dyn Watcher,
     ) -> Result<(), AllocError>
         requires problem { IsPosedProblem problem.now }
         requires refutation { IsRefutation problem.now.rows.now problem.now.vars.now self.old.multipliers }
@@ -95,7 +99,7 @@ impl Shrinking {
         // A count of trials that are made one after another never comes near its end.
         self.trials = self.trials.saturating_add(1);
         let listing = Listing::Outside(&self.multipliers, first, last);
-        match refuted_by_guess(alloc, problem, &listing, pivots)? {
+        match refuted_by_guess(alloc, problem, &listing, pivots, watcher)? {
             Some(Finding::Refutation(multipliers)) => self.multipliers = multipliers,
             Some(Finding::Plan(_plan)) => {}
             None => {}

@@ -9,6 +9,7 @@ ghost use Rattle.curve_command.specs.KeptRows.{IsMemberOf};
 
 use crate::texts::{curve_status, curve_text};
 use crate::trials::{Member, Outcome, Wanted, trials};
+use call_stages::Watcher;
 use command_answers::{Answer, find_member};
 use model_sets::set_numbers::{EMISSION, REGION};
 use param_tables::ModelData;
@@ -24,6 +25,7 @@ pub fn answer_curve(
     region: &str,
     emission: &str,
     limits: &[i128],
+    watcher: &mut dyn Watcher,
 ) -> Result<Answer, AllocError>
     requires places { IsPlaces places }
     requires limits { AllByRecursion IsLimit limits.now }
@@ -39,7 +41,7 @@ pub fn answer_curve(
         Err(answer) => return Ok(answer),
     };
     let member = Member { region, emission };
-    answer_limits(alloc, model, places, member, limits, wanted)
+    answer_limits(alloc, model, places, member, limits, wanted, watcher)
 }
 
 // What is due for an emission in a region.
@@ -50,6 +52,7 @@ fn answer_limits(
     member: Member,
     limits: &[i128],
     wanted: Wanted,
+    watcher: &mut dyn Watcher,
 ) -> Result<Answer, AllocError>
     requires places { IsPlaces places }
     requires member { IsMemberOf model.now.facts.sets member }
@@ -57,7 +60,7 @@ fn answer_limits(
     ensures { (d : Data) → AreSameData model.now.facts d → IfOk result (λ answer.
         DueForLimits places d member.region member.emission wanted limits.now answer.status answer.text.items) }
 {
-    match trials(alloc, model, places, member, limits, wanted)? {
+    match trials(alloc, model, places, member, limits, wanted, watcher)? {
         Outcome::Ended(all) => {
             let text = curve_text(alloc, model.sets(), &all)?;
             let status = curve_status(&all);

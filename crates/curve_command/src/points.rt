@@ -8,6 +8,7 @@ ghost use Rattle.model_sets.specs.Members.{SetLists};
 ghost use Rattle.curve_command.specs.Outcomes.{BookTells, IsPointBy};
 
 use crate::trials::{Trial, Wanted};
+use call_stages::{Stage, Watcher};
 use command_answers::{definers, problem_laws, refuse_large};
 use command_words::SolveMethod;
 use emission_curve::{Point, round_limit, solve_limit};
@@ -17,23 +18,25 @@ use row_core::RowName;
 use std::alloc::{AllocError, Global};
 
 /// The trial of the limit whose row has this name, over a book: by guesses, where these are asked for and find a point, however large its
-/// linear program is, or else by its size.
+/// linear program is, or else by its size. Guesses begin from the values of the plan of the trial before, in `start`, and leave theirs there.
 pub fn book_trial(
     alloc: Global,
     book: &RowBook,
     sets: &Sets,
     limit: RowName,
     wanted: Wanted,
+    start: &mut Vec<f64>,
+    watcher: &mut dyn Watcher,
 ) -> Result<Trial, AllocError>
     requires listed { IsListedBook sets.now book.now.rows book.now.vars }
     requires limit { IsRowOfSets sets.now limit }
     ensures { IfOk result (BookTells sets.now book.now limit wanted) }
 {
     match wanted.method {
-        SolveMethod::Exact => sized_trial(alloc, book, sets, limit, wanted),
-        SolveMethod::Rounded => match rounded_point(alloc, book, limit, wanted)? {
+        SolveMethod::Exact => sized_trial(alloc, book, sets, limit, wanted, watcher),
+        SolveMethod::Rounded => match rounded_point(alloc, book, limit, wanted, start, watcher)? {
             Some(point) => Ok(Trial::Ended(point)),
-            None => sized_trial(alloc, book, sets, limit, wanted),
+            None => sized_trial(alloc, book, sets, limit, wanted, watcher),
         },
     }
 }
@@ -44,6 +47,8 @@ fn rounded_point(
     book: &RowBook,
     limit: RowName,
     wanted: Wanted,
+    start: &mut Vec<f64>,
+    watcher: &mut dyn Watcher,
 ) -> Result<Option<Point>, AllocError>
     requires { wanted.method ≡ Rounded }
     ensures { (sets : SetLists) → IfOk result (λ found. IfSome found (IsPointBy sets book.now limit wanted)) }
@@ -56,8 +61,10 @@ fn rounded_point(
         &defs,
         book.vars(),
         limit,
+        start,
         wanted.gap,
         u64::from(wanted.pivots),
+        watcher,
     )
 }
 
@@ -68,6 +75,7 @@ fn sized_trial(
     sets: &Sets,
     limit: RowName,
     wanted: Wanted,
+    watcher: &mut dyn Watcher,
 ) -> Result<Trial, AllocError>
     requires listed { IsListedBook sets.now book.now.rows book.now.vars }
     requires limit { IsRowOfSets sets.now limit }
@@ -76,7 +84,7 @@ fn sized_trial(
     match refuse_large(alloc, book)? {
         Some(answer) => Ok(Trial::Refused(answer)),
         None => {
-            let point = exact_point(alloc, book, sets, limit, wanted)?;
+            let point = exact_point(alloc, book, sets, limit, wanted, watcher)?;
             Ok(Trial::Ended(point))
         }
     }
@@ -89,6 +97,7 @@ fn exact_point(
     sets: &Sets,
     limit: RowName,
     wanted: Wanted,
+    watcher: &mut dyn Watcher,
 ) -> Result<Point, AllocError>
     requires listed { IsListedBook sets.now book.now.rows book.now.vars }
     requires limit { IsRowOfSets sets.now limit }
@@ -98,6 +107,7 @@ fn exact_point(
     let defs = definers(alloc, book)?;
     problem_laws(book);
     let pivots = u64::from(wanted.pivots);
+    watcher.see(Stage::Exact);
     let point = solve_limit(alloc, book.rows(), &defs, book.vars(), limit, pivots)?;
     Ok(point)
 }

@@ -10,6 +10,7 @@ ghost use Rattle.curve_command.specs.Outcomes.{FailTells, OutcomeTells, TriedTel
 
 use crate::books::limited_book;
 use crate::points::book_trial;
+use call_stages::{Stage, Watcher};
 use command_answers::{Answer, TrialStop, refuse_book};
 use command_words::SolveMethod;
 use emission_curve::Point;
@@ -82,6 +83,7 @@ pub fn trials(
     member: Member,
     limits: &[i128],
     wanted: Wanted,
+    watcher: &mut dyn Watcher,
 ) -> Result<Outcome, AllocError>
     requires places { IsPlaces places }
     requires member { IsMemberOf model.now.facts.sets member }
@@ -90,12 +92,15 @@ pub fn trials(
 {
     let mut all = Vec::with_capacity(alloc, limits.len())?;
     let mut book = None;
+    let mut start = Vec::new(alloc);
     for most in limits {
         let limit = Limit {
             member,
             most: *most,
         };
-        let Tried { trial, book: made } = limit_trial(alloc, model, places, limit, wanted, book)?;
+        let Tried { trial, book: made } = limit_trial(
+            alloc, model, places, limit, wanted, book, &mut start, watcher,
+        )?;
         match trial {
             Trial::Ended(point) => all.push(Found {
                 limit: *most,
@@ -108,7 +113,7 @@ pub fn trials(
     Ok(Outcome::Ended(all))
 }
 
-// The trial of a limit: over the data with that limit. `before` are the rows of another limit's trial.
+// The trial of a limit: over the data with that limit. `before` are the rows of another limit's trial, and `start` the values of its plan.
 fn limit_trial(
     alloc: Global,
     model: &ModelData,
@@ -116,16 +121,19 @@ fn limit_trial(
     limit: Limit,
     wanted: Wanted,
     before: Option<RowBook>,
+    start: &mut Vec<f64>,
+    watcher: &mut dyn Watcher,
 ) -> Result<Tried, AllocError>
     requires places { IsPlaces places }
     requires limit { IsLimitOf model.now.facts.sets limit }
     requires before { (d : Data) → AreSameData model.now.facts d → IfSome before (IsBookAtSome places d limit.member) }
     ensures { (d : Data) → AreSameData model.now.facts d → IfOk result (TriedTells places d limit wanted) }
 {
+    watcher.see(Stage::Rows);
     match limited_book(alloc, model, places, limit, before) {
         Ok(book) => {
             let row = limit_row(limit.member);
-            let trial = book_trial(alloc, &book, model.sets(), row, wanted)?;
+            let trial = book_trial(alloc, &book, model.sets(), row, wanted, start, watcher)?;
             Ok(Tried {
                 trial,
                 book: Some(book),

@@ -10,16 +10,18 @@ ghost use Rattle.emission_curve.specs.Slopes.{slope_at};
 
 use crate::point::Point;
 use crate::slope::slope_of;
+use call_stages::Watcher;
 use certified_answers::{Certified, Cost};
 use exact_num::Frac;
-use rounded_solver::{guessed, guessed_rows};
+use rounded_solver::{guessed, guessed_rows, starting_values};
 use row_core::{Multipliers, Row, RowName, Stopped, Var};
 use row_problem::{Problem, left_of};
 use std::alloc::{AllocError, Global};
 
 /// Looks for a point at the limit whose row has this name by the rounded method: a plan whose cost is above a proved bound by at most
 /// so many millionths of the bound, or that no plan keeps the limit. Each guess may take so many pivots at most. `defs` says of each
-/// row which variable it defines, if it defines one, and `vars` are the variables of the rows.
+/// row which variable it defines, if it defines one, and `vars` are the variables of the rows. The first guess begins from `start`, a value
+/// for each variable in order, of any accuracy, where there are any; the values of a plan that is found are left there for the next limit.
 ///
 /// When nothing is found isn't defined: then nothing is known of the limit. Refuses only out of memory.
 pub fn round_limit(
@@ -28,23 +30,29 @@ pub fn round_limit(
     defs: &[Option<Var>],
     vars: &[Var],
     limit: RowName,
+    start: &mut Vec<f64>,
     ppm: u32,
     pivots: u64,
+    watcher: &mut dyn Watcher,
 ) -> Result<Option<Point>, AllocError>
     requires problem { IsProblem rows.now defs.now vars.now }
     requires variables { AreVariablesOf rows.now vars.now }
     ensures worth { IfOk result (λ found. IfSome found (IsPointOf rows.now vars.now limit)) }
     ensures rounded { IfOk result (λ found. IfSome found (IsRoundedPoint ppm)) }
 {
-    match guess_limit(alloc, rows, defs, vars, ppm, pivots)? {
+    match guess_limit(alloc, rows, defs, vars, start, ppm, pivots, watcher)? {
         Some(
             Certified::Optimal {
+                plan,
                 multipliers,
                 cost,
                 bound,
                 ..
             },
-        ) => Ok(line(rows, limit, &multipliers, cost, bound)),
+        ) => {
+            *start = starting_values(alloc, &plan, vars)?;
+            Ok(line(rows, limit, &multipliers, cost, bound))
+        }
         Some(Certified::Infeasible { .. }) => Ok(Some(Point::Infeasible)),
         // A guess never finds that the cost has no bound.
         Some(Certified::Unbounded { .. }) => Ok(None),
@@ -58,14 +66,17 @@ fn guess_limit(
     rows: &[Row],
     defs: &[Option<Var>],
     vars: &[Var],
+    start: &[f64],
     ppm: u32,
     pivots: u64,
+    watcher: &mut dyn Watcher,
 ) -> Result<Option<Certified>, AllocError>
     requires problem { IsProblem rows.now defs.now vars.now }
     requires variables { AreVariablesOf rows.now vars.now }
     ensures { IfOk result (λ found. IfSome found (IsProvedWithin rows.now vars.now ppm)) }
 {
-    if let Some(found) = guessed_rows(alloc, rows, defs, vars, None, ppm, pivots)? {
+    let begin = if start.is_empty() { None } else { Some(start) };
+    if let Some(found) = guessed_rows(alloc, rows, defs, vars, begin, ppm, pivots, watcher)? {
         return Ok(Some(found));
     }
     match left_of(alloc, rows, defs, vars) {
@@ -77,7 +88,7 @@ fn guess_limit(
                 reduced: &reduced,
                 cost: Cost::Model,
             };
-            guessed(alloc, &problem, ppm, pivots)
+            guessed(alloc, &problem, ppm, pivots, watcher)
         }
         Err(Stopped::Width(_)) => Ok(None),
         Err(Stopped::Memory) => Err(AllocError),

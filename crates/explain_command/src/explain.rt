@@ -13,6 +13,7 @@ ghost use Rattle.explain_command.specs.Explain.{DueForExplain, DueForMethod, Due
 ghost use Rattle.explain_command.specs.Outcomes.{FindingTells, RunTells};
 
 use crate::ends::{answer_found, answer_stop};
+use call_stages::{Stage, Watcher};
 use command_answers::{
     Answer, BookProgram, eliminate_book, made_book, problem_of, refuse_large, stop_on_elimination,
 };
@@ -37,13 +38,15 @@ pub fn answer_explain(
     model: &ModelData,
     places: u8,
     wanted: Wanted,
+    watcher: &mut dyn Watcher,
 ) -> Result<Answer, AllocError>
     requires { IsPlaces places }
     ensures { (d : Data) → AreSameData model.now.facts d → IfOk result (λ answer.
         DueForExplain places wanted d answer.status answer.text.items) }
 {
+    watcher.see(Stage::Rows);
     match made_book(alloc, model, places)? {
-        Ok(book) => answer_book(alloc, &book, model.sets(), wanted),
+        Ok(book) => answer_book(alloc, &book, model.sets(), wanted, watcher),
         Err(answer) => Ok(answer),
     }
 }
@@ -54,14 +57,15 @@ fn answer_book(
     book: &RowBook,
     sets: &Sets,
     wanted: Wanted,
+    watcher: &mut dyn Watcher,
 ) -> Result<Answer, AllocError>
     requires { IsListedBook sets.now book.now.rows book.now.vars }
     ensures { (places : ℕ) (d : Data) → sets.now ≡ d.sets → IsBookOf places d book.now.rows book.now.vars
         → IfOk result (λ answer. DueForRows places d book.now.rows wanted answer.status answer.text.items) }
 {
     match refuse_large(alloc, book)? {
-        Some(refusal) => answer_large(alloc, book, sets, wanted, refusal),
-        None => answer_method(alloc, book, sets, wanted),
+        Some(refusal) => answer_large(alloc, book, sets, wanted, refusal, watcher),
+        None => answer_method(alloc, book, sets, wanted, watcher),
     }
 }
 
@@ -72,6 +76,7 @@ fn answer_large(
     sets: &Sets,
     wanted: Wanted,
     refusal: Answer,
+    watcher: &mut dyn Watcher,
 ) -> Result<Answer, AllocError>
     requires listed { IsListedBook sets.now book.now.rows book.now.vars }
     requires large { PassesLimits book.now.rows book.now.vars refusal.status refusal.text.items }
@@ -80,7 +85,7 @@ fn answer_large(
 {
     match wanted.method {
         SolveMethod::Exact => Ok(refusal),
-        SolveMethod::Rounded => match answer_guessed(alloc, book, sets, wanted)? {
+        SolveMethod::Rounded => match answer_guessed(alloc, book, sets, wanted, watcher)? {
             Some(answer) => Ok(answer),
             None => Ok(refusal),
         },
@@ -94,6 +99,7 @@ fn answer_guessed(
     book: &RowBook,
     sets: &Sets,
     wanted: Wanted,
+    watcher: &mut dyn Watcher,
 ) -> Result<Option<Answer>, AllocError>
     requires listed { IsListedBook sets.now book.now.rows book.now.vars }
     requires asked { wanted.method ≡ Rounded }
@@ -102,12 +108,13 @@ fn answer_guessed(
 {
     // The rows and the variables of a book are what its answers speak of.
     let _ = book.vars();
+    watcher.see(Stage::Elimination);
     let program = match eliminate_book(alloc, book) {
         Ok(program) => program,
         Err(Stopped::Width(_)) => return Ok(None),
         Err(Stopped::Memory) => return Err(AllocError),
     };
-    match guess_explanation(alloc, book, &program, wanted)? {
+    match guess_explanation(alloc, book, &program, wanted, watcher)? {
         Some(found) => {
             let answer = answer_found(alloc, book, sets, &found)?;
             Ok(Some(answer))
@@ -122,6 +129,7 @@ fn answer_method(
     book: &RowBook,
     sets: &Sets,
     wanted: Wanted,
+    watcher: &mut dyn Watcher,
 ) -> Result<Answer, AllocError>
     requires { IsListedBook sets.now book.now.rows book.now.vars }
     ensures { (places : ℕ) (d : Data) → sets.now ≡ d.sets → IsBookOf places d book.now.rows book.now.vars
@@ -129,8 +137,9 @@ fn answer_method(
 {
     // The rows and the variables of a book are what its answers speak of.
     let _ = book.vars();
+    watcher.see(Stage::Elimination);
     match eliminate_book(alloc, book) {
-        Ok(program) => answer_program(alloc, book, sets, &program, wanted),
+        Ok(program) => answer_program(alloc, book, sets, &program, wanted, watcher),
         Err(stop) => stop_on_elimination(alloc, book, sets, stop),
     }
 }
@@ -142,6 +151,7 @@ fn answer_program(
     sets: &Sets,
     program: &BookProgram,
     wanted: Wanted,
+    watcher: &mut dyn Watcher,
 ) -> Result<Answer, AllocError>
     requires listed { IsListedBook sets.now book.now.rows book.now.vars }
     requires program { IsProgramOf book.now.rows book.now.vars program.now }
@@ -151,7 +161,7 @@ fn answer_program(
 {
     // The rows and the variables of a book are what the places of the trials speak of.
     let _ = book.vars();
-    match explain_book(alloc, book, program, wanted) {
+    match explain_book(alloc, book, program, wanted, watcher) {
         Ok(found) => answer_found(alloc, book, sets, &found),
         Err(ExplainFail::Stopped(stop)) => answer_stop(alloc, stop, sets),
         Err(ExplainFail::Memory) => Err(AllocError),
@@ -164,6 +174,7 @@ fn explain_book(
     book: &RowBook,
     program: &BookProgram,
     wanted: Wanted,
+    watcher: &mut dyn Watcher,
 ) -> Result<Option<Conflict>, ExplainFail>
     requires program { IsProgramOf book.now.rows book.now.vars program.now }
     requires fits { first_wide (elimination_steps book.now.rows (definers book.now.rows)) ≡ None }
@@ -172,8 +183,11 @@ fn explain_book(
     let problem = problem_of(book, program);
     let pivots = u64::from(wanted.pivots);
     match wanted.method {
-        SolveMethod::Exact => explain(alloc, &problem, pivots),
-        SolveMethod::Rounded => explain_rounded(alloc, &problem, pivots),
+        SolveMethod::Exact => {
+            watcher.see(Stage::Exact);
+            explain(alloc, &problem, pivots)
+        }
+        SolveMethod::Rounded => explain_rounded(alloc, &problem, pivots, watcher),
     }
 }
 
@@ -183,10 +197,11 @@ fn guess_explanation(
     book: &RowBook,
     program: &BookProgram,
     wanted: Wanted,
+    watcher: &mut dyn Watcher,
 ) -> Result<Option<Option<Conflict>>, AllocError>
     requires { IsProgramOf book.now.rows book.now.vars program.now }
     ensures { IfOk result (λ given. IfSome given (FindingTells Rounded book.now.rows book.now.vars wanted.pivots)) }
 {
     let problem = problem_of(book, program);
-    explain_guessed(alloc, &problem, u64::from(wanted.pivots))
+    explain_guessed(alloc, &problem, u64::from(wanted.pivots), watcher)
 }

@@ -1,9 +1,12 @@
 //! The program: its words are those after its name, its files those of the system, and its text goes to the
-//! standard output. Its exit status is that of the call.
+//! standard output. Its exit status is that of the call. While it works, a line on standard error says where it is, if that is a terminal.
 #![tactic(auto)]
 
+mod progress_line;
+
 use io_edges::{DiskShelf, OutSink};
-use osemosys_run::osemosys;
+use osemosys_run::osemosys_watched;
+use progress_line::ProgressLine;
 use std::io::ErrorKind;
 use std::process::ExitCode;
 use std::{env, io};
@@ -19,7 +22,9 @@ fn main(rt: HostRuntime) -> ExitCode {
         Ok(words) => {
             let mut shelf = DiskShelf::new(&rt);
             let mut out = OutSink::new(&rt);
-            let status = osemosys(rt.alloc(), &words, &mut shelf, &mut out);
+            let mut line = ProgressLine::new(&rt);
+            let status = osemosys_watched(rt.alloc(), &words, &mut shelf, &mut out, &mut line);
+            line.remove();
             ExitCode::from(status.code())
         }
         Err(e) if e.kind() == ErrorKind::OutOfMemory => ExitCode::from(OUT_OF_MEMORY),

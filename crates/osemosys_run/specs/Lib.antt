@@ -11,6 +11,7 @@ pub mod ReadEnds
 pub mod ReadToEnd
 pub mod Reading
 pub mod Replies
+pub mod Runs
 pub mod Scenarios
 pub mod Sending
 pub mod Tasks

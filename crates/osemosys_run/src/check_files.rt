@@ -13,6 +13,7 @@ ghost use Rattle.osemosys_run.specs.Reading.{sight};
 
 use crate::file_ends::refuse_file;
 use crate::reading::{feed_file, read_file};
+use call_stages::{Stage, Watcher};
 use check_command::{Claim, answer_check};
 use command_answers::{Answer, accept_read};
 use io_edges::Shelf;
@@ -42,6 +43,7 @@ pub fn perform_check<S: Shelf>(
     alloc: Global,
     asked: Asked<'_>,
     shelf: &mut S,
+    watcher: &mut dyn Watcher,
 ) -> Result<Answer, AllocError>
     requires { IsPlaces asked.places }
     ensures caused { IfOk result (λ answer. CausedByRequest (Ok (check_asked asked.entry))
@@ -54,7 +56,7 @@ pub fn perform_check<S: Shelf>(
     ensures faults { S.faults shelf.old ≤ S.faults shelf.new }
 {
     match feed_file(alloc, asked.file, shelf) {
-        Ok(reader) => check_plan_file(alloc, reader, asked, shelf),
+        Ok(reader) => check_plan_file(alloc, reader, asked, shelf, watcher),
         Err(end) => refuse_file(alloc, DATA_FILE, end),
     }
 }
@@ -65,6 +67,7 @@ fn check_plan_file<S: Shelf>(
     reader: PieceReader,
     asked: Asked<'_>,
     shelf: &mut S,
+    watcher: &mut dyn Watcher,
 ) -> Result<Answer, AllocError>
     requires stands { (text : List ℕ) × StandsFor reader text }
     requires places { IsPlaces asked.places }
@@ -80,7 +83,7 @@ fn check_plan_file<S: Shelf>(
     ensures faults { S.faults shelf.old ≤ S.faults shelf.new }
 {
     match read_file(alloc, asked.plan, shelf) {
-        Ok(plan) => check_multiplier_file(alloc, reader, &plan, asked, shelf),
+        Ok(plan) => check_multiplier_file(alloc, reader, &plan, asked, shelf, watcher),
         Err(end) => refuse_file(alloc, PLAN_FILE, end),
     }
 }
@@ -92,6 +95,7 @@ fn check_multiplier_file<S: Shelf>(
     plan: &[u8],
     asked: Asked<'_>,
     shelf: &mut S,
+    watcher: &mut dyn Watcher,
 ) -> Result<Answer, AllocError>
     requires stands { (text : List ℕ) × StandsFor reader text }
     requires places { IsPlaces asked.places }
@@ -115,7 +119,7 @@ fn check_multiplier_file<S: Shelf>(
                 multipliers,
                 gap,
             };
-            answer_read(alloc, reader, asked.places, claim)
+            answer_read(alloc, reader, asked.places, claim, watcher)
         }
         Some(name) => match read_file(alloc, name, shelf) {
             Ok(bytes) => {
@@ -125,7 +129,7 @@ fn check_multiplier_file<S: Shelf>(
                     multipliers,
                     gap,
                 };
-                answer_read(alloc, reader, asked.places, claim)
+                answer_read(alloc, reader, asked.places, claim, watcher)
             }
             Err(end) => refuse_file(alloc, MULTIPLIER_FILE, end),
         },
@@ -138,6 +142,7 @@ fn answer_read(
     reader: PieceReader,
     places: u8,
     claim: Claim<'_, '_>,
+    watcher: &mut dyn Watcher,
 ) -> Result<Answer, AllocError>
     requires stands { (text : List ℕ) × StandsFor reader text }
     requires places { IsPlaces places }
@@ -145,7 +150,10 @@ fn answer_read(
         DueForText (λ rounded. DueForCheck places claim.entry.plan.now (option_map (λ text. text.now) claim.entry.multipliers) claim.entry.gap) text answer.status answer.text.items) }
 {
     match accept_read(alloc, reader)? {
-        Ok(model) => answer_check(alloc, &model, places, claim),
+        Ok(model) => {
+            watcher.see(Stage::Checks);
+            answer_check(alloc, &model, places, claim)
+        }
         Err(answer) => Ok(answer),
     }
 }

@@ -12,6 +12,7 @@ ghost use Rattle.osemosys_run.specs.Scenarios.{CausedByFourFiles, DueForFourFile
 use crate::compared::answer_pairs;
 use crate::file_ends::refuse_file;
 use crate::reading::{feed_file, read_file};
+use call_stages::{Stage, Watcher};
 use command_answers::Answer;
 use command_words::CompareShow;
 use io_edges::Shelf;
@@ -48,6 +49,7 @@ pub fn perform_compare<S: Shelf>(
     alloc: Global,
     asked: CompareAsked<'_>,
     shelf: &mut S,
+    watcher: &mut dyn Watcher,
 ) -> Result<Answer, AllocError>
     requires { IsPlaces asked.places }
     ensures caused { IfOk result (λ answer. CausedByFourFiles (DueForCompared asked.entry.places asked.entry.gap asked.entry.show)
@@ -61,7 +63,7 @@ pub fn perform_compare<S: Shelf>(
     ensures faults { S.faults shelf.old ≤ S.faults shelf.new }
 {
     match read_pair(alloc, FIRST_FILE, asked.first, asked.first_proof, shelf)? {
-        Ok(first) => perform_second(alloc, first, asked, shelf),
+        Ok(first) => perform_second(alloc, first, asked, shelf, watcher),
         Err(answer) => Ok(answer),
     }
 }
@@ -72,6 +74,7 @@ fn perform_second<S: Shelf>(
     first: Pair,
     asked: CompareAsked<'_>,
     shelf: &mut S,
+    watcher: &mut dyn Watcher,
 ) -> Result<Answer, AllocError>
     requires stands { (text : List ℕ) × StandsFor first.reader text × (length text ≤ most_bytes) }
     requires places { IsPlaces asked.places }
@@ -89,7 +92,10 @@ fn perform_second<S: Shelf>(
     ensures faults { S.faults shelf.old ≤ S.faults shelf.new }
 {
     match read_pair(alloc, SECOND_FILE, asked.second, asked.second_proof, shelf)? {
-        Ok(second) => answer_pairs(alloc, asked, first, second),
+        Ok(second) => {
+            watcher.see(Stage::Checks);
+            answer_pairs(alloc, asked, first, second)
+        }
         Err(answer) => Ok(answer),
     }
 }

@@ -28,4 +28,4 @@ mod two_files;
 mod warned;
 
 pub use command_answers::{ReadStop, Refusal, Status, Stop, TrialStop, WordFault};
-pub use run::osemosys;
+pub use run::{osemosys, osemosys_watched};

@@ -5,6 +5,7 @@ ghost use Rattle.command_answers.specs.DueForText.{DueForText};
 ghost use Rattle.command_answers.specs.Accepted.{most_bytes};
 ghost use Rattle.solve_command.specs.Summary.{DueForSummary, default_places, made_line};
 
+use call_stages::Watcher;
 use command_answers::{Answer, Status, accept, push_with_number};
 use command_words::MakeShow;
 use model_maker::make;
@@ -15,7 +16,12 @@ use std::alloc::{AllocError, Global};
 const DEFAULT_PLACES: u8 = 6;
 
 /// The answer of `make` of this size, which is from 3 to 122.
-pub fn perform_make(alloc: Global, size: u32, show: MakeShow) -> Result<Answer, AllocError>
+pub fn perform_make(
+    alloc: Global,
+    size: u32,
+    show: MakeShow,
+    watcher: &mut dyn Watcher,
+) -> Result<Answer, AllocError>
     requires least { 3 ≤ size }
     requires most { size ≤ 122 }
     ensures { IfOk result (λ answer. DueForMake size show answer.status answer.text.items) }
@@ -26,30 +32,39 @@ pub fn perform_make(alloc: Global, size: u32, show: MakeShow) -> Result<Answer, 
             let status = Status::Done;
             Ok(Answer { status, text })
         }
-        MakeShow::Summary => summarize(alloc, size, text),
+        MakeShow::Summary => summarize(alloc, size, text, watcher),
     }
 }
 
 // The size, and then what is due over the text of the file that was made.
-fn summarize(alloc: Global, size: u32, made: Vec<u8>) -> Result<Answer, AllocError>
+fn summarize(
+    alloc: Global,
+    size: u32,
+    made: Vec<u8>,
+    watcher: &mut dyn Watcher,
+) -> Result<Answer, AllocError>
     requires { length made.items ≤ most_bytes }
     ensures { IfOk result (λ answer. (rest : List ℕ) × DueForText (DueForSummary default_places) made.items answer.status rest
         × (answer.text.items ≡ made_line size ++ rest)) }
 {
     let mut text = made_line(alloc, size)?;
-    let answer = answer_made(alloc, made)?;
+    let answer = answer_made(alloc, made, watcher)?;
     text.extend_from_slice(&answer.text)?;
     let status = answer.status;
     Ok(Answer { status, text })
 }
 
 // What comes of the text of the file that was made. The text is gone before the first row is made.
-fn answer_made(alloc: Global, made: Vec<u8>) -> Result<Answer, AllocError>
+fn answer_made(
+    alloc: Global,
+    made: Vec<u8>,
+    watcher: &mut dyn Watcher,
+) -> Result<Answer, AllocError>
     requires { length made.items ≤ most_bytes }
     ensures { IfOk result (λ answer. DueForText (DueForSummary default_places) made.items answer.status answer.text.items) }
 {
     match accept(alloc, made)? {
-        Ok(model) => answer_summary(alloc, &model, DEFAULT_PLACES),
+        Ok(model) => answer_summary(alloc, &model, DEFAULT_PLACES, watcher),
         Err(answer) => Ok(answer),
     }
 }

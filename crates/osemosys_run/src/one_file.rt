@@ -14,6 +14,7 @@ ghost use Rattle.osemosys_run.specs.Tasks.{CausedByOneFile, DueForAsked, DueForS
 use crate::file_ends::refuse_file;
 use crate::reading::feed_file;
 use crate::warned::answer_warned;
+use call_stages::{Stage, Watcher};
 use command_answers::{Answer, accept_read};
 use curve_command::answer_curve;
 use explain_command::answer_explain;
@@ -71,6 +72,7 @@ pub fn perform_task<S: Shelf>(
     task: Task<'_>,
     places: u8,
     shelf: &mut S,
+    watcher: &mut dyn Watcher,
 ) -> Result<Answer, AllocError>
     requires places { IsPlaces places }
     requires limits { HasLimits task }
@@ -84,7 +86,7 @@ pub fn perform_task<S: Shelf>(
     ensures faults { S.faults shelf.old ≤ S.faults shelf.new }
 {
     match feed_file(alloc, file, shelf) {
-        Ok(reader) => answer_read(alloc, reader, task, places),
+        Ok(reader) => answer_read(alloc, reader, task, places, watcher),
         Err(end) => refuse_file(alloc, DATA_FILE, end),
     }
 }
@@ -95,6 +97,7 @@ fn answer_read(
     reader: PieceReader,
     task: Task<'_>,
     places: u8,
+    watcher: &mut dyn Watcher,
 ) -> Result<Answer, AllocError>
     requires stands { (text : List ℕ) × StandsFor reader text }
     requires places { IsPlaces places }
@@ -104,11 +107,14 @@ fn answer_read(
 {
     match accept_read(alloc, reader)? {
         Ok(model) => match task {
-            Task::Solve(wanted) => answer_solve(alloc, &model, places, wanted),
-            Task::Explain(wanted) => answer_explain(alloc, &model, places, wanted),
-            Task::Curve(asked) => answer_asked(alloc, &model, asked, places),
-            Task::Span(asked) => answer_span_asked(alloc, &model, asked, places),
-            Task::Reduce => answer_reduce(alloc, &model, places),
+            Task::Solve(wanted) => answer_solve(alloc, &model, places, wanted, watcher),
+            Task::Explain(wanted) => answer_explain(alloc, &model, places, wanted, watcher),
+            Task::Curve(asked) => answer_asked(alloc, &model, asked, places, watcher),
+            Task::Span(asked) => answer_span_asked(alloc, &model, asked, places, watcher),
+            Task::Reduce => {
+                watcher.see(Stage::Rows);
+                answer_reduce(alloc, &model, places)
+            }
             Task::Warn => answer_warned(alloc, &model),
         },
         Err(answer) => Ok(answer),
@@ -121,6 +127,7 @@ fn answer_asked(
     model: &ModelData,
     asked: CurveAsked<'_>,
     places: u8,
+    watcher: &mut dyn Watcher,
 ) -> Result<Answer, AllocError>
     requires places { IsPlaces places }
     requires limits { AllByRecursion IsLimit asked.limits.now }
@@ -134,6 +141,7 @@ fn answer_asked(
         asked.region,
         asked.emission,
         asked.limits,
+        watcher,
     )
 }
 
@@ -143,6 +151,7 @@ fn answer_span_asked(
     model: &ModelData,
     asked: SpanAsked<'_>,
     places: u8,
+    watcher: &mut dyn Watcher,
 ) -> Result<Answer, AllocError>
     requires { IsPlaces places }
     ensures { (d : Data) → AreSameData model.now.facts d → IfOk result (λ answer. DueForSpanAsked asked.entry places model.now.rounded d answer.status answer.text.items) }
@@ -155,5 +164,6 @@ fn answer_span_asked(
         asked.region,
         asked.technology,
         asked.year,
+        watcher,
     )
 }

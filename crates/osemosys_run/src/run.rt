@@ -46,6 +46,7 @@ ghost use Rattle.osemosys_run.specs.Promised.{IsPromisedTable};
 ghost use Rattle.osemosys_run.specs.Reading.{sight};
 ghost use Rattle.osemosys_run.specs.ReadToEnd.{IsReadToEnd, ReadsWhole};
 ghost use Rattle.osemosys_run.specs.Replies.{DueForReply, IsAskedBy};
+ghost use Rattle.osemosys_run.specs.Runs.{IsRun};
 ghost use Rattle.osemosys_run.specs.Sending.{Delivers};
 ghost use Rattle.osemosys_run.specs.Warned.{IsWarned};
 ghost use Rattle.data_warnings.specs.Findings.{findings};
@@ -67,6 +68,7 @@ use crate::promised::promised_laws;
 use crate::reply::{Reply, deliver};
 use crate::two_files::{PageAsked, TableAsked, TwoFileTask, TwoFilesAsked, perform_two_files};
 use crate::warned::warned_laws;
+use call_stages::{Stage, Unwatched, Watcher};
 use command_answers::{Status, acceptance_laws, refuse_words};
 use command_words::{Command, SolveMethod, read_command, spelled_parts};
 use io_edges::{Shelf, Sink};
@@ -265,14 +267,50 @@ pub fn osemosys<S: Shelf, K: Sink>(
     difference_laws();
     warned_laws();
     accepting_laws();
-    match perform(alloc, words, shelf) {
-        Ok(reply) => deliver(alloc, reply, out),
+    osemosys_watched(alloc, words, shelf, out, &mut Unwatched)
+}
+
+/// Runs the program as `osemosys` does, and tells a watcher where it is meanwhile. What it answers doesn't depend on that: each clause is the
+/// one of `osemosys` that has its name. The laws that stand there hold without any call.
+pub fn osemosys_watched<S: Shelf, K: Sink>(
+    alloc: Global,
+    words: &[String],
+    shelf: &mut S,
+    out: &mut K,
+    watcher: &mut dyn Watcher,
+) -> Status
+    ensures { IsRun (map string_bytes words.now)
+        (sight (S.files shelf.old) (S.rest shelf.old) (S.faults shelf.old) (S.begins shelf.old)
+        (S.taken shelf.old) (S.moved shelf.old))
+        (sight (S.files shelf.new) (S.rest shelf.new) (S.faults shelf.new) (S.begins shelf.new)
+        (S.taken shelf.new) (S.moved shelf.new))
+        result
+        (output (K.written out.old) (K.accepted out.old)) (output (K.written out.new) (K.accepted out.new))
+        (K.faults out.old) (K.faults out.new) }
+{
+    // What ends has a cause by these laws.
+    verdict_laws();
+    acceptance_laws();
+    stop_laws();
+    telling_laws();
+    proof_telling_laws();
+    watcher.see(Stage::Reading);
+    match perform(alloc, words, shelf, watcher) {
+        Ok(reply) => {
+            watcher.see(Stage::Writing);
+            deliver(alloc, reply, out)
+        }
         Err(_) => Status::Memory,
     }
 }
 
 // What is to be sent for the words, with what the shelf holds.
-fn perform<S: Shelf>(alloc: Global, words: &[String], shelf: &mut S) -> Result<Reply, AllocError>
+fn perform<S: Shelf>(
+    alloc: Global,
+    words: &[String],
+    shelf: &mut S,
+    watcher: &mut dyn Watcher,
+) -> Result<Reply, AllocError>
     ensures caused { IfOk result (λ reply. (status : Status) (text : List ℕ) → DueForReply reply status text → Caused (map string_bytes words.now)
         (sight (S.files shelf.old) (S.rest shelf.old) (S.faults shelf.old) (S.begins shelf.old)
         (S.taken shelf.old) (S.moved shelf.old))
@@ -296,7 +334,7 @@ fn perform<S: Shelf>(alloc: Global, words: &[String], shelf: &mut S) -> Result<R
             },
         ) => {
             let task = Task::Solve(wanted_by(gap, pivots, show, method));
-            let answer = perform_task(alloc, file, task, places, shelf)?;
+            let answer = perform_task(alloc, file, task, places, shelf, watcher)?;
             Ok(Reply::Told(answer))
         }
         Ok(
@@ -308,7 +346,7 @@ fn perform<S: Shelf>(alloc: Global, words: &[String], shelf: &mut S) -> Result<R
             },
         ) => {
             let task = Task::Explain(explain_command::Wanted { pivots, method });
-            let answer = perform_task(alloc, file, task, places, shelf)?;
+            let answer = perform_task(alloc, file, task, places, shelf, watcher)?;
             Ok(Reply::Told(answer))
         }
         Ok(
@@ -334,7 +372,7 @@ fn perform<S: Shelf>(alloc: Global, words: &[String], shelf: &mut S) -> Result<R
                 limits: &limits,
                 wanted,
             });
-            let answer = perform_task(alloc, file, task, places, shelf)?;
+            let answer = perform_task(alloc, file, task, places, shelf, watcher)?;
             Ok(Reply::Told(answer))
         }
         Ok(
@@ -362,19 +400,19 @@ fn perform<S: Shelf>(alloc: Global, words: &[String], shelf: &mut S) -> Result<R
                 year,
                 wanted,
             });
-            let answer = perform_task(alloc, file, task, places, shelf)?;
+            let answer = perform_task(alloc, file, task, places, shelf, watcher)?;
             Ok(Reply::Told(answer))
         }
         Ok(Command::Reduce { file, places }) => {
-            let answer = perform_task(alloc, file, Task::Reduce, places, shelf)?;
+            let answer = perform_task(alloc, file, Task::Reduce, places, shelf, watcher)?;
             Ok(Reply::Told(answer))
         }
         Ok(Command::Warn { file }) => {
-            let answer = perform_task(alloc, file, Task::Warn, UNUSED_PLACES, shelf)?;
+            let answer = perform_task(alloc, file, Task::Warn, UNUSED_PLACES, shelf, watcher)?;
             Ok(Reply::Told(answer))
         }
         Ok(Command::Make { size, show }) => {
-            let answer = perform_make(alloc, size, show)?;
+            let answer = perform_make(alloc, size, show, watcher)?;
             Ok(Reply::Told(answer))
         }
         Ok(
@@ -393,7 +431,7 @@ fn perform<S: Shelf>(alloc: Global, words: &[String], shelf: &mut S) -> Result<R
                 gap,
                 places,
             };
-            let answer = perform_check(alloc, asked, shelf)?;
+            let answer = perform_check(alloc, asked, shelf, watcher)?;
             Ok(Reply::Told(answer))
         }
         Ok(
@@ -410,7 +448,7 @@ fn perform<S: Shelf>(alloc: Global, words: &[String], shelf: &mut S) -> Result<R
                 task: TwoFileTask::Check { gap },
                 places,
             };
-            let answer = perform_two_files(alloc, asked, shelf)?;
+            let answer = perform_two_files(alloc, asked, shelf, watcher)?;
             Ok(Reply::Told(answer))
         }
         Ok(
@@ -430,7 +468,7 @@ fn perform<S: Shelf>(alloc: Global, words: &[String], shelf: &mut S) -> Result<R
                 task,
                 places,
             };
-            let answer = perform_two_files(alloc, asked, shelf)?;
+            let answer = perform_two_files(alloc, asked, shelf, watcher)?;
             Ok(Reply::Told(answer))
         }
         Ok(
@@ -448,7 +486,7 @@ fn perform<S: Shelf>(alloc: Global, words: &[String], shelf: &mut S) -> Result<R
                 task,
                 places,
             };
-            let answer = perform_two_files(alloc, asked, shelf)?;
+            let answer = perform_two_files(alloc, asked, shelf, watcher)?;
             Ok(Reply::Told(answer))
         }
         Ok(
@@ -468,7 +506,7 @@ fn perform<S: Shelf>(alloc: Global, words: &[String], shelf: &mut S) -> Result<R
                 task: TwoFileTask::Solve(wanted),
                 places,
             };
-            let answer = perform_two_files(alloc, asked, shelf)?;
+            let answer = perform_two_files(alloc, asked, shelf, watcher)?;
             Ok(Reply::Told(answer))
         }
         Ok(
@@ -491,7 +529,7 @@ fn perform<S: Shelf>(alloc: Global, words: &[String], shelf: &mut S) -> Result<R
                 places,
                 show,
             };
-            let answer = perform_compare(alloc, asked, shelf)?;
+            let answer = perform_compare(alloc, asked, shelf, watcher)?;
             Ok(Reply::Told(answer))
         }
         Err(fault) => {

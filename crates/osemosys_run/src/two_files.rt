@@ -13,6 +13,7 @@ use crate::file_ends::refuse_file;
 use crate::page_file::answer_paged;
 use crate::reading::{feed_file, read_file};
 use crate::table_file::answer_table;
+use call_stages::{Stage, Watcher};
 use check_command::answer_proof;
 use command_answers::{Answer, accept_read};
 use io_edges::Shelf;
@@ -68,6 +69,7 @@ pub fn perform_two_files<S: Shelf>(
     alloc: Global,
     asked: TwoFilesAsked<'_>,
     shelf: &mut S,
+    watcher: &mut dyn Watcher,
 ) -> Result<Answer, AllocError>
     requires { IsPlaces asked.places }
     ensures caused { IfOk result (λ answer. CausedByTwoFiles (DueForTwoFileTask asked.entry.task asked.entry.places) asked.entry.file.now asked.entry.second.now
@@ -80,7 +82,7 @@ pub fn perform_two_files<S: Shelf>(
     ensures faults { S.faults shelf.old ≤ S.faults shelf.new }
 {
     match feed_file(alloc, asked.file, shelf) {
-        Ok(reader) => answer_fed(alloc, reader, asked, shelf),
+        Ok(reader) => answer_fed(alloc, reader, asked, shelf, watcher),
         Err(end) => refuse_file(alloc, DATA_FILE, end),
     }
 }
@@ -91,6 +93,7 @@ fn answer_fed<S: Shelf>(
     reader: PieceReader,
     asked: TwoFilesAsked<'_>,
     shelf: &mut S,
+    watcher: &mut dyn Watcher,
 ) -> Result<Answer, AllocError>
     requires stands { (text : List ℕ) × StandsFor reader text }
     requires places { IsPlaces asked.places }
@@ -106,7 +109,7 @@ fn answer_fed<S: Shelf>(
     ensures faults { S.faults shelf.old ≤ S.faults shelf.new }
 {
     match read_file(alloc, asked.second, shelf) {
-        Ok(second) => answer_read(alloc, reader, asked.task, asked.places, &second),
+        Ok(second) => answer_read(alloc, reader, asked.task, asked.places, &second, watcher),
         Err(end) => refuse_file(alloc, SECOND_FILE, end),
     }
 }
@@ -118,6 +121,7 @@ fn answer_read(
     task: TwoFileTask<'_>,
     places: u8,
     second: &[u8],
+    watcher: &mut dyn Watcher,
 ) -> Result<Answer, AllocError>
     requires stands { (text : List ℕ) × StandsFor reader text }
     requires places { IsPlaces places }
@@ -126,10 +130,21 @@ fn answer_read(
 {
     match accept_read(alloc, reader)? {
         Ok(model) => match task {
-            TwoFileTask::Check { gap } => answer_proof(alloc, &model, places, second, gap),
-            TwoFileTask::Table(asked) => answer_table(alloc, &model, places, second, asked),
-            TwoFileTask::Page(asked) => answer_paged(alloc, &model, places, second, asked),
-            TwoFileTask::Solve(wanted) => answer_from(alloc, &model, places, wanted, second),
+            TwoFileTask::Check { gap } => {
+                watcher.see(Stage::Checks);
+                answer_proof(alloc, &model, places, second, gap)
+            }
+            TwoFileTask::Table(asked) => {
+                watcher.see(Stage::Checks);
+                answer_table(alloc, &model, places, second, asked)
+            }
+            TwoFileTask::Page(asked) => {
+                watcher.see(Stage::Checks);
+                answer_paged(alloc, &model, places, second, asked)
+            }
+            TwoFileTask::Solve(wanted) => answer_from(
+                alloc, &model, places, wanted, second, watcher,
+            ),
         },
         Err(answer) => Ok(answer),
     }

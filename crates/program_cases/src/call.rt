@@ -1,9 +1,10 @@
 //! One call of the program.
 
 use crate::cases::read_case;
+use crate::seen_stages::SeenStages;
 use crate::shown::print_shown;
 use io_edges::{DiskShelf, MemSink};
-use osemosys_run::{Status, osemosys};
+use osemosys_run::{Status, osemosys_watched};
 use std::io;
 
 /// The room of a text.
@@ -14,9 +15,14 @@ pub fn print_case(rt: &HostRuntime, line: &str) -> io::Result<()> {
     let case = read_case(rt.alloc(), line)?;
     let mut shelf = DiskShelf::new(rt);
     let mut out = MemSink::new(rt.alloc(), ROOM, &[])?;
-    let status = osemosys(rt.alloc(), &case.words, &mut shelf, &mut out);
+    let mut seen = SeenStages::new(rt.alloc());
+    let status = osemosys_watched(rt.alloc(), &case.words, &mut shelf, &mut out, &mut seen);
     println!(rt; "== {}", case.name)?;
     print_status(rt, &status)?;
+    if case.shown == "stages" {
+        println!(rt; "stages{}", seen.text())?;
+        return Ok(());
+    }
     let text = std::str::from_utf8(out.bytes()).unwrap_or("not UTF-8\n");
     print_shown(rt, case.shown, text)
 }

@@ -1,5 +1,5 @@
 //! The lines of the file of cases: `NAME|SHOWN|WORD|WORD..`. `SHOWN` is `all`, the number of lines that are shown from the beginning,
-//! or patterns of lines. Empty lines and those that begin with `#` are no cases.
+//! patterns of lines, or `stages`. Empty lines and those that begin with `#` are no cases.
 
 use std::alloc::{AllocError, Global};
 

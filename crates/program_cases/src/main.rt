@@ -4,6 +4,7 @@
 
 mod call;
 mod cases;
+mod seen_stages;
 mod shown;
 
 use crate::call::print_case;

@@ -5,6 +5,7 @@ ghost use Rattle.std.specs.Prelude.{◌≤◌, IfOk};
 use crate::choices::Pivot;
 use crate::ending::{Counts, End, PhaseEnd, Turn, most_turns};
 use crate::state::{State, UPDATES};
+use call_stages::{Stage, Watcher};
 use sparse_factors::{at, put};
 use std::alloc::AllocError;
 
@@ -21,7 +22,12 @@ pub(crate) const DRIFT: f64 = 1e-7;
 
 impl State {
     /// The dual phase, with at most `limit` pivots; by steepest edge, or with weights that only grow.
-    pub(crate) fn dual_phase(&mut self, steepest: bool, limit: u64) -> Result<PhaseEnd, AllocError>
+    pub(crate) fn dual_phase(
+        &mut self,
+        steepest: bool,
+        limit: u64,
+        watcher: &mut dyn Watcher,
+    ) -> Result<PhaseEnd, AllocError>
         ensures { IfOk result (λ p. p.pivots ≤ limit) }
     {
         let mut counts = Counts::new();
@@ -33,6 +39,10 @@ impl State {
                 }
                 self.shift_costs();
                 counts.since = 0;
+                watcher.see(Stage::Values {
+                    pivots: self.made,
+                    below: self.values_below(),
+                });
             }
             if counts.pivots >= limit {
                 break;

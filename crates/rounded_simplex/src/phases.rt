@@ -5,6 +5,7 @@ ghost use Rattle.std.specs.Prelude.{◌≤◌, IfOk};
 use crate::ending::{End, PhaseEnd};
 use crate::scaling::{exponent, power_of_two};
 use crate::state::State;
+use call_stages::Watcher;
 use sparse_factors::{at, put};
 use std::alloc::AllocError;
 
@@ -33,7 +34,12 @@ pub(crate) struct Finished {
 impl State {
     /// All phases, with at most `limit` pivots. Costs are raised at the start where it is that of all slacks, at which few steps would
     /// differ otherwise.
-    pub(crate) fn run(&mut self, from_slacks: bool, limit: u64) -> Result<Finished, AllocError>
+    pub(crate) fn run(
+        &mut self,
+        from_slacks: bool,
+        limit: u64,
+        watcher: &mut dyn Watcher,
+    ) -> Result<Finished, AllocError>
         ensures { IfOk result (λ f. f.pivots ≤ limit) }
     {
         if from_slacks {
@@ -48,7 +54,7 @@ impl State {
             });
         }
         self.shift_costs();
-        let mut dual = self.dual_phase(from_slacks, limit)?;
+        let mut dual = self.dual_phase(from_slacks, limit, watcher)?;
         let mut pivots = dual.pivots;
         for _ in 0..MOST_ROUNDS {
             let finish = match dual.end {
@@ -59,7 +65,7 @@ impl State {
             if let Some(finish) = finish {
                 return Ok(Finished { finish, pivots });
             }
-            let primal = self.primal_from_here(limit - pivots)?;
+            let primal = self.primal_from_here(limit - pivots, watcher)?;
             pivots += primal.pivots;
             match primal.end {
                 End::Optimal => {}
@@ -73,7 +79,7 @@ impl State {
             }
             self.shift_costs();
             self.reset_weights();
-            dual = self.dual_phase(false, limit - pivots)?;
+            dual = self.dual_phase(false, limit - pivots, watcher)?;
             pivots += dual.pivots;
         }
         Ok(Finished {
@@ -83,7 +89,11 @@ impl State {
     }
 
     /// The primal phase with its own costs.
-    fn primal_from_here(&mut self, limit: u64) -> Result<PhaseEnd, AllocError>
+    fn primal_from_here(
+        &mut self,
+        limit: u64,
+        watcher: &mut dyn Watcher,
+    ) -> Result<PhaseEnd, AllocError>
         ensures { IfOk result (λ p. p.pivots ≤ limit) }
     {
         for variable in 0..self.variables() {
@@ -96,7 +106,7 @@ impl State {
                 pivots: 0,
             });
         }
-        self.primal_phase(limit)
+        self.primal_phase(limit, watcher)
     }
 
     /// Takes the costs of the dual phase as they are.

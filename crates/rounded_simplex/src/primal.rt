@@ -6,12 +6,17 @@ use crate::choices::Pivot;
 use crate::dual::DRIFT;
 use crate::ending::{Counts, End, PhaseEnd, Turn, most_turns};
 use crate::state::{State, UPDATES, constant};
+use call_stages::{Stage, Watcher};
 use sparse_factors::{at, put};
 use std::alloc::AllocError;
 
 impl State {
     /// The primal phase, with at most `limit` pivots.
-    pub(crate) fn primal_phase(&mut self, limit: u64) -> Result<PhaseEnd, AllocError>
+    pub(crate) fn primal_phase(
+        &mut self,
+        limit: u64,
+        watcher: &mut dyn Watcher,
+    ) -> Result<PhaseEnd, AllocError>
         ensures { IfOk result (λ p. p.pivots ≤ limit) }
     {
         let mut counts = Counts::new();
@@ -22,6 +27,10 @@ impl State {
                     break;
                 }
                 counts.since = 0;
+                watcher.see(Stage::Costs {
+                    pivots: self.made,
+                    below: self.costs_below(),
+                });
             }
             if counts.pivots >= limit {
                 break;

@@ -7,6 +7,7 @@ use crate::phases::Finish;
 use crate::program::{Answer, Guess, LinearProgram};
 use crate::scaling::Scaled;
 use crate::state::{State, all_finite};
+use call_stages::Watcher;
 use sparse_factors::at;
 use std::alloc::{AllocError, Global};
 
@@ -22,6 +23,7 @@ pub fn guess(
     start: &[usize],
     tolerance: f64,
     pivots: u64,
+    watcher: &mut dyn Watcher,
 ) -> Result<Answer, AllocError>
     ensures values { IfOk result (IfSolved (λ g. length g.values.items ≡ length program.now.raised_costs.items)) }
     ensures multipliers { IfOk result (IfSolved (λ g. length g.multipliers.items ≡ length program.now.right_sides.items)) }
@@ -34,7 +36,7 @@ pub fn guess(
     let Some(mut state) = State::new(alloc, scaled, start, tolerance)? else {
         return Ok(Answer::GivenUp);
     };
-    let finished = state.run(start.is_empty(), pivots)?;
+    let finished = state.run(start.is_empty(), pivots, watcher)?;
     match finished.finish {
         Finish::NoPlan => return Ok(Answer::NoPlan),
         Finish::GivenUp => return Ok(Answer::GivenUp),

@@ -46,6 +46,8 @@ pub(crate) struct State {
     work: SparseVector,
     /// For rows that no update needs.
     unused: Vec<Entry>,
+    /// How many pivots were made.
+    pub(crate) made: u64,
 }
 
 impl State {
@@ -82,6 +84,7 @@ impl State {
             steepest: SparseVector::zeros(alloc, room)?,
             work: SparseVector::zeros(alloc, room)?,
             unused: Vec::new(alloc),
+            made: 0,
             program,
             tolerance,
             basis,
@@ -108,6 +111,16 @@ impl State {
             }
             None => Ok(false),
         }
+    }
+
+    /// What the values are below 0, all together.
+    pub(crate) fn values_below(&self) -> f64 {
+        below(&self.values)
+    }
+
+    /// What the reduced costs are below 0, all together.
+    pub(crate) fn costs_below(&self) -> f64 {
+        below(&self.reduced_costs)
     }
 
     /// Keeps the weights by variable.
@@ -308,6 +321,7 @@ impl State {
         let weight = at(&self.weights, slot, 1.0);
         put(&mut self.weights, added, weight);
         put(&mut self.weights, slot, 1.0);
+        self.made = self.made.saturating_add(1);
         Ok(())
     }
 }
@@ -329,6 +343,17 @@ fn mended_factors(
 /// Whether all numbers are finite.
 pub(crate) fn all_finite(numbers: &[f64]) -> bool {
     numbers.iter().all(|number| number.is_finite())
+}
+
+/// What numbers are below 0, all together.
+fn below(numbers: &[f64]) -> f64 {
+    let mut sum = 0.0;
+    for number in numbers {
+        if *number < 0.0 {
+            sum -= *number;
+        }
+    }
+    sum
 }
 
 /// So many times the same number.

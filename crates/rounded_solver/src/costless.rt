@@ -12,6 +12,7 @@ use crate::attempt::{Attempt, no_guess};
 use crate::certifying::certified;
 use crate::limit::limited_guess;
 use crate::tries::RoundedEnd;
+use call_stages::Watcher;
 use certified_answers::NoAnswer;
 use exact_num::Frac;
 use presolved_program::{Aim, Stop, prepare};
@@ -33,6 +34,7 @@ pub(crate) fn costless_plan(
     problem: &Problem<'_>,
     ppm: u32,
     pivots: u64,
+    watcher: &mut dyn Watcher,
 ) -> Result<Attempt, NoAnswer>
     requires { IsPosedProblem problem.now }
     ensures proved { IfOk result (IfFound (IsProvedWithin problem.now.rows.now problem.now.vars.now ppm)) }
@@ -40,13 +42,22 @@ pub(crate) fn costless_plan(
     ensures named { IfOk result (IfFound (IsNamed problem.now.rows.now)) }
     ensures made { IfOk result (IfFound (IsMadeWithin pivots)) }
 {
-    let end = costless_end(alloc, problem.reduced, pivots).map_err(no_guess)?;
-    let found = certified(alloc, problem, &end.values, &end.lambda, ppm, end.pivots)?;
-    Ok(Attempt::Found(found))
+    match costless_end(alloc, problem.reduced, pivots, watcher) {
+        Ok(end) => {
+            let found = certified(alloc, problem, &end.values, &end.lambda, ppm, end.pivots)?;
+            Ok(Attempt::Found(found))
+        }
+        Err(stop) => Err(no_guess(stop)),
+    }
 }
 
 /// The end of a guess at what costs nothing, with multipliers that are all 0.
-fn costless_end(alloc: Global, reduced: &Reduced, pivots: u64) -> Result<RoundedEnd, Stop>
+fn costless_end(
+    alloc: Global,
+    reduced: &Reduced,
+    pivots: u64,
+    watcher: &mut dyn Watcher,
+) -> Result<RoundedEnd, Stop>
     ensures made { IfOk result (λ end. end.pivots ≤ pivots) }
 {
     let smaller = prepare(alloc, reduced, Aim::Costless)?;
@@ -55,7 +66,7 @@ fn costless_end(alloc: Global, reduced: &Reduced, pivots: u64) -> Result<Rounded
     }
     let margins = margins_of(alloc, &smaller, PLACES, DIGITS)?;
     let asked = rounded_program(alloc, &smaller, &margins)?;
-    match limited_guess(alloc, &asked, pivots)? {
+    match limited_guess(alloc, &asked, pivots, watcher)? {
         Answer::Solved(guess) => {
             let values = values_of(alloc, &smaller, &margins, &guess.values)?;
             let lambda = zeros(alloc, reduced.rows.len())?;

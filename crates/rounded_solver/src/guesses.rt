@@ -5,10 +5,12 @@ ghost use Rattle.row_core.specs.Numbers.{ascends, keys_of};
 ghost use Rattle.row_core.specs.Order.{var_cmp};
 ghost use Rattle.rounded_solver.specs.Guesses.{IfValues};
 
-use crate::limit::limited_guess;
+use crate::limit::guess_from;
 use crate::plans::plan_of;
 use crate::refuting::make_guess;
+use crate::starting::{floats_of, starting_basis};
 use crate::tries::rounded_end;
+use call_stages::Watcher;
 use exact_num::Frac;
 use presolved_program::{Aim, Stop, prepare};
 use rounded_program::{margins_of, rounded_program, values_of};
@@ -40,27 +42,41 @@ pub struct GuessedOptimum {
     pub multipliers: Vec<Frac>,
 }
 
-/// Guesses at values of least cost, with so many decimals, by so many pivots at most. Refuses only out of memory.
+/// Guesses at values of least cost, with so many decimals, by so many pivots at most. It begins from `start`, a value for each column in
+/// order, of any accuracy, where there are any, and leaves those that it finds there, rounded, for the next guess, and none where it gives
+/// up. Refuses only out of memory.
 ///
 /// A value stands for each column, in order; that they meet the rows, or that no values do, has to be checked.
 pub fn guess_values(
     alloc: Global,
     reduced: &Reduced,
+    start: &mut Vec<f64>,
     places: i32,
     pivots: u64,
+    watcher: &mut dyn Watcher,
 ) -> Result<Guess, AllocError>
     requires { ascends var_cmp reduced.now.columns.items ≡ true }
     ensures { IfOk result (IfValues reduced.now.columns.items) }
 {
-    match values_guessed(alloc, reduced, places, pivots) {
+    match values_guessed(alloc, reduced, start, places, pivots, watcher) {
         Ok(guessed) => Ok(guessed),
-        Err(Stop::GivenUp) => Ok(Guess::Nothing),
+        Err(Stop::GivenUp) => {
+            start.clear();
+            Ok(Guess::Nothing)
+        }
         Err(Stop::Memory) => Err(AllocError),
     }
 }
 
 /// The same, where every number fits.
-fn values_guessed(alloc: Global, reduced: &Reduced, places: i32, pivots: u64) -> Result<Guess, Stop>
+fn values_guessed(
+    alloc: Global,
+    reduced: &Reduced,
+    start: &mut Vec<f64>,
+    places: i32,
+    pivots: u64,
+    watcher: &mut dyn Watcher,
+) -> Result<Guess, Stop>
     requires { ascends var_cmp reduced.now.columns.items ≡ true }
     ensures { IfOk result (IfValues reduced.now.columns.items) }
 {
@@ -70,34 +86,39 @@ fn values_guessed(alloc: Global, reduced: &Reduced, places: i32, pivots: u64) ->
     }
     let margins = margins_of(alloc, &smaller, places, DIGITS)?;
     let asked = rounded_program(alloc, &smaller, &margins)?;
-    match limited_guess(alloc, &asked, pivots)? {
+    let basis = starting_basis(alloc, &smaller, &asked, start)?;
+    match guess_from(alloc, &asked, &basis, pivots, watcher)? {
         Answer::Solved(guess) => {
             let values = values_of(alloc, &smaller, &margins, &guess.values)?;
+            *start = floats_of(alloc, &values)?;
             let plan = plan_of(alloc, reduced.columns.as_slice(), &values)?;
             Ok(Guess::Values(plan))
         }
         Answer::NoPlan => Ok(Guess::NoValues),
-        Answer::GivenUp => Ok(Guess::Nothing),
+        Answer::GivenUp => Err(Stop::GivenUp),
     }
 }
 
 /// Guesses at values of least cost with so many decimals, and at the multipliers that prove that cost with so many significant
-/// digits, by so many pivots at most. None where nothing is guessed. Refuses only out of memory.
+/// digits, by so many pivots at most. None where nothing is guessed. It begins from `start`, and leaves values there, as `guess_values`
+/// does. Refuses only out of memory.
 ///
 /// That the values meet the rows, and that the multipliers prove a cost near theirs, has to be checked. `TRIES` has the numbers of
 /// decimals and digits to be tried, in order.
 pub fn guess_optimum(
     alloc: Global,
     reduced: &Reduced,
+    start: &mut Vec<f64>,
     places: i32,
     digits: i32,
     pivots: u64,
+    watcher: &mut dyn Watcher,
 ) -> Result<Option<GuessedOptimum>, AllocError>
     requires { ascends var_cmp reduced.now.columns.items ≡ true }
     ensures values { IfOk result (λ found. IfSome found (λ guessed. keys_of guessed.values ≡ reduced.now.columns.items)) }
     ensures multipliers { IfOk result (λ found. IfSome found (λ guessed. length guessed.multipliers.items ≡ length reduced.now.rows.items)) }
 {
-    match optimum_guessed(alloc, reduced, places, digits, pivots) {
+    match optimum_guessed(alloc, reduced, start, places, digits, pivots, watcher) {
         Ok(guessed) => {
             if guessed.multipliers.len() == reduced.rows.len() {
                 Ok(Some(guessed))
@@ -105,7 +126,10 @@ pub fn guess_optimum(
                 Ok(None)
             }
         }
-        Err(Stop::GivenUp) => Ok(None),
+        Err(Stop::GivenUp) => {
+            start.clear();
+            Ok(None)
+        }
         Err(Stop::Memory) => Err(AllocError),
     }
 }
@@ -114,9 +138,11 @@ pub fn guess_optimum(
 fn optimum_guessed(
     alloc: Global,
     reduced: &Reduced,
+    start: &mut Vec<f64>,
     places: i32,
     digits: i32,
     pivots: u64,
+    watcher: &mut dyn Watcher,
 ) -> Result<GuessedOptimum, Stop>
     requires { ascends var_cmp reduced.now.columns.items ≡ true }
     ensures { IfOk result (λ guessed. keys_of guessed.values ≡ reduced.now.columns.items) }
@@ -125,7 +151,7 @@ fn optimum_guessed(
     if smaller.is_false() {
         return Err(Stop::GivenUp);
     }
-    let Some(end) = rounded_end(alloc, &smaller, places, digits, pivots)? else {
+    let Some(end) = rounded_end(alloc, &smaller, start, places, digits, pivots, watcher)? else {
         return Err(Stop::GivenUp);
     };
     let values = plan_of(alloc, reduced.columns.as_slice(), &end.values)?;
@@ -144,10 +170,11 @@ pub fn guess_multipliers(
     reduced: &Reduced,
     digits: i32,
     pivots: u64,
+    watcher: &mut dyn Watcher,
 ) -> Result<Option<Vec<Frac>>, AllocError>
     ensures { IfOk result (λ found. IfSome found (λ lambda. length lambda.items ≡ length reduced.now.rows.items)) }
 {
-    match multipliers_guessed(alloc, reduced, digits, pivots) {
+    match multipliers_guessed(alloc, reduced, digits, pivots, watcher) {
         Ok(lambda) => {
             if lambda.len() == reduced.rows.len() && has_some(&lambda) {
                 Ok(Some(lambda))
@@ -166,9 +193,10 @@ fn multipliers_guessed(
     reduced: &Reduced,
     digits: i32,
     pivots: u64,
+    watcher: &mut dyn Watcher,
 ) -> Result<Vec<Frac>, Stop> {
     let smaller = prepare(alloc, reduced, Aim::Refutation)?;
-    let guessed = make_guess(alloc, &smaller, digits, pivots)?;
+    let guessed = make_guess(alloc, &smaller, digits, pivots, watcher)?;
     Ok(guessed.lambda)
 }
 

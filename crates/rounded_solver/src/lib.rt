@@ -22,4 +22,5 @@ mod tries;
 pub use guesses::{Guess, GuessedOptimum, guess_multipliers, guess_optimum, guess_values};
 pub use short_tries::guessed_rows;
 pub use solving::guessed;
+pub use starting::starting_values;
 pub use tries::TRIES;

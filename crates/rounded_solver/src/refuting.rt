@@ -8,6 +8,7 @@ ghost use Rattle.certified_answers.specs.Answers.{IsComplete, IsMadeWithin, IsNa
 use crate::attempt::{Attempt, no_guess};
 use crate::certifying::refuted;
 use crate::limit::limited_guess;
+use call_stages::{Stage, Watcher};
 use certified_answers::NoAnswer;
 use exact_num::Frac;
 use presolved_program::{Aim, Program, Stop, prepare};
@@ -34,6 +35,7 @@ pub(crate) fn refutation(
     alloc: Global,
     problem: &Problem<'_>,
     pivots: u64,
+    watcher: &mut dyn Watcher,
 ) -> Result<Attempt, NoAnswer>
     requires { IsPosedProblem problem.now }
     ensures proved { (ppm : ℕ) → IfOk result (IfFound (IsProvedWithin problem.now.rows.now problem.now.vars.now ppm)) }
@@ -43,7 +45,7 @@ pub(crate) fn refutation(
 {
     let smaller = prepare(alloc, problem.reduced, Aim::Refutation).map_err(no_guess)?;
     for digits in TRIES {
-        match one_try(alloc, problem, &smaller, digits, pivots) {
+        match one_try(alloc, problem, &smaller, digits, pivots, watcher) {
             Ok(Attempt::Found(found)) => return Ok(Attempt::Found(found)),
             Ok(Attempt::NoPlan) => {}
             Ok(Attempt::Nothing) => {}
@@ -61,6 +63,7 @@ fn one_try(
     smaller: &Program,
     digits: i32,
     pivots: u64,
+    watcher: &mut dyn Watcher,
 ) -> Result<Attempt, NoAnswer>
     requires { IsPosedProblem problem.now }
     ensures proved { (ppm : ℕ) → IfOk result (IfFound (IsProvedWithin problem.now.rows.now problem.now.vars.now ppm)) }
@@ -68,7 +71,8 @@ fn one_try(
     ensures named { IfOk result (IfFound (IsNamed problem.now.rows.now)) }
     ensures made { IfOk result (IfFound (IsMadeWithin pivots)) }
 {
-    let guessed = make_guess(alloc, smaller, digits, pivots).map_err(no_guess)?;
+    let guessed = make_guess(alloc, smaller, digits, pivots, watcher).map_err(no_guess)?;
+    watcher.see(Stage::Checks);
     let found = refuted(alloc, problem, &guessed.lambda, guessed.pivots)?;
     Ok(Attempt::Found(found))
 }
@@ -79,6 +83,7 @@ pub(crate) fn make_guess(
     smaller: &Program,
     digits: i32,
     pivots: u64,
+    watcher: &mut dyn Watcher,
 ) -> Result<Refuting, Stop>
     ensures made { IfOk result (λ guessed. guessed.pivots ≤ pivots) }
 {
@@ -88,7 +93,7 @@ pub(crate) fn make_guess(
         return Ok(Refuting { lambda, pivots: 0 });
     }
     let asked = elastic_program(alloc, smaller, &margins)?;
-    match limited_guess(alloc, &asked, pivots)? {
+    match limited_guess(alloc, &asked, pivots, watcher)? {
         Answer::Solved(guess) => {
             let lambda = multipliers_of(alloc, smaller, &margins, &guess.multipliers)?;
             Ok(Refuting {

@@ -9,7 +9,8 @@ use crate::limit::{guess_from, limited_guess};
 use crate::raising::raised_values;
 use crate::room::{Room, room_of, rounding_within};
 use crate::sizes::sum_errors;
-use crate::starting::starting_basis;
+use crate::starting::{column_values, starting_basis};
+use call_stages::{Stage, Watcher};
 use exact_num::Frac;
 use presolved_program::{Aim, Layout, Program, Stop, at, layout_of, prepare_rows, put};
 use rounded_program::{
@@ -62,6 +63,7 @@ pub(crate) fn measure(
     vars: &[Var],
     start: Option<&[f64]>,
     pivots: u64,
+    watcher: &mut dyn Watcher,
 ) -> Result<Option<Measured>, Stop>
     ensures { IfOk result (λ first. IfSome first (λ measured. measured.pivots ≤ pivots)) }
 {
@@ -70,7 +72,7 @@ pub(crate) fn measure(
     if smaller.is_false() {
         return Ok(None);
     }
-    match first_guess(alloc, &layout, &smaller, start, pivots)? {
+    match first_guess(alloc, &layout, &smaller, start, pivots, watcher)? {
         Some(first) => {
             let room = room_of(alloc, rows, vars, &layout, &first.values, &first.named)?;
             Ok(Some(Measured {
@@ -92,13 +94,15 @@ fn first_guess(
     smaller: &Program,
     start: Option<&[f64]>,
     pivots: u64,
+    watcher: &mut dyn Watcher,
 ) -> Result<Option<Ended>, Stop>
     ensures made { IfOk result (λ end. IfSome end (λ e. e.pivots ≤ pivots)) }
 {
     let margins = margins_of(alloc, smaller, PLACES, DIGITS)?;
     let asked = rounded_program(alloc, smaller, &margins)?;
-    let basis = starting_basis(alloc, layout, smaller, &asked, start)?;
-    end_of_guess(alloc, smaller, &margins, &asked, &basis, pivots)
+    let given = column_values(alloc, layout, start)?;
+    let basis = starting_basis(alloc, smaller, &asked, &given)?;
+    end_of_guess(alloc, smaller, &margins, &asked, &basis, pivots, watcher)
 }
 
 /// A guess at the program with these margins, from this basis, if there is one; none where there seems to be no plan.
@@ -109,11 +113,13 @@ fn end_of_guess(
     asked: &LinearProgram,
     start: &[usize],
     pivots: u64,
+    watcher: &mut dyn Watcher,
 ) -> Result<Option<Ended>, Stop>
     ensures made { IfOk result (λ end. IfSome end (λ e. e.pivots ≤ pivots)) }
 {
-    match guess_from(alloc, asked, start, pivots)? {
+    match guess_from(alloc, asked, start, pivots, watcher)? {
         Answer::Solved(guess) => {
+            watcher.see(Stage::Rounding);
             let values = values_of(alloc, smaller, margins, &guess.values)?;
             let named = named_multipliers(alloc, smaller, margins, &guess.multipliers)?;
             Ok(Some(Ended {
@@ -138,6 +144,7 @@ pub(crate) fn short_end(
     places: i32,
     digits: i32,
     pivots: u64,
+    watcher: &mut dyn Watcher,
 ) -> Result<Option<ShortEnd>, Stop>
     requires { measured.pivots ≤ pivots }
     ensures made { IfOk result (λ end. IfSome end (λ e. e.pivots ≤ pivots)) }
@@ -150,7 +157,15 @@ pub(crate) fn short_end(
         pivots: taken,
     } = measured;
     let rounding = rounding_within(alloc, rows, vars, &layout, &smaller, &room, places)?;
-    match last_guess(alloc, smaller, basis, rounding, digits, pivots - taken)? {
+    match last_guess(
+        alloc,
+        smaller,
+        basis,
+        rounding,
+        digits,
+        pivots - taken,
+        watcher,
+    )? {
         Some(end) => {
             let values = raised_values(alloc, rows, vars, &layout, &room, &end.values)?;
             let multipliers = multipliers_of_rows(
@@ -180,12 +195,13 @@ fn last_guess(
     rounding: Rounding,
     digits: i32,
     pivots: u64,
+    watcher: &mut dyn Watcher,
 ) -> Result<Option<Ended>, Stop>
     ensures made { IfOk result (λ end. IfSome end (λ e. e.pivots ≤ pivots)) }
 {
     let margins = margins_for(alloc, &smaller, rounding, digits)?;
     let asked = rounded_program(alloc, &smaller, &margins)?;
-    end_of_guess(alloc, &smaller, &margins, &asked, &basis, pivots)
+    end_of_guess(alloc, &smaller, &margins, &asked, &basis, pivots, watcher)
 }
 
 /// What multipliers that show that there is no plan are guessed of.
@@ -215,13 +231,14 @@ pub(crate) fn short_refuting(
     digits: i32,
     more: i32,
     pivots: u64,
+    watcher: &mut dyn Watcher,
 ) -> Result<ShortEnd, Stop>
     ensures made { IfOk result (λ end. end.pivots ≤ pivots) }
 {
     let layout = &doubt.layout;
     let smaller = &doubt.smaller;
     let margins = refuting_margins(alloc, vars, layout, smaller, digits, more)?;
-    let end = refuting_end(alloc, smaller, &margins, pivots)?;
+    let end = refuting_end(alloc, smaller, &margins, pivots, watcher)?;
     let multipliers = multipliers_of_rows(alloc, vars, layout, &end.named, Proving::NoPlan, more)?;
     Ok(ShortEnd {
         values: end.values,
@@ -253,6 +270,7 @@ fn refuting_end(
     smaller: &Program,
     margins: &Margins,
     pivots: u64,
+    watcher: &mut dyn Watcher,
 ) -> Result<Ended, Stop>
     ensures made { IfOk result (λ end. end.pivots ≤ pivots) }
 {
@@ -266,7 +284,7 @@ fn refuting_end(
         });
     }
     let asked = elastic_program(alloc, smaller, margins)?;
-    match limited_guess(alloc, &asked, pivots)? {
+    match limited_guess(alloc, &asked, pivots, watcher)? {
         Answer::Solved(guess) => {
             let named = named_multipliers(alloc, smaller, margins, &guess.multipliers)?;
             Ok(Ended {

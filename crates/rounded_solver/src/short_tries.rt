@@ -8,6 +8,7 @@ ghost use Rattle.certified_answers.specs.Answers.{IsComplete, IsMadeWithin, IsNa
 use crate::attempt::{Attempt, no_guess};
 use crate::certifying::{certified_rows, refuted_rows};
 use crate::short_numbers::{Doubt, Measured, measure, short_end, short_refuting, without_costs};
+use call_stages::{Stage, Watcher};
 use certified_answers::{Certified, NoAnswer};
 use row_core::{Row, Var};
 use std::alloc::{AllocError, Global};
@@ -35,6 +36,7 @@ pub fn guessed_rows(
     start: Option<&[f64]>,
     ppm: u32,
     pivots: u64,
+    watcher: &mut dyn Watcher,
 ) -> Result<Option<Certified>, AllocError>
     requires { AreListed rows.now vars.now }
     ensures proved { IfOk result (λ found. IfSome found (IsProvedWithin rows.now vars.now ppm)) }
@@ -42,7 +44,7 @@ pub fn guessed_rows(
     ensures named { IfOk result (λ found. IfSome found (IsNamed rows.now)) }
     ensures made { IfOk result (λ found. IfSome found (IsMadeWithin pivots)) }
 {
-    match short_attempts(alloc, rows, defs, vars, start, ppm, pivots) {
+    match short_attempts(alloc, rows, defs, vars, start, ppm, pivots, watcher) {
         Ok(Attempt::Found(found)) => Ok(Some(found)),
         Ok(Attempt::NoPlan) => Ok(None),
         Ok(Attempt::Nothing) => Ok(None),
@@ -61,6 +63,7 @@ fn short_attempts(
     start: Option<&[f64]>,
     ppm: u32,
     pivots: u64,
+    watcher: &mut dyn Watcher,
 ) -> Result<Attempt, NoAnswer>
     requires { AreListed rows.now vars.now }
     ensures proved { IfOk result (IfFound (IsProvedWithin rows.now vars.now ppm)) }
@@ -68,10 +71,10 @@ fn short_attempts(
     ensures named { IfOk result (IfFound (IsNamed rows.now)) }
     ensures made { IfOk result (IfFound (IsMadeWithin pivots)) }
 {
-    match started_plan(alloc, rows, defs, vars, start, ppm, pivots)? {
+    match started_plan(alloc, rows, defs, vars, start, ppm, pivots, watcher)? {
         Attempt::Found(found) => Ok(Attempt::Found(found)),
-        Attempt::NoPlan => attempts_anew(alloc, rows, defs, vars, ppm, pivots),
-        Attempt::Nothing => attempts_anew(alloc, rows, defs, vars, ppm, pivots),
+        Attempt::NoPlan => attempts_anew(alloc, rows, defs, vars, ppm, pivots, watcher),
+        Attempt::Nothing => attempts_anew(alloc, rows, defs, vars, ppm, pivots, watcher),
     }
 }
 
@@ -83,6 +86,7 @@ fn attempts_anew(
     vars: &[Var],
     ppm: u32,
     pivots: u64,
+    watcher: &mut dyn Watcher,
 ) -> Result<Attempt, NoAnswer>
     requires { AreListed rows.now vars.now }
     ensures proved { IfOk result (IfFound (IsProvedWithin rows.now vars.now ppm)) }
@@ -90,9 +94,9 @@ fn attempts_anew(
     ensures named { IfOk result (IfFound (IsNamed rows.now)) }
     ensures made { IfOk result (IfFound (IsMadeWithin pivots)) }
 {
-    match short_plan(alloc, rows, defs, vars, None, ppm, pivots)? {
+    match short_plan(alloc, rows, defs, vars, None, ppm, pivots, watcher)? {
         Attempt::Found(found) => Ok(Attempt::Found(found)),
-        Attempt::NoPlan => short_refutation(alloc, rows, defs, vars, pivots),
+        Attempt::NoPlan => short_refutation(alloc, rows, defs, vars, pivots, watcher),
         Attempt::Nothing => Ok(Attempt::Nothing),
     }
 }
@@ -106,6 +110,7 @@ fn started_plan(
     start: Option<&[f64]>,
     ppm: u32,
     pivots: u64,
+    watcher: &mut dyn Watcher,
 ) -> Result<Attempt, NoAnswer>
     requires { AreListed rows.now vars.now }
     ensures proved { IfOk result (IfFound (IsProvedWithin rows.now vars.now ppm)) }
@@ -116,7 +121,7 @@ fn started_plan(
     if start.is_none() {
         return Ok(Attempt::Nothing);
     }
-    match short_plan(alloc, rows, defs, vars, start, ppm, pivots) {
+    match short_plan(alloc, rows, defs, vars, start, ppm, pivots, watcher) {
         Ok(attempt) => Ok(attempt),
         Err(NoAnswer::Memory) => Err(NoAnswer::Memory),
         Err(_) => Ok(Attempt::Nothing),
@@ -132,6 +137,7 @@ fn short_plan(
     start: Option<&[f64]>,
     ppm: u32,
     pivots: u64,
+    watcher: &mut dyn Watcher,
 ) -> Result<Attempt, NoAnswer>
     requires { AreListed rows.now vars.now }
     ensures proved { IfOk result (IfFound (IsProvedWithin rows.now vars.now ppm)) }
@@ -140,11 +146,13 @@ fn short_plan(
     ensures made { IfOk result (IfFound (IsMadeWithin pivots)) }
 {
     for (places, digits) in TRIES {
-        let first = measure(alloc, rows, defs, vars, start, pivots).map_err(no_guess)?;
+        let first = measure(alloc, rows, defs, vars, start, pivots, watcher).map_err(no_guess)?;
         let Some(measured) = first else {
             return Ok(Attempt::NoPlan);
         };
-        match one_try(alloc, rows, vars, measured, places, digits, ppm, pivots) {
+        match one_try(
+            alloc, rows, vars, measured, places, digits, ppm, pivots, watcher,
+        ) {
             Ok(Attempt::Found(found)) => return Ok(Attempt::Found(found)),
             Ok(Attempt::NoPlan) => return Ok(Attempt::NoPlan),
             Ok(Attempt::Nothing) => {}
@@ -165,6 +173,7 @@ fn one_try(
     digits: i32,
     ppm: u32,
     pivots: u64,
+    watcher: &mut dyn Watcher,
 ) -> Result<Attempt, NoAnswer>
     requires listed { AreListed rows.now vars.now }
     requires pivots { measured.pivots ≤ pivots }
@@ -173,8 +182,9 @@ fn one_try(
     ensures named { IfOk result (IfFound (IsNamed rows.now)) }
     ensures made { IfOk result (IfFound (IsMadeWithin pivots)) }
 {
-    match short_end(alloc, rows, vars, measured, places, digits, pivots) {
+    match short_end(alloc, rows, vars, measured, places, digits, pivots, watcher) {
         Ok(Some(end)) => {
+            watcher.see(Stage::Checks);
             let found = certified_rows(
                 alloc,
                 rows,
@@ -198,6 +208,7 @@ fn short_refutation(
     defs: &[Option<Var>],
     vars: &[Var],
     pivots: u64,
+    watcher: &mut dyn Watcher,
 ) -> Result<Attempt, NoAnswer>
     requires { AreListed rows.now vars.now }
     ensures proved { (ppm : ℕ) → IfOk result (IfFound (IsProvedWithin rows.now vars.now ppm)) }
@@ -207,7 +218,7 @@ fn short_refutation(
 {
     let doubt = without_costs(alloc, rows, defs, vars).map_err(no_guess)?;
     for (digits, more) in REFUTING {
-        match one_refuting_try(alloc, rows, vars, &doubt, digits, more, pivots) {
+        match one_refuting_try(alloc, rows, vars, &doubt, digits, more, pivots, watcher) {
             Ok(Attempt::Found(found)) => return Ok(Attempt::Found(found)),
             Ok(Attempt::NoPlan) => {}
             Ok(Attempt::Nothing) => {}
@@ -227,6 +238,7 @@ fn one_refuting_try(
     digits: i32,
     more: i32,
     pivots: u64,
+    watcher: &mut dyn Watcher,
 ) -> Result<Attempt, NoAnswer>
     requires { AreListed rows.now vars.now }
     ensures proved { (ppm : ℕ) → IfOk result (IfFound (IsProvedWithin rows.now vars.now ppm)) }
@@ -234,7 +246,8 @@ fn one_refuting_try(
     ensures named { IfOk result (IfFound (IsNamed rows.now)) }
     ensures made { IfOk result (IfFound (IsMadeWithin pivots)) }
 {
-    let end = short_refuting(alloc, vars, doubt, digits, more, pivots).map_err(no_guess)?;
+    let end = short_refuting(alloc, vars, doubt, digits, more, pivots, watcher).map_err(no_guess)?;
+    watcher.see(Stage::Checks);
     let found = refuted_rows(alloc, rows, vars, &end.multipliers, end.pivots)?;
     Ok(Attempt::Found(found))
 }

@@ -10,6 +10,7 @@ use crate::attempt::Attempt;
 use crate::costless::costless_plan;
 use crate::refuting::refutation;
 use crate::tries::cheapest_plan;
+use call_stages::Watcher;
 use certified_answers::{Certified, NoAnswer};
 use row_problem::Problem;
 use std::alloc::{AllocError, Global};
@@ -25,6 +26,7 @@ pub fn guessed(
     problem: &Problem<'_>,
     ppm: u32,
     pivots: u64,
+    watcher: &mut dyn Watcher,
 ) -> Result<Option<Certified>, AllocError>
     requires problem { IsPosedProblem problem.now }
     requires model { problem.now.cost ≡ Model }
@@ -33,7 +35,7 @@ pub fn guessed(
     ensures named { IfOk result (λ found. IfSome found (IsNamed problem.now.rows.now)) }
     ensures made { IfOk result (λ found. IfSome found (IsMadeWithin pivots)) }
 {
-    match attempts(alloc, problem, ppm, pivots) {
+    match attempts(alloc, problem, ppm, pivots, watcher) {
         Ok(Attempt::Found(found)) => Ok(Some(found)),
         Ok(Attempt::NoPlan) => Ok(None),
         Ok(Attempt::Nothing) => Ok(None),
@@ -49,6 +51,7 @@ fn attempts(
     problem: &Problem<'_>,
     ppm: u32,
     pivots: u64,
+    watcher: &mut dyn Watcher,
 ) -> Result<Attempt, NoAnswer>
     requires { IsPosedProblem problem.now }
     ensures proved { IfOk result (IfFound (IsProvedWithin problem.now.rows.now problem.now.vars.now ppm)) }
@@ -56,9 +59,9 @@ fn attempts(
     ensures named { IfOk result (IfFound (IsNamed problem.now.rows.now)) }
     ensures made { IfOk result (IfFound (IsMadeWithin pivots)) }
 {
-    match cheapest_plan(alloc, problem, ppm, pivots)? {
+    match cheapest_plan(alloc, problem, ppm, pivots, watcher)? {
         Attempt::Found(found) => Ok(Attempt::Found(found)),
-        Attempt::NoPlan => refutation(alloc, problem, pivots),
-        Attempt::Nothing => costless_plan(alloc, problem, ppm, pivots),
+        Attempt::NoPlan => refutation(alloc, problem, pivots, watcher),
+        Attempt::Nothing => costless_plan(alloc, problem, ppm, pivots, watcher),
     }
 }

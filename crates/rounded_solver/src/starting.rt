@@ -1,11 +1,13 @@
-//! The basis at which a first guess starts, from given values.
+//! The basis at which a guess starts, from given values.
 //!
 //! At a corner of the plans the variables that aren't 0 are basic. Values that were rounded tell which these are but for what margins make:
 //! where a plan uses nothing, a row's right side is a little below 0, so that some column has to be a little above it.
 
-use presolved_program::{Layout, Program, Stop, at, filled, put};
+use exact_num::Frac;
+use presolved_program::{Layout, Program, Stop, at, filled, float_of_frac, put};
 use rounded_simplex::LinearProgram;
-use std::alloc::Global;
+use row_core::{Plan, Var};
+use std::alloc::{AllocError, Global};
 
 /// A row has room if its slack is above this part of its greatest term: values of four digits may leave as much in a row that is tight.
 const SLACK_PART: f64 = 1e-3;
@@ -41,40 +43,67 @@ struct Relief {
     price: f64,
 }
 
-/// The variables with which a guess at a program begins, from a value for each variable, in order; one that isn't there is 0. First the
-/// slacks of the rows that have room, then the columns that count in a row, and those that small rows want. None, which are all
-/// slacks, where no values are given or no column counts.
-pub(crate) fn starting_basis(
+/// The values of a plan for these variables, in order, rounded; 0 where the plan has none. Guesses at a similar model may start from them.
+pub fn starting_values(alloc: Global, plan: &Plan, vars: &[Var]) -> Result<Vec<f64>, AllocError> {
+    let mut values = Vec::with_capacity(alloc, vars.len())?;
+    for var in vars {
+        values.push(float_of_frac(plan.value(*var)))?;
+    }
+    Ok(values)
+}
+
+/// These values, rounded.
+pub(crate) fn floats_of(alloc: Global, exact: &[Frac]) -> Result<Vec<f64>, AllocError> {
+    let mut values = Vec::with_capacity(alloc, exact.len())?;
+    for value in exact {
+        values.push(float_of_frac(*value))?;
+    }
+    Ok(values)
+}
+
+/// The values of the columns of a linear program, of those of all variables, both in order. None where none are given.
+pub(crate) fn column_values(
     alloc: Global,
     layout: &Layout,
+    start: Option<&[f64]>,
+) -> Result<Vec<f64>, Stop> {
+    let mut values = Vec::new(alloc);
+    if let Some(given) = start {
+        for variable in &layout.chosen {
+            values.push(given.get(*variable).copied().unwrap_or(0.0))?;
+        }
+    }
+    Ok(values)
+}
+
+/// The variables with which a guess at a program begins, from a value for each column of the linear program, in order; one that isn't there
+/// is 0. First the slacks of the rows that have room, then the columns that count in a row, and those that small rows want. None, which
+/// are all slacks, where no values are given or no column counts.
+pub(crate) fn starting_basis(
+    alloc: Global,
     smaller: &Program,
     asked: &LinearProgram,
-    start: Option<&[f64]>,
+    start: &[f64],
 ) -> Result<Vec<usize>, Stop> {
     let mut basis = Vec::new(alloc);
-    if let Some(given) = start {
-        let all = point_of(alloc, asked, column_values(alloc, layout, smaller, given)?)?;
-        let mut point = point_of(alloc, asked, counting_values(alloc, asked, &all)?)?;
-        if point.values.iter().any(|value| *value > 0.0) {
-            relieve(alloc, asked, &mut point)?;
-            push_slacks(&mut basis, asked, &point)?;
-            push_columns(&mut basis, &point)?;
-        }
+    if start.is_empty() {
+        return Ok(basis);
+    }
+    let all = point_of(alloc, asked, left_values(alloc, smaller, start)?)?;
+    let mut point = point_of(alloc, asked, counting_values(alloc, asked, &all)?)?;
+    if point.values.iter().any(|value| *value > 0.0) {
+        let raised = relieve(alloc, asked, &mut point)?;
+        push_slacks(&mut basis, asked, &point)?;
+        push_columns(&mut basis, asked, &point, &raised)?;
     }
     Ok(basis)
 }
 
-/// The values of the columns of the program, in order, none below 0.
-fn column_values(
-    alloc: Global,
-    layout: &Layout,
-    smaller: &Program,
-    given: &[f64],
-) -> Result<Vec<f64>, Stop> {
+/// The values of the columns that are left, in order, none below 0.
+fn left_values(alloc: Global, smaller: &Program, start: &[f64]) -> Result<Vec<f64>, Stop> {
     let mut values = Vec::with_capacity(alloc, smaller.columns.len())?;
     for column in &smaller.columns {
-        let variable = at(&layout.chosen, *column)?;
-        values.push(match given.get(variable) {
+        values.push(match start.get(*column) {
             Some(value) => value.max(0.0),
             None => 0.0,
         })?;
@@ -142,32 +171,42 @@ fn counts(asked: &LinearProgram, terms: &[Terms], column: usize, value: f64) -> 
 }
 
 /// Raises the cheapest column of each row, in order, whose terms are all small and that has no room: what the row lacks then is
-/// a margin.
-fn relieve(alloc: Global, asked: &LinearProgram, point: &mut Point) -> Result<(), Stop> {
+/// a margin. For each column that was 0 the last row that it was raised for.
+fn relieve(
+    alloc: Global,
+    asked: &LinearProgram,
+    point: &mut Point,
+) -> Result<Vec<Option<usize>>, Stop> {
+    let mut raised = filled(alloc, None, point.values.len())?;
     for (row, found) in reliefs_of(alloc, asked)?.iter().enumerate() {
         if let Some(relief) = *found {
-            relieve_row(asked, point, row, relief)?;
+            let was_raised = at(&raised, relief.column)?.is_some();
+            let was_zero = was_raised || at(&point.values, relief.column)? == 0.0;
+            if relieve_row(asked, point, row, relief)? && was_zero {
+                put(&mut raised, relief.column, Some(row))?;
+            }
         }
     }
-    Ok(())
+    Ok(raised)
 }
 
-/// Raises a row's cheapest column by what the row lacks, where its terms are small.
+/// Raises a row's cheapest column by what the row lacks, where its terms are small; whether it was raised.
 fn relieve_row(
     asked: &LinearProgram,
     point: &mut Point,
     row: usize,
     relief: Relief,
-) -> Result<(), Stop> {
+) -> Result<bool, Stop> {
     let terms = at(&point.terms, row)?;
     let lacking = terms.taken - at(&asked.right_sides, row)?;
-    if terms.size <= LEAST && lacking > CLEAR {
+    let wanted = terms.size <= LEAST && lacking > CLEAR;
+    if wanted {
         let step = lacking / relief.number;
         let raised = at(&point.values, relief.column)? + step;
         put(&mut point.values, relief.column, raised)?;
         add_column(&mut point.terms, asked, relief.column, step)?;
     }
-    Ok(())
+    Ok(wanted)
 }
 
 /// For each row the column that makes room in it at the least price, if one does; of equal prices the first.
@@ -203,19 +242,36 @@ fn note_relief(reliefs: &mut [Option<Relief>], row: usize, relief: Relief) -> Re
 
 /// Appends the slacks of the rows that have room, ascending.
 fn push_slacks(basis: &mut Vec<usize>, asked: &LinearProgram, point: &Point) -> Result<(), Stop> {
-    for (row, terms) in point.terms.iter().enumerate() {
-        let slack = at(&asked.right_sides, row)? - terms.taken;
-        if slack > SLACK_PART * terms.size + CLEAR {
+    for row in 0..point.terms.len() {
+        if has_room(asked, point, row)? {
             basis.push(point.values.len().saturating_add(row))?;
         }
     }
     Ok(())
 }
 
-/// Appends the columns that aren't 0, ascending.
-fn push_columns(basis: &mut Vec<usize>, point: &Point) -> Result<(), Stop> {
+/// Whether a row has room.
+fn has_room(asked: &LinearProgram, point: &Point, row: usize) -> Result<bool, Stop> {
+    let terms = at(&point.terms, row)?;
+    let slack = at(&asked.right_sides, row)? - terms.taken;
+    Ok(slack > SLACK_PART * terms.size + CLEAR)
+}
+
+/// Appends the columns that aren't 0, ascending. Of those that were raised for a row, each needs that row for itself: where others have made
+/// room in it since, its slack is basic, and with the column too there would be more basic variables than rows, so that one that matters
+/// could be left out.
+fn push_columns(
+    basis: &mut Vec<usize>,
+    asked: &LinearProgram,
+    point: &Point,
+    raised: &[Option<usize>],
+) -> Result<(), Stop> {
     for (column, value) in point.values.iter().enumerate() {
-        if *value > 0.0 {
+        let is_basic = match at(raised, column)? {
+            Some(row) => !has_room(asked, point, row)?,
+            None => *value > 0.0,
+        };
+        if is_basic {
             basis.push(column)?;
         }
     }

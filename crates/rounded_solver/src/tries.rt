@@ -7,7 +7,9 @@ ghost use Rattle.certified_answers.specs.Answers.{IsComplete, IsMadeWithin, IsNa
 
 use crate::attempt::{Attempt, no_guess};
 use crate::certifying::certified;
-use crate::limit::limited_guess;
+use crate::limit::guess_from;
+use crate::starting::{floats_of, starting_basis};
+use call_stages::{Stage, Watcher};
 use certified_answers::NoAnswer;
 use exact_num::Frac;
 use presolved_program::{Aim, Program, Stop, prepare};
@@ -33,6 +35,7 @@ pub(crate) fn cheapest_plan(
     problem: &Problem<'_>,
     ppm: u32,
     pivots: u64,
+    watcher: &mut dyn Watcher,
 ) -> Result<Attempt, NoAnswer>
     requires { IsPosedProblem problem.now }
     ensures proved { IfOk result (IfFound (IsProvedWithin problem.now.rows.now problem.now.vars.now ppm)) }
@@ -45,7 +48,9 @@ pub(crate) fn cheapest_plan(
         return Ok(Attempt::NoPlan);
     }
     for (places, digits) in TRIES {
-        match one_try(alloc, problem, &smaller, places, digits, ppm, pivots) {
+        match one_try(
+            alloc, problem, &smaller, places, digits, ppm, pivots, watcher,
+        ) {
             Ok(Attempt::Found(found)) => return Ok(Attempt::Found(found)),
             Ok(Attempt::NoPlan) => return Ok(Attempt::NoPlan),
             Ok(Attempt::Nothing) => {}
@@ -65,6 +70,7 @@ fn one_try(
     digits: i32,
     ppm: u32,
     pivots: u64,
+    watcher: &mut dyn Watcher,
 ) -> Result<Attempt, NoAnswer>
     requires { IsPosedProblem problem.now }
     ensures proved { IfOk result (IfFound (IsProvedWithin problem.now.rows.now problem.now.vars.now ppm)) }
@@ -72,8 +78,17 @@ fn one_try(
     ensures named { IfOk result (IfFound (IsNamed problem.now.rows.now)) }
     ensures made { IfOk result (IfFound (IsMadeWithin pivots)) }
 {
-    match rounded_end(alloc, smaller, places, digits, pivots) {
+    match rounded_end(
+        alloc,
+        smaller,
+        &mut Vec::new(alloc),
+        places,
+        digits,
+        pivots,
+        watcher,
+    ) {
         Ok(Some(end)) => {
+            watcher.see(Stage::Checks);
             let found = certified(alloc, problem, &end.values, &end.lambda, ppm, end.pivots)?;
             Ok(Attempt::Found(found))
         }
@@ -82,22 +97,28 @@ fn one_try(
     }
 }
 
-/// The end of a guess, rounded. None where there seems to be no plan.
+/// The end of a guess, rounded. None where there seems to be no plan. The guess begins from values of the columns, in order, where there
+/// are any, and leaves those that it ends at.
 pub(crate) fn rounded_end(
     alloc: Global,
     smaller: &Program,
+    start: &mut Vec<f64>,
     places: i32,
     digits: i32,
     pivots: u64,
+    watcher: &mut dyn Watcher,
 ) -> Result<Option<RoundedEnd>, Stop>
     ensures made { IfOk result (λ end. IfSome end (λ e. e.pivots ≤ pivots)) }
 {
     let margins = margins_of(alloc, smaller, places, digits)?;
     let asked = rounded_program(alloc, smaller, &margins)?;
-    match limited_guess(alloc, &asked, pivots)? {
+    let basis = starting_basis(alloc, smaller, &asked, start)?;
+    match guess_from(alloc, &asked, &basis, pivots, watcher)? {
         Answer::Solved(guess) => {
+            watcher.see(Stage::Rounding);
             let values = values_of(alloc, smaller, &margins, &guess.values)?;
             let lambda = multipliers_of(alloc, smaller, &margins, &guess.multipliers)?;
+            *start = floats_of(alloc, &values)?;
             Ok(Some(RoundedEnd {
                 values,
                 lambda,

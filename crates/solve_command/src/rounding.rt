@@ -11,6 +11,7 @@ use crate::ends::status_of;
 use crate::readback::{readback_laws, solution_fractions};
 use crate::solve::Wanted;
 use crate::texts::solution_text;
+use call_stages::Watcher;
 use certified_answers::Certified;
 use command_answers::{Answer, BookProgram, guess_book, guess_rows};
 use model_sets::Sets;
@@ -29,6 +30,7 @@ pub fn answer_rounded(
     places: u8,
     wanted: Wanted,
     rounded: u64,
+    watcher: &mut dyn Watcher,
 ) -> Result<Option<Answer>, AllocError>
     requires listed { IsListedBook sets.now book.now.rows book.now.vars }
     requires program { IsProgramOf book.now.rows book.now.vars program.now }
@@ -37,7 +39,14 @@ pub fn answer_rounded(
         IsFound places d book.now.rows wanted rounded answer.status answer.text.items
         ⊎ IsFoundInfeasibleShown places d book.now.rows wanted rounded answer.status answer.text.items)) }
 {
-    let found = guess_book(alloc, book, program, wanted.gap, u64::from(wanted.pivots))?;
+    let found = guess_book(
+        alloc,
+        book,
+        program,
+        wanted.gap,
+        u64::from(wanted.pivots),
+        watcher,
+    )?;
     answer_guess(alloc, book, sets, found, places, wanted, rounded)
 }
 
@@ -51,6 +60,7 @@ pub fn answer_rows(
     wanted: Wanted,
     rounded: u64,
     start: Option<&[f64]>,
+    watcher: &mut dyn Watcher,
 ) -> Result<Option<Answer>, AllocError>
     requires { IsListedBook sets.now book.now.rows book.now.vars }
     ensures { (d : Data) → sets.now ≡ d.sets → IsBookOf places d book.now.rows book.now.vars
@@ -58,7 +68,8 @@ pub fn answer_rows(
         IsFound places d book.now.rows wanted rounded answer.status answer.text.items
         ⊎ IsFoundInfeasibleShown places d book.now.rows wanted rounded answer.status answer.text.items)) }
 {
-    let found = guess_rows(alloc, book, start, wanted.gap, u64::from(wanted.pivots))?;
+    let pivots = u64::from(wanted.pivots);
+    let found = guess_rows(alloc, book, start, wanted.gap, pivots, watcher)?;
     answer_guess(alloc, book, sets, found, places, wanted, rounded)
 }
 

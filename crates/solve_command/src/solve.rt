@@ -17,6 +17,7 @@ use crate::readback::{readback_laws, solution_fractions};
 use crate::rounding::{answer_rounded, answer_rows};
 use crate::second::or_second;
 use crate::texts::solution_text;
+use call_stages::{Stage, Watcher};
 use certified_answers::Certified;
 use command_answers::{
     Answer, BookProgram, eliminate_book, made_book, refuse_large, solve_book, stop_at,
@@ -86,11 +87,13 @@ pub fn answer_solve(
     model: &ModelData,
     places: u8,
     wanted: Wanted,
+    watcher: &mut dyn Watcher,
 ) -> Result<Answer, AllocError>
     requires { IsPlaces places }
     ensures { (d : Data) → AreSameData model.now.facts d → IfOk result (λ answer.
         DueForSolve places wanted model.now.rounded d answer.status answer.text.items) }
 {
+    watcher.see(Stage::Rows);
     match made_book(alloc, model, places)? {
         Ok(book) => answer_book(
             alloc,
@@ -100,6 +103,7 @@ pub fn answer_solve(
             wanted,
             model.rounded(),
             None,
+            watcher,
         ),
         Err(answer) => Ok(answer),
     }
@@ -116,17 +120,18 @@ pub(crate) fn answer_book(
     wanted: Wanted,
     rounded: u64,
     start: Option<&[f64]>,
+    watcher: &mut dyn Watcher,
 ) -> Result<Answer, AllocError>
     requires { IsListedBook sets.now book.now.rows book.now.vars }
     ensures { (d : Data) → sets.now ≡ d.sets → IsBookOf places d book.now.rows book.now.vars
         → IfOk result (λ answer. DueForRows places d book.now.rows wanted rounded answer.status answer.text.items) }
 {
     match wanted.method {
-        SolveMethod::Exact => answer_sized(alloc, book, sets, places, wanted, rounded),
+        SolveMethod::Exact => answer_sized(alloc, book, sets, places, wanted, rounded, watcher),
         SolveMethod::Rounded => {
-            match answer_rows(alloc, book, sets, places, wanted, rounded, start)? {
+            match answer_rows(alloc, book, sets, places, wanted, rounded, start, watcher)? {
                 Some(answer) => Ok(answer),
-                None => answer_sized(alloc, book, sets, places, wanted, rounded),
+                None => answer_sized(alloc, book, sets, places, wanted, rounded, watcher),
             }
         }
     }
@@ -141,6 +146,7 @@ pub fn answer_sized(
     places: u8,
     wanted: Wanted,
     rounded: u64,
+    watcher: &mut dyn Watcher,
 ) -> Result<Answer, AllocError>
     requires { IsListedBook sets.now book.now.rows book.now.vars }
     ensures { (d : Data) → sets.now ≡ d.sets → IsBookOf places d book.now.rows book.now.vars
@@ -148,7 +154,7 @@ pub fn answer_sized(
 {
     match refuse_large(alloc, book)? {
         Some(answer) => Ok(answer),
-        None => answer_eliminated(alloc, book, sets, places, wanted, rounded),
+        None => answer_eliminated(alloc, book, sets, places, wanted, rounded, watcher),
     }
 }
 
@@ -160,13 +166,20 @@ fn answer_eliminated(
     places: u8,
     wanted: Wanted,
     rounded: u64,
+    watcher: &mut dyn Watcher,
 ) -> Result<Answer, AllocError>
     requires { IsListedBook sets.now book.now.rows book.now.vars }
     ensures { (d : Data) → sets.now ≡ d.sets → IsBookOf places d book.now.rows book.now.vars
         → IfOk result (λ answer. DueForMethod places d book.now.rows wanted rounded answer.status answer.text.items) }
 {
+    watcher.see(Stage::Elimination);
     match eliminate_book(alloc, book) {
-        Ok(program) => answer_program(alloc, book, sets, &program, places, wanted, rounded),
+        Ok(program) => {
+            watcher.see(Stage::Exact);
+            answer_program(
+                alloc, book, sets, &program, places, wanted, rounded, watcher,
+            )
+        }
         Err(stop) => stop_on_elimination(alloc, book, sets, stop),
     }
 }
@@ -180,6 +193,7 @@ fn answer_program(
     places: u8,
     wanted: Wanted,
     rounded: u64,
+    watcher: &mut dyn Watcher,
 ) -> Result<Answer, AllocError>
     requires listed { IsListedBook sets.now book.now.rows book.now.vars }
     requires program { IsProgramOf book.now.rows book.now.vars program.now }
@@ -190,9 +204,12 @@ fn answer_program(
     match wanted.method {
         SolveMethod::Exact => answer_exactly(alloc, book, sets, program, places, wanted, rounded),
         SolveMethod::Rounded => {
-            match answer_rounded(alloc, book, sets, program, places, wanted, rounded)? {
+            match answer_rounded(alloc, book, sets, program, places, wanted, rounded, watcher)? {
                 Some(answer) => Ok(answer),
-                None => answer_exactly(alloc, book, sets, program, places, wanted, rounded),
+                None => {
+                    watcher.see(Stage::Exact);
+                    answer_exactly(alloc, book, sets, program, places, wanted, rounded)
+                }
             }
         }
     }

@@ -7,6 +7,7 @@ ghost use Rattle.command_answers.specs.CheckedPlans.{IsBookOf, IsListedBook};
 ghost use Rattle.solve_command.specs.Starts.{DueForSolveFrom, DueForStart};
 
 use crate::solve::{Wanted, answer_book};
+use call_stages::{Stage, Watcher};
 use command_answers::{Answer, made_book, refuse_start};
 use model_sets::Sets;
 use param_tables::ModelData;
@@ -23,11 +24,13 @@ pub fn answer_from(
     places: u8,
     wanted: Wanted,
     bytes: &[u8],
+    watcher: &mut dyn Watcher,
 ) -> Result<Answer, AllocError>
     requires { IsPlaces places }
     ensures { (d : Data) → AreSameData model.now.facts d → IfOk result (λ answer.
         DueForSolveFrom places wanted bytes.now model.now.rounded d answer.status answer.text.items) }
 {
+    watcher.see(Stage::Rows);
     match made_book(alloc, model, places)? {
         Ok(book) => answer_start(
             alloc,
@@ -37,6 +40,7 @@ pub fn answer_from(
             wanted,
             model.rounded(),
             bytes,
+            watcher,
         ),
         Err(answer) => Ok(answer),
     }
@@ -51,6 +55,7 @@ fn answer_start(
     wanted: Wanted,
     rounded: u64,
     bytes: &[u8],
+    watcher: &mut dyn Watcher,
 ) -> Result<Answer, AllocError>
     requires { IsListedBook sets.now book.now.rows book.now.vars }
     ensures { (d : Data) → sets.now ≡ d.sets → IsBookOf places d book.now.rows book.now.vars → IfOk result (λ answer.
@@ -60,7 +65,7 @@ fn answer_start(
         Ok(solver_answers::Answer::NoStart) => {
             let begun = Begun::WithoutStart;
             let wanted = Wanted { begun, ..wanted };
-            answer_book(alloc, book, sets, places, wanted, rounded, None)
+            answer_book(alloc, book, sets, places, wanted, rounded, None, watcher)
         }
         Ok(solver_answers::Answer::Start(found)) => {
             let begun = Begun::FromValues {
@@ -69,7 +74,7 @@ fn answer_start(
             };
             let wanted = Wanted { begun, ..wanted };
             let values = Some(found.values.as_slice());
-            answer_book(alloc, book, sets, places, wanted, rounded, values)
+            answer_book(alloc, book, sets, places, wanted, rounded, values, watcher)
         }
         Err(AnswerFail::Fault(line)) => refuse_start(alloc, line),
         Err(AnswerFail::Memory) => Err(AllocError),

@@ -6,6 +6,7 @@ ghost use Rattle.command_answers.specs.CheckedPlans.{IsBookOf, IsListedBook};
 ghost use Rattle.solve_command.specs.Summary.{DueAfterCounts, DueForDefaults, DueForSummary, counts_text};
 
 use crate::solve::{Shown, Wanted, answer_sized};
+use call_stages::{Stage, Watcher};
 use command_answers::{Answer, made_book, push_count};
 use command_words::SolveMethod;
 use model_sets::Sets;
@@ -16,13 +17,19 @@ use row_problem::size_of;
 use std::alloc::{AllocError, Global};
 
 /// What is due over any data that have the model's sets and values, with written factors of 6 or 9 decimal places.
-pub fn answer_summary(alloc: Global, model: &ModelData, places: u8) -> Result<Answer, AllocError>
+pub fn answer_summary(
+    alloc: Global,
+    model: &ModelData,
+    places: u8,
+    watcher: &mut dyn Watcher,
+) -> Result<Answer, AllocError>
     requires { IsPlaces places }
     ensures { (d : Data) → AreSameData model.now.facts d → IfOk result (λ answer.
         DueForSummary places model.now.rounded d answer.status answer.text.items) }
 {
+    watcher.see(Stage::Rows);
     match made_book(alloc, model, places)? {
-        Ok(book) => summarize_book(alloc, &book, model.sets(), places, model.rounded()),
+        Ok(book) => summarize_book(alloc, &book, model.sets(), places, model.rounded(), watcher),
         Err(answer) => Ok(answer),
     }
 }
@@ -35,13 +42,14 @@ fn summarize_book(
     sets: &Sets,
     places: u8,
     rounded: u64,
+    watcher: &mut dyn Watcher,
 ) -> Result<Answer, AllocError>
     requires { IsListedBook sets.now book.now.rows book.now.vars }
     ensures { (d : Data) → sets.now ≡ d.sets → IsBookOf places d book.now.rows book.now.vars
         → IfOk result (λ answer. DueAfterCounts places d book.now.rows rounded answer.status answer.text.items) }
 {
     let mut text = counts_text(alloc, book)?;
-    let answer = answer_defaults(alloc, book, sets, places, rounded)?;
+    let answer = answer_defaults(alloc, book, sets, places, rounded, watcher)?;
     text.extend_from_slice(&answer.text)?;
     let status = answer.status;
     Ok(Answer { status, text })
@@ -54,6 +62,7 @@ fn answer_defaults(
     sets: &Sets,
     places: u8,
     rounded: u64,
+    watcher: &mut dyn Watcher,
 ) -> Result<Answer, AllocError>
     requires { IsListedBook sets.now book.now.rows book.now.vars }
     ensures { (d : Data) → sets.now ≡ d.sets → IsBookOf places d book.now.rows book.now.vars
@@ -66,7 +75,7 @@ fn answer_defaults(
         method: SolveMethod::Exact,
         begun: Begun::FromNothing,
     };
-    answer_sized(alloc, book, sets, places, wanted, rounded)
+    answer_sized(alloc, book, sets, places, wanted, rounded, watcher)
 }
 
 // The counts of a book.

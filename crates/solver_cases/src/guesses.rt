@@ -2,6 +2,7 @@
 //! them, how many pivots may be made, and the least cost where there is one.
 
 use crate::guessing::{MISS, greatest_miss, inner, is_near, is_signed};
+use call_stages::Unwatched;
 use rounded_simplex::{Answer, Guess, LinearProgram, guess};
 use std::alloc::{AllocError, Global};
 use std::io;
@@ -27,7 +28,7 @@ pub fn print_guess(rt: &HostRuntime, line: &str) -> io::Result<()> {
     let pivots = fields.next().unwrap_or("").parse::<u64>().unwrap_or(0);
     let least = fields.next().unwrap_or("");
     println!(rt; "== {name}")?;
-    match guess(alloc, &program, &[], TOLERANCE, pivots)? {
+    match guess(alloc, &program, &[], TOLERANCE, pivots, &mut Unwatched)? {
         Answer::Solved(found) => {
             print_found(rt, &program, &found, least)?;
             print_again(rt, &program, &found.basis, pivots)?;
@@ -45,7 +46,14 @@ fn print_again(
     basis: &[usize],
     pivots: u64,
 ) -> io::Result<()> {
-    match guess(rt.alloc(), program, basis, TOLERANCE, pivots)? {
+    match guess(
+        rt.alloc(),
+        program,
+        basis,
+        TOLERANCE,
+        pivots,
+        &mut Unwatched,
+    )? {
         Answer::Solved(found) => println!(rt; "{} pivots from there", found.pivots),
         Answer::NoPlan => println!(rt; "no plan from there"),
         Answer::GivenUp => println!(rt; "given up from there"),

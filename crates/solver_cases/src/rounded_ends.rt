@@ -8,13 +8,15 @@ ghost use Rattle.command_answers.specs.BookPrograms.{IsProgramOf};
 
 use crate::books::capacity_of;
 use crate::numbers::{fraction_of, shown, within};
+use call_stages::Unwatched;
 use certificate_checker::{Verdict, check_plan};
 use certified_answers::Certified;
 use command_answers::{BookProgram, definers, guess_book, guess_rows, problem_laws};
 use exact_num::{Frac, cmp_frac};
 use presolved_program::float_of_frac;
 use row_book::RowBook;
-use span_finder::round_span;
+use row_core::Plan;
+use span_finder::{RoundedSpan, round_span};
 use std::io;
 
 /// The gap, in millionths.
@@ -35,7 +37,7 @@ pub fn print_rounded(
     print_found(
         rt,
         book,
-        guess_book(rt.alloc(), book, program, GAP, PIVOTS)?,
+        guess_book(rt.alloc(), book, program, GAP, PIVOTS, &mut Unwatched)?,
         least,
     )
 }
@@ -45,14 +47,14 @@ pub fn print_rows_alone(rt: &HostRuntime, book: &RowBook, least: &str) -> io::Re
     print_found(
         rt,
         book,
-        guess_rows(rt.alloc(), book, None, GAP, PIVOTS)?,
+        guess_rows(rt.alloc(), book, None, GAP, PIVOTS, &mut Unwatched)?,
         least,
     )
 }
 
 /// Prints what they find of the rows of a book alone from their own plan, and whether that takes fewer pivots than from nothing.
 pub fn print_started(rt: &HostRuntime, book: &RowBook, least: &str) -> io::Result<()> {
-    let first = guess_rows(rt.alloc(), book, None, GAP, PIVOTS)?;
+    let first = guess_rows(rt.alloc(), book, None, GAP, PIVOTS, &mut Unwatched)?;
     let Some(Certified::Optimal { plan, pivots, .. }) = first else {
         println!(rt; "nothing to start from")?;
         return Ok(());
@@ -61,7 +63,7 @@ pub fn print_started(rt: &HostRuntime, book: &RowBook, least: &str) -> io::Resul
     for (_, value) in plan.entries() {
         values.push(float_of_frac(*value))?;
     }
-    let found = guess_rows(rt.alloc(), book, Some(&values), GAP, PIVOTS)?;
+    let found = guess_rows(rt.alloc(), book, Some(&values), GAP, PIVOTS, &mut Unwatched)?;
     let fewer = match &found {
         Some(Certified::Optimal { pivots: taken, .. }) => *taken < pivots,
         _ => false,
@@ -79,7 +81,7 @@ pub fn print_astray(rt: &HostRuntime, book: &RowBook, least: &str) -> io::Result
     for _ in book.vars() {
         values.push(1.0)?;
     }
-    let found = guess_rows(rt.alloc(), book, Some(&values), GAP, PIVOTS)?;
+    let found = guess_rows(rt.alloc(), book, Some(&values), GAP, PIVOTS, &mut Unwatched)?;
     print_found(rt, book, found, least)
 }
 
@@ -154,7 +156,7 @@ fn print_side(
 }
 
 /// Prints whether the ends of a technology's NewCapacity, in plans whose cost is at most the limit, lie where they are looked for: `LOW FROM|LOW
-/// TO|HIGH FROM|HIGH TO`.
+/// TO|HIGH FROM|HIGH TO`; first of guesses from nothing, then from the plan at the upper end.
 pub fn print_span(
     rt: &HostRuntime,
     book: &RowBook,
@@ -172,10 +174,46 @@ pub fn print_span(
     problem_laws(book);
     let limit = fraction_of(limit);
     let (rows, vars) = (book.rows(), book.vars());
-    let Some(span) = round_span(rt.alloc(), rows, &defs, vars, limit, var, GAP, PIVOTS)? else {
+    let nothing = Plan::of(Vec::new(rt.alloc()));
+    let Some(first) = round_span(
+        rt.alloc(),
+        rows,
+        &defs,
+        vars,
+        limit,
+        var,
+        &nothing,
+        GAP,
+        PIVOTS,
+        &mut Unwatched,
+    )?
+    else {
         println!(rt; "nothing")?;
         return Ok(());
     };
+    print_ends(rt, &first, ends)?;
+    let near = &first.high_plan;
+    let Some(again) = round_span(
+        rt.alloc(),
+        rows,
+        &defs,
+        vars,
+        limit,
+        var,
+        near,
+        GAP,
+        PIVOTS,
+        &mut Unwatched,
+    )?
+    else {
+        println!(rt; "nothing from a plan")?;
+        return Ok(());
+    };
+    print_ends(rt, &again, ends)
+}
+
+/// Prints whether both ends of a span lie where they are looked for.
+fn print_ends(rt: &HostRuntime, span: &RoundedSpan, ends: &str) -> io::Result<()> {
     let mut ends = ends.split_ascii_whitespace();
     let from = ends.next().unwrap_or("");
     let to = ends.next().unwrap_or("");

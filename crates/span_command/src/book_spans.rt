@@ -11,10 +11,11 @@ ghost use Rattle.span_finder.specs.RoundedSpans.{IsRoundedSpan};
 ghost use Rattle.span_finder.specs.SpanEnds.{EndsSo, Stops, span_seen};
 ghost use Rattle.span_finder.specs.Spans.{HasNearBest, IsSpan};
 
+use call_stages::Watcher;
 use command_answers::{definers, problem_laws};
 use exact_num::Frac;
 use row_book::RowBook;
-use row_core::Var;
+use row_core::{Plan, Var};
 use span_finder::{RoundedSpan, Span, SpanFail, find_span, round_span};
 use std::alloc::{AllocError, Global};
 
@@ -39,14 +40,17 @@ pub fn span_of_book(
     find_span(alloc, book.rows(), &defs, book.vars(), limit, var, pivots)
 }
 
-/// By guesses, whose ends may be so many millionths from the plans that are given with them. None where they find nothing.
+/// By guesses that begin from a plan, whose ends may be so many millionths from the plans that are given with them. None where they find
+/// nothing.
 pub fn rounded_span_of_book(
     alloc: Global,
     book: &RowBook,
     limit: Frac,
     var: Var,
+    near: &Plan,
     ppm: u32,
     pivots: u64,
+    watcher: &mut dyn Watcher,
 ) -> Result<Option<RoundedSpan>, AllocError>
     requires named { AllByRecursion (λ (row : Row). row.name.eq < SPAN) book.now.rows }
     requires chosen { var.kind ≡ NEW_CAPACITY }
@@ -62,7 +66,9 @@ pub fn rounded_span_of_book(
         book.vars(),
         limit,
         var,
+        near,
         ppm,
         pivots,
+        watcher,
     )
 }

@@ -19,6 +19,7 @@ use crate::book_spans::span_of_book;
 use crate::ends::{answer_found, answer_limited};
 use crate::rounding::answer_rounded;
 use crate::wanted::Wanted;
+use call_stages::{Stage, Watcher};
 use certified_answers::Certified;
 use command_answers::{
     Answer, BookProgram, Status, eliminate_book, solve_book, stop_at, stop_on_book,
@@ -43,6 +44,7 @@ pub fn answer_method(
     var: Var,
     wanted: Wanted,
     rounded: u64,
+    watcher: &mut dyn Watcher,
 ) -> Result<Answer, AllocError>
     requires listed { IsListedBook sets.now book.now.rows book.now.vars }
     requires chosen { var.kind ≡ NEW_CAPACITY }
@@ -50,8 +52,11 @@ pub fn answer_method(
     ensures { (d : Data) → sets.now ≡ d.sets → IsBookOf places d book.now.rows book.now.vars
         → IfOk result (λ answer. DueForMethod places d book.now.rows var wanted rounded answer.status answer.text.items) }
 {
+    watcher.see(Stage::Elimination);
     match eliminate_book(alloc, book) {
-        Ok(program) => answer_program(alloc, book, sets, &program, places, var, wanted, rounded),
+        Ok(program) => answer_program(
+            alloc, book, sets, &program, places, var, wanted, rounded, watcher,
+        ),
         Err(stop) => stop_on_elimination(alloc, book, sets, stop),
     }
 }
@@ -66,6 +71,7 @@ fn answer_program(
     var: Var,
     wanted: Wanted,
     rounded: u64,
+    watcher: &mut dyn Watcher,
 ) -> Result<Answer, AllocError>
     requires listed { IsListedBook sets.now book.now.rows book.now.vars }
     requires program { IsProgramOf book.now.rows book.now.vars program.now }
@@ -77,12 +83,16 @@ fn answer_program(
 {
     match wanted.method {
         SolveMethod::Exact => answer_exact(
-            alloc, book, sets, program, places, var, wanted, rounded,
+            alloc, book, sets, program, places, var, wanted, rounded, watcher,
         ),
         SolveMethod::Rounded => {
-            match answer_rounded(alloc, book, sets, program, places, var, wanted, rounded)? {
+            match answer_rounded(
+                alloc, book, sets, program, places, var, wanted, rounded, watcher,
+            )? {
                 Some(answer) => Ok(answer),
-                None => answer_exact(alloc, book, sets, program, places, var, wanted, rounded),
+                None => answer_exact(
+                    alloc, book, sets, program, places, var, wanted, rounded, watcher,
+                ),
             }
         }
     }
@@ -98,6 +108,7 @@ fn answer_exact(
     var: Var,
     wanted: Wanted,
     rounded: u64,
+    watcher: &mut dyn Watcher,
 ) -> Result<Answer, AllocError>
     requires listed { IsListedBook sets.now book.now.rows book.now.vars }
     requires program { IsProgramOf book.now.rows book.now.vars program.now }
@@ -107,6 +118,7 @@ fn answer_exact(
     ensures { (d : Data) → sets.now ≡ d.sets → IsBookOf places d book.now.rows book.now.vars
         → IfOk result (λ answer. DueForEnd places d book.now.rows var wanted rounded answer.status answer.text.items) }
 {
+    watcher.see(Stage::Exact);
     match solve_book(alloc, book, program, wanted.pivots) {
         Ok(solution) => answer_solution(alloc, book, sets, places, var, wanted, rounded, &solution),
         Err(stop) => stop_on_book(alloc, book, sets, stop, wanted.pivots),

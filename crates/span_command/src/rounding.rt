@@ -12,13 +12,14 @@ ghost use Rattle.span_command.specs.Span.{DueForFound};
 use crate::book_spans::rounded_span_of_book;
 use crate::ends::answer_near_ends;
 use crate::wanted::Wanted;
+use call_stages::Watcher;
 use certified_answers::Certified;
 use command_answers::{Answer, BookProgram, Status, guess_book, guess_rows};
 use exact_num::Frac;
 use model_sets::Sets;
 use result_tables::{Begun, FoundBy, infeasible_report};
 use row_book::RowBook;
-use row_core::Var;
+use row_core::{Plan, Var};
 use span_finder::slack_limit;
 use std::alloc::{AllocError, Global};
 
@@ -36,6 +37,7 @@ pub fn answer_rounded(
     var: Var,
     wanted: Wanted,
     rounded: u64,
+    watcher: &mut dyn Watcher,
 ) -> Result<Option<Answer>, AllocError>
     requires listed { IsListedBook sets.now book.now.rows book.now.vars }
     requires program { IsProgramOf book.now.rows book.now.vars program.now }
@@ -44,9 +46,9 @@ pub fn answer_rounded(
     ensures { (d : Data) → sets.now ≡ d.sets → IsBookOf places d book.now.rows book.now.vars
         → IfOk result (λ found. IfSome found (λ answer. DueForFound places d book.now.rows var wanted rounded answer.status answer.text.items)) }
 {
-    match guess_least(alloc, book, program, wanted)? {
+    match guess_least(alloc, book, program, wanted, watcher)? {
         Some(solution) => answer_solution(
-            alloc, book, sets, places, var, wanted, rounded, &solution,
+            alloc, book, sets, places, var, wanted, rounded, &solution, watcher,
         ),
         None => Ok(None),
     }
@@ -58,13 +60,14 @@ fn guess_least(
     book: &RowBook,
     program: &BookProgram,
     wanted: Wanted,
+    watcher: &mut dyn Watcher,
 ) -> Result<Option<Certified>, AllocError>
     requires { IsProgramOf book.now.rows book.now.vars program.now }
     ensures { IfOk result (λ found. IfSome found (IsFoundBy book.now.rows book.now.vars wanted.gap wanted.pivots)) }
 {
-    match guess_rows(alloc, book, None, wanted.gap, wanted.pivots)? {
+    match guess_rows(alloc, book, None, wanted.gap, wanted.pivots, watcher)? {
         Some(found) => Ok(Some(found)),
-        None => guess_book(alloc, book, program, wanted.gap, wanted.pivots),
+        None => guess_book(alloc, book, program, wanted.gap, wanted.pivots, watcher),
     }
 }
 
@@ -78,6 +81,7 @@ fn answer_solution(
     wanted: Wanted,
     rounded: u64,
     solution: &Certified,
+    watcher: &mut dyn Watcher,
 ) -> Result<Option<Answer>, AllocError>
     requires listed { IsListedBook sets.now book.now.rows book.now.vars }
     requires chosen { var.kind ≡ NEW_CAPACITY }
@@ -87,9 +91,12 @@ fn answer_solution(
         TellsFound sets.now book.now.rows book.now.vars var wanted rounded places solution.now answer.status answer.text.items)) }
 {
     match solution {
-        Certified::Optimal { cost, bound, .. } => {
-            answer_near(alloc, book, sets, var, wanted, *cost, *bound)
-        }
+        Certified::Optimal {
+            plan,
+            cost,
+            bound,
+            ..
+        } => answer_near(alloc, book, sets, var, wanted, plan, *cost, *bound, watcher),
         Certified::Infeasible { pivots, .. } => Ok(Some(Answer {
             status: Status::Infeasible,
             text: infeasible_report(alloc, *pivots, rounded, places, GUESSES)?,
@@ -98,15 +105,17 @@ fn answer_solution(
     }
 }
 
-// What is told near a bound.
+// What is told near a bound. Guesses at both ends begin from the plan of that cost.
 fn answer_near(
     alloc: Global,
     book: &RowBook,
     sets: &Sets,
     var: Var,
     wanted: Wanted,
+    near: &Plan,
     cost: Frac,
     bound: Frac,
+    watcher: &mut dyn Watcher,
 ) -> Result<Option<Answer>, AllocError>
     requires listed { IsListedBook sets.now book.now.rows book.now.vars }
     requires chosen { var.kind ≡ NEW_CAPACITY }
@@ -117,7 +126,16 @@ fn answer_near(
     let Ok(limit) = slack_limit(bound, wanted.slack) else {
         return Ok(None);
     };
-    match rounded_span_of_book(alloc, book, limit, var, wanted.gap, wanted.pivots)? {
+    match rounded_span_of_book(
+        alloc,
+        book,
+        limit,
+        var,
+        near,
+        wanted.gap,
+        wanted.pivots,
+        watcher,
+    )? {
         Some(span) => {
             let answer = answer_near_ends(
                 alloc, book, sets, cost, bound, limit, var, wanted.gap, &span,

@@ -9,6 +9,7 @@ ghost use Rattle.span_command.specs.Span.{DueForFound, DueForRows};
 use crate::method::answer_method;
 use crate::rounding::answer_rounded;
 use crate::wanted::Wanted;
+use call_stages::{Stage, Watcher};
 use command_answers::{Answer, eliminate_book, refuse_large};
 use command_words::SolveMethod;
 use model_sets::Sets;
@@ -25,6 +26,7 @@ pub fn answer_book(
     var: Var,
     wanted: Wanted,
     rounded: u64,
+    watcher: &mut dyn Watcher,
 ) -> Result<Answer, AllocError>
     requires listed { IsListedBook sets.now book.now.rows book.now.vars }
     requires chosen { var.kind ≡ NEW_CAPACITY }
@@ -33,8 +35,10 @@ pub fn answer_book(
         → IfOk result (λ answer. DueForRows places d book.now.rows var wanted rounded answer.status answer.text.items) }
 {
     match refuse_large(alloc, book)? {
-        Some(refusal) => answer_large(alloc, book, sets, places, var, wanted, rounded, refusal),
-        None => answer_method(alloc, book, sets, places, var, wanted, rounded),
+        Some(refusal) => answer_large(
+            alloc, book, sets, places, var, wanted, rounded, refusal, watcher,
+        ),
+        None => answer_method(alloc, book, sets, places, var, wanted, rounded, watcher),
     }
 }
 
@@ -48,6 +52,7 @@ fn answer_large(
     wanted: Wanted,
     rounded: u64,
     refusal: Answer,
+    watcher: &mut dyn Watcher,
 ) -> Result<Answer, AllocError>
     requires listed { IsListedBook sets.now book.now.rows book.now.vars }
     requires chosen { var.kind ≡ NEW_CAPACITY }
@@ -59,7 +64,7 @@ fn answer_large(
     match wanted.method {
         SolveMethod::Exact => Ok(refusal),
         SolveMethod::Rounded => {
-            match answer_guessed(alloc, book, sets, places, var, wanted, rounded)? {
+            match answer_guessed(alloc, book, sets, places, var, wanted, rounded, watcher)? {
                 Some(answer) => Ok(answer),
                 None => Ok(refusal),
             }
@@ -77,6 +82,7 @@ fn answer_guessed(
     var: Var,
     wanted: Wanted,
     rounded: u64,
+    watcher: &mut dyn Watcher,
 ) -> Result<Option<Answer>, AllocError>
     requires listed { IsListedBook sets.now book.now.rows book.now.vars }
     requires chosen { var.kind ≡ NEW_CAPACITY }
@@ -84,8 +90,11 @@ fn answer_guessed(
     ensures { (d : Data) → sets.now ≡ d.sets → IsBookOf places d book.now.rows book.now.vars
         → IfOk result (λ found. IfSome found (λ answer. DueForFound places d book.now.rows var wanted rounded answer.status answer.text.items)) }
 {
+    watcher.see(Stage::Elimination);
     match eliminate_book(alloc, book) {
-        Ok(program) => answer_rounded(alloc, book, sets, &program, places, var, wanted, rounded),
+        Ok(program) => answer_rounded(
+            alloc, book, sets, &program, places, var, wanted, rounded, watcher,
+        ),
         Err(Stopped::Width(_)) => Ok(None),
         Err(Stopped::Memory) => Err(AllocError),
     }

@@ -8,6 +8,7 @@ ghost use Rattle.span_command.specs.Span.{DueForMember, DueForSpan, built};
 
 use crate::sized::answer_book;
 use crate::wanted::Wanted;
+use call_stages::{Stage, Watcher};
 use command_answers::{Answer, find_member, made_book};
 use model_sets::set_numbers::{REGION, TECHNOLOGY, YEAR};
 use param_tables::ModelData;
@@ -25,6 +26,7 @@ pub fn answer_span(
     region: &str,
     technology: &str,
     year: &str,
+    watcher: &mut dyn Watcher,
 ) -> Result<Answer, AllocError>
     requires { IsPlaces places }
     ensures { (d : Data) → AreSameData model.now.facts d → IfOk result (λ answer.
@@ -48,6 +50,7 @@ pub fn answer_span(
         places,
         wanted,
         built(region, technology, year),
+        watcher,
     )
 }
 
@@ -77,6 +80,7 @@ fn answer_member(
     places: u8,
     wanted: Wanted,
     var: Var,
+    watcher: &mut dyn Watcher,
 ) -> Result<Answer, AllocError>
     requires places { IsPlaces places }
     requires chosen { var.kind ≡ NEW_CAPACITY }
@@ -84,6 +88,7 @@ fn answer_member(
     ensures { (d : Data) → AreSameData model.now.facts d → IfOk result (λ answer.
         DueForMember places wanted var model.now.rounded d answer.status answer.text.items) }
 {
+    watcher.see(Stage::Rows);
     match made_book(alloc, model, places)? {
         Ok(book) => answer_book(
             alloc,
@@ -93,6 +98,7 @@ fn answer_member(
             var,
             wanted,
             model.rounded(),
+            watcher,
         ),
         Err(answer) => Ok(answer),
     }

@@ -6,6 +6,7 @@ ghost use Rattle.span_finder.specs.RoundedTrials.{IsClose, IsRoundedEnd, end_of}
 ghost use Rattle.span_finder.specs.Trials.{IsTrial};
 
 use crate::near::checked_near;
+use call_stages::Watcher;
 use certified_answers::{Goal, NoAnswer, accepted_bound, accepted_plan, plan_laws};
 use exact_num::Frac;
 use rounded_solver::{TRIES, guess_optimum};
@@ -22,20 +23,50 @@ pub(crate) struct RoundedEnd {
     pub plan: Plan,
 }
 
-/// The first try that the checker accepts, with a value of the plan within so many millionths of the end.
+/// The first try that the checker accepts, with a value of the plan within so many millionths of the end: from `start`, a value for each
+/// column in order, and where it accepts none, from nothing, so values that are far off hide no end. The values that the last guess ends at
+/// are left there.
 pub(crate) fn rounded_trial(
     alloc: Global,
     problem: &Problem<'_>,
     var: Var,
     goal: Goal,
+    start: &mut Vec<f64>,
     ppm: u32,
     pivots: u64,
+    watcher: &mut dyn Watcher,
+) -> Result<RoundedEnd, NoAnswer>
+    requires { IsTrial problem.now var goal }
+    ensures { IfOk result (IsRoundedEnd problem.now var goal ppm) }
+{
+    match accepted_try(alloc, problem, var, goal, start, ppm, pivots, watcher) {
+        Ok(found) => Ok(found),
+        Err(NoAnswer::Memory) => Err(NoAnswer::Memory),
+        Err(_) => {
+            start.clear();
+            accepted_try(alloc, problem, var, goal, start, ppm, pivots, watcher)
+        }
+    }
+}
+
+/// The first try that the checker accepts, each from where the one before ended.
+fn accepted_try(
+    alloc: Global,
+    problem: &Problem<'_>,
+    var: Var,
+    goal: Goal,
+    start: &mut Vec<f64>,
+    ppm: u32,
+    pivots: u64,
+    watcher: &mut dyn Watcher,
 ) -> Result<RoundedEnd, NoAnswer>
     requires { IsTrial problem.now var goal }
     ensures { IfOk result (IsRoundedEnd problem.now var goal ppm) }
 {
     for (places, digits) in TRIES {
-        match one_try(alloc, problem, var, goal, places, digits, ppm, pivots) {
+        match one_try(
+            alloc, problem, var, goal, start, places, digits, ppm, pivots, watcher,
+        ) {
             Ok(found) => return Ok(found),
             Err(NoAnswer::Memory) => return Err(NoAnswer::Memory),
             Err(_) => {}
@@ -50,15 +81,25 @@ fn one_try(
     problem: &Problem<'_>,
     var: Var,
     goal: Goal,
+    start: &mut Vec<f64>,
     places: i32,
     digits: i32,
     ppm: u32,
     pivots: u64,
+    watcher: &mut dyn Watcher,
 ) -> Result<RoundedEnd, NoAnswer>
     requires { IsTrial problem.now var goal }
     ensures { IfOk result (IsRoundedEnd problem.now var goal ppm) }
 {
-    match guess_optimum(alloc, problem.reduced, places, digits, pivots)? {
+    match guess_optimum(
+        alloc,
+        problem.reduced,
+        start,
+        places,
+        digits,
+        pivots,
+        watcher,
+    )? {
         Some(guessed) => carried(
             alloc,
             problem,

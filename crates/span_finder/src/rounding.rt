@@ -11,9 +11,11 @@ ghost use Rattle.span_finder.specs.Trials.{IsCapacityOf};
 use crate::found::RoundedSpan;
 use crate::limited::{LimitedRows, limited_rows};
 use crate::rounded_trial::rounded_trial;
+use call_stages::Watcher;
 use certified_answers::{Cost, Goal, NoAnswer};
 use exact_num::Frac;
-use row_core::{Row, Var};
+use rounded_solver::starting_values;
+use row_core::{Plan, Row, Var};
 use row_problem::{Problem, aimed};
 use std::alloc::{AllocError, Global};
 use written_method::Reduced;
@@ -21,7 +23,8 @@ use written_method::Reduced;
 /// Looks for values between which a NewCapacity lies in the plans that meet all rows with right signs and cost at most a limit, by the
 /// rounded method: no such plan has less than `low` or more than `high`, and two such plans are given whose values lie within so many
 /// millionths of the ends, of the absolute value of an end or of 1 where that is greater. Each guess may take so many pivots at most.
-/// `defs` says of each row which variable it defines, if it defines one, and `vars` are the variables of the rows.
+/// `defs` says of each row which variable it defines, if it defines one, and `vars` are the variables of the rows. The first guess begins
+/// from the values of `near`, which may be any plan, best one of least cost, and each further one from where the guess before ended.
 ///
 /// Nothing is given to which the checker doesn't say yes. When nothing is given isn't defined: then nothing is known of the values.
 /// Refuses only out of memory.
@@ -32,8 +35,10 @@ pub fn round_span(
     vars: &[Var],
     limit: Frac,
     var: Var,
+    near: &Plan,
     ppm: u32,
     pivots: u64,
+    watcher: &mut dyn Watcher,
 ) -> Result<Option<RoundedSpan>, AllocError>
     requires problem { IsProblem rows.now defs.now vars.now }
     requires variables { AreVariablesOf rows.now vars.now }
@@ -42,7 +47,9 @@ pub fn round_span(
     requires listed { Contains vars.now var }
     ensures { IfOk result (λ found. IfSome found (IsRoundedSpan rows.now vars.now (value_of limit) var ppm)) }
 {
-    match rounded_span(alloc, rows, defs, vars, limit, var, ppm, pivots) {
+    match rounded_span(
+        alloc, rows, defs, vars, limit, var, near, ppm, pivots, watcher,
+    ) {
         Ok(span) => Ok(Some(span)),
         Err(NoAnswer::Memory) => Err(AllocError),
         Err(_) => Ok(None),
@@ -57,8 +64,10 @@ fn rounded_span(
     vars: &[Var],
     limit: Frac,
     var: Var,
+    near: &Plan,
     ppm: u32,
     pivots: u64,
+    watcher: &mut dyn Watcher,
 ) -> Result<RoundedSpan, NoAnswer>
     requires problem { IsProblem rows.now defs.now vars.now }
     requires variables { AreVariablesOf rows.now vars.now }
@@ -71,10 +80,13 @@ fn rounded_span(
         defs: all_defs,
         reduced,
     } = limited_rows(alloc, rows, defs, vars, limit)?;
-    both_ends(alloc, &all, &all_defs, vars, reduced, var, ppm, pivots)
+    let start = starting_values(alloc, near, reduced.columns.as_slice())?;
+    both_ends(
+        alloc, &all, &all_defs, vars, reduced, var, start, ppm, pivots, watcher,
+    )
 }
 
-/// Both ends, over rows of which this is left.
+/// Both ends, over rows of which this is left, the first from a value for each column, in order.
 fn both_ends(
     alloc: Global,
     rows: &[Row],
@@ -82,8 +94,10 @@ fn both_ends(
     vars: &[Var],
     reduced: Reduced,
     var: Var,
+    mut start: Vec<f64>,
     ppm: u32,
     pivots: u64,
+    watcher: &mut dyn Watcher,
 ) -> Result<RoundedSpan, NoAnswer>
     requires program { IsProgramOf rows.now defs.now vars.now Model reduced }
     requires capacity { IsCapacityOf vars.now var }
@@ -98,7 +112,16 @@ fn both_ends(
         reduced: &first,
         cost,
     };
-    let low = rounded_trial(alloc, &problem, var, Goal::Least, ppm, pivots)?;
+    let low = rounded_trial(
+        alloc,
+        &problem,
+        var,
+        Goal::Least,
+        &mut start,
+        ppm,
+        pivots,
+        watcher,
+    )?;
     let cost = Cost::One(var, Goal::Greatest);
     let second = aimed(alloc, first, cost)?;
     let problem = Problem {
@@ -108,7 +131,16 @@ fn both_ends(
         reduced: &second,
         cost,
     };
-    let high = rounded_trial(alloc, &problem, var, Goal::Greatest, ppm, pivots)?;
+    let high = rounded_trial(
+        alloc,
+        &problem,
+        var,
+        Goal::Greatest,
+        &mut start,
+        ppm,
+        pivots,
+        watcher,
+    )?;
     Ok(RoundedSpan {
         low: low.end,
         low_plan: low.plan,

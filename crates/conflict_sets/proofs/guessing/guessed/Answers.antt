@@ -2,4 +2,4 @@ use Rattle.conflict_sets.proofs.TriedLaws.{whole-many}
 use Rattle.conflict_sets.proofs.guessing.guessed.Goals as goal
 
 pub trial_program-requires : goal.trial_program-requires
-trial_program-requires c = whole-many c.args.problem.now c.requires
+trial_program-requires g c = whole-many c.args.problem.now c.requires

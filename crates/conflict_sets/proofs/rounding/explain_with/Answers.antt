@@ -4,7 +4,7 @@ use Rattle.conflict_sets.proofs.PartLaws.{all-met, every-taken}
 use Rattle.conflict_sets.proofs.rounding.explain_with.Goals as goal
 
 pub returns-in-Ok-Plan-clause-feasible : goal.returns-in-Ok-Plan-clause-feasible
-returns-in-Ok-Plan-clause-feasible c =
+returns-in-Ok-Plan-clause-feasible g c =
     let rows = c.args.problem.now.rows.now in
     let vars = c.args.problem.now.vars.now in
     let worth = rw c.in-Ok-Plan.field-0-is at c.in-Ok-Plan.ensures.worth in

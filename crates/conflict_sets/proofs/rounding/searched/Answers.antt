@@ -5,7 +5,7 @@ use Rattle.conflict_sets.proofs.StillLaws.{search-conflict}
 use Rattle.conflict_sets.proofs.rounding.searched.Goals as goal
 
 pub loop-name-preserved : goal.loop-name-preserved
-loop-name-preserved c =
+loop-name-preserved g c =
     let names = c.args.names.now in
     let i = c.loop-name.name-index in
     record {
@@ -15,7 +15,7 @@ loop-name-preserved c =
     }
 
 pub returns-clause-conflict : goal.returns-clause-conflict
-returns-clause-conflict c =
+returns-clause-conflict g c =
     let problem = c.args.problem.now in
     let s = c.loop-name.search in
     let known = rw (drop_all c.loop-name.name-index c.args.names.now c.loop-name-test.false) at c.loop-name.invariant.searched in

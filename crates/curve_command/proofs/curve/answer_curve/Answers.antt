@@ -4,7 +4,7 @@ use Rattle.std.proofs.lemmas.Result.{IfOk-weaker}
 use Rattle.curve_command.proofs.curve.answer_curve.Goals as goal
 
 pub returns : goal.returns
-returns c = λ d same.
+returns g c = λ d same.
     let region = rw (c.in-Ok.is, c.sets.ensures.sets ∙ same.sets) at c.in_ok-region.ensures in
     let emission = rw (c.in-Ok-2.is, c.sets-2.ensures.sets ∙ same.sets) at c.in_ok-emission.ensures in
     IfOk-weaker c.answer_limits.result _ _

@@ -7,14 +7,14 @@ use Rattle.curve_command.proofs.TrialLists.{trials-of}
 use Rattle.curve_command.proofs.curve.answer_limits.Goals as goal
 
 pub curve_text-requires : goal.curve_text-requires
-curve_text-requires c =
+curve_text-requires g c =
     let model = c.args.model.now.facts in
     let told = rw c.in-Ended.is at (c.in_ok-all.ensures model (same-itself model)) in
     rw (c.deref.ensures.value, c.sets.ensures.sets)
     (AllByRecursion-weaker (IsFoundOf c.args.places model c.args.member c.args.wanted) (IsPrintable model.sets) (λ found is. is.1) c.in-Ended.all.items told.found)
 
 pub returns-in_ok-text-in-Ended : goal.returns-in_ok-text-in-Ended
-returns-in_ok-text-in-Ended c = λ d same.
+returns-in_ok-text-in-Ended g c = λ d same.
     let all = c.in-Ended.all.items in
     let told = rw c.in-Ended.is at (c.in_ok-all.ensures d same) in
     inl (record {
@@ -26,4 +26,4 @@ returns-in_ok-text-in-Ended c = λ d same.
     })
 
 pub returns-in-Refused : goal.returns-in-Refused
-returns-in-Refused c = λ d same. inr (rw c.in-Refused.is at (c.in_ok-all.ensures d same))
+returns-in-Refused g c = λ d same. inr (rw c.in-Refused.is at (c.in_ok-all.ensures d same))

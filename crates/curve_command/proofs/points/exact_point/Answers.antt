@@ -6,7 +6,7 @@ use Rattle.curve_command.proofs.PointPlaces.{exact-within}
 use Rattle.curve_command.proofs.points.exact_point.Goals as goal
 
 pub returns : goal.returns
-returns c =
+returns g c =
     let book = c.args.book.now in
     let limit = c.args.limit in
     let point = c.in_ok-point.point in

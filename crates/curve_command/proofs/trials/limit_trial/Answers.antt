@@ -5,7 +5,7 @@ use Rattle.curve_command.proofs.TrialLaws.{book-told, fail-told}
 use Rattle.curve_command.proofs.trials.limit_trial.Goals as goal
 
 pub returns-in_ok-trial-in-Ok : goal.returns-in_ok-trial-in-Ok
-returns-in_ok-trial-in-Ok c = λ d same.
+returns-in_ok-trial-in-Ok g c = λ d same.
     let limit = c.args.limit in
     let wanted = c.args.wanted in
     let book = c.in-Ok.book in
@@ -19,7 +19,7 @@ returns-in_ok-trial-in-Ok c = λ d same.
     }
 
 pub returns-in_ok-trial-in-Err : goal.returns-in_ok-trial-in-Err
-returns-in_ok-trial-in-Err c = λ d same.
+returns-in_ok-trial-in-Err g c = λ d same.
     let limit = c.args.limit in
     let trial = c.in_ok-trial-in-Err.trial in
     let at = place-of c.args.model.now.facts.sets d limit.member same.sets c.sets-in-Err.ensures.complete.sets c.requires.limit.member in

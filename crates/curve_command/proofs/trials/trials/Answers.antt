@@ -15,7 +15,7 @@ use Rattle.curve_command.proofs.TrialLists.{limits-next, limits-split, trials-of
 use Rattle.curve_command.proofs.trials.trials.Goals as goal
 
 pub returns-in-Refused : goal.returns-in-Refused
-returns-in-Refused c = λ d same.
+returns-in-Refused g c = λ d same.
     let limits : List ℤ = c.args.limits.now in
     let i = c.loop-most.most-index in
     let all = c.loop-most.all.items in
@@ -33,7 +33,7 @@ returns-in-Refused c = λ d same.
     }
 
 pub loop-most-preserved : goal.loop-most-preserved
-loop-most-preserved c =
+loop-most-preserved g c =
     let inv = c.loop-most.invariant in
     let limits : List ℤ = c.args.limits.now in
     let i = c.loop-most.most-index in
@@ -55,7 +55,7 @@ loop-most-preserved c =
     }
 
 pub returns : goal.returns
-returns c = λ d same.
+returns g c = λ d same.
     let seen : List ℤ = limits_in (map found_seen c.loop-most.all.items) in
     record {
       whole = sym (append-nil seen) ∙ ap (λ (zs : List ℤ). seen ++ zs) (sym (drop_all c.loop-most.most-index c.args.limits.now c.loop-most-test.false)) ∙ c.loop-most.invariant.whole;

@@ -9,7 +9,7 @@ use Rattle.curve_command.specs.Outcomes.{IsFoundOf, found_seen}
 use Rattle.curve_command.proofs.trials.trials.Given as goal
 
 abbrev pub invariant-loop-most : goal.invariant-loop-most
-invariant-loop-most l = record {
+invariant-loop-most g l = record {
   whole : limits_in (map found_seen l.all.items) ++ drop l.most-index l.limits ≡ l.limits;
   found : (d : Data) → AreSameData l.model.facts d → AllByRecursion (IsFoundOf l.places d l.member l.wanted) l.all.items;
   kept : (d : Data) → AreSameData l.model.facts d → IfSome l.book (IsBookAtSome l.places d l.member);

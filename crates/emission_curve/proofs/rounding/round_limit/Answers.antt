@@ -6,12 +6,12 @@ use Rattle.emission_curve.proofs.LineLaws.{rounded-worth}
 use Rattle.emission_curve.proofs.rounding.round_limit.Goals as goal
 
 pub returns-in-Some-Optimal-clause-worth : goal.returns-in-Some-Optimal-clause-worth
-returns-in-Some-Optimal-clause-worth c =
+returns-in-Some-Optimal-clause-worth g c =
     let rows = c.args.rows.now in
     let vars = c.args.vars.now in
     let w = c.in-Some-Optimal in
-    let proved = subst (IsProvedWithin rows vars c.args.ppm) w.field-0-is (subst (λ found. IfSome found (IsProvedWithin rows vars c.args.ppm)) w.is c.in_ok-multipliers.ensures) in
+    let proved = subst (IsProvedWithin rows vars c.args.ppm) w.field-0-is (subst (λ found. IfSome found (IsProvedWithin rows vars c.args.ppm)) w.is c.in_ok-plan.ensures) in
     IfSome_then c.line.result c.line.ensures.line
     (λ point is.
     subst (EndIsOf rows vars c.args.limit) (sym is)
-    (rounded-worth rows c.args.defs.now vars c.args.limit w.field-0-0 w.multipliers (value_of w.cost) (value_of w.bound) c.requires.problem proved.0 proved.1))
+    (rounded-worth rows c.args.defs.now vars c.args.limit w.plan w.multipliers (value_of w.cost) (value_of w.bound) c.requires.problem proved.0 proved.1))

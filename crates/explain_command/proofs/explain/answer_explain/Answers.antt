@@ -7,17 +7,17 @@ use Rattle.explain_command.specs.Explain.{DueForRows}
 use Rattle.explain_command.proofs.explain.answer_explain.Goals as goal
 
 pub answer_book-requires : goal.answer_book-requires
-answer_book-requires c =
+answer_book-requires g c =
     let facts = c.args.model.now.facts in
     let own = rw c.in-Ok.is at (c.in_ok-book.ensures facts (same-itself facts)) in
     rw c.sets.ensures.sets own.listed
 
 pub returns-in-Ok : goal.returns-in-Ok
-returns-in-Ok c = λ d same.
+returns-in-Ok g c = λ d same.
     let made = rw c.in-Ok.is at (c.in_ok-book.ensures d same) in
     IfOk-weaker c.answer_book.result _ _
     (λ answer due. program-due (λ rows. DueForRows c.args.places d rows c.args.wanted) c.args.places d c.in-Ok.book made answer.status answer.text.items due)
     (c.answer_book.ensures c.args.places d (c.sets.ensures.sets ∙ same.sets) made.is_book)
 
 pub returns-in-Err : goal.returns-in-Err
-returns-in-Err c = λ d same. inr (rw c.in-Err.is at (c.in_ok-book.ensures d same))
+returns-in-Err g c = λ d same. inr (rw c.in-Err.is at (c.in_ok-book.ensures d same))

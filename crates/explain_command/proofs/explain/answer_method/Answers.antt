@@ -5,10 +5,10 @@ use Rattle.explain_command.proofs.ExplainEnds.{due-from_stop, elimination-cause}
 use Rattle.explain_command.proofs.explain.answer_method.Goals as goal
 
 pub returns-in-Ok : goal.returns-in-Ok
-returns-in-Ok c = c.answer_program.ensures
+returns-in-Ok g c = c.answer_program.ensures
 
 pub returns-in-Err : goal.returns-in-Err
-returns-in-Err c = λ places d same book.
+returns-in-Err g c = λ places d same book.
     let rows = c.args.book.now.rows in
     let vars = c.args.book.now.vars in
     let wanted = c.args.wanted in

@@ -6,7 +6,7 @@ use Rattle.explain_command.proofs.ExplainEnds.{ExactTells, WorthTells, exact-tel
 use Rattle.explain_command.proofs.explain.explain_book.Goals as goal
 
 pub returns-in-Exact : goal.returns-in-Exact
-returns-in-Exact c =
+returns-in-Exact g c =
     let pivots = c.args.wanted.pivots in
     let same = c.problem_of-problem.ensures in
     let r = c.explain.result in
@@ -17,7 +17,7 @@ returns-in-Exact c =
     (of-book (WorthTells r) same.rows same.defs same.vars (said.conflict, said.feasible)))
 
 pub returns-in-Rounded : goal.returns-in-Rounded
-returns-in-Rounded c =
+returns-in-Rounded g c =
     let pivots = c.args.wanted.pivots in
     let same = c.problem_of-problem.ensures in
     let r = c.explain_rounded.result in

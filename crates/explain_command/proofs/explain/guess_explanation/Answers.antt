@@ -6,7 +6,7 @@ use Rattle.explain_command.proofs.ExplainEnds.{guessed-tells}
 use Rattle.explain_command.proofs.explain.guess_explanation.Goals as goal
 
 pub returns : goal.returns
-returns c =
+returns g c =
     let same = c.problem_of-problem.ensures in
     let r = c.explain_guessed.result in
     let said = c.explain_guessed.ensures in

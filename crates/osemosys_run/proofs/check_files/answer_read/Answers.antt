@@ -6,10 +6,10 @@ use Rattle.command_answers.specs.Accepted.{Accepted}
 use Rattle.osemosys_run.proofs.check_files.answer_read.Goals as goal
 
 pub returns-in-Ok : goal.returns-in-Ok
-returns-in-Ok c = λ text stands short.
+returns-in-Ok g c = λ text stands short.
     let found : (d : Data) × (accepted : Accepted text d) × AreSameData c.in-Ok.model.facts d × (c.in-Ok.model.rounded ≡ accepted.blocks.rounded) × AreGivenAlike c.in-Ok.model.facts d =
     MatchResult-at_ok _ _ c.in-Ok.model c.in-Ok.is (c.in_ok-model.ensures text stands short) in
     IfOk-weaker c.answer_check.result _ _ (λ answer due. inr (found.0, found.1, due)) (c.answer_check.ensures found.0 found.2)
 
 pub returns-in-Err : goal.returns-in-Err
-returns-in-Err c = λ text stands short. inl (MatchResult-at_err _ _ c.in-Err.answer c.in-Err.is (c.in_ok-model.ensures text stands short))
+returns-in-Err g c = λ text stands short. inl (MatchResult-at_err _ _ c.in-Err.answer c.in-Err.is (c.in_ok-model.ensures text stands short))

@@ -7,7 +7,7 @@ use Rattle.solve_command.specs.Summary.{DueForSummary, default_places}
 use Rattle.osemosys_run.proofs.making.answer_made.Goals as goal
 
 pub returns-in-Ok : goal.returns-in-Ok
-returns-in-Ok c =
+returns-in-Ok g c =
     let found : (d : Data) × (accepted : Accepted c.args.made.items d) × AreSameData c.in-Ok.model.facts d × (c.in-Ok.model.rounded ≡ accepted.blocks.rounded) × AreGivenAlike c.in-Ok.model.facts d =
     MatchResult-at_ok _ _ c.in-Ok.model c.in-Ok.is c.in_ok-model.ensures in
     IfOk-weaker c.answer_summary.result _ _

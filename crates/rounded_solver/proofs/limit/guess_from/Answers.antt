@@ -12,5 +12,5 @@ allowed limit pivots h NoPlan made = tt
 allowed limit pivots h GivenUp made = tt
 
 pub returns : goal.returns
-returns c =
+returns g c =
     IfOk-weaker c.guess.result _ _ (allowed c.pivot_limit.result c.args.pivots c.pivot_limit.ensures) c.guess.ensures.pivots

@@ -2,4 +2,4 @@
 use Rattle.rounded_solver.proofs.solving.attempts.Goals as goal
 
 pub returns-in-NoPlan-clause-proved : goal.returns-in-NoPlan-clause-proved
-returns-in-NoPlan-clause-proved c = c.refutation.ensures.proved c.args.ppm
+returns-in-NoPlan-clause-proved g c = c.refutation.ensures.proved c.args.ppm

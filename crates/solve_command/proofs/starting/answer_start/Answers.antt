@@ -14,7 +14,7 @@ use Rattle.solve_command.proofs.StartLaws.{gives-due, lacks-due}
 use Rattle.solve_command.proofs.starting.answer_start.Goals as goal
 
 pub returns-in-Ok-NoStart : goal.returns-in-Ok-NoStart
-returns-in-Ok-NoStart c = λ d same book.
+returns-in-Ok-NoStart g c = λ d same book.
     let read = c.in-Ok-NoStart.field-0 in
     let bytes = c.args.bytes.now in
     let rows = c.args.book.now.rows in
@@ -29,7 +29,7 @@ returns-in-Ok-NoStart c = λ d same book.
     (c.answer_book.ensures d same book)
 
 pub returns-in-Ok-Start : goal.returns-in-Ok-Start
-returns-in-Ok-Start c = λ d same book.
+returns-in-Ok-Start g c = λ d same book.
     let read = c.in-Ok-Start.field-0 in
     let found = c.in-Ok-Start.found in
     let bytes = c.args.bytes.now in
@@ -45,7 +45,7 @@ returns-in-Ok-Start c = λ d same book.
     (c.answer_book-in-Ok-Start.ensures d same book)
 
 pub returns-in-Err-Fault : goal.returns-in-Err-Fault
-returns-in-Err-Fault c = λ d same book.
+returns-in-Err-Fault g c = λ d same book.
     let fail = c.in-Err-Fault.field-0 in
     let line = c.in-Err-Fault.line in
     let bytes = c.args.bytes.now in

@@ -4,7 +4,7 @@ use Rattle.span_command.proofs.FoundEnds.{due-from_found}
 use Rattle.span_command.proofs.rounding.answer_rounded.Goals as goal
 
 pub returns-in-Some : goal.returns-in-Some
-returns-in-Some c = λ d same book.
+returns-in-Some g c = λ d same book.
     let found = rw c.in-Some.is at c.in_ok-solution.ensures in
     IfOk-weaker c.answer_solution.result _ _
     (λ some told. IfSome_then some told (λ answer tells.

@@ -5,13 +5,13 @@ use Rattle.span_command.specs.Span.{DueForMethod, Finds}
 use Rattle.span_command.proofs.sized.answer_book.Goals as goal
 
 pub answer_large-requires-clause-large : goal.answer_large-requires-clause-large
-answer_large-requires-clause-large c = rw c.in-Some.is at c.in_ok-refusal.ensures
+answer_large-requires-clause-large g c = rw c.in-Some.is at c.in_ok-refusal.ensures
 
 pub returns-in-Some : goal.returns-in-Some
-returns-in-Some c = c.answer_large.ensures
+returns-in-Some g c = c.answer_large.ensures
 
 pub returns-in-None : goal.returns-in-None
-returns-in-None c = λ d same book.
+returns-in-None g c = λ d same book.
     let places = c.args.places in
     let rows = c.args.book.now.rows in
     let wanted = c.args.wanted in

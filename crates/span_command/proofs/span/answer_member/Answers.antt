@@ -7,19 +7,19 @@ use Rattle.span_command.specs.Span.{DueForRows}
 use Rattle.span_command.proofs.span.answer_member.Goals as goal
 
 pub answer_book-requires-clause-listed : goal.answer_book-requires-clause-listed
-answer_book-requires-clause-listed c =
+answer_book-requires-clause-listed g c =
     let facts = c.args.model.now.facts in
     let own = rw c.in-Ok.is at (c.in_ok-book.ensures facts (same-itself facts)) in
     rw c.sets.ensures.sets own.listed
 
 pub answer_book-requires-clause-there : goal.answer_book-requires-clause-there
-answer_book-requires-clause-there c =
+answer_book-requires-clause-there g c =
     let facts = c.args.model.now.facts in
     let own = rw c.in-Ok.is at (c.in_ok-book.ensures facts (same-itself facts)) in
     own.is_book.whole c.args.var c.requires.exists
 
 pub returns-in-Ok : goal.returns-in-Ok
-returns-in-Ok c = λ d same.
+returns-in-Ok g c = λ d same.
     let made = rw c.in-Ok.is at (c.in_ok-book.ensures d same) in
     IfOk-weaker c.answer_book.result _ _
     (λ answer due.
@@ -27,4 +27,4 @@ returns-in-Ok c = λ d same.
     (c.answer_book.ensures d (c.sets.ensures.sets ∙ same.sets) made.is_book)
 
 pub returns-in-Err : goal.returns-in-Err
-returns-in-Err c = λ d same. inr (rw c.in-Err.is at (c.in_ok-book.ensures d same))
+returns-in-Err g c = λ d same. inr (rw c.in-Err.is at (c.in_ok-book.ensures d same))

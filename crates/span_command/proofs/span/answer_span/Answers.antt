@@ -4,7 +4,7 @@ use Rattle.std.proofs.lemmas.Result.{IfOk-weaker}
 use Rattle.span_command.proofs.span.answer_span.Goals as goal
 
 pub returns : goal.returns
-returns c = λ d same.
+returns g c = λ d same.
     let region = rw (c.in-Ok.is, c.sets.ensures.sets ∙ same.sets) at c.in_ok-region.ensures in
     let technology = rw (c.in-Ok-2.is, c.sets-2.ensures.sets ∙ same.sets) at c.in_ok-technology.ensures in
     let year = rw (c.in-Ok-3.is, c.sets-3.ensures.sets ∙ same.sets) at c.in_ok-year.ensures in

@@ -4,7 +4,7 @@ use Rattle.span_finder.proofs.ValueLaws.{capacity-among}
 use Rattle.span_finder.proofs.rounding.both_ends.Goals as goal
 
 pub rounded_trial-requires : goal.rounded_trial-requires
-rounded_trial-requires c =
+rounded_trial-requires g c =
     let rows = c.args.rows.now in
     let defs = c.args.defs.now in
     let vars = c.args.vars.now in
@@ -16,7 +16,7 @@ rounded_trial-requires c =
     }
 
 pub rounded_trial-requires-2 : goal.rounded_trial-requires-2
-rounded_trial-requires-2 c =
+rounded_trial-requires-2 over c =
     let rows = c.args.rows.now in
     let defs = c.args.defs.now in
     let vars = c.args.vars.now in
