@@ -8,7 +8,7 @@ ghost use Rattle.conflict_sets.specs.Pieces.{IsFinding, IsTriedOf, listed_by};
 use crate::copying::{trial_program, trial_rows};
 use crate::listing::Listing;
 use crate::trial::Finding;
-use call_stages::Watcher;
+use call_stages::{Stage, Watcher};
 use certified_answers::{NoAnswer, accepted_plan, accepted_refutation, multiplier_laws, plan_laws};
 use exact_num::Frac;
 use rounded_solver::{Guess, guess_multipliers, guess_values};
@@ -86,6 +86,7 @@ fn guessed_plan(
     for places in PLACES {
         match guess_values(alloc, tried, start, places, pivots, watcher)? {
             Guess::Values(values) => {
+                watcher.see(Stage::Checks);
                 match checked_values(alloc, problem, listing, tried, &values)? {
                     Some(finding) => return Ok(Some(finding)),
                     None => {}
@@ -140,6 +141,7 @@ fn guessed_refutation(
     for digits in DIGITS {
         match guess_multipliers(alloc, tried, digits, pivots, watcher)? {
             Some(lambda) => {
+                watcher.see(Stage::Checks);
                 match checked_multipliers(alloc, problem, listing, tried, &lambda)? {
                     Some(finding) => return Ok(Some(finding)),
                     None => {}

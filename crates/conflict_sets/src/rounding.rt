@@ -17,7 +17,7 @@ use crate::listing::{Listing, is_listed, listed_names};
 use crate::searching::Search;
 use crate::shrinking::Shrinking;
 use crate::trial::{Finding, trial};
-use call_stages::Watcher;
+use call_stages::{Stage, Watcher};
 use certified_answers::NoAnswer;
 use row_core::{Multipliers, RowName};
 use row_problem::Problem;
@@ -131,7 +131,10 @@ fn rounded_trial(
     match guessed(alloc, problem, listing, start, pivots, watcher) {
         Ok(Some(finding)) => Ok(finding),
         Ok(None) => match fallback {
-            Fallback::Exact => trial(alloc, problem, listing, pivots),
+            Fallback::Exact => {
+                watcher.see(Stage::Exact);
+                trial(alloc, problem, listing, pivots)
+            }
             Fallback::Nothing => Err(NoAnswer::Nothing),
         },
         Err(_) => Err(NoAnswer::Memory),

@@ -10,7 +10,7 @@ ghost use Rattle.emission_curve.specs.Slopes.{slope_at};
 
 use crate::point::Point;
 use crate::slope::slope_of;
-use call_stages::Watcher;
+use call_stages::{Stage, Watcher};
 use certified_answers::{Certified, Cost};
 use exact_num::Frac;
 use rounded_solver::{guessed, guessed_rows, starting_values};
@@ -79,6 +79,7 @@ fn guess_limit(
     if let Some(found) = guessed_rows(alloc, rows, defs, vars, begin, ppm, pivots, watcher)? {
         return Ok(Some(found));
     }
+    watcher.see(Stage::Elimination);
     match left_of(alloc, rows, defs, vars) {
         Ok(reduced) => {
             let problem = Problem {

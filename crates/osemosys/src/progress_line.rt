@@ -4,7 +4,7 @@ use call_stages::{Stage, Watcher};
 use std::io::IsTerminal;
 use std::time::{Duration, Instant};
 
-/// While a stage lasts, the line is written once in so many milliseconds at most.
+/// The line is written once in so many milliseconds at most, but for stages that are told once and may last.
 const BETWEEN: u64 = 500;
 
 /// The line, and when it was written.
@@ -12,7 +12,38 @@ const BETWEEN: u64 = 500;
 pub struct ProgressLine<'a> {
     rt: &'a HostRuntime,
     is_terminal: bool,
-    shown: Option<(Stage, Instant)>,
+    written: Option<Instant>,
+    lasting: Lasting,
+}
+
+/// Which stages were told that may last, and in which nothing else is told.
+#[derive(Clone, Copy)]
+struct Lasting {
+    rows: bool,
+    elimination: bool,
+    exact: bool,
+}
+
+impl Lasting {
+    /// Whether a stage is one of these and is told for the first time. From now on it was told.
+    fn is_new(&mut self, stage: Stage) -> bool {
+        let before = *self;
+        match stage {
+            Stage::Rows => {
+                self.rows = true;
+                !before.rows
+            }
+            Stage::Elimination => {
+                self.elimination = true;
+                !before.elimination
+            }
+            Stage::Exact => {
+                self.exact = true;
+                !before.exact
+            }
+            _ => false,
+        }
+    }
 }
 
 impl<'a> ProgressLine<'a> {
@@ -21,28 +52,30 @@ impl<'a> ProgressLine<'a> {
         ProgressLine {
             rt,
             is_terminal: rt.stderr().is_terminal(),
-            shown: None,
+            written: None,
+            lasting: Lasting {
+                rows: false,
+                elimination: false,
+                exact: false,
+            },
         }
     }
 
     /// Removes the line, if there is one.
     pub fn remove(&mut self) {
-        if self.shown.is_some() {
+        if self.written.is_some() {
             let _ = eprint!(self.rt; "\r\x1b[K");
-            self.shown = None;
+            self.written = None;
         }
     }
 
-    /// Whether the line says another stage, or was written long enough ago.
-    fn is_due(&self, stage: Stage, now: Instant) -> bool {
-        match self.shown {
-            Some((before, at)) => {
-                kind_of(before) != kind_of(stage)
-                    || match now.checked_duration_since(at) {
-                        Some(since) => since >= Duration::from_millis(BETWEEN),
-                        None => true,
-                    }
-            }
+    /// Whether nothing was written, or long enough ago.
+    fn is_due(&self, now: Instant) -> bool {
+        let Some(at) = self.written else {
+            return true;
+        };
+        match now.checked_duration_since(at) {
+            Some(since) => since >= Duration::from_millis(BETWEEN),
             None => true,
         }
     }
@@ -67,21 +100,6 @@ impl<'a> ProgressLine<'a> {
     }
 }
 
-/// The number of a stage's kind.
-fn kind_of(stage: Stage) -> u8 {
-    match stage {
-        Stage::Reading => 0,
-        Stage::Rows => 1,
-        Stage::Elimination => 2,
-        Stage::Values { .. } => 3,
-        Stage::Costs { .. } => 4,
-        Stage::Exact => 5,
-        Stage::Rounding => 6,
-        Stage::Checks => 7,
-        Stage::Writing => 8,
-    }
-}
-
 impl Watcher for ProgressLine<'_> {
     fn see(&mut self, stage: Stage) {
         if !self.is_terminal {
@@ -94,9 +112,9 @@ impl Watcher for ProgressLine<'_> {
         let Ok(now) = Instant::now(self.rt) else {
             return;
         };
-        if self.is_due(stage, now) {
+        if self.lasting.is_new(stage) || self.is_due(now) {
             self.write(stage);
-            self.shown = Some((stage, now));
+            self.written = Some(now);
         }
     }
 }

@@ -270,8 +270,8 @@ pub fn osemosys<S: Shelf, K: Sink>(
     osemosys_watched(alloc, words, shelf, out, &mut Unwatched)
 }
 
-/// Runs the program as `osemosys` does, and tells a watcher where it is meanwhile. What it answers doesn't depend on that: each clause is the
-/// one of `osemosys` that has its name. The laws that stand there hold without any call.
+/// Runs the program as `osemosys` does, and tells a watcher where it is meanwhile. What it answers doesn't depend on that: each field of its
+/// clause is the clause of `osemosys` that has its name. The laws that stand there hold without any call.
 pub fn osemosys_watched<S: Shelf, K: Sink>(
     alloc: Global,
     words: &[String],

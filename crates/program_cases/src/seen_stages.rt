@@ -7,7 +7,8 @@ use std::alloc::Global;
 #[derive(Drop)]
 pub struct SeenStages {
     /// The words, with a space before each.
-    pub words: Vec<u8>,
+    words: Vec<u8>,
+    /// The last one's word.
     last: &'static str,
     /// Whether memory ran out.
     is_cut: bool,

@@ -17,7 +17,7 @@ pub(crate) struct Pivot {
 
 /// A number, or 0 where it is below 0.
 #[inline]
-fn at_least_zero(number: f64) -> f64 {
+pub(crate) fn at_least_zero(number: f64) -> f64 {
     if number < 0.0 { 0.0 } else { number }
 }
 

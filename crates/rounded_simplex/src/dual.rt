@@ -32,6 +32,7 @@ impl State {
     {
         let mut counts = Counts::new();
         let mut choices = MOST_CHOICES;
+        self.tell_values(watcher);
         for _ in 0..most_turns(limit) {
             if counts.since >= UPDATES {
                 if !self.renew()? {
@@ -39,10 +40,7 @@ impl State {
                 }
                 self.shift_costs();
                 counts.since = 0;
-                watcher.see(Stage::Values {
-                    pivots: self.made,
-                    below: self.values_below(),
-                });
+                self.tell_values(watcher);
             }
             if counts.pivots >= limit {
                 break;
@@ -63,6 +61,14 @@ impl State {
             end: End::Stopped,
             pivots: counts.pivots,
         })
+    }
+
+    /// Tells how far the values are from being at least 0.
+    fn tell_values(&self, watcher: &mut dyn Watcher) {
+        watcher.see(Stage::Values {
+            pivots: self.made,
+            below: self.values_below(),
+        });
     }
 
     /// One turn: a pivot, or why there is none.

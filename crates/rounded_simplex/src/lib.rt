@@ -1,6 +1,7 @@
 //! The simplex method in rounded numbers: a guess at the optimum of a linear program, for an exact check to judge.
 #![tactic(auto)]
 
+mod at_once;
 mod choices;
 mod dual;
 mod ending;

@@ -32,8 +32,7 @@ pub(crate) struct Finished {
 }
 
 impl State {
-    /// All phases, with at most `limit` pivots. Costs are raised at the start where it is that of all slacks, at which few steps would
-    /// differ otherwise.
+    /// All phases, with at most `limit` pivots.
     pub(crate) fn run(
         &mut self,
         from_slacks: bool,
@@ -42,19 +41,14 @@ impl State {
     ) -> Result<Finished, AllocError>
         ensures { IfOk result (λ f. f.pivots ≤ limit) }
     {
-        if from_slacks {
-            self.raise_costs();
-        } else {
-            self.take_costs();
-        }
-        if !self.renew()? {
+        if !self.begin(from_slacks)? {
             return Ok(Finished {
                 finish: Finish::GivenUp,
                 pivots: 0,
             });
         }
         self.shift_costs();
-        let mut dual = self.dual_phase(from_slacks, limit, watcher)?;
+        let mut dual = self.dual_phase(true, limit, watcher)?;
         let mut pivots = dual.pivots;
         for _ in 0..MOST_ROUNDS {
             let finish = match dual.end {
@@ -86,6 +80,22 @@ impl State {
             finish: Finish::GivenUp,
             pivots,
         })
+    }
+
+    /// Takes the costs of the dual phase, and makes the numbers of the first basis. The costs are raised where it is that of all slacks, at
+    /// which few steps would differ otherwise; at another, columns enter at once. False where the numbers are useless.
+    fn begin(&mut self, from_slacks: bool) -> Result<bool, AllocError> {
+        if from_slacks {
+            self.raise_costs();
+            return self.renew();
+        }
+        self.take_costs();
+        let is_well = self.renew()?;
+        if is_well && self.enter_at_once() {
+            self.renew()
+        } else {
+            Ok(is_well)
+        }
     }
 
     /// The primal phase with its own costs.

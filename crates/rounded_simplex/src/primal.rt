@@ -21,16 +21,14 @@ impl State {
     {
         let mut counts = Counts::new();
         let mut weights = constant(self.alloc, 1.0, self.variables())?;
+        self.tell_costs(watcher);
         for _ in 0..most_turns(limit) {
             if counts.since >= UPDATES {
                 if !self.renew()? {
                     break;
                 }
                 counts.since = 0;
-                watcher.see(Stage::Costs {
-                    pivots: self.made,
-                    below: self.costs_below(),
-                });
+                self.tell_costs(watcher);
             }
             if counts.pivots >= limit {
                 break;
@@ -47,6 +45,14 @@ impl State {
             end: End::Stopped,
             pivots: counts.pivots,
         })
+    }
+
+    /// Tells how far the reduced costs are from being at least 0.
+    fn tell_costs(&self, watcher: &mut dyn Watcher) {
+        watcher.see(Stage::Costs {
+            pivots: self.made,
+            below: self.costs_below(),
+        });
     }
 
     /// One turn: a pivot, or why there is none.

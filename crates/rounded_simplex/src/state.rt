@@ -113,12 +113,12 @@ impl State {
         }
     }
 
-    /// What the values are below 0, all together.
+    /// By how much the values are below 0, all together.
     pub(crate) fn values_below(&self) -> f64 {
         below(&self.values)
     }
 
-    /// What the reduced costs are below 0, all together.
+    /// By how much the reduced costs are below 0, all together.
     pub(crate) fn costs_below(&self) -> f64 {
         below(&self.reduced_costs)
     }
@@ -345,7 +345,7 @@ pub(crate) fn all_finite(numbers: &[f64]) -> bool {
     numbers.iter().all(|number| number.is_finite())
 }
 
-/// What numbers are below 0, all together.
+/// By how much numbers are below 0, all together.
 fn below(numbers: &[f64]) -> f64 {
     let mut sum = 0.0;
     for number in numbers {

@@ -12,7 +12,7 @@ use crate::attempt::{Attempt, no_guess};
 use crate::certifying::certified;
 use crate::limit::limited_guess;
 use crate::tries::RoundedEnd;
-use call_stages::Watcher;
+use call_stages::{Stage, Watcher};
 use certified_answers::NoAnswer;
 use exact_num::Frac;
 use presolved_program::{Aim, Stop, prepare};
@@ -44,6 +44,7 @@ pub(crate) fn costless_plan(
 {
     match costless_end(alloc, problem.reduced, pivots, watcher) {
         Ok(end) => {
+            watcher.see(Stage::Checks);
             let found = certified(alloc, problem, &end.values, &end.lambda, ppm, end.pivots)?;
             Ok(Attempt::Found(found))
         }
@@ -68,6 +69,7 @@ fn costless_end(
     let asked = rounded_program(alloc, &smaller, &margins)?;
     match limited_guess(alloc, &asked, pivots, watcher)? {
         Answer::Solved(guess) => {
+            watcher.see(Stage::Rounding);
             let values = values_of(alloc, &smaller, &margins, &guess.values)?;
             let lambda = zeros(alloc, reduced.rows.len())?;
             Ok(RoundedEnd {

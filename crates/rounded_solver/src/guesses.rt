@@ -5,12 +5,12 @@ ghost use Rattle.row_core.specs.Numbers.{ascends, keys_of};
 ghost use Rattle.row_core.specs.Order.{var_cmp};
 ghost use Rattle.rounded_solver.specs.Guesses.{IfValues};
 
-use crate::limit::guess_from;
+use crate::limit::{Origin, guess_from};
 use crate::plans::plan_of;
 use crate::refuting::make_guess;
 use crate::starting::{floats_of, starting_basis};
 use crate::tries::rounded_end;
-use call_stages::Watcher;
+use call_stages::{Stage, Watcher};
 use exact_num::Frac;
 use presolved_program::{Aim, Stop, prepare};
 use rounded_program::{margins_of, rounded_program, values_of};
@@ -44,7 +44,7 @@ pub struct GuessedOptimum {
 
 /// Guesses at values of least cost, with so many decimals, by so many pivots at most. It begins from `start`, a value for each column in
 /// order, of any accuracy, where there are any, and leaves those that it finds there, rounded, for the next guess, and none where it gives
-/// up. Refuses only out of memory.
+/// up; where there seem to be no values, those that it began from stay. Refuses only out of memory.
 ///
 /// A value stands for each column, in order; that they meet the rows, or that no values do, has to be checked.
 pub fn guess_values(
@@ -87,8 +87,9 @@ fn values_guessed(
     let margins = margins_of(alloc, &smaller, places, DIGITS)?;
     let asked = rounded_program(alloc, &smaller, &margins)?;
     let basis = starting_basis(alloc, &smaller, &asked, start)?;
-    match guess_from(alloc, &asked, &basis, pivots, watcher)? {
+    match guess_from(alloc, &asked, &basis, Origin::Values, pivots, watcher)? {
         Answer::Solved(guess) => {
+            watcher.see(Stage::Rounding);
             let values = values_of(alloc, &smaller, &margins, &guess.values)?;
             *start = floats_of(alloc, &values)?;
             let plan = plan_of(alloc, reduced.columns.as_slice(), &values)?;
@@ -100,8 +101,8 @@ fn values_guessed(
 }
 
 /// Guesses at values of least cost with so many decimals, and at the multipliers that prove that cost with so many significant
-/// digits, by so many pivots at most. None where nothing is guessed. It begins from `start`, and leaves values there, as `guess_values`
-/// does. Refuses only out of memory.
+/// digits, by so many pivots at most. None where nothing is guessed. It begins from `start`, as `guess_values` does, and leaves the values that it
+/// finds there, and none where nothing is guessed. Refuses only out of memory.
 ///
 /// That the values meet the rows, and that the multipliers prove a cost near theirs, has to be checked. `TRIES` has the numbers of
 /// decimals and digits to be tried, in order.

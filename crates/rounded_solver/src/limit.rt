@@ -10,6 +10,15 @@ use std::alloc::{AllocError, Global};
 /// A tenth of 2^-34: what the guess may miss a row by. The margins have twenty times that.
 const TOLERANCE: f64 = 0.1 / 17179869184.0;
 
+/// Of what the variables are with which a guess begins.
+#[derive(Clone, Copy)]
+pub(crate) enum Origin {
+    /// Those of a basis at which another guess at nearly the same program ended.
+    Guess,
+    /// Those that given values tell, which may be of another model.
+    Values,
+}
+
 /// A guess at a linear program by at most so many pivots, and by not many more than there are rows and columns.
 pub(crate) fn limited_guess(
     alloc: Global,
@@ -19,7 +28,7 @@ pub(crate) fn limited_guess(
 ) -> Result<Answer, AllocError>
     ensures { IfOk result (IfSolved (λ guess. guess.pivots ≤ pivots)) }
 {
-    guess_from(alloc, asked, &[], pivots, watcher)
+    guess_from(alloc, asked, &[], Origin::Guess, pivots, watcher)
 }
 
 /// The same, from these variables in the basis, where there are any.
@@ -27,6 +36,7 @@ pub(crate) fn guess_from(
     alloc: Global,
     asked: &LinearProgram,
     start: &[usize],
+    origin: Origin,
     pivots: u64,
     watcher: &mut dyn Watcher,
 ) -> Result<Answer, AllocError>
@@ -37,25 +47,24 @@ pub(crate) fn guess_from(
         asked,
         start,
         TOLERANCE,
-        pivot_limit(asked, start, pivots),
+        pivot_limit(asked, start, origin, pivots),
         watcher,
     )
 }
 
-/// Of so many pivots those that a guess may make, from these variables in the basis: at most ten for each row and column where there are
-/// none, and 1,000 more, since a guess that takes as many goes in circles; and else one for every four of them, and 1,000 more, since a start
-/// that helps saves most pivots, and from a wrong one a guess may take many times what it takes from nothing.
-fn pivot_limit(asked: &LinearProgram, start: &[usize], pivots: u64) -> u64
+/// Of so many pivots those that a guess may make, from these variables in the basis: at most ten for each row and column, and 1,000 more,
+/// since a guess that takes as many goes in circles. Where given values tell the variables, one for every eight rows and columns, and 1,000
+/// more: values that help save most pivots, and from wrong ones a guess may take longer than from nothing.
+fn pivot_limit(asked: &LinearProgram, start: &[usize], origin: Origin, pivots: u64) -> u64
     ensures { result ≤ pivots }
 {
     let size = asked
         .right_sides
         .len()
-        .saturating_add(asked.raised_costs.len());
-    let most = if start.is_empty() {
-        (size as u64).saturating_mul(10)
-    } else {
-        size as u64 / 4
+        .saturating_add(asked.raised_costs.len()) as u64;
+    let most = match origin {
+        Origin::Values if !start.is_empty() => size / 8,
+        _ => size.saturating_mul(10),
     };
     pivots.min(most.saturating_add(1000))
 }

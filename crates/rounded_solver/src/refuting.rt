@@ -95,6 +95,7 @@ pub(crate) fn make_guess(
     let asked = elastic_program(alloc, smaller, &margins)?;
     match limited_guess(alloc, &asked, pivots, watcher)? {
         Answer::Solved(guess) => {
+            watcher.see(Stage::Rounding);
             let lambda = multipliers_of(alloc, smaller, &margins, &guess.multipliers)?;
             Ok(Refuting {
                 lambda,

@@ -5,7 +5,7 @@
 ghost use Rattle.std.specs.Prelude.{◌≤◌, IfOk, IfSome};
 
 use crate::carried_back::{Proving, multipliers_of_rows};
-use crate::limit::{guess_from, limited_guess};
+use crate::limit::{Origin, guess_from, limited_guess};
 use crate::raising::raised_values;
 use crate::room::{Room, room_of, rounding_within};
 use crate::sizes::sum_errors;
@@ -67,6 +67,7 @@ pub(crate) fn measure(
 ) -> Result<Option<Measured>, Stop>
     ensures { IfOk result (λ first. IfSome first (λ measured. measured.pivots ≤ pivots)) }
 {
+    watcher.see(Stage::Elimination);
     let layout = layout_of(alloc, rows, defs, vars)?;
     let smaller = prepare_rows(alloc, rows, vars, &layout, Aim::Cheapest)?;
     if smaller.is_false() {
@@ -102,7 +103,16 @@ fn first_guess(
     let asked = rounded_program(alloc, smaller, &margins)?;
     let given = column_values(alloc, layout, start)?;
     let basis = starting_basis(alloc, smaller, &asked, &given)?;
-    end_of_guess(alloc, smaller, &margins, &asked, &basis, pivots, watcher)
+    end_of_guess(
+        alloc,
+        smaller,
+        &margins,
+        &asked,
+        &basis,
+        Origin::Values,
+        pivots,
+        watcher,
+    )
 }
 
 /// A guess at the program with these margins, from this basis, if there is one; none where there seems to be no plan.
@@ -112,12 +122,13 @@ fn end_of_guess(
     margins: &Margins,
     asked: &LinearProgram,
     start: &[usize],
+    origin: Origin,
     pivots: u64,
     watcher: &mut dyn Watcher,
 ) -> Result<Option<Ended>, Stop>
     ensures made { IfOk result (λ end. IfSome end (λ e. e.pivots ≤ pivots)) }
 {
-    match guess_from(alloc, asked, start, pivots, watcher)? {
+    match guess_from(alloc, asked, start, origin, pivots, watcher)? {
         Answer::Solved(guess) => {
             watcher.see(Stage::Rounding);
             let values = values_of(alloc, smaller, margins, &guess.values)?;
@@ -201,7 +212,16 @@ fn last_guess(
 {
     let margins = margins_for(alloc, &smaller, rounding, digits)?;
     let asked = rounded_program(alloc, &smaller, &margins)?;
-    end_of_guess(alloc, &smaller, &margins, &asked, &basis, pivots, watcher)
+    end_of_guess(
+        alloc,
+        &smaller,
+        &margins,
+        &asked,
+        &basis,
+        Origin::Guess,
+        pivots,
+        watcher,
+    )
 }
 
 /// What multipliers that show that there is no plan are guessed of.
@@ -286,6 +306,7 @@ fn refuting_end(
     let asked = elastic_program(alloc, smaller, margins)?;
     match limited_guess(alloc, &asked, pivots, watcher)? {
         Answer::Solved(guess) => {
+            watcher.see(Stage::Rounding);
             let named = named_multipliers(alloc, smaller, margins, &guess.multipliers)?;
             Ok(Ended {
                 values: Vec::new(alloc),

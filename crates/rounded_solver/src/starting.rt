@@ -3,6 +3,8 @@
 //! At a corner of the plans the variables that aren't 0 are basic. Values that were rounded tell which these are but for what margins make:
 //! where a plan uses nothing, a row's right side is a little below 0, so that some column has to be a little above it.
 
+ghost use Rattle.std.specs.Prelude.{◌≡◌, length, IfOk};
+
 use exact_num::Frac;
 use presolved_program::{Layout, Program, Stop, at, filled, float_of_frac, put};
 use rounded_simplex::LinearProgram;
@@ -44,10 +46,12 @@ struct Relief {
 }
 
 /// The values of a plan for these variables, in order, rounded; 0 where the plan has none. Guesses at a similar model may start from them.
-pub fn starting_values(alloc: Global, plan: &Plan, vars: &[Var]) -> Result<Vec<f64>, AllocError> {
+pub fn starting_values(alloc: Global, plan: &Plan, vars: &[Var]) -> Result<Vec<f64>, AllocError>
+    ensures { IfOk result (λ values. length values.items ≡ length vars.now) }
+{
     let mut values = Vec::with_capacity(alloc, vars.len())?;
-    for var in vars {
-        values.push(float_of_frac(plan.value(*var)))?;
+    for place in 0..vars.len() {
+        values.push(float_of_frac(plan.value(vars[place])))?;
     }
     Ok(values)
 }
@@ -257,9 +261,8 @@ fn has_room(asked: &LinearProgram, point: &Point, row: usize) -> Result<bool, St
     Ok(slack > SLACK_PART * terms.size + CLEAR)
 }
 
-/// Appends the columns that aren't 0, ascending. Of those that were raised for a row, each needs that row for itself: where others have made
-/// room in it since, its slack is basic, and with the column too there would be more basic variables than rows, so that one that matters
-/// could be left out.
+/// Appends the columns that aren't 0, ascending. One that was raised for a row is left out where others have made room in that row since: its
+/// slack is basic then, and with both there would be more basic variables than rows, so that one that matters could be left out.
 fn push_columns(
     basis: &mut Vec<usize>,
     asked: &LinearProgram,

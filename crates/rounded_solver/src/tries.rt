@@ -7,7 +7,7 @@ ghost use Rattle.certified_answers.specs.Answers.{IsComplete, IsMadeWithin, IsNa
 
 use crate::attempt::{Attempt, no_guess};
 use crate::certifying::certified;
-use crate::limit::guess_from;
+use crate::limit::{Origin, guess_from};
 use crate::starting::{floats_of, starting_basis};
 use call_stages::{Stage, Watcher};
 use certified_answers::NoAnswer;
@@ -113,7 +113,7 @@ pub(crate) fn rounded_end(
     let margins = margins_of(alloc, smaller, places, digits)?;
     let asked = rounded_program(alloc, smaller, &margins)?;
     let basis = starting_basis(alloc, smaller, &asked, start)?;
-    match guess_from(alloc, &asked, &basis, pivots, watcher)? {
+    match guess_from(alloc, &asked, &basis, Origin::Values, pivots, watcher)? {
         Answer::Solved(guess) => {
             watcher.see(Stage::Rounding);
             let values = values_of(alloc, smaller, &margins, &guess.values)?;

@@ -174,12 +174,9 @@ fn answer_eliminated(
 {
     watcher.see(Stage::Elimination);
     match eliminate_book(alloc, book) {
-        Ok(program) => {
-            watcher.see(Stage::Exact);
-            answer_program(
-                alloc, book, sets, &program, places, wanted, rounded, watcher,
-            )
-        }
+        Ok(program) => answer_program(
+            alloc, book, sets, &program, places, wanted, rounded, watcher,
+        ),
         Err(stop) => stop_on_elimination(alloc, book, sets, stop),
     }
 }
@@ -202,7 +199,10 @@ fn answer_program(
         → IfOk result (λ answer. DueForMethod places d book.now.rows wanted rounded answer.status answer.text.items) }
 {
     match wanted.method {
-        SolveMethod::Exact => answer_exactly(alloc, book, sets, program, places, wanted, rounded),
+        SolveMethod::Exact => {
+            watcher.see(Stage::Exact);
+            answer_exactly(alloc, book, sets, program, places, wanted, rounded)
+        }
         SolveMethod::Rounded => {
             match answer_rounded(alloc, book, sets, program, places, wanted, rounded, watcher)? {
                 Some(answer) => Ok(answer),

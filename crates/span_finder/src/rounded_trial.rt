@@ -6,7 +6,7 @@ ghost use Rattle.span_finder.specs.RoundedTrials.{IsClose, IsRoundedEnd, end_of}
 ghost use Rattle.span_finder.specs.Trials.{IsTrial};
 
 use crate::near::checked_near;
-use call_stages::Watcher;
+use call_stages::{Stage, Watcher};
 use certified_answers::{Goal, NoAnswer, accepted_bound, accepted_plan, plan_laws};
 use exact_num::Frac;
 use rounded_solver::{TRIES, guess_optimum};
@@ -39,10 +39,14 @@ pub(crate) fn rounded_trial(
     requires { IsTrial problem.now var goal }
     ensures { IfOk result (IsRoundedEnd problem.now var goal ppm) }
 {
+    let is_started = start.iter().any(|value| *value > 0.0);
     match accepted_try(alloc, problem, var, goal, start, ppm, pivots, watcher) {
         Ok(found) => Ok(found),
         Err(NoAnswer::Memory) => Err(NoAnswer::Memory),
-        Err(_) => {
+        Err(stop) => {
+            if !is_started {
+                return Err(stop);
+            }
             start.clear();
             accepted_try(alloc, problem, var, goal, start, ppm, pivots, watcher)
         }
@@ -100,15 +104,18 @@ fn one_try(
         pivots,
         watcher,
     )? {
-        Some(guessed) => carried(
-            alloc,
-            problem,
-            var,
-            goal,
-            &guessed.values,
-            &guessed.multipliers,
-            ppm,
-        ),
+        Some(guessed) => {
+            watcher.see(Stage::Checks);
+            carried(
+                alloc,
+                problem,
+                var,
+                goal,
+                &guessed.values,
+                &guessed.multipliers,
+                ppm,
+            )
+        }
         None => Err(NoAnswer::Nothing),
     }
 }

@@ -11,7 +11,7 @@ ghost use Rattle.span_finder.specs.Trials.{IsCapacityOf};
 use crate::found::RoundedSpan;
 use crate::limited::{LimitedRows, limited_rows};
 use crate::rounded_trial::rounded_trial;
-use call_stages::Watcher;
+use call_stages::{Stage, Watcher};
 use certified_answers::{Cost, Goal, NoAnswer};
 use exact_num::Frac;
 use rounded_solver::starting_values;
@@ -75,6 +75,7 @@ fn rounded_span(
     requires capacity { IsCapacityOf vars.now var }
     ensures { IfOk result (IsRoundedSpan rows.now vars.now (value_of limit) var ppm) }
 {
+    watcher.see(Stage::Elimination);
     let LimitedRows {
         rows: all,
         defs: all_defs,
