@@ -14,6 +14,11 @@ use std::alloc::{AllocError, Global};
 /// A row has room if its slack is above this part of its greatest term: values of four digits may leave as much in a row that is tight.
 const SLACK_PART: f64 = 1e-3;
 
+/// The plan of a model with other demands may leave room in rows that are tight: up to so many times SLACK_PART, in so many steps.
+const WIDENING: f64 = 1.25;
+
+const MOST_STEPS: usize = 20;
+
 /// A column counts in a row if its term is above this part of the row's greatest.
 const COLUMN_PART: f64 = 1e-6;
 
@@ -97,8 +102,10 @@ pub(crate) fn starting_basis(
     let mut point = point_of(alloc, asked, counting_values(alloc, asked, &all)?)?;
     if point.values.iter().any(|value| *value > 0.0) {
         let raised = relieve(alloc, asked, &mut point)?;
-        push_slacks(&mut basis, asked, &point)?;
-        push_columns(&mut basis, asked, &point, &raised)?;
+        let columns = basic_columns(alloc, asked, &point, &raised)?;
+        let narrow = narrow_part(asked, &point, columns.len())?;
+        push_slacks(&mut basis, asked, &point, narrow)?;
+        basis.extend_from_slice(&columns)?;
     }
     Ok(basis)
 }
@@ -244,10 +251,41 @@ fn note_relief(reliefs: &mut [Option<Relief>], row: usize, relief: Relief) -> Re
     Ok(())
 }
 
-/// Appends the slacks of the rows that have room, ascending.
-fn push_slacks(basis: &mut Vec<usize>, asked: &LinearProgram, point: &Point) -> Result<(), Stop> {
+/// The part of a row's size up to which its room is taken for none: where these columns and the slacks of all rows with room are more than
+/// there are rows, it grows until they aren't. The plan of a model with higher demands leaves room in every row of a demand, which is
+/// tight in the plan that is looked for.
+fn narrow_part(asked: &LinearProgram, point: &Point, columns: usize) -> Result<f64, Stop> {
+    let wanted = point.terms.len().saturating_sub(columns);
+    let mut narrow = SLACK_PART;
+    for _ in 0..MOST_STEPS {
+        if rooms_above(asked, point, narrow)? <= wanted {
+            break;
+        }
+        narrow *= WIDENING;
+    }
+    Ok(narrow)
+}
+
+/// How many rows have more room than this part of their size.
+fn rooms_above(asked: &LinearProgram, point: &Point, part: f64) -> Result<usize, Stop> {
+    let mut rooms = 0usize;
     for row in 0..point.terms.len() {
-        if has_room(asked, point, row)? {
+        if room_part(asked, point, row)? > part {
+            rooms = rooms.saturating_add(1);
+        }
+    }
+    Ok(rooms)
+}
+
+/// Appends the slacks of the rows that have more room than is narrow, ascending.
+fn push_slacks(
+    basis: &mut Vec<usize>,
+    asked: &LinearProgram,
+    point: &Point,
+    narrow: f64,
+) -> Result<(), Stop> {
+    for row in 0..point.terms.len() {
+        if room_part(asked, point, row)? > narrow {
             basis.push(point.values.len().saturating_add(row))?;
         }
     }
@@ -256,27 +294,32 @@ fn push_slacks(basis: &mut Vec<usize>, asked: &LinearProgram, point: &Point) -> 
 
 /// Whether a row has room.
 fn has_room(asked: &LinearProgram, point: &Point, row: usize) -> Result<bool, Stop> {
-    let terms = at(&point.terms, row)?;
-    let slack = at(&asked.right_sides, row)? - terms.taken;
-    Ok(slack > SLACK_PART * terms.size + CLEAR)
+    Ok(room_part(asked, point, row)? > SLACK_PART)
 }
 
-/// Appends the columns that aren't 0, ascending. One that was raised for a row is left out where others have made room in that row since: its
+/// A row's room as a part of its greatest term.
+fn room_part(asked: &LinearProgram, point: &Point, row: usize) -> Result<f64, Stop> {
+    let terms = at(&point.terms, row)?;
+    Ok((at(&asked.right_sides, row)? - terms.taken - CLEAR) / terms.size)
+}
+
+/// The columns that aren't 0, ascending. One that was raised for a row is left out where others have made room in that row since: its
 /// slack is basic then, and with both there would be more basic variables than rows, so that one that matters could be left out.
-fn push_columns(
-    basis: &mut Vec<usize>,
+fn basic_columns(
+    alloc: Global,
     asked: &LinearProgram,
     point: &Point,
     raised: &[Option<usize>],
-) -> Result<(), Stop> {
+) -> Result<Vec<usize>, Stop> {
+    let mut columns = Vec::new(alloc);
     for (column, value) in point.values.iter().enumerate() {
         let is_basic = match at(raised, column)? {
             Some(row) => !has_room(asked, point, row)?,
             None => *value > 0.0,
         };
         if is_basic {
-            basis.push(column)?;
+            columns.push(column)?;
         }
     }
-    Ok(())
+    Ok(columns)
 }
