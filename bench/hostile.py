@@ -17,7 +17,7 @@ STATUSES = range(10)
 HEADER = b"NAME,REGION,REGION2,TIMESLICE,TECHNOLOGY,FUEL,EMISSION,MODE,YEAR,VALUE\n"
 RECORD = b"NewCapacity,R,,,T,,,,2020,10\n"
 
-# Files of plans and multipliers: what follows the header, over and over.
+# Files of plans, multipliers and proofs: what follows the header, over and over.
 TABLES = {
     "commas": b",",
     "quotes": b'"',
@@ -30,6 +30,21 @@ TABLES = {
     "digits": b"9",
     "no header": None,
     "bytes above 127": b"\xff",
+}
+
+# Answers of other solvers to begin from: how they begin, and what follows over and over.
+CLP, GLPSOL, HIGHS = b"Optimal - objective value 80\n", b"s bas 1 1 f f 0\n", b"Model status\nOptimal\n\n# Primal solution values\nFeasible\nObjective 80\n# Columns 1\n"
+ANSWERS = {
+    "Clp, one column": (CLP, b"      0 C1 10 0\n"),
+    "Clp, spaces": (CLP, b" "),
+    "Clp, a long name": (CLP + b"      0 ", b"C"),
+    "Clp, digits": (CLP + b"      0 C1 ", b"9"),
+    "glpsol, one column": (GLPSOL, b"j 1 b 10 0\n"),
+    "glpsol, remarks": (b"", b"c\n"),
+    "HiGHS, one column": (HIGHS, b"C1 10\n"),
+    "line feeds": (b"", b"\n"),
+    "zero bytes": (b"", b"\x00"),
+    "records of a plan": (HEADER, RECORD),
 }
 
 
@@ -52,7 +67,10 @@ def measured(words, limit):
 
 
 def fault(status, out, err):
-    """What is wrong with an answer, or nothing: one of the ten statuses, nothing on standard error, and one line where it isn't 0 to 2."""
+    """What is wrong with an answer, or nothing: one of the ten statuses, nothing on standard error, and one line where it isn't 0 to 2, to
+    which `compare` says before it which files it is about."""
+    if out.startswith((b"files 1 2\n", b"files 3 4\n")):
+        out = out.split(b"\n", 1)[1]
     if status is None:
         return "took too long"
     if status not in STATUSES:
@@ -69,10 +87,18 @@ def table(name, size):
     return filled(RECORD, size) if piece is None else HEADER + filled(piece, size - len(HEADER))
 
 
+def answer(name, size):
+    head, piece = ANSWERS[name]
+    return head + filled(piece, size - len(head))
+
+
 def write(path, kind, name, size):
     """The text as a file. It isn't kept, since what this program holds counts as the other's memory until that begins."""
     with open(path, "wb") as file:
-        file.write(TEXTS[name]()[:size] if kind == "data" else table(name, size))
+        if kind == "data":
+            file.write(TEXTS[name]()[:size])
+        else:
+            file.write(answer(name, size) if kind == "answer" else table(name, size))
 
 
 def texts(names, program, examples, work):
@@ -81,6 +107,8 @@ def texts(names, program, examples, work):
     commands = [("data", f"data: {name}", ["mps", path]) for name in TEXTS]
     commands += [("plan", f"plan: {name}", ["check", base, path]) for name in TABLES]
     commands += [("multipliers", f"multipliers: {name}", ["check", base, plan, path]) for name in TABLES]
+    commands += [("proof", f"proof: {name}", ["check", base, "--proof", path]) for name in TABLES]
+    commands += [("answer", f"answer: {name}", ["solve", base, "--method", "rounded", "--start", path]) for name in ANSWERS]
     print(f"{'text':46} {'16 MiB':>8} {'64 MiB':>8} {'memory':>9} {'memory':>9}  status and answer")
     for kind, name, words in commands:
         if name not in names:
@@ -97,9 +125,10 @@ def texts(names, program, examples, work):
         os.remove(path)
 
 
-WORDS = ["mps", "check", "solve", "make", "explain", "conflict", "span", "--show", "--pivots", "--places", "--gap", "--", "-", "--help", "-h", "--version",
+WORDS = ["mps", "check", "solve", "make", "explain", "curve", "span", "table", "page", "compare", "warn", "reduce", "conflict", "all", "prices", "limits", "R", "T", "2020",
+         "rounded", "exact", "--exact", "--slack", "--start", "--proof", "--show", "--pivots", "--places", "--gap", "--", "-", "--help", "-h", "--version",
          "--method", "plan", "multipliers", "report", "0", "1", "3", "6", "9", "20000", "1000001", "-1", "1e3", "99999999999999999999", "--show=plan", "--pivots=1",
-         "", " ", "\u00e9", "*", "a" * 300, "--" + "x" * 50, "BASE", "PLAN", "MULT", "TEXT", "missing", "/", "."]
+         "", " ", "\u00e9", "*", "a" * 300, "--" + "x" * 50, "BASE", "PLAN", "MULT", "PROOF", "ANSWER", "TEXT", "missing", "/", "."]
 PIECES = [b"set ", b"param ", b"default ", b":=", b":", b";", b",", b"(tr)", b"[", b"]", b"*", b"'", b'"', b"#", b"/*", b"*/", b"\n", b"\r\n", b"\t", b" ", b"data;", b"end;",
           b"REGION", b"YEAR", b"TECHNOLOGY", b"R", b"T", b"2020", b"2021", b"1", b"-1", b"0.5", b"1e3", b"1e-99", b"999999999999999.999999999", b"9" * 40, b"1/3",
           b"NewCapacity", b"YearSplit", b"CapitalCost", b"OutputActivityRatio", b"\x00", b"\xff", b"\xef\xbb\xbf", b"NAME", b",,,,,,,,,"]
@@ -136,24 +165,43 @@ def random_text(dice, sound):
     return changed(dice, sound)
 
 
+# What is asked of a text of each kind.
+CALLS = {
+    "BASE": [
+        ["mps", "TEXT"], ["solve", "TEXT"], ["solve", "TEXT", "--show", "plan"], ["check", "TEXT", "PLAN"], ["check", "TEXT", "PLAN", "MULT"],
+        ["solve", "TEXT", "--method", "rounded"], ["explain", "TEXT"], ["explain", "TEXT", "--method", "rounded"], ["reduce", "TEXT"], ["warn", "TEXT"],
+        ["span", "TEXT", "R", "T", "2020", "--slack", "1000"], ["span", "TEXT", "R", "T", "2020", "--method", "rounded"], ["curve", "TEXT", "R", "CO2", "1,2"],
+        ["check", "TEXT", "--proof", "PROOF"], ["table", "TEXT", "PROOF", "all"], ["page", "TEXT", "PROOF"], ["compare", "BASE", "PROOF", "TEXT", "PROOF"],
+        ["compare", "TEXT", "PROOF", "BASE", "PROOF", "--show", "page"], ["solve", "TEXT", "--method", "rounded", "--start", "ANSWER"],
+    ],
+    "PLAN": [["check", "BASE", "TEXT"], ["solve", "BASE", "--method", "rounded", "--start", "TEXT"]],
+    "MULT": [["check", "BASE", "PLAN", "TEXT"]],
+    "PROOF": [
+        ["check", "BASE", "--proof", "TEXT"], ["table", "BASE", "TEXT", "limits"], ["table", "BASE", "TEXT", "NewCapacity"], ["page", "BASE", "TEXT"],
+        ["compare", "BASE", "TEXT", "BASE", "PROOF"], ["compare", "BASE", "PROOF", "BASE", "TEXT", "--show", "page"],
+    ],
+    "ANSWER": [["solve", "BASE", "--method", "rounded", "--start", "TEXT"]],
+}
+
+
 def random_call(dice, sound, path):
     """Words, and the text for the file that they may name."""
     if dice.random() < 0.3:
         words = [dice.choice(WORDS) for _ in range(dice.randrange(7))]
         return words, random_text(dice, sound["BASE"])
-    kind = dice.choice(["BASE", "BASE", "PLAN", "MULT"])
-    words = {
-        "BASE": dice.choice([["mps", "TEXT"], ["solve", "TEXT"], ["solve", "TEXT", "--show", "plan"], ["check", "TEXT", "PLAN"], ["check", "TEXT", "PLAN", "MULT"]]),
-        "PLAN": ["check", "BASE", "TEXT"],
-        "MULT": ["check", "BASE", "PLAN", "TEXT"],
-    }[kind]
-    return words, random_text(dice, sound[kind])
+    kind = dice.choice(["BASE", "BASE", "BASE", "PLAN", "MULT", "PROOF", "ANSWER"])
+    return dice.choice(CALLS[kind]), random_text(dice, sound[kind])
 
 
 def calls(count, program, examples, work):
-    paths = {"BASE": examples + "/base.dat", "PLAN": examples + "/base-plan.csv", "MULT": examples + "/base-multipliers.csv", "TEXT": work + "/text"}
+    paths = {"BASE": examples + "/base.dat", "PLAN": examples + "/base-plan.csv", "MULT": examples + "/base-multipliers.csv", "TEXT": work + "/text",
+             "PROOF": work + "/proof", "ANSWER": work + "/answer"}
+    with open(paths["PROOF"], "wb") as file:
+        subprocess.run([program, "solve", paths["BASE"], "--show", "proof"], stdout=file, stdin=subprocess.DEVNULL, check=True)
+    with open(paths["ANSWER"], "wb") as file:
+        file.write(CLP + b"      0 C1 10 0\n      1 C2 10 0\n      2 C3 0 0\n")
     sound = {}
-    for kind in ("BASE", "PLAN", "MULT"):
+    for kind in CALLS:
         with open(paths[kind], "rb") as file:
             sound[kind] = file.read()
     found, slowest, wrong = {}, (0.0, 0), 0
@@ -181,7 +229,8 @@ def main():
     program, examples, work = sys.argv[1:4]
     words = sys.argv[4:]
     count = int(words.pop(0)) if words and words[0].isdigit() else 10000
-    every = [f"data: {name}" for name in TEXTS] + [f"{kind}: {name}" for kind in ("plan", "multipliers") for name in TABLES] + [RANDOM]
+    every = [f"data: {name}" for name in TEXTS] + [f"{kind}: {name}" for kind in ("plan", "multipliers", "proof") for name in TABLES]
+    every += [f"answer: {name}" for name in ANSWERS] + [RANDOM]
     names = chosen(every, words)
     if names != [RANDOM]:
         texts(names, program, examples, work)

@@ -1,4 +1,6 @@
-"""Solves large models by guesses, from nothing and from what other solvers answer, beside these: large.py PROGRAM FOLDER [WORD ..]"""
+"""Solves large models by guesses, from nothing and from what other solvers answer, beside these: large.py PROGRAM FOLDER [WORD ..]
+
+PEER_SECONDS in the environment says how long a peer may take; ten minutes if it isn't there."""
 import os
 import subprocess
 import sys
@@ -6,7 +8,8 @@ import sys
 from mps import MIB, measured
 from planning import model
 
-LONGEST = 600  # seconds that a solver may take
+LONGEST = 3600  # seconds that the program may take
+PEER_LONGEST = int(os.environ.get("PEER_SECONDS", "600"))
 GAP = ["--gap", "10"]
 PIVOTS = ["--pivots", "1000000"]
 
@@ -18,9 +21,9 @@ LARGE = {
 }
 
 
-def timed(words, path):
+def timed(words, path, longest=LONGEST):
     """Status, processor seconds and the most memory of a call that may take so long."""
-    return measured(["sh", "-c", 'exec timeout "$0" "$@" 2>/dev/null', str(LONGEST), *words], path)
+    return measured(["sh", "-c", 'exec timeout "$0" "$@" 2>/dev/null', str(longest), *words], path)
 
 
 def size(path):
@@ -72,9 +75,9 @@ def by_peers(folder, kind, text):
         path = f"{folder}/{kind}.{name}"
         if os.path.exists(path):
             os.remove(path)
-        status, took, most = timed([*words, path], folder + "/log")
+        status, took, most = timed([*words, path], folder + "/log", PEER_LONGEST)
         ended = os.path.exists(path) and os.path.getsize(path) > 0
-        show(f"{name} on the text of {kind}", status, took, most, "" if ended else f"no answer in {LONGEST} seconds")
+        show(f"{name} on the text of {kind}", status, took, most, "" if ended else f"no answer in {PEER_LONGEST} seconds")
         if ended:
             found.append((f"solve from {name}'s answer to {kind}", path))
     return found

@@ -1,5 +1,5 @@
 #!/bin/sh
-# Runs each command of `osemosys` on the base example as often as it allocates memory, and has one allocation refused each time, the first,
+# Runs each command of `osemosys` on a small example as often as it allocates memory, and has one allocation refused each time, the first,
 # the second and so on; then as often as it opens, reads or writes, with one such call failing each time; and then with one read or write of
 # several bytes moving one alone. Prints how often each exit status came, and each run that crashed, lost a byte or told a wrong cause.
 # Words choose the commands that have one of them.
