@@ -26,6 +26,3 @@ pub use laws::{
     determination_law, existence_law, instance_laws, plan_laws, scaling_law, variable_laws,
 };
 pub use plan::PlainPlan;
-
-#[cfg(test)]
-mod tests;

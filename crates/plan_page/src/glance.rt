@@ -123,7 +123,7 @@ fn push_makers(
         let most = most_of(alloc, scene, region, fuel, *year, place)?;
         push_maker(rows, scene, fuel, most, level)?;
         seen.push(fuel)?;
-        next = fuel_behind(alloc, scene, region, most, seen.as_slice())?;
+        next = fuel_feeding(alloc, scene, region, most, seen.as_slice())?;
     }
     Ok(())
 }
@@ -185,7 +185,7 @@ fn with_maker(most: Most, technology: u16, made: Option<i128>) -> Most {
 }
 
 // The one fuel that the maker of all of a fuel takes, unless it was told already.
-fn fuel_behind(
+fn fuel_feeding(
     alloc: Global,
     scene: &Scene<'_>,
     region: u16,

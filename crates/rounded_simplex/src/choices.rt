@@ -21,21 +21,38 @@ pub(crate) fn at_least_zero(number: f64) -> f64 {
     if number < 0.0 { 0.0 } else { number }
 }
 
+/// A place that may be chosen, and what speaks for it.
+#[derive(Clone, Copy)]
+pub(crate) struct Choice {
+    pub(crate) place: usize,
+    pub(crate) gain: f64,
+}
+
+/// The better of the best so far and another: the greater gain, of equal ones the lesser place.
+#[inline]
+pub(crate) fn better(best: Option<Choice>, other: Choice) -> Option<Choice> {
+    if let Some(before) = best
+        && (other.gain < before.gain || (other.gain == before.gain && before.place < other.place))
+    {
+        best
+    } else {
+        Some(other)
+    }
+}
+
+/// Where a choice is.
+pub(crate) fn place_of(choice: Option<Choice>) -> Option<usize> {
+    match choice {
+        Some(found) => Some(found.place),
+        None => None,
+    }
+}
+
 impl State {
     /// The slot to leave in the dual phase: the greatest square of a negative value beside its weight.
-    pub(crate) fn leaving_slot(&self) -> Option<usize> {
-        let mut best = None;
-        let mut most = 0.0;
-        for (slot, value) in self.values.iter().enumerate() {
-            if *value < -self.tolerance {
-                let gain = *value * *value / at(&self.weights, slot, 1.0);
-                if best.is_none() || gain > most {
-                    best = Some(slot);
-                    most = gain;
-                }
-            }
-        }
-        best
+    pub(crate) fn leaving_slot(&mut self) -> Option<usize> {
+        self.blocks
+            .best(&self.values, &self.weights, -self.tolerance)
     }
 
     /// The variable to enter in the dual phase, by Harris's test: the greatest pivot among the steps that keep the
@@ -77,19 +94,21 @@ impl State {
     }
 
     /// The variable to enter in the primal phase: the greatest square of a negative reduced cost beside its weight.
-    pub(crate) fn entering_variable(&self, weights: &[f64]) -> Option<usize> {
+    pub(crate) fn entering_variable(&mut self, weights: &[f64]) -> Option<usize> {
+        self.low_variables
+            .keep_below(&self.reduced_costs, -self.tolerance);
         let mut best = None;
-        let mut most = 0.0;
-        for (variable, reduced) in self.reduced_costs.iter().enumerate() {
-            if *reduced < -self.tolerance && !self.basis.is_basic(variable) {
-                let gain = *reduced * *reduced / at(weights, variable, 1.0);
-                if gain > most {
-                    best = Some(variable);
-                    most = gain;
-                }
+        for variable in self.low_variables.places() {
+            if !self.basis.is_basic(*variable) {
+                let reduced = at(&self.reduced_costs, *variable, 0.0);
+                let choice = Choice {
+                    place: *variable,
+                    gain: reduced * reduced / at(weights, *variable, 1.0),
+                };
+                best = better(best, choice);
             }
         }
-        best
+        place_of(best)
     }
 
     /// The slot to leave in the primal phase, by Harris's test; of equal pivots that of the least variable.

@@ -4,7 +4,7 @@ ghost use Rattle.std.specs.Prelude.{◌≤◌, IfOk};
 
 use crate::choices::Pivot;
 use crate::ending::{Counts, End, PhaseEnd, Turn, most_turns};
-use crate::state::{State, UPDATES};
+use crate::state::State;
 use call_stages::{Stage, Watcher};
 use sparse_factors::{at, put};
 use std::alloc::AllocError;
@@ -34,7 +34,7 @@ impl State {
         let mut choices = MOST_CHOICES;
         self.tell_values(watcher);
         for _ in 0..most_turns(limit) {
-            if counts.since >= UPDATES {
+            if counts.since >= self.updates {
                 if !self.renew()? {
                     break;
                 }
@@ -50,7 +50,7 @@ impl State {
                 Turn::Reweighed => choices.saturating_sub(1),
                 _ => MOST_CHOICES,
             };
-            if let Some(end) = counts.after(turn, UPDATES) {
+            if let Some(end) = counts.after(turn, self.updates) {
                 return Ok(PhaseEnd {
                     end,
                     pivots: counts.pivots,
@@ -112,6 +112,7 @@ impl State {
         }
         let carried = at(&self.weights, slot, 1.0);
         put(&mut self.weights, slot, weight);
+        self.blocks.touch(slot);
         carried < WRONG_PART * weight
     }
 
@@ -146,6 +147,7 @@ impl State {
                 let entry = self.column.value(*index);
                 let value = at(&self.values, *index, 0.0) - step * entry;
                 put(&mut self.values, *index, value);
+                self.blocks.touch(*index);
                 let part = entry / pivot;
                 let carried = at(&self.weights, *index, 1.0);
                 let next = if steepest {

@@ -2,6 +2,8 @@
 #![tactic(auto)]
 
 mod at_once;
+mod blocks;
+mod candidates;
 mod choices;
 mod dual;
 mod ending;

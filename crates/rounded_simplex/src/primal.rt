@@ -5,7 +5,7 @@ ghost use Rattle.std.specs.Prelude.{◌≤◌, IfOk};
 use crate::choices::Pivot;
 use crate::dual::DRIFT;
 use crate::ending::{Counts, End, PhaseEnd, Turn, most_turns};
-use crate::state::{State, UPDATES, constant};
+use crate::state::{State, constant};
 use call_stages::{Stage, Watcher};
 use sparse_factors::{at, put};
 use std::alloc::AllocError;
@@ -23,7 +23,7 @@ impl State {
         let mut weights = constant(self.alloc, 1.0, self.variables())?;
         self.tell_costs(watcher);
         for _ in 0..most_turns(limit) {
-            if counts.since >= UPDATES {
+            if counts.since >= self.updates {
                 if !self.renew()? {
                     break;
                 }
@@ -34,7 +34,7 @@ impl State {
                 break;
             }
             let turn = self.primal_turn(&mut weights, counts.since > 0)?;
-            if let Some(end) = counts.after(turn, UPDATES) {
+            if let Some(end) = counts.after(turn, self.updates) {
                 return Ok(PhaseEnd {
                     end,
                     pivots: counts.pivots,
@@ -70,14 +70,19 @@ impl State {
         if aged && difference.abs() > DRIFT * (1.0 + leaving.size.abs()) {
             return Ok(Turn::Drifted);
         }
-        self.step_primal_costs(weights, entering, leaving);
+        self.step_primal_costs(weights, entering, leaving)?;
         self.step_primal_values(leaving);
         self.exchange(leaving.at, entering)?;
         Ok(Turn::Pivoted)
     }
 
     /// Takes the step in the reduced costs, and carries the weights.
-    fn step_primal_costs(&mut self, weights: &mut Vec<f64>, entering: usize, leaving: Pivot) {
+    fn step_primal_costs(
+        &mut self,
+        weights: &mut Vec<f64>,
+        entering: usize,
+        leaving: Pivot,
+    ) -> Result<(), AllocError> {
         let step = at(&self.reduced_costs, entering, 0.0) / leaving.size;
         let weight = at(weights, entering, 1.0);
         for variable in self.row_variables.iter() {
@@ -85,6 +90,9 @@ impl State {
                 let entry = self.row.value(*variable);
                 let reduced = at(&self.reduced_costs, *variable, 0.0) - step * entry;
                 put(&mut self.reduced_costs, *variable, reduced);
+                if reduced < -self.tolerance {
+                    self.low_variables.note(*variable)?;
+                }
                 let part = entry / leaving.size;
                 let next = part * part * weight;
                 if at(weights, *variable, 1.0) < next {
@@ -97,7 +105,11 @@ impl State {
             let next = weight / (leaving.size * leaving.size);
             put(&mut self.reduced_costs, variable, -step);
             put(weights, variable, if next < 1.0 { 1.0 } else { next });
+            if -step < -self.tolerance {
+                self.low_variables.note(variable)?;
+            }
         }
+        Ok(())
     }
 
     /// Takes the step in the values.

@@ -1,13 +1,16 @@
 //! The state of the simplex method, and what a pivot changes of it.
 
+use crate::blocks::Blocks;
+use crate::candidates::Candidates;
 use crate::scaling::Scaled;
 use sparse_factors::{Basis, Entry, Factors, Lists, SparseVector, at, factor, put};
 use std::alloc::{AllocError, Global};
 
-/// The factors are made anew after so many pivots.
-pub(crate) const UPDATES: u64 = 100;
-/// Room for the slots of so many updates.
-const ROOM: usize = 101;
+/// The factors are made anew after so many pivots, and one more for each ROWS_OF_UPDATE rows: to make them takes as long as there are rows,
+/// and a pivot only as long as what it meets isn't 0.
+const UPDATES: usize = 100;
+
+const ROWS_OF_UPDATE: usize = 200;
 /// So many singular bases in a row end the attempt.
 const MOST_REPAIRS: usize = 50;
 
@@ -29,6 +32,10 @@ pub(crate) struct State {
     pub(crate) costs: Vec<f64>,
     /// The reduced costs, by variable.
     pub(crate) reduced_costs: Vec<f64>,
+    /// In the dual phase which slots may leave.
+    pub(crate) blocks: Blocks,
+    /// In the primal phase all variables whose reduced costs are below 0, others among them.
+    pub(crate) low_variables: Candidates,
     /// The leaving slot's row of the inverse, by slot of the rows.
     pub(crate) inverse_row: SparseVector,
     /// That row while it was divided by U.
@@ -46,6 +53,8 @@ pub(crate) struct State {
     work: SparseVector,
     /// For rows that no update needs.
     unused: Vec<Entry>,
+    /// The factors are made anew after so many pivots.
+    pub(crate) updates: u64,
     /// How many pivots were made.
     pub(crate) made: u64,
 }
@@ -58,11 +67,8 @@ impl State {
         start: &[usize],
         tolerance: f64,
     ) -> Result<Option<State>, AllocError> {
-        let mut basis = if start.is_empty() {
-            Basis::of_slacks(alloc, program.rows, program.columns, ROOM)?
-        } else {
-            Basis::of_variables(alloc, program.rows, program.columns, ROOM, start)?
-        };
+        let updates = UPDATES.saturating_add(program.rows / ROWS_OF_UPDATE);
+        let mut basis = first_basis(alloc, &program, start, updates)?;
         let Some(factors) = mended_factors(alloc, &program, &mut basis)? else {
             return Ok(None);
         };
@@ -75,6 +81,8 @@ impl State {
             kept_weights: constant(alloc, 1.0, variables)?,
             costs: constant(alloc, 0.0, variables)?,
             reduced_costs: constant(alloc, 0.0, variables)?,
+            blocks: Blocks::unknown(alloc, room)?,
+            low_variables: Candidates::none(alloc, variables)?,
             inverse_row: SparseVector::zeros(alloc, room)?,
             row_in_upper: Vec::new(alloc),
             row: SparseVector::zeros(alloc, variables)?,
@@ -84,6 +92,7 @@ impl State {
             steepest: SparseVector::zeros(alloc, room)?,
             work: SparseVector::zeros(alloc, room)?,
             unused: Vec::new(alloc),
+            updates: updates as u64,
             made: 0,
             program,
             tolerance,
@@ -107,6 +116,9 @@ impl State {
                 self.restore_weights();
                 self.solve_values()?;
                 self.solve_reduced_costs()?;
+                self.blocks.touch_all();
+                self.low_variables
+                    .note_below(&self.reduced_costs, -self.tolerance)?;
                 Ok(all_finite(&self.values) && all_finite(&self.reduced_costs))
             }
             None => Ok(false),
@@ -152,6 +164,7 @@ impl State {
         for weight in self.weights.iter_mut() {
             *weight = 1.0;
         }
+        self.blocks.touch_all();
     }
 
     /// Solves for the values of the basic variables, and once more for what the first solution misses.
@@ -321,8 +334,25 @@ impl State {
         let weight = at(&self.weights, slot, 1.0);
         put(&mut self.weights, added, weight);
         put(&mut self.weights, slot, 1.0);
+        self.blocks.touch(slot);
+        self.blocks.touch(added);
         self.made = self.made.saturating_add(1);
         Ok(())
+    }
+}
+
+/// The basis of these variables, or of all slacks where there are none, with room for so many updates and one more.
+fn first_basis(
+    alloc: Global,
+    program: &Scaled,
+    start: &[usize],
+    updates: usize,
+) -> Result<Basis, AllocError> {
+    let room = updates.saturating_add(1);
+    if start.is_empty() {
+        Basis::of_slacks(alloc, program.rows, program.columns, room)
+    } else {
+        Basis::of_variables(alloc, program.rows, program.columns, room, start)
     }
 }
 

@@ -14,10 +14,9 @@ use std::alloc::{AllocError, Global};
 /// A row has room if its slack is above this part of its greatest term: values of four digits may leave as much in a row that is tight.
 const SLACK_PART: f64 = 1e-3;
 
-/// The plan of a model with other demands may leave room in rows that are tight: up to so many times SLACK_PART, in so many steps.
-const WIDENING: f64 = 1.25;
-
-const MOST_STEPS: usize = 20;
+/// The same of a row that asks for something, as that of a demand does. The plan of a model with higher demands leaves room in each of these,
+/// which are tight in the plan that is looked for; that of the same model seldom leaves so little.
+const NEED_PART: f64 = 0.25;
 
 /// A column counts in a row if its term is above this part of the row's greatest.
 const COLUMN_PART: f64 = 1e-6;
@@ -103,8 +102,7 @@ pub(crate) fn starting_basis(
     if point.values.iter().any(|value| *value > 0.0) {
         let raised = relieve(alloc, asked, &mut point)?;
         let columns = basic_columns(alloc, asked, &point, &raised)?;
-        let narrow = narrow_part(asked, &point, columns.len())?;
-        push_slacks(&mut basis, asked, &point, narrow)?;
+        push_slacks(&mut basis, asked, &point)?;
         basis.extend_from_slice(&columns)?;
     }
     Ok(basis)
@@ -251,41 +249,10 @@ fn note_relief(reliefs: &mut [Option<Relief>], row: usize, relief: Relief) -> Re
     Ok(())
 }
 
-/// The part of a row's size up to which its room is taken for none: where these columns and the slacks of all rows with room are more than
-/// there are rows, it grows until they aren't. The plan of a model with higher demands leaves room in every row of a demand, which is
-/// tight in the plan that is looked for.
-fn narrow_part(asked: &LinearProgram, point: &Point, columns: usize) -> Result<f64, Stop> {
-    let wanted = point.terms.len().saturating_sub(columns);
-    let mut narrow = SLACK_PART;
-    for _ in 0..MOST_STEPS {
-        if rooms_above(asked, point, narrow)? <= wanted {
-            break;
-        }
-        narrow *= WIDENING;
-    }
-    Ok(narrow)
-}
-
-/// How many rows have more room than this part of their size.
-fn rooms_above(asked: &LinearProgram, point: &Point, part: f64) -> Result<usize, Stop> {
-    let mut rooms = 0usize;
+/// Appends the slacks of the rows that have room, ascending.
+fn push_slacks(basis: &mut Vec<usize>, asked: &LinearProgram, point: &Point) -> Result<(), Stop> {
     for row in 0..point.terms.len() {
-        if room_part(asked, point, row)? > part {
-            rooms = rooms.saturating_add(1);
-        }
-    }
-    Ok(rooms)
-}
-
-/// Appends the slacks of the rows that have more room than is narrow, ascending.
-fn push_slacks(
-    basis: &mut Vec<usize>,
-    asked: &LinearProgram,
-    point: &Point,
-    narrow: f64,
-) -> Result<(), Stop> {
-    for row in 0..point.terms.len() {
-        if room_part(asked, point, row)? > narrow {
+        if has_room(asked, point, row)? {
             basis.push(point.values.len().saturating_add(row))?;
         }
     }
@@ -294,13 +261,14 @@ fn push_slacks(
 
 /// Whether a row has room.
 fn has_room(asked: &LinearProgram, point: &Point, row: usize) -> Result<bool, Stop> {
-    Ok(room_part(asked, point, row)? > SLACK_PART)
-}
-
-/// A row's room as a part of its greatest term.
-fn room_part(asked: &LinearProgram, point: &Point, row: usize) -> Result<f64, Stop> {
     let terms = at(&point.terms, row)?;
-    Ok((at(&asked.right_sides, row)? - terms.taken - CLEAR) / terms.size)
+    let right = at(&asked.right_sides, row)?;
+    let part = if right < -LEAST {
+        NEED_PART
+    } else {
+        SLACK_PART
+    };
+    Ok(right - terms.taken - CLEAR > part * terms.size)
 }
 
 /// The columns that aren't 0, ascending. One that was raised for a row is left out where others have made room in that row since: its

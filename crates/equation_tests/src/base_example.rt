@@ -1,8 +1,8 @@
 //! The base example, worked by hand: one member of each set but EMISSION, and defaults alone.
 
-use crate::{PlainData, PlainDefault, PlainFail, PlainPlan, PlainValue, equation};
 use model_sets::Sets;
 use model_sets::param_numbers::{DISCOUNT_RATE_IDV, OPERATIONAL_LIFE, USED_PARAM_COUNT};
+use plain_equations::{PlainData, PlainDefault, PlainFail, PlainPlan, PlainValue, equation};
 use row_core::equation_numbers::{CC1, E9};
 use row_core::kind_numbers::{CAPITAL_INVESTMENT, KIND_COUNT, NEW_CAPACITY};
 use row_core::{Index, RowName, Var};
