@@ -88,9 +88,11 @@ def main():
     used = resource.getrusage(resource.RUSAGE_CHILDREN)
     with open(log) as file:
         last = file.read().rstrip().rpartition("\n")[2]
+    command = " ".join(["rt", "ci", *words])
+    minutes = (used.ru_utime + used.ru_stime) / 60, (time.time() - begun) / 60
     said = (
-        f"{datetime.date.today()}, {len(os.sched_getaffinity(0))} processors, `rt ci {' '.join(words)}`".replace(" `", " `", 1).replace(" `,", "`,")
-        + f": {(used.ru_utime + used.ru_stime) / 60:.0f} processor minutes in {(time.time() - begun) / 60:.0f} minutes; {last}."
+        f"{datetime.date.today()}, {len(os.sched_getaffinity(0))} processors, `{command}`"
+        f": {minutes[0]:.0f} processor minutes in {minutes[1]:.0f} minutes; {last}."
     )
     lines = table(seen)
     print(said, *lines, sep="\n")
