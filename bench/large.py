@@ -9,6 +9,7 @@ from mps import MIB, measured
 from planning import model
 
 LONGEST = 3600  # seconds that the program may take
+LONGEST_FILE = 64 * MIB  # what the program reads of a file
 PEER_LONGEST = int(os.environ.get("PEER_SECONDS", "600"))
 GAP = ["--gap", "10"]
 PIVOTS = ["--pivots", "1000000"]
@@ -68,6 +69,22 @@ def solve(program, path, folder, start=None):
     return status, took, most, line
 
 
+def proof_files(proof):
+    """The words by which `check` gets a proof: its file, or one of the plan and one of the multipliers where one file would be too long."""
+    if os.path.getsize(proof) <= LONGEST_FILE:
+        return ["--proof", proof]
+    plan, multipliers = proof + ".plan", proof + ".multipliers"
+    with open(proof) as file, open(plan, "w") as values, open(multipliers, "w") as prices:
+        header = file.readline()
+        values.write(header)
+        prices.write(header)
+        for record in file:
+            word = record.partition(",")[0]
+            # (equations' words have a digit, or begin so; those of variables don't)
+            (prices if word.startswith("EQ_") or any(map(str.isdigit, word)) else values).write(record)
+    return [plan, multipliers]
+
+
 def by_peers(folder, kind, text):
     """What Clp, CBC and glpsol answer to a text: each one's name and the file of its answer, where it ended in time."""
     found = []
@@ -100,7 +117,7 @@ def one(program, folder, name, case, seed):
     show("solve from nothing", *solve(program, path, folder))
     proof = folder + "/proof"
     timed([program, "solve", path, "--method", "rounded", *PIVOTS, *GAP, "--show", "proof"], proof)
-    status, took, most = timed([program, "check", path, "--proof", proof, *GAP], folder + "/verdict")
+    status, took, most = timed([program, "check", path, *proof_files(proof), *GAP], folder + "/verdict")
     with open(folder + "/verdict", errors="replace") as file:
         show("check of its proof", status, took, most, file.readline().strip())
     for kind, text in texts.items():
