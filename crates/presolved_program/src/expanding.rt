@@ -50,42 +50,57 @@ pub fn expanded(
 ) -> Result<Inequalities, Stop> {
     let columns = layout.chosen.as_slice();
     let mut all = no_rows(alloc, free_among(alloc, vars, columns)?)?;
+    expand(alloc, &mut all, rows, vars, layout, aim)?;
+    Ok(all)
+}
+
+/// Adds the rows that read at most, and the costs for an aim.
+// (What is owned is made in one function and filled in another: each `?` of a function drops all that it owns, and each drop is proved.)
+fn expand(
+    alloc: Global,
+    all: &mut Inequalities,
+    rows: &[Row],
+    vars: &[Var],
+    layout: &Layout,
+    aim: Aim,
+) -> Result<(), Stop> {
+    let columns = layout.chosen.as_slice();
     let mut expanding = Expanding {
         sums: column_sums(alloc, vars.len(), columns)?,
         gathered: Gathered::new(alloc, columns.len())?,
     };
+    expand_rows(alloc, all, &mut expanding, rows, vars, layout)?;
+    price(alloc, all, vars, layout, columns)?;
+    if aim != Aim::Cheapest {
+        forget_costs(all, aim)?;
+    }
+    Ok(())
+}
+
+/// Takes the rows one after another: a definition is kept, another row that reads at most is added.
+fn expand_rows(
+    alloc: Global,
+    all: &mut Inequalities,
+    expanding: &mut Expanding,
+    rows: &[Row],
+    vars: &[Var],
+    layout: &Layout,
+) -> Result<(), Stop> {
     for (place, row) in rows.iter().enumerate() {
         match at(&layout.defined, place)? {
             Some(variable) => {
                 if !is_cost(at(vars, variable)?.kind) {
-                    define(
-                        alloc,
-                        &mut expanding,
-                        row,
-                        item(&layout.rows, place)?,
-                        variable,
-                    )?;
+                    define(alloc, expanding, row, item(&layout.rows, place)?, variable)?;
                 }
             }
             None => {
                 if row.sense != Sense::Equal {
-                    add_row(
-                        alloc,
-                        &mut all,
-                        &mut expanding,
-                        row,
-                        item(&layout.rows, place)?,
-                        vars,
-                    )?;
+                    add_row(alloc, all, expanding, row, item(&layout.rows, place)?, vars)?;
                 }
             }
         }
     }
-    price(alloc, &mut all, vars, layout, columns)?;
-    if aim != Aim::Cheapest {
-        forget_costs(&mut all, aim)?;
-    }
-    Ok(all)
+    Ok(())
 }
 
 /// Which columns may be below 0.

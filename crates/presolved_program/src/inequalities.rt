@@ -47,14 +47,25 @@ pub struct Inequalities {
 /// The rows of a reduced program that read at most, for an aim.
 pub fn inequalities_of(alloc: Global, reduced: &Reduced, aim: Aim) -> Result<Inequalities, Stop> {
     let mut all = without_rows(alloc, reduced)?;
-    for (row, scale) in reduced.rows.iter().zip(reduced.scales.iter()) {
-        add_row(alloc, &mut all, reduced.columns.as_slice(), row, *scale)?;
-    }
-    price(&mut all, reduced)?;
-    if aim != Aim::Cheapest {
-        forget_costs(&mut all, aim)?;
-    }
+    add_rows(alloc, &mut all, reduced, aim)?;
     Ok(all)
+}
+
+/// Adds the rows, and the costs for an aim.
+fn add_rows(
+    alloc: Global,
+    all: &mut Inequalities,
+    reduced: &Reduced,
+    aim: Aim,
+) -> Result<(), Stop> {
+    for (row, scale) in reduced.rows.iter().zip(reduced.scales.iter()) {
+        add_row(alloc, all, reduced.columns.as_slice(), row, *scale)?;
+    }
+    price(all, reduced)?;
+    if aim != Aim::Cheapest {
+        forget_costs(all, aim)?;
+    }
+    Ok(())
 }
 
 /// The columns alone.

@@ -39,16 +39,28 @@ pub fn layout_of(
         chosen: Vec::new(alloc),
         left: Vec::new(alloc),
     };
+    fill(alloc, &mut layout, rows, defs, vars)?;
+    Ok(layout)
+}
+
+/// Lays the rows out, one after another.
+fn fill(
+    alloc: Global,
+    layout: &mut Layout,
+    rows: &[Row],
+    defs: &[Option<Var>],
+    vars: &[Var],
+) -> Result<(), Stop> {
     for (row, def) in rows.iter().zip(defs.iter()) {
-        add_row(alloc, &mut layout, row, vars)?;
-        add_definition(&mut layout, *def, vars)?;
+        add_row(alloc, layout, row, vars)?;
+        add_definition(layout, *def, vars)?;
     }
     for (variable, definer) in layout.definer.iter().enumerate() {
         if definer.is_none() {
             layout.chosen.push(variable)?;
         }
     }
-    Ok(layout)
+    Ok(())
 }
 
 /// Adds the entries of a row.

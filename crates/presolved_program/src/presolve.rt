@@ -21,31 +21,21 @@ pub(crate) enum Round {
     False(usize),
 }
 
-/// What presolve did, and a row that is false, where there is one.
-#[derive(Drop)]
-pub(crate) struct Presolved {
-    pub(crate) steps: Vec<Step>,
-    pub(crate) false_row: Option<usize>,
-}
-
-/// Switches rows and columns off, round by round.
-pub(crate) fn presolve(alloc: Global, all: &mut Inequalities) -> Result<Presolved, Stop> {
-    let mut presolved = Presolved {
-        steps: Vec::new(alloc),
-        false_row: None,
-    };
+/// Switches rows and columns off, round by round, and notes the steps. A row that is false, where there is one.
+pub(crate) fn presolve(
+    alloc: Global,
+    all: &mut Inequalities,
+    steps: &mut Vec<Step>,
+) -> Result<Option<usize>, Stop> {
     drop_implied(alloc, all)?;
     for _ in 0..ROUNDS {
-        match one_round(alloc, all, &mut presolved.steps)? {
+        match one_round(alloc, all, steps)? {
             Round::Changed => {}
             Round::Same => break,
-            Round::False(row) => {
-                presolved.false_row = Some(row);
-                break;
-            }
+            Round::False(row) => return Ok(Some(row)),
         }
     }
-    Ok(presolved)
+    Ok(None)
 }
 
 /// One round: rows, then columns with equal bounds, then columns that want one direction.

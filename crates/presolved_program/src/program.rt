@@ -14,6 +14,7 @@ use crate::stop::Stop;
 use crate::trades::{Merge, Trades, without_trades};
 use row_core::{Row, Var};
 use std::alloc::Global;
+use std::mem::swap;
 use written_method::Reduced;
 
 /// A linear program made smaller by exact steps, and all that undoes them.
@@ -67,35 +68,51 @@ pub fn prepare_rows(
 
 /// Makes rows that read at most smaller.
 fn prepared(alloc: Global, rows: Inequalities, aim: Aim) -> Result<Program, Stop> {
-    let mut all = rows;
-    let presolved = presolve(alloc, &mut all)?;
-    let trades = if presolved.false_row.is_some() {
-        Trades::none(alloc)
-    } else {
-        without_trades(alloc, &all)?
-    };
-    let left = left_of(alloc, &trades)?;
-    let false_line = false_line_of(&trades)?;
-    let columns = columns_of(alloc, &all)?;
-    let mut program = Program {
+    let mut program = unmade(alloc, rows);
+    make(alloc, &mut program, aim)?;
+    Ok(program)
+}
+
+/// The rows alone, before anything is made of them.
+// (What is owned is made in one function and filled in another: each `?` of a function drops all that it owns, and each drop is proved.)
+fn unmade(alloc: Global, all: Inequalities) -> Program {
+    Program {
         all,
-        steps: presolved.steps,
-        false_row: presolved.false_row,
-        lines: trades.lines,
-        merges: trades.merges,
-        false_line,
-        left,
-        columns,
+        steps: Vec::new(alloc),
+        false_row: None,
+        lines: Vec::new(alloc),
+        merges: Vec::new(alloc),
+        false_line: None,
+        left: Vec::new(alloc),
+        columns: Vec::new(alloc),
         uses: Vec::new(alloc),
         tops: Vec::new(alloc),
         equalities: Vec::new(alloc),
-    };
-    if program.is_false() {
-        program.left.clear();
-        program.columns.clear();
     }
-    complete(alloc, &mut program, aim)?;
-    Ok(program)
+}
+
+/// Presolves the rows, removes Trade, and notes what is left. Of a program with a false row or line nothing is.
+fn make(alloc: Global, program: &mut Program, aim: Aim) -> Result<(), Stop> {
+    program.false_row = presolve(alloc, &mut program.all, &mut program.steps)?;
+    if program.false_row.is_none() {
+        let mut trades = without_trades(alloc, &program.all)?;
+        take_lines(alloc, program, &mut trades)?;
+    }
+    if !program.is_false() {
+        program.columns = columns_of(alloc, &program.all)?;
+    }
+    complete(alloc, program, aim)
+}
+
+/// Takes the lines, and notes which are left unless one is false.
+fn take_lines(alloc: Global, program: &mut Program, trades: &mut Trades) -> Result<(), Stop> {
+    program.false_line = false_line_of(trades)?;
+    if program.false_line.is_none() {
+        program.left = left_of(alloc, trades)?;
+    }
+    swap(&mut program.lines, &mut trades.lines);
+    swap(&mut program.merges, &mut trades.merges);
+    Ok(())
 }
 
 /// The lines that are still there and have entries.

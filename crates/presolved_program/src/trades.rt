@@ -190,14 +190,3 @@ pub fn weighted(made: Made, above: Frac, below: Frac) -> Result<Frac, Stop> {
     let first = mul(made.above_times, above)?;
     plus_product(first, made.below_times, below)
 }
-
-impl Trades {
-    /// Nothing.
-    pub(crate) fn none(alloc: Global) -> Trades {
-        Trades {
-            lines: Vec::new(alloc),
-            on: Vec::new(alloc),
-            merges: Vec::new(alloc),
-        }
-    }
-}

@@ -58,27 +58,32 @@ pub fn margins_for(
     rounding: Rounding,
     digits: i32,
 ) -> Result<Margins, Stop> {
-    let count = program.all.free.len();
     let mut margins = Margins {
         rounding,
         digits: filled(alloc, 0, program.lines.len())?,
         needs: filled(alloc, whole(0)?, program.lines.len())?,
-        halves: Vec::with_capacity(alloc, count)?,
+        halves: Vec::with_capacity(alloc, program.all.free.len())?,
         leasts: Vec::with_capacity(alloc, program.equalities.len())?,
         right: Vec::with_capacity(alloc, program.left.len())?,
         raised: Vec::with_capacity(alloc, program.columns.len())?,
         lowered: Vec::with_capacity(alloc, program.columns.len())?,
     };
-    for column in 0..count {
+    fill(alloc, &mut margins, program, digits)?;
+    Ok(margins)
+}
+
+/// Reckons the room, of which nothing is known yet.
+// (What is owned is made in one function and filled in another: each `?` of a function drops all that it owns, and each drop is proved.)
+fn fill(alloc: Global, margins: &mut Margins, program: &Program, digits: i32) -> Result<(), Stop> {
+    for column in 0..program.all.free.len() {
         let half = margins.rounding.half(column)?;
         margins.halves.push(half)?;
     }
-    add_needs(&mut margins, program)?;
-    add_leasts(&mut margins, program)?;
-    lower_right_sides(alloc, &mut margins, program)?;
-    let grid = add_digits(alloc, &mut margins, program, digits)?;
-    move_costs(&mut margins, program, &grid)?;
-    Ok(margins)
+    add_needs(margins, program)?;
+    add_leasts(margins, program)?;
+    lower_right_sides(alloc, margins, program)?;
+    let grid = add_digits(alloc, margins, program, digits)?;
+    move_costs(margins, program, &grid)
 }
 
 /// For each combination: one unit of the free column's last place at the line below, and what its two lines need.

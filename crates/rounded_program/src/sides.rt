@@ -12,27 +12,54 @@ pub fn rounded_program(
     margins: &Margins,
 ) -> Result<LinearProgram, Stop> {
     let mut made = empty_program(alloc)?;
+    fill(alloc, &mut made, program, margins)?;
+    Ok(made)
+}
+
+/// Fills the program with its margins.
+// (What is owned is made in one function and filled in another: each `?` of a function drops all that it owns, and each drop is proved.)
+fn fill(
+    alloc: Global,
+    made: &mut LinearProgram,
+    program: &Program,
+    margins: &Margins,
+) -> Result<(), Stop> {
     let places = places_of(alloc, program)?;
     let leasts = leasts_of(alloc, program, margins)?;
     for column in &program.columns {
-        add_column(&mut made, program, &places, *column)?;
+        add_column(made, program, &places, *column)?;
         if let Some(row) = at(&leasts, *column)? {
             made.rows.push(row)?;
             made.values.push(-1.0)?;
         }
         made.starts.push(made.rows.len())?;
     }
+    add_right_sides(made, program, margins)?;
+    add_costs(made, margins)
+}
+
+/// Appends the right sides: of the lines, and of the least values.
+fn add_right_sides(
+    made: &mut LinearProgram,
+    program: &Program,
+    margins: &Margins,
+) -> Result<(), Stop> {
     for (line, right) in program.left.iter().zip(margins.right.iter()) {
         made.right_sides.push(*right / at(&program.tops, *line)?)?;
     }
     for least in &margins.leasts {
         made.right_sides.push(-least.value)?;
     }
+    Ok(())
+}
+
+/// Appends the costs of the columns.
+fn add_costs(made: &mut LinearProgram, margins: &Margins) -> Result<(), Stop> {
     for (raised, lowered) in margins.raised.iter().zip(margins.lowered.iter()) {
         made.raised_costs.push(*raised)?;
         made.lowered_costs.push(*lowered)?;
     }
-    Ok(made)
+    Ok(())
 }
 
 /// The program without margins of right sides, in which each row has a column of its own that costs 1: so it always has an optimum.
@@ -42,15 +69,23 @@ pub fn elastic_program(
     margins: &Margins,
 ) -> Result<LinearProgram, Stop> {
     let mut made = empty_program(alloc)?;
+    fill_elastic(alloc, &mut made, program, margins)?;
+    Ok(made)
+}
+
+/// Fills that program.
+fn fill_elastic(
+    alloc: Global,
+    made: &mut LinearProgram,
+    program: &Program,
+    margins: &Margins,
+) -> Result<(), Stop> {
     let places = places_of(alloc, program)?;
     for column in &program.columns {
-        add_column(&mut made, program, &places, *column)?;
+        add_column(made, program, &places, *column)?;
         made.starts.push(made.rows.len())?;
     }
-    for (raised, lowered) in margins.raised.iter().zip(margins.lowered.iter()) {
-        made.raised_costs.push(*raised)?;
-        made.lowered_costs.push(*lowered)?;
-    }
+    add_costs(made, margins)?;
     for (row, line) in program.left.iter().enumerate() {
         let right = float_of_frac(item(&program.lines, *line)?.right);
         made.right_sides.push(right / at(&program.tops, *line)?)?;
@@ -60,7 +95,7 @@ pub fn elastic_program(
         made.raised_costs.push(1.0)?;
         made.lowered_costs.push(1.0)?;
     }
-    Ok(made)
+    Ok(())
 }
 
 /// No rows and no columns.

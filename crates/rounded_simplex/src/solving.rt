@@ -36,18 +36,42 @@ pub fn guess(
     let Some(mut state) = State::new(alloc, scaled, start, tolerance)? else {
         return Ok(Answer::GivenUp);
     };
-    let finished = state.run(start.is_empty(), pivots, watcher)?;
+    answer_of(
+        alloc,
+        &mut state,
+        program,
+        start.is_empty(),
+        pivots,
+        watcher,
+    )
+}
+
+/// Makes all pivots, and answers by where they end.
+// (A function of its own, since each way out of one that owns the state drops it, and each drop is proved.)
+fn answer_of(
+    alloc: Global,
+    state: &mut State,
+    program: &LinearProgram,
+    from_slacks: bool,
+    pivots: u64,
+    watcher: &mut dyn Watcher,
+) -> Result<Answer, AllocError>
+    ensures values { IfOk result (IfSolved (λ g. length g.values.items ≡ length program.now.raised_costs.items)) }
+    ensures multipliers { IfOk result (IfSolved (λ g. length g.multipliers.items ≡ length program.now.right_sides.items)) }
+    ensures pivots { IfOk result (IfSolved (λ g. g.pivots ≤ pivots)) }
+{
+    let finished = state.run(from_slacks, pivots, watcher)?;
     match finished.finish {
         Finish::NoPlan => return Ok(Answer::NoPlan),
         Finish::GivenUp => return Ok(Answer::GivenUp),
         Finish::Optimal => {}
     }
-    let values = values_of(alloc, &state, program.raised_costs.len())?;
-    let multipliers = multipliers_of(alloc, &state, program.right_sides.len())?;
+    let values = values_of(alloc, state, program.raised_costs.len())?;
+    let multipliers = multipliers_of(alloc, state, program.right_sides.len())?;
     if !all_finite(&values) || !all_finite(&multipliers) {
         return Ok(Answer::GivenUp);
     }
-    let basis = basis_of(alloc, &state)?;
+    let basis = basis_of(alloc, state)?;
     Ok(Answer::Solved(Guess {
         values,
         multipliers,

@@ -59,6 +59,78 @@ pub(crate) struct State {
     pub(crate) made: u64,
 }
 
+/// The numbers of a state, by slot and by variable.
+#[derive(Drop)]
+struct Numbers {
+    values: Vec<f64>,
+    weights: Vec<f64>,
+    kept_weights: Vec<f64>,
+    costs: Vec<f64>,
+    reduced_costs: Vec<f64>,
+}
+
+impl Numbers {
+    /// Values and costs of 0, weights of 1.
+    fn new(alloc: Global, room: usize, variables: usize) -> Result<Numbers, AllocError> {
+        Ok(Numbers {
+            values: constant(alloc, 0.0, room)?,
+            weights: constant(alloc, 1.0, room)?,
+            kept_weights: constant(alloc, 1.0, variables)?,
+            costs: constant(alloc, 0.0, variables)?,
+            reduced_costs: constant(alloc, 0.0, variables)?,
+        })
+    }
+}
+
+/// The vectors of a state.
+#[derive(Drop)]
+struct Vectors {
+    inverse_row: SparseVector,
+    row: SparseVector,
+    column: SparseVector,
+    spike: SparseVector,
+    steepest: SparseVector,
+    work: SparseVector,
+}
+
+impl Vectors {
+    /// Vectors of zeros.
+    fn new(alloc: Global, room: usize, variables: usize) -> Result<Vectors, AllocError> {
+        Ok(Vectors {
+            inverse_row: SparseVector::zeros(alloc, room)?,
+            row: SparseVector::zeros(alloc, variables)?,
+            column: SparseVector::zeros(alloc, room)?,
+            spike: SparseVector::zeros(alloc, room)?,
+            steepest: SparseVector::zeros(alloc, room)?,
+            work: SparseVector::zeros(alloc, room)?,
+        })
+    }
+}
+
+/// All of these, and what choices look at.
+#[derive(Drop)]
+struct Memory {
+    numbers: Numbers,
+    vectors: Vectors,
+    blocks: Blocks,
+    low_variables: Candidates,
+}
+
+impl Memory {
+    /// For so many slots and variables.
+    fn new(alloc: Global, room: usize, variables: usize) -> Result<Memory, AllocError> {
+        let blocks = Blocks::unknown(alloc, room)?;
+        let low_variables = Candidates::none(alloc, variables)?;
+        let numbers = Numbers::new(alloc, room, variables)?;
+        Ok(Memory {
+            vectors: Vectors::new(alloc, room, variables)?,
+            numbers,
+            blocks,
+            low_variables,
+        })
+    }
+}
+
 impl State {
     /// The basis of these variables, or of all slacks where there are none. None where it stays singular.
     pub(crate) fn new(
@@ -68,37 +140,53 @@ impl State {
         tolerance: f64,
     ) -> Result<Option<State>, AllocError> {
         let updates = UPDATES.saturating_add(program.rows / ROWS_OF_UPDATE);
-        let mut basis = first_basis(alloc, &program, start, updates)?;
-        let Some(factors) = mended_factors(alloc, &program, &mut basis)? else {
-            return Ok(None);
-        };
-        let room = basis.room();
-        let variables = program.columns.saturating_add(program.rows);
-        Ok(Some(State {
+        match based(alloc, &program, start, updates)? {
+            Some((basis, factors)) => {
+                let variables = program.columns.saturating_add(program.rows);
+                let memory = Memory::new(alloc, basis.room(), variables)?;
+                let mut state = State::of(alloc, program, basis, factors, memory);
+                state.tolerance = tolerance;
+                state.updates = updates as u64;
+                Ok(Some(state))
+            }
+            None => Ok(None),
+        }
+    }
+
+    /// A state of its parts, before its first pivot.
+    // (What is owned is made part by part in functions that own little: each `?` of a function drops all that it owns, and each drop is proved.)
+    fn of(alloc: Global, program: Scaled, basis: Basis, factors: Factors, memory: Memory) -> State {
+        let Memory {
+            numbers,
+            vectors,
+            blocks,
+            low_variables,
+        } = memory;
+        State {
             alloc,
-            values: constant(alloc, 0.0, room)?,
-            weights: constant(alloc, 1.0, room)?,
-            kept_weights: constant(alloc, 1.0, variables)?,
-            costs: constant(alloc, 0.0, variables)?,
-            reduced_costs: constant(alloc, 0.0, variables)?,
-            blocks: Blocks::unknown(alloc, room)?,
-            low_variables: Candidates::none(alloc, variables)?,
-            inverse_row: SparseVector::zeros(alloc, room)?,
+            values: numbers.values,
+            weights: numbers.weights,
+            kept_weights: numbers.kept_weights,
+            costs: numbers.costs,
+            reduced_costs: numbers.reduced_costs,
+            blocks,
+            low_variables,
+            inverse_row: vectors.inverse_row,
             row_in_upper: Vec::new(alloc),
-            row: SparseVector::zeros(alloc, variables)?,
+            row: vectors.row,
             row_variables: Vec::new(alloc),
-            column: SparseVector::zeros(alloc, room)?,
-            spike: SparseVector::zeros(alloc, room)?,
-            steepest: SparseVector::zeros(alloc, room)?,
-            work: SparseVector::zeros(alloc, room)?,
+            column: vectors.column,
+            spike: vectors.spike,
+            steepest: vectors.steepest,
+            work: vectors.work,
             unused: Vec::new(alloc),
-            updates: updates as u64,
+            updates: 0,
             made: 0,
             program,
-            tolerance,
+            tolerance: 0.0,
             basis,
             factors,
-        }))
+        }
     }
 
     /// How many variables there are, with the slacks.
@@ -338,6 +426,20 @@ impl State {
         self.blocks.touch(added);
         self.made = self.made.saturating_add(1);
         Ok(())
+    }
+}
+
+/// The first basis and its factors; none where it stays singular.
+fn based(
+    alloc: Global,
+    program: &Scaled,
+    start: &[usize],
+    updates: usize,
+) -> Result<Option<(Basis, Factors)>, AllocError> {
+    let mut basis = first_basis(alloc, program, start, updates)?;
+    match mended_factors(alloc, program, &mut basis)? {
+        Some(factors) => Ok(Some((basis, factors))),
+        None => Ok(None),
     }
 }
 

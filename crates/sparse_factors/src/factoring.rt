@@ -1,12 +1,13 @@
 //! The factors of a basis, made from nothing.
 
-use crate::arrays::{at, filled};
+use crate::arrays::at;
 use crate::basis::Basis;
 use crate::factors::Factors;
 use crate::lists::Lists;
 use crate::waiting::{Found, Waiting};
 use crate::{middle, singles};
 use std::alloc::{AllocError, Global};
+use std::mem::swap;
 
 /// Factors the basis: first the slacks, then columns with one row, rows with one column, and the rest.
 ///
@@ -18,19 +19,44 @@ pub fn factor(
     basis: &mut Basis,
 ) -> Result<Option<Factors>, AllocError> {
     let mut found = Found::new(alloc, basis.rows())?;
-    take_slacks(basis, &mut found)?;
+    match find(alloc, matrix, basis, &mut found)? {
+        Some(first) => factors_of(alloc, basis, first, &mut found),
+        None => {
+            repair(basis, &found);
+            Ok(None)
+        }
+    }
+}
+
+/// Finds the pivots, and answers how many of the first are those of slacks; None where a row has none.
+// (What is owned is made in one function and filled in another: each `?` of a function drops all that it owns, and each drop is proved.)
+fn find(
+    alloc: Global,
+    matrix: &Lists,
+    basis: &Basis,
+    found: &mut Found,
+) -> Result<Option<usize>, AllocError> {
+    take_slacks(basis, found)?;
     let first = found.pivot_rows.len();
-    let mut waiting = Waiting::new(alloc, matrix, basis, &found)?;
-    singles::take_columns(alloc, matrix, &mut waiting, &mut found)?;
-    singles::take_rows(alloc, matrix, &mut waiting, &mut found)?;
-    let whole = middle::take_rest(alloc, matrix, &waiting, &mut found)?;
+    let mut waiting = Waiting::new(alloc, matrix, basis, found)?;
+    let whole = take_others(alloc, matrix, &mut waiting, found)?;
     if whole && found.pivot_rows.len() >= basis.rows() {
-        place_all(basis, &found);
-        Ok(Some(factors_of(alloc, basis, first, found)?))
+        Ok(Some(first))
     } else {
-        repair(basis, &found);
         Ok(None)
     }
+}
+
+/// Takes the pivots of the columns that wait: first those that need no elimination. False where a column had none.
+fn take_others(
+    alloc: Global,
+    matrix: &Lists,
+    waiting: &mut Waiting,
+    found: &mut Found,
+) -> Result<bool, AllocError> {
+    singles::take_columns(alloc, matrix, waiting, found)?;
+    singles::take_rows(alloc, matrix, waiting, found)?;
+    middle::take_rest(alloc, matrix, waiting, found)
 }
 
 /// Takes the pivots of the basic slacks.
@@ -67,41 +93,35 @@ fn repair(basis: &mut Basis, found: &Found) {
     }
 }
 
-/// The factors, by slots.
+/// Gives the slots, and makes the factors by them.
 fn factors_of(
     alloc: Global,
-    basis: &Basis,
+    basis: &mut Basis,
     first: usize,
-    found: Found,
-) -> Result<Factors, AllocError> {
-    let Found {
-        done: _,
-        variables: _,
-        pivot_rows: _,
-        slots,
-        mut diagonal,
-        mut lower,
-        mut upper,
-    } = found;
-    let rows = basis.rows();
-    lower.rename(&slots);
-    upper.rename(&slots);
-    for _ in rows..basis.room() {
-        diagonal.push(1.0)?;
+    found: &mut Found,
+) -> Result<Option<Factors>, AllocError> {
+    place_all(basis, found);
+    let mut factors = Factors::none(alloc, basis.rows(), first, basis.room())?;
+    fill(alloc, &mut factors, found, basis.room())?;
+    Ok(Some(factors))
+}
+
+/// Moves what was found into the factors, by slots.
+fn fill(
+    alloc: Global,
+    factors: &mut Factors,
+    found: &mut Found,
+    room: usize,
+) -> Result<(), AllocError> {
+    found.lower.rename(&found.slots);
+    found.upper.rename(&found.slots);
+    for _ in factors.rows..room {
+        found.diagonal.push(1.0)?;
     }
-    Ok(Factors {
-        rows,
-        slots: rows,
-        first,
-        diagonal,
-        lower_rows: lower.transposed(alloc, rows)?,
-        lower,
-        upper_rows: upper.transposed(alloc, rows)?,
-        upper,
-        heads: filled(alloc, None, basis.room())?,
-        links: Vec::new(alloc),
-        replaced: Vec::new(alloc),
-        eliminations: Lists::none(alloc)?,
-        retired: filled(alloc, false, basis.room())?,
-    })
+    factors.lower_rows = found.lower.transposed(alloc, factors.rows)?;
+    factors.upper_rows = found.upper.transposed(alloc, factors.rows)?;
+    swap(&mut factors.lower, &mut found.lower);
+    swap(&mut factors.upper, &mut found.upper);
+    swap(&mut factors.diagonal, &mut found.diagonal);
+    Ok(())
 }

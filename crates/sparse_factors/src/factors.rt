@@ -1,6 +1,8 @@
 //! The factors of a basis.
 
+use crate::arrays::filled;
 use crate::lists::Lists;
+use std::alloc::{AllocError, Global};
 
 /// A late entry of U in a slot, and the next one of the same slot.
 #[derive(Clone, Copy)]
@@ -37,6 +39,33 @@ pub struct Factors {
 }
 
 impl Factors {
+    /// Factors without numbers, of so many rows, of which the first belong to slacks, with room for so many slots.
+    pub(crate) fn none(
+        alloc: Global,
+        rows: usize,
+        first: usize,
+        room: usize,
+    ) -> Result<Factors, AllocError> {
+        let heads = filled(alloc, None, room)?;
+        let retired = filled(alloc, false, room)?;
+        let eliminations = Lists::none(alloc)?;
+        Ok(Factors {
+            rows,
+            slots: rows,
+            first,
+            diagonal: Vec::new(alloc),
+            lower: Lists::unmade(alloc),
+            lower_rows: Lists::unmade(alloc),
+            upper: Lists::unmade(alloc),
+            upper_rows: Lists::unmade(alloc),
+            heads,
+            links: Vec::new(alloc),
+            replaced: Vec::new(alloc),
+            eliminations,
+            retired,
+        })
+    }
+
     /// How many slots there are, with those of the updates.
     pub fn slots(&self) -> usize {
         self.slots

@@ -21,6 +21,14 @@ impl Lists {
         })
     }
 
+    /// What stands until lists are made.
+    pub(crate) fn unmade(alloc: Global) -> Lists {
+        Lists {
+            starts: Vec::new(alloc),
+            entries: Vec::new(alloc),
+        }
+    }
+
     /// Adds an entry to the list that is being made.
     #[inline]
     pub fn push(&mut self, at: usize, value: f64) -> Result<(), AllocError> {

@@ -30,15 +30,21 @@ pub(crate) fn take_rest(
     waiting: &Waiting,
     found: &mut Found,
 ) -> Result<bool, AllocError> {
-    let rows = waiting.counts.len();
-    let mut room = Column {
-        values: filled(alloc, 0.0, rows)?,
-        seen: filled(alloc, false, rows)?,
-        rows: Vec::new(alloc),
-        pending: Marks::none(alloc, rows)?,
-    };
+    let mut room = Column::new(alloc, waiting.counts.len())?;
+    let order = order(alloc, matrix, waiting, found)?;
+    take_in_order(matrix, waiting, found, &order, &mut room)
+}
+
+/// Takes a pivot in each of these columns; false where one had none.
+fn take_in_order(
+    matrix: &Lists,
+    waiting: &Waiting,
+    found: &mut Found,
+    order: &[(usize, usize)],
+    room: &mut Column,
+) -> Result<bool, AllocError> {
     let mut whole = true;
-    for (_, place) in order(alloc, matrix, waiting, found)?.iter() {
+    for (_, place) in order.iter() {
         let column = waiting.column(*place);
         room.fill(matrix.list(column), found)?;
         room.eliminate(found)?;
@@ -75,6 +81,16 @@ fn order(
 }
 
 impl Column {
+    /// A column of zeros.
+    fn new(alloc: Global, rows: usize) -> Result<Column, AllocError> {
+        Ok(Column {
+            values: filled(alloc, 0.0, rows)?,
+            seen: filled(alloc, false, rows)?,
+            rows: Vec::new(alloc),
+            pending: Marks::none(alloc, rows)?,
+        })
+    }
+
     /// Takes the numbers of a column of the matrix.
     fn fill(&mut self, column: &[Entry], found: &Found) -> Result<(), AllocError> {
         for entry in column {

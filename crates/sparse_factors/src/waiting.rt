@@ -90,23 +90,36 @@ impl Waiting {
         basis: &Basis,
         found: &Found,
     ) -> Result<Waiting, AllocError> {
-        let mut columns = Vec::new(alloc);
-        let mut open = Vec::new(alloc);
+        let mut waiting = Waiting {
+            columns: Vec::new(alloc),
+            done: Vec::new(alloc),
+            open: Vec::new(alloc),
+            by_row: Lists::unmade(alloc),
+            counts: filled(alloc, 0, basis.rows())?,
+        };
+        waiting.fill(alloc, matrix, basis, found)?;
+        Ok(waiting)
+    }
+
+    /// Takes all basic columns.
+    fn fill(
+        &mut self,
+        alloc: Global,
+        matrix: &Lists,
+        basis: &Basis,
+        found: &Found,
+    ) -> Result<(), AllocError> {
         let mut lists = Lists::none(alloc)?;
         for column in 0..basis.columns() {
             if basis.is_basic(column) {
-                columns.push(column)?;
-                open.push(add_open(&mut lists, matrix.list(column), found)?)?;
+                self.columns.push(column)?;
+                let open = add_open(&mut lists, matrix.list(column), found)?;
+                self.open.push(open)?;
             }
         }
-        let count = columns.len();
-        Ok(Waiting {
-            columns,
-            done: filled(alloc, false, count)?,
-            open,
-            by_row: lists.transposed(alloc, basis.rows())?,
-            counts: filled(alloc, 0, basis.rows())?,
-        })
+        self.done = filled(alloc, false, self.columns.len())?;
+        self.by_row = lists.transposed(alloc, basis.rows())?;
+        Ok(())
     }
 
     /// The matrix column at a place.
