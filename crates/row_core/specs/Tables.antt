@@ -1,13 +1,13 @@
--- What the code's tables of kinds and of equations say.
-use Rattle.row_core.specs.declared.equations.Equation as of_equations
-use Rattle.row_core.specs.declared.kinds.Kind as of_kinds
+-- What the code's tables of kinds and of equations say. Private functions alone cite these definitions.
+use Rattle.std.specs.Prelude.{ℕ, Bool, List}
+use Rattle.std.specs.Borrow.{Bor}
 use Rattle.row_core.specs.Equations.{Equation}
 use Rattle.row_core.specs.Kinds.{Kind}
 
 -- the kind that an entry of the table describes
-abbrev pub described_kind : of_kinds.Kind → Kind
-described_kind entry = record { word = entry.word.now; subscripts = entry.subscripts.now; free = entry.free }
+abbrev pub described_kind : Bor (List ℕ) × Bor (List ℕ) × Bool → Kind
+described_kind (word, subscripts, free) = record { word = word.now; subscripts = subscripts.now; free = free }
 
 -- the equation that an entry of the table describes
-abbrev pub described_equation : of_equations.Equation → Equation
-described_equation entry = record { word = entry.word.now; subscripts = entry.subscripts.now }
+abbrev pub described_equation : Bor (List ℕ) × Bor (List ℕ) → Equation
+described_equation (word, subscripts) = record { word = word.now; subscripts = subscripts.now }

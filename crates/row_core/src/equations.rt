@@ -8,274 +8,79 @@ ghost use Rattle.row_core.specs.Words.{IsPlain};
 use crate::equation_numbers::EQUATION_COUNT;
 use crate::subscripts::{E, F, L, M, R, RR, T, Y};
 
-/// A named equation: its word and the places of its subscripts.
-struct Equation {
-    word: &'static str,
-    subscripts: &'static [u8],
-}
-
-/// The equations from number 1 on.
-static EQUATIONS: [Equation; EQUATION_COUNT] = [
-    Equation {
-        word: "EQ_SpecifiedDemand",
-        subscripts: &[R, L, F, Y],
-    },
-    Equation {
-        word: "CAa1",
-        subscripts: &[R, T, Y],
-    },
-    Equation {
-        word: "CAa2",
-        subscripts: &[R, T, Y],
-    },
-    Equation {
-        word: "CAa3",
-        subscripts: &[R, L, T, Y],
-    },
-    Equation {
-        word: "CAa4",
-        subscripts: &[R, L, T, Y],
-    },
-    Equation {
-        word: "CAb1",
-        subscripts: &[R, T, Y],
-    },
-    Equation {
-        word: "EBa1",
-        subscripts: &[R, L, T, F, M, Y],
-    },
-    Equation {
-        word: "EBa2",
-        subscripts: &[R, L, T, F, Y],
-    },
-    Equation {
-        word: "EBa3",
-        subscripts: &[R, L, F, Y],
-    },
-    Equation {
-        word: "EBa4",
-        subscripts: &[R, L, T, F, M, Y],
-    },
-    Equation {
-        word: "EBa5",
-        subscripts: &[R, L, T, F, Y],
-    },
-    Equation {
-        word: "EBa6",
-        subscripts: &[R, L, F, Y],
-    },
-    Equation {
-        word: "EBa7",
-        subscripts: &[R, L, F, Y],
-    },
-    Equation {
-        word: "EBa8",
-        subscripts: &[R, L, F, Y],
-    },
-    Equation {
-        word: "EBa9",
-        subscripts: &[R, L, F, Y],
-    },
-    Equation {
-        word: "EBa10",
-        subscripts: &[R, RR, L, F, Y],
-    },
-    Equation {
-        word: "EBa11",
-        subscripts: &[R, L, F, Y],
-    },
-    Equation {
-        word: "EBb1",
-        subscripts: &[R, F, Y],
-    },
-    Equation {
-        word: "EBb2",
-        subscripts: &[R, F, Y],
-    },
-    Equation {
-        word: "EBb3",
-        subscripts: &[R, RR, F, Y],
-    },
-    Equation {
-        word: "EBb4",
-        subscripts: &[R, F, Y],
-    },
-    Equation {
-        word: "Acc1",
-        subscripts: &[R, L, T, F, Y],
-    },
-    Equation {
-        word: "Acc2",
-        subscripts: &[R, L, T, F, Y],
-    },
-    Equation {
-        word: "Acc3",
-        subscripts: &[R, T, M, Y],
-    },
-    Equation {
-        word: "CC1",
-        subscripts: &[R, T, Y],
-    },
-    Equation {
-        word: "CC2",
-        subscripts: &[R, T, Y],
-    },
-    Equation {
-        word: "SV1",
-        subscripts: &[R, T, Y],
-    },
-    Equation {
-        word: "SV2",
-        subscripts: &[R, T, Y],
-    },
-    Equation {
-        word: "SV3",
-        subscripts: &[R, T, Y],
-    },
-    Equation {
-        word: "SV4",
-        subscripts: &[R, T, Y],
-    },
-    Equation {
-        word: "OC1",
-        subscripts: &[R, T, Y],
-    },
-    Equation {
-        word: "OC2",
-        subscripts: &[R, T, Y],
-    },
-    Equation {
-        word: "OC3",
-        subscripts: &[R, T, Y],
-    },
-    Equation {
-        word: "OC4",
-        subscripts: &[R, T, Y],
-    },
-    Equation {
-        word: "E1",
-        subscripts: &[R, T, E, M, Y],
-    },
-    Equation {
-        word: "E2",
-        subscripts: &[R, T, E, Y],
-    },
-    Equation {
-        word: "E3",
-        subscripts: &[R, T, E, Y],
-    },
-    Equation {
-        word: "E4",
-        subscripts: &[R, T, Y],
-    },
-    Equation {
-        word: "E5",
-        subscripts: &[R, T, Y],
-    },
-    Equation {
-        word: "TDC1",
-        subscripts: &[R, T, Y],
-    },
-    Equation {
-        word: "TDC2",
-        subscripts: &[R, Y],
-    },
-    Equation {
-        word: "Acc4",
-        subscripts: &[R],
-    },
-    Equation {
-        word: "TCC1",
-        subscripts: &[R, T, Y],
-    },
-    Equation {
-        word: "TCC2",
-        subscripts: &[R, T, Y],
-    },
-    Equation {
-        word: "NCC1",
-        subscripts: &[R, T, Y],
-    },
-    Equation {
-        word: "NCC2",
-        subscripts: &[R, T, Y],
-    },
-    Equation {
-        word: "AAC1",
-        subscripts: &[R, T, Y],
-    },
-    Equation {
-        word: "AAC2",
-        subscripts: &[R, T, Y],
-    },
-    Equation {
-        word: "AAC3",
-        subscripts: &[R, T, Y],
-    },
-    Equation {
-        word: "TAC1",
-        subscripts: &[R, T],
-    },
-    Equation {
-        word: "TAC2",
-        subscripts: &[R, T],
-    },
-    Equation {
-        word: "TAC3",
-        subscripts: &[R, T],
-    },
-    Equation {
-        word: "RM1",
-        subscripts: &[R, Y],
-    },
-    Equation {
-        word: "RM2",
-        subscripts: &[R, L, Y],
-    },
-    Equation {
-        word: "RM3",
-        subscripts: &[R, L, Y],
-    },
-    Equation {
-        word: "RE1",
-        subscripts: &[R, T, F, Y],
-    },
-    Equation {
-        word: "RE2",
-        subscripts: &[R, Y],
-    },
-    Equation {
-        word: "RE3",
-        subscripts: &[R, Y],
-    },
-    Equation {
-        word: "RE4",
-        subscripts: &[R, Y],
-    },
-    Equation {
-        word: "RE5",
-        subscripts: &[R, T, F, Y],
-    },
-    Equation {
-        word: "E6",
-        subscripts: &[R, E, Y],
-    },
-    Equation {
-        word: "E7",
-        subscripts: &[R, E],
-    },
-    Equation {
-        word: "E8",
-        subscripts: &[R, E, Y],
-    },
-    Equation {
-        word: "E9",
-        subscripts: &[R, E],
-    },
+/// The equations from number 1 on: the word of each and the places of its subscripts.
+pub const EQUATIONS: [(&str, &[u8]); EQUATION_COUNT] = [
+    ("EQ_SpecifiedDemand", &[R, L, F, Y]),
+    ("CAa1", &[R, T, Y]),
+    ("CAa2", &[R, T, Y]),
+    ("CAa3", &[R, L, T, Y]),
+    ("CAa4", &[R, L, T, Y]),
+    ("CAb1", &[R, T, Y]),
+    ("EBa1", &[R, L, T, F, M, Y]),
+    ("EBa2", &[R, L, T, F, Y]),
+    ("EBa3", &[R, L, F, Y]),
+    ("EBa4", &[R, L, T, F, M, Y]),
+    ("EBa5", &[R, L, T, F, Y]),
+    ("EBa6", &[R, L, F, Y]),
+    ("EBa7", &[R, L, F, Y]),
+    ("EBa8", &[R, L, F, Y]),
+    ("EBa9", &[R, L, F, Y]),
+    ("EBa10", &[R, RR, L, F, Y]),
+    ("EBa11", &[R, L, F, Y]),
+    ("EBb1", &[R, F, Y]),
+    ("EBb2", &[R, F, Y]),
+    ("EBb3", &[R, RR, F, Y]),
+    ("EBb4", &[R, F, Y]),
+    ("Acc1", &[R, L, T, F, Y]),
+    ("Acc2", &[R, L, T, F, Y]),
+    ("Acc3", &[R, T, M, Y]),
+    ("CC1", &[R, T, Y]),
+    ("CC2", &[R, T, Y]),
+    ("SV1", &[R, T, Y]),
+    ("SV2", &[R, T, Y]),
+    ("SV3", &[R, T, Y]),
+    ("SV4", &[R, T, Y]),
+    ("OC1", &[R, T, Y]),
+    ("OC2", &[R, T, Y]),
+    ("OC3", &[R, T, Y]),
+    ("OC4", &[R, T, Y]),
+    ("E1", &[R, T, E, M, Y]),
+    ("E2", &[R, T, E, Y]),
+    ("E3", &[R, T, E, Y]),
+    ("E4", &[R, T, Y]),
+    ("E5", &[R, T, Y]),
+    ("TDC1", &[R, T, Y]),
+    ("TDC2", &[R, Y]),
+    ("Acc4", &[R]),
+    ("TCC1", &[R, T, Y]),
+    ("TCC2", &[R, T, Y]),
+    ("NCC1", &[R, T, Y]),
+    ("NCC2", &[R, T, Y]),
+    ("AAC1", &[R, T, Y]),
+    ("AAC2", &[R, T, Y]),
+    ("AAC3", &[R, T, Y]),
+    ("TAC1", &[R, T]),
+    ("TAC2", &[R, T]),
+    ("TAC3", &[R, T]),
+    ("RM1", &[R, Y]),
+    ("RM2", &[R, L, Y]),
+    ("RM3", &[R, L, Y]),
+    ("RE1", &[R, T, F, Y]),
+    ("RE2", &[R, Y]),
+    ("RE3", &[R, Y]),
+    ("RE4", &[R, Y]),
+    ("RE5", &[R, T, F, Y]),
+    ("E6", &[R, E, Y]),
+    ("E7", &[R, E]),
+    ("E8", &[R, E, Y]),
+    ("E9", &[R, E]),
 ];
 
+/// An entry of the table.
+type Entry = (&'static str, &'static [u8]);
+
 /// The equation of this number in the table.
-fn look_up<'a>(table: &'a [Equation], eq: u8) -> &'a Equation
+fn look_up(table: &'static [Entry], eq: u8) -> &'static Entry
     requires listed { IsEquation eq }
     requires tabled { map described_equation table.now ≡ equations }
     ensures { described_equation result.now ≡ equation_at eq }
@@ -284,7 +89,7 @@ fn look_up<'a>(table: &'a [Equation], eq: u8) -> &'a Equation
 }
 
 /// The equation of this number.
-fn entry(eq: u8) -> &'static Equation
+fn entry(eq: u8) -> &'static Entry
     requires { IsEquation eq }
     ensures { described_equation result.now ≡ equation_at eq }
 {
@@ -300,7 +105,7 @@ pub fn row_word(eq: u8) -> &'static str
     ensures plain { IsPlain result.now }
     ensures apart { (other : ℕ) → IsEquation other → word_of_equation other ≡ result.now → other ≡ eq }
 {
-    entry(eq).word
+    entry(eq).0
 }
 
 /// Whether this equation has the subscript at this place among the fields of `Index`, counted from 0.
@@ -309,7 +114,7 @@ pub fn row_has(eq: u8, place: u8) -> bool
     requires within { place < 8 }
     ensures { result ≡ equation_has eq place }
 {
-    entry(eq).subscripts.contains(&place)
+    entry(eq).1.contains(&place)
 }
 
 /// The places of this equation's subscripts among the fields of `Index`, in order.
@@ -317,5 +122,5 @@ pub(crate) fn row_subscripts(eq: u8) -> &'static [u8]
     requires { IsEquation eq }
     ensures { result.now ≡ (equation_at eq).subscripts }
 {
-    entry(eq).subscripts
+    entry(eq).1
 }

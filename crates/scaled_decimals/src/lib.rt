@@ -7,5 +7,5 @@ mod printing;
 mod reading;
 
 pub use inverse::inverse_laws;
-pub use printing::{fraction_laws, places_laws, push_frac, push_places};
+pub use printing::{fraction_laws, places_laws, push_frac, push_places, round_part};
 pub use reading::{DecFault, exact_value, read_decimal, rounding_laws, spelling_laws};

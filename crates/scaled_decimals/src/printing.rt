@@ -94,8 +94,9 @@ fn round(num: u128, den: u128) -> Rounded
     }
 }
 
-// The same of a number below 1, which may round to 1.
-fn round_part(part: u128, den: u128) -> u32
+/// The whole number of millionths nearest to `part / den`, a number below 1, and the greater one of two that are as near. It may be
+/// a million.
+pub fn round_part(part: u128, den: u128) -> u32
     requires { part < den }
     ensures value { result ≡ nearest (1000000 * part) den }
     ensures most { result ≤ 1000000 }

@@ -7,6 +7,7 @@ ghost use Rattle.scaled_decimals.specs.Rounding.{nearest};
 ghost use Rattle.value_millionths.specs.Shown.{shown};
 
 use exact_num::Frac;
+use scaled_decimals::round_part;
 
 /// A unit in millionths.
 const UNIT: u128 = 1_000_000;
@@ -56,50 +57,4 @@ fn fitting(whole: u128, part: u32) -> Option<u128>
     }
     let size = UNIT * whole + u128::from(part);
     if size < TOO_LARGE { Some(size) } else { None }
-}
-
-// The same of a number below 1, which may round to 1.
-fn round_part(part: u128, den: u128) -> u32
-    requires { part < den }
-    ensures value { result ≡ nearest (1000000 * part) den }
-    ensures most { result ≤ 1000000 }
-{
-    let mut count = 0;
-    let mut rest = part;
-    for _place in 0..6u32 {
-        let (digit, left) = next_digit(rest, den);
-        count = 10 * count + digit;
-        rest = left;
-    }
-    if den - rest <= rest { count + 1 } else { count }
-}
-
-// How often `den` goes into ten times `rest`, and what is left. Ten times `rest` may have more than 128 bits, so it is made by
-// doubling and adding.
-fn next_digit(rest: u128, den: u128) -> (u32, u128)
-    requires { rest < den }
-    ensures value { result.0 * den + result.1 ≡ 10 * rest }
-    ensures below { result.1 < den }
-    ensures digit { result.0 < 10 }
-{
-    let (carry_two, two) = sum(rest, rest, den);
-    let (carry_four, four) = sum(two, two, den);
-    let (carry_five, five) = sum(four, rest, den);
-    let (carry_ten, ten) = sum(five, five, den);
-    (
-        2 * (2 * carry_two + carry_four + carry_five) + carry_ten,
-        ten,
-    )
-}
-
-// How often `den` goes into `a + b`, and what is left.
-fn sum(a: u128, b: u128, den: u128) -> (u32, u128)
-    requires a_below { a < den }
-    requires b_below { b < den }
-    ensures value { result.0 * den + result.1 ≡ a + b }
-    ensures below { result.1 < den }
-    ensures once { result.0 ≤ 1 }
-{
-    let room = den - b;
-    if a < room { (0, a + b) } else { (1, a - room) }
 }
