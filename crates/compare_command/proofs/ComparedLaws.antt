@@ -21,17 +21,6 @@ module _ (show : CompareShow) (one two : Judged) (status : Status) (text : List 
   planned (Refutation multipliers) proof2 first second is is2 done same = absurd is
   planned (Descent plan direction) proof2 first second is is2 done same = absurd is
 
-  -- the first has none
-  pub first_planless : (proof proof2 : Proof) (why : Status) → StandsAs one.data_of one.rows proof (Planless why) → status ≡ why → text ≡ not_compared_text one.said two.said
-      → ComparesProofs show proof proof2 one two status text
-  first_planless (Optimum plan multipliers) proof2 why is so same = absurd is
-  first_planless (Refutation multipliers) (Optimum plan2 multipliers2) why is so same = (so ∙ is, same)
-  first_planless (Refutation multipliers) (Refutation multipliers2) why is so same = (so ∙ is, same)
-  first_planless (Refutation multipliers) (Descent plan2 direction2) why is so same = (so ∙ is, same)
-  first_planless (Descent plan direction) (Optimum plan2 multipliers2) why is so same = (so ∙ is, same)
-  first_planless (Descent plan direction) (Refutation multipliers2) why is so same = (so ∙ is, same)
-  first_planless (Descent plan direction) (Descent plan2 direction2) why is so same = (so ∙ is, same)
-
   -- the first has one, and the second has none
   pub second_planless : (proof proof2 : Proof) (first : Scenario) (why : Status) → StandsAs one.data_of one.rows proof (Planned first) → StandsAs two.data_of two.rows proof2 (Planless why)
       → status ≡ why → text ≡ not_compared_text one.said two.said → ComparesProofs show proof proof2 one two status text

@@ -51,9 +51,6 @@ head_column-below low high (e ∷ es) s = let below : e.0 < high = s.0.below in 
 
 -- ---- taking the entry of one column
 
-only-false : (t : Bool) (z : ℤ) → t ≡ false → only t z ≡ pos 0
-only-false t z h = ap (λ u. only u z) h
-
 -- the number taken and the rest are the entries
 pub at-taken : (c : ℕ) (es : List (ℕ × ℤ)) (d : ℕ) → at es d ≡ only (c == d) (taken_number c es) +ℤ at (taken_rest c es) d
 at-taken c [] d = nothing (c == d)

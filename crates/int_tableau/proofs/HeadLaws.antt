@@ -8,16 +8,13 @@ use Rattle.int_tableau.specs.Entries.{only, at, IsSparse, head_column, taken_num
 use Rattle.int_tableau.specs.Pushes.{IsPushed}
 use Rattle.int_tableau.proofs.DivisionLaws.{no_entry}
 use Rattle.int_tableau.proofs.EntryLaws.{eq_no, eq_yes, at-before, IsSparse-head, IsSparse-high, IsSparse-taken, head_column-from}
-use Rattle.int_tableau.proofs.MergeLaws.{IsMerge, IsMerge-none, IsMerge-column, IsMerge-value, IsMerge-fits, zeros_fit_at}
+use Rattle.int_tableau.proofs.MergeLaws.{IsMerge, IsMerge-column, IsMerge-value, IsMerge-fits, zeros_fit_at}
 
 -- what is before some column is written, and what is from it on is left
 pub record IsMerging (n : ℕ) (a b : ℤ) (xs ys ls rs out : List (ℕ × ℤ)) : Type 0 where
   pub column : ℕ
   pub within : column ≤ n
   pub merge : IsMerge n a b xs ys column ls rs out
-
-pub IsMerging-none : (n : ℕ) (a b : ℤ) (xs ys : List (ℕ × ℤ)) → IsSparse 0 n xs → IsSparse 0 n ys → IsMerging n a b xs ys xs ys []
-IsMerging-none n a b xs ys s t = record { column = 0; within = omega arith; merge = IsMerge-none n a b xs ys 0 s t (omega arith) (omega arith) }
 
 -- the column may be any up to those of the first entries
 raised : (n : ℕ) (a b : ℤ) (xs ys : List (ℕ × ℤ)) (c d : ℕ) (ls rs out : List (ℕ × ℤ)) → IsMerge n a b xs ys c ls rs out → c ≤ d → d ≤ head_column n ls → d ≤ head_column n rs → IsMerge n a b xs ys d ls rs out

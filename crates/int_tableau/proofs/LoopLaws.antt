@@ -1,5 +1,5 @@
 -- The lists that loops make, one element after another.
-use Rattle.std.proofs.Common.{◌≡◌, ℕ, suc, ◌+◌, ◌-◌, ◌<◌, ◌≤◌, ℤ, pos, Bool, true, false, List, [], ◌∷◌, ◌++◌, length, get_or, map, drop, arith, sym, ap, ◌∙◌, add-one, append-nil, if◌then◌else◌}
+use Rattle.std.proofs.Common.{◌≡◌, ℕ, suc, ◌+◌, ◌-◌, ◌<◌, ◌≤◌, ℤ, pos, Bool, true, false, List, [], ◌∷◌, ◌++◌, length, get_or, map, drop, arith, sym, ap, ◌∙◌, append-nil, if◌then◌else◌}
 use Rattle.std.specs.Prelude.{int_lt, ◌||◌}
 use Rattle.std.proofs.lemmas.List.{append_assoc, at_drop_all}
 use Rattle.row_core.specs.declared.Row.{Row}
@@ -8,7 +8,7 @@ use Rattle.row_core.specs.declared.Var.{Var}
 use Rattle.row_core.specs.LookUps.{value_at}
 use Rattle.row_core.specs.Order.{var_cmp}
 use Rattle.row_core.proofs.WritingSteps.{drop_at}
-use Rattle.written_method.specs.FirstTableau.{any_negative, as_most, counted_from, row_line, row_lines, width_of}
+use Rattle.written_method.specs.FirstTableau.{any_negative, as_most, counted_from, row_lines, width_of}
 use Rattle.written_method.specs.Lines.{Line}
 use Rattle.written_method.specs.Programs.{inequality_of, is_split}
 use Rattle.int_tableau.specs.Starts.{after_columns, column_entries, in_columns_of, placed}
@@ -63,13 +63,6 @@ pub entries-end : (s : Sense) (places : List (Var × ℕ)) (es : List (Var × �
 entries-end s places es i now h = at_drop_all (λ fs. now ++ column_entries s places fs) es i h ∙ append-nil now
 
 -- ---- lines
-
-pub lines-step : (vs : List Var) (there : Bool) (n : ℕ) (rows : List Row) (i : ℕ) (row : Row) (now more : List Line) → i < length rows → row ≡ get_or rows i row
-    → more ≡ now ++ row_line vs there n i (inequality_of row) ∷ [] → now ++ row_lines vs there n i (map inequality_of (drop i rows)) ≡ more ++ row_lines vs there n (i + 1) (map inequality_of (drop (i + 1) rows))
-lines-step vs there n rows i row now more h e p =
-    ap (λ rs. now ++ row_lines vs there n i (map inequality_of rs)) (drop_at rows i row h e)
-    ∙ append_one now more (row_line vs there n i (inequality_of row) ∷ []) (row_lines vs there n (suc i) (map inequality_of (drop (i + 1) rows))) p
-    ∙ ap (λ k. more ++ row_lines vs there n k (map inequality_of (drop (i + 1) rows))) (sym (add-one i))
 
 pub lines-end : (vs : List Var) (there : Bool) (n : ℕ) (rows : List Row) (i : ℕ) (now : List Line) → length rows ≤ i → now ++ row_lines vs there n i (map inequality_of (drop i rows)) ≡ now
 lines-end vs there n rows i now h = at_drop_all (λ rs. now ++ row_lines vs there n i (map inequality_of rs)) rows i h ∙ append-nil now

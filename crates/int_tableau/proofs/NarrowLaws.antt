@@ -1,9 +1,9 @@
 -- Entries of 64 bits: what is read of them, and copies of them.
-use Rattle.std.proofs.Common.{◌≡◌, ◌<◌, ◌≤◌, ◌^◌, ◌+◌, ℕ, zero, suc, ℤ, Bool, true, false, List, [], ◌∷◌, ◌++◌, length, get_or, take, drop, sym, ap, ◌∙◌, subst, arith, append-nil, to_z, of_z, lit<}
+use Rattle.std.proofs.Common.{◌≡◌, ◌<◌, ◌^◌, ◌+◌, ℕ, zero, suc, ℤ, Bool, true, false, List, [], ◌∷◌, ◌++◌, length, get_or, take, drop, sym, ap, ◌∙◌, subst, arith, to_z, of_z, lit<}
 use Rattle.std.specs.Int.{w64, w128}
 use Rattle.std.specs.Prelude.{unsigned_abs, ◌==◌}
 use Rattle.std.proofs.lemmas.Int.{ints, to_z-of_z}
-use Rattle.std.proofs.lemmas.List.{append_assoc, at_drop_all, drop_more}
+use Rattle.std.proofs.lemmas.List.{append_assoc, drop_more}
 use Rattle.exact_num.specs.Range.{InRange}
 use Rattle.exact_num.proofs.Integers.{unsigned_abs-int_div, unsigned_abs-neg_ℤ}
 use Rattle.exact_num.proofs.RangeLaws.{back_in_range}
@@ -72,6 +72,3 @@ copied_step es i d e out more h k q m =
     ∙ ap (λ zs. out ++ zs) (drop_more es i d k ∙ ap (λ y. y ∷ drop (i + 1) es) (sym q))
     ∙ sym (append_assoc out (e ∷ []) (drop (i + 1) es))
     ∙ ap (λ zs. zs ++ drop (i + 1) es) (sym m)
-
-pub copied_end : {X : Type 0} (es : List X) (i : ℕ) (out : List X) → es ≡ out ++ drop i es → length es ≤ i → out ≡ es
-copied_end es i out h k = sym (h ∙ at_drop_all (λ zs. out ++ zs) es i k ∙ append-nil out)

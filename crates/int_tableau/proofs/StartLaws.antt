@@ -171,9 +171,6 @@ row_entries-IsSparse vs there n i s es h up ups fits = cases there
 pub cost_entries-IsSparse : (vs : List Var) (more : ℕ) (es : List (Var × ℤ)) → ascends var_cmp vs ≡ true → ascends var_cmp (keys_of es) ≡ true → all_fit (numbers_of es) ≡ true → IsSparse 0 (width_of vs + more) (column_entries Most (placed 0 vs) es)
 cost_entries-IsSparse vs more es up ups fits = IsSparse-high 0 (width_of vs) (width_of vs + more) (column_entries Most (placed 0 vs) es) (column_entries-IsSparse Most vs es up ups fits) (omega arith)
 
-pub x0_column-IsSparse : (x : ℕ) → IsSparse 0 (x + 1) ((x, negsuc 0) ∷ [])
-x0_column-IsSparse x = (record { from = omega arith; below = omega arith; nonzero = λ e. cc; fits = lit< tt }, tt)
-
 -- ---- the whole
 
 -- the lines that are pushed one after another are those of the first tableau

@@ -1,5 +1,5 @@
 -- When two variables are the same, and which is before the other.
-use Rattle.std.proofs.Common.{◌≡◌, true, false, refl, ap, ◌∙◌}
+use Rattle.std.proofs.Common.{◌≡◌, true, false, refl, ap}
 use Rattle.std.specs.declared.cmp.Ordering.{Ordering}
 use Rattle.std.specs.declared.cmp.Ordering.TheVariants.{Less, Equal, Greater}
 use Rattle.std.specs.Ordering.{is_lt, is_eq, ordering_reverse}
@@ -38,6 +38,3 @@ same-self v = self-by (var_cmp v v) (var_cmp_total.antisymm v v)
 -- a variable before another isn't it
 pub apart : (v w : Var) → var_cmp v w ≡ Less → is_same_variable v w ≡ false
 apart v w less = ap is_eq less
-
-pub apart-back : (v w : Var) → var_cmp v w ≡ Less → is_same_variable w v ≡ false
-apart-back v w less = ap is_eq (var_cmp_total.antisymm w v ∙ ap ordering_reverse less)

@@ -37,11 +37,6 @@ parts-append : (x : Var → ℤ) (vs ws : List Var) → parts x (vs ++ ws) ≡ p
 parts-append x [] ws = simp ring
 parts-append x (v ∷ vs) ws = ap (λ z. part x v +ℤ z) (parts-append x vs ws) ∙ regroup (part x v) (parts x vs) (parts x ws)
 
--- over the variables of several numbers
-parts-each : (x : Var → ℤ) (g : ℕ → List Var) (ns : List ℕ) → parts x (flat_map g ns) ≡ named.sum_over ns (λ n. parts x (g n))
-parts-each x g [] = refl
-parts-each x g (n ∷ ns) = parts-append x (g n) (flat_map g ns) ∙ ap (λ z. parts x (g n) +ℤ z) (parts-each x g ns)
-
 -- over one kind's variables at some indices
 abbrev at_indices : (Var → ℤ) → ℕ → List Index → ℤ
 at_indices x kind is = parts x (map (variable kind) is)

@@ -146,10 +146,6 @@ least-passes t row chosen best z h k e test =
     ∙ ap (λ y. if int_lt y best then least_right_from (row + 1) row y (drop (row + 1) (right_sides t)) else least_right_from (row + 1) chosen best (drop (row + 1) (right_sides t))) same
     ∙ ap (λ b. if b then least_right_from (row + 1) row z (drop (row + 1) (right_sides t)) else least_right_from (row + 1) chosen best (drop (row + 1) (right_sides t))) test
 
--- all rows were seen
-pub least-end : (t : Tableau) (row chosen : ℕ) (best : ℤ) → rows_of t < length t.lines → rows_of t ≤ row → least_right_from row chosen best (drop row (right_sides t)) ≡ chosen
-least-end t row chosen best h k = at_drop_all (least_right_from row chosen best) (right_sides t) row (subst (λ n. n ≤ row) (sym (length-right_sides t h)) k)
-
 -- ---- from one entry other than 0 to the next
 
 pub greatest-next : (zs : List ℤ) (from column : ℕ) (best z : ℤ) (chosen : Option ℕ) → pos 0 ≤ℤ best → from ≤ column → column < length zs → get_or zs column (pos 0) ≡ z → AreZeros zs from column

@@ -1,16 +1,15 @@
 -- Sizes of lines.
-use Rattle.std.proofs.Common.{◌≡◌, ◌≢◌, ℕ, ◌+◌, ◌*◌, ◌^◌, ◌<◌, ◌≤◌, ℤ, pos, Bool, true, false, Option, Some, None, List, [], ◌∷◌, length, get_or, arith, refl, sym, ap, ◌∙◌, subst, if◌then◌else◌, inl, inr}
+use Rattle.std.proofs.Common.{◌≡◌, ◌≢◌, ℕ, ◌+◌, ◌*◌, ◌^◌, ◌<◌, ◌≤◌, ℤ, Bool, true, false, Option, Some, None, List, [], ◌∷◌, length, arith, refl, sym, ap, ◌∙◌, subst, if◌then◌else◌, inl, inr}
 use Rattle.std.specs.Prelude.{unsigned_abs, nat_lt, IfSome}
 use Rattle.std.proofs.lemmas.Nat.{mul-le}
 use Rattle.std.proofs.lemmas.Bool.{eq-eqb, ne_eqb, cases_lt}
-use Rattle.std.proofs.lemmas.List.{get_or_past}
 use borrow.Author.Tests.{ltb-true, ltb-false}
 use Rattle.written_method.specs.Lines.{Line, entry_of, numbers_of}
 use Rattle.written_method.specs.Tableaus.{Tableau, line_of, rows_of}
 use Rattle.simplex_core.specs.Kept.{IsKept}
 use Rattle.simplex_core.specs.KeptRounds.{KeptState}
 use Rattle.simplex_core.specs.Widths.{AllWithin, late_size, late_entry}
-use Rattle.simplex_core.proofs.KeptWidths.{within-all, kept-fits}
+use Rattle.simplex_core.proofs.KeptWidths.{kept-fits}
 use Rattle.simplex_core.specs.KeptViews.{x0_in, kept_state, rough_of, FitsPivot, IsWithin, AreSpread}
 use Rattle.simplex_core.specs.declared.kept_choice.Spread.{Spread}
 use Rattle.int_tableau.specs.Sizes.{AreWithin}
@@ -39,13 +38,6 @@ within-greatest (z ∷ zs) =
 pub greatest-le : (n : ℕ) (zs : List ℤ) → AllWithin n zs → greatest_size zs ≤ n
 greatest-le n [] all = omega arith
 greatest-le n (z ∷ zs) all = (greater-is (unsigned_abs z) (greatest_size zs)).2 n all.0 (greatest-le n zs all.1)
-
--- all entries, from those in the columns
-pub within-columns : (n : ℕ) (zs : List ℤ) → ((c : ℕ) → c < length zs → unsigned_abs (get_or zs c (pos 0)) ≤ n) → AllWithin n zs
-within-columns n zs f = within-all n zs (λ c. elim (cases_lt c (length zs)) [
-  | inl lt ↦ f c lt
-  | inr le ↦ omega (arith, ap unsigned_abs (get_or_past zs c (pos 0) le))
-])
 
 pub late_size-home : (t : Tableau) (h d row n : ℕ) → row ≡ h → AllWithin n (numbers_of (line_of t h)) → late_size (kept_state t h d 0 0) (size_in t) row ≤ n
 late_size-home t h d row n e all = omega (arith, ap (λ b. if b then size_in t h else (unsigned_abs (entry_of (line_of t h) d) * size_in t row) + (unsigned_abs (entry_of (line_of t row) d) * size_in t h)) (eq-eqb row h e), greatest-le n (numbers_of (line_of t h)) all)

@@ -1,12 +1,10 @@
 -- All numbers of the method's next pivot fit where the sizes of the kept numbers say so.
-use Rattle.std.proofs.Common.{◌≡◌, true, ℕ, zero, suc, ◌+◌, ◌*◌, ◌^◌, ◌<◌, ◌≤◌, ℤ, pos, ◌-ℤ◌, ◌*ℤ◌, List, [], ◌∷◌, length, get_or, map, arith, refl, sym, ap, ◌∙◌, subst, if◌then◌else◌, inl, inr}
+use Rattle.std.proofs.Common.{◌≡◌, true, ℕ, zero, suc, ◌+◌, ◌*◌, ◌<◌, ◌≤◌, ℤ, pos, ◌-ℤ◌, ◌*ℤ◌, List, [], ◌∷◌, length, get_or, map, arith, refl, sym, ap, ◌∙◌, subst, if◌then◌else◌, inl, inr}
 use Rattle.std.specs.Prelude.{◌<ℤ◌, unsigned_abs}
 use Rattle.std.proofs.lemmas.Int.{unsigned_abs-mul}
-use Rattle.std.proofs.lemmas.Nat.{mul-lt, pow-add}
 use Rattle.std.proofs.lemmas.Bool.{eq-eqb, ne_eqb}
 use Rattle.std.proofs.lemmas.List.{get_or-set_same, get_or-set_other, get_or-map}
-use Rattle.std.proofs.Math.Nat.{le-mul_of_pos_right, pow-le-pow_right}
-use Rattle.std.proofs.Math.Pow.{add-lt-pow}
+use Rattle.std.proofs.Math.Nat.{le-mul_of_pos_right}
 use Rattle.exact_num.specs.Range.{all_fit}
 use Rattle.exact_num.proofs.Integers.{unsigned_abs_pos, nonzero_of_pos}
 use Rattle.written_method.specs.Lines.{Line, entry_of, numbers_of, cleared}
@@ -16,7 +14,7 @@ use Rattle.written_method.proofs.CombinedLaws.{IsCleared, cleared-IsCleared}
 use Rattle.written_method.proofs.PivotLaws.{length-pivoted, line_of-pivoted, line_of-other, same_or_not}
 use Rattle.simplex_core.specs.Kept.{shown}
 use Rattle.simplex_core.specs.KeptRounds.{KeptState, shown_state, home_line, rough_line, rough_lines}
-use Rattle.simplex_core.specs.Widths.{AllWithin, AreSizes, late_size, late_entry, IsNarrow, IsNarrowByBits}
+use Rattle.simplex_core.specs.Widths.{AllWithin, AreSizes, late_size, late_entry, IsNarrow}
 use Rattle.simplex_core.proofs.StateLaws.{IsKeptState, in_lines, get_or-all_less, lines_length}
 use Rattle.simplex_core.proofs.WidthLaws.{size-times, size-minus, pivot_formed-fits}
 
@@ -108,17 +106,3 @@ kept-fits k size r c w row s narrow =
     (λ i h. late-within k size i w s (omega (arith, length-pivoted k.tableau k.home k.x0)))
     (λ i h. late-entry k c i w (omega (arith, length-pivoted k.tableau k.home k.x0)))
     (λ i h n. narrow i (omega (arith, length-pivoted k.tableau k.home k.x0)) n)
-
--- by lengths in bits
-two-products : (a b x y : ℕ) (e n : ℕ) → a < 2 ^ e → b < 2 ^ e → x < 2 ^ n → y < 2 ^ n → (e + n) + 1 ≤ 127 → (a * x) + (b * y) < 2 ^ 127
-two-products a b x y e n ha hb hx hy h =
-    let product : (u v : ℕ) → u < 2 ^ e → v < 2 ^ n → u * v < 2 ^ (e + n) = λ u v hu hv. one_product u v hu hv in
-    let both : (a * x) + (b * y) < 2 ^ suc (e + n) = add-lt-pow (e + n) (product a x ha hx) (product b y hb hy) in
-    let wide : 2 ^ suc (e + n) ≤ 2 ^ 127 = pow-le-pow_right {n = 2} (omega arith) {i = suc (e + n)} {j = 127} (omega arith) in
-    omega (arith, both, wide)
-  where
-    one_product : (u v : ℕ) → u < 2 ^ e → v < 2 ^ n → u * v < 2 ^ (e + n)
-    one_product u v hu hv = omega (arith, pow-add 2 e n, mul-lt u v (2 ^ e) (2 ^ n) hu hv)
-
-pub narrow-by_bits : (k : KeptState) (size : ℕ → ℕ) (r c e n : ℕ) → r < length k.tableau.lines → IsNarrowByBits k size c e n → IsNarrow k size r c
-narrow-by_bits k size r c e n row b i h apart = two-products (late_entry k c r) (late_entry k c i) (late_size k size i) (late_size k size r) e n (b.1 r row).0 (b.1 i h).0 (b.1 i h).1 (b.1 r row).1 b.0

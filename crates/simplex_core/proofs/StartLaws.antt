@@ -4,16 +4,13 @@ use Rattle.std.specs.Prelude.{◌<ℤ◌, ◌≤ℤ◌, int_lt}
 use Rattle.std.proofs.lemmas.Int.{ints}
 use Rattle.std.proofs.lemmas.List.{get_or-set_same, get_or-set_other}
 use Rattle.std.proofs.Math.ListN.{length-set}
-use Rattle.exact_num.specs.Range.{all_fit}
 use Rattle.written_method.specs.Lines.{Line, entry_of}
 use Rattle.written_method.specs.Tableaus.{Tableau, line_of, rows_of, no_line, negated, negated_line}
 use Rattle.written_method.specs.Choices.{Candidate, better, rank_of, leaving_from}
-use Rattle.written_method.specs.Rounds.{Due, Pivot, NoColumn, NoRow, due, step_of}
-use Rattle.written_method.specs.Runs.{answer}
+use Rattle.written_method.specs.Rounds.{Due, Pivot, NoColumn, NoRow}
 use Rattle.written_method.proofs.PivotLaws.{same_or_not}
-use Rattle.written_method.proofs.RunLaws.{answer-pivot}
 use Rattle.simplex_core.specs.Kept.{IsPrimitive, IsArtificial, IsKept}
-use Rattle.simplex_core.specs.KeptRounds.{KeptState, shown_state, home_line, rough_line, rough_lines, kept_entering, kept_leaving, kept_due, start_state, started, IsFirst}
+use Rattle.simplex_core.specs.KeptRounds.{KeptState, home_line, rough_line, rough_lines, kept_entering, kept_leaving, kept_due, IsFirst}
 use Rattle.simplex_core.proofs.PrimitiveLaws.{negated_line-IsPrimitive}
 use Rattle.simplex_core.proofs.ClearedTwice.{length-negated, entry_of-negated}
 use Rattle.simplex_core.proofs.StateLaws.{IsKeptState, in_lines, length-rough, lines_length}
@@ -55,10 +52,6 @@ IsKept-started t h x0 f k = record {
   where
     home : h < length t.lines
     home = let more : rows_of t < length t.lines = f.shaped.lines in omega arith
-
-pub answer-started : (n : ℕ) (t : Tableau) (h x0 pivots degenerate : ℕ) → IsFirst x0 t → due (start_state t pivots degenerate) ≡ Pivot h x0 → all_fit (step_of (start_state t pivots degenerate) h x0).formed ≡ true
-    → answer (suc n) (start_state t pivots degenerate) ≡ answer n (shown_state (started (start_state t pivots degenerate) h x0))
-answer-started n t h x0 pivots degenerate f d fits = answer-pivot n (start_state t pivots degenerate) h x0 d fits
 
 -- ---- a row can always leave: that of x0
 

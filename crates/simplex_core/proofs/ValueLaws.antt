@@ -1,10 +1,10 @@
 -- The values of columns and variables, one after another.
-use Rattle.std.proofs.Common.{◌≡◌, ◌≢◌, ℕ, zero, suc, ◌+◌, ◌<◌, ◌≤◌, ℤ, pos, Bool, true, false, Option, Some, None, List, [], ◌∷◌, ◌++◌, length, get_or, set, map, drop, arith, refl, sym, ap, ap₂, ◌∙◌, subst, inl, inr, add-one, append-nil, if◌then◌else◌}
+use Rattle.std.proofs.Common.{◌≡◌, ◌≢◌, ℕ, zero, suc, ◌+◌, ◌<◌, ◌≤◌, ℤ, pos, Bool, true, false, Option, Some, None, List, [], ◌∷◌, ◌++◌, length, get_or, map, drop, arith, refl, sym, ap, ap₂, ◌∙◌, subst, inl, inr, append-nil, if◌then◌else◌}
 use Rattle.std.specs.Prelude.{◌==◌, ◌⊎◌, ◌<ℤ◌, IfSome}
 use Rattle.std.proofs.lemmas.Bool.{cases_lt}
 use Rattle.std.proofs.lemmas.Int.{ints}
 use Rattle.std.proofs.lemmas.Bool.Decides.{nat_tests}
-use Rattle.std.proofs.lemmas.List.{append_assoc, at_drop_all, drop_more, get_or-set_other, get_or-set_same, get_or_past, map-append}
+use Rattle.std.proofs.lemmas.List.{append_assoc, at_drop_all, drop_more, get_or_past, map-append}
 use Rattle.exact_num.specs.Formed.{difference_formed}
 use Rattle.exact_num.specs.Range.{all_fit}
 use Rattle.exact_num.specs.Rational.{Rational, lowest, minus, whole}
@@ -52,34 +52,6 @@ eq_yes a b h = grind (arith, nat_tests)
 
 eq_no : (a b : ℕ) → a ≢ b → (a == b) ≡ false
 eq_no a b h = grind (arith, nat_tests)
-
--- one row before those that are known
-pub rows-step : (bs : List ℕ) (row c : ℕ) (table : List (Option ℕ)) → row < length bs → get_or bs row 0 < length table → get_or table c None ≡ row_of_basic c (row + 1) (drop (row + 1) bs)
-    → get_or (set table (get_or bs row 0) (Some row)) c None ≡ row_of_basic c row (drop row bs)
-rows-step bs row c table h k known = cases (same_or_not (get_or bs row 0) c)
-  where
-    b : ℕ
-    b = get_or bs row 0
-
-    rest : Option ℕ
-    rest = row_of_basic c (suc row) (drop (row + 1) bs)
-
-    left : row_of_basic c row (drop row bs) ≡ (if b == c then Some row else rest)
-    left = ap (row_of_basic c row) (drop_more bs row 0 h)
-
-    cases : ((b ≡ c) ⊎ (b ≢ c)) → get_or (set table b (Some row)) c None ≡ row_of_basic c row (drop row bs)
-    cases (inl e) =
-        ap (λ d. get_or (set table b (Some row)) d None) (sym e)
-        ∙ get_or-set_same table b (Some row) None k
-        ∙ sym (left ∙ ap (λ t. if t then Some row else rest) (eq_yes b c e))
-    cases (inr n) =
-        get_or-set_other table b c (Some row) None (λ e. n (sym e))
-        ∙ known
-        ∙ ap (λ i. row_of_basic c i (drop (row + 1) bs)) (add-one row)
-        ∙ sym (left ∙ ap (λ t. if t then Some row else rest) (eq_no b c n))
-
-pub rows-none : (bs : List ℕ) (row c : ℕ) → length bs ≤ row → row_of_basic c row (drop row bs) ≡ None
-rows-none bs row c h = at_drop_all (row_of_basic c row) bs row h
 
 -- ---- one variable
 
@@ -204,9 +176,6 @@ multipliers-step slack line d rows i row x now more h e value pushed =
   where
     next : suc (slack + i) ≡ slack + (i + 1)
     next = omega arith
-
-pub multipliers-end : (slack : ℕ) (line : Line) (d : ℤ) (rows : List Row) (i : ℕ) (now : List Frac) → length rows ≤ i → map value_of now ++ multipliers_from (slack + i) line d (map inequality_of (drop i rows)) ≡ map value_of now
-multipliers-end slack line d rows i now h = at_drop_all (λ rs. map value_of now ++ multipliers_from (slack + i) line d (map inequality_of rs)) rows i h ∙ append-nil (map value_of now)
 
 -- ---- the ends
 

@@ -1,9 +1,8 @@
 -- Multipliers that keep those of the reduced rows prove of the named rows what those prove of the reduced rows.
-use Rattle.std.proofs.Common.{◌≡◌, ℕ, ℤ, pos, neg_ℤ, ◌+ℤ◌, ◌*ℤ◌, Bool, true, false, ◌&&◌, ◌||◌, List, [], ◌∷◌, ◌++◌, ◌⊎◌, inl, inr, filter, refl, sym, ap, ◌∙◌, subst, arith, if◌then◌else◌}
+use Rattle.std.proofs.Common.{◌≡◌, ℕ, ℤ, pos, neg_ℤ, ◌+ℤ◌, ◌*ℤ◌, Bool, true, false, ◌&&◌, ◌||◌, List, [], ◌∷◌, ◌++◌, ◌⊎◌, inl, inr, refl, sym, ap, ◌∙◌, subst, arith, if◌then◌else◌}
 use Rattle.std.specs.Prelude.{◌<ℤ◌, ◌==◌, nat_lt}
 use Rattle.std.proofs.lemmas.Bool.{eqb-true}
 use Rattle.std.proofs.lemmas.Int.{ints}
-use Rattle.std.proofs.lemmas.List.Concat.{flat_map-cons}
 use Rattle.exact_num.proofs.Integers.{*ℤ_cancel, ≤ℤ_cancel, nonzero_of_pos}
 use Rattle.exact_num.proofs.Ring.{zero-*ℤ, *ℤ_comm}
 use Rattle.row_core.specs.declared.Row.{Row}
@@ -11,18 +10,17 @@ use Rattle.row_core.specs.declared.RowName.{RowName}
 use Rattle.row_core.specs.declared.Var.{Var}
 use Rattle.row_core.specs.declared.kind_numbers.TheConstants.{RATE_OF_ACTIVITY, NEW_CAPACITY, TRADE, TOTAL_DISCOUNTED_COST}
 use Rattle.row_core.specs.Kinds.{kind_is_free}
-use Rattle.row_core.specs.Numbers.{variables_of}
 use Rattle.row_core.specs.Rows.{number_at}
 use Rattle.written_method.specs.declared.reduced.Reduced.{Reduced}
 use Rattle.written_method.specs.Certificates.{Bounds, Refutes, IsWithin, number_sum}
 use Rattle.written_method.specs.Definitions.{is_among}
-use Rattle.written_method.specs.Eliminated.{is_column, column_entries}
+use Rattle.written_method.specs.Eliminated.{is_column}
 use Rattle.written_method.specs.Multiplied.{coefficient}
 use Rattle.written_method.specs.Programs.{is_split, program_of}
 use Rattle.written_method.specs.Ready.{IsAmong}
 use Rattle.variable_elimination.specs.Certified.{column_sum, KeepBound, KeepSum, IsKnown, ProvesBound, RefutesRows}
-use Rattle.variable_elimination.specs.Columns.{AreChosen, AreColumns}
-use Rattle.variable_elimination.proofs.ReadyLaws.{among-from_contains, contains-from_among}
+use Rattle.variable_elimination.specs.Columns.{AreChosen}
+use Rattle.variable_elimination.proofs.ReadyLaws.{contains-from_among}
 
 -- ---- columns are freely chosen
 
@@ -34,24 +32,6 @@ either (u ∷ vs) ws v (inr h) = later (either vs ws v h)
     later : IsAmong v vs ⊎ IsAmong v ws → IsAmong v (u ∷ vs) ⊎ IsAmong v ws
     later (inl k) = inl (inr k)
     later (inr k) = inr k
-
-entry_chosen : (vs : List Var) (v : Var) → IsAmong v (filter is_column vs) → is_column v ≡ true
-entry_chosen [] v h = absurd h
-entry_chosen (u ∷ vs) v h = cases (is_column u) refl h (entry_chosen vs v)
-  where
-    cases : (t : Bool) → is_column u ≡ t → IsAmong v (if t then (u ∷ filter is_column vs) else filter is_column vs) → (IsAmong v (filter is_column vs) → is_column v ≡ true) → is_column v ≡ true
-    cases true is (inl e) later = ap is_column e ∙ is
-    cases true is (inr k) later = later k
-    cases false is k later = later k
-
-row_chosen : (rows : List Row) (v : Var) → IsAmong v (column_entries rows) → is_column v ≡ true
-row_chosen [] v h = absurd h
-row_chosen (row ∷ rows) v h =
-    cases (either (filter is_column (variables_of row.entries.items)) (column_entries rows) v (subst (IsAmong v) (flat_map-cons (λ (r : Row). filter is_column (variables_of r.entries.items)) row rows) h)) (row_chosen rows v)
-  where
-    cases : IsAmong v (filter is_column (variables_of row.entries.items)) ⊎ IsAmong v (column_entries rows) → (IsAmong v (column_entries rows) → is_column v ≡ true) → is_column v ≡ true
-    cases (inl k) later = entry_chosen (variables_of row.entries.items) v k
-    cases (inr k) later = later k
 
 -- a freely chosen variable isn't of the cost, and may be negative where it is split
 abbrev pub IsPlain : ℕ → Type 0
