@@ -7,6 +7,7 @@ use Rattle.model_sets.specs.Members.{SetLists}
 use Rattle.model_sets.specs.declared.param_numbers.TheConstants as param
 use Rattle.param_tables.specs.Built.{Built}
 use Rattle.data_warnings.specs.declared.places.Finding.{Finding}
+use Rattle.data_warnings.specs.declared.rules.Ceiling.TheVariants as ceiling
 use Rattle.data_warnings.specs.declared.rules.Cost.TheVariants as cost
 use Rattle.data_warnings.specs.declared.rules.EmissionLimit.TheVariants as emission_limit
 use Rattle.data_warnings.specs.declared.rules.Enabler.TheVariants as enabler
@@ -275,13 +276,52 @@ no_emissions_ever = refl
 
 -- ---- high limits
 
-towering : found (small (at param.TOTAL_ANNUAL_MAX_CAPACITY (rt (codes "U") (codes "2023")) (whole 99999) ∷ []) []) (rule.HighLimits limit.Capacity) ≡ told (rule.HighLimits limit.Capacity) 0 0 0 0 0 (pos 0) (pos 0) ∷ []
+towering : found (small (at param.TOTAL_ANNUAL_MAX_CAPACITY (rt (codes "U") (codes "2023")) (whole 99999) ∷ []) []) (rule.HighLimits (ceiling.Technology limit.Capacity)) ≡ told (rule.HighLimits (ceiling.Technology limit.Capacity)) 0 0 0 0 0 (pos 0) (pos 0) ∷ []
 unfolding small small_sets at by_default told rt
 towering = refl
 
-not_towering : found (small (at param.TOTAL_ANNUAL_MAX_CAPACITY (rt (codes "U") (codes "2023")) (pos 99998999999999) ∷ []) []) (rule.HighLimits limit.Capacity) ≡ []
+not_towering : found (small (at param.TOTAL_ANNUAL_MAX_CAPACITY (rt (codes "U") (codes "2023")) (pos 99998999999999) ∷ []) []) (rule.HighLimits (ceiling.Technology limit.Capacity)) ≡ []
 unfolding small small_sets at by_default told rt
 not_towering = refl
+
+-- a limit of the model period, and those of emissions, each with a near miss
+towering_period : found (small (at param.TOTAL_TECHNOLOGY_MODEL_PERIOD_ACTIVITY_UPPER_LIMIT (codes "R" ∷ codes "U" ∷ []) (whole 99999) ∷ []) []) (rule.HighLimits ceiling.Period) ≡ told (rule.HighLimits ceiling.Period) 0 0 0 0 0 (pos 0) (pos 0) ∷ []
+unfolding small small_sets at by_default told rt
+towering_period = refl
+
+not_towering_period : found (small (at param.TOTAL_TECHNOLOGY_MODEL_PERIOD_ACTIVITY_UPPER_LIMIT (codes "R" ∷ codes "U" ∷ []) (pos 99998999999999) ∷ []) []) (rule.HighLimits ceiling.Period) ≡ []
+unfolding small small_sets at by_default told rt
+not_towering_period = refl
+
+towering_emission : found (small (at param.ANNUAL_EMISSION_LIMIT (rt (codes "E") (codes "2023")) (whole 99999) ∷ []) []) (rule.HighLimits (ceiling.Emission emission_limit.Annual)) ≡ told (rule.HighLimits (ceiling.Emission emission_limit.Annual)) 0 0 0 0 0 (pos 0) (pos 0) ∷ []
+unfolding small small_sets at by_default told rt
+towering_emission = refl
+
+not_towering_emission : found (small (at param.ANNUAL_EMISSION_LIMIT (rt (codes "E") (codes "2023")) (pos 99998999999999) ∷ []) []) (rule.HighLimits (ceiling.Emission emission_limit.Annual)) ≡ []
+unfolding small small_sets at by_default told rt
+not_towering_emission = refl
+
+towering_emissions : found (small (at param.MODEL_PERIOD_EMISSION_LIMIT (codes "R" ∷ codes "E" ∷ []) (whole 99999) ∷ []) []) (rule.HighLimits (ceiling.Emission emission_limit.ModelPeriod)) ≡ told (rule.HighLimits (ceiling.Emission emission_limit.ModelPeriod)) 0 0 0 0 0 (pos 0) (pos 0) ∷ []
+unfolding small small_sets at by_default told rt
+towering_emissions = refl
+
+not_towering_emissions : found (small (at param.MODEL_PERIOD_EMISSION_LIMIT (codes "R" ∷ codes "E" ∷ []) (pos 99998999999999) ∷ []) []) (rule.HighLimits (ceiling.Emission emission_limit.ModelPeriod)) ≡ []
+unfolding small small_sets at by_default told rt
+not_towering_emissions = refl
+
+-- ---- limits of emissions that nothing gives off: any number but -1 is one, also another below 0
+
+idle_below_zero : found (small (at param.MODEL_PERIOD_EMISSION_LIMIT (codes "R" ∷ codes "E" ∷ []) (negsuc 1999999999) ∷ []) (by_default param.ANNUAL_EMISSION_LIMIT (negsuc 999999999) ∷ [])) rule.IdleLimit ≡ told rule.IdleLimit 0 0 0 0 0 (pos 0) (pos 0) ∷ []
+unfolding small small_sets at by_default told rt
+idle_below_zero = refl
+
+idle_in_a_year : found (small (at param.ANNUAL_EMISSION_LIMIT (rt (codes "E") (codes "2021")) (negsuc 1999999999) ∷ []) (by_default param.ANNUAL_EMISSION_LIMIT (negsuc 999999999) ∷ by_default param.MODEL_PERIOD_EMISSION_LIMIT (negsuc 999999999) ∷ [])) rule.IdleLimit ≡ told rule.IdleLimit 0 0 0 0 0 (pos 0) (pos 0) ∷ []
+unfolding small small_sets at by_default told rt
+idle_in_a_year = refl
+
+not_idle : found (small [] (by_default param.ANNUAL_EMISSION_LIMIT (negsuc 999999999) ∷ by_default param.MODEL_PERIOD_EMISSION_LIMIT (negsuc 999999999) ∷ [])) rule.IdleLimit ≡ []
+unfolding small small_sets at by_default told rt
+not_idle = refl
 
 -- ---- lines
 

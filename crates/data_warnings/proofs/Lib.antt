@@ -1,3 +1,4 @@
+mod LineEnds
 mod Examples
 pub mod Billionths
 pub mod CrossedLimits
@@ -5,7 +6,6 @@ pub mod DigitLaws
 pub mod FirstLaws
 pub mod FoundPlaces
 pub mod MetEquations
-pub mod ProductLaws
 pub mod RangeLaws
 pub mod SumLaws
 pub mod UnmadeFuels

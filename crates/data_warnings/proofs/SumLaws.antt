@@ -1,23 +1,15 @@
 -- A sum over positions, one after another.
-use Rattle.std.proofs.Common.{◌≡◌, ℕ, suc, ◌+◌, ◌-◌, ◌<◌, ◌≤◌, ℤ, pos, ◌+ℤ◌, sym, ap, ◌∙◌, arith}
+use Rattle.std.proofs.Common.{◌≡◌, ℕ, suc, ◌+◌, ◌-◌, ◌<◌, ℤ, ◌+ℤ◌, sym, ap, ◌∙◌, arith}
 use Rattle.std.specs.List.{range_with_len}
-use Rattle.exact_num.proofs.Ring.{+ℤ_assoc, zero-+ℤ, +ℤ-zero}
+use Rattle.exact_num.proofs.Ring.{+ℤ_assoc}
 use Rattle.named_equations.specs.Notation.{sum_over}
 
 -- the sum from position i to the end
 abbrev pub sum_from : (ℕ → ℤ) → ℕ → ℕ → ℤ
 sum_from f n i = sum_over (range_with_len i (n - i)) f
 
-pub sum-begin : (f : ℕ → ℤ) (n : ℕ) → pos 0 +ℤ sum_from f n 0 ≡ sum_over (range_with_len 0 n) f
-sum-begin f n = zero-+ℤ (sum_from f n 0) ∙ (let e : n - 0 ≡ n = omega arith in ap (λ k. sum_over (range_with_len 0 k) f) e)
-
 sum-step : (f : ℕ → ℤ) (n i : ℕ) → i < n → sum_from f n i ≡ f i +ℤ sum_from f n (i + 1)
 sum-step f n i h = let e : n - i ≡ suc (n - (i + 1)) = omega arith in ap (λ k. sum_over (range_with_len i k) f) e
 
 pub sum-next : (f : ℕ → ℤ) (n i : ℕ) (sum all : ℤ) → i < n → sum +ℤ sum_from f n i ≡ all → (sum +ℤ f i) +ℤ sum_from f n (i + 1) ≡ all
 sum-next f n i sum all h so_far = +ℤ_assoc sum (f i) (sum_from f n (i + 1)) ∙ sym (ap (λ z. sum +ℤ z) (sum-step f n i h)) ∙ so_far
-
-pub sum-end : (f : ℕ → ℤ) (n i : ℕ) (sum all : ℤ) → n ≤ i → sum +ℤ sum_from f n i ≡ all → sum ≡ all
-sum-end f n i sum all h so_far =
-    let e : n - i ≡ 0 = omega arith in
-    sym (+ℤ-zero sum) ∙ sym (ap (λ k. sum +ℤ sum_over (range_with_len i k) f) e) ∙ so_far

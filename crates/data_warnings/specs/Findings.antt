@@ -6,6 +6,7 @@ use Rattle.data_warnings.specs.declared.places.Finding.{Finding}
 use Rattle.data_warnings.specs.declared.places.Place.{Place}
 use Rattle.data_warnings.specs.declared.rules.Rule.{Rule}
 use Rattle.data_warnings.specs.declared.rules.Rule.TheVariants.{YearSplitSum, YearGap, DiscountRate, UnprofiledDemand, ProfileSum, UnmadeDemand, StarvedTechnology, Disabled, Crossed, CrossedPeriod, Unreachable, ShortLives, LargeFactor, LargeAvailability, LargeTarget, SmallMargin, NegativeCost, Outlier, OneWayRoute, ZeroLimits, ZeroEmissions, HighLimits, IdleLimit, UnusedFuel, IdleTechnology, Rounded}
+use Rattle.data_warnings.specs.declared.rules.Ceiling.TheVariants as ceiling
 use Rattle.data_warnings.specs.declared.rules.Pair.TheVariants as pair
 use Rattle.data_warnings.specs.declared.rules.Cost.TheVariants as cost
 use Rattle.data_warnings.specs.declared.rules.Series.TheVariants as series
@@ -30,7 +31,8 @@ rules_in_order =
     ∷ OneWayRoute
     ∷ ZeroLimits limit.Capacity ∷ ZeroLimits limit.Investment ∷ ZeroLimits limit.Activity
     ∷ ZeroEmissions emission_limit.Annual ∷ ZeroEmissions emission_limit.ModelPeriod
-    ∷ HighLimits limit.Capacity ∷ HighLimits limit.Investment ∷ HighLimits limit.Activity
+    ∷ HighLimits (ceiling.Technology limit.Capacity) ∷ HighLimits (ceiling.Technology limit.Investment) ∷ HighLimits (ceiling.Technology limit.Activity)
+    ∷ HighLimits ceiling.Period ∷ HighLimits (ceiling.Emission emission_limit.Annual) ∷ HighLimits (ceiling.Emission emission_limit.ModelPeriod)
     ∷ IdleLimit ∷ UnusedFuel ∷ IdleTechnology ∷ Rounded ∷ []
 
 -- the place of these positions

@@ -1,7 +1,16 @@
 -- The rules after whose findings no plan exists: their lines end in `no plan`.
-use Rattle.std.specs.Prelude.{Bool, true, false}
+use Rattle.std.specs.Prelude.{◌≡◌, ℕ, Bool, true, false, List, ◌++◌, codes}
 use Rattle.data_warnings.specs.declared.rules.Rule.{Rule}
 use Rattle.data_warnings.specs.declared.rules.Rule.TheVariants.{YearSplitSum, YearGap, DiscountRate, UnprofiledDemand, ProfileSum, UnmadeDemand, StarvedTechnology, Disabled, Crossed, CrossedPeriod, Unreachable, ShortLives, LargeFactor, LargeAvailability, LargeTarget, SmallMargin, NegativeCost, Outlier, OneWayRoute, ZeroLimits, ZeroEmissions, HighLimits, IdleLimit, UnusedFuel, IdleTechnology, Rounded}
+
+-- what the lines of these rules end in
+abbrev pub no_plan_ending : List ℕ
+no_plan_ending = codes ": no plan\n"
+
+-- the text ends so
+pub record EndsIn (ending text : List ℕ) : Type 0 where
+  pub before : List ℕ
+  pub is : text ≡ before ++ ending
 
 -- no plan exists where the rule speaks
 abbrev pub excludes_plans : Rule → Bool
@@ -26,7 +35,7 @@ excludes_plans (Outlier series) = false
 excludes_plans OneWayRoute = false
 excludes_plans (ZeroLimits limit) = false
 excludes_plans (ZeroEmissions limit) = false
-excludes_plans (HighLimits limit) = false
+excludes_plans (HighLimits ceiling) = false
 excludes_plans IdleLimit = false
 excludes_plans UnusedFuel = false
 excludes_plans IdleTechnology = false

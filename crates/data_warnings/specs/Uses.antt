@@ -3,14 +3,15 @@ use Rattle.std.specs.Prelude.{ℕ, ℤ, pos, Bool, ◌&&◌, ◌||◌, not, [], 
 use Rattle.model_sets.specs.Data.{Data}
 use Rattle.model_sets.specs.Names.{year}
 use Rattle.model_sets.specs.declared.param_numbers.TheConstants.{MODEL_PERIOD_EMISSION_LIMIT, OPERATIONAL_LIFE, RESERVE_MARGIN}
+use Rattle.named_equations.specs.Where.{is_limit}
 use Rattle.data_warnings.specs.declared.questions.Question.TheVariants.{LaterYear, NextYear, Tag}
+use Rattle.data_warnings.specs.declared.rules.Ceiling.{Ceiling}
 use Rattle.data_warnings.specs.declared.rules.EmissionLimit.{EmissionLimit}
 use Rattle.data_warnings.specs.declared.rules.EmissionLimit.TheVariants.{Annual, ModelPeriod}
 use Rattle.data_warnings.specs.declared.rules.Enabler.{Enabler}
 use Rattle.data_warnings.specs.declared.rules.Limit.{Limit}
 use Rattle.data_warnings.specs.declared.wide.Wide.TheVariants as of_some
 use Rattle.data_warnings.specs.declared.yearly.Yearly.TheVariants as ever
-use Rattle.data_warnings.specs.Limits.{is_set}
 use Rattle.data_warnings.specs.Questions.{is_so_somewhere}
 use Rattle.data_warnings.specs.Values.{count, is_above_zero, is_by_default, value, whole}
 use Rattle.data_warnings.specs.Wide.{is_so_of_some}
@@ -45,14 +46,14 @@ abbrev pub has_zero_emissions : Data → EmissionLimit → ℕ → ℕ → Bool
 has_zero_emissions d Annual r e = is_ever_so d (ever.ZeroEmissions r e)
 has_zero_emissions d ModelPeriod r e = is_by_default d MODEL_PERIOD_EMISSION_LIMIT (r ∷ e ∷ []) (pos 0)
 
--- a limit is 99999 or more for some technology in some year
-abbrev pub is_for_none : Data → Limit → ℕ → Bool
-is_for_none d limit r = is_so_of_some d (of_some.Towers limit r)
+-- a limit is 99999 or more for some technology or emission in some year
+abbrev pub is_for_none : Data → Ceiling → ℕ → Bool
+is_for_none d ceiling r = is_so_of_some d (of_some.Towers ceiling r)
 
 -- the emission has a limit, of the model period or of a year, and nothing gives it off
 abbrev pub is_idle_limit : Data → ℕ → ℕ → Bool
 is_idle_limit d r e =
-    (is_set (value d MODEL_PERIOD_EMISSION_LIMIT (r ∷ e ∷ [])) || is_ever_so d (ever.Limited r e)) && not (is_ever_so d (ever.Emitted r e))
+    (is_limit (value d MODEL_PERIOD_EMISSION_LIMIT (r ∷ e ∷ [])) || is_ever_so d (ever.Limited r e)) && not (is_ever_so d (ever.Emitted r e))
 
 -- the fuel is made, and in no year wanted
 abbrev pub is_unused : Data → ℕ → ℕ → Bool

@@ -7,25 +7,25 @@ use Rattle.data_warnings.specs.declared.wide.Wide.{Wide}
 use Rattle.data_warnings.specs.declared.wide.Wide.TheVariants as of_some
 use Rattle.data_warnings.specs.declared.yearly.Yearly.TheVariants as ever
 use Rattle.data_warnings.specs.Values.{count, positions}
-use Rattle.data_warnings.specs.Yearly.{is_ever_so}
+use Rattle.data_warnings.specs.Yearly.{ceiling_over, is_ever_so}
 
 -- the set over which the question goes
 abbrev pub wide_over : Wide → ℕ
 wide_over (of_some.Makes r t) = fuel
 wide_over (of_some.MakesOrTakes r t) = fuel
-wide_over (of_some.Towers limit r) = technology
+wide_over (of_some.Towers ceiling r) = ceiling_over ceiling
 
 -- its positions are those of members
 abbrev pub IsAskedWidely : Data → Wide → Type 0
 IsAskedWidely d (of_some.Makes r t) = (r < count d region) × (t < count d technology)
 IsAskedWidely d (of_some.MakesOrTakes r t) = (r < count d region) × (t < count d technology)
-IsAskedWidely d (of_some.Towers limit r) = r < count d region
+IsAskedWidely d (of_some.Towers ceiling r) = r < count d region
 
 -- it is so of the member at this position
 abbrev pub is_so_of : Data → Wide → ℕ → Bool
 is_so_of d (of_some.Makes r t) f = is_ever_so d (ever.Makes r t f)
 is_so_of d (of_some.MakesOrTakes r t) f = is_ever_so d (ever.MakesOrTakes r t f)
-is_so_of d (of_some.Towers limit r) t = is_ever_so d (ever.Towers limit r t)
+is_so_of d (of_some.Towers ceiling r) i = is_ever_so d (ever.Towers ceiling r i)
 
 -- it is so of some member
 abbrev pub is_so_of_some : Data → Wide → Bool

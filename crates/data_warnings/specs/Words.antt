@@ -1,6 +1,8 @@
 -- The parameters of which the findings of a rule speak.
 use Rattle.std.specs.Prelude.{ℕ}
-use Rattle.model_sets.specs.declared.param_numbers.TheConstants.{ANNUAL_EMISSION_LIMIT, AVAILABILITY_FACTOR, CAPACITY_FACTOR, CAPACITY_TO_ACTIVITY_UNIT, INPUT_ACTIVITY_RATIO, MODEL_PERIOD_EMISSION_LIMIT, OPERATIONAL_LIFE, OUTPUT_ACTIVITY_RATIO, RESERVE_MARGIN, SPECIFIED_DEMAND_PROFILE, CAPITAL_COST, DISCOUNT_RATE, FIXED_COST, RE_MIN_PRODUCTION_TARGET, TOTAL_TECHNOLOGY_ANNUAL_ACTIVITY_LOWER_LIMIT, TOTAL_TECHNOLOGY_MODEL_PERIOD_ACTIVITY_LOWER_LIMIT, TRADE_ROUTE, VARIABLE_COST, SPECIFIED_ANNUAL_DEMAND, ACCUMULATED_ANNUAL_DEMAND, RESIDUAL_CAPACITY, YEAR_SPLIT}
+use Rattle.model_sets.specs.declared.param_numbers.TheConstants.{ANNUAL_EMISSION_LIMIT, AVAILABILITY_FACTOR, CAPACITY_FACTOR, CAPACITY_TO_ACTIVITY_UNIT, INPUT_ACTIVITY_RATIO, MODEL_PERIOD_EMISSION_LIMIT, OPERATIONAL_LIFE, OUTPUT_ACTIVITY_RATIO, RESERVE_MARGIN, SPECIFIED_DEMAND_PROFILE, CAPITAL_COST, DISCOUNT_RATE, FIXED_COST, RE_MIN_PRODUCTION_TARGET, TOTAL_TECHNOLOGY_ANNUAL_ACTIVITY_LOWER_LIMIT, TOTAL_TECHNOLOGY_MODEL_PERIOD_ACTIVITY_LOWER_LIMIT, TOTAL_TECHNOLOGY_MODEL_PERIOD_ACTIVITY_UPPER_LIMIT, TRADE_ROUTE, VARIABLE_COST, SPECIFIED_ANNUAL_DEMAND, ACCUMULATED_ANNUAL_DEMAND, RESIDUAL_CAPACITY, YEAR_SPLIT}
+use Rattle.data_warnings.specs.declared.rules.Ceiling.{Ceiling}
+use Rattle.data_warnings.specs.declared.rules.Ceiling.TheVariants as ceiling
 use Rattle.data_warnings.specs.declared.rules.Cost.{Cost}
 use Rattle.data_warnings.specs.declared.rules.Cost.TheVariants as cost
 use Rattle.data_warnings.specs.declared.rules.EmissionLimit.{EmissionLimit}
@@ -40,6 +42,12 @@ abbrev pub emission_limit_param : EmissionLimit → ℕ
 emission_limit_param emission_limit.Annual = ANNUAL_EMISSION_LIMIT
 emission_limit_param emission_limit.ModelPeriod = MODEL_PERIOD_EMISSION_LIMIT
 
+-- the parameter of upper limits
+abbrev pub ceiling_param : Ceiling → ℕ
+ceiling_param (ceiling.Technology limit) = limit_param limit
+ceiling_param ceiling.Period = TOTAL_TECHNOLOGY_MODEL_PERIOD_ACTIVITY_UPPER_LIMIT
+ceiling_param (ceiling.Emission limit) = emission_limit_param limit
+
 -- the parameter whose number is odd; where the lines of a rule name none, it is one of which the rule speaks
 abbrev pub param_of : Rule → ℕ
 param_of YearSplitSum = YEAR_SPLIT
@@ -63,7 +71,7 @@ param_of (Outlier series) = series_param series
 param_of OneWayRoute = TRADE_ROUTE
 param_of (ZeroLimits limit) = limit_param limit
 param_of (ZeroEmissions limit) = emission_limit_param limit
-param_of (HighLimits limit) = limit_param limit
+param_of (HighLimits high) = ceiling_param high
 param_of IdleLimit = ANNUAL_EMISSION_LIMIT
 param_of UnusedFuel = OUTPUT_ACTIVITY_RATIO
 param_of IdleTechnology = OUTPUT_ACTIVITY_RATIO

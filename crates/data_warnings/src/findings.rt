@@ -9,14 +9,14 @@ ghost use Rattle.data_warnings.specs.Values.{IsPlace, count};
 
 use crate::numbers::{number, other_number};
 use crate::places::{Finding, Place};
-use crate::rules::{Cost, EmissionLimit, Enabler, Limit, Pair, Rule, Series, frame_of};
+use crate::rules::{Ceiling, Cost, EmissionLimit, Enabler, Limit, Pair, Rule, Series, frame_of};
 use crate::speaking::speaks;
 use crate::values::count;
 use param_tables::ModelData;
 use std::alloc::{AllocError, Global};
 
 /// The rules in their order.
-const RULES: [Rule; 43] = [
+const RULES: [Rule; 46] = [
     Rule::YearSplitSum,
     Rule::YearGap,
     Rule::DiscountRate,
@@ -53,9 +53,12 @@ const RULES: [Rule; 43] = [
     Rule::ZeroLimits(Limit::Activity),
     Rule::ZeroEmissions(EmissionLimit::Annual),
     Rule::ZeroEmissions(EmissionLimit::ModelPeriod),
-    Rule::HighLimits(Limit::Capacity),
-    Rule::HighLimits(Limit::Investment),
-    Rule::HighLimits(Limit::Activity),
+    Rule::HighLimits(Ceiling::Technology(Limit::Capacity)),
+    Rule::HighLimits(Ceiling::Technology(Limit::Investment)),
+    Rule::HighLimits(Ceiling::Technology(Limit::Activity)),
+    Rule::HighLimits(Ceiling::Period),
+    Rule::HighLimits(Ceiling::Emission(EmissionLimit::Annual)),
+    Rule::HighLimits(Ceiling::Emission(EmissionLimit::ModelPeriod)),
     Rule::IdleLimit,
     Rule::UnusedFuel,
     Rule::IdleTechnology,

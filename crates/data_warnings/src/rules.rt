@@ -49,6 +49,17 @@ pub enum EmissionLimit {
     ModelPeriod,
 }
 
+/// A parameter of upper limits, of which a high value may be meant as none.
+#[derive(Clone, Copy, PartialEq, Eq, Debug)]
+pub enum Ceiling {
+    /// A limit of a technology in a region and a year.
+    Technology(Limit),
+    /// TotalTechnologyModelPeriodActivityUpperLimit.
+    Period,
+    /// A limit of an emission in a region.
+    Emission(EmissionLimit),
+}
+
 /// A cost of a technology.
 #[derive(Clone, Copy, PartialEq, Eq, Debug)]
 pub enum Cost {
@@ -118,7 +129,7 @@ pub enum Rule {
     /// A limit of an emission is 0, by default.
     ZeroEmissions(EmissionLimit),
     /// A limit is 99999 or more.
-    HighLimits(Limit),
+    HighLimits(Ceiling),
     /// An emission has a limit, and nothing gives it off.
     IdleLimit,
     /// A fuel is made, and nobody wants it.

@@ -65,7 +65,7 @@ pub(crate) fn speaks(
         Rule::OneWayRoute => Ok(leads_one_way(model, p.first, p.second, p.third, p.last)),
         Rule::ZeroLimits(limit) => has_zero_limit(alloc, model, limit, p.first, p.last),
         Rule::ZeroEmissions(limit) => has_zero_emissions(alloc, model, limit, p.first, p.last),
-        Rule::HighLimits(limit) => is_for_none(alloc, model, limit, p.first),
+        Rule::HighLimits(ceiling) => is_for_none(alloc, model, ceiling, p.first),
         Rule::IdleLimit => is_idle_limit(alloc, model, p.first, p.second),
         Rule::UnusedFuel => is_unused(alloc, model, p.first, p.second),
         Rule::IdleTechnology => Ok(!is_used(alloc, model, p.first)?),

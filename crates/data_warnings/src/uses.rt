@@ -5,10 +5,10 @@ ghost use Rattle.named_equations.specs.Within.{IsEmission, IsFuel, IsRegion, IsT
 ghost use Rattle.data_warnings.specs.Uses.{has_zero_emissions, has_zero_limit, is_disabled, is_for_none, is_gap, is_idle_limit, is_short_lived, is_small_margin, is_unused, margin};
 
 use crate::questions::{Question, is_so_somewhere};
-use crate::rules::{EmissionLimit, Enabler, Limit};
+use crate::rules::{Ceiling, EmissionLimit, Enabler, Limit};
 use crate::values::{count, is_by_default, value};
 use crate::wide::{Wide, is_so_of_some};
-use crate::yearly::{Yearly, is_ever_so};
+use crate::yearly::{NO_LIMIT, Yearly, is_ever_so};
 use model_sets::param_numbers::{MODEL_PERIOD_EMISSION_LIMIT, OPERATIONAL_LIFE, RESERVE_MARGIN};
 use model_sets::set_numbers::YEAR;
 use param_tables::ModelData;
@@ -112,17 +112,17 @@ pub(crate) fn has_zero_emissions(
     }
 }
 
-/// Whether a limit is 99999 or more for some technology in some year. It may run out of memory.
+/// Whether a limit is 99999 or more for some technology or emission in some year. It may run out of memory.
 pub(crate) fn is_for_none(
     alloc: Global,
     model: &ModelData,
-    limit: Limit,
+    ceiling: Ceiling,
     r: u16,
 ) -> Result<bool, AllocError>
     requires { IsRegion model.now.facts r }
-    ensures { IfOk result (λ is. is ≡ is_for_none model.now.facts limit r) }
+    ensures { IfOk result (λ is. is ≡ is_for_none model.now.facts ceiling r) }
 {
-    is_so_of_some(alloc, model, Wide::Towers(limit, r))
+    is_so_of_some(alloc, model, Wide::Towers(ceiling, r))
 }
 
 /// Whether the emission has a limit, of the model period or of a year, and nothing gives it off. It may run out of memory.
@@ -138,7 +138,7 @@ pub(crate) fn is_idle_limit(
 {
     let limited = is_ever_so(alloc, model, Yearly::Limited(r, e))?;
     let emitted = is_ever_so(alloc, model, Yearly::Emitted(r, e))?;
-    Ok((0 <= value(model, MODEL_PERIOD_EMISSION_LIMIT, &[r, e]) || limited) && !emitted)
+    Ok((value(model, MODEL_PERIOD_EMISSION_LIMIT, &[r, e]) != NO_LIMIT || limited) && !emitted)
 }
 
 /// Whether the fuel is made, and in no year wanted. It may run out of memory.

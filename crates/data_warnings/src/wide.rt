@@ -5,10 +5,10 @@ ghost use Rattle.model_sets.specs.Names.{region, set_count, technology};
 ghost use Rattle.data_warnings.specs.Values.{count};
 ghost use Rattle.data_warnings.specs.Wide.{IsAskedWidely, is_so_of, is_so_of_some, is_used, wide_over};
 
-use crate::rules::Limit;
+use crate::rules::Ceiling;
 use crate::values::count;
-use crate::yearly::{Yearly, is_ever_so};
-use model_sets::set_numbers::{FUEL, REGION, TECHNOLOGY};
+use crate::yearly::{Yearly, ceiling_over, is_ever_so};
+use model_sets::set_numbers::{FUEL, REGION};
 use param_tables::ModelData;
 use std::alloc::{AllocError, Global};
 
@@ -19,8 +19,8 @@ pub enum Wide {
     Makes(u16, u16),
     /// The technology makes the fuel or takes it.
     MakesOrTakes(u16, u16),
-    /// The technology has a limit of 99999 or more.
-    Towers(Limit, u16),
+    /// The technology or the emission has a limit of 99999 or more.
+    Towers(Ceiling, u16),
 }
 
 // The set over whose members the question goes.
@@ -30,7 +30,7 @@ fn wide_over(question: Wide) -> u8
 {
     match question {
         Wide::Makes(..) | Wide::MakesOrTakes(..) => FUEL,
-        Wide::Towers(..) => TECHNOLOGY,
+        Wide::Towers(ceiling, _) => ceiling_over(ceiling),
     }
 }
 
@@ -43,7 +43,7 @@ fn is_so_of(alloc: Global, model: &ModelData, question: Wide, i: u16) -> Result<
     match question {
         Wide::Makes(r, t) => is_ever_so(alloc, model, Yearly::Makes(r, t, i)),
         Wide::MakesOrTakes(r, t) => is_ever_so(alloc, model, Yearly::MakesOrTakes(r, t, i)),
-        Wide::Towers(limit, r) => is_ever_so(alloc, model, Yearly::Towers(limit, r, i)),
+        Wide::Towers(ceiling, r) => is_ever_so(alloc, model, Yearly::Towers(ceiling, r, i)),
     }
 }
 

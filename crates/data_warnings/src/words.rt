@@ -3,10 +3,10 @@
 ghost use Rattle.std.specs.Prelude.{◌≡◌};
 ghost use Rattle.model_sets.specs.Params.{IsParam};
 ghost use Rattle.data_warnings.specs.Limits.{greatest_of, least_of};
-ghost use Rattle.data_warnings.specs.Words.{cost_param, emission_limit_param, enabler_param, param_of, series_param};
+ghost use Rattle.data_warnings.specs.Words.{ceiling_param, cost_param, emission_limit_param, enabler_param, param_of, series_param};
 ghost use Rattle.data_warnings.specs.Yearly.{limit_param};
 
-use crate::rules::{Cost, EmissionLimit, Enabler, Limit, Pair, Rule, Series};
+use crate::rules::{Ceiling, Cost, EmissionLimit, Enabler, Limit, Pair, Rule, Series};
 use model_sets::param_numbers::{
     ACCUMULATED_ANNUAL_DEMAND, ANNUAL_EMISSION_LIMIT, AVAILABILITY_FACTOR, CAPACITY_FACTOR,
     CAPACITY_TO_ACTIVITY_UNIT, CAPITAL_COST, DISCOUNT_RATE, FIXED_COST, INPUT_ACTIVITY_RATIO,
@@ -15,7 +15,8 @@ use model_sets::param_numbers::{
     TOTAL_ANNUAL_MAX_CAPACITY, TOTAL_ANNUAL_MAX_CAPACITY_INVESTMENT, TOTAL_ANNUAL_MIN_CAPACITY,
     TOTAL_ANNUAL_MIN_CAPACITY_INVESTMENT, TOTAL_TECHNOLOGY_ANNUAL_ACTIVITY_LOWER_LIMIT,
     TOTAL_TECHNOLOGY_ANNUAL_ACTIVITY_UPPER_LIMIT,
-    TOTAL_TECHNOLOGY_MODEL_PERIOD_ACTIVITY_LOWER_LIMIT, TRADE_ROUTE, VARIABLE_COST, YEAR_SPLIT,
+    TOTAL_TECHNOLOGY_MODEL_PERIOD_ACTIVITY_LOWER_LIMIT,
+    TOTAL_TECHNOLOGY_MODEL_PERIOD_ACTIVITY_UPPER_LIMIT, TRADE_ROUTE, VARIABLE_COST, YEAR_SPLIT,
 };
 
 // The parameter that is the least of a pair.
@@ -105,6 +106,18 @@ fn emission_limit_param(limit: EmissionLimit) -> u8
     }
 }
 
+// The parameter of upper limits.
+fn ceiling_param(ceiling: Ceiling) -> u8
+    ensures param { result ≡ ceiling_param ceiling }
+    ensures listed { IsParam result }
+{
+    match ceiling {
+        Ceiling::Technology(limit) => limit_param(limit),
+        Ceiling::Period => TOTAL_TECHNOLOGY_MODEL_PERIOD_ACTIVITY_UPPER_LIMIT,
+        Ceiling::Emission(limit) => emission_limit_param(limit),
+    }
+}
+
 /// The parameter whose number is odd; where the lines of a rule name none, one of which the rule speaks.
 pub(crate) fn param_of(rule: Rule) -> u8
     ensures param { result ≡ param_of rule }
@@ -128,7 +141,8 @@ pub(crate) fn param_of(rule: Rule) -> u8
         Rule::NegativeCost(cost) => cost_param(cost),
         Rule::Outlier(series) => series_param(series),
         Rule::OneWayRoute => TRADE_ROUTE,
-        Rule::ZeroLimits(limit) | Rule::HighLimits(limit) => limit_param(limit),
+        Rule::ZeroLimits(limit) => limit_param(limit),
+        Rule::HighLimits(ceiling) => ceiling_param(ceiling),
         Rule::ZeroEmissions(limit) => emission_limit_param(limit),
         Rule::IdleLimit => ANNUAL_EMISSION_LIMIT,
         Rule::UnusedFuel | Rule::IdleTechnology => OUTPUT_ACTIVITY_RATIO,

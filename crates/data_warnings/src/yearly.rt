@@ -1,23 +1,27 @@
 //! Questions on a year, which are asked of whether it is ever so.
 
-ghost use Rattle.std.specs.Prelude.{◌≡◌, ◌<◌, pos, [], ◌∷◌, IfOk};
-ghost use Rattle.model_sets.specs.Names.{year};
+ghost use Rattle.std.specs.Prelude.{◌≡◌, ◌<◌, ◌≤◌, pos, [], ◌∷◌, IfOk};
+ghost use Rattle.model_sets.specs.Names.{set_count, year};
 ghost use Rattle.named_equations.specs.Within.{IsFuel, IsRegion, IsTechnology, IsYear};
 ghost use Rattle.data_warnings.specs.Values.{count, is_by_default};
-ghost use Rattle.data_warnings.specs.Yearly.{IsAskedYearly, is_enabled, is_ever_so, is_so_in, is_wanted, limit_param, limit_value};
+ghost use Rattle.data_warnings.specs.Yearly.{IsAskedYearly, ceiling_over, ceiling_value, is_enabled, is_ever_so, is_so_in, is_wanted, limit_param, limit_value};
 
 use crate::makers::{has_any_ratio, has_ratio, is_asked_for, is_handled};
 use crate::questions::{Question, is_so_somewhere};
-use crate::rules::{Enabler, Limit};
+use crate::rules::{Ceiling, EmissionLimit, Enabler, Limit};
 use crate::values::{count, is_by_default, value};
 use model_sets::param_numbers::{
     ANNUAL_EMISSION_LIMIT, AVAILABILITY_FACTOR, CAPACITY_TO_ACTIVITY_UNIT, CAPITAL_COST,
-    TOTAL_ANNUAL_MAX_CAPACITY, TOTAL_ANNUAL_MAX_CAPACITY_INVESTMENT,
+    MODEL_PERIOD_EMISSION_LIMIT, TOTAL_ANNUAL_MAX_CAPACITY, TOTAL_ANNUAL_MAX_CAPACITY_INVESTMENT,
     TOTAL_TECHNOLOGY_ANNUAL_ACTIVITY_UPPER_LIMIT,
+    TOTAL_TECHNOLOGY_MODEL_PERIOD_ACTIVITY_UPPER_LIMIT,
 };
-use model_sets::set_numbers::YEAR;
+use model_sets::set_numbers::{EMISSION, TECHNOLOGY, YEAR};
 use param_tables::{ActivityRatio, ModelData};
 use std::alloc::{AllocError, Global};
+
+/// What an emission limit says that is none: -1, in billionths.
+pub(crate) const NO_LIMIT: i128 = -1_000_000_000;
 
 /// A question on a year, by positions of region, technology, and fuel or emission.
 #[derive(Clone, Copy, PartialEq, Eq, Debug)]
@@ -42,8 +46,8 @@ pub enum Yearly {
     ZeroLimit(Limit, u16, u16),
     /// AnnualEmissionLimit is 0 by default.
     ZeroEmissions(u16, u16),
-    /// The limit is 99999 or more.
-    Towers(Limit, u16, u16),
+    /// The limit of the technology or of the emission is 99999 or more.
+    Towers(Ceiling, u16, u16),
 }
 
 // The limit of a technology.
@@ -61,6 +65,40 @@ fn limit_value(model: &ModelData, limit: Limit, r: u16, t: u16, y: u16) -> i128
             TOTAL_TECHNOLOGY_ANNUAL_ACTIVITY_UPPER_LIMIT,
             &[r, t, y],
         ),
+    }
+}
+
+/// The set of whose members a parameter of upper limits is, besides regions.
+pub(crate) fn ceiling_over(ceiling: Ceiling) -> u8
+    ensures set { result ≡ ceiling_over ceiling }
+    ensures listed { result ≤ set_count }
+{
+    match ceiling {
+        Ceiling::Technology(_) | Ceiling::Period => TECHNOLOGY,
+        Ceiling::Emission(_) => EMISSION,
+    }
+}
+
+// The upper limit of a technology or of an emission; those of the model period are the same in each year.
+fn ceiling_value(model: &ModelData, ceiling: Ceiling, r: u16, i: u16, y: u16) -> i128
+    requires region { IsRegion model.now.facts r }
+    requires member { i < count model.now.facts (ceiling_over ceiling) }
+    requires year { IsYear model.now.facts y }
+    ensures { result ≡ ceiling_value model.now.facts ceiling r i y }
+{
+    match ceiling {
+        Ceiling::Technology(limit) => limit_value(model, limit, r, i, y),
+        Ceiling::Period => value(
+            model,
+            TOTAL_TECHNOLOGY_MODEL_PERIOD_ACTIVITY_UPPER_LIMIT,
+            &[r, i],
+        ),
+        Ceiling::Emission(EmissionLimit::Annual) => {
+            value(model, ANNUAL_EMISSION_LIMIT, &[r, i, y])
+        }
+        Ceiling::Emission(EmissionLimit::ModelPeriod) => {
+            value(model, MODEL_PERIOD_EMISSION_LIMIT, &[r, i])
+        }
     }
 }
 
@@ -120,7 +158,7 @@ fn is_so_in(alloc: Global, model: &ModelData, question: Yearly, y: u16) -> Resul
         Yearly::Made(r, f) => is_handled(alloc, model, ActivityRatio::Output, r, f, y),
         Yearly::Wanted(r, f) => is_wanted(alloc, model, r, f, y),
         Yearly::Emitted(r, e) => is_handled(alloc, model, ActivityRatio::Emission, r, e, y),
-        Yearly::Limited(r, e) => Ok(0 <= value(model, ANNUAL_EMISSION_LIMIT, &[r, e, y])),
+        Yearly::Limited(r, e) => Ok(value(model, ANNUAL_EMISSION_LIMIT, &[r, e, y]) != NO_LIMIT),
         Yearly::Makes(r, t, f) => has_ratio(alloc, model, ActivityRatio::Output, r, t, f, y),
         Yearly::MakesOrTakes(r, t, f) => has_any_ratio(alloc, model, r, t, f, y),
         Yearly::Costs(r, t) => Ok(0 < value(model, CAPITAL_COST, &[r, t, y])),
@@ -129,8 +167,8 @@ fn is_so_in(alloc: Global, model: &ModelData, question: Yearly, y: u16) -> Resul
         Yearly::ZeroEmissions(r, e) => {
             Ok(is_by_default(model, ANNUAL_EMISSION_LIMIT, &[r, e, y], 0))
         }
-        Yearly::Towers(limit, r, t) => {
-            Ok(99_999_000_000_000 <= limit_value(model, limit, r, t, y))
+        Yearly::Towers(ceiling, r, i) => {
+            Ok(99_999_000_000_000 <= ceiling_value(model, ceiling, r, i, y))
         }
     }
 }

@@ -1,9 +1,11 @@
 -- By the rule of the finding.
 use Rattle.std.proofs.Common.{◌≡◌, ℕ, ℤ, true}
+use Rattle.std.specs.Prelude.{Contains}
 use Rattle.named_equations.specs.Plans.{Feasible}
 use Rattle.param_tables.specs.Built.{Built}
 use Rattle.row_core.specs.declared.Var.{Var}
 use Rattle.row_core.proofs.Members.{Has-from_Contains}
+use Rattle.data_warnings.specs.declared.places.Finding.{Finding}
 use Rattle.data_warnings.specs.declared.places.Place.{Place}
 use Rattle.data_warnings.specs.declared.rules.Rule.{Rule}
 use Rattle.data_warnings.specs.declared.rules.Rule.TheVariants.{YearSplitSum, YearGap, DiscountRate, UnprofiledDemand, ProfileSum, UnmadeDemand, StarvedTechnology, Disabled, Crossed, CrossedPeriod, Unreachable, ShortLives, LargeFactor, LargeAvailability, LargeTarget, SmallMargin, NegativeCost, Outlier, OneWayRoute, ZeroLimits, ZeroEmissions, HighLimits, IdleLimit, UnusedFuel, IdleTechnology, Rounded}
@@ -15,6 +17,7 @@ use Rattle.data_warnings.specs.Values.{IsPlace}
 use Rattle.model_sets.specs.Names as sets
 use Rattle.data_warnings.proofs.CrossedLimits.{not_crossed, not_crossed_period}
 use Rattle.data_warnings.proofs.FoundPlaces.{is_found}
+use Rattle.data_warnings.proofs.LineEnds.{excluding}
 use Rattle.data_warnings.proofs.MetEquations.{in_of}
 use Rattle.data_warnings.proofs.UnreachedActivity.{not_unreachable}
 use Rattle.data_warnings.proofs.UnmadeFuels.{not_unmade}
@@ -46,13 +49,19 @@ by_rule b (Outlier series) p at spoken excludes places q x plan = absurd (cc exc
 by_rule b OneWayRoute p at spoken excludes places q x plan = absurd (cc excludes)
 by_rule b (ZeroLimits limit) p at spoken excludes places q x plan = absurd (cc excludes)
 by_rule b (ZeroEmissions limit) p at spoken excludes places q x plan = absurd (cc excludes)
-by_rule b (HighLimits limit) p at spoken excludes places q x plan = absurd (cc excludes)
+by_rule b (HighLimits ceiling) p at spoken excludes places q x plan = absurd (cc excludes)
 by_rule b IdleLimit p at spoken excludes places q x plan = absurd (cc excludes)
 by_rule b UnusedFuel p at spoken excludes places q x plan = absurd (cc excludes)
 by_rule b IdleTechnology p at spoken excludes places q x plan = absurd (cc excludes)
 by_rule b Rounded p at spoken excludes places q x plan = absurd (cc excludes)
 
-pub returns : goal.returns
-returns c b f has excludes places q x plan =
+excluded : (b : Built) (f : Finding) → Contains (findings b) f → excludes_plans f.rule ≡ true → (places q : ℕ) (x : Var → ℤ) → Feasible places b.facts q x → ⊥
+excluded b f has excludes places q x plan =
     let here = is_found b f (Has-from_Contains (findings b) f has) in
     by_rule b f.rule f.place here.place here.speaks excludes places q x plan
+
+pub returns-clause-excluded : goal.returns-clause-excluded
+returns-clause-excluded c b f has excludes places q x plan = excluded b f has excludes places q x plan
+
+pub returns-clause-told : goal.returns-clause-told
+returns-clause-told c b f are has ending places q x plan = excluded b f has (excluding b.facts.sets are f ending) places q x plan
