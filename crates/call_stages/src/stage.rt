@@ -1,7 +1,7 @@
 //! Where a call is.
 
 /// Where a call is.
-#[derive(Clone, Copy, Debug)]
+#[derive(Clone, Copy)]
 pub enum Stage {
     /// It reads a file.
     Reading,

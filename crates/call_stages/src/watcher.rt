@@ -9,7 +9,7 @@ pub trait Watcher {
 }
 
 /// Nobody waits.
-#[derive(Clone, Copy, Debug)]
+#[derive(Clone, Copy)]
 pub struct Unwatched;
 
 impl Watcher for Unwatched {

@@ -16,7 +16,7 @@ use param_tables::ModelData;
 pub(crate) const TEN: i128 = 10_000_000_000;
 
 /// A question on the members of a set, by positions of region, fuel or technology, and year.
-#[derive(Clone, Copy, PartialEq, Eq, Debug)]
+#[derive(Clone, Copy, PartialEq, Eq)]
 pub enum Question {
     /// SpecifiedDemandProfile is above 0 in the timeslice.
     Profile(u16, u16, u16),

@@ -6,7 +6,7 @@ ghost use Rattle.data_warnings.specs.Frames.{cost_frame, frame_of, framed, serie
 use model_sets::set_numbers::{EMISSION, FUEL, MODE_OF_OPERATION, REGION, TECHNOLOGY, YEAR};
 
 /// A least value of a technology in a region and a year, and the greatest that may be.
-#[derive(Clone, Copy, PartialEq, Eq, Debug)]
+#[derive(Clone, Copy, PartialEq, Eq)]
 pub enum Pair {
     /// ResidualCapacity and TotalAnnualMaxCapacity.
     Residual,
@@ -19,7 +19,7 @@ pub enum Pair {
 }
 
 /// What a technology needs to run.
-#[derive(Clone, Copy, PartialEq, Eq, Debug)]
+#[derive(Clone, Copy, PartialEq, Eq)]
 pub enum Enabler {
     /// CapacityToActivityUnit.
     Unit,
@@ -30,7 +30,7 @@ pub enum Enabler {
 }
 
 /// An upper limit of a technology in a region and a year.
-#[derive(Clone, Copy, PartialEq, Eq, Debug)]
+#[derive(Clone, Copy, PartialEq, Eq)]
 pub enum Limit {
     /// TotalAnnualMaxCapacity.
     Capacity,
@@ -41,7 +41,7 @@ pub enum Limit {
 }
 
 /// A limit of an emission in a region.
-#[derive(Clone, Copy, PartialEq, Eq, Debug)]
+#[derive(Clone, Copy, PartialEq, Eq)]
 pub enum EmissionLimit {
     /// AnnualEmissionLimit.
     Annual,
@@ -50,7 +50,7 @@ pub enum EmissionLimit {
 }
 
 /// A parameter of upper limits, of which a high value may be meant as none.
-#[derive(Clone, Copy, PartialEq, Eq, Debug)]
+#[derive(Clone, Copy, PartialEq, Eq)]
 pub enum Ceiling {
     /// A limit of a technology in a region and a year.
     Technology(Limit),
@@ -61,7 +61,7 @@ pub enum Ceiling {
 }
 
 /// A cost of a technology.
-#[derive(Clone, Copy, PartialEq, Eq, Debug)]
+#[derive(Clone, Copy, PartialEq, Eq)]
 pub enum Cost {
     /// CapitalCost.
     Capital,
@@ -72,7 +72,7 @@ pub enum Cost {
 }
 
 /// A parameter that changes little from one year to the next.
-#[derive(Clone, Copy, PartialEq, Eq, Debug)]
+#[derive(Clone, Copy, PartialEq, Eq)]
 pub enum Series {
     CapitalCost,
     FixedCost,
@@ -84,7 +84,7 @@ pub enum Series {
 
 /// A rule. What it finds is told once for all years in which it holds of the same members, and of what is so by default once for all
 /// technologies or emissions of a region.
-#[derive(Clone, Copy, PartialEq, Eq, Debug)]
+#[derive(Clone, Copy, PartialEq, Eq)]
 pub enum Rule {
     /// YearSplit doesn't sum to 1.
     YearSplitSum,
@@ -142,7 +142,7 @@ pub enum Rule {
 
 /// The numbers of the sets over which the findings of a rule go: up to three members, and the set of which a finding tells all
 /// members together, most often the years. 0 is no set.
-#[derive(Clone, Copy, PartialEq, Eq, Debug)]
+#[derive(Clone, Copy, PartialEq, Eq)]
 pub struct Frame {
     pub first: u8,
     pub second: u8,

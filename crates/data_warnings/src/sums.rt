@@ -15,7 +15,7 @@ use model_sets::set_numbers::TIMESLICE;
 use param_tables::ModelData;
 
 /// The parts of a whole, one for each timeslice, by positions of region, fuel and year.
-#[derive(Clone, Copy, PartialEq, Eq, Debug)]
+#[derive(Clone, Copy, PartialEq, Eq)]
 pub enum Parts {
     /// YearSplit.
     YearSplit(u16),

@@ -13,7 +13,7 @@ use param_tables::ModelData;
 use std::alloc::{AllocError, Global};
 
 /// A question on the members of a set, by positions of region and technology.
-#[derive(Clone, Copy, PartialEq, Eq, Debug)]
+#[derive(Clone, Copy, PartialEq, Eq)]
 pub enum Wide {
     /// The technology makes the fuel.
     Makes(u16, u16),

@@ -24,7 +24,7 @@ use std::alloc::{AllocError, Global};
 pub(crate) const NO_LIMIT: i128 = -1_000_000_000;
 
 /// A question on a year, by positions of region, technology, and fuel or emission.
-#[derive(Clone, Copy, PartialEq, Eq, Debug)]
+#[derive(Clone, Copy, PartialEq, Eq)]
 pub enum Yearly {
     /// A technology makes the fuel.
     Made(u16, u16),

@@ -6,7 +6,7 @@ ghost use Rattle.int_tableau.specs.declared.refused.Refused.TheVariants.{Memory}
 use std::alloc::{AllocError, AllocFailed};
 
 /// Why a computation on lines stops. Lines know nothing of the pivot that they are part of.
-#[derive(Clone, Copy, Debug, PartialEq, Eq)]
+#[derive(Clone, Copy, PartialEq, Eq)]
 pub(crate) enum Refused {
     /// A number that is formed lies outside the range from `-(2^127 - 1)` to `2^127 - 1`.
     TooWide,

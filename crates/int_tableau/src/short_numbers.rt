@@ -3,7 +3,7 @@
 ghost use Rattle.std.specs.Prelude.{◌<◌, ◌^◌, unsigned_abs};
 
 /// What a choice needs of a row whose numbers have 64 bits: its entries in a column and in the last one, and its right side.
-#[derive(Clone, Copy, Debug)]
+#[derive(Clone, Copy)]
 pub struct ShortNumbers {
     pub entry: i64,
     pub last: i64,

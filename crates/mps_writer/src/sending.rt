@@ -23,7 +23,7 @@ use row_core::{RowSource, Var};
 use std::alloc::{AllocError, Global};
 
 /// Why a text wasn't written whole.
-#[derive(Clone, Copy, Debug, PartialEq, Eq)]
+#[derive(Clone, Copy, PartialEq, Eq)]
 pub enum MpsFail {
     /// The sink failed, and counted it.
     Write,

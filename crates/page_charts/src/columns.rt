@@ -9,7 +9,7 @@ use crate::frames::{LEFT, RIGHT};
 const WIDEST: u128 = 480;
 
 /// A column: its left edge and width, and the width of its place, in whose middle it stands.
-#[derive(Clone, Copy, Debug)]
+#[derive(Clone, Copy)]
 pub(crate) struct Column {
     pub x: u128,
     pub width: u128,

@@ -22,7 +22,7 @@ pub(crate) const BOTTOM: u128 = TOP + HEIGHT;
 pub const MOST: u128 = 1_000_000_000_000_000_000_000_000;
 
 /// The frame of a chart: it goes from `down` steps below 0 to `up` steps above.
-#[derive(Clone, Copy, Debug)]
+#[derive(Clone, Copy)]
 pub struct Frame {
     /// The value between two ticks, in millionths.
     pub step: u128,

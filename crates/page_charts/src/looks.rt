@@ -10,7 +10,7 @@ pub const LOOKS: u8 = 27;
 pub const COLOURS: u8 = 9;
 
 /// The look of a series: a colour and a pattern over it.
-#[derive(Clone, Copy, Debug, PartialEq, Eq)]
+#[derive(Clone, Copy, PartialEq, Eq)]
 pub enum Look {
     /// One of the 27 looks that tell members of a set apart: colour `n % 9`, and plain, striped or dotted by `n / 9 % 3`.
     Numbered(u8),

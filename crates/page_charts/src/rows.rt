@@ -11,7 +11,7 @@ pub struct Heading {
 }
 
 /// What a row of numbers is.
-#[derive(Clone, Copy, Debug, PartialEq, Eq)]
+#[derive(Clone, Copy, PartialEq, Eq)]
 pub enum RowKind {
     /// A series.
     Series,

@@ -20,7 +20,7 @@ pub struct Series {
 }
 
 /// How a line over the columns looks.
-#[derive(Clone, Copy, Debug, PartialEq, Eq)]
+#[derive(Clone, Copy, PartialEq, Eq)]
 pub enum Stroke {
     /// What is asked for.
     Demand,

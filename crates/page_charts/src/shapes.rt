@@ -17,7 +17,7 @@ const GAPPED: u128 = 30;
 const GAP: u128 = 8;
 
 /// A rectangle, in tenths of a pixel.
-#[derive(Clone, Copy, Debug)]
+#[derive(Clone, Copy)]
 pub(crate) struct Rect {
     pub x: u128,
     pub y: u128,

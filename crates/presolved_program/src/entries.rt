@@ -10,7 +10,7 @@ use exact_num::{Frac, add, fits, mul, sub};
 use row_core::fraction;
 
 /// A number in a row, with the place of its column; or in a column, with that of its row. The number isn't 0.
-#[derive(Clone, Copy, Debug)]
+#[derive(Clone, Copy)]
 pub struct Entry {
     pub at: usize,
     pub number: i128,

@@ -11,7 +11,7 @@ use std::alloc::Global;
 use written_method::Reduced;
 
 /// What is looked for.
-#[derive(Clone, Copy, Debug, PartialEq, Eq)]
+#[derive(Clone, Copy, PartialEq, Eq)]
 pub enum Aim {
     /// A plan of least cost, with multipliers that bound it.
     Cheapest,

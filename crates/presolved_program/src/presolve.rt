@@ -13,7 +13,7 @@ use std::alloc::Global;
 const ROUNDS: usize = 1000;
 
 /// What a round did.
-#[derive(Clone, Copy, Debug, PartialEq, Eq)]
+#[derive(Clone, Copy, PartialEq, Eq)]
 pub(crate) enum Round {
     Same,
     Changed,

@@ -4,7 +4,7 @@ use exact_num::TooWide;
 use std::alloc::{AllocError, AllocFailed};
 
 /// Why a step gives nothing.
-#[derive(Clone, Copy, Debug, PartialEq, Eq)]
+#[derive(Clone, Copy, PartialEq, Eq)]
 pub enum Stop {
     /// A number doesn't fit, isn't finite, or the step isn't made for such a program.
     GivenUp,

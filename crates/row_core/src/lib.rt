@@ -52,7 +52,7 @@ pub use writing::write_row;
 
 /// The subscripts of a variable or an equation, each a position in its set, counted from 0.
 /// A subscript that the kind or equation doesn't have is 0. Ordered by the fields as they stand here.
-#[derive(Clone, Copy, Debug, PartialEq, Eq)]
+#[derive(Clone, Copy, PartialEq, Eq)]
 pub struct Index {
     /// The region, `r`.
     pub region: u16,
@@ -74,7 +74,7 @@ pub struct Index {
 
 /// A variable: the number of its kind, from 1 to 48, and its subscripts. Ordered by kind, then by
 /// subscripts.
-#[derive(Clone, Copy, Debug, PartialEq, Eq, PartialOrd, Ord)]
+#[derive(Clone, Copy, PartialEq, Eq, PartialOrd, Ord)]
 pub struct Var {
     pub kind: u8,
     pub index: Index,
@@ -82,7 +82,7 @@ pub struct Var {
 
 /// The name of a row: the number of its equation, from 1 to 64, and its subscripts; 65 is the number
 /// of the row that limits the cost, `SPAN`. Ordered by equation, then by subscripts.
-#[derive(Clone, Copy, Debug, PartialEq, Eq, PartialOrd, Ord)]
+#[derive(Clone, Copy, PartialEq, Eq, PartialOrd, Ord)]
 pub struct RowName {
     pub eq: u8,
     pub index: Index,
@@ -103,7 +103,7 @@ pub enum Sense {
 ///
 /// Every number lies from -(2^127 - 1) to 2^127 - 1, and no number above 1 divides all of them, unless
 /// all are 0.
-#[derive(Debug, Drop)]
+#[derive(Drop)]
 pub struct Row {
     pub name: RowName,
     pub sense: Sense,

@@ -7,7 +7,7 @@ use crate::{RowName, Var};
 use std::alloc::{AllocError, AllocFailed};
 
 /// A place in a computation.
-#[derive(Clone, Copy, Debug, PartialEq, Eq)]
+#[derive(Clone, Copy, PartialEq, Eq)]
 pub enum Place {
     /// The row of an equation, as it is written.
     Row(RowName),
@@ -38,7 +38,7 @@ pub enum Place {
 }
 
 /// Why a computation stopped.
-#[derive(Clone, Copy, Debug, PartialEq, Eq)]
+#[derive(Clone, Copy, PartialEq, Eq)]
 pub enum Stopped {
     /// A number that is formed at this place lies outside the range from `-(2^127 - 1)` to `2^127 - 1`.
     Width(Place),

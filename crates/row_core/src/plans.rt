@@ -13,7 +13,7 @@ use exact_num::Frac;
 use std::marker::Model;
 
 /// A value for each variable of a list that ascends strictly; every other variable has the value 0.
-#[derive(Debug, Drop)]
+#[derive(Drop)]
 pub struct Plan(Vec<(Var, Frac)>);
 
 impl Model for Plan {
@@ -57,7 +57,7 @@ impl Plan {
 }
 
 /// A multiplier for each row of a list that ascends strictly by name; every other row has the multiplier 0.
-#[derive(Debug, Drop)]
+#[derive(Drop)]
 pub struct Multipliers(Vec<(RowName, Frac)>);
 
 impl Model for Multipliers {

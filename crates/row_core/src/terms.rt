@@ -23,7 +23,7 @@ use std::cmp::Ordering;
 use std::marker::Model;
 
 /// A term of an equation: a variable, and its coefficient on the left side.
-#[derive(Clone, Copy, Debug, PartialEq, Eq)]
+#[derive(Clone, Copy, PartialEq, Eq)]
 pub struct Term {
     pub variable: Var,
     pub coefficient: Frac,

@@ -10,7 +10,7 @@ use std::alloc::AllocError;
 use std::marker::Model;
 
 /// A multiplier for each row, in the order of rows: at least 0 on a row of at least, at most 0 on a row of at most.
-#[derive(Debug, Drop)]
+#[derive(Drop)]
 pub struct Lambda(Vec<Frac>);
 
 impl Model for Lambda {
@@ -40,7 +40,7 @@ impl Lambda {
 }
 
 /// How the method ends on a linear program, after so many pivots.
-#[derive(Debug, Drop)]
+#[derive(Drop)]
 pub enum End {
     /// The values are a plan of least cost, and the multipliers prove it.
     Optimal {
@@ -62,7 +62,7 @@ pub enum End {
 }
 
 /// Why the method stops before its end.
-#[derive(Clone, Copy, Debug, PartialEq, Eq)]
+#[derive(Clone, Copy, PartialEq, Eq)]
 pub enum Halt {
     /// A pivot is due after the last that may be made.
     Budget,

@@ -3,7 +3,7 @@
 ghost use Rattle.exact_num.specs.Range.{InRange};
 
 /// What a round needs of x0's row: its place, the column that enters, its entries at x0 and in that column, and its right side.
-#[derive(Clone, Copy, Debug)]
+#[derive(Clone, Copy)]
 pub(crate) struct Home {
     pub(crate) row: usize,
     pub(crate) column: usize,

@@ -18,7 +18,7 @@ use exact_num::TooWide;
 use int_tableau::{Tableau, difference, is_narrow};
 
 /// The greatest sizes of some lines: of their multiplied entries in the column that enters, of those at x0, and of all their numbers.
-#[derive(Clone, Copy, Debug)]
+#[derive(Clone, Copy)]
 pub(crate) struct Spread {
     pub(crate) entry: u128,
     pub(crate) at_x0: u128,
@@ -26,7 +26,7 @@ pub(crate) struct Spread {
 }
 
 /// The row that leaves, if one may, and the greatest sizes of all rows.
-#[derive(Clone, Copy, Debug)]
+#[derive(Clone, Copy)]
 pub(crate) struct LeavingRow {
     pub(crate) chosen: Option<Candidate>,
     pub(crate) spread: Spread,

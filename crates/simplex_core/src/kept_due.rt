@@ -12,7 +12,7 @@ use crate::kept_width::fits;
 use int_tableau::Tableau;
 
 /// What is due.
-#[derive(Clone, Copy, Debug)]
+#[derive(Clone, Copy)]
 pub(crate) enum KeptDue {
     /// A pivot in this row and this column, whose numbers all fit; and whether it is degenerate.
     Pivot(usize, usize, bool),

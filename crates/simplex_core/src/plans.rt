@@ -17,7 +17,7 @@ use row_core::{Place, Plan, Stopped, Var, fraction};
 use std::alloc::Global;
 
 /// What is lifted: a place names it.
-#[derive(Clone, Copy, Debug, PartialEq, Eq)]
+#[derive(Clone, Copy, PartialEq, Eq)]
 pub(crate) enum Lift {
     /// The values of a plan.
     Plan,

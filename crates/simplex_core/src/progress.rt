@@ -11,7 +11,7 @@ use std::alloc::{AllocError, Global};
 use written_method::Reduced;
 
 /// The phases of the method.
-#[derive(Clone, Copy, Debug, PartialEq, Eq)]
+#[derive(Clone, Copy, PartialEq, Eq)]
 pub(crate) enum Phase {
     /// x0 is still to be taken in.
     Start,
@@ -22,7 +22,7 @@ pub(crate) enum Phase {
 }
 
 /// What is due.
-#[derive(Clone, Copy, Debug)]
+#[derive(Clone, Copy)]
 pub(crate) enum Due {
     /// A pivot in this row and this column.
     Pivot(usize, usize),

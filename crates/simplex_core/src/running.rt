@@ -19,7 +19,7 @@ use std::alloc::Global;
 use written_method::Reduced;
 
 /// How the rounds end.
-#[derive(Clone, Copy, Debug, PartialEq, Eq)]
+#[derive(Clone, Copy, PartialEq, Eq)]
 pub(crate) enum Finish {
     /// In phase 2 no column can enter.
     Optimal,

@@ -2,7 +2,7 @@
 use row_core::Place;
 
 /// Why a command didn't come to its end, for the line that says so.
-#[derive(Clone, Copy, Debug, PartialEq, Eq)]
+#[derive(Clone, Copy, PartialEq, Eq)]
 pub enum Stop {
     /// A pivot is due after the last that may be made, of which there are so many.
     Budget(u64),
@@ -13,7 +13,7 @@ pub enum Stop {
 }
 
 /// Why one of several trials didn't come to its end.
-#[derive(Clone, Copy, Debug, PartialEq, Eq)]
+#[derive(Clone, Copy, PartialEq, Eq)]
 pub enum TrialStop {
     /// A pivot is due after the last of so many that a trial may make.
     Budget(u64),

@@ -5,7 +5,7 @@ use row_core::{Row, Var};
 
 /// A linear program: to minimise `z` under these rows, where `cost_own * z` and the sum of each variable times its number of
 /// `cost` are `cost_rhs` together. NewCapacity and RateOfActivity aren't negative; Trade may be.
-#[derive(Debug, Drop)]
+#[derive(Drop)]
 pub struct Reduced {
     /// The rows.
     pub rows: Vec<Row>,
