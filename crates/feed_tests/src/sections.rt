@@ -9,8 +9,9 @@ ghost use Rattle.row_core.specs.Numbers.{ascends};
 ghost use Rattle.row_core.specs.Order.{var_cmp};
 ghost use Rattle.row_core.specs.Sources.{AreInOrder};
 
+use crate::base_example::base_text;
 use crate::counted::Counted;
-use data_tests::{base_text, section};
+use crate::data_sections::section;
 use io_edges::SureSink;
 use mathprog_data::read_blocks;
 use mps_writer::{MpsFail, mps_to};

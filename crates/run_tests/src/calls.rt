@@ -1,6 +1,6 @@
 //! Calls of the program over files in memory.
 
-use data_tests::section;
+use feed_tests::section;
 use io_edges::{MemShelf, MemSink};
 use osemosys_run::{Status, osemosys};
 use std::alloc::Global;

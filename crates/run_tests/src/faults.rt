@@ -1,7 +1,7 @@
 //! Files that are missing, and shelves and sinks that fail.
 
 use crate::calls::{MPS, SETS, call, call_into};
-use data_tests::section;
+use feed_tests::section;
 use io_edges::MemSink;
 use osemosys_run::{ReadStop, Status};
 use std::test::Fail;

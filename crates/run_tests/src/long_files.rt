@@ -1,7 +1,7 @@
 //! Files of 64 MiB, and of a byte more.
 
 use crate::calls::{MPS, SETS, assert_ends, call};
-use data_tests::{base_text, section};
+use feed_tests::{base_text, section};
 use std::test::Fail;
 
 /// 64 MiB.

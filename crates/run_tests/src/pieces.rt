@@ -2,7 +2,7 @@
 
 use crate::calls::{CHECK, Ending, MPS, SETS, assert_ends, call, call_check, call_into, call_on};
 use crate::plan_records::{PLAN, file_of};
-use data_tests::{base_text, section};
+use feed_tests::{base_text, section};
 use io_edges::{MemShelf, MemSink};
 use std::alloc::Global;
 use std::test::Fail;
