@@ -1,5 +1,5 @@
 -- What is held between two words, and what it says of the words so far.
-use Rattle.std.proofs.Common.{◌≡◌, ◌∙◌, List, [], ◌∷◌, ◌++◌, Option, Some, None, is_some, Bool, true, false, cond, refl, ap, sym, subst, option_map}
+use Rattle.std.proofs.Common.{◌≡◌, ◌∙◌, List, [], ◌∷◌, ◌++◌, Option, Some, None, is_some, Bool, true, false, cond, refl, ap, sym, subst, option_map, append-nil}
 use Rattle.std.specs.Prelude.{codes, unwrap_or}
 use Rattle.std.specs.Option.{option_map_or}
 use Rattle.std.specs.Str.{bytes_eq}
@@ -17,15 +17,10 @@ use Rattle.command_words.proofs.ClapOptions.{Fails, IsOption, said, using}
 
 -- ---- one more part
 
-files_after_file : (parts : List Part) (name : Text) → files_in (parts ++ File name ∷ []) ≡ files_in parts ++ name ∷ []
-files_after_file [] name = refl
-files_after_file (File other ∷ parts) name = ap (λ more. other ∷ more) (files_after_file parts name)
-files_after_file (Chosen o value ∷ parts) name = files_after_file parts name
-
-files_after_value : (parts : List Part) (name value : Text) → files_in (parts ++ Chosen name value ∷ []) ≡ files_in parts
-files_after_value [] name value = refl
-files_after_value (File other ∷ parts) name value = ap (λ more. other ∷ more) (files_after_value parts name value)
-files_after_value (Chosen o v ∷ parts) name value = files_after_value parts name value
+files_after : (parts : List Part) (part : Part) → files_in (parts ++ part ∷ []) ≡ files_in parts ++ files_in (part ∷ [])
+files_after [] part = refl
+files_after (File other ∷ parts) part = ap (λ more. other ∷ more) (files_after parts part)
+files_after (Chosen o value ∷ parts) part = files_after parts part
 
 -- the first of two
 abbrev earlier : Option Text → Option Text → Option Text
@@ -70,7 +65,7 @@ listed_more (y ∷ ys) x = refl
 pub says_file : (rows : List Row) (parts : List Part) (name : Text) → Says rows parts → Says (used file (name ∷ []) rows) (parts ++ File name ∷ [])
 says_file rows parts name s = record {
   files = added_here (codes "file") (reading_by file) CommandLine name rows refl ∙ ap (λ found. Some (unwrap_or found [] ++ name ∷ [])) s.files
-      ∙ listed_more (files_in parts) name ∙ ap listed (sym (files_after_file parts name));
+      ∙ listed_more (files_in parts) name ∙ ap listed (sym (files_after parts (File name)));
   options = λ o apart. added_elsewhere (codes "file") (reading_by file) CommandLine name o rows apart ∙ s.options o apart
       ∙ ap row_of_one (sym (value_after parts (File name) o ∙ only_earlier (value_in o parts)));
 }
@@ -111,7 +106,7 @@ module _ (rows : List Row) (parts : List Part) (s : Says rows parts) where
 
     pub says_value : Says more (parts ++ Chosen name value ∷ [])
     says_value = record {
-      files = ap (all_of (codes "file")) added ∙ added_elsewhere name how CommandLine value (codes "file") rows no_file ∙ s.files ∙ ap listed (sym (files_after_value parts name value));
+      files = ap (all_of (codes "file")) added ∙ added_elsewhere name how CommandLine value (codes "file") rows no_file ∙ s.files ∙ ap listed (sym (files_after parts (Chosen name value) ∙ append-nil (files_in parts)));
       options = λ o is. go o is (bytes_eq name o) refl;
     }
       where

@@ -4,7 +4,7 @@ use Rattle.std.specs.Prelude.{int_le, unsigned_abs, IfOk, IfSome}
 use Rattle.std.specs.List.{AllByRecursion}
 use Rattle.std.specs.Option.{option_and_then}
 use Rattle.std.specs.Str.{all_ascii_digits}
-use Rattle.std.proofs.lemmas.Bool.{eqb-true, leb-true, lt-ltb, ltb-true}
+use Rattle.std.proofs.lemmas.Bool.{and_parts, eqb-true, leb-true, lt-ltb, ltb-true}
 use Rattle.exact_num.specs.Range.{InRange}
 use Rattle.scaled_decimals.specs.declared.reading.DecFault.{DecFault}
 use Rattle.scaled_decimals.specs.declared.reading.DecFault.TheVariants.{NotNumber, TooLarge}
@@ -20,12 +20,8 @@ use Rattle.command_words.specs.LimitLists.{AreLimits, IsLimit, all_of, between_c
 
 -- ---- powers of ten
 
-both_true : (a b : Bool) → (a && b) ≡ true → (a ≡ true) × (b ≡ true)
-both_true true b e = (refl, e)
-both_true false b e = absurd (true≢false (sym e))
-
 numeral_is : (ds : List ℕ) → is_numeral ds ≡ true → IsNumeral ds
-numeral_is ds e = let parts = both_true (ltb 0 (length ds)) (all_ascii_digits ds) e in (ltb-true 0 (length ds) parts.0, parts.1)
+numeral_is ds e = let parts = and_parts (ltb 0 (length ds)) (all_ascii_digits ds) e in (ltb-true 0 (length ds) parts.0, parts.1)
 
 is_numeral_of : (ds : List ℕ) → IsNumeral ds → is_numeral ds ≡ true
 is_numeral_of ds is = ap₂ (λ a b. a && b) (lt-ltb 0 (length ds) is.0) is.1

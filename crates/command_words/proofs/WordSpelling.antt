@@ -4,6 +4,7 @@ use Rattle.std.specs.Prelude.{codes, find, not, ⊤}
 use Rattle.std.specs.List.{AllByRecursion, list_all, list_any, flat_map, before_first, after_first, position_or_len}
 use Rattle.std.specs.Option.{option_map_or}
 use Rattle.std.specs.Str.{bytes_eq}
+use Rattle.std.proofs.lemmas.Bool.{and_parts, not-true}
 use Rattle.std.proofs.lemmas.Bool.Decides.{Decides-eqb}
 use Rattle.std.proofs.lemmas.Slice.Eq.{bytes_eq-Decides}
 use Rattle.command_words.specs.WordParts.{HasSpelledParts, Part, File, Chosen, Spelling, Name, Apart, Joined, Flag, Spells, end_files, end_words, flag_value, followed, is_equals, is_option, is_spelling, joined_value, names_option, option_in, option_parts, option_word, options, options_end, part_of, parts_from, parts_of, words_of}
@@ -114,14 +115,6 @@ has_parts name has_value e = go (find (λ o. bytes_eq o.0 name) options) refl e
 
 -- ---- what is spelled so has these parts
 
-not_true : (b : Bool) → not b ≡ true → b ≡ false
-not_true true e = absurd (true≢false (sym e))
-not_true false e = refl
-
-both_true : (a b : Bool) → (a && b) ≡ true → (a ≡ true) × (b ≡ true)
-both_true true b e = (refl, e)
-both_true false b e = absurd (true≢false (sym e))
-
 -- no file is '--'
 no_end : (word : List ℕ) → is_option word ≡ false → bytes_eq options_end word ≡ false
 no_end word e = go (bytes_eq options_end word) refl
@@ -131,10 +124,10 @@ no_end word e = go (bytes_eq options_end word) refl
     go false is = refl
 
 next_part : (s : Spelling) (words : List (List ℕ)) → is_spelling s ≡ true → parts_from None (words_of s ++ words) ≡ followed (part_of s) (parts_from None words)
-next_part (Name file) words right = let e = not_true (is_option file) right in rw (no_end file e, e) refl
+next_part (Name file) words right = let e = not-true (is_option file) right in rw (no_end file e, e) refl
 next_part (Apart name value) words right =
-    let both = both_true (names_option name true) (not (is_option value)) right in
-    (has_parts name true both.0).0 value words ∙ rw (not_true (is_option value) both.1) refl
+    let both = and_parts (names_option name true) (not (is_option value)) right in
+    (has_parts name true both.0).0 value words ∙ rw (not-true (is_option value) both.1) refl
 next_part (Joined name value) words right = (has_parts name true right).1 value words
 next_part (Flag name) words right = has_parts name false right words
 
@@ -143,7 +136,7 @@ all_parts : (spellings : List Spelling) (files : Option (List (List ℕ))) → l
 all_parts [] None right = refl
 all_parts [] (Some files) right = refl
 all_parts (s ∷ spellings) files right =
-    let parts = both_true (is_spelling s) (list_all is_spelling spellings) right in
+    let parts = and_parts (is_spelling s) (list_all is_spelling spellings) right in
     ap (parts_from None) (append_assoc (words_of s) (flat_map words_of spellings) (end_words files))
     ∙ next_part s (flat_map words_of spellings ++ end_words files) parts.0
     ∙ ap (followed (part_of s)) (all_parts spellings files parts.1)
